@@ -1,0 +1,32 @@
+use Rattle.std.proofs.Common.{◌≡◌, ℕ, ◌<◌, ◌^◌, Some, sym, ◌∙◌, arith, subst, Option}
+use Rattle.std.specs.Prelude.{IfSome}
+use Rattle.tc_isa.specs.Rows.{Decodes}
+use Rattle.tc_isa.specs.Reading.{decoded, instr_of, fields_of, IsSplit}
+use Rattle.tc_isa.specs.declared.instr.Instr.{Instr}
+use Rattle.tc_isa.proofs.Laws.{again}
+use Rattle.tc_isa.proofs.Sound.{sound}
+use Rattle.tc_isa.proofs.decode.rows_decide.Goals as goal
+
+split_of : (word : ℕ) → word < 2 ^ 32 → IsSplit word (fields_of word)
+split_of word h = record {
+  within = record { funct7 = omega arith; rs2 = omega arith; rs1 = omega arith; funct3 = omega arith; rd = omega arith; opcode = omega arith };
+  whole = omega arith;
+}
+
+back : (word : ℕ) (i : Instr) → word < 2 ^ 32 → decoded word ≡ Some i → Decodes word i
+unfolding decoded
+back word i h e =
+    let s = split_of word h in
+    let P : Option Instr → Type 0 = λ o. IfSome o (λ i. Decodes word i) in
+    let Q : ℕ → Type 0 = λ w. IfSome (instr_of (fields_of word)) (λ i. Decodes w i) in
+    subst P e (subst Q (sym s.whole) (sound (fields_of word) s.within))
+
+there : (word : ℕ) (i : Instr) → word < 2 ^ 32 → Decodes word i → decoded word ≡ Some i
+unfolding decoded
+there word i h d = let s = split_of word h in again i (fields_of word) s.within d.0 (sym s.whole ∙ d.1)
+
+pub returns-clause-rows : goal.returns-clause-rows
+returns-clause-rows c = λ word i h. (back word i h, there word i h)
+
+pub returns-clause-one : goal.returns-clause-one
+returns-clause-one c = λ word i j h d e. let same : Some i ≡ Some j = sym (there word i h d) ∙ there word j h e in cc

@@ -1,0 +1,6 @@
+use Rattle.std.proofs.Common.{◌≡◌, ◌≢◌, sym, ◌∙◌, arith}
+use Rattle.tc_isa.proofs.SetLemmas.{least_is}
+use Rattle.tc_isa.proofs.held.Held.least.Goals as goal
+
+pub returns-else-self-eq0-clause-value : goal.returns-else-self-eq0-clause-value
+returns-else-self-eq0-clause-value c = rw (c.self.view_is) (least_is c.args.self (omega arith) (omega arith))

@@ -1,0 +1,247 @@
+//! Decoding.
+
+ghost use Rattle.std.specs.Prelude.{◌≡◌, ℕ, ◌<◌, ◌^◌, ◌↔◌, Some, IfSome};
+ghost use Rattle.tc_isa.specs.Rows.{Decodes};
+ghost use Rattle.tc_isa.specs.Reading as reading;
+ghost use Rattle.tc_isa.specs.declared.instr.Instr.{Instr as Instruction};
+
+use crate::fields::{Fields, bits, sign_extended, then};
+use crate::instr::{Cond, ImmOp, Instr, LoadKind, RegOp, StoreKind};
+
+fn cond_of(code: u32) -> Option<Cond>
+    ensures { result ≡ reading.cond_of code }
+{
+    match code {
+        0 => Some(Cond::Eq),
+        1 => Some(Cond::Ne),
+        4 => Some(Cond::Lt),
+        5 => Some(Cond::Ge),
+        6 => Some(Cond::Ltu),
+        7 => Some(Cond::Geu),
+        _ => None,
+    }
+}
+
+fn load_of(code: u32) -> Option<LoadKind>
+    ensures { result ≡ reading.load_of code }
+{
+    match code {
+        0 => Some(LoadKind::Lb),
+        1 => Some(LoadKind::Lh),
+        2 => Some(LoadKind::Lw),
+        4 => Some(LoadKind::Lbu),
+        5 => Some(LoadKind::Lhu),
+        _ => None,
+    }
+}
+
+fn store_of(code: u32) -> Option<StoreKind>
+    ensures { result ≡ reading.store_of code }
+{
+    match code {
+        0 => Some(StoreKind::Sb),
+        1 => Some(StoreKind::Sh),
+        2 => Some(StoreKind::Sw),
+        _ => None,
+    }
+}
+
+fn imm_of(funct7: u32, funct3: u32) -> Option<ImmOp>
+    ensures { result ≡ reading.imm_of funct7 funct3 }
+{
+    match (funct3, funct7) {
+        (0, _) => Some(ImmOp::Addi),
+        (2, _) => Some(ImmOp::Slti),
+        (3, _) => Some(ImmOp::Sltiu),
+        (4, _) => Some(ImmOp::Xori),
+        (6, _) => Some(ImmOp::Ori),
+        (7, _) => Some(ImmOp::Andi),
+        (1, 0) => Some(ImmOp::Slli),
+        (5, 0) => Some(ImmOp::Srli),
+        (5, 32) => Some(ImmOp::Srai),
+        _ => None,
+    }
+}
+
+/// The operation of two registers by its two codes.
+fn op_of(funct7: u32, funct3: u32) -> Option<RegOp>
+    ensures { result ≡ reading.op_of funct7 funct3 }
+{
+    match (funct7, funct3) {
+        (0, 0) => Some(RegOp::Add),
+        (32, 0) => Some(RegOp::Sub),
+        (0, 1) => Some(RegOp::Sll),
+        (0, 2) => Some(RegOp::Slt),
+        (0, 3) => Some(RegOp::Sltu),
+        (0, 4) => Some(RegOp::Xor),
+        (0, 5) => Some(RegOp::Srl),
+        (32, 5) => Some(RegOp::Sra),
+        (0, 6) => Some(RegOp::Or),
+        (0, 7) => Some(RegOp::And),
+        _ => None,
+    }
+}
+
+fn i_number(fields: &Fields) -> u32
+    requires { reading.IsWithin fields.now }
+    ensures { result ≡ reading.i_number fields.now }
+{
+    sign_extended(12, then(fields.funct7, 5, fields.rs2.number()))
+}
+
+fn s_number(fields: &Fields) -> u32
+    requires { reading.IsWithin fields.now }
+    ensures { result ≡ reading.s_number fields.now }
+{
+    sign_extended(12, then(fields.funct7, 5, fields.rd.number()))
+}
+
+fn b_number(fields: &Fields) -> u32
+    requires { reading.IsWithin fields.now }
+    ensures { result ≡ reading.b_number fields.now }
+{
+    let number = then(bits(fields.funct7, 6, 6), 1, bits(fields.rd.number(), 0, 0));
+    let number = then(number, 6, bits(fields.funct7, 5, 0));
+    let number = then(number, 4, bits(fields.rd.number(), 4, 1));
+    sign_extended(13, then(number, 1, 0))
+}
+
+fn u_number(fields: &Fields) -> u32
+    requires { reading.IsWithin fields.now }
+    ensures { result ≡ reading.u_number fields.now }
+{
+    let number = then(fields.funct7, 5, fields.rs2.number());
+    let number = then(number, 5, fields.rs1.number());
+    then(then(number, 3, fields.funct3), 12, 0)
+}
+
+fn j_number(fields: &Fields) -> u32
+    requires { reading.IsWithin fields.now }
+    ensures { result ≡ reading.j_number fields.now }
+{
+    let number = then(bits(fields.funct7, 6, 6), 5, fields.rs1.number());
+    let number = then(number, 3, fields.funct3);
+    let number = then(number, 1, bits(fields.rs2.number(), 0, 0));
+    let number = then(number, 6, bits(fields.funct7, 5, 0));
+    let number = then(number, 4, bits(fields.rs2.number(), 4, 1));
+    sign_extended(21, then(number, 1, 0))
+}
+
+fn imm_number(op: ImmOp, fields: &Fields) -> u32
+    requires { reading.IsWithin fields.now }
+    ensures { result ≡ reading.imm_number op fields.now }
+{
+    match op {
+        ImmOp::Slli | ImmOp::Srli | ImmOp::Srai => fields.rs2.number(),
+        _ => i_number(fields),
+    }
+}
+
+fn system_of(fields: &Fields) -> Option<Instr>
+    requires { reading.IsWithin fields.now }
+    ensures { result ≡ reading.system_of fields.now }
+{
+    let zero = fields.funct7 == 0
+        && fields.rs1.number() == 0
+        && fields.funct3 == 0
+        && fields.rd.number() == 0;
+    match fields.rs2.number() {
+        0 if zero => Some(Instr::Ecall),
+        1 if zero => Some(Instr::Ebreak),
+        _ => None,
+    }
+}
+
+/// The instruction that the fields stand for.
+#[tactic(auto, unfolding(crate::specs::Reading::instr_of))]
+fn instr_of(fields: &Fields) -> Option<Instr>
+    requires { reading.IsWithin fields.now }
+    ensures { result ≡ reading.instr_of fields.now }
+{
+    let Fields {
+        rd,
+        rs1,
+        rs2,
+        funct3,
+        funct7,
+        ..
+    } = *fields;
+    match fields.opcode {
+        0x37 => Some(Instr::Lui {
+            rd,
+            imm: u_number(fields),
+        }),
+        0x17 => Some(Instr::Auipc {
+            rd,
+            imm: u_number(fields),
+        }),
+        0x6f => Some(Instr::Jal {
+            rd,
+            off: j_number(fields),
+        }),
+        0x67 if funct3 == 0 => Some(Instr::Jalr {
+            rd,
+            rs1,
+            off: i_number(fields),
+        }),
+        0x63 => {
+            let cond = cond_of(funct3)?;
+            let off = b_number(fields);
+            Some(Instr::Branch {
+                cond,
+                rs1,
+                rs2,
+                off,
+            })
+        }
+        0x03 => {
+            let kind = load_of(funct3)?;
+            let off = i_number(fields);
+            Some(Instr::Load { kind, rd, rs1, off })
+        }
+        0x23 => {
+            let kind = store_of(funct3)?;
+            let off = s_number(fields);
+            Some(Instr::Store {
+                kind,
+                rs1,
+                rs2,
+                off,
+            })
+        }
+        0x13 => {
+            let op = imm_of(funct7, funct3)?;
+            let imm = imm_number(op, fields);
+            Some(Instr::Imm { op, rd, rs1, imm })
+        }
+        0x33 => {
+            let op = op_of(funct7, funct3)?;
+            Some(Instr::Op { op, rd, rs1, rs2 })
+        }
+        0x0f if funct3 == 0 => Some(Instr::Fence {
+            rd,
+            rs1,
+            imm: then(funct7, 5, rs2.number()),
+        }),
+        0x73 => system_of(fields),
+        _ => None,
+    }
+}
+
+/// The instruction of a word.
+#[tactic(auto, unfolding(crate::specs::Reading::decoded))]
+pub fn decode(word: u32) -> Option<Instr>
+    ensures value { result ≡ reading.decoded word }
+    // A row gives the word for the instruction.
+    ensures some { IfSome result (λ instr. Decodes word instr) }
+    // No row gives a word that has no instruction, and no other instruction has the word.
+    ensures only { (instr : Instruction) → Decodes word instr → result ≡ Some instr }
+{
+    instr_of(&Fields::of(word))
+}
+
+/// A word has at most one instruction, and what `decoded` says is what the rows say.
+pub fn rows_decide()
+    ensures one { (word : ℕ) (i j : Instruction) → word < 2 ^ 32 → Decodes word i → Decodes word j → i ≡ j }
+    ensures rows { (word : ℕ) (i : Instruction) → word < 2 ^ 32 → (reading.decoded word ≡ Some i) ↔ Decodes word i }
+{}

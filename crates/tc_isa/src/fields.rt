@@ -1,0 +1,82 @@
+//! The fields of an instruction word.
+
+ghost use Rattle.std.specs.Prelude.{◌≡◌, ℕ, ◌+◌, ◌-◌, ◌*◌, ◌^◌, ◌<◌, ◌≤◌};
+ghost use Rattle.tc_isa.specs.Rows.{bits};
+ghost use Rattle.tc_isa.specs.Reading.{IsSplit, IsWithin, word_of, fields_of, signed};
+
+use crate::reg::Reg;
+
+/// Bits `high` to `low` of a word.
+pub fn bits(word: u32, high: u32, low: u32) -> u32
+    requires low { low ≤ high }
+    requires high { high < 32 }
+    ensures value { result ≡ bits high low word }
+    ensures bound { result < 2 ^ (high + 1 - low) }
+{
+    (word >> low) & (u32::MAX >> (31 - (high - low)))
+}
+
+/// The bits so far with a field after them.
+pub fn then(high: u32, width: u32, field: u32) -> u32
+    requires width { width < 32 }
+    requires field { field < 2 ^ width }
+    requires fits { high * 2 ^ width + field < 2 ^ 32 }
+    ensures { result ≡ high * 2 ^ width + field }
+{
+    (high << width) | field
+}
+
+/// A number of `width` bits, extended from its highest bit to 32 bits.
+pub fn sign_extended(width: u32, number: u32) -> u32
+    requires low { 1 ≤ width }
+    requires high { width < 32 }
+    requires number { number < 2 ^ width }
+    ensures { result ≡ signed width number }
+{
+    if number >> (width - 1) == 0 {
+        number
+    } else {
+        number + (u32::MAX - ((1 << width) - 1))
+    }
+}
+
+/// The six fields of a word as they stand in the R form. The other forms put their numbers into
+/// the same places.
+#[derive(Clone, Copy)]
+pub struct Fields {
+    pub funct7: u32,
+    pub rs2: Reg,
+    pub rs1: Reg,
+    pub funct3: u32,
+    pub rd: Reg,
+    pub opcode: u32,
+}
+
+impl Fields {
+    /// The fields of a word.
+    pub fn of(word: u32) -> Fields
+        ensures value { result ≡ fields_of word }
+        ensures split { IsSplit word result }
+    {
+        Fields {
+            funct7: bits(word, 31, 25),
+            rs2: Reg::of(bits(word, 24, 20)),
+            rs1: Reg::of(bits(word, 19, 15)),
+            funct3: bits(word, 14, 12),
+            rd: Reg::of(bits(word, 11, 7)),
+            opcode: bits(word, 6, 0),
+        }
+    }
+
+    /// Their word.
+    pub fn word(&self) -> u32
+        requires { IsWithin self.now }
+        ensures { result ≡ word_of self.now }
+    {
+        let word = then(self.funct7, 5, self.rs2.number());
+        let word = then(word, 5, self.rs1.number());
+        let word = then(word, 3, self.funct3);
+        let word = then(word, 5, self.rd.number());
+        then(word, 7, self.opcode)
+    }
+}

@@ -1,0 +1,93 @@
+//! Sets of locks.
+
+ghost use Rattle.std.specs.Prelude.{◌≡◌, ℕ, ◌<◌, ◌≤◌, ◌^◌, ◌||◌, ◌&&◌, ◌==◌, not, IsTrue, MatchOption, IfSome, length};
+ghost use Rattle.tc_isa.specs.Sets.{has, locks_of, with_lock, without_lock};
+
+use std::marker::Model;
+
+/// A set of numbers of locks below 32. A contract sees the number whose bits are the set.
+#[derive(Clone, Copy, PartialEq, Eq)]
+pub struct Held {
+    locks: u32,
+}
+
+impl Model for Held {
+    ghost use Rattle.std.specs.Prelude.{ℕ, ◌<◌, ◌^◌};
+
+    ghost Value = { ℕ };
+
+    ghost view = { λ h. h.locks };
+
+    ghost invariant = { λ h. h.locks < 2 ^ 32 };
+
+    ghost inverse = { λ n. record { locks = n } };
+}
+
+impl Held {
+    /// The set of no lock.
+    pub fn none() -> Held
+        ensures { result ≡ 0 }
+    {
+        Held { locks: 0 }
+    }
+
+    /// Whether a lock is in the set.
+    pub fn has(self, lock: u32) -> bool
+        ensures { result ≡ has self lock }
+    {
+        lock < 32 && self.locks >> lock & 1 == 1
+    }
+
+    /// The set with a lock.
+    pub fn plus(self, lock: u32) -> Held
+        requires { lock < 32 }
+        ensures value { result ≡ with_lock self lock }
+        ensures each { (other : ℕ) → has result other ≡ ((other == lock) || has self other) }
+    {
+        Held {
+            locks: self.locks | 1 << lock,
+        }
+    }
+
+    /// The set without a lock.
+    pub fn less(self, lock: u32) -> Held
+        requires { lock < 32 }
+        ensures value { result ≡ without_lock self lock }
+        ensures each { (other : ℕ) → has result other ≡ (not (other == lock) && has self other) }
+    {
+        Held {
+            locks: self.locks & !(1 << lock),
+        }
+    }
+
+    /// How many locks are in the set.
+    pub fn count(self) -> u32
+        ensures { result ≡ length (locks_of self) }
+    {
+        self.locks.count_ones()
+    }
+
+    /// The greatest lock of the set.
+    pub fn greatest(self) -> Option<u32>
+        ensures value { MatchOption result (self ≡ 0) (λ lock. IsTrue (has self lock) × ((other : ℕ) → IsTrue (has self other) → other ≤ lock)) }
+        ensures bound { IfSome result (λ lock. lock < 32) }
+    {
+        if self.locks == 0 {
+            None
+        } else {
+            Some(31 - self.locks.leading_zeros())
+        }
+    }
+
+    /// The least lock of the set.
+    pub fn least(self) -> Option<u32>
+        ensures value { MatchOption result (self ≡ 0) (λ lock. IsTrue (has self lock) × ((other : ℕ) → IsTrue (has self other) → lock ≤ other)) }
+        ensures bound { IfSome result (λ lock. lock < 32) }
+    {
+        if self.locks == 0 {
+            None
+        } else {
+            Some(self.locks.trailing_zeros())
+        }
+    }
+}

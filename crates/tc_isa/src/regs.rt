@@ -1,0 +1,81 @@
+//! The registers of a thread.
+
+ghost use Rattle.std.specs.Prelude.{◌≡◌, ◌%◌, slice_index, length};
+ghost use Rattle.tc_isa.specs.Registers.{Registers, started, get, with_register, IsRegisters};
+
+use crate::reg::Reg;
+use std::marker::Model;
+
+/// The program counter and the 32 registers of a thread. Register 0 stays 0, and the program
+/// counter a multiple of 4.
+#[derive(Clone, Copy, PartialEq, Eq)]
+pub struct Regs {
+    counter: u32,
+    words: [u32; 32],
+}
+
+impl Model for Regs {
+    ghost use Rattle.tc_isa.specs.Registers.{Registers, IsRegisters};
+
+    ghost Value = { Registers };
+
+    ghost view = { λ r. record { pc = r.counter; words = r.words } };
+
+    ghost invariant = { λ r. IsRegisters (record { pc = r.counter; words = r.words }) };
+
+    ghost inverse = { λ r. record { counter = r.pc; words = r.words } };
+}
+
+impl Regs {
+    /// The registers of a thread at its start.
+    pub fn start(entry: u32, argument: u32, thread: u32) -> Regs
+        requires { entry % 4 ≡ 0 }
+        ensures { result ≡ started entry argument thread }
+    {
+        let mut words = [0; 32];
+        words[2] = 0x8000_0000;
+        words[10] = argument;
+        words[11] = thread;
+        Regs {
+            counter: entry,
+            words,
+        }
+    }
+
+    /// The program counter.
+    pub fn pc(&self) -> u32
+        ensures value { result ≡ self.now.pc }
+        ensures aligned { result % 4 ≡ 0 }
+    {
+        self.counter
+    }
+
+    /// The number in a register.
+    pub fn get(&self, register: Reg) -> u32
+        ensures { result ≡ get self.now register }
+    {
+        self.words[register.number() as usize]
+    }
+
+    /// These registers with another number in one of them, unless it is register 0.
+    pub fn with(self, register: Reg, value: u32) -> Regs
+        ensures { result ≡ with_register self register value }
+    {
+        let mut regs = self;
+        let number = register.number();
+        if number > 0 {
+            regs.words[number as usize] = value;
+        }
+        regs
+    }
+
+    /// These registers at another place of the program.
+    pub fn at(self, pc: u32) -> Regs
+        requires { pc % 4 ≡ 0 }
+        ensures { result ≡ record self { pc = pc } }
+    {
+        let mut regs = self;
+        regs.counter = pc;
+        regs
+    }
+}
