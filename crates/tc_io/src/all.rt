@@ -1,21 +1,25 @@
 //! Reading all bytes and writing all bytes.
 
-ghost use Rattle.std.specs.Prelude.{◌≡◌, ℕ, ◌+◌, ◌<◌, ◌≤◌, List, length, take, OnOk, OnErr, IfOk, IsErrOf, vec_len};
+ghost use Rattle.std.specs.Prelude.{◌≡◌, ◌⊎◌, ◌+◌, ◌≤◌, OnOk, OnErr, IfOk, IsErrOf, vec_len};
 ghost use Rattle.std.specs.Io.KnownBytes.{Appends, Consumes, IsAtEnd};
 ghost use Rattle.tc_io.specs.Causes.{Rose};
+ghost use Rattle.tc_io.specs.Taken.{Took, TookAtMost, WroteFront};
 ghost use Rattle.tc_io.specs.declared.all.ReadAll.TheVariants.{Fault, OutOfMemory};
 
 use crate::source::{Failed, Sink, Source};
 use std::alloc::{AllocError, Global};
 
-/// The most bytes that a caller may ask for.
+/// The greatest limit that a caller of `read_all` may set, in bytes.
 pub const LIMIT: usize = 1_048_576;
 
 /// Why not all bytes were read.
 #[derive(Clone, Copy, Debug, PartialEq, Eq)]
 pub enum ReadAll {
+    /// A read failed.
     Fault,
+    /// The source has more bytes than the limit.
     OverLimit,
+    /// There was no memory for the bytes.
     OutOfMemory,
 }
 
@@ -35,16 +39,27 @@ impl From<AllocError> for ReadAll {
     }
 }
 
-/// All bytes of a source, where it has at most `limit`.
+/// All bytes of a source, where there are at most `limit`. Each read takes at least one byte or is
+/// the last one, so there are at most `limit + 1` reads. After an error the source stays where it
+/// was read to.
 pub fn read_all<S: Source>(alloc: Global, source: &mut S, limit: usize) -> Result<Vec<u8>, ReadAll>
     requires { limit ≤ LIMIT }
+
+    // All bytes, to the end.
     ensures ok { IfOk result (λ bytes. Consumes (S.left source.old) (S.left source.new) bytes.items) }
     ensures limit { IfOk result (λ bytes. vec_len bytes ≤ limit) }
     ensures end { OnOk result (IsAtEnd (S.left source.new)) }
-    ensures over { IsErrOf result ReadAll.OverLimit → (bytes : List ℕ) × (length bytes ≡ limit + 1) × Consumes (S.left source.old) (S.left source.new) bytes }
+
+    // The causes of the errors, and what was taken.
     ensures fault { IsErrOf result ReadAll.Fault → Rose (S.faults source.old) (S.faults source.new) }
+    ensures before_fault { IsErrOf result ReadAll.Fault → TookAtMost (S.left source.old) (S.left source.new) limit }
+    ensures over { IsErrOf result ReadAll.OverLimit → Took (S.left source.old) (S.left source.new) (limit + 1) }
+    ensures memory { IsErrOf result ReadAll.OutOfMemory → TookAtMost (S.left source.old) (S.left source.new) (limit + 1) }
+
+    // The faults rise in no other case.
     ensures later { S.faults source.old ≤ S.faults source.new }
     ensures quiet { OnOk result (S.faults source.new ≡ S.faults source.old) }
+    ensures no_fault { IsErrOf result ReadAll.OverLimit ⊎ IsErrOf result ReadAll.OutOfMemory → S.faults source.new ≡ S.faults source.old }
 {
     let mut bytes = Vec::new(alloc);
     let mut chunk = [0; 4096];
@@ -61,10 +76,13 @@ pub fn read_all<S: Source>(alloc: Global, source: &mut S, limit: usize) -> Resul
     }
 }
 
-/// Writes all bytes to a sink.
+/// Writes all bytes to a sink. Each write is given all bytes that are not written yet, and no
+/// write is made once none is left.
 pub fn write_all<K: Sink>(sink: &mut K, bytes: &[u8]) -> Result<(), Failed>
     ensures ok { OnOk result (Appends (K.written sink.old) (K.written sink.new) bytes.now) }
-    ensures err { OnErr result ((count : ℕ) × (count ≤ length bytes.now) × Appends (K.written sink.old) (K.written sink.new) (take count bytes.now)) }
+    ensures err { OnErr result (WroteFront (K.written sink.old) (K.written sink.new) bytes.now) }
+
+    // It fails only where a write did.
     ensures fault { OnErr result (Rose (K.faults sink.old) (K.faults sink.new)) }
     ensures later { K.faults sink.old ≤ K.faults sink.new }
     ensures quiet { OnOk result (K.faults sink.new ≡ K.faults sink.old) }

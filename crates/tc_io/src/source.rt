@@ -1,11 +1,11 @@
-//! Sources and sinks.
+//! What bytes come from, and what they go to.
 
 ghost use Rattle.std.specs.Prelude.{◌≡◌, ℕ, ◌<◌, List, Option, length, IfOk};
 ghost use Rattle.std.specs.Io.{ReadsAtMost, WritesAtMost};
 ghost use Rattle.std.specs.Io.KnownBytes.{ReadConsumes, WriteAppends};
 ghost use Rattle.tc_io.specs.Causes.{HasCause};
 
-/// A source or a sink failed.
+/// A source or a sink failed in this call.
 #[derive(Clone, Copy, Debug, PartialEq, Eq)]
 pub struct Failed;
 
@@ -17,7 +17,8 @@ pub trait Source {
     /// How often it failed.
     ghost faults: { Self → ℕ };
 
-    /// Reads bytes to the front of the buffer, and says how many.
+    /// Reads bytes into the front of the buffer, and says how many. A call that gives none into a
+    /// buffer with room is at the end. A call that fails has taken nothing.
     fn read(&mut self, buf: &mut [u8]) -> Result<usize, Failed>
         ensures bound { ReadsAtMost result buf.new }
         ensures bytes { ReadConsumes (left self.old) (left self.new) result buf.new }
@@ -32,7 +33,8 @@ pub trait Sink {
     /// How often it failed.
     ghost faults: { Self → ℕ };
 
-    /// Takes bytes from the front of the piece, and says how many.
+    /// Takes bytes from the front of the piece, and says how many: at least one, where the piece
+    /// has any. A call that fails has taken nothing.
     fn write(&mut self, piece: &[u8]) -> Result<usize, Failed>
         ensures bound { WritesAtMost result piece.now }
         ensures some { IfOk result (λ count. 0 < length piece.now → 0 < count) }

@@ -1,6 +1,6 @@
-use Rattle.std.proofs.Common.{◌≡◌, ℕ, [], ◌+◌, ◌-◌, ◌<◌, ◌≤◌, List, length, take, drop, ◌++◌, arith, sym, ap, ◌∙◌, take-add, length-drop, length-append}
+use Rattle.std.proofs.Common.{◌≡◌, ℕ, [], ◌+◌, ◌≤◌, List, length, take, drop, ◌++◌, arith, sym, ap, ◌∙◌}
 use Rattle.std.proofs.lemmas.Grind.{common_steps}
-use Rattle.std.proofs.lemmas.List.{take_all, take_at, take-append-drop, drop-drop}
+use Rattle.std.proofs.lemmas.List.{take_at, take-append-drop, drop-drop}
 use Rattle.tc_io.proofs.memory.MemSourceSource.read.Goals as goal
 
 -- the bytes that are given stand before the others
@@ -10,11 +10,12 @@ given xs part more at n l e =
     let rest : drop n (drop at xs) ≡ drop (at + n) xs = drop-drop n at xs in
     sym (take-append-drop n (drop at xs)) ∙ ap (λ ys. ys ++ drop n (drop at xs)) (sym (front ∙ e)) ∙ ap (λ ys. take n (part ++ more) ++ ys) rest
 
-ended : (xs : List ℕ) (at n : ℕ) → length xs ≤ at → drop at xs ≡ []
-ended xs at n h = grind (arith, common_steps)
+-- nothing is left behind the end
+ended : (xs : List ℕ) (at : ℕ) → length xs ≤ at → drop at xs ≡ []
+ended xs at h = grind (arith, common_steps)
 
 pub returns-clause-bytes : goal.returns-clause-bytes
-returns-clause-bytes c = (
-  given c.args.self.now.bytes.items c.copy_from_slice.new.self (drop c.min-count.result c.args.buf.now) c.args.self.now.at c.min-count.result (grind (arith, common_steps)) (grind (arith, common_steps)),
-  λ none room. ended c.args.self.now.bytes.items (c.args.self.now.at + c.min-count.result) 0 (grind (arith, common_steps)),
+returns-clause-bytes c = rw (← c.self.view_is) (
+  given c.self.inside.bytes.items c.copy_from_slice.new.self (drop c.min-count.result c.args.buf.now) c.self.inside.at c.min-count.result (grind (arith, common_steps)) (grind (arith, common_steps)),
+  λ none room. ended c.self.inside.bytes.items (c.self.inside.at + c.min-count.result) (grind (arith, common_steps)),
 )

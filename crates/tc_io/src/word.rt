@@ -1,0 +1,38 @@
+//! Words of the command line.
+
+ghost use Rattle.std.specs.Prelude.{◌≡◌, IfOk};
+
+use std::alloc::{AllocError, Global};
+use std::marker::Model;
+
+/// A word of the command line, which need not be text. A contract sees its bytes.
+#[derive(Drop)]
+pub struct Word {
+    bytes: Vec<u8>,
+}
+
+impl Model for Word {
+    ghost use Rattle.std.specs.Prelude.{List, ℕ};
+
+    ghost Value = { List ℕ };
+
+    ghost view = { λ w. w.bytes.items };
+}
+
+impl Word {
+    /// A word that keeps a copy of these bytes.
+    pub fn from_bytes(alloc: Global, bytes: &[u8]) -> Result<Word, AllocError>
+        ensures { IfOk result (λ w. w ≡ bytes.now) }
+    {
+        Ok(Word {
+            bytes: Vec::from_slice(alloc, bytes)?,
+        })
+    }
+
+    /// The bytes of the word.
+    pub fn bytes(&self) -> &[u8]
+        ensures { result.now ≡ self.now }
+    {
+        &self.bytes
+    }
+}
