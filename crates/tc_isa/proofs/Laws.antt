@@ -1,13 +1,12 @@
 -- Whatever gives an instruction's word has its fields, so that instruction is read.
-use Rattle.std.proofs.Common.{◌≡◌, ℕ, ◌+◌, ◌-◌, ◌*◌, ◌/◌, ◌%◌, ◌^◌, ◌<◌, ◌≤◌, ◌⊎◌, List, [], ◌∷◌, Option, Some, None, refl, sym, ◌∙◌, inl, inr, arith, ap}
-use Rattle.tc_isa.specs.Rows.{bits, joined, after_fields, row, cond_code, load_code, store_code, op_code, IsSigned, IsValid, Decodes}
-use Rattle.tc_isa.specs.Reading.{instr_of, word_of, six, IsWithin, u_number, b_number, i_number, j_number, s_number}
+use Rattle.std.proofs.Common.{◌≡◌, ℕ, ◌^◌, ◌<◌, [], ◌∷◌, Some, refl, arith}
+use Rattle.tc_isa.specs.Rows.{joined, row, cond_code, load_code, store_code, op_code, IsValid}
+use Rattle.tc_isa.specs.Reading.{instr_of, word_of, IsWithin, u_number, b_number, i_number, j_number, s_number}
 use Rattle.tc_isa.specs.declared.fields.Fields.{Fields}
 use Rattle.tc_isa.specs.declared.instr.Cond.{Cond}
 use Rattle.tc_isa.specs.declared.instr.LoadKind.{LoadKind}
 use Rattle.tc_isa.specs.declared.instr.StoreKind.{StoreKind}
 use Rattle.tc_isa.specs.declared.instr.RegOp.{RegOp}
-use Rattle.tc_isa.specs.declared.instr.ImmOp.{ImmOp}
 use Rattle.tc_isa.specs.declared.instr.ImmOp.TheVariants as imm
 use Rattle.tc_isa.specs.declared.instr.Instr.{Instr}
 use Rattle.tc_isa.specs.declared.instr.Instr.TheVariants.{Lui, Auipc, Jal, Jalr, Branch, Load, Store, Imm, Op, Fence, Ecall, Ebreak}
@@ -239,3 +238,27 @@ again (Op k rd rs1 rs2) = op_two k rd rs1 rs2
 again (Fence rd rs1 n) = fence rd rs1 n
 again Ecall = ecall
 again Ebreak = ebreak
+
+-- ---- a row's word has 32 bits
+
+pub fits : (i : Instr) → IsValid i → joined (row i) < 2 ^ 32
+fits (Lui rd n) v = omega arith
+fits (Auipc rd n) v = omega arith
+fits (Jal rd off) v = omega arith
+fits (Jalr rd rs1 off) v = omega arith
+fits (Branch k rs1 rs2 off) v = omega (arith, cond_fits k)
+fits (Load k rd rs1 off) v = omega (arith, load_fits k)
+fits (Store k rs1 rs2 off) v = omega (arith, store_fits k)
+fits (Imm imm.Addi rd rs1 n) v = omega arith
+fits (Imm imm.Slti rd rs1 n) v = omega arith
+fits (Imm imm.Sltiu rd rs1 n) v = omega arith
+fits (Imm imm.Xori rd rs1 n) v = omega arith
+fits (Imm imm.Ori rd rs1 n) v = omega arith
+fits (Imm imm.Andi rd rs1 n) v = omega arith
+fits (Imm imm.Slli rd rs1 n) v = omega arith
+fits (Imm imm.Srli rd rs1 n) v = omega arith
+fits (Imm imm.Srai rd rs1 n) v = omega arith
+fits (Op k rd rs1 rs2) v = let codes = op_fits k in omega arith
+fits (Fence rd rs1 n) v = omega arith
+fits Ecall v = omega arith
+fits Ebreak v = omega arith

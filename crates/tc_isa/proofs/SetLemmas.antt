@@ -1,14 +1,14 @@
 -- Sets of locks by their bits.
-use Rattle.std.proofs.Common.{◌≡◌, ◌≢◌, ℕ, zero, suc, ◌+◌, ◌-◌, ◌*◌, ◌/◌, ◌%◌, ◌^◌, ◌<◌, ◌≤◌, ◌⊎◌, Bool, true, false, cond, not, eqb, ◌||◌, ◌&&◌, List, [], ◌∷◌, length, filter, bit_and, bit_or, IsTrue, refl, sym, ◌∙◌, ap, subst, inl, inr, arith}
+use Rattle.std.proofs.Common.{◌≡◌, ◌≢◌, ℕ, zero, suc, ◌+◌, ◌-◌, ◌*◌, ◌/◌, ◌%◌, ◌^◌, ◌<◌, ◌≤◌, Bool, true, false, cond, not, eqb, ◌||◌, ◌&&◌, List, ◌∷◌, length, filter, bit_and, bit_or, IsTrue, refl, sym, ◌∙◌, ap, inl, inr, arith}
 use Rattle.std.specs.Int.{bit_at, w32, bit_not, trailing_zeros, leading_zeros}
 use Rattle.std.specs.Int.RustNames.{count_ones}
 use Rattle.std.proofs.lemmas.Nat.{pow_pos, pow_below, ones_cat, and-not, and_le_l, one_shl, leading_top, and_comm, le-div, div_below}
-use Rattle.std.proofs.lemmas.Nat.Bits.{bit_at_above, bit_at-suc, bit_at-lt, bit_at_set_same, bit_at_set_other, bit_at_clear_same, bit_at_clear_other, and_pow, bit_at-trailing_zeros, bit_at-zero}
+use Rattle.std.proofs.lemmas.Nat.Bits.{bit_at_above, bit_at-suc, bit_at_set_same, bit_at_set_other, bit_at_clear_same, bit_at_clear_other, and_pow, bit_at-trailing_zeros}
 use Rattle.std.proofs.lemmas.Bool.Decides.{eqb_tells, nat_tests}
 use Rattle.std.proofs.lemmas.Bool.{cases_lt, cases_eq}
 use Rattle.std.proofs.Math.Nat.{pow-suc}
 use Rattle.std.proofs.Common.{add-one}
-use Rattle.tc_isa.specs.Sets.{has, locks_of, with_lock, without_lock}
+use Rattle.tc_isa.specs.Sets.{has, without_lock}
 use Rattle.std.specs.List.{range_with_len}
 
 pub has_above : (n i : ℕ) → n < 2 ^ 32 → 32 ≤ i → has n i ≡ false

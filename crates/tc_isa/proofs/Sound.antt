@@ -1,19 +1,15 @@
 -- What is read from the fields has their word for a row.
-use Rattle.std.proofs.Common.{◌≡◌, ℕ, ◌+◌, ◌-◌, ◌*◌, ◌/◌, ◌%◌, ◌^◌, ◌<◌, ◌≤◌, ◌⊎◌, List, [], ◌∷◌, Bool, true, false, cond, eqb, ◌&&◌, Option, Some, None, refl, sym, ◌∙◌, inl, inr, arith, ap}
+use Rattle.std.proofs.Common.{◌≡◌, ℕ, Bool, true, false, cond, eqb, Option, Some, None, refl, arith}
 use Rattle.std.specs.Prelude.{IfSome}
 use Rattle.std.specs.Option.{option_map}
 use Rattle.std.proofs.lemmas.Bool.Decides.{nat_tests}
-use Rattle.tc_isa.specs.Rows.{bits, joined, after_fields, row, cond_code, load_code, store_code, op_code, IsSigned, IsValid, Decodes}
-use Rattle.tc_isa.specs.Reading.{instr_of, branch_of, loaded_of, stored_of, imm_instr_of, op_instr_of, system_of, cond_of, load_of, store_of, op_of, imm_of, word_of, six, IsWithin, u_number, b_number, i_number, j_number, s_number, imm_number}
+use Rattle.tc_isa.specs.Rows.{cond_code, load_code, store_code, op_code, Decodes}
+use Rattle.tc_isa.specs.Reading.{instr_of, branch_of, loaded_of, stored_of, imm_instr_of, op_instr_of, system_of, cond_of, load_of, store_of, op_of, imm_of, word_of, IsWithin, imm_number}
 use Rattle.tc_isa.specs.declared.fields.Fields.{Fields}
-use Rattle.tc_isa.specs.declared.instr.Cond.{Cond}
-use Rattle.tc_isa.specs.declared.instr.LoadKind.{LoadKind}
-use Rattle.tc_isa.specs.declared.instr.StoreKind.{StoreKind}
-use Rattle.tc_isa.specs.declared.instr.RegOp.{RegOp}
 use Rattle.tc_isa.specs.declared.instr.ImmOp.{ImmOp}
 use Rattle.tc_isa.specs.declared.instr.ImmOp.TheVariants as imm
 use Rattle.tc_isa.specs.declared.instr.Instr.{Instr}
-use Rattle.tc_isa.specs.declared.instr.Instr.TheVariants.{Lui, Auipc, Jal, Jalr, Branch, Load, Store, Imm, Op, Fence, Ecall, Ebreak}
+use Rattle.tc_isa.specs.declared.instr.Instr.TheVariants.{Imm}
 use Rattle.tc_isa.proofs.Tables.{cond_back, load_back, store_back, op_back}
 
 -- if a test holds, the first; else the second

@@ -1,7 +1,7 @@
 -- How a word is taken apart: the plain way, from the six fields of the R form.
-use Rattle.std.specs.Prelude.{◌≡◌, ℕ, ◌+◌, ◌-◌, ◌*◌, ◌/◌, ◌%◌, ◌^◌, ◌<◌, ◌≤◌, ◌==◌, ◌||◌, ◌&&◌, if◌then◌else◌, List, [], ◌∷◌, Bool, true, false, cond, Option, Some, None}
+use Rattle.std.specs.Prelude.{◌≡◌, ℕ, ◌+◌, ◌-◌, ◌*◌, ◌/◌, ◌^◌, ◌<◌, ◌==◌, ◌&&◌, if◌then◌else◌, List, [], ◌∷◌, Option, Some, None}
 use Rattle.std.specs.Option.{option_map}
-use Rattle.tc_isa.specs.Rows.{bits, joined, after_fields}
+use Rattle.tc_isa.specs.Rows.{bits, joined}
 use Rattle.tc_isa.specs.declared.fields.Fields.{Fields}
 use Rattle.tc_isa.specs.declared.instr.Cond.{Cond}
 use Rattle.tc_isa.specs.declared.instr.Cond.TheVariants as cond
@@ -98,7 +98,12 @@ abbrev pub imm_number : ImmOp → Fields → ℕ
 imm_number imm.Slli f = f.rs2
 imm_number imm.Srli f = f.rs2
 imm_number imm.Srai f = f.rs2
-imm_number _ f = i_number f
+imm_number imm.Addi f = i_number f
+imm_number imm.Slti f = i_number f
+imm_number imm.Sltiu f = i_number f
+imm_number imm.Xori f = i_number f
+imm_number imm.Ori f = i_number f
+imm_number imm.Andi f = i_number f
 
 -- ---- the instruction of the fields
 

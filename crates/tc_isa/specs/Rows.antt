@@ -94,7 +94,12 @@ abbrev pub IsImmediate : ImmOp → ℕ → Type 0
 IsImmediate imm.Slli n = n < 32
 IsImmediate imm.Srli n = n < 32
 IsImmediate imm.Srai n = n < 32
-IsImmediate _ n = IsSigned 12 n
+IsImmediate imm.Addi n = IsSigned 12 n
+IsImmediate imm.Slti n = IsSigned 12 n
+IsImmediate imm.Sltiu n = IsSigned 12 n
+IsImmediate imm.Xori n = IsSigned 12 n
+IsImmediate imm.Ori n = IsSigned 12 n
+IsImmediate imm.Andi n = IsSigned 12 n
 
 -- fields in their ranges
 abbrev pub IsValid : Instr → Type 0

@@ -1,13 +1,15 @@
-//! Decoding.
+//! From a word to its instruction (RISC-V Unprivileged ISA, chapter "RV32/64G Instruction Set
+//! Listings", table "RV32I Base Instruction Set").
 
 ghost use Rattle.std.specs.Prelude.{◌≡◌, ℕ, ◌<◌, ◌^◌, ◌↔◌, Some, IfSome};
-ghost use Rattle.tc_isa.specs.Rows.{Decodes};
+ghost use Rattle.tc_isa.specs.Rows.{Decodes, IsValid, joined, row};
 ghost use Rattle.tc_isa.specs.Reading as reading;
 ghost use Rattle.tc_isa.specs.declared.instr.Instr.{Instr as Instruction};
 
 use crate::fields::{Fields, bits, sign_extended, then};
 use crate::instr::{Cond, ImmOp, Instr, LoadKind, RegOp, StoreKind};
 
+/// The condition of a branch by its code.
 fn cond_of(code: u32) -> Option<Cond>
     ensures { result ≡ reading.cond_of code }
 {
@@ -22,6 +24,7 @@ fn cond_of(code: u32) -> Option<Cond>
     }
 }
 
+/// The load of a code.
 fn load_of(code: u32) -> Option<LoadKind>
     ensures { result ≡ reading.load_of code }
 {
@@ -35,6 +38,7 @@ fn load_of(code: u32) -> Option<LoadKind>
     }
 }
 
+/// The store of a code.
 fn store_of(code: u32) -> Option<StoreKind>
     ensures { result ≡ reading.store_of code }
 {
@@ -46,6 +50,7 @@ fn store_of(code: u32) -> Option<StoreKind>
     }
 }
 
+/// The operation on an immediate by its codes. Of the shifts alone funct7 is one.
 fn imm_of(funct7: u32, funct3: u32) -> Option<ImmOp>
     ensures { result ≡ reading.imm_of funct7 funct3 }
 {
@@ -63,7 +68,7 @@ fn imm_of(funct7: u32, funct3: u32) -> Option<ImmOp>
     }
 }
 
-/// The operation of two registers by its two codes.
+/// The operation on two registers by its codes.
 fn op_of(funct7: u32, funct3: u32) -> Option<RegOp>
     ensures { result ≡ reading.op_of funct7 funct3 }
 {
@@ -82,6 +87,7 @@ fn op_of(funct7: u32, funct3: u32) -> Option<RegOp>
     }
 }
 
+/// The immediate of the I form.
 fn i_number(fields: &Fields) -> u32
     requires { reading.IsWithin fields.now }
     ensures { result ≡ reading.i_number fields.now }
@@ -89,6 +95,7 @@ fn i_number(fields: &Fields) -> u32
     sign_extended(12, then(fields.funct7, 5, fields.rs2.number()))
 }
 
+/// The immediate of the S form.
 fn s_number(fields: &Fields) -> u32
     requires { reading.IsWithin fields.now }
     ensures { result ≡ reading.s_number fields.now }
@@ -96,6 +103,7 @@ fn s_number(fields: &Fields) -> u32
     sign_extended(12, then(fields.funct7, 5, fields.rd.number()))
 }
 
+/// The immediate of the B form.
 fn b_number(fields: &Fields) -> u32
     requires { reading.IsWithin fields.now }
     ensures { result ≡ reading.b_number fields.now }
@@ -106,6 +114,7 @@ fn b_number(fields: &Fields) -> u32
     sign_extended(13, then(number, 1, 0))
 }
 
+/// The immediate of the U form.
 fn u_number(fields: &Fields) -> u32
     requires { reading.IsWithin fields.now }
     ensures { result ≡ reading.u_number fields.now }
@@ -115,6 +124,7 @@ fn u_number(fields: &Fields) -> u32
     then(then(number, 3, fields.funct3), 12, 0)
 }
 
+/// The immediate of the J form.
 fn j_number(fields: &Fields) -> u32
     requires { reading.IsWithin fields.now }
     ensures { result ≡ reading.j_number fields.now }
@@ -127,16 +137,19 @@ fn j_number(fields: &Fields) -> u32
     sign_extended(21, then(number, 1, 0))
 }
 
+/// The immediate of an operation: a shift keeps its number of places where rs2 stands.
 fn imm_number(op: ImmOp, fields: &Fields) -> u32
     requires { reading.IsWithin fields.now }
     ensures { result ≡ reading.imm_number op fields.now }
 {
     match op {
         ImmOp::Slli | ImmOp::Srli | ImmOp::Srai => fields.rs2.number(),
-        _ => i_number(fields),
+        ImmOp::Addi | ImmOp::Slti | ImmOp::Sltiu | ImmOp::Xori | ImmOp::Ori | ImmOp::Andi =>
+            i_number(fields),
     }
 }
 
+/// ECALL or EBREAK, whose words have no free field.
 fn system_of(fields: &Fields) -> Option<Instr>
     requires { reading.IsWithin fields.now }
     ensures { result ≡ reading.system_of fields.now }
@@ -228,7 +241,8 @@ fn instr_of(fields: &Fields) -> Option<Instr>
     }
 }
 
-/// The instruction of a word.
+/// The instruction of a word, None of a word that is no instruction of RV32I: compressed code, the
+/// extensions, CSRs and FENCE.I are none.
 #[tactic(auto, unfolding(crate::specs::Reading::decoded))]
 pub fn decode(word: u32) -> Option<Instr>
     ensures value { result ≡ reading.decoded word }
@@ -240,8 +254,14 @@ pub fn decode(word: u32) -> Option<Instr>
     instr_of(&Fields::of(word))
 }
 
-/// A word has at most one instruction, and what `decoded` says is what the rows say.
+/// A law of the instruction table; the function does nothing.
 pub fn rows_decide()
+    // A word has at most one instruction.
     ensures one { (word : ℕ) (i j : Instruction) → word < 2 ^ 32 → Decodes word i → Decodes word j → i ≡ j }
+    // What is read from a word is what the rows say of it.
     ensures rows { (word : ℕ) (i : Instruction) → word < 2 ^ 32 → (reading.decoded word ≡ Some i) ↔ Decodes word i }
+    // The word of an instruction decodes to the instruction.
+    ensures again { (i : Instruction) → IsValid i → reading.decoded (joined (row i)) ≡ Some i }
+    // What a word decodes to has that word.
+    ensures back { (word : ℕ) (i : Instruction) → word < 2 ^ 32 → reading.decoded word ≡ Some i → joined (row i) ≡ word }
 {}

@@ -1,4 +1,4 @@
-//! Encoding.
+//! From an instruction to its word.
 
 ghost use Rattle.std.specs.Prelude.{◌≡◌, ◌<◌, [], ◌∷◌};
 ghost use Rattle.tc_isa.specs.Rows.{IsValid, joined, row, cond_code, load_code, store_code, op_code};
@@ -7,6 +7,7 @@ use crate::fields::{bits, then};
 use crate::instr::{Cond, ImmOp, Instr, LoadKind, RegOp, StoreKind};
 use crate::reg::Reg;
 
+/// The code of a condition.
 fn cond_code(cond: Cond) -> u32
     ensures value { result ≡ cond_code cond }
     ensures bound { result < 8 }
@@ -21,6 +22,7 @@ fn cond_code(cond: Cond) -> u32
     }
 }
 
+/// The code of a load.
 fn load_code(kind: LoadKind) -> u32
     ensures value { result ≡ load_code kind }
     ensures bound { result < 8 }
@@ -34,6 +36,7 @@ fn load_code(kind: LoadKind) -> u32
     }
 }
 
+/// The code of a store.
 fn store_code(kind: StoreKind) -> u32
     ensures value { result ≡ store_code kind }
     ensures bound { result < 8 }
@@ -45,6 +48,7 @@ fn store_code(kind: StoreKind) -> u32
     }
 }
 
+/// The codes of an operation on two registers.
 fn op_code(op: RegOp) -> (u32, u32)
     ensures value { result ≡ op_code op }
     ensures bound { (result.0 < 128) × (result.1 < 8) }
@@ -89,6 +93,7 @@ fn r_word(funct7: u32, rs2: Reg, rs1: Reg, funct3: u32, low: u32, opcode: u32) -
     then(then(word, 5, low), 7, opcode)
 }
 
+/// The word of an operation on an immediate.
 fn imm_word(op: ImmOp, rd: Reg, rs1: Reg, imm: u32) -> u32
     requires { IsValid (Instr.Imm op rd rs1 imm) }
     ensures { result ≡ joined (row (Instr.Imm op rd rs1 imm)) }
@@ -106,6 +111,7 @@ fn imm_word(op: ImmOp, rd: Reg, rs1: Reg, imm: u32) -> u32
     }
 }
 
+/// The word of a JAL.
 fn jal_word(rd: Reg, off: u32) -> u32
     ensures { result ≡ joined (row (Instr.Jal rd off)) }
 {
@@ -115,6 +121,7 @@ fn jal_word(rd: Reg, off: u32) -> u32
     then(then(word, 5, rd.number()), 7, 0x6f)
 }
 
+/// The word of a branch.
 fn branch_word(cond: Cond, rs1: Reg, rs2: Reg, off: u32) -> u32
     ensures { result ≡ joined (row (Instr.Branch cond rs1 rs2 off)) }
 {
@@ -123,7 +130,7 @@ fn branch_word(cond: Cond, rs1: Reg, rs2: Reg, off: u32) -> u32
     r_word(high, rs2, rs1, cond_code(cond), low, 0x63)
 }
 
-/// The word of an instruction.
+/// The word of an instruction whose fields are in their ranges, as `is_valid` tests.
 pub fn encode(instr: &Instr) -> u32
     requires { IsValid instr.now }
     ensures { result ≡ joined (row instr.now) }

@@ -1,4 +1,5 @@
-//! The fields of an instruction word.
+//! The fields of an instruction word (RISC-V Unprivileged ISA, "Base Instruction Formats" and
+//! "Immediate Encoding Variants").
 
 ghost use Rattle.std.specs.Prelude.{◌≡◌, ℕ, ◌+◌, ◌-◌, ◌*◌, ◌^◌, ◌<◌, ◌≤◌};
 ghost use Rattle.tc_isa.specs.Rows.{bits};
@@ -6,7 +7,7 @@ ghost use Rattle.tc_isa.specs.Reading.{IsSplit, IsWithin, word_of, fields_of, si
 
 use crate::reg::Reg;
 
-/// Bits `high` to `low` of a word.
+/// Bits `high` to `low` of a word, both among them, as the number that they write.
 pub fn bits(word: u32, high: u32, low: u32) -> u32
     requires low { low ≤ high }
     requires high { high < 32 }
@@ -16,7 +17,7 @@ pub fn bits(word: u32, high: u32, low: u32) -> u32
     (word >> low) & (u32::MAX >> (31 - (high - low)))
 }
 
-/// The bits so far with a field after them.
+/// The bits `high` with a field of `width` bits after them, lower than they.
 pub fn then(high: u32, width: u32, field: u32) -> u32
     requires width { width < 32 }
     requires field { field < 2 ^ width }
@@ -26,7 +27,7 @@ pub fn then(high: u32, width: u32, field: u32) -> u32
     (high << width) | field
 }
 
-/// A number of `width` bits, extended from its highest bit to 32 bits.
+/// A number of `width` bits, extended from its highest bit to 32 bits in two's complement.
 pub fn sign_extended(width: u32, number: u32) -> u32
     requires low { 1 ≤ width }
     requires high { width < 32 }
@@ -40,15 +41,21 @@ pub fn sign_extended(width: u32, number: u32) -> u32
     }
 }
 
-/// The six fields of a word as they stand in the R form. The other forms put their numbers into
+/// The six fields of a word as they stand in the R form. The other forms put their immediates into
 /// the same places.
-#[derive(Clone, Copy)]
+#[derive(Clone, Copy, Debug, PartialEq, Eq)]
 pub struct Fields {
+    /// Bits 31 to 25.
     pub funct7: u32,
+    /// Bits 24 to 20.
     pub rs2: Reg,
+    /// Bits 19 to 15.
     pub rs1: Reg,
+    /// Bits 14 to 12.
     pub funct3: u32,
+    /// Bits 11 to 7.
     pub rd: Reg,
+    /// Bits 6 to 0.
     pub opcode: u32,
 }
 
@@ -68,7 +75,7 @@ impl Fields {
         }
     }
 
-    /// Their word.
+    /// The word that has these fields.
     pub fn word(&self) -> u32
         requires { IsWithin self.now }
         ensures { result ≡ word_of self.now }

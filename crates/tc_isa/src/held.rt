@@ -1,12 +1,13 @@
-//! Sets of locks.
+//! The set of locks that a thread holds.
 
 ghost use Rattle.std.specs.Prelude.{◌≡◌, ℕ, ◌<◌, ◌≤◌, ◌^◌, ◌||◌, ◌&&◌, ◌==◌, not, IsTrue, MatchOption, IfSome, length};
 ghost use Rattle.tc_isa.specs.Sets.{has, locks_of, with_lock, without_lock};
 
 use std::marker::Model;
 
-/// A set of numbers of locks below 32. A contract sees the number whose bits are the set.
-#[derive(Clone, Copy, PartialEq, Eq)]
+/// A set of numbers of locks below 32. A contract sees the number whose bits are the set, so that
+/// equal sets are equal values.
+#[derive(Clone, Copy, Debug, PartialEq, Eq)]
 pub struct Held {
     locks: u32,
 }
@@ -31,14 +32,21 @@ impl Held {
         Held { locks: 0 }
     }
 
-    /// Whether a lock is in the set.
+    /// The number whose bits are the locks of the set, the lowest bit for lock 0.
+    pub fn bits(self) -> u32
+        ensures { result ≡ self }
+    {
+        self.locks
+    }
+
+    /// Whether a lock is in the set. A number above 31 is in none.
     pub fn has(self, lock: u32) -> bool
         ensures { result ≡ has self lock }
     {
         lock < 32 && self.locks >> lock & 1 == 1
     }
 
-    /// The set with a lock.
+    /// The set with a lock, which may be in it already.
     pub fn plus(self, lock: u32) -> Held
         requires { lock < 32 }
         ensures value { result ≡ with_lock self lock }
@@ -49,7 +57,7 @@ impl Held {
         }
     }
 
-    /// The set without a lock.
+    /// The set without a lock, which need not be in it.
     pub fn less(self, lock: u32) -> Held
         requires { lock < 32 }
         ensures value { result ≡ without_lock self lock }
@@ -67,7 +75,7 @@ impl Held {
         self.locks.count_ones()
     }
 
-    /// The greatest lock of the set.
+    /// The greatest lock of the set, None of the empty one.
     pub fn greatest(self) -> Option<u32>
         ensures value { MatchOption result (self ≡ 0) (λ lock. IsTrue (has self lock) × ((other : ℕ) → IsTrue (has self other) → other ≤ lock)) }
         ensures bound { IfSome result (λ lock. lock < 32) }
@@ -79,7 +87,7 @@ impl Held {
         }
     }
 
-    /// The least lock of the set.
+    /// The least lock of the set, None of the empty one.
     pub fn least(self) -> Option<u32>
         ensures value { MatchOption result (self ≡ 0) (λ lock. IsTrue (has self lock) × ((other : ℕ) → IsTrue (has self other) → lock ≤ other)) }
         ensures bound { IfSome result (λ lock. lock < 32) }

@@ -1,4 +1,4 @@
-//! The registers of a thread.
+//! The registers of a guest thread.
 
 ghost use Rattle.std.specs.Prelude.{◌≡◌, ◌%◌, slice_index, length};
 ghost use Rattle.tc_isa.specs.Registers.{Registers, started, get, with_register, IsRegisters};
@@ -7,8 +7,8 @@ use crate::reg::Reg;
 use std::marker::Model;
 
 /// The program counter and the 32 registers of a thread. Register 0 stays 0, and the program
-/// counter a multiple of 4.
-#[derive(Clone, Copy, PartialEq, Eq)]
+/// counter a multiple of 4, since no compressed instruction is known.
+#[derive(Clone, Copy, Debug, PartialEq, Eq)]
 pub struct Regs {
     counter: u32,
     words: [u32; 32],
@@ -27,7 +27,8 @@ impl Model for Regs {
 }
 
 impl Regs {
-    /// The registers of a thread at its start.
+    /// The registers of a thread at its start: x2 is just above the stack, x10 the argument, x11 the
+    /// number of the thread, and the others are 0.
     pub fn start(entry: u32, argument: u32, thread: u32) -> Regs
         requires { entry % 4 ≡ 0 }
         ensures { result ≡ started entry argument thread }
@@ -42,7 +43,7 @@ impl Regs {
         }
     }
 
-    /// The program counter.
+    /// The program counter: the address of the next instruction.
     pub fn pc(&self) -> u32
         ensures value { result ≡ self.now.pc }
         ensures aligned { result % 4 ≡ 0 }
@@ -52,12 +53,13 @@ impl Regs {
 
     /// The number in a register.
     pub fn get(&self, register: Reg) -> u32
-        ensures { result ≡ get self.now register }
+        ensures value { result ≡ get self.now register }
+        ensures zero { register ≡ 0 → result ≡ 0 }
     {
         self.words[register.number() as usize]
     }
 
-    /// These registers with another number in one of them, unless it is register 0.
+    /// These registers with another number in one of them; a write to register 0 has no effect.
     pub fn with(self, register: Reg, value: u32) -> Regs
         ensures { result ≡ with_register self register value }
     {
@@ -69,7 +71,7 @@ impl Regs {
         regs
     }
 
-    /// These registers at another place of the program.
+    /// These registers with another program counter.
     pub fn at(self, pc: u32) -> Regs
         requires { pc % 4 ≡ 0 }
         ensures { result ≡ record self { pc = pc } }

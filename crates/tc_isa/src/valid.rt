@@ -1,10 +1,11 @@
-//! Which instructions have a word.
+//! Which values of `Instr` have a word.
 
 ghost use Rattle.std.specs.Prelude.{◌≡◌, ◌<◌, ◌≤◌, ◌↔◌, IsTrue};
 ghost use Rattle.tc_isa.specs.Rows.{IsSigned, IsImmediate, IsValid, IsEven};
 
 use crate::instr::{ImmOp, Instr};
 
+/// Whether a number of 32 bits in two's complement fits in `width` bits.
 fn is_signed(width: u32, number: u32) -> bool
     requires low { 1 ≤ width }
     requires high { width ≤ 32 }
@@ -14,17 +15,23 @@ fn is_signed(width: u32, number: u32) -> bool
     number < half || number >= u32::MAX - (half - 1)
 }
 
+/// Whether a number is an immediate of the operation.
 fn is_immediate(op: ImmOp, number: u32) -> bool
     ensures { IsTrue result ↔ IsImmediate op number }
 {
     match op {
         ImmOp::Slli | ImmOp::Srli | ImmOp::Srai => number < 32,
-        _ => is_signed(12, number),
+        ImmOp::Addi | ImmOp::Slti | ImmOp::Sltiu | ImmOp::Xori | ImmOp::Ori | ImmOp::Andi =>
+            is_signed(12, number),
     }
 }
 
 impl Instr {
     /// Whether its fields are in their ranges, so that it has a word.
+    ///
+    /// Offsets and immediates are read in two's complement: even numbers from -1,048,576 to 1,048,574
+    /// for JAL, even ones from -4,096 to 4,094 for a branch, and from -2,048 to 2,047 elsewhere. A
+    /// number of places is from 0 to 31, and the low 12 bits of an upper immediate are 0.
     pub fn is_valid(&self) -> bool
         ensures { IsTrue result ↔ IsValid self.now }
     {

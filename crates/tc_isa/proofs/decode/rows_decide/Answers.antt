@@ -1,9 +1,9 @@
-use Rattle.std.proofs.Common.{◌≡◌, ℕ, ◌<◌, ◌^◌, Some, sym, ◌∙◌, arith, subst, Option}
+use Rattle.std.proofs.Common.{◌≡◌, ℕ, ◌<◌, ◌^◌, Some, refl, sym, ◌∙◌, arith, subst, Option}
 use Rattle.std.specs.Prelude.{IfSome}
 use Rattle.tc_isa.specs.Rows.{Decodes}
 use Rattle.tc_isa.specs.Reading.{decoded, instr_of, fields_of, IsSplit}
 use Rattle.tc_isa.specs.declared.instr.Instr.{Instr}
-use Rattle.tc_isa.proofs.Laws.{again}
+use Rattle.tc_isa.proofs.Laws.{again, fits}
 use Rattle.tc_isa.proofs.Sound.{sound}
 use Rattle.tc_isa.proofs.decode.rows_decide.Goals as goal
 
@@ -30,3 +30,9 @@ returns-clause-rows c = λ word i h. (back word i h, there word i h)
 
 pub returns-clause-one : goal.returns-clause-one
 returns-clause-one c = λ word i j h d e. let same : Some i ≡ Some j = sym (there word i h d) ∙ there word j h e in cc
+
+pub returns-clause-again : goal.returns-clause-again
+returns-clause-again c = λ i v. there _ i (fits i v) (v, refl)
+
+pub returns-clause-back : goal.returns-clause-back
+returns-clause-back c = λ word i h e. sym (back word i h e).1

@@ -1,4 +1,4 @@
-use Rattle.std.proofs.Common.{◌≡◌, ℕ, ◌+◌, ◌*◌, ◌^◌, ◌%◌, ◌<◌, bit_or, ap, ◌∙◌, arith}
+use Rattle.std.proofs.Common.{◌≡◌, ◌*◌, ◌^◌, ◌%◌, bit_or, ap, ◌∙◌, arith}
 use Rattle.std.proofs.lemmas.Nat.{or_shifted}
 use Rattle.tc_isa.proofs.fields.then.Goals as goal
 

@@ -1,4 +1,4 @@
-use Rattle.std.proofs.Common.{◌<◌, ◌^◌, ◌≡◌, nat_lt, false, sym, ◌∙◌, arith}
+use Rattle.std.proofs.Common.{◌≡◌, nat_lt, false, sym, ◌∙◌, arith}
 use Rattle.std.proofs.lemmas.Bool.Decides.{nat_tests}
 use Rattle.tc_isa.proofs.SetLemmas.{has_above}
 use Rattle.tc_isa.proofs.held.Held.has.Goals as goal

@@ -1,4 +1,4 @@
-use Rattle.std.proofs.Common.{◌≡◌, ◌≢◌, sym, ◌∙◌, arith}
+use Rattle.std.proofs.Common.{arith}
 use Rattle.tc_isa.proofs.SetLemmas.{least_is}
 use Rattle.tc_isa.proofs.held.Held.least.Goals as goal
 
