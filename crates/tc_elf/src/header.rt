@@ -1,137 +1,113 @@
-//! The header of the file and its program headers.
+//! The header of the file (System V gABI, "ELF Header"; RISC-V psABI, "ELF Object Files").
 
-ghost use Rattle.std.specs.Prelude.{◌≡◌, ◌≢◌, ℕ, ◌+◌, ◌*◌, ◌<◌, ◌≤◌, ◌^◌, length, slice_index, drop, IfOk, IfErr, None, Some, vec_len};
-ghost use Rattle.tc_elf.specs.Elf.{header_at, headers, headers_from, word_at, half_at};
-ghost use Rattle.tc_elf.specs.Refusals.{header_refusal};
+ghost use Rattle.std.specs.Prelude.{◌≡◌, ◌≢◌, ◌+◌, ◌*◌, ◌≤◌, None, Some, length, vec_len, IfOk, IfErr};
+ghost use Rattle.tc_elf.specs.Elf.{segments, segments_from};
 ghost use Rattle.tc_elf.specs.declared.refusal.Refusal.TheVariants.{OutOfMemory};
+ghost use Rattle.tc_elf.specs.Refusals.{header_refusal, is_bad_magic, is_not_elf32_little, is_bad_header};
 
+use crate::limits::MAX_HEADERS;
 use crate::refusal::Refusal;
-use byteorder::{ByteOrder, LittleEndian};
-use std::alloc::Global;
+use crate::segment::{Segment, half_at, word_at};
+use std::alloc::{AllocError, Global};
 
-pub const LOAD: u32 = 1;
+/// The length of the file's header in bytes.
+pub(crate) const HEADER_LENGTH: usize = 52;
 
-pub const EXECUTABLE: u32 = 1;
+/// The length of a program header in bytes.
+pub(crate) const SEGMENT_LENGTH: u16 = 32;
 
-pub const WRITABLE: u32 = 2;
+/// The type of an executable file.
+const ET_EXEC: u16 = 2;
 
-/// A program header, without the words that nothing looks at.
-#[derive(Clone, Copy, Debug, PartialEq, Eq)]
-pub struct Header {
-    pub kind: u32,
-    pub offset: u32,
-    pub address: u32,
-    pub file_size: u32,
-    pub memory_size: u32,
-    pub flags: u32,
-}
+/// The number of the machine RISC-V.
+const EM_RISCV: u16 = 243;
 
-/// The word at a place of the file.
-fn word_at(bytes: &[u8], at: usize) -> u32
-    requires { at + 4 ≤ length bytes.now }
-    ensures { result ≡ word_at bytes.now at }
+fn is_bad_magic(bytes: &[u8]) -> bool
+    requires { HEADER_LENGTH ≤ length bytes.now }
+    ensures { result ≡ is_bad_magic bytes.now }
 {
-    LittleEndian::read_u32(&bytes[at..])
+    bytes[0] != 0x7f || bytes[1] != 0x45 || bytes[2] != 0x4c || bytes[3] != 0x46
 }
 
-/// The half word at a place of the file.
-fn half_at(bytes: &[u8], at: usize) -> u16
-    requires { at + 2 ≤ length bytes.now }
-    ensures { result ≡ half_at bytes.now at }
+fn is_not_elf32_little(bytes: &[u8]) -> bool
+    requires { HEADER_LENGTH ≤ length bytes.now }
+    ensures { result ≡ is_not_elf32_little bytes.now }
 {
-    LittleEndian::read_u16(&bytes[at..])
+    bytes[4] != 1 || bytes[5] != 1 || bytes[6] != 1
 }
 
-/// The program header at a place of the file.
-fn header_at(bytes: &[u8], at: usize) -> Header
-    requires { at + 32 ≤ length bytes.now }
-    ensures { result ≡ header_at bytes.now at }
+/// Whether the header has another version, or its program headers aren't 1 to 16 of their size in
+/// the file.
+fn is_bad_header(bytes: &[u8]) -> bool
+    requires { HEADER_LENGTH ≤ length bytes.now }
+    ensures { result ≡ is_bad_header bytes.now }
 {
-    Header {
-        kind: word_at(bytes, at),
-        offset: word_at(bytes, at + 4),
-        address: word_at(bytes, at + 8),
-        file_size: word_at(bytes, at + 16),
-        memory_size: word_at(bytes, at + 20),
-        flags: word_at(bytes, at + 24),
-    }
+    let count = half_at(bytes, 44);
+    let end = word_at(bytes, 28) as usize + SEGMENT_LENGTH as usize * count as usize;
+    word_at(bytes, 20) != 1
+        || half_at(bytes, 42) != SEGMENT_LENGTH
+        || count == 0
+        || count > MAX_HEADERS
+        || end > bytes.len()
 }
 
-/// The first refusal of the file's header, where there is one.
+/// The first thing that is wrong with the file's header.
 fn header_refusal(bytes: &[u8]) -> Option<Refusal>
     ensures { result ≡ header_refusal bytes.now }
 {
-    if bytes.len() < 52 {
+    if bytes.len() < HEADER_LENGTH {
         return Some(Refusal::TooShort);
     }
-    if bytes[0] != 0x7f || bytes[1] != 0x45 || bytes[2] != 0x4c || bytes[3] != 0x46 {
+    if is_bad_magic(bytes) {
         return Some(Refusal::BadMagic);
     }
-    if bytes[4] != 1 || bytes[5] != 1 || bytes[6] != 1 {
+    if is_not_elf32_little(bytes) {
         return Some(Refusal::NotElf32Little);
     }
-    if half_at(bytes, 16) != 2 {
+    if half_at(bytes, 16) != ET_EXEC {
         return Some(Refusal::NotExec);
     }
-    if half_at(bytes, 18) != 243 {
+    if half_at(bytes, 18) != EM_RISCV {
         return Some(Refusal::NotRiscv);
     }
     if word_at(bytes, 36) % 16 != 0 {
         return Some(Refusal::BadFlags);
     }
-    let count = half_at(bytes, 44);
-    let end = word_at(bytes, 28) as usize + 32 * count as usize;
-    if word_at(bytes, 20) != 1
-        || half_at(bytes, 42) != 32
-        || count == 0
-        || count > 16
-        || end > bytes.len()
-    {
+    if is_bad_header(bytes) {
         return Some(Refusal::BadHeader);
     }
     None
 }
 
-/// This many program headers from a place on.
-fn headers_from(
+/// So many segments, of the program headers from a place of the file on.
+fn segments_from(
     alloc: Global,
     bytes: &[u8],
     at: usize,
     count: usize,
-) -> Result<Vec<Header>, Refusal>
+) -> Result<Vec<Segment>, AllocError>
     requires { at + 32 * count ≤ length bytes.now }
-    ensures ok { IfOk result (λ v. v.items ≡ headers_from bytes.now at count) }
+    ensures value { IfOk result (λ v. v.items ≡ segments_from bytes.now at count) }
     ensures count { IfOk result (λ v. vec_len v ≡ count) }
-    ensures err { IfErr result (λ e. e ≡ OutOfMemory) }
 {
-    let mut headers = Vec::new(alloc);
+    let mut segments = Vec::with_capacity(alloc, count)?;
     for i in 0..count {
-        headers.push(header_at(bytes, at + 32 * i))?;
+        segments.push(Segment::at(bytes, at + SEGMENT_LENGTH as usize * i))?;
     }
-    Ok(headers)
+    Ok(segments)
 }
 
-/// The program headers of a file, unless its header is refused.
-pub fn headers(alloc: Global, bytes: &[u8]) -> Result<Vec<Header>, Refusal>
-    ensures ok { IfOk result (λ v. (header_refusal bytes.now ≡ None) × (v.items ≡ headers bytes.now)) }
-    ensures few { IfOk result (λ v. vec_len v ≤ 16) }
-    ensures err { IfErr result (λ e. e ≢ OutOfMemory → header_refusal bytes.now ≡ Some e) }
+/// The segments of a file, unless its header is refused.
+pub(crate) fn segments(alloc: Global, bytes: &[u8]) -> Result<Vec<Segment>, Refusal>
+    ensures value { IfOk result (λ v. v.items ≡ segments bytes.now) }
+    ensures header { IfOk result (λ _. header_refusal bytes.now ≡ None) }
+    ensures few { IfOk result (λ v. vec_len v ≤ MAX_HEADERS) }
+    ensures refused { IfErr result (λ e. e ≢ OutOfMemory → header_refusal bytes.now ≡ Some e) }
 {
     if let Some(refusal) = header_refusal(bytes) {
         return Err(refusal);
     }
-    headers_from(
-        alloc,
-        bytes,
-        word_at(bytes, 28) as usize,
-        half_at(bytes, 44) as usize,
-    )
-}
-
-/// The entry that the header names.
-pub fn entry(bytes: &[u8]) -> u32
-    requires { 52 ≤ length bytes.now }
-    ensures { result ≡ word_at bytes.now 24 }
-{
-    word_at(bytes, 24)
+    let at = word_at(bytes, 28) as usize;
+    let count = half_at(bytes, 44) as usize;
+    Ok(segments_from(alloc, bytes, at, count)?)
 }

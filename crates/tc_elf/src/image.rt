@@ -1,233 +1,118 @@
-//! The image of a guest.
+//! The image of a guest: its ranges of memory, its threads' entries and its guards.
 
-ghost use Rattle.std.specs.Prelude.{◌≡◌, ◌≢◌, ◌<◌, ◌≤◌, ◌^◌, ◌*◌, ◌==◌, true, false, length, map, filter, find, slice_get, ◌-◌, IfOk, IfSome, sum_by};
-ghost use Rattle.tc_elf.specs.Shown.{Shown, Range as ShownRange};
+ghost use Rattle.std.specs.Prelude.{◌≡◌, ◌<◌, ◌≤◌, ◌%◌, true, length, IfSome, position, find};
 ghost use Rattle.std.specs.List.{list_any};
 ghost use Rattle.std.specs.Option.{option_copied};
-ghost use Rattle.tc_elf.specs.Loading.{Loads, lies_in, in_range, in_text, in_private, region_of, byte_of};
-ghost use Rattle.tc_elf.specs.Elf.{is_range, range_of, ranges_of, content, headers};
-ghost use Rattle.tc_elf.specs.Refusals.{is_bad_load, load_size, any_pair, shares, on_stack, is_writable_code, is_dynamic, segment_refusal, meets};
-ghost use Rattle.tc_elf.specs.declared.refusal.Refusal.TheVariants.{OutOfMemory};
+ghost use Rattle.tc_elf.specs.Shown.{entry_at, guard_at, range_at};
+ghost use Rattle.tc_elf.specs.declared.limits.TheConstants.{MAX_HEADERS, MAX_THREADS, MAX_GUARDS};
+ghost use Rattle.tc_elf.specs.Kept.{IsRange, IsGuard};
+ghost use Rattle.tc_elf.specs.Places.{lies_in, meets, in_range, in_text, in_writable, in_code, in_guard, touches, region_of, unguarded_region, fetched, byte_of};
 
-use crate::header::{EXECUTABLE, Header, LOAD, WRITABLE, entry, headers};
-use crate::refusal::Refusal;
-use std::alloc::{AllocError, Global};
+use crate::limits::{STACK_LENGTH, STACK_START};
+use byteorder::{ByteOrder, LittleEndian};
 use std::marker::Model;
 
 /// A range of addresses, with its bytes at the start.
 #[derive(Drop)]
-pub struct Range {
-    start: u32,
-    length: u32,
-    writable: bool,
-    executable: bool,
-    bytes: Vec<u8>,
+pub(crate) struct Range {
+    pub(crate) start: u32,
+    pub(crate) length: u32,
+    pub(crate) writable: bool,
+    pub(crate) executable: bool,
+    pub(crate) bytes: Vec<u8>,
 }
 
 impl Model for Range {
+    ghost use Rattle.std.specs.Prelude.{◌≡◌, vec_len};
     ghost use Rattle.tc_elf.specs.Shown.{Range as ShownRange};
 
     ghost Value = { ShownRange };
 
     ghost view = { λ r. record { start = r.start; length = r.length; writable = r.writable; executable = r.executable; bytes = r.bytes.items } };
+
+    ghost invariant = { λ r. vec_len r.bytes ≡ r.length };
+}
+
+/// Where a thread begins, and what it is given.
+#[derive(Clone, Copy, Drop)]
+pub(crate) struct Entry {
+    pub(crate) address: u32,
+    pub(crate) argument: u32,
+}
+
+impl Model for Entry {
+    ghost use Rattle.tc_elf.specs.Shown.{Entry as ShownEntry};
+
+    ghost Value = { ShownEntry };
+
+    ghost view = { λ e. record { address = e.address; argument = e.argument } };
+
+    ghost inverse = { λ e. record { address = e.address; argument = e.argument } };
+}
+
+/// The addresses that the holder of a lock may use.
+#[derive(Clone, Copy, Drop)]
+pub(crate) struct Guard {
+    pub(crate) start: u32,
+    pub(crate) length: u32,
+}
+
+impl Model for Guard {
+    ghost use Rattle.tc_elf.specs.Shown.{Guard as ShownGuard};
+
+    ghost Value = { ShownGuard };
+
+    ghost view = { λ g. record { start = g.start; length = g.length } };
+
+    ghost inverse = { λ g. record { start = g.start; length = g.length } };
 }
 
 /// What a guest's file stands for.
 #[derive(Drop)]
 pub struct Image {
-    ranges: Vec<Range>,
-    entry: u32,
+    pub(crate) ranges: Vec<Range>,
+    pub(crate) entries: Vec<Entry>,
+    pub(crate) guards: Vec<Guard>,
 }
 
 impl Model for Image {
-    ghost use Rattle.std.specs.Prelude.{[], ◌∷◌};
     ghost use Rattle.tc_elf.specs.Shown.{Shown};
+    ghost use Rattle.tc_elf.specs.Kept.{IsImage};
 
     ghost Value = { Shown };
 
-    ghost view = { λ i. record { ranges = i.ranges.items; entries = (i.entry, 0) ∷ [] } };
+    ghost view = { λ i. record { ranges = i.ranges.items; entries = i.entries.items; guards = i.guards.items } };
+
+    ghost invariant = { λ i. IsImage (record { ranges = i.ranges.items; entries = i.entries.items; guards = i.guards.items }) };
 }
 
-fn is_range(header: &Header) -> bool
-    ensures { result ≡ is_range header.now }
-{
-    header.kind == LOAD && header.memory_size > 0
-}
-
-fn is_bad_load(bytes: &[u8], header: &Header) -> bool
-    ensures { result ≡ is_bad_load bytes.now header.now }
-{
-    header.kind == LOAD
-        && (header.file_size > header.memory_size
-            || header.offset as usize + header.file_size as usize > bytes.len()
-            || header.address as u64 + header.memory_size as u64 > 1 << 32)
-}
-
-fn load_size(header: &Header) -> u64
-    ensures value { result ≡ load_size header.now }
-    ensures bound { result < 2 ^ 32 }
-{
-    if header.kind == LOAD {
-        header.memory_size as u64
-    } else {
-        0
-    }
-}
-
-fn meets(a: u32, n: u32, b: u32, m: u32) -> bool
-    ensures { result ≡ meets a n b m }
-{
-    (a as u64) < b as u64 + m as u64 && (b as u64) < a as u64 + n as u64
-}
-
-fn shares(one: &Header, other: &Header) -> bool
-    ensures { result ≡ shares one.now other.now }
-{
-    is_range(one)
-        && is_range(other)
-        && meets(
-            one.address,
-            one.memory_size,
-            other.address,
-            other.memory_size,
-        )
-}
-
-fn shares_any(one: &Header, others: &[Header]) -> bool
-    ensures { result ≡ list_any (shares one.now) others.now }
-{
-    others.iter().any(|other| shares(one, other))
-}
-
-fn any_shared(headers: &[Header]) -> bool
-    ensures { result ≡ any_pair shares headers.now }
-{
-    match headers {
-        [] => false,
-        [one, others @ ..] => shares_any(one, others) || any_shared(others),
-    }
-}
-
-fn any_dynamic(headers: &[Header]) -> bool
-    ensures { result ≡ list_any is_dynamic headers.now }
-{
-    headers
-        .iter()
-        .any(|h| h.kind == 2 || h.kind == 3 || h.kind == 7)
-}
-
-fn any_bad_load(bytes: &[u8], headers: &[Header]) -> bool
-    ensures { result ≡ list_any (is_bad_load bytes.now) headers.now }
-{
-    headers.iter().any(|h| is_bad_load(bytes, h))
-}
-
-fn any_on_stack(headers: &[Header]) -> bool
-    ensures { result ≡ list_any on_stack headers.now }
-{
-    headers.iter().any(|h| is_range(h) && meets(h.address, h.memory_size, 0x7fff_c000, 0x4000))
-}
-
-fn any_writable_code(headers: &[Header]) -> bool
-    ensures { result ≡ list_any is_writable_code headers.now }
-{
-    headers.iter().any(|h| is_range(h) && h.flags % 4 == 3)
-}
-
-fn total_size(headers: &[Header]) -> u64
-    requires { length headers.now ≤ 2 ^ 16 }
-    ensures { result ≡ sum_by load_size headers.now }
-{
-    headers.iter().map(|header| load_size(header)).sum()
-}
-
-fn segment_refusal(bytes: &[u8], headers: &[Header]) -> Option<Refusal>
-    requires { length headers.now ≤ 2 ^ 16 }
-    ensures { result ≡ segment_refusal bytes.now headers.now }
-{
-    if any_dynamic(headers) {
-        Some(Refusal::Dynamic)
-    } else if any_bad_load(bytes, headers) || total_size(headers) > 1_048_576 {
-        Some(Refusal::BadLoad)
-    } else if any_shared(headers) || any_on_stack(headers) {
-        Some(Refusal::Overlap)
-    } else if any_writable_code(headers) {
-        Some(Refusal::WritableCode)
-    } else {
-        None
-    }
-}
-
-/// The bytes of a range.
-fn content(alloc: Global, bytes: &[u8], header: &Header) -> Result<Vec<u8>, AllocError>
-    requires fits { is_bad_load bytes.now header.now ≡ false }
-    requires load { header.now.kind ≡ 1 }
-    ensures { IfOk result (λ v. v.items ≡ content bytes.now header.now) }
-{
-    let start = header.offset as usize;
-    let part = &bytes[start..start + header.file_size as usize];
-    let mut content = Vec::from_slice(alloc, part)?;
-    content.resize(header.memory_size as usize, 0)?;
-    Ok(content)
-}
-
-/// The range of a program header.
-fn range_of(alloc: Global, bytes: &[u8], header: &Header) -> Result<Range, AllocError>
-    requires fits { is_bad_load bytes.now header.now ≡ false }
-    requires range { is_range header.now ≡ true }
-    ensures { IfOk result (λ r. r ≡ range_of bytes.now header.now) }
-{
-    Ok(Range {
-        start: header.address,
-        length: header.memory_size,
-        writable: header.flags / WRITABLE % 2 == 1,
-        executable: header.flags % 2 == EXECUTABLE,
-        bytes: content(alloc, bytes, header)?,
-    })
-}
-
-/// The ranges of the program headers.
-fn ranges_of(alloc: Global, bytes: &[u8], headers: &[Header]) -> Result<Vec<Range>, AllocError>
-    requires { list_any (is_bad_load bytes.now) headers.now ≡ false }
-    ensures { IfOk result (λ v. v.items ≡ map (range_of bytes.now) (filter is_range headers.now)) }
-{
-    let mut ranges = Vec::new(alloc);
-    for header in headers {
-        if is_range(header) {
-            ranges.push(range_of(alloc, bytes, header)?)?;
-        }
-    }
-    Ok(ranges)
-}
-
-/// The image of a file.
-pub fn load(alloc: Global, bytes: &[u8]) -> Result<Image, Refusal>
-    requires { length bytes.now ≤ 1048576 }
-    ensures { Loads bytes.now result }
-{
-    let headers = headers(alloc, bytes)?;
-    if let Some(refusal) = segment_refusal(bytes, &headers) {
-        return Err(refusal);
-    }
-    Ok(Image {
-        ranges: ranges_of(alloc, bytes, &headers)?,
-        entry: entry(bytes),
-    })
-}
-
-/// Where an access lies.
+/// The place that holds all bytes of an access.
 #[derive(Clone, Copy, Debug, PartialEq, Eq)]
 pub enum Region {
+    /// A range that is read only, and shared between the threads.
     Text,
+    /// A writable range outside all guards, of which each thread has a copy of its own.
     Private,
+    /// A thread's own stack.
     Stack,
+    /// The guard of the lock with this number.
+    Guard(u32),
+    /// No single place.
     Nothing,
 }
 
+/// Whether all bytes of an access lie in what begins at `start` and has this length.
 fn lies_in(addr: u32, width: u32, start: u32, length: u32) -> bool
     ensures { result ≡ lies_in addr width start length }
 {
     addr >= start && addr as u64 + width as u64 <= start as u64 + length as u64
+}
+
+/// Whether two lists of addresses, each by its start and its length, share an address.
+pub(crate) fn meets(a: u32, n: u32, b: u32, m: u32) -> bool
+    ensures { result ≡ meets a n b m }
+{
+    (a as u64) < b as u64 + m as u64 && (b as u64) < a as u64 + n as u64
 }
 
 impl Range {
@@ -236,14 +121,19 @@ impl Range {
     {
         lies_in(addr, width, self.start, self.length)
     }
+}
 
-    fn byte(&self, addr: u32) -> Option<u8>
-        ensures { self.now.start ≤ addr → result ≡ slice_get self.now.bytes (addr - self.now.start) }
+impl Guard {
+    fn has(&self, addr: u32, width: u32) -> bool
+        ensures { result ≡ in_guard addr width self.now }
     {
-        if addr < self.start {
-            return None;
-        }
-        self.bytes.get((addr - self.start) as usize).copied()
+        lies_in(addr, width, self.start, self.length)
+    }
+
+    fn touches(&self, addr: u32, width: u32) -> bool
+        ensures { result ≡ touches addr width self.now }
+    {
+        meets(addr, width, self.start, self.length)
     }
 }
 
@@ -253,40 +143,148 @@ fn any_text(ranges: &[Range], addr: u32, width: u32) -> bool
     ranges.iter().any(|r| !r.writable && r.has(addr, width))
 }
 
-fn any_private(ranges: &[Range], addr: u32, width: u32) -> bool
-    ensures { result ≡ list_any (in_private addr width) ranges.now }
+/// Whether one executable range holds the four bytes of an instruction.
+pub(crate) fn any_code(ranges: &[Range], pc: u32) -> bool
+    ensures { result ≡ list_any (in_code pc 4) ranges.now }
+{
+    ranges.iter().any(|r| r.executable && r.has(pc, 4))
+}
+
+/// Whether one writable range holds all bytes of an access.
+pub(crate) fn any_writable(ranges: &[Range], addr: u32, width: u32) -> bool
+    ensures { result ≡ list_any (in_writable addr width) ranges.now }
 {
     ranges.iter().any(|r| r.writable && r.has(addr, width))
 }
 
-fn range_at(ranges: &[Range], addr: u32) -> Option<&Range>
+fn any_touched(guards: &[Guard], addr: u32, width: u32) -> bool
+    ensures { result ≡ list_any (touches addr width) guards.now }
+{
+    guards.iter().any(|g| g.touches(addr, width))
+}
+
+fn guard_with(guards: &[Guard], addr: u32, width: u32) -> Option<usize>
+    ensures first { result ≡ position (in_guard addr width) guards.now }
+    ensures bound { IfSome result (λ lock. lock < length guards.now) }
+{
+    guards.iter().position(|g| g.has(addr, width))
+}
+
+fn range_with(ranges: &[Range], addr: u32) -> Option<&Range>
     ensures first { option_copied result ≡ find (in_range addr 1) ranges.now }
-    ensures has { IfSome result (λ r. r.now.start ≤ addr) }
+    ensures has { IfSome result (λ r. in_range addr 1 r.now ≡ true) }
 {
     ranges.iter().find(|r| r.has(addr, 1))
 }
 
+fn code_with(ranges: &[Range], pc: u32) -> Option<&Range>
+    ensures first { option_copied result ≡ find (in_code pc 4) ranges.now }
+    ensures has { IfSome result (λ r. in_code pc 4 r.now ≡ true) }
+{
+    ranges.iter().find(|r| r.executable && r.has(pc, 4))
+}
+
 impl Image {
-    /// Where an access lies.
-    pub fn region(&self, addr: u32, width: u32) -> Region
-        ensures { result ≡ region_of self.now addr width }
+    /// The number of threads.
+    pub fn threads(&self) -> u32
+        ensures value { result ≡ length self.now.entries }
+        ensures bound { (1 ≤ result) × (result ≤ MAX_THREADS) }
+    {
+        self.entries.len() as u32
+    }
+
+    /// The number of guards, which is that of locks.
+    pub fn guards(&self) -> u32
+        ensures value { result ≡ length self.now.guards }
+        ensures bound { result ≤ MAX_GUARDS }
+    {
+        self.guards.len() as u32
+    }
+
+    /// The number of ranges.
+    pub fn ranges(&self) -> u32
+        ensures value { result ≡ length self.now.ranges }
+        ensures bound { result ≤ MAX_HEADERS }
+    {
+        self.ranges.len() as u32
+    }
+
+    /// The address of a thread's first instruction, and the argument that it is given in x10.
+    pub fn entry(&self, t: u32) -> (u32, u32)
+        requires { t < length self.now.entries }
+        ensures value { result ≡ ((entry_at self.now t).address, (entry_at self.now t).argument) }
+        ensures aligned { result.0 % 4 ≡ 0 }
+    {
+        let entry = self.entries[t as usize];
+        (entry.address, entry.argument)
+    }
+
+    /// The start and the length of a lock's guard.
+    pub fn guard(&self, lock: u32) -> (u32, u32)
+        requires { lock < length self.now.guards }
+        ensures value { result ≡ ((guard_at self.now lock).start, (guard_at self.now lock).length) }
+        ensures kept { IsGuard self.now (guard_at self.now lock) }
+    {
+        let guard = self.guards[lock as usize];
+        (guard.start, guard.length)
+    }
+
+    /// The start and the length of a range, and whether it is writable and executable. Ranges
+    /// count from 0, in the order of the program headers.
+    pub fn range(&self, i: u32) -> (u32, u32, bool, bool)
+        requires { i < length self.now.ranges }
+        ensures value { result ≡ ((range_at self.now i).start, (range_at self.now i).length, (range_at self.now i).writable, (range_at self.now i).executable) }
+        ensures kept { IsRange (range_at self.now i) }
+    {
+        let range = &self.ranges[i as usize];
+        (range.start, range.length, range.writable, range.executable)
+    }
+
+    /// The place of an access that no guard holds.
+    fn unguarded_region(&self, addr: u32, width: u32) -> Region
+        ensures { result ≡ unguarded_region self.now addr width }
     {
         if any_text(&self.ranges, addr, width) {
             Region::Text
-        } else if any_private(&self.ranges, addr, width) {
+        } else if any_writable(&self.ranges, addr, width)
+            && !any_touched(&self.guards, addr, width)
+        {
             Region::Private
-        } else if lies_in(addr, width, 0x7fff_c000, 0x4000) {
+        } else if lies_in(addr, width, STACK_START, STACK_LENGTH) {
             Region::Stack
         } else {
             Region::Nothing
         }
     }
 
-    /// The byte that a range has at an address at the start.
+    /// The one place that holds all bytes of an access.
+    #[tactic(auto, unfolding(crate::specs::Places::region_of))]
+    pub fn region(&self, addr: u32, width: u32) -> Region
+        ensures { result ≡ region_of self.now addr width }
+    {
+        match guard_with(&self.guards, addr, width) {
+            Some(lock) => Region::Guard(lock as u32),
+            None => self.unguarded_region(addr, width),
+        }
+    }
+
+    /// The word of the instruction at `pc`; None where its four bytes aren't in one executable
+    /// range.
+    #[tactic(auto, unfolding(crate::specs::Places::fetched))]
+    pub fn fetch(&self, pc: u32) -> Option<u32>
+        ensures { result ≡ fetched self.now pc }
+    {
+        let range = code_with(&self.ranges, pc)?;
+        let at = (pc - range.start) as usize;
+        Some(LittleEndian::read_u32(&range.bytes[at..]))
+    }
+
+    /// The byte that a range has at an address at the start; None where no range has the address.
+    #[tactic(auto, unfolding(crate::specs::Places::byte_of))]
     pub fn byte(&self, addr: u32) -> Option<u8>
         ensures { result ≡ byte_of self.now addr }
     {
-        let range = range_at(&self.ranges, addr)?;
-        range.byte(addr)
+        let range = range_with(&self.ranges, addr)?;
+        Some(range.bytes[(addr - range.start) as usize])
     }
 }

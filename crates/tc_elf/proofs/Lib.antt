@@ -1,0 +1,2 @@
+pub mod NoteSteps
+pub mod Images

@@ -1,5 +1,0 @@
-use Rattle.std.proofs.Common.{length}
-use Rattle.tc_elf.proofs.image.+any_shared.Given as goal
-
-abbrev pub decreases-any_shared : goal.decreases-any_shared
-decreases-any_shared l = length l.headers.now

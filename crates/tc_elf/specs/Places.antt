@@ -1,0 +1,55 @@
+-- Which place holds the bytes of an access.
+use Rattle.std.specs.Prelude.{ℕ, ◌+◌, ◌-◌, nat_lt, nat_le, not, ◌&&◌, if◌then◌else◌, Bool, Option, drop, find, position, slice_index}
+use Rattle.std.specs.List.{list_any}
+use Rattle.std.specs.Option.{option_map, option_map_or}
+use Rattle.byteorder.specs.Endian.{little_number}
+use Rattle.tc_elf.specs.declared.limits.TheConstants.{STACK_START, STACK_LENGTH}
+use Rattle.tc_elf.specs.Shown.{Shown, Range, Guard}
+use Rattle.tc_elf.specs.declared.image.Region.{Region}
+use Rattle.tc_elf.specs.declared.image.Region.TheVariants as region
+
+-- all bytes of an access lie in what begins at start and has this length
+abbrev pub lies_in : ℕ → ℕ → ℕ → ℕ → Bool
+lies_in addr width start length = nat_le start addr && nat_le (addr + width) (start + length)
+
+-- two lists of addresses, by start and length, share an address
+abbrev pub meets : ℕ → ℕ → ℕ → ℕ → Bool
+meets a n b m = nat_lt a (b + m) && nat_lt b (a + n)
+
+abbrev pub in_range : ℕ → ℕ → Range → Bool
+in_range addr width r = lies_in addr width r.start r.length
+
+abbrev pub in_text : ℕ → ℕ → Range → Bool
+in_text addr width r = not r.writable && in_range addr width r
+
+abbrev pub in_writable : ℕ → ℕ → Range → Bool
+in_writable addr width r = r.writable && in_range addr width r
+
+abbrev pub in_code : ℕ → ℕ → Range → Bool
+in_code addr width r = r.executable && in_range addr width r
+
+abbrev pub in_guard : ℕ → ℕ → Guard → Bool
+in_guard addr width g = lies_in addr width g.start g.length
+
+abbrev pub touches : ℕ → ℕ → Guard → Bool
+touches addr width g = meets addr width g.start g.length
+
+-- the place of an access that no guard holds
+abbrev pub unguarded_region : Shown → ℕ → ℕ → Region
+unguarded_region image addr width =
+    if list_any (in_text addr width) image.ranges then region.Text
+    else if list_any (in_writable addr width) image.ranges && not (list_any (touches addr width) image.guards) then region.Private
+    else if lies_in addr width STACK_START STACK_LENGTH then region.Stack
+    else region.Nothing
+
+-- the place of an access: the first guard that holds all its bytes, else a range or the stack
+unfoldable pub region_of : Shown → ℕ → ℕ → Region
+region_of image addr width = option_map_or region.Guard (position (in_guard addr width) image.guards) (unguarded_region image addr width)
+
+-- the word of an instruction: the little-endian number of its four bytes, where they lie in one executable range
+unfoldable pub fetched : Shown → ℕ → Option ℕ
+fetched image pc = option_map (λ (r : Range). little_number 4 (drop (pc - r.start) r.bytes)) (find (in_code pc 4) image.ranges)
+
+-- the byte that a range has at the start; there is none exactly where no range has the address
+unfoldable pub byte_of : Shown → ℕ → Option ℕ
+byte_of image addr = option_map (λ (r : Range). slice_index r.bytes (addr - r.start)) (find (in_range addr 1) image.ranges)

@@ -1,0 +1,153 @@
+//! The threads and the guards of a file.
+//!
+//! The descriptor of the note on them has the words version, number of threads and number of
+//! guards, then a pair of words for each thread and one for each guard.
+
+ghost use Rattle.std.specs.Prelude.{◌≡◌, ◌≢◌, ◌≤◌, ◌+◌, ◌*◌, false, length, Some, None, IfOk, IfErr};
+ghost use Rattle.tc_elf.specs.Notes.{is_bad_descriptor, entry_in, guard_in, entries_from, guards_from, described_layout, header_layout, layout_over};
+ghost use Rattle.tc_elf.specs.declared.refusal.Refusal.TheVariants.{OutOfMemory, BadNote};
+
+use crate::header::HEADER_LENGTH;
+use crate::image::{Entry, Guard};
+use crate::limits::{MAX_GUARDS, MAX_THREADS};
+use crate::notes::descriptor;
+use crate::refusal::Refusal;
+use crate::segment::{Segment, word_at};
+use std::alloc::{AllocError, Global};
+use std::marker::Model;
+
+/// The length of a descriptor before its pairs, in bytes.
+pub(crate) const LAYOUT_HEADER_LENGTH: usize = 12;
+
+/// The version of the descriptor.
+pub(crate) const LAYOUT_VERSION: u32 = 1;
+
+/// Which threads and guards a file has.
+#[derive(Drop)]
+pub(crate) struct Layout {
+    pub(crate) entries: Vec<Entry>,
+    pub(crate) guards: Vec<Guard>,
+}
+
+impl Model for Layout {
+    ghost use Rattle.tc_elf.specs.Notes.{Layout as ShownLayout};
+
+    ghost Value = { ShownLayout };
+
+    ghost view = { λ l. record { entries = l.entries.items; guards = l.guards.items } };
+}
+
+fn is_bad_descriptor(descriptor: &[u8]) -> bool
+    ensures { result ≡ is_bad_descriptor descriptor.now }
+{
+    if descriptor.len() < LAYOUT_HEADER_LENGTH {
+        return true;
+    }
+    let threads = word_at(descriptor, 4);
+    let guards = word_at(descriptor, 8);
+    word_at(descriptor, 0) != LAYOUT_VERSION
+        || threads == 0
+        || threads > MAX_THREADS
+        || guards > MAX_GUARDS
+        || descriptor.len() != LAYOUT_HEADER_LENGTH + 8 * threads as usize + 8 * guards as usize
+}
+
+/// The entry at a place of the descriptor.
+fn entry_in(descriptor: &[u8], at: usize) -> Entry
+    requires { at + 8 ≤ length descriptor.now }
+    ensures { result ≡ entry_in descriptor.now at }
+{
+    Entry {
+        address: word_at(descriptor, at),
+        argument: word_at(descriptor, at + 4),
+    }
+}
+
+/// The guard at a place of the descriptor.
+fn guard_in(descriptor: &[u8], at: usize) -> Guard
+    requires { at + 8 ≤ length descriptor.now }
+    ensures { result ≡ guard_in descriptor.now at }
+{
+    Guard {
+        start: word_at(descriptor, at),
+        length: word_at(descriptor, at + 4),
+    }
+}
+
+/// So many entries, from a place of the descriptor on.
+fn entries_from(
+    alloc: Global,
+    descriptor: &[u8],
+    at: usize,
+    count: usize,
+) -> Result<Vec<Entry>, AllocError>
+    requires { at + 8 * count ≤ length descriptor.now }
+    ensures { IfOk result (λ v. v.items ≡ entries_from descriptor.now at count) }
+{
+    let mut entries = Vec::with_capacity(alloc, count)?;
+    for i in 0..count {
+        entries.push(entry_in(descriptor, at + 8 * i))?;
+    }
+    Ok(entries)
+}
+
+/// So many guards, from a place of the descriptor on.
+fn guards_from(
+    alloc: Global,
+    descriptor: &[u8],
+    at: usize,
+    count: usize,
+) -> Result<Vec<Guard>, AllocError>
+    requires { at + 8 * count ≤ length descriptor.now }
+    ensures { IfOk result (λ v. v.items ≡ guards_from descriptor.now at count) }
+{
+    let mut guards = Vec::with_capacity(alloc, count)?;
+    for i in 0..count {
+        guards.push(guard_in(descriptor, at + 8 * i))?;
+    }
+    Ok(guards)
+}
+
+impl Layout {
+    /// The layout that a descriptor has.
+    fn described(alloc: Global, descriptor: &[u8]) -> Result<Layout, AllocError>
+        requires { is_bad_descriptor descriptor.now ≡ false }
+        ensures { IfOk result (λ l. l ≡ described_layout descriptor.now) }
+    {
+        let threads = word_at(descriptor, 4) as usize;
+        let guards = word_at(descriptor, 8) as usize;
+        let at = LAYOUT_HEADER_LENGTH + 8 * threads;
+        Ok(Layout {
+            entries: entries_from(alloc, descriptor, LAYOUT_HEADER_LENGTH, threads)?,
+            guards: guards_from(alloc, descriptor, at, guards)?,
+        })
+    }
+
+    /// The layout of a file without a note on it: one thread and no guard.
+    fn of_header(alloc: Global, bytes: &[u8]) -> Result<Layout, AllocError>
+        requires { HEADER_LENGTH ≤ length bytes.now }
+        ensures { IfOk result (λ l. l ≡ header_layout bytes.now) }
+    {
+        let entry = Entry {
+            address: word_at(bytes, 24),
+            argument: 0,
+        };
+        Ok(Layout {
+            entries: vec![in alloc; entry]?,
+            guards: Vec::new(alloc),
+        })
+    }
+
+    /// The layout of a file, unless its notes are refused.
+    pub(crate) fn of(alloc: Global, bytes: &[u8], segments: &[Segment]) -> Result<Layout, Refusal>
+        requires { HEADER_LENGTH ≤ length bytes.now }
+        ensures value { IfOk result (λ l. layout_over bytes.now segments.now ≡ Some l) }
+        ensures refused { IfErr result (λ e. e ≢ OutOfMemory → (e ≡ BadNote) × (layout_over bytes.now segments.now ≡ None)) }
+    {
+        match descriptor(bytes, segments)? {
+            None => Ok(Layout::of_header(alloc, bytes)?),
+            Some(descriptor) if is_bad_descriptor(descriptor) => Err(Refusal::BadNote),
+            Some(descriptor) => Ok(Layout::described(alloc, descriptor)?),
+        }
+    }
+}

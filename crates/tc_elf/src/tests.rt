@@ -1,0 +1,227 @@
+use crate::image::Region;
+use crate::limits::MAX_FILE;
+use crate::load::load;
+use crate::refusal::Refusal;
+use std::alloc::{AllocError, Global};
+use std::test::Fail;
+
+/// A file of one segment: `addi x17,x0,93` and `ecall`, at the address 0x00010054.
+const SMALLEST: [u32; 23] = [
+    0x464c457f, 0x00010101, 0x00000000, 0x00000000, 0x00f30002, 0x00000001, 0x00010054, 0x00000034,
+    0x00000000, 0x00000000, 0x00200034, 0x00000001, 0x00000000, 0x00000001, 0x00000054, 0x00010054,
+    0x00010054, 0x00000008, 0x00000008, 0x00000005, 0x00000004, 0x05d00893, 0x00000073,
+];
+
+/// A file as a linker writes it, with two threads and a guard.
+const LINKED: [u32; 79] = [
+    // The header.
+    0x464c457f, 0x00010101, 0x00000000, 0x00000000, 0x00f30002, 0x00000001, 0x00000000, 0x00000034,
+    0x0000013c, 0x00000000, 0x00200034, 0x00280005, 0x00020003,
+    // A header that is passed over.
+    0x70000003, 0x00000000, 0x00000000, 0x00000000, 0x00000000, 0x00000000, 0x00000004, 0x00000001,
+    // Code, with the headers and the notes before it.
+    0x00000001, 0x00000000, 0x00010000, 0x00010000, 0x00000138, 0x00000138, 0x00000005, 0x00001000,
+    // Data, of which the file has the first 4 bytes.
+    0x00000001, 0x00000138, 0x00020000, 0x00020000, 0x00000004, 0x00000020, 0x00000006, 0x00001000,
+    // A header that is passed over, and that of the notes.
+    0x6474e551, 0x00000000, 0x00000000, 0x00000000, 0x00000000, 0x00000000, 0x00000006, 0x00000010,
+    0x00000004, 0x000000d4, 0x000100d4, 0x000100d4, 0x0000005c, 0x0000005c, 0x00000004, 0x00000004,
+    // A note that is passed over.
+    0x00000004, 0x00000014, 0x00000003, 0x00554e47, 0x11111111, 0x22222222, 0x33333333, 0x44444444,
+    0x55555555,
+    // The note on threads and guards.
+    0x00000008, 0x00000024, 0x00000001, 0x4f4c4354, 0x00534b43, 0x00000001, 0x00000002, 0x00000001,
+    0x00010130, 0x00000007, 0x00010134, 0x00000009, 0x00020010, 0x00000010,
+    // The code and the data.
+    0x05d00893, 0x00000073, 0x0000abcd,
+];
+
+/// A file of these words, but for the changed ones.
+fn file(alloc: Global, words: &[u32], changes: &[(usize, u32)]) -> Result<Vec<u8>, AllocError> {
+    let mut words = Vec::from_slice(alloc, words)?;
+    for &(at, value) in changes {
+        if at < words.len() {
+            words[at] = value;
+        }
+    }
+    let mut bytes = Vec::new(alloc);
+    for word in &words {
+        bytes.extend_from_slice(&word.to_le_bytes())?;
+    }
+    Ok(bytes)
+}
+
+/// The number of a file's refusal, or 0 where it is loaded.
+fn refused(alloc: Global, bytes: &[u8]) -> u32 {
+    match load(alloc, &bytes[..bytes.len().min(MAX_FILE)]) {
+        Ok(_) => 0,
+        Err(refusal) => refusal.number(),
+    }
+}
+
+#[test]
+fn loads_a_linked_file(rt: HostRuntime) -> Result<(), Fail> {
+    let bytes = file(rt.alloc(), &LINKED, &[])?;
+    assert!(rt; bytes.len() <= MAX_FILE);
+    let image = load(rt.alloc(), &bytes)?;
+    assert_eq!(rt; image.threads(), 2);
+    assert_eq!(rt; image.entry(0), (0x10130, 7));
+    assert_eq!(rt; image.entry(1), (0x10134, 9));
+    assert_eq!(rt; image.guards(), 1);
+    assert_eq!(rt; image.guard(0), (0x20010, 16));
+    assert_eq!(rt; image.ranges(), 2);
+    assert_eq!(rt; image.range(0), (0x10000, 312, false, true));
+    assert_eq!(rt; image.range(1), (0x20000, 32, true, false));
+    for (addr, width, region) in [
+        (0x10134, 4, Region::Text),
+        (0x10138, 1, Region::Nothing),
+        (0x2000c, 4, Region::Private),
+        (0x2000e, 4, Region::Nothing),
+        (0x2001c, 4, Region::Guard(0)),
+        (0x7fff_ffff, 1, Region::Stack),
+        (0x7fff_fffe, 4, Region::Nothing),
+    ] {
+        assert_eq!(rt; image.region(addr, width), region, "at {addr}");
+    }
+    assert_eq!(rt; image.fetch(0x10134), Some(0x73));
+    assert_eq!(rt; image.fetch(0x10136), None);
+    for (addr, byte) in [
+        (0x10000, Some(0x7f)),
+        (0x20001, Some(0xab)),
+        (0x2001f, Some(0)),
+        (0x20020, None),
+    ] {
+        assert_eq!(rt; image.byte(addr), byte, "at {addr}");
+    }
+    Ok(())
+}
+
+#[test]
+fn refuses_the_smallest_file_changed(rt: HostRuntime) -> Result<(), Fail> {
+    let whole = file(rt.alloc(), &SMALLEST, &[])?;
+    for (length, number) in [(0, 1), (51, 1), (52, 7), (83, 7), (84, 9), (91, 9), (92, 0)] {
+        let count = whole.len().min(length);
+        assert_eq!(rt;
+            refused(rt.alloc(), &whole[..count]),
+            number,
+            "the first {length} bytes"
+        );
+    }
+    let cases = [
+        (0, 0x464c4500, 2),
+        (1, 0x00010102, 3),
+        (1, 0x00010201, 3),
+        (1, 0x00020101, 3),
+        (4, 0x00f30003, 4),
+        (4, 0x003e0002, 5),
+        (9, 1, 6),
+        (9, 2, 6),
+        (9, 4, 6),
+        (9, 8, 6),
+        (9, 16, 0),
+        (5, 2, 7),
+        (7, 0xffff_ffe0, 7),
+        (10, 0x00280034, 7),
+        (11, 0, 7),
+        (11, 17, 7),
+        (13, 2, 8),
+        (13, 3, 8),
+        (13, 7, 8),
+        (17, 9, 9),
+        (15, 0x7fff_c000, 10),
+        (19, 7, 11),
+        (6, 0x10055, 13),
+        (6, 0x1005c, 13),
+        (13, 4, 13),
+        (19, 4, 13),
+    ];
+    for (at, value, number) in cases {
+        let bytes = file(rt.alloc(), &SMALLEST, &[(at, value)])?;
+        assert_eq!(rt; refused(rt.alloc(), &bytes), number, "word {at} is {value}");
+    }
+    assert_eq!(rt; Refusal::WritableCode.name(), "WritableCode");
+    Ok(())
+}
+
+#[test]
+fn refuses_the_linked_file_changed(rt: HostRuntime) -> Result<(), Fail> {
+    let cases = [
+        // Code past the file's end, too much memory, data longer in the file, past the last address.
+        (22, 0xffff_ffff, 9),
+        (26, 0x0010_0000, 9),
+        (34, 0, 9),
+        (31, 0xffff_ffe4, 9),
+        // Data over the last byte of the code, and over the first of the stack.
+        (31, 0x0001_0137, 10),
+        (31, 0x7fff_bfe1, 10),
+        // Data that touch these, or the last address: only the guard is elsewhere.
+        (31, 0x0001_0138, 14),
+        (31, 0x7fff_bfe0, 14),
+        (31, 0xffff_ffe0, 14),
+        // Notes past the file's end; a name or a descriptor past the segment's.
+        (46, 0xffff_fff0, 12),
+        (49, 91, 12),
+        (53, 0x50, 12),
+        (53, 0xffff_fffd, 12),
+        (54, 0xffff_fffd, 12),
+        // The descriptor's version, its numbers of threads and guards, and its length.
+        (67, 2, 12),
+        (68, 0, 12),
+        (68, 17, 12),
+        (69, 17, 12),
+        (69, 0, 12),
+        (63, 0x20, 12),
+        // A note of another name or type is passed over, so that the file's own entry counts.
+        (62, 7, 13),
+        (64, 2, 13),
+        // Entries in the data, at an odd place, behind the code.
+        (70, 0x0002_0000, 13),
+        (72, 0x0001_0132, 13),
+        (72, 0x0001_0138, 13),
+        // Guards at an odd place, of an odd length, of none, past the data, in the code.
+        (74, 0x0002_0012, 14),
+        (75, 6, 14),
+        (75, 0, 14),
+        (74, 0x0002_0014, 14),
+        (74, 0x0001_0000, 14),
+    ];
+    for (at, value, number) in cases {
+        let bytes = file(rt.alloc(), &LINKED, &[(at, value)])?;
+        assert_eq!(rt; refused(rt.alloc(), &bytes), number, "word {at} is {value}");
+    }
+    Ok(())
+}
+
+#[test]
+fn refuses_by_several_changes(rt: HostRuntime) -> Result<(), Fail> {
+    let same = (0, LINKED[0]);
+    let cases = [
+        // Sizes whose sum is 2 ^ 32.
+        ([(26, 0x8000_0000), (34, 0x8000_0000), same, same], 9),
+        // A segment without memory: in the code, with the flags of writable code, past the file.
+        ([(37, 1), (39, 0x10010), same, same], 0),
+        ([(37, 1), (43, 7), same, same], 0),
+        ([(37, 1), (38, 0x13d), same, same], 9),
+        // No notes, at the file's end and past it.
+        ([(37, 4), (38, 0x13c), same, same], 0),
+        ([(37, 4), (38, 0x13d), same, same], 12),
+        // The note on threads and guards twice.
+        ([(37, 4), (38, 0xd4), (41, 92), same], 12),
+        // Fewer bytes than a note's header are left over; just a header is a note.
+        ([(49, 47), (6, 0x10130), same, same], 0),
+        ([(49, 48), (6, 0x10130), same, same], 12),
+        // No guard; two guards that touch, and two that share an address.
+        ([(69, 0), (63, 28), same, same], 0),
+        ([(68, 1), (69, 2), (72, 0x2000c), (73, 4)], 0),
+        ([(68, 1), (69, 2), (72, 0x2000c), (73, 8)], 14),
+        // The longest guard, and a longer one.
+        ([(34, 0x20000), (75, 0x10000), same, same], 0),
+        ([(34, 0x20000), (75, 0x10004), same, same], 14),
+    ];
+    for (changes, number) in cases {
+        let bytes = file(rt.alloc(), &LINKED, &changes)?;
+        let (at, value) = changes[0];
+        assert_eq!(rt; refused(rt.alloc(), &bytes), number, "word {at} is {value}");
+    }
+    Ok(())
+}
