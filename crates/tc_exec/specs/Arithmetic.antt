@@ -1,5 +1,6 @@
--- Arithmetic on words of 32 bits.
-use Rattle.std.specs.Prelude.{ℕ, ◌+◌, ◌-◌, ◌*◌, ◌/◌, ◌%◌, ◌^◌, ◌==◌, nat_lt, not, if◌then◌else◌, Bool, bit_and, bit_or, bit_xor}
+-- Arithmetic on words of 32 bits (RISC-V Unprivileged ISA, RV32I, "Integer Computational Instructions").
+use Rattle.std.specs.Prelude.{ℕ, ◌+◌, ◌-◌, ◌*◌, ◌/◌, ◌%◌, ◌^◌, ◌==◌, nat_lt, int_lt, not, if◌then◌else◌, Bool, bit_and, bit_or, bit_xor}
+use Rattle.std.specs.Int.{w32, cast_signed, cast_unsigned, int_shr}
 use Rattle.tc_isa.specs.declared.instr.RegOp.{RegOp}
 use Rattle.tc_isa.specs.declared.instr.RegOp.TheVariants as op
 use Rattle.tc_isa.specs.declared.instr.ImmOp.{ImmOp}
@@ -7,26 +8,32 @@ use Rattle.tc_isa.specs.declared.instr.ImmOp.TheVariants as imm
 use Rattle.tc_isa.specs.declared.instr.Cond.{Cond}
 use Rattle.tc_isa.specs.declared.instr.Cond.TheVariants as cond
 
+-- sums and differences are modulo 2 ^ 32
 abbrev pub plus : ℕ → ℕ → ℕ
 plus a b = (a + b) % 2 ^ 32
 
 abbrev pub minus : ℕ → ℕ → ℕ
 minus a b = (a + (2 ^ 32 - b)) % 2 ^ 32
 
--- less as signed numbers: with the highest bit turned, the order is that of the numbers
+-- less as numbers in two's complement
 abbrev pub less_signed : ℕ → ℕ → Bool
-less_signed a b = nat_lt (plus a (2 ^ 31)) (plus b (2 ^ 31))
+less_signed a b = int_lt (cast_signed w32 a) (cast_signed w32 b)
+
+abbrev pub shifted_left : ℕ → ℕ → ℕ
+shifted_left a by = a * 2 ^ by % 2 ^ 32
+
+-- to the right: zeros come in
+abbrev pub shifted_right : ℕ → ℕ → ℕ
+shifted_right a by = a / 2 ^ by
+
+-- to the right as a number in two's complement: copies of the sign bit come in
+abbrev pub shifted_signed : ℕ → ℕ → ℕ
+shifted_signed a by = cast_unsigned w32 (int_shr (cast_signed w32 a) by)
 
 abbrev pub flag : Bool → ℕ
 flag b = if b then 1 else 0
 
--- to the right, with the highest bit coming in
-abbrev pub shifted_signed : ℕ → ℕ → ℕ
-shifted_signed a k = if nat_lt a (2 ^ 31) then a / 2 ^ k else 2 ^ 32 - 1 - (2 ^ 32 - 1 - a) / 2 ^ k
-
-abbrev pub shifted_left : ℕ → ℕ → ℕ
-shifted_left a k = a * 2 ^ k % 2 ^ 32
-
+-- an operation on two registers; a shift is by the low five bits of the second
 abbrev pub value_of : RegOp → ℕ → ℕ → ℕ
 value_of op.Add a b = plus a b
 value_of op.Sub a b = minus a b
@@ -34,12 +41,12 @@ value_of op.Sll a b = shifted_left a (b % 32)
 value_of op.Slt a b = flag (less_signed a b)
 value_of op.Sltu a b = flag (nat_lt a b)
 value_of op.Xor a b = bit_xor a b
-value_of op.Srl a b = a / 2 ^ (b % 32)
+value_of op.Srl a b = shifted_right a (b % 32)
 value_of op.Sra a b = shifted_signed a (b % 32)
 value_of op.Or a b = bit_or a b
 value_of op.And a b = bit_and a b
 
--- an operation with a number is the one on registers with the number in the second's place
+-- an operation with an immediate is the one on registers with the immediate in the second's place
 abbrev pub op_of_imm : ImmOp → RegOp
 op_of_imm imm.Addi = op.Add
 op_of_imm imm.Slti = op.Slt
@@ -51,6 +58,7 @@ op_of_imm imm.Slli = op.Sll
 op_of_imm imm.Srli = op.Srl
 op_of_imm imm.Srai = op.Sra
 
+-- whether a branch on two registers is taken
 abbrev pub is_taken : Cond → ℕ → ℕ → Bool
 is_taken cond.Eq a b = a == b
 is_taken cond.Ne a b = not (a == b)

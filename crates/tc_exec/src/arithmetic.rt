@@ -1,6 +1,6 @@
 //! Arithmetic on words of 32 bits.
 
-ghost use Rattle.std.specs.Prelude.{◌≡◌, ◌<◌, ◌^◌};
+ghost use Rattle.std.specs.Prelude.{◌≡◌, ◌<◌};
 ghost use Rattle.tc_exec.specs.Arithmetic as arithmetic;
 
 use tc_isa::instr::{Cond, ImmOp, RegOp};
@@ -8,14 +8,14 @@ use tc_isa::instr::{Cond, ImmOp, RegOp};
 fn less_signed(a: u32, b: u32) -> bool
     ensures { result ≡ arithmetic.less_signed a b }
 {
-    a.wrapping_add(1 << 31) < b.wrapping_add(1 << 31)
+    a.cast_signed() < b.cast_signed()
 }
 
 fn shifted_signed(a: u32, by: u32) -> u32
     requires { by < 32 }
     ensures { result ≡ arithmetic.shifted_signed a by }
 {
-    if a < 1 << 31 { a >> by } else { !(!a >> by) }
+    (a.cast_signed() >> by).cast_unsigned()
 }
 
 /// What an operation on two numbers gives.
@@ -36,7 +36,7 @@ pub fn value_of(op: RegOp, a: u32, b: u32) -> u32
     }
 }
 
-/// The operation on registers that an operation with a number is.
+/// The operation on registers that an operation with an immediate is.
 pub fn op_of_imm(op: ImmOp) -> RegOp
     ensures { result ≡ arithmetic.op_of_imm op }
 {
@@ -53,7 +53,7 @@ pub fn op_of_imm(op: ImmOp) -> RegOp
     }
 }
 
-/// Whether a branch is taken.
+/// Whether a branch on two numbers is taken.
 pub fn is_taken(cond: Cond, a: u32, b: u32) -> bool
     ensures { result ≡ arithmetic.is_taken cond a b }
 {

@@ -1,0 +1,4 @@
+pub mod Ascending
+pub mod Cases
+pub mod Kept
+pub mod Laws

@@ -1,0 +1,188 @@
+//! Loads and stores.
+
+ghost use Rattle.std.specs.Prelude.{◌≡◌, ◌==◌, ◌%◌, ◌^◌, ◌*◌};
+ghost use Rattle.tc_isa.specs.Sets.{has};
+ghost use Rattle.tc_exec.specs.Access as access;
+ghost use Rattle.tc_exec.specs.Told.{IsWidth};
+
+use crate::flow::{set, stepped};
+use crate::outcome::{Act, Put, Want};
+use tc_elf::image::{Image, Region};
+use tc_isa::fault::Fault;
+use tc_isa::held::Held;
+use tc_isa::instr::{LoadKind, StoreKind};
+use tc_isa::reg::Reg;
+use tc_isa::regs::Regs;
+
+fn load_width(kind: LoadKind) -> u32
+    ensures value { result ≡ access.load_width kind }
+    ensures bound { IsWidth result }
+{
+    match kind {
+        LoadKind::Lb | LoadKind::Lbu => 1,
+        LoadKind::Lh | LoadKind::Lhu => 2,
+        LoadKind::Lw => 4,
+    }
+}
+
+fn store_width(kind: StoreKind) -> u32
+    ensures value { result ≡ access.store_width kind }
+    ensures bound { IsWidth result }
+{
+    match kind {
+        StoreKind::Sb => 1,
+        StoreKind::Sh => 2,
+        StoreKind::Sw => 4,
+    }
+}
+
+fn low_byte(number: u32) -> u8
+    ensures { result ≡ number % 2 ^ 8 }
+{
+    (number % 256) as u8
+}
+
+fn low_half(number: u32) -> u16
+    ensures { result ≡ number % 2 ^ 16 }
+{
+    (number % 65_536) as u16
+}
+
+fn low_bytes(kind: StoreKind, value: u32) -> u32
+    ensures { result ≡ value % 2 ^ (8 * access.store_width kind) }
+{
+    match kind {
+        StoreKind::Sb => u32::from(low_byte(value)),
+        StoreKind::Sh => u32::from(low_half(value)),
+        StoreKind::Sw => value,
+    }
+}
+
+fn extended(kind: LoadKind, number: u32) -> u32
+    ensures { result ≡ access.extended kind number }
+{
+    match kind {
+        LoadKind::Lb => i32::from(low_byte(number).cast_signed()).cast_unsigned(),
+        LoadKind::Lh => i32::from(low_half(number).cast_signed()).cast_unsigned(),
+        LoadKind::Lw => number,
+        LoadKind::Lbu => u32::from(low_byte(number)),
+        LoadKind::Lhu => u32::from(low_half(number)),
+    }
+}
+
+fn guard_fault(held: Held, lock: u32) -> Option<Fault>
+    ensures { result ≡ access.guard_fault (has held) lock }
+{
+    if held.has(lock) {
+        None
+    } else {
+        Some(Fault::Unguarded)
+    }
+}
+
+/// Whether an address is a multiple of a width, with no division by a number that is not known
+/// before.
+fn is_aligned(addr: u32, width: u32) -> bool
+    requires { IsWidth width }
+    ensures { result ≡ (addr % width == 0) }
+{
+    match width {
+        1 => true,
+        2 => addr % 2 == 0,
+        _ => addr % 4 == 0,
+    }
+}
+
+fn misaligned_or(addr: u32, width: u32, other: Option<Fault>) -> Option<Fault>
+    requires { IsWidth width }
+    ensures { result ≡ access.misaligned_or addr width other }
+{
+    if is_aligned(addr, width) {
+        other
+    } else {
+        Some(Fault::Misaligned)
+    }
+}
+
+fn load_fault(held: Held, place: Region, addr: u32, width: u32) -> Option<Fault>
+    requires { IsWidth width }
+    ensures { result ≡ access.load_fault (has held) place addr width }
+{
+    let fault = match place {
+        Region::Text | Region::Private | Region::Stack => None,
+        Region::Guard(lock) => guard_fault(held, lock),
+        Region::Nothing => Some(Fault::Load),
+    };
+    misaligned_or(addr, width, fault)
+}
+
+fn store_fault(held: Held, place: Region, addr: u32, width: u32) -> Option<Fault>
+    requires { IsWidth width }
+    ensures { result ≡ access.store_fault (has held) place addr width }
+{
+    let fault = match place {
+        Region::Private | Region::Stack => None,
+        Region::Guard(lock) => guard_fault(held, lock),
+        Region::Text | Region::Nothing => Some(Fault::Store),
+    };
+    misaligned_or(addr, width, fault)
+}
+
+/// What a load of a kind at an address has to be answered.
+#[tactic(auto, unfolding(crate::specs::Access::load_want))]
+pub fn load_want(image: &Image, held: Held, kind: LoadKind, addr: u32) -> Want
+    ensures { result ≡ access.load_want image.now (has held) kind addr }
+{
+    let width = load_width(kind);
+    let region = image.region(addr, width);
+    match load_fault(held, region, addr, width) {
+        Some(_) => Want::Nothing,
+        None => Want::Load {
+            region,
+            addr,
+            width,
+        },
+    }
+}
+
+/// A load into a register, where `answer` is the loaded number.
+#[tactic(auto, unfolding(crate::specs::Access::load))]
+pub fn load(
+    image: &Image,
+    held: Held,
+    regs: &Regs,
+    answer: u32,
+    kind: LoadKind,
+    rd: Reg,
+    addr: u32,
+) -> Act
+    ensures { result ≡ access.load image.now (has held) regs.now answer kind rd addr }
+{
+    let width = load_width(kind);
+    match load_fault(held, image.region(addr, width), addr, width) {
+        Some(fault) => Act::Faulted(fault),
+        None => set(regs, rd, extended(kind, answer)),
+    }
+}
+
+/// A store of the low bits of a value.
+#[tactic(auto, unfolding(crate::specs::Access::store))]
+pub fn store(image: &Image, held: Held, regs: &Regs, kind: StoreKind, addr: u32, value: u32) -> Act
+    ensures { result ≡ access.store image.now (has held) regs.now kind addr value }
+{
+    let width = store_width(kind);
+    let region = image.region(addr, width);
+    if let Some(fault) = store_fault(held, region, addr, width) {
+        return Act::Faulted(fault);
+    }
+    let put = Put {
+        region,
+        addr,
+        width,
+        value: low_bytes(kind, value),
+    };
+    Act::Next {
+        regs: stepped(*regs),
+        put: Some(put),
+    }
+}

@@ -1,0 +1,119 @@
+//! Guest calls.
+
+ghost use Rattle.std.specs.Prelude.{◌≡◌};
+ghost use Rattle.tc_isa.specs.Sets.{has};
+ghost use Rattle.tc_exec.specs.Calls as calls;
+ghost use Rattle.tc_exec.specs.Flow.{faulted_or};
+ghost use Rattle.tc_exec.specs.declared.outcome.Act.TheVariants.{Called};
+
+use crate::flow::stepped;
+use crate::outcome::{Act, Call};
+use tc_elf::image::Image;
+use tc_isa::fault::Fault;
+use tc_isa::held::Held;
+use tc_isa::limits::MOST_HELD;
+use tc_isa::reg::Reg;
+use tc_isa::regs::Regs;
+
+const LOCK: u32 = 1;
+
+const UNLOCK: u32 = 2;
+
+const SLEEP: u32 = 3;
+
+const EXIT: u32 = 93;
+
+/// The greatest number of blocks that a thread may sleep.
+const MOST_SLEEP: u32 = 255;
+
+fn is_above_held(held: Held, lock: u32) -> bool
+    ensures { result ≡ calls.is_above_held (has held) lock }
+{
+    match held.greatest() {
+        Some(greatest) => greatest < lock,
+        None => true,
+    }
+}
+
+#[tactic(auto, unfolding(tc_isa::specs::Sets::locks_of, crate::specs::Calls::holds_most))]
+fn holds_most(held: Held) -> bool
+    ensures { result ≡ calls.holds_most (has held) }
+{
+    held.count() >= MOST_HELD
+}
+
+fn lock_fault(image: &Image, held: Held, lock: u32) -> Option<Fault>
+    ensures { result ≡ calls.lock_fault image.now (has held) lock }
+{
+    if lock >= image.guards() || holds_most(held) {
+        Some(Fault::BadLock)
+    } else if is_above_held(held, lock) {
+        None
+    } else {
+        Some(Fault::LockOrder)
+    }
+}
+
+fn unlock_fault(image: &Image, held: Held, lock: u32) -> Option<Fault>
+    ensures { result ≡ calls.unlock_fault image.now (has held) lock }
+{
+    if lock >= image.guards() {
+        Some(Fault::BadLock)
+    } else if held.has(lock) {
+        None
+    } else {
+        Some(Fault::NotHeld)
+    }
+}
+
+fn sleep_fault(blocks: u32) -> Option<Fault>
+    ensures { result ≡ calls.sleep_fault blocks }
+{
+    if blocks > MOST_SLEEP {
+        Some(Fault::BadCall)
+    } else {
+        None
+    }
+}
+
+fn answered(regs: &Regs, value: u32) -> Regs
+    ensures { result ≡ calls.answered regs.now value }
+{
+    stepped(regs.with(Reg::of(10), value))
+}
+
+fn called(fault: Option<Fault>, call: Call, regs: &Regs, value: u32) -> Act
+    ensures { result ≡ faulted_or fault (Called call (calls.answered regs.now value)) }
+{
+    match fault {
+        Some(fault) => Act::Faulted(fault),
+        None => Act::Called {
+            call,
+            regs: answered(regs, value),
+        },
+    }
+}
+
+/// What ECALL does. `answer` is 1 for the LOCK of a broken lock, and else 0.
+#[tactic(auto, unfolding(crate::specs::Calls::guest_call))]
+pub fn guest_call(image: &Image, held: Held, regs: &Regs, answer: u32) -> Act
+    ensures { result ≡ calls.guest_call image.now (has held) regs.now answer }
+{
+    let argument = regs.get(Reg::of(10));
+    match regs.get(Reg::of(17)) {
+        LOCK => {
+            let fault = lock_fault(image, held, argument);
+            called(fault, Call::Lock(argument), regs, answer)
+        }
+        UNLOCK => {
+            let fault = unlock_fault(image, held, argument);
+            called(fault, Call::Unlock(argument), regs, 0)
+        }
+        SLEEP => called(sleep_fault(argument), Call::Sleep(argument), regs, 0),
+        EXIT => Act::Called {
+            call: Call::Exit,
+            regs: *regs,
+        },
+        _ => Act::Faulted(Fault::BadCall),
+    }
+}

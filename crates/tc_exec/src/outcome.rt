@@ -1,0 +1,52 @@
+//! What an instruction loads, and what it does.
+
+use tc_elf::image::Region;
+use tc_isa::fault::Fault;
+use tc_isa::regs::Regs;
+
+/// The load that an instruction needs.
+#[derive(Clone, Copy, Debug, PartialEq, Eq)]
+pub enum Want {
+    /// It loads nothing, or it faults.
+    Nothing,
+    /// A number of `width` bytes, 1, 2 or 4, at the address `addr`, all in one region.
+    Load {
+        region: Region,
+        addr: u32,
+        width: u32,
+    },
+}
+
+/// A store: the low `width` bytes of `value`, 1, 2 or 4, go to the address `addr` in little-endian
+/// order, all in one region. `value` has no bit above them.
+#[derive(Clone, Copy, Debug, PartialEq, Eq)]
+pub struct Put {
+    pub region: Region,
+    pub addr: u32,
+    pub width: u32,
+    pub value: u32,
+}
+
+/// A lawful guest call.
+#[derive(Clone, Copy, Debug, PartialEq, Eq)]
+pub enum Call {
+    /// The thread takes a lock.
+    Lock(u32),
+    /// The thread gives up a lock that it holds.
+    Unlock(u32),
+    /// The thread sleeps for a number of blocks, at most 255.
+    Sleep(u32),
+    /// The thread ends, with its exit code in x10.
+    Exit,
+}
+
+/// What an instruction does.
+#[derive(Clone, Copy, Debug, PartialEq, Eq)]
+pub enum Act {
+    /// The thread goes on with these registers, after a store where there is one.
+    Next { regs: Regs, put: Option<Put> },
+    /// A guest call. The registers are those after it.
+    Called { call: Call, regs: Regs },
+    /// The thread ends, with its registers as they were.
+    Faulted(Fault),
+}

@@ -1,0 +1,115 @@
+//! The next instruction: what it loads, and what it does.
+
+ghost use Rattle.std.specs.Prelude.{◌≡◌};
+ghost use Rattle.tc_isa.specs.Sets.{has};
+ghost use Rattle.tc_exec.specs.Step as step;
+ghost use Rattle.tc_exec.specs.Told.{IsWant, IsAct};
+
+use crate::access::{load, load_want, store};
+use crate::arithmetic::{op_of_imm, value_of};
+use crate::calls::guest_call;
+use crate::flow::{branch, jump, set, stepped};
+use crate::outcome::{Act, Want};
+use tc_elf::image::Image;
+use tc_isa::decode::decode;
+use tc_isa::fault::Fault;
+use tc_isa::held::Held;
+use tc_isa::instr::Instr;
+use tc_isa::regs::Regs;
+
+#[tactic(auto, unfolding(crate::specs::Step::instruction_at))]
+fn instruction_at(image: &Image, pc: u32) -> Result<Instr, Fault>
+    ensures { result ≡ step.instruction_at image.now pc }
+{
+    let word = image.fetch(pc).ok_or(Fault::Fetch)?;
+    decode(word).ok_or(Fault::Illegal)
+}
+
+#[tactic(auto, unfolding(crate::specs::Step::wants_by))]
+fn wants_by(image: &Image, held: Held, regs: &Regs, instr: Instr) -> Want
+    ensures { result ≡ step.wants_by image.now (has held) regs.now instr }
+{
+    match instr {
+        Instr::Load { kind, rs1, off, .. } => {
+            let addr = regs.get(rs1).wrapping_add(off);
+            load_want(image, held, kind, addr)
+        }
+        _ => Want::Nothing,
+    }
+}
+
+#[tactic(auto, unfolding(crate::specs::Step::act_by))]
+fn act_by(image: &Image, held: Held, regs: &Regs, answer: u32, instr: Instr) -> Act
+    ensures { result ≡ step.act_by image.now (has held) regs.now answer instr }
+{
+    match instr {
+        Instr::Lui { rd, imm } => set(regs, rd, imm),
+        Instr::Auipc { rd, imm } => set(regs, rd, regs.pc().wrapping_add(imm)),
+        Instr::Jal { rd, off } => jump(regs, rd, regs.pc().wrapping_add(off)),
+        Instr::Jalr { rd, rs1, off } => {
+            let target = regs.get(rs1).wrapping_add(off);
+            jump(regs, rd, target - target % 2)
+        }
+        Instr::Branch {
+            cond,
+            rs1,
+            rs2,
+            off,
+        } => branch(regs, cond, rs1, rs2, off),
+        Instr::Load { kind, rd, rs1, off } => {
+            let addr = regs.get(rs1).wrapping_add(off);
+            load(image, held, regs, answer, kind, rd, addr)
+        }
+        Instr::Store {
+            kind,
+            rs1,
+            rs2,
+            off,
+        } => {
+            let addr = regs.get(rs1).wrapping_add(off);
+            store(image, held, regs, kind, addr, regs.get(rs2))
+        }
+        Instr::Imm { op, rd, rs1, imm } => {
+            let value = value_of(op_of_imm(op), regs.get(rs1), imm);
+            set(regs, rd, value)
+        }
+        Instr::Op { op, rd, rs1, rs2 } => {
+            let value = value_of(op, regs.get(rs1), regs.get(rs2));
+            set(regs, rd, value)
+        }
+        Instr::Fence { .. } => Act::Next {
+            regs: stepped(*regs),
+            put: None,
+        },
+        Instr::Ecall => guest_call(image, held, regs, answer),
+        Instr::Ebreak => Act::Faulted(Fault::Break),
+    }
+}
+
+/// The load that the next instruction needs. It is `Want::Nothing` also where the instruction
+/// faults, so that what is wanted may always be read.
+#[tactic(auto, unfolding(crate::specs::Step::wants_of))]
+pub fn wants(image: &Image, held: Held, regs: &Regs) -> Want
+    ensures value { result ≡ step.wants_of image.now (has held) regs.now }
+    ensures told { IsWant image.now (has held) result }
+{
+    match instruction_at(image, regs.pc()) {
+        Ok(instr) => wants_by(image, held, regs, instr),
+        Err(_) => Want::Nothing,
+    }
+}
+
+/// What the next instruction does. `answer` is the number that `wants` asked for, zero-extended
+/// from its width; for a lawful LOCK it is 1 where the lock is broken and else 0; otherwise it is
+/// not looked at. The effects are those of RV32I (RISC-V Unprivileged ISA); an ECALL is a guest
+/// call by the number in x17.
+#[tactic(auto, unfolding(crate::specs::Step::act_of))]
+pub fn act(image: &Image, held: Held, regs: &Regs, answer: u32) -> Act
+    ensures value { result ≡ step.act_of image.now (has held) regs.now answer }
+    ensures told { IsAct image.now (has held) regs.now result }
+{
+    match instruction_at(image, regs.pc()) {
+        Ok(instr) => act_by(image, held, regs, answer, instr),
+        Err(fault) => Act::Faulted(fault),
+    }
+}
