@@ -1,0 +1,128 @@
+-- The batch rule: which sections of a lock may follow one another. A section of a lock is the blocks from the one
+-- that takes it to the one that gives it up. An Adopted section is run by the worker that ran the one before it;
+-- the batch limit says how many of those may stand in a row.
+use Rattle.std.specs.Prelude.{◌≡◌, ℕ, zero, suc, ◌+◌, ◌-◌, length, slice_get, Bool, true, false, not, ◌&&◌, ◌||◌, ◌==◌, nat_lt, nat_le, if◌then◌else◌, List, [], ◌∷◌, ◌++◌, Option, Some, None}
+use Rattle.tc_isa.specs.Sets.{has, with_lock}
+use Rattle.tc_journal.specs.declared.block.Block.{Block}
+use Rattle.tc_journal.specs.declared.block.End.{End}
+use Rattle.tc_journal.specs.declared.block.End.TheVariants.{Wants, Unlocked, Slept, Cut, Exit, Fault, Spent}
+use Rattle.tc_journal.specs.declared.block.Kind.{Kind}
+use Rattle.tc_journal.specs.declared.block.Kind.TheVariants.{Start, On, Taken, Adopted, Granted}
+
+-- ---- one block
+
+-- a block of this kind begins a section: its first turn took a lock
+abbrev pub is_section : Kind → Bool
+is_section Start = false
+is_section On = false
+is_section Taken = true
+is_section Adopted = true
+is_section Granted = true
+
+abbrev pub is_adopted : Kind → Bool
+is_adopted Start = false
+is_adopted On = false
+is_adopted Taken = false
+is_adopted Adopted = true
+is_adopted Granted = false
+
+-- the greatest lock of a set, of those below a number
+abbrev pub top_below : ℕ → (ℕ → Bool) → Option ℕ
+top_below zero held = None
+top_below (suc n) held = if held n then Some n else top_below n held
+
+-- the lock that the block's first turn took: the greatest of its held set, since a LOCK takes only a lock above all that are held
+abbrev pub takes_of : Block → Option ℕ
+takes_of b = if is_section b.kind then top_below 32 (has b.held) else None
+
+abbrev pub is_lock : Option ℕ → ℕ → Bool
+is_lock None lock = false
+is_lock (Some taken) lock = lock == taken
+
+-- what the block's thread held before its first turn
+abbrev pub held_before : Block → ℕ → Bool
+held_before b lock = has b.held lock && not (is_lock (takes_of b) lock)
+
+-- the block begins a section of the lock
+abbrev pub begins : ℕ → Block → Bool
+begins lock b = is_lock (takes_of b) lock
+
+-- the block's thread ended with it
+abbrev pub ends_thread : End → Bool
+ends_thread (Wants k) = false
+ends_thread (Unlocked k) = false
+ends_thread Slept = false
+ends_thread Cut = false
+ends_thread Exit = true
+ends_thread (Fault f) = true
+ends_thread Spent = true
+
+abbrev pub unlocks : ℕ → End → Bool
+unlocks lock (Wants k) = false
+unlocks lock (Unlocked k) = k == lock
+unlocks lock Slept = false
+unlocks lock Cut = false
+unlocks lock Exit = false
+unlocks lock (Fault f) = false
+unlocks lock Spent = false
+
+-- the block, one that has the lock, ends a section of it
+abbrev pub ends_section : ℕ → Block → Bool
+ends_section lock b = unlocks lock b.end || ends_thread b.end
+
+-- the lock is the whole held set
+abbrev pub is_only : ℕ → ℕ → Bool
+is_only held lock = held == with_lock 0 lock
+
+-- ---- the blocks of a lock before another one
+
+-- how many Adopted sections stand in a row at the end
+abbrev pub run_after : ℕ → ℕ → Block → ℕ
+run_after lock n b = if begins lock b then (if is_adopted b.kind then n + 1 else 0) else n
+
+abbrev pub run_from : ℕ → ℕ → List Block → ℕ
+run_from lock n [] = n
+run_from lock n (b ∷ bs) = run_from lock (run_after lock n b) bs
+
+abbrev pub run_of : ℕ → List Block → ℕ
+run_of lock bs = run_from lock 0 bs
+
+abbrev pub last_of : List Block → Option Block
+last_of bs = slice_get bs (length bs - 1)
+
+-- ---- what may follow
+
+-- whether a section of this kind, whose first block has this worker, may follow, where the last block and the run are these.
+-- The first section is Taken. A later one follows only a block that ended one. It is Adopted only where the block before it
+-- is of the same worker and gave up the lock as the only one held, and fewer than the limit stand in a row; it is Granted
+-- only where as many as the limit do, or the block before it ended its thread or had another lock too.
+abbrev pub may_begin : ℕ → ℕ → Option Block → ℕ → Kind → ℕ → Bool
+may_begin lock limit last run Start worker = false
+may_begin lock limit last run On worker = false
+may_begin lock limit None run Taken worker = true
+may_begin lock limit None run Adopted worker = false
+may_begin lock limit None run Granted worker = false
+may_begin lock limit (Some b) run Taken worker = ends_section lock b
+may_begin lock limit (Some b) run Adopted worker = unlocks lock b.end && is_only b.held lock && (b.worker == worker) && nat_lt run limit
+may_begin lock limit (Some b) run Granted worker = ends_section lock b && (nat_le limit run || ends_thread b.end || not (is_only b.held lock))
+
+-- whether a block of this thread may go on with the section of the last block
+abbrev pub may_go_on : ℕ → Option Block → ℕ → Bool
+may_go_on lock None thread = false
+may_go_on lock (Some b) thread = not (ends_section lock b) && (b.thread == thread)
+
+-- whether the batch rule lets a section of this kind, whose first block has this worker, follow these blocks
+unfoldable pub allows_of : ℕ → ℕ → List Block → Kind → ℕ → Bool
+allows_of lock limit before kind worker = may_begin lock limit (last_of before) (run_of lock before) kind worker
+
+-- whether the batch rule lets the block follow these
+unfoldable pub may_follow : ℕ → ℕ → List Block → Block → Bool
+may_follow lock limit before b = if begins lock b then allows_of lock limit before b.kind b.worker else may_go_on lock (last_of before) b.thread
+
+abbrev pub ObeysAfter : ℕ → ℕ → List Block → List Block → Type 0
+ObeysAfter lock limit before [] = Unit {0}
+ObeysAfter lock limit before (b ∷ bs) = (may_follow lock limit before b ≡ true) × ObeysAfter lock limit (before ++ b ∷ []) bs
+
+-- the blocks of a lock obey the batch limit
+abbrev pub Obeys : ℕ → ℕ → List Block → Type 0
+Obeys lock limit bs = ObeysAfter lock limit [] bs

@@ -1,0 +1,58 @@
+-- Histories: which lists of blocks they are, and what they are looked at for.
+use Rattle.std.specs.Prelude.{◌≡◌, ℕ, ◌+◌, ◌^◌, ◌<◌, ◌≤◌, ◌==◌, List, [], ◌∷◌, length, map, filter, Contains, Vec}
+use Rattle.std.specs.Global.{Global}
+use Rattle.std.specs.List.{flat_map}
+use Rattle.tc_isa.specs.Sets.{has}
+use Rattle.tc_journal.specs.declared.block.Block.{Block}
+use Rattle.tc_journal.specs.declared.block.End.{End}
+use Rattle.tc_journal.specs.declared.block.End.TheVariants.{Wants, Unlocked, Slept, Cut, Exit, Fault, Spent}
+
+-- a lock that an end names is a lock
+abbrev pub IsEnd : End → Type 0
+IsEnd (Wants lock) = lock < 32
+IsEnd (Unlocked lock) = lock < 32
+IsEnd Slept = Unit {0}
+IsEnd Cut = Unit {0}
+IsEnd Exit = Unit {0}
+IsEnd (Fault fault) = Unit {0}
+IsEnd Spent = Unit {0}
+
+-- a block that may stand in a history: it has 1 to 4,096 turns, its locks are below 32, and its other numbers are
+-- of their types
+pub record IsBlock (b : Block) : Type 0 where
+  pub stamp : b.stamp < 2 ^ 64
+  pub thread : b.thread < 2 ^ 32
+  pub some_turns : 1 ≤ b.turns
+  pub most_turns : b.turns ≤ 4096
+  pub held : b.held < 2 ^ 32
+  pub worker : b.worker < 2 ^ 32
+  pub end : IsEnd b.end
+
+-- blocks whose stamps are the numbers from `first` on
+abbrev pub IsHistoryFrom : ℕ → List Block → Type 0
+IsHistoryFrom first [] = Unit {0}
+IsHistoryFrom first (b ∷ bs) = IsBlock b × (b.stamp ≡ first) × IsHistoryFrom (first + 1) bs
+
+-- blocks whose stamps are 0, 1, 2 and so on
+abbrev pub IsHistory : List Block → Type 0
+IsHistory h = IsHistoryFrom 0 h
+
+-- in which order the threads have their turns: pairs of a thread and a number of turns
+abbrev pub schedule : List Block → List (ℕ × ℕ)
+schedule h = map (λ b. (b.thread, b.turns)) h
+
+-- the blocks of a thread
+abbrev pub of_thread : List Block → ℕ → List Block
+of_thread h thread = filter (λ b. b.thread == thread) h
+
+-- the blocks that hold a lock
+abbrev pub of_lock : List Block → ℕ → List Block
+of_lock h lock = filter (λ b. has b.held lock) h
+
+-- the blocks of all logs, log after log
+abbrev pub all_blocks : List (Vec Block Global) → List Block
+all_blocks logs = flat_map (λ log. log.items) logs
+
+-- each number below the number of blocks is the stamp of one of them, so each is that of just one
+abbrev pub HasEachStamp : List Block → Type 0
+HasEachStamp blocks = (stamp : ℕ) → stamp < length blocks → Contains (map (λ b. b.stamp) blocks) stamp

@@ -1,0 +1,6 @@
+pub mod Rule
+pub mod Line
+pub mod Batch
+pub mod History
+pub mod Spelling
+pub mod Reading

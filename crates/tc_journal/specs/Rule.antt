@@ -1,0 +1,17 @@
+-- By which rule a block ends.
+use Rattle.std.specs.Prelude.{ℕ, ◌==◌, if◌then◌else◌, Option, Some, None}
+use Rattle.tc_journal.specs.declared.block.End.{End}
+use Rattle.tc_journal.specs.declared.block.End.TheVariants as end
+use Rattle.tc_journal.specs.declared.rule.Outcome.{Outcome}
+use Rattle.tc_journal.specs.declared.rule.Outcome.TheVariants.{Went, Unlocked, Slept, Exited, Faulted, Spent}
+
+-- how a block ends whose last turn came out so and was its turn of this number, where the next turn would take
+-- this lock, or none: the thread's end comes before all else, an unlock or a sleep before a wish, a wish before a cut
+abbrev pub end_rule : Outcome → ℕ → Option ℕ → Option End
+end_rule Exited turns next = Some end.Exit
+end_rule (Faulted fault) turns next = Some (end.Fault fault)
+end_rule Spent turns next = Some end.Spent
+end_rule (Unlocked lock) turns next = Some (end.Unlocked lock)
+end_rule Slept turns next = Some end.Slept
+end_rule Went turns (Some lock) = Some (end.Wants lock)
+end_rule Went turns None = if turns == 4096 then Some end.Cut else None

@@ -1,0 +1,36 @@
+//! Histories put together and printed.
+
+ghost use Rattle.std.specs.Prelude.{◌≡◌, IfOk, length, map};
+ghost use Rattle.std.specs.List.{range_with_len};
+ghost use Rattle.std.specs.List.Sorted.{IsPermutation};
+ghost use Rattle.tc_journal.specs.History.{all_blocks, HasEachStamp};
+ghost use Rattle.tc_journal.specs.Line as spec;
+
+use crate::block::Block;
+use crate::line::push_block;
+use std::alloc::{AllocError, Global};
+
+/// The blocks of all logs, in the order of their stamps.
+pub fn merge(alloc: Global, logs: &[Vec<Block>]) -> Result<Vec<Block>, AllocError>
+    requires { HasEachStamp (all_blocks logs.now) }
+    ensures blocks { IfOk result (λ history. IsPermutation (all_blocks logs.now) history.items) }
+    ensures order { IfOk result (λ history. map (λ b. b.stamp) history.items ≡ range_with_len 0 (length history.items)) }
+{
+    let mut history = Vec::new(alloc);
+    for log in logs {
+        history.extend_from_slice(log)?;
+    }
+    history.sort_by_key(|block| block.stamp)?;
+    Ok(history)
+}
+
+/// The lines of the blocks, each with its end of line.
+pub fn text(alloc: Global, history: &[Block]) -> Result<Vec<u8>, AllocError>
+    ensures { IfOk result (λ bytes. bytes.items ≡ spec.history_text history.now) }
+{
+    let mut lines = String::new(alloc);
+    for block in history {
+        push_block(&mut lines, block)?;
+    }
+    Ok(lines.into_bytes())
+}

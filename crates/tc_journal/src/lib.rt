@@ -1,0 +1,24 @@
+//! Histories: the blocks in which threads run, their printed lines, and the way back.
+//!
+//! A thread runs in blocks of at least one turn. The layers above use the one rule by which a
+//! block ends, so that a machine, a package and a reader of a journal mean the same by a block.
+//! They are promised that logs are merged in the order of their stamps, that a history is printed
+//! as `specs/Line.antt` says, and that `read` takes the texts of histories and no others, gives
+//! back the history, and names the first line that is wrong. `specs/Batch.antt` says which sections
+//! of a lock may follow one another.
+//!
+//! - `block`: what a block is.
+//! - `rule`: by which rule it ends.
+//! - `line`: its printed line.
+//! - `history`: logs merged, histories printed.
+//! - `reading`: histories read back, by the block that a line may be (`spelling`).
+#![tactic(auto)]
+
+pub mod block;
+pub mod history;
+pub mod line;
+pub mod reading;
+pub mod rule;
+mod spelling;
+#[cfg(test)]
+mod tests;

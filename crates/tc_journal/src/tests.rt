@@ -1,0 +1,297 @@
+ghost use Rattle.std.specs.Prelude.{◌≡◌};
+
+use crate::block::{Block, End, Kind};
+use crate::history::{merge, text};
+use crate::reading::{BadText, read};
+use crate::rule::{Outcome, end_of};
+use std::test::Fail;
+use tc_isa::fault::Fault;
+use tc_isa::held::Held;
+
+/// The history of two threads that each take one lock once.
+fn two_threads() -> [Block; 6] {
+    let none = Held::none();
+    let lock = none.plus(0);
+    [
+        block(0, 0, 3, none, Kind::Start, 0, End::Wants(0)),
+        block(1, 0, 7, lock, Kind::Taken, 0, End::Unlocked(0)),
+        block(2, 1, 3, none, Kind::Start, 1, End::Wants(0)),
+        block(3, 1, 7, lock, Kind::Adopted, 0, End::Unlocked(0)),
+        block(4, 0, 2, none, Kind::On, 0, End::Exit),
+        block(5, 1, 2, none, Kind::On, 1, End::Exit),
+    ]
+}
+
+fn block(
+    stamp: u64,
+    thread: u32,
+    turns: u32,
+    held: Held,
+    kind: Kind,
+    worker: u32,
+    end: End,
+) -> Block
+    ensures { result.stamp ≡ stamp }
+{
+    Block {
+        stamp,
+        thread,
+        turns,
+        held,
+        kind,
+        worker,
+        end,
+    }
+}
+
+const TWO_THREADS: &str = "\
+block 0 thread 0 turns 3 held - kind start worker 0 end wants 0
+block 1 thread 0 turns 7 held 0 kind taken worker 0 end unlocked 0
+block 2 thread 1 turns 3 held - kind start worker 1 end wants 0
+block 3 thread 1 turns 7 held 0 kind adopted worker 0 end unlocked 0
+block 4 thread 0 turns 2 held - kind on worker 0 end exit
+block 5 thread 1 turns 2 held - kind on worker 1 end exit
+";
+
+#[test]
+fn a_history_is_printed_and_read_back(rt: HostRuntime) -> Result<(), Fail> {
+    let history = two_threads();
+    let printed = text(rt.alloc(), &history)?;
+    assert_eq!(rt; printed.as_slice(), TWO_THREADS.as_bytes());
+    let blocks = read(rt.alloc(), &printed)?;
+    assert_eq!(rt; blocks.as_slice(), history.as_slice());
+    Ok(())
+}
+
+#[test]
+fn logs_are_merged_by_their_stamps(rt: HostRuntime) -> Result<(), Fail> {
+    let none = Held::none();
+    let zero = block(0, 1, 1, none, Kind::Start, 0, End::Slept);
+    let one = block(1, 0, 2, none, Kind::Start, 1, End::Exit);
+    let two = block(2, 1, 3, none, Kind::On, 0, End::Exit);
+    let mut logs = Vec::new(rt.alloc());
+    logs.push(Vec::from_slice(rt.alloc(), &[zero, two])?)?;
+    logs.push(Vec::from_slice(rt.alloc(), &[one])?)?;
+    let history = merge(rt.alloc(), &logs)?;
+    assert_eq!(rt; history.as_slice(), [zero, one, two].as_slice());
+    Ok(())
+}
+
+#[test]
+fn blocks_end_by_the_first_rule_that_holds(rt: HostRuntime) {
+    let cases = [
+        (Outcome::Went, 1, None, None),
+        (Outcome::Went, 4095, None, None),
+        (Outcome::Went, 4096, None, Some(End::Cut)),
+        (Outcome::Went, 4096, Some(3), Some(End::Wants(3))),
+        (Outcome::Went, 1, Some(0), Some(End::Wants(0))),
+        (Outcome::Unlocked(2), 4096, Some(3), Some(End::Unlocked(2))),
+        (Outcome::Slept, 4096, Some(3), Some(End::Slept)),
+        (Outcome::Exited, 4096, None, Some(End::Exit)),
+        (Outcome::Spent, 4096, None, Some(End::Spent)),
+        (
+            Outcome::Faulted(Fault::Break),
+            4096,
+            None,
+            Some(End::Fault(Fault::Break)),
+        ),
+    ];
+    for (outcome, turns, next, want) in cases {
+        assert_eq!(rt;
+            end_of(outcome, turns, next),
+            want,
+            "{outcome:?}, {turns} turns"
+        );
+    }
+}
+
+#[test]
+fn each_kind_and_each_end_is_read_back(rt: HostRuntime) -> Result<(), Fail> {
+    let lines = b"\
+block 0 thread 4294967295 turns 4096 held 0,1,9,10,31 kind granted worker 4294967295 end cut
+block 1 thread 15 turns 1 held 31 kind adopted worker 7 end wants 31
+block 2 thread 2 turns 10 held - kind taken worker 0 end unlocked 10
+block 3 thread 0 turns 4095 held 2,3,5,7,11,13,17,19 kind start worker 1 end slept
+block 4 thread 0 turns 99 held - kind on worker 1 end fault 1
+block 5 thread 0 turns 100 held - kind on worker 1 end fault 12
+block 6 thread 0 turns 1000 held - kind on worker 1 end spent
+";
+    let blocks = read(rt.alloc(), lines)?;
+    let printed = text(rt.alloc(), &blocks)?;
+    assert_eq!(rt; printed.as_slice(), lines.as_slice());
+    let last = block(6, 0, 1000, Held::none(), Kind::On, 1, End::Spent);
+    assert_eq!(rt; blocks.last().copied(), Some(last));
+    Ok(())
+}
+
+#[test]
+fn the_first_wrong_line_is_named(rt: HostRuntime) -> Result<(), Fail> {
+    let good = "block 0 thread 0 turns 2 held - kind start worker 0 end exit\n";
+    let cases = [
+        ("", Ok(0)),
+        (good, Ok(1)),
+        ("\n", Err(1)),
+        (
+            "block 0 thread 0 turns 2 held - kind start worker 0 end exit",
+            Err(1),
+        ),
+        (
+            "block 0 thread 0 turns 2 held - kind start worker 0 end exit\n\n",
+            Err(2),
+        ),
+        (
+            "block 0 thread 0 turns 2 held - kind start worker 0 end exit\r\n",
+            Err(1),
+        ),
+        (
+            "block 0 thread 0 turns 2 held - kind start worker 0 end exit \n",
+            Err(1),
+        ),
+        (
+            " block 0 thread 0 turns 2 held - kind start worker 0 end exit\n",
+            Err(1),
+        ),
+        (
+            "block 0 thread 0  turns 2 held - kind start worker 0 end exit\n",
+            Err(1),
+        ),
+        (
+            "Block 0 thread 0 turns 2 held - kind start worker 0 end exit\n",
+            Err(1),
+        ),
+        (
+            "block 1 thread 0 turns 2 held - kind start worker 0 end exit\n",
+            Err(1),
+        ),
+        (
+            "block 00 thread 0 turns 2 held - kind start worker 0 end exit\n",
+            Err(1),
+        ),
+        (
+            "block +0 thread 0 turns 2 held - kind start worker 0 end exit\n",
+            Err(1),
+        ),
+        (
+            "block 0 thread 01 turns 2 held - kind start worker 0 end exit\n",
+            Err(1),
+        ),
+        (
+            "block 0 thread 4294967295 turns 2 held - kind start worker 0 end exit\n",
+            Ok(1),
+        ),
+        (
+            "block 0 thread 4294967296 turns 2 held - kind start worker 0 end exit\n",
+            Err(1),
+        ),
+        (
+            "block 0 thread 0 turns 0 held - kind start worker 0 end exit\n",
+            Err(1),
+        ),
+        (
+            "block 0 thread 0 turns 1 held - kind start worker 0 end exit\n",
+            Ok(1),
+        ),
+        (
+            "block 0 thread 0 turns 4096 held - kind start worker 0 end exit\n",
+            Ok(1),
+        ),
+        (
+            "block 0 thread 0 turns 4097 held - kind start worker 0 end exit\n",
+            Err(1),
+        ),
+        (
+            "block 0 thread 0 turns 2 held 31 kind start worker 0 end exit\n",
+            Ok(1),
+        ),
+        (
+            "block 0 thread 0 turns 2 held 32 kind start worker 0 end exit\n",
+            Err(1),
+        ),
+        (
+            "block 0 thread 0 turns 2 held 1,0 kind start worker 0 end exit\n",
+            Err(1),
+        ),
+        (
+            "block 0 thread 0 turns 2 held 1,1 kind start worker 0 end exit\n",
+            Err(1),
+        ),
+        (
+            "block 0 thread 0 turns 2 held 0,1, kind start worker 0 end exit\n",
+            Err(1),
+        ),
+        (
+            "block 0 thread 0 turns 2 held 0,1,2,3,4,5 kind start worker 0 end exit\n",
+            Ok(1),
+        ),
+        (
+            "block 0 thread 0 turns 2 held  kind start worker 0 end exit\n",
+            Err(1),
+        ),
+        (
+            "block 0 thread 0 turns 2 held - kind lent worker 0 end exit\n",
+            Err(1),
+        ),
+        (
+            "block 0 thread 0 turns 2 held - kind start worker 4294967295 end exit\n",
+            Ok(1),
+        ),
+        (
+            "block 0 thread 0 turns 2 held - kind start worker 4294967296 end exit\n",
+            Err(1),
+        ),
+        (
+            "block 0 thread 0 turns 2 held - kind start worker 0 end wants 31\n",
+            Ok(1),
+        ),
+        (
+            "block 0 thread 0 turns 2 held - kind start worker 0 end wants 32\n",
+            Err(1),
+        ),
+        (
+            "block 0 thread 0 turns 2 held - kind start worker 0 end unlocked 32\n",
+            Err(1),
+        ),
+        (
+            "block 0 thread 0 turns 2 held - kind start worker 0 end wants\n",
+            Err(1),
+        ),
+        (
+            "block 0 thread 0 turns 2 held - kind start worker 0 end fault 0\n",
+            Err(1),
+        ),
+        (
+            "block 0 thread 0 turns 2 held - kind start worker 0 end fault 12\n",
+            Ok(1),
+        ),
+        (
+            "block 0 thread 0 turns 2 held - kind start worker 0 end fault 13\n",
+            Err(1),
+        ),
+        (
+            "block 0 thread 0 turns 2 held - kind start worker 0 end exit 0\n",
+            Err(1),
+        ),
+        (
+            "block 0 thread 0 turns 2 held - kind start worker 0 end done\n",
+            Err(1),
+        ),
+        (
+            "block 18446744073709551616 thread 0 turns 2 held - kind on worker 0 end exit\n",
+            Err(1),
+        ),
+    ];
+    for (lines, want) in cases {
+        let found = match read(rt.alloc(), lines.as_bytes()) {
+            Ok(blocks) => Ok(blocks.len()),
+            Err(BadText::Line(line)) => Err(line),
+            Err(BadText::OutOfMemory) => Err(0),
+        };
+        assert_eq!(rt; found, want, "{lines}");
+    }
+    let wrong = TWO_THREADS.replace(rt.alloc(), "block 1 ", "block 2 ")?;
+    assert_eq!(rt;
+        read(rt.alloc(), wrong.as_bytes()).err(),
+        Some(BadText::Line(2))
+    );
+    Ok(())
+}
