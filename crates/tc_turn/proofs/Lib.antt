@@ -1,0 +1,4 @@
+pub mod MemoryLaws
+pub mod Turns
+pub mod Replaying
+pub mod Recorded

@@ -1,0 +1,4 @@
+pub mod Memory
+pub mod Turn
+pub mod Reads
+pub mod Replay

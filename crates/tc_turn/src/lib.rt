@@ -1,0 +1,20 @@
+//! One turn of a guest thread: what the thread does, and what becomes of it and of each lock.
+//!
+//! `specs/Turn.antt` has the words that the machine, a package and the replay of a journal share:
+//! what a thread has, what a lock has, what the next turn does, and both after it. What a turn does
+//! is one act of the layer below, and the thread and each lock change by that act alone, each for
+//! itself. `specs/Memory.antt` says what stands in memory, and `specs/Replay.antt` how a block
+//! replays on what one lock saw of it.
+//!
+//! - `status`: whether and how a thread has ended. `outcome`: how a turn came out for its block.
+//! - `memory`: a thread's own memory. `thread`: a thread, which does what an act says.
+//! - `law`: what a turn reads and what it leaves alone.
+#![tactic(auto)]
+
+pub mod law;
+pub mod memory;
+pub mod outcome;
+pub mod status;
+#[cfg(test)]
+mod tests;
+pub mod thread;

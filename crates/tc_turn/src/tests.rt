@@ -1,0 +1,77 @@
+use crate::memory::{Memory, byte_from, put_number, starting_bytes};
+use crate::outcome::{outcome_of, taken_by};
+use crate::status::Status;
+use crate::thread::GuestThread;
+use std::test::Fail;
+use tc_elf::load::load;
+use tc_exec::outcome::{Act, Call, Want};
+use tc_isa::held::Held;
+use tc_isa::reg::Reg;
+use tc_journal::rule::Outcome;
+
+/// A guest's file of one segment at the address 0x00010054: `addi x17,x0,93` and `ecall`.
+const SMALLEST: [u8; 92] = [
+    0x7f, 0x45, 0x4c, 0x46, 0x01, 0x01, 0x01, 0x00, 0x00, 0x00, 0x00, 0x00, 0x00, 0x00, 0x00, 0x00,
+    0x02, 0x00, 0xf3, 0x00, 0x01, 0x00, 0x00, 0x00, 0x54, 0x00, 0x01, 0x00, 0x34, 0x00, 0x00, 0x00,
+    0x00, 0x00, 0x00, 0x00, 0x00, 0x00, 0x00, 0x00, 0x34, 0x00, 0x20, 0x00, 0x01, 0x00, 0x00, 0x00,
+    0x00, 0x00, 0x00, 0x00, 0x01, 0x00, 0x00, 0x00, 0x54, 0x00, 0x00, 0x00, 0x54, 0x00, 0x01, 0x00,
+    0x54, 0x00, 0x01, 0x00, 0x08, 0x00, 0x00, 0x00, 0x08, 0x00, 0x00, 0x00, 0x05, 0x00, 0x00, 0x00,
+    0x04, 0x00, 0x00, 0x00, 0x93, 0x08, 0xd0, 0x05, 0x73, 0x00, 0x00, 0x00,
+];
+
+#[test]
+fn a_thread_runs_to_its_exit(rt: HostRuntime) -> Result<(), Fail> {
+    let image = load(rt.alloc(), &SMALLEST)?;
+    let mut thread = GuestThread::start(rt.alloc(), &image, 100, 0)?;
+    assert!(rt; thread.wants(&image) == Want::Nothing);
+    assert!(rt; thread.next_lock(&image).is_none());
+    assert!(rt; thread.held() == Held::none());
+    let first = thread.act(&image, 0);
+    assert!(rt; outcome_of(&first) == Outcome::Went);
+    thread.take_turn(&first);
+    assert_eq!(rt; thread.regs().pc(), 0x10058);
+    assert_eq!(rt; thread.regs().get(Reg::of(17)), 93);
+    let last = thread.act(&image, 0);
+    assert!(rt; outcome_of(&last) == Outcome::Exited);
+    thread.take_turn(&last);
+    assert!(rt; thread.status() == Status::Exited);
+    assert_eq!(rt; thread.fuel(), 98);
+    Ok(())
+}
+
+#[test]
+fn a_lock_is_taken_by_a_lock_call_alone(rt: HostRuntime) -> Result<(), Fail> {
+    let image = load(rt.alloc(), &SMALLEST)?;
+    let regs = GuestThread::start(rt.alloc(), &image, 1, 0)?.regs();
+    for (call, lock) in [
+        (Call::Lock(3), Some(3)),
+        (Call::Unlock(3), None),
+        (Call::Sleep(3), None),
+    ] {
+        assert!(rt; taken_by(&Act::Called { call, regs }) == lock);
+    }
+    Ok(())
+}
+
+#[test]
+fn numbers_stand_in_little_endian_order(rt: HostRuntime) -> Result<(), Fail> {
+    let image = load(rt.alloc(), &SMALLEST)?;
+    let mut memory = Memory::start(rt.alloc(), &image)?;
+    memory.put(0x7fff_fffc, 4, 0x0403_0201);
+    for (addr, byte) in [
+        (0x7fff_c000, Some(0)),
+        (0x7fff_fffb, Some(0)),
+        (0x7fff_fffc, Some(1)),
+        (0x7fff_fffd, Some(2)),
+        (0x7fff_ffff, Some(4)),
+        // Code is no thread's own.
+        (0x0001_0054, None),
+    ] {
+        assert!(rt; memory.byte(addr) == byte, "at {addr}");
+    }
+    let mut bytes = starting_bytes(rt.alloc(), &image, 0x10054, 8)?;
+    put_number(0x10054, &mut bytes, 0x10058, 2, 0xabcd);
+    assert!(rt; bytes.as_slice() == b"\x93\x08\xd0\x05\xcd\xab\0\0".as_slice());
+    assert!(rt; byte_from(0x10054, &bytes, 0x10059) == Some(0xab));
+    Ok(())
+}
