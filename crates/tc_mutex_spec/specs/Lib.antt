@@ -1,0 +1,4 @@
+pub mod Machine
+pub mod Locality
+pub mod Blocks
+pub mod Slow

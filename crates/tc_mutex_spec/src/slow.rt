@@ -1,0 +1,302 @@
+//! The machine as a plain program.
+//!
+//! Each turn reads what the thread does, and then the thread and every lock change by that, each
+//! for itself, as the machine says. No turn copies a thread's memory.
+
+ghost use Rattle.std.specs.Prelude.{◌≡◌, ℕ, ◌+◌, ◌<◌, ◌≤◌, ◌^◌, length, slice_get, IfOk, IfSome, true, false, replicate};
+ghost use Rattle.std.specs.Option.{option_map};
+ghost use Rattle.tc_isa.specs.Sets.{has};
+ghost use Rattle.tc_exec.specs.Step.{wants_of};
+ghost use Rattle.tc_journal.specs.declared.rule.Outcome.TheVariants.{Unlocked};
+ghost use Rattle.tc_turn.specs.Memory.{number_at};
+ghost use Rattle.tc_turn.specs.Turn.{byte_at, answer_to, next_lock, next_act, outcome_of, thread_of, ActFits};
+ghost use Rattle.tc_mutex_spec.specs.Machine.{can_turn, after, turns, run_from, run, start};
+ghost use Rattle.tc_mutex_spec.specs.Slow.{state_of, thread_at, mutex_at, Suits, Turned, Ran};
+
+use crate::locks::SlowLocks;
+use std::alloc::{AllocError, Global};
+use std::marker::Model;
+use tc_elf::image::{Image, Region};
+use tc_exec::outcome::{Act, Want};
+use tc_isa::held::Held;
+use tc_isa::regs::Regs;
+use tc_journal::rule::Outcome;
+use tc_turn::outcome::outcome_of;
+pub use tc_turn::status::Status as SlowStatus;
+use tc_turn::thread::GuestThread;
+
+/// All threads and all locks, each in order of number.
+#[derive(Drop)]
+pub struct Slow {
+    threads: Vec<GuestThread>,
+    locks: SlowLocks,
+}
+
+impl Model for Slow {
+    ghost use Rattle.tc_mutex_spec.specs.Slow.{Plain};
+
+    ghost Value = { Plain };
+
+    ghost view = { λ s. record { threads = s.threads.items; locks = s.locks } };
+}
+
+/// All threads at the start.
+fn start_threads(alloc: Global, image: &Image, fuel: u32) -> Result<Vec<GuestThread>, AllocError>
+    ensures each { IfOk result (λ threads. (t : ℕ) → thread_at threads.items t ≡ (start image.now fuel).threads t) }
+    ensures long { IfOk result (λ threads. length threads.items ≡ length image.now.entries) }
+{
+    let mut threads = Vec::new(alloc);
+    for t in 0..image.threads() {
+        threads.push(GuestThread::start(alloc, image, fuel, t)?)?;
+    }
+    Ok(threads)
+}
+
+impl Slow {
+    /// All threads and locks at the start.
+    pub fn start(alloc: Global, image: &Image, fuel: u32) -> Result<Slow, AllocError>
+        ensures start { IfOk result (λ s. state_of s ≡ start image.now fuel) }
+        ensures suits { IfOk result (λ s. Suits image.now s) }
+    {
+        let threads = start_threads(alloc, image, fuel)?;
+        let locks = SlowLocks::start(alloc, image)?;
+        Ok(Slow { threads, locks })
+    }
+
+    /// Whether the thread's turn is defined: it is a thread, has not ended, and does not take a lock
+    /// that has an owner.
+    #[tactic(auto, unfolding(crate::specs::Machine::can_turn))]
+    pub fn can_turn(&self, image: &Image, t: u32) -> bool
+        requires { Suits image.now self.now }
+        ensures { result ≡ can_turn image.now (state_of self.now) t }
+    {
+        if t >= image.threads() {
+            return false;
+        }
+        let thread = &self.threads[t as usize];
+        thread.status() == SlowStatus::Running && self.locks.is_open(thread.next_lock(image))
+    }
+
+    /// What the thread's next turn does.
+    #[tactic(auto, unfolding(tc_turn::specs::Turn::next_act))]
+    fn next_act(&self, image: &Image, t: u32) -> Option<Act>
+        requires thread { t < length self.now.threads }
+        requires locks { length self.now.locks ≡ length image.now.guards }
+        ensures value { result ≡ next_act image.now ((state_of self.now).threads t) (state_of self.now).locks }
+        ensures fits { IfSome result ActFits }
+        ensures fuel { IfSome result (λ act. 0 < ((state_of self.now).threads t).fuel) }
+    {
+        let thread = &self.threads[t as usize];
+        thread.act(image, self.answer(image, thread))
+    }
+
+    /// The lock that the next turn of the thread takes, where it takes one.
+    pub fn next_lock(&self, image: &Image, t: u32) -> Option<u32>
+        requires { t < length self.now.threads }
+        ensures value { result ≡ next_lock image.now ((state_of self.now).threads t) }
+        ensures bound { IfSome result (λ lock. lock < length image.now.guards) }
+    {
+        self.threads[t as usize].next_lock(image)
+    }
+
+    /// The answer to the thread's load, or to its LOCK.
+    fn answer(&self, image: &Image, thread: &GuestThread) -> u32
+        requires { length self.now.locks ≡ length image.now.guards }
+        ensures { result ≡ answer_to image.now (wants_of image.now (has thread.now.held) thread.now.regs) (next_lock image.now (thread_of thread.now)) (thread_of thread.now).own (mutex_at self.now.locks) }
+    {
+        match thread.wants(image) {
+            Want::Load {
+                region,
+                addr,
+                width,
+            } => self.number(image, thread, region, addr, width),
+            Want::Nothing => match thread.next_lock(image) {
+                Some(lock) => u32::from(self.locks.is_broken(lock)),
+                None => 0,
+            },
+        }
+    }
+
+    /// The number in so many bytes of a place from an address on, the lowest first.
+    fn number(
+        &self,
+        image: &Image,
+        thread: &GuestThread,
+        region: Region,
+        addr: u32,
+        width: u32,
+    ) -> u32
+        requires locks { length self.now.locks ≡ length image.now.guards }
+        requires fits { addr + width ≤ 2 ^ 32 }
+        requires small { width ≤ 4 }
+        ensures value { result ≡ number_at (byte_at image.now (thread_of thread.now).own (mutex_at self.now.locks) region) addr width }
+        ensures bound { result < 256 ^ width }
+    {
+        if width == 0 {
+            return 0;
+        }
+        let low = u32::from(self.byte(image, thread, region, addr));
+        if width == 1 {
+            return low;
+        }
+        low + 256 * self.number(image, thread, region, addr + 1, width - 1)
+    }
+
+    /// The byte at an address of a place.
+    fn byte(&self, image: &Image, thread: &GuestThread, region: Region, addr: u32) -> u8
+        requires { length self.now.locks ≡ length image.now.guards }
+        ensures { result ≡ byte_at image.now (thread_of thread.now).own (mutex_at self.now.locks) region addr }
+    {
+        match region {
+            Region::Text => image.byte(addr).unwrap_or(0),
+            Region::Private | Region::Stack => thread.byte(addr).unwrap_or(0),
+            Region::Guard(lock) => self.locks.byte(image, lock, addr),
+            Region::Nothing => 0,
+        }
+    }
+
+    /// A turn of the thread, and how it came out for the block that it is in.
+    #[tactic(auto, using(crate::proofs::Holds::can_thread))]
+    pub fn take_turn(&mut self, image: &Image, t: u32) -> Outcome
+        requires suits { Suits image.now self.old }
+        requires defined { can_turn image.now (state_of self.old) t ≡ true }
+        ensures after { state_of self.new ≡ after image.now (state_of self.old) t }
+        ensures outcome { result ≡ outcome_of (next_act image.now ((state_of self.old).threads t) (state_of self.old).locks) }
+        // A lock that is released is one of the image's.
+        ensures known { (lock : ℕ) → result ≡ Unlocked lock → lock < length image.now.guards }
+        ensures suits { Suits image.now self.new }
+    {
+        let act = self.next_act(image, t);
+        let held = self.threads[t as usize].held();
+        self.locks.take_turn(image, t, held, &act);
+        let thread = &mut self.threads[t as usize];
+        thread.take_turn(&act);
+        outcome_of(&act)
+    }
+
+    /// A turn of the thread, where it is defined, and whether it is. Nothing changes where it is
+    /// not.
+    pub fn turn(&mut self, image: &Image, t: u32) -> bool
+        requires { Suits image.now self.old }
+        ensures turned { Turned image.now self.old t result self.new }
+        ensures suits { Suits image.now self.new }
+    {
+        let can = self.can_turn(image, t);
+        if can {
+            self.take_turn(image, t);
+        }
+        can
+    }
+
+    /// So many turns of the thread, where they are defined.
+    fn turns(&mut self, image: &Image, t: u32, count: u32) -> bool
+        requires { Suits image.now self.old }
+        ensures ran { Ran (turns image.now (state_of self.old) (replicate count t)) result self.new }
+        ensures suits { Suits image.now self.new }
+    {
+        for done in 0..count {
+            if !self.turn(image, t) {
+                return false;
+            }
+        }
+        true
+    }
+
+    /// The turns of each pair, where they are defined.
+    fn pairs(&mut self, image: &Image, schedule: &[(u32, u32)]) -> bool
+        requires { Suits image.now self.old }
+        ensures ran { Ran (run_from image.now (state_of self.old) schedule.now) result self.new }
+        ensures suits { Suits image.now self.new }
+    {
+        for pair in schedule {
+            if !self.turns(image, pair.0, pair.1) {
+                return false;
+            }
+        }
+        true
+    }
+
+    /// The machine after a run of a schedule from the start, a list of pairs of a thread and a
+    /// number of turns; None exactly where a turn is undefined: where its thread is none, has
+    /// ended, or would take a lock that has an owner.
+    pub fn run(
+        alloc: Global,
+        image: &Image,
+        fuel: u32,
+        schedule: &[(u32, u32)],
+    ) -> Result<Option<Slow>, AllocError>
+        ensures run { IfOk result (λ o. option_map state_of o ≡ run image.now fuel schedule.now) }
+        ensures suits { IfOk result (λ o. IfSome o (Suits image.now)) }
+    {
+        let mut slow = Slow::start(alloc, image, fuel)?;
+        if slow.pairs(image, schedule) {
+            Ok(Some(slow))
+        } else {
+            Ok(None)
+        }
+    }
+
+    /// The registers of a thread.
+    pub fn regs(&self, t: u32) -> Regs
+        requires { t < length self.now.threads }
+        ensures { result ≡ ((state_of self.now).threads t).regs }
+    {
+        self.threads[t as usize].regs()
+    }
+
+    /// How many instructions a thread may still run.
+    pub fn fuel(&self, t: u32) -> u32
+        requires { t < length self.now.threads }
+        ensures { result ≡ ((state_of self.now).threads t).fuel }
+    {
+        self.threads[t as usize].fuel()
+    }
+
+    /// Whether and how a thread has ended.
+    pub fn status(&self, t: u32) -> SlowStatus
+        requires { t < length self.now.threads }
+        ensures { result ≡ ((state_of self.now).threads t).status }
+    {
+        self.threads[t as usize].status()
+    }
+
+    /// The locks that a thread holds.
+    pub fn held(&self, t: u32) -> Held
+        requires { t < length self.now.threads }
+        ensures { has result ≡ ((state_of self.now).threads t).held }
+    {
+        self.threads[t as usize].held()
+    }
+
+    /// The thread that owns a lock.
+    pub fn owner(&self, lock: u32) -> Option<u32>
+        requires { lock < length self.now.locks }
+        ensures { result ≡ ((state_of self.now).locks lock).owner }
+    {
+        self.locks.owner(lock)
+    }
+
+    /// Whether a lock is broken: a thread that held it has ended.
+    pub fn broken(&self, lock: u32) -> bool
+        requires { lock < length self.now.locks }
+        ensures { result ≡ ((state_of self.now).locks lock).broken }
+    {
+        self.locks.is_broken(lock)
+    }
+
+    /// How many sections of a lock have begun, at most 2^64 - 1.
+    pub fn sections(&self, lock: u32) -> u64
+        requires { lock < length self.now.locks }
+        ensures { result ≡ ((state_of self.now).locks lock).sections }
+    {
+        self.locks.sections(lock)
+    }
+
+    /// The bytes of a lock's guard.
+    pub fn bytes(&self, lock: u32) -> &[u8]
+        requires { lock < length self.now.locks }
+        ensures { result.now ≡ ((state_of self.now).locks lock).bytes }
+    {
+        self.locks.bytes(lock)
+    }
+}

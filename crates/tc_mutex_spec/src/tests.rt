@@ -1,0 +1,142 @@
+use crate::slow::{Slow, SlowStatus};
+use std::alloc::Global;
+use std::test::Fail;
+use tc_elf::image::Image;
+use tc_elf::limits::MAX_FILE;
+use tc_elf::load::load;
+use tc_elf::refusal::Refusal;
+use tc_isa::held::Held;
+use tc_isa::reg::Reg;
+
+/// A guest's file of one segment at the address 0x00010054: `addi x17,x0,93` and `ecall`.
+const SMALLEST: [u8; 92] = [
+    0x7f, 0x45, 0x4c, 0x46, 0x01, 0x01, 0x01, 0x00, 0x00, 0x00, 0x00, 0x00, 0x00, 0x00, 0x00, 0x00,
+    0x02, 0x00, 0xf3, 0x00, 0x01, 0x00, 0x00, 0x00, 0x54, 0x00, 0x01, 0x00, 0x34, 0x00, 0x00, 0x00,
+    0x00, 0x00, 0x00, 0x00, 0x00, 0x00, 0x00, 0x00, 0x34, 0x00, 0x20, 0x00, 0x01, 0x00, 0x00, 0x00,
+    0x00, 0x00, 0x00, 0x00, 0x01, 0x00, 0x00, 0x00, 0x54, 0x00, 0x00, 0x00, 0x54, 0x00, 0x01, 0x00,
+    0x54, 0x00, 0x01, 0x00, 0x08, 0x00, 0x00, 0x00, 0x08, 0x00, 0x00, 0x00, 0x05, 0x00, 0x00, 0x00,
+    0x04, 0x00, 0x00, 0x00, 0x93, 0x08, 0xd0, 0x05, 0x73, 0x00, 0x00, 0x00,
+];
+
+/// The words of a guest's file with two threads, both at 0x00100000, and a guard of 4 bytes at
+/// 0x00020000. A thread adds 1 to the guard's word inside one section and exits:
+///
+/// ```text
+/// lui x5,0x20   addi x10,x0,0   addi x17,x0,1   ecall     lock 0, its 4th turn
+/// lw x7,0(x5)   addi x7,x7,1    sw x7,0(x5)
+/// addi x10,x0,0 addi x17,x0,2   ecall                     unlock 0, its 10th turn
+/// addi x17,x0,93                ecall                     exit, its 12th turn
+/// ```
+const ONE: [u32; 64] = [
+    // The header.
+    0x464c457f, 0x00010101, 0x00000000, 0x00000000, 0x00f30002, 0x00000001, 0x00100000, 0x00000034,
+    0x00000000, 0x00000000, 0x00200034, 0x00000003, 0x00000000,
+    // The headers of the note, the code and the data.
+    0x00000004, 0x00000094, 0x00000000, 0x00000000, 0x00000038, 0x00000038, 0x00000004, 0x00000004,
+    0x00000001, 0x000000cc, 0x00100000, 0x00100000, 0x00000030, 0x00000030, 0x00000005, 0x00000004,
+    0x00000001, 0x000000fc, 0x00020000, 0x00020000, 0x00000004, 0x00000004, 0x00000006, 0x00000004,
+    // The note on threads and guards.
+    0x00000008, 0x00000024, 0x00000001, 0x4f4c4354, 0x00534b43, 0x00000001, 0x00000002, 0x00000001,
+    0x00100000, 0x00000000, 0x00100000, 0x00000000, 0x00020000, 0x00000004,
+    // The code and the data.
+    0x000202b7, 0x00000513, 0x00100893, 0x00000073, 0x0002a383, 0x00138393, 0x0072a023, 0x00000513,
+    0x00200893, 0x00000073, 0x05d00893, 0x00000073, 0x00000000,
+];
+
+fn one(alloc: Global) -> Result<Image, Refusal> {
+    let mut bytes = Vec::new(alloc);
+    for word in ONE {
+        bytes.extend_from_slice(&word.to_le_bytes())?;
+    }
+    load(alloc, &bytes[..bytes.len().min(MAX_FILE)])
+}
+
+#[test]
+fn runs_the_smallest_guest(rt: HostRuntime) -> Result<(), Fail> {
+    let image = load(rt.alloc(), &SMALLEST)?;
+    for (fuel, turns, status, left, pc) in [
+        (100, 0, SlowStatus::Running, 100, 0x10054),
+        (100, 1, SlowStatus::Running, 99, 0x10058),
+        (100, 2, SlowStatus::Exited, 98, 0x10058),
+        (1, 2, SlowStatus::SpentFuel, 0, 0x10058),
+    ] {
+        match Slow::run(rt.alloc(), &image, fuel, &[(0, 0), (0, turns)])? {
+            Some(slow) => {
+                assert!(rt; slow.status(0) == status, "after {turns} turns");
+                assert_eq!(rt; slow.fuel(0), left);
+                assert_eq!(rt; slow.regs(0).pc(), pc);
+                assert!(rt; slow.held(0) == Held::none());
+            }
+            None => assert!(rt; false, "{turns} turns are defined"),
+        }
+    }
+    Ok(())
+}
+
+#[test]
+fn a_turn_of_no_running_thread_is_undefined(rt: HostRuntime) -> Result<(), Fail> {
+    let image = load(rt.alloc(), &SMALLEST)?;
+    for schedule in [[(0, 2), (0, 1)], [(0, 3), (0, 0)], [(0, 1), (1, 1)]] {
+        assert!(rt; Slow::run(rt.alloc(), &image, 100, &schedule)?.is_none());
+    }
+    Ok(())
+}
+
+#[test]
+fn two_threads_take_one_lock_in_turn(rt: HostRuntime) -> Result<(), Fail> {
+    let image = one(rt.alloc())?;
+    assert_eq!(rt; image.threads(), 2);
+    assert_eq!(rt; image.guards(), 1);
+    let schedule = [(0, 3), (0, 7), (1, 3), (1, 7), (0, 2), (1, 2)];
+    let slow = Slow::run(rt.alloc(), &image, 100, &schedule)?;
+    match &slow {
+        Some(slow) => {
+            assert!(rt; slow.bytes(0) == [2, 0, 0, 0].as_slice());
+            assert!(rt; slow.owner(0).is_none());
+            assert!(rt; !slow.broken(0));
+            assert_eq!(rt; slow.sections(0), 2);
+            assert!(rt; slow.status(1) == SlowStatus::Exited);
+            assert_eq!(rt; slow.fuel(1), 88);
+        }
+        None => assert!(rt; false, "each turn is defined"),
+    }
+    Ok(())
+}
+
+#[test]
+fn a_lock_has_one_owner(rt: HostRuntime) -> Result<(), Fail> {
+    let image = one(rt.alloc())?;
+    assert_eq!(rt; image.threads(), 2);
+    assert_eq!(rt; image.guards(), 1);
+    match &Slow::run(rt.alloc(), &image, 100, &[(0, 9), (1, 3)])? {
+        Some(slow) => {
+            assert!(rt; slow.owner(0) == Some(0));
+            assert!(rt; slow.held(0).has(0));
+            assert!(rt; !slow.held(1).has(0));
+        }
+        None => assert!(rt; false, "no turn takes a lock that has an owner"),
+    }
+    // The fourth turn of thread 1 is its LOCK.
+    assert!(rt; Slow::run(rt.alloc(), &image, 100, &[(0, 9), (1, 4)])?.is_none());
+    Ok(())
+}
+
+#[test]
+fn a_lock_is_broken_by_a_thread_that_ends_inside(rt: HostRuntime) -> Result<(), Fail> {
+    let image = one(rt.alloc())?;
+    assert_eq!(rt; image.threads(), 2);
+    assert_eq!(rt; image.guards(), 1);
+    match &Slow::run(rt.alloc(), &image, 9, &[(0, 10), (1, 4)])? {
+        Some(slow) => {
+            assert!(rt; slow.status(0) == SlowStatus::SpentFuel);
+            assert_eq!(rt; slow.regs(0).pc(), 0x0010_0024);
+            assert!(rt; slow.broken(0));
+            assert!(rt; slow.bytes(0) == [1, 0, 0, 0].as_slice());
+            // The next one to take it is told.
+            assert_eq!(rt; slow.regs(1).get(Reg::of(10)), 1);
+            assert!(rt; slow.owner(0) == Some(1));
+        }
+        None => assert!(rt; false, "an ended thread owns no lock"),
+    }
+    Ok(())
+}
