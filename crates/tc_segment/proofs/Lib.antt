@@ -1,0 +1,4 @@
+pub mod Journals
+pub mod Keeping
+pub mod Sealing
+pub mod Inside

@@ -1,0 +1,107 @@
+-- An entry that is sealed.
+use Rattle.std.proofs.Common.{◌≡◌, ℕ, ◌+◌, ◌-◌, ◌≤◌, Bool, true, false, ◌&&◌, List, [], ◌∷◌, ◌++◌, map, length, refl, sym, ap, subst, ◌∙◌, arith, append_assoc, append-nil, ◌==◌}
+use Rattle.std.proofs.lemmas.List.{map-append, length-map}
+use Rattle.std.proofs.lemmas.Option.{slice_get-map}
+use Rattle.std.specs.Prelude.{Option, Some, None, option_map, nat_lt, slice_get, if◌then◌else◌}
+use Rattle.std.proofs.lemmas.Bool.Decides.{nat_tests}
+use Rattle.tc_elf.specs.Shown.{Shown}
+use Rattle.tc_journal.specs.declared.block.Block.{Block}
+use Rattle.tc_journal.specs.declared.block.Kind.{Kind}
+use Rattle.tc_journal.specs.declared.block.Kind.TheVariants.{Start, On, Taken, Adopted, Granted}
+use Rattle.tc_turn.specs.Turn.{Mutex, mutex_at_start}
+use Rattle.tc_turn.specs.Replay.{Entry, Replays, replay_entry, replayed, AreReplayed}
+use Rattle.tc_segment.specs.declared.record.Record.{Record}
+use Rattle.tc_segment.specs.declared.record.Opening.{Opening}
+use Rattle.tc_journal.specs.Batch.{begins, unlocks, is_only, is_adopted, run_after, run_from, run_of, last_of, may_begin, allows_of, may_follow, ObeysAfter, Obeys}
+use Rattle.tc_segment.specs.View.{LockView, with_closed, entries, block_in, blocks_of, IsSound, with_journal, sealed_block, sealed_entry, sealed_list, sealed_as}
+use Rattle.tc_segment.specs.Kept.{shown, block_of, shown_open, shown_journal, Fits, AllFit}
+use Rattle.tc_segment.proofs.Journals.{replayed-more}
+
+pub blocks_shown : (words : List ℕ) (rs : List Record) → map block_in (map (shown words) rs) ≡ map block_of rs
+blocks_shown words [] = refl
+blocks_shown words (r ∷ rs) = (let e = blocks_shown words rs in λ i. r.block ∷ e i)
+
+pub last_shown : (rs : List Record) → last_of (map block_of rs) ≡ option_map block_of (slice_get rs (length rs - 1))
+last_shown rs = ap (λ n. slice_get (map block_of rs) (n - 1)) (length-map rs block_of) ∙ slice_get-map block_of rs (length rs - 1)
+
+-- stamp and worker don't count in a replay
+replays_sealed : (image : Shown) (lock stamp worker : ℕ) (e : Entry) (old : Mutex) → Replays image lock e old → Replays image lock (sealed_entry stamp worker e) old
+replays_sealed image lock stamp worker e old r = record { some = r.some; ok = r.ok; before = r.before; ends = r.ends; finish = r.finish; used = r.used }
+
+entry_sealed : (image : Shown) (lock stamp worker : ℕ) (e : Entry) (old : Mutex) → replay_entry image lock (sealed_entry stamp worker e) old ≡ replay_entry image lock e old
+unfolding replay_entry
+entry_sealed image lock stamp worker e old = refl
+
+are_sealed : (image : Shown) (lock stamp worker : ℕ) (old : Mutex) (es : List Entry) (e : Entry) → AreReplayed image lock old (es ++ e ∷ []) → AreReplayed image lock old (es ++ sealed_entry stamp worker e ∷ [])
+are_sealed image lock stamp worker old [] e all = (replays_sealed image lock stamp worker e old all.0, tt)
+are_sealed image lock stamp worker old (x ∷ es) e all = (all.0, are_sealed image lock stamp worker (replay_entry image lock x old) es e all.1)
+
+replayed_sealed : (image : Shown) (lock stamp worker : ℕ) (old : Mutex) (es : List Entry) (e : Entry) → replayed image lock old (es ++ sealed_entry stamp worker e ∷ []) ≡ replayed image lock old (es ++ e ∷ [])
+replayed_sealed image lock stamp worker old es e =
+    replayed-more image lock old es (sealed_entry stamp worker e) ∙ entry_sealed image lock stamp worker e (replayed image lock old es) ∙ sym (replayed-more image lock old es e)
+
+-- the batch rule over one block more
+pub obeys-more : (lock limit : ℕ) (before bs : List Block) (b : Block) → ObeysAfter lock limit before bs → may_follow lock limit (before ++ bs) b ≡ true → ObeysAfter lock limit before (bs ++ b ∷ [])
+obeys-more lock limit before [] b obeys next = (rw append-nil at next, tt)
+obeys-more lock limit before (x ∷ bs) b obeys next =
+    (obeys.0, obeys-more lock limit (before ++ x ∷ []) bs b obeys.1 (subst (λ xs. may_follow lock limit xs b ≡ true) (sym (append_assoc before (x ∷ []) bs)) next))
+
+pub run-more : (lock n : ℕ) (bs : List Block) (b : Block) → run_from lock n (bs ++ b ∷ []) ≡ run_after lock (run_from lock n bs) b
+run-more lock n [] b = refl
+run-more lock n (x ∷ bs) b = run-more lock (run_after lock n x) bs b
+
+both_last : (a b : Bool) → (a && b) ≡ true → b ≡ true
+both_last true b e = e
+both_last false b e = absurd (cc)
+
+adopted_short : (lock limit : ℕ) (last : Option Block) (run : ℕ) (kind : Kind) (worker : ℕ) → may_begin lock limit last run kind worker ≡ true → (if is_adopted kind then run + 1 else 0) ≤ limit
+adopted_short lock limit last run Start worker e = omega arith
+adopted_short lock limit last run On worker e = omega arith
+adopted_short lock limit last run Taken worker e = omega arith
+adopted_short lock limit None run Adopted worker e = absurd (cc)
+adopted_short lock limit (Some b) run Adopted worker e = (let lt : nat_lt run limit ≡ true = both_last (unlocks lock b.end && is_only b.held lock && (b.worker == worker)) (nat_lt run limit) e in grind (arith, nat_tests))
+adopted_short lock limit last run Granted worker e = omega arith
+
+pub run_short : (lock limit : ℕ) (before : List Block) (b : Block) → run_of lock before ≤ limit → may_follow lock limit before b ≡ true → run_after lock (run_of lock before) b ≤ limit
+unfolding may_follow allows_of
+run_short lock limit before b short follows =
+    (elim (begins lock b) as (λ v. begins lock b ≡ v → (if v then (if is_adopted b.kind then run_of lock before + 1 else 0) else run_of lock before) ≤ limit) [
+      | true ↦ λ e. adopted_short lock limit (last_of before) (run_of lock before) b.kind b.worker (rw e at follows)
+      | false ↦ λ e. short
+    ]) refl
+
+pub sealed_journal : (image : Shown) (number limit : ℕ) (words : List ℕ) (sealed : List Record) (closed : Option Record) (opened : Option Opening) (er wr stamp worker : ℕ) (r s : Record) → closed ≡ Some r
+    → s ≡ record { block = sealed_block stamp worker r.block; start = r.start; fuel = r.fuel; finish = r.finish; from = r.from; to = r.to }
+    → shown_journal image number limit words (sealed ++ s ∷ []) None opened er wr ≡ sealed_as stamp worker (shown_journal image number limit words sealed closed opened er wr)
+sealed_journal image number limit words sealed closed opened er wr stamp worker r s is made =
+    let es = map (shown words) sealed in
+    let e : Entry = shown words r in
+    let all : map (shown words) (sealed ++ s ∷ []) ≡ es ++ sealed_entry stamp worker e ∷ [] = map-append (shown words) sealed (s ∷ []) ∙ ap (λ x. es ++ shown words x ∷ []) made in
+    let list : map (shown words) (sealed ++ s ∷ []) ≡ sealed_list stamp worker es (option_map (shown words) closed) = all ∙ ap (λ x. sealed_list stamp worker es (option_map (shown words) x)) (sym is) in
+    let from : replayed image number (mutex_at_start image number) (map (shown words) (sealed ++ s ∷ [])) ≡ replayed image number (mutex_at_start image number) (with_closed es (option_map (shown words) closed)) =
+    ap (replayed image number (mutex_at_start image number)) all ∙ replayed_sealed image number stamp worker (mutex_at_start image number) es e ∙ ap (λ x. replayed image number (mutex_at_start image number) (with_closed es (option_map (shown words) x))) (sym is) in
+    λ i. record { image = image; limit = limit; sealed = list i; closed = None; opened = option_map (shown_open (from i) words) opened; entry_room = er; word_room = wr }
+
+pub sound_sealed : (stamp worker : ℕ) (l : LockView) (e : Entry) → IsSound l → l.journal.closed ≡ Some e → may_follow l.number l.journal.limit (blocks_of l) (sealed_block stamp worker e.block) ≡ true → IsSound (with_journal (sealed_as stamp worker) l)
+sound_sealed stamp worker l e sound is follows =
+    let j = l.journal in
+    let new : sealed_list stamp worker j.sealed j.closed ≡ j.sealed ++ sealed_entry stamp worker e ∷ [] = ap (sealed_list stamp worker j.sealed) is in
+    let old : entries j ≡ j.sealed ++ e ∷ [] = ap (with_closed j.sealed) is in
+    let same : replayed j.image l.number (mutex_at_start j.image l.number) (sealed_list stamp worker j.sealed j.closed) ≡ replayed j.image l.number (mutex_at_start j.image l.number) (entries j) =
+    ap (replayed j.image l.number (mutex_at_start j.image l.number)) new ∙ replayed_sealed j.image l.number stamp worker (mutex_at_start j.image l.number) j.sealed e ∙ ap (replayed j.image l.number (mutex_at_start j.image l.number)) (sym old) in
+    let blocks : map block_in (j.sealed ++ sealed_entry stamp worker e ∷ []) ≡ map block_in j.sealed ++ sealed_block stamp worker e.block ∷ [] = map-append block_in j.sealed (sealed_entry stamp worker e ∷ []) in
+    record {
+      bytes = sound.bytes;
+      known = sound.known;
+      small = sound.small;
+      guard = sound.guard;
+      limit = sound.limit;
+      replays = subst (λ es. AreReplayed j.image l.number (mutex_at_start j.image l.number) es) (sym new) (are_sealed j.image l.number stamp worker (mutex_at_start j.image l.number) j.sealed e (subst (λ es. AreReplayed j.image l.number (mutex_at_start j.image l.number) es) old sound.replays));
+      rest = λ h. sound.rest h ∙ sym same;
+      from = λ o h. sound.from o h ∙ sym same;
+      obeys = subst (λ bs. Obeys l.number j.limit bs) (sym (ap (map block_in) new ∙ blocks)) (obeys-more l.number j.limit [] (map block_in j.sealed) (sealed_block stamp worker e.block) sound.obeys follows);
+    }
+
+pub fits-end : (words : List ℕ) (rs : List Record) (r s : Record) → AllFit words rs → Fits words r → s.from ≡ r.from → s.to ≡ r.to → AllFit words (rs ++ s ∷ [])
+fits-end words [] r s all fits from to = (record { order = (let h = fits.order in omega (arith, from, to)); inside = (let h = fits.inside in omega (arith, to)) }, tt)
+fits-end words (x ∷ rs) r s all fits from to = (all.0, fits-end words rs r s all.1 fits from to)

@@ -1,0 +1,32 @@
+use Rattle.std.proofs.Common.{◌≡◌, ◌∙◌, sym, ap, subst, arith}
+use Rattle.std.specs.Prelude.{map}
+use Rattle.tc_elf.specs.Shown.{Shown, guard_at}
+use Rattle.tc_journal.specs.Batch.{run_of}
+use Rattle.tc_turn.specs.Memory.{starting_bytes}
+use Rattle.tc_segment.specs.View.{LockView, IsSound, block_in}
+use Rattle.tc_segment.specs.Kept.{shown, AllFit}
+use Rattle.tc_segment.proofs.Keeping.{fresh_view, sound_fresh}
+use Rattle.tc_segment.proofs.state.LockState.new.Goals as goal
+
+pub invariant_of-result : goal.invariant_of-result
+invariant_of-result c =
+    let image = c.args.image.now in
+    let guard = c.guard-start.ensures in
+    let place = guard.value in
+    let of : c.of.result.value ≡ image = c.of.ensures in
+    let start = ap (λ p. p.0) place ∙ ap (λ (x : Shown). (guard_at x c.args.lock).start) (sym of) in
+    let bytes = c.in_ok-starting_bytes.ensures ∙ ap (λ p. starting_bytes image p.0 p.1) place in
+    let words = c.new-2.ensures.items in
+    let sealed = c.new.ensures.items in
+    let view = fresh_view _ image c.args.lock c.args.limit _ _ _ of bytes words sealed in
+    record {
+      sound = subst (λ (l : LockView). IsSound l) (sym view) (sound_fresh image c.args.lock c.args.limit c.requires.lock (omega arith) guard.kept c.requires.limit);
+      start = start;
+      sealed = subst (λ rs. AllFit c.new-2.result.items rs) (sym sealed) tt;
+      closed = tt;
+      opened = tt;
+      run = sym (ap (λ rs. run_of c.args.lock (map block_in (map (shown c.new-2.result.items) rs))) sealed);
+      short = omega arith;
+      entry_room = omega arith;
+      word_room = omega arith;
+    }

@@ -1,0 +1,196 @@
+-- A lock state, as contracts see it.
+use Rattle.std.specs.Prelude.{◌≡◌, ℕ, ◌+◌, ◌-◌, ◌^◌, ◌<◌, ◌≤◌, min, Bool, true, false, ◌||◌, List, [], ◌∷◌, ◌++◌, map, length, Option, Some, None, option_map, is_some, if◌then◌else◌}
+use Rattle.tc_isa.specs.Registers.{Registers}
+use Rattle.tc_isa.specs.declared.limits.TheConstants.{MOST_BATCH}
+use Rattle.tc_elf.specs.Shown.{Shown, Guard, guard_at}
+use Rattle.tc_elf.specs.Kept.{IsGuard}
+use Rattle.tc_journal.specs.Batch.{Obeys, ends_thread}
+use Rattle.tc_journal.specs.declared.block.Block.{Block}
+use Rattle.tc_journal.specs.declared.block.End.{End}
+use Rattle.tc_turn.specs.Memory.{put_number}
+use Rattle.tc_turn.specs.Turn.{Mutex, mutex_at_start}
+use Rattle.tc_turn.specs.Replay.{Entry, ended, Replays, replay_entry, replayed, AreReplayed}
+
+-- the entry of the block that runs: the lock as it was before it, and its words so far
+pub record Opened : Type 0 where
+  pub start : Registers
+  pub fuel : ℕ
+  pub from : Mutex
+  pub foreign : List ℕ
+
+-- the sealed entries, the closed one that isn't sealed yet, and the open one, with the room for one entry and for words
+pub record Journal : Type 0 where
+  pub image : Shown
+  pub limit : ℕ
+  pub sealed : List Entry
+  pub closed : Option Entry
+  pub opened : Option Opened
+  pub entry_room : ℕ
+  pub word_room : ℕ
+
+pub record LockView : Type 0 where
+  pub number : ℕ
+  pub bytes : List ℕ
+  pub broken : Bool
+  pub sections : ℕ
+  pub journal : Journal
+
+-- the lock, which has no owner where it replays
+abbrev pub lock_of : LockView → Mutex
+lock_of l = record { bytes = l.bytes; broken = l.broken; sections = l.sections; owner = None }
+
+abbrev pub guard_of : LockView → Guard
+guard_of l = guard_at l.journal.image l.number
+
+abbrev pub with_closed : {X : Type 0} → List X → Option X → List X
+with_closed sealed None = sealed
+with_closed sealed (Some e) = sealed ++ e ∷ []
+
+-- all entries: the last one may not be sealed yet
+abbrev pub entries : Journal → List Entry
+entries j = with_closed j.sealed j.closed
+
+abbrev pub block_in : Entry → Block
+block_in e = e.block
+
+-- the blocks that were sealed
+abbrev pub blocks_of : LockView → List Block
+blocks_of l = map block_in l.journal.sealed
+
+-- what the entries make of the lock
+abbrev pub replay_in : ℕ → Journal → Mutex
+replay_in number j = replayed j.image number (mutex_at_start j.image number) (entries j)
+
+-- what each lock state keeps, wherever it is: it is of a guard of its image, its entries replay, and their replay is the
+-- lock as it is, or as it was when the open entry was opened; its sealed blocks obey its batch limit
+pub record IsSound (l : LockView) : Type 0 where
+  pub known : l.number < length l.journal.image.guards
+  pub small : l.number < 32
+  pub guard : IsGuard l.journal.image (guard_of l)
+  pub bytes : length l.bytes ≡ (guard_of l).length
+  pub limit : l.journal.limit ≤ MOST_BATCH
+  pub replays : AreReplayed l.journal.image l.number (mutex_at_start l.journal.image l.number) (entries l.journal)
+  pub rest : l.journal.opened ≡ None → lock_of l ≡ replay_in l.number l.journal
+  pub from : (o : Opened) → l.journal.opened ≡ Some o → o.from ≡ replay_in l.number l.journal
+  pub obeys : Obeys l.number l.journal.limit (blocks_of l)
+
+-- ---- at the start
+
+abbrev pub fresh_journal : Shown → ℕ → Journal
+fresh_journal image limit = record { image = image; limit = limit; sealed = []; closed = None; opened = None; entry_room = 0; word_room = 0 }
+
+abbrev pub fresh_state : Shown → ℕ → ℕ → LockView
+fresh_state image number limit = record {
+  number = number;
+  bytes = (mutex_at_start image number).bytes;
+  broken = false;
+  sections = 0;
+  journal = fresh_journal image limit;
+}
+
+-- ---- changes of the lock, under an open entry
+
+abbrev pub with_store : ℕ → ℕ → ℕ → LockView → LockView
+with_store addr width value l = record { number = l.number; bytes = put_number (guard_of l).start l.bytes addr width value; broken = l.broken; sections = l.sections; journal = l.journal }
+
+-- a count that stands at the greatest of 64 bits stays there
+abbrev pub with_section : LockView → LockView
+with_section l = record { number = l.number; bytes = l.bytes; broken = l.broken; sections = min (l.sections + 1) (2 ^ 64 - 1); journal = l.journal }
+
+abbrev pub with_break : LockView → LockView
+with_break l = record { number = l.number; bytes = l.bytes; broken = true; sections = l.sections; journal = l.journal }
+
+-- the end of a thread breaks the lock
+abbrev pub with_end : End → LockView → LockView
+with_end end l = record { number = l.number; bytes = l.bytes; broken = ends_thread end || l.broken; sections = l.sections; journal = l.journal }
+
+-- ---- changes of the journal
+
+abbrev pub with_journal : (Journal → Journal) → LockView → LockView
+with_journal f l = record { number = l.number; bytes = l.bytes; broken = l.broken; sections = l.sections; journal = f l.journal }
+
+abbrev pub with_room : ℕ → ℕ → Journal → Journal
+with_room entries words j = record {
+  image = j.image;
+  limit = j.limit;
+  sealed = j.sealed;
+  closed = j.closed;
+  opened = j.opened;
+  entry_room = entries;
+  word_room = words;
+}
+
+abbrev pub opened_at : Mutex → Registers → ℕ → Journal → Journal
+opened_at from start fuel j = record {
+  image = j.image;
+  limit = j.limit;
+  sealed = j.sealed;
+  closed = j.closed;
+  opened = Some (record { start = start; fuel = fuel; from = from; foreign = [] });
+  entry_room = j.entry_room - 1;
+  word_room = j.word_room;
+}
+
+abbrev pub more_words : List ℕ → Opened → Opened
+more_words ws o = record { start = o.start; fuel = o.fuel; from = o.from; foreign = o.foreign ++ ws }
+
+-- the words are noted where an entry is open
+abbrev pub noted : List ℕ → Journal → Journal
+noted ws j = record {
+  image = j.image;
+  limit = j.limit;
+  sealed = j.sealed;
+  closed = j.closed;
+  opened = option_map (more_words ws) j.opened;
+  entry_room = j.entry_room;
+  word_room = if is_some j.opened then j.word_room - length ws else j.word_room;
+}
+
+abbrev pub entry_from : Block → Registers → Opened → Entry
+entry_from block finish o = record { block = block; start = o.start; fuel = o.fuel; finish = finish; foreign = o.foreign }
+
+abbrev pub closed_with : Block → Registers → Journal → Journal
+closed_with block finish j = record {
+  image = j.image;
+  limit = j.limit;
+  sealed = j.sealed;
+  closed = option_map (entry_from block finish) j.opened;
+  opened = None;
+  entry_room = j.entry_room;
+  word_room = j.word_room;
+}
+
+-- the open entry's replay, once it is closed with this block, is defined and gives the lock as it is now, broken where the
+-- block ended its thread
+pub record Closes (l : LockView) (block : Block) (finish : Registers) (o : Opened) : Type 0 where
+  pub replays : Replays l.journal.image l.number (entry_from block finish o) o.from
+  pub lock : replay_entry l.journal.image l.number (entry_from block finish o) o.from ≡ ended block.end (lock_of l)
+
+abbrev pub sealed_block : ℕ → ℕ → Block → Block
+sealed_block stamp worker b = record {
+  stamp = stamp;
+  thread = b.thread;
+  turns = b.turns;
+  held = b.held;
+  kind = b.kind;
+  worker = worker;
+  end = b.end;
+}
+
+abbrev pub sealed_entry : ℕ → ℕ → Entry → Entry
+sealed_entry stamp worker e = record { block = sealed_block stamp worker e.block; start = e.start; fuel = e.fuel; finish = e.finish; foreign = e.foreign }
+
+abbrev pub sealed_list : ℕ → ℕ → List Entry → Option Entry → List Entry
+sealed_list stamp worker sealed None = sealed
+sealed_list stamp worker sealed (Some e) = sealed ++ sealed_entry stamp worker e ∷ []
+
+abbrev pub sealed_as : ℕ → ℕ → Journal → Journal
+sealed_as stamp worker j = record {
+  image = j.image;
+  limit = j.limit;
+  sealed = sealed_list stamp worker j.sealed j.closed;
+  closed = None;
+  opened = j.opened;
+  entry_room = j.entry_room;
+  word_room = j.word_room;
+}

@@ -1,0 +1,308 @@
+//! Lock states.
+
+ghost use Rattle.std.specs.Prelude.{◌≡◌, ◌+◌, ◌^◌, ◌<◌, ◌≤◌, [], ◌∷◌, true, is_some, length, slice_get, unwrap_or, OnOk, OnErr, IfOk, Some, None};
+ghost use Rattle.tc_isa.specs.declared.limits.TheConstants.{MOST_BATCH};
+ghost use Rattle.tc_elf.specs.Places.{in_guard};
+ghost use Rattle.tc_exec.specs.Told.{IsWidth};
+ghost use Rattle.tc_journal.specs.Batch.{allows_of, may_follow, run_of};
+ghost use Rattle.tc_turn.specs.Memory.{byte_from as byte_from_start, number_at};
+ghost use Rattle.tc_turn.specs.Replay.{Entry as ReplayEntry, guard_number};
+ghost use Rattle.tc_segment.specs.Lent.{entry_lent};
+ghost use Rattle.tc_segment.specs.View.{Opened, IsSound, Closes, lock_of, guard_of, with_store, with_section, with_break, with_end, with_journal, opened_at, noted, closed_with, sealed_as, sealed_block, with_room, blocks_of, entries, fresh_state};
+
+use crate::batch::{broken_after, may_begin, run_after};
+use crate::entry::Entry;
+use crate::record::{Opening, Record, last_block, record_at};
+use std::alloc::{AllocError, Global};
+use std::marker::Model;
+use std::snapshot::Snapshot;
+use tc_elf::image::Image;
+use tc_isa::regs::Regs;
+use tc_journal::block::{Block, Kind};
+use tc_turn::memory::{byte_from, put_number, starting_bytes};
+
+/// A lock with the bytes of its guard, and the journal of the blocks that ran with it.
+///
+/// While a block runs, its entry is open: the block's turns then change the lock and note the
+/// words that came from elsewhere. The entry is closed with the block, and sealed once the block
+/// has its stamp and worker.
+#[derive(Drop)]
+pub struct LockState {
+    of: Snapshot<Image>,
+    number: u32,
+    limit: u32,
+    start: u32,
+    bytes: Vec<u8>,
+    broken: bool,
+    sections: u64,
+    run: u32,
+    sealed: Vec<Record>,
+    closed: Option<Record>,
+    opened: Option<Opening>,
+    words: Vec<u32>,
+    entry_room: usize,
+    word_room: usize,
+}
+
+impl Model for LockState {
+    ghost use Rattle.tc_segment.specs.View.{LockView};
+
+    ghost Value = { LockView };
+
+    ghost use Rattle.tc_segment.specs.Kept.{view_of, Kept};
+
+    ghost view = { view_of };
+
+    ghost invariant = { Kept };
+}
+
+impl LockState {
+    /// The lock of this number as it is at the start, with a journal of no entries.
+    pub fn new(alloc: Global, image: &Image, lock: u32, limit: u32) -> Result<LockState, AllocError>
+        requires lock { lock < length image.now.guards }
+        requires limit { limit ≤ MOST_BATCH }
+        ensures { IfOk result (λ l. l ≡ fresh_state image.now lock limit) }
+    {
+        prove!(image.guards() <= 32);
+        let (start, length) = image.guard(lock);
+        Ok(LockState {
+            of: Snapshot::of(image),
+            number: lock,
+            limit,
+            start,
+            bytes: starting_bytes(alloc, image, start, length)?,
+            broken: false,
+            sections: 0,
+            run: 0,
+            sealed: Vec::new(alloc),
+            closed: None,
+            opened: None,
+            words: Vec::new(alloc),
+            entry_room: 0,
+            word_room: 0,
+        })
+    }
+
+    /// What each lock state keeps, wherever it is. A law: it does nothing when it is called.
+    pub fn keeps(&self)
+        ensures { IsSound self.now }
+    {
+        let _ = &self.number;
+    }
+
+    /// The number of the lock.
+    pub fn number(&self) -> u32
+        ensures is { result ≡ self.now.number }
+        ensures small { result < 32 }
+    {
+        self.number
+    }
+
+    /// The batch limit: how many Adopted sections may stand in a row.
+    pub fn limit(&self) -> u32
+        ensures { result ≡ self.now.journal.limit }
+    {
+        self.limit
+    }
+
+    /// Whether a thread ended while it held the lock.
+    pub fn broken(&self) -> bool
+        ensures { result ≡ self.now.broken }
+    {
+        self.broken
+    }
+
+    /// How many Adopted sections stand in a row at the end.
+    pub fn run(&self) -> u32
+        ensures { result ≡ run_of self.now.number (blocks_of self.now) }
+    {
+        self.run
+    }
+
+    /// How many sections began.
+    pub fn sections(&self) -> u64
+        ensures { result ≡ self.now.sections }
+    {
+        self.sections
+    }
+
+    /// The bytes of the guard.
+    pub fn bytes(&self) -> &[u8]
+        ensures { result.now ≡ self.now.bytes }
+    {
+        &self.bytes
+    }
+
+    /// The number of entries, with one that is closed and not sealed yet.
+    pub fn entries(&self) -> usize
+        ensures { result ≡ length (entries self.now.journal) }
+    {
+        self.sealed.len() + usize::from(self.closed.is_some())
+    }
+
+    /// The entry at a place, from 0, in the order in which they were closed.
+    pub fn entry(&self, i: usize) -> Entry<'_>
+        requires { i < length (entries self.now.journal) }
+        ensures { slice_get (entries self.now.journal) i ≡ Some (entry_lent result) }
+    {
+        record_at(&self.sealed, self.closed, i).entry(&self.words)
+    }
+
+    /// Whether the batch rule lets this be the kind, and the worker of the first block, of the
+    /// next section.
+    pub fn allows(&self, kind: Kind, worker: u32) -> bool
+        ensures { result ≡ allows_of self.now.number self.now.journal.limit (blocks_of self.now) kind worker }
+    {
+        may_begin(
+            self.number,
+            self.limit,
+            last_block(&self.sealed),
+            self.run,
+            kind,
+            worker,
+        )
+    }
+
+    /// Makes room for one entry and for as many foreign words.
+    pub fn reserve(&mut self, turns: usize) -> Result<(), AllocError>
+        ensures ok { OnOk result (self.new ≡ with_journal (with_room 1 turns) self.old) }
+        ensures err { OnErr result (self.new ≡ self.old) }
+    {
+        // One more beside one that is closed and one that is open.
+        self.sealed.reserve(3)?;
+        self.words.reserve(turns)?;
+        self.entry_room = 1;
+        self.word_room = turns;
+        Ok(())
+    }
+
+    /// Opens the entry of a block whose thread has these registers and this fuel before it.
+    pub fn open_entry(&mut self, start: Regs, fuel: u32)
+        requires opened { self.old.journal.opened ≡ None }
+        requires closed { self.old.journal.closed ≡ None }
+        requires room { 0 < self.old.journal.entry_room }
+        ensures { self.new ≡ with_journal (opened_at (lock_of self.old) start fuel) self.old }
+    {
+        self.opened = Some(Opening {
+            start,
+            fuel,
+            from: self.words.len(),
+        });
+        self.entry_room -= 1;
+    }
+
+    /// The little-endian number of 1, 2 or 4 bytes of the guard.
+    pub fn load(&self, addr: u32, width: u32) -> u32
+        requires width { IsWidth width }
+        requires inside { in_guard addr width (guard_of self.now) ≡ true }
+        ensures { result ≡ guard_number self.now.journal.image self.now.number self.now.bytes addr width }
+    {
+        number_in(self.start, &self.bytes, addr, width)
+    }
+
+    /// Writes the low bytes of a value, 1, 2 or 4, into the guard, the lowest first.
+    pub fn store(&mut self, addr: u32, width: u32, value: u32)
+        requires width { IsWidth width }
+        requires inside { in_guard addr width (guard_of self.old) ≡ true }
+        requires opened { is_some self.old.journal.opened ≡ true }
+        ensures { self.new ≡ with_store addr width value self.old }
+    {
+        put_number(self.start, &mut self.bytes, addr, width, value);
+    }
+
+    /// Notes a word that came from elsewhere: a load outside the guard, or the answer to a LOCK.
+    pub fn note_foreign(&mut self, value: u32)
+        requires opened { is_some self.old.journal.opened ≡ true }
+        requires room { 0 < self.old.journal.word_room }
+        ensures { self.new ≡ with_journal (noted (value ∷ [])) self.old }
+    {
+        match self.words.push(value) {
+            Ok(()) => {}
+            Err(_) => unreachable!(),
+        }
+        self.word_room -= 1;
+    }
+
+    /// Counts a section: the turn took the lock.
+    pub fn begin_section(&mut self)
+        requires { is_some self.old.journal.opened ≡ true }
+        ensures { self.new ≡ with_section self.old }
+    {
+        self.sections = self.sections.saturating_add(1);
+    }
+
+    /// Breaks the lock: its thread ended while it held it.
+    pub fn break_lock(&mut self)
+        requires { is_some self.old.journal.opened ≡ true }
+        ensures { self.new ≡ with_break self.old }
+    {
+        self.broken = true;
+    }
+
+    /// Closes the open entry with its block and the registers after it. The lock is broken from
+    /// then on where the block ended its thread. The block's stamp and worker don't count yet.
+    pub fn close_entry(&mut self, image: &Image, block: Block, end: Regs)
+        requires image { self.old.journal.image ≡ image.now }
+        requires opened { is_some self.old.journal.opened ≡ true }
+        requires closed { self.old.journal.closed ≡ None }
+        requires closes { (o : Opened) → self.old.journal.opened ≡ Some o → Closes self.old block end o }
+        ensures { self.new ≡ with_end block.end (with_journal (closed_with block end) self.old) }
+    {
+        let _ = image;
+        let broken = broken_after(self.broken, block.end);
+        if let Some(opening) = self.opened {
+            self.closed = Some(Record {
+                block,
+                start: opening.start,
+                fuel: opening.fuel,
+                finish: end,
+                from: opening.from,
+                to: self.words.len(),
+            });
+            self.opened = None;
+            self.broken = broken;
+        }
+    }
+
+    /// Seals the closed entry: its block gets this stamp and worker.
+    pub fn seal(&mut self, stamp: u64, worker: u32)
+        requires closed { is_some self.old.journal.closed ≡ true }
+        requires follows { (e : ReplayEntry) → self.old.journal.closed ≡ Some e → may_follow self.old.number self.old.journal.limit (blocks_of self.old) (sealed_block stamp worker e.block) ≡ true }
+        ensures { self.new ≡ with_journal (sealed_as stamp worker) self.old }
+    {
+        if let Some(record) = self.closed {
+            let record = record.sealed(stamp, worker);
+            self.run = run_after(self.number, self.run, &record.block);
+            match self.sealed.push(record) {
+                Ok(()) => {}
+                Err(_) => unreachable!(),
+            }
+            self.closed = None;
+        }
+    }
+}
+
+fn byte_or_zero(start: u32, bytes: &[u8], addr: u32) -> u8
+    ensures { result ≡ unwrap_or (byte_from_start start bytes.now addr) 0 }
+{
+    byte_from(start, bytes, addr).unwrap_or(0)
+}
+
+/// The little-endian number of 1, 2 or 4 bytes at an address, of those that stand from `start` on.
+fn number_in(start: u32, bytes: &[u8], addr: u32, width: u32) -> u32
+    requires width { IsWidth width }
+    requires end { addr + width ≤ 2 ^ 32 }
+    ensures { result ≡ number_at (λ at. unwrap_or (byte_from_start start bytes.now at) 0) addr width }
+{
+    let first = byte_or_zero(start, bytes, addr) as u32;
+    if width == 1 {
+        return first;
+    }
+    let second = byte_or_zero(start, bytes, addr + 1) as u32;
+    if width == 2 {
+        return first + 256 * second;
+    }
+    let third = byte_or_zero(start, bytes, addr + 2) as u32;
+    let fourth = byte_or_zero(start, bytes, addr + 3) as u32;
+    first + 256 * second + 65_536 * third + 16_777_216 * fourth
+}
