@@ -1,0 +1,258 @@
+-- A whole block: from journals at rest to journals with an entry more.
+use Rattle.std.proofs.Common.{◌≡◌, ℕ, ◌≤◌, Bool, true, false, ◌||◌, List, refl, sym, ap, subst, ◌∙◌, arith}
+use Rattle.std.specs.Prelude.{Option, Some, None, is_some, if◌then◌else◌}
+use Rattle.std.specs.Option.{option_map}
+use Rattle.tc_isa.specs.Sets.{has}
+use Rattle.tc_isa.specs.Registers.{Registers}
+use Rattle.tc_elf.specs.Shown.{Shown}
+use Rattle.tc_journal.specs.Batch.{is_section, ends_thread}
+use Rattle.tc_journal.specs.declared.block.End.{End}
+use Rattle.tc_journal.specs.declared.block.Kind.{Kind}
+use Rattle.tc_journal.specs.declared.block.Block.{Block}
+use Rattle.tc_turn.specs.Turn.{Thread, Mutex, next_lock}
+use Rattle.tc_turn.specs.Reads.{Covers}
+use Rattle.tc_turn.specs.Replay.{Entry, Replays, replay_entry, ended, unowned}
+use Rattle.tc_mutex_spec.specs.Machine.{State}
+use Rattle.tc_mutex_spec.specs.Locality.{Agree, Apart}
+use Rattle.tc_mutex_spec.specs.Blocks.{reach, Runs}
+use Rattle.tc_mutex_spec.proofs.BlocksAlike.{covers_block}
+use Rattle.tc_segment.specs.View.{LockView, Journal, Opened, Closes, lock_of, with_end, with_journal, opened_at, noted, entry_from, closed_with}
+use Rattle.tc_context.specs.Locks.{lock_in, mutex_of, mutex_or, when_in, Changed, opened_in, closed_in}
+use Rattle.tc_context.specs.declared.context.Context.{Context}
+use Rattle.tc_context.specs.Whole.{thread_in, mutex_at, whole, set_of, journal_in, journal_at, Keeps, CanGo, RunsAs, block_locks, entry_of, with_entry, entered, Journals}
+use Rattle.tc_context.specs.Middle.{noted_when, words_of, AreOpen, HasRoom, AreReady}
+use Rattle.tc_context.proofs.Moved.{map_some, identifies_when, keeps_changed, journals_changed, mutexes_same}
+use Rattle.tc_context.proofs.Noting.{same_mutex}
+use Rattle.tc_context.proofs.Partway.{keeps_all, agree_at, covers_at}
+use Rattle.tc_context.proofs.Replaying.{IsRecord, replays, replay_is}
+use Rattle.tc_context.proofs.Going.{block_broken}
+
+-- the two packages are the same part of the machine
+pub record SamePart (a b : Context) : Type 0 where
+  pub keeps : Keeps a b
+  pub machine : whole b ≡ whole a
+
+apart_at : (t u : ℕ) (set other : ℕ → Bool) (a b : State) → t ≡ u → ((k : ℕ) → set k ≡ other k) → Apart t set a b → Apart u other a b
+apart_at t u set other a b e same apart = record {
+  threads = λ k ne. apart.threads k (λ f. ne (f ∙ e));
+  locks = λ k out. apart.locks k (same k ∙ out);
+}
+
+runs_from : (image : Shown) (a b new : Context) (turns : ℕ) (end : End) → SamePart a b → RunsAs image b new turns end → RunsAs image a new turns end
+runs_from image a b new turns end same runs = record {
+  keeps = keeps_all a b new same.keeps runs.keeps;
+  block = λ m agree.
+      let r = runs.block m (subst (λ x. Agree b.thread (set_of b) x m) (sym same.machine) (agree_at a.thread b.thread (set_of a) (set_of b) (whole a) m (sym same.keeps.thread) (λ k. sym (same.keeps.set k)) agree)) in (
+        r.0,
+        subst (λ t. Runs image m t turns end r.0) same.keeps.thread r.1,
+        agree_at b.thread a.thread (set_of b) (set_of a) (whole new) r.0 same.keeps.thread same.keeps.set r.2,
+        apart_at b.thread a.thread (set_of b) (set_of a) m r.0 same.keeps.thread same.keeps.set r.3,
+      );
+}
+
+runs_to : (image : Shown) (a b c : Context) (turns : ℕ) (end : End) → SamePart b c → RunsAs image a b turns end → RunsAs image a c turns end
+runs_to image a b c turns end same runs = record {
+  keeps = keeps_all a b c runs.keeps same.keeps;
+  block = λ m agree. (let r = runs.block m agree in (r.0, r.1, subst (λ x. Agree a.thread (set_of a) x r.0) (sym same.machine) r.2, r.3));
+}
+
+abbrev pub with_locks : Context → List (Option LockView) → Context
+with_locks p locks = record { thread = p.thread; guest = p.guest; locks = locks }
+
+same_part : (p : Context) (f : ℕ → LockView → LockView) (locks : List (Option LockView)) → ((k : ℕ) (l : LockView) → ((f k l).number ≡ l.number) × ((f k l).journal.image ≡ l.journal.image)) → Changed f p.locks locks
+    → ((t k : ℕ) (b : Bool) (l : LockView) → lock_in p.locks k ≡ Some l → mutex_of t b (f k l) ≡ mutex_of t b l) → SamePart p (with_locks p locks)
+same_part p f locks identifies changed each =
+    let h : (k : ℕ) → mutex_at (with_locks p locks) k ≡ mutex_at p k = mutexes_same f p (with_locks p locks) changed refl (λ k. refl) each in
+    record {
+      keeps = keeps_changed f p (with_locks p locks) identifies changed refl;
+      machine = λ i. record { threads = λ k. thread_in p; locks = λ k. h k i };
+    }
+
+abbrev pub opened_when : Bool → Mutex → Registers → ℕ → Journal → Journal
+opened_when true from start fuel j = opened_at from start fuel j
+opened_when false from start fuel j = j
+
+opened_journal : (b : Bool) (from : Mutex) (start : Registers) (fuel : ℕ) (l : LockView) → lock_of l ≡ from → (when_in b (with_journal (opened_at (lock_of l) start fuel)) l).journal ≡ opened_when b from start fuel l.journal
+opened_journal true from start fuel l e = ap (λ m. opened_at m start fuel l.journal) e
+opened_journal false from start fuel l e = refl
+
+some_opened : (b : Bool) (from : Mutex) (start : Registers) (fuel : ℕ) (j : Journal) → b ≡ true → is_some (opened_when b from start fuel j).opened ≡ true
+some_opened true from start fuel j e = refl
+some_opened false from start fuel j e = absurd (cc)
+
+room_opened : (b : Bool) (from : Mutex) (start : Registers) (fuel : ℕ) (j : Journal) → (opened_when b from start fuel j).word_room ≡ j.word_room
+room_opened true from start fuel j = refl
+room_opened false from start fuel j = refl
+
+abbrev closed_when : Bool → Block → Registers → Journal → Journal
+closed_when true block finish j = closed_with block finish j
+closed_when false block finish j = j
+
+closed_journal : (b : Bool) (block : Block) (finish : Registers) (l : LockView) → (when_in b (λ m. with_end block.end (with_journal (closed_with block finish) m)) l).journal ≡ closed_when b block finish l.journal
+closed_journal true block finish l = refl
+closed_journal false block finish l = refl
+
+some_same : {X : Type 0} (a b : X) → Some a ≡ Some b → a ≡ b
+some_same a b e = cc
+
+-- a lock that is broken where the thread ended is the same with the thread's end
+ended_broken : (end : End) (broken : Bool) → (ends_thread end ≡ true → broken ≡ true) → (ends_thread end || broken) ≡ broken
+ended_broken end broken h = (elim (ends_thread end) as (λ b. ends_thread end ≡ b → (b || broken) ≡ broken) [ true ↦ λ e. sym (h e) | false ↦ λ e. refl ]) refl
+
+module _ (image : Shown) (old : Context) (held : ℕ) (locks : List (Option LockView)) (go : CanGo image old) (ready : AreReady image old) (is : (k : ℕ) → has held k ≡ block_locks image old k) (opens : Changed (opened_in (has held) old.guest.regs old.guest.fuel) old.locks locks) where
+  abbrev pub begun : Context
+  begun = with_locks old locks
+
+  pub begun_part : SamePart old begun
+  begun_part = same_part old (opened_in (has held) old.guest.regs old.guest.fuel) locks
+      (λ k l. identifies_when (has held k) (with_journal (opened_at (lock_of l) old.guest.regs old.guest.fuel)) l refl refl) opens
+      (λ t k b l e. same_mutex t b (has held k) (with_journal (opened_at (lock_of l) old.guest.regs old.guest.fuel)) l refl)
+
+  abbrev opening : ℕ → Journal → Journal
+  opening k = opened_when (has held k) (unowned (mutex_at old k)) old.guest.regs old.guest.fuel
+
+  pub begun_journals : (k : ℕ) → journal_at begun k ≡ option_map (opening k) (journal_at old k)
+  begun_journals = journals_changed (opened_in (has held) old.guest.regs old.guest.fuel) opening old begun opens
+      (λ k l found. opened_journal (has held k) (unowned (mutex_at old k)) old.guest.regs old.guest.fuel l (ap (λ o. unowned (mutex_or old.thread (has old.guest.held k) o)) (sym found)))
+
+  pub begun_go : CanGo image begun
+  begun_go = record {
+    guards = go.guards;
+    thread = go.thread;
+    running = go.running;
+    of = begun_part.keeps.of image go.of;
+    covers = covers_at image (set_of old) (set_of begun) (thread_in old) (λ k. sym (begun_part.keeps.set k)) go.covers;
+  }
+
+  pub begun_covers : Covers image (has held) (thread_in begun)
+  begun_covers = covers_at image (block_locks image old) (has held) (thread_in old) (λ k. sym (is k)) (covers_block image (thread_in old))
+
+  pub begun_opened : AreOpen (has held) begun
+  begun_opened k j at h =
+      let was = map_some (opening k) (journal_at old k) j (sym (begun_journals k) ∙ at) in
+      ap (λ (i : Journal). is_some i.opened) was.2 ∙ some_opened (has held k) (unowned (mutex_at old k)) old.guest.regs old.guest.fuel was.0 h
+
+  pub begun_room : HasRoom 4096 (has held) begun
+  begun_room k j at h =
+      let was = map_some (opening k) (journal_at old k) j (sym (begun_journals k) ∙ at) in
+      subst (λ n. 4096 ≤ n) (sym (ap (λ (i : Journal). i.word_room) was.2 ∙ room_opened (has held k) (unowned (mutex_at old k)) old.guest.regs old.guest.fuel was.0)) (ready k was.0 was.1 (sym (is k) ∙ h)).words
+
+  module _ (ran : Context) (turns : ℕ) (kind : Kind) (end : End) (runs : RunsAs image begun ran turns end)
+      (noted_all : (k : ℕ) → journal_at ran k ≡ option_map (noted_when (has held k) (words_of image begun k turns)) (journal_at begun k))
+      (section : is_section kind ≡ is_some (next_lock image (thread_in old))) where
+    abbrev pub made : Block
+    made = record { stamp = 0; thread = old.thread; turns = turns; held = held; kind = kind; worker = 0; end = end }
+
+    pub old_runs : RunsAs image old ran turns end
+    old_runs = runs_from image old begun ran turns end begun_part runs
+
+    -- the package alone, as the machine where the block runs
+    abbrev alone : (to : State) × (Runs image (whole old) old.thread turns end to) × (Agree old.thread (set_of old) (whole ran) to) × (Apart old.thread (set_of old) (whole old) to)
+    alone = old_runs.block (whole old) (record { thread = refl; locks = λ k h. refl })
+
+    to_is : alone.0 ≡ reach image (whole old) old.thread turns
+    to_is = alone.1.last
+
+    some_of : (o : Option LockView) → is_some o ≡ true → (l : LockView) × (o ≡ Some l)
+    some_of None e = absurd (cc)
+    some_of (Some l) e = (l, refl)
+
+    record_is : IsRecord image (whole old) made
+    record_is = record {
+      few = go.guards;
+      small = λ k h. (let l = some_of (lock_in old.locks k) (go.covers.held k h) in let known = (go.of k l.0 l.1).known in let few = go.guards in omega (arith, known, few));
+      held = is;
+      section = section;
+    }
+
+    finish_is : ran.guest.regs ≡ ((reach image (whole old) old.thread turns).threads old.thread).regs
+    finish_is = ap (λ (d : Thread). d.regs) alone.2.thread ∙ ap (λ (m : State). (m.threads old.thread).regs) to_is
+
+    abbrev words : ℕ → List ℕ
+    words k = words_of image begun k turns
+
+    -- the open entry of a lock of the block, at the block's end
+    abbrev filled : ℕ → Opened
+    filled k = record { start = old.guest.regs; fuel = old.guest.fuel; from = unowned (mutex_at old k); foreign = words k }
+
+    words_is : (k : ℕ) → words k ≡ words_of image old k turns
+    words_is k = (λ i. words_with (begun_part.machine i))
+      where
+        words_with : State → List ℕ
+        words_with m = (entry_of image k m made).foreign
+
+    entry_is : (k : ℕ) → entry_of image k (whole old) made ≡ entry_from made ran.guest.regs (filled k)
+    entry_is k = (let f = finish_is in let w = words_is k in λ i. record { block = made; start = old.guest.regs; fuel = old.guest.fuel; finish = sym f i; foreign = sym w i })
+
+    was_ready : (k : ℕ) (l : LockView) → lock_in ran.locks k ≡ Some l → has held k ≡ true
+        → (j : Journal) × (journal_at old k ≡ Some j) × (l.journal ≡ noted (words k) (opened_at (unowned (mutex_at old k)) old.guest.regs old.guest.fuel j))
+    was_ready k l found h =
+        let a = map_some (noted_when (has held k) (words k)) (journal_at begun k) l.journal (sym (noted_all k) ∙ ap (option_map journal_in) found) in
+        let b = map_some (opening k) (journal_at old k) a.0 (sym (begun_journals k) ∙ a.1) in
+        (b.0, b.1, a.2 ∙ ap (λ v. noted_when v (words k) a.0) h ∙ ap (noted (words k)) (b.2 ∙ ap (λ v. opened_when v (unowned (mutex_at old k)) old.guest.regs old.guest.fuel b.0) h))
+
+    pub closes_image : (k : ℕ) (l : LockView) → lock_in ran.locks k ≡ Some l → has held k ≡ true → l.journal.image ≡ image
+    closes_image k l found h = (old_runs.keeps.of image go.of k l found).of
+
+    pub closes_opened : (k : ℕ) (l : LockView) → lock_in ran.locks k ≡ Some l → has held k ≡ true → is_some l.journal.opened ≡ true
+    closes_opened k l found h = ap (λ (x : Journal). is_some x.opened) (was_ready k l found h).2
+
+    pub closes_closed : (k : ℕ) (l : LockView) → lock_in ran.locks k ≡ Some l → has held k ≡ true → l.journal.closed ≡ None
+    closes_closed k l found h = (let w = was_ready k l found h in ap (λ (x : Journal). x.closed) w.2 ∙ (ready k w.0 w.1 (sym (is k) ∙ h)).closed)
+
+    -- the lock as the machine has it at the block's end
+    lock_is : (k : ℕ) (l : LockView) → lock_in ran.locks k ≡ Some l → unowned ((reach image (whole old) old.thread turns).locks k) ≡ lock_of l
+    lock_is k l found =
+        let some : set_of old k ≡ true = sym (old_runs.keeps.set k) ∙ ap is_some found in
+        ap (λ (m : State). unowned (m.locks k)) (sym to_is) ∙ ap unowned (sym (alone.2.locks k some)) ∙ ap (λ x. unowned (mutex_or ran.thread (has ran.guest.held k) x)) found
+
+    pub closes : (k : ℕ) (l : LockView) → lock_in ran.locks k ≡ Some l → has held k ≡ true → (o : Opened) → l.journal.opened ≡ Some o → Closes l made ran.guest.regs o
+    closes k l found h o e =
+        let w = was_ready k l found h in
+        let of = old_runs.keeps.of image go.of k l found in
+        let same : filled k ≡ o = some_same (filled k) o (sym (ap (λ (x : Journal). x.opened) w.2) ∙ e) in
+        let entry : entry_of image k (whole old) made ≡ entry_from made ran.guest.regs o = entry_is k ∙ ap (entry_from made ran.guest.regs) same in
+        let from : unowned (mutex_at old k) ≡ o.from = ap (λ (x : Opened). x.from) same in
+        let runs' : Runs image (whole old) old.thread turns end alone.0 = alone.1 in
+        record {
+          replays = subst (λ (x : Shown × ℕ × Entry × Mutex). Replays x.0 x.1 x.2 x.3) (λ i. (sym of.of i, sym of.number i, entry i, from i)) (replays image k (whole old) made alone.0 runs' record_is);
+          lock = (λ i. replay_entry (of.of i) (of.number i) (sym entry i) (sym from i)) ∙ replay_is image k (whole old) made alone.0 runs' record_is ∙ ap (ended end) (lock_is k l found);
+        }
+
+    module _ (after : List (Option LockView)) (shuts : Changed (closed_in (has held) made ran.guest.regs) ran.locks after) where
+      abbrev pub finished : Context
+      finished = with_locks ran after
+
+      is_broken : (k : ℕ) (l : LockView) → lock_in ran.locks k ≡ Some l → has held k ≡ true → ends_thread end ≡ true → l.broken ≡ true
+      is_broken k l found h ends =
+          let runs' : Runs image (whole old) old.thread turns end alone.0 = alone.1 in
+          sym (ap (λ (m : Mutex). m.broken) (lock_is k l found)) ∙ block_broken image (whole old) alone.0 old.thread turns end runs' k (sym (is k) ∙ h) ends
+
+      same_ended : (t k : ℕ) (b : Bool) (l : LockView) → lock_in ran.locks k ≡ Some l → mutex_of t b (closed_in (has held) made ran.guest.regs k l) ≡ mutex_of t b l
+      same_ended t k b l found = (elim (has held k) as (λ v. has held k ≡ v → mutex_of t b (when_in v (λ m. with_end end (with_journal (closed_with made ran.guest.regs) m)) l) ≡ mutex_of t b l) [
+        | true ↦ λ h. (let e = ended_broken end l.broken (is_broken k l found h) in λ i. record { bytes = l.bytes; broken = e i; sections = l.sections; owner = if b then Some t else None })
+        | false ↦ λ h. refl
+      ]) refl
+
+      pub finished_runs : RunsAs image old finished turns end
+      finished_runs = runs_to image old ran finished turns end (same_part ran (closed_in (has held) made ran.guest.regs) after
+          (λ k l. identifies_when (has held k) (λ m. with_end end (with_journal (closed_with made ran.guest.regs) m)) l refl refl) shuts same_ended) old_runs
+
+      all_three : (k : ℕ) (o : Option Journal)
+          → option_map (closed_when (has held k) made ran.guest.regs) (option_map (noted_when (has held k) (words k)) (option_map (opening k) o))
+          ≡ option_map (entered (has held k) (entry_of image k (whole old) made)) o
+      all_three k None = refl
+      all_three k (Some j) =
+          ap Some (elim (has held k) as (λ b. closed_when b made ran.guest.regs (noted_when b (words k) (opened_when b (unowned (mutex_at old k)) old.guest.regs old.guest.fuel j)) ≡ entered b (entry_of image k (whole old) made) j) [
+            | true ↦ ap (λ x. with_entry x j) (sym (entry_is k))
+            | false ↦ refl
+          ])
+
+      pub finished_journals : Journals image old finished made
+      finished_journals = record {
+        held = is;
+        entries = λ k.
+            journals_changed (closed_in (has held) made ran.guest.regs) (λ j. closed_when (has held j) made ran.guest.regs) ran finished shuts (λ j l e. closed_journal (has held j) made ran.guest.regs l) k
+            ∙ ap (option_map (closed_when (has held k) made ran.guest.regs)) (noted_all k ∙ ap (option_map (noted_when (has held k) (words k))) (begun_journals k))
+            ∙ all_three k (journal_at old k);
+      }

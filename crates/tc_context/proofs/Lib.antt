@@ -1,0 +1,9 @@
+pub mod LockList
+pub mod Moved
+pub mod Noting
+pub mod Partway
+pub mod Replaying
+pub mod Going
+pub mod Blocked
+pub mod Staging
+pub mod Appending

@@ -1,0 +1,54 @@
+-- A package's lock states after a change of each of them.
+use Rattle.std.proofs.Common.{◌≡◌, ℕ, get_or, set, ◌<◌, Bool, true, false, ◌==◌, List, length, refl, sym, ap, ◌∙◌, inl, inr, arith}
+use Rattle.std.specs.Prelude.{Option, Some, None, nat_lt, if◌then◌else◌}
+use Rattle.std.specs.Option.{option_map}
+use Rattle.std.proofs.lemmas.Bool.Decides.{eqb_tells, nat_tests}
+use Rattle.tc_segment.specs.View.{LockView}
+use Rattle.tc_context.specs.Locks.{slot_of, lock_in, when_in, Changed, at_place}
+use Rattle.tc_mutex_spec.proofs.ListLaws.{get-set_same, get-set_other}
+use Rattle.std.proofs.lemmas.Option.{slice_get-get_or}
+
+-- the changes of the places below a number
+abbrev pub up_to : (ℕ → LockView → LockView) → ℕ → ℕ → LockView → LockView
+up_to f n k l = when_in (nat_lt k n) (f k) l
+
+pub option_map-id : {X : Type 0} (g : X → X) (o : Option X) → ((x : X) → g x ≡ x) → option_map g o ≡ o
+option_map-id g None same = refl
+option_map-id g (Some x) same = ap Some (same x)
+
+pub option_map-twice : {X : Type 0} (f g h : X → X) (o : Option X) → ((x : X) → g (f x) ≡ h x) → option_map g (option_map f o) ≡ option_map h o
+option_map-twice f g h None same = refl
+option_map-twice f g h (Some x) same = ap Some (same x)
+
+-- what wasn't come to yet is as it was
+pub up_to_here : (f : ℕ → LockView → LockView) (n : ℕ) (old now : List (Option LockView)) → Changed (up_to f n) old now → lock_in now n ≡ lock_in old n
+up_to_here f n old now changed =
+    let e : nat_lt n n ≡ false = grind (arith, nat_tests) in
+    changed n ∙ option_map-id (up_to f n n) (lock_in old n) (λ l. ap (λ b. when_in b (f n) l) e)
+
+-- ---- one place
+
+pub place_is : (items : List (Option LockView)) (n : ℕ) (o : Option LockView) → n < length items → o ≡ get_or items n o → lock_in items n ≡ o
+place_is items n o lt is = ap slot_of (slice_get-get_or items n o lt ∙ ap Some (sym is))
+
+pub put_place : (items : List (Option LockView)) (n : ℕ) (o : Option LockView) (k : ℕ) → n < length items → lock_in (set items n o) k ≡ (if k == n then o else lock_in items k)
+put_place items n o k lt = elim (eqb_tells k n) [
+  | inl e ↦ ap (λ j. lock_in (set items n o) j) e.1 ∙ ap slot_of (get-set_same items n o lt) ∙ ap (λ b. if b then o else lock_in items k) (sym e.0)
+  | inr e ↦ ap slot_of (get-set_other items n k o e.1) ∙ ap (λ b. if b then o else lock_in items k) (sym e.0)
+]
+
+-- the place is written, and its lock state is changed
+pub changed_place : (f : LockView → LockView) (items : List (Option LockView)) (n : ℕ) (o new : Option LockView) → n < length items → o ≡ get_or items n o → new ≡ option_map f o
+    → Changed (at_place n f) items (set items n new)
+changed_place f items n o new lt is e k = put_place items n new k lt ∙ (elim (eqb_tells k n) [
+  | inl h ↦ ap (λ b. if b then new else lock_in items k) h.0 ∙ e ∙ sym (ap (λ b. option_map (λ l. when_in b f l) (lock_in items k)) h.0 ∙ ap (λ j. option_map f (lock_in items j)) h.1 ∙ ap (option_map f) (place_is items n o lt is))
+  | inr h ↦ ap (λ b. if b then new else lock_in items k) h.0 ∙ sym (ap (λ b. option_map (λ l. when_in b f l) (lock_in items k)) h.0 ∙ option_map-id (λ l. l) (lock_in items k) (λ l. refl))
+])
+
+pub when_true : (b : Bool) (g : LockView → LockView) (l : LockView) → b ≡ true → g l ≡ when_in b g l
+when_true true g l e = refl
+when_true false g l e = absurd (cc)
+
+pub when_false : (b : Bool) (g : LockView → LockView) (l : LockView) → b ≡ false → l ≡ when_in b g l
+when_false true g l e = absurd (cc)
+when_false false g l e = refl

@@ -1,0 +1,6 @@
+pub mod Locks
+pub mod Whole
+pub mod Middle
+pub mod View
+pub mod Kept
+pub mod History

@@ -1,0 +1,144 @@
+-- The lock states that a package has, as it and the machine see them.
+use Rattle.std.specs.Prelude.{◌≡◌, ℕ, ◌<◌, Bool, true, false, ◌==◌, ◌&&◌, if◌then◌else◌, List, [], ◌∷◌, slice_get, length, Option, Some, None, is_some, option_map}
+use Rattle.tc_isa.specs.Registers.{Registers}
+use Rattle.tc_elf.specs.Shown.{Shown}
+use Rattle.tc_elf.specs.Places.{in_guard}
+use Rattle.tc_elf.specs.declared.image.Region.{Region}
+use Rattle.tc_elf.specs.declared.image.Region.TheVariants as region
+use Rattle.tc_exec.specs.Told.{IsWidth}
+use Rattle.tc_exec.specs.declared.outcome.Act.{Act}
+use Rattle.tc_exec.specs.declared.outcome.Act.TheVariants.{Next, Called, Faulted}
+use Rattle.tc_exec.specs.declared.outcome.Call.TheVariants.{Lock, Unlock, Sleep, Exit}
+use Rattle.tc_exec.specs.declared.outcome.Put.{Put}
+use Rattle.tc_exec.specs.declared.outcome.Want.{Want}
+use Rattle.tc_journal.specs.declared.block.Block.{Block}
+use Rattle.tc_turn.specs.Turn.{Mutex}
+use Rattle.tc_turn.specs.Replay.{takes_word}
+use Rattle.tc_segment.specs.View.{LockView, lock_of, guard_of, with_store, with_section, with_break, with_end, with_journal, opened_at, noted, closed_with, sealed_as, with_room}
+
+abbrev pub slot_of : Option (Option LockView) → Option LockView
+slot_of None = None
+slot_of (Some slot) = slot
+
+-- the lock state of that number
+abbrev pub lock_in : List (Option LockView) → ℕ → Option LockView
+lock_in slots k = slot_of (slice_get slots k)
+
+-- the lock, with its owner where the thread t holds it
+abbrev pub mutex_of : ℕ → Bool → LockView → Mutex
+mutex_of t held l = record { bytes = l.bytes; broken = l.broken; sections = l.sections; owner = if held then Some t else None }
+
+abbrev pub no_mutex : Mutex
+no_mutex = record { bytes = []; broken = false; sections = 0; owner = None }
+
+abbrev pub mutex_or : ℕ → Bool → Option LockView → Mutex
+mutex_or t held None = no_mutex
+mutex_or t held (Some l) = mutex_of t held l
+
+abbrev pub is_open_lock : LockView → Bool
+is_open_lock l = is_some l.journal.opened
+
+-- each lock state has the number of its place, and stands for the image
+pub record IsLockOf (image : Shown) (k : ℕ) (l : LockView) : Type 0 where
+  pub number : l.number ≡ k
+  pub known : k < length image.guards
+  pub of : l.journal.image ≡ image
+
+abbrev pub AreOf : Shown → List (Option LockView) → Type 0
+AreOf image slots = (k : ℕ) (l : LockView) → lock_in slots k ≡ Some l → IsLockOf image k l
+
+-- ---- changes of one lock state
+
+abbrev pub when_in : Bool → (LockView → LockView) → LockView → LockView
+when_in true f l = f l
+when_in false f l = l
+
+-- a store, by its place
+abbrev pub stored_in : Region → ℕ → ℕ → ℕ → ℕ → LockView → LockView
+stored_in region.Text k addr width value l = l
+stored_in region.Private k addr width value l = l
+stored_in region.Stack k addr width value l = l
+stored_in (region.Guard lock) k addr width value l = when_in (k == lock) (with_store addr width value) l
+stored_in region.Nothing k addr width value l = l
+
+abbrev pub put_in : Option Put → ℕ → LockView → LockView
+put_in None k l = l
+put_in (Some put) k l = stored_in put.region k put.addr put.width put.value l
+
+-- lock k after a turn of a thread that held these locks before it
+abbrev pub turned : (ℕ → Bool) → Option Act → ℕ → LockView → LockView
+turned held None k l = when_in (held k) with_break l
+turned held (Some (Next regs put)) k l = put_in put k l
+turned held (Some (Called (Lock lock) regs)) k l = when_in (k == lock) with_section l
+turned held (Some (Called (Unlock lock) regs)) k l = l
+turned held (Some (Called (Sleep blocks) regs)) k l = l
+turned held (Some (Called Exit regs)) k l = when_in (held k) with_break l
+turned held (Some (Faulted f)) k l = when_in (held k) with_break l
+
+-- the entry of each lock that a turn changes is open, and a store lies in the guard
+abbrev pub StoreReady : Region → ℕ → ℕ → ℕ → LockView → Type 0
+StoreReady region.Text k addr width l = Unit {0}
+StoreReady region.Private k addr width l = Unit {0}
+StoreReady region.Stack k addr width l = Unit {0}
+StoreReady (region.Guard lock) k addr width l = k ≡ lock → (in_guard addr width (guard_of l) ≡ true) × (is_open_lock l ≡ true)
+StoreReady region.Nothing k addr width l = Unit {0}
+
+abbrev pub PutReady : Option Put → ℕ → LockView → Type 0
+PutReady None k l = Unit {0}
+PutReady (Some put) k l = StoreReady put.region k put.addr put.width l
+
+abbrev pub TurnReady : (ℕ → Bool) → Option Act → ℕ → LockView → Type 0
+TurnReady held None k l = held k ≡ true → is_open_lock l ≡ true
+TurnReady held (Some (Next regs put)) k l = PutReady put k l
+TurnReady held (Some (Called (Lock lock) regs)) k l = k ≡ lock → is_open_lock l ≡ true
+TurnReady held (Some (Called (Unlock lock) regs)) k l = Unit {0}
+TurnReady held (Some (Called (Sleep blocks) regs)) k l = Unit {0}
+TurnReady held (Some (Called Exit regs)) k l = held k ≡ true → is_open_lock l ≡ true
+TurnReady held (Some (Faulted f)) k l = held k ≡ true → is_open_lock l ≡ true
+
+-- what a turn stores in a guard, or takes, is of a lock below 32, and a store has a lawful width
+abbrev pub StoreFits : Region → ℕ → Type 0
+StoreFits region.Text width = Unit {0}
+StoreFits region.Private width = Unit {0}
+StoreFits region.Stack width = Unit {0}
+StoreFits (region.Guard lock) width = (lock < 32) × IsWidth width
+StoreFits region.Nothing width = Unit {0}
+
+abbrev pub PutFits : Option Put → Type 0
+PutFits None = Unit {0}
+PutFits (Some put) = StoreFits put.region put.width
+
+abbrev pub TurnFits : Option Act → Type 0
+TurnFits None = Unit {0}
+TurnFits (Some (Next regs put)) = PutFits put
+TurnFits (Some (Called (Lock lock) regs)) = lock < 32
+TurnFits (Some (Called (Unlock lock) regs)) = Unit {0}
+TurnFits (Some (Called (Sleep blocks) regs)) = Unit {0}
+TurnFits (Some (Called Exit regs)) = Unit {0}
+TurnFits (Some (Faulted f)) = Unit {0}
+
+-- the changes of each lock k, at its place
+abbrev pub Changed : (ℕ → LockView → LockView) → List (Option LockView) → List (Option LockView) → Type 0
+Changed f old new = (k : ℕ) → lock_in new k ≡ option_map (f k) (lock_in old k)
+
+abbrev pub broken_in : (ℕ → Bool) → ℕ → LockView → LockView
+broken_in held k l = when_in (held k) with_break l
+
+abbrev pub opened_in : (ℕ → Bool) → Registers → ℕ → ℕ → LockView → LockView
+opened_in held start fuel k l = when_in (held k) (with_journal (opened_at (lock_of l) start fuel)) l
+
+abbrev pub noted_in : (ℕ → Bool) → Want → Option ℕ → ℕ → ℕ → LockView → LockView
+noted_in held want next value k l = when_in (held k && takes_word k want next) (with_journal (noted (value ∷ []))) l
+
+abbrev pub closed_in : (ℕ → Bool) → Block → Registers → ℕ → LockView → LockView
+closed_in held block finish k l = when_in (held k) (λ m. with_end block.end (with_journal (closed_with block finish) m)) l
+
+abbrev pub sealed_in : (ℕ → Bool) → ℕ → ℕ → ℕ → LockView → LockView
+sealed_in held stamp worker k l = when_in (held k) (with_journal (sealed_as stamp worker)) l
+
+abbrev pub roomy_in : ℕ → ℕ → ℕ → LockView → LockView
+roomy_in entries words k l = with_journal (with_room entries words) l
+
+-- a change of the lock of this number alone
+abbrev pub at_place : ℕ → (LockView → LockView) → ℕ → LockView → LockView
+at_place lock f k l = when_in (k == lock) f l

@@ -1,0 +1,307 @@
+//! The lock states that a package has.
+
+ghost use Rattle.std.specs.Prelude.{◌≡◌, ℕ, ◌<◌, ◌+◌, ◌≤◌, ◌^◌, ◌==◌, true, [], ◌∷◌, is_some, Some, None, IfOk, OnOk, OnErr, IfSome, if◌then◌else◌};
+ghost use Rattle.std.specs.Option.{option_map};
+ghost use Rattle.tc_isa.specs.Sets.{has};
+ghost use Rattle.tc_elf.specs.Places.{in_guard};
+ghost use Rattle.tc_exec.specs.Told.{IsWidth};
+ghost use Rattle.tc_journal.specs.Batch.{may_follow};
+ghost use Rattle.tc_turn.specs.Replay.{Entry, takes_word as takes};
+ghost use Rattle.tc_segment.specs.View.{LockView, Opened, Closes, guard_of, blocks_of, lock_of, sealed_block, with_store, with_section, with_break, with_end, with_journal, opened_at, noted, closed_with, sealed_as};
+ghost use Rattle.tc_elf.specs.declared.image.Region.TheVariants as TheRegion;
+ghost use Rattle.tc_context.specs.Locks.{lock_in, when_in, turned, put_in, TurnReady, PutReady, TurnFits, PutFits, Changed, broken_in, opened_in, noted_in, closed_in, sealed_in, roomy_in, at_place};
+
+use std::alloc::{AllocError, Global};
+use std::marker::Model;
+use tc_elf::image::{Image, Region};
+use tc_exec::outcome::{Act, Call, Put, Want};
+use tc_isa::held::Held;
+use tc_isa::limits::MOST_TURNS;
+use tc_isa::regs::Regs;
+use tc_journal::block::Block;
+use tc_segment::state::LockState;
+
+const PLACES: u32 = 32;
+
+/// Lock states, each at the place of its number.
+#[derive(Drop)]
+pub struct LockSet {
+    places: Vec<Option<LockState>>,
+}
+
+impl Model for LockSet {
+    ghost use Rattle.std.specs.Prelude.{◌≡◌, List, Option, length};
+    ghost use Rattle.tc_segment.specs.View.{LockView};
+
+    ghost Value = { List (Option LockView) };
+
+    ghost view = { λ a. a.places.items };
+
+    ghost invariant = { λ a. length a.places.items ≡ 32 };
+}
+
+impl LockSet {
+    /// No lock state, with room for all.
+    pub fn new(alloc: Global) -> Result<LockSet, AllocError>
+        ensures { IfOk result (λ s. (k : ℕ) → lock_in s k ≡ None) }
+    {
+        let mut places = Vec::with_capacity(alloc, 32)?;
+        for lock in 0..PLACES {
+            places.push(None)?;
+        }
+        Ok(LockSet { places })
+    }
+
+    /// There is none past the last place. A law: it does nothing when it is called.
+    pub fn bound(&self)
+        ensures { (k : ℕ) → 32 ≤ k → lock_in self.now k ≡ None }
+    {
+        let _ = &self.places;
+    }
+
+    /// The lock state of that number.
+    pub fn find(&self, lock: u32) -> Option<&LockState>
+        ensures { option_map (λ l. l.now) result ≡ lock_in self.now lock }
+    {
+        self.places.get(lock as usize)?.as_ref()
+    }
+
+    /// Puts a lock state at the place of its number.
+    pub fn put_in(&mut self, lock: LockState)
+        ensures { (k : ℕ) → lock_in self.new k ≡ (if k == lock.number then Some lock else lock_in self.old k) }
+    {
+        let number = lock.number();
+        self.places[number as usize] = Some(lock);
+    }
+
+    /// Takes out the lock state of that number.
+    pub fn take_out(&mut self, lock: u32) -> Option<LockState>
+        requires { lock < 32 }
+        ensures taken { result ≡ lock_in self.old lock }
+        ensures left { (k : ℕ) → lock_in self.new k ≡ (if k == lock then None else lock_in self.old k) }
+    {
+        self.places[lock as usize].take()
+    }
+
+    fn store(&mut self, lock: u32, put: &Put)
+        requires lock { lock < 32 }
+        requires width { IsWidth put.now.width }
+        requires inside { (l : LockView) → lock_in self.old lock ≡ Some l → in_guard put.now.addr put.now.width (guard_of l) ≡ true }
+        requires opened { (l : LockView) → lock_in self.old lock ≡ Some l → is_some l.journal.opened ≡ true }
+        ensures { Changed (at_place lock (with_store put.now.addr put.now.width put.now.value)) self.old self.new }
+    {
+        if let Some(state) = &mut self.places[lock as usize] {
+            state.store(put.addr, put.width, put.value);
+        }
+    }
+
+    fn begin(&mut self, lock: u32)
+        requires lock { lock < 32 }
+        requires ready { (l : LockView) → lock_in self.old lock ≡ Some l → is_some l.journal.opened ≡ true }
+        ensures { Changed (at_place lock with_section) self.old self.new }
+    {
+        if let Some(state) = &mut self.places[lock as usize] {
+            state.begin_section();
+        }
+    }
+
+    fn break_one(&mut self, lock: u32, held: Held)
+        requires lock { lock < 32 }
+        requires ready { (l : LockView) → lock_in self.old lock ≡ Some l → has held lock ≡ true → is_some l.journal.opened ≡ true }
+        ensures { Changed (at_place lock (broken_in (has held) lock)) self.old self.new }
+    {
+        if let Some(state) = &mut self.places[lock as usize] {
+            if held.has(lock) {
+                state.break_lock();
+            }
+        }
+    }
+
+    /// Breaks each of these locks.
+    fn give_up(&mut self, held: Held)
+        requires ready { (k : ℕ) (l : LockView) → lock_in self.old k ≡ Some l → has held k ≡ true → is_some l.journal.opened ≡ true }
+        ensures { Changed (broken_in (has held)) self.old self.new }
+    {
+        self.bound();
+        for lock in 0..PLACES {
+            self.break_one(lock, held);
+        }
+    }
+
+    fn open_one(&mut self, lock: u32, held: Held, start: Regs, fuel: u32)
+        requires lock { lock < 32 }
+        requires opened { (l : LockView) → lock_in self.old lock ≡ Some l → has held lock ≡ true → l.journal.opened ≡ None }
+        requires closed { (l : LockView) → lock_in self.old lock ≡ Some l → has held lock ≡ true → l.journal.closed ≡ None }
+        requires room { (l : LockView) → lock_in self.old lock ≡ Some l → has held lock ≡ true → 0 < l.journal.entry_room }
+        ensures { Changed (at_place lock (opened_in (has held) start fuel lock)) self.old self.new }
+    {
+        if let Some(state) = &mut self.places[lock as usize] {
+            if held.has(lock) {
+                state.open_entry(start, fuel);
+            }
+        }
+    }
+
+    /// Opens an entry in each of these locks.
+    pub fn open_entries(&mut self, held: Held, start: Regs, fuel: u32)
+        requires opened { (k : ℕ) (l : LockView) → lock_in self.old k ≡ Some l → has held k ≡ true → l.journal.opened ≡ None }
+        requires closed { (k : ℕ) (l : LockView) → lock_in self.old k ≡ Some l → has held k ≡ true → l.journal.closed ≡ None }
+        requires room { (k : ℕ) (l : LockView) → lock_in self.old k ≡ Some l → has held k ≡ true → 0 < l.journal.entry_room }
+        ensures { Changed (opened_in (has held) start fuel) self.old self.new }
+    {
+        self.bound();
+        for lock in 0..PLACES {
+            self.open_one(lock, held, start, fuel);
+        }
+    }
+
+    fn note_one(&mut self, lock: u32, held: Held, want: Want, next: Option<u32>, value: u32)
+        requires lock { lock < 32 }
+        requires opened { (l : LockView) → lock_in self.old lock ≡ Some l → has held lock ≡ true → is_some l.journal.opened ≡ true }
+        requires room { (l : LockView) → lock_in self.old lock ≡ Some l → has held lock ≡ true → 0 < l.journal.word_room }
+        ensures { Changed (at_place lock (noted_in (has held) want next value lock)) self.old self.new }
+    {
+        if let Some(state) = &mut self.places[lock as usize] {
+            if held.has(lock) && takes_word(lock, want, next) {
+                state.note_foreign(value);
+            }
+        }
+    }
+
+    /// Notes the value in the entry of each of these locks for which it comes from elsewhere.
+    pub fn note(&mut self, held: Held, want: Want, next: Option<u32>, value: u32)
+        requires opened { (k : ℕ) (l : LockView) → lock_in self.old k ≡ Some l → has held k ≡ true → is_some l.journal.opened ≡ true }
+        requires room { (k : ℕ) (l : LockView) → lock_in self.old k ≡ Some l → has held k ≡ true → 0 < l.journal.word_room }
+        ensures { Changed (noted_in (has held) want next value) self.old self.new }
+    {
+        self.bound();
+        for lock in 0..PLACES {
+            self.note_one(lock, held, want, next, value);
+        }
+    }
+
+    fn close_one(&mut self, image: &Image, lock: u32, held: Held, block: &Block, finish: Regs)
+        requires lock { lock < 32 }
+        requires image { (l : LockView) → lock_in self.old lock ≡ Some l → has held lock ≡ true → l.journal.image ≡ image.now }
+        requires opened { (l : LockView) → lock_in self.old lock ≡ Some l → has held lock ≡ true → is_some l.journal.opened ≡ true }
+        requires closed { (l : LockView) → lock_in self.old lock ≡ Some l → has held lock ≡ true → l.journal.closed ≡ None }
+        requires closes { (l : LockView) → lock_in self.old lock ≡ Some l → has held lock ≡ true → (o : Opened) → l.journal.opened ≡ Some o → Closes l block.now finish o }
+        ensures { Changed (at_place lock (closed_in (has held) block.now finish lock)) self.old self.new }
+    {
+        if let Some(state) = &mut self.places[lock as usize] {
+            if held.has(lock) {
+                state.close_entry(image, *block, finish);
+            }
+        }
+    }
+
+    /// Closes the entry of each of these locks.
+    pub fn close_entries(&mut self, image: &Image, held: Held, block: &Block, finish: Regs)
+        requires image { (k : ℕ) (l : LockView) → lock_in self.old k ≡ Some l → has held k ≡ true → l.journal.image ≡ image.now }
+        requires opened { (k : ℕ) (l : LockView) → lock_in self.old k ≡ Some l → has held k ≡ true → is_some l.journal.opened ≡ true }
+        requires closed { (k : ℕ) (l : LockView) → lock_in self.old k ≡ Some l → has held k ≡ true → l.journal.closed ≡ None }
+        requires closes { (k : ℕ) (l : LockView) → lock_in self.old k ≡ Some l → has held k ≡ true → (o : Opened) → l.journal.opened ≡ Some o → Closes l block.now finish o }
+        ensures { Changed (closed_in (has held) block.now finish) self.old self.new }
+    {
+        self.bound();
+        for lock in 0..PLACES {
+            self.close_one(image, lock, held, block, finish);
+        }
+    }
+
+    fn seal_one(&mut self, lock: u32, held: Held, stamp: u64, worker: u32)
+        requires lock { lock < 32 }
+        requires closed { (l : LockView) → lock_in self.old lock ≡ Some l → has held lock ≡ true → is_some l.journal.closed ≡ true }
+        requires follows { (l : LockView) → lock_in self.old lock ≡ Some l → has held lock ≡ true → (e : Entry) → l.journal.closed ≡ Some e → may_follow l.number l.journal.limit (blocks_of l) (sealed_block stamp worker e.block) ≡ true }
+        ensures { Changed (at_place lock (sealed_in (has held) stamp worker lock)) self.old self.new }
+    {
+        if let Some(state) = &mut self.places[lock as usize] {
+            if held.has(lock) {
+                state.seal(stamp, worker);
+            }
+        }
+    }
+
+    /// Gives the last entry of each of these locks its stamp and worker.
+    pub fn seal(&mut self, held: Held, stamp: u64, worker: u32)
+        requires closed { (k : ℕ) (l : LockView) → lock_in self.old k ≡ Some l → has held k ≡ true → is_some l.journal.closed ≡ true }
+        requires follows { (k : ℕ) (l : LockView) → lock_in self.old k ≡ Some l → has held k ≡ true → (e : Entry) → l.journal.closed ≡ Some e → may_follow l.number l.journal.limit (blocks_of l) (sealed_block stamp worker e.block) ≡ true }
+        ensures { Changed (sealed_in (has held) stamp worker) self.old self.new }
+    {
+        self.bound();
+        for lock in 0..PLACES {
+            self.seal_one(lock, held, stamp, worker);
+        }
+    }
+
+    fn reserve_one(&mut self, lock: u32) -> Result<(), AllocError>
+        requires { lock < 32 }
+        ensures ok { OnOk result (Changed (at_place lock (roomy_in 1 4096 lock)) self.old self.new) }
+        ensures err { OnErr result (Changed (λ k l. l) self.old self.new) }
+    {
+        match &mut self.places[lock as usize] {
+            Some(state) => state.reserve(MOST_TURNS as usize),
+            None => Ok(()),
+        }
+    }
+
+    /// Makes room for one entry and its words in each.
+    pub fn reserve(&mut self) -> Result<(), AllocError>
+        ensures ok { OnOk result (Changed (roomy_in 1 4096) self.old self.new) }
+        ensures err { OnErr result ((k : ℕ) → option_map (roomy_in 0 0 k) (lock_in self.new k) ≡ option_map (roomy_in 0 0 k) (lock_in self.old k)) }
+    {
+        self.bound();
+        for lock in 0..PLACES {
+            self.reserve_one(lock)?;
+        }
+        Ok(())
+    }
+
+    /// Each lock after a turn of a thread that held these locks before it.
+    pub fn take_turn(&mut self, held: Held, act: &Option<Act>)
+        requires fits { TurnFits act.now }
+        requires ready { (k : ℕ) (l : LockView) → lock_in self.old k ≡ Some l → TurnReady (has held) act.now k l }
+        ensures { Changed (turned (has held) act.now) self.old self.new }
+    {
+        let Some(act) = act else {
+            self.give_up(held);
+            return;
+        };
+        match act {
+            Act::Next { put, .. } => self.put(put),
+            Act::Called { call, .. } => match call {
+                Call::Lock(lock) => self.begin(*lock),
+                Call::Unlock(_) | Call::Sleep(_) => {}
+                Call::Exit => self.give_up(held),
+            },
+            Act::Faulted(_) => self.give_up(held),
+        }
+    }
+
+    fn put(&mut self, put: &Option<Put>)
+        requires fits { PutFits put.now }
+        requires ready { (k : ℕ) (l : LockView) → lock_in self.old k ≡ Some l → PutReady put.now k l }
+        ensures { Changed (put_in put.now) self.old self.new }
+    {
+        let Some(put) = put else {
+            return;
+        };
+        match put.region {
+            Region::Guard(lock) => self.store(lock, put),
+            Region::Text | Region::Private | Region::Stack | Region::Nothing => {}
+        }
+    }
+}
+
+/// Whether the value of a turn comes from elsewhere for the lock.
+fn takes_word(lock: u32, want: Want, next: Option<u32>) -> bool
+    ensures { result ≡ takes lock want next }
+{
+    match want {
+        Want::Load { region, .. } => match region {
+            Region::Guard(guard) => guard != lock,
+            Region::Text | Region::Private | Region::Stack | Region::Nothing => true,
+        },
+        Want::Nothing => next.is_some(),
+    }
+}
