@@ -1,0 +1,10 @@
+use Rattle.std.proofs.Common.{arith}
+use Rattle.std.specs.Prelude.{string_bytes}
+use Rattle.tc_main.specs.Report.{lock_text}
+use Rattle.tc_main.proofs.Numbered.{numbered_more}
+use Rattle.tc_main.proofs.report.push_locks.Goals as goal
+
+pub loop-number-preserved : goal.loop-number-preserved
+loop-number-preserved c =
+    let number = c.loop-number.number in
+    numbered_more lock_text (string_bytes c.args.out.now) _ _ 0 c.args.locks.now number number c.index-locks-number.result c.loop-number-test.true (omega arith) c.index-locks-number.is c.loop-number.invariant c.in_ok-push_lock.ensures

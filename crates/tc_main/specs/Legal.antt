@@ -1,0 +1,35 @@
+-- What a report tells of a run: the results of a legal run to the end of every thread.
+use Rattle.std.specs.Prelude.{◌≡◌, ℕ, ◌<◌, length, map, All}
+use Rattle.std.specs.List.{range_with_len}
+use Rattle.tc_elf.specs.Shown.{Shown, guard_at}
+use Rattle.tc_journal.specs.History.{IsHistory}
+use Rattle.tc_journal.specs.declared.block.Block.{Block}
+use Rattle.tc_mutex_spec.specs.Machine.{State}
+use Rattle.tc_mutex_spec.specs.Blocks.{Tells, IsComplete}
+use Rattle.tc_main.specs.Results.{Results, Guarded}
+use Rattle.tc_main.specs.declared.results.Finished.{Finished}
+use Rattle.tc_main.specs.declared.words.Options.{Options}
+
+-- a thread of the machine, as the report prints it
+abbrev pub finished_in : State → ℕ → Finished
+finished_in m t = record { status = (m.threads t).status; fuel = (m.threads t).fuel; regs = (m.threads t).regs }
+
+-- a lock of the machine, as the report prints it
+abbrev pub guarded_in : Shown → State → ℕ → Guarded
+guarded_in image m lock = record {
+  start = (guard_at image lock).start;
+  bytes = (m.locks lock).bytes;
+  broken = (m.locks lock).broken;
+  sections = (m.locks lock).sections;
+}
+
+-- The history tells a run of the guest's threads under ordinary mutexes, with this fuel for each, to the end of every
+-- thread; each block is of a worker that there is; and the threads and the locks are as that run leaves them.
+pub record IsLegalRun (image : Shown) (o : Options) (results : Results) : Type 0 where
+  pub last : State
+  pub history : IsHistory results.history
+  pub tells : Tells image o.fuel results.history last
+  pub complete : IsComplete image last
+  pub workers : All (λ (b : Block). b.worker < o.workers) results.history
+  pub threads : results.threads ≡ map (finished_in last) (range_with_len 0 (length image.entries))
+  pub locks : results.locks ≡ map (guarded_in image last) (range_with_len 0 (length image.guards))

@@ -1,0 +1,9 @@
+pub mod Statuses
+pub mod Words
+pub mod Hex
+pub mod Results
+pub mod Report
+pub mod Legal
+pub mod Runner
+pub mod Top
+pub mod Build

@@ -1,0 +1,92 @@
+-- The report of a run, line by line. Each line ends with the byte 10.
+use Rattle.std.specs.Prelude.{ℕ, ◌+◌, ◌*◌, ◌/◌, Bool, if◌then◌else◌, List, [], ◌∷◌, ◌++◌, take, drop, codes, decimal, length}
+use Rattle.std.specs.List.{range_with_len, flat_map, enumerate_from}
+use Rattle.tc_elf.specs.Shown.{Shown}
+use Rattle.tc_isa.specs.Faults.{fault_number}
+use Rattle.tc_isa.specs.Registers.{Registers, get}
+use Rattle.tc_journal.specs.Line.{history_text}
+use Rattle.tc_turn.specs.declared.status.Status.{Status}
+use Rattle.tc_turn.specs.declared.status.Status.TheVariants as status
+use Rattle.tc_main.specs.Hex.{hex2, hex8}
+use Rattle.tc_main.specs.Results.{Results, Guarded}
+use Rattle.tc_main.specs.declared.words.Options.{Options}
+use Rattle.tc_main.specs.declared.results.Finished.{Finished}
+
+-- how a thread ended; no thread of a report runs
+abbrev pub status_text : Status → List ℕ
+status_text status.Running = codes "running"
+status_text status.Exited = codes "exit"
+status_text (status.Faulted fault) = codes "fault " ++ decimal (fault_number fault)
+status_text status.SpentFuel = codes "spent"
+
+-- the version of the format
+abbrev pub first_line : List ℕ
+first_line = codes "tclocks 1\n"
+
+-- how many threads and guards the guest has
+unfoldable pub guest_line : ℕ → ℕ → List ℕ
+guest_line threads guards = codes "guest threads " ++ decimal threads ++ codes " guards " ++ decimal guards ++ 10 ∷ []
+
+-- how the guest was run
+unfoldable pub run_line : Options → List ℕ
+run_line o = codes "run workers " ++ decimal o.workers ++ codes " fuel " ++ decimal o.fuel ++ codes " batch " ++ decimal o.limit ++ 10 ∷ []
+
+-- a register's word after a space
+unfoldable pub register_text : Registers → ℕ → ℕ → List ℕ
+register_text r from i = codes " " ++ hex8 (get r (from + i))
+
+-- a line of eight registers from one on
+unfoldable pub registers_line : Registers → ℕ → List ℕ
+registers_line r from = codes "x" ++ decimal from ++ flat_map (register_text r from) (range_with_len 0 8) ++ 10 ∷ []
+
+-- how a thread ended, the fuel that was left and its program counter
+unfoldable pub thread_line : ℕ → Finished → List ℕ
+thread_line number t =
+    codes "thread " ++ decimal number ++ codes " " ++ status_text t.status ++ codes " fuel " ++ decimal t.fuel ++ codes " pc " ++ hex8 t.regs.pc ++ 10 ∷ []
+
+-- a thread's line and those of its registers
+unfoldable pub thread_text : ℕ × Finished → List ℕ
+thread_text t =
+    thread_line t.0 t.1 ++ registers_line t.1.regs 0 ++ registers_line t.1.regs 8 ++ registers_line t.1.regs 16 ++ registers_line t.1.regs 24
+
+-- the lines of the threads, which are numbered from 0
+abbrev pub threads_text : List Finished → List ℕ
+threads_text threads = flat_map thread_text (enumerate_from 0 threads)
+
+-- ---- locks
+
+abbrev pub broken_text : Bool → List ℕ
+broken_text broken = if broken then codes "1" else codes "0"
+
+-- a lock's sections, whether it is broken, and how many bytes it guards
+unfoldable pub lock_line : ℕ → Guarded → List ℕ
+lock_line number l =
+    codes "lock " ++ decimal number ++ codes " sections " ++ decimal l.sections ++ codes " broken " ++ broken_text l.broken
+    ++ codes " bytes " ++ decimal (length l.bytes) ++ 10 ∷ []
+
+-- bytes from an address on
+unfoldable pub data_line : ℕ → List ℕ → List ℕ
+data_line start bytes = codes "data " ++ hex8 start ++ codes " " ++ flat_map hex2 bytes ++ 10 ∷ []
+
+-- the bytes of the data line of this number: 32, or what is left
+abbrev pub data_part : List ℕ → ℕ → List ℕ
+data_part bytes i = take 32 (drop (32 * i) bytes)
+
+unfoldable pub data_line_at : Guarded → ℕ → List ℕ
+data_line_at l i = data_line (l.start + 32 * i) (data_part l.bytes i)
+
+-- a lock's line and its data lines
+unfoldable pub lock_text : ℕ × Guarded → List ℕ
+lock_text l = lock_line l.0 l.1 ++ flat_map (data_line_at l.1) (range_with_len 0 ((length l.1.bytes + 31) / 32))
+
+-- the lines of the locks, which are numbered from 0
+abbrev pub locks_text : List Guarded → List ℕ
+locks_text locks = flat_map lock_text (enumerate_from 0 locks)
+
+abbrev pub last_line : List ℕ
+last_line = codes "end\n"
+
+-- the whole report
+unfoldable pub report_text : Shown → Options → Results → List ℕ
+report_text image o results =
+    first_line ++ guest_line (length image.entries) (length image.guards) ++ run_line o ++ history_text results.history ++ threads_text results.threads ++ locks_text results.locks ++ last_line

@@ -1,0 +1,217 @@
+//! The text of a report.
+
+ghost use Rattle.std.specs.Prelude.{◌≡◌, ◌+◌, ◌*◌, ◌<◌, ◌≤◌, ◌++◌, IfOk, OnOk, length, string_bytes};
+ghost use Rattle.tc_journal.specs.Line.{history_text};
+ghost use Rattle.tc_main.specs.Hex.{hex2, hex8};
+ghost use Rattle.tc_main.specs.Report as text;
+
+use crate::hex::{Hex2, Hex8};
+use crate::results::{Finished, Guarded, Results};
+use crate::words::Options;
+use std::alloc::{AllocError, Global};
+use std::fmt::Write;
+use tc_elf::image::Image;
+use tc_isa::reg::Reg;
+use tc_isa::regs::Regs;
+use tc_journal::block::Block;
+use tc_journal::line::push_block;
+use tc_turn::status::Status;
+
+/// Writes how many threads and guards the guest has.
+#[tactic(auto, unfolding(crate::specs::Report::guest_line))]
+fn push_guest(out: &mut String, threads: u32, guards: u32) -> Result<(), AllocError>
+    ensures { OnOk result (string_bytes out.new ≡ string_bytes out.old ++ text.guest_line threads guards) }
+{
+    writeln!(out, "guest threads {threads} guards {guards}")
+}
+
+/// Writes how the guest was run.
+#[tactic(auto, unfolding(crate::specs::Report::run_line))]
+fn push_run(out: &mut String, options: Options) -> Result<(), AllocError>
+    ensures { OnOk result (string_bytes out.new ≡ string_bytes out.old ++ text.run_line options) }
+{
+    let Options {
+        workers,
+        fuel,
+        limit,
+    } = options;
+    writeln!(out, "run workers {workers} fuel {fuel} batch {limit}")
+}
+
+/// Writes the lines of the blocks.
+fn push_history(out: &mut String, history: &[Block]) -> Result<(), AllocError>
+    ensures { OnOk result (string_bytes out.new ≡ string_bytes out.old ++ history_text history.now) }
+{
+    for block in history {
+        push_block(out, block)?;
+    }
+    Ok(())
+}
+
+/// Writes the word of a register after a space.
+#[tactic(auto, unfolding(crate::specs::Report::register_text))]
+fn push_register(out: &mut String, regs: &Regs, from: u32, i: u32) -> Result<(), AllocError>
+    requires { from + i < 32 }
+    ensures { OnOk result (string_bytes out.new ≡ string_bytes out.old ++ text.register_text regs.now from i) }
+{
+    let word = Hex8(regs.get(Reg::of(from + i)));
+    write!(out, " {word}")
+}
+
+/// Writes the line of the eight registers from one on.
+#[tactic(auto, unfolding(crate::specs::Report::registers_line))]
+fn push_registers(out: &mut String, regs: &Regs, from: u32) -> Result<(), AllocError>
+    requires { from + 8 ≤ 32 }
+    ensures { OnOk result (string_bytes out.new ≡ string_bytes out.old ++ text.registers_line regs.now from) }
+{
+    write!(out, "x{from}")?;
+    for i in 0..8 {
+        push_register(out, regs, from, i)?;
+    }
+    out.push_str("\n")
+}
+
+/// Writes how a thread ended.
+fn push_status(out: &mut String, status: Status) -> Result<(), AllocError>
+    ensures { OnOk result (string_bytes out.new ≡ string_bytes out.old ++ text.status_text status) }
+{
+    match status {
+        Status::Running => out.push_str("running"),
+        Status::Exited => out.push_str("exit"),
+        Status::Faulted(fault) => {
+            let number = fault.number();
+            write!(out, "fault {number}")
+        }
+        Status::SpentFuel => out.push_str("spent"),
+    }
+}
+
+/// Writes the line of a thread.
+#[tactic(auto, unfolding(crate::specs::Report::thread_line))]
+fn push_thread_line(out: &mut String, number: usize, thread: &Finished) -> Result<(), AllocError>
+    ensures { OnOk result (string_bytes out.new ≡ string_bytes out.old ++ text.thread_line number thread.now) }
+{
+    let Finished { status, fuel, regs } = *thread;
+    let pc = Hex8(regs.pc());
+    write!(out, "thread {number} ")?;
+    push_status(out, status)?;
+    writeln!(out, " fuel {fuel} pc {pc}")
+}
+
+/// Writes how a thread ended and its registers.
+#[tactic(auto, unfolding(crate::specs::Report::thread_text))]
+fn push_thread(out: &mut String, number: usize, thread: &Finished) -> Result<(), AllocError>
+    ensures { OnOk result (string_bytes out.new ≡ string_bytes out.old ++ text.thread_text (number, thread.now)) }
+{
+    push_thread_line(out, number, thread)?;
+    push_registers(out, &thread.regs, 0)?;
+    push_registers(out, &thread.regs, 8)?;
+    push_registers(out, &thread.regs, 16)?;
+    push_registers(out, &thread.regs, 24)
+}
+
+/// Writes how the threads ended and their registers.
+fn push_threads(out: &mut String, threads: &[Finished]) -> Result<(), AllocError>
+    ensures { OnOk result (string_bytes out.new ≡ string_bytes out.old ++ text.threads_text threads.now) }
+{
+    for number in 0..threads.len() {
+        push_thread(out, number, &threads[number])?;
+    }
+    Ok(())
+}
+
+/// Writes the line of a lock.
+#[tactic(auto, unfolding(crate::specs::Report::lock_line))]
+fn push_lock_line(out: &mut String, number: usize, lock: &Guarded) -> Result<(), AllocError>
+    ensures { OnOk result (string_bytes out.new ≡ string_bytes out.old ++ text.lock_line number lock.now) }
+{
+    let sections = lock.sections();
+    let broken = if lock.broken() { "1" } else { "0" };
+    let count = lock.bytes().len();
+    write!(out, "lock {number} sections {sections}")?;
+    writeln!(out, " broken {broken} bytes {count}")
+}
+
+/// Writes a byte as two digits.
+fn push_byte(out: &mut String, byte: u8) -> Result<(), AllocError>
+    ensures { OnOk result (string_bytes out.new ≡ string_bytes out.old ++ hex2 byte) }
+{
+    let digits = Hex2(byte);
+    write!(out, "{digits}")
+}
+
+/// Writes a line of bytes from an address on.
+#[tactic(auto, unfolding(crate::specs::Report::data_line))]
+fn push_data(out: &mut String, start: u32, bytes: &[u8]) -> Result<(), AllocError>
+    ensures { OnOk result (string_bytes out.new ≡ string_bytes out.old ++ text.data_line start bytes.now) }
+{
+    let address = Hex8(start);
+    write!(out, "data {address} ")?;
+    for byte in bytes {
+        push_byte(out, *byte)?;
+    }
+    out.push_str("\n")
+}
+
+/// The address so many bytes behind a start. No guard goes past the end of the address space.
+fn address_at(start: u32, from: usize) -> u32
+    ensures { hex8 result ≡ hex8 (start + from) }
+{
+    let address = (start as u64).wrapping_add(from as u64);
+    (address % (1 << 32)) as u32
+}
+
+/// Writes the data line of this number of a lock's bytes.
+#[tactic(auto, unfolding(crate::specs::Report::data_line_at))]
+fn push_data_at(out: &mut String, lock: &Guarded, i: usize) -> Result<(), AllocError>
+    requires { 32 * i < length lock.now.bytes }
+    ensures { OnOk result (string_bytes out.new ≡ string_bytes out.old ++ text.data_line_at lock.now i) }
+{
+    let bytes = lock.bytes();
+    let from = 32 * i;
+    let to = bytes.len().min(from + 32);
+    push_data(out, address_at(lock.start(), from), &bytes[from..to])
+}
+
+/// Writes the line of a lock and its data lines.
+#[tactic(auto, unfolding(crate::specs::Report::lock_text))]
+fn push_lock(out: &mut String, number: usize, lock: &Guarded) -> Result<(), AllocError>
+    ensures { OnOk result (string_bytes out.new ≡ string_bytes out.old ++ text.lock_text (number, lock.now)) }
+{
+    push_lock_line(out, number, lock)?;
+    let lines = lock.bytes().len().div_ceil(32);
+    for i in 0..lines {
+        push_data_at(out, lock, i)?;
+    }
+    Ok(())
+}
+
+/// Writes the lines of the locks.
+fn push_locks(out: &mut String, locks: &[Guarded]) -> Result<(), AllocError>
+    ensures { OnOk result (string_bytes out.new ≡ string_bytes out.old ++ text.locks_text locks.now) }
+{
+    for number in 0..locks.len() {
+        push_lock(out, number, &locks[number])?;
+    }
+    Ok(())
+}
+
+/// The report of a run.
+#[tactic(auto, unfolding(crate::specs::Report::report_text))]
+pub fn report(
+    alloc: Global,
+    image: &Image,
+    options: Options,
+    results: &Results,
+) -> Result<String, AllocError>
+    ensures { IfOk result (λ out. string_bytes out ≡ text.report_text image.now options results.now) }
+{
+    let mut out = String::from_str(alloc, "tclocks 1\n")?;
+    push_guest(&mut out, image.threads(), image.guards())?;
+    push_run(&mut out, options)?;
+    push_history(&mut out, results.history())?;
+    push_threads(&mut out, results.threads())?;
+    push_locks(&mut out, results.locks())?;
+    out.push_str("end\n")?;
+    Ok(out)
+}

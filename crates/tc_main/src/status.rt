@@ -1,0 +1,38 @@
+//! How the program ends.
+
+ghost use Rattle.std.specs.Prelude.{◌≡◌, ◌≤◌};
+ghost use Rattle.tc_main.specs.Statuses.{status_number};
+
+/// How the program ends.
+#[derive(Clone, Copy, Debug, PartialEq, Eq)]
+pub enum Status {
+    /// What the words ask for was done, and its text was written whole.
+    Done,
+    /// The words ask for nothing that the program does.
+    Usage,
+    /// The source failed.
+    ReadFault,
+    /// The guest file was refused for the reason of this number; 0 is a file that is too large.
+    Refused(u32),
+    /// The sink failed.
+    WriteFault,
+    /// Memory was refused.
+    OutOfMemory,
+}
+
+impl Status {
+    /// The exit status of the program, from 0 to 5.
+    pub fn number(self) -> u32
+        ensures value { result ≡ status_number self }
+        ensures bound { result ≤ 5 }
+    {
+        match self {
+            Status::Done => 0,
+            Status::Usage => 1,
+            Status::ReadFault => 2,
+            Status::Refused(_) => 3,
+            Status::WriteFault => 4,
+            Status::OutOfMemory => 5,
+        }
+    }
+}
