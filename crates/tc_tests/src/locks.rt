@@ -124,10 +124,10 @@ fn joined(alloc: Global, pieces: &[&[u32]]) -> Result<Vec<u32>, AllocError> {
     Ok(words)
 }
 
-/// One section, and what the end of fuel inside, before and behind it leaves.
+/// One section.
 #[test]
 fn a_section_changes_the_bytes_that_its_lock_guards(rt: HostRuntime) -> Result<(), Fail> {
-    let mut guest = Guest {
+    let guest = Guest {
         code: &ONE,
         starts: &[0],
         locks: 1,
@@ -151,7 +151,19 @@ fn a_section_changes_the_bytes_that_its_lock_guards(rt: HostRuntime) -> Result<(
             "data 00020000 01000000",
         ],
     )?;
-    guest.fuel = "10";
+    Ok(())
+}
+
+/// What the end of fuel behind a section, inside it and before it leaves.
+#[test]
+fn fuel_ends_behind_inside_and_before_a_section(rt: HostRuntime) -> Result<(), Fail> {
+    let mut guest = Guest {
+        code: &ONE,
+        starts: &[0],
+        locks: 1,
+        fuel: "10",
+        limit: "4",
+    };
     check(
         &rt,
         rt.alloc(),

@@ -92,9 +92,9 @@ fn ends_a_lone_thread_as_its_code_says(rt: HostRuntime) -> Result<(), Fail> {
     Ok(())
 }
 
-/// Jumps, sleeps and calls that a guest without locks has no use for.
+/// A jump clears bit 0 of its target, and faults where that is no multiple of 4.
 #[test]
-fn runs_every_instruction_of_a_lone_thread(rt: HostRuntime) -> Result<(), Fail> {
+fn jumps_to_targets_in_a_register(rt: HostRuntime) -> Result<(), Fail> {
     let cases = [
         // auipc x5,0; jalr x1,9(x5), whose bit 0 is cleared; addi x17,x0,93; ecall.
         Case {
@@ -118,6 +118,17 @@ fn runs_every_instruction_of_a_lone_thread(rt: HostRuntime) -> Result<(), Fail> 
                 "x0 00000000 00000000 80000000 00000000 00000000 00010054 00000000 00000000",
             ],
         },
+    ];
+    for case in &cases {
+        check(&rt, rt.alloc(), case)?;
+    }
+    Ok(())
+}
+
+/// A sleep ends a block, a guest without locks has none to take, and the stack keeps words.
+#[test]
+fn sleeps_asks_for_no_lock_and_uses_its_stack(rt: HostRuntime) -> Result<(), Fail> {
+    let cases = [
         // SLEEP 3, and EXIT in the next block.
         Case {
             code: &[
