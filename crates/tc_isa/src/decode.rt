@@ -165,20 +165,76 @@ fn system_of(fields: &Fields) -> Option<Instr>
     }
 }
 
+/// The branch of the fields.
+fn branch_of(fields: &Fields) -> Option<Instr>
+    requires { reading.IsWithin fields.now }
+    ensures { result ≡ reading.branch_of fields.now }
+{
+    let cond = cond_of(fields.funct3)?;
+    let off = b_number(fields);
+    let Fields { rs1, rs2, .. } = *fields;
+    Some(Instr::Branch {
+        cond,
+        rs1,
+        rs2,
+        off,
+    })
+}
+
+/// The load of the fields.
+fn loaded_of(fields: &Fields) -> Option<Instr>
+    requires { reading.IsWithin fields.now }
+    ensures { result ≡ reading.loaded_of fields.now }
+{
+    let kind = load_of(fields.funct3)?;
+    let off = i_number(fields);
+    let Fields { rd, rs1, .. } = *fields;
+    Some(Instr::Load { kind, rd, rs1, off })
+}
+
+/// The store of the fields.
+fn stored_of(fields: &Fields) -> Option<Instr>
+    requires { reading.IsWithin fields.now }
+    ensures { result ≡ reading.stored_of fields.now }
+{
+    let kind = store_of(fields.funct3)?;
+    let off = s_number(fields);
+    let Fields { rs1, rs2, .. } = *fields;
+    Some(Instr::Store {
+        kind,
+        rs1,
+        rs2,
+        off,
+    })
+}
+
+/// The operation on a register and an immediate of the fields.
+fn imm_instr_of(fields: &Fields) -> Option<Instr>
+    requires { reading.IsWithin fields.now }
+    ensures { result ≡ reading.imm_instr_of fields.now }
+{
+    let op = imm_of(fields.funct7, fields.funct3)?;
+    let imm = imm_number(op, fields);
+    let Fields { rd, rs1, .. } = *fields;
+    Some(Instr::Imm { op, rd, rs1, imm })
+}
+
+/// The operation on two registers of the fields.
+fn op_instr_of(fields: &Fields) -> Option<Instr>
+    ensures { result ≡ reading.op_instr_of fields.now }
+{
+    let op = op_of(fields.funct7, fields.funct3)?;
+    let Fields { rd, rs1, rs2, .. } = *fields;
+    Some(Instr::Op { op, rd, rs1, rs2 })
+}
+
 /// The instruction that the fields stand for.
 #[tactic(auto, unfolding(crate::specs::Reading::instr_of))]
 fn instr_of(fields: &Fields) -> Option<Instr>
     requires { reading.IsWithin fields.now }
     ensures { result ≡ reading.instr_of fields.now }
 {
-    let Fields {
-        rd,
-        rs1,
-        rs2,
-        funct3,
-        funct7,
-        ..
-    } = *fields;
+    let Fields { rd, rs1, .. } = *fields;
     match fields.opcode {
         0x37 => Some(Instr::Lui {
             rd,
@@ -192,49 +248,20 @@ fn instr_of(fields: &Fields) -> Option<Instr>
             rd,
             off: j_number(fields),
         }),
-        0x67 if funct3 == 0 => Some(Instr::Jalr {
+        0x67 if fields.funct3 == 0 => Some(Instr::Jalr {
             rd,
             rs1,
             off: i_number(fields),
         }),
-        0x63 => {
-            let cond = cond_of(funct3)?;
-            let off = b_number(fields);
-            Some(Instr::Branch {
-                cond,
-                rs1,
-                rs2,
-                off,
-            })
-        }
-        0x03 => {
-            let kind = load_of(funct3)?;
-            let off = i_number(fields);
-            Some(Instr::Load { kind, rd, rs1, off })
-        }
-        0x23 => {
-            let kind = store_of(funct3)?;
-            let off = s_number(fields);
-            Some(Instr::Store {
-                kind,
-                rs1,
-                rs2,
-                off,
-            })
-        }
-        0x13 => {
-            let op = imm_of(funct7, funct3)?;
-            let imm = imm_number(op, fields);
-            Some(Instr::Imm { op, rd, rs1, imm })
-        }
-        0x33 => {
-            let op = op_of(funct7, funct3)?;
-            Some(Instr::Op { op, rd, rs1, rs2 })
-        }
-        0x0f if funct3 == 0 => Some(Instr::Fence {
+        0x63 => branch_of(fields),
+        0x03 => loaded_of(fields),
+        0x23 => stored_of(fields),
+        0x13 => imm_instr_of(fields),
+        0x33 => op_instr_of(fields),
+        0x0f if fields.funct3 == 0 => Some(Instr::Fence {
             rd,
             rs1,
-            imm: then(funct7, 5, rs2.number()),
+            imm: then(fields.funct7, 5, fields.rs2.number()),
         }),
         0x73 => system_of(fields),
         _ => None,
