@@ -2,3 +2,4 @@ pub mod Ascending
 pub mod Cases
 pub mod Kept
 pub mod Laws
+pub mod NoLock

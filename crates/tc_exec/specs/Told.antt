@@ -69,6 +69,15 @@ IsAct image held r (Called (Sleep blocks) next) = (blocks ≤ 255) × (next ≡ 
 IsAct image held r (Called Exit next) = next ≡ r
 IsAct image held r (Faulted f) = Unit {0}
 
+-- an act that is no LOCK
+abbrev pub IsNoLock : Act → Type 0
+IsNoLock (Next next put) = Unit {0}
+IsNoLock (Called (Lock lock) next) = ⊥
+IsNoLock (Called (Unlock lock) next) = Unit {0}
+IsNoLock (Called (Sleep blocks) next) = Unit {0}
+IsNoLock (Called Exit next) = Unit {0}
+IsNoLock (Faulted f) = Unit {0}
+
 -- the registers that an act leaves are registers
 abbrev pub KeepsRegisters : Act → Type 0
 KeepsRegisters (Next next put) = IsRegisters next

@@ -1,6 +1,7 @@
 //! Guest calls.
 
-ghost use Rattle.std.specs.Prelude.{◌≡◌};
+ghost use Rattle.std.specs.Prelude.{◌≡◌, ◌==◌};
+ghost use Rattle.tc_isa.specs.Registers.{get};
 ghost use Rattle.tc_isa.specs.Sets.{has};
 ghost use Rattle.tc_exec.specs.Calls as calls;
 ghost use Rattle.tc_exec.specs.Flow.{faulted_or};
@@ -92,6 +93,13 @@ fn called(fault: Option<Fault>, call: Call, regs: &Regs, value: u32) -> Act
             regs: answered(regs, value),
         },
     }
+}
+
+/// Whether x17 has the number of LOCK.
+pub fn is_numbered_lock(regs: &Regs) -> bool
+    ensures { result ≡ (get regs.now 17 == 1) }
+{
+    regs.get(Reg::of(17)) == LOCK
 }
 
 /// What ECALL does. `answer` is 1 for the LOCK of a broken lock, and else 0.

@@ -1,21 +1,24 @@
 //! The next instruction: what it loads, and what it does.
 
-ghost use Rattle.std.specs.Prelude.{◌≡◌};
+ghost use Rattle.std.specs.Prelude.{◌≡◌, ℕ, Bool, false};
 ghost use Rattle.tc_isa.specs.Sets.{has};
 ghost use Rattle.tc_exec.specs.Step as step;
-ghost use Rattle.tc_exec.specs.Told.{IsWant, IsAct};
+ghost use Rattle.tc_exec.specs.Told.{IsWant, IsAct, IsNoLock};
 
 use crate::access::{load, load_want, store};
 use crate::arithmetic::{op_of_imm, value_of};
-use crate::calls::guest_call;
+use crate::calls::{guest_call, is_numbered_lock};
 use crate::flow::{branch, jump, set, stepped};
 use crate::outcome::{Act, Want};
 use tc_elf::image::Image;
-use tc_isa::decode::decode;
+use tc_isa::decode::{decode, rows_decide};
 use tc_isa::fault::Fault;
 use tc_isa::held::Held;
 use tc_isa::instr::Instr;
 use tc_isa::regs::Regs;
+
+/// The word of ECALL.
+const ECALL: u32 = 0x73;
 
 #[tactic(auto, unfolding(crate::specs::Step::instruction_at))]
 fn instruction_at(image: &Image, pc: u32) -> Result<Instr, Fault>
@@ -111,5 +114,21 @@ pub fn act(image: &Image, held: Held, regs: &Regs, answer: u32) -> Act
     match instruction_at(image, regs.pc()) {
         Ok(instr) => act_by(image, held, regs, answer, instr),
         Err(fault) => Act::Faulted(fault),
+    }
+}
+
+/// Whether the next instruction may be a LOCK: x17 has its number, and the instruction is ECALL.
+/// It costs much less than `act`.
+pub fn may_lock(image: &Image, regs: &Regs) -> bool
+    ensures { result ≡ false → (held : ℕ → Bool) (answer : ℕ) → IsNoLock (step.act_of image.now held regs.now answer) }
+{
+    // ECALL has one word.
+    rows_decide();
+    if !is_numbered_lock(regs) {
+        return false;
+    }
+    match image.fetch(regs.pc()) {
+        Some(word) => word == ECALL,
+        None => false,
     }
 }

@@ -1,4 +1,2 @@
 pub mod MemoryLaws
 pub mod Turns
-pub mod Replaying
-pub mod Recorded

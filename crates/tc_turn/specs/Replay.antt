@@ -26,6 +26,9 @@ pub record Entry : Type 0 where
   pub finish : Registers
   pub foreign : List ℕ
 
+abbrev pub block_in : Entry → Block
+block_in e = e.block
+
 -- ---- a replay in the middle of a block
 
 -- a thread without its own memory

@@ -14,7 +14,7 @@ use std::alloc::{AllocError, Global};
 use std::marker::Model;
 use tc_elf::image::{Image, Region};
 use tc_exec::outcome::{Act, Call, Put, Want};
-use tc_exec::step::{act, wants};
+use tc_exec::step::{act, may_lock, wants};
 use tc_isa::held::Held;
 use tc_isa::regs::Regs;
 
@@ -109,11 +109,15 @@ impl GuestThread {
         Some(act(image, self.held, &self.regs, answer))
     }
 
-    /// The lock of its next turn, where that is a lawful LOCK.
-    #[tactic(auto, unfolding(crate::specs::Turn::next_lock))]
+    /// The lock of its next turn, where that is a lawful LOCK. It costs little where the next
+    /// instruction is no LOCK.
+    #[tactic(auto, unfolding(crate::specs::Turn::next_lock), using(crate::proofs::Turns::none_next))]
     pub fn next_lock(&self, image: &Image) -> Option<u32>
         ensures { result ≡ next_lock image.now (thread_of self.now) }
     {
+        if !may_lock(image, &self.regs) {
+            return None;
+        }
         taken_by(&self.act(image, 0)?)
     }
 

@@ -1,6 +1,6 @@
-use Rattle.std.proofs.Common.{◌≡◌, ℕ, Bool, ◌++◌, ◌∷◌, [], ◌<◌, length, ap, sym, ◌∙◌, false, true, arith}
+use Rattle.std.proofs.Common.{◌≡◌, ℕ, Bool, ◌++◌, ◌∷◌, [], ◌<◌, length, ap, sym, ◌∙◌, false, arith}
 use Rattle.tc_elf.specs.Shown.{Range, range_at}
-use Rattle.tc_turn.specs.Memory.{byte_in, part_of}
+use Rattle.tc_turn.specs.Memory.{byte_in}
 use Rattle.tc_turn.proofs.MemoryLaws.{writable_more, writable_same}
 use Rattle.tc_turn.proofs.memory.writable_parts.Goals.{then-range+in_ok-part_of+in_ok-push, else-range}
 use Rattle.tc_turn.proofs.memory.writable_parts.Goals as goal

@@ -1,6 +1,6 @@
-use Rattle.std.proofs.Common.{◌≡◌, ℕ, ◌++◌, ◌∷◌, [], ap, sym, ◌∙◌}
-use Rattle.tc_elf.specs.declared.limits.TheConstants.{STACK_START, STACK_LENGTH}
-use Rattle.tc_turn.specs.Memory.{Own, own_of}
+use Rattle.std.proofs.Common.{◌++◌, ◌∷◌, [], ap, ◌∙◌}
+use Rattle.tc_elf.specs.declared.limits.TheConstants.{STACK_START}
+use Rattle.tc_turn.specs.Memory.{own_of}
 use Rattle.tc_turn.proofs.MemoryLaws.{own_of-start}
 use Rattle.tc_turn.proofs.memory.Memory.start.Goals as goal
 
