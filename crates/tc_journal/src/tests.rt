@@ -124,174 +124,95 @@ block 6 thread 0 turns 1000 held - kind on worker 1 end spent
     Ok(())
 }
 
+/// Texts of one line that is right.
+const RIGHT: [&str; 9] = [
+    "block 0 thread 0 turns 2 held - kind start worker 0 end exit\n",
+    "block 0 thread 4294967295 turns 2 held - kind start worker 0 end exit\n",
+    "block 0 thread 0 turns 1 held - kind start worker 0 end exit\n",
+    "block 0 thread 0 turns 4096 held - kind start worker 0 end exit\n",
+    "block 0 thread 0 turns 2 held 31 kind start worker 0 end exit\n",
+    "block 0 thread 0 turns 2 held 0,1,2,3,4,5 kind start worker 0 end exit\n",
+    "block 0 thread 0 turns 2 held - kind start worker 4294967295 end exit\n",
+    "block 0 thread 0 turns 2 held - kind start worker 0 end wants 31\n",
+    "block 0 thread 0 turns 2 held - kind start worker 0 end fault 12\n",
+];
+
+/// Texts whose first line has other spaces, ends of line or letters than a block's.
+const WRONG_FORM: [&str; 6] = [
+    "\n",
+    "block 0 thread 0 turns 2 held - kind start worker 0 end exit",
+    "block 0 thread 0 turns 2 held - kind start worker 0 end exit\r\n",
+    "block 0 thread 0 turns 2 held - kind start worker 0 end exit \n",
+    " block 0 thread 0 turns 2 held - kind start worker 0 end exit\n",
+    "block 0 thread 0  turns 2 held - kind start worker 0 end exit\n",
+];
+
+/// Texts whose first line has a number that is spelled otherwise, out of range or not the stamp.
+const WRONG_NUMBER: [&str; 9] = [
+    "block 1 thread 0 turns 2 held - kind start worker 0 end exit\n",
+    "block 00 thread 0 turns 2 held - kind start worker 0 end exit\n",
+    "block +0 thread 0 turns 2 held - kind start worker 0 end exit\n",
+    "block 18446744073709551616 thread 0 turns 2 held - kind on worker 0 end exit\n",
+    "block 0 thread 01 turns 2 held - kind start worker 0 end exit\n",
+    "block 0 thread 4294967296 turns 2 held - kind start worker 0 end exit\n",
+    "block 0 thread 0 turns 0 held - kind start worker 0 end exit\n",
+    "block 0 thread 0 turns 4097 held - kind start worker 0 end exit\n",
+    "block 0 thread 0 turns 2 held - kind start worker 4294967296 end exit\n",
+];
+
+/// Texts whose first line has held locks that are none, or are not in ascending order.
+const WRONG_HELD: [&str; 5] = [
+    "block 0 thread 0 turns 2 held 32 kind start worker 0 end exit\n",
+    "block 0 thread 0 turns 2 held 1,0 kind start worker 0 end exit\n",
+    "block 0 thread 0 turns 2 held 1,1 kind start worker 0 end exit\n",
+    "block 0 thread 0 turns 2 held 0,1, kind start worker 0 end exit\n",
+    "block 0 thread 0 turns 2 held  kind start worker 0 end exit\n",
+];
+
+/// Texts whose first line has a word, a kind or an end that is none.
+const WRONG_WORD: [&str; 9] = [
+    "Block 0 thread 0 turns 2 held - kind start worker 0 end exit\n",
+    "block 0 thread 0 turns 2 held - kind lent worker 0 end exit\n",
+    "block 0 thread 0 turns 2 held - kind start worker 0 end wants 32\n",
+    "block 0 thread 0 turns 2 held - kind start worker 0 end unlocked 32\n",
+    "block 0 thread 0 turns 2 held - kind start worker 0 end wants\n",
+    "block 0 thread 0 turns 2 held - kind start worker 0 end fault 0\n",
+    "block 0 thread 0 turns 2 held - kind start worker 0 end fault 13\n",
+    "block 0 thread 0 turns 2 held - kind start worker 0 end exit 0\n",
+    "block 0 thread 0 turns 2 held - kind start worker 0 end done\n",
+];
+
 #[test]
-fn the_first_wrong_line_is_named(rt: HostRuntime) -> Result<(), Fail> {
-    let good = "block 0 thread 0 turns 2 held - kind start worker 0 end exit\n";
-    let cases = [
-        ("", Ok(0)),
-        (good, Ok(1)),
-        ("\n", Err(1)),
-        (
-            "block 0 thread 0 turns 2 held - kind start worker 0 end exit",
-            Err(1),
-        ),
-        (
-            "block 0 thread 0 turns 2 held - kind start worker 0 end exit\n\n",
-            Err(2),
-        ),
-        (
-            "block 0 thread 0 turns 2 held - kind start worker 0 end exit\r\n",
-            Err(1),
-        ),
-        (
-            "block 0 thread 0 turns 2 held - kind start worker 0 end exit \n",
-            Err(1),
-        ),
-        (
-            " block 0 thread 0 turns 2 held - kind start worker 0 end exit\n",
-            Err(1),
-        ),
-        (
-            "block 0 thread 0  turns 2 held - kind start worker 0 end exit\n",
-            Err(1),
-        ),
-        (
-            "Block 0 thread 0 turns 2 held - kind start worker 0 end exit\n",
-            Err(1),
-        ),
-        (
-            "block 1 thread 0 turns 2 held - kind start worker 0 end exit\n",
-            Err(1),
-        ),
-        (
-            "block 00 thread 0 turns 2 held - kind start worker 0 end exit\n",
-            Err(1),
-        ),
-        (
-            "block +0 thread 0 turns 2 held - kind start worker 0 end exit\n",
-            Err(1),
-        ),
-        (
-            "block 0 thread 01 turns 2 held - kind start worker 0 end exit\n",
-            Err(1),
-        ),
-        (
-            "block 0 thread 4294967295 turns 2 held - kind start worker 0 end exit\n",
-            Ok(1),
-        ),
-        (
-            "block 0 thread 4294967296 turns 2 held - kind start worker 0 end exit\n",
-            Err(1),
-        ),
-        (
-            "block 0 thread 0 turns 0 held - kind start worker 0 end exit\n",
-            Err(1),
-        ),
-        (
-            "block 0 thread 0 turns 1 held - kind start worker 0 end exit\n",
-            Ok(1),
-        ),
-        (
-            "block 0 thread 0 turns 4096 held - kind start worker 0 end exit\n",
-            Ok(1),
-        ),
-        (
-            "block 0 thread 0 turns 4097 held - kind start worker 0 end exit\n",
-            Err(1),
-        ),
-        (
-            "block 0 thread 0 turns 2 held 31 kind start worker 0 end exit\n",
-            Ok(1),
-        ),
-        (
-            "block 0 thread 0 turns 2 held 32 kind start worker 0 end exit\n",
-            Err(1),
-        ),
-        (
-            "block 0 thread 0 turns 2 held 1,0 kind start worker 0 end exit\n",
-            Err(1),
-        ),
-        (
-            "block 0 thread 0 turns 2 held 1,1 kind start worker 0 end exit\n",
-            Err(1),
-        ),
-        (
-            "block 0 thread 0 turns 2 held 0,1, kind start worker 0 end exit\n",
-            Err(1),
-        ),
-        (
-            "block 0 thread 0 turns 2 held 0,1,2,3,4,5 kind start worker 0 end exit\n",
-            Ok(1),
-        ),
-        (
-            "block 0 thread 0 turns 2 held  kind start worker 0 end exit\n",
-            Err(1),
-        ),
-        (
-            "block 0 thread 0 turns 2 held - kind lent worker 0 end exit\n",
-            Err(1),
-        ),
-        (
-            "block 0 thread 0 turns 2 held - kind start worker 4294967295 end exit\n",
-            Ok(1),
-        ),
-        (
-            "block 0 thread 0 turns 2 held - kind start worker 4294967296 end exit\n",
-            Err(1),
-        ),
-        (
-            "block 0 thread 0 turns 2 held - kind start worker 0 end wants 31\n",
-            Ok(1),
-        ),
-        (
-            "block 0 thread 0 turns 2 held - kind start worker 0 end wants 32\n",
-            Err(1),
-        ),
-        (
-            "block 0 thread 0 turns 2 held - kind start worker 0 end unlocked 32\n",
-            Err(1),
-        ),
-        (
-            "block 0 thread 0 turns 2 held - kind start worker 0 end wants\n",
-            Err(1),
-        ),
-        (
-            "block 0 thread 0 turns 2 held - kind start worker 0 end fault 0\n",
-            Err(1),
-        ),
-        (
-            "block 0 thread 0 turns 2 held - kind start worker 0 end fault 12\n",
-            Ok(1),
-        ),
-        (
-            "block 0 thread 0 turns 2 held - kind start worker 0 end fault 13\n",
-            Err(1),
-        ),
-        (
-            "block 0 thread 0 turns 2 held - kind start worker 0 end exit 0\n",
-            Err(1),
-        ),
-        (
-            "block 0 thread 0 turns 2 held - kind start worker 0 end done\n",
-            Err(1),
-        ),
-        (
-            "block 18446744073709551616 thread 0 turns 2 held - kind on worker 0 end exit\n",
-            Err(1),
-        ),
-    ];
-    for (lines, want) in cases {
-        let found = match read(rt.alloc(), lines.as_bytes()) {
-            Ok(blocks) => Ok(blocks.len()),
-            Err(BadText::Line(line)) => Err(line),
-            Err(BadText::OutOfMemory) => Err(0),
-        };
-        assert_eq!(rt; found, want, "{lines}");
+fn one_right_line_is_read(rt: HostRuntime) -> Result<(), Fail> {
+    for line in RIGHT {
+        assert_eq!(rt; read(rt.alloc(), line.as_bytes())?.len(), 1, "{line}");
     }
+    assert_eq!(rt; read(rt.alloc(), b"")?.len(), 0);
+    Ok(())
+}
+
+#[test]
+fn a_wrong_first_line_is_named(rt: HostRuntime) {
+    for lines in [
+        WRONG_FORM.as_slice(),
+        WRONG_NUMBER.as_slice(),
+        WRONG_HELD.as_slice(),
+        WRONG_WORD.as_slice(),
+    ] {
+        for line in lines {
+            let found = read(rt.alloc(), line.as_bytes()).err();
+            assert_eq!(rt; found, Some(BadText::Line(1)), "{line}");
+        }
+    }
+}
+
+#[test]
+fn a_wrong_second_line_is_named(rt: HostRuntime) -> Result<(), Fail> {
+    let empty = "block 0 thread 0 turns 2 held - kind start worker 0 end exit\n\n";
+    let found = read(rt.alloc(), empty.as_bytes()).err();
+    assert_eq!(rt; found, Some(BadText::Line(2)));
     let wrong = TWO_THREADS.replace(rt.alloc(), "block 1 ", "block 2 ")?;
-    assert_eq!(rt;
-        read(rt.alloc(), wrong.as_bytes()).err(),
-        Some(BadText::Line(2))
-    );
+    let found = read(rt.alloc(), wrong.as_bytes()).err();
+    assert_eq!(rt; found, Some(BadText::Line(2)));
     Ok(())
 }
