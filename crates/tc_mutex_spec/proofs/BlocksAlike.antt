@@ -5,7 +5,7 @@ use Rattle.std.proofs.lemmas.Bool.Decides.{eqb_tells}
 use Rattle.tc_elf.specs.Shown.{Shown}
 use Rattle.tc_journal.specs.Rule.{end_rule}
 use Rattle.tc_journal.specs.declared.block.End.{End}
-use Rattle.tc_turn.specs.Turn.{Thread, next_lock, next_act, outcome_of}
+use Rattle.tc_turn.specs.Turn.{Thread, next_lock, outcome_of}
 use Rattle.tc_turn.specs.Reads.{Covers}
 use Rattle.tc_turn.proofs.Turns.{covers_on, goes_on}
 use Rattle.tc_mutex_spec.specs.Machine.{State, after}

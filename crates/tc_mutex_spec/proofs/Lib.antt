@@ -6,3 +6,4 @@ pub mod ListLaws
 pub mod MutexLaws
 pub mod ThreadLaws
 pub mod SlowTurn
+pub mod Entries

@@ -1,11 +1,11 @@
 -- The locks of the plain program at the start.
-use Rattle.std.proofs.Common.{◌≡◌, ℕ, ◌<◌, ◌≤◌, length, map, false, refl, sym, ap, ◌∙◌, inl, inr}
+use Rattle.std.proofs.Common.{◌≡◌, ℕ, ◌≤◌, length, map, false, sym, ap, ◌∙◌, inl, inr}
 use Rattle.std.specs.List.{range_with_len}
 use Rattle.std.proofs.lemmas.List.{get_or_past}
 use Rattle.std.specs.Prelude.{None}
-use Rattle.tc_elf.specs.Shown.{Shown, Guard, guard_at}
+use Rattle.tc_elf.specs.Shown.{Shown, Guard}
 use Rattle.tc_turn.specs.Memory.{starting_bytes}
-use Rattle.tc_turn.specs.Turn.{Mutex, mutex_at_start}
+use Rattle.tc_turn.specs.Turn.{mutex_at_start}
 use Rattle.tc_mutex_spec.specs.Slow.{mutex_or, mutex_at, no_mutex}
 use Rattle.tc_mutex_spec.proofs.ListLaws.{below_or, made_get, made_past}
 

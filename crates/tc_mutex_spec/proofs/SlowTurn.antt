@@ -1,5 +1,5 @@
 -- One turn of the plain program is one of the machine.
-use Rattle.std.proofs.Common.{◌≡◌, ◌≢◌, ℕ, ◌<◌, ◌≤◌, Bool, true, false, ◌==◌, List, set, length, get_or, refl, sym, ap, ◌∙◌, arith, inl, inr}
+use Rattle.std.proofs.Common.{◌≡◌, ℕ, ◌<◌, true, false, ◌==◌, List, set, length, get_or, sym, ap, ◌∙◌, arith, inl, inr}
 use Rattle.std.specs.Prelude.{slice_get, Option, Some, nat_lt, if◌then◌else◌}
 use Rattle.std.specs.Option.{option_map}
 use Rattle.std.proofs.lemmas.Bool.Decides.{nat_tests, eqb_tells}
@@ -8,10 +8,10 @@ use Rattle.std.proofs.lemmas.Option.{slice_get-get_or, slice_get_past}
 use Rattle.tc_isa.specs.Sets.{has}
 use Rattle.tc_elf.specs.Shown.{Shown}
 use Rattle.tc_exec.specs.declared.outcome.Act.{Act}
-use Rattle.tc_turn.specs.Turn.{Thread, Mutex, Guest, thread_of, next_lock, next_act, thread_after, mutex_after}
+use Rattle.tc_turn.specs.Turn.{Thread, Mutex, Guest, thread_of, next_act, thread_after, mutex_after}
 use Rattle.tc_turn.specs.Reads.{Covers}
 use Rattle.tc_turn.proofs.Turns.{leaves, next_known, held_known}
-use Rattle.tc_mutex_spec.specs.Machine.{State, after}
+use Rattle.tc_mutex_spec.specs.Machine.{after}
 use Rattle.tc_mutex_spec.specs.Slow.{Plain, thread_or, mutex_or, no_mutex, thread_at, mutex_at, state_of, Suits}
 use Rattle.tc_mutex_spec.proofs.ListLaws.{get-set_same, get-set_other, below_or}
 

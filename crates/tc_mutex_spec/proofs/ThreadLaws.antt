@@ -1,5 +1,5 @@
 -- The threads of the plain program at the start.
-use Rattle.std.proofs.Common.{◌≡◌, ℕ, true, false, length, map, refl, ◌∙◌, sym, ap, arith, inl, inr}
+use Rattle.std.proofs.Common.{◌≡◌, ℕ, true, false, map, refl, ◌∙◌, sym, ap, arith, inl, inr}
 use Rattle.std.specs.Prelude.{nat_lt, if◌then◌else◌, unwrap_or, slice_get, List, Option, Some, None}
 use Rattle.std.specs.List.{range_with_len}
 use Rattle.std.specs.Option.{option_map}

@@ -1,7 +1,8 @@
 -- Blocks of a thread's turns, and the histories that tell a run.
-use Rattle.std.specs.Prelude.{◌≡◌, ℕ, zero, suc, ◌+◌, ◌<◌, Bool, true, false, not, ◌||◌, ◌==◌, List, [], ◌∷◌, ◌++◌, length, map, is_some, Option, Some, None}
+use Rattle.std.specs.Prelude.{◌≡◌, ℕ, zero, suc, ◌+◌, ◌<◌, Bool, true, false, not, ◌||◌, ◌==◌, List, [], ◌∷◌, ◌++◌, length, is_some, Option, Some, None}
 use Rattle.tc_isa.specs.Sets.{has}
 use Rattle.tc_elf.specs.Shown.{Shown}
+use Rattle.tc_journal.specs.Batch.{is_section}
 use Rattle.tc_journal.specs.Rule.{end_rule}
 use Rattle.tc_journal.specs.declared.block.Block.{Block}
 use Rattle.tc_journal.specs.declared.block.End.{End}
@@ -40,14 +41,6 @@ locks_of_block held (Some lock) = plus_lock held lock
 
 -- ---- histories
 
--- whether a block of this kind begins by taking a lock
-abbrev pub is_section : Kind → Bool
-is_section Start = false
-is_section On = false
-is_section Taken = true
-is_section Adopted = true
-is_section Granted = true
-
 abbrev pub is_first : Kind → Bool
 is_first Start = true
 is_first On = false
@@ -74,6 +67,15 @@ TellsAfter image seen m (b ∷ h) last = (mid : State) × Stands image seen m b 
 -- the history tells a run from the start to last
 abbrev pub Tells : Shown → ℕ → List Block → State → Type 0
 Tells image fuel h last = TellsAfter image [] (start image fuel) h last
+
+-- the machine to which blocks lead from this one
+abbrev pub led_to : Shown → State → List Block → State
+led_to image m [] = m
+led_to image m (b ∷ h) = led_to image (reach image m b.thread b.turns) h
+
+-- the machine at the end of a history
+abbrev pub end_after : Shown → ℕ → List Block → State
+end_after image fuel h = led_to image (start image fuel) h
 
 -- a run to the end: no thread goes on
 abbrev pub IsComplete : Shown → State → Type 0

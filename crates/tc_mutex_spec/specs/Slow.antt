@@ -1,9 +1,7 @@
 -- The plain program's threads and locks as the machine.
-use Rattle.std.specs.Prelude.{◌≡◌, ℕ, ◌<◌, true, false, Bool, List, [], length, slice_get, IfSome, Option, Some, None}
-use Rattle.tc_isa.specs.Sets.{has}
+use Rattle.std.specs.Prelude.{◌≡◌, ℕ, ◌<◌, true, false, Bool, List, [], length, slice_get, Option, Some, None}
 use Rattle.tc_elf.specs.Shown.{Shown}
-use Rattle.tc_exec.specs.declared.outcome.Act.{Act}
-use Rattle.tc_turn.specs.Turn.{Thread, Mutex, Guest, thread_of, no_thread, next_act, ActFits}
+use Rattle.tc_turn.specs.Turn.{Thread, Mutex, Guest, thread_of, no_thread}
 use Rattle.tc_mutex_spec.specs.Machine.{State, can_turn, after}
 
 -- the threads and the locks, each by number

@@ -10,6 +10,7 @@ use Rattle.tc_journal.specs.declared.block.End.{End}
 use Rattle.tc_turn.specs.Memory.{put_number}
 use Rattle.tc_turn.specs.Turn.{Mutex, mutex_at_start}
 use Rattle.tc_turn.specs.Replay.{Entry, ended, Replays, replay_entry, replayed, AreReplayed}
+pub use Rattle.tc_turn.specs.Replay.{block_in}
 
 -- the entry of the block that runs: the lock as it was before it, and its words so far
 pub record Opened : Type 0 where
@@ -49,9 +50,6 @@ with_closed sealed (Some e) = sealed ++ e ∷ []
 -- all entries: the last one may not be sealed yet
 abbrev pub entries : Journal → List Entry
 entries j = with_closed j.sealed j.closed
-
-abbrev pub block_in : Entry → Block
-block_in e = e.block
 
 -- the blocks that were sealed
 abbrev pub blocks_of : LockView → List Block

@@ -4,8 +4,6 @@ use Rattle.std.proofs.lemmas.List.{map-append, length-map}
 use Rattle.std.proofs.lemmas.List.FromFn.{map-range_with_len_more, length-map-range_with_len}
 use Rattle.tc_turn.specs.Turn.{Thread, thread_of, thread_at_start}
 use Rattle.tc_mutex_spec.proofs.ThreadLaws.{start_each}
-use Rattle.tc_mutex_spec.specs.Machine.{start}
-use Rattle.tc_mutex_spec.specs.Slow.{thread_at}
 use Rattle.tc_mutex_spec.proofs.slow.start_threads.Goals as goal
 
 pub loop-t-preserved : goal.loop-t-preserved
