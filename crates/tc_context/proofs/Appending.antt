@@ -42,6 +42,7 @@ appended image fuel h m old new b tells shows is =
       to,
       record {
         tells = tells-more image [] h _ m to b tells stands;
+        runs = runs;
         shows = subst (λ t. Agree t (set_of new) (whole new) to) (sym is.runs.keeps.thread) (record { thread = r.2.thread; locks = λ k s. r.2.locks k (sym (is.runs.keeps.set k) ∙ s) });
         others = λ other disjoint s. shows_still old other m to r.3 disjoint s;
         threads = apart.threads;

@@ -50,7 +50,7 @@ runs_from image a b new turns end same runs = record {
       );
 }
 
-runs_to : (image : Shown) (a b c : Context) (turns : ℕ) (end : End) → SamePart b c → RunsAs image a b turns end → RunsAs image a c turns end
+pub runs_to : (image : Shown) (a b c : Context) (turns : ℕ) (end : End) → SamePart b c → RunsAs image a b turns end → RunsAs image a c turns end
 runs_to image a b c turns end same runs = record {
   keeps = keeps_all a b c runs.keeps same.keeps;
   block = λ m agree. (let r = runs.block m agree in (r.0, r.1, subst (λ x. Agree a.thread (set_of a) x r.0) (sym same.machine) r.2, r.3));

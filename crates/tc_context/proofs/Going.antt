@@ -1,6 +1,6 @@
 -- What a thread holds in the middle of a block, and what the block's end gives up.
-use Rattle.std.proofs.Common.{◌≡◌, ◌⊎◌, ℕ, zero, suc, ◌+◌, ◌<◌, Bool, true, false, not, ◌||◌, ◌&&◌, ◌==◌, refl, sym, ap, subst, ◌∙◌, arith, inl, inr}
-use Rattle.std.specs.Prelude.{Option, Some, None, if◌then◌else◌}
+use Rattle.std.proofs.Common.{◌≡◌, ◌⊎◌, ℕ, zero, suc, ◌+◌, ◌<◌, ◌≤◌, length, Bool, true, false, not, ◌||◌, ◌&&◌, ◌==◌, refl, sym, ap, subst, ◌∙◌, arith, inl, inr}
+use Rattle.std.specs.Prelude.{Option, Some, None, IfSome, if◌then◌else◌}
 use Rattle.std.proofs.lemmas.Bool.Decides.{eqb_tells}
 use Rattle.tc_elf.specs.Shown.{Shown}
 use Rattle.tc_isa.specs.Registers.{Registers}
@@ -11,11 +11,13 @@ use Rattle.tc_exec.specs.declared.outcome.Act.TheVariants.{Next, Called, Faulted
 use Rattle.tc_exec.specs.declared.outcome.Call.TheVariants.{Lock, Unlock, Sleep, Exit}
 use Rattle.tc_exec.proofs.Laws.{lock_is_free}
 use Rattle.tc_journal.specs.Rule.{end_rule}
+use Rattle.tc_journal.specs.History.{IsEnd}
 use Rattle.tc_journal.specs.Batch.{unlocks, ends_thread}
 use Rattle.tc_journal.specs.declared.rule.Outcome.TheVariants as outcome
 use Rattle.tc_journal.specs.declared.block.End.{End}
 use Rattle.tc_journal.specs.declared.block.End.TheVariants as end
-use Rattle.tc_turn.specs.Turn.{Thread, Mutex, taken_by, next_lock, next_act, answer_to, outcome_of, thread_after, mutex_after, given_up}
+use Rattle.tc_turn.specs.Turn.{Thread, Mutex, taken_by, next_lock, next_act, answer_to, outcome_of, thread_after, mutex_after, given_up, ActFits}
+use Rattle.tc_turn.proofs.Turns.{next_known}
 use Rattle.tc_context.proofs.Replaying.{taken_was}
 use Rattle.tc_mutex_spec.specs.Machine.{State, after}
 use Rattle.tc_mutex_spec.specs.Blocks.{locks_of_block, reach, Runs}
@@ -30,6 +32,31 @@ went_ends n None e is =
       | true ↦ λ is. (let s : end.Cut ≡ e = cc in subst (λ x. (ends_thread x ≡ false) × ((k : ℕ) → unlocks k x ≡ false)) s (refl, λ k. refl))
       | false ↦ λ is. absurd (cc)
     ]) is
+
+went_fits : (n : ℕ) (next : Option ℕ) (e : End) → IfSome next (λ k. k < 32) → end_rule outcome.Went n next ≡ Some e → IsEnd e
+went_fits n (Some lock) e small is = (let s : end.Wants lock ≡ e = cc in subst IsEnd s small)
+went_fits n None e small is = (elim (n == 4096) as (λ b. (if b then Some end.Cut else None) ≡ Some e → IsEnd e) [
+  | true ↦ λ h. (let s : end.Cut ≡ e = cc in subst IsEnd s tt)
+  | false ↦ λ h. absurd (cc)
+]) is
+
+-- the next lock is one of the image's
+pub next_small : (image : Shown) (d : Thread) → length image.guards ≤ 32 → IfSome (next_lock image d) (λ k. k < 32)
+next_small image d few = go (next_lock image d) refl
+  where
+    go : (o : Option ℕ) → next_lock image d ≡ o → IfSome o (λ k. k < 32)
+    go None e = tt
+    go (Some k) e = omega (arith, next_known image d k e, few)
+
+-- an end names a lock below 32, where the turn before it and the next one do
+pub end_fits : (a : Option Act) (n : ℕ) (next : Option ℕ) (e : End) → IfSome a ActFits → IfSome next (λ k. k < 32) → end_rule (outcome_of a) n next ≡ Some e → IsEnd e
+end_fits None n next e fits small is = (let s : end.Spent ≡ e = cc in subst IsEnd s tt)
+end_fits (Some (Next regs put)) n next e fits small is = went_fits n next e small is
+end_fits (Some (Called (Lock lock) regs)) n next e fits small is = went_fits n next e small is
+end_fits (Some (Called (Unlock lock) regs)) n next e fits small is = (let s : end.Unlocked lock ≡ e = cc in subst IsEnd s fits)
+end_fits (Some (Called (Sleep m) regs)) n next e fits small is = (let s : end.Slept ≡ e = cc in subst IsEnd s tt)
+end_fits (Some (Called Exit regs)) n next e fits small is = (let s : end.Exit ≡ e = cc in subst IsEnd s tt)
+end_fits (Some (Faulted f)) n next e fits small is = (let s : end.Fault f ≡ e = cc in subst IsEnd s tt)
 
 both_ways : (b c : Bool) → b ≡ true → b ≡ false → c ≡ true
 both_ways b c e f = absurd (let h : true ≡ false = sym e ∙ f in cc)
@@ -64,6 +91,23 @@ survives d (Some (Called (Unlock lock) regs)) k n next e is h =
 survives d (Some (Called (Sleep m) regs)) k n next e is h = (let s : end.Slept ≡ e = cc in subst (λ x. (unlocks k x ≡ false) × (ends_thread x ≡ false)) s (refl, refl))
 survives d (Some (Called Exit regs)) k n next e is h = absurd (cc)
 survives d (Some (Faulted f)) k n next e is h = absurd (cc)
+
+-- what such a turn takes from its thread, its end gives up
+gives : (d : Thread) (a : Option Act) (k n : ℕ) (next : Option ℕ) (e : End) → end_rule (outcome_of a) n next ≡ Some e → d.held k ≡ true → (thread_after d a).held k ≡ false → (unlocks k e || ends_thread e) ≡ true
+gives d None k n next e is h out = (let s : end.Spent ≡ e = cc in ap (λ x. unlocks k x || ends_thread x) (sym s))
+gives d (Some (Next regs put)) k n next e is h out = both_ways _ _ h out
+gives d (Some (Called (Lock lock) regs)) k n next e is h out = both_ways _ _ (or_right (k == lock) (d.held k) h) out
+gives d (Some (Called (Unlock lock) regs)) k n next e is h out =
+    (let s : end.Unlocked lock ≡ e = cc in ap (λ x. unlocks k x || ends_thread x) (sym s) ∙ ap (λ b. b || false) same)
+  where
+    same : (lock == k) ≡ true
+    same = elim (eqb_tells lock k) [
+      | inl g ↦ g.0
+      | inr g ↦ (elim (eqb_tells k lock) [ inl f ↦ absurd (g.1 (sym f.1)) | inr f ↦ both_ways (d.held k) _ h (sym (ap (λ b. not b && d.held k) f.0) ∙ out) ])
+    ]
+gives d (Some (Called (Sleep m) regs)) k n next e is h out = both_ways _ _ h out
+gives d (Some (Called Exit regs)) k n next e is h out = (let s : end.Exit ≡ e = cc in ap (λ x. unlocks k x || ends_thread x) (sym s))
+gives d (Some (Faulted f)) k n next e is h out = (let s : end.Fault f ≡ e = cc in ap (λ x. unlocks k x || ends_thread x) (sym s))
 
 -- ---- the turns before it
 
@@ -147,4 +191,25 @@ module _ (image : Shown) (m to : State) (t n : ℕ) (e : End) (runs : Runs image
   block_survives h = (elim n as (λ x. n ≡ x → (unlocks k e ≡ false) × (ends_thread e ≡ false)) [
     | zero ↦ λ z. absurd (let s = runs.some in omega (arith, z))
     | suc i ↦ λ s. survives_at i (sym s) h
+  ]) refl
+
+  gives_at : locks_of_block (m.threads t).held (next_lock image (m.threads t)) k ≡ true → (i : ℕ) → suc i ≡ n → ((at n).threads t).held k ≡ false → (unlocks k e || ends_thread e) ≡ true
+  gives_at h zero is out =
+      let d = m.threads t in
+      let left : (thread_after d (next_act image d m.locks)).held k ≡ false = sym (ap (λ j. ((at j).threads t).held k) (sym is) ∙ ap (λ (x : Thread). x.held k) (after_thread image m t)) ∙ out in
+      elim (in_block d.held (next_lock image d) k h) [
+        | inl was ↦ gives d (next_act image d m.locks) k 1 (next_lock image ((after image m t).threads t)) e (runs.ends 0 (omega (arith, is))) was left
+        | inr took ↦ (let a = next_takes image d m.locks k took in both_ways _ _ (ap (λ b. b || d.held k) (eq_self k)) (sym (ap (λ x. (thread_after d x).held k) a.1) ∙ left))
+      ]
+  gives_at h (suc i) is out =
+      let from = at (suc i) in
+      gives (from.threads t) (next_act image (from.threads t) from.locks) k (suc i + 1) (next_lock image ((after image from t).threads t)) e (runs.ends (suc i) (omega (arith, is)))
+      (holds_within h i (omega (arith, is)))
+      (sym (ap (λ j. ((at j).threads t).held k) (sym is) ∙ ap (λ (x : Thread). x.held k) (after_thread image from t)) ∙ out)
+
+  -- a lock of the block that the thread doesn't hold after it is one that the block's end gives up
+  pub block_gives : locks_of_block (m.threads t).held (next_lock image (m.threads t)) k ≡ true → ((reach image m t n).threads t).held k ≡ false → (unlocks k e || ends_thread e) ≡ true
+  block_gives h out = (elim n as (λ x. n ≡ x → (unlocks k e || ends_thread e) ≡ true) [
+    | zero ↦ λ z. absurd (let s = runs.some in omega (arith, z))
+    | suc i ↦ λ s. gives_at h i (sym s) out
   ]) refl

@@ -7,3 +7,4 @@ pub mod Going
 pub mod Blocked
 pub mod Staging
 pub mod Appending
+pub mod Following

@@ -1,8 +1,8 @@
 -- A package's lock states after a change of each of them.
-use Rattle.std.proofs.Common.{◌≡◌, ℕ, get_or, set, ◌<◌, Bool, true, false, ◌==◌, List, length, refl, sym, ap, ◌∙◌, inl, inr, arith}
+use Rattle.std.proofs.Common.{◌≡◌, ℕ, get_or, set, ◌<◌, Bool, true, false, not, ◌==◌, List, length, refl, sym, ap, ◌∙◌, inl, inr}
 use Rattle.std.specs.Prelude.{Option, Some, None, nat_lt, if◌then◌else◌}
 use Rattle.std.specs.Option.{option_map}
-use Rattle.std.proofs.lemmas.Bool.Decides.{eqb_tells, nat_tests}
+use Rattle.std.proofs.lemmas.Bool.Decides.{eqb_tells}
 use Rattle.tc_segment.specs.View.{LockView}
 use Rattle.tc_context.specs.Locks.{slot_of, lock_in, when_in, Changed, at_place}
 use Rattle.tc_mutex_spec.proofs.ListLaws.{get-set_same, get-set_other}
@@ -20,11 +20,15 @@ pub option_map-twice : {X : Type 0} (f g h : X → X) (o : Option X) → ((x : X
 option_map-twice f g h None same = refl
 option_map-twice f g h (Some x) same = ap Some (same x)
 
--- what wasn't come to yet is as it was
-pub up_to_here : (f : ℕ → LockView → LockView) (n : ℕ) (old now : List (Option LockView)) → Changed (up_to f n) old now → lock_in now n ≡ lock_in old n
-up_to_here f n old now changed =
-    let e : nat_lt n n ≡ false = grind (arith, nat_tests) in
-    changed n ∙ option_map-id (up_to f n n) (lock_in old n) (λ l. ap (λ b. when_in b (f n) l) e)
+-- ---- a walk over a set of locks
+
+-- the changes of the places outside a set: those at which a walk over the set has been
+abbrev pub outside : (ℕ → Bool) → (ℕ → LockView → LockView) → ℕ → LockView → LockView
+outside left f k l = when_in (not (left k)) (f k) l
+
+-- what is left of the walk is as it was
+pub outside_here : (left : ℕ → Bool) (f : ℕ → LockView → LockView) (n : ℕ) (old now : List (Option LockView)) → left n ≡ true → Changed (outside left f) old now → lock_in now n ≡ lock_in old n
+outside_here left f n old now has_n changed = changed n ∙ option_map-id (outside left f n) (lock_in old n) (λ l. ap (λ b. when_in (not b) (f n) l) has_n)
 
 -- ---- one place
 

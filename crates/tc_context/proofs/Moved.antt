@@ -33,7 +33,7 @@ pub map_some : {X Y : Type 0} (f : X → Y) (o : Option X) (l : Y) → option_ma
 map_some f None l e = absurd (cc)
 map_some f (Some x) l e = (x, refl, (let same : f x ≡ l = cc in sym same))
 
-some_map : (f : LockView → LockView) (o : Option LockView) → is_some (option_map f o) ≡ is_some o
+pub some_map : {X Y : Type 0} (f : X → Y) (o : Option X) → is_some (option_map f o) ≡ is_some o
 some_map f None = refl
 some_map f (Some l) = refl
 

@@ -162,6 +162,10 @@ partway_ends image old now new n a end go partway is moves ends =
           (r.0, r.1, agree_trans t (set_of old) (whole new) (reach image (whole old) t (n + 1)) r.0 back r.2, r.3);
     }
 
+-- a block has a turn
+pub runs_some : {image : Shown} {old new : Context} {n : ℕ} {e : End} → RunsAs image old new n e → 1 ≤ n
+runs_some {old = old} runs = (let some = (runs.block (whole old) (record { thread = refl; locks = λ k h. refl })).1.some in omega arith)
+
 -- the package is the same part of the machine when its words are noted
 pub partway_noted : (image : Shown) (old now new : Context) (n : ℕ) (words : ℕ → _) (block : ℕ → Bool) → Partway image old now n → Notes words block now new → Partway image old new n
 partway_noted image old now new n words block partway notes = record {

@@ -220,7 +220,7 @@ runs_when true false c e = e
 runs_when false false c e = absurd (cc)
 
 -- a thread that takes a turn runs
-turn_runs : (image : Shown) (m : State) (t : ℕ) → can_turn image m t ≡ true → (m.threads t).status ≡ Running
+pub turn_runs : (image : Shown) (m : State) (t : ℕ) → can_turn image m t ≡ true → (m.threads t).status ≡ Running
 unfolding can_turn
 turn_runs image m t e = running_is (m.threads t).status (runs_when _ _ _ e)
 

@@ -1,12 +1,12 @@
 -- What a package keeps, through each of its calls.
 use Rattle.std.proofs.Common.{◌≡◌, ◌≢◌, ℕ, zero, suc, ◌-◌, ◌<◌, ◌≤◌, Bool, true, false, not, ◌||◌, ◌&&◌, ◌==◌, List, [], ◌∷◌, ◌++◌, map, length, refl, sym, ap, subst, ◌∙◌, arith, inl, inr, length-append}
-use Rattle.std.specs.Prelude.{Option, Some, None, is_some, slice_get, if◌then◌else◌}
+use Rattle.std.specs.Prelude.{Option, Some, None, IfSome, is_some, slice_get, if◌then◌else◌}
 use Rattle.std.specs.Option.{option_map}
 use Rattle.std.proofs.lemmas.Bool.Decides.{eqb_tells}
 use Rattle.std.proofs.lemmas.List.{map-append}
 use Rattle.tc_isa.specs.Sets.{has}
 use Rattle.tc_elf.specs.Shown.{Shown}
-use Rattle.tc_journal.specs.Batch.{is_section, begins, is_lock, takes_of, last_of, allows_of, may_go_on, may_follow}
+use Rattle.tc_journal.specs.Batch.{is_section, begins, is_lock, takes_of, last_of, allows_of, may_go_on, may_follow, ends_section}
 use Rattle.tc_journal.specs.declared.block.Block.{Block}
 use Rattle.tc_journal.specs.declared.block.End.{End}
 use Rattle.tc_journal.specs.declared.block.Kind.{Kind}
@@ -26,11 +26,11 @@ use Rattle.tc_context.specs.declared.context.Context.{Context}
 use Rattle.tc_context.specs.declared.package.Grant.{Grant}
 use Rattle.tc_context.specs.Whole.{thread_in, whole, set_of, journal_in, journal_at, CanGo, RunsAs, block_locks, entry_of, entered, Journals}
 use Rattle.tc_context.specs.Middle.{AreReady}
-use Rattle.tc_context.specs.View.{PackageView, granted_lock, want_of, kind_of, IsReserved, IsFresh, AtStage, AreAtStage, Survives, GoesOn, Ran, IsAt, EndsWith, MayTake, IsSound, Allows}
+use Rattle.tc_context.specs.View.{PackageView, granted_lock, want_of, kind_of, IsReserved, IsFresh, AtStage, AreAtStage, Survives, Rests, IsIdle, Ran, IsAt, EndsWith, MayTake, IsSound, Allows}
 use Rattle.tc_context.proofs.LockList.{option_map-twice}
 use Rattle.tc_context.proofs.Moved.{map_some, keeps_changed, journals_changed, identifies_when}
 use Rattle.tc_context.proofs.Replaying.{IsRecord, record_takes}
-use Rattle.tc_context.proofs.Going.{block_survives, in_block}
+use Rattle.tc_context.proofs.Going.{block_survives, block_gives, in_block}
 
 pub none_some : {X : Type 0} (o : Option X) (x : X) → o ≡ None → o ≡ Some x → ⊥
 none_some o x e f = (let h : None ≡ Some x = sym e ∙ f in cc)
@@ -40,6 +40,10 @@ false_true b e f = (let h : false ≡ true = sym e ∙ f in cc)
 
 journal_was : (p : Context) (k : ℕ) (j : Journal) → journal_at p k ≡ Some j → (l : LockView) × (lock_in p.locks k ≡ Some l) × (j ≡ l.journal)
 journal_was p k j e = map_some journal_in (lock_in p.locks k) j e
+
+-- a lock rests by its sealed entries alone
+rests_as : (k : ℕ) (i j : Journal) → j.sealed ≡ i.sealed → Rests k i → Rests k j
+rests_as k i j e rests = subst (λ s. IfSome (last_of (map block_in s)) (λ b. ends_section k b ≡ true)) (sym e) rests
 
 -- ---- a package in which nothing ran
 
@@ -51,7 +55,10 @@ fresh_sound image t fuel p fresh lt =
       of = λ k l e. absurd (none_some (lock_in p.context.locks k) l (fresh.locks k) e);
       held = λ k h. absurd (false_true _ (none k) h);
       stage = λ k j e. absurd (none_some (journal_at p.context k) j (ap (option_map journal_in) (fresh.locks k)) e);
-      at = subst (λ x. IsAt x p.context) (sym fresh.pending) (λ k j h e. absurd (false_true _ (none k) h));
+      at = subst (λ x. IsAt x p.context) (sym fresh.pending) (record {
+        on = λ k j h e. absurd (false_true _ (none k) h);
+        rests = λ k j out e. absurd (none_some (journal_at p.context k) j (ap (option_map journal_in) (fresh.locks k)) e);
+      });
       grant = subst (λ x. MayTake p.image p.context x) (sym fresh.granted) tt;
       log = subst (λ x. EndsWith p.log x) (sym fresh.pending) tt;
     }
@@ -121,11 +128,16 @@ sound_rooms p locks room same sound =
     at : (b : Option Block) → IsAt b p.context
         → ((k : ℕ) (j : Journal) → journal_at (with_rooms p locks room).context k ≡ Some j → (i : Journal) × (journal_at p.context k ≡ Some i) × (j.opened ≡ i.opened) × (j.closed ≡ i.closed) × (j.sealed ≡ i.sealed))
         → IsAt b (with_rooms p locks room).context
-    at None goes journal = λ k j h e. (let i = journal k j e in ap (λ s. may_go_on k (last_of (map block_in s)) p.context.thread) i.4 ∙ goes k i.0 h i.1)
+    at None idle journal = record {
+      on = λ k j h e. (let i = journal k j e in ap (λ s. may_go_on k (last_of (map block_in s)) p.context.thread) i.4 ∙ idle.on k i.0 h i.1);
+      rests = λ k j out e. (let i = journal k j e in rests_as k i.0 j i.4 (idle.rests k i.0 out i.1));
+    }
     at (Some b) ran journal = record {
       thread = ran.thread;
       held = ran.held;
       on = λ k j h e not. (let i = journal k j e in ap (λ s. may_go_on k (last_of (map block_in s)) b.thread) i.4 ∙ ran.on k i.0 h i.1 not);
+      gave = ran.gave;
+      rests = λ k j out e. (let i = journal k j e in rests_as k i.0 j i.4 (ran.rests k i.0 out i.1));
     }
 
 -- ---- a block
@@ -206,6 +218,15 @@ entered_sealed : (b : Bool) (e : Entry) (i : Journal) → (entered b e i).sealed
 entered_sealed true e i = refl
 entered_sealed false e i = refl
 
+-- a lock that isn't of the block wasn't held before it
+not_before : (held : ℕ → Bool) (next : Option ℕ) (k : ℕ) → locks_of_block held next k ≡ false → held k ≡ false
+not_before held None k out = out
+not_before held (Some lock) k out = neither (k == lock) (held k) out
+  where
+    neither : (a b : Bool) → (a || b) ≡ false → b ≡ false
+    neither true b e = absurd (cc)
+    neither false b e = e
+
 at_end : (bs : List Block) (b : Block) → slice_get (bs ++ b ∷ []) (length bs) ≡ Some b
 at_end [] b = refl
 at_end (x ∷ bs) b = at_end bs b
@@ -216,13 +237,32 @@ last_is bs b = ap (slice_get (bs ++ b ∷ [])) (let e : length (bs ++ b ∷ []) 
 not_begun : (o : Option ℕ) (k : ℕ) → is_lock o k ≡ false → o ≡ Some k → ⊥
 not_begun o k out is = (let h : (k == k) ≡ false = ap (λ x. is_lock x k) (sym is) ∙ out in elim (eqb_tells k k) [ inl e ↦ (let f : true ≡ false = sym e.0 ∙ h in cc) | inr e ↦ e.1 refl ])
 
+pub some_of : (o : Option LockView) → is_some o ≡ true → (l : LockView) × (o ≡ Some l)
+some_of None e = absurd (cc)
+some_of (Some l) e = (l, refl)
+
+-- the record of a package's next block has its held set and its kind
+pub record_is : (image : Shown) (p : Context) (b : Block) → CanGo image p → ((k : ℕ) → has b.held k ≡ block_locks image p k) → is_section b.kind ≡ is_some (next_lock image (thread_in p)) → IsRecord image (whole p) b
+record_is image p b go held section = record {
+  few = go.guards;
+  small = λ k h. (let l = some_of (lock_in p.locks k) (go.covers.held k h) in let known = (go.of k l.0 l.1).known in let few = go.guards in omega (arith, known, few));
+  held = held;
+  section = section;
+}
+
 module _ (image : Shown) (old : PackageView) (new : Context) (b : Block) (log : List Block) (room : ℕ) (is : old.image ≡ image) (sound : IsSound old) (rest : old.pending ≡ None) (go : CanGo image old.context)
     (runs : RunsAs image old.context new b.turns b.end) (journals : Journals image old.context new b) (thread : b.thread ≡ old.context.thread) (section : is_section b.kind ≡ is_some (next_lock image (thread_in old.context))) (logged : log ≡ old.log ++ b ∷ []) where
   abbrev alone : (to : State) × (Runs image (whole old.context) old.context.thread b.turns b.end to) × (Agree old.context.thread (set_of old.context) (whole new) to) × (Apart old.context.thread (set_of old.context) (whole old.context) to)
   alone = runs.block (whole old.context) (record { thread = refl; locks = λ k h. refl })
 
+  end_is : (k : ℕ) → ((reach image (whole old.context) old.context.thread b.turns).threads old.context.thread).held k ≡ has new.guest.held k
+  end_is k = sym (ap (λ (d : Thread). d.held k) (alone.2.thread ∙ ap (λ (m : State). m.threads old.context.thread) alone.1.last))
+
   end_held : (k : ℕ) → has new.guest.held k ≡ true → ((reach image (whole old.context) old.context.thread b.turns).threads old.context.thread).held k ≡ true
-  end_held k h = sym (ap (λ (d : Thread). d.held k) (alone.2.thread ∙ ap (λ (m : State). m.threads old.context.thread) alone.1.last)) ∙ h
+  end_held k h = end_is k ∙ h
+
+  idle_was : IsIdle old.context
+  idle_was = subst (λ x. IsAt x old.context) rest sound.at
 
   held_locks : (k : ℕ) → has new.guest.held k ≡ true → block_locks image old.context k ≡ true
   held_locks k h = block_covered image (whole old.context) alone.0 old.context.thread b.turns b.end alone.1 k (end_held k h)
@@ -230,23 +270,15 @@ module _ (image : Shown) (old : PackageView) (new : Context) (b : Block) (log : 
   stage_was : AreAtStage None old.context
   stage_was = subst (λ x. AreAtStage x old.context) rest sound.stage
 
-  some_of : (o : Option LockView) → is_some o ≡ true → (l : LockView) × (o ≡ Some l)
-  some_of None e = absurd (cc)
-  some_of (Some l) e = (l, refl)
-
-  record_is : IsRecord image (whole old.context) b
-  record_is = record {
-    few = go.guards;
-    small = λ k h. (let l = some_of (lock_in old.context.locks k) (go.covers.held k h) in let known = (go.of k l.0 l.1).known in let few = go.guards in omega (arith, known, few));
-    held = journals.held;
-    section = section;
-  }
+  -- a lock of the block is in the package
+  block_here : (k : ℕ) → has b.held k ≡ true → set_of new k ≡ true
+  block_here k h = runs.keeps.set k ∙ (elim (in_block (has old.context.guest.held) (next_lock image (thread_in old.context)) k (sym (journals.held k) ∙ h)) [ inl was ↦ go.covers.held k was | inr took ↦ go.covers.next k took ])
 
   pub ran_sound : IsSound (record { image = old.image; context = new; granted = None; pending = Some b; log = log; log_room = room; numbers = old.numbers; turns = old.turns; slept = old.slept })
   ran_sound = record {
     thread = rw runs.keeps.thread sound.thread;
     of = runs.keeps.of old.image sound.of;
-    held = λ k h. runs.keeps.set k ∙ (elim (in_block (has old.context.guest.held) (next_lock image (thread_in old.context)) k (held_locks k h)) [ inl was ↦ go.covers.held k was | inr took ↦ go.covers.next k took ]);
+    held = λ k h. block_here k (journals.held k ∙ held_locks k h);
     stage = λ k j e.
         (let was = entered_was (has b.held k) (entry_of image k (whole old.context) b) (journal_at old.context k) j (sym (journals.entries k) ∙ e) in
         let s = stage_was k was.0 was.1 in
@@ -257,10 +289,14 @@ module _ (image : Shown) (old : PackageView) (new : Context) (b : Block) (log : 
       held = λ k h. (let s = block_survives image (whole old.context) alone.0 old.context.thread b.turns b.end alone.1 k (end_held k h) in (journals.held k ∙ held_locks k h, record { lock = s.0; runs = s.1 }));
       on = λ k j h e not.
           (let was = entered_was (has b.held k) (entry_of image k (whole old.context) b) (journal_at old.context k) j (sym (journals.entries k) ∙ e) in
-          let goes : GoesOn old.context = subst (λ x. IsAt x old.context) rest sound.at in
-          let takes : takes_of b ≡ next_lock image (thread_in old.context) = record_takes image (whole old.context) b record_is in
+          let takes : takes_of b ≡ next_lock image (thread_in old.context) = record_takes image (whole old.context) b (record_is image old.context b go journals.held section) in
           let held : has old.context.guest.held k ≡ true = elim (in_block (has old.context.guest.held) (next_lock image (thread_in old.context)) k (sym (journals.held k) ∙ h)) [ inl before ↦ before | inr took ↦ absurd (not_begun (takes_of b) k not (takes ∙ took)) ] in
-          (λ i. may_go_on k (last_of (map block_in ((ap (λ (x : Journal). x.sealed) was.2 ∙ entered_sealed (has b.held k) (entry_of image k (whole old.context) b) was.0) i))) (thread i)) ∙ goes k was.0 held was.1);
+          (λ i. may_go_on k (last_of (map block_in ((ap (λ (x : Journal). x.sealed) was.2 ∙ entered_sealed (has b.held k) (entry_of image k (whole old.context) b) was.0) i))) (thread i)) ∙ idle_was.on k was.0 held was.1);
+      gave = λ k h out. block_gives image (whole old.context) alone.0 old.context.thread b.turns b.end alone.1 k (sym (journals.held k) ∙ h) (end_is k ∙ out);
+      rests = λ k j out e.
+          (let was = entered_was (has b.held k) (entry_of image k (whole old.context) b) (journal_at old.context k) j (sym (journals.entries k) ∙ e) in
+          rests_as k was.0 j (ap (λ (x : Journal). x.sealed) was.2 ∙ entered_sealed (has b.held k) (entry_of image k (whole old.context) b) was.0)
+          (idle_was.rests k was.0 (not_before (has old.context.guest.held) (next_lock image (thread_in old.context)) k (sym (journals.held k) ∙ out)) was.1));
     };
     grant = tt;
     log = ap last_of logged ∙ last_is old.log b;
@@ -308,6 +344,22 @@ sealed_rest false b stamp worker i o c = record { opened = o; closed = c }
 goes_with : (k t : ℕ) (b : Block) → Survives k b.end → b.thread ≡ t → may_go_on k (Some b) t ≡ true
 goes_with k t b s e = (λ i. not (s.lock i || s.runs i) && (e i == t)) ∙ (elim (eqb_tells t t) [ inl h ↦ h.0 | inr h ↦ absurd (h.1 refl) ])
 
+-- the last block of a lock of the pending block, once that is sealed
+last_sealed : (v : Bool) (stamp worker : ℕ) (i j : Journal) (x : Entry) → v ≡ true → j ≡ sealed_when v stamp worker i → i.closed ≡ Some x → last_of (map block_in j.sealed) ≡ Some (sealed_block stamp worker x.block)
+last_sealed v stamp worker i j x h is closed =
+    let sealed : j.sealed ≡ i.sealed ++ sealed_entry stamp worker x ∷ [] = ap (λ (y : Journal). y.sealed) is ∙ ap (λ w. (sealed_when w stamp worker i).sealed) h ∙ ap (sealed_list stamp worker i.sealed) closed in
+    ap (λ y. last_of (map block_in y)) sealed ∙ ap last_of (map-append block_in i.sealed (sealed_entry stamp worker x ∷ [])) ∙ last_is (map block_in i.sealed) (sealed_block stamp worker x.block)
+
+-- once the pending block is sealed, a lock rests that its end gave up, or that isn't of it and rested
+rests_sealed : (p : Context) (b : Block) (stamp worker : ℕ) (k : ℕ) (i j : Journal) → AreAtStage (Some b) p → journal_at p k ≡ Some i → j ≡ sealed_when (has b.held k) stamp worker i → (has b.held k ≡ true → ends_section k b ≡ true) → (has b.held k ≡ false → Rests k i) → Rests k j
+rests_sealed p b stamp worker k i j stage at is gave rests = by (has b.held k) refl
+  where
+    by : (v : Bool) → has b.held k ≡ v → Rests k j
+    by true h =
+        let x = entry_was p b k i stage at h in
+        subst (λ o. IfSome o (λ y. ends_section k y ≡ true)) (sym (last_sealed (has b.held k) stamp worker i j x.0 h is x.1)) (ap (ends_section k) x.2 ∙ gave h)
+    by false h = rests_as k i j (ap (λ (y : Journal). y.sealed) is ∙ ap (λ w. (sealed_when w stamp worker i).sealed) h) (rests h)
+
 pub sealed_sound : (p q : PackageView) (b : Block) (stamp worker : ℕ) → IsSound p → p.pending ≡ Some b → q.pending ≡ None → q.image ≡ p.image → q.granted ≡ p.granted → q.context.thread ≡ p.context.thread → q.context.guest ≡ p.context.guest
     → Changed (sealed_in (has b.held) stamp worker) p.context.locks q.context.locks → IsSound q
 sealed_sound p q b stamp worker sound pending none image granted thread guest changed =
@@ -326,31 +378,34 @@ sealed_sound p q b stamp worker sound pending none image granted thread guest ch
           let s = stage k was.0 was.1 in
           let r = sealed_rest (has b.held k) b stamp worker was.0 s.opened s.closed in
           record { opened = ap (λ (i : Journal). i.opened) was.2 ∙ r.opened; closed = ap (λ (i : Journal). option_map block_in i.closed) was.2 ∙ r.closed }));
-      at = subst (λ x. IsAt x q.context) (sym none) (λ k j h e.
-          (let was = map_some (sealed_when (has b.held k) stamp worker) (journal_at p.context k) j (sym (journals k) ∙ e) in
-          let r = ran.held k (sym (held k) ∙ h) in
-          let x = entry_was p.context b k was.0 stage was.1 r.0 in
-          let sealed : j.sealed ≡ was.0.sealed ++ sealed_entry stamp worker x.0 ∷ [] = ap (λ (i : Journal). i.sealed) was.2 ∙ ap (λ v. (sealed_when v stamp worker was.0).sealed) r.0 ∙ ap (sealed_list stamp worker was.0.sealed) x.1 in
-          let last : last_of (map block_in j.sealed) ≡ Some (sealed_block stamp worker x.0.block) = ap (λ y. last_of (map block_in y)) sealed ∙ ap last_of (map-append block_in was.0.sealed (sealed_entry stamp worker x.0 ∷ [])) ∙ last_is (map block_in was.0.sealed) (sealed_block stamp worker x.0.block) in
-          ap (λ o. may_go_on k o q.context.thread) last
-          ∙ goes_with k q.context.thread (sealed_block stamp worker x.0.block) (subst (λ (y : Block). Survives k y.end) (sym x.2) r.1) (ap (λ (y : Block). y.thread) x.2 ∙ ran.thread ∙ sym thread)));
+      at = subst (λ x. IsAt x q.context) (sym none) (record {
+        on = λ k j h e.
+            (let was = map_some (sealed_when (has b.held k) stamp worker) (journal_at p.context k) j (sym (journals k) ∙ e) in
+            let r = ran.held k (sym (held k) ∙ h) in
+            let x = entry_was p.context b k was.0 stage was.1 r.0 in
+            ap (λ o. may_go_on k o q.context.thread) (last_sealed (has b.held k) stamp worker was.0 j x.0 r.0 was.2 x.1)
+            ∙ goes_with k q.context.thread (sealed_block stamp worker x.0.block) (subst (λ (y : Block). Survives k y.end) (sym x.2) r.1) (ap (λ (y : Block). y.thread) x.2 ∙ ran.thread ∙ sym thread));
+        rests = λ k j out e.
+            (let was = map_some (sealed_when (has b.held k) stamp worker) (journal_at p.context k) j (sym (journals k) ∙ e) in
+            rests_sealed p.context b stamp worker k was.0 j stage was.1 was.2 (λ h. ran.gave k h (sym (held k) ∙ out)) (λ h. ran.rests k was.0 h was.1));
+      });
       grant = subst (λ x. MayTake x q.context q.granted) (sym image) (subst (λ x. MayTake p.image q.context x) (sym granted) (may_take p.image p.context q.context p.granted (λ i. thread_of (guest i)) keeps.set sound.grant));
       log = subst (λ x. EndsWith q.log x) (sym none) tt;
     }
 
 -- ---- a grant, and a lock that is taken out
 
-pub granted_sound : (p q : PackageView) (lock : LockView) (kind : Kind) → IsSound p → p.pending ≡ None → want_of p.image p.context ≡ Some lock.number → lock.journal.image ≡ p.image → lock.journal.opened ≡ None → lock.journal.closed ≡ None → is_section kind ≡ true
+pub granted_sound : (p q : PackageView) (lock : LockView) (kind : Kind) → IsSound p → p.pending ≡ None → want_of p.image p.context ≡ Some lock.number → lock.journal.image ≡ p.image → lock.journal.opened ≡ None → lock.journal.closed ≡ None → Rests lock.number lock.journal → is_section kind ≡ true
     → q.image ≡ p.image → q.pending ≡ p.pending → q.log ≡ p.log → q.context.thread ≡ p.context.thread → q.context.guest ≡ p.context.guest → q.granted ≡ Some (record { lock = lock.number; kind = kind })
     → ((k : ℕ) → lock_in q.context.locks k ≡ (if k == lock.number then Some lock else lock_in p.context.locks k)) → IsSound q
-granted_sound p q lock kind sound rest want of opened closed section image pending log thread guest granted locks =
+granted_sound p q lock kind sound rest want of opened closed ended section image pending log thread guest granted locks =
     let n = lock.number in
     let next : next_lock p.image (thread_in p.context) ≡ Some n = next_of (is_running p.context.guest.status) want in
     let none : q.pending ≡ None = pending ∙ rest in
     let held : (k : ℕ) → has q.context.guest.held k ≡ has p.context.guest.held k = (λ k i. has (guest i).held k) in
     let free : has p.context.guest.held n ≡ false = next_free p.image (thread_in p.context) n next in
     let stage : AreAtStage None p.context = subst (λ x. AreAtStage x p.context) rest sound.stage in
-    let goes : GoesOn p.context = subst (λ x. IsAt x p.context) rest sound.at in
+    let idle : IsIdle p.context = subst (λ x. IsAt x p.context) rest sound.at in
     let here : (k : ℕ) → k ≡ n → lock_in q.context.locks k ≡ Some lock = (λ k e. locks k ∙ (elim (eqb_tells k n) [ inl h ↦ ap (λ v. if v then Some lock else lock_in p.context.locks k) h.0 | inr h ↦ absurd (h.1 e) ])) in
     let there : (k : ℕ) → k ≢ n → lock_in q.context.locks k ≡ lock_in p.context.locks k = (λ k ne. locks k ∙ (elim (eqb_tells k n) [ inl h ↦ absurd (ne h.1) | inr h ↦ ap (λ v. if v then Some lock else lock_in p.context.locks k) h.0 ])) in
     record {
@@ -364,10 +419,16 @@ granted_sound p q lock kind sound rest want of opened closed section image pendi
         | inl h ↦ (let same : Some lock.journal ≡ Some j = ap (option_map journal_in) (sym (here k h.1)) ∙ e in let f : lock.journal ≡ j = cc in subst (λ x. AtStage None k x) f (record { opened = opened; closed = ap (option_map block_in) closed }))
         | inr h ↦ stage k j (ap (option_map journal_in) (sym (there k h.1)) ∙ e)
       ]);
-      at = subst (λ x. IsAt x q.context) (sym none) (λ k j h e. elim (eqb_tells k n) [
-        | inl f ↦ absurd (false_true _ (held k ∙ ap (has p.context.guest.held) f.1 ∙ free) h)
-        | inr f ↦ ap (may_go_on k (last_of (map block_in j.sealed))) thread ∙ goes k j (sym (held k) ∙ h) (ap (option_map journal_in) (sym (there k f.1)) ∙ e)
-      ]);
+      at = subst (λ x. IsAt x q.context) (sym none) (record {
+        on = λ k j h e. elim (eqb_tells k n) [
+          | inl f ↦ absurd (false_true _ (held k ∙ ap (has p.context.guest.held) f.1 ∙ free) h)
+          | inr f ↦ ap (may_go_on k (last_of (map block_in j.sealed))) thread ∙ idle.on k j (sym (held k) ∙ h) (ap (option_map journal_in) (sym (there k f.1)) ∙ e)
+        ];
+        rests = λ k j out e. elim (eqb_tells k n) [
+          | inl f ↦ (let same : Some lock.journal ≡ Some j = ap (option_map journal_in) (sym (here k f.1)) ∙ e in let g : lock.journal ≡ j = cc in subst (Rests k) g (subst (λ x. Rests x lock.journal) (sym f.1) ended))
+          | inr f ↦ idle.rests k j (sym (held k) ∙ out) (ap (option_map journal_in) (sym (there k f.1)) ∙ e)
+        ];
+      });
       grant = subst (λ x. MayTake q.image q.context x) (sym granted) (record { next = (λ i. next_lock (image i) (thread_of (guest i))) ∙ next; here = ap is_some (here n refl); section = section });
       log = subst (λ x. EndsWith q.log x) (sym none) tt;
     }
@@ -383,7 +444,7 @@ taken_sound p q lock sound rest ungranted free image pending granted thread gues
     let none : q.pending ≡ None = pending ∙ rest in
     let held : (k : ℕ) → has q.context.guest.held k ≡ has p.context.guest.held k = (λ k i. has (guest i).held k) in
     let stage : AreAtStage None p.context = subst (λ x. AreAtStage x p.context) rest sound.stage in
-    let goes : GoesOn p.context = subst (λ x. IsAt x p.context) rest sound.at in
+    let idle : IsIdle p.context = subst (λ x. IsAt x p.context) rest sound.at in
     let was : (k : ℕ) (l : LockView) → lock_in q.context.locks k ≡ Some l → lock_in p.context.locks k ≡ Some l = (λ k l e. left (k == lock) k l (sym (locks k) ∙ e)) in
     record {
       thread = subst (λ (x : Shown × ℕ). x.1 < length x.0.entries) (λ i. (sym image i, sym thread i)) sound.thread;
@@ -393,8 +454,10 @@ taken_sound p q lock sound rest ungranted free image pending granted thread gues
         | inr f ↦ ap is_some (locks k ∙ ap (λ v. if v then None else lock_in p.context.locks k) f.0) ∙ sound.held k (sym (held k) ∙ h)
       ]);
       stage = subst (λ x. AreAtStage x q.context) (sym none) (λ k j e. (let l = journal_was q.context k j e in stage k j (ap (option_map journal_in) (was k l.0 l.1) ∙ ap Some (sym l.2))));
-      at = subst (λ x. IsAt x q.context) (sym none) (λ k j h e. (let l = journal_was q.context k j e in
-          ap (may_go_on k (last_of (map block_in j.sealed))) thread ∙ goes k j (sym (held k) ∙ h) (ap (option_map journal_in) (was k l.0 l.1) ∙ ap Some (sym l.2))));
+      at = subst (λ x. IsAt x q.context) (sym none) (record {
+        on = λ k j h e. (let l = journal_was q.context k j e in ap (may_go_on k (last_of (map block_in j.sealed))) thread ∙ idle.on k j (sym (held k) ∙ h) (ap (option_map journal_in) (was k l.0 l.1) ∙ ap Some (sym l.2)));
+        rests = λ k j out e. (let l = journal_was q.context k j e in idle.rests k j (sym (held k) ∙ out) (ap (option_map journal_in) (was k l.0 l.1) ∙ ap Some (sym l.2)));
+      });
       grant = subst (λ x. MayTake q.image q.context x) (sym (granted ∙ ungranted)) tt;
       log = subst (λ x. EndsWith q.log x) (sym none) tt;
     }

@@ -1,9 +1,9 @@
 -- A package, as contracts see it.
-use Rattle.std.specs.Prelude.{◌≡◌, ℕ, ◌<◌, ◌≤◌, Bool, true, false, List, [], ◌∷◌, map, length, Option, Some, None, if◌then◌else◌}
+use Rattle.std.specs.Prelude.{◌≡◌, ℕ, ◌<◌, ◌≤◌, Bool, true, false, List, [], ◌∷◌, map, length, Option, Some, None, IfSome, if◌then◌else◌}
 use Rattle.std.specs.Option.{option_map}
 use Rattle.tc_isa.specs.Sets.{has}
 use Rattle.tc_elf.specs.Shown.{Shown}
-use Rattle.tc_journal.specs.Batch.{is_section, begins, last_of, allows_of, may_go_on, unlocks, ends_thread}
+use Rattle.tc_journal.specs.Batch.{is_section, begins, last_of, allows_of, may_go_on, unlocks, ends_thread, ends_section}
 use Rattle.tc_journal.specs.declared.block.Block.{Block}
 use Rattle.tc_journal.specs.declared.block.End.{End}
 use Rattle.tc_journal.specs.declared.block.Kind.{Kind}
@@ -93,15 +93,26 @@ pub record Survives (k : ℕ) (end : End) : Type 0 where
 abbrev pub GoesOn : Context → Type 0
 GoesOn p = (k : ℕ) (j : Journal) → has p.guest.held k ≡ true → journal_at p k ≡ Some j → may_go_on k (last_of (map block_in j.sealed)) p.thread ≡ true
 
+-- the last sealed entry of the lock's journal, where there is one, ended a section of the lock
+abbrev pub Rests : ℕ → Journal → Type 0
+Rests k j = IfSome (last_of (map block_in j.sealed)) (λ b. ends_section k b ≡ true)
+
+-- no block is pending: the thread is in the middle of the section of each lock that it holds, and each other lock rests
+pub record IsIdle (p : Context) : Type 0 where
+  pub on : GoesOn p
+  pub rests : (k : ℕ) (j : Journal) → has p.guest.held k ≡ false → journal_at p k ≡ Some j → Rests k j
+
 -- the block ran: the thread holds only locks of it that its end gave up no section of, and was in the middle of the section of
--- each that it didn't take
+-- each that it didn't take; the block's end gave up each lock of it that the thread doesn't hold, and each other lock rests
 pub record Ran (p : Context) (b : Block) : Type 0 where
   pub thread : b.thread ≡ p.thread
   pub held : (k : ℕ) → has p.guest.held k ≡ true → (has b.held k ≡ true) × Survives k b.end
   pub on : (k : ℕ) (j : Journal) → has b.held k ≡ true → journal_at p k ≡ Some j → begins k b ≡ false → may_go_on k (last_of (map block_in j.sealed)) b.thread ≡ true
+  pub gave : (k : ℕ) → has b.held k ≡ true → has p.guest.held k ≡ false → ends_section k b ≡ true
+  pub rests : (k : ℕ) (j : Journal) → has b.held k ≡ false → journal_at p k ≡ Some j → Rests k j
 
 abbrev pub IsAt : Option Block → Context → Type 0
-IsAt None p = GoesOn p
+IsAt None p = IsIdle p
 IsAt (Some b) p = Ran p b
 
 -- the log ends with the block that isn't sealed

@@ -8,10 +8,11 @@ use Rattle.tc_journal.specs.declared.block.End.{End}
 use Rattle.tc_turn.specs.declared.status.Status.TheVariants.{Running}
 use Rattle.tc_turn.specs.Turn.{Thread, Mutex, thread_of, next_lock}
 use Rattle.tc_turn.specs.Reads.{Covers}
-use Rattle.tc_turn.specs.Replay.{Entry, entry_along}
+use Rattle.tc_turn.specs.Replay.{Entry}
 use Rattle.tc_mutex_spec.specs.Machine.{State}
 use Rattle.tc_mutex_spec.specs.Locality.{Agree, Apart}
-use Rattle.tc_mutex_spec.specs.Blocks.{reach, locks_of_block, Runs}
+use Rattle.tc_mutex_spec.specs.Blocks.{locks_of_block, Runs}
+pub use Rattle.tc_mutex_spec.specs.Entries.{entry_of}
 use Rattle.tc_segment.specs.View.{LockView, Journal}
 use Rattle.tc_context.specs.Locks.{lock_in, mutex_or, AreOf}
 use Rattle.tc_context.specs.declared.context.Context.{Context}
@@ -63,10 +64,6 @@ pub record RunsAs (image : Shown) (old new : Context) (turns : ℕ) (end : End) 
 -- the locks of the package's next block
 abbrev pub block_locks : Shown → Context → ℕ → Bool
 block_locks image p k = locks_of_block (has p.guest.held) (next_lock image (thread_in p)) k
-
--- the block's entry in the journal of lock k, by its turns on this machine
-abbrev pub entry_of : Shown → ℕ → State → Block → Entry
-entry_of image k m b = entry_along image k (λ n. (reach image m b.thread n).threads b.thread) (λ n. (reach image m b.thread n).locks) b
 
 -- the journal with this entry more, which isn't sealed yet
 abbrev pub with_entry : Entry → Journal → Journal

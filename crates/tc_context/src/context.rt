@@ -7,6 +7,7 @@ ghost use Rattle.tc_elf.specs.Shown.{guard_at};
 ghost use Rattle.tc_exec.specs.Step.{wants_of};
 ghost use Rattle.tc_exec.specs.Told.{IsWant};
 ghost use Rattle.tc_journal.specs.Batch.{is_section, may_follow};
+ghost use Rattle.tc_journal.specs.History.{IsBlock, IsEnd};
 ghost use Rattle.tc_turn.specs.Memory.{byte_from, number_at};
 ghost use Rattle.tc_turn.specs.Reads.{Covers};
 ghost use Rattle.tc_turn.specs.Replay.{Entry};
@@ -163,6 +164,7 @@ impl Context {
         requires opened { AreOpen (has block) self.old }
         requires room { HasRoom 1 (has block) self.old }
         ensures act { result ≡ next_act image.now (thread_in self.old) (mutex_at self.old) }
+        ensures fits { IfSome result ActFits }
         ensures moves { IsTurn image.now (has block) self.old self.new result }
     {
         let want = self.guest.wants(image);
@@ -182,6 +184,8 @@ impl Context {
         requires opened { AreOpen (has block) self.old }
         requires room { HasRoom 4096 (has block) self.old }
         ensures runs { RunsAs image.now self.old self.new result.1 result.0 }
+        ensures most { result.1 ≤ 4096 }
+        ensures end { IsEnd result.0 }
         ensures journals { (k : ℕ) → journal_at self.new k ≡ option_map (noted_when (has block k) (words_of image.now self.old k result.1)) (journal_at self.old k) }
     {
         let mut next = takes;
@@ -206,10 +210,13 @@ impl Context {
         ensures journals { Journals image.now self.old self.new result }
         ensures thread { result.thread ≡ self.old.thread }
         ensures kind { result.kind ≡ kind }
+        ensures bounds { IsBlock result }
     {
         let takes = self.guest.next_lock(image);
         let held = block_held(self.guest.held(), takes);
         let thread = self.thread;
+        prove!(held.bits() <= u32::MAX);
+        prove!(thread <= u32::MAX);
         self.locks
             .open_entries(held, self.guest.regs(), self.guest.fuel());
         let (end, turns) = self.turns(image, held, takes);

@@ -18,3 +18,5 @@ pub mod context;
 pub mod law;
 pub mod locks;
 pub mod package;
+#[cfg(test)]
+mod tests;

@@ -1,6 +1,6 @@
 //! The lock states that a package has.
 
-ghost use Rattle.std.specs.Prelude.{◌≡◌, ℕ, ◌<◌, ◌+◌, ◌≤◌, ◌^◌, ◌==◌, true, [], ◌∷◌, is_some, Some, None, IfOk, OnOk, OnErr, IfSome, if◌then◌else◌};
+ghost use Rattle.std.specs.Prelude.{◌≡◌, ℕ, ◌<◌, ◌+◌, ◌≤◌, ◌^◌, ◌==◌, true, false, [], ◌∷◌, is_some, Some, None, IfOk, OnOk, OnErr, IfSome, if◌then◌else◌};
 ghost use Rattle.std.specs.Option.{option_map};
 ghost use Rattle.tc_isa.specs.Sets.{has};
 ghost use Rattle.tc_elf.specs.Places.{in_guard};
@@ -122,9 +122,10 @@ impl LockSet {
         requires ready { (k : ℕ) (l : LockView) → lock_in self.old k ≡ Some l → has held k ≡ true → is_some l.journal.opened ≡ true }
         ensures { Changed (broken_in (has held)) self.old self.new }
     {
-        self.bound();
-        for lock in 0..PLACES {
+        let mut left = held;
+        while let Some(lock) = left.least() {
             self.break_one(lock, held);
+            left = left.less(lock);
         }
     }
 
@@ -149,9 +150,10 @@ impl LockSet {
         requires room { (k : ℕ) (l : LockView) → lock_in self.old k ≡ Some l → has held k ≡ true → 0 < l.journal.entry_room }
         ensures { Changed (opened_in (has held) start fuel) self.old self.new }
     {
-        self.bound();
-        for lock in 0..PLACES {
+        let mut left = held;
+        while let Some(lock) = left.least() {
             self.open_one(lock, held, start, fuel);
+            left = left.less(lock);
         }
     }
 
@@ -174,9 +176,13 @@ impl LockSet {
         requires room { (k : ℕ) (l : LockView) → lock_in self.old k ≡ Some l → has held k ≡ true → 0 < l.journal.word_room }
         ensures { Changed (noted_in (has held) want next value) self.old self.new }
     {
-        self.bound();
-        for lock in 0..PLACES {
+        if !takes_any(want, next) {
+            return;
+        }
+        let mut left = held;
+        while let Some(lock) = left.least() {
             self.note_one(lock, held, want, next, value);
+            left = left.less(lock);
         }
     }
 
@@ -203,9 +209,10 @@ impl LockSet {
         requires closes { (k : ℕ) (l : LockView) → lock_in self.old k ≡ Some l → has held k ≡ true → (o : Opened) → l.journal.opened ≡ Some o → Closes l block.now finish o }
         ensures { Changed (closed_in (has held) block.now finish) self.old self.new }
     {
-        self.bound();
-        for lock in 0..PLACES {
+        let mut left = held;
+        while let Some(lock) = left.least() {
             self.close_one(image, lock, held, block, finish);
+            left = left.less(lock);
         }
     }
 
@@ -228,9 +235,10 @@ impl LockSet {
         requires follows { (k : ℕ) (l : LockView) → lock_in self.old k ≡ Some l → has held k ≡ true → (e : Entry) → l.journal.closed ≡ Some e → may_follow l.number l.journal.limit (blocks_of l) (sealed_block stamp worker e.block) ≡ true }
         ensures { Changed (sealed_in (has held) stamp worker) self.old self.new }
     {
-        self.bound();
-        for lock in 0..PLACES {
+        let mut left = held;
+        while let Some(lock) = left.least() {
             self.seal_one(lock, held, stamp, worker);
+            left = left.less(lock);
         }
     }
 
@@ -290,6 +298,16 @@ impl LockSet {
             Region::Guard(lock) => self.store(lock, put),
             Region::Text | Region::Private | Region::Stack | Region::Nothing => {}
         }
+    }
+}
+
+/// Whether the value of a turn may come from elsewhere for a lock.
+fn takes_any(want: Want, next: Option<u32>) -> bool
+    ensures { result ≡ false → (lock : ℕ) → takes lock want next ≡ false }
+{
+    match want {
+        Want::Load { .. } => true,
+        Want::Nothing => next.is_some(),
     }
 }
 

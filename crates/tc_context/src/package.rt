@@ -4,6 +4,7 @@ ghost use Rattle.std.specs.Prelude.{◌≡◌, ℕ, ◌+◌, ◌-◌, ◌<◌, �
 ghost use Rattle.std.specs.Option.{option_map};
 ghost use Rattle.tc_isa.specs.Sets.{has};
 ghost use Rattle.tc_journal.specs.Batch.{is_section, ends_section, last_of};
+ghost use Rattle.tc_journal.specs.History.{IsBlock};
 ghost use Rattle.tc_isa.specs.declared.limits.TheConstants.{MOST_FUEL};
 ghost use Rattle.tc_journal.specs.declared.block.Block.{Block as AnyBlock};
 ghost use Rattle.tc_turn.specs.declared.status.Status.TheVariants.{Running};
@@ -191,6 +192,8 @@ impl Package {
         ensures ok { OnOk result (IsReserved self.new) }
         ensures locks { (k : ℕ) → option_map (roomy_in 0 0 k) (lock_in self.new.context.locks k) ≡ option_map (roomy_in 0 0 k) (lock_in self.old.context.locks k) }
         ensures rest { IsOtherThanLocks self.old self.new }
+        ensures room { OnOk result (self.new.log_room ≡ 1) }
+        ensures refused { OnErr result (self.new.log_room ≡ self.old.log_room) }
     {
         self.log.reserve(1)?;
         self.context.locks.reserve()?;
@@ -210,9 +213,14 @@ impl Package {
         ensures runs { HasPending (λ b. RunsAs image.now self.old.context self.new.context b.turns result) self.new.pending }
         ensures journals { HasPending (Journals image.now self.old.context self.new.context) self.new.pending }
         ensures block { HasPending (IsNamed self.old result) self.new.pending }
+        ensures bounds { HasPending IsBlock self.new.pending }
+        // A worker that the package fitted may seal the block.
+        ensures fits { (worker : ℕ) → fits_of self.old worker ≡ true → HasPending (λ b. Allows self.new.context b worker) self.new.pending }
+        ensures here { HasPending (λ b. (k : ℕ) → has b.held k ≡ true → is_some (lock_in self.new.context.locks k) ≡ true) self.new.pending }
         ensures log { HasPending (λ b. self.new.log ≡ self.old.log ++ b ∷ []) self.new.pending }
         ensures granted { self.new.granted ≡ None }
         ensures rest { IsOtherwise self.old self.new }
+        ensures room { self.new.log_room ≡ self.old.log_room - 1 }
     {
         prove!(image.guards() <= 32);
         let kind = self.next_kind();
@@ -254,6 +262,7 @@ impl Package {
         ensures locks { Changed (sealed_in (held_in self.old.pending) stamp worker) self.old.context.locks self.new.context.locks }
         ensures granted { self.new.granted ≡ self.old.granted }
         ensures rest { IsOtherwise self.old self.new }
+        ensures room { self.new.log_room ≡ self.old.log_room }
         ensures guest { self.new.context.guest ≡ self.old.context.guest }
     {
         let Some(block) = self.pending else {
@@ -286,6 +295,7 @@ impl Package {
         ensures granted { self.new.granted ≡ Some (record { lock = lock.number; kind = kind }) }
         ensures number { self.new.numbers ≡ set self.old.numbers lock.number number }
         ensures rest { IsOtherThanGrant self.old self.new }
+        ensures room { self.new.log_room ≡ self.old.log_room }
     {
         let granted = Grant {
             lock: lock.number(),
@@ -305,6 +315,7 @@ impl Package {
         ensures lock { lock_in self.old.context.locks lock ≡ Some result }
         ensures locks { (k : ℕ) → lock_in self.new.context.locks k ≡ (if k == lock then None else lock_in self.old.context.locks k) }
         ensures rest { IsOtherThanLocks self.old self.new }
+        ensures room { self.new.log_room ≡ self.old.log_room }
     {
         self.context.locks.bound();
         match self.context.locks.take_out(lock) {

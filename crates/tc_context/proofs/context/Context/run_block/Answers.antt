@@ -1,24 +1,19 @@
-use Rattle.std.proofs.Common.{true, ◌≡◌, ℕ, ◌<◌, ◌≤◌, length, ap, sym, ◌∙◌, subst, arith}
-use Rattle.std.specs.Prelude.{IfSome, Option, Some, None}
+use Rattle.std.proofs.Common.{true, ◌≡◌, ℕ, ◌<◌, ap, sym, ◌∙◌, subst, arith}
+use Rattle.std.specs.Prelude.{IfSome, Some}
 use Rattle.std.specs.Option.{option_map}
 use Rattle.tc_isa.specs.Sets.{has}
 use Rattle.tc_isa.specs.Registers.{Registers}
 use Rattle.tc_segment.specs.View.{LockView, Opened, Closes}
-use Rattle.tc_elf.specs.Shown.{Shown}
-use Rattle.tc_turn.specs.Turn.{next_lock}
-use Rattle.tc_turn.proofs.Turns.{next_known}
 use Rattle.tc_mutex_spec.specs.Blocks.{locks_of_block}
 use Rattle.tc_context.specs.Locks.{lock_in, Changed, opened_in, closed_in}
 use Rattle.tc_context.specs.Whole.{thread_in, journal_in}
+use Rattle.tc_context.proofs.Going.{next_small}
+use Rattle.tc_context.proofs.Partway.{runs_some}
 use Rattle.tc_context.proofs.Blocked.{begun_go, begun_covers, begun_opened, begun_room, closes_image, closes_opened, closes_closed, closes, finished_runs, finished_journals}
 use Rattle.tc_context.proofs.context.Context.run_block.Goals as goal
 
-small : (image : Shown) (o next : Option ℕ) → ((k : ℕ) → next ≡ Some k → k < length image.guards) → length image.guards ≤ 32 → o ≡ next → IfSome o (λ k. k < 32)
-small image None next known few e = tt
-small image (Some k) next known few e = (let lt = known k (sym e) in omega (arith, lt, few))
-
 pub block_held-held-requires : goal.block_held-held-requires
-block_held-held-requires c = small c.args.image.now c.next_lock-takes.result (next_lock c.args.image.now (thread_in c.args.self.now)) (next_known c.args.image.now (thread_in c.args.self.now)) c.requires.go.guards c.next_lock-takes.ensures
+block_held-held-requires c = subst (λ o. IfSome o (λ k. k < 32)) (sym c.next_lock-takes.ensures) (next_small c.args.image.now (thread_in c.args.self.now) c.requires.go.guards)
 
 pub open_entries-requires-clause-opened : goal.open_entries-requires-clause-opened
 open_entries-requires-clause-opened c = λ k l found h.
@@ -92,3 +87,14 @@ returns-clause-journals c = finished_journals c.args.image.now c.args.self.now c
     (subst (λ (x : Registers × ℕ). Changed (opened_in (has c.block_held-held.result) x.0 x.1) c.args.self.now.locks c.open_entries.new.self) (λ i. (c.regs.ensures i, c.fuel.ensures i)) c.open_entries.ensures)
     c.turns-end.new.self c.turns-end.result.1 c.args.kind c.turns-end.result.0 c.turns-end.ensures.runs c.turns-end.ensures.journals c.requires.kind
     c.close_entries.new.self (subst (λ r. Changed (closed_in (has c.block_held-held.result) (record { stamp = 0; thread = c.args.self.now.thread; turns = c.turns-end.result.1; held = c.block_held-held.result; kind = c.args.kind; worker = 0; end = c.turns-end.result.0 }) r) c.turns-end.new.self.locks c.close_entries.new.self) c.regs-2.ensures c.close_entries.ensures)
+
+pub returns-clause-bounds : goal.returns-clause-bounds
+returns-clause-bounds c = record {
+  stamp = omega arith;
+  thread = omega arith;
+  some_turns = runs_some c.turns-end.ensures.runs;
+  most_turns = c.turns-end.ensures.most;
+  held = omega arith;
+  worker = omega arith;
+  end = c.turns-end.ensures.end;
+}

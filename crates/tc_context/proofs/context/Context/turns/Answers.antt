@@ -1,8 +1,10 @@
 use Rattle.std.proofs.Common.{◌+◌, ℕ, List, sym, ◌∙◌}
 use Rattle.tc_isa.specs.Sets.{has}
 use Rattle.tc_journal.specs.Rule.{end_rule}
+use Rattle.tc_turn.specs.Turn.{next_lock}
 use Rattle.tc_turn.specs.Replay.{word_of}
 use Rattle.tc_context.specs.Whole.{thread_in, mutex_at}
+use Rattle.tc_context.proofs.Going.{next_small, end_fits}
 use Rattle.tc_context.proofs.Partway.{partway_start, partway_more, partway_ends, partway_noted, act_noted, journaled_start, journaled_more, journals_ended, opened_here, room_here}
 use Rattle.tc_context.proofs.context.Context.turns.Goals as goal
 
@@ -23,6 +25,13 @@ returns-in-Some-clause-runs c =
     partway_ends image old turn.middle c.turn-act.new.self c.block.turns c.turn-act.result c.in-Some.end c.requires.go
     (partway_noted image old now turn.middle c.block.turns words (has c.args.block) c.block.invariant.partway turn.notes)
     (act_noted image now turn.middle words (has c.args.block) c.turn-act.result turn.notes c.turn-act.ensures.act) turn.moves rule
+
+pub returns-in-Some-clause-end : goal.returns-in-Some-clause-end
+returns-in-Some-clause-end c =
+    let image = c.args.image.now in
+    let d = thread_in c.turn-act.new.self in
+    let rule = (λ i. end_rule (sym c.outcome_of.ensures i) (c.block.turns + 1) (sym c.next_lock-next.ensures i)) ∙ sym c.end_of.ensures ∙ c.in-Some.is in
+    end_fits c.turn-act.result (c.block.turns + 1) (next_lock image d) c.in-Some.end c.turn-act.ensures.fits (next_small image d c.requires.go.guards) rule
 
 pub returns-in-Some-clause-journals : goal.returns-in-Some-clause-journals
 returns-in-Some-clause-journals c =

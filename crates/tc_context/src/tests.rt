@@ -1,0 +1,278 @@
+ghost use Rattle.std.specs.Prelude.{◌≡◌, ◌==◌, ℕ, true, false, None, OnOk, if◌then◌else◌};
+ghost use Rattle.tc_context.specs.Whole.{set_of};
+
+use crate::package::Package;
+use std::alloc::{AllocError, Global};
+use std::process::Abort;
+use std::test::Fail;
+use tc_elf::image::Image;
+use tc_elf::limits::MAX_FILE;
+use tc_elf::load::load;
+use tc_elf::refusal::Refusal;
+use tc_isa::held::Held;
+use tc_isa::reg::Reg;
+use tc_journal::block::{Block, End, Kind};
+use tc_segment::state::LockState;
+use tc_turn::status::Status;
+
+/// The words of a guest's file with one thread, at 0x00100000, and two guards of 4 bytes, at
+/// 0x00020000 and 0x00020004. The word behind them is the thread's own. The thread releases its
+/// locks in the order in which it took them:
+///
+/// ```text
+/// addi x10,x0,0   addi x17,x0,1   ecall   lock 0, its 3rd turn
+/// addi x10,x0,1   addi x17,x0,1   ecall   lock 1, its 6th turn
+/// addi x10,x0,0   addi x17,x0,2   ecall   unlock 0, its 9th turn
+/// addi x10,x0,1   addi x17,x0,2   ecall   unlock 1, its 12th turn
+/// addi x17,x0,93                  ecall   exit, its 14th turn
+/// ```
+const TWO_LOCKS: [u32; 68] = [
+    // The header.
+    0x464c457f, 0x00010101, 0x00000000, 0x00000000, 0x00f30002, 0x00000001, 0x00100000, 0x00000034,
+    0x00000000, 0x00000000, 0x00200034, 0x00000003, 0x00000000,
+    // The headers of the note, the code and the data.
+    0x00000004, 0x00000094, 0x00000000, 0x00000000, 0x00000038, 0x00000038, 0x00000004, 0x00000004,
+    0x00000001, 0x000000cc, 0x00100000, 0x00100000, 0x00000038, 0x00000038, 0x00000005, 0x00000004,
+    0x00000001, 0x00000104, 0x00020000, 0x00020000, 0x0000000c, 0x0000000c, 0x00000006, 0x00000004,
+    // The note on threads and guards.
+    0x00000008, 0x00000024, 0x00000001, 0x4f4c4354, 0x00534b43, 0x00000001, 0x00000001, 0x00000002,
+    0x00100000, 0x00000007, 0x00020000, 0x00000004, 0x00020004, 0x00000004,
+    // The code and the data.
+    0x00000513, 0x00100893, 0x00000073, 0x00100513, 0x00100893, 0x00000073, 0x00000513, 0x00200893,
+    0x00000073, 0x00100513, 0x00200893, 0x00000073, 0x05d00893, 0x00000073, 0x44332211, 0x88776655,
+    0xccbbaa99,
+];
+
+fn two_locks(alloc: Global) -> Result<Image, Refusal> {
+    let mut bytes = Vec::new(alloc);
+    for word in TWO_LOCKS {
+        bytes.extend_from_slice(&word.to_le_bytes())?;
+    }
+    load(alloc, &bytes[..bytes.len().min(MAX_FILE)])
+}
+
+/// Runs a block of a package by worker 0, which ends so, and seals it.
+fn step<R: Abort>(
+    rt: &R,
+    package: &mut Package,
+    image: &Image,
+    stamp: u64,
+    end: End,
+) -> Result<(), AllocError>
+    requires image { «package».old.image ≡ image.now }
+    requires pending { «package».old.pending ≡ None }
+    ensures image { «package».new.image ≡ «package».old.image }
+    ensures pending { OnOk result («package».new.pending ≡ None) }
+    ensures granted { OnOk result («package».new.granted ≡ None) }
+    ensures locks { OnOk result ((k : ℕ) → set_of «package».new.context k ≡ set_of «package».old.context k) }
+{
+    package.reserve()?;
+    let want = package.want(image);
+    assert!(rt; package.status() == Status::Running);
+    assert!(rt; want == package.granted());
+    assert!(rt; package.fits(0));
+    package.keeps();
+    prove!(image.guards() <= 32);
+    let ended = package.run_block(image);
+    assert!(rt; package.pending());
+    assert!(rt; ended == end);
+    package.seal(stamp, 0);
+    assert!(rt; !package.pending());
+    Ok(())
+}
+
+/// Grants a package the lock that it wants, with the bytes of the file and no section yet.
+fn grant_new<R: Abort>(
+    rt: &R,
+    alloc: Global,
+    package: &mut Package,
+    image: &Image,
+    lock: u32,
+) -> Result<(), AllocError>
+    requires image { «package».old.image ≡ image.now }
+    requires pending { «package».old.pending ≡ None }
+    requires granted { «package».old.granted ≡ None }
+    requires absent { set_of «package».old.context lock ≡ false }
+    ensures image { «package».new.image ≡ «package».old.image }
+    ensures pending { OnOk result («package».new.pending ≡ None) }
+    ensures locks { OnOk result ((k : ℕ) → set_of «package».new.context k ≡ (if k == lock then true else set_of «package».old.context k)) }
+{
+    assert!(rt; lock < image.guards());
+    assert!(rt; package.want(image) == Some(lock));
+    let state = LockState::new(alloc, image, lock, 4)?;
+    assert!(rt; state.allows(Kind::Taken, 7) && !state.allows(Kind::Granted, 7));
+    let number = package.next_number();
+    package.grant(state, Kind::Taken, number);
+    assert!(rt; package.granted() == Some(lock));
+    Ok(())
+}
+
+/// Takes out a lock that a package gave up. It came with the queue turn of this number.
+fn take_out<R: Abort>(rt: &R, package: &mut Package, lock: u32, number: u64) -> LockState
+    requires pending { «package».old.pending ≡ None }
+    requires granted { «package».old.granted ≡ None }
+    requires here { set_of «package».old.context lock ≡ true }
+    ensures image { «package».new.image ≡ «package».old.image }
+    ensures pending { «package».new.pending ≡ None }
+    ensures granted { «package».new.granted ≡ None }
+    ensures locks { (k : ℕ) → set_of «package».new.context k ≡ (if k == lock then false else set_of «package».old.context k) }
+{
+    assert!(rt; package.number_of(lock) == number);
+    assert!(rt; !package.held().has(lock));
+    package.take_out(lock)
+}
+
+/// A block of thread 0 that worker 0 ran.
+fn block(stamp: u64, turns: u32, held: Held, kind: Kind, end: End) -> Block {
+    Block {
+        stamp,
+        thread: 0,
+        turns,
+        held,
+        kind,
+        worker: 0,
+        end,
+    }
+}
+
+/// What a lock's journal has of each block: the block, the fuel before it, and the words that came
+/// from elsewhere.
+fn journal(alloc: Global, lock: &LockState) -> Result<Vec<(Block, u32, Vec<u32>)>, AllocError> {
+    let mut all = Vec::new(alloc);
+    for i in 0..lock.entries() {
+        let entry = lock.entry(i);
+        all.push((
+            entry.block,
+            entry.fuel,
+            Vec::from_slice(alloc, entry.foreign)?,
+        ))?;
+    }
+    Ok(all)
+}
+
+/// A package before its first block.
+#[test]
+fn a_package_starts_without_a_lock(rt: HostRuntime) -> Result<(), Fail> {
+    let image = two_locks(rt.alloc())?;
+    assert_eq!(rt; image.threads(), 1);
+    let mut package = Package::start(rt.alloc(), &image, 0, 100)?;
+    assert_eq!(rt; package.thread(), 0);
+    assert_eq!(rt; package.fuel(), 100);
+    assert_eq!(rt; package.regs().get(Reg::of(10)), 7);
+    assert!(rt; package.status() == Status::Running);
+    assert!(rt; package.held() == Held::none());
+    assert!(rt; package.log().is_empty());
+    assert!(rt; !package.pending());
+    assert!(rt; package.granted().is_none());
+    assert!(rt; package.want(&image).is_none());
+    assert!(rt; package.fits(7));
+    for (addr, byte) in [
+        (0x0002_0008, Some(0x99)),
+        (0x0002_000b, Some(0xcc)),
+        (0x7fff_c000, Some(0)),
+        // A guard and the code are not the thread's own.
+        (0x0002_0000, None),
+        (0x0002_0007, None),
+        (0x0010_0000, None),
+    ] {
+        assert!(rt; package.byte(addr) == byte, "at {addr}");
+    }
+    for number in 1..4 {
+        assert_eq!(rt; package.next_number(), number);
+    }
+    Ok(())
+}
+
+/// The blocks of a package from its start to its end, and the journals of its locks.
+#[test]
+fn a_package_runs_to_its_end(rt: HostRuntime) -> Result<(), Fail> {
+    let alloc = rt.alloc();
+    let image = two_locks(alloc)?;
+    assert_eq!(rt; image.threads(), 1);
+    let mut package = Package::start(alloc, &image, 0, 100)?;
+    step(&rt, &mut package, &image, 0, End::Wants(0))?;
+    grant_new(&rt, alloc, &mut package, &image, 0)?;
+    step(&rt, &mut package, &image, 1, End::Wants(1))?;
+    grant_new(&rt, alloc, &mut package, &image, 1)?;
+    step(&rt, &mut package, &image, 2, End::Unlocked(0))?;
+    let zero = take_out(&rt, &mut package, 0, 1);
+    step(&rt, &mut package, &image, 3, End::Unlocked(1))?;
+    let one = take_out(&rt, &mut package, 1, 2);
+    step(&rt, &mut package, &image, 4, End::Exit)?;
+    check_end(&rt, &package);
+    check_zero(&rt, alloc, &zero)?;
+    check_one(&rt, alloc, &one)?;
+    Ok(())
+}
+
+/// The package after its exit.
+fn check_end<R: Abort>(rt: &R, package: &Package) {
+    let none = Held::none();
+    let log = [
+        block(0, 2, none, Kind::Start, End::Wants(0)),
+        block(1, 3, none.plus(0), Kind::Taken, End::Wants(1)),
+        block(2, 4, none.plus(0).plus(1), Kind::Taken, End::Unlocked(0)),
+        block(3, 3, none.plus(1), Kind::On, End::Unlocked(1)),
+        block(4, 2, none, Kind::On, End::Exit),
+    ];
+    assert_eq!(rt; package.log(), log.as_slice());
+    assert!(rt; package.status() == Status::Exited);
+    assert_eq!(rt; package.fuel(), 86);
+    assert_eq!(rt; package.regs().pc(), 0x0010_0034);
+    assert_eq!(rt; package.regs().get(Reg::of(10)), 0);
+    assert_eq!(rt; package.regs().get(Reg::of(17)), 93);
+}
+
+/// Lock 0 after its section. Its foreign words are the answer of its own LOCK, in block 1, and that
+/// of lock 1's LOCK, in block 2. It was not the only lock that block 2 held, so no Adopted section
+/// may follow.
+fn check_zero<R: Abort>(rt: &R, alloc: Global, lock: &LockState) -> Result<(), AllocError> {
+    let first = Held::none().plus(0);
+    let entries = [
+        (block(1, 3, first, Kind::Taken, End::Wants(1)), 98, [0]),
+        (
+            block(2, 4, first.plus(1), Kind::Taken, End::Unlocked(0)),
+            95,
+            [0],
+        ),
+    ];
+    let told = journal(alloc, lock)?;
+    assert_eq!(rt; told.len(), 2);
+    for (got, want) in told.iter().zip(entries.iter()) {
+        assert_eq!(rt; got.0, want.0);
+        assert_eq!(rt; got.1, want.1);
+        assert_eq!(rt; got.2.as_slice(), want.2.as_slice());
+    }
+    assert_eq!(rt; lock.number(), 0);
+    assert_eq!(rt; lock.limit(), 4);
+    assert_eq!(rt; lock.bytes(), [0x11, 0x22, 0x33, 0x44].as_slice());
+    assert_eq!(rt; lock.sections(), 1);
+    assert_eq!(rt; lock.run(), 0);
+    assert!(rt; !lock.broken());
+    assert!(rt; lock.allows(Kind::Taken, 3));
+    assert!(rt; lock.allows(Kind::Granted, 3));
+    assert!(rt; !lock.allows(Kind::Adopted, 0));
+    Ok(())
+}
+
+/// Lock 1 after its section. Its only foreign word is the answer of its own LOCK, in block 2. Block
+/// 3 of worker 0 gave it up as the only lock, so an Adopted section of that worker may follow.
+fn check_one<R: Abort>(rt: &R, alloc: Global, lock: &LockState) -> Result<(), AllocError> {
+    let both = Held::none().plus(0).plus(1);
+    let told = journal(alloc, lock)?;
+    assert_eq!(rt; told.len(), 2);
+    let last = block(3, 3, Held::none().plus(1), Kind::On, End::Unlocked(1));
+    assert_eq!(rt; told[0].0, block(2, 4, both, Kind::Taken, End::Unlocked(0)));
+    assert_eq!(rt; told[0].2.as_slice(), [0].as_slice());
+    assert_eq!(rt; told[1].0, last);
+    assert_eq!(rt; told[1].1, 91);
+    assert!(rt; told[1].2.is_empty());
+    assert_eq!(rt; lock.number(), 1);
+    assert_eq!(rt; lock.bytes(), [0x55, 0x66, 0x77, 0x88].as_slice());
+    assert_eq!(rt; lock.sections(), 1);
+    assert!(rt; lock.allows(Kind::Taken, 3));
+    assert!(rt; !lock.allows(Kind::Granted, 0));
+    assert!(rt; lock.allows(Kind::Adopted, 0));
+    assert!(rt; !lock.allows(Kind::Adopted, 1));
+    Ok(())
+}
