@@ -1,5 +1,7 @@
 pub mod Numbered
 pub mod Ranges
+pub mod BlockEnds
 pub mod RunnerSteps
+pub mod Recording
 pub mod Statuses
 pub mod Files

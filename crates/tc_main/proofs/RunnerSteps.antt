@@ -1,295 +1,367 @@
--- What one block of the plain runner changes.
-use Rattle.std.proofs.Common.{◌≡◌, ◌≢◌, ℕ, zero, suc, ◌+◌, ◌<◌, ◌≤◌, ◌==◌, ◌||◌, Bool, true, false, not, List, [], ◌∷◌, ◌++◌, length, add-one, refl, sym, ap, ◌∙◌, subst, inl, inr, arith}
-use Rattle.std.specs.Prelude.{Option, Some, None, is_some, IfSome, ◌&&◌, nat_lt, if◌then◌else◌}
-use Rattle.std.proofs.lemmas.Bool.Decides.{eqb_tells}
-use Rattle.std.proofs.lemmas.Bool.{lt-ltb}
-use Rattle.std.proofs.lemmas.Option.{same_Some}
-use Rattle.std.proofs.lemmas.List.Elements.{All-push}
+-- What the plain runner keeps from block to block.
+use Rattle.std.proofs.Common.{◌≡◌, ◌≢◌, ℕ, ◌+◌, ◌<◌, ◌≤◌, ◌==◌, Bool, true, false, not, ◌||◌, List, [], ◌∷◌, ◌++◌, map, length, refl, sym, ap, ◌∙◌, subst, inl, inr, arith}
+use Rattle.std.specs.Prelude.{Option, Some, None, is_some, nat_lt, if◌then◌else◌}
+use Rattle.std.specs.Option.{option_map}
+use Rattle.std.proofs.lemmas.Bool.Decides.{eqb_tells, nat_tests}
+use Rattle.std.proofs.lemmas.Bool.{lt-ltb, ltb-true}
 use Rattle.tc_isa.specs.Sets.{has}
-use Rattle.tc_elf.specs.Shown.{Shown}
-use Rattle.tc_exec.specs.declared.outcome.Act.{Act}
-use Rattle.tc_exec.specs.declared.outcome.Act.TheVariants.{Next, Called, Faulted}
-use Rattle.tc_exec.specs.declared.outcome.Call.TheVariants.{Lock, Unlock, Sleep, Exit}
-use Rattle.tc_journal.specs.History.{IsBlock, IsEnd, IsHistoryFrom, schedule}
-use Rattle.tc_journal.specs.Rule.{end_rule}
-use Rattle.tc_journal.specs.declared.rule.Outcome.{Outcome}
-use Rattle.tc_journal.specs.declared.rule.Outcome.TheVariants as outcome
-use Rattle.tc_journal.specs.declared.block.End.TheVariants as end
+use Rattle.tc_elf.specs.Shown.{Shown, guard_at}
+use Rattle.tc_journal.specs.Batch.{Obeys}
+use Rattle.tc_journal.specs.History.{of_lock}
 use Rattle.tc_journal.specs.declared.block.Block.{Block}
-use Rattle.tc_journal.specs.declared.block.End.{End}
-use Rattle.tc_turn.specs.Turn.{Thread, Mutex, is_running, next_lock, next_act, thread_after, outcome_of, thread_at_start, no_thread}
-use Rattle.tc_turn.proofs.Turns.{next_free, goes_on}
-use Rattle.tc_mutex_spec.specs.Machine.{State, can_turn, after, start, spread, is_open, IsHeldByOwner}
-use Rattle.tc_mutex_spec.specs.Blocks.{reach, end_at, Runs, Tells, has_block, is_section, is_first, locks_of_block}
-use Rattle.tc_mutex_spec.proofs.Local.{after_thread}
-use Rattle.tc_mutex_spec.proofs.BlocksAlike.{runs_apart}
-use Rattle.tc_mutex_spec.proofs.Folding.{run_from-is-turns, tells-more, tells-run}
-use Rattle.tc_mutex_spec.proofs.Holds.{holds_turns, holds_start}
-use Rattle.tc_main.specs.Runner.{Between, At}
+use Rattle.tc_journal.specs.declared.block.Kind.TheVariants.{Taken}
+use Rattle.tc_turn.specs.declared.status.Status.{Status}
+use Rattle.tc_turn.specs.declared.status.Status.TheVariants.{Running, Exited, Faulted as Failed, SpentFuel}
+use Rattle.tc_turn.specs.Turn.{Thread, thread_of, is_running, next_lock, mutex_at_start}
+use Rattle.tc_turn.specs.Replay.{Entry, unowned, replayed, AreReplayed}
+use Rattle.tc_turn.proofs.Turns.{next_free, next_known}
+use Rattle.tc_mutex_spec.specs.Machine.{start}
+use Rattle.tc_mutex_spec.specs.Blocks.{locks_of_block}
+use Rattle.tc_mutex_spec.specs.Entries.{entries_by, HasJournal}
+use Rattle.tc_mutex_spec.proofs.Entries.{entries_blocks}
+use Rattle.tc_segment.specs.View.{LockView, Journal, block_in, lock_of, fresh_state, with_closed, IsSound}
+use Rattle.tc_context.specs.Locks.{lock_in}
+use Rattle.tc_context.specs.Whole.{thread_in, set_of, journal_in}
+use Rattle.tc_context.specs.View.{PackageView, granted_lock, want_of, fits_in, fits_granted, AtStage, AreAtStage, Rests, IsIdle, IsAt, IsFresh, IsSound as PackageIsSound, with_turns, IsOtherThanGrant, IsOtherThanLocks}
+use Rattle.tc_context.specs.History.{Follows, LockFollows}
+use Rattle.tc_context.proofs.Following.{follows_start, follows_granted, follows_taken, taken_fits}
+use Rattle.tc_main.specs.Legal.{finished_in, guarded_in}
+use Rattle.tc_main.specs.Runner.{now, IsHome, Between, At, IsRested, IsReady, HasLocks}
+use Rattle.tc_main.specs.declared.results.Finished.{Finished}
+use Rattle.tc_main.specs.declared.words.Options.{Options}
+use Rattle.tc_main.proofs.Ranges.{map_more}
 
--- ---- histories that grow at their end
+-- ---- at the start
 
-history_more : (first : ℕ) (h : List Block) (b : Block) → IsHistoryFrom first h → IsBlock b → b.stamp ≡ first + length h → IsHistoryFrom first (h ++ b ∷ [])
-history_more first [] b told block stamp = (block, omega (arith, stamp), tt)
-history_more first (x ∷ h) b told block stamp = (told.0, told.1, history_more (first + 1) h b told.2 block (omega (arith, stamp)))
-
-has_block_more : (h : List Block) (b : Block) (u : ℕ) → has_block (h ++ b ∷ []) u ≡ (has_block h u || (b.thread == u))
-has_block_more [] b u = elim (b.thread == u) as (λ c. (c || false) ≡ (false || c)) [ true ↦ refl | false ↦ refl ]
-has_block_more (x ∷ h) b u =
-    ap (λ c. (x.thread == u) || c) (has_block_more h b u)
-    ∙ elim (x.thread == u) as (λ c. (c || (has_block h u || (b.thread == u))) ≡ ((c || has_block h u) || (b.thread == u))) [ true ↦ refl | false ↦ refl ]
-
-or_false : (b : Bool) → (b || false) ≡ b
-or_false b = elim b as (λ c. (c || false) ≡ c) [ true ↦ refl | false ↦ refl ]
-
-or_true : (b : Bool) → (b || true) ≡ true
-or_true b = elim b as (λ c. (c || true) ≡ true) [ true ↦ refl | false ↦ refl ]
-
--- ---- the next turn is defined
-
-held_by_owner : (image : Shown) (fuel : ℕ) (h : List Block) (m : State) → Tells image fuel h m → IsHeldByOwner m
-held_by_owner image fuel h m told =
-    holds_turns image (spread (schedule h)) (start image fuel) m (holds_start image fuel)
-    (sym (run_from-is-turns image (start image fuel) (schedule h)) ∙ tells-run image [] h (start image fuel) m told)
-
--- a lock that t wants has no owner where no other thread holds one
-free_lock : (image : Shown) (m : State) (t k : ℕ) → IsHeldByOwner m → ((u j : ℕ) → u ≢ t → (m.threads u).held j ≡ false) → next_lock image (m.threads t) ≡ Some k → (m.locks k).owner ≡ None
-free_lock image m t k holds idle next = go (m.locks k).owner refl
-  where
-    held : (u : ℕ) → (m.locks k).owner ≡ Some u → (m.threads u).held k ≡ false
-    held u e = elim (eqb_tells u t) [
-      | inl x ↦ subst (λ v. (m.threads v).held k ≡ false) (sym x.1) (next_free image (m.threads t) k next)
-      | inr x ↦ idle u k x.1
-    ]
-
-    go : (o : Option ℕ) → (m.locks k).owner ≡ o → o ≡ None
-    go None e = refl
-    go (Some u) e = absurd (let yes : (m.threads u).held k ≡ true = (holds u k).1 e in let never : (m.threads u).held k ≡ false = held u e in cc)
-
-pub can_go : (image : Shown) (fuel : ℕ) (h : List Block) (m : State) (t : ℕ) (began : Bool) → At image fuel h m t began → t < length image.entries → is_running (m.threads t).status ≡ true → can_turn image m t ≡ true
-unfolding can_turn
-can_go image fuel h m t began at lt running = rw (lt-ltb t (length image.entries) lt, running) (go (next_lock image (m.threads t)) refl)
-  where
-    go : (o : Option ℕ) → next_lock image (m.threads t) ≡ o → is_open o m.locks ≡ true
-    go None e = refl
-    go (Some k) e = rw (free_lock image m t k (held_by_owner image fuel h m at.so_far.tells) at.idle e) refl
-
--- ---- how a turn leaves its thread
-
-after_end : (d : Thread) (a : Option Act) → is_running d.status ≡ true → is_running (thread_after d a).status ≡ false → (k : ℕ) → (thread_after d a).held k ≡ false
-after_end d None runs ends k = refl
-after_end d (Some (Next regs put)) runs ends k = absurd (cc)
-after_end d (Some (Called (Lock lock) regs)) runs ends k = absurd (cc)
-after_end d (Some (Called (Unlock lock) regs)) runs ends k = absurd (cc)
-after_end d (Some (Called (Sleep n) regs)) runs ends k = absurd (cc)
-after_end d (Some (Called Exit regs)) runs ends k = refl
-after_end d (Some (Faulted f)) runs ends k = refl
-
-fuel_after : (d : Thread) (a : Option Act) → (thread_after d a).fuel ≤ d.fuel
-fuel_after d None = omega arith
-fuel_after d (Some (Next regs put)) = omega arith
-fuel_after d (Some (Called (Lock lock) regs)) = omega arith
-fuel_after d (Some (Called (Unlock lock) regs)) = omega arith
-fuel_after d (Some (Called (Sleep n) regs)) = omega arith
-fuel_after d (Some (Called Exit regs)) = omega arith
-fuel_after d (Some (Faulted f)) = omega arith
-
-fuel_falls : (d : Thread) (a : Act) → 0 < d.fuel → (thread_after d (Some a)).fuel < d.fuel
-fuel_falls d (Next regs put) h = omega arith
-fuel_falls d (Called (Lock lock) regs) h = omega arith
-fuel_falls d (Called (Unlock lock) regs) h = omega arith
-fuel_falls d (Called (Sleep n) regs) h = omega arith
-fuel_falls d (Called Exit regs) h = omega arith
-fuel_falls d (Faulted f) h = omega arith
-
-some_fuel : (image : Shown) (d : Thread) (locks : ℕ → Mutex) (a : Act) → next_act image d locks ≡ Some a → 0 < d.fuel
-unfolding next_act
-some_fuel image d locks a = elim (eqb_tells d.fuel 0) [
-  | inl e ↦ rw (e.0) (λ h. absurd (cc))
-  | inr e ↦ λ h. omega (arith, e.1)
-]
-
--- an instruction costs fuel
-turn_falls : (image : Shown) (d : Thread) (locks : ℕ → Mutex) → is_running (thread_after d (next_act image d locks)).status ≡ true → (thread_after d (next_act image d locks)).fuel < d.fuel
-turn_falls image d locks runs = go (next_act image d locks) refl runs
-  where
-    go : (a : Option Act) → next_act image d locks ≡ a → is_running (thread_after d a).status ≡ true → (thread_after d a).fuel < d.fuel
-    go None e h = absurd (cc)
-    go (Some a) e h = fuel_falls d a (some_fuel image d locks a e)
-
-can_runs : (image : Shown) (m : State) (t : ℕ) → can_turn image m t ≡ true → is_running (m.threads t).status ≡ true
-unfolding can_turn
-can_runs image m t = elim (nat_lt t (length image.entries)) as (λ b. (b && (is_running (m.threads t).status && is_open (next_lock image (m.threads t)) m.locks)) ≡ true → is_running (m.threads t).status ≡ true) [
-  | true ↦ elim (is_running (m.threads t).status) as (λ b. (b && is_open (next_lock image (m.threads t)) m.locks) ≡ true → b ≡ true) [ true ↦ λ h. refl | false ↦ λ h. h ]
-  | false ↦ λ h. absurd (cc)
-]
-
--- ---- how a block leaves its thread
-
-reach_fuel : (image : Shown) (m : State) (t n : ℕ) → ((reach image m t n).threads t).fuel ≤ (m.threads t).fuel
-reach_fuel image m t zero = omega arith
-reach_fuel image m t (suc n) =
-    let here = reach image m t n in
-    omega (arith, ap (λ (d : Thread). d.fuel) (after_thread image here t), fuel_after (here.threads t) (next_act image (here.threads t) here.locks), reach_fuel image m t n)
-
--- a block after which its thread runs cost fuel
-pub block_falls : (image : Shown) (m last : State) (t n : ℕ) (end : End) → Runs image m t n end last → is_running (last.threads t).status ≡ true → (last.threads t).fuel < (m.threads t).fuel
-block_falls image m last t zero end runs h = absurd (omega (arith, runs.some))
-block_falls image m last t (suc n) end runs h =
-    let here = reach image m t n in
-    let thread : last.threads t ≡ thread_after (here.threads t) (next_act image (here.threads t) here.locks) = ap (λ (s : State). s.threads t) runs.last ∙ after_thread image here t in
-    let falls = turn_falls image (here.threads t) here.locks (ap (λ (d : Thread). is_running d.status) (sym thread) ∙ h) in
-    omega (arith, ap (λ (d : Thread). d.fuel) thread, falls, reach_fuel image m t n)
-
--- a block that ends its thread leaves it without a lock
-block_ends : (image : Shown) (m last : State) (t n : ℕ) (end : End) → Runs image m t n end last → is_running (last.threads t).status ≡ false → (k : ℕ) → (last.threads t).held k ≡ false
-block_ends image m last t zero end runs h k = absurd (omega (arith, runs.some))
-block_ends image m last t (suc n) end runs h k =
-    let here = reach image m t n in
-    let thread : last.threads t ≡ thread_after (here.threads t) (next_act image (here.threads t) here.locks) = ap (λ (s : State). s.threads t) runs.last ∙ after_thread image here t in
-    ap (λ (d : Thread). d.held k) thread
-    ∙ after_end (here.threads t) (next_act image (here.threads t) here.locks) (can_runs image here t (runs.defined n (omega arith))) (ap (λ (d : Thread). is_running d.status) (sym thread) ∙ h) k
-
--- ---- one block more
-
--- the block that was run stands in the history, and the others are as they were
-pub at_more : (image : Shown) (fuel : ℕ) (h : List Block) (m last : State) (t : ℕ) (began : Bool) (b : Block) → At image fuel h m t began → b.thread ≡ t → Runs image m t b.turns b.end last → ((k : ℕ) → has b.held k ≡ locks_of_block (m.threads t).held (next_lock image (m.threads t)) k) → is_section b.kind ≡ is_some (next_lock image (m.threads t)) → (is_section b.kind ≡ false → is_first b.kind ≡ not began) → IsBlock b → b.stamp ≡ length h → b.worker ≡ 0 → At image fuel (h ++ b ∷ []) last t true
-at_more image fuel h m last t began b at own runs held section first block stamp worker =
-    let set = locks_of_block (m.threads t).held (next_lock image (m.threads t)) in
-    let apart = runs_apart image m last t b.turns b.end runs in
-    let at_t : (P : ℕ → Type 0) → P t → P b.thread = λ P p. subst P (sym own) p in
-    let others : (u : ℕ) → u ≢ t → has_block (h ++ b ∷ []) u ≡ has_block h u = λ u ne.
-    has_block_more h b u ∙ ap (λ j. has_block h u || (j == u)) own
-    ∙ elim (eqb_tells t u) [ inl x ↦ absurd (ne (sym x.1)) | inr x ↦ ap (λ c. has_block h u || c) x.0 ∙ or_false (has_block h u) ] in
-    record {
-      so_far = record {
-        history = history_more 0 h b at.so_far.history block (omega (arith, stamp));
-        workers = All-push (λ (x : Block). x.worker ≡ 0) h b at.so_far.workers worker;
-        tells = tells-more image [] h (start image fuel) m last b at.so_far.tells (record {
-          runs = at_t (λ u. Runs image m u b.turns b.end last) runs;
-          held = at_t (λ u. (k : ℕ) → has b.held k ≡ locks_of_block (m.threads u).held (next_lock image (m.threads u)) k) held;
-          section = at_t (λ u. is_section b.kind ≡ is_some (next_lock image (m.threads u))) section;
-          first = λ not_section. first not_section ∙ ap not (sym at.seen) ∙ at_t (λ u. not (has_block h t) ≡ not (has_block h u)) refl;
-        });
+pub starts : (image : Shown) (o : Options) (h : List Block) (home : List (Option LockView)) (ended : List Finished) → h ≡ [] → ended ≡ []
+    → ((k : ℕ) → lock_in home k ≡ (if nat_lt k (length image.guards) then Some (fresh_state image k o.limit) else None)) → Between image o h home ended 0
+starts image o h home ended none nobody locks =
+    subst (λ (x : List Block × List Finished). Between image o x.0 home x.1 0) (λ i. (sym none i, sym nobody i)) (record {
+      so_far = record { history = tt; workers = λ k d lt. absurd (omega (arith, lt)); tells = refl };
+      passed = record {
+        told = refl;
+        done = λ u lt. absurd (omega (arith, lt));
+        fresh = λ u ge lt. rw (lt-ltb u (length image.entries) lt) refl;
+        unseen = λ u ge. refl;
       };
-      done = λ u lt. ap (λ (d : Thread). is_running d.status) (apart.threads u (omega (arith, lt))) ∙ at.done u lt;
-      fresh = λ u gt lt. ap (λ (d : Thread). is_running d.status) (apart.threads u (omega (arith, gt))) ∙ at.fresh u gt lt;
-      unseen = λ u gt. others u (omega (arith, gt)) ∙ at.unseen u gt;
-      idle = λ u k ne. ap (λ (d : Thread). d.held k) (apart.threads u ne) ∙ at.idle u k ne;
-      seen = has_block_more h b t ∙ ap (λ j. has_block h t || (j == t)) own ∙ elim (eqb_tells t t) [ inl x ↦ ap (λ c. has_block h t || c) x.0 ∙ or_true (has_block h t) | inr x ↦ absurd (x.1 refl) ];
-      ended = λ ends. block_ends image m last t b.turns b.end runs ends;
+      home_is = λ k l e. at_start k l (nat_lt k (length image.guards)) refl (sym (locks k) ∙ e);
+      all = λ k lt. ap is_some (locks k ∙ ap (λ v. if v then Some (fresh_state image k o.limit) else None) (lt-ltb k (length image.guards) lt));
+    })
+  where
+    at_start : (k : ℕ) (l : LockView) (v : Bool) → nat_lt k (length image.guards) ≡ v → (if v then Some (fresh_state image k o.limit) else None) ≡ Some l → IsHome image o [] k l
+    at_start k l false e is = absurd (cc)
+    at_start k l true e is = (let same : fresh_state image k o.limit ≡ l = cc in subst (λ x. IsHome image o [] k x) same (record {
+      number = refl;
+      known = ltb-true k (length image.guards) e;
+      of = refl;
+      stage = record { opened = refl; closed = refl };
+      rests = tt;
+      follows = record { lock = refl; journal = record { entries = refl; bound = refl } };
+    }))
+
+-- ---- a lock is granted
+
+wants_next : (image : Shown) (p : PackageView) (lock : ℕ) → want_of image p.context ≡ Some lock → next_lock image (thread_in p.context) ≡ Some lock
+wants_next image p lock = elim (is_running p.context.guest.status) as (λ v. (if v then next_lock image (thread_in p.context) else None) ≡ Some lock → next_lock image (thread_in p.context) ≡ Some lock) [
+  | true ↦ λ e. e
+  | false ↦ λ e. absurd (cc)
+]
+
+-- a wanted lock is not in the package
+pub wanted_out : (image : Shown) (p : PackageView) (lock : ℕ) → IsRested p → want_of image p.context ≡ Some lock → set_of p.context lock ≡ false
+wanted_out image p lock rested want = go (set_of p.context lock) refl
+  where
+    go : (v : Bool) → set_of p.context lock ≡ v → v ≡ false
+    go false e = refl
+    go true e = absurd (let f : true ≡ false = sym (rested.held lock e) ∙ next_free image (thread_in p.context) lock (wants_next image p lock want) in cc)
+
+pub wanted_known : (image : Shown) (p : PackageView) (lock : ℕ) → want_of image p.context ≡ Some lock → lock < length image.guards
+wanted_known image p lock want = next_known image (thread_in p.context) lock (wants_next image p lock want)
+
+-- so it is at home
+pub wanted_home : (image : Shown) (o : Options) (h : List Block) (home : List (Option LockView)) (ended : List Finished) (t : ℕ) (p : PackageView) (lock : ℕ)
+    → At image o h home ended t p → IsRested p → want_of image p.context ≡ Some lock → is_some (lock_in home lock) ≡ true
+wanted_home image o h home ended t p lock at rested want =
+    at.place lock (wanted_known image p lock want) ∙ ap not (wanted_out image p lock rested want)
+
+pub none_of : (o : Option LockView) → is_some o ≡ false → o ≡ None
+none_of None e = refl
+none_of (Some l) e = absurd (cc)
+
+pub never_none : (o : Option LockView) → is_some o ≡ true → None ≡ o → ⊥
+never_none o here e = (let f : false ≡ true = ap is_some e ∙ here in cc)
+
+pub closed_none : (k : ℕ) (j : Journal) → AtStage None k j → j.closed ≡ None
+closed_none k j stage = go j.closed stage.closed
+  where
+    go : (o : Option Entry) → option_map block_in o ≡ None → o ≡ None
+    go None e = refl
+    go (Some x) e = absurd (cc)
+
+module _ (image : Shown) (o : Options) (h : List Block) (home left : List (Option LockView)) (ended : List Finished) (t : ℕ) (p q : PackageView) (lock : LockView) (number : ℕ)
+    (at : At image o h home ended t p) (rested : IsRested p) (want : want_of image p.context ≡ Some number) (here : lock_in home number ≡ Some lock) (gone : (k : ℕ) → lock_in left k ≡ (if k == number then None else lock_in home k))
+    (locks : (k : ℕ) → lock_in q.context.locks k ≡ (if k == lock.number then Some lock else lock_in p.context.locks k)) (granted : q.granted ≡ Some (record { lock = lock.number; kind = Taken })) (rest : IsOtherThanGrant p q) where
+  home_was : IsHome image o h number lock
+  home_was = at.home_is number lock here
+
+  locks_at : (k : ℕ) → lock_in q.context.locks k ≡ (if k == number then Some lock else lock_in p.context.locks k)
+  locks_at k = locks k ∙ ap (λ n. if k == n then Some lock else lock_in p.context.locks k) home_was.number
+
+  left_was : (v : Bool) (k : ℕ) (l : LockView) → (if v then None else lock_in home k) ≡ Some l → lock_in home k ≡ Some l
+  left_was true k l e = absurd (cc)
+  left_was false k l e = e
+
+  place_still : (v : Bool) (k : ℕ) → k < length image.guards → is_some (if v then None else lock_in home k) ≡ not (is_some (if v then Some lock else lock_in p.context.locks k))
+  place_still true k lt = refl
+  place_still false k lt = at.place k lt
+
+  known_still : (k : ℕ) → is_some (if k == number then Some lock else lock_in p.context.locks k) ≡ true → k < length image.guards
+  known_still k here = elim (eqb_tells k number) [
+    | inl x ↦ (let below = home_was.known in let same = x.1 in omega arith)
+    | inr x ↦ at.known k (sym (ap (λ v. is_some (if v then Some lock else lock_in p.context.locks k)) x.0) ∙ here)
+  ]
+
+  pub granted_at : At image o h left ended t q
+  granted_at = record {
+    so_far = at.so_far;
+    passed = at.passed;
+    home_is = λ k l e. at.home_is k l (left_was (k == number) k l (sym (gone k) ∙ e));
+    place = λ k lt. ap is_some (gone k) ∙ place_still (k == number) k lt ∙ ap (λ x. not (is_some x)) (sym (locks_at k));
+    known = λ k here. known_still k (ap is_some (sym (locks_at k)) ∙ here);
+    of = rest.otherwise.0 ∙ at.of;
+    thread = rest.thread ∙ at.thread;
+    pending = rest.pending ∙ at.pending;
+    follows = follows_granted image o.fuel o.limit h (now image o h) p q lock at.follows home_was.follows (wants_next image p number want ∙ ap Some (sym home_was.number)) locks rest;
+  }
+
+  taken_next : next_lock image (thread_in q.context) ≡ Some number
+  taken_next = ap (λ g. next_lock image (thread_of g)) rest.guest ∙ wants_next image p number want
+
+  in_set : (v : Bool) (k : ℕ) → (k == number) ≡ v → is_some (if v then Some lock else lock_in p.context.locks k) ≡ true → (v || has p.context.guest.held k) ≡ true
+  in_set true k e s = refl
+  in_set false k e s = rested.held k s
+
+  pub granted_ready : IsReady image q
+  granted_ready = record {
+    want = λ k e. ap granted_lock granted ∙ ap Some home_was.number ∙ sym (ap (λ g. if is_running g.status then next_lock image (thread_of g) else None) rest.guest ∙ want) ∙ e;
+    fits = ap (λ g. fits_granted q.context g 0) granted
+        ∙ ap (λ x. fits_in x lock.number Taken 0) (locks lock.number ∙ ap (λ v. if v then Some lock else lock_in p.context.locks lock.number) (same_number lock.number))
+        ∙ taken_fits lock.number 0 lock (subst (λ n. Rests n lock.journal) (sym home_was.number) home_was.rests);
+    set = λ k s. ap (λ n. locks_of_block (has q.context.guest.held) n k) taken_next
+        ∙ ap (λ g. (k == number) || has g.held k) rest.guest
+        ∙ in_set (k == number) k refl (ap is_some (sym (locks_at k)) ∙ s);
+  }
+    where
+      same_number : (n : ℕ) → (n == n) ≡ true
+      same_number n = elim (eqb_tells n n) [ inl e ↦ e.0 | inr e ↦ absurd (e.1 refl) ]
+
+-- the number of a queue turn does not count
+pub numbered : (image : Shown) (o : Options) (h : List Block) (home : List (Option LockView)) (ended : List Finished) (t number : ℕ) (p q : PackageView) → q ≡ with_turns number p → At image o h home ended t p → IsRested p → At image o h home ended t q × IsRested q
+numbered image o h home ended t number p q is at rested =
+    let f = at.follows in
+    subst (λ x. At image o h home ended t x × IsRested x) (sym is) (
+      record {
+        so_far = at.so_far;
+        passed = at.passed;
+        home_is = at.home_is;
+        place = at.place;
+        known = at.known;
+        of = at.of;
+        thread = at.thread;
+        pending = at.pending;
+        follows = record { shows = f.shows; log = f.log; journals = f.journals };
+      },
+      record { granted = rested.granted; held = rested.held; free = rested.free },
+    )
+
+-- what a package asks of a lock that is granted to it
+pub record MayGrant (p : PackageView) (lock : LockView) : Type 0 where
+  pub want : want_of p.image p.context ≡ Some lock.number
+  pub absent : lock_in p.context.locks lock.number ≡ None
+  pub of : lock.journal.image ≡ p.image
+  pub opened : lock.journal.opened ≡ None
+  pub closed : lock.journal.closed ≡ None
+  pub rests : Rests lock.number lock.journal
+
+pub may_grant : (image : Shown) (o : Options) (h : List Block) (home : List (Option LockView)) (ended : List Finished) (t number : ℕ) (p : PackageView) (lock : LockView)
+    → At image o h home ended t p → IsRested p → want_of image p.context ≡ Some number → lock_in home number ≡ Some lock → MayGrant p lock
+may_grant image o h home ended t number p lock at rested want here =
+    let was = at.home_is number lock here in
+    record {
+      want = ap (λ x. want_of x p.context) at.of ∙ want ∙ ap Some (sym was.number);
+      absent = none_of (lock_in p.context.locks lock.number) (ap (set_of p.context) was.number ∙ wanted_out image p number rested want);
+      of = was.of ∙ sym at.of;
+      opened = was.stage.opened;
+      closed = closed_none number lock.journal was.stage;
+      rests = subst (λ n. Rests n lock.journal) (sym was.number) was.rests;
     }
+
+-- a package that wants no lock is ready as it is
+pub ready_as_is : (image : Shown) (p : PackageView) → IsRested p → p.context.guest.status ≡ Running → want_of image p.context ≡ None → IsReady image p
+ready_as_is image p rested running want = record {
+  want = λ k e. absurd (let f : None ≡ Some k = sym want ∙ e in cc);
+  fits = ap (λ g. fits_granted p.context g 0) rested.granted;
+  set = λ k s. ap (λ n. locks_of_block (has p.context.guest.held) n k) (sym (ap (λ s. if is_running s then next_lock image (thread_in p.context) else None) running) ∙ want) ∙ rested.held k s;
+}
+
+-- ---- a lock comes home
+
+module _ (image : Shown) (o : Options) (h : List Block) (home back : List (Option LockView)) (ended : List Finished) (t : ℕ) (p q : PackageView) (number : ℕ) (lock : LockView) (at : At image o h home ended t p) (sound : PackageIsSound p)
+    (free : has p.context.guest.held number ≡ false) (there : lock_in p.context.locks number ≡ Some lock) (locks : (k : ℕ) → lock_in q.context.locks k ≡ (if k == number then None else lock_in p.context.locks k)) (rest : IsOtherThanLocks p q)
+    (put : (k : ℕ) → lock_in back k ≡ (if k == lock.number then Some lock else lock_in home k)) where
+  both : Follows image o.fuel o.limit h (now image o h) q × LockFollows image o.fuel o.limit h (now image o h) lock
+  both = follows_taken image o.fuel o.limit h (now image o h) p q number lock sound at.follows free there locks rest
+
+  idle : IsIdle p.context
+  idle = subst (λ x. IsAt x p.context) at.pending sound.at
+
+  comes_home : IsHome image o h number lock
+  comes_home = (let of = sound.of number lock there in record {
+    number = of.number;
+    known = subst (λ (x : Shown). number < length x.guards) at.of of.known;
+    of = of.of ∙ at.of;
+    stage = (let stage = subst (λ x. AreAtStage x p.context) at.pending sound.stage number lock.journal (ap (option_map journal_in) there) in record { opened = stage.opened; closed = stage.closed });
+    rests = idle.rests number lock.journal free (ap (option_map journal_in) there);
+    follows = both.1;
+  })
+
+  back_is : (k : ℕ) → lock_in back k ≡ (if k == number then Some lock else lock_in home k)
+  back_is k = put k ∙ ap (λ n. if k == n then Some lock else lock_in home k) comes_home.number
+
+  home_or : (k : ℕ) (l : LockView) → lock_in back k ≡ Some l → IsHome image o h k l
+  home_or k l e = elim (eqb_tells k number) [
+    | inl x ↦
+        let same : Some lock ≡ Some l = sym (ap (λ v. if v then Some lock else lock_in home k) x.0) ∙ sym (back_is k) ∙ e in
+        let is : lock ≡ l = cc in
+        subst (λ (y : ℕ × LockView). IsHome image o h y.0 y.1) (λ i. (sym x.1 i, is i)) comes_home
+    | inr x ↦ at.home_is k l (sym (ap (λ v. if v then Some lock else lock_in home k) x.0) ∙ sym (back_is k) ∙ e)
+  ]
+
+  place_back : (v : Bool) (k : ℕ) → k < length image.guards → is_some (if v then Some lock else lock_in home k) ≡ not (is_some (if v then None else lock_in p.context.locks k))
+  place_back true k lt = refl
+  place_back false k lt = at.place k lt
+
+  known_left : (v : Bool) (k : ℕ) → is_some (if v then None else lock_in p.context.locks k) ≡ true → k < length image.guards
+  known_left true k here = absurd (cc)
+  known_left false k here = at.known k here
+
+  pub brought_at : At image o h back ended t q
+  brought_at = record {
+    so_far = at.so_far;
+    passed = at.passed;
+    home_is = home_or;
+    place = λ k lt. ap is_some (back_is k) ∙ place_back (k == number) k lt ∙ ap (λ x. not (is_some x)) (sym (locks k));
+    known = λ k here. known_left (k == number) k (ap is_some (sym (locks k)) ∙ here);
+    of = rest.grant.otherwise.0 ∙ at.of;
+    thread = rest.grant.thread ∙ at.thread;
+    pending = rest.grant.pending ∙ at.pending;
+    follows = both.0;
+  }
 
 -- ---- from thread to thread
 
-pub begins : (image : Shown) (fuel : ℕ) (h : List Block) (m : State) (t : ℕ) → Between image fuel h m t → At image fuel h m t false
-begins image fuel h m t b = record {
-  so_far = b.so_far;
-  done = b.done;
-  fresh = λ u gt lt. b.fresh u (omega (arith, gt)) lt;
-  unseen = λ u gt. b.unseen u (omega (arith, gt));
-  idle = λ u k ne. b.idle u k;
-  seen = b.unseen t (omega arith);
-  ended = λ ends k. b.idle t k;
-}
+pub begins : (image : Shown) (o : Options) (h : List Block) (home : List (Option LockView)) (ended : List Finished) (t : ℕ) (p : PackageView) → Between image o h home ended t → IsFresh image t o.fuel p → t < length image.entries → At image o h home ended t p × IsRested p
+begins image o h home ended t p between fresh lt =
+    let passed = between.passed in (
+      record {
+        so_far = between.so_far;
+        passed = record { told = passed.told; done = passed.done; fresh = λ u ge. passed.fresh u (omega (arith, ge)); unseen = λ u ge. passed.unseen u (omega (arith, ge)) };
+        home_is = between.home_is;
+        place = λ k known. between.all k known ∙ ap (λ x. not (is_some x)) (sym (fresh.locks k));
+        known = λ k here. absurd (let f : false ≡ true = ap is_some (sym (fresh.locks k)) ∙ here in cc);
+        of = fresh.image_is;
+        thread = fresh.number;
+        pending = fresh.pending;
+        follows = follows_start image o.fuel o.limit t h (now image o h) p fresh (passed.fresh t (omega arith) lt) (passed.unseen t (omega arith));
+      },
+      record {
+        granted = fresh.granted;
+        held = λ k s. absurd (let f : false ≡ true = ap is_some (sym (fresh.locks k)) ∙ s in cc);
+        free = λ ends k. ap (λ (d : Thread). d.held k) fresh.thread;
+      },
+    )
 
-pub ends : (image : Shown) (fuel : ℕ) (h : List Block) (m : State) (t : ℕ) (began : Bool) → At image fuel h m t began → is_running (m.threads t).status ≡ false → Between image fuel h m (t + 1)
-ends image fuel h m t began at over = record {
-  so_far = at.so_far;
-  done = λ u lt. elim (eqb_tells u t) [ inl x ↦ subst (λ v. is_running (m.threads v).status ≡ false) (sym x.1) over | inr x ↦ at.done u (omega (arith, x.1)) ];
-  fresh = λ u gt lt. at.fresh u (omega (arith, gt)) lt;
-  unseen = λ u gt. at.unseen u (omega (arith, gt));
-  idle = λ u k. elim (eqb_tells u t) [ inl x ↦ subst (λ v. (m.threads v).held k ≡ false) (sym x.1) (at.ended over k) | inr x ↦ at.idle u k x.1 ];
-}
+-- what a package's thread is told as, at its end
+thread_told : (image : Shown) (o : Options) (h : List Block) (home : List (Option LockView)) (ended : List Finished) (t : ℕ) (p : PackageView) → At image o h home ended t p → thread_in p.context ≡ (now image o h).threads t
+thread_told image o h home ended t p at = at.follows.shows.thread ∙ ap (now image o h).threads at.thread
 
--- ---- the turns of a block
-
-pub reach_more : (image : Shown) (m now new : State) (t n : ℕ) → now ≡ reach image m t n → new ≡ after image now t → new ≡ reach image m t (n + 1)
-reach_more image m now new t n far turned = turned ∙ ap (λ s. after image s t) far ∙ ap (reach image m t) (sym (add-one n))
-
--- how the block ends with its turn of this number
-pub end_is : (image : Shown) (m now new : State) (t n : ℕ) (o : Outcome) (next : Option ℕ) (e : Option End) → now ≡ reach image m t n → new ≡ after image now t → o ≡ outcome_of (next_act image (now.threads t) now.locks) → next ≡ next_lock image (new.threads t) → e ≡ end_rule o (n + 1) next → end_at image m t n ≡ e
-end_is image m now new t n o next e far turned out nx is =
-    let at : State → Option End = λ s. end_rule (outcome_of (next_act image (s.threads t) s.locks)) (n + 1) (next_lock image ((after image s t).threads t)) in
-    ap at (sym far)
-    ∙ ap (λ x. end_rule x (n + 1) (next_lock image ((after image now t).threads t))) (sym out)
-    ∙ ap (λ (s : State). end_rule o (n + 1) (next_lock image (s.threads t))) (sym turned)
-    ∙ ap (end_rule o (n + 1)) (sym nx) ∙ sym is
-
-pub defined_more : (image : Shown) (m now : State) (t n : ℕ) → now ≡ reach image m t n → can_turn image now t ≡ true → ((k : ℕ) → k < n → can_turn image (reach image m t k) t ≡ true) → (k : ℕ) → k < n + 1 → can_turn image (reach image m t k) t ≡ true
-defined_more image m now t n far can defined k lt = elim (eqb_tells k n) [
-  | inl x ↦ ap (λ j. can_turn image (reach image m t j) t) x.1 ∙ ap (λ s. can_turn image s t) (sym far) ∙ can
-  | inr x ↦ defined k (omega (arith, x.1))
-]
-
-pub before_more : (image : Shown) (m : State) (t n : ℕ) → end_at image m t n ≡ None → ((k : ℕ) → k < n → end_at image m t k ≡ None) → (k : ℕ) → k < n + 1 → end_at image m t k ≡ None
-before_more image m t n here before k lt = elim (eqb_tells k n) [
-  | inl x ↦ ap (end_at image m t) x.1 ∙ here
-  | inr x ↦ before k (omega (arith, x.1))
-]
-
--- a block that does not end goes on: there is another turn, and it takes no lock
-pub can_more : (image : Shown) (now new : State) (t n : ℕ) (o : Outcome) (next : Option ℕ) → t < length image.entries → can_turn image now t ≡ true → new ≡ after image now t → o ≡ outcome_of (next_act image (now.threads t) now.locks) → next ≡ next_lock image (new.threads t) → end_rule o n next ≡ None → (can_turn image new t ≡ true) × (n ≢ 4096)
-unfolding can_turn
-can_more image now new t n o next lt can turned out nx none =
-    let d = now.threads t in
-    let a = next_act image d now.locks in
-    let on = goes_on d a n next (ap (λ x. end_rule x n next) (sym out) ∙ none) in
-    let thread : new.threads t ≡ thread_after d a = ap (λ (s : State). s.threads t) turned ∙ after_thread image now t in
-    let running : is_running (new.threads t).status ≡ true = ap (λ (y : Thread). is_running y.status) thread ∙ ap is_running on.2 ∙ can_runs image now t can in
-    let free : next_lock image (new.threads t) ≡ None = sym nx ∙ on.0 in
-    (rw (lt-ltb t (length image.entries) lt, running, free) refl, on.1)
-
--- a lock that a turn released is a lock
-abbrev pub IsOutcome : Outcome → Type 0
-IsOutcome (outcome.Unlocked lock) = lock < 32
-IsOutcome outcome.Went = Unit {0}
-IsOutcome outcome.Slept = Unit {0}
-IsOutcome outcome.Exited = Unit {0}
-IsOutcome (outcome.Faulted fault) = Unit {0}
-IsOutcome outcome.Spent = Unit {0}
-
-pub outcome_fits : (o : Outcome) (guards : ℕ) → guards ≤ 32 → ((lock : ℕ) → o ≡ outcome.Unlocked lock → lock < guards) → IsOutcome o
-outcome_fits (outcome.Unlocked lock) guards few known = omega (arith, known lock refl)
-outcome_fits outcome.Went guards few known = tt
-outcome_fits outcome.Slept guards few known = tt
-outcome_fits outcome.Exited guards few known = tt
-outcome_fits (outcome.Faulted fault) guards few known = tt
-outcome_fits outcome.Spent guards few known = tt
-
--- an end names locks that are locks
-pub end_fits : (o : Outcome) (n : ℕ) (next : Option ℕ) (e : End) → IsOutcome o → IfSome next (λ lock. lock < 32) → end_rule o n next ≡ Some e → IsEnd e
-end_fits outcome.Exited n next e fits bound h = subst IsEnd (same_Some _ _ h) tt
-end_fits (outcome.Faulted f) n next e fits bound h = subst IsEnd (same_Some _ _ h) tt
-end_fits outcome.Spent n next e fits bound h = subst IsEnd (same_Some _ _ h) tt
-end_fits (outcome.Unlocked lock) n next e fits bound h = subst IsEnd (same_Some _ _ h) fits
-end_fits outcome.Slept n next e fits bound h = subst IsEnd (same_Some _ _ h) tt
-end_fits outcome.Went n (Some lock) e fits bound h = subst IsEnd (same_Some _ _ h) bound
-end_fits outcome.Went n None e fits bound h =
-    elim (n == 4096) as (λ b. (if b then Some end.Cut else None) ≡ Some e → IsEnd e) [ true ↦ λ k. subst IsEnd (same_Some _ _ k) tt | false ↦ λ k. absurd (cc) ] h
-
--- ---- the first thread
-
-pub starts : (image : Shown) (fuel : ℕ) (h : List Block) (m : State) → h ≡ [] → m ≡ start image fuel → Between image fuel h m 0
-starts image fuel h m none at =
-    let between : List Block → State → Type 0 = λ g s. Between image fuel g s 0 in
-    subst (λ g. between g m) (sym none) (subst (λ s. between [] s) (sym at) (record {
-      so_far = record { history = tt; workers = λ k d lt. absurd (omega (arith, lt)); tells = refl };
-      done = λ u lt. absurd (omega (arith, lt));
-      fresh = λ u ge lt. rw (lt-ltb u (length image.entries) lt) refl;
-      unseen = λ u ge. refl;
-      idle = λ u k. elim (nat_lt u (length image.entries)) as (λ b. (if b then thread_at_start image fuel u else no_thread).held k ≡ false) [ true ↦ refl | false ↦ refl ];
-    }))
-
--- ---- a thread comes to its end
-
--- what falls with each block of a thread, also with its last one
-abbrev pub left : Thread → ℕ
-left d = if is_running d.status then d.fuel + 1 else 0
-
-pub left_falls : (d e : Thread) → is_running d.status ≡ true → (is_running e.status ≡ true → e.fuel < d.fuel) → left e < left d
-left_falls d e runs falls = rw runs (go (is_running e.status) refl)
+pub ends : (image : Shown) (o : Options) (h : List Block) (home : List (Option LockView)) (ended more : List Finished) (t : ℕ) (p : PackageView) → At image o h home ended t p → IsRested p → is_running p.context.guest.status ≡ false
+    → more ≡ ended ++ record { status = p.context.guest.status; fuel = p.context.guest.fuel; regs = p.context.guest.regs } ∷ [] → Between image o h home more (t + 1)
+ends image o h home ended more t p at rested over pushed =
+    let thread = thread_told image o h home ended t p at in
+    let passed = at.passed in
+    record {
+      so_far = at.so_far;
+      passed = record {
+        told = map_more (finished_in (now image o h)) ended more _ t passed.told pushed (λ i. record { status = (thread i).status; fuel = (thread i).fuel; regs = (thread i).regs });
+        done = λ u lt. elim (eqb_tells u t) [ inl x ↦ ap (λ v. is_running ((now image o h).threads v).status) x.1 ∙ ap (λ (d : Thread). is_running d.status) (sym thread) ∙ over | inr x ↦ passed.done u (omega (arith, x.1)) ];
+        fresh = passed.fresh;
+        unseen = passed.unseen;
+      };
+      home_is = at.home_is;
+      all = λ k lt. at.place k lt ∙ ap not (none_left k);
+    }
   where
-    go : (b : Bool) → is_running e.status ≡ b → (if b then e.fuel + 1 else 0) < d.fuel + 1
-    go true h = omega (arith, falls h)
-    go false h = omega arith
+    none_left : (k : ℕ) → set_of p.context k ≡ false
+    none_left k = go (set_of p.context k) refl
+      where
+        go : (v : Bool) → set_of p.context k ≡ v → v ≡ false
+        go false e = refl
+        go true e = absurd (let f : true ≡ false = sym (rested.held k e) ∙ rested.free over k in cc)
+
+-- ---- a lock at the end
+
+module _ (image : Shown) (o : Options) (h : List Block) (k : ℕ) (l : LockView) (is : IsHome image o h k l) (sound : IsSound l) where
+  pub guarded_is : record { start = (guard_at image k).start; bytes = l.bytes; broken = l.broken; sections = l.sections } ≡ guarded_in image (now image o h) k
+  guarded_is = (let same : lock_of l ≡ (now image o h).locks k = is.follows.lock ∙ ap (now image o h).locks is.number in
+      λ i. record { start = (guard_at image k).start; bytes = (same i).bytes; broken = (same i).broken; sections = (same i).sections })
+
+  sealed_is : l.journal.sealed ≡ entries_by image o.fuel h k
+  sealed_is = is.follows.journal.entries ∙ ap (entries_by image o.fuel h) is.number
+
+  all_entries : with_closed l.journal.sealed l.journal.closed ≡ entries_by image o.fuel h k
+  all_entries = ap (with_closed l.journal.sealed) (closed_none k l.journal is.stage) ∙ sealed_is
+
+  pub obeys_is : Obeys k o.limit (of_lock h k)
+  obeys_is = subst (λ (x : ℕ × ℕ × List Block). Obeys x.0 x.1 x.2) (λ i. (is.number i, is.follows.journal.bound i, (ap (map block_in) sealed_is ∙ entries_blocks image k (start image o.fuel) h) i)) sound.obeys
+
+  pub journal_is : HasJournal image o.fuel h (now image o h) k
+  journal_is = record {
+    blocks = entries_blocks image k (start image o.fuel) h;
+    replays = subst (λ (x : Shown × ℕ × List Entry). AreReplayed x.0 x.1 (mutex_at_start x.0 x.1) x.2) (λ i. (is.of i, is.number i, all_entries i)) sound.replays;
+    end = sym (ap unowned (sym (is.follows.lock ∙ ap (now image o h).locks is.number)) ∙ sound.rest is.stage.opened ∙ (λ i. replayed (is.of i) (is.number i) (mutex_at_start (is.of i) (is.number i)) (all_entries i)));
+  }
+
+pub below_more : (P : ℕ → Type 0) (n k : ℕ) → ((j : ℕ) → j < n → P j) → P n → k < n + 1 → P k
+below_more P n k all here lt = elim (eqb_tells k n) [
+  | inl x ↦ subst P (sym x.1) here
+  | inr x ↦ all k (let ne = x.1 in omega arith)
+]
+
+-- one lock more at home
+pub locks_more : (image : Shown) (limit n : ℕ) (old new : List (Option LockView)) (l : LockView) → ((k : ℕ) → lock_in old k ≡ (if nat_lt k n then Some (fresh_state image k limit) else None)) → l ≡ fresh_state image n limit
+    → ((k : ℕ) → lock_in new k ≡ (if k == l.number then Some l else lock_in old k)) → (k : ℕ) → lock_in new k ≡ (if nat_lt k (n + 1) then Some (fresh_state image k limit) else None)
+locks_more image limit n old new l so_far fresh put k =
+    let at : lock_in new k ≡ (if k == n then Some l else lock_in old k) = put k ∙ ap (λ (x : LockView). if k == x.number then Some l else lock_in old k) fresh in
+    elim (eqb_tells k n) [
+      | inl x ↦ at ∙ ap (λ v. if v then Some l else lock_in old k) x.0 ∙ ap Some fresh ∙ ap (λ j. Some (fresh_state image j limit)) (sym x.1)
+          ∙ sym (ap (λ v. if v then Some (fresh_state image k limit) else None) (lt-ltb k (n + 1) (let same = x.1 in omega arith)))
+      | inr x ↦ at ∙ ap (λ v. if v then Some l else lock_in old k) x.0 ∙ so_far k
+          ∙ ap (λ v. if v then Some (fresh_state image k limit) else None) (let ne = x.1 in let same : nat_lt k n ≡ nat_lt k (n + 1) = grind (arith, nat_tests) in same)
+    ]
+
+-- ---- after a block's locks came home
+
+pub rested_after : (image : Shown) (o : Options) (h : List Block) (home : List (Option LockView)) (ended : List Finished) (t held i : ℕ) (p q : PackageView) → At image o h home ended t q → HasLocks held p → q.granted ≡ None → q.context.guest ≡ p.context.guest
+    → length image.guards ≤ i → ((k : ℕ) → k < i → set_of q.context k ≡ true → has p.context.guest.held k ≡ true) → IsRested q
+rested_after image o h home ended t held i p q at locks granted guest all gone = record {
+  granted = granted;
+  held = λ k s. ap (λ g. has g.held k) guest ∙ gone k (let known = at.known k s in omega arith) s;
+  free = λ over k. ap (λ g. has g.held k) guest ∙ locks.free (ap (λ g. is_running g.status) (sym guest) ∙ over) k;
+}
+
+pub not_running : (s : Status) → s ≢ Running → is_running s ≡ false
+not_running Running ne = absurd (ne refl)
+not_running Exited ne = refl
+not_running (Failed f) ne = refl
+not_running SpentFuel ne = refl

@@ -7,7 +7,7 @@
 //! `IsLegalRun`; the text of a report does not depend on it.
 //!
 //! - `words`: what the words of the command line ask for.
-//! - `runner`: the run of a guest's threads, one after another.
+//! - `runner`: the run of a guest's threads in their packages, one after another.
 //! - `results`: what a run came to. `report`, `hex`: its text.
 //! - `build`: files of guests. `status`: how the program ends. `top`: the top call.
 #![tactic(auto)]

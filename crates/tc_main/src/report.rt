@@ -196,7 +196,44 @@ fn push_locks(out: &mut String, locks: &[Guarded]) -> Result<(), AllocError>
     Ok(())
 }
 
-/// The report of a run.
+/// The room for the lines that every report has, in bytes: no such lines are longer.
+const HEAD_ROOM: usize = 96;
+
+/// The room for the line of a block. No line of a run is longer: a stamp has at most 7 digits, a
+/// thread 2, the turns 4, a worker 1, and four locks with their commas 11 bytes.
+const BLOCK_ROOM: usize = 90;
+
+/// The room for the five lines of a thread.
+const THREAD_ROOM: usize = 352;
+
+/// The room for the line of a lock.
+const LOCK_ROOM: usize = 80;
+
+/// The room for a data line.
+const DATA_ROOM: usize = 80;
+
+/// The room for the lines of the locks, in bytes.
+fn locks_room(locks: &[Guarded]) -> usize {
+    let mut room: usize = 0;
+    for lock in locks {
+        let data = lock.bytes().len().div_ceil(32).saturating_mul(DATA_ROOM);
+        room = room.saturating_add(LOCK_ROOM).saturating_add(data);
+    }
+    room
+}
+
+/// The room for a report, in bytes. No report of a run is longer; a longer one would grow.
+fn room_for(results: &Results) -> usize {
+    let blocks = results.history().len().saturating_mul(BLOCK_ROOM);
+    let threads = results.threads().len().saturating_mul(THREAD_ROOM);
+    HEAD_ROOM
+        .saturating_add(blocks)
+        .saturating_add(threads)
+        .saturating_add(locks_room(results.locks()))
+}
+
+/// The report of a run. The memory for the whole text is taken at once, before any of it is
+/// written, so that no second copy is made as it grows.
 #[tactic(auto, unfolding(crate::specs::Report::report_text))]
 pub fn report(
     alloc: Global,
@@ -206,7 +243,8 @@ pub fn report(
 ) -> Result<String, AllocError>
     ensures { IfOk result (λ out. string_bytes out ≡ text.report_text image.now options results.now) }
 {
-    let mut out = String::from_str(alloc, "tclocks 1\n")?;
+    let mut out = String::with_capacity(alloc, room_for(results))?;
+    out.push_str("tclocks 1\n")?;
     push_guest(&mut out, image.threads(), image.guards())?;
     push_run(&mut out, options)?;
     push_history(&mut out, results.history())?;

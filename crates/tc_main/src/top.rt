@@ -8,6 +8,7 @@ ghost use Rattle.tc_elf.specs.declared.limits.TheConstants.{MAX_FILE};
 ghost use Rattle.tc_elf.specs.declared.refusal.Refusal.{Refusal as Reason};
 ghost use Rattle.tc_io.specs.Causes.{Rose};
 ghost use Rattle.tc_main.specs.Words.{Asks, AsksNothing};
+ghost use Rattle.tc_main.specs.Runner.{IsBounded};
 ghost use Rattle.tc_main.specs.Top.{Answers, Ends, FileAnswers, IsRefused, IsReport, Stream, Writes, WritesNothing, stream, refused_line, usage_line};
 ghost use Rattle.tc_main.specs.declared.words.Options.{Options as Asked};
 
@@ -52,7 +53,7 @@ struct Answer {
 
 /// What the bytes of a file come to.
 fn answer_file(alloc: Global, options: Options, bytes: &[u8]) -> Result<Answer, AllocError>
-    requires workers { 1 ≤ options.workers }
+    requires bounded { IsBounded options }
     requires few { length bytes.now ≤ MAX_FILE }
     ensures { IfOk result (λ a. FileAnswers bytes.now options a.status (string_bytes a.text)) }
 {

@@ -1,7 +1,11 @@
-use Rattle.std.proofs.Common.{arith}
-use Rattle.tc_mutex_spec.specs.Slow.{state_of}
-use Rattle.tc_main.proofs.RunnerSteps.{left_falls}
+use Rattle.std.proofs.Common.{◌∙◌, [], ◌∷◌, ◌++◌, arith}
+use Rattle.tc_main.proofs.RunnerSteps.{ends, not_running}
 use Rattle.tc_main.proofs.runner.Runner.run_thread.Goals as goal
 
-pub thread-smaller : goal.thread-smaller
-thread-smaller c = left_falls ((state_of c.thread.self.machine).threads c.args.t) ((state_of c.record_block.new.self.machine).threads c.args.t) (grind (arith, c.status.ensures, c.eq.ensures, c.thread-test.true, c.thread-test.ensures)) c.in_ok-record_block.ensures.falls
+pub returns-clause-after : goal.returns-clause-after
+returns-clause-after c =
+    let self = c.thread.self in
+    let p = c.thread.«package» in
+    ends c.args.image.now self.options self.history.items self.home self.ended.items c.push.new.self.items c.args.t p c.thread.invariant.at c.thread.invariant.rested
+    (not_running p.context.guest.status (λ e. grind (arith, c.status.ensures, c.eq.ensures, c.thread-test.false, c.thread-test.ensures, e)))
+    (c.in_ok-push.ensures.items ∙ (λ i. self.ended.items ++ record { status = c.status-2.ensures i; fuel = c.fuel.ensures i; regs = c.regs.ensures i } ∷ []))
