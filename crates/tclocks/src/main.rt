@@ -7,6 +7,7 @@
 use std::alloc::{AllocError, Global};
 use std::env;
 use std::env::Env;
+use std::io::ErrorKind;
 use std::process::ExitCode;
 use tc_io::streams::{StdSink, StdSource};
 use tc_io::word::Word;
@@ -16,10 +17,14 @@ use tc_main::top::tclocks;
 /// The words after the program's name.
 fn words_of<R: Env + Alloc>(rt: &R, alloc: Global) -> Result<Vec<Word>, AllocError> {
     let mut words = Vec::new(alloc);
-    if let Ok(args) = env::args(rt) {
-        for arg in args.skip(1) {
-            words.push(Word::from_bytes(alloc, arg.as_str().as_bytes())?)?;
+    match env::args(rt) {
+        Ok(args) => {
+            for arg in args.skip(1) {
+                words.push(Word::from_bytes(alloc, arg.as_str().as_bytes())?)?;
+            }
         }
+        Err(error) if error.kind() == ErrorKind::OutOfMemory => return Err(AllocError),
+        Err(_) => {}
     }
     Ok(words)
 }
