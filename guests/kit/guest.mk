@@ -1,0 +1,30 @@
+# guest.mk - the rules that build a guest. In the folder of my.c or my.S:
+#   make -f PATH/TO/guests/kit/guest.mk my.elf
+KIT   := $(dir $(lastword $(MAKEFILE_LIST)))
+CROSS ?= riscv64-unknown-elf-
+CC    := $(CROSS)gcc
+
+ifeq ($(shell command -v $(CC)),)
+$(error $(CC) is missing: install the Debian package gcc-riscv64-unknown-elf, or give another prefix by CROSS=)
+endif
+
+# -mstrict-align: an access at no multiple of its width is fault 6.
+TARGET  := -march=rv32i -mabi=ilp32 -mcmodel=medlow -mstrict-align
+CFLAGS  ?= -O2
+# Products and quotients are functions of libgcc.
+LIBS    ?= -lgcc
+COMPILE := $(TARGET) -std=gnu11 -Wall -Wextra -Werror -g0 -ffreestanding \
+           -fno-pic -fno-common -fno-asynchronous-unwind-tables \
+           -fno-stack-protector -ffunction-sections -fdata-sections -I$(KIT)
+# max-page-size: ranges are not rounded to pages, so the file can be small.
+LINK    := -static -nostdlib -Wl,--gc-sections -Wl,-z,max-page-size=4 \
+           -Wl,--build-id=none -Wl,--strip-debug -Wl,--fatal-warnings \
+           -T $(KIT)tclocks.ld
+
+%.elf: %.c $(KIT)tclocks.h $(KIT)tclocks.ld $(KIT)runtime.c
+	$(CC) $(COMPILE) $(CFLAGS) $(LINK) -o $@ $< $(KIT)runtime.c $(LIBS)
+	@chmod -x $@
+
+%.elf: %.S $(KIT)tclocks.inc $(KIT)tclocks.ld
+	$(CC) $(COMPILE) $(LINK) -o $@ $<
+	@chmod -x $@
