@@ -6,6 +6,7 @@
 //!
 //! - `specs/Machine.antt`: the state, a turn, a run of a schedule. `specs/Locality.antt`: what two
 //!   states share. `specs/Blocks.antt`: a block of turns, and the histories that tell a run.
+//!   `specs/Entries.antt`: the entries that a history gives the journal of each lock.
 //! - `law`: the laws, as functions that do nothing and whose contracts hold.
 //! - `slow`: the program, `Slow::run`; `locks`: its locks.
 #![tactic(auto)]

@@ -10,7 +10,7 @@ use tc_main::status::Status;
 use tc_main::top::tclocks;
 
 /// The smallest guest: `addi x17,x0,93` and `ecall`, at 0x00010054. It exits.
-pub const EXIT: [u8; 92] = [
+pub(crate) const EXIT: [u8; 92] = [
     0x7f, 0x45, 0x4c, 0x46, 0x01, 0x01, 0x01, 0x00, 0x00, 0x00, 0x00, 0x00, 0x00, 0x00, 0x00, 0x00,
     0x02, 0x00, 0xf3, 0x00, 0x01, 0x00, 0x00, 0x00, 0x54, 0x00, 0x01, 0x00, 0x34, 0x00, 0x00, 0x00,
     0x00, 0x00, 0x00, 0x00, 0x00, 0x00, 0x00, 0x00, 0x34, 0x00, 0x20, 0x00, 0x01, 0x00, 0x00, 0x00,
@@ -20,11 +20,11 @@ pub const EXIT: [u8; 92] = [
 ];
 
 /// The report of the smallest guest after `run 1 100 0`.
-pub const EXIT_REPORT: &str =
+pub(crate) const EXIT_REPORT: &str =
     "tclocks 1\nguest threads 1 guards 0\nrun workers 1 fuel 100 batch 0\nblock 0 thread 0 turns 2 held - kind start worker 0 end exit\nthread 0 exit fuel 98 pc 00010058\nx0 00000000 00000000 80000000 00000000 00000000 00000000 00000000 00000000\nx8 00000000 00000000 00000000 00000000 00000000 00000000 00000000 00000000\nx16 00000000 0000005d 00000000 00000000 00000000 00000000 00000000 00000000\nx24 00000000 00000000 00000000 00000000 00000000 00000000 00000000 00000000\nend\n";
 
 /// The file of the smallest guest with these words of code in place of its own.
-pub fn with_code(alloc: Global, code: &[u32]) -> Result<Vec<u8>, AllocError> {
+pub(crate) fn with_code(alloc: Global, code: &[u32]) -> Result<Vec<u8>, AllocError> {
     let mut file = Vec::from_slice(alloc, &EXIT[..68])?;
     let size = (code.len().min(4096) * 4) as u32;
     file.extend_from_slice(&size.to_le_bytes())?;
@@ -37,7 +37,7 @@ pub fn with_code(alloc: Global, code: &[u32]) -> Result<Vec<u8>, AllocError> {
 }
 
 /// The words of a command line.
-pub fn words_of(alloc: Global, words: &[&str]) -> Result<Vec<Word>, AllocError> {
+pub(crate) fn words_of(alloc: Global, words: &[&str]) -> Result<Vec<Word>, AllocError> {
     let mut all = Vec::new(alloc);
     for word in words {
         all.push(Word::from_bytes(alloc, word.as_bytes())?)?;
@@ -47,14 +47,14 @@ pub fn words_of(alloc: Global, words: &[&str]) -> Result<Vec<Word>, AllocError> 
 
 /// What a run ended with, and what it wrote.
 #[derive(Drop)]
-pub struct Ran {
+pub(crate) struct Ran {
     pub status: Status,
     pub written: Vec<u8>,
 }
 
 impl Ran {
     /// Whether the text has this line.
-    pub fn has_line(&self, line: &str) -> bool {
+    pub(crate) fn has_line(&self, line: &str) -> bool {
         match from_utf8(&self.written) {
             Ok(text) => text.lines().any(|own| own == line),
             Err(_) => false,
@@ -62,7 +62,7 @@ impl Ran {
     }
 
     /// How many of the text's lines are of blocks.
-    pub fn blocks(&self) -> usize {
+    pub(crate) fn blocks(&self) -> usize {
         match from_utf8(&self.written) {
             Ok(text) => text.lines().filter(|own| own.starts_with("block ")).count(),
             Err(_) => 0,
@@ -71,7 +71,7 @@ impl Ran {
 }
 
 /// Runs the program on the words and a file, with room for a whole report.
-pub fn run<R: Threads + Wait + Sync>(
+pub(crate) fn run<R: Threads + Wait + Sync>(
     rt: &R,
     alloc: Global,
     words: &[&str],
