@@ -3,6 +3,7 @@ use Rattle.std.proofs.Common.{◌≡◌, ℕ, ◌*◌, ◌%◌, ◌/◌, ◌<◌
 use Rattle.std.specs.Prelude.{Some, None, Ok, Err, ◌==◌, length, if◌then◌else◌}
 use Rattle.std.proofs.lemmas.Bool.Decides.{nat_tests}
 use Rattle.tc_isa.specs.Registers.{Registers, get, with_register}
+use Rattle.tc_isa.specs.declared.limits.TheConstants.{MAX_SLEEP}
 use Rattle.tc_isa.specs.declared.fault.Fault.TheVariants as fault
 use Rattle.tc_isa.specs.declared.instr.Cond.{Cond}
 use Rattle.tc_isa.specs.declared.instr.LoadKind.{LoadKind}
@@ -17,7 +18,7 @@ use Rattle.tc_elf.specs.declared.image.Region.{Region}
 use Rattle.tc_elf.specs.declared.image.Region.TheVariants as region
 use Rattle.tc_exec.proofs.Ascending.{above_all, above_itself}
 use Rattle.tc_exec.specs.Arithmetic.{plus, is_taken}
-use Rattle.tc_exec.specs.Flow.{at_place, stepped, set, jump_to, branch, faulted_or}
+use Rattle.tc_exec.specs.Flow.{at_place, at_next, set, jump_to, branch, faulted_or}
 use Rattle.tc_exec.specs.Access.{load_width, store_width, extended, load_fault, store_fault, nothing_or, load_want, load, put_at, store}
 use Rattle.tc_exec.specs.Calls.{is_above_held, lock_fault, unlock_fault, sleep_fault, answered, guest_call}
 use Rattle.tc_exec.specs.Step.{instruction_at, wants_by, act_by, wants_from, act_from, wants_of, act_of}
@@ -89,7 +90,7 @@ unfolding store
 store_told image held r kind addr value =
     let width = store_width kind in
     let place = region_of image addr width in
-    (elim (store_fault held place addr width) as (λ f. store_fault held place addr width ≡ f → IsAct image held r (faulted_or f (Next (stepped r) (Some (put_at place addr width value))))) [
+    (elim (store_fault held place addr width) as (λ f. store_fault held place addr width ≡ f → IsAct image held r (faulted_or f (Next (at_next r) (Some (put_at place addr width value))))) [
       | Some f ↦ λ e. tt
       | None ↦ λ e.
           (let o = store_opens held place addr width e in
@@ -107,7 +108,7 @@ jump_told image held r s target =
 
 branch_told : (image : Shown) (held : ℕ → Bool) (r : Registers) (k : Cond) (rs1 rs2 off : ℕ) → IsAct image held r (branch r k rs1 rs2 off)
 branch_told image held r k rs1 rs2 off =
-    elim (is_taken k (get r rs1) (get r rs2)) as (λ b. IsAct image held r (if b then jump_to r (plus r.pc off) else Next (stepped r) None)) [
+    elim (is_taken k (get r rs1) (get r rs2)) as (λ b. IsAct image held r (if b then jump_to r (plus r.pc off) else Next (at_next r) None)) [
       | true ↦ jump_told image held r r (plus r.pc off)
       | false ↦ tt
     ]
@@ -120,7 +121,7 @@ lock_opens image held lock e = (grind (arith, nat_tests), grind (arith, nat_test
 unlock_opens : (image : Shown) (held : ℕ → Bool) (lock : ℕ) → unlock_fault image held lock ≡ None → IsUnlock image held lock
 unlock_opens image held lock e = record { known = grind (arith, nat_tests); is_held = grind (arith, nat_tests) }
 
-sleep_opens : (blocks : ℕ) → sleep_fault blocks ≡ None → blocks ≤ 255
+sleep_opens : (blocks : ℕ) → sleep_fault blocks ≡ None → blocks ≤ MAX_SLEEP
 sleep_opens blocks e = grind (arith, nat_tests)
 
 call_told : (image : Shown) (held : ℕ → Bool) (r : Registers) (answer : ℕ) → IsAct image held r (guest_call image held r answer)

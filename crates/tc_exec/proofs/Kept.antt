@@ -14,7 +14,7 @@ use Rattle.tc_elf.specs.Shown.{Shown}
 use Rattle.tc_elf.specs.Places.{region_of}
 use Rattle.tc_exec.proofs.Cases.{choose}
 use Rattle.tc_exec.specs.Arithmetic.{plus, value_of, op_of_imm, is_taken}
-use Rattle.tc_exec.specs.Flow.{at_place, stepped, set, jump_to, jump, faulted_or}
+use Rattle.tc_exec.specs.Flow.{at_place, at_next, set, jump_to, jump, faulted_or}
 use Rattle.tc_exec.specs.Access.{load_width, store_width, extended, load_fault, store_fault, load, put_at, store}
 use Rattle.tc_exec.specs.Calls.{lock_fault, unlock_fault, sleep_fault, answered, guest_call}
 use Rattle.tc_exec.specs.Step.{instruction_at, act_by, act_from, act_of}
@@ -36,11 +36,11 @@ with_kept r n value kept = elim (eqb_tells n 0) [
 at_kept : (r : Registers) (pc : ℕ) → pc % 4 ≡ 0 → IsRegisters r → IsRegisters (at_place r pc)
 at_kept r pc aligned kept = record { count = kept.count; zero_stays = kept.zero_stays; aligned = aligned }
 
-stepped_kept : (r : Registers) → IsRegisters r → IsRegisters (stepped r)
-stepped_kept r kept = (let before = kept.aligned in at_kept r (plus r.pc 4) (omega arith) kept)
+at_next_kept : (r : Registers) → IsRegisters r → IsRegisters (at_next r)
+at_next_kept r kept = (let before = kept.aligned in at_kept r (plus r.pc 4) (omega arith) kept)
 
 set_kept : (r : Registers) (rd value : ℕ) → IsRegisters r → KeepsRegisters (set r rd value)
-set_kept r rd value kept = stepped_kept (with_register r rd value) (with_kept r rd value kept)
+set_kept r rd value kept = at_next_kept (with_register r rd value) (with_kept r rd value kept)
 
 jump_to_kept : (r : Registers) (target : ℕ) → IsRegisters r → KeepsRegisters (jump_to r target)
 jump_to_kept r target kept =
@@ -65,10 +65,10 @@ store_kept : (image : Shown) (held : ℕ → Bool) (r : Registers) (kind : Store
 unfolding store
 store_kept image held r kind addr value kept =
     let place = region_of image addr (store_width kind) in
-    faulted_kept (store_fault held place addr (store_width kind)) (Next (stepped r) (Some (put_at place addr (store_width kind) value))) (stepped_kept r kept)
+    faulted_kept (store_fault held place addr (store_width kind)) (Next (at_next r) (Some (put_at place addr (store_width kind) value))) (at_next_kept r kept)
 
 answered_kept : (r : Registers) (value : ℕ) → IsRegisters r → IsRegisters (answered r value)
-answered_kept r value kept = stepped_kept (with_register r 10 value) (with_kept r 10 value kept)
+answered_kept r value kept = at_next_kept (with_register r 10 value) (with_kept r 10 value kept)
 
 call_kept : (image : Shown) (held : ℕ → Bool) (r : Registers) (answer : ℕ) → IsRegisters r → KeepsRegisters (guest_call image held r answer)
 unfolding guest_call
@@ -86,12 +86,12 @@ by_kept image held r answer (Auipc rd imm) kept = set_kept r rd (plus r.pc imm) 
 by_kept image held r answer (Jal rd off) kept = jump_kept r rd (plus r.pc off) kept
 by_kept image held r answer (Jalr rd rs1 off) kept = jump_kept r rd (plus (get r rs1) off / 2 * 2) kept
 by_kept image held r answer (Branch k rs1 rs2 off) kept =
-    choose KeepsRegisters (is_taken k (get r rs1) (get r rs2)) (jump_to r (plus r.pc off)) (Next (stepped r) None) (jump_to_kept r (plus r.pc off) kept) (stepped_kept r kept)
+    choose KeepsRegisters (is_taken k (get r rs1) (get r rs2)) (jump_to r (plus r.pc off)) (Next (at_next r) None) (jump_to_kept r (plus r.pc off) kept) (at_next_kept r kept)
 by_kept image held r answer (Load kind rd rs1 off) kept = load_kept image held r answer kind rd (plus (get r rs1) off) kept
 by_kept image held r answer (Store kind rs1 rs2 off) kept = store_kept image held r kind (plus (get r rs1) off) (get r rs2) kept
 by_kept image held r answer (Imm o rd rs1 imm) kept = set_kept r rd (value_of (op_of_imm o) (get r rs1) imm) kept
 by_kept image held r answer (Op o rd rs1 rs2) kept = set_kept r rd (value_of o (get r rs1) (get r rs2)) kept
-by_kept image held r answer (Fence rd rs1 imm) kept = stepped_kept r kept
+by_kept image held r answer (Fence rd rs1 imm) kept = at_next_kept r kept
 by_kept image held r answer Ecall kept = call_kept image held r answer kept
 by_kept image held r answer Ebreak kept = tt
 

@@ -1,5 +1,5 @@
 -- What the layers above need to know of instructions, and all that they need to know.
-use Rattle.std.proofs.Common.{◌≡◌, ℕ, ◌*◌, ◌%◌, ◌/◌, Bool, true, false, refl, ap, arith, subst}
+use Rattle.std.proofs.Common.{◌≡◌, ℕ, ◌*◌, ◌/◌, Bool, true, false, refl, ap, arith, subst}
 use Rattle.std.specs.Prelude.{Option, Some, None, Result, Ok, Err, ◌==◌, if◌then◌else◌}
 use Rattle.tc_isa.specs.Registers.{Registers, get, with_register}
 use Rattle.tc_isa.specs.declared.fault.Fault.{Fault}
@@ -9,13 +9,14 @@ use Rattle.tc_isa.specs.declared.instr.Instr.TheVariants.{Lui, Auipc, Jal, Jalr,
 use Rattle.tc_elf.specs.Shown.{Shown}
 use Rattle.tc_elf.specs.Places.{region_of}
 use Rattle.tc_exec.proofs.Cases.{choose, wants_told, act_told}
+use Rattle.tc_exec.proofs.NoLock.{no_lock_or, jump_is_none}
 use Rattle.tc_exec.specs.Arithmetic.{plus, is_taken}
-use Rattle.tc_exec.specs.Flow.{stepped, at_place, set, jump_to, faulted_or}
+use Rattle.tc_exec.specs.Flow.{at_next, set, jump_to, faulted_or}
 use Rattle.tc_exec.specs.Access.{load_width, extended, load_fault, nothing_or, load_want, load, store}
 use Rattle.tc_exec.specs.Calls.{lock_fault, unlock_fault, sleep_fault, answered, guest_call}
 use Rattle.tc_exec.specs.Step.{instruction_at, wants_by, act_by, wants_from, act_from, wants_of, act_of}
 use Rattle.tc_exec.specs.Statements.{GuardIsHeld, PutIsHeld, UnlockIsHeld, LockIsFree, LockWantsNothing, LockIsAbove, AnswerIsUnread}
-use Rattle.tc_exec.specs.Told.{IsOpenToStores, IsPut, IsLock, IsWant, IsAct}
+use Rattle.tc_exec.specs.Told.{IsOpenToStores, IsPut, IsLock, IsWant, IsAct, IsNoLock}
 use Rattle.tc_exec.specs.declared.outcome.Act.{Act}
 use Rattle.tc_exec.specs.declared.outcome.Act.TheVariants.{Next, Called, Faulted}
 use Rattle.tc_exec.specs.declared.outcome.Call.TheVariants.{Lock, Unlock, Sleep, Exit}
@@ -43,21 +44,6 @@ lock_is_above image held r answer next lock few bound e =
 
 -- ---- what the answer changes
 
-abbrev NoLock : Act → Type 0
-NoLock (Next next put) = Unit {0}
-NoLock (Called (Lock lock) next) = ⊥
-NoLock (Called (Unlock lock) next) = Unit {0}
-NoLock (Called (Sleep blocks) next) = Unit {0}
-NoLock (Called Exit next) = Unit {0}
-NoLock (Faulted f) = Unit {0}
-
-faulted_no_lock : (f : Option Fault) (act : Act) → NoLock act → NoLock (faulted_or f act)
-faulted_no_lock (Some f) act never = tt
-faulted_no_lock None act never = never
-
-jump_no_lock : (r : Registers) (target : ℕ) → NoLock (jump_to r target)
-jump_no_lock r target = choose NoLock (target % 4 == 0) (Next (at_place r target) None) (Faulted fault.JumpTarget) tt tt
-
 -- LOCK before other calls
 abbrev lock_or : Bool → Option Fault → ℕ → Registers → Act → Act
 lock_or is_lock f lock next rest = if is_lock then faulted_or f (Called (Lock lock) next) else rest
@@ -69,18 +55,18 @@ other_calls image held r =
     else if get r 17 == 93 then Called Exit r
     else Faulted fault.BadCall
 
-other_calls_no_lock : (image : Shown) (held : ℕ → Bool) (r : Registers) → NoLock (other_calls image held r)
+other_calls_no_lock : (image : Shown) (held : ℕ → Bool) (r : Registers) → IsNoLock (other_calls image held r)
 other_calls_no_lock image held r =
     let x = get r 10 in
-    choose NoLock (get r 17 == 2) _ _ (faulted_no_lock (unlock_fault image held x) (Called (Unlock x) (answered r 0)) tt)
-    (choose NoLock (get r 17 == 3) _ _ (faulted_no_lock (sleep_fault x) (Called (Sleep x) (answered r 0)) tt)
-    (choose NoLock (get r 17 == 93) (Called Exit r) (Faulted fault.BadCall) tt tt))
+    choose IsNoLock (get r 17 == 2) _ _ (no_lock_or (unlock_fault image held x) (Called (Unlock x) (answered r 0)) tt)
+    (choose IsNoLock (get r 17 == 3) _ _ (no_lock_or (sleep_fault x) (Called (Sleep x) (answered r 0)) tt)
+    (choose IsNoLock (get r 17 == 93) (Called Exit r) (Faulted fault.BadCall) tt tt))
 
-lock_or_anyway : (b : Bool) (f : Option Fault) (x : ℕ) (one other : Registers) (rest : Act) (lock : ℕ) (next : Registers) → NoLock rest
+lock_or_anyway : (b : Bool) (f : Option Fault) (x : ℕ) (one other : Registers) (rest : Act) (lock : ℕ) (next : Registers) → IsNoLock rest
     → lock_or b f x one rest ≡ Called (Lock lock) next → lock_or b f x other rest ≡ Called (Lock lock) other
 lock_or_anyway true (Some f) x one other rest lock next never e = absurd (cc)
 lock_or_anyway true None x one other rest lock next never e = (let same : x ≡ lock = cc in ap (λ k. Called (Lock k) other) same)
-lock_or_anyway false f x one other rest lock next never e = absurd (subst NoLock e never)
+lock_or_anyway false f x one other rest lock next never e = absurd (subst IsNoLock e never)
 
 lock_or_unread : (b : Bool) (f : Option Fault) (x : ℕ) (one other : Registers) (rest : Act)
     → ((next : Registers) (lock : ℕ) → lock_or b f x one rest ≡ Called (Lock lock) next → ⊥) → lock_or b f x one rest ≡ lock_or b f x other rest
@@ -98,12 +84,12 @@ lock_by : (image : Shown) (held : ℕ → Bool) (r : Registers) (answer : ℕ) (
 unfolding act_by wants_by load store guest_call
 lock_by image held r answer (Lui rd imm) lock next e = absurd (cc)
 lock_by image held r answer (Auipc rd imm) lock next e = absurd (cc)
-lock_by image held r answer (Jal rd off) lock next e = absurd (subst NoLock e (jump_no_lock (with_register r rd (plus r.pc 4)) (plus r.pc off)))
-lock_by image held r answer (Jalr rd rs1 off) lock next e = absurd (subst NoLock e (jump_no_lock (with_register r rd (plus r.pc 4)) (plus (get r rs1) off / 2 * 2)))
+lock_by image held r answer (Jal rd off) lock next e = absurd (subst IsNoLock e (jump_is_none (with_register r rd (plus r.pc 4)) (plus r.pc off)))
+lock_by image held r answer (Jalr rd rs1 off) lock next e = absurd (subst IsNoLock e (jump_is_none (with_register r rd (plus r.pc 4)) (plus (get r rs1) off / 2 * 2)))
 lock_by image held r answer (Branch k rs1 rs2 off) lock next e =
-    absurd (subst NoLock e (choose NoLock (is_taken k (get r rs1) (get r rs2)) (jump_to r (plus r.pc off)) (Next (stepped r) None) (jump_no_lock r (plus r.pc off)) tt))
-lock_by image held r answer (Load kind rd rs1 off) lock next e = absurd (subst NoLock e (faulted_no_lock _ (set r rd (extended kind answer)) tt))
-lock_by image held r answer (Store kind rs1 rs2 off) lock next e = absurd (subst NoLock e (faulted_no_lock _ (Next (stepped r) _) tt))
+    absurd (subst IsNoLock e (choose IsNoLock (is_taken k (get r rs1) (get r rs2)) (jump_to r (plus r.pc off)) (Next (at_next r) None) (jump_is_none r (plus r.pc off)) tt))
+lock_by image held r answer (Load kind rd rs1 off) lock next e = absurd (subst IsNoLock e (no_lock_or _ (set r rd (extended kind answer)) tt))
+lock_by image held r answer (Store kind rs1 rs2 off) lock next e = absurd (subst IsNoLock e (no_lock_or _ (Next (at_next r) _) tt))
 lock_by image held r answer (Imm o rd rs1 imm) lock next e = absurd (cc)
 lock_by image held r answer (Op o rd rs1 rs2) lock next e = absurd (cc)
 lock_by image held r answer (Fence rd rs1 imm) lock next e = absurd (cc)

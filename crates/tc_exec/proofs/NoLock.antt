@@ -13,7 +13,7 @@ use Rattle.tc_isa.specs.Reading.{decoded}
 use Rattle.tc_elf.specs.Places.{region_of, fetched}
 use Rattle.tc_exec.proofs.Cases.{choose}
 use Rattle.tc_exec.specs.Arithmetic.{plus, is_taken}
-use Rattle.tc_exec.specs.Flow.{stepped, set, jump_to, branch, faulted_or}
+use Rattle.tc_exec.specs.Flow.{at_next, set, jump_to, branch, faulted_or}
 use Rattle.tc_exec.specs.Access.{load_width, store_width, extended, load_fault, store_fault, load, put_at, store}
 use Rattle.tc_exec.specs.Calls.{unlock_fault, sleep_fault, answered, guest_call}
 use Rattle.tc_exec.specs.Step.{decoded_from, instruction_at, act_by, act_from, act_of}
@@ -22,11 +22,11 @@ use Rattle.tc_exec.specs.declared.outcome.Act.{Act}
 use Rattle.tc_exec.specs.declared.outcome.Act.TheVariants.{Next, Called, Faulted}
 use Rattle.tc_exec.specs.declared.outcome.Call.TheVariants.{Unlock, Sleep, Exit}
 
-no_lock_or : (f : Option Fault) (act : Act) → IsNoLock act → IsNoLock (faulted_or f act)
+pub no_lock_or : (f : Option Fault) (act : Act) → IsNoLock act → IsNoLock (faulted_or f act)
 no_lock_or (Some f) act h = tt
 no_lock_or None act h = h
 
-jump_is_none : (s : Registers) (target : ℕ) → IsNoLock (jump_to s target)
+pub jump_is_none : (s : Registers) (target : ℕ) → IsNoLock (jump_to s target)
 jump_is_none s target = choose IsNoLock (target % 4 == 0) _ _ tt tt
 
 branch_is_none : (r : Registers) (k : Cond) (rs1 rs2 off : ℕ) → IsNoLock (branch r k rs1 rs2 off)
@@ -55,7 +55,7 @@ by_is_none image held r answer (Store kind rs1 rs2 off) call =
     let width = store_width kind in
     let addr = plus (get r rs1) off in
     let place = region_of image addr width in
-    no_lock_or (store_fault held place addr width) (Next (stepped r) (Some (put_at place addr width (get r rs2)))) tt
+    no_lock_or (store_fault held place addr width) (Next (at_next r) (Some (put_at place addr width (get r rs2)))) tt
 by_is_none image held r answer (Imm o rd rs1 imm) call = tt
 by_is_none image held r answer (Op o rd rs1 rs2) call = tt
 by_is_none image held r answer (Fence rd rs1 imm) call = tt

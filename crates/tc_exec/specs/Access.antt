@@ -12,14 +12,21 @@ use Rattle.tc_elf.specs.Shown.{Shown}
 use Rattle.tc_elf.specs.Places.{region_of}
 use Rattle.tc_elf.specs.declared.image.Region.{Region}
 use Rattle.tc_elf.specs.declared.image.Region.TheVariants as region
-use Rattle.tc_exec.specs.Flow.{stepped, set, faulted_or}
+use Rattle.tc_exec.specs.Flow.{at_next, set, faulted_or}
+use Rattle.tc_exec.specs.declared.access.Width.{Width}
+use Rattle.tc_exec.specs.declared.access.Width.TheVariants as width
 use Rattle.tc_exec.specs.declared.outcome.Act.{Act}
 use Rattle.tc_exec.specs.declared.outcome.Act.TheVariants.{Next}
 use Rattle.tc_exec.specs.declared.outcome.Put.{Put}
 use Rattle.tc_exec.specs.declared.outcome.Want.{Want}
 use Rattle.tc_exec.specs.declared.outcome.Want.TheVariants as want
 
--- in bytes
+-- how many bytes the numbers have that are loaded or stored
+abbrev pub width_bytes : Width → ℕ
+width_bytes width.Byte = 1
+width_bytes width.Half = 2
+width_bytes width.Word = 4
+
 abbrev pub load_width : LoadKind → ℕ
 load_width load_kind.Lb = 1
 load_width load_kind.Lh = 2
@@ -46,19 +53,16 @@ guard_fault held lock = if held lock then None else Some fault.Unguarded
 
 -- the fault of an aligned load by its place
 abbrev pub aligned_load_fault : (ℕ → Bool) → Region → Option Fault
-aligned_load_fault held region.Text = None
-aligned_load_fault held region.Private = None
-aligned_load_fault held region.Stack = None
 aligned_load_fault held (region.Guard lock) = guard_fault held lock
 aligned_load_fault held region.Nothing = Some fault.Load
+aligned_load_fault held place = None
 
 -- the fault of an aligned store by its place
 abbrev pub aligned_store_fault : (ℕ → Bool) → Region → Option Fault
-aligned_store_fault held region.Text = Some fault.Store
-aligned_store_fault held region.Private = None
-aligned_store_fault held region.Stack = None
 aligned_store_fault held (region.Guard lock) = guard_fault held lock
+aligned_store_fault held region.Text = Some fault.Store
 aligned_store_fault held region.Nothing = Some fault.Store
+aligned_store_fault held place = None
 
 abbrev pub misaligned_or : ℕ → ℕ → Option Fault → Option Fault
 misaligned_or addr width other = if addr % width == 0 then other else Some fault.Misaligned
@@ -80,9 +84,13 @@ want_at held place addr width = nothing_or (load_fault held place addr width) (w
 unfoldable pub load_want : Shown → (ℕ → Bool) → LoadKind → ℕ → Want
 load_want image held kind addr = want_at held (region_of image addr (load_width kind)) addr (load_width kind)
 
+abbrev pub load_from : (ℕ → Bool) → Registers → ℕ → LoadKind → ℕ → Region → ℕ → Act
+load_from held r answer kind rd place addr =
+    faulted_or (load_fault held place addr (load_width kind)) (set r rd (extended kind answer))
+
 unfoldable pub load : Shown → (ℕ → Bool) → Registers → ℕ → LoadKind → ℕ → ℕ → Act
 load image held r answer kind rd addr =
-    faulted_or (load_fault held (region_of image addr (load_width kind)) addr (load_width kind)) (set r rd (extended kind answer))
+    load_from held r answer kind rd (region_of image addr (load_width kind)) addr
 
 -- the low bits of a value
 abbrev pub put_at : Region → ℕ → ℕ → ℕ → Put
@@ -90,7 +98,7 @@ put_at place addr width value = record { region = place; addr = addr; width = wi
 
 abbrev pub store_at : (ℕ → Bool) → Registers → Region → ℕ → ℕ → ℕ → Act
 store_at held r place addr width value =
-    faulted_or (store_fault held place addr width) (Next (stepped r) (Some (put_at place addr width value)))
+    faulted_or (store_fault held place addr width) (Next (at_next r) (Some (put_at place addr width value)))
 
 unfoldable pub store : Shown → (ℕ → Bool) → Registers → StoreKind → ℕ → ℕ → Act
 store image held r kind addr value =

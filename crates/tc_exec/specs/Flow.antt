@@ -10,15 +10,15 @@ use Rattle.tc_exec.specs.declared.outcome.Act.{Act}
 use Rattle.tc_exec.specs.declared.outcome.Act.TheVariants.{Next, Faulted}
 
 abbrev pub at_place : Registers → ℕ → Registers
-at_place r pc = record { pc = pc; words = r.words }
+at_place r pc = record r { pc = pc }
 
 -- at the next instruction
-abbrev pub stepped : Registers → Registers
-stepped r = at_place r (plus r.pc 4)
+abbrev pub at_next : Registers → Registers
+at_next r = at_place r (plus r.pc 4)
 
 -- a value goes into a register
 abbrev pub set : Registers → ℕ → ℕ → Act
-set r rd value = Next (stepped (with_register r rd value)) None
+set r rd value = Next (at_next (with_register r rd value)) None
 
 -- to a target, which has to be a multiple of 4
 abbrev pub jump_to : Registers → ℕ → Act
@@ -31,7 +31,7 @@ jump r rd target = jump_to (with_register r rd (plus r.pc 4)) target
 -- only a taken branch has a target
 abbrev pub branch : Registers → Cond → ℕ → ℕ → ℕ → Act
 branch r k rs1 rs2 off =
-    if is_taken k (get r rs1) (get r rs2) then jump_to r (plus r.pc off) else Next (stepped r) None
+    if is_taken k (get r rs1) (get r rs2) then jump_to r (plus r.pc off) else Next (at_next r) None
 
 -- a fault in place of the act
 abbrev pub faulted_or : Option Fault → Act → Act

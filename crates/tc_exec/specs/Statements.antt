@@ -5,7 +5,7 @@ use Rattle.tc_elf.specs.Shown.{Shown}
 use Rattle.tc_elf.specs.declared.image.Region.TheVariants as region
 use Rattle.tc_exec.specs.Calls.{answered}
 use Rattle.tc_exec.specs.Step.{wants_of, act_of}
-use Rattle.tc_exec.specs.Told.{KeepsRegisters}
+use Rattle.tc_exec.specs.Told.{IsNoLock, KeepsRegisters}
 use Rattle.tc_exec.specs.declared.outcome.Act.TheVariants.{Next, Called}
 use Rattle.tc_exec.specs.declared.outcome.Call.TheVariants.{Lock, Unlock}
 use Rattle.tc_exec.specs.declared.outcome.Put.{Put}
@@ -35,6 +35,10 @@ pub record IsLockAnyway (image : Shown) (held : ℕ → Bool) (r : Registers) (l
 abbrev pub LockIsFree : Type 0
 LockIsFree = (image : Shown) (held : ℕ → Bool) (r : Registers) (answer : ℕ) (next : Registers) (lock : ℕ)
     → act_of image held r answer ≡ Called (Lock lock) next → IsLockAnyway image held r lock
+
+-- whatever locks are held and whatever is answered, the next instruction is no LOCK
+abbrev pub NeverLocks : Shown → Registers → Type 0
+NeverLocks image r = (held : ℕ → Bool) (answer : ℕ) → IsNoLock (act_of image held r answer)
 
 -- a LOCK loads nothing
 abbrev pub LockWantsNothing : Type 0

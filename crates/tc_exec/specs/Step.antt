@@ -10,7 +10,7 @@ use Rattle.tc_isa.specs.declared.instr.Instr.TheVariants.{Lui, Auipc, Jal, Jalr,
 use Rattle.tc_elf.specs.Shown.{Shown}
 use Rattle.tc_elf.specs.Places.{fetched}
 use Rattle.tc_exec.specs.Arithmetic.{plus, value_of, op_of_imm}
-use Rattle.tc_exec.specs.Flow.{stepped, set, jump, branch}
+use Rattle.tc_exec.specs.Flow.{at_next, set, jump, branch}
 use Rattle.tc_exec.specs.Access.{load_want, load, store}
 use Rattle.tc_exec.specs.Calls.{guest_call}
 use Rattle.tc_exec.specs.declared.outcome.Act.{Act}
@@ -52,7 +52,7 @@ act_by image held r answer (Load kind rd rs1 off) = load image held r answer kin
 act_by image held r answer (Store kind rs1 rs2 off) = store image held r kind (plus (get r rs1) off) (get r rs2)
 act_by image held r answer (Imm o rd rs1 imm) = set r rd (value_of (op_of_imm o) (get r rs1) imm)
 act_by image held r answer (Op o rd rs1 rs2) = set r rd (value_of o (get r rs1) (get r rs2))
-act_by image held r answer (Fence rd rs1 imm) = Next (stepped r) None
+act_by image held r answer (Fence rd rs1 imm) = Next (at_next r) None
 act_by image held r answer Ecall = guest_call image held r answer
 act_by image held r answer Ebreak = Faulted fault.Break
 

@@ -1,6 +1,7 @@
 -- What is true of every load, store and guest call of an instruction.
 use Rattle.std.specs.Prelude.{◌≡◌, ◌⊎◌, ℕ, ◌*◌, ◌%◌, ◌^◌, ◌<◌, ◌≤◌, Bool, true, false, length, Some, None}
 use Rattle.tc_isa.specs.Registers.{Registers, IsRegisters}
+use Rattle.tc_isa.specs.declared.limits.TheConstants.{MAX_SLEEP}
 use Rattle.tc_elf.specs.Shown.{Shown}
 use Rattle.tc_elf.specs.Places.{region_of}
 use Rattle.tc_elf.specs.declared.image.Region.{Region}
@@ -18,19 +19,14 @@ IsWidth width = (width ≡ 1) ⊎ (width ≡ 2) ⊎ (width ≡ 4)
 
 -- where a thread may load: in a guard whose lock it holds, and in each place that is no guard
 abbrev pub IsOpen : (ℕ → Bool) → Region → Type 0
-IsOpen held region.Text = Unit {0}
-IsOpen held region.Private = Unit {0}
-IsOpen held region.Stack = Unit {0}
 IsOpen held (region.Guard lock) = held lock ≡ true
 IsOpen held region.Nothing = ⊥
+IsOpen held place = Unit {0}
 
 -- where it may store
 abbrev pub IsOpenToStores : (ℕ → Bool) → Region → Type 0
 IsOpenToStores held region.Text = ⊥
-IsOpenToStores held region.Private = Unit {0}
-IsOpenToStores held region.Stack = Unit {0}
-IsOpenToStores held (region.Guard lock) = held lock ≡ true
-IsOpenToStores held region.Nothing = ⊥
+IsOpenToStores held place = IsOpen held place
 
 pub record IsLoad (image : Shown) (held : ℕ → Bool) (place : Region) (addr width : ℕ) : Type 0 where
   pub width_fits : IsWidth width
@@ -65,18 +61,14 @@ IsAct image held r (Next next None) = Unit {0}
 IsAct image held r (Next next (Some put)) = IsPut image held put
 IsAct image held r (Called (Lock lock) next) = IsLock image held lock
 IsAct image held r (Called (Unlock lock) next) = IsUnlock image held lock × (next ≡ answered r 0)
-IsAct image held r (Called (Sleep blocks) next) = (blocks ≤ 255) × (next ≡ answered r 0)
+IsAct image held r (Called (Sleep blocks) next) = (blocks ≤ MAX_SLEEP) × (next ≡ answered r 0)
 IsAct image held r (Called Exit next) = next ≡ r
 IsAct image held r (Faulted f) = Unit {0}
 
 -- an act that is no LOCK
 abbrev pub IsNoLock : Act → Type 0
-IsNoLock (Next next put) = Unit {0}
 IsNoLock (Called (Lock lock) next) = ⊥
-IsNoLock (Called (Unlock lock) next) = Unit {0}
-IsNoLock (Called (Sleep blocks) next) = Unit {0}
-IsNoLock (Called Exit next) = Unit {0}
-IsNoLock (Faulted f) = Unit {0}
+IsNoLock act = Unit {0}
 
 -- the registers that an act leaves are registers
 abbrev pub KeepsRegisters : Act → Type 0

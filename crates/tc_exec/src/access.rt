@@ -3,9 +3,9 @@
 ghost use Rattle.std.specs.Prelude.{◌≡◌, ◌==◌, ◌%◌, ◌^◌, ◌*◌};
 ghost use Rattle.tc_isa.specs.Sets.{has};
 ghost use Rattle.tc_exec.specs.Access as access;
-ghost use Rattle.tc_exec.specs.Told.{IsWidth};
+ghost use Rattle.tc_exec.specs.Access.{width_bytes};
 
-use crate::flow::{set, stepped};
+use crate::flow::{at_next, set};
 use crate::outcome::{Act, Put, Want};
 use tc_elf::image::{Image, Region};
 use tc_isa::fault::Fault;
@@ -14,25 +14,55 @@ use tc_isa::instr::{LoadKind, StoreKind};
 use tc_isa::reg::Reg;
 use tc_isa::regs::Regs;
 
-fn load_width(kind: LoadKind) -> u32
-    ensures value { result ≡ access.load_width kind }
-    ensures bound { IsWidth result }
-{
-    match kind {
-        LoadKind::Lb | LoadKind::Lbu => 1,
-        LoadKind::Lh | LoadKind::Lhu => 2,
-        LoadKind::Lw => 4,
-    }
+/// How many bytes a load or a store is of.
+#[derive(Clone, Copy)]
+pub(crate) enum Width {
+    Byte,
+    Half,
+    Word,
 }
 
-fn store_width(kind: StoreKind) -> u32
-    ensures value { result ≡ access.store_width kind }
-    ensures bound { IsWidth result }
-{
-    match kind {
-        StoreKind::Sb => 1,
-        StoreKind::Sh => 2,
-        StoreKind::Sw => 4,
+impl Width {
+    fn of_load(kind: LoadKind) -> Width
+        ensures { width_bytes result ≡ access.load_width kind }
+    {
+        match kind {
+            LoadKind::Lb | LoadKind::Lbu => Width::Byte,
+            LoadKind::Lh | LoadKind::Lhu => Width::Half,
+            LoadKind::Lw => Width::Word,
+        }
+    }
+
+    fn of_store(kind: StoreKind) -> Width
+        ensures { width_bytes result ≡ access.store_width kind }
+    {
+        match kind {
+            StoreKind::Sb => Width::Byte,
+            StoreKind::Sh => Width::Half,
+            StoreKind::Sw => Width::Word,
+        }
+    }
+
+    fn bytes(self) -> u32
+        ensures { result ≡ width_bytes self }
+    {
+        match self {
+            Width::Byte => 1,
+            Width::Half => 2,
+            Width::Word => 4,
+        }
+    }
+
+    /// Whether an address is a multiple of the width.
+    fn divides(self, addr: u32) -> bool
+        ensures { result ≡ (addr % width_bytes self == 0) }
+    {
+        // No division by a number that is not known before.
+        match self {
+            Width::Byte => true,
+            Width::Half => addr % 2 == 0,
+            Width::Word => addr % 4 == 0,
+        }
     }
 }
 
@@ -80,33 +110,18 @@ fn guard_fault(held: Held, lock: u32) -> Option<Fault>
     }
 }
 
-/// Whether an address is a multiple of a width, with no division by a number that is not known
-/// before.
-fn is_aligned(addr: u32, width: u32) -> bool
-    requires { IsWidth width }
-    ensures { result ≡ (addr % width == 0) }
+fn misaligned_or(addr: u32, width: Width, other: Option<Fault>) -> Option<Fault>
+    ensures { result ≡ access.misaligned_or addr (width_bytes width) other }
 {
-    match width {
-        1 => true,
-        2 => addr % 2 == 0,
-        _ => addr % 4 == 0,
-    }
-}
-
-fn misaligned_or(addr: u32, width: u32, other: Option<Fault>) -> Option<Fault>
-    requires { IsWidth width }
-    ensures { result ≡ access.misaligned_or addr width other }
-{
-    if is_aligned(addr, width) {
+    if width.divides(addr) {
         other
     } else {
         Some(Fault::Misaligned)
     }
 }
 
-fn load_fault(held: Held, place: Region, addr: u32, width: u32) -> Option<Fault>
-    requires { IsWidth width }
-    ensures { result ≡ access.load_fault (has held) place addr width }
+fn load_fault(held: Held, place: Region, addr: u32, width: Width) -> Option<Fault>
+    ensures { result ≡ access.load_fault (has held) place addr (width_bytes width) }
 {
     let fault = match place {
         Region::Text | Region::Private | Region::Stack => None,
@@ -116,9 +131,8 @@ fn load_fault(held: Held, place: Region, addr: u32, width: u32) -> Option<Fault>
     misaligned_or(addr, width, fault)
 }
 
-fn store_fault(held: Held, place: Region, addr: u32, width: u32) -> Option<Fault>
-    requires { IsWidth width }
-    ensures { result ≡ access.store_fault (has held) place addr width }
+fn store_fault(held: Held, place: Region, addr: u32, width: Width) -> Option<Fault>
+    ensures { result ≡ access.store_fault (has held) place addr (width_bytes width) }
 {
     let fault = match place {
         Region::Private | Region::Stack => None,
@@ -133,14 +147,14 @@ fn store_fault(held: Held, place: Region, addr: u32, width: u32) -> Option<Fault
 pub fn load_want(image: &Image, held: Held, kind: LoadKind, addr: u32) -> Want
     ensures { result ≡ access.load_want image.now (has held) kind addr }
 {
-    let width = load_width(kind);
-    let region = image.region(addr, width);
+    let width = Width::of_load(kind);
+    let region = image.region(addr, width.bytes());
     match load_fault(held, region, addr, width) {
         Some(_) => Want::Nothing,
         None => Want::Load {
             region,
             addr,
-            width,
+            width: width.bytes(),
         },
     }
 }
@@ -158,8 +172,9 @@ pub fn load(
 ) -> Act
     ensures { result ≡ access.load image.now (has held) regs.now answer kind rd addr }
 {
-    let width = load_width(kind);
-    match load_fault(held, image.region(addr, width), addr, width) {
+    let width = Width::of_load(kind);
+    let region = image.region(addr, width.bytes());
+    match load_fault(held, region, addr, width) {
         Some(fault) => Act::Faulted(fault),
         None => set(regs, rd, extended(kind, answer)),
     }
@@ -170,19 +185,19 @@ pub fn load(
 pub fn store(image: &Image, held: Held, regs: &Regs, kind: StoreKind, addr: u32, value: u32) -> Act
     ensures { result ≡ access.store image.now (has held) regs.now kind addr value }
 {
-    let width = store_width(kind);
-    let region = image.region(addr, width);
+    let width = Width::of_store(kind);
+    let region = image.region(addr, width.bytes());
     if let Some(fault) = store_fault(held, region, addr, width) {
         return Act::Faulted(fault);
     }
     let put = Put {
         region,
         addr,
-        width,
+        width: width.bytes(),
         value: low_bytes(kind, value),
     };
     Act::Next {
-        regs: stepped(*regs),
+        regs: at_next(*regs),
         put: Some(put),
     }
 }

@@ -7,15 +7,16 @@ ghost use Rattle.tc_exec.specs.Calls as calls;
 ghost use Rattle.tc_exec.specs.Flow.{faulted_or};
 ghost use Rattle.tc_exec.specs.declared.outcome.Act.TheVariants.{Called};
 
-use crate::flow::stepped;
+use crate::flow::at_next;
 use crate::outcome::{Act, Call};
 use tc_elf::image::Image;
 use tc_isa::fault::Fault;
 use tc_isa::held::Held;
-use tc_isa::limits::MOST_HELD;
+use tc_isa::limits::{MAX_HELD, MAX_SLEEP};
 use tc_isa::reg::Reg;
 use tc_isa::regs::Regs;
 
+/// The numbers of the guest calls.
 const LOCK: u32 = 1;
 
 const UNLOCK: u32 = 2;
@@ -23,9 +24,6 @@ const UNLOCK: u32 = 2;
 const SLEEP: u32 = 3;
 
 const EXIT: u32 = 93;
-
-/// The greatest number of blocks that a thread may sleep.
-const MOST_SLEEP: u32 = 255;
 
 fn is_above_held(held: Held, lock: u32) -> bool
     ensures { result ≡ calls.is_above_held (has held) lock }
@@ -40,7 +38,7 @@ fn is_above_held(held: Held, lock: u32) -> bool
 fn holds_most(held: Held) -> bool
     ensures { result ≡ calls.holds_most (has held) }
 {
-    held.count() >= MOST_HELD
+    held.count() >= MAX_HELD
 }
 
 fn lock_fault(image: &Image, held: Held, lock: u32) -> Option<Fault>
@@ -70,7 +68,7 @@ fn unlock_fault(image: &Image, held: Held, lock: u32) -> Option<Fault>
 fn sleep_fault(blocks: u32) -> Option<Fault>
     ensures { result ≡ calls.sleep_fault blocks }
 {
-    if blocks > MOST_SLEEP {
+    if blocks > MAX_SLEEP {
         Some(Fault::BadCall)
     } else {
         None
@@ -80,7 +78,7 @@ fn sleep_fault(blocks: u32) -> Option<Fault>
 fn answered(regs: &Regs, value: u32) -> Regs
     ensures { result ≡ calls.answered regs.now value }
 {
-    stepped(regs.with(Reg::of(10), value))
+    at_next(regs.with(Reg::of(10), value))
 }
 
 fn called(fault: Option<Fault>, call: Call, regs: &Regs, value: u32) -> Act

@@ -11,8 +11,8 @@ use tc_isa::reg::Reg;
 use tc_isa::regs::Regs;
 
 /// The registers at the next instruction.
-pub fn stepped(regs: Regs) -> Regs
-    ensures { result ≡ flow.stepped regs }
+pub fn at_next(regs: Regs) -> Regs
+    ensures { result ≡ flow.at_next regs }
 {
     let pc = regs.pc();
     regs.at(pc.wrapping_add(4))
@@ -23,7 +23,7 @@ pub fn set(regs: &Regs, rd: Reg, value: u32) -> Act
     ensures { result ≡ flow.set regs.now rd value }
 {
     Act::Next {
-        regs: stepped(regs.with(rd, value)),
+        regs: at_next(regs.with(rd, value)),
         put: None,
     }
 }
@@ -56,7 +56,7 @@ pub fn branch(regs: &Regs, cond: Cond, rs1: Reg, rs2: Reg, off: u32) -> Act
         jump_to(*regs, regs.pc().wrapping_add(off))
     } else {
         Act::Next {
-            regs: stepped(*regs),
+            regs: at_next(*regs),
             put: None,
         }
     }

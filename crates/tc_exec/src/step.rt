@@ -1,14 +1,15 @@
 //! The next instruction: what it loads, and what it does.
 
-ghost use Rattle.std.specs.Prelude.{◌≡◌, ℕ, Bool, false};
+ghost use Rattle.std.specs.Prelude.{◌≡◌, false};
 ghost use Rattle.tc_isa.specs.Sets.{has};
 ghost use Rattle.tc_exec.specs.Step as step;
-ghost use Rattle.tc_exec.specs.Told.{IsWant, IsAct, IsNoLock};
+ghost use Rattle.tc_exec.specs.Statements.{NeverLocks};
+ghost use Rattle.tc_exec.specs.Told.{IsWant, IsAct};
 
 use crate::access::{load, load_want, store};
 use crate::arithmetic::{op_of_imm, value_of};
 use crate::calls::{guest_call, is_numbered_lock};
-use crate::flow::{branch, jump, set, stepped};
+use crate::flow::{at_next, branch, jump, set};
 use crate::outcome::{Act, Want};
 use tc_elf::image::Image;
 use tc_isa::decode::{decode, rows_decide};
@@ -81,7 +82,7 @@ fn act_by(image: &Image, held: Held, regs: &Regs, answer: u32, instr: Instr) -> 
             set(regs, rd, value)
         }
         Instr::Fence { .. } => Act::Next {
-            regs: stepped(*regs),
+            regs: at_next(*regs),
             put: None,
         },
         Instr::Ecall => guest_call(image, held, regs, answer),
@@ -120,7 +121,7 @@ pub fn act(image: &Image, held: Held, regs: &Regs, answer: u32) -> Act
 /// Whether the next instruction may be a LOCK: x17 has its number, and the instruction is ECALL.
 /// It costs much less than `act`.
 pub fn may_lock(image: &Image, regs: &Regs) -> bool
-    ensures { result ≡ false → (held : ℕ → Bool) (answer : ℕ) → IsNoLock (step.act_of image.now held regs.now answer) }
+    ensures { result ≡ false → NeverLocks image.now regs.now }
 {
     // ECALL has one word.
     rows_decide();

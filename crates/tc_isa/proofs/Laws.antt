@@ -1,6 +1,6 @@
 -- Whatever gives an instruction's word has its fields, so that instruction is read.
 use Rattle.std.proofs.Common.{◌≡◌, ℕ, ◌^◌, ◌<◌, [], ◌∷◌, Some, refl, arith}
-use Rattle.tc_isa.specs.Rows.{joined, row, cond_code, load_code, store_code, op_code, IsValid}
+use Rattle.tc_isa.specs.Rows.{from_fields, row, cond_code, load_code, store_code, op_code, IsValid}
 use Rattle.tc_isa.specs.Reading.{instr_of, word_of, IsWithin, u_number, b_number, i_number, j_number, s_number}
 use Rattle.tc_isa.specs.declared.fields.Fields.{Fields}
 use Rattle.tc_isa.specs.declared.instr.Cond.{Cond}
@@ -14,7 +14,7 @@ use Rattle.tc_isa.proofs.Tables.{cond_again, load_again, store_again, op_again, 
 
 -- the instruction is read from any fields with its word
 abbrev pub Again : Instr → Type 0
-Again i = (f : Fields) → IsWithin f → IsValid i → word_of f ≡ joined (row i) → instr_of f ≡ Some i
+Again i = (f : Fields) → IsWithin f → IsValid i → word_of f ≡ from_fields (row i) → instr_of f ≡ Some i
 
 lui : (rd imm : ℕ) → Again (Lui rd imm)
 unfolding instr_of
@@ -192,7 +192,7 @@ fence rd rs1 n f w v e =
     let rs1_is : f.rs1 ≡ rs1 = omega arith in
     let rd_is : f.rd ≡ rd = omega arith in
     let funct3_is : f.funct3 ≡ 0 = omega arith in
-    let number : joined ((7, f.funct7) ∷ (5, f.rs2) ∷ []) ≡ n = omega arith in
+    let number : from_fields ((7, f.funct7) ∷ (5, f.rs2) ∷ []) ≡ n = omega arith in
     rw (opcode, funct3_is, rd_is, rs1_is, number) refl
 
 ecall : Again Ecall
@@ -241,7 +241,7 @@ again Ebreak = ebreak
 
 -- ---- a row's word has 32 bits
 
-pub fits : (i : Instr) → IsValid i → joined (row i) < 2 ^ 32
+pub fits : (i : Instr) → IsValid i → from_fields (row i) < 2 ^ 32
 fits (Lui rd n) v = omega arith
 fits (Auipc rd n) v = omega arith
 fits (Jal rd off) v = omega arith

@@ -1,7 +1,7 @@
 -- How a word is taken apart: the plain way, from the six fields of the R form.
-use Rattle.std.specs.Prelude.{◌≡◌, ℕ, ◌+◌, ◌-◌, ◌*◌, ◌/◌, ◌^◌, ◌<◌, ◌==◌, ◌&&◌, if◌then◌else◌, List, [], ◌∷◌, Option, Some, None}
+use Rattle.std.specs.Prelude.{◌≡◌, ℕ, ◌+◌, ◌-◌, ◌*◌, ◌/◌, ◌^◌, ◌<◌, ◌↔◌, ◌==◌, ◌&&◌, if◌then◌else◌, [], ◌∷◌, Option, Some, None}
 use Rattle.std.specs.Option.{option_map}
-use Rattle.tc_isa.specs.Rows.{bits, joined}
+use Rattle.tc_isa.specs.Rows.{bits, from_fields, r_fields, encoded, IsValid, Decodes}
 use Rattle.tc_isa.specs.declared.fields.Fields.{Fields}
 use Rattle.tc_isa.specs.declared.instr.Cond.{Cond}
 use Rattle.tc_isa.specs.declared.instr.Cond.TheVariants as cond
@@ -16,11 +16,8 @@ use Rattle.tc_isa.specs.declared.instr.RegOp.TheVariants as op
 use Rattle.tc_isa.specs.declared.instr.Instr.{Instr}
 use Rattle.tc_isa.specs.declared.instr.Instr.TheVariants.{Lui, Auipc, Jal, Jalr, Branch, Load, Store, Imm, Op, Fence, Ecall, Ebreak}
 
-abbrev pub six : Fields → List (ℕ × ℕ)
-six f = (7, f.funct7) ∷ (5, f.rs2) ∷ (5, f.rs1) ∷ (3, f.funct3) ∷ (5, f.rd) ∷ (7, f.opcode) ∷ []
-
 abbrev pub word_of : Fields → ℕ
-word_of f = joined (six f)
+word_of f = from_fields (r_fields f.funct7 f.rs2 f.rs1 f.funct3 f.rd f.opcode)
 
 pub record IsWithin (f : Fields) : Type 0 where
   pub funct7 : f.funct7 < 128
@@ -79,20 +76,29 @@ imm_of m n =
 
 -- ---- the numbers that the forms put together from the fields
 
+-- bits 31 to 20 of the word
+abbrev pub high_bits : Fields → ℕ
+high_bits f = from_fields ((7, f.funct7) ∷ (5, f.rs2) ∷ [])
+
 abbrev pub i_number : Fields → ℕ
-i_number f = signed 12 (joined ((7, f.funct7) ∷ (5, f.rs2) ∷ []))
+i_number f = signed 12 (high_bits f)
 
 abbrev pub s_number : Fields → ℕ
-s_number f = signed 12 (joined ((7, f.funct7) ∷ (5, f.rd) ∷ []))
+s_number f = signed 12 (from_fields ((7, f.funct7) ∷ (5, f.rd) ∷ []))
 
 abbrev pub b_number : Fields → ℕ
-b_number f = signed 13 (joined ((1, bits 6 6 f.funct7) ∷ (1, bits 0 0 f.rd) ∷ (6, bits 5 0 f.funct7) ∷ (4, bits 4 1 f.rd) ∷ (1, 0) ∷ []))
+b_number f =
+    signed 13 (from_fields
+    ((1, bits 6 6 f.funct7) ∷ (1, bits 0 0 f.rd) ∷ (6, bits 5 0 f.funct7) ∷ (4, bits 4 1 f.rd) ∷ (1, 0) ∷ []))
 
 abbrev pub u_number : Fields → ℕ
-u_number f = joined ((7, f.funct7) ∷ (5, f.rs2) ∷ (5, f.rs1) ∷ (3, f.funct3) ∷ (12, 0) ∷ [])
+u_number f = from_fields ((7, f.funct7) ∷ (5, f.rs2) ∷ (5, f.rs1) ∷ (3, f.funct3) ∷ (12, 0) ∷ [])
 
 abbrev pub j_number : Fields → ℕ
-j_number f = signed 21 (joined ((1, bits 6 6 f.funct7) ∷ (5, f.rs1) ∷ (3, f.funct3) ∷ (1, bits 0 0 f.rs2) ∷ (6, bits 5 0 f.funct7) ∷ (4, bits 4 1 f.rs2) ∷ (1, 0) ∷ []))
+j_number f =
+    signed 21 (from_fields
+    ((1, bits 6 6 f.funct7) ∷ (5, f.rs1) ∷ (3, f.funct3) ∷ (1, bits 0 0 f.rs2)
+    ∷ (6, bits 5 0 f.funct7) ∷ (4, bits 4 1 f.rs2) ∷ (1, 0) ∷ []))
 
 abbrev pub imm_number : ImmOp → Fields → ℕ
 imm_number imm.Slli f = f.rs2
@@ -139,7 +145,7 @@ instr_of f =
     else if f.opcode == 0x23 then stored_of f
     else if f.opcode == 0x13 then imm_instr_of f
     else if f.opcode == 0x33 then op_instr_of f
-    else if f.opcode == 0x0f then (if f.funct3 == 0 then Some (Fence f.rd f.rs1 (joined ((7, f.funct7) ∷ (5, f.rs2) ∷ []))) else None)
+    else if f.opcode == 0x0f then (if f.funct3 == 0 then Some (Fence f.rd f.rs1 (high_bits f)) else None)
     else if f.opcode == 0x73 then system_of f
     else None
 
@@ -157,3 +163,21 @@ fields_of word = record {
 
 unfoldable pub decoded : ℕ → Option Instr
 decoded word = instr_of (fields_of word)
+
+-- ---- what the rows and the reading of a word say of each other
+
+-- a word has at most one instruction
+abbrev pub OneInstruction : Type 0
+OneInstruction = (word : ℕ) (i j : Instr) → word < 2 ^ 32 → Decodes word i → Decodes word j → i ≡ j
+
+-- what is read from a word is what the rows say of it
+abbrev pub SameAsRows : Type 0
+SameAsRows = (word : ℕ) (i : Instr) → word < 2 ^ 32 → (decoded word ≡ Some i) ↔ Decodes word i
+
+-- the word of an instruction decodes to the instruction
+abbrev pub DecodesAgain : Type 0
+DecodesAgain = (i : Instr) → IsValid i → decoded (encoded i) ≡ Some i
+
+-- what a word decodes to has that word
+abbrev pub EncodesBack : Type 0
+EncodesBack = (word : ℕ) (i : Instr) → word < 2 ^ 32 → decoded word ≡ Some i → encoded i ≡ word

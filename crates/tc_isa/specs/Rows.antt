@@ -22,8 +22,18 @@ abbrev pub after_fields : ℕ → List (ℕ × ℕ) → ℕ
 after_fields high [] = high
 after_fields high (field ∷ fields) = after_fields (high * 2 ^ field.0 + field.1) fields
 
-abbrev pub joined : List (ℕ × ℕ) → ℕ
-joined fields = after_fields 0 fields
+abbrev pub from_fields : List (ℕ × ℕ) → ℕ
+from_fields fields = after_fields 0 fields
+
+-- the fields of the I form
+abbrev pub i_fields : ℕ → ℕ → ℕ → ℕ → ℕ → List (ℕ × ℕ)
+i_fields high rs1 funct3 rd opcode =
+    (12, high) ∷ (5, rs1) ∷ (3, funct3) ∷ (5, rd) ∷ (7, opcode) ∷ []
+
+-- the fields of the R form
+abbrev pub r_fields : ℕ → ℕ → ℕ → ℕ → ℕ → ℕ → List (ℕ × ℕ)
+r_fields funct7 rs2 rs1 funct3 rd opcode =
+    (7, funct7) ∷ (5, rs2) ∷ (5, rs1) ∷ (3, funct3) ∷ (5, rd) ∷ (7, opcode) ∷ []
 
 -- ---- codes of the variants
 
@@ -83,6 +93,10 @@ row (Fence rd rs1 imm) = (12, imm) ∷ (5, rs1) ∷ (3, 0) ∷ (5, rd) ∷ (7, 0
 row Ecall = (25, 0) ∷ (7, 0x73) ∷ []
 row Ebreak = (12, 1) ∷ (13, 0) ∷ (7, 0x73) ∷ []
 
+-- the word of an instruction
+abbrev pub encoded : Instr → ℕ
+encoded instr = from_fields (row instr)
+
 -- a number from -2 ^ (n - 1) to 2 ^ (n - 1) - 1 in two's complement of 32 bits
 abbrev pub IsSigned : ℕ → ℕ → Type 0
 IsSigned n x = (x < 2 ^ (n - 1)) ⊎ ((2 ^ 32 - 2 ^ (n - 1) ≤ x) × (x < 2 ^ 32))
@@ -118,4 +132,4 @@ IsValid Ebreak = Unit {0}
 
 -- a row gives the word for the instruction, whose fields are in their ranges
 abbrev pub Decodes : ℕ → Instr → Type 0
-Decodes word instr = IsValid instr × (word ≡ joined (row instr))
+Decodes word instr = IsValid instr × (word ≡ encoded instr)

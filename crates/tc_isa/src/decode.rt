@@ -1,8 +1,8 @@
 //! From a word to its instruction (RISC-V Unprivileged ISA, chapter "RV32/64G Instruction Set
 //! Listings", table "RV32I Base Instruction Set").
 
-ghost use Rattle.std.specs.Prelude.{◌≡◌, ℕ, ◌<◌, ◌^◌, ◌↔◌, Some, IfSome};
-ghost use Rattle.tc_isa.specs.Rows.{Decodes, IsValid, joined, row};
+ghost use Rattle.std.specs.Prelude.{◌≡◌, Some, IfSome};
+ghost use Rattle.tc_isa.specs.Rows.{Decodes};
 ghost use Rattle.tc_isa.specs.Reading as reading;
 ghost use Rattle.tc_isa.specs.declared.instr.Instr.{Instr as Instruction};
 
@@ -281,14 +281,11 @@ pub fn decode(word: u32) -> Option<Instr>
     instr_of(&Fields::of(word))
 }
 
-/// A law of the instruction table; the function does nothing.
+/// A law of the instruction table: its rows, `decode` and `encode` say the same. The function does
+/// nothing.
 pub fn rows_decide()
-    // A word has at most one instruction.
-    ensures one { (word : ℕ) (i j : Instruction) → word < 2 ^ 32 → Decodes word i → Decodes word j → i ≡ j }
-    // What is read from a word is what the rows say of it.
-    ensures rows { (word : ℕ) (i : Instruction) → word < 2 ^ 32 → (reading.decoded word ≡ Some i) ↔ Decodes word i }
-    // The word of an instruction decodes to the instruction.
-    ensures again { (i : Instruction) → IsValid i → reading.decoded (joined (row i)) ≡ Some i }
-    // What a word decodes to has that word.
-    ensures back { (word : ℕ) (i : Instruction) → word < 2 ^ 32 → reading.decoded word ≡ Some i → joined (row i) ≡ word }
+    ensures one { reading.OneInstruction }
+    ensures rows { reading.SameAsRows }
+    ensures again { reading.DecodesAgain }
+    ensures back { reading.EncodesBack }
 {}

@@ -1,7 +1,7 @@
 //! From an instruction to its word.
 
-ghost use Rattle.std.specs.Prelude.{◌≡◌, ◌<◌, [], ◌∷◌};
-ghost use Rattle.tc_isa.specs.Rows.{IsValid, joined, row, cond_code, load_code, store_code, op_code};
+ghost use Rattle.std.specs.Prelude.{◌≡◌, ◌<◌};
+ghost use Rattle.tc_isa.specs.Rows.{IsValid, from_fields, i_fields, r_fields, encoded, cond_code, load_code, store_code, op_code};
 
 use crate::fields::{bits, then};
 use crate::instr::{Cond, ImmOp, Instr, LoadKind, RegOp, StoreKind};
@@ -72,7 +72,7 @@ fn i_word(high: u32, rs1: Reg, funct3: u32, rd: Reg, opcode: u32) -> u32
     requires high { high < 4096 }
     requires funct3 { funct3 < 8 }
     requires opcode { opcode < 128 }
-    ensures { result ≡ joined ((12, high) ∷ (5, rs1) ∷ (3, funct3) ∷ (5, rd) ∷ (7, opcode) ∷ []) }
+    ensures { result ≡ from_fields (i_fields high rs1 funct3 rd opcode) }
 {
     let word = then(high, 5, rs1.number());
     let word = then(word, 3, funct3);
@@ -85,7 +85,7 @@ fn r_word(funct7: u32, rs2: Reg, rs1: Reg, funct3: u32, low: u32, opcode: u32) -
     requires funct3 { funct3 < 8 }
     requires low { low < 32 }
     requires opcode { opcode < 128 }
-    ensures { result ≡ joined ((7, funct7) ∷ (5, rs2) ∷ (5, rs1) ∷ (3, funct3) ∷ (5, low) ∷ (7, opcode) ∷ []) }
+    ensures { result ≡ from_fields (r_fields funct7 rs2 rs1 funct3 low opcode) }
 {
     let word = then(funct7, 5, rs2.number());
     let word = then(word, 5, rs1.number());
@@ -96,7 +96,7 @@ fn r_word(funct7: u32, rs2: Reg, rs1: Reg, funct3: u32, low: u32, opcode: u32) -
 /// The word of an operation on an immediate.
 fn imm_word(op: ImmOp, rd: Reg, rs1: Reg, imm: u32) -> u32
     requires { IsValid (Instr.Imm op rd rs1 imm) }
-    ensures { result ≡ joined (row (Instr.Imm op rd rs1 imm)) }
+    ensures { result ≡ encoded (Instr.Imm op rd rs1 imm) }
 {
     match op {
         ImmOp::Addi => i_word(bits(imm, 11, 0), rs1, 0, rd, 0x13),
@@ -113,7 +113,7 @@ fn imm_word(op: ImmOp, rd: Reg, rs1: Reg, imm: u32) -> u32
 
 /// The word of a JAL.
 fn jal_word(rd: Reg, off: u32) -> u32
-    ensures { result ≡ joined (row (Instr.Jal rd off)) }
+    ensures { result ≡ encoded (Instr.Jal rd off) }
 {
     let word = then(bits(off, 20, 20), 10, bits(off, 10, 1));
     let word = then(word, 1, bits(off, 11, 11));
@@ -123,7 +123,7 @@ fn jal_word(rd: Reg, off: u32) -> u32
 
 /// The word of a branch.
 fn branch_word(cond: Cond, rs1: Reg, rs2: Reg, off: u32) -> u32
-    ensures { result ≡ joined (row (Instr.Branch cond rs1 rs2 off)) }
+    ensures { result ≡ encoded (Instr.Branch cond rs1 rs2 off) }
 {
     let high = then(bits(off, 12, 12), 6, bits(off, 10, 5));
     let low = then(bits(off, 4, 1), 1, bits(off, 11, 11));
@@ -133,7 +133,7 @@ fn branch_word(cond: Cond, rs1: Reg, rs2: Reg, off: u32) -> u32
 /// The word of an instruction whose fields are in their ranges, as `is_valid` tests.
 pub fn encode(instr: &Instr) -> u32
     requires { IsValid instr.now }
-    ensures { result ≡ joined (row instr.now) }
+    ensures { result ≡ encoded instr.now }
 {
     match *instr {
         Instr::Lui { rd, imm } => then(then(bits(imm, 31, 12), 5, rd.number()), 7, 0x37),

@@ -1,7 +1,7 @@
 //! The set of locks that a thread holds.
 
-ghost use Rattle.std.specs.Prelude.{◌≡◌, ℕ, ◌<◌, ◌≤◌, ◌^◌, ◌||◌, ◌&&◌, ◌==◌, not, IsTrue, MatchOption, IfSome, length};
-ghost use Rattle.tc_isa.specs.Sets.{has, locks_of, with_lock, without_lock};
+ghost use Rattle.std.specs.Prelude.{◌≡◌, ℕ, ◌<◌, ◌||◌, ◌&&◌, ◌==◌, not, MatchOption, IfSome, length};
+ghost use Rattle.tc_isa.specs.Sets.{has, locks_of, with_lock, without_lock, IsGreatest, IsLeast};
 
 use std::marker::Model;
 
@@ -77,7 +77,7 @@ impl Held {
 
     /// The greatest lock of the set, None of the empty one.
     pub fn greatest(self) -> Option<u32>
-        ensures value { MatchOption result (self ≡ 0) (λ lock. IsTrue (has self lock) × ((other : ℕ) → IsTrue (has self other) → other ≤ lock)) }
+        ensures value { MatchOption result (self ≡ 0) (λ lock. IsGreatest self lock) }
         ensures bound { IfSome result (λ lock. lock < 32) }
     {
         if self.locks == 0 {
@@ -89,7 +89,7 @@ impl Held {
 
     /// The least lock of the set, None of the empty one.
     pub fn least(self) -> Option<u32>
-        ensures value { MatchOption result (self ≡ 0) (λ lock. IsTrue (has self lock) × ((other : ℕ) → IsTrue (has self other) → lock ≤ other)) }
+        ensures value { MatchOption result (self ≡ 0) (λ lock. IsLeast self lock) }
         ensures bound { IfSome result (λ lock. lock < 32) }
     {
         if self.locks == 0 {

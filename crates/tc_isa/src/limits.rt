@@ -1,17 +1,20 @@
 //! The limits of a run that no guest file sets.
 
 /// The greatest number of workers of a run. The least is 1.
-pub const MOST_WORKERS: u32 = 8;
+pub const MAX_WORKERS: u32 = 8;
 
 /// The greatest fuel of a thread, in instructions. The least is 1.
-pub const MOST_FUEL: u32 = 65_536;
+pub const MAX_FUEL: u32 = 65_536;
 
 /// The greatest batch limit: how many adopted sections of one lock may stand in a row. The least
 /// is 0.
-pub const MOST_BATCH: u32 = 256;
+pub const MAX_BATCH: u32 = 256;
 
 /// The greatest number of turns of a block, in instructions. Each block has at least 1.
-pub const MOST_TURNS: u32 = 4_096;
+pub const MAX_TURNS: u32 = 4_096;
+
+/// The greatest number that a SLEEP may ask for: how many blocks of its worker a thread sleeps.
+pub const MAX_SLEEP: u32 = 255;
 
 /// How many locks one thread may hold at a time.
-pub const MOST_HELD: u32 = 4;
+pub const MAX_HELD: u32 = 4;

@@ -27,8 +27,8 @@ impl Model for Regs {
 }
 
 impl Regs {
-    /// The registers of a thread at its start: x2 is just above the stack, x10 the argument, x11 the
-    /// number of the thread, and the others are 0.
+    /// The registers of a thread at its start: x2 is just above the stack, x10 the argument, x11
+    /// the number of the thread, and the others are 0.
     pub fn start(entry: u32, argument: u32, thread: u32) -> Regs
         requires { entry % 4 ≡ 0 }
         ensures { result ≡ started entry argument thread }

@@ -29,9 +29,10 @@ fn is_immediate(op: ImmOp, number: u32) -> bool
 impl Instr {
     /// Whether its fields are in their ranges, so that it has a word.
     ///
-    /// Offsets and immediates are read in two's complement: even numbers from -1,048,576 to 1,048,574
-    /// for JAL, even ones from -4,096 to 4,094 for a branch, and from -2,048 to 2,047 elsewhere. A
-    /// number of places is from 0 to 31, and the low 12 bits of an upper immediate are 0.
+    /// Offsets and immediates are read in two's complement: even numbers from -1,048,576 to
+    /// 1,048,574 for JAL, even ones from -4,096 to 4,094 for a branch, and from -2,048 to 2,047
+    /// elsewhere. A number of places is from 0 to 31, and the low 12 bits of an upper immediate
+    /// are 0.
     pub fn is_valid(&self) -> bool
         ensures { IsTrue result ↔ IsValid self.now }
     {
