@@ -4,7 +4,7 @@ use Rattle.std.specs.Option.{option_map, option_to_list}
 use Rattle.std.specs.Result.{result_ok}
 use Rattle.std.proofs.lemmas.Bool.Decides.{nat_tests}
 use Rattle.tc_elf.specs.Notes.{Note, notes_in, notes_of, first_note, descriptor_end, next_at, is_tclocks, descriptors_of, both, single}
-use Rattle.tc_elf.specs.Search.{first_descriptor, joined}
+use Rattle.tc_elf.specs.Search.{first_descriptor, only_one}
 
 -- ---- the list of notes
 
@@ -53,7 +53,7 @@ found_before : (note : Note) (notes : Option (List Note)) → found_in (option_m
 found_before note None = refl
 found_before note (Some notes) = elim (is_tclocks note) as (λ b. Some (map (λ (n : Note). n.descriptor) (if b then note ∷ filter is_tclocks notes else filter is_tclocks notes)) ≡ both (Some (option_to_list (if b then Some note.descriptor else None))) (found_in (Some notes))) [ true ↦ refl | false ↦ refl ]
 
-pub single_both : (xs ys : Option (List (List ℕ))) → single (both xs ys) ≡ joined (single xs) (single ys)
+pub single_both : (xs ys : Option (List (List ℕ))) → single (both xs ys) ≡ only_one (single xs) (single ys)
 single_both None ys = refl
 single_both (Some []) None = refl
 single_both (Some []) (Some ys) = refl
@@ -68,36 +68,36 @@ single_of : (o : Option (List ℕ)) → single (Some (option_to_list o)) ≡ Som
 single_of None = refl
 single_of (Some d) = refl
 
-pub joined_assoc : (x y z : Option (Option (List ℕ))) → joined (joined x y) z ≡ joined x (joined y z)
-joined_assoc None y z = refl
-joined_assoc (Some None) y z = refl
-joined_assoc (Some (Some d)) None z = refl
-joined_assoc (Some (Some d)) (Some None) z = refl
-joined_assoc (Some (Some d)) (Some (Some e)) None = refl
-joined_assoc (Some (Some d)) (Some (Some e)) (Some None) = refl
-joined_assoc (Some (Some d)) (Some (Some e)) (Some (Some f)) = refl
+pub only_one_assoc : (x y z : Option (Option (List ℕ))) → only_one (only_one x y) z ≡ only_one x (only_one y z)
+only_one_assoc None y z = refl
+only_one_assoc (Some None) y z = refl
+only_one_assoc (Some (Some d)) None z = refl
+only_one_assoc (Some (Some d)) (Some None) z = refl
+only_one_assoc (Some (Some d)) (Some (Some e)) None = refl
+only_one_assoc (Some (Some d)) (Some (Some e)) (Some None) = refl
+only_one_assoc (Some (Some d)) (Some (Some e)) (Some (Some f)) = refl
 
-joined_nothing : (found : Option (List ℕ)) → joined (Some found) (Some None) ≡ Some found
-joined_nothing None = refl
-joined_nothing (Some d) = refl
+only_one_nothing : (found : Option (List ℕ)) → only_one (Some found) (Some None) ≡ Some found
+only_one_nothing None = refl
+only_one_nothing (Some d) = refl
 
-joined_cut : (found : Option (List ℕ)) → joined (Some found) None ≡ None
-joined_cut None = refl
-joined_cut (Some d) = refl
+only_one_cut : (found : Option (List ℕ)) → only_one (Some found) None ≡ None
+only_one_cut None = refl
+only_one_cut (Some d) = refl
 
 -- with fewer bytes than a note's header the search is done
-pub search_ends : (found : Option (List ℕ)) (b : List ℕ) → length b < 12 → joined (Some found) (single (descriptors_of b)) ≡ Some found
-search_ends found b few = rw (no_notes_in (length b) b few) (joined_nothing found)
+pub search_ends : (found : Option (List ℕ)) (b : List ℕ) → length b < 12 → only_one (Some found) (single (descriptors_of b)) ≡ Some found
+search_ends found b few = rw (no_notes_in (length b) b few) (only_one_nothing found)
 
 -- at a note that is cut it finds nothing sound
-pub search_fails : (found : Option (List ℕ)) (b : List ℕ) → 12 ≤ length b → length b < descriptor_end b → joined (Some found) (single (descriptors_of b)) ≡ None
+pub search_fails : (found : Option (List ℕ)) (b : List ℕ) → 12 ≤ length b → length b < descriptor_end b → only_one (Some found) (single (descriptors_of b)) ≡ None
 search_fails found b header cut =
     let count : length b ≡ suc (length b - 1) = omega arith in
     let none : notes_of b ≡ None = ap (λ n. notes_in n b) count ∙ cut_notes_in (length b - 1) b header cut in
-    rw (none) (joined_cut found)
+    rw (none) (only_one_cut found)
 
 -- else it goes on behind the first note
-pub search_goes_on : (b : List ℕ) → 12 ≤ length b → descriptor_end b ≤ length b → single (descriptors_of b) ≡ joined (Some (first_descriptor b)) (single (descriptors_of (drop (next_at b) b)))
+pub search_goes_on : (b : List ℕ) → 12 ≤ length b → descriptor_end b ≤ length b → single (descriptors_of b) ≡ only_one (Some (first_descriptor b)) (single (descriptors_of (drop (next_at b) b)))
 search_goes_on b header whole =
     let rest : List ℕ = drop (next_at b) b in
     let count : length b ≡ suc (length b - 1) = omega arith in
@@ -109,13 +109,13 @@ search_goes_on b header whole =
     ap (λ found. single (found_in found)) notes
     ∙ ap (λ found. single found) (found_before (first_note b) (notes_of rest))
     ∙ single_both (Some (option_to_list (first_descriptor b))) (descriptors_of rest)
-    ∙ ap (λ found. joined found (single (descriptors_of rest))) (single_of (first_descriptor b))
+    ∙ ap (λ found. only_one found (single (descriptors_of rest))) (single_of (first_descriptor b))
 
 -- a step of the search, with what was found before
-pub search_step : (found : Option (List ℕ)) (b : List ℕ) → 12 ≤ length b → descriptor_end b ≤ length b → joined (joined (Some found) (Some (first_descriptor b))) (single (descriptors_of (drop (next_at b) b))) ≡ joined (Some found) (single (descriptors_of b))
+pub search_step : (found : Option (List ℕ)) (b : List ℕ) → 12 ≤ length b → descriptor_end b ≤ length b → only_one (only_one (Some found) (Some (first_descriptor b))) (single (descriptors_of (drop (next_at b) b))) ≡ only_one (Some found) (single (descriptors_of b))
 search_step found b header whole =
-    joined_assoc (Some found) (Some (first_descriptor b)) (single (descriptors_of (drop (next_at b) b)))
-    ∙ ap (λ other. joined (Some found) other) (sym (search_goes_on b header whole))
+    only_one_assoc (Some found) (Some (first_descriptor b)) (single (descriptors_of (drop (next_at b) b)))
+    ∙ ap (λ other. only_one (Some found) other) (sym (search_goes_on b header whole))
 
 -- nothing is told after an error
 pub error_none : {T U E : Type 0} (f : T → U) → (r : Result T E) → IsErr r → option_map f (result_ok r) ≡ None

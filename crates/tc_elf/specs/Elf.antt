@@ -3,8 +3,6 @@ use Rattle.std.specs.Prelude.{ℕ, ◌+◌, ◌*◌, ◌-◌, ◌/◌, ◌%◌, 
 use Rattle.std.specs.List.{range_with_len}
 use Rattle.byteorder.specs.Endian.{little_number}
 use Rattle.tc_elf.specs.declared.segment.Segment.{Segment}
-use Rattle.tc_elf.specs.declared.segment.TheConstants.{PT_LOAD}
-use Rattle.tc_elf.specs.declared.header.TheConstants.{SEGMENT_LENGTH}
 use Rattle.tc_elf.specs.Shown.{Range}
 
 abbrev pub word_at : List ℕ → ℕ → ℕ
@@ -37,6 +35,24 @@ e_phentsize b = half_at b 42
 abbrev pub e_phnum : List ℕ → ℕ
 e_phnum b = half_at b 44
 
+-- ---- program headers
+
+-- the types of those that something looks at
+abbrev pub pt_load : ℕ
+pt_load = 1
+
+abbrev pub pt_dynamic : ℕ
+pt_dynamic = 2
+
+abbrev pub pt_interp : ℕ
+pt_interp = 3
+
+abbrev pub pt_note : ℕ
+pt_note = 4
+
+abbrev pub pt_tls : ℕ
+pt_tls = 7
+
 -- the segment of the program header at a place of the file
 abbrev pub segment_at : List ℕ → ℕ → Segment
 segment_at b at = record {
@@ -48,21 +64,23 @@ segment_at b at = record {
   flags = word_at b (at + 24);
 }
 
--- so many segments, of the program headers from a place of the file on
+-- so many segments, of the program headers from a place of the file on: 32 bytes each
 abbrev pub segments_from : List ℕ → ℕ → ℕ → List Segment
-segments_from b at count = map (λ i. segment_at b (at + SEGMENT_LENGTH * i)) (range_with_len 0 count)
+segments_from b at count = map (λ i. segment_at b (at + 32 * i)) (range_with_len 0 count)
 
 abbrev pub segments : List ℕ → List Segment
 segments b = segments_from b (e_phoff b) (e_phnum b)
 
+-- the flag PF_X, bit 0
 abbrev pub is_executable : Segment → Bool
 is_executable s = s.flags % 2 == 1
 
+-- the flag PF_W, bit 1
 abbrev pub is_writable : Segment → Bool
 is_writable s = s.flags / 2 % 2 == 1
 
 abbrev pub is_load : Segment → Bool
-is_load s = s.kind == PT_LOAD
+is_load s = s.kind == pt_load
 
 -- a PT_LOAD without memory makes no range
 abbrev pub is_range : Segment → Bool

@@ -10,7 +10,9 @@ use Rattle.tc_elf.specs.Shown.{Shown, Range}
 
 -- why a file is refused, by the first reason; nothing where it is loaded
 unfoldable pub refusal : List ℕ → Option Refusal
-refusal b = option_or (header_refusal b) (option_or (segment_refusal b (segments b)) (layout_refusal (ranges b) (layout b)))
+refusal b =
+    option_or (header_refusal b)
+    (option_or (segment_refusal b (segments b)) (layout_refusal (ranges b) (layout b)))
 
 abbrev pub image_of : List Range → Layout → Shown
 image_of rs l = record { ranges = rs; entries = l.entries; guards = l.guards }

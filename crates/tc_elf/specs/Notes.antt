@@ -1,17 +1,14 @@
 -- The notes of a file (System V gABI, "Note Section"), and the one on threads and guards.
-use Rattle.std.specs.Prelude.{ℕ, zero, suc, ◌+◌, ◌*◌, ◌/◌, ◌==◌, nat_lt, not, ◌&&◌, ◌||◌, if◌then◌else◌, Bool, List, [], ◌∷◌, ◌++◌, Option, Some, None, length, take, drop, map, filter, codes}
+use Rattle.std.specs.Prelude.{◌≡◌, ℕ, zero, suc, ◌+◌, ◌*◌, ◌/◌, ◌==◌, nat_lt, not, ◌&&◌, ◌||◌, if◌then◌else◌, Bool, List, [], ◌∷◌, ◌++◌, Option, Some, None, length, take, drop, map, filter, codes}
 use Rattle.std.specs.List.{range_with_len}
 use Rattle.std.specs.Option.{option_map}
 use Rattle.std.specs.Str.{bytes_eq}
 use Rattle.tc_elf.specs.declared.limits.TheConstants.{MAX_THREADS, MAX_GUARDS}
-use Rattle.tc_elf.specs.declared.notes.TheConstants.{NOTE_HEADER_LENGTH, TCLOCKS_TYPE}
-use Rattle.tc_elf.specs.declared.layout.TheConstants.{LAYOUT_HEADER_LENGTH, LAYOUT_VERSION}
 use Rattle.tc_elf.specs.declared.segment.Segment.{Segment}
-use Rattle.tc_elf.specs.declared.segment.TheConstants.{PT_NOTE}
-use Rattle.tc_elf.specs.Elf.{word_at, e_entry, part, segments}
+use Rattle.tc_elf.specs.Elf.{word_at, e_entry, pt_note, part, segments}
 use Rattle.tc_elf.specs.Shown.{Entry, Guard}
 
--- a note: its type, its name and its descriptor
+-- a note: its type, its name and its descriptor. Three words stand before the name: the lengths of both, and the type
 pub record Note : Type 0 where
   pub kind : ℕ
   pub name : List ℕ
@@ -23,7 +20,7 @@ padded n = (n + 3) / 4 * 4
 
 -- where the descriptor of the first note begins, and where it ends
 abbrev pub descriptor_at : List ℕ → ℕ
-descriptor_at b = NOTE_HEADER_LENGTH + padded (word_at b 0)
+descriptor_at b = 12 + padded (word_at b 0)
 
 abbrev pub descriptor_end : List ℕ → ℕ
 descriptor_end b = descriptor_at b + word_at b 4
@@ -35,7 +32,7 @@ next_at b = descriptor_at b + padded (word_at b 4)
 abbrev pub first_note : List ℕ → Note
 first_note b = record {
   kind = word_at b 8;
-  name = take (word_at b 0) (drop NOTE_HEADER_LENGTH b);
+  name = take (word_at b 0) (drop 12 b);
   descriptor = take (word_at b 4) (drop (descriptor_at b) b);
 }
 
@@ -44,7 +41,7 @@ first_note b = record {
 unfoldable pub notes_in : ℕ → List ℕ → Option (List Note)
 notes_in zero b = Some []
 notes_in (suc n) b =
-    if nat_lt (length b) NOTE_HEADER_LENGTH then Some []
+    if nat_lt (length b) 12 then Some []
     else if nat_lt (length b) (descriptor_end b) then None
     else option_map (λ notes. first_note b ∷ notes) (notes_in n (drop (next_at b) b))
 
@@ -52,22 +49,26 @@ notes_in (suc n) b =
 abbrev pub notes_of : List ℕ → Option (List Note)
 notes_of b = notes_in (length b) b
 
--- a note on threads and guards: the name is TCLOCKS and a zero byte
+-- a note on threads and guards has the type 1, and its name is TCLOCKS and a zero byte
 abbrev pub is_tclocks : Note → Bool
-is_tclocks note = note.kind == TCLOCKS_TYPE && bytes_eq note.name (codes "TCLOCKS" ++ 0 ∷ [])
+is_tclocks note = note.kind == 1 && bytes_eq note.name (codes "TCLOCKS" ++ 0 ∷ [])
 
 abbrev pub descriptors_of : List ℕ → Option (List (List ℕ))
-descriptors_of b = option_map (λ notes. map (λ (note : Note). note.descriptor) (filter is_tclocks notes)) (notes_of b)
+descriptors_of b =
+    option_map (λ notes. map (λ (note : Note). note.descriptor) (filter is_tclocks notes)) (notes_of b)
 
 abbrev pub is_note : Segment → Bool
-is_note s = s.kind == PT_NOTE
+is_note s = s.kind == pt_note
 
 -- the segment's part of the file ends past the end of the file
 abbrev pub runs_past : List ℕ → Segment → Bool
 runs_past b s = nat_lt (length b) (s.offset + s.file_size)
 
 abbrev pub segment_descriptors : List ℕ → Segment → Option (List (List ℕ))
-segment_descriptors b s = if not (is_note s) then Some [] else if runs_past b s then None else descriptors_of (part b s)
+segment_descriptors b s =
+    if not (is_note s) then Some []
+    else if runs_past b s then None
+    else descriptors_of (part b s)
 
 -- the elements of both lists, where there are both
 abbrev pub both : Option (List (List ℕ)) → Option (List (List ℕ)) → Option (List (List ℕ))
@@ -93,7 +94,8 @@ pub record Layout : Type 0 where
   pub entries : List Entry
   pub guards : List Guard
 
--- the descriptor: its version, the numbers of threads and of guards, then a pair of words for each thread, and one for each guard
+-- the descriptor: three words, its version 1 and the numbers of threads and of guards, then a pair of words for each
+-- thread and for each guard
 abbrev pub thread_count : List ℕ → ℕ
 thread_count d = word_at d 4
 
@@ -102,9 +104,9 @@ guard_count d = word_at d 8
 
 abbrev pub is_bad_descriptor : List ℕ → Bool
 is_bad_descriptor d =
-    nat_lt (length d) LAYOUT_HEADER_LENGTH || not (word_at d 0 == LAYOUT_VERSION)
+    nat_lt (length d) 12 || not (word_at d 0 == 1)
     || thread_count d == 0 || nat_lt MAX_THREADS (thread_count d) || nat_lt MAX_GUARDS (guard_count d)
-    || not (length d == LAYOUT_HEADER_LENGTH + 8 * thread_count d + 8 * guard_count d)
+    || not (length d == 12 + 8 * thread_count d + 8 * guard_count d)
 
 abbrev pub entry_in : List ℕ → ℕ → Entry
 entry_in d at = record { address = word_at d at; argument = word_at d (at + 4) }
@@ -120,8 +122,8 @@ guards_from d at count = map (λ i. guard_in d (at + 8 * i)) (range_with_len 0 c
 
 abbrev pub described_layout : List ℕ → Layout
 described_layout d = record {
-  entries = entries_from d LAYOUT_HEADER_LENGTH (thread_count d);
-  guards = guards_from d (LAYOUT_HEADER_LENGTH + 8 * thread_count d) (guard_count d);
+  entries = entries_from d 12 (thread_count d);
+  guards = guards_from d (12 + 8 * thread_count d) (guard_count d);
 }
 
 -- without a note there is one thread, at e_entry with argument 0, and no guard
@@ -136,6 +138,10 @@ layout_by b (Some (Some d)) = if is_bad_descriptor d then None else Some (descri
 
 abbrev pub layout_over : List ℕ → List Segment → Option Layout
 layout_over b ss = layout_by b (single (descriptors_over b ss))
+
+-- a note is cut, or those on threads and guards are not as they must be
+abbrev pub HasBadNote : List ℕ → List Segment → Type 0
+HasBadNote b ss = layout_over b ss ≡ None
 
 abbrev pub layout : List ℕ → Option Layout
 layout b = layout_over b (segments b)

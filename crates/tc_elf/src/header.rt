@@ -14,7 +14,7 @@ use std::alloc::{AllocError, Global};
 pub(crate) const HEADER_LENGTH: usize = 52;
 
 /// The length of a program header in bytes.
-pub(crate) const SEGMENT_LENGTH: u16 = 32;
+const SEGMENT_LENGTH: u16 = 32;
 
 /// The type of an executable file.
 const ET_EXEC: u16 = 2;

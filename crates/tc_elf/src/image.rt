@@ -3,7 +3,7 @@
 ghost use Rattle.std.specs.Prelude.{◌≡◌, ◌<◌, ◌≤◌, ◌%◌, true, length, IfSome, position, find};
 ghost use Rattle.std.specs.List.{list_any};
 ghost use Rattle.std.specs.Option.{option_copied};
-ghost use Rattle.tc_elf.specs.Shown.{entry_at, guard_at, range_at};
+ghost use Rattle.tc_elf.specs.Shown.{entry_at, guard_at, range_at, outline};
 ghost use Rattle.tc_elf.specs.declared.limits.TheConstants.{MAX_HEADERS, MAX_THREADS, MAX_GUARDS};
 ghost use Rattle.tc_elf.specs.Kept.{IsRange, IsGuard};
 ghost use Rattle.tc_elf.specs.Places.{lies_in, meets, in_range, in_text, in_writable, in_code, in_guard, touches, region_of, unguarded_region, fetched, byte_of};
@@ -28,7 +28,13 @@ impl Model for Range {
 
     ghost Value = { ShownRange };
 
-    ghost view = { λ r. record { start = r.start; length = r.length; writable = r.writable; executable = r.executable; bytes = r.bytes.items } };
+    ghost view = { λ r. record {
+      start = r.start;
+      length = r.length;
+      writable = r.writable;
+      executable = r.executable;
+      bytes = r.bytes.items;
+    } };
 
     ghost invariant = { λ r. vec_len r.bytes ≡ r.length };
 }
@@ -81,9 +87,17 @@ impl Model for Image {
 
     ghost Value = { Shown };
 
-    ghost view = { λ i. record { ranges = i.ranges.items; entries = i.entries.items; guards = i.guards.items } };
+    ghost view = { λ i. record {
+      ranges = i.ranges.items;
+      entries = i.entries.items;
+      guards = i.guards.items;
+    } };
 
-    ghost invariant = { λ i. IsImage (record { ranges = i.ranges.items; entries = i.entries.items; guards = i.guards.items }) };
+    ghost invariant = { λ i. IsImage (record {
+      ranges = i.ranges.items;
+      entries = i.entries.items;
+      guards = i.guards.items;
+    }) };
 }
 
 /// The place that holds all bytes of an access.
@@ -188,7 +202,8 @@ impl Image {
     /// The number of threads.
     pub fn threads(&self) -> u32
         ensures value { result ≡ length self.now.entries }
-        ensures bound { (1 ≤ result) × (result ≤ MAX_THREADS) }
+        ensures least { 1 ≤ result }
+        ensures bound { result ≤ MAX_THREADS }
     {
         self.entries.len() as u32
     }
@@ -214,6 +229,7 @@ impl Image {
         requires { t < length self.now.entries }
         ensures value { result ≡ ((entry_at self.now t).address, (entry_at self.now t).argument) }
         ensures aligned { result.0 % 4 ≡ 0 }
+        ensures bound { t < MAX_THREADS }
     {
         let entry = self.entries[t as usize];
         (entry.address, entry.argument)
@@ -224,6 +240,7 @@ impl Image {
         requires { lock < length self.now.guards }
         ensures value { result ≡ ((guard_at self.now lock).start, (guard_at self.now lock).length) }
         ensures kept { IsGuard self.now (guard_at self.now lock) }
+        ensures bound { lock < MAX_GUARDS }
     {
         let guard = self.guards[lock as usize];
         (guard.start, guard.length)
@@ -233,8 +250,9 @@ impl Image {
     /// count from 0, in the order of the program headers.
     pub fn range(&self, i: u32) -> (u32, u32, bool, bool)
         requires { i < length self.now.ranges }
-        ensures value { result ≡ ((range_at self.now i).start, (range_at self.now i).length, (range_at self.now i).writable, (range_at self.now i).executable) }
+        ensures value { result ≡ outline (range_at self.now i) }
         ensures kept { IsRange (range_at self.now i) }
+        ensures bound { i < MAX_HEADERS }
     {
         let range = &self.ranges[i as usize];
         (range.start, range.length, range.writable, range.executable)

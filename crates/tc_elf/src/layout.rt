@@ -4,7 +4,7 @@
 //! guards, then a pair of words for each thread and one for each guard.
 
 ghost use Rattle.std.specs.Prelude.{◌≡◌, ◌≢◌, ◌≤◌, ◌+◌, ◌*◌, false, length, Some, None, IfOk, IfErr};
-ghost use Rattle.tc_elf.specs.Notes.{is_bad_descriptor, entry_in, guard_in, entries_from, guards_from, described_layout, header_layout, layout_over};
+ghost use Rattle.tc_elf.specs.Notes.{is_bad_descriptor, entry_in, guard_in, entries_from, guards_from, described_layout, header_layout, layout_over, HasBadNote};
 ghost use Rattle.tc_elf.specs.declared.refusal.Refusal.TheVariants.{OutOfMemory, BadNote};
 
 use crate::header::HEADER_LENGTH;
@@ -17,10 +17,10 @@ use std::alloc::{AllocError, Global};
 use std::marker::Model;
 
 /// The length of a descriptor before its pairs, in bytes.
-pub(crate) const LAYOUT_HEADER_LENGTH: usize = 12;
+const LAYOUT_HEADER_LENGTH: usize = 12;
 
 /// The version of the descriptor.
-pub(crate) const LAYOUT_VERSION: u32 = 1;
+const LAYOUT_VERSION: u32 = 1;
 
 /// Which threads and guards a file has.
 #[derive(Drop)]
@@ -142,7 +142,8 @@ impl Layout {
     pub(crate) fn of(alloc: Global, bytes: &[u8], segments: &[Segment]) -> Result<Layout, Refusal>
         requires { HEADER_LENGTH ≤ length bytes.now }
         ensures value { IfOk result (λ l. layout_over bytes.now segments.now ≡ Some l) }
-        ensures refused { IfErr result (λ e. e ≢ OutOfMemory → (e ≡ BadNote) × (layout_over bytes.now segments.now ≡ None)) }
+        ensures cause { IfErr result (λ e. e ≢ OutOfMemory → e ≡ BadNote) }
+        ensures notes { IfErr result (λ e. e ≢ OutOfMemory → HasBadNote bytes.now segments.now) }
     {
         match descriptor(bytes, segments)? {
             None => Ok(Layout::of_header(alloc, bytes)?),

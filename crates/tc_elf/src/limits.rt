@@ -1,4 +1,4 @@
-//! The limits of a guest's file.
+//! The limits of a guest's file, and where a stack lies.
 
 /// The greatest length of a file in bytes.
 pub const MAX_FILE: usize = 1_048_576;

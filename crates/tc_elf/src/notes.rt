@@ -1,20 +1,19 @@
 //! The notes of a file (System V gABI, "Note Section").
 
 ghost use Rattle.std.specs.Prelude.{◌≡◌, ◌≤◌, ◌<◌, ◌^◌, length, drop, Some, IfErr};
-ghost use Rattle.std.specs.Option.{option_map, option_copied};
-ghost use Rattle.std.specs.Result.{result_ok};
+ghost use Rattle.std.specs.Option.{option_copied};
 ghost use Rattle.tc_elf.specs.Notes.{padded, descriptor_end, next_at, descriptors_of, segment_descriptors, descriptors_over, single};
-ghost use Rattle.tc_elf.specs.Search.{first_descriptor, joined};
+ghost use Rattle.tc_elf.specs.Search.{finding_of, first_descriptor, only_one};
 ghost use Rattle.tc_elf.specs.declared.refusal.Refusal.TheVariants.{BadNote};
 
 use crate::refusal::Refusal;
 use crate::segment::{Segment, word_at};
 
 /// The length of a note before its name, in bytes.
-pub(crate) const NOTE_HEADER_LENGTH: usize = 12;
+const NOTE_HEADER_LENGTH: usize = 12;
 
 /// The type of a note on threads and guards.
-pub(crate) const TCLOCKS_TYPE: u32 = 1;
+const TCLOCKS_TYPE: u32 = 1;
 
 /// A length up to a multiple of 4.
 fn padded(count: u32) -> usize
@@ -62,8 +61,9 @@ fn rest_of(bytes: &[u8]) -> &[u8]
 }
 
 /// The one descriptor of two searches; two are too many.
-fn joined<'a>(one: Option<&'a [u8]>, other: Option<&'a [u8]>) -> Result<Option<&'a [u8]>, Refusal>
-    ensures value { option_map option_copied (result_ok result) ≡ joined (Some (option_copied one.entry)) (Some (option_copied other.entry)) }
+fn only_one<'a>(one: Option<&'a [u8]>, other: Option<&'a [u8]>) -> Result<Option<&'a [u8]>, Refusal>
+    ensures value { finding_of result
+        ≡ only_one (Some (option_copied one.entry)) (Some (option_copied other.entry)) }
     ensures cause { IfErr result (λ e. e ≡ BadNote) }
 {
     match (one, other) {
@@ -75,7 +75,7 @@ fn joined<'a>(one: Option<&'a [u8]>, other: Option<&'a [u8]>) -> Result<Option<&
 
 /// The descriptor in a segment's notes.
 fn descriptor_in(bytes: &[u8]) -> Result<Option<&[u8]>, Refusal>
-    ensures value { option_map option_copied (result_ok result) ≡ single (descriptors_of bytes.now) }
+    ensures value { finding_of result ≡ single (descriptors_of bytes.now) }
     ensures cause { IfErr result (λ e. e ≡ BadNote) }
 {
     let mut found = None;
@@ -84,7 +84,7 @@ fn descriptor_in(bytes: &[u8]) -> Result<Option<&[u8]>, Refusal>
         if descriptor_end(rest) > rest.len() {
             return Err(Refusal::BadNote);
         }
-        found = joined(found, first_descriptor(rest))?;
+        found = only_one(found, first_descriptor(rest))?;
         rest = rest_of(rest);
     }
     Ok(found)
@@ -92,7 +92,7 @@ fn descriptor_in(bytes: &[u8]) -> Result<Option<&[u8]>, Refusal>
 
 /// The descriptor in a segment, if that has notes.
 fn segment_descriptor<'a>(bytes: &'a [u8], segment: &Segment) -> Result<Option<&'a [u8]>, Refusal>
-    ensures value { option_map option_copied (result_ok result) ≡ single (segment_descriptors bytes.now segment.now) }
+    ensures value { finding_of result ≡ single (segment_descriptors bytes.now segment.now) }
     ensures cause { IfErr result (λ e. e ≡ BadNote) }
 {
     if !segment.is_note() {
@@ -110,13 +110,13 @@ pub(crate) fn descriptor<'a>(
     bytes: &'a [u8],
     segments: &[Segment],
 ) -> Result<Option<&'a [u8]>, Refusal>
-    ensures value { option_map option_copied (result_ok result) ≡ single (descriptors_over bytes.now segments.now) }
+    ensures value { finding_of result ≡ single (descriptors_over bytes.now segments.now) }
     ensures cause { IfErr result (λ e. e ≡ BadNote) }
 {
     match segments {
         [] => Ok(None),
         [segment, others @ ..] => {
-            joined(
+            only_one(
                 segment_descriptor(bytes, segment)?,
                 descriptor(bytes, others)?,
             )

@@ -10,19 +10,19 @@ use crate::limits::{STACK_LENGTH, STACK_START};
 use byteorder::{ByteOrder, LittleEndian};
 
 /// The type of a segment that is loaded into memory.
-pub(crate) const PT_LOAD: u32 = 1;
+const PT_LOAD: u32 = 1;
 
 /// The type of a segment for a dynamic linker.
-pub(crate) const PT_DYNAMIC: u32 = 2;
+const PT_DYNAMIC: u32 = 2;
 
 /// The type of a segment that names an interpreter.
-pub(crate) const PT_INTERP: u32 = 3;
+const PT_INTERP: u32 = 3;
 
 /// The type of a segment of notes.
-pub(crate) const PT_NOTE: u32 = 4;
+const PT_NOTE: u32 = 4;
 
 /// The type of a segment of storage of a thread's own.
-pub(crate) const PT_TLS: u32 = 7;
+const PT_TLS: u32 = 7;
 
 /// A segment, as its program header describes it; words that nothing looks at are left out.
 #[derive(Clone, Copy)]

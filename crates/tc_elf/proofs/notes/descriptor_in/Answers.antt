@@ -1,7 +1,7 @@
 use Rattle.std.proofs.Common.{List, ℕ, Option, Some, drop, sym, ap, ◌∙◌, arith}
 use Rattle.std.specs.Option.{option_copied}
 use Rattle.tc_elf.specs.Notes.{descriptors_of, next_at, single}
-use Rattle.tc_elf.specs.Search.{joined}
+use Rattle.tc_elf.specs.Search.{only_one}
 use Rattle.tc_elf.proofs.NoteSteps.{search_ends, search_fails, search_step, error_none}
 use Rattle.tc_elf.proofs.notes.descriptor_in.Goals as goal
 
@@ -15,7 +15,7 @@ returns-in_err-found-clause-value c =
     let found : Option (List ℕ) = option_copied c.loop-rest.found in
     let b : List ℕ = c.loop-rest.rest.now in
     error_none option_copied c.from_residual.result c.from_residual.ensures.0
-    ∙ ap (λ one. joined one (single (descriptors_of (drop (next_at b) b)))) (c.in_err-found.ensures.value ∙ ap (λ other. joined (Some found) (Some other)) c.first_descriptor.ensures)
+    ∙ ap (λ one. only_one one (single (descriptors_of (drop (next_at b) b)))) (c.in_err-found.ensures.value ∙ ap (λ other. only_one (Some found) (Some other)) c.first_descriptor.ensures)
     ∙ search_step found b (omega arith) (omega (arith, c.if-descriptor_end-rest.false, c.descriptor_end.ensures))
     ∙ c.loop-rest.invariant
 
@@ -23,8 +23,8 @@ pub loop-rest-preserved : goal.loop-rest-preserved
 loop-rest-preserved c =
     let found : Option (List ℕ) = option_copied c.loop-rest.found in
     let b : List ℕ = c.loop-rest.rest.now in
-    ap (λ rest. joined (Some (option_copied c.in_ok-found.found)) (single (descriptors_of rest))) c.rest_of-rest.ensures.rest
-    ∙ ap (λ one. joined one (single (descriptors_of (drop (next_at b) b)))) (c.in_ok-found.ensures.value ∙ ap (λ other. joined (Some found) (Some other)) c.first_descriptor.ensures)
+    ap (λ rest. only_one (Some (option_copied c.in_ok-found.found)) (single (descriptors_of rest))) c.rest_of-rest.ensures.rest
+    ∙ ap (λ one. only_one one (single (descriptors_of (drop (next_at b) b)))) (c.in_ok-found.ensures.value ∙ ap (λ other. only_one (Some found) (Some other)) c.first_descriptor.ensures)
     ∙ search_step found b (omega arith) (omega (arith, c.if-descriptor_end-rest.false, c.descriptor_end.ensures))
     ∙ c.loop-rest.invariant
 
