@@ -1,7 +1,8 @@
 -- A source and a sink in memory, and what each call does to them.
-use Rattle.std.specs.Prelude.{ℕ, ◌+◌, ◌-◌, ◌==◌, Bool, ◌&&◌, ◌||◌, not, if◌then◌else◌, min, List, ◌++◌, length, take}
+use Rattle.std.specs.Prelude.{◌≡◌, ◌↔◌, ℕ, ◌+◌, ◌-◌, ◌==◌, Bool, ◌&&◌, ◌||◌, not, if◌then◌else◌, min, List, ◌++◌, length, take, Result, IfOk, IsErr, IsTrue}
 use Rattle.std.specs.List.{list_any}
 use Rattle.tc_io.specs.Causes.{risen}
+use Rattle.tc_io.specs.declared.source.Failed.{Failed}
 
 -- `at` of the bytes were given. A call gives at most `most` bytes, and the calls in `fail` fail.
 pub record InMemory : Type 0 where
@@ -37,6 +38,12 @@ after_read s room =
     then record s { calls = risen s.calls; faults = risen s.faults }
     else record s { at = s.at + given s room; calls = risen s.calls }
 
+-- a read into a buffer of this length fails where its number is chosen, and else gives what it can
+pub record Reads (s : InMemory) (room : ℕ) (result : Result ℕ Failed) (now : InMemory) : Type 0 where
+  pub fails : IsErr result ↔ IsTrue (is_chosen s.fail s.calls)
+  pub count : IfOk result (λ n. n ≡ given s room)
+  pub after : now ≡ after_read s room
+
 -- whether a write of this many bytes fails
 abbrev pub refuses : Buffer → ℕ → Bool
 refuses k size = is_chosen k.fail k.calls || (length k.bytes == k.room && not (size == 0))
@@ -51,3 +58,9 @@ after_write k piece =
     if refuses k (length piece)
     then record k { calls = risen k.calls; faults = risen k.faults }
     else record k { bytes = k.bytes ++ take (accepted k (length piece)) piece; calls = risen k.calls }
+
+-- a write of this piece fails where it is refused, and else takes what it can
+pub record Writes (k : Buffer) (piece : List ℕ) (result : Result ℕ Failed) (now : Buffer) : Type 0 where
+  pub fails : IsErr result ↔ IsTrue (refuses k (length piece))
+  pub count : IfOk result (λ n. n ≡ accepted k (length piece))
+  pub after : now ≡ after_write k piece

@@ -1,15 +1,42 @@
--- How much was taken from a source, or given to a sink, by a call that stopped.
-use Rattle.std.specs.Prelude.{◌≡◌, ℕ, ◌≤◌, List, Option, length, take}
-use Rattle.std.specs.Io.KnownBytes.{Appends, Consumes}
+-- What was taken from a source, or given to a sink, by calls that stopped.
+use Rattle.std.specs.Prelude.{◌≡◌, ℕ, ◌<◌, ◌≤◌, List, length, take}
+use Rattle.std.specs.Io.KnownBytes.{Appends, Consumes, IsAtEnd}
+use Rattle.tc_io.specs.Stream.{Stream}
+use Rattle.tc_io.specs.Causes.{FailedOnce, NoneFailed}
 
--- so many bytes were taken from what was left
-abbrev pub Took : Option (List ℕ) → Option (List ℕ) → ℕ → Type 0
-Took before now count = (bytes : List ℕ) × (length bytes ≡ count) × Consumes before now bytes
+-- the bytes were taken, and no call failed
+pub record Takes (before now : Stream) (bytes : List ℕ) : Type 0 where
+  pub taken : Consumes before.bytes now.bytes bytes
+  pub quiet : NoneFailed before now
 
--- at most so many bytes were taken from what was left
-abbrev pub TookAtMost : Option (List ℕ) → Option (List ℕ) → ℕ → Type 0
-TookAtMost before now most = (bytes : List ℕ) × (length bytes ≤ most) × Consumes before now bytes
+-- all bytes were taken, to the end
+pub record TakesAll (before now : Stream) (bytes : List ℕ) : Type 0 where
+  pub takes : Takes before now bytes
+  pub end : IsAtEnd now.bytes
 
--- a front of the bytes was written
-abbrev pub WroteFront : Option (List ℕ) → Option (List ℕ) → List ℕ → Type 0
-WroteFront before now bytes = (count : ℕ) × (count ≤ length bytes) × Appends before now (take count bytes)
+-- so many bytes were taken
+abbrev pub TakesCount : Stream → Stream → ℕ → Type 0
+TakesCount before now count = (bytes : List ℕ) × (length bytes ≡ count) × Takes before now bytes
+
+-- at most so many bytes were taken
+abbrev pub TakesAtMost : Stream → Stream → ℕ → Type 0
+TakesAtMost before now most = (bytes : List ℕ) × (length bytes ≤ most) × Takes before now bytes
+
+-- at most so many bytes were taken, and then a call failed
+pub record FailsWithin (before now : Stream) (most : ℕ) : Type 0 where
+  pub bytes : List ℕ
+  pub few : length bytes ≤ most
+  pub taken : Consumes before.bytes now.bytes bytes
+  pub fault : FailedOnce before now
+
+-- the bytes were given, and no call failed
+pub record Gives (before now : Stream) (bytes : List ℕ) : Type 0 where
+  pub given : Appends before.bytes now.bytes bytes
+  pub quiet : NoneFailed before now
+
+-- a front of the bytes was given, and then a call failed
+pub record FailsAmid (before now : Stream) (bytes : List ℕ) : Type 0 where
+  pub count : ℕ
+  pub short : count < length bytes
+  pub given : Appends before.bytes now.bytes (take count bytes)
+  pub fault : FailedOnce before now

@@ -1,9 +1,8 @@
 //! Reading all bytes and writing all bytes.
 
-ghost use Rattle.std.specs.Prelude.{◌≡◌, ◌⊎◌, ◌+◌, ◌≤◌, OnOk, OnErr, IfOk, IsErrOf, vec_len};
-ghost use Rattle.std.specs.Io.KnownBytes.{Appends, Consumes, IsAtEnd};
-ghost use Rattle.tc_io.specs.Causes.{Rose};
-ghost use Rattle.tc_io.specs.Taken.{Took, TookAtMost, WroteFront};
+ghost use Rattle.std.specs.Prelude.{◌≡◌, ◌+◌, ◌≤◌, OnOk, OnErr, IfOk, IsErrOf, MatchResult, vec_len};
+ghost use Rattle.tc_io.specs.Calls.{ReadsWithin, Writes};
+ghost use Rattle.tc_io.specs.Taken.{FailsAmid, FailsWithin, Gives, TakesAll, TakesAtMost, TakesCount};
 ghost use Rattle.tc_io.specs.declared.all.ReadAll.TheVariants.{Fault, OutOfMemory};
 
 use crate::source::{Failed, Sink, Source};
@@ -45,21 +44,22 @@ impl From<AllocError> for ReadAll {
 pub fn read_all<S: Source>(alloc: Global, source: &mut S, limit: usize) -> Result<Vec<u8>, ReadAll>
     requires { limit ≤ LIMIT }
 
-    // All bytes, to the end.
-    ensures ok { IfOk result (λ bytes. Consumes (S.left source.old) (S.left source.new) bytes.items) }
+    ensures ok { IfOk result (λ bytes.
+        TakesAll (S.stream source.old) (S.stream source.new) bytes.items) }
     ensures limit { IfOk result (λ bytes. vec_len bytes ≤ limit) }
-    ensures end { OnOk result (IsAtEnd (S.left source.new)) }
 
     // The causes of the errors, and what was taken.
-    ensures fault { IsErrOf result ReadAll.Fault → Rose (S.faults source.old) (S.faults source.new) }
-    ensures before_fault { IsErrOf result ReadAll.Fault → TookAtMost (S.left source.old) (S.left source.new) limit }
-    ensures over { IsErrOf result ReadAll.OverLimit → Took (S.left source.old) (S.left source.new) (limit + 1) }
-    ensures memory { IsErrOf result ReadAll.OutOfMemory → TookAtMost (S.left source.old) (S.left source.new) (limit + 1) }
+    ensures fault { IsErrOf result ReadAll.Fault
+        → FailsWithin (S.stream source.old) (S.stream source.new) limit }
+    ensures over { IsErrOf result ReadAll.OverLimit
+        → TakesCount (S.stream source.old) (S.stream source.new) (limit + 1) }
+    ensures memory { IsErrOf result ReadAll.OutOfMemory
+        → TakesAtMost (S.stream source.old) (S.stream source.new) (limit + 1) }
 
-    // The faults rise in no other case.
-    ensures later { S.faults source.old ≤ S.faults source.new }
-    ensures quiet { OnOk result (S.faults source.new ≡ S.faults source.old) }
-    ensures no_fault { IsErrOf result ReadAll.OverLimit ⊎ IsErrOf result ReadAll.OutOfMemory → S.faults source.new ≡ S.faults source.old }
+    // At most one read more than bytes.
+    ensures reads { MatchResult result
+        (λ bytes. ReadsWithin S.read_gives (vec_len bytes + 1) source.old source.new)
+        (λ _. ReadsWithin S.read_gives (limit + 1) source.old source.new) }
 {
     let mut bytes = Vec::new(alloc);
     let mut chunk = [0; 4096];
@@ -79,13 +79,9 @@ pub fn read_all<S: Source>(alloc: Global, source: &mut S, limit: usize) -> Resul
 /// Writes all bytes to a sink. Each write is given all bytes that are not written yet, and no
 /// write is made once none is left.
 pub fn write_all<K: Sink>(sink: &mut K, bytes: &[u8]) -> Result<(), Failed>
-    ensures ok { OnOk result (Appends (K.written sink.old) (K.written sink.new) bytes.now) }
-    ensures err { OnErr result (WroteFront (K.written sink.old) (K.written sink.new) bytes.now) }
-
-    // It fails only where a write did.
-    ensures fault { OnErr result (Rose (K.faults sink.old) (K.faults sink.new)) }
-    ensures later { K.faults sink.old ≤ K.faults sink.new }
-    ensures quiet { OnOk result (K.faults sink.new ≡ K.faults sink.old) }
+    ensures ok { OnOk result (Gives (K.stream sink.old) (K.stream sink.new) bytes.now) }
+    ensures err { OnErr result (FailsAmid (K.stream sink.old) (K.stream sink.new) bytes.now) }
+    ensures writes { Writes K.write_gives bytes.now sink.old result sink.new }
 {
     let mut done = 0;
     while done < bytes.len() {

@@ -1,9 +1,11 @@
 //! What bytes come from, and what they go to.
 
-ghost use Rattle.std.specs.Prelude.{◌≡◌, ℕ, ◌<◌, List, Option, length, IfOk};
+ghost use Rattle.std.specs.Prelude.{◌≡◌, ℕ, ◌<◌, List, Result, length, IfOk, ⊤};
 ghost use Rattle.std.specs.Io.{ReadsAtMost, WritesAtMost};
 ghost use Rattle.std.specs.Io.KnownBytes.{ReadConsumes, WriteAppends};
 ghost use Rattle.tc_io.specs.Causes.{HasCause};
+ghost use Rattle.tc_io.specs.Stream.{Stream};
+ghost use Rattle.tc_io.specs.declared.source.Failed.{Failed as Fault};
 
 /// A source or a sink failed in this call.
 #[derive(Clone, Copy, Debug, PartialEq, Eq)]
@@ -11,33 +13,37 @@ pub struct Failed;
 
 /// What bytes come from.
 pub trait Source {
-    /// The bytes still to come, where the source tells them.
-    ghost left: { Self → Option (List ℕ) };
+    /// The bytes still to come, where the source tells them, and how often it failed.
+    ghost stream: { Self → Stream };
 
-    /// How often it failed.
-    ghost faults: { Self → ℕ };
+    /// What a read with room for so many bytes may answer, and which source it may leave.
+    ghost read_gives: { Self → ℕ → Result ℕ Fault → Self → Type 0 } = { λ _ _ _ _. ⊤ };
 
     /// Reads bytes into the front of the buffer, and says how many. A call that gives none into a
     /// buffer with room is at the end. A call that fails has taken nothing.
     fn read(&mut self, buf: &mut [u8]) -> Result<usize, Failed>
         ensures bound { ReadsAtMost result buf.new }
-        ensures bytes { ReadConsumes (left self.old) (left self.new) result buf.new }
-        ensures cause { HasCause (faults self.old) (faults self.new) result };
+        ensures bytes { ReadConsumes
+            (stream self.old).bytes (stream self.new).bytes result buf.new }
+        ensures cause { HasCause (stream self.old) (stream self.new) result }
+        ensures call { read_gives self.old (length buf.old) result self.new };
 }
 
 /// What bytes go to.
 pub trait Sink {
-    /// The bytes taken so far, where the sink tells them.
-    ghost written: { Self → Option (List ℕ) };
+    /// The bytes taken so far, where the sink tells them, and how often it failed.
+    ghost stream: { Self → Stream };
 
-    /// How often it failed.
-    ghost faults: { Self → ℕ };
+    /// What a write of a piece may answer, and which sink it may leave.
+    ghost write_gives: { Self → List ℕ → Result ℕ Fault → Self → Type 0 } = { λ _ _ _ _. ⊤ };
 
     /// Takes bytes from the front of the piece, and says how many: at least one, where the piece
     /// has any. A call that fails has taken nothing.
     fn write(&mut self, piece: &[u8]) -> Result<usize, Failed>
         ensures bound { WritesAtMost result piece.now }
         ensures some { IfOk result (λ count. 0 < length piece.now → 0 < count) }
-        ensures bytes { WriteAppends (written self.old) (written self.new) result piece.now }
-        ensures cause { HasCause (faults self.old) (faults self.new) result };
+        ensures bytes { WriteAppends
+            (stream self.old).bytes (stream self.new).bytes result piece.now }
+        ensures cause { HasCause (stream self.old) (stream self.new) result }
+        ensures call { write_gives self.old piece.now result self.new };
 }

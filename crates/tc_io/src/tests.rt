@@ -16,6 +16,28 @@ impl Read for Broken {
     }
 }
 
+/// A reader that fails once, and then gives this many bytes, one in each read.
+#[derive(Drop)]
+struct Flaky {
+    failed: bool,
+    left: u8,
+}
+
+impl Read for Flaky {
+    fn read(&mut self, buf: &mut [u8]) -> io::Result<usize> {
+        if !self.failed {
+            self.failed = true;
+            return Err(ErrorKind::Interrupted.into());
+        }
+        if self.left == 0 || buf.is_empty() {
+            return Ok(0);
+        }
+        self.left -= 1;
+        buf[0] = b'x';
+        Ok(1)
+    }
+}
+
 #[test]
 fn a_word_keeps_its_bytes(rt: HostRuntime) -> Result<(), Fail> {
     let word = Word::from_bytes(rt.alloc(), b"run\xff")?;
@@ -132,5 +154,17 @@ fn streams_of_std_are_passed_on(rt: HostRuntime) -> Result<(), Fail> {
         Err(Failed),
         "a write took nothing"
     );
+    Ok(())
+}
+
+#[test]
+fn a_reader_of_std_reads_on_after_a_failed_read(rt: HostRuntime) -> Result<(), Fail> {
+    let mut flaky = StdSource::new(Flaky {
+        failed: false,
+        left: 3,
+    });
+    assert_eq!(rt; flaky.read(&mut [0; 5]), Err(Failed));
+    let read = read_all(rt.alloc(), &mut flaky, 5);
+    assert_eq!(rt; read.as_deref().map_err(|e| *e), Ok(b"xxx".as_slice()));
     Ok(())
 }
