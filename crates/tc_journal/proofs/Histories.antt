@@ -11,7 +11,7 @@ use Rattle.tc_journal.specs.Reading.{BeginsWith, Reads}
 pub history_text_push : (h : List Block) (b : Block) → history_text (h ++ b ∷ []) ≡ history_text h ++ block_line b
 history_text_push h b = flat_map-append block_line h (b ∷ []) ∙ ap (λ t. history_text h ++ t) (append-nil (block_line b))
 
-IsHistoryFrom_push : (first : ℕ) (h : List Block) (b : Block) → IsHistoryFrom first h → IsBlock b → b.stamp ≡ first + length h → IsHistoryFrom first (h ++ b ∷ [])
+pub IsHistoryFrom_push : (first : ℕ) (h : List Block) (b : Block) → IsHistoryFrom first h → IsBlock b → b.stamp ≡ first + length h → IsHistoryFrom first (h ++ b ∷ [])
 IsHistoryFrom_push first [] b i k e = (k, omega arith, tt)
 IsHistoryFrom_push first (x ∷ xs) b i k e = (i.0, i.1, IsHistoryFrom_push (first + 1) xs b i.2 k (omega arith))
 

@@ -6,3 +6,4 @@ pub mod HeldWord
 pub mod Fields
 pub mod Histories
 pub mod Merged
+pub mod Batching

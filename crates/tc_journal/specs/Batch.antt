@@ -1,6 +1,6 @@
 -- The batch rule: which sections of a lock may follow one another. A section of a lock is the blocks from the one
 -- that takes it to the one that gives it up. An Adopted section is run by the worker that ran the one before it;
--- the batch limit says how many of those may stand in a row.
+-- the batch limit says how many of those may stand in a row: how long the streak may be.
 use Rattle.std.specs.Prelude.{◌≡◌, ℕ, zero, suc, ◌+◌, ◌-◌, length, slice_get, Bool, true, false, not, ◌&&◌, ◌||◌, ◌==◌, nat_lt, nat_le, if◌then◌else◌, List, [], ◌∷◌, ◌++◌, Option, Some, None}
 use Rattle.tc_isa.specs.Sets.{has, with_lock}
 use Rattle.tc_journal.specs.declared.block.Block.{Block}
@@ -25,6 +25,14 @@ is_adopted On = false
 is_adopted Taken = false
 is_adopted Adopted = true
 is_adopted Granted = false
+
+-- a section of this kind is passed on: a waiter gets the lock from the thread that releases it
+abbrev pub is_passed : Kind → Bool
+is_passed Start = false
+is_passed On = false
+is_passed Taken = false
+is_passed Adopted = true
+is_passed Granted = true
 
 -- the greatest lock of a set, of those below a number
 abbrev pub top_below : ℕ → (ℕ → Bool) → Option ℕ
@@ -74,9 +82,19 @@ ends_section lock b = unlocks lock b.end || ends_thread b.end
 abbrev pub is_only : ℕ → ℕ → Bool
 is_only held lock = held == with_lock 0 lock
 
+-- whether the worker of the block goes on with a waiter for the lock: the block released the lock, which was the whole
+-- held set, and the streak is below the limit. `run` is the streak: how many Adopted sections stand in a row
+abbrev pub may_adopt : Block → ℕ → ℕ → ℕ → Bool
+may_adopt b lock run limit = unlocks lock b.end && is_only b.held lock && nat_lt run limit
+
+-- what keeps a worker from adopting after a section ended: the streak is at the limit, or the block ended its thread or
+-- had another lock too
+abbrev pub has_cause : Block → ℕ → ℕ → ℕ → Bool
+has_cause b lock run limit = nat_le limit run || ends_thread b.end || not (is_only b.held lock)
+
 -- ---- the blocks of a lock before another one
 
--- how many Adopted sections stand in a row at the end
+-- the streak: how many Adopted sections stand in a row at the end
 abbrev pub run_after : ℕ → ℕ → Block → ℕ
 run_after lock n b = if begins lock b then (if is_adopted b.kind then n + 1 else 0) else n
 
@@ -92,10 +110,9 @@ last_of bs = slice_get bs (length bs - 1)
 
 -- ---- what may follow
 
--- whether a section of this kind, whose first block has this worker, may follow, where the last block and the run are these.
--- The first section is Taken. A later one follows only a block that ended one. It is Adopted only where the block before it
--- is of the same worker and gave up the lock as the only one held, and fewer than the limit stand in a row; it is Granted
--- only where as many as the limit do, or the block before it ended its thread or had another lock too.
+-- whether a section of this kind, whose first block has this worker, may follow, where the last block and the streak are
+-- these. The first section is Taken. A later one follows only a block that ended one. It is Adopted only where that block's
+-- worker may adopt, and by that worker; it is Granted only where it may not.
 abbrev pub may_begin : ℕ → ℕ → Option Block → ℕ → Kind → ℕ → Bool
 may_begin lock limit last run Start worker = false
 may_begin lock limit last run On worker = false
@@ -103,8 +120,8 @@ may_begin lock limit None run Taken worker = true
 may_begin lock limit None run Adopted worker = false
 may_begin lock limit None run Granted worker = false
 may_begin lock limit (Some b) run Taken worker = ends_section lock b
-may_begin lock limit (Some b) run Adopted worker = unlocks lock b.end && is_only b.held lock && (b.worker == worker) && nat_lt run limit
-may_begin lock limit (Some b) run Granted worker = ends_section lock b && (nat_le limit run || ends_thread b.end || not (is_only b.held lock))
+may_begin lock limit (Some b) run Adopted worker = may_adopt b lock run limit && (b.worker == worker)
+may_begin lock limit (Some b) run Granted worker = ends_section lock b && not (may_adopt b lock run limit)
 
 -- whether a block of this thread may go on with the section of the last block
 abbrev pub may_go_on : ℕ → Option Block → ℕ → Bool
@@ -126,3 +143,22 @@ ObeysAfter lock limit before (b ∷ bs) = (may_follow lock limit before b ≡ tr
 -- the blocks of a lock obey the batch limit
 abbrev pub Obeys : ℕ → ℕ → List Block → Type 0
 Obeys lock limit bs = ObeysAfter lock limit [] bs
+
+-- ---- passing on: a law beyond the batch rule. A section that is passed on is of another thread than the section before it
+
+-- whether a section of this kind may be this thread's, where the last block of the lock is this
+abbrev pub passes_to : Option Block → Kind → ℕ → Bool
+passes_to None kind thread = true
+passes_to (Some b) kind thread = not (is_passed kind && (b.thread == thread))
+
+-- whether the block, if it begins a section of the lock, got it so
+unfoldable pub passes_on : ℕ → List Block → Block → Bool
+passes_on lock before b = if begins lock b then passes_to (last_of before) b.kind b.thread else true
+
+abbrev pub PassesOnAfter : ℕ → List Block → List Block → Type 0
+PassesOnAfter lock before [] = Unit {0}
+PassesOnAfter lock before (b ∷ bs) = (passes_on lock before b ≡ true) × PassesOnAfter lock (before ++ b ∷ []) bs
+
+-- each section of the lock that is passed on is of another thread than the one before it
+abbrev pub PassesOn : ℕ → List Block → Type 0
+PassesOn lock bs = PassesOnAfter lock [] bs

@@ -1,8 +1,9 @@
 -- Histories: which lists of blocks they are, and what they are looked at for.
 use Rattle.std.specs.Prelude.{◌≡◌, ℕ, ◌+◌, ◌^◌, ◌<◌, ◌≤◌, ◌==◌, List, [], ◌∷◌, length, map, filter, Contains, Vec}
 use Rattle.std.specs.Global.{Global}
-use Rattle.std.specs.List.{flat_map}
+use Rattle.std.specs.List.{flat_map, range_with_len}
 use Rattle.tc_isa.specs.Sets.{has}
+use Rattle.tc_isa.specs.declared.limits.TheConstants.{MAX_TURNS}
 use Rattle.tc_journal.specs.declared.block.Block.{Block}
 use Rattle.tc_journal.specs.declared.block.End.{End}
 use Rattle.tc_journal.specs.declared.block.End.TheVariants.{Wants, Unlocked, Slept, Cut, Exit, Fault, Spent}
@@ -17,13 +18,13 @@ IsEnd Exit = Unit {0}
 IsEnd (Fault fault) = Unit {0}
 IsEnd Spent = Unit {0}
 
--- a block that may stand in a history: it has 1 to 4,096 turns, its locks are below 32, and its other numbers are
+-- a block that may stand in a history: it has 1 to MAX_TURNS turns, its locks are below 32, and its other numbers are
 -- of their types
 pub record IsBlock (b : Block) : Type 0 where
   pub stamp : b.stamp < 2 ^ 64
   pub thread : b.thread < 2 ^ 32
   pub some_turns : 1 ≤ b.turns
-  pub most_turns : b.turns ≤ 4096
+  pub most_turns : b.turns ≤ MAX_TURNS
   pub held : b.held < 2 ^ 32
   pub worker : b.worker < 2 ^ 32
   pub end : IsEnd b.end
@@ -36,6 +37,10 @@ IsHistoryFrom first (b ∷ bs) = IsBlock b × (b.stamp ≡ first) × IsHistoryFr
 -- blocks whose stamps are 0, 1, 2 and so on
 abbrev pub IsHistory : List Block → Type 0
 IsHistory h = IsHistoryFrom 0 h
+
+-- each block stands at the place of its stamp
+abbrev pub IsInOrder : List Block → Type 0
+IsInOrder h = map (λ b. b.stamp) h ≡ range_with_len 0 (length h)
 
 -- in which order the threads have their turns: pairs of a thread and a number of turns
 abbrev pub schedule : List Block → List (ℕ × ℕ)

@@ -1,5 +1,6 @@
 -- By which rule a block ends.
 use Rattle.std.specs.Prelude.{ℕ, ◌==◌, if◌then◌else◌, Option, Some, None}
+use Rattle.tc_isa.specs.declared.limits.TheConstants.{MAX_TURNS}
 use Rattle.tc_journal.specs.declared.block.End.{End}
 use Rattle.tc_journal.specs.declared.block.End.TheVariants as end
 use Rattle.tc_journal.specs.declared.rule.Outcome.{Outcome}
@@ -14,4 +15,4 @@ end_rule Spent turns next = Some end.Spent
 end_rule (Unlocked lock) turns next = Some (end.Unlocked lock)
 end_rule Slept turns next = Some end.Slept
 end_rule Went turns (Some lock) = Some (end.Wants lock)
-end_rule Went turns None = if turns == 4096 then Some end.Cut else None
+end_rule Went turns None = if turns == MAX_TURNS then Some end.Cut else None

@@ -15,7 +15,7 @@ pub enum Kind {
     Taken,
     /// Its first turn took a lock on behalf of a waiter, by the worker that released it.
     Adopted,
-    /// Its first turn took a lock that was handed on to another worker.
+    /// Its first turn took a lock that was handed on to a waiter, for any worker to run.
     Granted,
 }
 

@@ -1,9 +1,8 @@
 //! Histories put together and printed.
 
-ghost use Rattle.std.specs.Prelude.{◌≡◌, IfOk, length, map};
-ghost use Rattle.std.specs.List.{range_with_len};
+ghost use Rattle.std.specs.Prelude.{◌≡◌, IfOk};
 ghost use Rattle.std.specs.List.Sorted.{IsPermutation};
-ghost use Rattle.tc_journal.specs.History.{all_blocks, HasEachStamp};
+ghost use Rattle.tc_journal.specs.History.{all_blocks, HasEachStamp, IsInOrder};
 ghost use Rattle.tc_journal.specs.Line as spec;
 
 use crate::block::Block;
@@ -14,7 +13,7 @@ use std::alloc::{AllocError, Global};
 pub fn merge(alloc: Global, logs: &[Vec<Block>]) -> Result<Vec<Block>, AllocError>
     requires { HasEachStamp (all_blocks logs.now) }
     ensures blocks { IfOk result (λ history. IsPermutation (all_blocks logs.now) history.items) }
-    ensures order { IfOk result (λ history. map (λ b. b.stamp) history.items ≡ range_with_len 0 (length history.items)) }
+    ensures order { IfOk result (λ history. IsInOrder history.items) }
 {
     let mut history = Vec::new(alloc);
     for log in logs {

@@ -5,17 +5,20 @@
 //! They are promised that logs are merged in the order of their stamps, that a history is printed
 //! as `specs/Line.antt` says, and that `read` takes the texts of histories and no others, gives
 //! back the history, and names the first line that is wrong. `specs/Batch.antt` says which sections
-//! of a lock may follow one another.
+//! of a lock may follow one another, and `batch` tests it.
 //!
 //! - `block`: what a block is.
+//! - `batch`: which section of a lock may follow its last block; `law`: what that rule says.
 //! - `rule`: by which rule it ends.
 //! - `line`: its printed line.
 //! - `history`: logs merged, histories printed.
 //! - `reading`: histories read back, by the block that a line may be (`spelling`).
 #![tactic(auto)]
 
+pub mod batch;
 pub mod block;
 pub mod history;
+pub mod law;
 pub mod line;
 pub mod reading;
 pub mod rule;

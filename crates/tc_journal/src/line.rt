@@ -12,7 +12,9 @@ use tc_isa::held::Held;
 /// Writes a lock after a comma where it is held.
 #[tactic(auto, unfolding(crate::specs::Line::comma_text))]
 fn push_if_held(text: &mut String, held: Held, lock: u32) -> Result<(), AllocError>
-    ensures { OnOk result (string_bytes text.new ≡ string_bytes text.old ++ (if has held lock then spec.comma_text lock else [])) }
+    ensures { OnOk result
+        (string_bytes text.new
+        ≡ string_bytes text.old ++ (if has held lock then spec.comma_text lock else [])) }
 {
     if held.has(lock) {
         write!(text, ",{lock}")
@@ -23,7 +25,8 @@ fn push_if_held(text: &mut String, held: Held, lock: u32) -> Result<(), AllocErr
 
 /// Writes the numbers of a set of locks in ascending order, with commas between, or a dash.
 fn push_held(text: &mut String, held: Held) -> Result<(), AllocError>
-    ensures { OnOk result (string_bytes text.new ≡ string_bytes text.old ++ spec.numbers_text (locks_of held)) }
+    ensures { OnOk result
+        (string_bytes text.new ≡ string_bytes text.old ++ spec.numbers_text (locks_of held)) }
 {
     let Some(least) = held.least() else {
         return text.push_str("-");
@@ -39,7 +42,8 @@ fn push_held(text: &mut String, held: Held) -> Result<(), AllocError>
 /// may have been written.
 #[tactic(auto, unfolding(crate::specs::Line::block_text))]
 pub fn push_block(text: &mut String, block: &Block) -> Result<(), AllocError>
-    ensures { OnOk result (string_bytes text.new ≡ string_bytes text.old ++ spec.block_line block.now) }
+    ensures { OnOk result
+        (string_bytes text.new ≡ string_bytes text.old ++ spec.block_line block.now) }
 {
     let Block {
         stamp,

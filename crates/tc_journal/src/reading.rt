@@ -31,7 +31,8 @@ impl From<AllocError> for BadText {
 }
 
 fn is_front(front: &[u8], text: &[u8]) -> bool
-    ensures { MatchBool result ((more : List ℕ) × (text.now ≡ front.now ++ more)) ((more : List ℕ) → text.now ≡ front.now ++ more → ⊥) }
+    ensures { MatchBool result ((more : List ℕ) × (text.now ≡ front.now ++ more))
+        ((more : List ℕ) → text.now ≡ front.now ++ more → ⊥) }
 {
     text.starts_with(front)
 }
@@ -46,7 +47,8 @@ fn text_from(text: &[u8], start: usize) -> &[u8]
 /// The block of a history with this stamp whose line stands at the front of a text. That line is
 /// then left in the buffer.
 fn first_block(line: &mut String, text: &[u8], stamp: u64) -> Result<Option<Block>, AllocError>
-    ensures some { IfOk result (λ o. IfSome o (λ b. BeginsWith text.now stamp b × (string_bytes line.new ≡ spec.block_line b))) }
+    ensures some { IfOk result (λ o. IfSome o
+        (λ b. BeginsWith text.now stamp b × (string_bytes line.new ≡ spec.block_line b))) }
     ensures every { IfOk result (λ o. (b : BlockValue) → BeginsWith text.now stamp b → o ≡ Some b) }
 {
     let Some(block) = block_at_front(text) else {
@@ -67,12 +69,15 @@ fn first_block(line: &mut String, text: &[u8], stamp: u64) -> Result<Option<Bloc
 /// The history of a text, where the text is that of a history: one line for each block, each with
 /// its end of line, in order of their stamps 0, 1, 2 and so on, with numbers that fit a block.
 pub fn read(alloc: Global, bytes: &[u8]) -> Result<Vec<Block>, BadText>
-    ensures ok { IfOk result (λ blocks. IsHistory blocks.items × (bytes.now ≡ spec.history_text blocks.items)) }
+    ensures ok { IfOk result
+        (λ blocks. IsHistory blocks.items × (bytes.now ≡ spec.history_text blocks.items)) }
     ensures line { (n : ℕ) → IsErrOf result (BadText.Line n) → IsFirstWrong bytes.now n }
 
     // It gives up on no text, for want of memory apart.
-    ensures read_back { (h : List BlockValue) → IsHistory h → bytes.now ≡ spec.history_text h → MatchResult result (λ blocks. blocks.items ≡ h) (λ e. e ≡ BadText.OutOfMemory) }
-    ensures wrong { (n : ℕ) → IsFirstWrong bytes.now n → IsErrOf result (BadText.Line n) ⊎ IsErrOf result BadText.OutOfMemory }
+    ensures read_back { (h : List BlockValue) → IsHistory h → bytes.now ≡ spec.history_text h
+        → MatchResult result (λ blocks. blocks.items ≡ h) (λ e. e ≡ BadText.OutOfMemory) }
+    ensures wrong { (n : ℕ) → IsFirstWrong bytes.now n
+        → IsErrOf result (BadText.Line n) ⊎ IsErrOf result BadText.OutOfMemory }
 {
     let mut blocks = Vec::new(alloc);
     let mut line = String::new(alloc);

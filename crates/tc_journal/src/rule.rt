@@ -5,7 +5,7 @@ ghost use Rattle.tc_journal.specs.Rule.{end_rule};
 
 use crate::block::End;
 use tc_isa::fault::Fault;
-use tc_isa::limits::MOST_TURNS;
+use tc_isa::limits::MAX_TURNS;
 
 /// How a turn of a thread came out.
 #[derive(Clone, Copy, Debug, PartialEq, Eq)]
@@ -37,7 +37,7 @@ pub fn end_of(outcome: Outcome, turns: u32, next: Option<u32>) -> Option<End>
         Outcome::Slept => Some(End::Slept),
         Outcome::Went => match next {
             Some(lock) => Some(End::Wants(lock)),
-            None if turns == MOST_TURNS => Some(End::Cut),
+            None if turns == MAX_TURNS => Some(End::Cut),
             None => None,
         },
     }

@@ -5,6 +5,7 @@
 
 ghost use Rattle.std.specs.Prelude.{◌≡◌, ◌==◌, ℕ, ◌^◌, ◌<◌, ◌≤◌, ◌++◌, List, Some, IfSome, MatchBool, codes, decimal, length, position};
 ghost use Rattle.tc_isa.specs.Sets.{locks_of};
+ghost use Rattle.tc_isa.specs.declared.limits.TheConstants.{MAX_TURNS};
 ghost use Rattle.tc_journal.specs.History.{IsBlock, IsEnd};
 ghost use Rattle.tc_journal.specs.Line as spec;
 ghost use Rattle.tc_journal.specs.Spelling.{before, behind, value_of, rest_of, end_word, end_number};
@@ -16,7 +17,7 @@ use crate::block::{Block, End, Kind};
 use std::str::from_utf8;
 use tc_isa::fault::Fault;
 use tc_isa::held::Held;
-use tc_isa::limits::MOST_TURNS;
+use tc_isa::limits::MAX_TURNS;
 
 /// The place of the first such byte.
 fn place_of(text: &[u8], stop: u8) -> Option<usize>
@@ -63,10 +64,10 @@ fn small_number(word: &[u8]) -> Option<u32>
 }
 
 fn number_of_turns(word: &[u8]) -> Option<u32>
-    ensures value { (n : ℕ) → 1 ≤ n → n ≤ 4096 → word.now ≡ decimal n → result ≡ Some n }
-    ensures bounds { IfSome result (λ turns. (1 ≤ turns) × (turns ≤ 4096)) }
+    ensures value { (n : ℕ) → 1 ≤ n → n ≤ MAX_TURNS → word.now ≡ decimal n → result ≡ Some n }
+    ensures bounds { IfSome result (λ turns. (1 ≤ turns) × (turns ≤ MAX_TURNS)) }
 {
-    small_number(word).filter(|turns| (1..=MOST_TURNS).contains(turns))
+    small_number(word).filter(|turns| (1..=MAX_TURNS).contains(turns))
 }
 
 fn lock(word: &[u8]) -> Option<u32>
@@ -85,7 +86,8 @@ fn is_dash(word: &[u8]) -> bool
 
 /// The locks of a word with commas between them, or a dash for none.
 fn held(word: &[u8]) -> Option<Held>
-    ensures value { (held : ℕ) → held < 2 ^ 32 → word.now ≡ spec.numbers_text (locks_of held) → result ≡ Some held }
+    ensures value { (held : ℕ)
+        → held < 2 ^ 32 → word.now ≡ spec.numbers_text (locks_of held) → result ≡ Some held }
     ensures bound { IfSome result (λ held. held < 2 ^ 32) }
 {
     let mut held = Held::none();
@@ -115,7 +117,8 @@ fn kind(word: &[u8]) -> Option<Kind>
 }
 
 fn end(word: &[u8], number: &[u8]) -> Option<End>
-    ensures value { (end : EndValue) → IsEnd end → word.now ≡ end_word end → number.now ≡ end_number end → result ≡ Some end }
+    ensures value { (end : EndValue)
+        → IsEnd end → word.now ≡ end_word end → number.now ≡ end_number end → result ≡ Some end }
     ensures valid { IfSome result (λ end. IsEnd end) }
 {
     match word {
@@ -132,7 +135,8 @@ fn end(word: &[u8], number: &[u8]) -> Option<End>
 
 /// The block whose line stands at the front of a text.
 pub(crate) fn block_at_front(text: &[u8]) -> Option<Block>
-    ensures every { (b : BlockValue) (more : List ℕ) → IsBlock b → text.now ≡ spec.block_line b ++ more → result ≡ Some b }
+    ensures every { (b : BlockValue) (more : List ℕ)
+        → IsBlock b → text.now ≡ spec.block_line b ++ more → result ≡ Some b }
     ensures valid { IfSome result (λ b. IsBlock b) }
 {
     let (stamp, rest) = field(text);

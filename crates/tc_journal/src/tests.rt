@@ -1,5 +1,6 @@
 ghost use Rattle.std.specs.Prelude.{◌≡◌};
 
+use crate::batch::{may_adopt, may_begin, passes_to, run_after};
 use crate::block::{Block, End, Kind};
 use crate::history::{merge, text};
 use crate::reading::{BadText, read};
@@ -215,4 +216,38 @@ fn a_wrong_second_line_is_named(rt: HostRuntime) -> Result<(), Fail> {
     let found = read(rt.alloc(), wrong.as_bytes()).err();
     assert_eq!(rt; found, Some(BadText::Line(2)));
     Ok(())
+}
+
+/// A guest's lock 3 is released; then a waiter may be adopted by the same worker alone, or, where
+/// the streak is at the limit, granted to each.
+#[test]
+fn a_section_follows_by_the_batch_rule(rt: HostRuntime) {
+    let held = Held::none().plus(3);
+    let last = block(4, 1, 9, held, Kind::Adopted, 2, End::Unlocked(3));
+    assert!(rt; last.begins(3));
+    assert!(rt; last.takes() == Some(3));
+    assert_eq!(rt; run_after(3, 0, &last), 1);
+    assert!(rt; last.ends_section(3));
+    assert!(rt; !last.ends_section(4));
+    for (run, kind, worker, want) in [
+        (1, Kind::Adopted, 2, true),
+        (1, Kind::Adopted, 0, false),
+        (1, Kind::Granted, 0, false),
+        (1, Kind::Taken, 0, true),
+        (2, Kind::Adopted, 2, false),
+        (2, Kind::Granted, 0, true),
+        (2, Kind::On, 2, false),
+    ] {
+        assert!(rt; may_adopt(&last, 3, run, 2) == (run < 2));
+        assert!(rt;
+            may_begin(3, 2, Some(last), run, kind, worker) == want,
+            "{kind:?} {worker}"
+        );
+    }
+    // A thread may take the lock again, but is not adopted after itself.
+    assert!(rt; passes_to(Some(last), Kind::Taken, 1));
+    assert!(rt; !passes_to(Some(last), Kind::Adopted, 1));
+    assert!(rt; passes_to(Some(last), Kind::Adopted, 0));
+    assert!(rt; may_begin(3, 2, None, 0, Kind::Taken, 0));
+    assert!(rt; !may_begin(3, 2, None, 0, Kind::Granted, 0));
 }
