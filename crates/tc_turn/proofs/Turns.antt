@@ -3,6 +3,7 @@ use Rattle.std.proofs.Common.{◌≡◌, ◌≢◌, ◌⊎◌, ℕ, ◌<◌, Boo
 use Rattle.std.specs.Prelude.{if◌then◌else◌, unwrap_or, Option, Some, None}
 use Rattle.std.proofs.lemmas.Bool.Decides.{eqb_tells, nat_tests}
 use Rattle.tc_isa.specs.Registers.{Registers}
+use Rattle.tc_isa.specs.declared.limits.TheConstants.{MAX_TURNS}
 use Rattle.tc_elf.specs.Shown.{Shown, guard_at}
 use Rattle.tc_elf.specs.declared.image.Region.{Region}
 use Rattle.tc_elf.specs.declared.image.Region.TheVariants as region
@@ -30,7 +31,7 @@ some_same a b e = cc
 taken_is : (a : Act) (k : ℕ) (regs : Registers) → a ≡ Called (Lock k) regs → taken_by a ≡ Some k
 taken_is a k regs e = rw e refl
 
-taken_was : (a : Act) (k : ℕ) → taken_by a ≡ Some k → (regs : Registers) × (a ≡ Called (Lock k) regs)
+pub taken_was : (a : Act) (k : ℕ) → taken_by a ≡ Some k → (regs : Registers) × (a ≡ Called (Lock k) regs)
 taken_was (Next regs put) k e = absurd (cc)
 taken_was (Called (Lock j) regs) k e = (regs, (let same : j ≡ k = cc in ap (λ x. Called (Lock x) regs) same))
 taken_was (Called (Unlock j) regs) k e = absurd (cc)
@@ -215,12 +216,12 @@ released_held image d locks lock e =
 
 -- ---- a turn that ends no block
 
-went_on : (turns : ℕ) (next : Option ℕ) → end_rule outcome.Went turns next ≡ None → (next ≡ None) × (turns ≢ 4096)
+went_on : (turns : ℕ) (next : Option ℕ) → end_rule outcome.Went turns next ≡ None → (next ≡ None) × (turns ≢ MAX_TURNS)
 went_on turns None e = (refl, λ f. grind (arith, nat_tests))
 went_on turns (Some k) e = absurd (cc)
 
 -- it leaves no lock to take next, is not the last that a block may have, and leaves the status
-pub goes_on : (d : Thread) (a : Option Act) (turns : ℕ) (next : Option ℕ) → end_rule (outcome_of a) turns next ≡ None → (next ≡ None) × (turns ≢ 4096) × ((thread_after d a).status ≡ d.status)
+pub goes_on : (d : Thread) (a : Option Act) (turns : ℕ) (next : Option ℕ) → end_rule (outcome_of a) turns next ≡ None → (next ≡ None) × (turns ≢ MAX_TURNS) × ((thread_after d a).status ≡ d.status)
 goes_on d None turns next e = absurd (cc)
 goes_on d (Some (Next regs put)) turns next e = (let p = went_on turns next e in (p.0, p.1, refl))
 goes_on d (Some (Called (Lock lock) regs)) turns next e = (let p = went_on turns next e in (p.0, p.1, refl))

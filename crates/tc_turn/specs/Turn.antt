@@ -111,10 +111,13 @@ answer_to image want.Nothing None own locks = 0
 abbrev pub act_with : Shown → Thread → ℕ → Option Act
 act_with image d answer = if d.fuel == 0 then None else Some (act_of image d.held d.regs answer)
 
+-- the answer that the next turn finds
+abbrev pub answer_of : Shown → Thread → (ℕ → Mutex) → ℕ
+answer_of image d locks = answer_to image (wants_of image d.held d.regs) (next_lock image d) d.own locks
+
 -- what the next turn does
 unfoldable pub next_act : Shown → Thread → (ℕ → Mutex) → Option Act
-next_act image d locks =
-    act_with image d (answer_to image (wants_of image d.held d.regs) (next_lock image d) d.own locks)
+next_act image d locks = act_with image d (answer_of image d locks)
 
 -- how a turn comes out for the block that it is in
 abbrev pub outcome_of : Option Act → Outcome
@@ -139,6 +142,13 @@ own_with region.Nothing own addr width value = own
 abbrev pub own_after : Option Put → (ℕ → Option ℕ) → ℕ → Option ℕ
 own_after None own = own
 own_after (Some put) own = own_with put.region own put.addr put.width put.value
+
+-- the thread after it ended so: it gives up all that it holds
+abbrev pub with_end : Status → Thread → Thread
+with_end status d = record d { status = status; held = nothing_held }
+
+abbrev pub with_put : Option Put → Thread → Thread
+with_put put d = record d { own = own_after put d.own }
 
 abbrev pub thread_after : Thread → Option Act → Thread
 thread_after d None = record { regs = d.regs; own = d.own; fuel = d.fuel; status = status.SpentFuel; held = nothing_held }

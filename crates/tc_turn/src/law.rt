@@ -11,14 +11,21 @@ ghost use Rattle.tc_turn.specs.Reads.{Covers};
 /// alone. A law: it does nothing when it is called.
 pub fn turns()
     ensures reads { (image : Shown) (set : ℕ → Bool) (d : Thread) (a b : ℕ → Mutex)
-        → Covers image set d → ((k : ℕ) → set k ≡ true → a k ≡ b k) → next_act image d a ≡ next_act image d b }
-    ensures leaves { (image : Shown) (set : ℕ → Bool) (t : ℕ) (d : Thread) (locks : ℕ → Mutex) (k : ℕ) (l : Mutex)
-        → Covers image set d → set k ≡ false → mutex_after image t d.held (next_act image d locks) k l ≡ l }
+        → Covers image set d → ((k : ℕ) → set k ≡ true → a k ≡ b k)
+        → next_act image d a ≡ next_act image d b }
+    ensures leaves { (image : Shown) (set : ℕ → Bool) (t : ℕ) (d : Thread)
+        (locks : ℕ → Mutex) (k : ℕ) (l : Mutex)
+        → Covers image set d → set k ≡ false
+        → mutex_after image t d.held (next_act image d locks) k l ≡ l }
     // The same set covers the next turn too, where that takes no lock.
     ensures covers { (image : Shown) (set : ℕ → Bool) (d : Thread) (locks : ℕ → Mutex)
-        → Covers image set d → next_lock image (thread_after d (next_act image d locks)) ≡ None → Covers image set (thread_after d (next_act image d locks)) }
+        → Covers image set d → next_lock image (thread_after d (next_act image d locks)) ≡ None
+        → Covers image set (thread_after d (next_act image d locks)) }
     // A lock that the next turn takes is one of the image's, is not held, and the turn loads nothing.
-    ensures known { (image : Shown) (d : Thread) (k : ℕ) → next_lock image d ≡ Some k → k < length image.guards }
-    ensures free { (image : Shown) (d : Thread) (k : ℕ) → next_lock image d ≡ Some k → d.held k ≡ false }
-    ensures alone { (image : Shown) (d : Thread) (k : ℕ) → next_lock image d ≡ Some k → wants_of image d.held d.regs ≡ Nothing }
+    ensures known { (image : Shown) (d : Thread) (k : ℕ)
+        → next_lock image d ≡ Some k → k < length image.guards }
+    ensures free { (image : Shown) (d : Thread) (k : ℕ)
+        → next_lock image d ≡ Some k → d.held k ≡ false }
+    ensures alone { (image : Shown) (d : Thread) (k : ℕ)
+        → next_lock image d ≡ Some k → wants_of image d.held d.regs ≡ Nothing }
 {}

@@ -8,9 +8,11 @@
 //!
 //! - `status`: whether and how a thread has ended. `outcome`: how a turn came out for its block.
 //! - `memory`: a thread's own memory. `thread`: a thread, which does what an act says.
+//! - `answer`: the answer that a turn finds in its surroundings.
 //! - `law`: what a turn reads and what it leaves alone.
 #![tactic(auto)]
 
+pub mod answer;
 pub mod law;
 pub mod memory;
 pub mod outcome;

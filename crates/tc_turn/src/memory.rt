@@ -171,7 +171,8 @@ fn part_of(alloc: Global, image: &Image, i: u32) -> Result<Part, AllocError>
 
 /// The parts that stand for the writable ranges.
 fn writable_parts(alloc: Global, image: &Image) -> Result<Vec<Part>, AllocError>
-    ensures { IfOk result (λ parts. (at : ℕ) → byte_in parts.items at ≡ writable_byte image.now image.now.ranges at) }
+    ensures { IfOk result
+        (λ parts. (at : ℕ) → byte_in parts.items at ≡ writable_byte image.now image.now.ranges at) }
 {
     let mut parts = Vec::new(alloc);
     for i in 0..image.ranges() {
@@ -229,7 +230,8 @@ impl Memory {
 
     fn put_in_parts(&mut self, addr: u32, width: u32, value: u32)
         requires { addr + width ≤ 2 ^ 32 }
-        ensures { self.new ≡ record { parts = map (part_with addr width value) self.old.parts; guards = self.old.guards } }
+        ensures { self.new
+            ≡ record self.old { parts = map (part_with addr width value) self.old.parts } }
     {
         for part in self.parts.iter_mut() {
             part.put(addr, width, value);

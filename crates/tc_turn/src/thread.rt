@@ -5,7 +5,7 @@ ghost use Rattle.tc_isa.specs.Sets.{has};
 ghost use Rattle.tc_exec.specs.Step.{wants_of};
 ghost use Rattle.tc_exec.specs.Told.{IsWant};
 ghost use Rattle.tc_turn.specs.Memory.{own_of};
-ghost use Rattle.tc_turn.specs.Turn.{thread_of, thread_at_start, next_lock, act_with, ActFits, PutFits, thread_after, own_after, nothing_held};
+ghost use Rattle.tc_turn.specs.Turn.{thread_of, thread_at_start, next_lock, act_with, ActFits, PutFits, thread_after, with_end, with_put};
 
 use crate::memory::Memory;
 use crate::outcome::taken_by;
@@ -151,7 +151,7 @@ impl GuestThread {
     }
 
     fn end(&mut self, status: Status)
-        ensures { thread_of self.new ≡ record { regs = self.old.regs; own = own_of self.old.own; fuel = self.old.fuel; status = status; held = nothing_held } }
+        ensures { thread_of self.new ≡ with_end status (thread_of self.old) }
     {
         self.status = status;
         self.held = Held::none();
@@ -159,7 +159,7 @@ impl GuestThread {
 
     fn put(&mut self, put: &Option<Put>)
         requires { PutFits put.now }
-        ensures { thread_of self.new ≡ record { regs = self.old.regs; own = own_after put.now (own_of self.old.own); fuel = self.old.fuel; status = self.old.status; held = has self.old.held } }
+        ensures { thread_of self.new ≡ with_put put.now (thread_of self.old) }
     {
         let Some(put) = put else {
             return;
