@@ -4,7 +4,7 @@ use Rattle.std.specs.Prelude.{Option, Some, None, option_map, is_some, slice_get
 use Rattle.std.proofs.lemmas.Option.{slice_get-map}
 use Rattle.std.proofs.lemmas.List.{map-append, take_all, take-append-le, drop-append-le}
 use Rattle.std.proofs.lemmas.List.FromFn.{length-map-range_with_len}
-use Rattle.tc_isa.specs.declared.limits.TheConstants.{MOST_BATCH}
+use Rattle.tc_isa.specs.declared.limits.TheConstants.{MAX_BATCH}
 use Rattle.tc_elf.specs.Shown.{Shown, guard_at}
 use Rattle.tc_elf.specs.Kept.{IsGuard}
 use Rattle.tc_turn.specs.Memory.{starting_byte}
@@ -98,10 +98,12 @@ sound_noted ws l sound was = record {
   replays = sound.replays;
   rest = λ e. absurd (not_none ws l.journal.opened was e);
   from = noted_from ws (replay_in l.number l.journal) l.journal.opened sound.from;
+  alone = λ h. sound.alone was;
   obeys = sound.obeys;
+  passes = sound.passes;
 }
 
--- the was entry closed
+-- the entry closed
 pub closed_journal : (image : Shown) (number limit : ℕ) (words : List ℕ) (sealed : List Record) (closed : Option Record) (opened : Option Opening) (er wr : ℕ) (o : Opening) (block : Block) (finish : Registers) (to : ℕ)
     → opened ≡ Some o → to ≡ length words
     → shown_journal image number limit words sealed (Some (record { block = block; start = o.start; fuel = o.fuel; finish = finish; from = o.from; to = to })) None er wr ≡ closed_with block finish (shown_journal image number limit words sealed closed opened er wr)
@@ -112,9 +114,10 @@ closed_journal image number limit words sealed closed opened er wr o block finis
     (λ i. Some (record { block = block; start = o.start; fuel = o.fuel; finish = finish; foreign = all i })) ∙ ap (λ x. option_map (entry_from block finish) (option_map (shown_open from words) x)) (sym is) in
     λ i. record { image = image; limit = limit; sealed = map (shown words) sealed; closed = entry i; opened = None; entry_room = er; word_room = wr }
 
-pub sound_closed : (block : Block) (finish : Registers) (l : LockView) (o : Opened) → IsSound l → l.journal.opened ≡ Some o → l.journal.closed ≡ None → Closes l block finish o → IsSound (with_end block.end (with_journal (closed_with block finish) l))
-sound_closed block finish l o sound is none closes =
+pub sound_closed : (block : Block) (finish : Registers) (l : LockView) (o : Opened) → IsSound l → l.journal.opened ≡ Some o → Closes l block finish o → IsSound (with_end block.end (with_journal (closed_with block finish) l))
+sound_closed block finish l o sound is closes =
     let j = l.journal in
+    let none : j.closed ≡ None = sound.alone (ap (λ x. is_some x) is) in
     let f : Opened → Entry = entry_from block finish in
     let new : with_closed j.sealed (option_map f j.opened) ≡ j.sealed ++ f o ∷ [] = ap (λ x. with_closed j.sealed (option_map f x)) is in
     let old : entries j ≡ j.sealed = ap (with_closed j.sealed) none in
@@ -130,7 +133,9 @@ sound_closed block finish l o sound is none closes =
           (subst (λ m. Replays j.image l.number (f o) m) (sym before) closes.replays));
       rest = λ e. sym (ap (replayed j.image l.number (mutex_at_start j.image l.number)) new ∙ replayed-more j.image l.number (mutex_at_start j.image l.number) j.sealed (f o) ∙ ap (replay_entry j.image l.number (f o)) before ∙ closes.lock);
       from = λ p e. absurd (cc);
+      alone = λ h. absurd (cc);
       obeys = sound.obeys;
+      passes = sound.passes;
     }
 
 -- ---- a new lock state
@@ -139,7 +144,7 @@ pub fresh_view : (of image : Shown) (number limit : ℕ) (bytes words : List ℕ
     → record { number = number; bytes = bytes; broken = false; sections = 0; journal = shown_journal of number limit words sealed None None 0 0 } ≡ fresh_state image number limit
 fresh_view of image number limit bytes words sealed o b w s = λ i. record { number = number; bytes = b i; broken = false; sections = 0; journal = shown_journal (o i) number limit (w i) (s i) None None 0 0 }
 
-pub sound_fresh : (image : Shown) (number limit : ℕ) → number < length image.guards → number < 32 → IsGuard image (guard_at image number) → limit ≤ MOST_BATCH → IsSound (fresh_state image number limit)
+pub sound_fresh : (image : Shown) (number limit : ℕ) → number < length image.guards → number < 32 → IsGuard image (guard_at image number) → limit ≤ MAX_BATCH → IsSound (fresh_state image number limit)
 sound_fresh image number limit known small guard most = record {
   known = known;
   small = small;
@@ -149,7 +154,9 @@ sound_fresh image number limit known small guard most = record {
   replays = tt;
   rest = λ e. refl;
   from = λ o e. absurd (cc);
+  alone = λ h. absurd (cc);
   obeys = tt;
+  passes = tt;
 }
 
 -- ---- the entries

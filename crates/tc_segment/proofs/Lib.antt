@@ -2,3 +2,4 @@ pub mod Journals
 pub mod Keeping
 pub mod Sealing
 pub mod Inside
+pub mod Resting

@@ -12,7 +12,7 @@ use Rattle.tc_turn.specs.Turn.{Mutex, mutex_at_start}
 use Rattle.tc_turn.specs.Replay.{Entry, Replays, replay_entry, replayed, AreReplayed}
 use Rattle.tc_segment.specs.declared.record.Record.{Record}
 use Rattle.tc_segment.specs.declared.record.Opening.{Opening}
-use Rattle.tc_journal.specs.Batch.{begins, unlocks, is_only, is_adopted, run_after, run_from, run_of, last_of, may_begin, allows_of, may_follow, ObeysAfter, Obeys}
+use Rattle.tc_journal.specs.Batch.{begins, unlocks, is_only, may_adopt, is_adopted, run_after, run_from, run_of, last_of, may_begin, allows_of, may_follow, ObeysAfter, Obeys, passes_on, PassesOnAfter, PassesOn}
 use Rattle.tc_segment.specs.View.{LockView, with_closed, entries, block_in, blocks_of, IsSound, with_journal, sealed_block, sealed_entry, sealed_list, sealed_as}
 use Rattle.tc_segment.specs.Kept.{shown, block_of, shown_open, shown_journal, Fits, AllFit}
 use Rattle.tc_segment.proofs.Journals.{replayed-more}
@@ -46,9 +46,19 @@ obeys-more lock limit before [] b obeys next = (rw append-nil at next, tt)
 obeys-more lock limit before (x ∷ bs) b obeys next =
     (obeys.0, obeys-more lock limit (before ++ x ∷ []) bs b obeys.1 (subst (λ xs. may_follow lock limit xs b ≡ true) (sym (append_assoc before (x ∷ []) bs)) next))
 
+-- and passing on
+pub passes-more : (lock : ℕ) (before bs : List Block) (b : Block) → PassesOnAfter lock before bs → passes_on lock (before ++ bs) b ≡ true → PassesOnAfter lock before (bs ++ b ∷ [])
+passes-more lock before [] b passes next = (rw append-nil at next, tt)
+passes-more lock before (x ∷ bs) b passes next =
+    (passes.0, passes-more lock (before ++ x ∷ []) bs b passes.1 (subst (λ xs. passes_on lock xs b ≡ true) (sym (append_assoc before (x ∷ []) bs)) next))
+
 pub run-more : (lock n : ℕ) (bs : List Block) (b : Block) → run_from lock n (bs ++ b ∷ []) ≡ run_after lock (run_from lock n bs) b
 run-more lock n [] b = refl
 run-more lock n (x ∷ bs) b = run-more lock (run_after lock n x) bs b
+
+both_first : (a b : Bool) → (a && b) ≡ true → a ≡ true
+both_first true b e = refl
+both_first false b e = e
 
 both_last : (a b : Bool) → (a && b) ≡ true → b ≡ true
 both_last true b e = e
@@ -59,7 +69,8 @@ adopted_short lock limit last run Start worker e = omega arith
 adopted_short lock limit last run On worker e = omega arith
 adopted_short lock limit last run Taken worker e = omega arith
 adopted_short lock limit None run Adopted worker e = absurd (cc)
-adopted_short lock limit (Some b) run Adopted worker e = (let lt : nat_lt run limit ≡ true = both_last (unlocks lock b.end && is_only b.held lock && (b.worker == worker)) (nat_lt run limit) e in grind (arith, nat_tests))
+adopted_short lock limit (Some b) run Adopted worker e =
+    (let lt : nat_lt run limit ≡ true = both_last (unlocks lock b.end && is_only b.held lock) (nat_lt run limit) (both_first (may_adopt b lock run limit) (b.worker == worker) e) in grind (arith, nat_tests))
 adopted_short lock limit last run Granted worker e = omega arith
 
 pub run_short : (lock limit : ℕ) (before : List Block) (b : Block) → run_of lock before ≤ limit → may_follow lock limit before b ≡ true → run_after lock (run_of lock before) b ≤ limit
@@ -82,8 +93,12 @@ sealed_journal image number limit words sealed closed opened er wr stamp worker 
     ap (replayed image number (mutex_at_start image number)) all ∙ replayed_sealed image number stamp worker (mutex_at_start image number) es e ∙ ap (λ x. replayed image number (mutex_at_start image number) (with_closed es (option_map (shown words) x))) (sym is) in
     λ i. record { image = image; limit = limit; sealed = list i; closed = None; opened = option_map (shown_open (from i) words) opened; entry_room = er; word_room = wr }
 
-pub sound_sealed : (stamp worker : ℕ) (l : LockView) (e : Entry) → IsSound l → l.journal.closed ≡ Some e → may_follow l.number l.journal.limit (blocks_of l) (sealed_block stamp worker e.block) ≡ true → IsSound (with_journal (sealed_as stamp worker) l)
-sound_sealed stamp worker l e sound is follows =
+stamped_passes : (lock stamp worker : ℕ) (bs : List Block) (b : Block) → passes_on lock bs b ≡ true → passes_on lock bs (sealed_block stamp worker b) ≡ true
+unfolding passes_on
+stamped_passes lock stamp worker bs b passes = passes
+
+pub sound_sealed : (stamp worker : ℕ) (l : LockView) (e : Entry) → IsSound l → l.journal.closed ≡ Some e → may_follow l.number l.journal.limit (blocks_of l) (sealed_block stamp worker e.block) ≡ true → passes_on l.number (blocks_of l) e.block ≡ true → IsSound (with_journal (sealed_as stamp worker) l)
+sound_sealed stamp worker l e sound is follows passes =
     let j = l.journal in
     let new : sealed_list stamp worker j.sealed j.closed ≡ j.sealed ++ sealed_entry stamp worker e ∷ [] = ap (sealed_list stamp worker j.sealed) is in
     let old : entries j ≡ j.sealed ++ e ∷ [] = ap (with_closed j.sealed) is in
@@ -99,7 +114,9 @@ sound_sealed stamp worker l e sound is follows =
       replays = subst (λ es. AreReplayed j.image l.number (mutex_at_start j.image l.number) es) (sym new) (are_sealed j.image l.number stamp worker (mutex_at_start j.image l.number) j.sealed e (subst (λ es. AreReplayed j.image l.number (mutex_at_start j.image l.number) es) old sound.replays));
       rest = λ h. sound.rest h ∙ sym same;
       from = λ o h. sound.from o h ∙ sym same;
+      alone = λ h. refl;
       obeys = subst (λ bs. Obeys l.number j.limit bs) (sym (ap (map block_in) new ∙ blocks)) (obeys-more l.number j.limit [] (map block_in j.sealed) (sealed_block stamp worker e.block) sound.obeys follows);
+      passes = subst (λ bs. PassesOn l.number bs) (sym (ap (map block_in) new ∙ blocks)) (passes-more l.number [] (map block_in j.sealed) (sealed_block stamp worker e.block) sound.passes (stamped_passes l.number stamp worker (map block_in j.sealed) e.block passes));
     }
 
 pub fits-end : (words : List ℕ) (rs : List Record) (r s : Record) → AllFit words rs → Fits words r → s.from ≡ r.from → s.to ≡ r.to → AllFit words (rs ++ s ∷ [])

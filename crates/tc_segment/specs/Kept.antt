@@ -8,7 +8,7 @@ use Rattle.tc_turn.specs.Replay.{Entry, replayed}
 use Rattle.tc_segment.specs.declared.record.Record.{Record}
 use Rattle.tc_segment.specs.declared.record.Opening.{Opening}
 use Rattle.tc_segment.specs.declared.state.LockState.TheInside.{Inside}
-use Rattle.tc_segment.specs.View.{LockView, Journal, Opened, IsSound, with_closed, block_in}
+use Rattle.tc_segment.specs.View.{LockView, Journal, Opened, IsSound, with_closed, block_in, sealed_block}
 
 -- an entry, whose words stand at the record's places
 abbrev pub shown : List ℕ → Record → Entry
@@ -16,6 +16,9 @@ shown words r = record { block = r.block; start = r.start; fuel = r.fuel; finish
 
 abbrev pub block_of : Record → Block
 block_of r = r.block
+
+abbrev pub sealed_record : ℕ → ℕ → Record → Record
+sealed_record stamp worker r = record r { block = sealed_block stamp worker r.block }
 
 abbrev pub shown_open : Mutex → List ℕ → Opening → Opened
 shown_open from words o = record { start = o.start; fuel = o.fuel; from = from; foreign = drop o.from words }

@@ -1,15 +1,16 @@
 -- A lock state, as contracts see it.
-use Rattle.std.specs.Prelude.{◌≡◌, ℕ, ◌+◌, ◌-◌, ◌^◌, ◌<◌, ◌≤◌, min, Bool, true, false, ◌||◌, List, [], ◌∷◌, ◌++◌, map, length, Option, Some, None, option_map, is_some, if◌then◌else◌}
+use Rattle.std.specs.Prelude.{◌≡◌, ℕ, ◌+◌, ◌-◌, ◌^◌, ◌<◌, ◌≤◌, min, Bool, true, false, ◌||◌, List, [], ◌∷◌, ◌++◌, map, length, Option, Some, None, IfSome, option_map, is_some, if◌then◌else◌}
 use Rattle.tc_isa.specs.Registers.{Registers}
-use Rattle.tc_isa.specs.declared.limits.TheConstants.{MOST_BATCH}
+use Rattle.tc_isa.specs.declared.limits.TheConstants.{MAX_BATCH}
 use Rattle.tc_elf.specs.Shown.{Shown, Guard, guard_at}
 use Rattle.tc_elf.specs.Kept.{IsGuard}
-use Rattle.tc_journal.specs.Batch.{Obeys, ends_thread}
+use Rattle.tc_journal.specs.Batch.{Obeys, PassesOn, ends_thread, ends_section, last_of, allows_of, may_follow, passes_on}
 use Rattle.tc_journal.specs.declared.block.Block.{Block}
 use Rattle.tc_journal.specs.declared.block.End.{End}
+use Rattle.tc_journal.specs.declared.block.Kind.{Kind}
 use Rattle.tc_turn.specs.Memory.{put_number}
 use Rattle.tc_turn.specs.Turn.{Mutex, mutex_at_start}
-use Rattle.tc_turn.specs.Replay.{Entry, ended, Replays, replay_entry, replayed, AreReplayed}
+use Rattle.tc_turn.specs.Replay.{Entry, ended, guard_number, Replays, replay_entry, replayed, AreReplayed}
 pub use Rattle.tc_turn.specs.Replay.{block_in}
 
 -- the entry of the block that runs: the lock as it was before it, and its words so far
@@ -55,22 +56,41 @@ entries j = with_closed j.sealed j.closed
 abbrev pub blocks_of : LockView → List Block
 blocks_of l = map block_in l.journal.sealed
 
+-- whether the batch rule lets the next section be of this kind, with this worker of its first block
+abbrev pub allows_in : LockView → Kind → ℕ → Bool
+allows_in l kind worker = allows_of l.number l.journal.limit (blocks_of l) kind worker
+
+-- the number in so many bytes of the guard
+abbrev pub number_of_guard : LockView → ℕ → ℕ → ℕ
+number_of_guard l addr width = guard_number l.journal.image l.number l.bytes addr width
+
 -- what the entries make of the lock
 abbrev pub replay_in : ℕ → Journal → Mutex
 replay_in number j = replayed j.image number (mutex_at_start j.image number) (entries j)
 
 -- what each lock state keeps, wherever it is: it is of a guard of its image, its entries replay, and their replay is the
--- lock as it is, or as it was when the open entry was opened; its sealed blocks obey its batch limit
+-- lock as it is, or as it was when the open entry was opened; beside an open entry each is sealed; its sealed blocks obey
+-- its batch limit, and each section that was passed on is of another thread than the one before it
 pub record IsSound (l : LockView) : Type 0 where
   pub known : l.number < length l.journal.image.guards
   pub small : l.number < 32
   pub guard : IsGuard l.journal.image (guard_of l)
   pub bytes : length l.bytes ≡ (guard_of l).length
-  pub limit : l.journal.limit ≤ MOST_BATCH
+  pub limit : l.journal.limit ≤ MAX_BATCH
   pub replays : AreReplayed l.journal.image l.number (mutex_at_start l.journal.image l.number) (entries l.journal)
   pub rest : l.journal.opened ≡ None → lock_of l ≡ replay_in l.number l.journal
   pub from : (o : Opened) → l.journal.opened ≡ Some o → o.from ≡ replay_in l.number l.journal
+  pub alone : is_some l.journal.opened ≡ true → l.journal.closed ≡ None
   pub obeys : Obeys l.number l.journal.limit (blocks_of l)
+  pub passes : PassesOn l.number (blocks_of l)
+
+-- lock k of the image at rest: no entry is open or unsealed, and the last one, where there is one, ended a section
+pub record IsAtRest (image : Shown) (k : ℕ) (l : LockView) : Type 0 where
+  pub number : l.number ≡ k
+  pub of : l.journal.image ≡ image
+  pub opened : l.journal.opened ≡ None
+  pub closed : l.journal.closed ≡ None
+  pub ended : IfSome (last_of (blocks_of l)) (λ b. ends_section k b ≡ true)
 
 -- ---- at the start
 
@@ -89,58 +109,44 @@ fresh_state image number limit = record {
 -- ---- changes of the lock, under an open entry
 
 abbrev pub with_store : ℕ → ℕ → ℕ → LockView → LockView
-with_store addr width value l = record { number = l.number; bytes = put_number (guard_of l).start l.bytes addr width value; broken = l.broken; sections = l.sections; journal = l.journal }
+with_store addr width value l = record l { bytes = put_number (guard_of l).start l.bytes addr width value }
 
 -- a count that stands at the greatest of 64 bits stays there
 abbrev pub with_section : LockView → LockView
-with_section l = record { number = l.number; bytes = l.bytes; broken = l.broken; sections = min (l.sections + 1) (2 ^ 64 - 1); journal = l.journal }
+with_section l = record l { sections = min (l.sections + 1) (2 ^ 64 - 1) }
 
 abbrev pub with_break : LockView → LockView
-with_break l = record { number = l.number; bytes = l.bytes; broken = true; sections = l.sections; journal = l.journal }
+with_break l = record l { broken = true }
 
 -- the end of a thread breaks the lock
 abbrev pub with_end : End → LockView → LockView
-with_end end l = record { number = l.number; bytes = l.bytes; broken = ends_thread end || l.broken; sections = l.sections; journal = l.journal }
+with_end end l = record l { broken = ends_thread end || l.broken }
 
 -- ---- changes of the journal
 
 abbrev pub with_journal : (Journal → Journal) → LockView → LockView
-with_journal f l = record { number = l.number; bytes = l.bytes; broken = l.broken; sections = l.sections; journal = f l.journal }
+with_journal f l = record l { journal = f l.journal }
 
 abbrev pub with_room : ℕ → ℕ → Journal → Journal
-with_room entries words j = record {
-  image = j.image;
-  limit = j.limit;
-  sealed = j.sealed;
-  closed = j.closed;
-  opened = j.opened;
-  entry_room = entries;
-  word_room = words;
-}
+with_room entries words j = record j { entry_room = entries; word_room = words }
+
+-- the lock state without its rooms, which tell nothing of the lock
+abbrev pub kept : LockView → LockView
+kept l = with_journal (with_room 0 0) l
 
 abbrev pub opened_at : Mutex → Registers → ℕ → Journal → Journal
-opened_at from start fuel j = record {
-  image = j.image;
-  limit = j.limit;
-  sealed = j.sealed;
-  closed = j.closed;
+opened_at from start fuel j = record j {
   opened = Some (record { start = start; fuel = fuel; from = from; foreign = [] });
   entry_room = j.entry_room - 1;
-  word_room = j.word_room;
 }
 
 abbrev pub more_words : List ℕ → Opened → Opened
-more_words ws o = record { start = o.start; fuel = o.fuel; from = o.from; foreign = o.foreign ++ ws }
+more_words ws o = record o { foreign = o.foreign ++ ws }
 
 -- the words are noted where an entry is open
 abbrev pub noted : List ℕ → Journal → Journal
-noted ws j = record {
-  image = j.image;
-  limit = j.limit;
-  sealed = j.sealed;
-  closed = j.closed;
+noted ws j = record j {
   opened = option_map (more_words ws) j.opened;
-  entry_room = j.entry_room;
   word_room = if is_some j.opened then j.word_room - length ws else j.word_room;
 }
 
@@ -148,15 +154,7 @@ abbrev pub entry_from : Block → Registers → Opened → Entry
 entry_from block finish o = record { block = block; start = o.start; fuel = o.fuel; finish = finish; foreign = o.foreign }
 
 abbrev pub closed_with : Block → Registers → Journal → Journal
-closed_with block finish j = record {
-  image = j.image;
-  limit = j.limit;
-  sealed = j.sealed;
-  closed = option_map (entry_from block finish) j.opened;
-  opened = None;
-  entry_room = j.entry_room;
-  word_room = j.word_room;
-}
+closed_with block finish j = record j { closed = option_map (entry_from block finish) j.opened; opened = None }
 
 -- the open entry's replay, once it is closed with this block, is defined and gives the lock as it is now, broken where the
 -- block ended its thread
@@ -164,31 +162,27 @@ pub record Closes (l : LockView) (block : Block) (finish : Registers) (o : Opene
   pub replays : Replays l.journal.image l.number (entry_from block finish o) o.from
   pub lock : replay_entry l.journal.image l.number (entry_from block finish o) o.from ≡ ended block.end (lock_of l)
 
+-- that of the open entry, where there is one
+abbrev pub ClosesWith : Block → Registers → LockView → Type 0
+ClosesWith block finish l = (o : Opened) → l.journal.opened ≡ Some o → Closes l block finish o
+
 abbrev pub sealed_block : ℕ → ℕ → Block → Block
-sealed_block stamp worker b = record {
-  stamp = stamp;
-  thread = b.thread;
-  turns = b.turns;
-  held = b.held;
-  kind = b.kind;
-  worker = worker;
-  end = b.end;
-}
+sealed_block stamp worker b = record b { stamp = stamp; worker = worker }
 
 abbrev pub sealed_entry : ℕ → ℕ → Entry → Entry
-sealed_entry stamp worker e = record { block = sealed_block stamp worker e.block; start = e.start; fuel = e.fuel; finish = e.finish; foreign = e.foreign }
+sealed_entry stamp worker e = record e { block = sealed_block stamp worker e.block }
 
 abbrev pub sealed_list : ℕ → ℕ → List Entry → Option Entry → List Entry
 sealed_list stamp worker sealed None = sealed
 sealed_list stamp worker sealed (Some e) = sealed ++ sealed_entry stamp worker e ∷ []
 
 abbrev pub sealed_as : ℕ → ℕ → Journal → Journal
-sealed_as stamp worker j = record {
-  image = j.image;
-  limit = j.limit;
-  sealed = sealed_list stamp worker j.sealed j.closed;
-  closed = None;
-  opened = j.opened;
-  entry_room = j.entry_room;
-  word_room = j.word_room;
-}
+sealed_as stamp worker j = record j { sealed = sealed_list stamp worker j.sealed j.closed; closed = None }
+
+-- the batch rule lets the closed entry's block be sealed with this stamp and worker
+abbrev pub MayFollow : ℕ → ℕ → LockView → Type 0
+MayFollow stamp worker l = (e : Entry) → l.journal.closed ≡ Some e → may_follow l.number l.journal.limit (blocks_of l) (sealed_block stamp worker e.block) ≡ true
+
+-- the section that this block begins, if it was passed on, is of another thread than the one before it
+abbrev pub MayPass : LockView → Type 0
+MayPass l = (e : Entry) → l.journal.closed ≡ Some e → passes_on l.number (blocks_of l) e.block ≡ true

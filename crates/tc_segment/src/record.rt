@@ -2,8 +2,8 @@
 
 ghost use Rattle.std.specs.Prelude.{◌≡◌, ◌<◌, length, map, slice_get, Some};
 ghost use Rattle.tc_journal.specs.Batch.{last_of};
-ghost use Rattle.tc_segment.specs.View.{sealed_block, with_closed};
-ghost use Rattle.tc_segment.specs.Kept.{block_of, shown, Fits};
+ghost use Rattle.tc_segment.specs.View.{with_closed};
+ghost use Rattle.tc_segment.specs.Kept.{block_of, shown, sealed_record, Fits};
 ghost use Rattle.tc_segment.specs.Lent.{entry_lent};
 
 use crate::entry::Entry;
@@ -31,7 +31,7 @@ pub(crate) struct Opening {
 
 impl Record {
     pub(crate) fn sealed(self, stamp: u64, worker: u32) -> Record
-        ensures { result ≡ record { block = sealed_block stamp worker self.block; start = self.start; fuel = self.fuel; finish = self.finish; from = self.from; to = self.to } }
+        ensures { result ≡ sealed_record stamp worker self }
     {
         let block = Block {
             stamp,

@@ -1,16 +1,14 @@
 //! Lock states.
 
-ghost use Rattle.std.specs.Prelude.{◌≡◌, ◌+◌, ◌^◌, ◌<◌, ◌≤◌, [], ◌∷◌, true, is_some, length, slice_get, unwrap_or, OnOk, OnErr, IfOk, Some, None};
-ghost use Rattle.tc_isa.specs.declared.limits.TheConstants.{MOST_BATCH};
+ghost use Rattle.std.specs.Prelude.{◌≡◌, ◌+◌, ◌^◌, ◌<◌, ◌≤◌, ◌||◌, [], ◌∷◌, true, is_some, length, slice_get, unwrap_or, OnOk, OnErr, IfOk, Some, None};
+ghost use Rattle.tc_isa.specs.declared.limits.TheConstants.{MAX_BATCH};
 ghost use Rattle.tc_elf.specs.Places.{in_guard};
 ghost use Rattle.tc_exec.specs.Told.{IsWidth};
-ghost use Rattle.tc_journal.specs.Batch.{allows_of, may_follow, run_of};
+ghost use Rattle.tc_journal.specs.Batch.{ends_thread, last_of, passes_to, run_of};
 ghost use Rattle.tc_turn.specs.Memory.{byte_from as byte_from_start, number_at};
-ghost use Rattle.tc_turn.specs.Replay.{Entry as ReplayEntry, guard_number};
 ghost use Rattle.tc_segment.specs.Lent.{entry_lent};
-ghost use Rattle.tc_segment.specs.View.{Opened, IsSound, Closes, lock_of, guard_of, with_store, with_section, with_break, with_end, with_journal, opened_at, noted, closed_with, sealed_as, sealed_block, with_room, blocks_of, entries, fresh_state};
+ghost use Rattle.tc_segment.specs.View.{IsSound, allows_in, number_of_guard, ClosesWith, MayFollow, MayPass, lock_of, guard_of, with_store, with_section, with_break, with_end, with_journal, opened_at, noted, closed_with, sealed_as, with_room, blocks_of, entries, fresh_state};
 
-use crate::batch::{broken_after, may_begin, run_after};
 use crate::entry::Entry;
 use crate::record::{Opening, Record, last_block, record_at};
 use std::alloc::{AllocError, Global};
@@ -18,7 +16,8 @@ use std::marker::Model;
 use std::snapshot::Snapshot;
 use tc_elf::image::Image;
 use tc_isa::regs::Regs;
-use tc_journal::block::{Block, Kind};
+use tc_journal::batch::{may_begin, passes_to, run_after};
+use tc_journal::block::{Block, End, Kind};
 use tc_turn::memory::{byte_from, put_number, starting_bytes};
 
 /// A lock with the bytes of its guard, and the journal of the blocks that ran with it.
@@ -60,7 +59,7 @@ impl LockState {
     /// The lock of this number as it is at the start, with a journal of no entries.
     pub fn new(alloc: Global, image: &Image, lock: u32, limit: u32) -> Result<LockState, AllocError>
         requires lock { lock < length image.now.guards }
-        requires limit { limit ≤ MOST_BATCH }
+        requires limit { limit ≤ MAX_BATCH }
         ensures { IfOk result (λ l. l ≡ fresh_state image.now lock limit) }
     {
         prove!(image.guards() <= 32);
@@ -112,7 +111,7 @@ impl LockState {
         self.broken
     }
 
-    /// How many Adopted sections stand in a row at the end.
+    /// The streak: how many Adopted sections stand in a row at the end.
     pub fn run(&self) -> u32
         ensures { result ≡ run_of self.now.number (blocks_of self.now) }
     {
@@ -151,7 +150,7 @@ impl LockState {
     /// Whether the batch rule lets this be the kind, and the worker of the first block, of the
     /// next section.
     pub fn allows(&self, kind: Kind, worker: u32) -> bool
-        ensures { result ≡ allows_of self.now.number self.now.journal.limit (blocks_of self.now) kind worker }
+        ensures { result ≡ allows_in self.now kind worker }
     {
         may_begin(
             self.number,
@@ -161,6 +160,14 @@ impl LockState {
             kind,
             worker,
         )
+    }
+
+    /// Whether the next section may be of this kind and this thread: one that is passed on goes to
+    /// another thread than that of the section before it.
+    pub fn passes_to(&self, kind: Kind, thread: u32) -> bool
+        ensures { result ≡ passes_to (last_of (blocks_of self.now)) kind thread }
+    {
+        passes_to(last_block(&self.sealed), kind, thread)
     }
 
     /// Makes room for one entry and for as many foreign words.
@@ -195,7 +202,7 @@ impl LockState {
     pub fn load(&self, addr: u32, width: u32) -> u32
         requires width { IsWidth width }
         requires inside { in_guard addr width (guard_of self.now) ≡ true }
-        ensures { result ≡ guard_number self.now.journal.image self.now.number self.now.bytes addr width }
+        ensures { result ≡ number_of_guard self.now addr width }
     {
         number_in(self.start, &self.bytes, addr, width)
     }
@@ -244,8 +251,7 @@ impl LockState {
     pub fn close_entry(&mut self, image: &Image, block: Block, end: Regs)
         requires image { self.old.journal.image ≡ image.now }
         requires opened { is_some self.old.journal.opened ≡ true }
-        requires closed { self.old.journal.closed ≡ None }
-        requires closes { (o : Opened) → self.old.journal.opened ≡ Some o → Closes self.old block end o }
+        requires closes { ClosesWith block end self.old }
         ensures { self.new ≡ with_end block.end (with_journal (closed_with block end) self.old) }
     {
         let _ = image;
@@ -267,7 +273,8 @@ impl LockState {
     /// Seals the closed entry: its block gets this stamp and worker.
     pub fn seal(&mut self, stamp: u64, worker: u32)
         requires closed { is_some self.old.journal.closed ≡ true }
-        requires follows { (e : ReplayEntry) → self.old.journal.closed ≡ Some e → may_follow self.old.number self.old.journal.limit (blocks_of self.old) (sealed_block stamp worker e.block) ≡ true }
+        requires follows { MayFollow stamp worker self.old }
+        requires passes { MayPass self.old }
         ensures { self.new ≡ with_journal (sealed_as stamp worker) self.old }
     {
         if let Some(record) = self.closed {
@@ -282,6 +289,13 @@ impl LockState {
     }
 }
 
+/// Whether a lock is broken after a block with this end, which broke it where it ended its thread.
+fn broken_after(broken: bool, end: End) -> bool
+    ensures { result ≡ (ends_thread end || broken) }
+{
+    end.ends_thread() || broken
+}
+
 fn byte_or_zero(start: u32, bytes: &[u8], addr: u32) -> u8
     ensures { result ≡ unwrap_or (byte_from_start start bytes.now addr) 0 }
 {
@@ -292,7 +306,8 @@ fn byte_or_zero(start: u32, bytes: &[u8], addr: u32) -> u8
 fn number_in(start: u32, bytes: &[u8], addr: u32, width: u32) -> u32
     requires width { IsWidth width }
     requires end { addr + width ≤ 2 ^ 32 }
-    ensures { result ≡ number_at (λ at. unwrap_or (byte_from_start start bytes.now at) 0) addr width }
+    ensures { result
+        ≡ number_at (λ at. unwrap_or (byte_from_start start bytes.now at) 0) addr width }
 {
     let first = byte_or_zero(start, bytes, addr) as u32;
     if width == 1 {

@@ -47,6 +47,7 @@ fn a_block_changes_the_guard(rt: HostRuntime) -> Result<(), Fail> {
         [0x11, 0x22, 0x33, 0x44, 0x55, 0x66, 0x77, 0x88].as_slice()
     );
     assert!(rt; lock.allows(Kind::Taken, 3));
+    assert!(rt; lock.passes_to(Kind::Taken, 0));
     lock.reserve(2)?;
     lock.open_entry(Regs::start(0x100c4, 7, 0), 5);
     lock.note_foreign(0);

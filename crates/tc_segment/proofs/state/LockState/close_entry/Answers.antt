@@ -1,5 +1,5 @@
 use Rattle.std.proofs.Common.{◌≡◌, ◌≤◌, length, sym, ap, subst, ◌∙◌, arith}
-use Rattle.std.specs.Prelude.{Option, Some, None, option_map}
+use Rattle.std.specs.Prelude.{Option, Some, option_map}
 use Rattle.tc_segment.specs.declared.record.Opening.{Opening}
 use Rattle.tc_segment.specs.View.{LockView, IsSound, Closes, replay_in}
 use Rattle.tc_segment.specs.Kept.{shown_open, OpenFits, view_of, count}
@@ -14,7 +14,6 @@ invariant_of-self c =
     let to : c.len.result ≡ length a.words.items = c.len.ensures ∙ a.words.ok.0 in
     let p = shown_open (replay_in a.number (view_of a).journal) a.words.items o in
     let was : (view_of a).journal.opened ≡ Some p = ap (option_map (shown_open (replay_in a.number (view_of a).journal) a.words.items)) c.in-Some.is in
-    let none : (view_of a).journal.closed ≡ None = ap (λ (l : LockView). l.journal.closed) c.self.view_is ∙ c.requires.closed in
     let closes : Closes (view_of a) c.args.block c.args.end p = subst (λ (l : LockView). Closes l c.args.block c.args.end p) (sym c.self.view_is)
     (c.requires.closes p (ap (λ (l : LockView). l.journal.opened) (sym c.self.view_is) ∙ was)) in
     let j = closed_journal a.of.value a.number a.limit a.words.items a.sealed.items a.closed a.opened a.entry_room a.word_room o c.args.block c.args.end c.len.result c.in-Some.is to in
@@ -22,7 +21,7 @@ invariant_of-self c =
     let one : count a.opened ≡ 1 = ap (λ (x : Option Opening). count x) c.in-Some.is in
     let room = k.entry_room in
     record {
-      sound = subst (λ (l : LockView). IsSound l) (λ i. record { number = a.number; bytes = a.bytes.items; broken = sym c.broken_after-broken.ensures i; sections = a.sections; journal = sym j i }) (sound_closed c.args.block c.args.end (view_of a) p k.sound was none closes);
+      sound = subst (λ (l : LockView). IsSound l) (λ i. record { number = a.number; bytes = a.bytes.items; broken = sym c.broken_after-broken.ensures i; sections = a.sections; journal = sym j i }) (sound_closed c.args.block c.args.end (view_of a) p k.sound was closes);
       start = k.start;
       sealed = k.sealed;
       closed = record { order = omega (arith, to); inside = omega (arith, to) };

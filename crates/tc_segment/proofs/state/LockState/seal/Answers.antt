@@ -4,7 +4,7 @@ use Rattle.std.proofs.lemmas.List.{map-append}
 use Rattle.tc_turn.specs.Replay.{Entry}
 use Rattle.tc_segment.specs.declared.record.Record.{Record}
 use Rattle.tc_segment.specs.declared.state.LockState.TheInside.{Inside}
-use Rattle.tc_journal.specs.Batch.{run_of, run_after, may_follow}
+use Rattle.tc_journal.specs.Batch.{run_of, run_after, may_follow, passes_on}
 use Rattle.tc_segment.specs.View.{LockView, with_journal, sealed_as, sealed_block, sealed_entry, sealed_list, IsSound, block_in, blocks_of}
 use Rattle.tc_segment.specs.Kept.{shown, shown_journal, AllFit, ClosedFits, view_of, count}
 use Rattle.tc_segment.proofs.Sealing.{sealed_journal, sound_sealed, run-more, run_short, fits-end}
@@ -38,6 +38,9 @@ invariant_of-self c =
     let follows : may_follow a.number a.limit (blocks_of (view_of a)) (sealed_block stamp worker r.block) ≡ true =
     ap (λ (l : LockView). may_follow l.number l.journal.limit (blocks_of l) (sealed_block stamp worker r.block)) c.self.view_is
     ∙ c.requires.follows e (ap (λ (l : LockView). l.journal.closed) (sym c.self.view_is) ∙ was) in
+    let passes : passes_on a.number (blocks_of (view_of a)) r.block ≡ true =
+    ap (λ (l : LockView). passes_on l.number (blocks_of l) r.block) c.self.view_is
+    ∙ c.requires.passes e (ap (λ (l : LockView). l.journal.closed) (sym c.self.view_is) ∙ was) in
     let block : s.block ≡ sealed_block stamp worker r.block = ap (λ (x : Record). x.block) c.sealed-record.ensures in
     let run : c.run_after-self-inside.result ≡ run_after a.number (run_of a.number (blocks_of (view_of a))) (sealed_block stamp worker r.block) =
     c.run_after-self-inside.ensures ∙ (λ i. run_after a.number (k.run i) (block i)) in
@@ -47,7 +50,7 @@ invariant_of-self c =
     let blocks : blocks_of (with_journal (sealed_as stamp worker) (view_of a)) ≡ blocks_of (view_of a) ++ sealed_block stamp worker r.block ∷ [] =
     ap (λ x. map block_in (sealed_list stamp worker (view_of a).journal.sealed x)) was ∙ map-append block_in (view_of a).journal.sealed (sealed_entry stamp worker e ∷ []) in
     record {
-      sound = subst (λ (l : LockView). IsSound l) (sym view) (sound_sealed stamp worker (view_of a) e k.sound was follows);
+      sound = subst (λ (l : LockView). IsSound l) (sym view) (sound_sealed stamp worker (view_of a) e k.sound was follows passes);
       start = k.start;
       sealed = subst (λ rs. AllFit a.words.items rs) (sym c.in-Ok.ensures.items) (fits-end a.words.items a.sealed.items r s k.sealed fits (ap (λ (x : Record). x.from) c.sealed-record.ensures) (ap (λ (x : Record). x.to) c.sealed-record.ensures));
       closed = tt;
