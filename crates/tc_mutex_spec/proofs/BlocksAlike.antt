@@ -62,7 +62,7 @@ runs_same image m n last t turns end set runs covers agree =
       apart_within image set n t turns each' turns (omega arith),
     )
 
-eq_self : (k : ℕ) → (k == k) ≡ true
+pub eq_self : (k : ℕ) → (k == k) ≡ true
 eq_self k = elim (eqb_tells k k) [ inl h ↦ h.0 | inr h ↦ absurd (h.1 refl) ]
 
 -- a block's locks are all that its first turn can touch

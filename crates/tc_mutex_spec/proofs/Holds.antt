@@ -1,5 +1,5 @@
 -- A thread holds a lock exactly where it is its owner.
-use Rattle.std.proofs.Common.{◌≡◌, ◌≢◌, ◌↔◌, ℕ, ◌<◌, Bool, true, false, not, ◌&&◌, ◌==◌, List, [], ◌∷◌, length, refl, sym, ap, subst, ◌∙◌, arith, inl, inr}
+use Rattle.std.proofs.Common.{◌≡◌, ◌≢◌, ◌↔◌, ℕ, zero, suc, ◌<◌, Bool, true, false, not, ◌&&◌, ◌==◌, List, [], ◌∷◌, length, refl, sym, ap, subst, ◌∙◌, arith, inl, inr}
 use Rattle.std.specs.Prelude.{Option, Some, None, if◌then◌else◌, nat_lt, option_and_then}
 use Rattle.std.proofs.lemmas.Bool.Decides.{eqb_tells, nat_tests}
 use Rattle.tc_elf.specs.Shown.{Shown, guard_at}
@@ -13,7 +13,7 @@ use Rattle.tc_turn.specs.Memory.{put_number}
 use Rattle.tc_turn.specs.Turn.{Thread, Mutex, thread_at_start, no_thread, next_lock, next_act, thread_after, mutex_after, guard_with, guard_after, given_up, when}
 use Rattle.tc_turn.specs.Reads.{Covers}
 use Rattle.tc_mutex_spec.specs.Machine.{State, is_free, is_open, can_turn, after, turn, turns, start, IsHeldByOwner}
-use Rattle.tc_mutex_spec.specs.Blocks.{locks_of_block}
+use Rattle.tc_mutex_spec.specs.Blocks.{locks_of_block, reach}
 use Rattle.tc_mutex_spec.proofs.Local.{after_thread, after_mutex, turn_apart}
 use Rattle.tc_mutex_spec.proofs.BlocksAlike.{covers_block}
 
@@ -58,7 +58,7 @@ both true b e = (refl, e)
 both false b e = absurd (cc)
 
 -- a lock that the turn takes has no owner before it
-open_none : (o : Option ℕ) (locks : ℕ → Mutex) (k : ℕ) → is_open o locks ≡ true → o ≡ Some k → (locks k).owner ≡ None
+pub open_none : (o : Option ℕ) (locks : ℕ → Mutex) (k : ℕ) → is_open o locks ≡ true → o ≡ Some k → (locks k).owner ≡ None
 open_none o locks k is e = free (locks k).owner (ap (λ x. is_open x locks) (sym e) ∙ is)
   where
     free : (x : Option ℕ) → is_free x ≡ true → x ≡ None
@@ -70,7 +70,7 @@ pub can_thread : (image : Shown) (m : State) (t : ℕ) → can_turn image m t �
 unfolding can_turn
 can_thread image m t e = (let test : nat_lt t (length image.entries) ≡ true = (both _ _ e).0 in grind (arith, nat_tests))
 
-can_open : (image : Shown) (m : State) (t : ℕ) → can_turn image m t ≡ true → is_open (next_lock image (m.threads t)) m.locks ≡ true
+pub can_open : (image : Shown) (m : State) (t : ℕ) → can_turn image m t ≡ true → is_open (next_lock image (m.threads t)) m.locks ≡ true
 unfolding can_turn
 can_open image m t e = (both _ _ (both _ _ e).1).1
 
@@ -115,6 +115,11 @@ holds_after image m t can inv u k =
             (λ e. ap (λ (y : Thread). y.held k) same ∙ (inv u k).1 (owner_other image t u d a k (m.locks k) x.1 (ap (λ (l : Mutex). l.owner) (sym lock) ∙ e))),
           ))
     ]
+
+-- so it is after any number of a thread's turns
+pub holds_reach : (image : Shown) (m : State) (t n : ℕ) → ((k : ℕ) → k < n → can_turn image (reach image m t k) t ≡ true) → IsHeldByOwner m → IsHeldByOwner (reach image m t n)
+holds_reach image m t zero can inv = inv
+holds_reach image m t (suc n) can inv = holds_after image (reach image m t n) t (can n (omega arith)) (holds_reach image m t n (λ k lt. can k (omega arith)) inv)
 
 turn_some : (image : Shown) (m n : State) (t : ℕ) → turn image m t ≡ Some n → (can_turn image m t ≡ true) × (n ≡ after image m t)
 unfolding turn

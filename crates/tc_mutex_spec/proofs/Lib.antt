@@ -7,3 +7,8 @@ pub mod MutexLaws
 pub mod ThreadLaws
 pub mod SlowTurn
 pub mod Entries
+pub mod Replaying
+pub mod Going
+pub mod BlockEnds
+pub mod EntriesAlike
+pub mod Owners

@@ -1,8 +1,8 @@
 -- Blocks of a thread's turns, and the histories that tell a run.
-use Rattle.std.specs.Prelude.{◌≡◌, ℕ, zero, suc, ◌+◌, ◌<◌, Bool, true, false, not, ◌||◌, ◌==◌, List, [], ◌∷◌, ◌++◌, length, is_some, Option, Some, None}
+use Rattle.std.specs.Prelude.{◌≡◌, ℕ, zero, suc, ◌+◌, ◌<◌, Bool, true, false, not, ◌||◌, ◌==◌, List, [], ◌∷◌, ◌++◌, length, is_some, Option, Some, None, if◌then◌else◌}
 use Rattle.tc_isa.specs.Sets.{has}
 use Rattle.tc_elf.specs.Shown.{Shown}
-use Rattle.tc_journal.specs.Batch.{is_section}
+use Rattle.tc_journal.specs.Batch.{is_section, ends_section}
 use Rattle.tc_journal.specs.Rule.{end_rule}
 use Rattle.tc_journal.specs.declared.block.Block.{Block}
 use Rattle.tc_journal.specs.declared.block.End.{End}
@@ -67,6 +67,12 @@ TellsAfter image seen m (b ∷ h) last = (mid : State) × Stands image seen m b 
 -- the history tells a run from the start to last
 abbrev pub Tells : Shown → ℕ → List Block → State → Type 0
 Tells image fuel h last = TellsAfter image [] (start image fuel) h last
+
+-- who owns lock k after its blocks, of which this is the last: nobody where it ended a section or there is none, else its
+-- thread
+abbrev pub owner_by : ℕ → Option Block → Option ℕ
+owner_by k None = None
+owner_by k (Some b) = if ends_section k b then None else Some b.thread
 
 -- the machine to which blocks lead from this one
 abbrev pub led_to : Shown → State → List Block → State

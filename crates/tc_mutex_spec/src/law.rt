@@ -1,6 +1,6 @@
 //! The laws of the machine.
 
-ghost use Rattle.std.specs.Prelude.{◌≡◌, ℕ, ◌++◌, [], ◌∷◌, Bool, true, List, Option, Some, option_and_then};
+ghost use Rattle.std.specs.Prelude.{◌≡◌, ℕ, ◌++◌, [], ◌∷◌, Bool, true, List, Option, Some, None, IfSome, option_and_then};
 ghost use Rattle.tc_elf.specs.Shown.{Shown};
 ghost use Rattle.tc_journal.specs.declared.block.Block.{Block};
 ghost use Rattle.tc_journal.specs.declared.block.End.{End};
@@ -8,35 +8,54 @@ ghost use Rattle.tc_turn.specs.Turn.{Thread, next_lock};
 ghost use Rattle.tc_turn.specs.Reads.{Covers};
 ghost use Rattle.tc_mutex_spec.specs.Machine.{State, can_turn, after, turns, run_from, run, start, spread, IsHeldByOwner};
 ghost use Rattle.tc_mutex_spec.specs.Locality.{Agree, Apart};
-ghost use Rattle.tc_mutex_spec.specs.Blocks.{locks_of_block, Runs, Stands, Tells};
-ghost use Rattle.tc_journal.specs.History.{schedule};
+ghost use Rattle.tc_mutex_spec.specs.Blocks.{locks_of_block, Runs, Stands, Tells, owner_by};
+ghost use Rattle.tc_mutex_spec.specs.Entries.{entry_of};
+ghost use Rattle.tc_journal.specs.Batch.{ends_section, last_of};
+ghost use Rattle.tc_journal.specs.History.{of_lock, schedule};
 
 /// A turn reads and changes only its thread and the locks that the thread holds before it or takes
 /// in it: those that a set covers.
 pub fn locality()
     // The locks that the thread holds, with the one that its turn takes, are such a set.
-    ensures covered { (image : Shown) (d : Thread) → Covers image (locks_of_block d.held (next_lock image d)) d }
+    ensures covered { (image : Shown) (d : Thread)
+        → Covers image (locks_of_block d.held (next_lock image d)) d }
     // Nothing else changes.
-    ensures apart { (image : Shown) (m : State) (t : ℕ) (set : ℕ → Bool) → Covers image set (m.threads t) → Apart t set m (after image m t) }
+    ensures apart { (image : Shown) (m : State) (t : ℕ) (set : ℕ → Bool)
+        → Covers image set (m.threads t) → Apart t set m (after image m t) }
     // Nothing else counts: where these are alike, the turn is defined alike and does the same.
-    ensures defined { (image : Shown) (m n : State) (t : ℕ) (set : ℕ → Bool) → Covers image set (m.threads t) → Agree t set m n → can_turn image m t ≡ can_turn image n t }
-    ensures agree { (image : Shown) (m n : State) (t : ℕ) (set : ℕ → Bool) → Covers image set (m.threads t) → Agree t set m n → Agree t set (after image m t) (after image n t) }
+    ensures defined { (image : Shown) (m n : State) (t : ℕ) (set : ℕ → Bool)
+        → Covers image set (m.threads t) → Agree t set m n
+        → can_turn image m t ≡ can_turn image n t }
+    ensures agree { (image : Shown) (m n : State) (t : ℕ) (set : ℕ → Bool)
+        → Covers image set (m.threads t) → Agree t set m n
+        → Agree t set (after image m t) (after image n t) }
 {}
 
 /// A run is one fold of turns, and a run of more pairs goes on where the run of the first ones ends.
 pub fn folds()
-    ensures joined { (image : Shown) (m : State) (a b : List ℕ) → turns image m (a ++ b) ≡ option_and_then (λ n. turns image n b) (turns image m a) }
-    ensures flat { (image : Shown) (m : State) (pairs : List (ℕ × ℕ)) → run_from image m pairs ≡ turns image m (spread pairs) }
-    ensures more { (image : Shown) (m : State) (a b : List (ℕ × ℕ)) → run_from image m (a ++ b) ≡ option_and_then (λ n. run_from image n b) (run_from image m a) }
+    ensures joined { (image : Shown) (m : State) (a b : List ℕ)
+        → turns image m (a ++ b) ≡ option_and_then (λ n. turns image n b) (turns image m a) }
+    ensures flat { (image : Shown) (m : State) (pairs : List (ℕ × ℕ))
+        → run_from image m pairs ≡ turns image m (spread pairs) }
+    ensures more { (image : Shown) (m : State) (a b : List (ℕ × ℕ))
+        → run_from image m (a ++ b)
+        ≡ option_and_then (λ n. run_from image n b) (run_from image m a) }
 {}
 
 /// A block is the same wherever its thread and its locks are the same, and leaves all else alone.
 pub fn blocks()
     ensures same { (image : Shown) (m n last : State) (t turns : ℕ) (end : End) (set : ℕ → Bool)
         → Runs image m t turns end last → Covers image set (m.threads t) → Agree t set m n
-        → (other : State) × (Runs image n t turns end other) × (Agree t set last other) × (Apart t set n other) }
+        → (other : State) × (Runs image n t turns end other)
+        × (Agree t set last other) × (Apart t set n other) }
     ensures apart { (image : Shown) (m last : State) (t turns : ℕ) (end : End)
-        → Runs image m t turns end last → Apart t (locks_of_block (m.threads t).held (next_lock image (m.threads t))) m last }
+        → Runs image m t turns end last
+        → Apart t (locks_of_block (m.threads t).held (next_lock image (m.threads t))) m last }
+    // So is its entry in the journal of each lock.
+    ensures entry { (image : Shown) (m n last : State) (b : Block) (set : ℕ → Bool) (k : ℕ)
+        → Runs image m b.thread b.turns b.end last → Covers image set (m.threads b.thread)
+        → Agree b.thread set m n
+        → entry_of image k m b ≡ entry_of image k n b }
 {}
 
 /// Histories tell runs.
@@ -52,5 +71,16 @@ pub fn histories()
 /// In every state that turns reach from the start, a thread holds a lock exactly where it is the
 /// lock's owner.
 pub fn holding()
-    ensures { (image : Shown) (fuel : ℕ) (threads : List ℕ) (m : State) → turns image (start image fuel) threads ≡ Some m → IsHeldByOwner m }
+    ensures { (image : Shown) (fuel : ℕ) (threads : List ℕ) (m : State)
+        → turns image (start image fuel) threads ≡ Some m → IsHeldByOwner m }
+{}
+
+/// The last block of a lock tells who owns it: nobody, where that block ended a section or there
+/// is none, and else its thread.
+pub fn owning()
+    ensures owner { (image : Shown) (fuel : ℕ) (h : List Block) (m : State) (k : ℕ)
+        → Tells image fuel h m → (m.locks k).owner ≡ owner_by k (last_of (of_lock h k)) }
+    ensures free { (image : Shown) (fuel : ℕ) (h : List Block) (m : State) (k : ℕ)
+        → Tells image fuel h m → IfSome (last_of (of_lock h k)) (λ b. ends_section k b ≡ true)
+        → (m.locks k).owner ≡ None }
 {}

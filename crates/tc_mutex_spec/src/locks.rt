@@ -1,12 +1,10 @@
 //! The locks of the plain program.
 
-ghost use Rattle.std.specs.Prelude.{◌≡◌, ℕ, ◌<◌, ◌≤◌, length, slice_get, unwrap_or, IfOk, IfSome};
+ghost use Rattle.std.specs.Prelude.{◌≡◌, ℕ, ◌<◌, ◌≤◌, length, slice_get, IfOk, IfSome};
 ghost use Rattle.std.specs.Option.{option_map};
 ghost use Rattle.tc_isa.specs.Sets.{has};
-ghost use Rattle.tc_elf.specs.Shown.{guard_at};
-ghost use Rattle.tc_turn.specs.Memory.{byte_from};
 ghost use Rattle.tc_turn.specs.Turn.{Mutex, mutex_at_start, mutex_after, taken, given_up, guard_after, ActFits, PutFits};
-ghost use Rattle.tc_mutex_spec.specs.Slow.{mutex_at};
+ghost use Rattle.tc_mutex_spec.specs.Slow.{mutex_at, AreTurned};
 ghost use Rattle.tc_mutex_spec.specs.Machine.{is_open};
 
 use std::alloc::{AllocError, Global};
@@ -14,7 +12,7 @@ use std::marker::Model;
 use tc_elf::image::{Image, Region};
 use tc_exec::outcome::{Act, Call, Put};
 use tc_isa::held::Held;
-use tc_turn::memory::{byte_from, put_number, starting_bytes};
+use tc_turn::memory::{put_number, starting_bytes};
 
 /// A lock with its guard's bytes.
 #[derive(Drop)]
@@ -109,7 +107,7 @@ impl SlowLock {
 fn take_turns(locks: &mut [SlowLock], image: &Image, thread: u32, held: Held, act: &Option<Act>)
     requires locks { length locks.old ≡ length image.now.guards }
     requires fits { IfSome act.now ActFits }
-    ensures { (k : ℕ) → slice_get locks.new k ≡ option_map (mutex_after image.now thread (has held) act.now k) (slice_get locks.old k) }
+    ensures { AreTurned image.now thread (has held) act.now locks.old locks.new }
 {
     for number in 0..image.guards() {
         let lock = &mut locks[number as usize];
@@ -149,7 +147,7 @@ impl SlowLocks {
     pub fn take_turn(&mut self, image: &Image, thread: u32, held: Held, act: &Option<Act>)
         requires locks { length self.old ≡ length image.now.guards }
         requires fits { IfSome act.now ActFits }
-        ensures each { (k : ℕ) → slice_get self.new k ≡ option_map (mutex_after image.now thread (has held) act.now k) (slice_get self.old k) }
+        ensures each { AreTurned image.now thread (has held) act.now self.old self.new }
         ensures long { length self.new ≡ length self.old }
     {
         take_turns(&mut self.locks, image, thread, held, act);
@@ -190,18 +188,6 @@ impl SlowLocks {
             Some(lock) => &lock.bytes,
             None => &[],
         }
-    }
-
-    /// The byte at an address of a lock's guard, 0 outside of it.
-    pub fn byte(&self, image: &Image, lock: u32, addr: u32) -> u8
-        requires { length self.now ≡ length image.now.guards }
-        ensures { result ≡ unwrap_or (byte_from (guard_at image.now lock).start (mutex_at self.now lock).bytes addr) 0 }
-    {
-        if lock >= image.guards() {
-            return 0;
-        }
-        let (start, _) = image.guard(lock);
-        byte_from(start, self.bytes(lock), addr).unwrap_or(0)
     }
 
     /// Whether a lock, where there is one, has no owner.

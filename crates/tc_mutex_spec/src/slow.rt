@@ -6,21 +6,20 @@
 ghost use Rattle.std.specs.Prelude.{◌≡◌, ℕ, ◌+◌, ◌<◌, ◌≤◌, ◌^◌, length, slice_get, IfOk, IfSome, true, false, replicate};
 ghost use Rattle.std.specs.Option.{option_map};
 ghost use Rattle.tc_isa.specs.Sets.{has};
-ghost use Rattle.tc_exec.specs.Step.{wants_of};
 ghost use Rattle.tc_journal.specs.declared.rule.Outcome.TheVariants.{Unlocked};
-ghost use Rattle.tc_turn.specs.Memory.{number_at};
-ghost use Rattle.tc_turn.specs.Turn.{byte_at, answer_to, next_lock, next_act, outcome_of, thread_of, ActFits};
+ghost use Rattle.tc_turn.specs.Turn.{next_lock, next_act, outcome_of, ActFits};
 ghost use Rattle.tc_mutex_spec.specs.Machine.{can_turn, after, turns, run_from, run, start};
-ghost use Rattle.tc_mutex_spec.specs.Slow.{state_of, thread_at, mutex_at, Suits, Turned, Ran};
+ghost use Rattle.tc_mutex_spec.specs.Slow.{state_of, thread_at, mutex_at, Suits, Turned, LeadsTo};
 
 use crate::locks::SlowLocks;
 use std::alloc::{AllocError, Global};
 use std::marker::Model;
-use tc_elf::image::{Image, Region};
-use tc_exec::outcome::{Act, Want};
+use tc_elf::image::Image;
+use tc_exec::outcome::Act;
 use tc_isa::held::Held;
 use tc_isa::regs::Regs;
 use tc_journal::rule::Outcome;
+use tc_turn::answer::{Surroundings, answer};
 use tc_turn::outcome::outcome_of;
 pub use tc_turn::status::Status as SlowStatus;
 use tc_turn::thread::GuestThread;
@@ -40,9 +39,38 @@ impl Model for Slow {
     ghost view = { λ s. record { threads = s.threads.items; locks = s.locks } };
 }
 
+/// A thread, and all locks beside it.
+#[derive(Clone, Copy)]
+struct Beside<'a> {
+    thread: &'a GuestThread,
+    locks: &'a SlowLocks,
+}
+
+impl Surroundings for Beside<'_> {
+    ghost use Rattle.tc_turn.specs.Turn.{thread_of};
+    ghost use Rattle.tc_mutex_spec.specs.Slow.{mutex_at};
+
+    ghost thread = { λ s. thread_of s.thread.now };
+
+    ghost locks = { λ s. mutex_at s.locks.now };
+
+    fn own_byte(&self, addr: u32) -> Option<u8> {
+        self.thread.byte(addr)
+    }
+
+    fn guard(&self, lock: u32) -> &[u8] {
+        self.locks.bytes(lock)
+    }
+
+    fn is_broken(&self, lock: u32) -> bool {
+        self.locks.is_broken(lock)
+    }
+}
+
 /// All threads at the start.
 fn start_threads(alloc: Global, image: &Image, fuel: u32) -> Result<Vec<GuestThread>, AllocError>
-    ensures each { IfOk result (λ threads. (t : ℕ) → thread_at threads.items t ≡ (start image.now fuel).threads t) }
+    ensures each { IfOk result
+        (λ threads. (t : ℕ) → thread_at threads.items t ≡ (start image.now fuel).threads t) }
     ensures long { IfOk result (λ threads. length threads.items ≡ length image.now.entries) }
 {
     let mut threads = Vec::new(alloc);
@@ -82,12 +110,18 @@ impl Slow {
     fn next_act(&self, image: &Image, t: u32) -> Option<Act>
         requires thread { t < length self.now.threads }
         requires locks { length self.now.locks ≡ length image.now.guards }
-        ensures value { result ≡ next_act image.now ((state_of self.now).threads t) (state_of self.now).locks }
+        ensures value { result
+            ≡ next_act image.now ((state_of self.now).threads t) (state_of self.now).locks }
         ensures fits { IfSome result ActFits }
         ensures fuel { IfSome result (λ act. 0 < ((state_of self.now).threads t).fuel) }
     {
         let thread = &self.threads[t as usize];
-        thread.act(image, self.answer(image, thread))
+        let beside = Beside {
+            thread,
+            locks: &self.locks,
+        };
+        let want = thread.wants(image);
+        thread.act(image, answer(&beside, image, want, thread.next_lock(image)))
     }
 
     /// The lock that the next turn of the thread takes, where it takes one.
@@ -99,69 +133,15 @@ impl Slow {
         self.threads[t as usize].next_lock(image)
     }
 
-    /// The answer to the thread's load, or to its LOCK.
-    fn answer(&self, image: &Image, thread: &GuestThread) -> u32
-        requires { length self.now.locks ≡ length image.now.guards }
-        ensures { result ≡ answer_to image.now (wants_of image.now (has thread.now.held) thread.now.regs) (next_lock image.now (thread_of thread.now)) (thread_of thread.now).own (mutex_at self.now.locks) }
-    {
-        match thread.wants(image) {
-            Want::Load {
-                region,
-                addr,
-                width,
-            } => self.number(image, thread, region, addr, width),
-            Want::Nothing => match thread.next_lock(image) {
-                Some(lock) => u32::from(self.locks.is_broken(lock)),
-                None => 0,
-            },
-        }
-    }
-
-    /// The number in so many bytes of a place from an address on, the lowest first.
-    fn number(
-        &self,
-        image: &Image,
-        thread: &GuestThread,
-        region: Region,
-        addr: u32,
-        width: u32,
-    ) -> u32
-        requires locks { length self.now.locks ≡ length image.now.guards }
-        requires fits { addr + width ≤ 2 ^ 32 }
-        requires small { width ≤ 4 }
-        ensures value { result ≡ number_at (byte_at image.now (thread_of thread.now).own (mutex_at self.now.locks) region) addr width }
-        ensures bound { result < 256 ^ width }
-    {
-        if width == 0 {
-            return 0;
-        }
-        let low = u32::from(self.byte(image, thread, region, addr));
-        if width == 1 {
-            return low;
-        }
-        low + 256 * self.number(image, thread, region, addr + 1, width - 1)
-    }
-
-    /// The byte at an address of a place.
-    fn byte(&self, image: &Image, thread: &GuestThread, region: Region, addr: u32) -> u8
-        requires { length self.now.locks ≡ length image.now.guards }
-        ensures { result ≡ byte_at image.now (thread_of thread.now).own (mutex_at self.now.locks) region addr }
-    {
-        match region {
-            Region::Text => image.byte(addr).unwrap_or(0),
-            Region::Private | Region::Stack => thread.byte(addr).unwrap_or(0),
-            Region::Guard(lock) => self.locks.byte(image, lock, addr),
-            Region::Nothing => 0,
-        }
-    }
-
     /// A turn of the thread, and how it came out for the block that it is in.
     #[tactic(auto, using(crate::proofs::Holds::can_thread))]
     pub fn take_turn(&mut self, image: &Image, t: u32) -> Outcome
         requires suits { Suits image.now self.old }
         requires defined { can_turn image.now (state_of self.old) t ≡ true }
         ensures after { state_of self.new ≡ after image.now (state_of self.old) t }
-        ensures outcome { result ≡ outcome_of (next_act image.now ((state_of self.old).threads t) (state_of self.old).locks) }
+        ensures outcome { result
+            ≡ outcome_of (next_act image.now ((state_of self.old).threads t)
+            (state_of self.old).locks) }
         // A lock that is released is one of the image's.
         ensures known { (lock : ℕ) → result ≡ Unlocked lock → lock < length image.now.guards }
         ensures suits { Suits image.now self.new }
@@ -191,7 +171,8 @@ impl Slow {
     /// So many turns of the thread, where they are defined.
     fn turns(&mut self, image: &Image, t: u32, count: u32) -> bool
         requires { Suits image.now self.old }
-        ensures ran { Ran (turns image.now (state_of self.old) (replicate count t)) result self.new }
+        ensures ran { LeadsTo (turns image.now (state_of self.old) (replicate count t))
+            result self.new }
         ensures suits { Suits image.now self.new }
     {
         for done in 0..count {
@@ -205,7 +186,8 @@ impl Slow {
     /// The turns of each pair, where they are defined.
     fn pairs(&mut self, image: &Image, schedule: &[(u32, u32)]) -> bool
         requires { Suits image.now self.old }
-        ensures ran { Ran (run_from image.now (state_of self.old) schedule.now) result self.new }
+        ensures ran { LeadsTo (run_from image.now (state_of self.old) schedule.now)
+            result self.new }
         ensures suits { Suits image.now self.new }
     {
         for pair in schedule {
