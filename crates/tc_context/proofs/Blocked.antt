@@ -14,18 +14,19 @@ use Rattle.tc_turn.specs.Reads.{Covers}
 use Rattle.tc_turn.specs.Replay.{Entry, Replays, replay_entry, ended, unowned}
 use Rattle.tc_mutex_spec.specs.Machine.{State}
 use Rattle.tc_mutex_spec.specs.Locality.{Agree, Apart}
-use Rattle.tc_mutex_spec.specs.Blocks.{reach, Runs}
+use Rattle.tc_mutex_spec.specs.Blocks.{locks_of_block, reach, Runs}
 use Rattle.tc_mutex_spec.proofs.BlocksAlike.{covers_block}
 use Rattle.tc_segment.specs.View.{LockView, Journal, Opened, Closes, lock_of, with_end, with_journal, opened_at, noted, entry_from, closed_with}
 use Rattle.tc_context.specs.Locks.{lock_in, mutex_of, mutex_or, when_in, Changed, opened_in, closed_in}
 use Rattle.tc_context.specs.declared.context.Context.{Context}
 use Rattle.tc_context.specs.Whole.{thread_in, mutex_at, whole, set_of, journal_in, journal_at, Keeps, CanGo, RunsAs, block_locks, entry_of, with_entry, entered, Journals}
-use Rattle.tc_context.specs.Middle.{noted_when, words_of, AreOpen, HasRoom, AreReady}
+use Rattle.tc_context.specs.Middle.{noted_when, words_of, AreOpen, HasRoom, AreReady, AreNoted}
+use Rattle.tc_context.specs.Ran.{slept_at}
 use Rattle.tc_context.proofs.Moved.{map_some, identifies_when, keeps_changed, journals_changed, mutexes_same}
 use Rattle.tc_context.proofs.Noting.{same_mutex}
 use Rattle.tc_context.proofs.Partway.{keeps_all, agree_at, covers_at}
-use Rattle.tc_context.proofs.Replaying.{IsRecord, replays, replay_is}
-use Rattle.tc_context.proofs.Going.{block_broken}
+use Rattle.tc_mutex_spec.proofs.Replaying.{IsRecord, replays, replay_is}
+use Rattle.tc_mutex_spec.proofs.Going.{block_broken}
 
 -- the two packages are the same part of the machine
 pub record SamePart (a b : Context) : Type 0 where
@@ -38,22 +39,32 @@ apart_at t u set other a b e same apart = record {
   locks = λ k out. apart.locks k (same k ∙ out);
 }
 
+-- so their next block has the same locks
+same_block : (image : Shown) (a b : Context) → SamePart a b → ((k : ℕ) → block_locks image b k ≡ block_locks image a k)
+same_block image a b same k = (let d : thread_in b ≡ thread_in a = ap (λ (m : State). m.threads a.thread) same.machine in ap (λ (x : Thread). locks_of_block x.held (next_lock image x) k) d)
+
 runs_from : (image : Shown) (a b new : Context) (turns : ℕ) (end : End) → SamePart a b → RunsAs image b new turns end → RunsAs image a new turns end
-runs_from image a b new turns end same runs = record {
-  keeps = keeps_all a b new same.keeps runs.keeps;
-  block = λ m agree.
-      let r = runs.block m (subst (λ x. Agree b.thread (set_of b) x m) (sym same.machine) (agree_at a.thread b.thread (set_of a) (set_of b) (whole a) m (sym same.keeps.thread) (λ k. sym (same.keeps.set k)) agree)) in (
-        r.0,
-        subst (λ t. Runs image m t turns end r.0) same.keeps.thread r.1,
-        agree_at b.thread a.thread (set_of b) (set_of a) (whole new) r.0 same.keeps.thread same.keeps.set r.2,
-        apart_at b.thread a.thread (set_of b) (set_of a) m r.0 same.keeps.thread same.keeps.set r.3,
-      );
-}
+runs_from image a b new turns end same runs =
+    let x = block_locks image a in
+    let y = block_locks image b in
+    let locks = same_block image a b same in
+    record {
+      keeps = keeps_all a b new same.keeps runs.keeps;
+      block = λ m agree.
+          let r = runs.block m (subst (λ w. Agree b.thread y w m) (sym same.machine) (agree_at a.thread b.thread x y (whole a) m (sym same.keeps.thread) (λ k. sym (locks k)) agree)) in (
+            r.0,
+            subst (λ t. Runs image m t turns end r.0) same.keeps.thread r.1,
+            agree_at b.thread a.thread y x (whole new) r.0 same.keeps.thread locks r.2,
+            apart_at b.thread a.thread y x m r.0 same.keeps.thread locks r.3,
+          );
+      others = λ k out. runs.others k (locks k ∙ out) ∙ ap (λ (m : State). m.locks k) same.machine;
+    }
 
 pub runs_to : (image : Shown) (a b c : Context) (turns : ℕ) (end : End) → SamePart b c → RunsAs image a b turns end → RunsAs image a c turns end
 runs_to image a b c turns end same runs = record {
   keeps = keeps_all a b c runs.keeps same.keeps;
-  block = λ m agree. (let r = runs.block m agree in (r.0, r.1, subst (λ x. Agree a.thread (set_of a) x r.0) (sym same.machine) r.2, r.3));
+  block = λ m agree. (let r = runs.block m agree in (r.0, r.1, subst (λ x. Agree a.thread (block_locks image a) x r.0) (sym same.machine) r.2, r.3));
+  others = λ k out. ap (λ (m : State). m.locks k) same.machine ∙ runs.others k out;
 }
 
 abbrev pub with_locks : Context → List (Option LockView) → Context
@@ -99,20 +110,32 @@ some_same a b e = cc
 ended_broken : (end : End) (broken : Bool) → (ends_thread end ≡ true → broken ≡ true) → (ends_thread end || broken) ≡ broken
 ended_broken end broken h = (elim (ends_thread end) as (λ b. ends_thread end ≡ b → (b || broken) ≡ broken) [ true ↦ λ e. sym (h e) | false ↦ λ e. refl ]) refl
 
-module _ (image : Shown) (old : Context) (held : ℕ) (locks : List (Option LockView)) (go : CanGo image old) (ready : AreReady image old) (is : (k : ℕ) → has held k ≡ block_locks image old k) (opens : Changed (opened_in (has held) old.guest.regs old.guest.fuel) old.locks locks) where
+-- the entries of the next block are open, and these are its locks
+pub record Begins (image : Shown) (old : Context) (held : ℕ) (locks : List (Option LockView)) : Type 0 where
+  pub is : (k : ℕ) → has held k ≡ block_locks image old k
+  pub opens : Changed (opened_in (has held) old.guest.regs old.guest.fuel) old.locks locks
+
+pub begins_from : (image : Shown) (old : Context) (held was fuel : ℕ) (takes : Option ℕ) (regs : Registers) (locks : List (Option LockView)) → takes ≡ next_lock image (thread_in old) → was ≡ old.guest.held → regs ≡ old.guest.regs → fuel ≡ old.guest.fuel
+    → ((k : ℕ) → has held k ≡ locks_of_block (has was) takes k) → Changed (opened_in (has held) regs fuel) old.locks locks → Begins image old held locks
+begins_from image old held was fuel takes regs locks next before start left is opens = record {
+  is = λ k. is k ∙ (λ i. locks_of_block (has (before i)) (next i) k);
+  opens = subst (λ (x : Registers × ℕ). Changed (opened_in (has held) x.0 x.1) old.locks locks) (λ i. (start i, left i)) opens;
+}
+
+module _ (image : Shown) (old : Context) (held : ℕ) (locks : List (Option LockView)) (go : CanGo image old) (ready : AreReady image old) (begins : Begins image old held locks) where
   abbrev pub begun : Context
   begun = with_locks old locks
 
   pub begun_part : SamePart old begun
   begun_part = same_part old (opened_in (has held) old.guest.regs old.guest.fuel) locks
-      (λ k l. identifies_when (has held k) (with_journal (opened_at (lock_of l) old.guest.regs old.guest.fuel)) l refl refl) opens
+      (λ k l. identifies_when (has held k) (with_journal (opened_at (lock_of l) old.guest.regs old.guest.fuel)) l refl refl) begins.opens
       (λ t k b l e. same_mutex t b (has held k) (with_journal (opened_at (lock_of l) old.guest.regs old.guest.fuel)) l refl)
 
   abbrev opening : ℕ → Journal → Journal
   opening k = opened_when (has held k) (unowned (mutex_at old k)) old.guest.regs old.guest.fuel
 
   pub begun_journals : (k : ℕ) → journal_at begun k ≡ option_map (opening k) (journal_at old k)
-  begun_journals = journals_changed (opened_in (has held) old.guest.regs old.guest.fuel) opening old begun opens
+  begun_journals = journals_changed (opened_in (has held) old.guest.regs old.guest.fuel) opening old begun begins.opens
       (λ k l found. opened_journal (has held k) (unowned (mutex_at old k)) old.guest.regs old.guest.fuel l (ap (λ o. unowned (mutex_or old.thread (has old.guest.held k) o)) (sym found)))
 
   pub begun_go : CanGo image begun
@@ -125,7 +148,7 @@ module _ (image : Shown) (old : Context) (held : ℕ) (locks : List (Option Lock
   }
 
   pub begun_covers : Covers image (has held) (thread_in begun)
-  begun_covers = covers_at image (block_locks image old) (has held) (thread_in old) (λ k. sym (is k)) (covers_block image (thread_in old))
+  begun_covers = covers_at image (block_locks image old) (has held) (thread_in old) (λ k. sym (begins.is k)) (covers_block image (thread_in old))
 
   pub begun_opened : AreOpen (has held) begun
   begun_opened k j at h =
@@ -135,10 +158,10 @@ module _ (image : Shown) (old : Context) (held : ℕ) (locks : List (Option Lock
   pub begun_room : HasRoom 4096 (has held) begun
   begun_room k j at h =
       let was = map_some (opening k) (journal_at old k) j (sym (begun_journals k) ∙ at) in
-      subst (λ n. 4096 ≤ n) (sym (ap (λ (i : Journal). i.word_room) was.2 ∙ room_opened (has held k) (unowned (mutex_at old k)) old.guest.regs old.guest.fuel was.0)) (ready k was.0 was.1 (sym (is k) ∙ h)).words
+      subst (λ n. 4096 ≤ n) (sym (ap (λ (i : Journal). i.word_room) was.2 ∙ room_opened (has held k) (unowned (mutex_at old k)) old.guest.regs old.guest.fuel was.0)) (ready k was.0 was.1 (sym (begins.is k) ∙ h)).words
 
   module _ (ran : Context) (turns : ℕ) (kind : Kind) (end : End) (runs : RunsAs image begun ran turns end)
-      (noted_all : (k : ℕ) → journal_at ran k ≡ option_map (noted_when (has held k) (words_of image begun k turns)) (journal_at begun k))
+      (noted_all : AreNoted image (has held) turns begun ran)
       (section : is_section kind ≡ is_some (next_lock image (thread_in old))) where
     abbrev pub made : Block
     made = record { stamp = 0; thread = old.thread; turns = turns; held = held; kind = kind; worker = 0; end = end }
@@ -147,8 +170,12 @@ module _ (image : Shown) (old : Context) (held : ℕ) (locks : List (Option Lock
     old_runs = runs_from image old begun ran turns end begun_part runs
 
     -- the package alone, as the machine where the block runs
-    abbrev alone : (to : State) × (Runs image (whole old) old.thread turns end to) × (Agree old.thread (set_of old) (whole ran) to) × (Apart old.thread (set_of old) (whole old) to)
+    abbrev alone : (to : State) × (Runs image (whole old) old.thread turns end to) × (Agree old.thread (block_locks image old) (whole ran) to) × (Apart old.thread (block_locks image old) (whole old) to)
     alone = old_runs.block (whole old) (record { thread = refl; locks = λ k h. refl })
+
+    -- what its last turn slept for is seen from the package as it was
+    pub old_slept : (n : ℕ) → slept_at image (whole begun) begun.thread n ≡ slept_at image (whole old) old.thread n
+    old_slept n = ap (λ m. slept_at image m old.thread n) begun_part.machine
 
     to_is : alone.0 ≡ reach image (whole old) old.thread turns
     to_is = alone.1.last
@@ -161,7 +188,7 @@ module _ (image : Shown) (old : Context) (held : ℕ) (locks : List (Option Lock
     record_is = record {
       few = go.guards;
       small = λ k h. (let l = some_of (lock_in old.locks k) (go.covers.held k h) in let known = (go.of k l.0 l.1).known in let few = go.guards in omega (arith, known, few));
-      held = is;
+      held = begins.is;
       section = section;
     }
 
@@ -197,13 +224,10 @@ module _ (image : Shown) (old : Context) (held : ℕ) (locks : List (Option Lock
     pub closes_opened : (k : ℕ) (l : LockView) → lock_in ran.locks k ≡ Some l → has held k ≡ true → is_some l.journal.opened ≡ true
     closes_opened k l found h = ap (λ (x : Journal). is_some x.opened) (was_ready k l found h).2
 
-    pub closes_closed : (k : ℕ) (l : LockView) → lock_in ran.locks k ≡ Some l → has held k ≡ true → l.journal.closed ≡ None
-    closes_closed k l found h = (let w = was_ready k l found h in ap (λ (x : Journal). x.closed) w.2 ∙ (ready k w.0 w.1 (sym (is k) ∙ h)).closed)
-
     -- the lock as the machine has it at the block's end
-    lock_is : (k : ℕ) (l : LockView) → lock_in ran.locks k ≡ Some l → unowned ((reach image (whole old) old.thread turns).locks k) ≡ lock_of l
-    lock_is k l found =
-        let some : set_of old k ≡ true = sym (old_runs.keeps.set k) ∙ ap is_some found in
+    lock_is : (k : ℕ) (l : LockView) → lock_in ran.locks k ≡ Some l → has held k ≡ true → unowned ((reach image (whole old) old.thread turns).locks k) ≡ lock_of l
+    lock_is k l found h =
+        let some : block_locks image old k ≡ true = sym (begins.is k) ∙ h in
         ap (λ (m : State). unowned (m.locks k)) (sym to_is) ∙ ap unowned (sym (alone.2.locks k some)) ∙ ap (λ x. unowned (mutex_or ran.thread (has ran.guest.held k) x)) found
 
     pub closes : (k : ℕ) (l : LockView) → lock_in ran.locks k ≡ Some l → has held k ≡ true → (o : Opened) → l.journal.opened ≡ Some o → Closes l made ran.guest.regs o
@@ -216,7 +240,7 @@ module _ (image : Shown) (old : Context) (held : ℕ) (locks : List (Option Lock
         let runs' : Runs image (whole old) old.thread turns end alone.0 = alone.1 in
         record {
           replays = subst (λ (x : Shown × ℕ × Entry × Mutex). Replays x.0 x.1 x.2 x.3) (λ i. (sym of.of i, sym of.number i, entry i, from i)) (replays image k (whole old) made alone.0 runs' record_is);
-          lock = (λ i. replay_entry (of.of i) (of.number i) (sym entry i) (sym from i)) ∙ replay_is image k (whole old) made alone.0 runs' record_is ∙ ap (ended end) (lock_is k l found);
+          lock = (λ i. replay_entry (of.of i) (of.number i) (sym entry i) (sym from i)) ∙ replay_is image k (whole old) made alone.0 runs' record_is ∙ ap (ended end) (lock_is k l found h);
         }
 
     module _ (after : List (Option LockView)) (shuts : Changed (closed_in (has held) made ran.guest.regs) ran.locks after) where
@@ -226,7 +250,7 @@ module _ (image : Shown) (old : Context) (held : ℕ) (locks : List (Option Lock
       is_broken : (k : ℕ) (l : LockView) → lock_in ran.locks k ≡ Some l → has held k ≡ true → ends_thread end ≡ true → l.broken ≡ true
       is_broken k l found h ends =
           let runs' : Runs image (whole old) old.thread turns end alone.0 = alone.1 in
-          sym (ap (λ (m : Mutex). m.broken) (lock_is k l found)) ∙ block_broken image (whole old) alone.0 old.thread turns end runs' k (sym (is k) ∙ h) ends
+          sym (ap (λ (m : Mutex). m.broken) (lock_is k l found h)) ∙ block_broken image (whole old) alone.0 old.thread turns end runs' k (sym (begins.is k) ∙ h) ends
 
       same_ended : (t k : ℕ) (b : Bool) (l : LockView) → lock_in ran.locks k ≡ Some l → mutex_of t b (closed_in (has held) made ran.guest.regs k l) ≡ mutex_of t b l
       same_ended t k b l found = (elim (has held k) as (λ v. has held k ≡ v → mutex_of t b (when_in v (λ m. with_end end (with_journal (closed_with made ran.guest.regs) m)) l) ≡ mutex_of t b l) [
@@ -250,7 +274,7 @@ module _ (image : Shown) (old : Context) (held : ℕ) (locks : List (Option Lock
 
       pub finished_journals : Journals image old finished made
       finished_journals = record {
-        held = is;
+        held = begins.is;
         entries = λ k.
             journals_changed (closed_in (has held) made ran.guest.regs) (λ j. closed_when (has held j) made ran.guest.regs) ran finished shuts (λ j l e. closed_journal (has held j) made ran.guest.regs l) k
             ∙ ap (option_map (closed_when (has held k) made ran.guest.regs)) (noted_all k ∙ ap (option_map (noted_when (has held k) (words k))) (begun_journals k))

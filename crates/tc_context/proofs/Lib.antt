@@ -2,9 +2,9 @@ pub mod LockList
 pub mod Moved
 pub mod Noting
 pub mod Partway
-pub mod Replaying
-pub mod Going
 pub mod Blocked
+pub mod Leaving
 pub mod Staging
-pub mod Appending
+pub mod Running
 pub mod Following
+pub mod Lawful

@@ -1,5 +1,5 @@
 -- A package's lock states after a change of each of them.
-use Rattle.std.proofs.Common.{◌≡◌, ℕ, get_or, set, ◌<◌, Bool, true, false, not, ◌==◌, List, length, refl, sym, ap, ◌∙◌, inl, inr}
+use Rattle.std.proofs.Common.{◌≡◌, ℕ, suc, [], ◌∷◌, arith, get_or, set, ◌<◌, Bool, true, false, not, ◌==◌, List, length, refl, sym, ap, ◌∙◌, inl, inr}
 use Rattle.std.specs.Prelude.{Option, Some, None, nat_lt, if◌then◌else◌}
 use Rattle.std.specs.Option.{option_map}
 use Rattle.std.proofs.lemmas.Bool.Decides.{eqb_tells}
@@ -19,6 +19,13 @@ option_map-id g (Some x) same = ap Some (same x)
 pub option_map-twice : {X : Type 0} (f g h : X → X) (o : Option X) → ((x : X) → g (f x) ≡ h x) → option_map g (option_map f o) ≡ option_map h o
 option_map-twice f g h None same = refl
 option_map-twice f g h (Some x) same = ap Some (same x)
+
+-- lists of places are the same where each place is
+pub locks_ext : (xs ys : List (Option LockView)) → length xs ≡ length ys → ((k : ℕ) → lock_in xs k ≡ lock_in ys k) → xs ≡ ys
+locks_ext [] [] e same = refl
+locks_ext [] (y ∷ ys) e same = absurd (omega (arith, e))
+locks_ext (x ∷ xs) [] e same = absurd (omega (arith, e))
+locks_ext (x ∷ xs) (y ∷ ys) e same = λ i. same 0 i ∷ locks_ext xs ys (omega (arith, e)) (λ k. same (suc k)) i
 
 -- ---- a walk over a set of locks
 

@@ -1,16 +1,13 @@
 -- The words of a turn, noted in the journals.
-use Rattle.std.proofs.Common.{◌≡◌, ℕ, zero, suc, ◌+◌, ◌-◌, ◌≤◌, Bool, true, false, ◌&&◌, ◌==◌, List, [], ◌∷◌, ◌++◌, length, refl, sym, ap, ◌∙◌, arith, append-nil, append_assoc, length-append}
+use Rattle.std.proofs.Common.{◌≡◌, ℕ, ◌+◌, ◌-◌, Bool, true, false, ◌&&◌, ◌==◌, List, [], ◌∷◌, ◌++◌, length, refl, sym, ap, ◌∙◌, arith, append-nil, append_assoc, length-append}
 use Rattle.std.specs.Prelude.{Option, Some, None, is_some, if◌then◌else◌}
 use Rattle.std.specs.Option.{option_map}
 use Rattle.tc_isa.specs.Sets.{has}
 use Rattle.tc_elf.specs.Shown.{Shown}
 use Rattle.tc_exec.specs.Step.{wants_of}
 use Rattle.tc_exec.specs.declared.outcome.Want.{Want}
-use Rattle.tc_exec.proofs.Laws.{guard_is_held}
 use Rattle.tc_turn.specs.Turn.{Thread, Mutex, Guest, thread_of, next_lock, answer_to}
-use Rattle.tc_turn.specs.Reads.{Covers}
-use Rattle.tc_turn.specs.Replay.{takes_word, word_of, words_from}
-use Rattle.tc_turn.proofs.Turns.{answer_same}
+use Rattle.tc_turn.specs.Replay.{takes_word, word_of}
 use Rattle.tc_segment.specs.View.{LockView, Journal, Opened, with_journal, more_words, noted}
 use Rattle.tc_context.specs.Locks.{mutex_of, when_in, noted_in, Changed}
 use Rattle.tc_context.specs.declared.context.Context.{Context}
@@ -66,35 +63,6 @@ when_more false ws vs j = refl
 pub when_open : (b : Bool) (ws : List ℕ) (j : Journal) → is_some (noted_when b ws j).opened ≡ is_some j.opened
 when_open true ws j = more_some ws j.opened
 when_open false ws j = refl
-
-pub words_more : (image : Shown) (k : ℕ) (threads : ℕ → Thread) (locks : ℕ → ℕ → Mutex) (i n : ℕ)
-    → words_from image k threads locks i (suc n) ≡ words_from image k threads locks i n ++ word_of image k (threads (i + n)) (locks (i + n))
-words_more image k threads locks i zero = append-nil (word_of image k (threads i) (locks i)) ∙ ap (λ j. word_of image k (threads j) (locks j)) (let e : i ≡ i + 0 = omega arith in e)
-words_more image k threads locks i (suc n) =
-    ap (λ ws. word_of image k (threads i) (locks i) ++ ws)
-    (words_more image k threads locks (i + 1) n ∙ ap (λ j. words_from image k threads locks (i + 1) n ++ word_of image k (threads j) (locks j)) (let e : i + 1 + n ≡ i + suc n = omega arith in e))
-    ∙ sym (append_assoc (word_of image k (threads i) (locks i)) (words_from image k threads locks (i + 1) n) (word_of image k (threads (i + suc n)) (locks (i + suc n))))
-
--- a turn's word is the same where its thread and the locks that a set covers are
-pub word_same : (image : Shown) (set : ℕ → Bool) (k : ℕ) (d : Thread) (a b : ℕ → Mutex) → Covers image set d → ((j : ℕ) → set j ≡ true → a j ≡ b j) → word_of image k d a ≡ word_of image k d b
-unfolding word_of
-word_same image set k d a b covers same =
-    ap (λ v. if d.fuel == 0 then [] else (if takes_word k (wants_of image d.held d.regs) (next_lock image d) then v ∷ [] else []))
-    (answer_same image set (wants_of image d.held d.regs) (next_lock image d) d.own a b (λ lock addr width e. covers.held lock (guard_is_held image d.held d.regs lock addr width e)) covers.next same)
-
-word_short : (image : Shown) (k : ℕ) (d : Thread) (locks : ℕ → Mutex) → length (word_of image k d locks) ≤ 1
-unfolding word_of
-word_short image k d locks = go (d.fuel == 0) (takes_word k (wants_of image d.held d.regs) (next_lock image d)) _
-  where
-    go : (b c : Bool) (v : ℕ) → length (if b then [] else (if c then v ∷ [] else [])) ≤ 1
-    go true c v = omega arith
-    go false true v = omega arith
-    go false false v = omega arith
-
-pub words_short : (image : Shown) (k : ℕ) (threads : ℕ → Thread) (locks : ℕ → ℕ → Mutex) (i n : ℕ) → length (words_from image k threads locks i n) ≤ n
-words_short image k threads locks i zero = omega arith
-words_short image k threads locks i (suc n) =
-    omega (arith, word_short image k (threads i) (locks i), words_short image k threads locks (i + 1) n, length-append (word_of image k (threads i) (locks i)) (words_from image k threads locks (i + 1) n))
 
 -- ---- one turn's word
 

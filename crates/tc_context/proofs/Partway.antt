@@ -14,17 +14,20 @@ use Rattle.tc_turn.specs.Replay.{word_of}
 use Rattle.tc_turn.proofs.Turns.{next_free, covers_on, goes_on}
 use Rattle.tc_mutex_spec.specs.Machine.{State, is_free, is_open, can_turn, after}
 use Rattle.tc_mutex_spec.specs.Locality.{Agree}
-use Rattle.tc_mutex_spec.specs.Blocks.{reach, end_at, Runs}
+use Rattle.tc_mutex_spec.specs.Blocks.{locks_of_block, reach, end_at, Runs}
 use Rattle.tc_mutex_spec.proofs.Local.{after_thread, after_mutex, turn_same, turn_agree, act_agree}
-use Rattle.tc_mutex_spec.proofs.BlocksAlike.{runs_same}
+use Rattle.tc_mutex_spec.proofs.BlocksAlike.{covers_block, runs_same, runs_apart}
 use Rattle.tc_segment.specs.View.{LockView, Journal}
 use Rattle.tc_context.specs.Locks.{lock_in, mutex_or}
 use Rattle.tc_context.specs.declared.context.Context.{Context}
-use Rattle.tc_context.specs.Whole.{thread_in, mutex_at, whole, set_of, journal_at, Keeps, CanGo, RunsAs}
-use Rattle.tc_context.specs.Middle.{Moves, Notes, IsTurn, noted_when, words_of, AreOpen, HasRoom}
+use Rattle.tc_context.specs.Whole.{thread_in, mutex_at, whole, set_of, journal_at, Keeps, CanGo, block_locks, RunsAs}
+use Rattle.tc_context.specs.Middle.{Moves, Notes, IsTurn, noted_when, words_of, AreOpen, HasRoom, AreNoted}
+use Rattle.tc_context.specs.Ran.{slept_by, slept_at}
+use Rattle.tc_mutex_spec.proofs.Going.{in_block}
 use Rattle.tc_context.proofs.LockList.{option_map-id, option_map-twice}
 use Rattle.tc_context.proofs.Moved.{map_some}
-use Rattle.tc_context.proofs.Noting.{when_nil, when_more, when_open, words_more, words_short, word_same}
+use Rattle.tc_turn.proofs.Words.{words_more, words_short, word_same}
+use Rattle.tc_context.proofs.Noting.{when_nil, when_more, when_open}
 
 pub record Partway (image : Shown) (old now : Context) (n : ℕ) : Type 0 where
   pub short : n < 4096
@@ -92,6 +95,7 @@ record Further (image : Shown) (old now new : Context) (n : ℕ) (a : Option Act
   pub keeps : Keeps old new
   pub agree : Agree old.thread (set_of old) (reach image (whole old) old.thread (n + 1)) (whole new)
   pub defined : can_turn image (reach image (whole old) old.thread n) old.thread ≡ true
+  pub acts : next_act image ((reach image (whole old) old.thread n).threads old.thread) (reach image (whole old) old.thread n).locks ≡ a
   pub end : end_at image (whole old) old.thread n ≡ end_rule (outcome_of a) (n + 1) (next_lock image (thread_in new))
 
 further : (image : Shown) (old now new : Context) (n : ℕ) (a : Option Act) → Partway image old now n → a ≡ next_act image (thread_in now) (mutex_at now) → Moves image now new a → Further image old now new n a
@@ -112,6 +116,7 @@ further image old now new n a partway is moves =
       keeps = keeps_all old now new partway.keeps moves.keeps;
       agree = rw add-one all;
       defined = turn_same image from (whole now) t set there partway.agree ∙ ap (can_turn image (whole now)) (sym partway.keeps.thread) ∙ goes image now partway.go;
+      acts = acts;
       end = λ i. end_rule (outcome_of (acts i)) (n + 1) (nexts i);
     }
 
@@ -143,24 +148,59 @@ partway_more image old now new n a partway is moves none =
       before = below (λ k. end_at image (whole old) old.thread k ≡ None) n partway.before (f.end ∙ none);
     }
 
-pub partway_ends : (image : Shown) (old now new : Context) (n : ℕ) (a : Option Act) (end : End) → CanGo image old → Partway image old now n → a ≡ next_act image (thread_in now) (mutex_at now) → Moves image now new a → end_rule (outcome_of a) (n + 1) (next_lock image (thread_in new)) ≡ Some end → RunsAs image old new (n + 1) end
-partway_ends image old now new n a end go partway is moves ends =
+-- what isn't in the package before and after is none
+none_same : (t u : ℕ) (b c : Bool) (o p : Option LockView) → is_some o ≡ false → is_some p ≡ false → mutex_or u c p ≡ mutex_or t b o
+none_same t u b c None None e f = refl
+none_same t u b c None (Some l) e f = absurd (cc)
+none_same t u b c (Some l) p e f = absurd (cc)
+
+-- the locks of a block are covered
+pub block_inside : (image : Shown) (set : ℕ → Bool) (d : Thread) → Covers image set d → (k : ℕ) → locks_of_block d.held (next_lock image d) k ≡ true → set k ≡ true
+block_inside image set d covers k h = elim (in_block d.held (next_lock image d) k h) [ inl was ↦ covers.held k was | inr took ↦ covers.next k took ]
+
+partway_runs : (image : Shown) (old now new : Context) (n : ℕ) (a : Option Act) (end : End) → Partway image old now n → a ≡ next_act image (thread_in now) (mutex_at now) → Moves image now new a → end_rule (outcome_of a) (n + 1) (next_lock image (thread_in new)) ≡ Some end → Runs image (whole old) old.thread (n + 1) end (reach image (whole old) old.thread (n + 1))
+partway_runs image old now new n a end partway is moves ends =
     let f = further image old now new n a partway is moves in
     let t = old.thread in
-    let runs : Runs image (whole old) t (n + 1) end (reach image (whole old) t (n + 1)) = record {
+    record {
       some = omega arith;
       defined = below (λ k. can_turn image (reach image (whole old) t k) t ≡ true) n partway.defined f.defined;
       before = λ k lt. partway.before k (omega arith);
       ends = λ k e. (let same : k ≡ n = omega arith in subst (λ j. end_at image (whole old) t j ≡ Some end) (sym same) (f.end ∙ ends));
       last = refl;
-    } in
+    }
+
+pub partway_ends : (image : Shown) (old now new : Context) (n : ℕ) (a : Option Act) (end : End) → CanGo image old → Partway image old now n → a ≡ next_act image (thread_in now) (mutex_at now) → Moves image now new a → end_rule (outcome_of a) (n + 1) (next_lock image (thread_in new)) ≡ Some end → RunsAs image old new (n + 1) end
+partway_ends image old now new n a end go partway is moves ends =
+    let f = further image old now new n a partway is moves in
+    let t = old.thread in
+    let runs = partway_runs image old now new n a end partway is moves ends in
+    let block = block_locks image old in
+    let here : (k : ℕ) → block k ≡ true → set_of old k ≡ true = block_inside image (set_of old) (thread_in old) go.covers in
     record {
       keeps = f.keeps;
       block = λ m agree.
-          let r = runs_same image (whole old) m (reach image (whole old) t (n + 1)) t (n + 1) end (set_of old) runs go.covers agree in
-          let back : Agree t (set_of old) (whole new) (reach image (whole old) t (n + 1)) = record { thread = sym f.agree.thread; locks = λ k h. sym (f.agree.locks k h) } in
-          (r.0, r.1, agree_trans t (set_of old) (whole new) (reach image (whole old) t (n + 1)) r.0 back r.2, r.3);
+          let r = runs_same image (whole old) m (reach image (whole old) t (n + 1)) t (n + 1) end block runs (covers_block image (thread_in old)) agree in
+          let back : Agree t block (whole new) (reach image (whole old) t (n + 1)) = record { thread = sym f.agree.thread; locks = λ k h. sym (f.agree.locks k (here k h)) } in
+          (r.0, r.1, agree_trans t block (whole new) (reach image (whole old) t (n + 1)) r.0 back r.2, r.3);
+      others = λ k out. by k out (set_of old k) refl;
     }
+  where
+    by : (k : ℕ) → block_locks image old k ≡ false → (v : Bool) → set_of old k ≡ v → mutex_at new k ≡ mutex_at old k
+    by k out true s =
+        let f = further image old now new n a partway is moves in
+        let runs = partway_runs image old now new n a end partway is moves ends in
+        sym (f.agree.locks k s) ∙ (runs_apart image (whole old) (reach image (whole old) old.thread (n + 1)) old.thread (n + 1) end runs).locks k out
+    by k out false s =
+        let f = further image old now new n a partway is moves in
+        none_same old.thread new.thread (has old.guest.held k) (has new.guest.held k) (lock_in old.locks k) (lock_in new.locks k) s (f.keeps.set k ∙ s)
+
+-- and what its last turn slept for
+pub partway_slept : (image : Shown) (old now new : Context) (n : ℕ) (a : Option Act) → Partway image old now n → a ≡ next_act image (thread_in now) (mutex_at now) → Moves image now new a → slept_by a ≡ slept_at image (whole old) old.thread (n + 1 - 1)
+partway_slept image old now new n a partway is moves =
+    let f = further image old now new n a partway is moves in
+    let e : n ≡ n + 1 - 1 = omega arith in
+    ap slept_by (sym f.acts) ∙ ap (slept_at image (whole old) old.thread) e
 
 -- a block has a turn
 pub runs_some : {image : Shown} {old new : Context} {n : ℕ} {e : End} → RunsAs image old new n e → 1 ≤ n
@@ -191,7 +231,7 @@ act_noted image now new words block a notes is = is ∙ (λ i. next_act image (s
 
 pub record Journaled (image : Shown) (block : ℕ → Bool) (old now : Context) (n : ℕ) : Type 0 where
   pub covers : Covers image block (thread_in now)
-  pub journals : (k : ℕ) → journal_at now k ≡ option_map (noted_when (block k) (words_of image old k n)) (journal_at old k)
+  pub journals : AreNoted image block n old now
 
 pub journaled_start : (image : Shown) (block : ℕ → Bool) (p : Context) → Covers image block (thread_in p) → Journaled image block p p 0
 journaled_start image block p covers = record { covers = covers; journals = λ k. sym (option_map-id (noted_when (block k) (words_of image p k 0)) (journal_at p k) (when_nil (block k))) }
@@ -235,7 +275,7 @@ noted_next image block old now middle n partway journaled notes k =
     ∙ ap (λ j. ws ++ word_of image k ((reach image (whole old) t j).threads t) (reach image (whole old) t j).locks) (let e : 0 + n ≡ n = omega arith in e)))
 
 pub journals_ended : (image : Shown) (block : ℕ → Bool) (old now new : Context) (n : ℕ) (a : Option Act) → Partway image old now n → Journaled image block old now n → IsTurn image block now new a
-    → (k : ℕ) → journal_at new k ≡ option_map (noted_when (block k) (words_of image old k (n + 1))) (journal_at old k)
+    → AreNoted image block (n + 1) old new
 journals_ended image block old now new n a partway journaled turn k =
     turn.moves.journals k ∙ noted_next image block old now turn.middle n partway journaled turn.notes k
 

@@ -1,36 +1,40 @@
 -- What a package keeps, through each of its calls.
 use Rattle.std.proofs.Common.{◌≡◌, ◌≢◌, ℕ, zero, suc, ◌-◌, ◌<◌, ◌≤◌, Bool, true, false, not, ◌||◌, ◌&&◌, ◌==◌, List, [], ◌∷◌, ◌++◌, map, length, refl, sym, ap, subst, ◌∙◌, arith, inl, inr, length-append}
-use Rattle.std.specs.Prelude.{Option, Some, None, IfSome, is_some, slice_get, if◌then◌else◌}
+use Rattle.std.specs.Prelude.{Option, Some, None, IfSome, is_some, slice_get, set, if◌then◌else◌}
 use Rattle.std.specs.Option.{option_map}
 use Rattle.std.proofs.lemmas.Bool.Decides.{eqb_tells}
-use Rattle.std.proofs.lemmas.List.{map-append}
+use Rattle.std.proofs.lemmas.List.{map-append, length-map, length-set, get_or-set_same, get_or-set_other}
+use Rattle.std.proofs.lemmas.Option.{slice_get-map, slice_get_within}
+use Rattle.tc_mutex_spec.proofs.ListLaws.{get-set_same, get-set_other}
 use Rattle.tc_isa.specs.Sets.{has}
 use Rattle.tc_elf.specs.Shown.{Shown}
-use Rattle.tc_journal.specs.Batch.{is_section, begins, is_lock, takes_of, last_of, allows_of, may_go_on, may_follow, ends_section}
+use Rattle.tc_journal.specs.Batch.{is_section, begins, is_lock, takes_of, last_of, allows_of, may_go_on, may_follow, ends_section, passes_to, passes_on}
 use Rattle.tc_journal.specs.declared.block.Block.{Block}
 use Rattle.tc_journal.specs.declared.block.End.{End}
 use Rattle.tc_journal.specs.declared.block.Kind.{Kind}
-use Rattle.tc_turn.specs.declared.status.Status.TheVariants.{Running}
-use Rattle.tc_turn.specs.Turn.{Thread, Mutex, thread_of, is_running, next_lock, next_act, thread_after}
+use Rattle.tc_turn.specs.declared.status.Status.{Status}
+use Rattle.tc_turn.specs.declared.status.Status.TheVariants.{Running, Exited, Faulted as Failed, SpentFuel}
+use Rattle.tc_turn.specs.Turn.{Thread, Mutex, Guest, thread_of, is_running, next_lock, next_act, thread_after}
 use Rattle.tc_turn.specs.Reads.{Covers}
 use Rattle.tc_turn.specs.Replay.{Entry}
 use Rattle.tc_turn.proofs.Turns.{next_free, next_known, held_grows, act_takes}
 use Rattle.tc_mutex_spec.specs.Machine.{State}
-use Rattle.tc_mutex_spec.specs.Locality.{Agree, Apart}
 use Rattle.tc_mutex_spec.specs.Blocks.{locks_of_block, reach, Runs}
 use Rattle.tc_mutex_spec.proofs.Local.{after_thread}
 use Rattle.tc_mutex_spec.proofs.BlocksAlike.{covers_within, covers_block}
-use Rattle.tc_segment.specs.View.{LockView, Journal, block_in, blocks_of, with_journal, sealed_block, sealed_entry, sealed_list, sealed_as}
-use Rattle.tc_context.specs.Locks.{lock_in, IsLockOf, AreOf, when_in, Changed, roomy_in, sealed_in}
+use Rattle.tc_segment.specs.View.{LockView, Journal, IsAtRest, kept, block_in, blocks_of, with_journal, sealed_block, sealed_entry, sealed_list, sealed_as}
 use Rattle.tc_context.specs.declared.context.Context.{Context}
 use Rattle.tc_context.specs.declared.package.Grant.{Grant}
+use Rattle.tc_context.specs.Locks.{slot_of, lock_in, AreOf, Changed, SameLocks, roomy_in, sealed_all}
 use Rattle.tc_context.specs.Whole.{thread_in, whole, set_of, journal_in, journal_at, CanGo, RunsAs, block_locks, entry_of, entered, Journals}
-use Rattle.tc_context.specs.Middle.{AreReady}
-use Rattle.tc_context.specs.View.{PackageView, granted_lock, want_of, kind_of, IsReserved, IsFresh, AtStage, AreAtStage, Survives, Rests, IsIdle, Ran, IsAt, EndsWith, MayTake, IsSound, Allows}
-use Rattle.tc_context.proofs.LockList.{option_map-twice}
-use Rattle.tc_context.proofs.Moved.{map_some, keeps_changed, journals_changed, identifies_when}
-use Rattle.tc_context.proofs.Replaying.{IsRecord, record_takes}
-use Rattle.tc_context.proofs.Going.{block_survives, block_gives, in_block}
+use Rattle.tc_context.specs.Middle.{IsReady, AreReady}
+use Rattle.tc_context.specs.View.{PackageView, granted_lock, want_of, kind_of, number_in, waiting_in, IsNumber, IsReserved, IsFresh, Rests, IsIdle, IsPending, IsAt, IsStored, IsAfter, IsLeft, EndsWith, MayTake, IsSound, IsWanted, IsWaiting, IsRoomier, Allows, with_grant, without_lock, sealed_log, with_seal}
+use Rattle.tc_context.proofs.LockList.{option_map-twice, put_place}
+use Rattle.tc_context.proofs.Moved.{map_some}
+use Rattle.tc_mutex_spec.proofs.Replaying.{IsRecord, record_takes}
+use Rattle.tc_mutex_spec.proofs.Going.{block_survives, block_gives, in_block}
+use Rattle.tc_context.proofs.Partway.{block_inside}
+use Rattle.tc_context.proofs.Leaving.{block_runs, block_next}
 
 pub none_some : {X : Type 0} (o : Option X) (x : X) → o ≡ None → o ≡ Some x → ⊥
 none_some o x e f = (let h : None ≡ Some x = sym e ∙ f in cc)
@@ -38,132 +42,201 @@ none_some o x e f = (let h : None ≡ Some x = sym e ∙ f in cc)
 pub false_true : (b : Bool) → b ≡ false → b ≡ true → ⊥
 false_true b e f = (let h : false ≡ true = sym e ∙ f in cc)
 
+pub some_of : (o : Option LockView) → is_some o ≡ true → (l : LockView) × (o ≡ Some l)
+some_of None e = absurd (cc)
+some_of (Some l) e = (l, refl)
+
 journal_was : (p : Context) (k : ℕ) (j : Journal) → journal_at p k ≡ Some j → (l : LockView) × (lock_in p.locks k ≡ Some l) × (j ≡ l.journal)
 journal_was p k j e = map_some journal_in (lock_in p.locks k) j e
 
 -- a lock rests by its sealed entries alone
-rests_as : (k : ℕ) (i j : Journal) → j.sealed ≡ i.sealed → Rests k i → Rests k j
-rests_as k i j e rests = subst (λ s. IfSome (last_of (map block_in s)) (λ b. ends_section k b ≡ true)) (sym e) rests
+rests_as : (k : ℕ) (x l : LockView) → l.journal.sealed ≡ x.journal.sealed → Rests k x → Rests k l
+rests_as k x l e rests = subst (λ s. IfSome (last_of (map block_in s)) (λ b. ends_section k b ≡ true)) (sym e) rests
+
+-- ---- what follows from what a package keeps
+
+pub are_of : (p : PackageView) → IsSound p → AreOf p.image p.context.locks
+are_of p sound k l e = (let s = sound.stored k l e in record { number = s.number; known = s.known; of = s.of })
+
+-- each lock in it has a place
+pub place_small : (p : PackageView) (k : ℕ) → IsSound p → set_of p.context k ≡ true → k < 32
+place_small p k sound here = (let l = some_of (lock_in p.context.locks k) here in let known = (sound.stored k l.0 l.1).known in omega (arith, known, sound.few))
+
+-- where no block is pending
+pub idle_at : (p : PackageView) (k : ℕ) (l : LockView) → IsSound p → p.pending ≡ None → lock_in p.context.locks k ≡ Some l → IsIdle p k l
+idle_at p k l sound rest e = subst (λ x. IsAt x p k l) rest (sound.stored k l e).at
+
+pub closed_none : (o : Option Entry) → option_map block_in o ≡ None → o ≡ None
+closed_none None e = refl
+closed_none (Some x) e = absurd (cc)
+
+-- a lock that the thread doesn't hold may lie at home
+pub at_rest : (p : PackageView) (k : ℕ) (l : LockView) → IsSound p → p.pending ≡ None → has p.context.guest.held k ≡ false → lock_in p.context.locks k ≡ Some l → IsAtRest p.image k l
+at_rest p k l sound rest free e =
+    let s = sound.stored k l e in
+    record {
+      number = s.number;
+      of = s.of;
+      opened = s.opened;
+      closed = closed_none l.journal.closed (s.closed ∙ ap (λ o. waiting_in o k) rest);
+      ended = (idle_at p k l sound rest e).rests free;
+    }
+
+wanted_next : (b : Bool) (o : Option ℕ) (k : ℕ) → (if b then o else None) ≡ Some k → (b ≡ true) × (o ≡ Some k)
+wanted_next true o k e = (refl, e)
+wanted_next false o k e = absurd (cc)
+
+running : (s : Status) → is_running s ≡ true → s ≡ Running
+running Running e = refl
+running Exited e = absurd (cc)
+running (Failed f) e = absurd (cc)
+running SpentFuel e = absurd (cc)
+
+pub wanted : (p : PackageView) → IsSound p → (k : ℕ) → want_of p.image p.context ≡ Some k → IsWanted p k
+wanted p sound k e =
+    let w = wanted_next (is_running p.context.guest.status) (next_lock p.image (thread_in p.context)) k e in
+    let known = next_known p.image (thread_in p.context) k w.1 in
+    record { runs = running p.context.guest.status w.0; free = next_free p.image (thread_in p.context) k w.1; known = known; small = omega (arith, known, sound.few) }
+
+-- a granted lock isn't held
+not_granted : (image : Shown) (p : Context) (g : Option Grant) (k : ℕ) → MayTake image p g → has p.guest.held k ≡ true → granted_lock g ≢ Some k
+not_granted image p None k may h e = (cc)
+not_granted image p (Some g) k may h e =
+    let same : g.lock ≡ k = cc in
+    false_true _ (next_free image (thread_in p) k (may.next ∙ ap Some same)) h
+
+both_parts : (a b : Bool) → (a && b) ≡ true → (a ≡ true) × (b ≡ true)
+both_parts true b e = (refl, e)
+both_parts false b e = absurd (cc)
+
+eq_true : (n : ℕ) → (n == n) ≡ true
+eq_true n = elim (eqb_tells n n) [ inl h ↦ h.0 | inr h ↦ absurd (h.1 refl) ]
+
+-- the thread is in the middle of the section of each lock that it holds
+goes_on : (p : PackageView) (k : ℕ) (l : LockView) → IsSound p → p.pending ≡ None → has p.context.guest.held k ≡ true → lock_in p.context.locks k ≡ Some l → may_go_on k (last_of (blocks_of l)) p.context.thread ≡ true
+goes_on p k l sound rest h e = by (last_of p.log) refl sound.left
+  where
+    by : (o : Option Block) → last_of p.log ≡ o → IsLeft p.image p.context o → may_go_on k (last_of (blocks_of l)) p.context.thread ≡ true
+    by None is left = absurd (false_true _ (left.held k) h)
+    by (Some b) is left =
+        let parts = both_parts (has b.held k) (not (ends_section k b)) (sym (left.held k) ∙ h) in
+        let last = (idle_at p k l sound rest e).last b is parts.0 (not_granted p.image p.context p.granted k sound.grant h) in
+        ap (λ o. may_go_on k o p.context.thread) last
+        ∙ (λ i. parts.1 i && (left.thread i == p.context.thread)) ∙ eq_true p.context.thread
 
 -- ---- a package in which nothing ran
 
-pub fresh_sound : (image : Shown) (t fuel : ℕ) (p : PackageView) → IsFresh image t fuel p → t < length image.entries → IsSound p
-fresh_sound image t fuel p fresh lt =
+pub fresh_sound : (image : Shown) (t fuel : ℕ) (p : PackageView) → IsFresh image t fuel p → t < length image.entries → length image.guards ≤ 32 → length p.context.locks ≡ 32 → length p.numbers ≡ 32 → IsSound p
+fresh_sound image t fuel p fresh lt few places numbers =
     let none : (k : ℕ) → has p.context.guest.held k ≡ false = (λ k. ap (λ (d : Thread). d.held k) fresh.thread) in
     record {
+      few = rw fresh.image_is few;
+      places = (places, numbers);
       thread = rw fresh.image_is (rw fresh.number lt);
-      of = λ k l e. absurd (none_some (lock_in p.context.locks k) l (fresh.locks k) e);
       held = λ k h. absurd (false_true _ (none k) h);
-      stage = λ k j e. absurd (none_some (journal_at p.context k) j (ap (option_map journal_in) (fresh.locks k)) e);
-      at = subst (λ x. IsAt x p.context) (sym fresh.pending) (record {
-        on = λ k j h e. absurd (false_true _ (none k) h);
-        rests = λ k j out e. absurd (none_some (journal_at p.context k) j (ap (option_map journal_in) (fresh.locks k)) e);
-      });
+      stored = λ k l e. absurd (none_some (lock_in p.context.locks k) l (fresh.locks k) e);
+      left = subst (λ x. IsLeft p.image p.context (last_of x)) (sym fresh.log) (record { runs = ap (λ (d : Thread). d.status) fresh.thread; held = none });
       grant = subst (λ x. MayTake p.image p.context x) (sym fresh.granted) tt;
       log = subst (λ x. EndsWith p.log x) (sym fresh.pending) tt;
+      alone = λ h. fresh.granted;
     }
+
+-- ---- with other locks
+
+abbrev pub with_locks : PackageView → List (Option LockView) → PackageView
+with_locks p locks = record p { context = record { thread = p.context.thread; guest = p.context.guest; locks = locks } }
+
+left_as : (image : Shown) (p q : Context) (o : Option Block) → q.thread ≡ p.thread → q.guest ≡ p.guest → IsLeft image p o → IsLeft image q o
+left_as image p q None thread guest left = record { runs = ap (λ (g : Guest). g.status) guest ∙ left.runs; held = λ k. ap (λ (g : Guest). has g.held k) guest ∙ left.held k }
+left_as image p q (Some b) thread guest left = record {
+  thread = left.thread ∙ sym thread;
+  runs = ap (λ (g : Guest). is_running g.status) guest ∙ left.runs;
+  next = λ k e. ap (λ (g : Guest). next_lock image (thread_of g)) guest ∙ left.next k e;
+  held = λ k. ap (λ (g : Guest). has g.held k) guest ∙ left.held k;
+}
+
+may_take : (image : Shown) (p q : Context) (g : Option Grant) → q.thread ≡ p.thread → thread_in q ≡ thread_in p → ((k : ℕ) → set_of q k ≡ set_of p k)
+    → ((k : ℕ) (l : LockView) → lock_in q.locks k ≡ Some l → (x : LockView) × (lock_in p.locks k ≡ Some x) × (l.journal.sealed ≡ x.journal.sealed)) → MayTake image p g → MayTake image q g
+may_take image p q None number thread set same may = tt
+may_take image p q (Some g) number thread set same may = record {
+  next = ap (next_lock image) thread ∙ may.next;
+  here = set g.lock ∙ may.here;
+  section = may.section;
+  passes = λ l e. (let x = same g.lock l e in (λ i. passes_to (last_of (map block_in (x.2 i))) g.kind (number i)) ∙ may.passes x.0 x.1);
+}
 
 -- ---- rooms
 
-abbrev pub with_rooms : PackageView → List (Option LockView) → ℕ → PackageView
-with_rooms p locks room = record {
-  image = p.image;
-  context = record { thread = p.context.thread; guest = p.context.guest; locks = locks };
-  granted = p.granted;
-  pending = p.pending;
-  log = p.log;
-  log_room = room;
-  numbers = p.numbers;
-  turns = p.turns;
-  slept = p.slept;
-}
-
--- the same locks, but for rooms
-abbrev pub SameLocks : List (Option LockView) → List (Option LockView) → Type 0
-SameLocks old new = (k : ℕ) → option_map (roomy_in 0 0 k) (lock_in new k) ≡ option_map (roomy_in 0 0 k) (lock_in old k)
+abbrev pub with_rooms : PackageView → List (Option LockView) → ℕ → ℕ → PackageView
+with_rooms p locks room turns = record (with_locks p locks) { log_room = room; turns = turns }
 
 pub same_locks : (old new : List (Option LockView)) → Changed (roomy_in 1 4096) old new → SameLocks old new
-same_locks old new changed k = ap (option_map (roomy_in 0 0 k)) (changed k) ∙ option_map-twice (roomy_in 1 4096 k) (roomy_in 0 0 k) (roomy_in 0 0 k) (lock_in old k) (λ l. refl)
+same_locks old new changed k = ap (option_map kept) (changed k) ∙ option_map-twice (roomy_in 1 4096 k) kept kept (lock_in old k) (λ l. refl)
 
-lock_was : (k : ℕ) (o p : Option LockView) (l : LockView) → option_map (roomy_in 0 0 k) p ≡ option_map (roomy_in 0 0 k) o → p ≡ Some l → (x : LockView) × (o ≡ Some x) × (roomy_in 0 0 k l ≡ roomy_in 0 0 k x)
-lock_was k o p l same e =
-    let was = map_some (roomy_in 0 0 k) o (roomy_in 0 0 k l) (sym same ∙ ap (option_map (roomy_in 0 0 k)) e) in
-    (was.0, was.1, was.2)
+pub lock_was : (o p : Option LockView) (l : LockView) → option_map kept p ≡ option_map kept o → p ≡ Some l → (x : LockView) × (o ≡ Some x) × (kept l ≡ kept x)
+lock_was o p l same e = map_some kept o (kept l) (sym same ∙ ap (option_map kept) e)
 
-some_same : (k : ℕ) (o p : Option LockView) → option_map (roomy_in 0 0 k) p ≡ option_map (roomy_in 0 0 k) o → is_some p ≡ is_some o
-some_same k None None e = refl
-some_same k None (Some l) e = absurd (cc)
-some_same k (Some l) None e = absurd (cc)
-some_same k (Some l) (Some x) e = refl
+some_same : (o p : Option LockView) → option_map kept p ≡ option_map kept o → is_some p ≡ is_some o
+some_same None None e = refl
+some_same None (Some l) e = absurd (cc)
+some_same (Some l) None e = absurd (cc)
+some_same (Some l) (Some x) e = refl
 
-may_take : (image : Shown) (p q : Context) (g : Option Grant) → thread_in q ≡ thread_in p → ((k : ℕ) → set_of q k ≡ set_of p k) → MayTake image p g → MayTake image q g
-may_take image p q None thread set may = tt
-may_take image p q (Some g) thread set may = record { next = ap (next_lock image) thread ∙ may.next; here = set g.lock ∙ may.here; section = may.section }
+pub roomier_set : (p q : PackageView) (k : ℕ) → IsRoomier p q → set_of q.context k ≡ set_of p.context k
+roomier_set p q k roomier = some_same (lock_in p.context.locks k) (lock_in q.context.locks k) (roomier.locks k)
 
-pub sound_rooms : (p : PackageView) (locks : List (Option LockView)) (room : ℕ) → SameLocks p.context.locks locks → IsSound p → IsSound (with_rooms p locks room)
-sound_rooms p locks room same sound =
-    let q = with_rooms p locks room in
-    let journal : (k : ℕ) (j : Journal) → journal_at q.context k ≡ Some j → (i : Journal) × (journal_at p.context k ≡ Some i) × (j.opened ≡ i.opened) × (j.closed ≡ i.closed) × (j.sealed ≡ i.sealed) =
-    (λ k j e.
-    let l = journal_was q.context k j e in
-    let x = lock_was k (lock_in p.context.locks k) (lock_in locks k) l.0 (same k) l.1 in (
-      x.0.journal,
-      ap (option_map journal_in) x.1,
-      ap (λ (i : Journal). i.opened) l.2 ∙ ap (λ (y : LockView). y.journal.opened) x.2,
-      ap (λ (i : Journal). i.closed) l.2 ∙ ap (λ (y : LockView). y.journal.closed) x.2,
-      ap (λ (i : Journal). i.sealed) l.2 ∙ ap (λ (y : LockView). y.journal.sealed) x.2,
-    )) in
-    let set : (k : ℕ) → set_of q.context k ≡ set_of p.context k = (λ k. some_same k (lock_in p.context.locks k) (lock_in locks k) (same k)) in
+-- nor does the number of queue turns count
+pub sound_rooms : (p : PackageView) (locks : List (Option LockView)) (room turns : ℕ) → length locks ≡ 32 → SameLocks p.context.locks locks → IsSound p → IsSound (with_rooms p locks room turns)
+sound_rooms p locks room turns places same sound =
+    let q = with_rooms p locks room turns in
+    let set : (k : ℕ) → set_of q.context k ≡ set_of p.context k = (λ k. some_same (lock_in p.context.locks k) (lock_in locks k) (same k)) in
     record {
+      few = sound.few;
+      places = (places, sound.places.1);
       thread = sound.thread;
-      of = λ k l e. (let x = lock_was k (lock_in p.context.locks k) (lock_in locks k) l (same k) e in let was = sound.of k x.0 x.1 in
-          record { number = ap (λ (y : LockView). y.number) x.2 ∙ was.number; known = was.known; of = ap (λ (y : LockView). y.journal.image) x.2 ∙ was.of });
       held = λ k h. set k ∙ sound.held k h;
-      stage = λ k j e. (let i = journal k j e in let was = sound.stage k i.0 i.1 in record { opened = i.2 ∙ was.opened; closed = ap (option_map block_in) i.3 ∙ was.closed });
-      at = at p.pending sound.at journal;
-      grant = may_take p.image p.context q.context p.granted refl set sound.grant;
+      stored = λ k l e.
+          (let x = lock_was (lock_in p.context.locks k) (lock_in locks k) l (same k) e in
+          let was = sound.stored k x.0 x.1 in
+          record {
+            number = ap (λ (y : LockView). y.number) x.2 ∙ was.number;
+            known = was.known;
+            of = ap (λ (y : LockView). y.journal.image) x.2 ∙ was.of;
+            turn = was.turn;
+            opened = ap (λ (y : LockView). y.journal.opened) x.2 ∙ was.opened;
+            closed = ap (λ (y : LockView). option_map block_in y.journal.closed) x.2 ∙ was.closed;
+            at = at p.pending k x.0 l (ap (λ (y : LockView). y.journal.sealed) x.2) was.at;
+          });
+      left = left_as p.image p.context q.context (last_of p.log) refl refl sound.left;
+      grant = may_take p.image p.context q.context p.granted refl refl set (λ k l e. (let x = lock_was (lock_in p.context.locks k) (lock_in locks k) l (same k) e in (x.0, x.1, ap (λ (y : LockView). y.journal.sealed) x.2))) sound.grant;
       log = sound.log;
+      alone = sound.alone;
     }
   where
-    at : (b : Option Block) → IsAt b p.context
-        → ((k : ℕ) (j : Journal) → journal_at (with_rooms p locks room).context k ≡ Some j → (i : Journal) × (journal_at p.context k ≡ Some i) × (j.opened ≡ i.opened) × (j.closed ≡ i.closed) × (j.sealed ≡ i.sealed))
-        → IsAt b (with_rooms p locks room).context
-    at None idle journal = record {
-      on = λ k j h e. (let i = journal k j e in ap (λ s. may_go_on k (last_of (map block_in s)) p.context.thread) i.4 ∙ idle.on k i.0 h i.1);
-      rests = λ k j out e. (let i = journal k j e in rests_as k i.0 j i.4 (idle.rests k i.0 out i.1));
-    }
-    at (Some b) ran journal = record {
-      thread = ran.thread;
-      held = ran.held;
-      on = λ k j h e not. (let i = journal k j e in ap (λ s. may_go_on k (last_of (map block_in s)) b.thread) i.4 ∙ ran.on k i.0 h i.1 not);
-      gave = ran.gave;
-      rests = λ k j out e. (let i = journal k j e in rests_as k i.0 j i.4 (ran.rests k i.0 out i.1));
-    }
+    at : (b : Option Block) (k : ℕ) (x l : LockView) → l.journal.sealed ≡ x.journal.sealed → IsAt b p k x → IsAt b (with_rooms p locks room turns) k l
+    at None k x l s idle = record { rests = λ out. rests_as k x l s (idle.rests out); last = λ b e h g. ap (λ y. last_of (map block_in y)) s ∙ idle.last b e h g }
+    at (Some b) k x l s ran = record { rests = λ out. rests_as k x l s (ran.rests out); on = λ h n. ap (λ y. may_go_on k (last_of (map block_in y)) b.thread) s ∙ ran.on h n; passes = λ h. ap (λ y. passes_on k (map block_in y) b) s ∙ ran.passes h }
 
 -- ---- a block
 
 -- the locks of the next block have rest and room
-pub ready_from : (image : Shown) (p : PackageView) → IsReserved p → AreAtStage None p.context → AreReady image p.context
-ready_from image p reserved stage k j e h =
+pub ready_from : (image : Shown) (p : PackageView) → IsSound p → p.pending ≡ None → IsReserved p → AreReady image p.context
+ready_from image p sound rest reserved k j e h =
     let l = journal_was p.context k j e in
-    let s = stage k j e in
-    record {
+    let s = sound.stored k l.0 l.1 in
+    subst IsReady (sym l.2) (record {
       opened = s.opened;
-      closed = none_of j.closed s.closed;
-      entry = subst (λ (i : Journal). 0 < i.entry_room) (sym l.2) (reserved.entries k l.0 l.1);
-      words = subst (λ (i : Journal). 4096 ≤ i.word_room) (sym l.2) (reserved.words k l.0 l.1);
-    }
-  where
-    none_of : (o : Option Entry) → option_map block_in o ≡ None → o ≡ None
-    none_of None e = refl
-    none_of (Some x) e = absurd (cc)
+      closed = closed_none l.0.journal.closed (s.closed ∙ ap (λ o. waiting_in o k) rest);
+      entry = reserved.entries k l.0 l.1;
+      words = reserved.words k l.0 l.1;
+    })
 
-pub can_go : (image : Shown) (p : PackageView) → p.image ≡ image → IsSound p → length image.guards ≤ 32 → p.context.guest.status ≡ Running → ((k : ℕ) → want_of image p.context ≡ Some k → granted_lock p.granted ≡ Some k) → CanGo image p.context
-can_go image p is sound few running want = record {
-  guards = few;
+pub can_go : (image : Shown) (p : PackageView) → p.image ≡ image → IsSound p → p.context.guest.status ≡ Running → ((k : ℕ) → want_of image p.context ≡ Some k → granted_lock p.granted ≡ Some k) → CanGo image p.context
+can_go image p is sound running want = record {
+  guards = subst (λ (x : Shown). length x.guards ≤ 32) is sound.few;
   thread = subst (λ (x : Shown). p.context.thread < length x.entries) is sound.thread;
   running = running;
-  of = subst (λ x. AreOf x p.context.locks) is sound.of;
+  of = subst (λ x. AreOf x p.context.locks) is (are_of p sound);
   covers = record {
     held = sound.held;
     next = λ k e. from_grant k p.granted sound.grant (want k (ap (λ s. if is_running s then next_lock image (thread_in p.context) else None) running ∙ e));
@@ -210,9 +283,9 @@ block_covered image m to t (suc n) e runs k h =
 entered_was : (b : Bool) (e : Entry) (o : Option Journal) (j : Journal) → option_map (entered b e) o ≡ Some j → (i : Journal) × (o ≡ Some i) × (j ≡ entered b e i)
 entered_was b e o j is = map_some (entered b e) o j is
 
-entered_stage : (b : Bool) (block : Block) (e : Entry) (i : Journal) → e.block ≡ block → AtStage None 0 i → (((entered b e i).opened ≡ None) × (option_map block_in (entered b e i).closed ≡ (if b then Some block else None)))
-entered_stage true block e i is s = (refl, ap Some is)
-entered_stage false block e i is s = (s.opened, s.closed)
+entered_stage : (b : Bool) (block : Block) (e : Entry) (i : Journal) → e.block ≡ block → i.opened ≡ None → option_map block_in i.closed ≡ None → (((entered b e i).opened ≡ None) × (option_map block_in (entered b e i).closed ≡ (if b then Some block else None)))
+entered_stage true block e i is o c = (refl, ap Some is)
+entered_stage false block e i is o c = (o, c)
 
 entered_sealed : (b : Bool) (e : Entry) (i : Journal) → (entered b e i).sealed ≡ i.sealed
 entered_sealed true e i = refl
@@ -237,10 +310,6 @@ last_is bs b = ap (slice_get (bs ++ b ∷ [])) (let e : length (bs ++ b ∷ []) 
 not_begun : (o : Option ℕ) (k : ℕ) → is_lock o k ≡ false → o ≡ Some k → ⊥
 not_begun o k out is = (let h : (k == k) ≡ false = ap (λ x. is_lock x k) (sym is) ∙ out in elim (eqb_tells k k) [ inl e ↦ (let f : true ≡ false = sym e.0 ∙ h in cc) | inr e ↦ e.1 refl ])
 
-pub some_of : (o : Option LockView) → is_some o ≡ true → (l : LockView) × (o ≡ Some l)
-some_of None e = absurd (cc)
-some_of (Some l) e = (l, refl)
-
 -- the record of a package's next block has its held set and its kind
 pub record_is : (image : Shown) (p : Context) (b : Block) → CanGo image p → ((k : ℕ) → has b.held k ≡ block_locks image p k) → is_section b.kind ≡ is_some (next_lock image (thread_in p)) → IsRecord image (whole p) b
 record_is image p b go held section = record {
@@ -250,218 +319,318 @@ record_is image p b go held section = record {
   section = section;
 }
 
-module _ (image : Shown) (old : PackageView) (new : Context) (b : Block) (log : List Block) (room : ℕ) (is : old.image ≡ image) (sound : IsSound old) (rest : old.pending ≡ None) (go : CanGo image old.context)
-    (runs : RunsAs image old.context new b.turns b.end) (journals : Journals image old.context new b) (thread : b.thread ≡ old.context.thread) (section : is_section b.kind ≡ is_some (next_lock image (thread_in old.context))) (logged : log ≡ old.log ++ b ∷ []) where
-  abbrev alone : (to : State) × (Runs image (whole old.context) old.context.thread b.turns b.end to) × (Agree old.context.thread (set_of old.context) (whole new) to) × (Apart old.context.thread (set_of old.context) (whole old.context) to)
-  alone = runs.block (whole old.context) (record { thread = refl; locks = λ k h. refl })
+pub begun_is : (o : Option ℕ) (k : ℕ) → is_lock o k ≡ true → o ≡ Some k
+begun_is None k h = absurd (cc)
+begun_is (Some lock) k h = elim (eqb_tells k lock) [ inl e ↦ ap Some (sym e.1) | inr e ↦ absurd (let f : true ≡ false = sym h ∙ e.0 in cc) ]
 
-  end_is : (k : ℕ) → ((reach image (whole old.context) old.context.thread b.turns).threads old.context.thread).held k ≡ has new.guest.held k
-  end_is k = sym (ap (λ (d : Thread). d.held k) (alone.2.thread ∙ ap (λ (m : State). m.threads old.context.thread) alone.1.last))
+module _ (image : Shown) (old : PackageView) (new : Context) (b : Block) (log : List Block) (room slept : ℕ) (is : old.image ≡ image) (sound : IsSound old) (rest : old.pending ≡ None) (go : CanGo image old.context) (places : length new.locks ≡ 32)
+    (runs : RunsAs image old.context new b.turns b.end) (journals : Journals image old.context new b) (thread : b.thread ≡ old.context.thread) (section : is_section b.kind ≡ is_some (next_lock image (thread_in old.context))) (kind : b.kind ≡ kind_of old.granted old.log)
+    (want : (k : ℕ) → want_of image old.context ≡ Some k → granted_lock old.granted ≡ Some k) (logged : log ≡ old.log ++ b ∷ []) where
+  abbrev t : ℕ
+  t = old.context.thread
 
-  end_held : (k : ℕ) → has new.guest.held k ≡ true → ((reach image (whole old.context) old.context.thread b.turns).threads old.context.thread).held k ≡ true
-  end_held k h = end_is k ∙ h
+  abbrev last : State
+  last = reach image (whole old.context) t b.turns
 
-  idle_was : IsIdle old.context
-  idle_was = subst (λ x. IsAt x old.context) rest sound.at
+  alone : Runs image (whole old.context) t b.turns b.end last
+  alone = (let r = runs.block (whole old.context) (record { thread = refl; locks = λ k h. refl }) in subst (λ x. Runs image (whole old.context) t b.turns b.end x) r.1.last r.1)
 
-  held_locks : (k : ℕ) → has new.guest.held k ≡ true → block_locks image old.context k ≡ true
-  held_locks k h = block_covered image (whole old.context) alone.0 old.context.thread b.turns b.end alone.1 k (end_held k h)
+  thread_is : thread_in new ≡ last.threads t
+  thread_is = (let r = runs.block (whole old.context) (record { thread = refl; locks = λ k h. refl }) in r.2.thread ∙ ap (λ (m : State). m.threads t) r.1.last)
 
-  stage_was : AreAtStage None old.context
-  stage_was = subst (λ x. AreAtStage x old.context) rest sound.stage
+  held_is : (k : ℕ) → has new.guest.held k ≡ (last.threads t).held k
+  held_is k = ap (λ (d : Thread). d.held k) thread_is
 
-  -- a lock of the block is in the package
-  block_here : (k : ℕ) → has b.held k ≡ true → set_of new k ≡ true
-  block_here k h = runs.keeps.set k ∙ (elim (in_block (has old.context.guest.held) (next_lock image (thread_in old.context)) k (sym (journals.held k) ∙ h)) [ inl was ↦ go.covers.held k was | inr took ↦ go.covers.next k took ])
+  held_locks : (k : ℕ) → has new.guest.held k ≡ true → has b.held k ≡ true
+  held_locks k h = journals.held k ∙ block_covered image (whole old.context) last t b.turns b.end alone k (sym (held_is k) ∙ h)
 
-  pub ran_sound : IsSound (record { image = old.image; context = new; granted = None; pending = Some b; log = log; log_room = room; numbers = old.numbers; turns = old.turns; slept = old.slept })
+  -- what is held after the block is what the block had and didn't give up
+  held_after : (k : ℕ) → has new.guest.held k ≡ (has b.held k && not (ends_section k b))
+  held_after k = by (has b.held k) (has new.guest.held k) refl refl
+    where
+      by : (v w : Bool) → has b.held k ≡ v → has new.guest.held k ≡ w → w ≡ (v && not (ends_section k b))
+      by false false out free = refl
+      by false true out h = absurd (false_true _ out (held_locks k h))
+      by true true mine h = (let s = block_survives image (whole old.context) last t b.turns b.end alone k (sym (held_is k) ∙ h) in λ i. not (sym s.0 i || sym s.1 i))
+      by true false mine free = ap not (sym (block_gives image (whole old.context) last t b.turns b.end alone k (sym (journals.held k) ∙ mine) (sym (held_is k) ∙ free)))
+
+  pub ran_after : IsAfter old.image new b
+  ran_after = record {
+    thread = thread ∙ sym runs.keeps.thread;
+    runs = ap (λ (d : Thread). is_running d.status) thread_is ∙ block_runs image (whole old.context) last t b.turns b.end alone;
+    next = λ k e. (λ i. next_lock (is i) (thread_is i)) ∙ block_next image (whole old.context) last t b.turns b.end alone k e;
+    held = held_after;
+  }
+
+  takes : takes_of b ≡ next_lock image (thread_in old.context)
+  takes = record_takes image (whole old.context) b (record_is image old.context b go journals.held section)
+
+  -- a lock that was passed on was so by its grant
+  by_grant : (k : ℕ) (l : LockView) → lock_in old.context.locks k ≡ Some l → (g : Option Grant) → MayTake old.image old.context g → granted_lock g ≡ Some k → passes_to (last_of (blocks_of l)) (kind_of g old.log) t ≡ true
+  by_grant k l e None may is = absurd (cc)
+  by_grant k l e (Some g) may is = (let same : g.lock ≡ k = cc in may.passes l (ap (lock_in old.context.locks) same ∙ e))
+
+  passed : (k : ℕ) (l : LockView) → lock_in old.context.locks k ≡ Some l → (w : Bool) → begins k b ≡ w → passes_on k (blocks_of l) b ≡ true
+  unfolding passes_on
+  passed k l e false out = ap (λ w. if w then passes_to (last_of (blocks_of l)) b.kind b.thread else true) out
+  passed k l e true begun =
+      let next : next_lock image (thread_in old.context) ≡ Some k = sym takes ∙ begun_is (takes_of b) k begun in
+      ap (λ w. if w then passes_to (last_of (blocks_of l)) b.kind b.thread else true) begun
+      ∙ (λ i. passes_to (last_of (blocks_of l)) (kind i) (thread i))
+      ∙ by_grant k l e old.granted sound.grant (want k (ap (λ s. if is_running s then next_lock image (thread_in old.context) else None) go.running ∙ next))
+
+  pub ran_sound : IsSound (record { image = old.image; context = new; granted = None; pending = Some b; log = log; log_room = room; numbers = old.numbers; turns = old.turns; slept = slept })
   ran_sound = record {
+    few = sound.few;
+    places = (places, sound.places.1);
     thread = rw runs.keeps.thread sound.thread;
-    of = runs.keeps.of old.image sound.of;
-    held = λ k h. block_here k (journals.held k ∙ held_locks k h);
-    stage = λ k j e.
-        (let was = entered_was (has b.held k) (entry_of image k (whole old.context) b) (journal_at old.context k) j (sym (journals.entries k) ∙ e) in
-        let s = stage_was k was.0 was.1 in
-        let t = entered_stage (has b.held k) b (entry_of image k (whole old.context) b) was.0 refl (record { opened = s.opened; closed = s.closed }) in
-        record { opened = ap (λ (i : Journal). i.opened) was.2 ∙ t.0; closed = ap (λ (i : Journal). option_map block_in i.closed) was.2 ∙ t.1 });
-    at = record {
-      thread = thread ∙ sym runs.keeps.thread;
-      held = λ k h. (let s = block_survives image (whole old.context) alone.0 old.context.thread b.turns b.end alone.1 k (end_held k h) in (journals.held k ∙ held_locks k h, record { lock = s.0; runs = s.1 }));
-      on = λ k j h e not.
-          (let was = entered_was (has b.held k) (entry_of image k (whole old.context) b) (journal_at old.context k) j (sym (journals.entries k) ∙ e) in
-          let takes : takes_of b ≡ next_lock image (thread_in old.context) = record_takes image (whole old.context) b (record_is image old.context b go journals.held section) in
-          let held : has old.context.guest.held k ≡ true = elim (in_block (has old.context.guest.held) (next_lock image (thread_in old.context)) k (sym (journals.held k) ∙ h)) [ inl before ↦ before | inr took ↦ absurd (not_begun (takes_of b) k not (takes ∙ took)) ] in
-          (λ i. may_go_on k (last_of (map block_in ((ap (λ (x : Journal). x.sealed) was.2 ∙ entered_sealed (has b.held k) (entry_of image k (whole old.context) b) was.0) i))) (thread i)) ∙ idle_was.on k was.0 held was.1);
-      gave = λ k h out. block_gives image (whole old.context) alone.0 old.context.thread b.turns b.end alone.1 k (sym (journals.held k) ∙ h) (end_is k ∙ out);
-      rests = λ k j out e.
-          (let was = entered_was (has b.held k) (entry_of image k (whole old.context) b) (journal_at old.context k) j (sym (journals.entries k) ∙ e) in
-          rests_as k was.0 j (ap (λ (x : Journal). x.sealed) was.2 ∙ entered_sealed (has b.held k) (entry_of image k (whole old.context) b) was.0)
-          (idle_was.rests k was.0 (not_before (has old.context.guest.held) (next_lock image (thread_in old.context)) k (sym (journals.held k) ∙ out)) was.1));
-    };
+    held = λ k h. runs.keeps.set k ∙ block_inside image (set_of old.context) (thread_in old.context) go.covers k (sym (journals.held k) ∙ held_locks k h);
+    stored = λ k l e.
+        (let was = entered_was (has b.held k) (entry_of image k (whole old.context) b) (journal_at old.context k) l.journal (sym (journals.entries k) ∙ ap (option_map journal_in) e) in
+        let x = journal_was old.context k was.0 was.1 in
+        let s = sound.stored k x.0 x.1 in
+        let of = runs.keeps.of old.image (are_of old sound) k l e in
+        let stage = entered_stage (has b.held k) b (entry_of image k (whole old.context) b) was.0 refl (ap (λ (i : Journal). i.opened) x.2 ∙ s.opened) (ap (λ (i : Journal). option_map block_in i.closed) x.2 ∙ s.closed ∙ ap (λ o. waiting_in o k) rest) in
+        let sealed : l.journal.sealed ≡ x.0.journal.sealed = ap (λ (i : Journal). i.sealed) was.2 ∙ entered_sealed (has b.held k) (entry_of image k (whole old.context) b) was.0 ∙ ap (λ (i : Journal). i.sealed) x.2 in
+        record {
+          number = of.number;
+          known = of.known;
+          of = of.of;
+          turn = s.turn;
+          opened = ap (λ (i : Journal). i.opened) was.2 ∙ stage.0;
+          closed = ap (λ (i : Journal). option_map block_in i.closed) was.2 ∙ stage.1;
+          at = record {
+            rests = λ out. rests_as k x.0 l sealed ((idle_at old k x.0 sound rest x.1).rests (not_before (has old.context.guest.held) (next_lock image (thread_in old.context)) k (sym (journals.held k) ∙ out)));
+            on = λ h none.
+                (let held : has old.context.guest.held k ≡ true = elim (in_block (has old.context.guest.held) (next_lock image (thread_in old.context)) k (sym (journals.held k) ∙ h)) [ inl before ↦ before | inr took ↦ absurd (not_begun (takes_of b) k none (takes ∙ took)) ] in
+                (λ i. may_go_on k (last_of (map block_in (sealed i))) (thread i)) ∙ goes_on old k x.0 sound rest held x.1);
+            passes = λ h. ap (λ y. passes_on k (map block_in y) b) sealed ∙ passed k x.0 x.1 (begins k b) refl;
+          };
+        });
+    left = subst (IsLeft old.image new) (sym (ap last_of logged ∙ last_is old.log b)) ran_after;
     grant = tt;
     log = ap last_of logged ∙ last_is old.log b;
+    alone = λ h. refl;
   }
 
 -- ---- the seal
 
-pub block_was : (o : Option Entry) (b : Block) → option_map block_in o ≡ Some b → (e : Entry) × (o ≡ Some e) × (e.block ≡ b)
+block_was : (o : Option Entry) (b : Block) → option_map block_in o ≡ Some b → (e : Entry) × (o ≡ Some e) × (e.block ≡ b)
 block_was None b h = absurd (cc)
 block_was (Some e) b h = (e, refl, (let f : Some e.block ≡ Some b = h in cc))
 
 -- the entry of a lock of the pending block
-entry_was : (p : Context) (b : Block) (k : ℕ) (j : Journal) → AreAtStage (Some b) p → journal_at p k ≡ Some j → has b.held k ≡ true → (e : Entry) × (j.closed ≡ Some e) × (e.block ≡ b)
-entry_was p b k j stage at h = block_was j.closed b ((stage k j at).closed ∙ ap (λ v. if v then Some b else None) h)
+entry_was : (p : PackageView) (b : Block) (k : ℕ) (l : LockView) → IsStored p k l → p.pending ≡ Some b → has b.held k ≡ true → (e : Entry) × (l.journal.closed ≡ Some e) × (e.block ≡ b)
+entry_was p b k l s pending h = block_was l.journal.closed b (s.closed ∙ ap (λ o. waiting_in o k) pending ∙ ap (λ v. if v then Some b else None) h)
 
-pub seal_closed : (p : Context) (b : Block) → AreAtStage (Some b) p → (k : ℕ) (l : LockView) → lock_in p.locks k ≡ Some l → has b.held k ≡ true → is_some l.journal.closed ≡ true
-seal_closed p b stage k l found h = ap is_some (entry_was p b k l.journal stage (ap (option_map journal_in) found) h).1
+pub seal_closed : (p : PackageView) (b : Block) → IsSound p → p.pending ≡ Some b → (k : ℕ) (l : LockView) → lock_in p.context.locks k ≡ Some l → has b.held k ≡ true → is_some l.journal.closed ≡ true
+seal_closed p b sound pending k l found h = ap is_some (entry_was p b k l (sound.stored k l found) pending h).1
 
 follows_by : (v : Bool) (lock limit : ℕ) (before : List Block) (x : Block) → begins lock x ≡ v → (v ≡ true → allows_of lock limit before x.kind x.worker ≡ true) → (v ≡ false → may_go_on lock (last_of before) x.thread ≡ true) → may_follow lock limit before x ≡ true
 unfolding may_follow
 follows_by true lock limit before x e begun on = ap (λ v. if v then allows_of lock limit before x.kind x.worker else may_go_on lock (last_of before) x.thread) e ∙ begun refl
 follows_by false lock limit before x e begun on = ap (λ v. if v then allows_of lock limit before x.kind x.worker else may_go_on lock (last_of before) x.thread) e ∙ on refl
 
-pub seal_follows : (image : Shown) (p : Context) (b : Block) (stamp worker : ℕ) → AreOf image p.locks → AreAtStage (Some b) p → Ran p b → Allows p b worker
-    → (k : ℕ) (l : LockView) → lock_in p.locks k ≡ Some l → has b.held k ≡ true → (e : Entry) → l.journal.closed ≡ Some e → may_follow l.number l.journal.limit (blocks_of l) (sealed_block stamp worker e.block) ≡ true
-seal_follows image p b stamp worker of stage ran allows k l found h e is =
-    let at = ap (option_map journal_in) found in
-    let was = entry_was p b k l.journal stage at h in
+-- the batch rule lets the pending block follow, where it allows the section that the block began
+pub block_follows : (p : PackageView) (b : Block) (stamp worker : ℕ) → IsSound p → p.pending ≡ Some b → Allows p.context b worker → (k : ℕ) (l : LockView) → lock_in p.context.locks k ≡ Some l → has b.held k ≡ true
+    → may_follow k l.journal.limit (blocks_of l) (sealed_block stamp worker b) ≡ true
+block_follows p b stamp worker sound pending allows k l found h =
+    let ran : IsPending b k l = subst (λ x. IsAt x p k l) pending (sound.stored k l found).at in
+    follows_by (begins k b) k l.journal.limit (blocks_of l) (sealed_block stamp worker b) refl (λ begun. allows k l begun found) (λ out. ran.on h out)
+
+pub seal_follows : (p : PackageView) (b : Block) (stamp worker : ℕ) → IsSound p → p.pending ≡ Some b → Allows p.context b worker → (k : ℕ) (l : LockView) → lock_in p.context.locks k ≡ Some l → has b.held k ≡ true
+    → (e : Entry) → l.journal.closed ≡ Some e → may_follow l.number l.journal.limit (blocks_of l) (sealed_block stamp worker e.block) ≡ true
+seal_follows p b stamp worker sound pending allows k l found h e is =
+    let s = sound.stored k l found in
+    let was = entry_was p b k l s pending h in
     let block : e.block ≡ b = (let same : Some e ≡ Some was.0 = sym is ∙ was.1 in let f : e ≡ was.0 = cc in ap (λ (x : Entry). x.block) f ∙ was.2) in
-    (λ i. may_follow ((of k l found).number i) l.journal.limit (blocks_of l) (sealed_block stamp worker (block i)))
-    ∙ follows_by (begins k b) k l.journal.limit (blocks_of l) (sealed_block stamp worker b) refl (λ begun. allows k l begun found) (λ out. ran.on k l.journal h at out)
+    (λ i. may_follow (s.number i) l.journal.limit (blocks_of l) (sealed_block stamp worker (block i))) ∙ block_follows p b stamp worker sound pending allows k l found h
 
-abbrev sealed_when : Bool → ℕ → ℕ → Journal → Journal
-sealed_when true stamp worker j = sealed_as stamp worker j
-sealed_when false stamp worker j = j
+-- its stamp and worker don't count for the section that was passed on to it
+pub block_passes : (p : PackageView) (b : Block) (stamp worker : ℕ) → IsSound p → p.pending ≡ Some b → (k : ℕ) (l : LockView) → lock_in p.context.locks k ≡ Some l → has b.held k ≡ true → passes_on k (blocks_of l) (sealed_block stamp worker b) ≡ true
+unfolding passes_on
+block_passes p b stamp worker sound pending k l found h = (subst (λ x. IsAt x p k l) pending (sound.stored k l found).at).passes h
 
-sealed_journal : (v : Bool) (stamp worker : ℕ) (l : LockView) → (when_in v (with_journal (sealed_as stamp worker)) l).journal ≡ sealed_when v stamp worker l.journal
-sealed_journal true stamp worker l = refl
-sealed_journal false stamp worker l = refl
+pub seal_passes : (p : PackageView) (b : Block) → IsSound p → p.pending ≡ Some b → (k : ℕ) (l : LockView) → lock_in p.context.locks k ≡ Some l → has b.held k ≡ true → (e : Entry) → l.journal.closed ≡ Some e → passes_on l.number (blocks_of l) e.block ≡ true
+seal_passes p b sound pending k l found h e is =
+    let s = sound.stored k l found in
+    let was = entry_was p b k l s pending h in
+    let block : e.block ≡ b = (let same : Some e ≡ Some was.0 = sym is ∙ was.1 in let f : e ≡ was.0 = cc in ap (λ (x : Entry). x.block) f ∙ was.2) in
+    let ran : IsPending b k l = subst (λ x. IsAt x p k l) pending s.at in
+    (λ i. passes_on (s.number i) (blocks_of l) (block i)) ∙ ran.passes h
 
-sealed_rest : (v : Bool) (b : Block) (stamp worker : ℕ) (i : Journal) → i.opened ≡ None → option_map block_in i.closed ≡ (if v then Some b else None) → AtStage None 0 (sealed_when v stamp worker i)
-sealed_rest true b stamp worker i o c = record { opened = o; closed = refl }
-sealed_rest false b stamp worker i o c = record { opened = o; closed = c }
+slot_map : (g : LockView → LockView) (o : Option (Option LockView)) → slot_of (option_map (option_map g) o) ≡ option_map g (slot_of o)
+slot_map g None = refl
+slot_map g (Some o) = refl
 
-goes_with : (k t : ℕ) (b : Block) → Survives k b.end → b.thread ≡ t → may_go_on k (Some b) t ≡ true
-goes_with k t b s e = (λ i. not (s.lock i || s.runs i) && (e i == t)) ∙ (elim (eqb_tells t t) [ inl h ↦ h.0 | inr h ↦ absurd (h.1 refl) ])
+pub sealed_at : (stamp worker : ℕ) (locks : List (Option LockView)) (k : ℕ) → lock_in (sealed_all stamp worker locks) k ≡ option_map (with_journal (sealed_as stamp worker)) (lock_in locks k)
+sealed_at stamp worker locks k = (let g = with_journal (sealed_as stamp worker) in ap slot_of (slice_get-map (option_map g) locks k) ∙ slot_map g (slice_get locks k))
 
--- the last block of a lock of the pending block, once that is sealed
-last_sealed : (v : Bool) (stamp worker : ℕ) (i j : Journal) (x : Entry) → v ≡ true → j ≡ sealed_when v stamp worker i → i.closed ≡ Some x → last_of (map block_in j.sealed) ≡ Some (sealed_block stamp worker x.block)
-last_sealed v stamp worker i j x h is closed =
-    let sealed : j.sealed ≡ i.sealed ++ sealed_entry stamp worker x ∷ [] = ap (λ (y : Journal). y.sealed) is ∙ ap (λ w. (sealed_when w stamp worker i).sealed) h ∙ ap (sealed_list stamp worker i.sealed) closed in
-    ap (λ y. last_of (map block_in y)) sealed ∙ ap last_of (map-append block_in i.sealed (sealed_entry stamp worker x ∷ [])) ∙ last_is (map block_in i.sealed) (sealed_block stamp worker x.block)
+some_map_is : (g : LockView → LockView) (o : Option LockView) → is_some (option_map g o) ≡ is_some o
+some_map_is g None = refl
+some_map_is g (Some l) = refl
 
--- once the pending block is sealed, a lock rests that its end gave up, or that isn't of it and rested
-rests_sealed : (p : Context) (b : Block) (stamp worker : ℕ) (k : ℕ) (i j : Journal) → AreAtStage (Some b) p → journal_at p k ≡ Some i → j ≡ sealed_when (has b.held k) stamp worker i → (has b.held k ≡ true → ends_section k b ≡ true) → (has b.held k ≡ false → Rests k i) → Rests k j
-rests_sealed p b stamp worker k i j stage at is gave rests = by (has b.held k) refl
-  where
-    by : (v : Bool) → has b.held k ≡ v → Rests k j
-    by true h =
-        let x = entry_was p b k i stage at h in
-        subst (λ o. IfSome o (λ y. ends_section k y ≡ true)) (sym (last_sealed (has b.held k) stamp worker i j x.0 h is x.1)) (ap (ends_section k) x.2 ∙ gave h)
-    by false h = rests_as k i j (ap (λ (y : Journal). y.sealed) is ∙ ap (λ w. (sealed_when w stamp worker i).sealed) h) (rests h)
+pub seal_set : (stamp worker : ℕ) (p : PackageView) (k : ℕ) → set_of (with_seal stamp worker p).context k ≡ set_of p.context k
+seal_set stamp worker p k = ap is_some (sealed_at stamp worker p.context.locks k) ∙ some_map_is (with_journal (sealed_as stamp worker)) (lock_in p.context.locks k)
 
-pub sealed_sound : (p q : PackageView) (b : Block) (stamp worker : ℕ) → IsSound p → p.pending ≡ Some b → q.pending ≡ None → q.image ≡ p.image → q.granted ≡ p.granted → q.context.thread ≡ p.context.thread → q.context.guest ≡ p.context.guest
-    → Changed (sealed_in (has b.held) stamp worker) p.context.locks q.context.locks → IsSound q
-sealed_sound p q b stamp worker sound pending none image granted thread guest changed =
-    let f : ℕ → LockView → LockView = sealed_in (has b.held) stamp worker in
-    let stage : AreAtStage (Some b) p.context = subst (λ x. AreAtStage x p.context) pending sound.stage in
-    let ran : Ran p.context b = subst (λ x. IsAt x p.context) pending sound.at in
-    let keeps = keeps_changed f p.context q.context (λ k l. identifies_when (has b.held k) (with_journal (sealed_as stamp worker)) l refl refl) changed thread in
-    let journals = journals_changed f (λ k. sealed_when (has b.held k) stamp worker) p.context q.context changed (λ k l e. sealed_journal (has b.held k) stamp worker l) in
-    let held : (k : ℕ) → has q.context.guest.held k ≡ has p.context.guest.held k = (λ k i. has (guest i).held k) in
-    record {
-      thread = subst (λ (x : Shown × ℕ). x.1 < length x.0.entries) (λ i. (sym image i, sym thread i)) sound.thread;
-      of = subst (λ x. AreOf x q.context.locks) (sym image) (keeps.of p.image sound.of);
-      held = λ k h. keeps.set k ∙ sound.held k (sym (held k) ∙ h);
-      stage = subst (λ x. AreAtStage x q.context) (sym none) (λ k j e.
-          (let was = map_some (sealed_when (has b.held k) stamp worker) (journal_at p.context k) j (sym (journals k) ∙ e) in
-          let s = stage k was.0 was.1 in
-          let r = sealed_rest (has b.held k) b stamp worker was.0 s.opened s.closed in
-          record { opened = ap (λ (i : Journal). i.opened) was.2 ∙ r.opened; closed = ap (λ (i : Journal). option_map block_in i.closed) was.2 ∙ r.closed }));
-      at = subst (λ x. IsAt x q.context) (sym none) (record {
-        on = λ k j h e.
-            (let was = map_some (sealed_when (has b.held k) stamp worker) (journal_at p.context k) j (sym (journals k) ∙ e) in
-            let r = ran.held k (sym (held k) ∙ h) in
-            let x = entry_was p.context b k was.0 stage was.1 r.0 in
-            ap (λ o. may_go_on k o q.context.thread) (last_sealed (has b.held k) stamp worker was.0 j x.0 r.0 was.2 x.1)
-            ∙ goes_with k q.context.thread (sealed_block stamp worker x.0.block) (subst (λ (y : Block). Survives k y.end) (sym x.2) r.1) (ap (λ (y : Block). y.thread) x.2 ∙ ran.thread ∙ sym thread));
-        rests = λ k j out e.
-            (let was = map_some (sealed_when (has b.held k) stamp worker) (journal_at p.context k) j (sym (journals k) ∙ e) in
-            rests_sealed p.context b stamp worker k was.0 j stage was.1 was.2 (λ h. ran.gave k h (sym (held k) ∙ out)) (λ h. ran.rests k was.0 h was.1));
-      });
-      grant = subst (λ x. MayTake x q.context q.granted) (sym image) (subst (λ x. MayTake p.image q.context x) (sym granted) (may_take p.image p.context q.context p.granted (λ i. thread_of (guest i)) keeps.set sound.grant));
-      log = subst (λ x. EndsWith q.log x) (sym none) tt;
-    }
+last_set : (xs : List Block) (b y : Block) → last_of xs ≡ Some b → last_of (set xs (length xs - 1) y) ≡ Some y
+last_set xs b y is =
+    let lt = slice_get_within xs (length xs - 1) b is in
+    ap (λ n. slice_get (set xs (length xs - 1) y) (n - 1)) (length-set xs (length xs - 1) y) ∙ get-set_same xs (length xs - 1) y lt
+
+module _ (p : PackageView) (b : Block) (stamp worker : ℕ) (sound : IsSound p) (pending : p.pending ≡ Some b) where
+  abbrev q : PackageView
+  q = with_seal stamp worker p
+
+  abbrev c : Block
+  c = sealed_block stamp worker b
+
+  -- it is the last of the log
+  pub seal_last : last_of q.log ≡ Some c
+  seal_last = ap (λ o. last_of (sealed_log stamp worker p.log o)) pending ∙ last_set p.log b c (subst (EndsWith p.log) pending sound.log)
+
+  abbrev seal : LockView → LockView
+  seal = with_journal (sealed_as stamp worker)
+
+  left_was : IsAfter p.image p.context b
+  left_was = subst (IsLeft p.image p.context) (subst (EndsWith p.log) pending sound.log) sound.left
+
+  -- and of each of its locks
+  last_there : (k : ℕ) (x : LockView) → IsStored p k x → has b.held k ≡ true → last_of (blocks_of (seal x)) ≡ Some c
+  last_there k x s h =
+      let e = entry_was p b k x s pending h in
+      ap (λ o. last_of (map block_in (sealed_list stamp worker x.journal.sealed o))) e.1 ∙ ap last_of (map-append block_in x.journal.sealed (sealed_entry stamp worker e.0 ∷ []))
+      ∙ last_is (blocks_of x) (sealed_block stamp worker e.0.block) ∙ ap (λ y. Some (sealed_block stamp worker y)) e.2
+
+  sealed_here : (k : ℕ) (x : LockView) → IsStored p k x → IsStored q k (seal x)
+  sealed_here k x s = record {
+    number = s.number;
+    known = s.known;
+    of = s.of;
+    turn = s.turn;
+    opened = s.opened;
+    closed = refl;
+    at = by (has b.held k) refl;
+  }
+    where
+      was : IsPending b k x
+      was = subst (λ o. IsAt o p k x) pending s.at
+
+      same : (y : Block) → last_of q.log ≡ Some y → y ≡ c
+      same y e = (let f : Some y ≡ Some c = sym e ∙ seal_last in cc)
+
+      by : (v : Bool) → has b.held k ≡ v → IsIdle q k (seal x)
+      by true h = record {
+        rests = λ free. subst (λ o. IfSome o (λ y. ends_section k y ≡ true)) (sym (last_there k x s h)) (given (ends_section k b) (sym free ∙ left_was.held k ∙ ap (λ v. v && not (ends_section k b)) h));
+        last = λ y e mine none. last_there k x s h ∙ ap Some (sym (same y e));
+      }
+        where
+          given : (v : Bool) → false ≡ not v → v ≡ true
+          given true e = refl
+          given false e = absurd (cc)
+      by false out = record {
+        rests = λ free. rests_as k x (seal x) (still (x.journal.closed) (closed_none x.journal.closed (s.closed ∙ ap (λ o. waiting_in o k) pending ∙ ap (λ v. if v then Some b else None) out))) (was.rests out);
+        last = λ y e mine none. absurd (false_true _ (ap (λ (z : Block). has z.held k) (same y e) ∙ out) mine);
+      }
+        where
+          still : (o : Option Entry) → o ≡ None → sealed_list stamp worker x.journal.sealed o ≡ x.journal.sealed
+          still o e = ap (sealed_list stamp worker x.journal.sealed) e
+
+  pub sealed_sound : IsSound q
+  sealed_sound = record {
+    few = sound.few;
+    places = (length-map p.context.locks (option_map seal) ∙ sound.places.0, sound.places.1);
+    thread = sound.thread;
+    held = λ k h. seal_set stamp worker p k ∙ sound.held k h;
+    stored = λ k l e. (let x = map_some seal (lock_in p.context.locks k) l (sym (sealed_at stamp worker p.context.locks k) ∙ e) in subst (IsStored q k) (sym x.2) (sealed_here k x.0 (sound.stored k x.0 x.1)));
+    left = subst (IsLeft p.image q.context) (sym seal_last) (record { thread = left_was.thread; runs = left_was.runs; next = left_was.next; held = left_was.held });
+    grant = subst (MayTake p.image q.context) (sym (sound.alone (ap is_some pending))) tt;
+    log = tt;
+    alone = λ h. absurd (cc);
+  }
 
 -- ---- a grant, and a lock that is taken out
 
-pub granted_sound : (p q : PackageView) (lock : LockView) (kind : Kind) → IsSound p → p.pending ≡ None → want_of p.image p.context ≡ Some lock.number → lock.journal.image ≡ p.image → lock.journal.opened ≡ None → lock.journal.closed ≡ None → Rests lock.number lock.journal → is_section kind ≡ true
-    → q.image ≡ p.image → q.pending ≡ p.pending → q.log ≡ p.log → q.context.thread ≡ p.context.thread → q.context.guest ≡ p.context.guest → q.granted ≡ Some (record { lock = lock.number; kind = kind })
-    → ((k : ℕ) → lock_in q.context.locks k ≡ (if k == lock.number then Some lock else lock_in p.context.locks k)) → IsSound q
-granted_sound p q lock kind sound rest want of opened closed ended section image pending log thread guest granted locks =
-    let n = lock.number in
-    let next : next_lock p.image (thread_in p.context) ≡ Some n = next_of (is_running p.context.guest.status) want in
-    let none : q.pending ≡ None = pending ∙ rest in
-    let held : (k : ℕ) → has q.context.guest.held k ≡ has p.context.guest.held k = (λ k i. has (guest i).held k) in
-    let free : has p.context.guest.held n ≡ false = next_free p.image (thread_in p.context) n next in
-    let stage : AreAtStage None p.context = subst (λ x. AreAtStage x p.context) rest sound.stage in
-    let idle : IsIdle p.context = subst (λ x. IsAt x p.context) rest sound.at in
-    let here : (k : ℕ) → k ≡ n → lock_in q.context.locks k ≡ Some lock = (λ k e. locks k ∙ (elim (eqb_tells k n) [ inl h ↦ ap (λ v. if v then Some lock else lock_in p.context.locks k) h.0 | inr h ↦ absurd (h.1 e) ])) in
-    let there : (k : ℕ) → k ≢ n → lock_in q.context.locks k ≡ lock_in p.context.locks k = (λ k ne. locks k ∙ (elim (eqb_tells k n) [ inl h ↦ absurd (ne h.1) | inr h ↦ ap (λ v. if v then Some lock else lock_in p.context.locks k) h.0 ])) in
-    record {
-      thread = subst (λ (x : Shown × ℕ). x.1 < length x.0.entries) (λ i. (sym image i, sym thread i)) sound.thread;
-      of = subst (λ x. AreOf x q.context.locks) (sym image) (λ k l e. elim (eqb_tells k n) [
-        | inl h ↦ (let same : Some lock ≡ Some l = sym (here k h.1) ∙ e in let f : lock ≡ l = cc in subst (λ x. IsLockOf p.image k x) f (record { number = sym h.1; known = rw h.1 (next_known p.image (thread_in p.context) n next); of = of }))
-        | inr h ↦ sound.of k l (sym (there k h.1) ∙ e)
-      ]);
-      held = λ k h. (elim (eqb_tells k n) [ inl f ↦ ap is_some (here k f.1) | inr f ↦ ap is_some (there k f.1) ∙ sound.held k (sym (held k) ∙ h) ]);
-      stage = subst (λ x. AreAtStage x q.context) (sym none) (λ k j e. elim (eqb_tells k n) [
-        | inl h ↦ (let same : Some lock.journal ≡ Some j = ap (option_map journal_in) (sym (here k h.1)) ∙ e in let f : lock.journal ≡ j = cc in subst (λ x. AtStage None k x) f (record { opened = opened; closed = ap (option_map block_in) closed }))
-        | inr h ↦ stage k j (ap (option_map journal_in) (sym (there k h.1)) ∙ e)
-      ]);
-      at = subst (λ x. IsAt x q.context) (sym none) (record {
-        on = λ k j h e. elim (eqb_tells k n) [
-          | inl f ↦ absurd (false_true _ (held k ∙ ap (has p.context.guest.held) f.1 ∙ free) h)
-          | inr f ↦ ap (may_go_on k (last_of (map block_in j.sealed))) thread ∙ idle.on k j (sym (held k) ∙ h) (ap (option_map journal_in) (sym (there k f.1)) ∙ e)
-        ];
-        rests = λ k j out e. elim (eqb_tells k n) [
-          | inl f ↦ (let same : Some lock.journal ≡ Some j = ap (option_map journal_in) (sym (here k f.1)) ∙ e in let g : lock.journal ≡ j = cc in subst (Rests k) g (subst (λ x. Rests x lock.journal) (sym f.1) ended))
-          | inr f ↦ idle.rests k j (sym (held k) ∙ out) (ap (option_map journal_in) (sym (there k f.1)) ∙ e)
-        ];
-      });
-      grant = subst (λ x. MayTake q.image q.context x) (sym granted) (record { next = (λ i. next_lock (image i) (thread_of (guest i))) ∙ next; here = ap is_some (here n refl); section = section });
-      log = subst (λ x. EndsWith q.log x) (sym none) tt;
-    }
-  where
-    next_of : (b : Bool) → (if b then next_lock p.image (thread_in p.context) else None) ≡ Some lock.number → next_lock p.image (thread_in p.context) ≡ Some lock.number
-    next_of true e = e
-    next_of false e = absurd (cc)
+-- the lock at each place
+pub placed : (p : PackageView) (n : ℕ) (o : Option LockView) → IsSound p → n < 32 → (k : ℕ) → lock_in (set p.context.locks n o) k ≡ (if k == n then o else lock_in p.context.locks k)
+placed p n o sound lt k = (let full = sound.places.0 in put_place p.context.locks n o k (omega (arith, full, lt)))
 
-pub taken_sound : (p q : PackageView) (lock : ℕ) → IsSound p → p.pending ≡ None → p.granted ≡ None → has p.context.guest.held lock ≡ false
-    → q.image ≡ p.image → q.pending ≡ p.pending → q.granted ≡ p.granted → q.context.thread ≡ p.context.thread → q.context.guest ≡ p.context.guest
-    → ((k : ℕ) → lock_in q.context.locks k ≡ (if k == lock then None else lock_in p.context.locks k)) → IsSound q
-taken_sound p q lock sound rest ungranted free image pending granted thread guest locks =
-    let none : q.pending ≡ None = pending ∙ rest in
-    let held : (k : ℕ) → has q.context.guest.held k ≡ has p.context.guest.held k = (λ k i. has (guest i).held k) in
-    let stage : AreAtStage None p.context = subst (λ x. AreAtStage x p.context) rest sound.stage in
-    let idle : IsIdle p.context = subst (λ x. IsAt x p.context) rest sound.at in
-    let was : (k : ℕ) (l : LockView) → lock_in q.context.locks k ≡ Some l → lock_in p.context.locks k ≡ Some l = (λ k l e. left (k == lock) k l (sym (locks k) ∙ e)) in
+-- a lock that stays in a package where nothing is granted
+stays_stored : (p q : PackageView) (k : ℕ) (l : LockView) → p.granted ≡ None → p.pending ≡ None → q.pending ≡ None → q.image ≡ p.image → q.log ≡ p.log → q.context.guest ≡ p.context.guest → number_in q k ≡ number_in p k → IsStored p k l → IsStored q k l
+stays_stored p q k l none rest none' image log guest number s =
+    let idle : IsIdle p k l = subst (λ o. IsAt o p k l) rest s.at in
     record {
-      thread = subst (λ (x : Shown × ℕ). x.1 < length x.0.entries) (λ i. (sym image i, sym thread i)) sound.thread;
-      of = subst (λ x. AreOf x q.context.locks) (sym image) (λ k l e. sound.of k l (was k l e));
-      held = λ k h. (elim (eqb_tells k lock) [
-        | inl f ↦ absurd (false_true _ (held k ∙ ap (has p.context.guest.held) f.1 ∙ free) h)
-        | inr f ↦ ap is_some (locks k ∙ ap (λ v. if v then None else lock_in p.context.locks k) f.0) ∙ sound.held k (sym (held k) ∙ h)
-      ]);
-      stage = subst (λ x. AreAtStage x q.context) (sym none) (λ k j e. (let l = journal_was q.context k j e in stage k j (ap (option_map journal_in) (was k l.0 l.1) ∙ ap Some (sym l.2))));
-      at = subst (λ x. IsAt x q.context) (sym none) (record {
-        on = λ k j h e. (let l = journal_was q.context k j e in ap (may_go_on k (last_of (map block_in j.sealed))) thread ∙ idle.on k j (sym (held k) ∙ h) (ap (option_map journal_in) (was k l.0 l.1) ∙ ap Some (sym l.2)));
-        rests = λ k j out e. (let l = journal_was q.context k j e in idle.rests k j (sym (held k) ∙ out) (ap (option_map journal_in) (was k l.0 l.1) ∙ ap Some (sym l.2)));
+      number = s.number;
+      known = subst (λ (x : Shown). k < length x.guards) (sym image) s.known;
+      of = s.of ∙ sym image;
+      turn = subst IsNumber (sym number) s.turn;
+      opened = s.opened;
+      closed = s.closed ∙ ap (λ o. waiting_in o k) (rest ∙ sym none');
+      at = subst (λ o. IsAt o q k l) (sym none') (record {
+        rests = λ free. idle.rests (ap (λ (g : Guest). has g.held k) (sym guest) ∙ free);
+        last = λ b e h g. idle.last b (ap last_of (sym log) ∙ e) h (λ f. none_some p.granted _ none (granted_some p.granted f).1);
       });
-      grant = subst (λ x. MayTake q.image q.context x) (sym (granted ∙ ungranted)) tt;
-      log = subst (λ x. EndsWith q.log x) (sym none) tt;
     }
   where
-    left : (b : Bool) (k : ℕ) (l : LockView) → (if b then None else lock_in p.context.locks k) ≡ Some l → lock_in p.context.locks k ≡ Some l
-    left true k l e = absurd (cc)
-    left false k l e = e
+    granted_some : (g : Option Grant) → granted_lock g ≡ Some k → (x : Grant) × (g ≡ Some x)
+    granted_some None e = absurd (cc)
+    granted_some (Some x) e = (x, refl)
+
+pub granted_sound : (p : PackageView) (lock : LockView) (kind : Kind) (number : ℕ) → IsSound p → IsWaiting p lock.number → IsAtRest p.image lock.number lock → is_section kind ≡ true → passes_to (last_of (blocks_of lock)) kind p.context.thread ≡ true → IsNumber number → IsSound (with_grant lock kind number p)
+granted_sound p lock kind number sound waiting rest section passes small =
+    let n = lock.number in
+    let q = with_grant lock kind number p in
+    let want = wanted p sound n waiting.want in
+    let next = (wanted_next (is_running p.context.guest.status) (next_lock p.image (thread_in p.context)) n waiting.want).1 in
+    let at = placed p n (Some lock) sound want.small in
+    let here : (k : ℕ) → k ≡ n → lock_in q.context.locks k ≡ Some lock = (λ k e. at k ∙ ap (λ v. if v then Some lock else lock_in p.context.locks k) (ap (λ j. j == n) e ∙ eq_true n)) in
+    let there : (k : ℕ) → k ≢ n → lock_in q.context.locks k ≡ lock_in p.context.locks k = (λ k ne. ap slot_of (get-set_other p.context.locks n k (Some lock) ne)) in
+    let few : n < length p.numbers = (let full = sound.places.1 in let lt = want.small in omega (arith, full, lt)) in
+    record {
+      few = sound.few;
+      places = (length-set p.context.locks n (Some lock) ∙ sound.places.0, length-set p.numbers n number ∙ sound.places.1);
+      thread = sound.thread;
+      held = λ k h. (elim (eqb_tells k n) [ inl f ↦ ap is_some (here k f.1) | inr f ↦ ap is_some (there k f.1) ∙ sound.held k h ]);
+      stored = λ k l e. elim (eqb_tells k n) [
+        | inl f ↦
+            let same : Some lock ≡ Some l = sym (here k f.1) ∙ e in
+            let is : lock ≡ l = cc in
+            subst (λ (z : ℕ × LockView). IsStored q z.0 z.1) (λ i. (sym f.1 i, is i)) (record {
+              number = refl;
+              known = want.known;
+              of = rest.of;
+              turn = subst IsNumber (sym (get_or-set_same p.numbers n number 0 few)) small;
+              opened = rest.opened;
+              closed = ap (option_map block_in) rest.closed ∙ sym (ap (λ o. waiting_in o n) waiting.pending);
+              at = subst (λ o. IsAt o q n lock) (sym waiting.pending) (record { rests = λ free. rest.ended; last = λ b e' h not. absurd (not refl) });
+            })
+        | inr f ↦ stays_stored p q k l waiting.granted waiting.pending waiting.pending refl refl refl (get_or-set_other p.numbers n k number 0 f.1) (sound.stored k l (sym (there k f.1) ∙ e))
+      ];
+      left = left_as p.image p.context q.context (last_of p.log) refl refl sound.left;
+      grant = record { next = next; here = ap is_some (here n refl); section = section; passes = λ l e. (let same : Some lock ≡ Some l = sym (here n refl) ∙ e in let is : lock ≡ l = cc in subst (λ x. passes_to (last_of (blocks_of x)) kind p.context.thread ≡ true) is passes) };
+      log = sound.log;
+      alone = λ h. absurd (false_true _ (ap is_some waiting.pending) h);
+    }
+
+pub left_there : (b : Bool) (o : Option LockView) (l : LockView) → (if b then None else o) ≡ Some l → o ≡ Some l
+left_there true o l e = absurd (cc)
+left_there false o l e = e
+
+pub taken_sound : (p : PackageView) (lock : ℕ) → IsSound p → p.pending ≡ None → p.granted ≡ None → has p.context.guest.held lock ≡ false → lock < 32 → IsSound (without_lock lock p)
+taken_sound p lock sound rest ungranted free small =
+    let q = without_lock lock p in
+    let at = placed p lock None sound small in
+    record {
+      few = sound.few;
+      places = (length-set p.context.locks lock None ∙ sound.places.0, sound.places.1);
+      thread = sound.thread;
+      held = λ k h. (elim (eqb_tells k lock) [
+        | inl f ↦ absurd (false_true _ (ap (has p.context.guest.held) f.1 ∙ free) h)
+        | inr f ↦ ap is_some (at k ∙ ap (λ v. if v then None else lock_in p.context.locks k) f.0) ∙ sound.held k h
+      ]);
+      stored = λ k l e. stays_stored p q k l ungranted rest rest refl refl refl refl (sound.stored k l (left_there (k == lock) (lock_in p.context.locks k) l (sym (at k) ∙ e)));
+      left = left_as p.image p.context q.context (last_of p.log) refl refl sound.left;
+      grant = subst (MayTake p.image q.context) (sym ungranted) tt;
+      log = sound.log;
+      alone = sound.alone;
+    }

@@ -3,4 +3,6 @@ pub mod Whole
 pub mod Middle
 pub mod View
 pub mod Kept
+pub mod Ran
 pub mod History
+pub mod Lawful

@@ -1,5 +1,5 @@
 -- The lock states that a package has, as it and the machine see them.
-use Rattle.std.specs.Prelude.{◌≡◌, ℕ, ◌<◌, Bool, true, false, ◌==◌, ◌&&◌, if◌then◌else◌, List, [], ◌∷◌, slice_get, length, Option, Some, None, is_some, option_map}
+use Rattle.std.specs.Prelude.{◌≡◌, ℕ, ◌<◌, Bool, true, false, ◌==◌, ◌&&◌, if◌then◌else◌, List, [], ◌∷◌, map, slice_get, length, Option, Some, None, is_some, option_map}
 use Rattle.tc_isa.specs.Registers.{Registers}
 use Rattle.tc_elf.specs.Shown.{Shown}
 use Rattle.tc_elf.specs.Places.{in_guard}
@@ -14,7 +14,7 @@ use Rattle.tc_exec.specs.declared.outcome.Want.{Want}
 use Rattle.tc_journal.specs.declared.block.Block.{Block}
 use Rattle.tc_turn.specs.Turn.{Mutex}
 use Rattle.tc_turn.specs.Replay.{takes_word}
-use Rattle.tc_segment.specs.View.{LockView, lock_of, guard_of, with_store, with_section, with_break, with_end, with_journal, opened_at, noted, closed_with, sealed_as, with_room}
+use Rattle.tc_segment.specs.View.{LockView, Opened, Closes, kept, lock_of, guard_of, with_store, with_section, with_break, with_end, with_journal, opened_at, noted, closed_with, sealed_as, with_room}
 
 abbrev pub slot_of : Option (Option LockView) → Option LockView
 slot_of None = None
@@ -37,6 +37,34 @@ mutex_or t held (Some l) = mutex_of t held l
 
 abbrev pub is_open_lock : LockView → Bool
 is_open_lock l = is_some l.journal.opened
+
+-- this holds of lock k, where it is there
+abbrev pub HoldsAt : ℕ → (LockView → Type 0) → List (Option LockView) → Type 0
+HoldsAt k P slots = (l : LockView) → lock_in slots k ≡ Some l → P l
+
+-- of lock k, where it is there and in the set
+abbrev pub HeldAt : ℕ → (ℕ → Bool) → (LockView → Type 0) → List (Option LockView) → Type 0
+HeldAt k held P slots = (l : LockView) → lock_in slots k ≡ Some l → held k ≡ true → P l
+
+-- of each lock that is there and in the set
+abbrev pub EachHeld : (ℕ → Bool) → (LockView → Type 0) → List (Option LockView) → Type 0
+EachHeld held P slots = (k : ℕ) (l : LockView) → lock_in slots k ≡ Some l → held k ≡ true → P l
+
+-- of each lock that is there, with its number
+abbrev pub EachLock : (ℕ → LockView → Type 0) → List (Option LockView) → Type 0
+EachLock P slots = (k : ℕ) (l : LockView) → lock_in slots k ≡ Some l → P k l
+
+-- place n has this now, and the others have what they had
+abbrev pub IsPlaced : ℕ → Option LockView → List (Option LockView) → List (Option LockView) → Type 0
+IsPlaced n o old new = (k : ℕ) → lock_in new k ≡ (if k == n then o else lock_in old k)
+
+-- the same locks, but for their rooms
+abbrev pub SameLocks : List (Option LockView) → List (Option LockView) → Type 0
+SameLocks old new = (k : ℕ) → option_map kept (lock_in new k) ≡ option_map kept (lock_in old k)
+
+-- the open entry of the lock may be closed with this block and these registers
+abbrev pub MayClose : Block → Registers → LockView → Type 0
+MayClose block finish l = (o : Opened) → l.journal.opened ≡ Some o → Closes l block finish o
 
 -- each lock state has the number of its place, and stands for the image
 pub record IsLockOf (image : Shown) (k : ℕ) (l : LockView) : Type 0 where
@@ -74,6 +102,14 @@ turned held (Some (Called (Unlock lock) regs)) k l = l
 turned held (Some (Called (Sleep blocks) regs)) k l = l
 turned held (Some (Called Exit regs)) k l = when_in (held k) with_break l
 turned held (Some (Faulted f)) k l = when_in (held k) with_break l
+
+-- a store into the lock's guard
+abbrev pub with_put : Put → LockView → LockView
+with_put put l = with_store put.addr put.width put.value l
+
+-- which lies in it
+abbrev pub IsInside : Put → LockView → Type 0
+IsInside put l = in_guard put.addr put.width (guard_of l) ≡ true
 
 -- the entry of each lock that a turn changes is open, and a store lies in the guard
 abbrev pub StoreReady : Region → ℕ → ℕ → ℕ → LockView → Type 0
@@ -138,6 +174,14 @@ sealed_in held stamp worker k l = when_in (held k) (with_journal (sealed_as stam
 
 abbrev pub roomy_in : ℕ → ℕ → ℕ → LockView → LockView
 roomy_in entries words k l = with_journal (with_room entries words) l
+
+-- each entry that isn't sealed yet is
+abbrev pub sealed_all : ℕ → ℕ → List (Option LockView) → List (Option LockView)
+sealed_all stamp worker locks = map (option_map (with_journal (sealed_as stamp worker))) locks
+
+-- a change of each lock, at the place of this number alone
+abbrev pub one_place : (ℕ → LockView → LockView) → ℕ → ℕ → LockView → LockView
+one_place f lock k l = when_in (k == lock) (f lock) l
 
 -- a change of the lock of this number alone
 abbrev pub at_place : ℕ → (LockView → LockView) → ℕ → LockView → LockView

@@ -62,3 +62,11 @@ pub record IsTurn (image : Shown) (block : ℕ → Bool) (old new : Context) (a 
 abbrev pub words_of : Shown → Context → ℕ → ℕ → List ℕ
 words_of image p k n =
     words_from image k (λ i. (reach image (whole p) p.thread i).threads p.thread) (λ i. (reach image (whole p) p.thread i).locks) 0 n
+
+-- the words of n turns are noted in the block's locks
+abbrev pub AreNoted : Shown → (ℕ → Bool) → ℕ → Context → Context → Type 0
+AreNoted image block n old new = (k : ℕ) → journal_at new k ≡ option_map (noted_when (block k) (words_of image old k n)) (journal_at old k)
+
+-- the word of a turn that wants this is noted in the block's locks
+abbrev pub NotesWord : (ℕ → Bool) → Want → Option ℕ → ℕ → Context → Context → Type 0
+NotesWord block want next answer old new = Notes (word_with (thread_in old) want next answer) block old new

@@ -1,19 +1,21 @@
--- A package, as contracts see it.
-use Rattle.std.specs.Prelude.{◌≡◌, ℕ, ◌<◌, ◌≤◌, Bool, true, false, List, [], ◌∷◌, map, length, Option, Some, None, IfSome, if◌then◌else◌}
+-- A package, as contracts see it, and what each keeps.
+use Rattle.std.specs.Prelude.{◌≡◌, ◌≢◌, ℕ, ◌<◌, ◌≤◌, ◌-◌, Bool, true, false, not, ◌&&◌, List, [], ◌∷◌, set, length, replicate, slice_index_or, Option, Some, None, IfSome, is_some, if◌then◌else◌}
 use Rattle.std.specs.Option.{option_map}
 use Rattle.tc_isa.specs.Sets.{has}
 use Rattle.tc_elf.specs.Shown.{Shown}
-use Rattle.tc_journal.specs.Batch.{is_section, begins, last_of, allows_of, may_go_on, unlocks, ends_thread, ends_section}
+use Rattle.tc_journal.specs.Batch.{is_section, begins, last_of, allows_of, may_go_on, ends_thread, ends_section, passes_to, passes_on}
 use Rattle.tc_journal.specs.declared.block.Block.{Block}
-use Rattle.tc_journal.specs.declared.block.End.{End}
+use Rattle.tc_journal.specs.declared.block.End.TheVariants.{Wants}
 use Rattle.tc_journal.specs.declared.block.Kind.{Kind}
 use Rattle.tc_journal.specs.declared.block.Kind.TheVariants.{Start, On}
 use Rattle.tc_turn.specs.Turn.{is_running, next_lock, thread_at_start}
-use Rattle.tc_segment.specs.View.{LockView, Journal, block_in, blocks_of}
+use Rattle.tc_turn.specs.declared.status.Status.TheVariants.{Running}
+use Rattle.tc_segment.specs.View.{LockView, block_in, blocks_of, sealed_block}
 use Rattle.tc_context.specs.declared.context.Context.{Context}
 use Rattle.tc_context.specs.declared.package.Grant.{Grant}
-use Rattle.tc_context.specs.Locks.{lock_in, AreOf}
-use Rattle.tc_context.specs.Whole.{thread_in, set_of, journal_at}
+use Rattle.tc_context.specs.declared.package.TheConstants.{MAX_NUMBER}
+use Rattle.tc_context.specs.Locks.{lock_in, SameLocks, sealed_all}
+use Rattle.tc_context.specs.Whole.{thread_in, set_of}
 
 -- the thread and the locks that are in the package; the lock that was granted and isn't taken yet; the block that ran and
 -- isn't sealed; the blocks that ran, with room for more; the queue turns: those of the grants, and how many were given
@@ -48,10 +50,18 @@ pub record IsReserved (p : PackageView) : Type 0 where
   pub entries : (k : ℕ) (l : LockView) → lock_in p.context.locks k ≡ Some l → 0 < l.journal.entry_room
   pub words : (k : ℕ) (l : LockView) → lock_in p.context.locks k ≡ Some l → 4096 ≤ l.journal.word_room
 
--- something of the pending block
-abbrev pub HasPending : (Block → Type 0) → Option Block → Type 0
-HasPending P None = ⊥
-HasPending P (Some b) = P b
+-- there is such a block, the pending one or the last, and this holds of it
+abbrev pub HasBlock : (Block → Type 0) → Option Block → Type 0
+HasBlock P None = ⊥
+HasBlock P (Some b) = P b
+
+-- a number of a queue turn
+abbrev pub IsNumber : ℕ → Type 0
+IsNumber n = (1 ≤ n) × (n ≤ MAX_NUMBER)
+
+-- the number of the queue turn with which lock k came
+abbrev pub number_in : PackageView → ℕ → ℕ
+number_in p k = slice_index_or p.numbers k 0
 
 -- a package in which nothing ran
 pub record IsFresh (image : Shown) (t fuel : ℕ) (p : PackageView) : Type 0 where
@@ -62,69 +72,83 @@ pub record IsFresh (image : Shown) (t fuel : ℕ) (p : PackageView) : Type 0 whe
   pub granted : p.granted ≡ None
   pub pending : p.pending ≡ None
   pub log : p.log ≡ []
+  pub log_room : p.log_room ≡ 0
+  pub numbers : p.numbers ≡ replicate 32 0
   pub turns : p.turns ≡ 0
   pub slept : p.slept ≡ 0
 
 -- ---- what each package keeps
-
-abbrev pub held_in : Option Block → ℕ → Bool
-held_in None k = false
-held_in (Some b) k = has b.held k
 
 -- the block that a lock's journal has beside its sealed ones
 abbrev pub waiting_in : Option Block → ℕ → Option Block
 waiting_in None k = None
 waiting_in (Some b) k = if has b.held k then Some b else None
 
--- no entry is open, and all are sealed but those of the pending block
-pub record AtStage (pending : Option Block) (k : ℕ) (j : Journal) : Type 0 where
-  pub opened : j.opened ≡ None
-  pub closed : option_map block_in j.closed ≡ waiting_in pending k
-
-abbrev pub AreAtStage : Option Block → Context → Type 0
-AreAtStage pending p = (k : ℕ) (j : Journal) → journal_at p k ≡ Some j → AtStage pending k j
-
--- the end gives up no section of the lock
-pub record Survives (k : ℕ) (end : End) : Type 0 where
-  pub lock : unlocks k end ≡ false
-  pub runs : ends_thread end ≡ false
-
--- the thread is in the middle of the section of each lock that it holds
-abbrev pub GoesOn : Context → Type 0
-GoesOn p = (k : ℕ) (j : Journal) → has p.guest.held k ≡ true → journal_at p k ≡ Some j → may_go_on k (last_of (map block_in j.sealed)) p.thread ≡ true
-
 -- the last sealed entry of the lock's journal, where there is one, ended a section of the lock
-abbrev pub Rests : ℕ → Journal → Type 0
-Rests k j = IfSome (last_of (map block_in j.sealed)) (λ b. ends_section k b ≡ true)
+abbrev pub Rests : ℕ → LockView → Type 0
+Rests k l = IfSome (last_of (blocks_of l)) (λ b. ends_section k b ≡ true)
 
--- no block is pending: the thread is in the middle of the section of each lock that it holds, and each other lock rests
-pub record IsIdle (p : Context) : Type 0 where
-  pub on : GoesOn p
-  pub rests : (k : ℕ) (j : Journal) → has p.guest.held k ≡ false → journal_at p k ≡ Some j → Rests k j
+-- lock k of a package in which no block is pending: it rests where the thread doesn't hold it; and where the last block had
+-- it, that is its last one too, unless it was granted since
+pub record IsIdle (p : PackageView) (k : ℕ) (l : LockView) : Type 0 where
+  pub rests : has p.context.guest.held k ≡ false → Rests k l
+  pub last : (b : Block) → last_of p.log ≡ Some b → has b.held k ≡ true → granted_lock p.granted ≢ Some k → last_of (blocks_of l) ≡ Some b
 
--- the block ran: the thread holds only locks of it that its end gave up no section of, and was in the middle of the section of
--- each that it didn't take; the block's end gave up each lock of it that the thread doesn't hold, and each other lock rests
-pub record Ran (p : Context) (b : Block) : Type 0 where
+-- lock k of a package in which this block is pending: one that isn't of the block rests, one of it that the block didn't take
+-- was in the middle of the thread's section, and one that was passed on to the block was another thread's before
+pub record IsPending (b : Block) (k : ℕ) (l : LockView) : Type 0 where
+  pub rests : has b.held k ≡ false → Rests k l
+  pub on : has b.held k ≡ true → begins k b ≡ false → may_go_on k (last_of (blocks_of l)) b.thread ≡ true
+  pub passes : has b.held k ≡ true → passes_on k (blocks_of l) b ≡ true
+
+abbrev pub IsAt : Option Block → PackageView → ℕ → LockView → Type 0
+IsAt None p k l = IsIdle p k l
+IsAt (Some b) p k l = IsPending b k l
+
+-- the lock state l has its place in the package as lock k: no entry is open, and all are sealed but that of the pending block
+pub record IsStored (p : PackageView) (k : ℕ) (l : LockView) : Type 0 where
+  pub number : l.number ≡ k
+  pub known : k < length p.image.guards
+  pub of : l.journal.image ≡ p.image
+  pub turn : IsNumber (number_in p k)
+  pub opened : l.journal.opened ≡ None
+  pub closed : option_map block_in l.journal.closed ≡ waiting_in p.pending k
+  pub at : IsAt p.pending p k l
+
+-- the thread is as its block b left it: it runs unless the block ended it, is about to take the lock that the block's end
+-- wants, and holds those locks of the block of which the block ended no section
+pub record IsAfter (image : Shown) (p : Context) (b : Block) : Type 0 where
   pub thread : b.thread ≡ p.thread
-  pub held : (k : ℕ) → has p.guest.held k ≡ true → (has b.held k ≡ true) × Survives k b.end
-  pub on : (k : ℕ) (j : Journal) → has b.held k ≡ true → journal_at p k ≡ Some j → begins k b ≡ false → may_go_on k (last_of (map block_in j.sealed)) b.thread ≡ true
-  pub gave : (k : ℕ) → has b.held k ≡ true → has p.guest.held k ≡ false → ends_section k b ≡ true
-  pub rests : (k : ℕ) (j : Journal) → has b.held k ≡ false → journal_at p k ≡ Some j → Rests k j
+  pub runs : is_running p.guest.status ≡ not (ends_thread b.end)
+  pub next : (k : ℕ) → b.end ≡ Wants k → next_lock image (thread_in p) ≡ Some k
+  pub held : (k : ℕ) → has p.guest.held k ≡ (has b.held k && not (ends_section k b))
 
-abbrev pub IsAt : Option Block → Context → Type 0
-IsAt None p = IsIdle p
-IsAt (Some b) p = Ran p b
+-- before its first block it runs, and holds nothing
+pub record IsBefore (p : Context) : Type 0 where
+  pub runs : p.guest.status ≡ Running
+  pub held : (k : ℕ) → has p.guest.held k ≡ false
+
+-- the thread is as the last block of its log left it
+abbrev pub IsLeft : Shown → Context → Option Block → Type 0
+IsLeft image p None = IsBefore p
+IsLeft image p (Some b) = IsAfter image p b
 
 -- the log ends with the block that isn't sealed
 abbrev pub EndsWith : List Block → Option Block → Type 0
 EndsWith log None = Unit {0}
 EndsWith log (Some b) = last_of log ≡ Some b
 
--- the thread is about to take the lock that was granted, which is in the package
+-- a section of this kind may be the thread's next one of the lock: it is taken, or another thread had the lock before
+abbrev pub MayPassTo : LockView → Kind → ℕ → Type 0
+MayPassTo l kind t = passes_to (last_of (blocks_of l)) kind t ≡ true
+
+-- the thread is about to take the lock that was granted, which is in the package, and was another thread's where it was
+-- passed on
 pub record IsGranted (image : Shown) (p : Context) (g : Grant) : Type 0 where
   pub next : next_lock image (thread_in p) ≡ Some g.lock
   pub here : set_of p g.lock ≡ true
   pub section : is_section g.kind ≡ true
+  pub passes : (l : LockView) → lock_in p.locks g.lock ≡ Some l → MayPassTo l g.kind p.thread
 
 abbrev pub MayTake : Shown → Context → Option Grant → Type 0
 MayTake image p None = Unit {0}
@@ -132,17 +156,37 @@ MayTake image p (Some g) = IsGranted image p g
 
 -- what each package keeps, wherever it is
 pub record IsSound (p : PackageView) : Type 0 where
+  pub few : length p.image.guards ≤ 32
+  pub places : (length p.context.locks ≡ 32) × (length p.numbers ≡ 32)
   pub thread : p.context.thread < length p.image.entries
-  pub of : AreOf p.image p.context.locks
   pub held : (k : ℕ) → has p.context.guest.held k ≡ true → set_of p.context k ≡ true
-  pub stage : AreAtStage p.pending p.context
-  pub at : IsAt p.pending p.context
+  pub stored : (k : ℕ) (l : LockView) → lock_in p.context.locks k ≡ Some l → IsStored p k l
+  pub left : IsLeft p.image p.context (last_of p.log)
   pub grant : MayTake p.image p.context p.granted
   pub log : EndsWith p.log p.pending
+  pub alone : is_some p.pending ≡ true → p.granted ≡ None
+
+-- the lock k is one that the thread may take: it runs and doesn't hold it
+pub record IsWanted (p : PackageView) (k : ℕ) : Type 0 where
+  pub runs : p.context.guest.status ≡ Running
+  pub free : has p.context.guest.held k ≡ false
+  pub known : k < length p.image.guards
+  pub small : k < 32
+
+-- so is the lock that it wants, where it wants one
+abbrev pub WantIsLawful : PackageView → Type 0
+WantIsLawful p = (k : ℕ) → want_of p.image p.context ≡ Some k → IsWanted p k
+
+-- the lock that it wants, where it wants one, is granted to it
+abbrev pub WantIsGranted : Shown → PackageView → Type 0
+WantIsGranted image p = (k : ℕ) → want_of image p.context ≡ Some k → granted_lock p.granted ≡ Some k
 
 -- the batch rule allows the section that the block began, with this worker
 abbrev pub Allows : Context → Block → ℕ → Type 0
 Allows p b worker = (k : ℕ) (l : LockView) → begins k b ≡ true → lock_in p.locks k ≡ Some l → allows_of k l.journal.limit (blocks_of l) b.kind worker ≡ true
+
+abbrev pub AllowsPending : PackageView → ℕ → Type 0
+AllowsPending p worker = (b : Block) → p.pending ≡ Some b → Allows p.context b worker
 
 -- ---- what fits a worker
 
@@ -158,45 +202,57 @@ fits_granted p (Some g) worker = fits_in (lock_in p.locks g.lock) g.lock g.kind 
 abbrev pub fits_of : PackageView → ℕ → Bool
 fits_of p worker = fits_granted p.context p.granted worker
 
--- ---- what a call leaves as it is
+-- ---- what the calls make of it
 
--- the thread, its grant and its numbers
-pub record IsOtherwise (old new : PackageView) : Type 0 where
-  pub image_is : new.image ≡ old.image
-  pub thread : new.context.thread ≡ old.context.thread
-  pub numbers : new.numbers ≡ old.numbers
-  pub turns : new.turns ≡ old.turns
-  pub slept : new.slept ≡ old.slept
-
--- what a block is called, besides its turns and its locks
-pub record IsNamed (old : PackageView) (end : End) (b : Block) : Type 0 where
-  pub thread : b.thread ≡ old.context.thread
-  pub kind : b.kind ≡ kind_of old.granted old.log
-  pub end_is : b.end ≡ end
-
-abbrev pub with_turns : ℕ → PackageView → PackageView
-with_turns turns p = record {
-  image = p.image;
-  context = p.context;
-  granted = p.granted;
-  pending = p.pending;
-  log = p.log;
-  log_room = p.log_room;
-  numbers = p.numbers;
-  turns = turns;
-  slept = p.slept;
+-- the package without its lock states, their turns, its grant and its rooms: as long as no block runs, nothing else changes
+abbrev pub bare : PackageView → PackageView
+bare p = record p {
+  context = record { thread = p.context.thread; guest = p.context.guest; locks = [] };
+  granted = None;
+  log_room = 0;
+  numbers = [];
+  turns = 0;
 }
 
--- all but the lock states, the grant and its number, and room in the log
-pub record IsOtherThanGrant (old new : PackageView) : Type 0 where
-  pub otherwise : (new.image ≡ old.image) × (new.turns ≡ old.turns) × (new.slept ≡ old.slept)
-  pub thread : new.context.thread ≡ old.context.thread
-  pub guest : new.context.guest ≡ old.context.guest
-  pub pending : new.pending ≡ old.pending
-  pub log : new.log ≡ old.log
-
--- all but the lock states and room in the log
-pub record IsOtherThanLocks (old new : PackageView) : Type 0 where
-  pub grant : IsOtherThanGrant old new
+-- the same package, but for rooms
+pub record IsRoomier (old new : PackageView) : Type 0 where
+  pub rest : bare new ≡ bare old
   pub granted : new.granted ≡ old.granted
   pub numbers : new.numbers ≡ old.numbers
+  pub turns : new.turns ≡ old.turns
+  pub locks : SameLocks old.context.locks new.context.locks
+
+-- with this lock granted, in this way and under this number
+abbrev pub with_grant : LockView → Kind → ℕ → PackageView → PackageView
+with_grant lock kind number p = record p {
+  context = record { thread = p.context.thread; guest = p.context.guest; locks = set p.context.locks lock.number (Some lock) };
+  granted = Some (record { lock = lock.number; kind = kind });
+  numbers = set p.numbers lock.number number;
+}
+
+-- without this lock
+abbrev pub without_lock : ℕ → PackageView → PackageView
+without_lock lock p = record p { context = record { thread = p.context.thread; guest = p.context.guest; locks = set p.context.locks lock None } }
+
+-- with this many queue turns given
+abbrev pub with_turns : ℕ → PackageView → PackageView
+with_turns turns p = record p { turns = turns }
+
+abbrev pub sealed_log : ℕ → ℕ → List Block → Option Block → List Block
+sealed_log stamp worker log None = log
+sealed_log stamp worker log (Some b) = set log (length log - 1) (sealed_block stamp worker b)
+
+-- with the pending block sealed
+abbrev pub with_seal : ℕ → ℕ → PackageView → PackageView
+with_seal stamp worker p = record p {
+  context = record { thread = p.context.thread; guest = p.context.guest; locks = sealed_all stamp worker p.context.locks };
+  pending = None;
+  log = sealed_log stamp worker p.log p.pending;
+}
+
+-- what a package asks of the lock that is granted to it: it wants that lock, and has none granted and no block pending
+pub record IsWaiting (p : PackageView) (k : ℕ) : Type 0 where
+  pub pending : p.pending ≡ None
+  pub granted : p.granted ≡ None
+  pub want : want_of p.image p.context ≡ Some k
+  pub absent : lock_in p.context.locks k ≡ None

@@ -52,18 +52,19 @@ pub record CanGo (image : Shown) (p : Context) : Type 0 where
   pub of : AreOf image p.locks
   pub covers : Covers image (set_of p) (thread_in p)
 
--- in any machine where the thread and the locks that are in the package are as it has them, the block of these turns is
--- there, and it leads to a machine that differs in these alone, and has them as the package has them afterwards
-pub record RunsAs (image : Shown) (old new : Context) (turns : ℕ) (end : End) : Type 0 where
-  pub keeps : Keeps old new
-  pub block : (m : State) → Agree old.thread (set_of old) (whole old) m
-      → (to : State) × (Runs image m old.thread turns end to) × (Agree old.thread (set_of old) (whole new) to) × (Apart old.thread (set_of old) m to)
-
--- ---- the journals
-
 -- the locks of the package's next block
 abbrev pub block_locks : Shown → Context → ℕ → Bool
 block_locks image p k = locks_of_block (has p.guest.held) (next_lock image (thread_in p)) k
+
+-- in any machine where the thread and the locks of its next block are as the package has them, the block of these turns is
+-- there, and it leads to a machine that differs in these alone, and has them as the package has them afterwards
+pub record RunsAs (image : Shown) (old new : Context) (turns : ℕ) (end : End) : Type 0 where
+  pub keeps : Keeps old new
+  pub block : (m : State) → Agree old.thread (block_locks image old) (whole old) m
+      → (to : State) × (Runs image m old.thread turns end to) × (Agree old.thread (block_locks image old) (whole new) to) × (Apart old.thread (block_locks image old) m to)
+  pub others : (k : ℕ) → block_locks image old k ≡ false → mutex_at new k ≡ mutex_at old k
+
+-- ---- the journals
 
 -- the journal with this entry more, which isn't sealed yet
 abbrev pub with_entry : Entry → Journal → Journal

@@ -1,31 +1,41 @@
 //! A thread with the locks that are in its package, and the blocks that it runs.
 
-ghost use Rattle.std.specs.Prelude.{◌≡◌, ℕ, ◌+◌, ◌<◌, ◌≤◌, ◌^◌, true, false, is_some, length, unwrap_or, Some, None, IfOk, IfSome};
-ghost use Rattle.std.specs.Option.{option_map};
+ghost use Rattle.std.specs.Prelude.{◌≡◌, ℕ, ◌+◌, ◌<◌, ◌≤◌, ◌^◌, is_some, length, None, IfOk, IfSome};
 ghost use Rattle.tc_isa.specs.Sets.{has};
-ghost use Rattle.tc_elf.specs.Shown.{guard_at};
-ghost use Rattle.tc_exec.specs.Step.{wants_of};
-ghost use Rattle.tc_exec.specs.Told.{IsWant};
-ghost use Rattle.tc_journal.specs.Batch.{is_section, may_follow};
+ghost use Rattle.tc_journal.specs.Batch.{is_section};
 ghost use Rattle.tc_journal.specs.History.{IsBlock, IsEnd};
-ghost use Rattle.tc_turn.specs.Memory.{byte_from, number_at};
 ghost use Rattle.tc_turn.specs.Reads.{Covers};
-ghost use Rattle.tc_turn.specs.Replay.{Entry};
-ghost use Rattle.tc_turn.specs.Turn.{byte_at, answer_to, next_lock, next_act, act_with, ActFits, thread_at_start};
+ghost use Rattle.tc_turn.specs.Turn.{next_lock, next_act, ActFits, thread_at_start};
 ghost use Rattle.tc_mutex_spec.specs.Blocks.{locks_of_block};
-ghost use Rattle.tc_segment.specs.View.{LockView, blocks_of, sealed_block};
-ghost use Rattle.tc_context.specs.Locks.{lock_in, AreOf, Changed, noted_in, sealed_in, TurnFits, TurnReady};
+ghost use Rattle.tc_context.specs.Locks.{lock_in, AreOf, EachLock, TurnFits, TurnReady};
+ghost use Rattle.tc_context.specs.Ran.{slept_in, slept_by as slept_of_act};
 
 use crate::locks::LockSet;
 use std::alloc::{AllocError, Global};
-use tc_elf::image::{Image, Region};
-use tc_exec::outcome::{Act, Want};
+use tc_elf::image::Image;
+use tc_exec::outcome::{Act, Call, Want};
 use tc_isa::held::Held;
 use tc_journal::block::{Block, End, Kind};
 use tc_journal::rule::end_of;
-use tc_turn::memory::byte_from;
+use tc_turn::answer::{Surroundings, answer};
 use tc_turn::outcome::outcome_of;
 use tc_turn::thread::GuestThread;
+
+/// What the turns of a block came to: how it ended, how many they are, and the number of the SLEEP
+/// with which the last one ended it, else 0.
+#[derive(Clone, Copy)]
+pub(crate) struct Turns {
+    end: End,
+    count: u32,
+    slept: u32,
+}
+
+/// A block that ran, and the number of the SLEEP with which it ended, else 0.
+#[derive(Clone, Copy)]
+pub(crate) struct Ran {
+    pub(crate) block: Block,
+    pub(crate) slept: u32,
+}
 
 /// A thread, its number, and the locks that are in its package: those that it holds, the granted
 /// one and those that its last block released.
@@ -37,8 +47,8 @@ pub struct Context {
 }
 
 impl Context {
-    ghost use Rattle.tc_context.specs.Whole.{thread_in, mutex_at, whole, set_of, journal_at, Keeps, CanGo, RunsAs, block_locks, Journals};
-    ghost use Rattle.tc_context.specs.Middle.{Moves, Notes, IsTurn, words_of, word_with, noted_when, AreOpen, HasRoom, AreReady};
+    ghost use Rattle.tc_context.specs.Whole.{thread_in, mutex_at, CanGo, RunsAs, Journals};
+    ghost use Rattle.tc_context.specs.Middle.{Moves, NotesWord, IsTurn, AreNoted, AreOpen, HasRoom, AreReady};
 
     /// The thread of this number at its start, with no lock.
     pub(crate) fn start(
@@ -51,6 +61,7 @@ impl Context {
         ensures thread { IfOk result (λ c. thread_in c ≡ thread_at_start image.now fuel t) }
         ensures number { IfOk result (λ c. c.thread ≡ t) }
         ensures locks { IfOk result (λ c. (k : ℕ) → lock_in c.locks k ≡ None) }
+        ensures places { IfOk result (λ c. length c.locks ≡ 32) }
     {
         Ok(Context {
             thread: t,
@@ -59,81 +70,12 @@ impl Context {
         })
     }
 
-    /// The byte at an address of a place.
-    fn byte(&self, image: &Image, region: Region, addr: u32) -> u8
-        ensures { result ≡ byte_at image.now (thread_in self.now).own (mutex_at self.now) region addr }
-    {
-        match region {
-            Region::Text => image.byte(addr).unwrap_or(0),
-            Region::Private | Region::Stack => self.guest.byte(addr).unwrap_or(0),
-            Region::Guard(lock) => self.guard_byte(image, lock, addr),
-            Region::Nothing => 0,
-        }
-    }
-
-    fn guard_byte(&self, image: &Image, lock: u32, addr: u32) -> u8
-        ensures { result ≡ unwrap_or (byte_from (guard_at image.now lock).start (mutex_at self.now lock).bytes addr) 0 }
-    {
-        let Some(state) = self.locks.find(lock) else {
-            return 0;
-        };
-        if lock >= image.guards() {
-            return byte_from(0, state.bytes(), addr).unwrap_or(0);
-        }
-        let (start, _) = image.guard(lock);
-        byte_from(start, state.bytes(), addr).unwrap_or(0)
-    }
-
-    /// The number in so many bytes of a place from an address on, the lowest first.
-    fn number(&self, image: &Image, region: Region, addr: u32, width: u32) -> u32
-        requires fits { addr + width ≤ 2 ^ 32 }
-        requires small { width ≤ 4 }
-        ensures value { result ≡ number_at (byte_at image.now (thread_in self.now).own (mutex_at self.now) region) addr width }
-        ensures bound { result < 256 ^ width }
-    {
-        if width == 0 {
-            return 0;
-        }
-        let low = u32::from(self.byte(image, region, addr));
-        if width == 1 {
-            return low;
-        }
-        low + 256 * self.number(image, region, addr + 1, width - 1)
-    }
-
-    /// The answer to this load, or to the LOCK.
-    fn answer(&self, image: &Image, want: Want, next: Option<u32>) -> u32
-        requires { IsWant image.now (has self.now.guest.held) want }
-        ensures { result ≡ answer_to image.now want next (thread_in self.now).own (mutex_at self.now) }
-    {
-        match want {
-            Want::Load {
-                region,
-                addr,
-                width,
-            } => self.number(image, region, addr, width),
-            Want::Nothing => match next {
-                Some(lock) => u32::from(self.is_broken(lock)),
-                None => 0,
-            },
-        }
-    }
-
-    fn is_broken(&self, lock: u32) -> bool
-        ensures { result ≡ (mutex_at self.now lock).broken }
-    {
-        match self.locks.find(lock) {
-            Some(state) => state.broken(),
-            None => false,
-        }
-    }
-
     /// The thread and each lock after a turn in which the thread did this.
     fn go(&mut self, image: &Image, act: &Option<Act>)
         requires of { AreOf image.now self.old.locks }
         requires fuel { IfSome act.now (λ a. 0 < self.old.guest.fuel) }
         requires fits { IfSome act.now ActFits }
-        requires ready { (k : ℕ) (l : LockView) → lock_in self.old.locks k ≡ Some l → TurnReady (has self.old.guest.held) act.now k l }
+        requires ready { EachLock (TurnReady (has self.old.guest.held) act.now) self.old.locks }
         requires places { TurnFits act.now }
         ensures { Moves image.now self.old self.new act.now }
     {
@@ -147,7 +89,7 @@ impl Context {
     fn note(&mut self, block: Held, want: Want, next: Option<u32>, answer: u32)
         requires opened { AreOpen (has block) self.old }
         requires room { HasRoom 1 (has block) self.old }
-        ensures { Notes (word_with (thread_in self.old) want next answer) (has block) self.old self.new }
+        ensures { NotesWord (has block) want next answer self.old self.new }
     {
         if self.guest.fuel() == 0 {
             return;
@@ -168,49 +110,52 @@ impl Context {
         ensures moves { IsTurn image.now (has block) self.old self.new result }
     {
         let want = self.guest.wants(image);
-        let answer = self.answer(image, want, next);
+        let answer = answer(self, image, want, next);
         let act = self.guest.act(image, answer);
         self.note(block, want, next, answer);
         self.go(image, &act);
         act
     }
 
-    /// Runs the turns of one block with these locks, whose entries are open, and says how it ended
-    /// and how many turns it had. `takes` is the lock that the first turn takes.
-    fn turns(&mut self, image: &Image, block: Held, takes: Option<u32>) -> (End, u32)
+    /// Runs the turns of one block with these locks, whose entries are open. `takes` is the lock
+    /// that the first turn takes.
+    fn turns(&mut self, image: &Image, block: Held, takes: Option<u32>) -> Turns
         requires go { CanGo image.now self.old }
         requires takes { takes ≡ next_lock image.now (thread_in self.old) }
         requires covers { Covers image.now (has block) (thread_in self.old) }
         requires opened { AreOpen (has block) self.old }
         requires room { HasRoom 4096 (has block) self.old }
-        ensures runs { RunsAs image.now self.old self.new result.1 result.0 }
-        ensures most { result.1 ≤ 4096 }
-        ensures end { IsEnd result.0 }
-        ensures journals { (k : ℕ) → journal_at self.new k ≡ option_map (noted_when (has block k) (words_of image.now self.old k result.1)) (journal_at self.old k) }
+        ensures runs { RunsAs image.now self.old self.new result.count result.end }
+        ensures most { result.count ≤ 4096 }
+        ensures end { IsEnd result.end }
+        ensures slept { result.slept ≡ slept_in image.now self.old result.count }
+        ensures journals { AreNoted image.now (has block) result.count self.old self.new }
     {
         let mut next = takes;
-        let mut turns = 0;
+        let mut count = 0;
         'block: loop {
             let act = self.turn(image, block, next);
-            turns += 1;
+            count += 1;
             next = self.guest.next_lock(image);
-            if let Some(end) = end_of(outcome_of(&act), turns, next) {
-                return (end, turns);
+            if let Some(end) = end_of(outcome_of(&act), count, next) {
+                let slept = slept_by(&act);
+                return Turns { end, count, slept };
             }
         }
     }
 
     /// Runs one block, with an entry in the journal of each of its locks. The block has no stamp
     /// and no worker yet.
-    pub(crate) fn run_block(&mut self, image: &Image, kind: Kind) -> Block
+    pub(crate) fn run_block(&mut self, image: &Image, kind: Kind) -> Ran
         requires go { CanGo image.now self.old }
         requires ready { AreReady image.now self.old }
         requires kind { is_section kind ≡ is_some (next_lock image.now (thread_in self.old)) }
-        ensures runs { RunsAs image.now self.old self.new result.turns result.end }
-        ensures journals { Journals image.now self.old self.new result }
-        ensures thread { result.thread ≡ self.old.thread }
-        ensures kind { result.kind ≡ kind }
-        ensures bounds { IsBlock result }
+        ensures runs { RunsAs image.now self.old self.new result.block.turns result.block.end }
+        ensures journals { Journals image.now self.old self.new result.block }
+        ensures slept { result.slept ≡ slept_in image.now self.old result.block.turns }
+        ensures thread { result.block.thread ≡ self.old.thread }
+        ensures kind { result.block.kind ≡ kind }
+        ensures bounds { IsBlock result.block }
     {
         let takes = self.guest.next_lock(image);
         let held = block_held(self.guest.held(), takes);
@@ -219,30 +164,63 @@ impl Context {
         prove!(thread <= u32::MAX);
         self.locks
             .open_entries(held, self.guest.regs(), self.guest.fuel());
-        let (end, turns) = self.turns(image, held, takes);
+        let turns = self.turns(image, held, takes);
         let block = Block {
             stamp: 0,
             thread,
-            turns,
+            turns: turns.count,
             held,
             kind,
             worker: 0,
-            end,
+            end: turns.end,
         };
         self.locks
             .close_entries(image, held, &block, self.guest.regs());
-        block
+        Ran {
+            block,
+            slept: turns.slept,
+        }
+    }
+}
+
+impl Surroundings for Context {
+    ghost use Rattle.tc_context.specs.Whole.{thread_in, mutex_at};
+
+    ghost thread = { thread_in };
+
+    ghost locks = { mutex_at };
+
+    fn own_byte(&self, addr: u32) -> Option<u8> {
+        self.guest.byte(addr)
     }
 
-    /// Gives the last entry of each of these locks its stamp and worker.
-    pub(crate) fn seal(&mut self, held: Held, stamp: u64, worker: u32)
-        requires closed { (k : ℕ) (l : LockView) → lock_in self.old.locks k ≡ Some l → has held k ≡ true → is_some l.journal.closed ≡ true }
-        requires follows { (k : ℕ) (l : LockView) → lock_in self.old.locks k ≡ Some l → has held k ≡ true → (e : Entry) → l.journal.closed ≡ Some e → may_follow l.number l.journal.limit (blocks_of l) (sealed_block stamp worker e.block) ≡ true }
-        ensures locks { Changed (sealed_in (has held) stamp worker) self.old.locks self.new.locks }
-        ensures thread { self.new.thread ≡ self.old.thread }
-        ensures guest { self.new.guest ≡ self.old.guest }
-    {
-        self.locks.seal(held, stamp, worker);
+    fn guard(&self, lock: u32) -> &[u8] {
+        match self.locks.find(lock) {
+            Some(state) => state.bytes(),
+            None => &[],
+        }
+    }
+
+    fn is_broken(&self, lock: u32) -> bool {
+        match self.locks.find(lock) {
+            Some(state) => state.broken(),
+            None => false,
+        }
+    }
+}
+
+/// The number of a SLEEP, 0 of any other turn.
+fn slept_by(act: &Option<Act>) -> u32
+    ensures { result ≡ slept_of_act act.now }
+{
+    match act {
+        Some(
+            Act::Called {
+                call: Call::Sleep(blocks),
+                ..
+            },
+        ) => *blocks,
+        _ => 0,
     }
 }
 

@@ -1,37 +1,93 @@
 //! The laws of packages beside a history.
 
-ghost use Rattle.std.specs.Prelude.{◌≡◌, ℕ, Bool, List};
+ghost use Rattle.std.specs.Prelude.{◌≡◌, ℕ, ◌<◌, ◌^◌, ◌∷◌, ◌++◌, [], Bool, true, List, Some, None, length};
+ghost use Rattle.tc_isa.specs.Sets.{has};
 ghost use Rattle.tc_elf.specs.Shown.{Shown};
+ghost use Rattle.tc_journal.specs.Batch.{Obeys, PassesOn};
+ghost use Rattle.tc_journal.specs.History.{of_lock};
 ghost use Rattle.tc_journal.specs.declared.block.Block.{Block};
-ghost use Rattle.tc_turn.specs.Reads.{Covers};
 ghost use Rattle.tc_mutex_spec.specs.Machine.{State};
-ghost use Rattle.tc_mutex_spec.specs.Locality.{Agree};
-ghost use Rattle.tc_mutex_spec.specs.Blocks.{Runs, Tells};
-ghost use Rattle.tc_context.specs.declared.context.Context.{Context};
-ghost use Rattle.tc_context.specs.View.{PackageView};
-ghost use Rattle.tc_context.specs.Whole.{entry_of};
-ghost use Rattle.tc_context.specs.History.{Shows, IsBlockOf, Appended, Follows, HasRun, Grows};
+ghost use Rattle.tc_mutex_spec.specs.Blocks.{Tells};
+ghost use Rattle.tc_segment.specs.View.{LockView};
+ghost use Rattle.tc_context.specs.View.{PackageView, Allows, Rests, with_seal};
+ghost use Rattle.tc_context.specs.Ran.{DidRun, block_sealed};
+ghost use Rattle.tc_context.specs.History.{Follows, Grows};
+ghost use Rattle.tc_context.specs.Lawful.{Lawful, IsLimited, StandsAt, IsAmong, AreFresh, owner_after, with_package, with_states, sealed_after};
 
-/// A package's block at the end of a history that tells a run: it tells a run again, and nothing
-/// but the block's thread and locks is changed, so that every other package is as it was. A law: it
-/// does nothing when it is called.
-pub fn append()
-    ensures { (image : Shown) (fuel : ℕ) (h : List Block) (m : State) (old new : Context) (b : Block)
-        → Tells image fuel h m → Shows old m → IsBlockOf image h old new b → (to : State) × Appended image fuel h m old new b to }
-{}
-
-/// The same with logs and journals: a package that ran a block which was sealed, and each package
-/// and lock beside it, is as the longer history leaves it. A law: it does nothing when it is
-/// called.
+/// A package p that a history leaves runs a block and is v. Whatever stamp and worker it is sealed
+/// with, the history with the block at its end tells a run again, nothing but the block's thread
+/// and locks changes, and the sealed package is as the longer history leaves it. A law: it does
+/// nothing when it is called.
 pub fn grow()
-    ensures { (image : Shown) (fuel limit : ℕ) (h : List Block) (m : State) (p q : PackageView) (b : Block)
-        → Tells image fuel h m → Follows image fuel limit h m p → HasRun image p q b → (to : State) × Grows image fuel limit h m p q b to }
+    ensures { (image : Shown) (fuel limit : ℕ) (h : List Block) (m : State)
+        → (p v : PackageView)
+        → Tells image fuel h m → Follows image fuel limit h m p → (ran : DidRun image p v)
+        → (stamp worker : ℕ) → (to : State)
+        × Grows image fuel h m (block_sealed ran stamp worker) to
+        × Follows image fuel limit (h ++ block_sealed ran stamp worker ∷ []) to
+        (with_seal stamp worker v) }
 {}
 
-/// The entry of a block is the same on every machine that has the block's thread and locks alike.
+/// A history that obeys the batch limit obeys it with that block at its end, where the batch rule
+/// allows the block's worker; and its sections stay passed on to other threads. A law: it does
+/// nothing when it is called.
+pub fn obey()
+    ensures limit { (image : Shown) (fuel limit : ℕ) (h : List Block) (m : State)
+        → (p v : PackageView)
+        → Follows image fuel limit h m p → (ran : DidRun image p v)
+        → (stamp worker : ℕ) → Allows v.context ran.block worker
+        → ((k : ℕ) → Obeys k limit (of_lock h k))
+        → (k : ℕ) → Obeys k limit (of_lock (h ++ block_sealed ran stamp worker ∷ []) k) }
+    ensures passes { (image : Shown) (fuel limit : ℕ) (h : List Block) (m : State)
+        → (p v : PackageView)
+        → Follows image fuel limit h m p → (ran : DidRun image p v)
+        → (stamp worker : ℕ) → ((k : ℕ) → PassesOn k (of_lock h k))
+        → (k : ℕ) → PassesOn k (of_lock (h ++ block_sealed ran stamp worker ∷ []) k) }
+{}
+
+/// At the start the law holds of packages and lock states in which nothing ran. A law: it does
+/// nothing when it is called.
+pub fn begin()
+    ensures { (image : Shown) (fuel limit : ℕ) (packages : List PackageView) (states : List LockView)
+        → AreFresh image fuel limit packages states → Lawful image fuel limit [] packages states }
+{}
+
+/// A block that runs in one of the packages keeps the law, once it is sealed with the length of
+/// the history as its stamp and stands at the end, whatever the packages of the other threads and
+/// the other locks are. A law: it does nothing when it is called.
+pub fn append()
+    ensures { (image : Shown) (fuel limit : ℕ) (h : List Block)
+        → (packages : List PackageView) (states : List LockView) (p v : PackageView)
+        → IsLimited image fuel → Lawful image fuel limit h packages states
+        → IsAmong packages states p → (ran : DidRun image p v)
+        → (worker : ℕ) → worker < 2 ^ 32 → Allows v.context ran.block worker
+        → Lawful image fuel limit (h ++ block_sealed ran (length h) worker ∷ [])
+        (with_package (sealed_after h worker v) packages)
+        (with_states (sealed_after h worker v).context.locks states) }
+{}
+
+/// The logs determine the history, and it is short: a count of its blocks in 64 bits never wraps.
 /// A law: it does nothing when it is called.
-pub fn entries()
-    ensures { (image : Shown) (lock : ℕ) (set : ℕ → Bool) (a b last : State) (block : Block)
-        → Runs image a block.thread block.turns block.end last → Covers image set (a.threads block.thread) → Agree block.thread set a b
-        → entry_of image lock a block ≡ entry_of image lock b block }
+pub fn determine()
+    ensures one { (image : Shown) (fuel limit : ℕ) (g h : List Block)
+        → (packages : List PackageView) (states others : List LockView)
+        → Lawful image fuel limit g packages states
+        → Lawful image fuel limit h packages others → g ≡ h }
+    ensures short { (image : Shown) (fuel limit : ℕ) (h : List Block)
+        → (packages : List PackageView) (states : List LockView) → IsLimited image fuel
+        → Lawful image fuel limit h packages states → length h < 2 ^ 32 }
+{}
+
+/// Where the law holds, nobody owns a lock whose last sealed block ended a section of it, and a
+/// thread owns the locks that it holds. A law: it does nothing when it is called.
+pub fn own()
+    ensures free { (image : Shown) (fuel limit : ℕ) (h : List Block)
+        → (packages : List PackageView) (states : List LockView)
+        → Lawful image fuel limit h packages states
+        → (k : ℕ) (l : LockView) → StandsAt states k l → Rests k l → owner_after image fuel h k ≡ None }
+    ensures held { (image : Shown) (fuel limit : ℕ) (h : List Block)
+        → (packages : List PackageView) (states : List LockView)
+        → Lawful image fuel limit h packages states
+        → (t : ℕ) (p : PackageView) → StandsAt packages t p
+        → (k : ℕ) → has p.context.guest.held k ≡ true → owner_after image fuel h k ≡ Some t }
 {}

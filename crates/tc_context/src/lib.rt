@@ -9,9 +9,11 @@
 //! that the block began. A lock goes in by `grant` and out by `take_out` as it is.
 //!
 //! - `specs/View.antt`: a package as contracts see it, and what each keeps. `specs/Whole.antt`: its
-//!   thread and locks as a part of the machine. `specs/History.antt`: packages beside a history.
+//!   thread and locks as a part of the machine. `specs/Ran.antt`: what a block made of it.
+//!   `specs/History.antt`: threads and lock states beside a history. `specs/Lawful.antt`: the law
+//!   over a history, all packages and all lock states.
 //! - `package`: packages. `context`: the thread, its locks and the turns of a block. `locks`: the
-//!   lock states of a package. `law`: a package's block at the end of a history.
+//!   lock states of a package. `law`: the laws of packages and a history.
 #![tactic(auto)]
 
 pub mod context;

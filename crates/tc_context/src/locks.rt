@@ -1,22 +1,21 @@
 //! The lock states that a package has.
 
-ghost use Rattle.std.specs.Prelude.{◌≡◌, ℕ, ◌<◌, ◌+◌, ◌≤◌, ◌^◌, ◌==◌, true, false, [], ◌∷◌, is_some, Some, None, IfOk, OnOk, OnErr, IfSome, if◌then◌else◌};
+ghost use Rattle.std.specs.Prelude.{◌≡◌, ℕ, ◌<◌, ◌≤◌, true, false, is_some, length, set, Some, None, IfOk, OnOk, OnErr};
 ghost use Rattle.std.specs.Option.{option_map};
 ghost use Rattle.tc_isa.specs.Sets.{has};
-ghost use Rattle.tc_elf.specs.Places.{in_guard};
 ghost use Rattle.tc_exec.specs.Told.{IsWidth};
-ghost use Rattle.tc_journal.specs.Batch.{may_follow};
-ghost use Rattle.tc_turn.specs.Replay.{Entry, takes_word as takes};
-ghost use Rattle.tc_segment.specs.View.{LockView, Opened, Closes, guard_of, blocks_of, lock_of, sealed_block, with_store, with_section, with_break, with_end, with_journal, opened_at, noted, closed_with, sealed_as};
-ghost use Rattle.tc_elf.specs.declared.image.Region.TheVariants as TheRegion;
-ghost use Rattle.tc_context.specs.Locks.{lock_in, when_in, turned, put_in, TurnReady, PutReady, TurnFits, PutFits, Changed, broken_in, opened_in, noted_in, closed_in, sealed_in, roomy_in, at_place};
+ghost use Rattle.tc_turn.specs.Replay.{takes_word as takes};
+ghost use Rattle.tc_segment.specs.View.{MayFollow, MayPass, with_section};
+ghost use Rattle.tc_context.specs.Locks.{lock_in, turned, put_in, with_put, TurnReady, PutReady, TurnFits, PutFits, IsInside, MayClose};
+ghost use Rattle.tc_context.specs.Locks.{Changed, HoldsAt, HeldAt, EachHeld, EachLock, IsPlaced, SameLocks, at_place, one_place};
+ghost use Rattle.tc_context.specs.Locks.{broken_in, opened_in, noted_in, closed_in, sealed_in, roomy_in};
 
 use std::alloc::{AllocError, Global};
 use std::marker::Model;
 use tc_elf::image::{Image, Region};
 use tc_exec::outcome::{Act, Call, Put, Want};
 use tc_isa::held::Held;
-use tc_isa::limits::MOST_TURNS;
+use tc_isa::limits::MAX_TURNS;
 use tc_isa::regs::Regs;
 use tc_journal::block::Block;
 use tc_segment::state::LockState;
@@ -43,7 +42,8 @@ impl Model for LockSet {
 impl LockSet {
     /// No lock state, with room for all.
     pub fn new(alloc: Global) -> Result<LockSet, AllocError>
-        ensures { IfOk result (λ s. (k : ℕ) → lock_in s k ≡ None) }
+        ensures none { IfOk result (λ s. (k : ℕ) → lock_in s k ≡ None) }
+        ensures places { IfOk result (λ s. length s ≡ 32) }
     {
         let mut places = Vec::with_capacity(alloc, 32)?;
         for lock in 0..PLACES {
@@ -54,7 +54,8 @@ impl LockSet {
 
     /// There is none past the last place. A law: it does nothing when it is called.
     pub fn bound(&self)
-        ensures { (k : ℕ) → 32 ≤ k → lock_in self.now k ≡ None }
+        ensures past { (k : ℕ) → 32 ≤ k → lock_in self.now k ≡ None }
+        ensures places { length self.now ≡ 32 }
     {
         let _ = &self.places;
     }
@@ -68,7 +69,8 @@ impl LockSet {
 
     /// Puts a lock state at the place of its number.
     pub fn put_in(&mut self, lock: LockState)
-        ensures { (k : ℕ) → lock_in self.new k ≡ (if k == lock.number then Some lock else lock_in self.old k) }
+        ensures is { self.new ≡ set self.old lock.number (Some lock) }
+        ensures locks { IsPlaced lock.number (Some lock) self.old self.new }
     {
         let number = lock.number();
         self.places[number as usize] = Some(lock);
@@ -78,7 +80,8 @@ impl LockSet {
     pub fn take_out(&mut self, lock: u32) -> Option<LockState>
         requires { lock < 32 }
         ensures taken { result ≡ lock_in self.old lock }
-        ensures left { (k : ℕ) → lock_in self.new k ≡ (if k == lock then None else lock_in self.old k) }
+        ensures is { self.new ≡ set self.old lock None }
+        ensures left { IsPlaced lock None self.old self.new }
     {
         self.places[lock as usize].take()
     }
@@ -86,9 +89,9 @@ impl LockSet {
     fn store(&mut self, lock: u32, put: &Put)
         requires lock { lock < 32 }
         requires width { IsWidth put.now.width }
-        requires inside { (l : LockView) → lock_in self.old lock ≡ Some l → in_guard put.now.addr put.now.width (guard_of l) ≡ true }
-        requires opened { (l : LockView) → lock_in self.old lock ≡ Some l → is_some l.journal.opened ≡ true }
-        ensures { Changed (at_place lock (with_store put.now.addr put.now.width put.now.value)) self.old self.new }
+        requires inside { HoldsAt lock (IsInside put.now) self.old }
+        requires opened { HoldsAt lock (λ l. is_some l.journal.opened ≡ true) self.old }
+        ensures { Changed (at_place lock (with_put put.now)) self.old self.new }
     {
         if let Some(state) = &mut self.places[lock as usize] {
             state.store(put.addr, put.width, put.value);
@@ -97,7 +100,7 @@ impl LockSet {
 
     fn begin(&mut self, lock: u32)
         requires lock { lock < 32 }
-        requires ready { (l : LockView) → lock_in self.old lock ≡ Some l → is_some l.journal.opened ≡ true }
+        requires ready { HoldsAt lock (λ l. is_some l.journal.opened ≡ true) self.old }
         ensures { Changed (at_place lock with_section) self.old self.new }
     {
         if let Some(state) = &mut self.places[lock as usize] {
@@ -107,7 +110,7 @@ impl LockSet {
 
     fn break_one(&mut self, lock: u32, held: Held)
         requires lock { lock < 32 }
-        requires ready { (l : LockView) → lock_in self.old lock ≡ Some l → has held lock ≡ true → is_some l.journal.opened ≡ true }
+        requires ready { HeldAt lock (has held) (λ l. is_some l.journal.opened ≡ true) self.old }
         ensures { Changed (at_place lock (broken_in (has held) lock)) self.old self.new }
     {
         if let Some(state) = &mut self.places[lock as usize] {
@@ -119,7 +122,7 @@ impl LockSet {
 
     /// Breaks each of these locks.
     fn give_up(&mut self, held: Held)
-        requires ready { (k : ℕ) (l : LockView) → lock_in self.old k ≡ Some l → has held k ≡ true → is_some l.journal.opened ≡ true }
+        requires ready { EachHeld (has held) (λ l. is_some l.journal.opened ≡ true) self.old }
         ensures { Changed (broken_in (has held)) self.old self.new }
     {
         let mut left = held;
@@ -131,9 +134,9 @@ impl LockSet {
 
     fn open_one(&mut self, lock: u32, held: Held, start: Regs, fuel: u32)
         requires lock { lock < 32 }
-        requires opened { (l : LockView) → lock_in self.old lock ≡ Some l → has held lock ≡ true → l.journal.opened ≡ None }
-        requires closed { (l : LockView) → lock_in self.old lock ≡ Some l → has held lock ≡ true → l.journal.closed ≡ None }
-        requires room { (l : LockView) → lock_in self.old lock ≡ Some l → has held lock ≡ true → 0 < l.journal.entry_room }
+        requires opened { HeldAt lock (has held) (λ l. l.journal.opened ≡ None) self.old }
+        requires closed { HeldAt lock (has held) (λ l. l.journal.closed ≡ None) self.old }
+        requires room { HeldAt lock (has held) (λ l. 0 < l.journal.entry_room) self.old }
         ensures { Changed (at_place lock (opened_in (has held) start fuel lock)) self.old self.new }
     {
         if let Some(state) = &mut self.places[lock as usize] {
@@ -145,9 +148,9 @@ impl LockSet {
 
     /// Opens an entry in each of these locks.
     pub fn open_entries(&mut self, held: Held, start: Regs, fuel: u32)
-        requires opened { (k : ℕ) (l : LockView) → lock_in self.old k ≡ Some l → has held k ≡ true → l.journal.opened ≡ None }
-        requires closed { (k : ℕ) (l : LockView) → lock_in self.old k ≡ Some l → has held k ≡ true → l.journal.closed ≡ None }
-        requires room { (k : ℕ) (l : LockView) → lock_in self.old k ≡ Some l → has held k ≡ true → 0 < l.journal.entry_room }
+        requires opened { EachHeld (has held) (λ l. l.journal.opened ≡ None) self.old }
+        requires closed { EachHeld (has held) (λ l. l.journal.closed ≡ None) self.old }
+        requires room { EachHeld (has held) (λ l. 0 < l.journal.entry_room) self.old }
         ensures { Changed (opened_in (has held) start fuel) self.old self.new }
     {
         let mut left = held;
@@ -159,9 +162,9 @@ impl LockSet {
 
     fn note_one(&mut self, lock: u32, held: Held, want: Want, next: Option<u32>, value: u32)
         requires lock { lock < 32 }
-        requires opened { (l : LockView) → lock_in self.old lock ≡ Some l → has held lock ≡ true → is_some l.journal.opened ≡ true }
-        requires room { (l : LockView) → lock_in self.old lock ≡ Some l → has held lock ≡ true → 0 < l.journal.word_room }
-        ensures { Changed (at_place lock (noted_in (has held) want next value lock)) self.old self.new }
+        requires opened { HeldAt lock (has held) (λ l. is_some l.journal.opened ≡ true) self.old }
+        requires room { HeldAt lock (has held) (λ l. 0 < l.journal.word_room) self.old }
+        ensures { Changed (one_place (noted_in (has held) want next value) lock) self.old self.new }
     {
         if let Some(state) = &mut self.places[lock as usize] {
             if held.has(lock) && takes_word(lock, want, next) {
@@ -172,8 +175,8 @@ impl LockSet {
 
     /// Notes the value in the entry of each of these locks for which it comes from elsewhere.
     pub fn note(&mut self, held: Held, want: Want, next: Option<u32>, value: u32)
-        requires opened { (k : ℕ) (l : LockView) → lock_in self.old k ≡ Some l → has held k ≡ true → is_some l.journal.opened ≡ true }
-        requires room { (k : ℕ) (l : LockView) → lock_in self.old k ≡ Some l → has held k ≡ true → 0 < l.journal.word_room }
+        requires opened { EachHeld (has held) (λ l. is_some l.journal.opened ≡ true) self.old }
+        requires room { EachHeld (has held) (λ l. 0 < l.journal.word_room) self.old }
         ensures { Changed (noted_in (has held) want next value) self.old self.new }
     {
         if !takes_any(want, next) {
@@ -188,11 +191,11 @@ impl LockSet {
 
     fn close_one(&mut self, image: &Image, lock: u32, held: Held, block: &Block, finish: Regs)
         requires lock { lock < 32 }
-        requires image { (l : LockView) → lock_in self.old lock ≡ Some l → has held lock ≡ true → l.journal.image ≡ image.now }
-        requires opened { (l : LockView) → lock_in self.old lock ≡ Some l → has held lock ≡ true → is_some l.journal.opened ≡ true }
-        requires closed { (l : LockView) → lock_in self.old lock ≡ Some l → has held lock ≡ true → l.journal.closed ≡ None }
-        requires closes { (l : LockView) → lock_in self.old lock ≡ Some l → has held lock ≡ true → (o : Opened) → l.journal.opened ≡ Some o → Closes l block.now finish o }
-        ensures { Changed (at_place lock (closed_in (has held) block.now finish lock)) self.old self.new }
+        requires image { HeldAt lock (has held) (λ l. l.journal.image ≡ image.now) self.old }
+        requires opened { HeldAt lock (has held) (λ l. is_some l.journal.opened ≡ true) self.old }
+        requires closes { HeldAt lock (has held) (MayClose block.now finish) self.old }
+        ensures { Changed (one_place (closed_in (has held) block.now finish) lock)
+            self.old self.new }
     {
         if let Some(state) = &mut self.places[lock as usize] {
             if held.has(lock) {
@@ -203,10 +206,9 @@ impl LockSet {
 
     /// Closes the entry of each of these locks.
     pub fn close_entries(&mut self, image: &Image, held: Held, block: &Block, finish: Regs)
-        requires image { (k : ℕ) (l : LockView) → lock_in self.old k ≡ Some l → has held k ≡ true → l.journal.image ≡ image.now }
-        requires opened { (k : ℕ) (l : LockView) → lock_in self.old k ≡ Some l → has held k ≡ true → is_some l.journal.opened ≡ true }
-        requires closed { (k : ℕ) (l : LockView) → lock_in self.old k ≡ Some l → has held k ≡ true → l.journal.closed ≡ None }
-        requires closes { (k : ℕ) (l : LockView) → lock_in self.old k ≡ Some l → has held k ≡ true → (o : Opened) → l.journal.opened ≡ Some o → Closes l block.now finish o }
+        requires image { EachHeld (has held) (λ l. l.journal.image ≡ image.now) self.old }
+        requires opened { EachHeld (has held) (λ l. is_some l.journal.opened ≡ true) self.old }
+        requires closes { EachHeld (has held) (MayClose block.now finish) self.old }
         ensures { Changed (closed_in (has held) block.now finish) self.old self.new }
     {
         let mut left = held;
@@ -218,9 +220,10 @@ impl LockSet {
 
     fn seal_one(&mut self, lock: u32, held: Held, stamp: u64, worker: u32)
         requires lock { lock < 32 }
-        requires closed { (l : LockView) → lock_in self.old lock ≡ Some l → has held lock ≡ true → is_some l.journal.closed ≡ true }
-        requires follows { (l : LockView) → lock_in self.old lock ≡ Some l → has held lock ≡ true → (e : Entry) → l.journal.closed ≡ Some e → may_follow l.number l.journal.limit (blocks_of l) (sealed_block stamp worker e.block) ≡ true }
-        ensures { Changed (at_place lock (sealed_in (has held) stamp worker lock)) self.old self.new }
+        requires closed { HeldAt lock (has held) (λ l. is_some l.journal.closed ≡ true) self.old }
+        requires follows { HeldAt lock (has held) (MayFollow stamp worker) self.old }
+        requires passes { HeldAt lock (has held) MayPass self.old }
+        ensures { Changed (one_place (sealed_in (has held) stamp worker) lock) self.old self.new }
     {
         if let Some(state) = &mut self.places[lock as usize] {
             if held.has(lock) {
@@ -231,8 +234,9 @@ impl LockSet {
 
     /// Gives the last entry of each of these locks its stamp and worker.
     pub fn seal(&mut self, held: Held, stamp: u64, worker: u32)
-        requires closed { (k : ℕ) (l : LockView) → lock_in self.old k ≡ Some l → has held k ≡ true → is_some l.journal.closed ≡ true }
-        requires follows { (k : ℕ) (l : LockView) → lock_in self.old k ≡ Some l → has held k ≡ true → (e : Entry) → l.journal.closed ≡ Some e → may_follow l.number l.journal.limit (blocks_of l) (sealed_block stamp worker e.block) ≡ true }
+        requires closed { EachHeld (has held) (λ l. is_some l.journal.closed ≡ true) self.old }
+        requires follows { EachHeld (has held) (MayFollow stamp worker) self.old }
+        requires passes { EachHeld (has held) MayPass self.old }
         ensures { Changed (sealed_in (has held) stamp worker) self.old self.new }
     {
         let mut left = held;
@@ -244,11 +248,11 @@ impl LockSet {
 
     fn reserve_one(&mut self, lock: u32) -> Result<(), AllocError>
         requires { lock < 32 }
-        ensures ok { OnOk result (Changed (at_place lock (roomy_in 1 4096 lock)) self.old self.new) }
+        ensures ok { OnOk result (Changed (one_place (roomy_in 1 4096) lock) self.old self.new) }
         ensures err { OnErr result (Changed (λ k l. l) self.old self.new) }
     {
         match &mut self.places[lock as usize] {
-            Some(state) => state.reserve(MOST_TURNS as usize),
+            Some(state) => state.reserve(MAX_TURNS as usize),
             None => Ok(()),
         }
     }
@@ -256,7 +260,7 @@ impl LockSet {
     /// Makes room for one entry and its words in each.
     pub fn reserve(&mut self) -> Result<(), AllocError>
         ensures ok { OnOk result (Changed (roomy_in 1 4096) self.old self.new) }
-        ensures err { OnErr result ((k : ℕ) → option_map (roomy_in 0 0 k) (lock_in self.new k) ≡ option_map (roomy_in 0 0 k) (lock_in self.old k)) }
+        ensures err { OnErr result (SameLocks self.old self.new) }
     {
         self.bound();
         for lock in 0..PLACES {
@@ -268,7 +272,7 @@ impl LockSet {
     /// Each lock after a turn of a thread that held these locks before it.
     pub fn take_turn(&mut self, held: Held, act: &Option<Act>)
         requires fits { TurnFits act.now }
-        requires ready { (k : ℕ) (l : LockView) → lock_in self.old k ≡ Some l → TurnReady (has held) act.now k l }
+        requires ready { EachLock (TurnReady (has held) act.now) self.old }
         ensures { Changed (turned (has held) act.now) self.old self.new }
     {
         let Some(act) = act else {
@@ -288,7 +292,7 @@ impl LockSet {
 
     fn put(&mut self, put: &Option<Put>)
         requires fits { PutFits put.now }
-        requires ready { (k : ℕ) (l : LockView) → lock_in self.old k ≡ Some l → PutReady put.now k l }
+        requires ready { EachLock (PutReady put.now) self.old }
         ensures { Changed (put_in put.now) self.old self.new }
     {
         let Some(put) = put else {

@@ -1,19 +1,18 @@
 //! Packages.
 
-ghost use Rattle.std.specs.Prelude.{◌≡◌, ℕ, ◌+◌, ◌-◌, ◌<◌, ◌≤◌, min, true, false, is_some, length, List, [], ◌∷◌, ◌++◌, slice_index_or, set, if◌then◌else◌, ◌==◌, Some, None, IfOk, IfSome, OnOk, OnErr, MatchOption};
-ghost use Rattle.std.specs.Option.{option_map};
+ghost use Rattle.std.specs.Prelude.{◌≡◌, ◌<◌, ◌≤◌, ◌+◌, min, true, false, is_some, length, Some, None, IfOk, OnOk, OnErr};
 ghost use Rattle.tc_isa.specs.Sets.{has};
-ghost use Rattle.tc_journal.specs.Batch.{is_section, ends_section, last_of};
-ghost use Rattle.tc_journal.specs.History.{IsBlock};
-ghost use Rattle.tc_isa.specs.declared.limits.TheConstants.{MOST_FUEL};
-ghost use Rattle.tc_journal.specs.declared.block.Block.{Block as AnyBlock};
-ghost use Rattle.tc_turn.specs.declared.status.Status.TheVariants.{Running};
-ghost use Rattle.tc_context.specs.declared.package.TheConstants.{MOST_NUMBER};
+ghost use Rattle.tc_isa.specs.declared.limits.TheConstants.{MAX_FUEL};
+ghost use Rattle.tc_journal.specs.Batch.{is_section, last_of};
+ghost use Rattle.tc_journal.specs.declared.block.End.TheVariants.{Slept};
 ghost use Rattle.tc_turn.specs.Memory.{own_of};
-ghost use Rattle.tc_segment.specs.View.{LockView, blocks_of, sealed_block};
-ghost use Rattle.tc_context.specs.Locks.{lock_in, Changed, sealed_in, roomy_in};
-ghost use Rattle.tc_context.specs.Whole.{RunsAs, Journals};
-ghost use Rattle.tc_context.specs.View.{PackageView, granted_lock, want_of, kind_of, IsReserved, HasPending, IsFresh, IsSound, Allows, fits_of, held_in, IsNamed, IsOtherwise, IsOtherThanGrant, IsOtherThanLocks, with_turns};
+ghost use Rattle.tc_turn.specs.declared.status.Status.TheVariants.{Running};
+ghost use Rattle.tc_segment.specs.View.{IsAtRest};
+ghost use Rattle.tc_context.specs.declared.package.TheConstants.{MAX_NUMBER};
+ghost use Rattle.tc_context.specs.Locks.{lock_in, IsPlaced};
+ghost use Rattle.tc_context.specs.Ran.{DidRun};
+ghost use Rattle.tc_context.specs.View.{granted_lock, want_of, kind_of, fits_of, number_in, with_grant, with_seal, with_turns, without_lock};
+ghost use Rattle.tc_context.specs.View.{IsFresh, IsSound, WantIsLawful, IsReserved, IsRoomier, WantIsGranted, HasBlock, AllowsPending, IsWaiting, MayPassTo, IsNumber};
 
 use crate::context::Context;
 use crate::locks::LockSet;
@@ -29,7 +28,7 @@ use tc_turn::status::Status;
 use tc_turn::thread::GuestThread;
 
 /// The greatest number of a queue turn.
-pub const MOST_NUMBER: u64 = 16_777_215;
+pub const MAX_NUMBER: u64 = 16_777_215;
 
 /// A lock that was granted to a thread which has not taken it yet.
 #[derive(Clone, Copy, Debug, PartialEq, Eq)]
@@ -51,7 +50,7 @@ pub struct Package {
     log_room: usize,
     numbers: [u64; 32],
     turns: u64,
-    slept: u64,
+    slept: u32,
 }
 
 impl Model for Package {
@@ -70,7 +69,8 @@ impl Model for Package {
 impl Package {
     /// What each package keeps, wherever it is. A law: it does nothing when it is called.
     pub fn keeps(&self)
-        ensures { IsSound self.now }
+        ensures sound { IsSound self.now }
+        ensures want { WantIsLawful self.now }
     {
         let _ = &self.log_room;
     }
@@ -118,6 +118,22 @@ impl Package {
         &self.log
     }
 
+    /// The last block of the log: the pending one, where one is pending.
+    pub fn last(&self) -> Block
+        requires { 0 < length self.now.log }
+        ensures { last_of self.now.log ≡ Some result }
+    {
+        self.log[self.log.len() - 1]
+    }
+
+    /// For how many blocks the thread sleeps: the x10 of the SLEEP with which its last block ended.
+    pub fn slept(&self) -> u32
+        requires { HasBlock (λ b. b.end ≡ Slept) (last_of self.now.log) }
+        ensures { result ≡ self.now.slept }
+    {
+        self.slept
+    }
+
     /// Whether a block ran that is not sealed yet.
     pub fn pending(&self) -> bool
         ensures { result ≡ is_some self.now.pending }
@@ -155,9 +171,10 @@ impl Package {
     /// The thread of this number at its start, with no lock.
     pub fn start(alloc: Global, image: &Image, t: u32, fuel: u32) -> Result<Package, AllocError>
         requires thread { t < length image.now.entries }
-        requires fuel { (1 ≤ fuel) × (fuel ≤ MOST_FUEL) }
+        requires fuel { (1 ≤ fuel) × (fuel ≤ MAX_FUEL) }
         ensures { IfOk result (IsFresh image.now t fuel) }
     {
+        prove!(image.guards() <= 32);
         Ok(Package {
             of: Snapshot::of(image),
             context: Context::start(alloc, image, t, fuel)?,
@@ -190,13 +207,14 @@ impl Package {
     /// nothing does but rooms.
     pub fn reserve(&mut self) -> Result<(), AllocError>
         ensures ok { OnOk result (IsReserved self.new) }
-        ensures locks { (k : ℕ) → option_map (roomy_in 0 0 k) (lock_in self.new.context.locks k) ≡ option_map (roomy_in 0 0 k) (lock_in self.old.context.locks k) }
-        ensures rest { IsOtherThanLocks self.old self.new }
+        ensures same { IsRoomier self.old self.new }
         ensures room { OnOk result (self.new.log_room ≡ 1) }
         ensures refused { OnErr result (self.new.log_room ≡ self.old.log_room) }
     {
         self.log.reserve(1)?;
-        self.context.locks.reserve()?;
+        let made = self.context.locks.reserve();
+        self.context.locks.bound();
+        made?;
         self.log_room = 1;
         Ok(())
     }
@@ -209,23 +227,14 @@ impl Package {
         requires pending { self.old.pending ≡ None }
         requires reserved { IsReserved self.old }
         requires running { self.old.context.guest.status ≡ Running }
-        requires want { (k : ℕ) → want_of image.now self.old.context ≡ Some k → granted_lock self.old.granted ≡ Some k }
-        ensures runs { HasPending (λ b. RunsAs image.now self.old.context self.new.context b.turns result) self.new.pending }
-        ensures journals { HasPending (Journals image.now self.old.context self.new.context) self.new.pending }
-        ensures block { HasPending (IsNamed self.old result) self.new.pending }
-        ensures bounds { HasPending IsBlock self.new.pending }
-        // A worker that the package fitted may seal the block.
-        ensures fits { (worker : ℕ) → fits_of self.old worker ≡ true → HasPending (λ b. Allows self.new.context b worker) self.new.pending }
-        ensures here { HasPending (λ b. (k : ℕ) → has b.held k ≡ true → is_some (lock_in self.new.context.locks k) ≡ true) self.new.pending }
-        ensures log { HasPending (λ b. self.new.log ≡ self.old.log ++ b ∷ []) self.new.pending }
-        ensures granted { self.new.granted ≡ None }
-        ensures rest { IsOtherwise self.old self.new }
-        ensures room { self.new.log_room ≡ self.old.log_room - 1 }
+        requires want { WantIsGranted image.now self.old }
+        ensures ran { DidRun image.now self.old self.new }
+        ensures end { HasBlock (λ b. b.end ≡ result) self.new.pending }
     {
-        prove!(image.guards() <= 32);
         let kind = self.next_kind();
         let ran = self.context.run_block(image, kind);
-        let block = &ran;
+        self.context.locks.bound();
+        let block = &ran.block;
         match self.log.push(*block) {
             Ok(()) => {}
             Err(_) => unreachable!(),
@@ -233,6 +242,7 @@ impl Package {
         self.log_room -= 1;
         self.granted = None;
         self.pending = Some(*block);
+        self.slept = ran.slept;
         block.end
     }
 
@@ -256,19 +266,14 @@ impl Package {
     /// of the block.
     pub fn seal(&mut self, stamp: u64, worker: u32)
         requires pending { is_some self.old.pending ≡ true }
-        requires allows { (b : AnyBlock) → self.old.pending ≡ Some b → Allows self.old.context b worker }
-        ensures pending { self.new.pending ≡ None }
-        ensures log { (b : AnyBlock) → self.old.pending ≡ Some b → self.new.log ≡ set self.old.log (length self.old.log - 1) (sealed_block stamp worker b) }
-        ensures locks { Changed (sealed_in (held_in self.old.pending) stamp worker) self.old.context.locks self.new.context.locks }
-        ensures granted { self.new.granted ≡ self.old.granted }
-        ensures rest { IsOtherwise self.old self.new }
-        ensures room { self.new.log_room ≡ self.old.log_room }
-        ensures guest { self.new.context.guest ≡ self.old.context.guest }
+        requires allows { AllowsPending self.old worker }
+        ensures { self.new ≡ with_seal stamp worker self.old }
     {
         let Some(block) = self.pending else {
             return;
         };
-        self.context.seal(block.held, stamp, worker);
+        self.context.locks.seal(block.held, stamp, worker);
+        self.context.locks.bound();
         let last = self.log.len() - 1;
         self.log[last] = Block {
             stamp,
@@ -281,21 +286,14 @@ impl Package {
     /// Puts a lock into the package as it is: the thread's next turn takes it. `number` is the
     /// number of the queue turn with which the thread got it.
     pub fn grant(&mut self, lock: LockState, kind: Kind, number: u64)
-        requires pending { self.old.pending ≡ None }
-        requires granted { self.old.granted ≡ None }
-        requires want { want_of self.old.image self.old.context ≡ Some lock.number }
-        requires absent { lock_in self.old.context.locks lock.number ≡ None }
-        requires image { lock.journal.image ≡ self.old.image }
-        requires opened { lock.journal.opened ≡ None }
-        requires sealed { lock.journal.closed ≡ None }
-        requires ended { IfSome (last_of (blocks_of lock)) (λ b. ends_section lock.number b ≡ true) }
+        requires waiting { IsWaiting self.old lock.number }
+        requires rest { IsAtRest self.old.image lock.number lock }
         requires kind { is_section kind ≡ true }
-        requires number { (1 ≤ number) × (number ≤ MOST_NUMBER) }
-        ensures locks { (k : ℕ) → lock_in self.new.context.locks k ≡ (if k == lock.number then Some lock else lock_in self.old.context.locks k) }
-        ensures granted { self.new.granted ≡ Some (record { lock = lock.number; kind = kind }) }
-        ensures number { self.new.numbers ≡ set self.old.numbers lock.number number }
-        ensures rest { IsOtherThanGrant self.old self.new }
-        ensures room { self.new.log_room ≡ self.old.log_room }
+        requires passes { MayPassTo lock kind self.old.context.thread }
+        requires number { IsNumber number }
+        ensures is { self.new ≡ with_grant lock kind number self.old }
+        ensures locks { IsPlaced lock.number (Some lock)
+            self.old.context.locks self.new.context.locks }
     {
         let granted = Grant {
             lock: lock.number(),
@@ -313,11 +311,10 @@ impl Package {
         requires released { has self.old.context.guest.held lock ≡ false }
         requires here { is_some (lock_in self.old.context.locks lock) ≡ true }
         ensures lock { lock_in self.old.context.locks lock ≡ Some result }
-        ensures locks { (k : ℕ) → lock_in self.new.context.locks k ≡ (if k == lock then None else lock_in self.old.context.locks k) }
-        ensures rest { IsOtherThanLocks self.old self.new }
-        ensures room { self.new.log_room ≡ self.old.log_room }
+        ensures rest { IsAtRest self.old.image lock result }
+        ensures is { self.new ≡ without_lock lock self.old }
+        ensures locks { IsPlaced lock None self.old.context.locks self.new.context.locks }
     {
-        self.context.locks.bound();
         match self.context.locks.take_out(lock) {
             Some(state) => state,
             None => unreachable!(),
@@ -327,19 +324,19 @@ impl Package {
     /// The number of the next queue turn: 1, 2, 3 and so on. It stays at 16,777,215 once it is
     /// there.
     pub fn next_number(&mut self) -> u64
-        ensures is { result ≡ min (self.old.turns + 1) MOST_NUMBER }
+        ensures is { result ≡ min (self.old.turns + 1) MAX_NUMBER }
         ensures rest { self.new ≡ with_turns result self.old }
     {
-        self.turns = self.turns.saturating_add(1).min(MOST_NUMBER);
+        self.turns = self.turns.saturating_add(1).min(MAX_NUMBER);
         self.turns
     }
 
     /// The number of the queue turn with which the thread got a lock.
     pub fn number_of(&self, lock: u32) -> u64
         requires { is_some (lock_in self.now.context.locks lock) ≡ true }
-        ensures { result ≡ slice_index_or self.now.numbers lock 0 }
+        ensures is { result ≡ number_in self.now lock }
+        ensures number { IsNumber result }
     {
-        self.context.locks.bound();
         self.numbers[lock as usize]
     }
 }

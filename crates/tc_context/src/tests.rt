@@ -43,12 +43,16 @@ const TWO_LOCKS: [u32; 68] = [
     0xccbbaa99,
 ];
 
-fn two_locks(alloc: Global) -> Result<Image, Refusal> {
+fn image_of(alloc: Global, words: [u32; 68]) -> Result<Image, Refusal> {
     let mut bytes = Vec::new(alloc);
-    for word in TWO_LOCKS {
+    for word in words {
         bytes.extend_from_slice(&word.to_le_bytes())?;
     }
     load(alloc, &bytes[..bytes.len().min(MAX_FILE)])
+}
+
+fn two_locks(alloc: Global) -> Result<Image, Refusal> {
+    image_of(alloc, TWO_LOCKS)
 }
 
 /// Runs a block of a package by worker 0, which ends so, and seals it.
@@ -179,6 +183,27 @@ fn a_package_starts_without_a_lock(rt: HostRuntime) -> Result<(), Fail> {
     }
     for number in 1..4 {
         assert_eq!(rt; package.next_number(), number);
+    }
+    Ok(())
+}
+
+/// A thread that sleeps for 9 blocks where that of `TWO_LOCKS` takes lock 0.
+#[test]
+fn a_package_sleeps(rt: HostRuntime) -> Result<(), Fail> {
+    let mut words = TWO_LOCKS;
+    words[51] = 0x0090_0513;
+    words[52] = 0x0030_0893;
+    let image = image_of(rt.alloc(), words)?;
+    assert_eq!(rt; image.threads(), 1);
+    let mut package = Package::start(rt.alloc(), &image, 0, 100)?;
+    step(&rt, &mut package, &image, 0, End::Slept)?;
+    assert!(rt; !package.log().is_empty());
+    let last = package.last();
+    assert_eq!(rt; last, block(0, 3, Held::none(), Kind::Start, End::Slept));
+    assert_eq!(rt; package.regs().get(Reg::of(10)), 0);
+    match last.end {
+        End::Slept => assert_eq!(rt; package.slept(), 9),
+        _ => panic!(rt; "it sleeps"),
     }
     Ok(())
 }

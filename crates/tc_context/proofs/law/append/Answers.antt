@@ -1,4 +1,4 @@
-use Rattle.tc_context.proofs.Appending.{appended}
+use Rattle.tc_context.proofs.Lawful.{appended}
 use Rattle.tc_context.proofs.law.append.Goals as goal
 
 pub returns : goal.returns

@@ -7,10 +7,10 @@ use Rattle.tc_context.proofs.context.Context.turns.Given as goal
 
 abbrev pub invariant-block : goal.invariant-block
 invariant-block l = record {
-  partway : Partway l.image l.fn.self l.self l.turns;
-  journaled : Journaled l.image (has l.block) l.fn.self l.self l.turns;
+  partway : Partway l.image l.fn.self l.self l.count;
+  journaled : Journaled l.image (has l.block) l.fn.self l.self l.count;
   next : l.next ≡ next_lock l.image (thread_in l.self);
 }
 
 abbrev pub decreases-block : goal.decreases-block
-decreases-block l = 4096 - l.turns
+decreases-block l = 4096 - l.count

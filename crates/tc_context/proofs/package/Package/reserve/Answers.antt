@@ -2,41 +2,23 @@ use Rattle.std.proofs.Common.{List, arith, subst, sym}
 use Rattle.tc_journal.specs.declared.block.Block.{Block}
 use Rattle.tc_context.specs.View.{IsSound}
 use Rattle.tc_context.specs.Kept.{view_of}
-use Rattle.tc_context.proofs.Staging.{same_locks, sound_rooms}
+use Rattle.tc_context.proofs.Staging.{with_rooms, same_locks, sound_rooms}
 use Rattle.tc_context.proofs.package.Package.reserve.Goals as goal
 
-pub invariant_of-self-in_err-reserve-2 : goal.invariant_of-self-in_err-reserve-2
-invariant_of-self-in_err-reserve-2 c =
-    let a = c.self.inside in
+pub invariant_of-self-in_err-made : goal.invariant_of-self-in_err-made
+invariant_of-self-in_err-made c =
+    let p = view_of c.self.inside in
     record {
-      sound = subst (λ (g : List Block). IsSound (record {
-        image = a.of.value;
-        context = record { thread = a.context.thread; guest = a.context.guest; locks = c.reserve-2.new.self };
-        granted = a.granted;
-        pending = a.pending;
-        log = g;
-        log_room = a.log_room;
-        numbers = a.numbers;
-        turns = a.turns;
-        slept = a.slept;
-      })) (sym c.reserve.ensures.items) (sound_rooms (view_of a) c.reserve-2.new.self a.log_room c.in_err-reserve-2.ensures.err c.self.invariant.sound);
+      sound = subst (λ (g : List Block). IsSound (record (with_rooms p c.reserve-made.new.self p.log_room p.turns) { log = g })) (sym c.reserve.ensures.items)
+          (sound_rooms p c.reserve-made.new.self p.log_room p.turns c.bound.ensures.places c.in_err-made.ensures.err c.self.invariant.sound);
       log = (let h = c.self.invariant.log in omega (arith, c.reserve.ensures.len, c.reserve.ensures.capacity));
     }
 
 pub invariant_of-self-2 : goal.invariant_of-self-2
 invariant_of-self-2 c =
-    let a = c.self.inside in
+    let p = view_of c.self.inside in
     record {
-      sound = subst (λ (g : List Block). IsSound (record {
-        image = a.of.value;
-        context = record { thread = a.context.thread; guest = a.context.guest; locks = c.reserve-2.new.self };
-        granted = a.granted;
-        pending = a.pending;
-        log = g;
-        log_room = 1;
-        numbers = a.numbers;
-        turns = a.turns;
-        slept = a.slept;
-      })) (sym c.reserve.ensures.items) (sound_rooms (view_of a) c.reserve-2.new.self 1 (same_locks a.context.locks c.reserve-2.new.self c.in_ok-reserve-2.ensures.ok) c.self.invariant.sound);
+      sound = subst (λ (g : List Block). IsSound (record (with_rooms p c.reserve-made.new.self 1 p.turns) { log = g })) (sym c.reserve.ensures.items)
+          (sound_rooms p c.reserve-made.new.self 1 p.turns c.bound.ensures.places (same_locks p.context.locks c.reserve-made.new.self c.in_ok-made.ensures.ok) c.self.invariant.sound);
       log = (let h = c.in_ok-reserve.ensures.ok in omega (arith, c.reserve.ensures.len));
     }

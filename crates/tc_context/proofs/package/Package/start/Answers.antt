@@ -12,8 +12,10 @@ invariant_of-result c = record {
     granted = refl;
     pending = refl;
     log = c.new.ensures.items;
+    log_room = refl;
+    numbers = refl;
     turns = refl;
     slept = refl;
-  }) c.requires.thread;
+  }) c.requires.thread (omega (arith, c.guards.ensures.value, c.guards.ensures.bound)) c.in_ok-start.ensures.places refl;
   log = omega (arith, c.new.ensures.len, c.new.ensures.capacity);
 }
