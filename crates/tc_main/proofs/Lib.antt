@@ -1,6 +1,5 @@
 pub mod Numbered
 pub mod Ranges
-pub mod BlockEnds
 pub mod RunnerSteps
 pub mod Recording
 pub mod Statuses

@@ -1,75 +1,85 @@
 -- Which status the program ends with, by what was asked and what the source told.
-use Rattle.std.proofs.Common.{◌≡◌, ◌⊎◌, ◌≤◌, ◌<◌, ◌++◌, ℕ, List, Option, Some, None, length, refl, sym, ap, ◌∙◌, inl, inr, append-nil, length-append, arith}
+use Rattle.std.proofs.Common.{◌≡◌, ◌⊎◌, ◌≤◌, ◌++◌, ℕ, List, Option, Some, None, length, refl, sym, ap, ◌∙◌, inl, inr, append-nil, length-append, arith}
 use Rattle.std.proofs.lemmas.Option.{same_Some, none-some}
+use Rattle.std.specs.Io.KnownBytes.{Consumes, IsAtEnd}
 use Rattle.tc_io.specs.Causes.{Rose}
+use Rattle.tc_io.specs.Stream.{Stream}
 use Rattle.tc_elf.specs.Loading.{refusal}
 use Rattle.tc_elf.specs.Refused.{refusal_number}
 use Rattle.tc_elf.specs.declared.limits.TheConstants.{MAX_FILE}
-use Rattle.tc_elf.specs.declared.refusal.Refusal.{Refusal}
-use Rattle.tc_main.specs.declared.words.Options.{Options}
+use Rattle.tc_main.specs.declared.options.Options.{Options}
 use Rattle.tc_main.specs.Words.{Asks, AsksNothing}
-use Rattle.tc_main.specs.Top.{Ends, ReadsAll, ReadsTooMany, Stream}
+use Rattle.tc_main.specs.Top.{Ends, IsRefused, IsReport, MustRefuse, ReadsAll, RefusesBytes}
 use Rattle.tc_main.specs.declared.status.Status.{Status}
 use Rattle.tc_main.specs.declared.status.Status.TheVariants.{Done, Usage, ReadFault, Refused, WriteFault, OutOfMemory}
 
-pub only_usage : (words : List (List ℕ)) (before now had has : Stream) → AsksNothing words → (s : Status) → Ends words before now had has s → (s ≡ Usage) ⊎ (s ≡ OutOfMemory)
-only_usage words before now had has nothing Done e = absurd (nothing e.1.options e.1.asked)
-only_usage words before now had has nothing Usage e = inl refl
-only_usage words before now had has nothing ReadFault e = absurd (nothing e.1.0.0 e.1.0.1)
-only_usage words before now had has nothing (Refused k) e = absurd (nothing e.1.0.0 e.1.0.1)
-only_usage words before now had has nothing WriteFault e = absurd (nothing e.1.options e.1.asked)
-only_usage words before now had has nothing OutOfMemory e = inr refl
-
 -- with a source that tells its bytes, what was read to the end is all of them
-told : (before now : Option (List ℕ)) (bytes read : List ℕ) → before ≡ Some bytes → ReadsAll before now read → bytes ≡ read
-told None now bytes read e all = cc
-told (Some b) None bytes read e all = absurd all.read
-told (Some b) (Some n) bytes read e all = same_Some bytes b (sym e) ∙ all.read ∙ ap (λ t. read ++ t) all.end ∙ append-nil read
+all_of : (before now : Option (List ℕ)) (bytes read : List ℕ) → before ≡ Some bytes → Consumes before now read → IsAtEnd now → bytes ≡ read
+all_of None now bytes read e taken end = cc
+all_of (Some b) None bytes read e taken end = absurd taken
+all_of (Some b) (Some n) bytes read e taken end = same_Some bytes b (sym e) ∙ taken ∙ ap (λ t. read ++ t) end ∙ append-nil read
 
--- more bytes than a file may have are not had by a source with fewer
-not_many : (before now : Option (List ℕ)) (bytes : List ℕ) → before ≡ Some bytes → length bytes ≤ MAX_FILE → ReadsTooMany before now → ⊥
-not_many None now bytes e few many = cc
-not_many (Some b) None bytes e few many = many.2
-not_many (Some b) (Some n) bytes e few many = absurd (omega (arith, many.1, ap length (same_Some bytes b (sym e) ∙ many.2), length-append many.0 n))
+-- what was read is no more than it has
+no_more : (before now : Option (List ℕ)) (bytes read : List ℕ) → before ≡ Some bytes → Consumes before now read → length read ≤ length bytes
+no_more None now bytes read e taken = cc
+no_more (Some b) None bytes read e taken = absurd taken
+no_more (Some b) (Some n) bytes read e taken = omega (arith, ap length (same_Some bytes b (sym e) ∙ taken), length-append read n)
 
--- a file that is not refused is run
-pub does : (words : List (List ℕ)) (before now had has : Stream) (o : Options) (bytes : List ℕ) → Asks words o → before.bytes ≡ Some bytes → length bytes ≤ MAX_FILE → refusal bytes ≡ None → (Rose before.faults now.faults → ⊥) → (Rose had.faults has.faults → ⊥) → (s : Status) → Ends words before now had has s → (s ≡ Done) ⊎ (s ≡ OutOfMemory)
-does words before now had has o bytes asked e few fine reads writes Done h = inl refl
-does words before now had has o bytes asked e few fine reads writes Usage h = absurd (h.1.0 o asked)
-does words before now had has o bytes asked e few fine reads writes ReadFault h = absurd (reads h.1.1)
-does words before now had has o bytes asked e few fine reads writes (Refused k) h = elim h.1.1.1 [
-  | inl many ↦ absurd (not_many before.bytes now.bytes bytes e few many.0)
-  | inr one ↦ absurd (none-some one.2.reason (sym fine ∙ ap refusal (told before.bytes now.bytes bytes one.0 e one.1) ∙ one.2.first))
-]
-does words before now had has o bytes asked e few fine reads writes WriteFault h = absurd (writes h.2)
-does words before now had has o bytes asked e few fine reads writes OutOfMemory h = inr refl
+-- the words ask for a run, and the source tells that it has these bytes
+module _ (words : List (List ℕ)) (before now had has : Stream) (o : Options) (asked : Asks words o) (bytes : List ℕ) (told : before.bytes ≡ Some bytes) where
+  all_read : (read : List ℕ) → ReadsAll before now read → bytes ≡ read
+  all_read read all = all_of before.bytes now.bytes bytes read told all.read.takes.taken all.read.end
 
--- a file that is refused is refused by its number
-pub refuses : (words : List (List ℕ)) (before now had has : Stream) (o : Options) (bytes : List ℕ) (reason : Refusal) → Asks words o → before.bytes ≡ Some bytes → length bytes ≤ MAX_FILE → refusal bytes ≡ Some reason → (Rose before.faults now.faults → ⊥) → (s : Status) → Ends words before now had has s → (s ≡ Refused (refusal_number reason)) ⊎ (s ≡ OutOfMemory)
-refuses words before now had has o bytes reason asked e few bad reads Done h = absurd (none-some reason (sym h.1.loaded.0 ∙ ap refusal (sym (told before.bytes now.bytes bytes h.1.bytes e h.1.read)) ∙ bad))
-refuses words before now had has o bytes reason asked e few bad reads Usage h = absurd (h.1.0 o asked)
-refuses words before now had has o bytes reason asked e few bad reads ReadFault h = absurd (reads h.1.1)
-refuses words before now had has o bytes reason asked e few bad reads (Refused k) h = elim h.1.1.1 [
-  | inl many ↦ absurd (not_many before.bytes now.bytes bytes e few many.0)
-  | inr one ↦
-      let same : Some one.2.reason ≡ Some reason = sym one.2.first ∙ ap refusal (sym (told before.bytes now.bytes bytes one.0 e one.1)) ∙ bad in
-      inl (ap Refused (one.2.number ∙ ap refusal_number (same_Some one.2.reason reason same)))
-]
-refuses words before now had has o bytes reason asked e few bad reads WriteFault h = absurd (none-some reason (sym h.1.loaded.0 ∙ ap refusal (sym (told before.bytes now.bytes bytes h.1.bytes e h.1.read)) ∙ bad))
-refuses words before now had has o bytes reason asked e few bad reads OutOfMemory h = inr refl
+  -- bytes that are few and have no reason are not refused
+  not_refused : (k : ℕ) (name : List ℕ) → length bytes ≤ MAX_FILE → refusal bytes ≡ None → IsRefused before now k name → ⊥
+  not_refused k name few fine (inl many) = absurd (omega (arith, many.0.1, no_more before.bytes now.bytes bytes many.0.0 told many.0.2.taken))
+  not_refused k name few fine (inr one) = absurd (none-some one.2.reason (sym fine ∙ ap refusal (all_read one.0 one.1) ∙ one.2.first))
 
--- a source with more bytes than a file may have is not read to its end
-not_all : (before now : Option (List ℕ)) (bytes read : List ℕ) → before ≡ Some bytes → MAX_FILE < length bytes → ReadsAll before now read → ⊥
-not_all before now bytes read e many all = absurd (omega (arith, ap length (told before now bytes read e all), all.few))
+  -- a file that is not refused is run
+  pub does : length bytes ≤ MAX_FILE → refusal bytes ≡ None → ¬ Rose before now → ¬ Rose had has → (s : Status) → Ends words before now had has s → (s ≡ Done) ⊎ (s ≡ OutOfMemory)
+  does few fine reads writes Done h = inl refl
+  does few fine reads writes Usage h = absurd (h.0 o asked)
+  does few fine reads writes ReadFault h = absurd (reads h.1)
+  does few fine reads writes (Refused k) h = absurd (not_refused k h.1.0 few fine h.1.1)
+  does few fine reads writes WriteFault h = absurd (writes (omega (arith, h.2.fault.next)))
+  does few fine reads writes OutOfMemory h = inr refl
 
--- a file that is too large is refused by the number 0
-pub too_large : (words : List (List ℕ)) (before now had has : Stream) (o : Options) (bytes : List ℕ) → Asks words o → before.bytes ≡ Some bytes → MAX_FILE < length bytes → (Rose before.faults now.faults → ⊥) → (s : Status) → Ends words before now had has s → (s ≡ Refused 0) ⊎ (s ≡ OutOfMemory)
-too_large words before now had has o bytes asked e many reads Done h = absurd (not_all before.bytes now.bytes bytes h.1.bytes e many h.1.read)
-too_large words before now had has o bytes asked e many reads Usage h = absurd (h.1.0 o asked)
-too_large words before now had has o bytes asked e many reads ReadFault h = absurd (reads h.1.1)
-too_large words before now had has o bytes asked e many reads (Refused k) h = elim h.1.1.1 [
-  | inl over ↦ inl (ap Refused over.1)
-  | inr one ↦ absurd (not_all before.bytes now.bytes bytes one.0 e many one.1)
-]
-too_large words before now had has o bytes asked e many reads WriteFault h = absurd (not_all before.bytes now.bytes bytes h.1.bytes e many h.1.read)
-too_large words before now had has o bytes asked e many reads OutOfMemory h = inr refl
+  -- bytes that are to be refused have no report
+  no_report : (k : ℕ) (text : List ℕ) → RefusesBytes bytes k → IsReport words before now text → ⊥
+  no_report k text (inl many) r = absurd (omega (arith, many.0, ap length (all_read r.bytes r.read), r.read.few))
+  no_report k text (inr one) r = absurd (none-some one.1.0 (sym r.loaded.0 ∙ ap refusal (sym (all_read r.bytes r.read)) ∙ one.1.1))
+
+  -- and are refused by their number alone
+  same_number : (k j : ℕ) (name : List ℕ) → RefusesBytes bytes k → IsRefused before now j name → j ≡ k
+  same_number k j name (inl many) (inl over) = over.1 ∙ sym many.1
+  same_number k j name (inl many) (inr one) = absurd (omega (arith, many.0, ap length (all_read one.0 one.1), one.1.few))
+  same_number k j name (inr few) (inl over) = absurd (omega (arith, few.0, over.0.1, no_more before.bytes now.bytes bytes over.0.0 told over.0.2.taken))
+  same_number k j name (inr few) (inr one) =
+      let same : Some one.2.reason ≡ Some few.1.0 = sym one.2.first ∙ ap refusal (sym (all_read one.0 one.1)) ∙ few.1.1 in
+      one.2.number ∙ ap refusal_number (same_Some one.2.reason few.1.0 same) ∙ sym few.1.2
+
+  refuses_bytes : (k : ℕ) → RefusesBytes bytes k → ¬ Rose before now → (s : Status) → Ends words before now had has s → (s ≡ Refused k) ⊎ (s ≡ OutOfMemory)
+  refuses_bytes k bad reads Done h = absurd (no_report k h.0 bad h.1)
+  refuses_bytes k bad reads Usage h = absurd (h.0 o asked)
+  refuses_bytes k bad reads ReadFault h = absurd (reads h.1)
+  refuses_bytes k bad reads (Refused j) h = inl (ap Refused (same_number k j h.1.0 bad h.1.1))
+  refuses_bytes k bad reads WriteFault h = absurd (no_report k h.0 bad h.1)
+  refuses_bytes k bad reads OutOfMemory h = inr refl
+
+only_usage : (words : List (List ℕ)) (before now had has : Stream) → AsksNothing words → (s : Status) → Ends words before now had has s → (s ≡ Usage) ⊎ (s ≡ OutOfMemory)
+only_usage words before now had has nothing Done h = absurd (nothing h.1.options h.1.asked)
+only_usage words before now had has nothing Usage h = inl refl
+only_usage words before now had has nothing ReadFault h = absurd (nothing h.0.0 h.0.1)
+only_usage words before now had has nothing (Refused k) h = absurd (nothing h.0.0 h.0.1)
+only_usage words before now had has nothing WriteFault h = absurd (nothing h.1.options h.1.asked)
+only_usage words before now had has nothing OutOfMemory h = inr refl
+
+-- what is to be refused is refused
+pub refuses : (words : List (List ℕ)) (before now had has : Stream) (s : Status) → Ends words before now had has s → (want : Status) → MustRefuse words before now want → (s ≡ want) ⊎ (s ≡ OutOfMemory)
+refuses words before now had has s h Done must = absurd must
+refuses words before now had has s h Usage must = only_usage words before now had has must s h
+refuses words before now had has s h ReadFault must = absurd must
+refuses words before now had has s h (Refused k) must =
+    refuses_bytes words before now had has must.0.0 must.0.1 must.2.0 must.2.1 k must.2.2 must.1 s h
+refuses words before now had has s h WriteFault must = absurd must
+refuses words before now had has s h OutOfMemory must = absurd must

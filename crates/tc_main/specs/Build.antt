@@ -1,12 +1,16 @@
 -- The file of a guest with one segment of code, one of data and a note on its threads and guards (System V gABI, ELF
 -- for 32 bits, little endian). All of it but the data are words.
-use Rattle.std.specs.Prelude.{ℕ, ◌+◌, ◌*◌, List, [], ◌∷◌, ◌++◌, length}
+use Rattle.std.specs.Prelude.{◌≡◌, ℕ, ◌+◌, ◌*◌, List, [], ◌∷◌, ◌++◌, length}
 use Rattle.std.specs.List.{flat_map}
 use Rattle.byteorder.specs.Endian.{little_bytes}
 
 -- the four bytes of a word, the lowest first
 abbrev pub word_bytes : ℕ → List ℕ
 word_bytes n = little_bytes 4 n
+
+-- the words were written at the end of a file
+abbrev pub Writes : List ℕ → List ℕ → List ℕ → Type 0
+Writes old new words = new ≡ old ++ flat_map word_bytes words
 
 -- the file's header: an executable for RISC-V with this entry, and three program headers behind it
 abbrev pub header_words : ℕ → List ℕ

@@ -2,7 +2,7 @@
 use Rattle.std.specs.Prelude.{◌≡◌, ℕ, ◌<◌, length, map, All}
 use Rattle.std.specs.List.{range_with_len}
 use Rattle.tc_elf.specs.Shown.{Shown, guard_at}
-use Rattle.tc_journal.specs.Batch.{Obeys}
+use Rattle.tc_journal.specs.Batch.{Obeys, PassesOn}
 use Rattle.tc_journal.specs.History.{IsHistory, of_lock}
 use Rattle.tc_journal.specs.declared.block.Block.{Block}
 use Rattle.tc_mutex_spec.specs.Machine.{State}
@@ -10,7 +10,7 @@ use Rattle.tc_mutex_spec.specs.Blocks.{Tells, IsComplete}
 use Rattle.tc_mutex_spec.specs.Entries.{HasJournal}
 use Rattle.tc_main.specs.Results.{Results, Guarded}
 use Rattle.tc_main.specs.declared.results.Finished.{Finished}
-use Rattle.tc_main.specs.declared.words.Options.{Options}
+use Rattle.tc_main.specs.declared.options.Options.{Options}
 
 -- a thread of the machine, as the report prints it
 abbrev pub finished_in : State → ℕ → Finished
@@ -27,7 +27,8 @@ guarded_in image m lock = record {
 
 -- The history tells a run of the guest's threads under ordinary mutexes, with this fuel for each, to the end of every
 -- thread; each block is of a worker that there is; and the threads and the locks are as that run leaves them. The blocks of
--- each lock obey the batch limit, and the lock is the RV32I replay of its journal, whose entries are those of the run.
+-- each lock obey the batch limit, each section of it that was passed on is of another thread than the one before it, and the
+-- lock is the RV32I replay of its journal, whose entries are those of the run.
 pub record IsLegalRun (image : Shown) (o : Options) (results : Results) : Type 0 where
   pub last : State
   pub history : IsHistory results.history
@@ -35,6 +36,7 @@ pub record IsLegalRun (image : Shown) (o : Options) (results : Results) : Type 0
   pub complete : IsComplete image last
   pub workers : All (λ (b : Block). b.worker < o.workers) results.history
   pub obeys : (k : ℕ) → k < length image.guards → Obeys k o.limit (of_lock results.history k)
+  pub passes : (k : ℕ) → k < length image.guards → PassesOn k (of_lock results.history k)
   pub journals : (k : ℕ) → k < length image.guards → HasJournal image o.fuel results.history last k
   pub threads : results.threads ≡ map (finished_in last) (range_with_len 0 (length image.entries))
   pub locks : results.locks ≡ map (guarded_in image last) (range_with_len 0 (length image.guards))

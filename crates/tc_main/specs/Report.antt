@@ -9,7 +9,7 @@ use Rattle.tc_turn.specs.declared.status.Status.{Status}
 use Rattle.tc_turn.specs.declared.status.Status.TheVariants as status
 use Rattle.tc_main.specs.Hex.{hex2, hex8}
 use Rattle.tc_main.specs.Results.{Results, Guarded}
-use Rattle.tc_main.specs.declared.words.Options.{Options}
+use Rattle.tc_main.specs.declared.options.Options.{Options}
 use Rattle.tc_main.specs.declared.results.Finished.{Finished}
 
 -- how a thread ended; no thread of a report runs

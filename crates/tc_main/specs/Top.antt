@@ -1,8 +1,8 @@
 -- What the program answers and writes.
-use Rattle.std.specs.Prelude.{◌≡◌, ◌≢◌, ℕ, ◌+◌, ◌≤◌, ◌⊎◌, List, [], ◌∷◌, ◌++◌, length, take, Option, Some, codes, decimal}
-use Rattle.std.specs.Io.KnownBytes.{Appends, Consumes, IsAtEnd}
+use Rattle.std.specs.Prelude.{◌≡◌, ◌≢◌, ℕ, ◌+◌, ◌<◌, ◌≤◌, ◌⊎◌, List, [], ◌∷◌, ◌++◌, length, Some, codes, decimal}
 use Rattle.tc_io.specs.Causes.{Rose}
-use Rattle.tc_io.specs.Taken.{Took}
+use Rattle.tc_io.specs.Stream.{Stream}
+use Rattle.tc_io.specs.Taken.{FailsAmid, Gives, TakesAll, TakesCount}
 use Rattle.tc_elf.specs.Loading.{refusal, subset}
 use Rattle.tc_elf.specs.Refused.{refusal_number, refusal_name}
 use Rattle.tc_elf.specs.Shown.{Shown}
@@ -12,8 +12,8 @@ use Rattle.tc_elf.specs.declared.refusal.Refusal.TheVariants as refused
 use Rattle.tc_main.specs.Legal.{IsLegalRun}
 use Rattle.tc_main.specs.Report.{report_text}
 use Rattle.tc_main.specs.Results.{Results}
-use Rattle.tc_main.specs.Words.{Asks, AsksNothing}
-use Rattle.tc_main.specs.declared.words.Options.{Options}
+use Rattle.tc_main.specs.Words.{Asks, AsksNothing, AsksRun}
+use Rattle.tc_main.specs.declared.options.Options.{Options}
 use Rattle.tc_main.specs.declared.status.Status.{Status}
 use Rattle.tc_main.specs.declared.status.Status.TheVariants.{Done, Usage, ReadFault, Refused, WriteFault, OutOfMemory}
 
@@ -24,25 +24,16 @@ usage_line = codes "usage: tclocks run W F B | tclocks gen N | tclocks demo N W\
 abbrev pub refused_line : ℕ → List ℕ → List ℕ
 refused_line k name = codes "refused " ++ decimal k ++ codes " " ++ name ++ 10 ∷ []
 
--- what a source still has, or a sink took, where it tells; and how often it failed
-pub record Stream : Type 0 where
-  pub bytes : Option (List ℕ)
-  pub faults : ℕ
-
-abbrev pub stream : Option (List ℕ) → ℕ → Stream
-stream bytes faults = record { bytes = bytes; faults = faults }
-
--- ---- causes
+-- ---- causes, by the source before and after the call
 
 -- the source was read to its end, and had these bytes, which are no more than a guest file may have
-pub record ReadsAll (before now : Option (List ℕ)) (bytes : List ℕ) : Type 0 where
+pub record ReadsAll (before now : Stream) (bytes : List ℕ) : Type 0 where
   pub few : length bytes ≤ MAX_FILE
-  pub read : Consumes before now bytes
-  pub end : IsAtEnd now
+  pub read : TakesAll before now bytes
 
 -- more bytes were read than a guest file may have
-abbrev pub ReadsTooMany : Option (List ℕ) → Option (List ℕ) → Type 0
-ReadsTooMany before now = Took before now (MAX_FILE + 1)
+abbrev pub ReadsTooMany : Stream → Stream → Type 0
+ReadsTooMany before now = TakesCount before now (MAX_FILE + 1)
 
 -- the bytes of a file are refused for a reason that has this number and this name
 pub record IsRefusedFile (bytes : List ℕ) (k : ℕ) (name : List ℕ) : Type 0 where
@@ -52,14 +43,14 @@ pub record IsRefusedFile (bytes : List ℕ) (k : ℕ) (name : List ℕ) : Type 0
   pub number : k ≡ refusal_number reason
   pub called : name ≡ refusal_name reason
 
--- the source is refused by this number and this name: it is too large, or it was read whole and has a reason
-abbrev pub IsRefused : Option (List ℕ) → Option (List ℕ) → ℕ → List ℕ → Type 0
+-- no read failed, and the source is refused by this number and this name: it is too large, or it was read whole and has a reason
+abbrev pub IsRefused : Stream → Stream → ℕ → List ℕ → Type 0
 IsRefused before now k name =
     (ReadsTooMany before now × (k ≡ 0) × (name ≡ codes "TooLarge"))
     ⊎ ((bytes : List ℕ) × ReadsAll before now bytes × IsRefusedFile bytes k name)
 
 -- the text is the report of a legal run of the guest that the source had, with the options that the words give
-pub record IsReport (words : List (List ℕ)) (before now : Option (List ℕ)) (text : List ℕ) : Type 0 where
+pub record IsReport (words : List (List ℕ)) (before now : Stream) (text : List ℕ) : Type 0 where
   pub options : Options
   pub bytes : List ℕ
   pub image : Shown
@@ -69,6 +60,33 @@ pub record IsReport (words : List (List ℕ)) (before now : Option (List ℕ)) (
   pub loaded : subset bytes image
   pub legal : IsLegalRun image options results
   pub printed : text ≡ report_text image options results
+
+-- ---- what is to be refused
+
+-- a source with these bytes is to be refused by this number: they are too many, or they have a reason
+abbrev pub RefusesBytes : List ℕ → ℕ → Type 0
+RefusesBytes bytes k =
+    ((MAX_FILE < length bytes) × (k ≡ 0))
+    ⊎ ((length bytes ≤ MAX_FILE) × ((reason : Refusal) × (refusal bytes ≡ Some reason) × (k ≡ refusal_number reason)))
+
+-- the words, or the bytes of a source that tells them and doesn't fail, are to be refused with this status
+abbrev pub MustRefuse : List (List ℕ) → Stream → Stream → Status → Type 0
+MustRefuse words before now Done = ⊥
+MustRefuse words before now Usage = AsksNothing words
+MustRefuse words before now ReadFault = ⊥
+MustRefuse words before now (Refused k) =
+    AsksRun words × ¬ Rose before now × ((bytes : List ℕ) × (before.bytes ≡ Some bytes) × RefusesBytes bytes k)
+MustRefuse words before now WriteFault = ⊥
+MustRefuse words before now OutOfMemory = ⊥
+
+-- ---- what is written, by the sink before and after the call
+
+-- the text was written whole, or a front of it before the sink failed
+abbrev pub Writes : Stream → Stream → List ℕ → Type 0
+Writes had has text = Gives had has text ⊎ FailsAmid had has text
+
+abbrev pub WritesNothing : Stream → Stream → Type 0
+WritesNothing had has = Gives had has []
 
 -- ---- answers
 
@@ -84,29 +102,20 @@ FileAnswers bytes o OutOfMemory text = ⊥
 
 -- what the words and the source come to, with the text that goes with it
 abbrev pub Answers : List (List ℕ) → Stream → Stream → Status → List ℕ → Type 0
-Answers words before now Done text = IsReport words before.bytes now.bytes text
+Answers words before now Done text = IsReport words before now text
 Answers words before now Usage text = AsksNothing words × (now ≡ before) × (text ≡ usage_line)
-Answers words before now ReadFault text = ((o : Options) × Asks words o) × Rose before.faults now.faults × (text ≡ [])
+Answers words before now ReadFault text = AsksRun words × Rose before now × (text ≡ [])
 Answers words before now (Refused k) text =
-    ((o : Options) × Asks words o) × ((name : List ℕ) × IsRefused before.bytes now.bytes k name × (text ≡ refused_line k name))
+    AsksRun words × ((name : List ℕ) × IsRefused before now k name × (text ≡ refused_line k name))
 Answers words before now WriteFault text = ⊥
 Answers words before now OutOfMemory text = ⊥
 
--- a front of the text was written, and all of it unless the sink failed
-pub record Writes (had has : Stream) (text : List ℕ) : Type 0 where
-  pub count : ℕ
-  pub front : Appends had.bytes has.bytes (take count text)
-  pub whole : Appends had.bytes has.bytes text ⊎ Rose had.faults has.faults
-
-abbrev pub WritesNothing : Option (List ℕ) → Option (List ℕ) → Type 0
-WritesNothing had has = Appends had has []
-
 -- how the program ends
 abbrev pub Ends : List (List ℕ) → Stream → Stream → Stream → Stream → Status → Type 0
-Ends words before now had has Done = (text : List ℕ) × Answers words before now Done text × Appends had.bytes has.bytes text
-Ends words before now had has Usage = (text : List ℕ) × Answers words before now Usage text × Writes had has text
-Ends words before now had has ReadFault = (text : List ℕ) × Answers words before now ReadFault text × WritesNothing had.bytes has.bytes
-Ends words before now had has (Refused k) = (text : List ℕ) × Answers words before now (Refused k) text × Writes had has text
-Ends words before now had has WriteFault =
-    (text : List ℕ) × Answers words before now Done text × Rose had.faults has.faults × Writes had has text
-Ends words before now had has OutOfMemory = WritesNothing had.bytes has.bytes
+Ends words before now had has Done = (text : List ℕ) × IsReport words before now text × Gives had has text
+Ends words before now had has Usage = AsksNothing words × (now ≡ before) × Writes had has usage_line
+Ends words before now had has ReadFault = AsksRun words × Rose before now × WritesNothing had has
+Ends words before now had has (Refused k) =
+    AsksRun words × ((name : List ℕ) × IsRefused before now k name × Writes had has (refused_line k name))
+Ends words before now had has WriteFault = (text : List ℕ) × IsReport words before now text × FailsAmid had has text
+Ends words before now had has OutOfMemory = WritesNothing had has

@@ -2,6 +2,7 @@
 
 ghost use Rattle.std.specs.Prelude.{◌≡◌, ◌+◌, ◌*◌, ◌≤◌, ◌<◌, ◌^◌, ◌++◌, IfOk, OnOk, length};
 ghost use Rattle.std.specs.List.{flat_map};
+ghost use Rattle.tc_elf.specs.declared.limits.TheConstants.{MAX_GUARDS, MAX_THREADS};
 ghost use Rattle.tc_main.specs.Build as spec;
 
 use byteorder::{ByteOrder, LittleEndian};
@@ -15,7 +16,8 @@ pub const DATA_START: u32 = 0x0002_0000;
 
 /// Writes words, the lowest byte of each first.
 fn push_words(file: &mut Vec<u8>, words: &[u32]) -> Result<(), AllocError>
-    ensures { OnOk result (file.new.items ≡ file.old.items ++ flat_map spec.word_bytes words.now) }
+    ensures { OnOk result (spec.Writes file.old.items file.new.items
+        words.now) }
 {
     for word in words {
         let mut bytes = [0; 4];
@@ -27,7 +29,8 @@ fn push_words(file: &mut Vec<u8>, words: &[u32]) -> Result<(), AllocError>
 
 /// Writes pairs of words.
 fn push_pairs(file: &mut Vec<u8>, pairs: &[(u32, u32)]) -> Result<(), AllocError>
-    ensures { OnOk result (file.new.items ≡ file.old.items ++ flat_map spec.word_bytes (flat_map spec.pair_words pairs.now)) }
+    ensures { OnOk result (spec.Writes file.old.items file.new.items
+        (flat_map spec.pair_words pairs.now)) }
 {
     for pair in pairs {
         push_words(file, &[pair.0, pair.1])?;
@@ -44,7 +47,8 @@ fn push_segment(
     size: u32,
     flags: u32,
 ) -> Result<(), AllocError>
-    ensures { OnOk result (file.new.items ≡ file.old.items ++ flat_map spec.word_bytes (spec.segment_words kind offset address size flags)) }
+    ensures { OnOk result (spec.Writes file.old.items file.new.items
+        (spec.segment_words kind offset address size flags)) }
 {
     push_words(
         file,
@@ -55,7 +59,8 @@ fn push_segment(
 /// Writes the head of the note on threads and guards.
 fn push_note_head(file: &mut Vec<u8>, threads: u32, guards: u32) -> Result<(), AllocError>
     requires { 12 + 8 * threads + 8 * guards < 2 ^ 32 }
-    ensures { OnOk result (file.new.items ≡ file.old.items ++ flat_map spec.word_bytes (spec.note_head threads guards)) }
+    ensures { OnOk result (spec.Writes file.old.items file.new.items
+        (spec.note_head threads guards)) }
 {
     let length = 12 + 8 * threads + 8 * guards;
     push_words(
@@ -70,9 +75,10 @@ fn push_note(
     entries: &[(u32, u32)],
     guards: &[(u32, u32)],
 ) -> Result<(), AllocError>
-    requires entries { length entries.now ≤ 16 }
-    requires guards { length guards.now ≤ 16 }
-    ensures { OnOk result (file.new.items ≡ file.old.items ++ flat_map spec.word_bytes (spec.note_words entries.now guards.now)) }
+    requires entries { length entries.now ≤ MAX_THREADS }
+    requires guards { length guards.now ≤ MAX_GUARDS }
+    ensures { OnOk result (spec.Writes file.old.items file.new.items
+        (spec.note_words entries.now guards.now)) }
 {
     push_note_head(file, entries.len() as u32, guards.len() as u32)?;
     push_pairs(file, entries)?;
@@ -82,7 +88,8 @@ fn push_note(
 
 /// Writes the file's header.
 fn push_header(file: &mut Vec<u8>, entry: u32) -> Result<(), AllocError>
-    ensures { OnOk result (file.new.items ≡ file.old.items ++ flat_map spec.word_bytes (spec.header_words entry)) }
+    ensures { OnOk result (spec.Writes file.old.items file.new.items
+        (spec.header_words entry)) }
 {
     push_words(
         file,
@@ -107,7 +114,8 @@ fn push_header(file: &mut Vec<u8>, entry: u32) -> Result<(), AllocError>
 /// Writes the program headers of the note, the code and the data, which have these sizes.
 fn push_segments(file: &mut Vec<u8>, note: u32, code: u32, fill: u32) -> Result<(), AllocError>
     requires { 148 + note + code < 2 ^ 32 }
-    ensures { OnOk result (file.new.items ≡ file.old.items ++ flat_map spec.word_bytes (spec.segments_words note code fill)) }
+    ensures { OnOk result (spec.Writes file.old.items file.new.items
+        (spec.segments_words note code fill)) }
 {
     push_segment(file, 4, 148, 0, note, 4)?;
     push_segment(file, 1, 148 + note, CODE_START, code, 5)?;
@@ -126,11 +134,12 @@ pub fn build(
     guards: &[(u32, u32)],
 ) -> Result<Vec<u8>, AllocError>
     requires some { 1 ≤ length entries.now }
-    requires entries { length entries.now ≤ 16 }
-    requires guards { length guards.now ≤ 16 }
+    requires entries { length entries.now ≤ MAX_THREADS }
+    requires guards { length guards.now ≤ MAX_GUARDS }
     requires code { length code.now ≤ 200000 }
     requires fill { length fill.now ≤ 65536 }
-    ensures { IfOk result (λ file. file.items ≡ spec.built code.now entries.now fill.now guards.now) }
+    ensures { IfOk result (λ file.
+        file.items ≡ spec.built code.now entries.now fill.now guards.now) }
 {
     let note = 32 + 8 * entries.len() as u32 + 8 * guards.len() as u32;
     let mut file = Vec::new(alloc);

@@ -6,8 +6,8 @@ ghost use Rattle.tc_main.specs.Hex.{hex2, hex8};
 ghost use Rattle.tc_main.specs.Report as text;
 
 use crate::hex::{Hex2, Hex8};
+use crate::options::Options;
 use crate::results::{Finished, Guarded, Results};
-use crate::words::Options;
 use std::alloc::{AllocError, Global};
 use std::fmt::Write;
 use tc_elf::image::Image;
@@ -20,7 +20,8 @@ use tc_turn::status::Status;
 /// Writes how many threads and guards the guest has.
 #[tactic(auto, unfolding(crate::specs::Report::guest_line))]
 fn push_guest(out: &mut String, threads: u32, guards: u32) -> Result<(), AllocError>
-    ensures { OnOk result (string_bytes out.new ≡ string_bytes out.old ++ text.guest_line threads guards) }
+    ensures { OnOk result (string_bytes out.new
+        ≡ string_bytes out.old ++ text.guest_line threads guards) }
 {
     writeln!(out, "guest threads {threads} guards {guards}")
 }
@@ -40,7 +41,8 @@ fn push_run(out: &mut String, options: Options) -> Result<(), AllocError>
 
 /// Writes the lines of the blocks.
 fn push_history(out: &mut String, history: &[Block]) -> Result<(), AllocError>
-    ensures { OnOk result (string_bytes out.new ≡ string_bytes out.old ++ history_text history.now) }
+    ensures { OnOk result (string_bytes out.new
+        ≡ string_bytes out.old ++ history_text history.now) }
 {
     for block in history {
         push_block(out, block)?;
@@ -52,7 +54,8 @@ fn push_history(out: &mut String, history: &[Block]) -> Result<(), AllocError>
 #[tactic(auto, unfolding(crate::specs::Report::register_text))]
 fn push_register(out: &mut String, regs: &Regs, from: u32, i: u32) -> Result<(), AllocError>
     requires { from + i < 32 }
-    ensures { OnOk result (string_bytes out.new ≡ string_bytes out.old ++ text.register_text regs.now from i) }
+    ensures { OnOk result (string_bytes out.new
+        ≡ string_bytes out.old ++ text.register_text regs.now from i) }
 {
     let word = Hex8(regs.get(Reg::of(from + i)));
     write!(out, " {word}")
@@ -62,7 +65,8 @@ fn push_register(out: &mut String, regs: &Regs, from: u32, i: u32) -> Result<(),
 #[tactic(auto, unfolding(crate::specs::Report::registers_line))]
 fn push_registers(out: &mut String, regs: &Regs, from: u32) -> Result<(), AllocError>
     requires { from + 8 ≤ 32 }
-    ensures { OnOk result (string_bytes out.new ≡ string_bytes out.old ++ text.registers_line regs.now from) }
+    ensures { OnOk result (string_bytes out.new
+        ≡ string_bytes out.old ++ text.registers_line regs.now from) }
 {
     write!(out, "x{from}")?;
     for i in 0..8 {
@@ -89,7 +93,8 @@ fn push_status(out: &mut String, status: Status) -> Result<(), AllocError>
 /// Writes the line of a thread.
 #[tactic(auto, unfolding(crate::specs::Report::thread_line))]
 fn push_thread_line(out: &mut String, number: usize, thread: &Finished) -> Result<(), AllocError>
-    ensures { OnOk result (string_bytes out.new ≡ string_bytes out.old ++ text.thread_line number thread.now) }
+    ensures { OnOk result (string_bytes out.new
+        ≡ string_bytes out.old ++ text.thread_line number thread.now) }
 {
     let Finished { status, fuel, regs } = *thread;
     let pc = Hex8(regs.pc());
@@ -101,7 +106,8 @@ fn push_thread_line(out: &mut String, number: usize, thread: &Finished) -> Resul
 /// Writes how a thread ended and its registers.
 #[tactic(auto, unfolding(crate::specs::Report::thread_text))]
 fn push_thread(out: &mut String, number: usize, thread: &Finished) -> Result<(), AllocError>
-    ensures { OnOk result (string_bytes out.new ≡ string_bytes out.old ++ text.thread_text (number, thread.now)) }
+    ensures { OnOk result (string_bytes out.new
+        ≡ string_bytes out.old ++ text.thread_text (number, thread.now)) }
 {
     push_thread_line(out, number, thread)?;
     push_registers(out, &thread.regs, 0)?;
@@ -112,7 +118,8 @@ fn push_thread(out: &mut String, number: usize, thread: &Finished) -> Result<(),
 
 /// Writes how the threads ended and their registers.
 fn push_threads(out: &mut String, threads: &[Finished]) -> Result<(), AllocError>
-    ensures { OnOk result (string_bytes out.new ≡ string_bytes out.old ++ text.threads_text threads.now) }
+    ensures { OnOk result (string_bytes out.new
+        ≡ string_bytes out.old ++ text.threads_text threads.now) }
 {
     for number in 0..threads.len() {
         push_thread(out, number, &threads[number])?;
@@ -123,7 +130,8 @@ fn push_threads(out: &mut String, threads: &[Finished]) -> Result<(), AllocError
 /// Writes the line of a lock.
 #[tactic(auto, unfolding(crate::specs::Report::lock_line))]
 fn push_lock_line(out: &mut String, number: usize, lock: &Guarded) -> Result<(), AllocError>
-    ensures { OnOk result (string_bytes out.new ≡ string_bytes out.old ++ text.lock_line number lock.now) }
+    ensures { OnOk result (string_bytes out.new
+        ≡ string_bytes out.old ++ text.lock_line number lock.now) }
 {
     let sections = lock.sections();
     let broken = if lock.broken() { "1" } else { "0" };
@@ -143,7 +151,8 @@ fn push_byte(out: &mut String, byte: u8) -> Result<(), AllocError>
 /// Writes a line of bytes from an address on.
 #[tactic(auto, unfolding(crate::specs::Report::data_line))]
 fn push_data(out: &mut String, start: u32, bytes: &[u8]) -> Result<(), AllocError>
-    ensures { OnOk result (string_bytes out.new ≡ string_bytes out.old ++ text.data_line start bytes.now) }
+    ensures { OnOk result (string_bytes out.new
+        ≡ string_bytes out.old ++ text.data_line start bytes.now) }
 {
     let address = Hex8(start);
     write!(out, "data {address} ")?;
@@ -165,7 +174,8 @@ fn address_at(start: u32, from: usize) -> u32
 #[tactic(auto, unfolding(crate::specs::Report::data_line_at))]
 fn push_data_at(out: &mut String, lock: &Guarded, i: usize) -> Result<(), AllocError>
     requires { 32 * i < length lock.now.bytes }
-    ensures { OnOk result (string_bytes out.new ≡ string_bytes out.old ++ text.data_line_at lock.now i) }
+    ensures { OnOk result (string_bytes out.new
+        ≡ string_bytes out.old ++ text.data_line_at lock.now i) }
 {
     let bytes = lock.bytes();
     let from = 32 * i;
@@ -176,7 +186,8 @@ fn push_data_at(out: &mut String, lock: &Guarded, i: usize) -> Result<(), AllocE
 /// Writes the line of a lock and its data lines.
 #[tactic(auto, unfolding(crate::specs::Report::lock_text))]
 fn push_lock(out: &mut String, number: usize, lock: &Guarded) -> Result<(), AllocError>
-    ensures { OnOk result (string_bytes out.new ≡ string_bytes out.old ++ text.lock_text (number, lock.now)) }
+    ensures { OnOk result (string_bytes out.new
+        ≡ string_bytes out.old ++ text.lock_text (number, lock.now)) }
 {
     push_lock_line(out, number, lock)?;
     let lines = lock.bytes().len().div_ceil(32);
@@ -188,7 +199,8 @@ fn push_lock(out: &mut String, number: usize, lock: &Guarded) -> Result<(), Allo
 
 /// Writes the lines of the locks.
 fn push_locks(out: &mut String, locks: &[Guarded]) -> Result<(), AllocError>
-    ensures { OnOk result (string_bytes out.new ≡ string_bytes out.old ++ text.locks_text locks.now) }
+    ensures { OnOk result (string_bytes out.new
+        ≡ string_bytes out.old ++ text.locks_text locks.now) }
 {
     for number in 0..locks.len() {
         push_lock(out, number, &locks[number])?;
@@ -241,7 +253,8 @@ pub fn report(
     options: Options,
     results: &Results,
 ) -> Result<String, AllocError>
-    ensures { IfOk result (λ out. string_bytes out ≡ text.report_text image.now options results.now) }
+    ensures { IfOk result (λ out.
+        string_bytes out ≡ text.report_text image.now options results.now) }
 {
     let mut out = String::with_capacity(alloc, room_for(results))?;
     out.push_str("tclocks 1\n")?;

@@ -31,13 +31,23 @@ impl Model for Guarded {
 
     ghost Value = { Told };
 
-    ghost view = { λ l. record { start = l.start; bytes = l.bytes.items; broken = l.broken; sections = l.sections } };
+    ghost view = { λ l. record {
+      start = l.start;
+      bytes = l.bytes.items;
+      broken = l.broken;
+      sections = l.sections;
+    } };
 }
 
 impl Guarded {
     /// A lock whose guard begins at this address and has these bytes.
     pub fn new(start: u32, bytes: Vec<u8>, broken: bool, sections: u64) -> Guarded
-        ensures { result ≡ record { start = start; bytes = bytes.items; broken = broken; sections = sections } }
+        ensures { result ≡ record {
+          start = start;
+          bytes = bytes.items;
+          broken = broken;
+          sections = sections;
+        } }
     {
         Guarded {
             start,
@@ -90,13 +100,21 @@ impl Model for Results {
 
     ghost Value = { Told };
 
-    ghost view = { λ r. record { history = r.history.items; threads = r.threads.items; locks = r.locks.items } };
+    ghost view = { λ r. record {
+      history = r.history.items;
+      threads = r.threads.items;
+      locks = r.locks.items;
+    } };
 }
 
 impl Results {
     /// The results of these blocks, threads and locks.
     pub fn new(history: Vec<Block>, threads: Vec<Finished>, locks: Vec<Guarded>) -> Results
-        ensures { result ≡ record { history = history.items; threads = threads.items; locks = locks.items } }
+        ensures { result ≡ record {
+          history = history.items;
+          threads = threads.items;
+          locks = locks.items;
+        } }
     {
         Results {
             history,

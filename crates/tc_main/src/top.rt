@@ -1,26 +1,27 @@
 //! The top call.
 
-ghost use Rattle.std.specs.Prelude.{◌≡◌, ◌≤◌, ◌<◌, ◌++◌, ℕ, List, Option, Some, None, OnOk, IfOk, length, string_bytes, ◌⊎◌, ◌∷◌, [], codes, decimal};
-ghost use Rattle.std.specs.Io.KnownBytes.{Appends};
+ghost use Rattle.std.specs.Prelude.{◌≡◌, ◌≤◌, ℕ, List, Some, None, IfOk, length, string_bytes, ◌⊎◌};
 ghost use Rattle.tc_elf.specs.Loading.{refusal};
-ghost use Rattle.tc_elf.specs.Refused.{refusal_number};
 ghost use Rattle.tc_elf.specs.declared.limits.TheConstants.{MAX_FILE};
-ghost use Rattle.tc_elf.specs.declared.refusal.Refusal.{Refusal as Reason};
 ghost use Rattle.tc_io.specs.Causes.{Rose};
-ghost use Rattle.tc_main.specs.Words.{Asks, AsksNothing};
-ghost use Rattle.tc_main.specs.Runner.{IsBounded};
-ghost use Rattle.tc_main.specs.Top.{Answers, Ends, FileAnswers, IsRefused, IsReport, Stream, Writes, WritesNothing, stream, refused_line, usage_line};
-ghost use Rattle.tc_main.specs.declared.words.Options.{Options as Asked};
+ghost use Rattle.tc_io.specs.Stream.{Stream};
+ghost use Rattle.tc_io.specs.Taken.{FailsAmid, Gives};
+ghost use Rattle.tc_main.specs.Words.{Asks, AsksNothing, AsksRun};
+ghost use Rattle.tc_main.specs.Top.{Answers, Ends, FileAnswers, IsRefused, IsReport, MustRefuse};
+ghost use Rattle.tc_main.specs.Top.{Writes, WritesNothing, refused_line, usage_line};
+ghost use Rattle.tc_main.specs.declared.options.Options.{Options as Asked};
+ghost use Rattle.tc_main.specs.declared.status.Status.{Status as Answered};
 
+use crate::options::Options;
 use crate::report::report;
 use crate::runner::run;
 use crate::status::Status;
-use crate::words::{Options, options_of};
+use crate::words::options_of;
 use std::alloc::{AllocError, Global};
 use std::fmt::Write;
 use std::sync::Wait;
 use std::thread::Threads;
-use tc_elf::limits::MAX_FILE as MOST_BYTES;
+use tc_elf::limits::MAX_FILE as MAX_BYTES;
 use tc_elf::load::load;
 use tc_elf::refusal::Refusal;
 use tc_io::all::{ReadAll, read_all, write_all};
@@ -53,8 +54,7 @@ struct Answer {
 
 /// What the bytes of a file come to.
 fn answer_file(alloc: Global, options: Options, bytes: &[u8]) -> Result<Answer, AllocError>
-    requires bounded { IsBounded options }
-    requires few { length bytes.now ≤ MAX_FILE }
+    requires { length bytes.now ≤ MAX_FILE }
     ensures { IfOk result (λ a. FileAnswers bytes.now options a.status (string_bytes a.text)) }
 {
     match load(alloc, bytes) {
@@ -84,7 +84,8 @@ fn answer_words<S: Source>(
     words: &[Word],
     source: &mut S,
 ) -> Result<Answer, AllocError>
-    ensures { IfOk result (λ a. Answers words.now (stream (S.left source.old) (S.faults source.old)) (stream (S.left source.new) (S.faults source.new)) a.status (string_bytes a.text)) }
+    ensures { IfOk result (λ a. Answers words.now (S.stream source.old) (S.stream source.new)
+        a.status (string_bytes a.text)) }
 {
     let Some(options) = options_of(alloc, words)? else {
         let text = usage(alloc)?;
@@ -93,7 +94,7 @@ fn answer_words<S: Source>(
             text,
         });
     };
-    match read_all(alloc, source, MOST_BYTES) {
+    match read_all(alloc, source, MAX_BYTES) {
         Ok(bytes) => answer_file(alloc, options, &bytes),
         Err(ReadAll::Fault) => Ok(Answer {
             status: Status::ReadFault,
@@ -114,7 +115,7 @@ fn answer_words<S: Source>(
 fn written<K: Sink>(sink: &mut K, answer: &Answer) -> Status
     ensures { (words : List (List ℕ)) (before now : Stream)
         → Answers words before now answer.now.status (string_bytes answer.now.text)
-        → Ends words before now (stream (K.written sink.old) (K.faults sink.old)) (stream (K.written sink.new) (K.faults sink.new)) result }
+        → Ends words before now (K.stream sink.old) (K.stream sink.new) result }
 {
     match write_all(sink, answer.text.as_bytes()) {
         Ok(()) => answer.status,
@@ -132,8 +133,8 @@ fn run_words<S: Source, K: Sink>(
     source: &mut S,
     sink: &mut K,
 ) -> Status
-    ensures { Ends words.now (stream (S.left source.old) (S.faults source.old)) (stream (S.left source.new) (S.faults source.new))
-        (stream (K.written sink.old) (K.faults sink.old)) (stream (K.written sink.new) (K.faults sink.new)) result }
+    ensures { Ends words.now (S.stream source.old) (S.stream source.new)
+        (K.stream sink.old) (K.stream sink.new) result }
 {
     match answer_words(alloc, words, source) {
         Ok(answer) => written(sink, &answer),
@@ -155,40 +156,45 @@ pub fn tclocks<R: Threads + Wait + Sync, S: Source, K: Sink>(
     sink: &mut K,
 ) -> Status
     // What was asked for is done: the report of a legal run of the source's guest was written.
-    ensures done { result ≡ Status.Done → (text : List ℕ) × IsReport words.now (S.left source.old) (S.left source.new) text
-        × Appends (K.written sink.old) (K.written sink.new) text }
+    ensures done { result ≡ Status.Done → (text : List ℕ)
+        × IsReport words.now (S.stream source.old) (S.stream source.new) text
+        × Gives (K.stream sink.old) (K.stream sink.new) text }
 
     // Nothing was asked for, so nothing was read; and the usage line was written.
-    ensures usage { result ≡ Status.Usage → AsksNothing words.now }
-    ensures asked { AsksNothing words.now → (result ≡ Status.Usage) ⊎ (result ≡ Status.OutOfMemory) }
-    ensures unread { result ≡ Status.Usage → S.left source.new ≡ S.left source.old }
-    ensures usage_written { result ≡ Status.Usage → Writes (stream (K.written sink.old) (K.faults sink.old)) (stream (K.written sink.new) (K.faults sink.new)) usage_line }
+    ensures usage { result ≡ Status.Usage → AsksNothing words.now
+        × (S.stream source.new ≡ S.stream source.old)
+        × Writes (K.stream sink.old) (K.stream sink.new) usage_line }
 
-    // The source or the sink failed in this call.
-    ensures read { result ≡ Status.ReadFault → Rose (S.faults source.old) (S.faults source.new) }
-    ensures write { result ≡ Status.WriteFault → Rose (K.faults sink.old) (K.faults sink.new) }
-    ensures cut { result ≡ Status.WriteFault → (text : List ℕ) × IsReport words.now (S.left source.old) (S.left source.new) text
-        × Writes (stream (K.written sink.old) (K.faults sink.old)) (stream (K.written sink.new) (K.faults sink.new)) text }
+    // A read failed in this call, and nothing was written.
+    ensures read { result ≡ Status.ReadFault → AsksRun words.now
+        × Rose (S.stream source.old) (S.stream source.new)
+        × WritesNothing (K.stream sink.old) (K.stream sink.new) }
 
-    // The file was refused, and the line that says why was written.
-    ensures refused { (k : ℕ) → result ≡ Status.Refused k → (name : List ℕ) × IsRefused (S.left source.old) (S.left source.new) k name
-        × Writes (stream (K.written sink.old) (K.faults sink.old)) (stream (K.written sink.new) (K.faults sink.new)) (refused_line k name) }
+    // The file was refused, no read failed, and the line that says why was written.
+    ensures refused { (k : ℕ) → result ≡ Status.Refused k → AsksRun words.now × ((name : List ℕ)
+        × IsRefused (S.stream source.old) (S.stream source.new) k name
+        × Writes (K.stream sink.old) (K.stream sink.new) (refused_line k name)) }
 
-    // What is to be refused is refused, unless memory is wanted.
-    ensures refuses { (o : Asked) (bytes : List ℕ) (reason : Reason) → Asks words.now o → S.left source.old ≡ Some bytes → length bytes ≤ MAX_FILE
-        → refusal bytes ≡ Some reason → (Rose (S.faults source.old) (S.faults source.new) → ⊥)
-        → (result ≡ Status.Refused (refusal_number reason)) ⊎ (result ≡ Status.OutOfMemory) }
-    ensures too_large { (o : Asked) (bytes : List ℕ) → Asks words.now o → S.left source.old ≡ Some bytes → MAX_FILE < length bytes
-        → (Rose (S.faults source.old) (S.faults source.new) → ⊥)
-        → (result ≡ Status.Refused 0) ⊎ (result ≡ Status.OutOfMemory) }
-
-    // What can be done is done, unless memory is wanted.
-    ensures complete { (o : Asked) (bytes : List ℕ) → Asks words.now o → S.left source.old ≡ Some bytes → length bytes ≤ MAX_FILE → refusal bytes ≡ None
-        → (Rose (S.faults source.old) (S.faults source.new) → ⊥) → (Rose (K.faults sink.old) (K.faults sink.new) → ⊥)
-        → (result ≡ Status.Done) ⊎ (result ≡ Status.OutOfMemory) }
+    // A write failed in this call, and a front of the report was written before it.
+    ensures write { result ≡ Status.WriteFault → (text : List ℕ)
+        × IsReport words.now (S.stream source.old) (S.stream source.new) text
+        × FailsAmid (K.stream sink.old) (K.stream sink.new) text }
 
     // Nothing was written.
-    ensures silent { (result ≡ Status.ReadFault) ⊎ (result ≡ Status.OutOfMemory) → WritesNothing (K.written sink.old) (K.written sink.new) }
+    ensures memory { result ≡ Status.OutOfMemory
+        → WritesNothing (K.stream sink.old) (K.stream sink.new) }
+
+    // What is to be refused is refused, unless memory is wanted.
+    ensures refuses { (s : Answered)
+        → MustRefuse words.now (S.stream source.old) (S.stream source.new) s
+        → (result ≡ s) ⊎ (result ≡ Status.OutOfMemory) }
+
+    // What can be done is done, unless memory is wanted.
+    ensures complete { (o : Asked) (bytes : List ℕ) → Asks words.now o
+        → (S.stream source.old).bytes ≡ Some bytes → length bytes ≤ MAX_FILE → refusal bytes ≡ None
+        → ¬ Rose (S.stream source.old) (S.stream source.new)
+        → ¬ Rose (K.stream sink.old) (K.stream sink.new)
+        → (result ≡ Status.Done) ⊎ (result ≡ Status.OutOfMemory) }
 {
     run_words(alloc, words, source, sink)
 }

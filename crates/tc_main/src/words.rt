@@ -3,25 +3,16 @@
 ghost use Rattle.std.specs.Prelude.{◌≡◌, ℕ, ◌≤◌, MatchBool, IfOk, IfSome, IfNone, codes, decimal};
 ghost use Rattle.tc_main.specs.Words.{Asks, AsksNothing};
 
+use crate::options::Options;
 use std::alloc::{AllocError, Global};
 use std::str::from_utf8;
 use tc_io::word::Word;
-use tc_isa::limits::{MOST_BATCH, MOST_FUEL, MOST_WORKERS};
-
-/// With what a guest is run.
-#[derive(Clone, Copy, Debug, PartialEq, Eq)]
-pub struct Options {
-    /// The number of workers.
-    pub workers: u32,
-    /// The fuel of each thread, in instructions.
-    pub fuel: u32,
-    /// The batch limit: how many adopted sections of one lock may stand in a row.
-    pub limit: u32,
-}
+use tc_isa::limits::{MAX_BATCH, MAX_FUEL, MAX_WORKERS};
 
 /// Whether this is how the number is written.
 fn is_decimal(alloc: Global, text: &str, number: u32) -> Result<bool, AllocError>
-    ensures { IfOk result (λ b. MatchBool b (text.now ≡ decimal number) (text.now ≡ decimal number → ⊥)) }
+    ensures { IfOk result (λ b.
+        MatchBool b (text.now ≡ decimal number) (text.now ≡ decimal number → ⊥)) }
 {
     let own = number.to_string(alloc)?;
     Ok(own.as_str() == text)
@@ -45,8 +36,10 @@ fn number_of_text(alloc: Global, text: &str, limit: u32) -> Result<Option<u32>, 
 
 /// The number that a word is, where it is one from `least` to `most`.
 fn number_of(alloc: Global, word: &Word, least: u32, most: u32) -> Result<Option<u32>, AllocError>
-    ensures some { IfOk result (λ o. IfSome o (λ n. (least ≤ n) × (n ≤ most) × (word.now ≡ decimal n))) }
-    ensures none { IfOk result (λ o. IfNone o ((n : ℕ) → least ≤ n → n ≤ most → word.now ≡ decimal n → ⊥)) }
+    ensures some { IfOk result (λ o.
+        IfSome o (λ n. (least ≤ n) × (n ≤ most) × (word.now ≡ decimal n))) }
+    ensures none { IfOk result (λ o.
+        IfNone o ((n : ℕ) → least ≤ n → n ≤ most → word.now ≡ decimal n → ⊥)) }
 {
     let Ok(text) = from_utf8(word.bytes()) else {
         return Ok(None);
@@ -74,13 +67,13 @@ pub fn options_of(alloc: Global, words: &[Word]) -> Result<Option<Options>, Allo
     if !is_run(run) {
         return Ok(None);
     }
-    let Some(workers) = number_of(alloc, workers, 1, MOST_WORKERS)? else {
+    let Some(workers) = number_of(alloc, workers, 1, MAX_WORKERS)? else {
         return Ok(None);
     };
-    let Some(fuel) = number_of(alloc, fuel, 1, MOST_FUEL)? else {
+    let Some(fuel) = number_of(alloc, fuel, 1, MAX_FUEL)? else {
         return Ok(None);
     };
-    let Some(limit) = number_of(alloc, limit, 0, MOST_BATCH)? else {
+    let Some(limit) = number_of(alloc, limit, 0, MAX_BATCH)? else {
         return Ok(None);
     };
     Ok(Some(Options {

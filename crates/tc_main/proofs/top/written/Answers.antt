@@ -1,30 +1,28 @@
-use Rattle.std.proofs.Common.{◌≡◌, List, ℕ, take, inr, refl, subst, ap, ◌∙◌}
-use Rattle.std.proofs.Math.Seq.{take-nil}
-use Rattle.std.specs.Prelude.{string_bytes}
-use Rattle.std.specs.Io.KnownBytes.{Appends}
-use Rattle.tc_main.specs.Top.{Answers, Ends, Stream, Writes, stream}
+use Rattle.std.proofs.Common.{◌≡◌, List, [], ℕ, inl, inr, refl, subst, arith}
+use Rattle.tc_io.specs.Stream.{Stream}
+use Rattle.tc_io.specs.Taken.{FailsAmid, Gives}
+use Rattle.tc_main.specs.Top.{Answers, Ends}
 use Rattle.tc_main.specs.declared.status.Status.{Status}
 use Rattle.tc_main.specs.declared.status.Status.TheVariants.{Done, Usage, ReadFault, Refused, WriteFault, OutOfMemory}
-use Rattle.tc_main.proofs.top.written.Goals as goal
 
--- an answer other than a report keeps its status when its text is cut
-kept : (words : List (List ℕ)) (before now had has : Stream) (s : Status) (text : List ℕ) → (s ≡ Done → ⊥) → Answers words before now s text → Writes had has text → Ends words before now had has s
-kept words before now had has Done text other a w = absurd (other refl)
-kept words before now had has Usage text other a w = (text, a, w)
-kept words before now had has ReadFault text other a w =
-    let written : List ℕ → Type 0 = λ t. Appends had.bytes has.bytes t in
-    (text, a, subst written (ap (take w.count) a.2 ∙ take-nil w.count) w.front)
-kept words before now had has (Refused k) text other a w = (text, a, w)
-kept words before now had has WriteFault text other a w = absurd a
-kept words before now had has OutOfMemory text other a w = absurd a
+module _ (words : List (List ℕ)) (before now had has : Stream) (text : List ℕ) where
+  -- an answer whose text was written whole keeps its status
+  whole : (s : Status) → Answers words before now s text → Gives had has text → Ends words before now had has s
+  whole Done a w = (text, a, w)
+  whole Usage a w = (a.0, a.1, inl (let P : List ℕ → Type 0 = Gives had has in subst P a.2 w))
+  whole ReadFault a w = (a.0, a.1, let P : List ℕ → Type 0 = Gives had has in subst P a.2 w)
+  whole (Refused k) a w = (a.0, (a.1.0, a.1.1, inl (let P : List ℕ → Type 0 = Gives had has in subst P a.1.2 w)))
+  whole WriteFault a w = absurd a
+  whole OutOfMemory a w = absurd a
 
-pub returns-in_default : goal.returns-in_default
-returns-in_default g c = λ words before now answered.
-    let had : Stream = stream (g.K.Sink.written c.args.sink.now) (g.K.Sink.faults c.args.sink.now) in
-    let has : Stream = stream (g.K.Sink.written c.write_all.new.sink) (g.K.Sink.faults c.write_all.new.sink) in
-    let written : List ℕ → Type 0 = λ t. Appends had.bytes has.bytes (take c.in-Err.ensures.err.0 t) in
-    kept words before now had has c.args.answer.now.status (string_bytes c.args.answer.now.text) c.in_default.not-Done answered (record {
-      count = c.in-Err.ensures.err.0;
-      front = subst written c.as_bytes.ensures.value c.in-Err.ensures.err.2;
-      whole = inr c.in-Err.ensures.fault;
-    })
+  -- and so does one other than a report whose text was cut; an empty text isn't cut
+  cut : (s : Status) → (s ≡ Done → ⊥) → Answers words before now s text → FailsAmid had has text → Ends words before now had has s
+  cut Done other a w = absurd (other refl)
+  cut Usage other a w = (a.0, a.1, inr (let P : List ℕ → Type 0 = FailsAmid had has in subst P a.2 w))
+  cut ReadFault other a w =
+      let P : List ℕ → Type 0 = FailsAmid had has in
+      let none : FailsAmid had has [] = subst P a.2 w in
+      absurd (omega (arith, none.short))
+  cut (Refused k) other a w = (a.0, (a.1.0, a.1.1, inr (let P : List ℕ → Type 0 = FailsAmid had has in subst P a.1.2 w)))
+  cut WriteFault other a w = absurd a
+  cut OutOfMemory other a w = absurd a

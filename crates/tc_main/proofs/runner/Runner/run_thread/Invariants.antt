@@ -1,13 +1,14 @@
 use Rattle.std.proofs.Common.{◌≡◌}
 use Rattle.tc_context.specs.Whole.{thread_in}
+use Rattle.tc_mutex_spec.proofs.BlockEnds.{left}
 use Rattle.tc_main.specs.Runner.{At, IsRested}
-use Rattle.tc_main.proofs.BlockEnds.{left}
 use Rattle.tc_main.proofs.runner.Runner.run_thread.Given as goal
 
 abbrev pub invariant-thread : goal.invariant-thread
 invariant-thread l = record {
-  at : At l.image l.self.options l.self.history.items l.self.home l.self.ended.items l.t l.«package»;
+  at : At l.image l.self l.«package»;
   rested : IsRested l.«package»;
+  number : l.«package».context.thread ≡ l.t;
   options : l.self.options ≡ l.initial.self.options;
 }
 

@@ -4,6 +4,6 @@ use Rattle.tc_main.proofs.runner.Runner.run_threads.Given as goal
 
 abbrev pub invariant-loop-t : goal.invariant-loop-t
 invariant-loop-t l = record {
-  between : Between l.image l.self.options l.self.history.items l.self.home l.self.ended.items l.t;
+  between : Between l.image l.self l.t;
   options : l.self.options ≡ l.fn.self.options;
 }
