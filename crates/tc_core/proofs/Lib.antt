@@ -1,0 +1,13 @@
+pub mod Quiet
+pub mod Erasure
+pub mod Gathers
+pub mod Gathering
+pub mod Unfinished
+pub mod Whole
+pub mod Served
+pub mod Batch
+pub mod Places
+pub mod Numbers
+pub mod Parts
+pub mod Known
+pub mod Tracked

@@ -1,0 +1,6 @@
+pub mod Lines
+pub mod Core
+pub mod Events
+pub mod Stories
+pub mod Theorem
+pub mod View

@@ -1,0 +1,72 @@
+-- The program's core as the pure machine.
+use Rattle.std.specs.Prelude.{◌≡◌, ℕ, ◌<◌, Bool, true, false, List, [], ◌∷◌, length, slice_get, unwrap_or, nat_eq, Some, None, IfSome}
+use Rattle.std.specs.List.{IsDistinct}
+use Rattle.tc_isa.specs.declared.limits.TheConstants.{MAX_TURNS}
+use Rattle.tc_elf.specs.Shown.{Shown}
+use Rattle.tc_journal.specs.History.{IsEnd}
+use Rattle.tc_mutex_spec.specs.Machine.{IsHeldByOwner}
+use Rattle.tc_mutex_spec.specs.Slow.{Plain, state_of, Suits}
+use Rattle.tc_core.specs.declared.event.Event.{Event}
+use Rattle.tc_core.specs.Core.{Core, Limits, Course, Custody, first_course, first_custody, with_of}
+use Rattle.tc_core.specs.Events.{is_enabled, effect}
+
+-- threads and locks by number
+pub record CoreView : Type 0 where
+  pub workers : ℕ
+  pub batch : ℕ
+  pub plain : Plain
+  pub courses : List Course
+  pub custodies : List Custody
+
+abbrev pub course_at : List Course → ℕ → Course
+course_at courses t = unwrap_or (slice_get courses t) first_course
+
+abbrev pub custody_at : List Custody → ℕ → Custody
+custody_at custodies k = unwrap_or (slice_get custodies k) first_custody
+
+abbrev pub core_of : CoreView → Core
+core_of v = record { machine = state_of v.plain; course = course_at v.courses; custody = custody_at v.custodies }
+
+abbrev pub limits_of : CoreView → Limits
+limits_of v = record { workers = v.workers; batch = v.batch }
+
+-- each number is below n
+abbrev pub AreBelow : ℕ → List ℕ → Type 0
+AreBelow n [] = Unit {0}
+AreBelow n (u ∷ us) = (u < n) × AreBelow n us
+
+-- a line of threads below n, each of them once
+pub record IsLine (n : ℕ) (line : List ℕ) : Type 0 where
+  pub below : AreBelow n line
+  pub once : IsDistinct nat_eq line
+
+-- a block goes on with fewer turns than a block may have, and its end names a lock that there can be
+pub record IsCourse (x : Course) : Type 0 where
+  pub turns : x.ended ≡ None → x.turns < MAX_TURNS
+  pub end : IfSome x.ended IsEnd
+
+-- the core has the image's threads and locks
+pub record HasParts (image : Shown) (v : CoreView) : Type 0 where
+  pub plain : Suits image v.plain
+  pub courses : length v.courses ≡ length image.entries
+  pub custodies : length v.custodies ≡ length image.guards
+  pub blocks : (t : ℕ) → IsCourse (course_at v.courses t)
+  pub lines : (k : ℕ) → IsLine (length image.entries) (custody_at v.custodies k).line
+
+-- a lock's owner is the thread that holds it, and a lock that is held is with its thread
+pub record IsSound (c : Core) : Type 0 where
+  pub owners : IsHeldByOwner c.machine
+  pub with : (t k : ℕ) → (c.machine.threads t).held k ≡ true → with_of (c.custody k).place ≡ Some t
+
+-- the core is one of the image's
+pub record IsCoreOf (image : Shown) (v : CoreView) : Type 0 where
+  pub parts : HasParts image v
+  pub sound : IsSound (core_of v)
+
+-- what a step did: its event was enabled and had its effect, or was not and nothing changed
+abbrev pub Stepped : Shown → CoreView → Event → Bool → CoreView → Type 0
+Stepped image old e true new =
+    (is_enabled image (limits_of old) (core_of old) e ≡ true)
+    × (core_of new ≡ effect image (core_of old) e)
+    × (limits_of new ≡ limits_of old)
+Stepped image old e false new = (is_enabled image (limits_of old) (core_of old) e ≡ false) × (new ≡ old)

@@ -1,0 +1,567 @@
+ghost use Rattle.tc_core.specs.View.{IsCoreOf};
+
+use crate::event::Event;
+use crate::guests::{DOZE, NEST, ONE};
+use crate::machine::Core;
+use crate::place::LockPlace::{Free, Granted, Loose, With};
+use crate::place::ThreadPlace::{At, Done, Parked, Ready, Waiting};
+use crate::place::{LockPlace, ThreadPlace};
+use std::alloc::Global;
+use std::test::Fail;
+use tc_elf::image::Image;
+use tc_elf::limits::MAX_FILE;
+use tc_elf::load::load;
+use tc_elf::refusal::Refusal;
+use tc_isa::held::Held;
+use tc_journal::block::End;
+use tc_mutex_spec::slow::Slow;
+
+fn guest(alloc: Global, words: &[u32]) -> Result<Image, Refusal> {
+    let mut bytes = Vec::new(alloc);
+    for word in words {
+        bytes.extend_from_slice(&word.to_le_bytes())?;
+    }
+    load(alloc, &bytes[..bytes.len().min(MAX_FILE)])
+}
+
+fn claim(worker: u32, thread: u32) -> Event {
+    Event::Claim { worker, thread }
+}
+
+fn turn(worker: u32, thread: u32) -> Event {
+    Event::Turn { worker, thread }
+}
+
+fn commit(worker: u32, thread: u32) -> Event {
+    Event::Commit { worker, thread }
+}
+
+fn enter(worker: u32, thread: u32, lock: u32) -> Event {
+    Event::Enter {
+        worker,
+        thread,
+        lock,
+    }
+}
+
+fn take(worker: u32, thread: u32, lock: u32) -> Event {
+    Event::Take {
+        worker,
+        thread,
+        lock,
+    }
+}
+
+fn ship(worker: u32, thread: u32, lock: u32) -> Event {
+    Event::Ship {
+        worker,
+        thread,
+        lock,
+    }
+}
+
+fn adopt(worker: u32, thread: u32, lock: u32) -> Event {
+    Event::Adopt {
+        worker,
+        thread,
+        lock,
+    }
+}
+
+fn grant(worker: u32, thread: u32, lock: u32) -> Event {
+    Event::Grant {
+        worker,
+        thread,
+        lock,
+    }
+}
+
+fn leave(worker: u32, lock: u32) -> Event {
+    Event::Leave { worker, lock }
+}
+
+fn set_free(worker: u32, lock: u32) -> Event {
+    Event::Free { worker, lock }
+}
+
+fn hand_back(worker: u32, thread: u32) -> Event {
+    Event::HandBack { worker, thread }
+}
+
+fn park(worker: u32, thread: u32) -> Event {
+    Event::Park { worker, thread }
+}
+
+fn finish(worker: u32, thread: u32) -> Event {
+    Event::Finish { worker, thread }
+}
+
+/// An event, so many times, and where threads and locks are afterwards. What a guest does not have
+/// is Ready, or Free.
+#[derive(Clone, Copy)]
+struct Scene {
+    event: Event,
+    times: u32,
+    threads: [ThreadPlace; 3],
+    locks: [LockPlace; 2],
+}
+
+fn row(event: Event, times: u32, threads: [ThreadPlace; 3], locks: [LockPlace; 2]) -> Scene {
+    Scene {
+        event,
+        times,
+        threads,
+        locks,
+    }
+}
+
+/// Takes an event so many times, as long as it is enabled, and says whether it was.
+fn repeat(core: &mut Core, image: &Image, event: Event, times: u32) -> bool
+    requires { IsCoreOf image.now core.old }
+    ensures { IsCoreOf image.now core.new }
+{
+    for done in 0..times {
+        if !core.step(image, event) {
+            return false;
+        }
+    }
+    true
+}
+
+fn lock_place(core: &Core, lock: u32) -> LockPlace {
+    match core.custody(lock) {
+        Some(custody) => custody.place,
+        None => Free,
+    }
+}
+
+fn is_at(core: &Core, scene: &Scene) -> bool {
+    core.course(0).place == scene.threads[0]
+        && core.course(1).place == scene.threads[1]
+        && core.course(2).place == scene.threads[2]
+        && lock_place(core, 0) == scene.locks[0]
+        && lock_place(core, 1) == scene.locks[1]
+}
+
+/// How many rows from the first on went as they are written.
+fn walked(core: &mut Core, image: &Image, rows: &[Scene]) -> u32
+    requires { IsCoreOf image.now core.old }
+    ensures { IsCoreOf image.now core.new }
+{
+    let mut count: u32 = 0;
+    for scene in rows {
+        if !repeat(core, image, scene.event, scene.times) || !is_at(core, scene) {
+            return count;
+        }
+        count = count.saturating_add(1);
+    }
+    count
+}
+
+/// Thread 0 runs to its lock and takes it, and thread 1 waits for it: 11 rows.
+fn up_to_the_wait(core: &mut Core, image: &Image) -> u32
+    requires { IsCoreOf image.now core.old }
+    ensures { IsCoreOf image.now core.new }
+{
+    let rows = [
+        row(claim(0, 0), 1, [At(0), Ready, Ready], [Free, Free]),
+        row(turn(0, 0), 3, [At(0), Ready, Ready], [Free, Free]),
+        row(commit(0, 0), 1, [At(0), Ready, Ready], [Free, Free]),
+        row(enter(0, 0, 0), 1, [At(0), Ready, Ready], [Free, Free]),
+        row(take(0, 0, 0), 1, [At(0), Ready, Ready], [Granted(0), Free]),
+        row(turn(0, 0), 1, [At(0), Ready, Ready], [With(0), Free]),
+        row(claim(1, 1), 1, [At(0), At(1), Ready], [With(0), Free]),
+        row(turn(1, 1), 3, [At(0), At(1), Ready], [With(0), Free]),
+        row(commit(1, 1), 1, [At(0), At(1), Ready], [With(0), Free]),
+        row(enter(1, 1, 0), 1, [At(0), At(1), Ready], [With(0), Free]),
+        row(
+            ship(1, 1, 0),
+            1,
+            [At(0), Waiting(0), Ready],
+            [With(0), Free],
+        ),
+    ];
+    walked(core, image, &rows)
+}
+
+#[test]
+fn a_waiter_is_adopted(rt: HostRuntime) -> Result<(), Fail> {
+    let image = guest(rt.alloc(), &ONE)?;
+    let mut core = Core::new(rt.alloc(), &image, 100, 2, 4)?;
+    assert_eq!(rt; up_to_the_wait(&mut core, &image), 11);
+    let rows = [
+        row(turn(0, 0), 6, [At(0), Waiting(0), Ready], [With(0), Free]),
+        row(
+            commit(0, 0),
+            1,
+            [At(0), Waiting(0), Ready],
+            [Loose(0), Free],
+        ),
+        row(adopt(0, 1, 0), 1, [At(0), At(0), Ready], [Granted(1), Free]),
+        row(turn(0, 1), 1, [At(0), At(0), Ready], [With(1), Free]),
+        row(turn(0, 1), 6, [At(0), At(0), Ready], [With(1), Free]),
+        row(commit(0, 1), 1, [At(0), At(0), Ready], [Loose(0), Free]),
+        row(leave(0, 0), 1, [At(0), At(0), Ready], [Loose(0), Free]),
+        row(set_free(0, 0), 1, [At(0), At(0), Ready], [Free, Free]),
+        row(hand_back(0, 1), 1, [At(0), Ready, Ready], [Free, Free]),
+        row(turn(0, 0), 2, [At(0), Ready, Ready], [Free, Free]),
+        row(commit(0, 0), 1, [At(0), Ready, Ready], [Free, Free]),
+        row(finish(0, 0), 1, [Done, Ready, Ready], [Free, Free]),
+        row(claim(1, 1), 1, [Done, At(1), Ready], [Free, Free]),
+        row(turn(1, 1), 2, [Done, At(1), Ready], [Free, Free]),
+        row(commit(1, 1), 1, [Done, At(1), Ready], [Free, Free]),
+        row(finish(1, 1), 1, [Done, Done, Ready], [Free, Free]),
+    ];
+    assert_eq!(rt; walked(&mut core, &image, &rows), 16);
+    Ok(())
+}
+
+#[test]
+fn a_waiter_is_granted_the_lock(rt: HostRuntime) -> Result<(), Fail> {
+    let image = guest(rt.alloc(), &ONE)?;
+    let mut core = Core::new(rt.alloc(), &image, 100, 2, 0)?;
+    assert_eq!(rt; up_to_the_wait(&mut core, &image), 11);
+    let rows = [
+        row(turn(0, 0), 6, [At(0), Waiting(0), Ready], [With(0), Free]),
+        row(
+            commit(0, 0),
+            1,
+            [At(0), Waiting(0), Ready],
+            [Loose(0), Free],
+        ),
+        row(grant(0, 1, 0), 1, [At(0), Ready, Ready], [Granted(1), Free]),
+        row(claim(1, 1), 1, [At(0), At(1), Ready], [Granted(1), Free]),
+        row(turn(1, 1), 7, [At(0), At(1), Ready], [With(1), Free]),
+        row(commit(1, 1), 1, [At(0), At(1), Ready], [Loose(1), Free]),
+        row(leave(1, 0), 1, [At(0), At(1), Ready], [Loose(1), Free]),
+        row(set_free(1, 0), 1, [At(0), At(1), Ready], [Free, Free]),
+    ];
+    assert_eq!(rt; walked(&mut core, &image, &rows), 8);
+    Ok(())
+}
+
+#[test]
+fn a_thread_sleeps_with_its_lock(rt: HostRuntime) -> Result<(), Fail> {
+    let image = guest(rt.alloc(), &DOZE)?;
+    let mut core = Core::new(rt.alloc(), &image, 100, 2, 4)?;
+    assert_eq!(rt; up_to_the_wait(&mut core, &image), 11);
+    let rows = [
+        row(turn(0, 0), 3, [At(0), Waiting(0), Ready], [With(0), Free]),
+        row(commit(0, 0), 1, [At(0), Waiting(0), Ready], [With(0), Free]),
+        row(park(0, 0), 1, [Parked, Waiting(0), Ready], [With(0), Free]),
+        row(claim(1, 0), 1, [At(1), Waiting(0), Ready], [With(0), Free]),
+        row(turn(1, 0), 3, [At(1), Waiting(0), Ready], [With(0), Free]),
+        row(
+            commit(1, 0),
+            1,
+            [At(1), Waiting(0), Ready],
+            [Loose(1), Free],
+        ),
+        row(adopt(1, 1, 0), 1, [At(1), At(1), Ready], [Granted(1), Free]),
+    ];
+    assert_eq!(rt; walked(&mut core, &image, &rows), 7);
+    Ok(())
+}
+
+/// Thread 0 takes lock 1 and thread 1 takes lock 0, each at its worker. Thread 2 waits for lock 0.
+fn up_to_the_nest(core: &mut Core, image: &Image) -> u32
+    requires { IsCoreOf image.now core.old }
+    ensures { IsCoreOf image.now core.new }
+{
+    let rows = [
+        row(claim(0, 0), 1, [At(0), Ready, Ready], [Free, Free]),
+        row(turn(0, 0), 2, [At(0), Ready, Ready], [Free, Free]),
+        row(commit(0, 0), 1, [At(0), Ready, Ready], [Free, Free]),
+        row(enter(0, 0, 1), 1, [At(0), Ready, Ready], [Free, Free]),
+        row(take(0, 0, 1), 1, [At(0), Ready, Ready], [Free, Granted(0)]),
+        row(claim(1, 1), 1, [At(0), At(1), Ready], [Free, Granted(0)]),
+        row(turn(1, 1), 2, [At(0), At(1), Ready], [Free, Granted(0)]),
+        row(commit(1, 1), 1, [At(0), At(1), Ready], [Free, Granted(0)]),
+        row(enter(1, 1, 0), 1, [At(0), At(1), Ready], [Free, Granted(0)]),
+        row(
+            take(1, 1, 0),
+            1,
+            [At(0), At(1), Ready],
+            [Granted(1), Granted(0)],
+        ),
+        row(turn(0, 0), 4, [At(0), At(1), Ready], [Granted(1), With(0)]),
+        row(turn(1, 1), 4, [At(0), At(1), Ready], [With(1), With(0)]),
+        row(claim(2, 2), 1, [At(0), At(1), At(2)], [With(1), With(0)]),
+        row(turn(2, 2), 2, [At(0), At(1), At(2)], [With(1), With(0)]),
+        row(commit(2, 2), 1, [At(0), At(1), At(2)], [With(1), With(0)]),
+        row(enter(2, 2, 0), 1, [At(0), At(1), At(2)], [With(1), With(0)]),
+        row(
+            ship(2, 2, 0),
+            1,
+            [At(0), At(1), Waiting(0)],
+            [With(1), With(0)],
+        ),
+    ];
+    walked(core, image, &rows)
+}
+
+#[test]
+fn a_waiter_is_shipped_with_the_lock_that_it_holds(rt: HostRuntime) -> Result<(), Fail> {
+    let image = guest(rt.alloc(), &NEST)?;
+    let mut core = Core::new(rt.alloc(), &image, 100, 3, 4)?;
+    assert_eq!(rt; up_to_the_nest(&mut core, &image), 17);
+    let rows = [
+        row(
+            commit(1, 1),
+            1,
+            [At(0), At(1), Waiting(0)],
+            [Loose(1), With(0)],
+        ),
+        row(
+            adopt(1, 2, 0),
+            1,
+            [At(0), At(1), At(1)],
+            [Granted(2), With(0)],
+        ),
+        row(turn(1, 2), 3, [At(0), At(1), At(1)], [With(2), With(0)]),
+        row(commit(1, 2), 1, [At(0), At(1), At(1)], [With(2), With(0)]),
+        row(enter(1, 2, 1), 1, [At(0), At(1), At(1)], [With(2), With(0)]),
+        row(
+            ship(1, 2, 1),
+            1,
+            [At(0), At(1), Waiting(1)],
+            [With(2), With(0)],
+        ),
+        row(
+            commit(0, 0),
+            1,
+            [At(0), At(1), Waiting(1)],
+            [With(2), Loose(0)],
+        ),
+        row(
+            adopt(0, 2, 1),
+            1,
+            [At(0), At(1), At(0)],
+            [With(2), Granted(2)],
+        ),
+        row(turn(0, 2), 4, [At(0), At(1), At(0)], [With(2), With(2)]),
+        row(commit(0, 2), 1, [At(0), At(1), At(0)], [With(2), Loose(0)]),
+        row(leave(0, 1), 1, [At(0), At(1), At(0)], [With(2), Loose(0)]),
+        row(set_free(0, 1), 1, [At(0), At(1), At(0)], [With(2), Free]),
+        row(turn(0, 2), 3, [At(0), At(1), At(0)], [With(2), Free]),
+        row(commit(0, 2), 1, [At(0), At(1), At(0)], [Loose(0), Free]),
+    ];
+    assert_eq!(rt; walked(&mut core, &image, &rows), 14);
+    // Lock 1 was last released by the block that had both, lock 0 by the one that had it alone.
+    for (lock, held) in [(1, Held::none().plus(0).plus(1)), (0, Held::none().plus(0))] {
+        let release = match core.custody(lock) {
+            Some(custody) => custody.last,
+            None => None,
+        };
+        match release {
+            Some(release) => {
+                assert!(rt; release.held == held);
+                assert!(rt; release.end == End::Unlocked(lock));
+            }
+            None => assert!(rt; false, "lock {lock} was released"),
+        }
+    }
+    Ok(())
+}
+
+/// How many from the first on were enabled, or not, as it is written beside them.
+fn tried(core: &mut Core, image: &Image, tries: &[(Event, u32, bool)]) -> u32
+    requires { IsCoreOf image.now core.old }
+    ensures { IsCoreOf image.now core.new }
+{
+    let mut count: u32 = 0;
+    for one in tries {
+        if repeat(core, image, one.0, one.1) != one.2 {
+            return count;
+        }
+        count = count.saturating_add(1);
+    }
+    count
+}
+
+/// A lock that is loose is given to a thread: by Adopt, or by Grant.
+fn pass(adopted: bool, worker: u32, thread: u32, lock: u32) -> Event {
+    if adopted {
+        adopt(worker, thread, lock)
+    } else {
+        grant(worker, thread, lock)
+    }
+}
+
+/// Three threads want lock 1, up to where thread 0 has it and all rows but one condition hold: 43
+/// rows.
+fn to_the_line(core: &mut Core, image: &Image) -> u32
+    requires { IsCoreOf image.now core.old }
+    ensures { IsCoreOf image.now core.new }
+{
+    let tries = [
+        // No such worker, no such thread; at no worker.
+        (claim(3, 0), 1, false),
+        (claim(0, 3), 1, false),
+        (turn(0, 0), 1, false),
+        (claim(0, 0), 1, true),
+        // At a worker; at another one; the block goes on; no lock is next; it runs; no sleep.
+        (claim(1, 0), 1, false),
+        (turn(1, 0), 1, false),
+        (hand_back(1, 0), 1, false),
+        (commit(0, 0), 1, false),
+        (enter(0, 0, 1), 1, false),
+        (finish(0, 0), 1, false),
+        (park(0, 0), 1, false),
+        (turn(0, 0), 1, true),
+        // Inside a block; then it has ended, and the next one takes lock 1.
+        (hand_back(0, 0), 1, false),
+        (turn(0, 0), 1, true),
+        (commit(1, 0), 1, false),
+        (enter(0, 0, 1), 1, false),
+        (commit(0, 0), 1, true),
+        // Not granted; at another worker; another lock.
+        (turn(0, 0), 1, false),
+        (enter(1, 0, 1), 1, false),
+        (enter(0, 0, 0), 1, false),
+        (enter(0, 0, 1), 1, true),
+        // In the line, and the lock is free; first in it; at another worker.
+        (enter(0, 0, 1), 1, false),
+        (hand_back(0, 0), 1, false),
+        (ship(0, 0, 1), 1, false),
+        (take(1, 0, 1), 1, false),
+        (claim(1, 1), 1, true),
+        (turn(1, 1), 2, true),
+        (commit(1, 1), 1, true),
+        // Not in the line; then not the first; at another worker.
+        (ship(1, 1, 1), 1, false),
+        (enter(1, 1, 1), 1, true),
+        (take(1, 1, 1), 1, false),
+        (ship(0, 1, 1), 1, false),
+        (take(0, 0, 1), 1, true),
+        // Not free; in the line of a lock that was granted to another.
+        (take(0, 0, 1), 1, false),
+        (hand_back(1, 1), 1, false),
+        (turn(0, 0), 4, true),
+        // The block has ended.
+        (turn(0, 0), 1, false),
+        (commit(0, 0), 1, true),
+        (claim(2, 2), 1, true),
+        (turn(2, 2), 2, true),
+        (commit(2, 2), 1, true),
+        (enter(2, 2, 1), 1, true),
+        (ship(2, 2, 1), 1, true),
+    ];
+    tried(core, image, &tries)
+}
+
+/// Lock 1 goes from thread to thread, and thread 0 leaves the line of lock 0: 44 rows.
+fn to_the_end(core: &mut Core, image: &Image, adopted: bool) -> u32
+    requires { IsCoreOf image.now core.old }
+    ensures { IsCoreOf image.now core.new }
+{
+    let tries = [
+        // The second of the line does not wait yet.
+        (pass(adopted, 0, 1, 1), 1, false),
+        (ship(1, 1, 1), 1, true),
+        // At another worker; not the second; the batch rule; the line has three; not left.
+        (pass(adopted, 1, 1, 1), 1, false),
+        (pass(adopted, 0, 2, 1), 1, false),
+        (pass(!adopted, 0, 1, 1), 1, false),
+        (leave(0, 1), 1, false),
+        (set_free(0, 1), 1, false),
+        (pass(adopted, 0, 1, 1), 1, true),
+        // At the worker where it was adopted; at none where it was granted the lock.
+        (hand_back(0, 1), 1, adopted),
+        (turn(0, 0), 4, true),
+        (commit(0, 0), 1, true),
+        (enter(0, 0, 0), 1, true),
+        (take(0, 0, 0), 1, true),
+        (turn(0, 0), 4, true),
+        // With its thread still; then at another worker.
+        (leave(0, 0), 1, false),
+        (commit(0, 0), 1, true),
+        (leave(1, 0), 1, false),
+        (leave(0, 0), 1, true),
+        (claim(1, 1), 1, true),
+        (turn(1, 1), 4, true),
+        (commit(1, 1), 1, true),
+        (turn(1, 1), 4, true),
+        (commit(1, 1), 1, true),
+        (enter(1, 1, 0), 1, true),
+        // Left already, and the line has one again; at another worker.
+        (leave(0, 0), 1, false),
+        (set_free(1, 0), 1, false),
+        (pass(adopted, 1, 2, 1), 1, true),
+        (hand_back(1, 2), 1, adopted),
+        (claim(2, 2), 1, true),
+        (turn(2, 2), 4, true),
+        (commit(2, 2), 1, true),
+        (turn(2, 2), 4, true),
+        (commit(2, 2), 1, true),
+        (enter(2, 2, 0), 1, true),
+        (ship(2, 2, 0), 1, true),
+        // Left, though the second waits.
+        (pass(adopted, 0, 2, 0), 1, false),
+        (turn(0, 0), 2, true),
+        // The last block is not committed; then the thread has ended; at another worker; done.
+        (finish(0, 0), 1, false),
+        (commit(0, 0), 1, true),
+        (turn(0, 0), 1, false),
+        (hand_back(0, 0), 1, false),
+        (finish(1, 0), 1, false),
+        (finish(0, 0), 1, true),
+        (claim(0, 0), 1, false),
+    ];
+    tried(core, image, &tries)
+}
+
+/// Each event is tried where just one of its conditions fails. There is no row for a condition that
+/// never fails alone: a number out of range is at no worker and in no line, and a LOCK within a
+/// block has ended it.
+#[test]
+fn each_condition_counts(rt: HostRuntime) -> Result<(), Fail> {
+    // Each thread takes lock 1 and gives it back, and then lock 0.
+    let mut words = NEST;
+    words[47] = 0x00100000;
+    words[49] = 0x00100000;
+    words[61] = 0x00000013;
+    words[62] = 0x00000013;
+    let image = guest(rt.alloc(), &words)?;
+    let mut adopting = Core::new(rt.alloc(), &image, 100, 3, 4)?;
+    assert_eq!(rt; to_the_line(&mut adopting, &image), 43);
+    assert_eq!(rt; to_the_end(&mut adopting, &image, true), 44);
+    let mut granting = Core::new(rt.alloc(), &image, 100, 3, 0)?;
+    assert_eq!(rt; to_the_line(&mut granting, &image), 43);
+    assert_eq!(rt; to_the_end(&mut granting, &image, false), 44);
+    Ok(())
+}
+
+#[test]
+fn only_a_thread_that_has_slept_is_parked(rt: HostRuntime) -> Result<(), Fail> {
+    let image = guest(rt.alloc(), &DOZE)?;
+    let mut core = Core::new(rt.alloc(), &image, 100, 2, 4)?;
+    assert_eq!(rt; up_to_the_wait(&mut core, &image), 11);
+    let tries = [
+        (turn(0, 0), 3, true),
+        (commit(0, 0), 1, true),
+        // At another worker; inside a block; after an UNLOCK.
+        (park(1, 0), 1, false),
+        (turn(0, 0), 1, true),
+        (park(0, 0), 1, false),
+        (turn(0, 0), 2, true),
+        (commit(0, 0), 1, true),
+        (park(0, 0), 1, false),
+    ];
+    assert_eq!(rt; tried(&mut core, &image, &tries), 8);
+    Ok(())
+}
+
+#[test]
+fn the_slow_machine_and_the_core(rt: HostRuntime) -> Result<(), Fail> {
+    let image = guest(rt.alloc(), &ONE)?;
+    let mut core = Core::new(rt.alloc(), &image, 100, 2, 4)?;
+    let first = claim(0, 0);
+    assert!(rt; core.step(&image, first));
+    assert!(rt; !core.step(&image, first));
+    let all = [(0, 3), (0, 7), (1, 3), (1, 7), (0, 2), (1, 2)];
+    assert!(rt; Slow::run(rt.alloc(), &image, 100, &all)?.is_some());
+    assert!(rt; Slow::run(rt.alloc(), &image, 100, &[(0, 9), (1, 3)])?.is_some());
+    assert!(rt; Slow::run(rt.alloc(), &image, 100, &[(0, 9), (1, 4)])?.is_none());
+    Ok(())
+}

@@ -1,0 +1,18 @@
+use super::*;
+use std::test::*;
+
+#[test]
+fn three_sleepers(rt: HostRuntime) -> Result<(), Fail> {
+    let mut sleepers = Sleepers::new(rt.alloc(), 3)?;
+    assert_eq!(rt; sleepers.room(), 3);
+    sleepers.add(2, 7);
+    sleepers.add(1, 7);
+    sleepers.add(0, 9);
+    assert_eq!(rt; sleepers.due(6), None);
+    assert_eq!(rt; sleepers.least(), Some(7));
+    assert_eq!(rt; sleepers.due(7), Some(1));
+    assert_eq!(rt; sleepers.due(9), Some(2));
+    assert_eq!(rt; sleepers.due(9), Some(0));
+    assert_eq!(rt; sleepers.least(), None);
+    Ok(())
+}

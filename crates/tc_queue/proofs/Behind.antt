@@ -1,0 +1,38 @@
+-- The turns that a seat was told of, after one call more.
+use Rattle.std.proofs.Common.{◌≡◌, ℕ, [], sym, ap, subst, ⊎_elim, Option, Some, None}
+use mathlib.Core.Option.{some-ne-none}
+use Rattle.atomic_table.proofs.Lists.{at_snoc}
+use Rattle.tc_queue.specs.declared.turn.Turn.{Turn}
+use Rattle.tc_queue.specs.declared.turn.Call.{Call}
+use Rattle.tc_queue.specs.declared.turn.Call.TheVariants.{Enter, Link, Next, Leave}
+use Rattle.tc_queue.specs.declared.turn.Entered.{Entered}
+use Rattle.tc_queue.specs.declared.turn.Entered.TheVariants.{Behind}
+use Rattle.tc_queue.specs.declared.turn.Leave.{Leave as LeaveAnswer}
+use Rattle.tc_queue.specs.declared.board.SeatLog.{SeatLog}
+use Rattle.tc_queue.specs.Words.{IsTurn}
+use Rattle.tc_queue.specs.Calls.{answer_to_enter, with_call, IsTail, AreBehind}
+
+more : (v w : SeatLog) (c : Call) → w ≡ with_call v c → ((u b : Turn) → c ≡ Enter u (Behind b) → IsTurn v.threads b) → AreBehind v.threads v.calls → AreBehind w.threads w.calls
+more v w c is new all = subst (λ (z : SeatLog). AreBehind z.threads z.calls) (sym is) (λ u b has. ⊎_elim (λ g. all u b (has.0, g)) (new u b) (at_snoc v.calls c (Enter u (Behind b)) has.0 has.1))
+
+same_answer : (u w : Turn) (a b : Entered) → Enter u a ≡ Enter w b → a ≡ b
+same_answer u w a b e = cc e
+
+found_behind : (found : Option Turn) (b : Turn) → answer_to_enter found ≡ Behind b → found ≡ Some b
+found_behind None b e = absurd (cc e)
+found_behind (Some last) b e = ap Some (cc e)
+
+pub behind_enter : (v w : SeatLog) (u : Turn) (found : Option Turn) → w ≡ with_call v (Enter u (answer_to_enter found)) → IsTail v.threads found → AreBehind v.threads v.calls → AreBehind w.threads w.calls
+behind_enter v w u found is tail = more v w (Enter u (answer_to_enter found)) is (λ x b e. tail b (found_behind found b (same_answer u x (answer_to_enter found) (Behind b) e)))
+
+pub behind_link : (v w : SeatLog) (b u : Turn) → w ≡ with_call v (Link b u) → AreBehind v.threads v.calls → AreBehind w.threads w.calls
+behind_link v w b u is = more v w (Link b u) is (λ x y e. absurd (cc e))
+
+pub behind_next : (v w : SeatLog) (u : Turn) (a : Option Turn) → w ≡ with_call v (Next u a) → AreBehind v.threads v.calls → AreBehind w.threads w.calls
+behind_next v w u a is = more v w (Next u a) is (λ x y e. absurd (cc e))
+
+pub behind_leave : (v w : SeatLog) (u : Turn) (a : LeaveAnswer) → w ≡ with_call v (Leave u a) → AreBehind v.threads v.calls → AreBehind w.threads w.calls
+behind_leave v w u a is = more v w (Leave u a) is (λ x y e. absurd (cc e))
+
+pub behind_none : (n : ℕ) → AreBehind n []
+behind_none n u b has = absurd (some-ne-none (Enter u (Behind b)) (sym has.1))

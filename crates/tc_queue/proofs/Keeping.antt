@@ -1,0 +1,187 @@
+-- Each kind of step keeps the rule of the queue.
+use Rattle.std.proofs.Common.{◌≡◌, ◌≢◌, ◌⊎◌, ℕ, zero, suc, ◌+◌, ◌<◌, ◌==◌, Bool, cond, List, [], ◌∷◌, ◌++◌, All, length, set, sym, refl, ap, ◌∙◌, subst, ⊎_elim, inl, inr, arith, Option, Some, slice_index, length-set, length-append, get_or-set_other, get_or-set_same, eq-eqb, ne_eqb}
+use mathlib.Core.Logic.{dite}
+use mathlib.Core.Option.{none, some, some-injective, some-ne-none}
+use native.Mathlib.Decide.{ℕ_discrete}
+use prog.Atomic.{either}
+use lib.ListN.{get_elem?}
+use lib.Seq.{set-get_or}
+use Rattle.atomic_table.specs.Table.{State, step, keeps, Allows, Splits}
+use Rattle.atomic_table.proofs.Lists.{at_set, set_again}
+use Rattle.tc_queue.specs.declared.turn.Turn.{Turn}
+use Rattle.tc_queue.specs.declared.turn.Call.{Call}
+use Rattle.tc_queue.specs.declared.turn.Call.TheVariants.{Enter, Link, Next, Leave}
+use Rattle.tc_queue.specs.declared.board.SeatLog.{SeatLog}
+use Rattle.tc_queue.specs.Words.{IsTurn, turn_word, link_word}
+use Rattle.tc_queue.specs.Calls.{answer_to_enter, answer_to_next, answer_to_leave, tail_without, with_call, IsTail, IsLink, MayLink}
+use Rattle.tc_queue.specs.Order.{Plain, Made, plain_after, queue_after, calls_of, MayCome, tail_word, word_of_link, AreWords, log_beside, IsOrdered}
+use Rattle.tc_queue.specs.Steps.{Enters, Links, Looks, Leaves}
+use Rattle.tc_queue.proofs.Packed.{word_without}
+use Rattle.tc_queue.proofs.Orders.{IsSound, sound_after, no_calls, all_more}
+
+in_range : {A : Type 0} (l : List A) (i : ℕ) (a : A) → get_elem? l i ≡ some a → i < length l
+in_range [] i a e = absurd (some-ne-none a (sym e))
+in_range (x ∷ xs) zero a e = omega arith
+in_range (x ∷ xs) (suc i) a e = let r = in_range xs i a e in omega arith
+
+-- ---- one call more
+
+module _ (n : ℕ) (s : State ℕ SeatLog) (r : IsOrdered n s) (id : ℕ) (v : SeatLog) (at : get_elem? s.views id ≡ some v) where
+  -- what the seat's list is by the order
+  pub log_is : v ≡ record { threads = n; calls = calls_of id r.order }
+  log_is = r.seats id v at
+
+  pub sound : IsSound n (queue_after r.order)
+  sound = sound_after n r.order r.legal
+
+  pub adds : (c : Call) (words : List ℕ) → MayCome n (queue_after r.order) v.calls c → AreWords n words (plain_after (queue_after r.order) c) → IsOrdered n record { words = words; homes = s.homes; views = set s.views id (with_call v c) }
+  adds c words may are = record {
+    few = r.few;
+    order = made ∷ r.order;
+    legal = (subst (λ (l : List Call). MayCome n (queue_after r.order) l c) (ap (λ (z : SeatLog). z.calls) log_is) may, r.legal);
+    words = are;
+    seats = seats;
+    made = all_more (λ (m : Made). m.seat < length (set s.views id (with_call v c))) made r.order (subst (λ (k : ℕ). id < k) (sym (length-set s.views id (with_call v c))) (in_range s.views id v at)) (subst (λ (k : ℕ). All (λ (m : Made). m.seat < k) r.order) (sym (length-set s.views id (with_call v c))) r.made);
+  }
+    where
+      made : Made
+      made = record { seat = id; call = c }
+
+      seats : (j : ℕ) (x : SeatLog) → get_elem? (set s.views id (with_call v c)) j ≡ some x → x ≡ record { threads = n; calls = calls_of j (made ∷ r.order) }
+      seats j x e = ⊎_elim
+          (λ (o : (j ≡ id) × (with_call v c ≡ x)). sym o.1
+          ∙ (ap (λ (z : SeatLog). with_call z c) log_is
+          ∙ (ap (λ (b : Bool). record { threads = n; calls = cond b (calls_of id r.order ++ c ∷ []) (calls_of id r.order) }) (sym (eq-eqb id id refl))
+          ∙ ap (λ (k : ℕ). record { threads = n; calls = calls_of k (made ∷ r.order) }) (sym o.0))))
+          (λ (o : (j ≢ id) × (get_elem? s.views j ≡ some x)). r.seats j x o.1
+          ∙ ap (λ (b : Bool). record { threads = n; calls = cond b (calls_of j r.order ++ c ∷ []) (calls_of j r.order) }) (sym (ne_eqb id j (λ g. o.0 (sym g)))))
+          (at_set s.views id j (with_call v c) x e)
+
+-- ---- the words after a step
+
+with_tail : (n : ℕ) (words : List ℕ) (q : Plain) (tail : Option Turn) (word : ℕ) → word ≡ tail_word tail → AreWords n words q → AreWords n (set words 0 word) (record q { tail = tail })
+with_tail n words q tail word is are = record {
+  count = length-set words 0 word ∙ are.count;
+  tail = get_or-set_same words 0 word 0 (let c = are.count in omega arith) ∙ is;
+  links = λ t h. get_or-set_other words 0 (t + 1) word 0 (λ e. omega arith) ∙ are.links t h;
+}
+
+with_link : (n : ℕ) (words : List ℕ) (q : Plain) (b u : Turn) (word : ℕ) → b.thread < n → word ≡ link_word (record { before = b.number; behind = u }) → AreWords n words q → AreWords n (set words (b.thread + 1) word) (plain_after q (Link b u))
+with_link n words q b u word low is are = record {
+  count = length-set words (b.thread + 1) word ∙ are.count;
+  tail = get_or-set_other words (b.thread + 1) 0 word 0 (λ e. omega arith) ∙ are.tail;
+  links = λ t h. dite (ℕ_discrete t b.thread)
+      (λ (e : t ≡ b.thread). ap (λ (k : ℕ). slice_index (set words (b.thread + 1) word) (k + 1)) e
+      ∙ (get_or-set_same words (b.thread + 1) word 0 (let c = are.count in omega arith)
+      ∙ (is ∙ ap (λ (v : Bool). word_of_link (cond v (Some (record { before = b.number; behind = u })) (q.links t))) (sym (eq-eqb t b.thread e)))))
+      (λ (ne : t ≢ b.thread). get_or-set_other words (b.thread + 1) (t + 1) word 0 (λ e. ne (omega arith))
+      ∙ (are.links t h ∙ ap (λ (v : Bool). word_of_link (cond v (Some (record { before = b.number; behind = u })) (q.links t))) (sym (ne_eqb t b.thread ne))));
+}
+
+-- ---- the steps
+
+module _ (n slots id : ℕ) (v : SeatLog) (c : List (ℕ × ℕ)) (u : Turn) where
+  abbrev pub EntersAt : ℕ → Type 0
+  EntersAt word = Allows (IsOrdered n) slots id (v, c) 0 (λ _. word) (Enters u (step slots 0 word 0 none) (v, c))
+
+  pub enters : (word : ℕ) → IsTurn n u → word ≡ turn_word u → EntersAt word
+  enters word turn is s r deep at small =
+      let tail = (queue_after r.order).tail in
+      let call : Call = Enter u (answer_to_enter tail) in
+      let same = ap (λ (z : SeatLog). z.threads) (log_is n s r id v at) in (
+        with_call v call,
+        keeps,
+        tt,
+        adds n s r id v at call (set s.words 0 word) (turn, refl) (with_tail n s.words (queue_after r.order) (Some u) word is r.words),
+        record {
+          found = tail;
+          in_range = subst (λ (k : ℕ). IsTail k tail) (sym same) (sound n s r id v at).tail;
+          place = refl;
+          word_found = r.words.tail;
+          word_left = is;
+          log = refl;
+          slots = refl;
+        },
+      )
+
+  abbrev pub LeavesAt : ℕ → Type 0
+  LeavesAt word = Allows (IsOrdered n) slots id (v, c) 0 (λ k. either (k == word) 0 k) (Leaves u (step slots 0 word 0 none) (v, c))
+
+  pub leaves : (word : ℕ) → IsTurn n u → word ≡ turn_word u → LeavesAt word
+  leaves word turn is s r deep at small =
+      let tail = (queue_after r.order).tail in
+      let call : Call = Leave u (answer_to_leave u tail) in
+      let found : ℕ = slice_index s.words 0 in
+      let same = ap (λ (z : SeatLog). z.threads) (log_is n s r id v at) in
+      let left : either (found == word) 0 found ≡ tail_word (tail_without u tail) = ap (λ (z : ℕ × ℕ). either (z.0 == z.1) 0 z.0) (λ i. (r.words.tail i, is i)) ∙ word_without n tail u r.few (sound n s r id v at).tail turn in (
+        with_call v call,
+        keeps,
+        tt,
+        adds n s r id v at call (set s.words 0 (either (found == word) 0 found)) (turn, refl) (with_tail n s.words (queue_after r.order) (tail_without u tail) (either (found == word) 0 found) left r.words),
+        record {
+          found = tail;
+          in_range = subst (λ (k : ℕ). IsTail k tail) (sym same) (sound n s r id v at).tail;
+          place = refl;
+          word_found = r.words.tail;
+          words = (is, refl);
+          log = refl;
+          slots = refl;
+        },
+      )
+
+  abbrev pub LooksAt : ℕ → Type 0
+  LooksAt place = Allows (IsOrdered n) slots id (v, c) place (λ k. k) (Looks u (step slots place 0 0 none) (v, c))
+
+  pub looks : (place : ℕ) → IsTurn n u → place ≡ u.thread + 1 → LooksAt place
+  looks place turn is = subst LooksAt (sym is) (λ s r deep at small.
+      let link = (queue_after r.order).links u.thread in
+      let call : Call = Next u (answer_to_next u link) in
+      let same = ap (λ (z : SeatLog). z.threads) (log_is n s r id v at) in (
+        with_call v call,
+        keeps,
+        tt,
+        adds n s r id v at call (set s.words (u.thread + 1) (slice_index s.words (u.thread + 1))) (turn, refl) (subst (λ (l : List ℕ). AreWords n l (queue_after r.order)) (sym (set-get_or s.words (u.thread + 1) 0)) r.words),
+        record {
+          found = link;
+          in_range = subst (λ (k : ℕ). IsLink k link) (sym same) ((sound n s r id v at).links u.thread);
+          place = refl;
+          word_found = r.words.links u.thread turn.thread;
+          log = refl;
+          slots = refl;
+        },
+      ))
+
+  abbrev pub LinksAt : Turn → ℕ → ℕ → Type 0
+  LinksAt b place word = Allows (IsOrdered n) slots id (v, c) place (λ _. word) (λ _. Links b u (step slots place word 0 none) (v, c) word)
+
+  pub links : (b : Turn) (place word : ℕ) → IsTurn n b → IsTurn n u → MayLink v.calls u b → place ≡ b.thread + 1 → word ≡ link_word (record { before = b.number; behind = u }) → LinksAt b place word
+  links b place word before turn may is holds = subst (λ (k : ℕ). LinksAt b k word) (sym is) (λ s r deep at small. (
+    with_call v (Link b u),
+    keeps,
+    tt,
+    adds n s r id v at (Link b u) (set s.words (b.thread + 1) word) (before, turn, may) (with_link n s.words (queue_after r.order) b u word before.thread holds r.words),
+    record { place = refl; word_left = holds; log = refl; slots = refl },
+  ))
+
+-- ---- a seat more
+
+at_end : {A : Type 0} (l : List A) (a b : A) (j : ℕ) → get_elem? (l ++ a ∷ []) j ≡ some b → (get_elem? l j ≡ some b) ⊎ ((j ≡ length l) × (a ≡ b))
+at_end [] a b zero e = inr (refl, some-injective a b e)
+at_end [] a b (suc j) e = absurd (some-ne-none b (sym e))
+at_end (x ∷ xs) a b zero e = inl e
+at_end (x ∷ xs) a b (suc j) e = ⊎_elim inl (λ o. inr (ap suc o.0, o.1)) (at_end xs a b j e)
+
+pub deals : (n id : ℕ) (v : SeatLog) → Splits (IsOrdered n) id v v (log_beside v)
+deals n id v s r at =
+    let w : SeatLog = log_beside v in
+    let threads : v.threads ≡ n = ap (λ (z : SeatLog). z.threads) (r.seats id v at) in
+    subst (λ (l : List SeatLog). IsOrdered n record { words = s.words; homes = s.homes; views = l ++ w ∷ [] }) (sym (set_again s.views id v at)) record {
+      few = r.few;
+      order = r.order;
+      legal = r.legal;
+      words = r.words;
+      seats = λ j x e. ⊎_elim (λ (o : get_elem? s.views j ≡ some x). r.seats j x o)
+          (λ (o : (j ≡ length s.views) × (w ≡ x)). sym o.1 ∙ (λ i. record { threads = threads i; calls = sym (ap (λ (k : ℕ). calls_of k r.order) o.0 ∙ no_calls (length s.views) r.order r.made) i }))
+          (at_end s.views w x j e);
+      made = λ k d h. let low = r.made k d h in let more = length-append s.views (w ∷ []) in let one : length (w ∷ []) ≡ 1 = refl in omega arith;
+    }

@@ -1,0 +1,7 @@
+pub mod Words
+pub mod Calls
+pub mod Order
+pub mod Steps
+pub mod View
+pub mod Lines
+pub mod Laws

@@ -1,0 +1,33 @@
+-- What contracts see of a queue and of its seats.
+use Rattle.std.specs.Prelude.{◌≡◌, ℕ, ◌+◌, ◌≤◌}
+use Rattle.atomic_table.specs.Seated.{TableId}
+use Rattle.tc_queue.specs.declared.board.SeatLog.{SeatLog}
+use Rattle.tc_queue.specs.declared.turn.Call.{Call}
+use Rattle.tc_queue.specs.Calls.{with_call}
+use Rattle.tc_queue.specs.Order.{first_log}
+
+-- which queue it is, and for how many threads it was made
+pub record QueueView : Type 0 where
+  pub table : TableId
+  pub threads : ℕ
+
+-- which queue's seat it is, which of its seats, and the calls that it made
+pub record OwnView : Type 0 where
+  pub table : TableId
+  pub id : ℕ
+  pub log : SeatLog
+
+abbrev pub IsOwnSeatOf : QueueView → OwnView → Type 0
+IsOwnSeatOf q s = (s.table ≡ q.table) × (s.log.threads ≡ q.threads)
+
+-- the seat after one call more
+abbrev pub seat_with : OwnView → Call → OwnView
+seat_with s c = record s { log = with_call s.log c }
+
+-- a seat of this queue that has made no call
+abbrev pub IsNewSeatOf : QueueView → OwnView → Type 0
+IsNewSeatOf q s = (s.table ≡ q.table) × (s.log ≡ first_log q.threads)
+
+-- a table of this key and number of words is one for so many threads
+abbrev pub IsTableFor : ℕ → ℕ → ℕ → Type 0
+IsTableFor threads key words = (threads ≡ key) × (words ≡ threads + 1) × (threads ≤ 64)

@@ -1,0 +1,205 @@
+//! The queue of the waiters of one lock, and its seats.
+
+ghost use Rattle.std.specs.Prelude.{◌≡◌, ◌≢◌, ◌<◌, ◌≤◌, Some, IfOk, All, length};
+ghost use Rattle.tc_queue.specs.declared.turn.Turn.{Turn};
+ghost use Rattle.tc_queue.specs.declared.turn.Entered.TheVariants.{Behind};
+ghost use Rattle.tc_queue.specs.declared.turn.Leave.TheVariants.{Followed};
+ghost use Rattle.tc_queue.specs.declared.turn.Call.TheVariants.{Enter, Link, Next, Leave as Leave_call};
+ghost use Rattle.tc_queue.specs.Words.{IsTurn};
+ghost use Rattle.tc_queue.specs.Calls.{IsTail, IsLink, MayLink, KnowsTurns, DidEnter, DidLeave, enter_call, next_call, leave_call};
+ghost use Rattle.tc_queue.specs.View.{IsOwnSeatOf, IsNewSeatOf, seat_with};
+
+use crate::board;
+use crate::board::{Beside, Board, Named, Place};
+use crate::turn::{Entered, Leave, Turn};
+use crate::words::Linked;
+use std::alloc::{AllocError, Global};
+use std::marker::{Brand, Model};
+
+/// The waiters of one lock, in the order in which they entered.
+#[derive(Drop)]
+pub struct Queue {
+    board: Board,
+    threads: u32,
+}
+
+impl Model for Queue {
+    ghost use Rattle.tc_queue.specs.View.{QueueView, IsTableFor};
+
+    ghost Value = { QueueView };
+
+    ghost view = { λ q. record { table = q.board.shared.table_id; threads = q.threads } };
+
+    ghost invariant = { λ q. IsTableFor q.threads q.board.shared.key q.board.shared.table_id.words };
+}
+
+/// What a caller makes its calls with. A seat belongs to one queue, and has the list of the calls
+/// that were made with it.
+#[derive(Drop)]
+pub struct QueueSeat {
+    place: Place,
+}
+
+impl Model for QueueSeat {
+    ghost use Rattle.std.specs.Prelude.{◌≡◌, []};
+    ghost use Rattle.tc_queue.specs.Calls.{KnowsTurns};
+    ghost use Rattle.tc_queue.specs.View.{OwnView};
+
+    ghost Value = { OwnView };
+
+    ghost view = { λ s. record { table = s.place.table_id; id = s.place.id; log = s.place.me.0 } };
+
+    ghost invariant = { λ s. (s.place.me.1 ≡ []) × KnowsTurns s.place.me.0 };
+}
+
+impl QueueSeat {
+    /// What is so of each seat: a turn that `enter` answered is one of the queue's.
+    pub(crate) fn knows(&self)
+        ensures { KnowsTurns self.now.log }
+    {
+        let _place = &self.place;
+    }
+}
+
+impl Queue {
+    /// A queue for so many threads with nobody in it, and its seats.
+    pub fn new(
+        alloc: Global,
+        threads: u32,
+        seats: u32,
+    ) -> Result<(Queue, Vec<QueueSeat>), AllocError>
+        requires threads { (0 < threads) × (threads ≤ 64) }
+        requires seats { 0 < seats }
+        ensures queue { IfOk result (λ made. made.0.threads ≡ threads) }
+        ensures count { IfOk result (λ made. length made.1.items ≡ seats) }
+        ensures seats { IfOk result (λ made. All (IsNewSeatOf made.0) made.1.items) }
+    {
+        let mut made = Vec::with_capacity(alloc, seats as usize)?;
+        let words = Vec::from_elem(alloc, 0u64, threads as usize + 1)?;
+        let (board, mut first) = Board::of_words(alloc, words.as_slice(), &threads)?;
+        for seated in 1..seats {
+            let place = board.shared.split_seat::<Beside>(&mut first);
+            made.push_reserved(QueueSeat { place });
+        }
+        made.push_reserved(QueueSeat { place: first });
+        Ok((Queue { board, threads }, made))
+    }
+
+    /// For how many threads it was made.
+    pub fn threads(&self) -> u32
+        ensures threads { result ≡ self.now.threads }
+        ensures few { result ≤ 64 }
+    {
+        self.threads
+    }
+
+    /// Puts the turn at the tail. It now stands behind the turn that was there, and is the first
+    /// where none was.
+    pub fn enter(&self, seat: &mut QueueSeat, turn: Turn) -> Entered
+        requires seat { IsOwnSeatOf self.now seat.old }
+        requires turn { IsTurn self.now.threads turn }
+        ensures call { seat.new ≡ seat_with seat.old (Enter turn result) }
+        ensures step { DidEnter self.now.threads turn result seat.old.log seat.new.log }
+        ensures behind { (u : Turn) → result ≡ Behind u → IsTurn self.now.threads u }
+    {
+        match self.swap_tail::<Brand>(seat, &turn) {
+            None => Entered::First,
+            Some(before) => Entered::Behind(before),
+        }
+    }
+
+    /// Tells the turn before that this one stands behind it.
+    pub fn link(&self, seat: &mut QueueSeat, before: Turn, own: Turn)
+        requires seat { IsOwnSeatOf self.now seat.old }
+        requires turns { IsTurn self.now.threads before × IsTurn self.now.threads own }
+        requires entered { MayLink seat.old.log.calls own before }
+        ensures call { seat.new ≡ seat_with seat.old (Link before own) }
+    {
+        self.store_link::<Brand>(seat, &before, &own);
+    }
+
+    /// The turn behind this one, once it is linked.
+    pub fn next(&self, seat: &mut QueueSeat, own: Turn) -> Option<Turn>
+        requires seat { IsOwnSeatOf self.now seat.old }
+        requires turn { IsTurn self.now.threads own }
+        ensures call { seat.new ≡ seat_with seat.old (Next own result) }
+        ensures turn { (u : Turn) → result ≡ Some u → IsTurn self.now.threads u }
+    {
+        match self.load_link::<Brand>(seat, &own) {
+            Some(linked) if linked.before == own.number => Some(linked.behind),
+            _ => None,
+        }
+    }
+
+    /// Empties the tail where it is this turn. Another tail stays.
+    pub fn leave(&self, seat: &mut QueueSeat, own: Turn) -> Leave
+        requires seat { IsOwnSeatOf self.now seat.old }
+        requires turn { IsTurn self.now.threads own }
+        ensures call { seat.new ≡ seat_with seat.old (Leave_call own result) }
+        ensures step { DidLeave self.now.threads own result seat.old.log seat.new.log }
+        ensures turn { (u : Turn) → result ≡ Followed (Some u) → IsTurn self.now.threads u }
+    {
+        match self.clear_tail::<Brand>(seat, &own) {
+            Some(last) if last == own => Leave::Left,
+            tail => Leave::Followed(tail),
+        }
+    }
+
+    fn swap_tail<J: Named>(&self, seat: &mut QueueSeat, turn: &Turn) -> Option<Turn>
+        requires seat { IsOwnSeatOf self.now seat.old }
+        requires turn { IsTurn self.now.threads turn.now }
+        requires picked { turn.now ≡ J.own }
+        ensures tail { IsTail self.now.threads result }
+        ensures call { seat.new ≡ seat_with seat.old (enter_call turn.now result) }
+    {
+        let word = self
+            .board
+            .shared
+            .swap::<board::Enter<J>>(&mut seat.place, 0, turn.to_word());
+        Turn::from_word(word)
+    }
+
+    fn store_link<J: Named>(&self, seat: &mut QueueSeat, before: &Turn, own: &Turn)
+        requires seat { IsOwnSeatOf self.now seat.old }
+        requires turns { IsTurn self.now.threads before.now × IsTurn self.now.threads own.now }
+        requires entered { MayLink seat.old.log.calls own.now before.now }
+        requires picked { (before.now ≡ J.before) × (own.now ≡ J.own) }
+        ensures call { seat.new ≡ seat_with seat.old (Link before.now own.now) }
+    {
+        let link = Linked {
+            before: before.number,
+            behind: *own,
+        };
+        let place = before.thread as usize + 1;
+        self.board
+            .shared
+            .store::<board::Link<J>>(&mut seat.place, place, link.to_word());
+    }
+
+    fn load_link<J: Named>(&self, seat: &mut QueueSeat, own: &Turn) -> Option<Linked>
+        requires seat { IsOwnSeatOf self.now seat.old }
+        requires turn { IsTurn self.now.threads own.now }
+        requires picked { own.now ≡ J.own }
+        ensures link { IsLink self.now.threads result }
+        ensures call { seat.new ≡ seat_with seat.old (next_call own.now result) }
+    {
+        let place = own.thread as usize + 1;
+        let word = self
+            .board
+            .shared
+            .load::<board::Next<J>>(&mut seat.place, place);
+        Linked::from_word(word)
+    }
+
+    fn clear_tail<J: Named>(&self, seat: &mut QueueSeat, own: &Turn) -> Option<Turn>
+        requires seat { IsOwnSeatOf self.now seat.old }
+        requires turn { IsTurn self.now.threads own.now }
+        requires picked { own.now ≡ J.own }
+        ensures tail { IsTail self.now.threads result }
+        ensures call { seat.new ≡ seat_with seat.old (leave_call own.now result) }
+    {
+        let shared = &self.board.shared;
+        let word = shared.compare_exchange::<board::Leave<J>>(&mut seat.place, 0, own.to_word(), 0);
+        Turn::from_word(word)
+    }
+}
