@@ -1,42 +1,21 @@
 //! Every fault of a guest, by a thread that holds a lock: what the report then has of the thread
 //! and the lock, and what the next thread to take the lock is told.
 //!
-//! The reports were worked out by hand from the rules of `docs/GUEST.md`.
+//! The reports were worked out by hand from the rules of `docs/GUEST.md`. Thread 0 runs to its end
+//! before thread 1, by the plain runner.
 
-use crate::guests::{Ran, run};
+use crate::guests::{DATA, ECALL, EXIT, KEEP, LOCK_0, LOCK_1, LOCK_2, UNLOCK_0, built, joined};
+use crate::ran::{Ran, run};
 use std::alloc::{AllocError, Global};
 use std::process::Abort;
 use std::sync::Wait;
 use std::test::Fail;
 use std::thread::Threads;
-use tc_main::build::{CODE_START, DATA_START, build};
 use tc_main::status::Status;
 
-/// Thread 1, at 0x00100000: LOCK 0, `addi x8,x10,0`, UNLOCK 0, EXIT.
-const NEXT: [u32; 9] = [
-    0x0000_0513,
-    0x0010_0893,
-    0x0000_0073,
-    0x0005_0413,
-    0x0000_0513,
-    0x0020_0893,
-    0x0000_0073,
-    0x05d0_0893,
-    0x0000_0073,
-];
-
-/// Where thread 0 begins: at 0x00100024.
-const FIRST_START: u32 = CODE_START + 36;
-
-/// The start of thread 0: `lui x5,0x20`, LOCK 0, `sw x2,0(x5)`. The code of a case follows, at
-/// 0x00100038.
-const TAKING: [u32; 5] = [
-    0x0002_02b7,
-    0x0000_0513,
-    0x0010_0893,
-    0x0000_0073,
-    0x0022_a023,
-];
+/// sw x2,0(x5). Thread 0 begins at 0x00100024 with lui x5,0x20, LOCK 0 and this store in the guard of
+/// lock 0. The code of a case follows, at 0x00100038.
+const STORE: [u32; 1] = [0x0022_a023];
 
 /// The registers of thread 0 before the code of a case: x2 is its stack's end, x5 the guard of lock
 /// 0, x10 the answer of LOCK and x17 the number of LOCK.
@@ -83,11 +62,9 @@ data 00020010 00000000
 end
 ";
 
-/// A fault of thread 0 while it holds lock 0.
+/// What a report has of thread 0, which faults while it holds lock 0.
 #[derive(Clone, Copy)]
-struct Case<'a> {
-    /// What the thread runs from 0x00100038 on.
-    code: &'a [u32],
+struct Shown<'a> {
     /// The number of the fault.
     fault: u32,
     /// The turns of the block with the fault.
@@ -102,9 +79,8 @@ struct Case<'a> {
     x16: &'a str,
 }
 
-/// A case of one word that faults at once.
-const ONE_WORD: Case<'static> = Case {
-    code: &[],
+/// A fault of the first word of a case.
+const AT_ONCE: Shown<'static> = Shown {
     fault: 0,
     turns: 3,
     fuel: 94,
@@ -114,239 +90,179 @@ const ONE_WORD: Case<'static> = Case {
     x16: X16,
 };
 
-/// Words, fetches and targets.
-const OF_CODE: [Case<'static>; 5] = [
+/// A fault of the second and the third word.
+const SECOND: Shown<'static> = Shown {
+    turns: 4,
+    fuel: 93,
+    pc: "0010003c",
+    ..AT_ONCE
+};
+
+const THIRD: Shown<'static> = Shown {
+    turns: 5,
+    fuel: 92,
+    pc: "00100040",
+    ..AT_ONCE
+};
+
+/// Words that fault at once, each with its fault. A load that faults would write x2.
+const WORDS: [(u32, u32); 11] = [
     // Illegal.
-    Case {
-        code: &[0xffff_ffff],
-        fault: 1,
-        ..ONE_WORD
-    },
-    // Fetch: lui x6,0x40000; jalr x9,4(x6), which goes to an address where nothing is.
-    Case {
-        code: &[0x4000_0337, 0x0043_04e7],
-        fault: 2,
-        turns: 5,
-        fuel: 92,
-        pc: "40000004",
-        x0: "x0 00000000 00000000 80000000 00000000 00000000 00020000 40000000 00000000",
-        x8: "x8 00000000 00100040 00000000 00000000 00000000 00000000 00000000 00000000",
-        x16: X16,
-    },
-    // Fetch: jalr x0,0(x5), which goes to the guard of the lock.
-    Case {
-        code: &[0x0002_8067],
-        fault: 2,
-        turns: 4,
-        fuel: 93,
-        pc: "00020000",
-        ..ONE_WORD
-    },
-    // JumpTarget: jal x1,6, which leaves x1 as it is.
-    Case {
-        code: &[0x0060_00ef],
-        fault: 3,
-        ..ONE_WORD
-    },
-    // JumpTarget: beq x0,x0,2.
-    Case {
-        code: &[0x0000_0163],
-        fault: 3,
-        ..ONE_WORD
-    },
-];
-
-/// Loads and stores. A load that faults would write x2.
-const OF_MEMORY: [Case<'static>; 7] = [
-    // Load: lw x2,0(x0), where nothing is.
-    Case {
-        code: &[0x0000_2103],
-        fault: 4,
-        ..ONE_WORD
-    },
-    // Store: sw x2,0(x0), where nothing is.
-    Case {
-        code: &[0x0020_2023],
-        fault: 5,
-        ..ONE_WORD
-    },
-    // Store: auipc x6,0; sw x2,0(x6), into the code.
-    Case {
-        code: &[0x0000_0317, 0x0023_2023],
-        fault: 5,
-        turns: 4,
-        fuel: 93,
-        pc: "0010003c",
-        x0: "x0 00000000 00000000 80000000 00000000 00000000 00020000 00100038 00000000",
-        x8: X8,
-        x16: X16,
-    },
-    // Misaligned: lh x2,1(x5), in the guard of the lock.
-    Case {
-        code: &[0x0012_9103],
-        fault: 6,
-        ..ONE_WORD
-    },
-    // Misaligned: sw x2,2(x5), in the guard of the lock and the next one.
-    Case {
-        code: &[0x0022_a123],
-        fault: 6,
-        ..ONE_WORD
-    },
-    // Unguarded: lw x2,4(x5), from the guard of lock 1.
-    Case {
-        code: &[0x0042_a103],
-        fault: 7,
-        ..ONE_WORD
-    },
-    // Unguarded: sw x2,4(x5), into the guard of lock 1.
-    Case {
-        code: &[0x0022_a223],
-        fault: 7,
-        ..ONE_WORD
-    },
-];
-
-/// EBREAK and the guest's calls.
-const OF_CALLS: [Case<'static>; 7] = [
+    (0xffff_ffff, 1),
+    // JumpTarget: jal x1,6, which leaves x1 as it is; beq x0,x0,2.
+    (0x0060_00ef, 3),
+    (0x0000_0163, 3),
+    // Load and Store: lw x2,0(x0) and sw x2,0(x0), where nothing is.
+    (0x0000_2103, 4),
+    (0x0020_2023, 5),
+    // Misaligned: lh x2,1(x5) in the guard of the lock, sw x2,2(x5) in it and the next one.
+    (0x0012_9103, 6),
+    (0x0022_a123, 6),
+    // Unguarded: lw x2,4(x5) and sw x2,4(x5), in the guard of lock 1.
+    (0x0042_a103, 7),
+    (0x0022_a223, 7),
     // Break.
-    Case {
-        code: &[0x0010_0073],
-        fault: 8,
-        ..ONE_WORD
-    },
-    // BadCall: addi x17,x0,64; ecall.
-    Case {
-        code: &[0x0400_0893, 0x0000_0073],
-        fault: 9,
-        turns: 4,
-        fuel: 93,
-        pc: "0010003c",
-        x0: X0,
-        x8: X8,
-        x16: "x16 00000000 00000040 00000000 00000000 00000000 00000000 00000000 00000000",
-    },
-    // BadCall: SLEEP 256.
-    Case {
-        code: &[0x1000_0513, 0x0030_0893, 0x0000_0073],
-        fault: 9,
-        turns: 5,
-        fuel: 92,
-        pc: "00100040",
-        x0: X0,
-        x8: "x8 00000000 00000000 00000100 00000000 00000000 00000000 00000000 00000000",
-        x16: "x16 00000000 00000003 00000000 00000000 00000000 00000000 00000000 00000000",
-    },
-    // BadLock: addi x10,x0,5; ecall, a LOCK of no lock.
-    Case {
-        code: &[0x0050_0513, 0x0000_0073],
-        fault: 10,
-        turns: 4,
-        fuel: 93,
-        pc: "0010003c",
-        x0: X0,
-        x8: "x8 00000000 00000000 00000005 00000000 00000000 00000000 00000000 00000000",
-        x16: X16,
-    },
-    // BadLock: UNLOCK 5, of no lock.
-    Case {
-        code: &[0x0050_0513, 0x0020_0893, 0x0000_0073],
-        fault: 10,
-        turns: 5,
-        fuel: 92,
-        pc: "00100040",
-        x0: X0,
-        x8: "x8 00000000 00000000 00000005 00000000 00000000 00000000 00000000 00000000",
-        x16: "x16 00000000 00000002 00000000 00000000 00000000 00000000 00000000 00000000",
-    },
+    (0x0010_0073, 8),
     // LockOrder: ecall, a LOCK of lock 0 again.
-    Case {
-        code: &[0x0000_0073],
-        fault: 11,
-        ..ONE_WORD
-    },
-    // NotHeld: UNLOCK 1.
-    Case {
-        code: &[0x0010_0513, 0x0020_0893, 0x0000_0073],
-        fault: 12,
-        turns: 5,
-        fuel: 92,
-        pc: "00100040",
-        x0: X0,
-        x8: "x8 00000000 00000000 00000001 00000000 00000000 00000000 00000000 00000000",
-        x16: "x16 00000000 00000002 00000000 00000000 00000000 00000000 00000000 00000000",
-    },
+    (ECALL, 11),
 ];
 
-/// Runs a guest of two threads and five locks, whose guards are words from 0x00020000 on. Thread 0
-/// has these pieces of code, thread 1 is `NEXT`.
+/// Faults behind other words.
+const BEHIND: [(&[u32], Shown<'static>); 8] = [
+    // Fetch: lui x6,0x40000; jalr x9,4(x6), which goes to an address where nothing is.
+    (
+        &[0x4000_0337, 0x0043_04e7],
+        Shown {
+            fault: 2,
+            pc: "40000004",
+            x0: "x0 00000000 00000000 80000000 00000000 00000000 00020000 40000000 00000000",
+            x8: "x8 00000000 00100040 00000000 00000000 00000000 00000000 00000000 00000000",
+            ..THIRD
+        },
+    ),
+    // Fetch: jalr x0,0(x5), which goes to the guard of the lock.
+    (
+        &[0x0002_8067],
+        Shown {
+            fault: 2,
+            pc: "00020000",
+            ..SECOND
+        },
+    ),
+    // Store: auipc x6,0; sw x2,0(x6), into the code.
+    (
+        &[0x0000_0317, 0x0023_2023],
+        Shown {
+            fault: 5,
+            x0: "x0 00000000 00000000 80000000 00000000 00000000 00020000 00100038 00000000",
+            ..SECOND
+        },
+    ),
+    // BadCall: addi x17,x0,64; ecall.
+    (
+        &[0x0400_0893, ECALL],
+        Shown {
+            fault: 9,
+            x16: "x16 00000000 00000040 00000000 00000000 00000000 00000000 00000000 00000000",
+            ..SECOND
+        },
+    ),
+    // BadCall: SLEEP 256.
+    (
+        &[0x1000_0513, 0x0030_0893, ECALL],
+        Shown {
+            fault: 9,
+            x8: "x8 00000000 00000000 00000100 00000000 00000000 00000000 00000000 00000000",
+            x16: "x16 00000000 00000003 00000000 00000000 00000000 00000000 00000000 00000000",
+            ..THIRD
+        },
+    ),
+    // BadLock: addi x10,x0,5; ecall, a LOCK of no lock.
+    (
+        &[0x0050_0513, ECALL],
+        Shown {
+            fault: 10,
+            x8: "x8 00000000 00000000 00000005 00000000 00000000 00000000 00000000 00000000",
+            ..SECOND
+        },
+    ),
+    // BadLock: UNLOCK 5, of no lock.
+    (
+        &[0x0050_0513, 0x0020_0893, ECALL],
+        Shown {
+            fault: 10,
+            x8: "x8 00000000 00000000 00000005 00000000 00000000 00000000 00000000 00000000",
+            x16: "x16 00000000 00000002 00000000 00000000 00000000 00000000 00000000 00000000",
+            ..THIRD
+        },
+    ),
+    // NotHeld: UNLOCK 1.
+    (
+        &[0x0010_0513, 0x0020_0893, ECALL],
+        Shown {
+            fault: 12,
+            x8: "x8 00000000 00000000 00000001 00000000 00000000 00000000 00000000 00000000",
+            x16: "x16 00000000 00000002 00000000 00000000 00000000 00000000 00000000 00000000",
+            ..THIRD
+        },
+    ),
+];
+
+/// Runs a guest of two threads and five locks. Thread 1 begins at 0x00100000, takes and releases
+/// lock 0 and exits. Thread 0 has these pieces of code.
 fn ran<R: Threads + Wait + Sync + Abort>(
     rt: &R,
     alloc: Global,
-    pieces: [&[u32]; 2],
+    pieces: &[&[u32]],
 ) -> Result<Ran, AllocError> {
-    let mut code = Vec::from_slice(alloc, &NEXT)?;
-    for piece in pieces {
-        code.extend_from_slice(piece)?;
-    }
-    assert!(rt; code.len() <= 100);
-    let guards = [
-        (DATA_START, 4),
-        (DATA_START + 4, 4),
-        (DATA_START + 8, 4),
-        (DATA_START + 12, 4),
-        (DATA_START + 16, 4),
-    ];
-    let entries = [(FIRST_START, 0), (CODE_START, 0)];
-    let file = build(alloc, &code, &entries, &[0; 20], &guards)?;
-    let ran = run(rt, alloc, &["run", "1", "100", "4"], &file)?;
+    let mut code = joined(alloc, &[&LOCK_0, &KEEP, &UNLOCK_0, &EXIT])?;
+    code.extend_from_slice(&joined(alloc, pieces)?)?;
+    let file = built(rt, alloc, &code, &[(9, 0), (0, 0)], 5)?;
+    let ran = run(rt, alloc, ["1", "100", "4"], &file)?;
     assert_eq!(rt; ran.status, Status::Done);
     Ok(ran)
 }
 
-/// The whole report of a case.
-fn report_of(alloc: Global, case: &Case<'_>) -> Result<String, AllocError> {
-    let Case {
-        fault,
-        turns,
-        fuel,
-        pc,
-        x0,
-        x8,
-        x16,
-        ..
-    } = *case;
+/// The whole report.
+fn report_of(alloc: Global, shown: &Shown<'_>) -> Result<String, AllocError> {
+    let Shown { fault, fuel, .. } = *shown;
     let mut text = String::from_str(alloc, BEFORE)?;
     write!(
         text,
-        "block 1 thread 0 turns {turns} held 0 kind taken worker 0 end fault {fault}\n"
+        "block 1 thread 0 turns {} held 0 kind taken",
+        shown.turns
     )?;
+    write!(text, " worker 0 end fault {fault}\n")?;
     text.push_str(BETWEEN)?;
-    write!(text, "thread 0 fault {fault} fuel {fuel} pc {pc}\n")?;
-    write!(text, "{x0}\n{x8}\n{x16}\n")?;
+    write!(text, "thread 0 fault {fault} fuel {fuel} pc {}\n", shown.pc)?;
+    write!(text, "{}\n{}\n{}\n", shown.x0, shown.x8, shown.x16)?;
     text.push_str(AFTER)?;
     Ok(text)
+}
+
+/// Runs this code with lock 0 held, and compares the report.
+fn check<R: Threads + Wait + Sync + Abort>(
+    rt: &R,
+    alloc: Global,
+    code: &[u32],
+    shown: &Shown<'_>,
+) -> Result<(), AllocError> {
+    let ran = ran(rt, alloc, &[&DATA, &LOCK_0, &STORE, code])?;
+    let report = report_of(alloc, shown)?;
+    let text = ran.text();
+    assert!(rt; text == report.as_str(), "{text}instead of\n{report}");
+    Ok(())
 }
 
 /// Each of the twelve faults with lock 0 held. All of them can come so.
 #[test]
 fn a_fault_with_a_lock_held_breaks_the_lock(rt: HostRuntime) -> Result<(), Fail> {
-    let alloc = rt.alloc();
-    for table in [
-        OF_CODE.as_slice(),
-        OF_MEMORY.as_slice(),
-        OF_CALLS.as_slice(),
-    ] {
-        for case in table {
-            let ran = ran(&rt, alloc, [&TAKING, case.code])?;
-            let report = report_of(alloc, case)?;
-            assert_eq!(rt;
-                ran.written.as_slice(),
-                report.as_bytes(),
-                "fault {}",
-                case.fault
-            );
-        }
+    for (word, fault) in WORDS {
+        let shown = Shown { fault, ..AT_ONCE };
+        check(&rt, rt.alloc(), &[word], &shown)?;
+    }
+    for (code, shown) in &BEHIND {
+        check(&rt, rt.alloc(), code, shown)?;
     }
     Ok(())
 }
@@ -355,16 +271,7 @@ fn a_fault_with_a_lock_held_breaks_the_lock(rt: HostRuntime) -> Result<(), Fail>
 /// LOCK is of lock 1.
 #[test]
 fn a_lock_out_of_order_breaks_each_lock_that_is_held(rt: HostRuntime) -> Result<(), Fail> {
-    let taking = [
-        0x0000_0513,
-        0x0010_0893,
-        0x0000_0073,
-        0x0020_0513,
-        0x0010_0893,
-        0x0000_0073,
-    ];
-    let next = [0x0010_0513, 0x0010_0893, 0x0000_0073];
-    let ran = ran(&rt, rt.alloc(), [&taking, &next])?;
+    let ran = ran(&rt, rt.alloc(), &[&LOCK_0, &LOCK_2, &LOCK_1])?;
     assert_eq!(rt; ran.blocks(), 6);
     for line in [
         "block 1 thread 0 turns 3 held 0 kind taken worker 0 end wants 2",
@@ -377,44 +284,6 @@ fn a_lock_out_of_order_breaks_each_lock_that_is_held(rt: HostRuntime) -> Result<
         "lock 1 sections 0 broken 0 bytes 4",
         "lock 2 sections 1 broken 1 bytes 4",
         "lock 3 sections 0 broken 0 bytes 4",
-    ] {
-        assert!(rt; ran.has_line(line), "{line}");
-    }
-    Ok(())
-}
-
-/// LOCK with four locks held.
-#[test]
-fn a_fifth_lock_breaks_the_four_that_are_held(rt: HostRuntime) -> Result<(), Fail> {
-    let taking = [
-        0x0000_0513,
-        0x0010_0893,
-        0x0000_0073,
-        0x0010_0513,
-        0x0010_0893,
-        0x0000_0073,
-        0x0020_0513,
-        0x0010_0893,
-        0x0000_0073,
-        0x0030_0513,
-        0x0010_0893,
-        0x0000_0073,
-    ];
-    let next = [0x0040_0513, 0x0010_0893, 0x0000_0073];
-    let ran = ran(&rt, rt.alloc(), [&taking, &next])?;
-    assert_eq!(rt; ran.blocks(), 8);
-    for line in [
-        "block 3 thread 0 turns 3 held 0,1,2 kind taken worker 0 end wants 3",
-        "block 4 thread 0 turns 4 held 0,1,2,3 kind taken worker 0 end fault 10",
-        "block 6 thread 1 turns 5 held 0 kind taken worker 0 end unlocked 0",
-        "thread 0 fault 10 fuel 85 pc 0010005c",
-        "x8 00000000 00000000 00000004 00000000 00000000 00000000 00000000 00000000",
-        "x8 00000001 00000000 00000000 00000001 00000000 00000000 00000000 00000000",
-        "lock 0 sections 2 broken 1 bytes 4",
-        "lock 1 sections 1 broken 1 bytes 4",
-        "lock 2 sections 1 broken 1 bytes 4",
-        "lock 3 sections 1 broken 1 bytes 4",
-        "lock 4 sections 0 broken 0 bytes 4",
     ] {
         assert!(rt; ran.has_line(line), "{line}");
     }

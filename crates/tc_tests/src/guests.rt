@@ -1,16 +1,46 @@
-//! Makes guest files, and runs the program over them in memory.
+//! The guests of the tests: words of code, and the files that hold them.
 
 use std::alloc::{AllocError, Global};
-use std::str::from_utf8;
-use std::sync::Wait;
-use std::thread::Threads;
-use tc_io::memory::{MemSink, MemSource};
-use tc_io::word::Word;
-use tc_main::status::Status;
-use tc_main::top::tclocks;
+use std::process::Abort;
+use tc_main::build::{CODE_START, DATA_START, build};
 
-/// The smallest guest: `addi x17,x0,93` and `ecall`, at 0x00010054. It exits.
-pub(crate) const EXIT: [u8; 92] = [
+/// `ecall`.
+pub(crate) const ECALL: u32 = 0x0000_0073;
+
+/// `addi x0,x0,0`, which does nothing.
+pub(crate) const NOP: u32 = 0x0000_0013;
+
+/// `addi x8,x10,0`: keeps the answer of a call.
+pub(crate) const KEEP: [u32; 1] = [0x0005_0413];
+
+/// LOCK: `addi x10,x0,lock`, `addi x17,x0,1`, `ecall`.
+pub(crate) const LOCK_0: [u32; 3] = [0x0000_0513, 0x0010_0893, ECALL];
+
+pub(crate) const LOCK_1: [u32; 3] = [0x0010_0513, 0x0010_0893, ECALL];
+
+pub(crate) const LOCK_2: [u32; 3] = [0x0020_0513, 0x0010_0893, ECALL];
+
+pub(crate) const LOCK_3: [u32; 3] = [0x0030_0513, 0x0010_0893, ECALL];
+
+pub(crate) const LOCK_4: [u32; 3] = [0x0040_0513, 0x0010_0893, ECALL];
+
+/// UNLOCK: `addi x10,x0,lock`, `addi x17,x0,2`, `ecall`.
+pub(crate) const UNLOCK_0: [u32; 3] = [0x0000_0513, 0x0020_0893, ECALL];
+
+pub(crate) const UNLOCK_1: [u32; 3] = [0x0010_0513, 0x0020_0893, ECALL];
+
+/// EXIT: `addi x17,x0,93`, `ecall`.
+pub(crate) const EXIT: [u32; 2] = [0x05d0_0893, ECALL];
+
+/// `lui x5,0x20`: the start of the data.
+pub(crate) const DATA: [u32; 1] = [0x0002_02b7];
+
+/// The word at x5 plus 1: `lw x7,0(x5)`, `addi x7,x7,1`, `sw x7,0(x5)`.
+pub(crate) const ADD: [u32; 3] = [0x0002_a383, 0x0013_8393, 0x0072_a023];
+
+/// A file of a lone thread without locks, as a linker could write it: `addi x17,x0,93` and `ecall`
+/// at 0x00010054.
+pub(crate) const SMALLEST: [u8; 92] = [
     0x7f, 0x45, 0x4c, 0x46, 0x01, 0x01, 0x01, 0x00, 0x00, 0x00, 0x00, 0x00, 0x00, 0x00, 0x00, 0x00,
     0x02, 0x00, 0xf3, 0x00, 0x01, 0x00, 0x00, 0x00, 0x54, 0x00, 0x01, 0x00, 0x34, 0x00, 0x00, 0x00,
     0x00, 0x00, 0x00, 0x00, 0x00, 0x00, 0x00, 0x00, 0x34, 0x00, 0x20, 0x00, 0x01, 0x00, 0x00, 0x00,
@@ -19,68 +49,47 @@ pub(crate) const EXIT: [u8; 92] = [
     0x04, 0x00, 0x00, 0x00, 0x93, 0x08, 0xd0, 0x05, 0x73, 0x00, 0x00, 0x00,
 ];
 
-/// The report of the smallest guest after `run 1 100 0`.
-pub(crate) const EXIT_REPORT: &str =
-    "tclocks 1\nguest threads 1 guards 0\nrun workers 1 fuel 100 batch 0\nblock 0 thread 0 turns 2 held - kind start worker 0 end exit\nthread 0 exit fuel 98 pc 00010058\nx0 00000000 00000000 80000000 00000000 00000000 00000000 00000000 00000000\nx8 00000000 00000000 00000000 00000000 00000000 00000000 00000000 00000000\nx16 00000000 0000005d 00000000 00000000 00000000 00000000 00000000 00000000\nx24 00000000 00000000 00000000 00000000 00000000 00000000 00000000 00000000\nend\n";
+/// The words of several pieces of code, one after another.
+pub(crate) fn joined(alloc: Global, pieces: &[&[u32]]) -> Result<Vec<u32>, AllocError> {
+    let mut words = Vec::new(alloc);
+    for piece in pieces {
+        words.extend_from_slice(piece)?;
+    }
+    Ok(words)
+}
 
-/// The file of the smallest guest with these words of code in place of its own.
-pub(crate) fn with_code(alloc: Global, code: &[u32]) -> Result<Vec<u8>, AllocError> {
-    let mut file = Vec::from_slice(alloc, &EXIT[..68])?;
+/// The smallest guest's file with this code in place of its own.
+pub(crate) fn plain(alloc: Global, code: &[u32]) -> Result<Vec<u8>, AllocError> {
     let size = (code.len().min(4096) * 4) as u32;
+    let mut file = Vec::from_slice(alloc, &SMALLEST[..68])?;
     file.extend_from_slice(&size.to_le_bytes())?;
     file.extend_from_slice(&size.to_le_bytes())?;
-    file.extend_from_slice(&EXIT[76..84])?;
+    file.extend_from_slice(&SMALLEST[76..84])?;
     for word in code {
         file.extend_from_slice(&word.to_le_bytes())?;
     }
     Ok(file)
 }
 
-/// The words of a command line.
-pub(crate) fn words_of(alloc: Global, words: &[&str]) -> Result<Vec<Word>, AllocError> {
-    let mut all = Vec::new(alloc);
-    for word in words {
-        all.push(Word::from_bytes(alloc, word.as_bytes())?)?;
-    }
-    Ok(all)
-}
-
-/// What a run ended with, and what it wrote.
-#[derive(Drop)]
-pub(crate) struct Ran {
-    pub status: Status,
-    pub written: Vec<u8>,
-}
-
-impl Ran {
-    /// Whether the text has this line.
-    pub(crate) fn has_line(&self, line: &str) -> bool {
-        match from_utf8(&self.written) {
-            Ok(text) => text.lines().any(|own| own == line),
-            Err(_) => false,
-        }
-    }
-
-    /// How many of the text's lines are of blocks.
-    pub(crate) fn blocks(&self) -> usize {
-        match from_utf8(&self.written) {
-            Ok(text) => text.lines().filter(|own| own.starts_with("block ")).count(),
-            Err(_) => 0,
-        }
-    }
-}
-
-/// Runs the program on the words and a file, with room for a whole report.
-pub(crate) fn run<R: Threads + Wait + Sync>(
+/// A built file of this code, with a guard of one word for each lock, from 0x00020000 on, all zeros.
+/// A thread is given by the word of code at which it begins, and its argument.
+pub(crate) fn built<R: Abort>(
     rt: &R,
     alloc: Global,
-    words: &[&str],
-    file: &[u8],
-) -> Result<Ran, AllocError> {
-    let mut source = MemSource::new(Vec::from_slice(alloc, file)?, 4096, Vec::new(alloc));
-    let mut sink = MemSink::new(alloc, 65_536, 65_536, Vec::new(alloc))?;
-    let words = words_of(alloc, words)?;
-    let status = tclocks(rt, alloc, &words, &mut source, &mut sink);
-    let written = Vec::from_slice(alloc, sink.written())?;
-    Ok(Ran { status, written })
+    code: &[u32],
+    threads: &[(u32, u32)],
+    locks: usize,
+) -> Result<Vec<u8>, AllocError> {
+    let mut entries = Vec::new(alloc);
+    for thread in threads {
+        entries.push((CODE_START + thread.0 % 4096 * 4, thread.1))?;
+    }
+    let mut guards = Vec::new(alloc);
+    for lock in 0..locks.min(16) {
+        guards.push((DATA_START + lock as u32 * 4, 4))?;
+    }
+    assert!(rt; !entries.is_empty() && entries.len() <= 16 && guards.len() <= 16);
+    assert!(rt; code.len() <= 20_000);
+    let zeros = [0; 64];
+    build(alloc, code, &entries, &zeros[..guards.len() * 4], &guards)
 }

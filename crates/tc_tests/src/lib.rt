@@ -1,16 +1,27 @@
-//! Tests of the program as a whole, through its top call: guests with known reports, and sources
-//! and sinks that fail. `guests` makes files and runs them, `runs` has lone threads, `locks` guests
-//! with locks and their reports, `faults` every fault of a thread that holds a lock, `outside` the
-//! words, the files and the faults that are answered by a status.
+//! Tests of the program as a whole, through its top call. `guests` has code and makes files, `ran`
+//! runs them, `cases` compares whole reports. `runs` has lone threads, `words` single instructions,
+//! `locks` guests with locks, `faults` every fault of a thread that holds a lock, `limits` what
+//! stands at a limit, `outside` what is answered by a status. `images` compares what is loaded of a
+//! built file with what was described.
 #![tactic(auto)]
 
+#[cfg(test)]
+mod cases;
 #[cfg(test)]
 mod faults;
 #[cfg(test)]
 mod guests;
 #[cfg(test)]
+mod images;
+#[cfg(test)]
+mod limits;
+#[cfg(test)]
 mod locks;
 #[cfg(test)]
 mod outside;
 #[cfg(test)]
+mod ran;
+#[cfg(test)]
 mod runs;
+#[cfg(test)]
+mod words;
