@@ -52,6 +52,13 @@ class Guest:
             elif kind == 4:
                 self.read_notes(content)
 
+    def word(self, pc):
+        """The word at an address that code may be fetched from, or None."""
+        for where, flags, content in self.ranges:
+            if flags & 1 and pc in where and pc + 3 in where:
+                return int.from_bytes(content[pc - where.start:pc - where.start + 4], "little")
+        return None
+
     def read_notes(self, notes):
         at = 0
         while at + 12 <= len(notes):
@@ -66,13 +73,15 @@ class Guest:
 
 
 class Thread:
-    """Registers, memory of its own, fuel, held locks, how many blocks it ran, how it ended."""
+    """Registers, memory of its own, fuel, held locks, how many blocks it ran, for how many
+    blocks it sleeps, how it ended."""
 
     def __init__(self, guest, number, fuel):
         self.pc, argument = guest.entries[number]
         self.x = [0] * 32
         self.x[2], self.x[10], self.x[11] = STACK.stop, argument, number
         self.fuel, self.held, self.blocks, self.end = fuel, set(), 0, None
+        self.slept = 0
         self.own = {i: bytearray(content) for i, (_, flags, content) in enumerate(guest.ranges)
                     if flags & 2}
         self.stack = bytearray(len(STACK))
@@ -98,18 +107,10 @@ class Machine:
         self.threads = [Thread(guest, t, fuel) for t in range(len(guest.entries))]
         self.locks = [Lock(guest, l) for l in range(len(guest.guards))]
 
-    def word(self, thread):
-        """The word at the program counter, or None where it can't be fetched."""
-        for where, flags, content in self.guest.ranges:
-            if flags & 1 and thread.pc in where and thread.pc + 3 in where:
-                at = thread.pc - where.start
-                return int.from_bytes(content[at:at + 4], "little")
-        return None
-
     def next_lock(self, thread):
         """The lock that the next instruction lawfully takes, or None."""
         wanted = thread.x[10]
-        if (thread.fuel > 0 and self.word(thread) == 0x73 and thread.x[17] == 1
+        if (thread.fuel > 0 and self.guest.word(thread.pc) == 0x73 and thread.x[17] == 1
                 and wanted < len(self.locks) and len(thread.held) < 4
                 and all(wanted > lock for lock in thread.held)):
             return wanted
@@ -151,7 +152,7 @@ class Machine:
             return self.finish(thread, "spent")
         thread.fuel -= 1
         try:
-            word = self.word(thread)
+            word = self.guest.word(thread.pc)
             if word is None:
                 raise Fault(2)
             if word == 0x73:
@@ -174,7 +175,7 @@ class Machine:
         if call not in (1, 2, 3) or (call == 3 and value > 255):
             raise Fault(9)
         if call == 3:
-            answer, end = 0, "slept"
+            thread.slept, answer, end = value, 0, "slept"
         elif value >= len(self.locks) or (call == 1 and len(thread.held) == 4):
             raise Fault(10)
         elif call == 1:

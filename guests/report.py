@@ -1,105 +1,259 @@
-"""Reads a report line by line and compares it with model.py and with the batch rule."""
+"""Reads the text of a report: its header, its blocks, and how threads and locks end.
+
+Two forms are read: `tclocks 1`, and `tclocks 2`, in which a block line says the program counter
+at the block's start too. A text that stops early is read as far as it goes.
+"""
 import re
+from typing import NamedTuple, Optional, Tuple
 
-import model
+KINDS = ("start", "on", "taken", "adopted", "granted")
+SECTIONS = KINDS[2:]  # the kinds that begin a section
+MOST_THREADS = {1: 16, 2: 32}
+MOST_GUARDS = {1: 16, 2: 32}
+LIMITS = {"workers": (1, 8), "fuel": (1, 65536), "batch": (0, 256)}
 
-HEADER = re.compile(r"run workers ([1-8]) fuel (\d+) batch (\d+)")
-BLOCK = re.compile(r"block \d+ thread (\d+) turns \d+ held \S+ kind (\w+) worker (\d+) end .+")
+NUMBER = r"(0|[1-9]\d{0,9})"
+HEX8 = r"([0-9a-f]{8})"
+GUEST = re.compile(f"guest threads {NUMBER} guards {NUMBER}")
+OPTIONS = re.compile(r"run workers (\S+) fuel (\S+) batch (\S+)")
+BLOCK = re.compile(f"block {NUMBER} thread {NUMBER} turns {NUMBER} held (-|[0-9,]+) "
+                   f"kind ({'|'.join(KINDS)}) worker {NUMBER}(?: pc {HEX8})? "
+                   r"end (wants \d+|unlocked \d+|slept|cut|exit|fault \d+|spent)")
+THREAD = re.compile(f"thread {NUMBER} (exit|fault \\d+|spent) fuel {NUMBER} pc {HEX8}")
+REGISTERS = re.compile(r"x(0|8|16|24)((?: [0-9a-f]{8}){8})")
+LOCK = re.compile(f"lock {NUMBER} sections {NUMBER} broken ([01]) bytes {NUMBER}")
+DATA = re.compile(f"data {HEX8} ((?:[0-9a-f]{{2}})+)")
+REFUSED = re.compile(r"refused (\d{1,2}) (\w+)")
 
 
 class Wrong(Exception):
-    pass
+    """What is wrong with a report."""
 
 
-class Batch:
-    """The batch rule of one lock: of which kinds its next section may be."""
+class NoReport(Wrong):
+    """The program's answer in the place of a report: a refusal or the usage line."""
 
-    def __init__(self, limit):
-        self.limit, self.adopted, self.last = limit, 0, None
-
-    def kinds(self, worker):
-        if self.last is None:
-            return {"taken"}
-        last_worker, free = self.last
-        if free and self.adopted < self.limit:
-            return {"taken", "adopted"} if worker == last_worker else {"taken"}
-        return {"taken", "granted"}
-
-    def begin(self, kind):
-        self.adopted = self.adopted + 1 if kind == "adopted" else 0
-
-    def release(self, worker, free):
-        self.last = worker, free
+    def __init__(self, line):
+        super().__init__(f"this is no report but the program's answer: {line}")
+        self.line = line
 
 
-def block_line(machine, batches, line, stamp, workers):
-    """Runs the block that a line names, and answers the line that it must be."""
-    found = BLOCK.fullmatch(line)
-    if not found or int(found[1]) >= len(machine.threads) or int(found[3]) >= workers:
-        raise Wrong(f"{line!r} names no block of this guest and these workers")
-    number, kind, worker = int(found[1]), found[2], int(found[3])
-    thread = machine.threads[number]
-    plain = {"on" if thread.blocks else "start"}
-    turns, locks, taken, end = machine.run_block(number)
-    kinds = plain if taken is None else batches[taken].kinds(worker)
-    if kind not in kinds:
-        raise Wrong(f"block {stamp} has the kind {kind}, not {' or '.join(sorted(kinds))}")
-    if taken is not None:
-        batches[taken].begin(kind)
-    for lock in locks - thread.held:
-        batches[lock].release(worker, not thread.held and thread.end is None)
-    held = ",".join(map(str, sorted(locks))) or "-"
-    return (f"block {stamp} thread {number} turns {turns} held {held} kind {kind}"
-            f" worker {worker} end {end}")
+class Block(NamedTuple):
+    stamp: int
+    thread: int
+    turns: int
+    held: Tuple[int, ...]
+    kind: str
+    worker: int
+    pc: Optional[int]
+    end: str
+
+    @property
+    def begun(self):
+        """The lock whose section it begins, or None."""
+        return self.held[-1] if self.kind in SECTIONS else None
+
+    @property
+    def ends_thread(self):
+        return self.end in ("exit", "spent") or self.end.startswith("fault")
+
+    @property
+    def released(self):
+        if self.end.startswith("unlocked"):
+            return (int(self.end[9:]),)
+        return self.held if self.ends_thread else ()
+
+    @property
+    def kept(self):
+        """The locks that the thread holds after it."""
+        released = self.released
+        if not released:
+            return self.held
+        return tuple(lock for lock in self.held if lock not in released)
+
+    def line(self, version):
+        pc = f" pc {self.pc:08x}" if version == 2 else ""
+        return (f"block {self.stamp} thread {self.thread} turns {self.turns} held "
+                f"{held_text(self.held)} kind {self.kind} worker {self.worker}{pc} end {self.end}")
 
 
-def ending_lines(machine):
-    """The report's lines behind the blocks, for threads that have ended."""
-    for number, thread in enumerate(machine.threads):
-        if thread.end is None:
-            raise Wrong(f"thread {number} has not ended")
-        yield f"thread {number} {thread.end} fuel {thread.fuel} pc {thread.pc:08x}"
-        for i in range(0, 32, 8):
-            yield f"x{i} " + " ".join(f"{value:08x}" for value in thread.x[i:i + 8])
-    for number, lock in enumerate(machine.locks):
-        yield (f"lock {number} sections {lock.sections} broken {lock.broken}"
-               f" bytes {len(lock.bytes)}")
-        for i in range(0, len(lock.bytes), 32):
-            yield f"data {lock.addresses[i]:08x} {lock.bytes[i:i + 32].hex()}"
-    yield "end"
+class ThreadEnd(NamedTuple):
+    how: str
+    fuel: int
+    pc: int
+    x: Tuple[int, ...]
 
 
-def replay_blocks(guest, lines):
-    """Runs the blocks of a report's first lines in their order. Answers the machine after
-    them, and how many lines there were; Wrong or model.Illegal where one isn't legal."""
-    found = HEADER.fullmatch(lines[2]) if len(lines) > 2 else None
-    if not found:
-        raise Wrong("line 3 doesn't say 'run workers W fuel F batch B'")
-    workers, fuel, limit = map(int, found.groups())
-    machine = model.Machine(guest, fuel)
-    batches = [Batch(limit) for _ in machine.locks]
-    compare(lines, 0, ["tclocks 1",
-                       f"guest threads {len(machine.threads)} guards {len(machine.locks)}"])
-    at = 3
-    while at < len(lines) and lines[at].startswith("block "):
-        compare(lines, at, [block_line(machine, batches, lines[at], at - 3, workers)])
-        at += 1
-    return machine, at
+class LockEnd(NamedTuple):
+    sections: int
+    broken: int
+    address: int
+    bytes: bytes
 
 
-def replay(guest, text):
-    """The machine after a whole report; Wrong or model.Illegal where the report isn't that of
-    a legal run to the end of every thread."""
-    lines = text.split("\n")
-    machine, at = replay_blocks(guest, lines)
-    wanted = [*ending_lines(machine), ""]
-    compare(lines, at, wanted)
-    if len(lines) != at + len(wanted):
-        raise Wrong(f"{len(lines)} line ends, not {at + len(wanted)}")
-    return machine
+def held_text(held):
+    return ",".join(map(str, held)) or "-"
 
 
-def compare(lines, start, wanted):
-    for number, (line, expected) in enumerate(zip(lines[start:start + len(wanted)], wanted)):
-        if line != expected:
-            raise Wrong(f"line {start + number + 1} is {line!r}, not {expected!r}")
+class Lines:
+    """Numbered lines without their ends; one can be looked at before it is taken."""
+
+    def __init__(self, lines):
+        self.lines, self.number, self.cut = iter(lines), 0, False
+        self.next = None
+        self.take()
+
+    def take(self):
+        """The line in front, or None behind the last whole one."""
+        line, self.next = self.next, next(self.lines, None)
+        self.number += 1
+        if self.next is not None and not self.next.endswith("\n"):
+            self.cut, self.next = True, None
+        elif self.next is not None:
+            self.next = self.next[:-1]
+        return line
+
+    def at(self):
+        """The number of the line in front."""
+        return self.number
+
+    def wrong(self, what):
+        shown = "the text ends" if self.next is None else f"it is {self.next[:100]!r}"
+        return Wrong(f"line {self.at()} must be {what}: {shown}")
+
+
+class Report:
+    """A report that is read from its lines: the header at once, then `blocks`, then `ends`."""
+
+    def __init__(self, lines):
+        self.lines = Lines(lines)
+        self.version = self.first_line()
+        self.threads, self.guards = self.guest_line()
+        self.workers, self.fuel, self.batch = self.options_line()
+        self.thread_ends, self.lock_ends, self.whole = [], [], False
+
+    def first_line(self):
+        line = self.lines.next
+        if line is None:
+            raise Wrong("this is no report: it is empty, or stops in its first line")
+        if REFUSED.fullmatch(line) or line.startswith("usage: "):
+            raise NoReport(line[:100])
+        if line.startswith("tclocks demo "):
+            raise Wrong("this is the summary of a demo and no report: it has no blocks")
+        if line not in ("tclocks 1", "tclocks 2"):
+            raise self.lines.wrong("'tclocks 1' or 'tclocks 2'")
+        return int(self.lines.take()[8:])
+
+    def guest_line(self):
+        found = GUEST.fullmatch(self.lines.next or "")
+        if not found:
+            raise self.lines.wrong("'guest threads N guards M'")
+        threads, guards = map(int, found.groups())
+        for name, value, least, most in (
+                ("threads", threads, 1, MOST_THREADS[self.version]),
+                ("guards", guards, 0, MOST_GUARDS[self.version])):
+            if not least <= value <= most:
+                raise self.lines.wrong(f"about {least} to {most} {name}")
+        self.lines.take()
+        return threads, guards
+
+    def options_line(self):
+        found = OPTIONS.fullmatch(self.lines.next or "")
+        if not found:
+            raise self.lines.wrong("'run workers W fuel F batch B'")
+        values = []
+        for (name, (least, most)), word in zip(LIMITS.items(), found.groups()):
+            if not re.fullmatch(NUMBER, word) or not least <= int(word) <= most:
+                raise self.lines.wrong(f"about {least} to {most} {name}")
+            values.append(int(word))
+        self.lines.take()
+        return values
+
+    def blocks(self):
+        """The blocks in their order."""
+        stamp, sets = 0, {"-": ()}
+        while self.lines.next is not None and self.lines.next.startswith("block "):
+            yield self.block(stamp, sets)
+            self.lines.take()
+            stamp += 1
+
+    def block(self, stamp, sets):
+        found = BLOCK.fullmatch(self.lines.next)
+        if not found or (found[7] is None) != (self.version == 1):
+            raise self.lines.wrong(f"the line of block {stamp}")
+        read, thread, turns, held, kind, worker, pc, end = found.groups()
+        if held not in sets:
+            sets[held] = self.held_set(held, stamp)
+        block = Block(int(read), int(thread), int(turns), sets[held], kind, int(worker),
+                      None if pc is None else int(pc, 16), end)
+        if block.stamp != stamp:
+            raise self.lines.wrong(f"the line of block {stamp}")
+        for name, value, most in (("thread", block.thread, self.threads),
+                                  ("worker", block.worker, self.workers)):
+            if value >= most:
+                raise Wrong(f"block {stamp}, line {self.lines.at()}: there is no {name} {value}, "
+                            f"but {name}s 0 to {most - 1}")
+        if not 1 <= block.turns <= 4096 or (kind in SECTIONS and not block.held):
+            raise Wrong(f"block {stamp}, line {self.lines.at()}: it has 1 to 4096 turns, and a "
+                        "section's first block holds its lock")
+        return block
+
+    def held_set(self, held, stamp):
+        locks = tuple(int(word) for word in held.split(",") if word and len(word) < 3)
+        if held_text(locks) != held or list(locks) != sorted(set(locks)) or locks[-1] >= self.guards:
+            raise Wrong(f"block {stamp}, line {self.lines.at()}: held is {held!r}, which is no "
+                        f"ascending list of locks below {self.guards}")
+        return locks
+
+    def ends(self):
+        """Reads what stands behind the blocks, as far as it goes."""
+        while self.lines.next is not None and self.lines.next != "end":
+            self.part()
+        if self.lines.next == "end":
+            self.whole = True
+            self.lines.take()
+            if self.lines.next is not None or self.lines.cut:
+                raise Wrong(f"line {self.lines.at()}: something stands behind the line 'end'")
+
+    def part(self):
+        """A thread with its registers, or a lock with its bytes."""
+        thread, lock = THREAD.fullmatch(self.lines.next), LOCK.fullmatch(self.lines.next)
+        if thread and int(thread[1]) == len(self.thread_ends) < self.threads:
+            self.lines.take()
+            self.thread_ends.append(ThreadEnd(thread[2], int(thread[3]), int(thread[4], 16),
+                                              self.registers()))
+        elif lock and int(lock[1]) == len(self.lock_ends) < self.guards:
+            self.lines.take()
+            self.lock_ends.append(LockEnd(int(lock[2]), int(lock[3]), *self.data(int(lock[4]))))
+        else:
+            raise self.lines.wrong("how a thread or a lock ends, or 'end'")
+
+    def registers(self):
+        values = []
+        for first in range(0, 32, 8):
+            if self.lines.next is None:
+                break
+            found = REGISTERS.fullmatch(self.lines.next)
+            if not found or int(found[1]) != first:
+                raise self.lines.wrong(f"the registers from x{first} on")
+            values += [int(word, 16) for word in found[2].split()]
+            self.lines.take()
+        return tuple(values)
+
+    def data(self, size):
+        address, content = 0, b""
+        while len(content) < size and self.lines.next is not None:
+            found = DATA.fullmatch(self.lines.next)
+            if not found:
+                raise self.lines.wrong(f"bytes {len(content)} to {size - 1} of the lock")
+            address = address if content else int(found[1], 16)
+            content += bytes.fromhex(found[2])
+            self.lines.take()
+        return address, content
+
+    def cut_note(self):
+        """What to say of a report that stops early, or None."""
+        if self.whole:
+            return None
+        return (f"the report stops behind line {self.lines.at() - 1}, without the line 'end'; "
+                "what it has up to there is used")

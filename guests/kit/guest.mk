@@ -4,9 +4,9 @@ KIT   := $(dir $(lastword $(MAKEFILE_LIST)))
 CROSS ?= riscv64-unknown-elf-
 CC    := $(CROSS)gcc
 
-ifeq ($(shell command -v $(CC)),)
-$(error $(CC) is missing: install the Debian package gcc-riscv64-unknown-elf, or give another prefix by CROSS=)
-endif
+# Where there is nothing to build, no compiler is asked for.
+NEED_CC = @command -v $(firstword $(CC)) >/dev/null || { echo "$(firstword $(CC)) is missing: \
+install the Debian package gcc-riscv64-unknown-elf, or give another prefix by CROSS=" >&2; exit 1; }
 
 # -mstrict-align: an access at no multiple of its width is fault 6.
 TARGET  := -march=rv32i -mabi=ilp32 -mcmodel=medlow -mstrict-align
@@ -22,9 +22,11 @@ LINK    := -static -nostdlib -Wl,--gc-sections -Wl,-z,max-page-size=4 \
            -T $(KIT)tclocks.ld
 
 %.elf: %.c $(KIT)tclocks.h $(KIT)tclocks.ld $(KIT)runtime.c
+	$(NEED_CC)
 	$(CC) $(COMPILE) $(CFLAGS) $(LINK) -o $@ $< $(KIT)runtime.c $(LIBS)
 	@chmod -x $@
 
 %.elf: %.S $(KIT)tclocks.inc $(KIT)tclocks.ld
+	$(NEED_CC)
 	$(CC) $(COMPILE) $(LINK) -o $@ $<
 	@chmod -x $@

@@ -1,0 +1,161 @@
+"""Why a thread ended where it did, and what is wrong with the words of the program, in sentences
+with the numbers that tell it."""
+import re
+
+import guestfile
+import report
+import rv32i
+
+CALLS = {1: "LOCK", 2: "UNLOCK", 3: "SLEEP", 93: "EXIT"}
+EXTENSIONS = {0x2F: "an atomic instruction (A)", 0x07: "a floating-point load", 0x27: "a floating-point store",
+              0x53: "a floating-point instruction", 0x73: "a CSR or privileged instruction",
+              0x0F: "FENCE.I or another of the kind"}
+
+
+def place(file, address):
+    """An address with its symbol, where it has one."""
+    name = file.name(address)
+    return f"{address:08x}" + (f" <{name}>" if name else "")
+
+
+def instruction(file, pc):
+    """The address of an instruction with its symbol and text."""
+    word = file.word(pc)
+    return f"{place(file, pc)} " + ("can't be fetched" if word is None else rv32i.text(word, pc))
+
+
+def call_text(thread):
+    """The guest call that an ECALL makes with a thread's registers."""
+    name = CALLS.get(thread.x[17], f"no guest call: x17 is {thread.x[17]}, x10")
+    return f"{name} {thread.x[10]}"
+
+
+def start_text(file, thread):
+    """Where a thread is about to go on."""
+    text = instruction(file, thread.pc)
+    return text + (f" ({call_text(thread)})" if file.word(thread.pc) == 0x73 else "")
+
+
+def ending(file, thread, held):
+    """Why a thread ended that held these locks."""
+    if thread.end == "exit":
+        return f"exit with {thread.x[10]} ({thread.x[10]:#x}) at {place(file, thread.pc)}"
+    if thread.end == "spent":
+        return f"its fuel was spent before {instruction(file, thread.pc)}"
+    number = int(thread.end[6:])
+    if number == 2:
+        return f"{thread.end}: {fetch(file, thread)}"
+    return f"{thread.end} at {instruction(file, thread.pc)}: {FAULTS[number](file, thread, held)}"
+
+
+def illegal(file, thread, _):
+    word = file.word(thread.pc)
+    if word & 3 != 3:
+        hint = "the word 0 is none" if word == 0 else "its low bits are those of compressed code (C)"
+    elif word & 0x7F == 0x33 and word >> 25 == 1:
+        hint = "it is a multiplication or division (M): build for rv32i"
+    else:
+        hint = EXTENSIONS.get(word & 0x7F, "no row of RV32I gives it")
+    return f"the word {word:08x} is no instruction: {hint}"
+
+
+def fetch(file, thread):
+    return (f"the program counter {place(file, thread.pc)} lies in no executable range "
+            f"({region(file, thread.pc)}; executable: {executable(file)})"
+            + ("; x1 was 0 at the start, so a return from the first function comes here" * (thread.pc == 0)))
+
+
+def executable(file):
+    return ", ".join(guestfile.span(where) for where, flags, _ in file.guest.ranges if flags & 1)
+
+
+def region(file, address):
+    """What an address lies in."""
+    guard = file.guard_at(address)
+    if guard is not None:
+        return f"it is in guard {guard}, {guestfile.span(guard_span(file, guard))}"
+    if address in guestfile.STACK:
+        return "it is on the stack"
+    for where, flags, _ in file.guest.ranges:
+        if address in where:
+            return f"it is in the {'writable' if flags & 2 else 'read-only'} range {guestfile.span(where)}"
+    below = guestfile.STACK.start - address
+    if 0 < below <= 65536:
+        return (f"it is {below} bytes below the stack, {guestfile.span(guestfile.STACK)}, as where the stack "
+                "ran out")
+    return "it is in nothing" + (", as of a null pointer" if address < 4096 else "")
+
+
+def guard_span(file, number):
+    start, length = file.guest.guards[number]
+    return range(start, start + length)
+
+
+def target(file, thread, _):
+    address = rv32i.jump_target(file.word(thread.pc), thread.pc, thread.x)
+    return f"it goes to {address:08x}, which is no multiple of 4"
+
+
+def access(file, thread, held):
+    kind, address, width = rv32i.access(file.word(thread.pc), thread.x)
+    said = f"it {kind}s {width} byte{'s' * (width > 1)} at {place(file, address)}"
+    if address % width:
+        return f"{said}, which is no multiple of {width}"
+    guard = file.guard_at(address)
+    if guard is not None:
+        return (f"{said}, in guard {guard} ({guestfile.span(guard_span(file, guard))}), and lock {guard} isn't "
+                f"held (held: {report.held_text(held)})")
+    return f"{said}; {region(file, address)}"
+
+
+def stop(*_):
+    return "EBREAK, as of __builtin_trap"
+
+
+def bad_call(_, thread, __):
+    number, value = thread.x[17], thread.x[10]
+    if number == 3:
+        return f"SLEEP of x10 = {value}, which is above 255"
+    return f"x17 is {number}, which is no guest call (1 LOCK, 2 UNLOCK, 3 SLEEP, 93 EXIT)"
+
+
+def bad_lock(file, thread, held):
+    locks = len(file.guest.guards)
+    if thread.x[10] < locks:
+        return f"LOCK {thread.x[10]} with four locks held ({report.held_text(held)})"
+    there = f"the locks are 0 to {locks - 1}" if locks else "the guest has no lock: has its file the note?"
+    return f"{call_text(thread)}: {there}"
+
+
+def lock_order(_, thread, held):
+    return (f"LOCK {thread.x[10]} with {report.held_text(held)} held: a lock must be greater than each that "
+            "is held")
+
+
+def not_held(_, thread, held):
+    return f"UNLOCK {thread.x[10]}, which isn't held (held: {report.held_text(held)})"
+
+
+FAULTS = {1: illegal, 3: target, 4: access, 5: access, 6: access, 7: access, 8: stop, 9: bad_call,
+          10: bad_lock, 11: lock_order, 12: not_held}
+
+
+def usage(words):
+    """What is wrong with the words of the program, or None."""
+    if not words:
+        return "there are no words; it wants run W F B"
+    if words[0] in ("gen", "demo"):
+        return f"{words[0]} is not there yet: use run W F B"
+    if words[0] != "run":
+        return f"{words[0]!r} is no form: it wants run W F B"
+    if len(words) != 4:
+        return f"run wants three numbers, workers, fuel and batch limit, and was given {len(words) - 1}"
+    for (name, (least, most)), word in zip(report.LIMITS.items(), words[1:]):
+        if not re.fullmatch(report.NUMBER, word):
+            why = ("it has a leading zero" if re.fullmatch("0[0-9]+", word)
+                   else "it has too many digits" if word.isdigit() else "it is no number in digits alone")
+            return f"{name} is {word!r}: {why}"
+        if not least <= int(word) <= most:
+            return f"{name} is {word}, which is not {least} to {most}"
+    return None
+

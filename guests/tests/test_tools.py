@@ -1,0 +1,117 @@
+"""What the tools print."""
+import json
+import re
+import subprocess
+import unittest
+
+from common import BY_HAND, GUESTS, NAMES, ONE, TEMPORARY, Case, built, elf, history, run, saved
+import guestfile
+
+
+class Explanations(Case):
+    def test_refusals_of_changed_files(self):
+        file = (GUESTS / "exit.elf").read_bytes()
+        self.assertEqual(len(file), 92)
+        for size, number in [(0, 1), (51, 1), (52, 7), (83, 7), (84, 9), (91, 9)]:
+            self.refused(file[:size], number)
+        for offset, value, number in ((0, b"\0", 2), (4, b"\2", 3), (5, b"\2", 3), (6, b"\2", 3), (16, b"\3\0", 4),
+                                      (18, b"\4\0", 5), (36, b"\1", 6), (20, b"\2", 7), (42, b"\x21", 7),
+                                      (44, b"\0", 7),
+                                      (52, b"\2", 8), (72, b"\1", 9), (76, b"\7", 11), (24, b"\1", 13)):
+            self.refused(file[:offset] + value + file[offset + len(value):], number)
+        self.refused(file + bytes(1048577 - 92), 0)
+
+    def refused(self, file, number):
+        with self.assertRaises(guestfile.Refused) as refused:
+            guestfile.check(file)
+        self.assertEqual(refused.exception.number, number)
+
+    def test_file_cut_short_says_so(self):
+        path = saved("short.elf", (GUESTS / "first.elf").read_bytes()[:200])
+        self.one_line(run("judge", path), 3)
+        done = run("explain", path, "-", given="refused 9 BadLoad\n")
+        self.says("the file has 200 bytes: 96 are missing, so it may be cut short", done)
+
+    def test_faults(self):
+        known = json.loads((GUESTS / "facts.json").read_text())["faults"]
+        text = run("simulate", elf("faults"), "1", "1000", "0").stdout
+        said = run("explain", elf("faults"), "-", given=text).stdout.decode()
+        for thread, (end, pc) in enumerate(zip(known["ends"], known["pc"])):
+            line = re.search(f"^  thread {thread}: (.*)$", said, re.M)[1]
+            self.assertTrue(line.startswith(end), line)
+            self.assertIn(f"{pc:08x}", line)
+        for part in ("in guard 0 (00100000 to 00100003), and lock 0 isn't held", "x17 is 64",
+                     "UNLOCK 5: the locks are 0 to 4", "SLEEP of x10 = 256",
+                     "LOCK 4 with four locks held (0,2,3,4)", "goes to 0001001a"):
+            self.assertIn(part, said)
+
+    def test_words(self):
+        for words, part in (("run 0 10 1", "workers"), ("run 2 010 1", "leading zero"), ("run 1 65537 0", "65537"),
+                            ("run 1 1 257", "257"), ("run", "three numbers"), ("", "no words"), ("gen 0", "not there"),
+                            ("stop", "stop"), ("run 1 -1 0", "-1")):
+            done = run("explain", elf("first"), "--words", *words.split())
+            self.assertEqual(done.returncode, 0)
+            self.says(part, done)
+
+
+class Tables(Case):
+    def test_summary(self):
+        guest = saved("one.elf", built(ONE, (0, 0), 1))
+        text = run("finish", guest, given=BY_HAND).stdout
+        counts = json.loads(run("summary", "-", "--json", given=text).stdout)
+        self.assertEqual(counts["by lock"], [{
+            "lock": 0, "sections": 2, "taken": 1, "adopted": 1, "granted": 0, "away": 1,
+            "longest adopted row": 1, "turns held": 14, "broken": 0}])
+        self.assertEqual([(row["blocks"], row["turns"], row["moves"], row["end"]) for row in counts["by thread"]],
+                         [(3, 12, 0, "exit"), (3, 12, 2, "exit")])
+        self.assertEqual([(row["blocks"], row["turns"]) for row in counts["by worker"]], [(4, 19), (2, 5)])
+        self.says("lock,0,adopted,1", run("summary", "-", "--csv", given=text))
+
+    def test_draw(self):
+        for name in ("counter", "philosophers"):
+            _, text = history(name, 4, 8, 1)
+            picture = run("draw", "-", given=text).stdout.decode()
+            self.assertTrue(picture.startswith("<svg") and picture.endswith("</svg>\n"))
+            self.assertNotIn("<script", picture)
+            self.assertIn("away from the thread", picture)
+            trace = json.loads(run("draw", "-", "--trace", given=text).stdout)
+            blocks = text.count("\nblock ")
+            by_worker = [event for event in trace["traceEvents"] if event["pid"] == 2 and event["ph"] == "X"]
+            self.assertEqual(len(by_worker), blocks)
+            lanes = run("draw", "-", "--text", given=text).stdout.decode()
+            self.assertIn("thread 0", lanes)
+
+    def test_pictures_of_the_docs_are_made_by_their_commands(self):
+        pictures = GUESTS.parent / "docs" / "pictures"
+        subprocess.run([pictures / "make", str(TEMPORARY)], check=True)
+        for path in pictures.glob("*.svg"):
+            self.assertEqual(path.read_bytes(), (TEMPORARY / path.name).read_bytes(), path.name)
+
+    def test_draw_by_hand(self):
+        guest = saved("one.elf", built(ONE, (0, 0), 1))
+        lanes = run("draw", "-", "--text", given=run("finish", guest, given=BY_HAND).stdout).stdout.decode()
+        for lane in ("thread 0  st  .x", "thread 1    sA .", "worker 0  00 10", "worker 1    1  1"):
+            self.assertIn(f"\n{lane}\n", lanes)
+
+    def test_each_tool_on_each_guest(self):
+        for name in NAMES:
+            text = run("simulate", elf(name), "3", "600", "2", "--seed", "5").stdout
+            path = saved(f"{name}.txt", text)
+            for tool, words in (("summary", [path]), ("draw", [path]), ("draw", [path, "--text"]),
+                                ("draw", [path, "--trace"]),
+                                ("explain", [elf(name), path]), ("explain", [elf(name)]), ("judge", [elf(name), path]),
+                                ("finish", [elf(name), path]),
+                                ("explore", [elf(name), "2", "--model", "--fuel", "600"])):
+                done = run(tool, *words)
+                self.assertEqual((done.returncode, done.stderr), (0, b""), (tool, words))
+
+    def test_explore_keeps_a_history_of_each_outcome(self):
+        folder = TEMPORARY / "kept"
+        done = run("explore", elf("buffer"), "6", "--model", "--keep", str(folder))
+        self.assertEqual(done.returncode, 0)
+        for path in folder.iterdir():
+            self.says("a legal run", run("judge", elf("buffer"), str(path)))
+
+
+if __name__ == "__main__":
+    unittest.main()
