@@ -35,12 +35,12 @@ use Rattle.tc_context.proofs.Following.{holds_told, blocks_are, grown, obeyed, t
 -- ---- lists by number
 
 module _ {A : Type 0} where
-  there : (l : List A) (i : ℕ) (a d : A) → get_elem? l i ≡ some a → (i < length l) × (get_or l i d ≡ a)
+  pub there : (l : List A) (i : ℕ) (a d : A) → get_elem? l i ≡ some a → (i < length l) × (get_or l i d ≡ a)
   there [] i a d e = absurd (some-ne-none a (sym e))
   there (x ∷ xs) zero a d e = (omega arith, some-injective x a e)
   there (x ∷ xs) (suc i) a d e = (let r = there xs i a d e in (omega arith, r.1))
 
-  at_place : (l : List A) (i : ℕ) → i < length l → (a : A) × (get_elem? l i ≡ some a)
+  pub at_place : (l : List A) (i : ℕ) → i < length l → (a : A) × (get_elem? l i ≡ some a)
   at_place [] i h = absurd (omega arith)
   at_place (x ∷ xs) zero h = (x, refl)
   at_place (x ∷ xs) (suc i) h = at_place xs i (omega arith)
@@ -61,13 +61,13 @@ module _ {A : Type 0} where
       let tail = same_list xs ys (λ i a e. f (suc i) a e) (λ i a e. g (suc i) a e) in
       cc (head, tail)
 
-with_states-length : (slots : List (Option LockView)) (states : List LockView) → length (with_states slots states) ≡ length states
+pub with_states-length : (slots : List (Option LockView)) (states : List LockView) → length (with_states slots states) ≡ length states
 with_states-length [] states = refl
 with_states-length (o ∷ slots) [] = refl
 with_states-length (o ∷ slots) (l ∷ states) = ap suc (with_states-length slots states)
 
 -- what is at a place after these lock states came
-with_states-at : (slots : List (Option LockView)) (states : List LockView) (k : ℕ) (a : LockView) → get_elem? (with_states slots states) k ≡ some a
+pub with_states-at : (slots : List (Option LockView)) (states : List LockView) (k : ℕ) (a : LockView) → get_elem? (with_states slots states) k ≡ some a
     → ((l : LockView) × (lock_in slots k ≡ Some l) × (kept l ≡ a)) ⊎ ((lock_in slots k ≡ None) × (get_elem? states k ≡ some a))
 with_states-at [] states k a e = inr (refl, e)
 with_states-at (o ∷ slots) [] k a e = absurd (some-ne-none a (sym e))
@@ -207,7 +207,7 @@ appended image fuel limit h packages states p v limits law here ran worker small
 -- ---- the logs determine the history
 
 -- a block of the history is in its thread's log
-filter_has : (t : ℕ) (h : List Block) (i : ℕ) (b : Block) → get_elem? h i ≡ some b → b.thread ≡ t → (j : ℕ) × (get_elem? (of_thread h t) j ≡ some b)
+pub filter_has : (t : ℕ) (h : List Block) (i : ℕ) (b : Block) → get_elem? h i ≡ some b → b.thread ≡ t → (j : ℕ) × (get_elem? (of_thread h t) j ≡ some b)
 filter_has t [] i b e is = absurd (some-ne-none b (sym e))
 filter_has t (c ∷ cs) zero b e is =
     let same : c ≡ b = some-injective c b e in
@@ -220,7 +220,7 @@ filter_has t (c ∷ cs) (suc i) b e is = (let r = filter_has t cs i b e is in mo
     more false c l j b e = (j, e)
 
 -- what is in a thread's log is in the history
-filter_from : (t : ℕ) (h : List Block) (j : ℕ) (b : Block) → get_elem? (of_thread h t) j ≡ some b → (i : ℕ) × (get_elem? h i ≡ some b)
+pub filter_from : (t : ℕ) (h : List Block) (j : ℕ) (b : Block) → get_elem? (of_thread h t) j ≡ some b → (i : ℕ) × (get_elem? h i ≡ some b)
 filter_from t [] j b e = absurd (some-ne-none b (sym e))
 filter_from t (c ∷ cs) j b e = from_head (c.thread == t) c cs (of_thread cs t) j b (λ k f. filter_from t cs k b f) e
   where
@@ -229,13 +229,13 @@ filter_from t (c ∷ cs) j b e = from_head (c.thread == t) c cs (of_thread cs t)
     from_head true c cs l (suc k) b tail e = (let r = tail k e in (suc r.0, r.1))
     from_head false c cs l k b tail e = (let r = tail k e in (suc r.0, r.1))
 
-stamp_at : (first : ℕ) (h : List Block) (i : ℕ) (b : Block) → IsHistoryFrom first h → get_elem? h i ≡ some b → b.stamp ≡ first + i
+pub stamp_at : (first : ℕ) (h : List Block) (i : ℕ) (b : Block) → IsHistoryFrom first h → get_elem? h i ≡ some b → b.stamp ≡ first + i
 stamp_at first [] i b is e = absurd (some-ne-none b (sym e))
 stamp_at first (c ∷ cs) zero b is e = (let f : c.stamp ≡ b.stamp = ap (λ (z : Block). z.stamp) (some-injective c b e) in let g = is.1 in omega (arith, f, g))
 stamp_at first (c ∷ cs) (suc i) b is e = (let r = stamp_at (first + 1) cs i b is.2 e in omega (arith, r))
 
 -- each block of a history that tells is that of a thread
-thread_at : (image : Shown) (seen h : List Block) (from m : State) → TellsAfter image seen from h m → (i : ℕ) (b : Block) → get_elem? h i ≡ some b → b.thread < length image.entries
+pub thread_at : (image : Shown) (seen h : List Block) (from m : State) → TellsAfter image seen from h m → (i : ℕ) (b : Block) → get_elem? h i ≡ some b → b.thread < length image.entries
 thread_at image seen [] from m told i b e = absurd (some-ne-none b (sym e))
 thread_at image seen (c ∷ cs) from m told zero b e =
     subst (λ (z : Block). z.thread < length image.entries) (some-injective c b e) (can_thread image from c.thread (told.1.runs.defined 0 told.1.runs.some))

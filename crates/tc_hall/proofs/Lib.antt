@@ -1,0 +1,15 @@
+pub mod LockLists
+pub mod Placing
+pub mod Packing
+pub mod Ranks
+pub mod Moves
+pub mod Telling
+pub mod Sealing
+pub mod Taking
+pub mod Making
+pub mod Opening
+pub mod Ended
+pub mod Holding
+pub mod Putting
+pub mod Dealt
+pub mod Walked

@@ -1,0 +1,280 @@
+-- Each step on a package keeps the rule.
+use Rattle.std.proofs.Common.{◌≡◌, ◌≢◌, ◌⊎◌, ℕ, ◌+◌, ◌<◌, ◌==◌, true, false, not, List, [], ◌∷◌, length, set, sym, refl, ap, ◌∙◌, subst, ⊎_elim, inl, inr, arith, Option, Some, None, slice_index, length-set, get_or-set_other, get_or-set_same}
+use mathlib.Core.Logic.{dite}
+use mathlib.Core.Option.{none, some, some-injective, some-ne-none}
+use mathlib.Core.Option as maybe
+use native.Mathlib.Decide.{ℕ_discrete}
+use lib.ListN.{get_elem?}
+use lib.Seq.{set-get_or}
+use prog.Atomic.{either}
+use Rattle.atomic_table.specs.Table.{State, step, Act, keeps, takes, gives, Valid, stepped, carried_after, Allows}
+use Rattle.atomic_table.proofs.Lists.{at_set, set_here, set_else, exchanged}
+use Rattle.tc_journal.specs.declared.block.Block.{Block}
+use Rattle.tc_segment.specs.View.{LockView, kept}
+use Rattle.tc_context.specs.View.{PackageView, bare, fits_of}
+use Rattle.tc_context.specs.Lawful.{IsPackageAfter}
+use Rattle.tc_context.proofs.Lawful.{there, at_place, filter_has}
+use Rattle.tc_hall.specs.declared.board.Knows.{Knows}
+use Rattle.tc_hall.specs.declared.board.Terms.{Terms}
+use Rattle.tc_hall.specs.declared.board.Cargo.{Cargo}
+use Rattle.tc_hall.specs.declared.board.Cargo.TheVariants.{Package}
+use Rattle.tc_hall.specs.Rule.{locked_in, threads, locks, Homes, Has, IsHome, IsOut, Lies, Spot, inside, out, IsLockOut, LiesLock, Kept}
+use Rattle.tc_hall.specs.Steps.{Gets, Got, claimed, laid, reached, after_claim, after_miss}
+use Rattle.tc_hall.proofs.Placing.{moves, stays}
+use Rattle.tc_hall.proofs.Packing.{claims_locks, locks_stay}
+use Rattle.tc_hall.proofs.LockLists.{add_all-has, add_all-else}
+use Rattle.tc_hall.proofs.Ranks.{apart_stays, stop_stays, pass_kept, pass_same, passes_stay, done_still, stops_still, stops_back, misfit_stop}
+
+pub some_same : (u t : ℕ) → Some t ≡ Some u → u ≡ t
+some_same u t e = cc e
+
+pub clash : (o : Option ℕ) (k : ℕ) → o ≡ None → o ≡ Some k → ⊥
+clash o k a b = cc (a, b)
+
+pub same_place : (o : Option ℕ) (a b : ℕ) → o ≡ Some a → o ≡ Some b → b ≡ a
+same_place o a b e f = cc (e, f)
+
+pub same_context : (x : maybe.Option (Option PackageView)) (a b : PackageView) → x ≡ some (Some a) → x ≡ some (Some b) → a ≡ b
+same_context x a b e f = cc (e, f)
+
+pub none_some : (p : PackageView) (x : maybe.Option (Option PackageView)) → x ≡ some None → x ≡ some (Some p) → ⊥
+none_some p x a b = cc (a, b)
+
+pub home_of : (ws : List ℕ) (hs : Homes) (vs : List Knows) (t : ℕ) (p : PackageView) (o : maybe.Option ℕ) → Lies ws hs vs t p o → slice_index ws (t + 2) < 512 → (o ≡ none) × IsHome ws hs t p
+home_of ws hs vs t p none l h = (refl, l)
+home_of ws hs vs t p (some id) l h = let w = l.word in absurd (omega arith)
+
+pub out_of : (ws : List ℕ) (hs : Homes) (vs : List Knows) (t id : ℕ) (p : PackageView) (o : maybe.Option ℕ) → Lies ws hs vs t p o → o ≡ some id → IsOut ws hs vs t p id
+out_of ws hs vs t id p none l e = absurd (some-ne-none id (sym e))
+out_of ws hs vs t id p (some j) l e = subst (IsOut ws hs vs t p) (some-injective j id e) l
+
+pub lock_out_of : (n : ℕ) (ws : List ℕ) (hs : Homes) (vs : List Knows) (i : ℕ) (l : LockView) (id : ℕ) (s : Spot) → s ≡ out id → LiesLock n ws hs vs i l s → IsLockOut n ws hs vs i l id
+lock_out_of n ws hs vs i l id s e lies = subst (LiesLock n ws hs vs i l) e lies
+
+pub out_inside : (j t : ℕ) (s : Spot) → s ≡ out j → s ≡ inside t → ⊥
+out_inside j t s a b = cc (a, b)
+
+some_or_none : (o : Option LockView) → ((l : LockView) × (o ≡ Some l)) ⊎ (o ≡ None)
+some_or_none (Some l) = inl (l, refl)
+some_or_none None = inr refl
+
+module _ (k : Terms) where
+  abbrev pub St : Type 0
+  St = State (Option Cargo) Knows
+
+  -- where a package or a lock that a pass has out lies
+  pub is_out : (s : St) (r : Kept k s) (id t : ℕ) (v : Knows) (p : PackageView) → get_elem? s.views id ≡ some v → Has v t p
+      → (t < threads k) × (r.placed.holder t ≡ some id) × (get_elem? r.told.places t ≡ some p) × (slice_index s.words (t + 2) ≡ 512 + v.worker) × (v.hand ≢ Some t → get_elem? s.homes t ≡ some (some None)) × (v.hand ≡ Some t → get_elem? s.homes t ≡ some none)
+  is_out s r id t v p at has =
+      let o = r.placed.owned id v t p at has in
+      let l : IsOut s.words s.homes s.views t p id = out_of s.words s.homes s.views t id p (r.placed.holder t) (r.placed.each t p o.1) o.0 in
+      let same : v ≡ l.view = some-injective v l.view (sym at ∙ l.pass) in (
+        (let b = (there r.told.places t p p o.1).0 in omega (arith, r.told.law.all_packages)),
+        o.0,
+        o.1,
+        l.word ∙ ap (λ (z : Knows). 512 + z.worker) (sym same),
+        (λ free. l.slot (λ e. free (ap (λ (z : Knows). z.hand) same ∙ e))),
+        (λ e. l.held (ap (λ (z : Knows). z.hand) (sym same) ∙ e)),
+      )
+
+  -- a compare-and-swap fails
+  pub misses : (s : St) (i id : ℕ) (v : Knows) → get_elem? s.views id ≡ some v → v.spent ≡ false → Kept k s → Kept k (stepped s i (slice_index s.words i) id [] (after_miss v i (slice_index s.words i)) keeps)
+  misses s i id v at live r =
+      let w : Knows = after_miss v i (slice_index s.words i) in
+      let h = r.told.history in
+      subst (λ (z : List ℕ). Kept k record { words = z; homes = s.homes; views = set s.views id w }) (sym (set-get_or s.words i 0)) record {
+        told = r.told;
+        words = r.words;
+        slots = r.slots;
+        clock = r.clock;
+        placed = stays s.words s.words s.homes s.homes s.views id v w at (λ e. e) (threads k) r.told.places r.placed r.told.law.all_packages (λ u b. refl) (λ u b. refl) refl refl refl (λ u b e. e) (λ u b e. e);
+        locks_placed = locks_stay (threads k) (locks k) r.told.segments s.words s.words s.homes s.homes s.views id v w at (λ i. refl) (λ i. refl) (λ u q b e. e) (λ u q b e. e) refl refl (λ i e. e) (λ i e. e) r.locks_placed;
+        passes = passes_stay k.image.value k.workers h h s.words s.words (λ b e. e) (λ u e. e) (λ e. e) s.views id w r.passes (pass_same k.image.value k.workers h h s.words s.words (λ b e. e) (λ u e. e) (λ e. e) v w (r.passes id v at) (refl, refl, refl) refl refl refl refl);
+        stop = λ e. stop_stays s.views id v w at (λ i e. (i, e)) (r.stop e);
+        apart = apart_stays s.views id v w at record { worker = refl; maker = refl; made = refl; spent = refl; joined = refl } live r.apart;
+      }
+
+  abbrev pub taken : Knows → ℕ → PackageView → Knows
+  taken v t q = record (after_claim v q) { hand = Some t }
+
+  takes_home : (s : St) (r : Kept k s) (id t new : ℕ) (v : Knows) (p : PackageView) (h : IsHome s.words s.homes t p) → get_elem? s.views id ≡ some v → v.spent ≡ false → v.hand ≡ None → t < threads k → new ≡ 512 + v.worker
+      → slice_index s.words (t + 2) ≢ 2 → get_elem? r.told.places t ≡ some p → r.placed.holder t ≡ none → h.context.context.thread ≡ t → Kept k (stepped s (t + 2) new id [] (taken v t h.context) (takes t (Some (Package h.context))))
+  takes_home s r id t new v p h at live free below new_is not_two place is_home thread =
+      let q : PackageView = h.context in
+      let w : Knows = taken v t q in
+      let ws' : List ℕ = set s.words (t + 2) new in
+      let wide : length v.packages ≡ threads k = r.placed.sized id v at live in
+      let here : get_elem? w.packages t ≡ some (Some (bare q)) = subst (λ (z : ℕ). get_elem? (set v.packages z (Some (bare q))) t ≡ some (Some (bare q))) (sym thread) (set_here v.packages t (Some (bare q)) (omega arith)) in
+      let done = done_still s.words (t + 2) new not_two in
+      let stops = stops_still s.words (t + 2) new (λ e. omega arith) in
+      let old = r.passes id v at in record {
+        told = r.told;
+        words = length-set s.words (t + 2) new ∙ r.words;
+        slots = length-set s.homes t none ∙ r.slots;
+        clock = get_or-set_other s.words (t + 2) 0 new 0 (λ e. omega arith) ∙ r.clock;
+        placed = moves s.words ws' s.homes (set s.homes t none) s.views id v w at stops (threads k) r.told.places r.told.places t (some id) r.placed (inl is_home)
+            (λ u ne. get_or-set_other s.words (t + 2) (u + 2) new 0 (λ e. ne (omega arith))) (λ u ne. set_else s.homes t u none ne) (λ u ne. refl) r.told.law.all_packages
+            record { worker = refl; spent = refl; long = length-set v.packages q.context.thread (Some (bare q)); out = λ u ne. set_else v.packages q.context.thread u (Some (bare q)) (λ e. ne (e ∙ thread)); hand = λ u _ ne e. absurd (clash v.hand u free e); hand_back = λ u _ ne e. absurd (ne (some_same u t e)) }
+            (λ p' e. record {
+              view = w;
+              pass = set_here s.views id w (there s.views id v v at).0;
+              has = here ∙ (ap (λ (z : PackageView). some (Some z)) h.same ∙ ap (λ (z : PackageView). some (Some z)) (some-injective p p' (sym place ∙ e)));
+              word = get_or-set_same s.words (t + 2) new 0 (omega (arith, r.words)) ∙ new_is;
+              slot = λ out. absurd (out refl);
+              held = λ _. set_here s.homes t none (omega (arith, r.slots));
+            })
+            (λ p' has. (refl, place ∙ ap (λ (z : PackageView). some z) (sym h.same ∙ same_context (get_elem? w.packages t) (bare q) p' here has)));
+        locks_placed = claims_locks (threads k) (locks k) r.told.segments s.words ws' s.homes s.views id v w q r.locks_placed r.told.law.all_states at live refl refl
+            (λ i. get_or-set_other s.words (t + 2) (threads k + 2 + i) new 0 (λ e. omega arith)) t below h.slot free refl;
+        passes = passes_stay k.image.value k.workers r.told.history r.told.history s.words ws' (λ b e. e) done stops s.views id w r.passes
+            (pass_kept k.image.value k.workers r.told.history r.told.history s.words ws' (λ b e. e) done stops v w old (refl, refl, refl) (λ i u e. inl e) (λ i b e. inl e) (λ i c e. inl e)
+            (λ u e. ⊎_elim (λ (o : (u ≡ q.context.thread) × (not (fits_of q v.worker) ≡ true)). inr (stops (misfit_stop (slice_index s.words 1) q v.worker h.fits o.1))) (λ (o : (u ≢ q.context.thread) × (get_elem? v.misfits u ≡ some true)). inl o.1) (at_set v.misfits q.context.thread u (not (fits_of q v.worker)) true e)));
+        stop = λ e. stop_stays s.views id v w at (λ i e. (i, e)) (r.stop (stops_back s.words (t + 2) new (λ e. omega arith) e));
+        apart = apart_stays s.views id v w at record { worker = refl; maker = refl; made = refl; spent = refl; joined = refl } live r.apart;
+      }
+
+  -- what the pass learns of it
+  pub gets : (s : St) (r : Kept k s) (id t : ℕ) (v : Knows) (p : PackageView) (h : IsHome s.words s.homes t p) → get_elem? s.views id ≡ some v → v.spent ≡ false → t < threads k
+      → get_elem? r.told.places t ≡ some p → r.placed.holder t ≡ none → h.context.context.thread ≡ t → Gets (slice_index s.words (t + 2)) t h.context v (after_claim v h.context)
+  gets s r id t v p h at live below place is_home thread =
+      let q : PackageView = h.context in
+      let after : IsPackageAfter k.image.value k.fuel r.told.history t p = r.told.law.packages_after t p place in
+      let wide : length v.locks ≡ locks k = r.locks_placed.sized id v at live in
+      record {
+        now = refl;
+        has = subst (λ (z : ℕ). get_elem? (set v.packages z (Some (bare q))) t ≡ some (Some (bare q))) (sym thread) (set_here v.packages t (Some (bare q)) (omega (arith, r.placed.sized id v at live)));
+        locks = λ i l e. add_all-has v.locks q.context.locks i l
+            (let p = r.locks_placed.packed t q i l below h.slot e in let b = (there r.told.segments i (kept l) (kept l) p.1).0 in omega (arith, wide, r.told.law.all_states)) e;
+        others = (
+          (λ u p' has. set_else v.packages q.context.thread u (Some (bare q)) (λ (e : u ≡ q.context.thread). some-ne-none id (sym (r.placed.owned id v u p' at has).0 ∙ (ap r.placed.holder (e ∙ thread) ∙ is_home))) ∙ has),
+          (λ i l has. ⊎_elim
+              (λ (o : (z : LockView) × (locked_in q i ≡ Some z)). absurd (out_inside id t (r.locks_placed.spot i) (r.locks_placed.owned id v i l at has).0 (r.locks_placed.packed t q i o.0 below h.slot o.1).0))
+              (λ (o : locked_in q i ≡ None). add_all-else v.locks q.context.locks i o ∙ has) (some_or_none (locked_in q i))),
+        );
+        thread = thread;
+        of = ap (λ (z : PackageView). z.image) h.same ∙ (after.follows.of ∙ sym ((r.passes id v at).of live));
+        settled = ap (λ (z : PackageView). z.pending) h.same ∙ after.settled;
+        order = h.order;
+        fits = h.fits.fits;
+        sealed = λ i b e is. let f = filter_has t r.told.history b.stamp b ((r.passes id v at).sealed i b e) is in
+            (f.0, ap (λ (z : PackageView). get_elem? z.log f.0) h.same ∙ (ap (λ (l : List Block). get_elem? l f.0) after.follows.log ∙ f.1));
+      }
+
+  abbrev pub Claims : ℕ → ℕ → ℕ → ℕ → ℕ → Knows → List (ℕ × Option Cargo) → Type 0
+  Claims slots id t code new v c = Allows (Kept k) slots id (v, c) (t + 2) (λ x. either (x == code) new x) (claimed (step slots (t + 2) code new none) (v, c))
+
+  pub claims : (slots id t code new : ℕ) (v : Knows) (c : List (ℕ × Option Cargo)) → c ≡ [] → code < 512 → code ≢ 2 → new ≡ 512 + v.worker → t < threads k → v.spent ≡ false → v.hand ≡ None → Claims slots id t code new v c
+  claims slots id t code new v c empty low not_two new_is below live free = subst (Claims slots id t code new v) (sym empty) (λ s r deep at small.
+      let found : ℕ = slice_index s.words (t + 2) in
+      let place = at_place r.told.places t (omega (arith, r.told.law.all_packages)) in
+      let F : ℕ → Type 0 = λ x. (w : Knows) × (a : Act (Option Cargo)) × Valid s.homes [] a × Kept k (stepped s (t + 2) x id [] w a) × claimed (step slots (t + 2) code new none) (v, []) found (w, carried_after [] a) in
+      exchanged found code new F
+      (λ hit. let lies = home_of s.words s.homes s.views t place.0 (r.placed.holder t) (r.placed.each t place.0 place.1) (omega arith) in
+      let h = lies.1 in
+      let after : IsPackageAfter k.image.value k.fuel r.told.history t place.0 = r.told.law.packages_after t place.0 place.1 in
+      let thread : h.context.context.thread ≡ t = ap (λ (z : PackageView). z.context.thread) h.same ∙ after.follows.number in (
+        taken v t h.context,
+        takes t (Some (Package h.context)),
+        h.slot,
+        takes_home s r id t new v place.0 h at live free below new_is (λ e. not_two (sym hit ∙ e)) place.1 lies.0 thread,
+        (
+          (λ _ u e. subst (λ (z : ℕ × ℕ). Got z.1 z.0 (v, []) (taken v t h.context, (t, Some (Package h.context)) ∷ [])) (λ i. ((let x : t ≡ u = omega arith in x) i, hit i)) (
+            h.context,
+            after_claim v h.context,
+            gets s r id t v place.0 h at live below place.1 lies.0 thread,
+            refl,
+          )),
+          (λ miss. absurd (miss hit)),
+        ),
+      ))
+      (λ miss. (after_miss v (t + 2) found, keeps, tt, misses s (t + 2) id v at live r, ((λ hit _ _. absurd (miss hit)), (λ _. refl)))))
+
+  full_still : (hs : Homes) (t : ℕ) (a b : maybe.Option (Option Cargo)) → get_elem? hs t ≡ some a → ((q : PackageView) → a ≢ some (Some (Package q))) → (u : ℕ) (q : PackageView) → get_elem? hs u ≡ some (some (Some (Package q))) → get_elem? (set hs t b) u ≡ some (some (Some (Package q)))
+  full_still hs t a b at none' u q e = dite (ℕ_discrete u t)
+      (λ (is : u ≡ t). absurd (none' q (some-injective a (some (Some (Package q))) (sym at ∙ (ap (get_elem? hs) (sym is) ∙ e)))))
+      (λ (ne : u ≢ t). set_else hs t u b ne ∙ e)
+
+  full_back : (hs : Homes) (t : ℕ) (b : maybe.Option (Option Cargo)) → ((q : PackageView) → b ≢ some (Some (Package q))) → (u : ℕ) (q : PackageView) → get_elem? (set hs t b) u ≡ some (some (Some (Package q))) → get_elem? hs u ≡ some (some (Some (Package q)))
+  full_back hs t b none' u q e = ⊎_elim (λ (o : (u ≡ t) × (b ≡ some (Some (Package q)))). absurd (none' q o.1)) (λ (o : (u ≢ t) × (get_elem? hs u ≡ some (some (Some (Package q))))). o.1) (at_set hs t u b (some (Some (Package q))) e)
+
+  no_package : (q : PackageView) → some None ≢ some (Some (Package q))
+  no_package q e = empty None refl (some-injective None (Some (Package q)) e)
+    where
+      empty : (o : Option Cargo) → o ≡ None → o ≡ Some (Package q) → ⊥
+      empty o a b = cc (a, b)
+
+  no_home : (q : PackageView) → none ≢ some (Some (Package q))
+  no_home q e = some-ne-none (Some (Package q)) (sym e)
+
+  -- the pass takes the empty slot of a package that it has out, or gives it back
+  slot_moves : (s : St) (r : Kept k s) (id t : ℕ) (v w : Knows) (p : PackageView) (a b : maybe.Option (Option Cargo)) → get_elem? s.views id ≡ some v → v.spent ≡ false → Has v t p
+      → get_elem? s.homes t ≡ some a → ((q : PackageView) → a ≢ some (Some (Package q))) → ((q : PackageView) → b ≢ some (Some (Package q)))
+      → ((w.hand ≡ Some t) × (v.hand ≡ None) × (b ≡ none)) ⊎ ((w.hand ≡ None) × (v.hand ≡ Some t) × (b ≡ some None)) → w ≡ record v { hand = w.hand }
+      → Kept k record { words = s.words; homes = set s.homes t b; views = set s.views id w }
+  slot_moves s r id t v w p a b at live has slot full full' hands same =
+      let o = is_out s r id t v p at has in
+      let below : t < threads k = o.0 in
+      let old = r.passes id v at in record {
+        told = r.told;
+        words = r.words;
+        slots = length-set s.homes t b ∙ r.slots;
+        clock = r.clock;
+        placed = moves s.words s.words s.homes (set s.homes t b) s.views id v w at (λ e. e) (threads k) r.told.places r.told.places t (some id) r.placed (inr o.1)
+            (λ u ne. refl) (λ u ne. set_else s.homes t u b ne) (λ u ne. refl) r.told.law.all_packages
+            record { worker = ap (λ (z : Knows). z.worker) same; spent = ap (λ (z : Knows). z.spent) same; long = ap (λ (z : Knows). length z.packages) same; out = λ u ne. ap (λ (z : Knows). get_elem? z.packages u) same; hand = λ u _ ne e. absurd (to u ne e); hand_back = λ u _ ne e. absurd (back u ne e) }
+            (λ p' e. record {
+              view = w;
+              pass = set_here s.views id w (there s.views id v v at).0;
+              has = ap (λ (z : Knows). get_elem? z.packages t) same ∙ (has ∙ ap (λ (z : PackageView). some (Some z)) (some-injective p p' (sym o.2 ∙ e)));
+              word = o.3 ∙ ap (λ (z : Knows). 512 + z.worker) (sym same);
+              slot = λ free. ⊎_elim (λ (z : (w.hand ≡ Some t) × (v.hand ≡ None) × (b ≡ none)). absurd (free z.0)) (λ (z : (w.hand ≡ None) × (v.hand ≡ Some t) × (b ≡ some None)). here z.2) hands;
+              held = λ e. ⊎_elim (λ (z : (w.hand ≡ Some t) × (v.hand ≡ None) × (b ≡ none)). here z.2) (λ (z : (w.hand ≡ None) × (v.hand ≡ Some t) × (b ≡ some None)). absurd (clash w.hand t z.0 e)) hands;
+            })
+            (λ p' has'. (refl, o.2 ∙ ap (λ (z : PackageView). some z) (same_context (get_elem? v.packages t) p p' has (sym (ap (λ (z : Knows). get_elem? z.packages t) same) ∙ has'))));
+        locks_placed = locks_stay (threads k) (locks k) r.told.segments s.words s.words s.homes (set s.homes t b) s.views id v w at (λ i. refl) (λ i. set_else s.homes t (threads k + i) b (λ e. omega arith))
+            (λ u q _ e. full_still s.homes t a b slot full u q e) (λ u q _ e. full_back s.homes t b full' u q e) (ap (λ (z : Knows). z.locks) same) (ap (λ (z : Knows). z.spent) same)
+            (λ i e. absurd (to (threads k + i) (λ e. omega arith) e)) (λ i e. absurd (back (threads k + i) (λ e. omega arith) e)) r.locks_placed;
+        passes = passes_stay k.image.value k.workers r.told.history r.told.history s.words s.words (λ b e. e) (λ u e. e) (λ e. e) s.views id w r.passes
+            (pass_same k.image.value k.workers r.told.history r.told.history s.words s.words (λ b e. e) (λ u e. e) (λ e. e) v w old (ap (λ (z : Knows). z.worker) same, ap (λ (z : Knows). z.spent) same, ap (λ (z : Knows). z.image) same) (ap (λ (z : Knows). z.joined) same) (ap (λ (z : Knows). z.sealed) same) (ap (λ (z : Knows). z.calls) same) (ap (λ (z : Knows). z.misfits) same));
+        stop = λ e. stop_stays s.views id v w at (λ i e. (i, ap (λ (z : Knows). get_elem? z.calls i) same ∙ e)) (r.stop e);
+        apart = apart_stays s.views id v w at record { worker = ap (λ (z : Knows). z.worker) same; maker = ap (λ (z : Knows). z.maker) same; made = ap (λ (z : Knows). z.made) same; spent = ap (λ (z : Knows). z.spent) same; joined = ap (λ (z : Knows). z.joined) same } live r.apart;
+      }
+    where
+      to : (u : ℕ) → u ≢ t → v.hand ≡ Some u → ⊥
+      to u ne e = ⊎_elim (λ (z : (w.hand ≡ Some t) × (v.hand ≡ None) × (b ≡ none)). clash v.hand u z.1 e) (λ (z : (w.hand ≡ None) × (v.hand ≡ Some t) × (b ≡ some None)). ne (same_place v.hand t u z.1 e)) hands
+
+      back : (u : ℕ) → u ≢ t → w.hand ≡ Some u → ⊥
+      back u ne e = ⊎_elim (λ (z : (w.hand ≡ Some t) × (v.hand ≡ None) × (b ≡ none)). ne (same_place w.hand t u z.0 e)) (λ (z : (w.hand ≡ None) × (v.hand ≡ Some t) × (b ≡ some None)). clash w.hand u z.0 e) hands
+
+      here : {c : maybe.Option (Option Cargo)} → b ≡ c → get_elem? (set s.homes t b) t ≡ some c
+      here e = set_here s.homes t b (there s.homes t a a slot).0 ∙ ap (λ (z : maybe.Option (Option Cargo)). some z) e
+
+  abbrev pub Lays : ℕ → ℕ → Knows → List (ℕ × Option Cargo) → Type 0
+  Lays slots id v c = Allows (Kept k) slots id (v, c) 0 (λ n. n) (laid (step slots 0 0 0 none) (v, c))
+
+  -- the empty slot of a package goes back
+  pub lays : (slots id t : ℕ) (v : Knows) (p : PackageView) (c : List (ℕ × Option Cargo)) → c ≡ (t, None) ∷ [] → v.hand ≡ Some t → v.spent ≡ false → Has v t p → Lays slots id v c
+  lays slots id t v p c one hand live has = subst (Lays slots id v) (sym one) (λ s r deep at small.
+      let w : Knows = record v { hand = None } in
+      let o = is_out s r id t v p at has in
+      let kept' : Kept k record { words = s.words; homes = set s.homes t (some None); views = set s.views id w } =
+      slot_moves s r id t v w p none (some None) at live has (o.5 hand) no_home no_package (inr (refl, hand, refl)) refl in
+      (w, gives, tt, subst (λ (z : List ℕ). Kept k record { words = z; homes = set s.homes t (some None); views = set s.views id w }) (sym (set-get_or s.words 0 0)) kept', refl))
+
+  abbrev pub Reaches : ℕ → ℕ → ℕ → Knows → List (ℕ × Option Cargo) → Type 0
+  Reaches slots id t v c = Allows (Kept k) slots id (v, c) (t + 2) (λ n. n) (reached (step slots (t + 2) 0 0 none) (v, c))
+
+  -- the pass takes the empty slot of a package that it has out
+  pub reaches : (slots id t : ℕ) (v : Knows) (p : PackageView) (c : List (ℕ × Option Cargo)) → c ≡ [] → v.hand ≡ None → v.spent ≡ false → Has v t p → Reaches slots id t v c
+  reaches slots id t v p c empty free live has = subst (Reaches slots id t v) (sym empty) (λ s r deep at small.
+      let w : Knows = record v { hand = Some t } in
+      let o = is_out s r id t v p at has in
+      let slot = o.4 (λ e. clash v.hand t free e) in
+      let kept' : Kept k record { words = s.words; homes = set s.homes t none; views = set s.views id w } =
+      slot_moves s r id t v w p (some None) none at live has slot no_package no_home (inl (refl, free, refl)) refl in (
+        w,
+        takes t None,
+        slot,
+        subst (λ (z : List ℕ). Kept k record { words = z; homes = set s.homes t none; views = set s.views id w }) (sym (set-get_or s.words (t + 2) 0)) kept',
+        (λ u e. ap (λ (z : ℕ). (record v { hand = Some z }, (z, None) ∷ [])) (let x : t ≡ u = omega arith in x)),
+      ))

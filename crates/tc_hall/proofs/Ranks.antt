@@ -1,0 +1,118 @@
+-- What stays true of the passes when one of them has a new view.
+use Rattle.std.proofs.Common.{◌≡◌, ◌≢◌, ◌⊎◌, ℕ, ◌+◌, ◌<◌, Bool, true, false, not, List, set, sym, refl, ap, ◌∙◌, subst, ⊎_elim, inl, slice_index, get_or-set_other}
+use mathlib.Core.Logic.{dite}
+use mathlib.Core.Option.{some, some-injective}
+use native.Mathlib.Decide.{ℕ_discrete}
+use lib.ListN.{get_elem?}
+use Rattle.atomic_table.proofs.Lists.{at_set, set_here, set_else}
+use Rattle.tc_elf.specs.Shown.{Shown}
+use Rattle.tc_journal.specs.declared.block.Block.{Block}
+use Rattle.tc_context.specs.View.{PackageView, fits_of}
+use Rattle.tc_context.proofs.Lawful.{there}
+use Rattle.tc_hall.specs.declared.board.Knows.{Knows}
+use Rattle.tc_hall.specs.declared.board.Call.{Call}
+use Rattle.tc_hall.specs.declared.board.Call.TheVariants.{Look, Stop, Stopped}
+use Rattle.tc_hall.specs.Rule.{grants_adopted, IsPass, HasStopped, AreApart, FitsAll}
+
+pub record IsSameRank (v w : Knows) : Type 0 where
+  pub worker : w.worker ≡ v.worker
+  pub maker : w.maker ≡ v.maker
+  pub made : w.made ≡ v.made
+  pub spent : w.spent ≡ v.spent
+  pub joined : w.joined ≡ v.joined
+
+same_rank : (v : Knows) → IsSameRank v v
+same_rank v = record { worker = refl; maker = refl; made = refl; spent = refl; joined = refl }
+
+module _ (vs : List Knows) (id : ℕ) (v w : Knows) (at : get_elem? vs id ≡ some v) where
+  old_of : IsSameRank v w → (j : ℕ) (x : Knows) → get_elem? (set vs id w) j ≡ some x → (y : Knows) × (get_elem? vs j ≡ some y) × IsSameRank y x
+  old_of rank j x e = ⊎_elim (λ (o : (j ≡ id) × (w ≡ x)). (v, ap (get_elem? vs) o.0 ∙ at, subst (IsSameRank v) o.1 rank)) (λ (o : (j ≢ id) × (get_elem? vs j ≡ some x)). (x, o.1, same_rank x)) (at_set vs id j w x e)
+
+  pub apart_stays : IsSameRank v w → v.spent ≡ false → AreApart vs → AreApart (set vs id w)
+  apart_stays rank live a = record {
+    apart = λ i j x y ex ey lx ly e. let p = old_of rank i x ex in let q = old_of rank j y ey in
+        a.apart i j p.0 q.0 p.1 q.1 (sym p.2.spent ∙ lx) (sym q.2.spent ∙ ly) (sym p.2.worker ∙ (e ∙ q.2.worker));
+    joined = λ i j e x y ex ey ly h. let p = old_of rank i x ex in let q = old_of rank j y ey in
+        a.joined i j e p.0 q.0 p.1 q.1 (sym q.2.spent ∙ ly) (ap (λ (l : List ℕ). get_elem? l e) (sym p.2.joined) ∙ (h ∙ ap (λ (z : ℕ). some z) q.2.worker));
+    maker = λ i j x y ex ey mx ly ne. let p = old_of rank i x ex in let q = old_of rank j y ey in
+        subst (λ (z : ℕ × ℕ). z.0 < z.1) (λ c. (sym q.2.worker c, sym p.2.made c)) (a.maker i j p.0 q.0 p.1 q.1 (sym p.2.maker ∙ mx) (sym q.2.spent ∙ ly) ne);
+    fresh = λ i j e u x y ex mx ey h. let p = old_of rank i x ex in let q = old_of rank j y ey in
+        subst (λ (z : ℕ). u < z) (sym p.2.made) (a.fresh i j e u p.0 q.0 p.1 (sym p.2.maker ∙ mx) q.1 (ap (λ (l : List ℕ). get_elem? l e) (sym q.2.joined) ∙ h));
+    sole = λ i j x y ex ey mx my. let p = old_of rank i x ex in let q = old_of rank j y ey in a.sole i j p.0 q.0 p.1 q.1 (sym p.2.maker ∙ mx) (sym q.2.maker ∙ my);
+    spent = λ i x e s. ⊎_elim (λ (o : (i ≡ id) × (w ≡ x)). absurd (apart w.spent (rank.spent ∙ live) (ap (λ (z : Knows). z.spent) o.1 ∙ s))) (λ (o : (i ≢ id) × (get_elem? vs i ≡ some x)). a.spent i x o.1 s) (at_set vs id i w x e);
+  }
+    where
+      apart : (b : Bool) → b ≡ false → b ≡ true → ⊥
+      apart b e f = cc (e, f)
+
+  pub stop_stays : ((i : ℕ) → get_elem? v.calls i ≡ some Stop → (j : ℕ) × (get_elem? w.calls j ≡ some Stop)) → HasStopped vs → HasStopped (set vs id w)
+  stop_stays grows h = dite (ℕ_discrete h.id id)
+      (λ (is : h.id ≡ id). let same : v ≡ h.view = some-injective v h.view (sym at ∙ (ap (get_elem? vs) (sym is) ∙ h.pass)) in
+      let g = grows h.place (ap (λ (z : Knows). get_elem? z.calls h.place) same ∙ h.call) in
+      record { id = id; view = w; pass = set_here vs id w (there vs id v v at).0; place = g.0; call = g.1 })
+      (λ (ne : h.id ≢ id). record { id = h.id; view = h.view; pass = set_else vs id h.id w ne ∙ h.pass; place = h.place; call = h.call })
+
+-- what a call says of the words holds
+pub record IsTrueCall (ws : List ℕ) (c : Call) : Type 0 where
+  pub look : (t : ℕ) → c ≡ Look t 2 → slice_index ws (t + 2) ≡ 2
+  pub stop : c ≡ Stop → slice_index ws 1 ≡ 1
+  pub stopped : c ≡ Stopped 1 → slice_index ws 1 ≡ 1
+
+-- the pass of the same worker, in the same hall
+abbrev pub IsSameSeat : Knows → Knows → Type 0
+IsSameSeat v w = (w.worker ≡ v.worker) × (w.spent ≡ v.spent) × (w.image ≡ v.image)
+
+module _ (image : Shown) (workers : ℕ) (h h' : List Block) (ws ws' : List ℕ) (grows : (b : Block) → get_elem? h b.stamp ≡ some b → get_elem? h' b.stamp ≡ some b)
+    (done : (t : ℕ) → slice_index ws (t + 2) ≡ 2 → slice_index ws' (t + 2) ≡ 2) (stops : slice_index ws 1 ≡ 1 → slice_index ws' 1 ≡ 1) where
+  pub pass_kept : (v w : Knows) → IsPass image workers h ws v → IsSameSeat v w
+      → ((i u : ℕ) → get_elem? w.joined i ≡ some u → (get_elem? v.joined i ≡ some u) ⊎ (u < workers))
+      → ((i : ℕ) (b : Block) → get_elem? w.sealed i ≡ some b → (get_elem? v.sealed i ≡ some b) ⊎ (get_elem? h' b.stamp ≡ some b))
+      → ((i : ℕ) (c : Call) → get_elem? w.calls i ≡ some c → (get_elem? v.calls i ≡ some c) ⊎ IsTrueCall ws' c)
+      → ((t : ℕ) → get_elem? w.misfits t ≡ some true → (get_elem? v.misfits t ≡ some true) ⊎ (slice_index ws' 1 ≡ 1))
+      → IsPass image workers h' ws' w
+  pass_kept v w old worker joined sealed calls misfits = record {
+    of = λ live. worker.2 ∙ old.of (sym worker.1 ∙ live);
+    worker = subst (λ (z : ℕ). z < workers) (sym worker.0) old.worker;
+    joined = λ i u e. ⊎_elim (λ o. old.joined i u o) (λ o. o) (joined i u e);
+    sealed = λ i b e. ⊎_elim (λ o. grows b (old.sealed i b o)) (λ o. o) (sealed i b e);
+    done = λ i t e. ⊎_elim (λ o. done t (old.done i t o)) (λ (o : IsTrueCall ws' (Look t 2)). o.look t refl) (calls i (Look t 2) e);
+    stop = λ i e. ⊎_elim (λ o. stops (old.stop i o)) (λ (o : IsTrueCall ws' Stop). o.stop refl) (calls i Stop e);
+    stopped = λ i e. ⊎_elim (λ o. stops (old.stopped i o)) (λ (o : IsTrueCall ws' (Stopped 1)). o.stopped refl) (calls i (Stopped 1) e);
+    misfit = λ t e. ⊎_elim (λ o. stops (old.misfit t o)) (λ o. o) (misfits t e);
+  }
+
+  -- of a pass that told nothing new
+  pub pass_same : (v w : Knows) → IsPass image workers h ws v → IsSameSeat v w → w.joined ≡ v.joined → w.sealed ≡ v.sealed → w.calls ≡ v.calls → w.misfits ≡ v.misfits → IsPass image workers h' ws' w
+  pass_same v w old worker joined sealed calls misfits = pass_kept v w old worker
+      (λ i u e. inl (ap (λ (l : List ℕ). get_elem? l i) (sym joined) ∙ e)) (λ i b e. inl (ap (λ (l : List Block). get_elem? l i) (sym sealed) ∙ e))
+      (λ i c e. inl (ap (λ (l : List Call). get_elem? l i) (sym calls) ∙ e)) (λ t e. inl (ap (λ (l : List Bool). get_elem? l t) (sym misfits) ∙ e))
+
+  pub passes_stay : (vs : List Knows) (id : ℕ) (w : Knows)
+      → ((j : ℕ) (x : Knows) → get_elem? vs j ≡ some x → IsPass image workers h ws x) → IsPass image workers h' ws' w
+      → (j : ℕ) (x : Knows) → get_elem? (set vs id w) j ≡ some x → IsPass image workers h' ws' x
+  passes_stay vs id w all mine j x is = ⊎_elim
+      (λ (o : (j ≡ id) × (w ≡ x)). subst (IsPass image workers h' ws') o.1 mine)
+      (λ (o : (j ≢ id) × (get_elem? vs j ≡ some x)). pass_same x x (all j x o.1) (refl, refl, refl) refl refl refl refl)
+      (at_set vs id j w x is)
+
+-- a word that isn't 2 changes
+pub done_still : (ws : List ℕ) (j new : ℕ) → slice_index ws j ≢ 2 → (u : ℕ) → slice_index ws (u + 2) ≡ 2 → slice_index (set ws j new) (u + 2) ≡ 2
+done_still ws j new ne u e = get_or-set_other ws j (u + 2) new 0 (λ (z : u + 2 ≡ j). ne (ap (λ (x : ℕ). slice_index ws x) (sym z) ∙ e)) ∙ e
+
+pub stops_still : (ws : List ℕ) (j new : ℕ) → j ≢ 1 → slice_index ws 1 ≡ 1 → slice_index (set ws j new) 1 ≡ 1
+stops_still ws j new ne e = get_or-set_other ws j 1 new 0 (λ z. ne (sym z)) ∙ e
+
+pub stops_back : (ws : List ℕ) (j new : ℕ) → j ≢ 1 → slice_index (set ws j new) 1 ≡ 1 → slice_index ws 1 ≡ 1
+stops_back ws j new ne e = sym (get_or-set_other ws j 1 new 0 (λ z. ne (sym z))) ∙ e
+
+-- a package that doesn't fit comes only after a stop
+pub misfit_stop : (word : ℕ) (q : PackageView) (w : ℕ) → FitsAll word q → not (fits_of q w) ≡ true → word ≡ 1
+misfit_stop word q w f e = by (grants_adopted q.granted) refl
+  where
+    clash : (b : Bool) → not b ≡ true → b ≡ true → ⊥
+    clash true e f = absurd cc
+    clash false e f = absurd cc
+
+    by : (b : Bool) → grants_adopted q.granted ≡ b → word ≡ 1
+    by true is = f.stop is
+    by false is = absurd (clash (fits_of q w) e (f.fits is w))

@@ -1,0 +1,291 @@
+-- Each step on a lock keeps the rule.
+use Rattle.std.proofs.Common.{◌≡◌, ◌≢◌, ◌⊎◌, ℕ, zero, suc, ◌+◌, ◌<◌, ◌==◌, Bool, true, false, List, [], ◌∷◌, length, set, sym, refl, ap, ◌∙◌, subst, ⊎_elim, inl, inr, arith, Option, Some, None, slice_index, length-set, get_or-set_other, get_or-set_same}
+use mathlib.Core.Option.{none, some, some-injective, some-ne-none}
+use mathlib.Core.Option as maybe
+use lib.ListN.{get_elem?}
+use lib.Seq.{set-get_or}
+use prog.Atomic.{either}
+use Rattle.atomic_table.specs.Table.{step, Act, keeps, takes, gives, Valid, stepped, carried_after, Allows}
+use Rattle.atomic_table.proofs.Lists.{set_here, set_else, at_longer, exchanged}
+use Rattle.tc_isa.specs.Sets.{has}
+use Rattle.tc_journal.specs.declared.block.Block.{Block}
+use Rattle.tc_mutex_spec.specs.Blocks.{end_after}
+use Rattle.tc_segment.specs.View.{LockView, kept, blocks_of}
+use Rattle.tc_context.specs.Lawful.{IsStateAfter}
+use Rattle.tc_context.proofs.Following.{blocks_are}
+use Rattle.tc_context.proofs.Lawful.{there, at_place}
+use Rattle.tc_hall.specs.declared.board.Knows.{Knows}
+use Rattle.tc_hall.specs.declared.board.Terms.{Terms}
+use Rattle.tc_hall.specs.declared.board.Call.{Call}
+use Rattle.tc_hall.specs.declared.board.Call.TheVariants.{Free, Look, Stop, Stopped}
+use Rattle.tc_hall.specs.declared.board.Cargo.{Cargo}
+use Rattle.tc_hall.specs.declared.board.Cargo.TheVariants.{Lock}
+use Rattle.tc_hall.specs.Rule.{threads, locks, Homes, HasLock, Spot, home, inside, out, IsLockHome, IsLockOut, LiesLock, Kept}
+use Rattle.tc_hall.specs.Steps.{laid, reached, did_free, took_as, Took, MayFree, after_take, after_free}
+use Rattle.tc_hall.proofs.Placing.{stays}
+use Rattle.tc_hall.proofs.Packing.{IsElseLock, lock_moves}
+use Rattle.tc_hall.proofs.Ranks.{apart_stays, stop_stays, IsTrueCall, pass_kept, passes_stay, done_still, stops_still, stops_back}
+use Rattle.std.specs.List.{filter}
+use Rattle.std.proofs.Common.{if◌then◌else◌}
+use Rattle.tc_hall.specs.Steps.{Sat, after_miss}
+use Rattle.tc_hall.proofs.Telling.{snoc_at}
+use Rattle.tc_hall.proofs.Moves.{St, misses, some_same, clash, same_place, lock_out_of}
+
+pub lock_home_of : (n : ℕ) (ws : List ℕ) (hs : Homes) (vs : List Knows) (i : ℕ) (l : LockView) (s : Spot) → LiesLock n ws hs vs i l s → slice_index ws (n + 2 + i) ≡ 0 → (s ≡ home) × IsLockHome n ws hs i l
+lock_home_of n ws hs vs i l home o e = (refl, o)
+lock_home_of n ws hs vs i l (inside t) o e = let w = o.word in absurd (omega arith)
+lock_home_of n ws hs vs i l (out j) o e = let w = o.word in absurd (omega arith)
+
+same_lock : (x : maybe.Option (Option LockView)) (a b : LockView) → x ≡ some (Some a) → x ≡ some (Some b) → a ≡ b
+same_lock x a b e f = cc (e, f)
+
+no_lock_there : (l : LockView) (x : maybe.Option (Option LockView)) → x ≡ some None → x ≡ some (Some l) → ⊥
+no_lock_there l x a b = cc (a, b)
+
+-- what a list has, its filter has
+filter_finds : {A : Type 0} (f : A → Bool) (h : List A) (i : ℕ) (b : A) → get_elem? h i ≡ some b → f b ≡ true → (j : ℕ) × (get_elem? (filter f h) j ≡ some b)
+filter_finds f [] i b e is = absurd (some-ne-none b (sym e))
+filter_finds {A} f (c ∷ cs) zero b e is =
+    let same : c ≡ b = some-injective c b e in
+    let hit : f c ≡ true = ap f same ∙ is in
+    (0, ap (λ (v : Bool). get_elem? (if v then c ∷ filter f cs else filter f cs) 0) hit ∙ e)
+filter_finds {A} f (c ∷ cs) (suc i) b e is = let r = filter_finds f cs i b e is in more (f c) c (filter f cs) r.0 b r.1
+  where
+    more : (v : Bool) (c : A) (l : List A) (j : ℕ) (b : A) → get_elem? l j ≡ some b → (m : ℕ) × (get_elem? (if v then c ∷ l else l) m ≡ some b)
+    more true c l j b e = (suc j, e)
+    more false c l j b e = (j, e)
+
+free_true : (ws : List ℕ) (i : ℕ) → IsTrueCall ws (Free i)
+free_true ws i = record { look = λ u e. absurd (no_look u (Free i) refl e); stop = λ e. absurd (no_stop (Free i) refl e); stopped = λ e. absurd (no_stopped (Free i) refl e) }
+  where
+    no_look : (u : ℕ) (c : Call) → c ≡ Free i → c ≡ Look u 2 → ⊥
+    no_look u c a b = cc (a, b)
+
+    no_stop : (c : Call) → c ≡ Free i → c ≡ Stop → ⊥
+    no_stop c a b = cc (a, b)
+
+    no_stopped : (c : Call) → c ≡ Free i → c ≡ Stopped 1 → ⊥
+    no_stopped c a b = cc (a, b)
+
+module _ (k : Terms) where
+  -- where a lock that a pass has out lies
+  pub is_lock_out : (s : St k) (r : Kept k s) (id i : ℕ) (v : Knows) (l : LockView) → get_elem? s.views id ≡ some v → HasLock v i l
+      → (i < locks k) × (r.locks_placed.spot i ≡ out id) × (get_elem? r.told.segments i ≡ some l) × (slice_index s.words (threads k + 2 + i) ≡ 1)
+      × (v.hand ≢ Some (threads k + i) → get_elem? s.homes (threads k + i) ≡ some (some None)) × (v.hand ≡ Some (threads k + i) → get_elem? s.homes (threads k + i) ≡ some none)
+  is_lock_out s r id i v l at has =
+      let o = r.locks_placed.owned id v i l at has in
+      let lies : IsLockOut (threads k) s.words s.homes s.views i l id = lock_out_of (threads k) s.words s.homes s.views i l id (r.locks_placed.spot i) o.0 (r.locks_placed.each i l o.1) in
+      let same : v ≡ lies.view = some-injective v lies.view (sym at ∙ lies.pass) in (
+        (let b = (there r.told.segments i l l o.1).0 in omega (arith, r.told.law.all_states)),
+        o.0,
+        o.1,
+        lies.word,
+        (λ free. lies.empty (λ e. free (ap (λ (z : Knows). z.hand) same ∙ e))),
+        (λ e. lies.held (ap (λ (z : Knows). z.hand) (sym same) ∙ e)),
+      )
+
+  -- one word of a lock, its slot and the pass's view of it change
+  lock_step : (s : St k) (r : Kept k s) (id i word : ℕ) (v w : Knows) (a : maybe.Option (Option Cargo)) (to : Spot) → get_elem? s.views id ≡ some v → v.spent ≡ false → i < locks k
+      → (r.locks_placed.spot i ≡ home) ⊎ (r.locks_placed.spot i ≡ out id)
+      → IsElseLock (threads k) i v w → w.image ≡ v.image → w.worker ≡ v.worker → w.packages ≡ v.packages → w.maker ≡ v.maker → w.made ≡ v.made → w.joined ≡ v.joined → w.misfits ≡ v.misfits → w.sealed ≡ v.sealed
+      → ((j : ℕ) (c : Call) → get_elem? w.calls j ≡ some c → (get_elem? v.calls j ≡ some c) ⊎ IsTrueCall (set s.words (threads k + 2 + i) word) c)
+      → ((j : ℕ) → get_elem? v.calls j ≡ some Stop → (e : ℕ) × (get_elem? w.calls e ≡ some Stop))
+      → ((u : ℕ) → u < threads k → v.hand ≢ Some u) → ((u : ℕ) → u < threads k → w.hand ≢ Some u)
+      → slice_index s.words (threads k + 2 + i) ≢ 2
+      → ((l : LockView) → get_elem? r.told.segments i ≡ some l → LiesLock (threads k) (set s.words (threads k + 2 + i) word) (set s.homes (threads k + i) a) (set s.views id w) i l to)
+      → ((l : LockView) → HasLock w i l → (to ≡ out id) × (get_elem? r.told.segments i ≡ some l))
+      → Kept k record { words = set s.words (threads k + 2 + i) word; homes = set s.homes (threads k + i) a; views = set s.views id w }
+  lock_step s r id i word v w a to at live below mine e image worker packages maker made' joined misfits sealed' calls shows hand hand' not_two now own =
+      let n : ℕ = threads k in
+      let j : ℕ = n + 2 + i in
+      let ws' : List ℕ = set s.words j word in
+      let done = done_still s.words j word not_two in
+      let stops = stops_still s.words j word (λ e. omega arith) in
+      let old = r.passes id v at in record {
+        told = r.told;
+        words = length-set s.words j word ∙ r.words;
+        slots = length-set s.homes (n + i) a ∙ r.slots;
+        clock = get_or-set_other s.words j 0 word 0 (λ e. omega arith) ∙ r.clock;
+        placed = stays s.words ws' s.homes (set s.homes (n + i) a) s.views id v w at stops n r.told.places r.placed r.told.law.all_packages
+            (λ u b. get_or-set_other s.words j (u + 2) word 0 (λ e. omega arith)) (λ u b. set_else s.homes (n + i) u a (λ e. omega arith)) worker e.spent packages
+            (λ u b h. absurd (hand u b h)) (λ u b h. absurd (hand' u b h));
+        locks_placed = lock_moves n (locks k) r.told.segments s.words ws' s.homes (set s.homes (n + i) a) s.views id v w at i to r.locks_placed mine
+            (λ j' ne. get_or-set_other s.words j (n + 2 + j') word 0 (λ e. ne (omega arith))) (λ u ne. set_else s.homes (n + i) u a ne) e now own;
+        passes = passes_stay k.image.value k.workers r.told.history r.told.history s.words ws' (λ b e. e) done stops s.views id w r.passes
+            (pass_kept k.image.value k.workers r.told.history r.told.history s.words ws' (λ b e. e) done stops v w old (worker, e.spent, image) (λ i u h. inl (ap (λ (l : List ℕ). get_elem? l i) (sym joined) ∙ h))
+            (λ i b h. inl (ap (λ (l : List Block). get_elem? l i) (sym sealed') ∙ h)) calls (λ t h. inl (ap (λ (l : List Bool). get_elem? l t) (sym misfits) ∙ h)));
+        stop = λ h. stop_stays s.views id v w at shows (r.stop (stops_back s.words j word (λ e. omega arith) h));
+        apart = apart_stays s.views id v w at record { worker = worker; maker = maker; made = made'; spent = e.spent; joined = joined } live r.apart;
+      }
+
+  abbrev pub TakesAll : ℕ → ℕ → Option ℕ → ℕ → Knows → List (ℕ × Option Cargo) → Type 0
+  TakesAll slots id o word v c = Allows (Kept k) slots id (v, c) word (λ x. either (x == 0) 1 x) (took_as o (step slots word 0 1 none) (v, c))
+
+  pub takes_lock : (slots id i : ℕ) (v : Knows) (c : List (ℕ × Option Cargo)) → c ≡ [] → i < locks k → v.spent ≡ false → v.hand ≡ None → TakesAll slots id (Some i) (threads k + i + 2) v c
+  takes_lock slots id i v c empty below live free = subst (λ (z : List (ℕ × Option Cargo) × ℕ). TakesAll slots id (Some i) z.1 v z.0) (λ y. (sym empty y, (let x : threads k + 2 + i ≡ threads k + i + 2 = omega arith in x) y)) (λ s r deep at small.
+      let n : ℕ = threads k in
+      let j : ℕ = n + 2 + i in
+      let found : ℕ = slice_index s.words j in
+      let place = at_place r.told.segments i (omega (arith, r.told.law.all_states)) in
+      let F : ℕ → Type 0 = λ x. (w : Knows) × (a : Act (Option Cargo)) × Valid s.homes [] a × Kept k (stepped s j x id [] w a) × took_as (Some i) (step slots j 0 1 none) (v, []) found (w, carried_after [] a) in
+      exchanged found 0 1 F
+      (λ hit. let lies = lock_home_of n s.words s.homes s.views i place.0 (r.locks_placed.spot i) (r.locks_placed.each i place.0 place.1) hit in
+      let h = lies.1 in
+      let l : LockView = h.segment in
+      let after : IsStateAfter k.image.value k.fuel k.limit r.told.history i place.0 = r.told.law.states_after i place.0 place.1 in
+      let number : l.number ≡ i = ap (λ (z : LockView). z.number) h.same ∙ after.follows.number in
+      let taken : Knows = after_take v l in
+      let w : Knows = record taken { hand = Some (n + i) } in
+      let wide : length v.locks ≡ locks k = r.locks_placed.sized id v at live in
+      let here : HasLock taken i (kept l) = subst (λ (z : ℕ). get_elem? (set v.locks z (Some (kept l))) i ≡ some (Some (kept l))) (sym number) (set_here v.locks i (Some (kept l)) (omega arith)) in (
+        w,
+        takes (n + i) (Some (Lock l)),
+        h.slot,
+        lock_step s r id i 1 v w none (out id) at live below (inl lies.0)
+            record { spent = refl; long = length-set v.locks l.number (Some (kept l)); out = λ e ne. set_else v.locks l.number e (Some (kept l)) (λ z. ne (z ∙ number)); hand = λ e ne h. absurd (clash v.hand (n + e) free h); hand_back = λ e ne h. let z = some_same (n + e) (n + i) h in absurd (ne (omega arith)) }
+            refl refl refl refl refl refl refl refl (λ e c h. inl h) (λ e h. (e, h)) (λ u b h. clash v.hand u free h) (λ u b h. let z = some_same u (n + i) h in omega arith) (λ h. let z = hit in omega arith)
+            (λ l' e. record {
+              view = w;
+              pass = set_here s.views id w (there s.views id v v at).0;
+              has = here ∙ ap (λ (z : LockView). some (Some z)) (h.same ∙ some-injective place.0 l' (sym place.1 ∙ e));
+              word = get_or-set_same s.words j 1 0 (omega (arith, r.words));
+              empty = λ out. absurd (out refl);
+              held = λ _. set_here s.homes (n + i) none (omega (arith, r.slots));
+            })
+            (λ l' has. (refl, place.1 ∙ ap (λ (z : LockView). some z) (sym h.same ∙ same_lock (get_elem? w.locks i) (kept l) l' here has))),
+        (
+          (λ _ u slot same e. subst (λ (z : ℕ × ℕ). Took z.0 z.1 (v, []) (w, (n + i, Some (Lock l)) ∷ [])) (λ y. (sym (some_same u i same) y, (let x : n + i ≡ slot = omega arith in x) y)) (
+            l,
+            taken,
+            record {
+              now = refl;
+              has = here;
+              others = (
+                (λ u p has. has),
+                (λ e x has. set_else v.locks l.number e (Some (kept l)) (λ (z : e ≡ l.number). home_out (r.locks_placed.spot i) id lies.0 (ap r.locks_placed.spot (sym (z ∙ number)) ∙ (r.locks_placed.owned id v e x at has).0)) ∙ has),
+              );
+              rest = record {
+                number = number;
+                of = ap (λ (z : LockView). z.journal.image) h.same ∙ (after.follows.of ∙ sym ((r.passes id v at).of live));
+                opened = ap (λ (z : LockView). z.journal.opened) h.same ∙ after.opened;
+                closed = ap (λ (z : LockView). z.journal.closed) h.same ∙ after.closed;
+                ended = h.rests;
+              };
+              sealed = λ e b is held. (let f = filter_finds (λ (z : Block). has z.held i) r.told.history b.stamp b ((r.passes id v at).sealed e b is) held in
+                  let blocks = blocks_are k.image.value k.fuel k.limit r.told.history (end_after k.image.value k.fuel r.told.history) i place.0 after.follows in
+                  (f.0, ap (λ (z : LockView). get_elem? (blocks_of z) f.0) h.same ∙ (ap (λ (z : List Block). get_elem? z f.0) blocks ∙ f.1)));
+            },
+            refl,
+          )),
+          (λ miss. absurd (miss hit)),
+        ),
+      ))
+      (λ miss. (after_miss v j found, keeps, tt, misses k s j id v at live r, ((λ hit _ _ _ _. absurd (miss hit)), (λ _. refl)))))
+    where
+      home_out : (s : Spot) (j : ℕ) → s ≡ home → s ≡ out j → ⊥
+      home_out s j a b = cc (a, b)
+
+  abbrev pub FreesAll : ℕ → ℕ → ℕ → Knows → List (ℕ × Option Cargo) → Type 0
+  FreesAll slots id word v c = Allows (Kept k) slots id (v, c) word (λ _. 0) (λ _. did_free (step slots word 0 0 none) (v, c) 0)
+
+  -- the filled slot of a lock goes home
+  pub frees : (slots id : ℕ) (v : Knows) (l : LockView) (c : List (ℕ × Option Cargo)) → c ≡ (threads k + l.number, Some (Lock l)) ∷ [] → v.hand ≡ Some (threads k + l.number) → v.spent ≡ false → MayFree v l
+      → FreesAll slots id (threads k + l.number + 2) v c
+  frees slots id v l c one hand live may = subst (λ (z : List (ℕ × Option Cargo) × ℕ). FreesAll slots id z.1 v z.0) (λ y. (sym one y, (let x : threads k + 2 + l.number ≡ threads k + l.number + 2 = omega arith in x) y)) (λ s r deep at small.
+      let n : ℕ = threads k in
+      let i : ℕ = l.number in
+      let w : Knows = record (after_free v l) { hand = None } in
+      let o = is_lock_out s r id i v (kept l) at may.has in
+      let wide : length v.locks ≡ locks k = r.locks_placed.sized id v at live in
+      let here : get_elem? w.locks i ≡ some None = set_here v.locks i None (let z = o.0 in omega arith) in (
+        w,
+        gives,
+        tt,
+        lock_step s r id i 0 v w (some (Some (Lock l))) home at live o.0 (inr o.1)
+            record { spent = refl; long = length-set v.locks i None; out = λ e ne. set_else v.locks i e None ne; hand = λ e ne h. absurd (ne (let z = same_place v.hand (n + i) (n + e) hand h in omega arith)); hand_back = λ e ne h. absurd (clash None (n + e) refl h) }
+            refl refl refl refl refl refl refl refl
+            (λ e c h. ⊎_elim (λ z. inl z) (λ (z : (e ≡ length v.calls) × (Free i ≡ c)). inr (subst (IsTrueCall (set s.words (n + 2 + i) 0)) z.1 (free_true (set s.words (n + 2 + i) 0) i))) (snoc_at v.calls (Free i) c e h))
+            (λ e h. (e, at_longer v.calls (Free i ∷ []) e Stop h))
+            (λ u b h. let z = same_place v.hand (n + i) u hand h in omega arith) (λ u b h. clash None u refl h) (λ h. let z = o.3 in omega arith)
+            (λ l' e. record {
+              segment = l;
+              slot = set_here s.homes (n + i) (some (Some (Lock l))) (let z = o.0 in omega (arith, r.slots));
+              same = some-injective (kept l) l' (sym o.2 ∙ e);
+              word = get_or-set_same s.words (n + 2 + i) 0 0 (let z = o.0 in omega (arith, r.words));
+              rests = may.rests;
+            })
+            (λ l' has. absurd (no_lock_there l' (get_elem? w.locks i) here has)),
+        (λ slot x e. let same : l ≡ x = lock_is (n + i) slot l x e in ap (freed v) same),
+      ))
+    where
+      first : List (ℕ × Option Cargo) → Option Cargo
+      first [] = None
+      first (x ∷ xs) = x.1
+
+      one_of : ℕ → LockView → List (ℕ × Option Cargo)
+      one_of t a = (t, Some (Lock a)) ∷ []
+
+      lock_is : (t u : ℕ) (a b : LockView) → one_of t a ≡ one_of u b → a ≡ b
+      lock_is t u a b e = let f : Some (Lock a) ≡ Some (Lock b) = ap first e in cc f
+
+      freed : Knows → LockView → Sat
+      freed v l = (record (after_free v l) { hand = None }, [])
+
+  -- the pass takes the empty slot of a lock that it has out, or gives it back
+  lock_slot_moves : (s : St k) (r : Kept k s) (id i : ℕ) (v w : Knows) (l : LockView) (b : maybe.Option (Option Cargo)) → get_elem? s.views id ≡ some v → v.spent ≡ false → HasLock v i l
+      → ((w.hand ≡ Some (threads k + i)) × (v.hand ≡ None) × (b ≡ none)) ⊎ ((w.hand ≡ None) × (v.hand ≡ Some (threads k + i)) × (b ≡ some None)) → w ≡ record v { hand = w.hand }
+      → Kept k record { words = s.words; homes = set s.homes (threads k + i) b; views = set s.views id w }
+  lock_slot_moves s r id i v w l b at live has hands same =
+      let n : ℕ = threads k in
+      let o = is_lock_out s r id i v l at has in
+      let word : ℕ = slice_index s.words (n + 2 + i) in
+      let again : set s.words (n + 2 + i) word ≡ s.words = set-get_or s.words (n + 2 + i) 0 in
+      subst (λ (z : List ℕ). Kept k record { words = z; homes = set s.homes (n + i) b; views = set s.views id w }) again
+      (lock_step s r id i word v w b (out id) at live o.0 (inr o.1)
+      record { spent = ap (λ (z : Knows). z.spent) same; long = ap (λ (z : Knows). length z.locks) same; out = λ e ne. ap (λ (z : Knows). get_elem? z.locks e) same; hand = λ e ne h. absurd (to (n + e) (λ z. ne (omega arith)) h); hand_back = λ e ne h. absurd (back (n + e) (λ z. ne (omega arith)) h) }
+      (ap (λ (z : Knows). z.image) same) (ap (λ (z : Knows). z.worker) same) (ap (λ (z : Knows). z.packages) same) (ap (λ (z : Knows). z.maker) same) (ap (λ (z : Knows). z.made) same) (ap (λ (z : Knows). z.joined) same) (ap (λ (z : Knows). z.misfits) same) (ap (λ (z : Knows). z.sealed) same)
+      (λ e c h. inl (ap (λ (z : Knows). get_elem? z.calls e) (sym same) ∙ h)) (λ e h. (e, ap (λ (z : Knows). get_elem? z.calls e) same ∙ h))
+      (λ u b h. to u (λ z. omega arith) h) (λ u b h. back u (λ z. omega arith) h) (λ h. let z = o.3 in omega arith)
+      (λ l' e. record {
+        view = w;
+        pass = set_here s.views id w (there s.views id v v at).0;
+        has = ap (λ (z : Knows). get_elem? z.locks i) same ∙ (has ∙ ap (λ (z : LockView). some (Some z)) (some-injective l l' (sym o.2 ∙ e)));
+        word = ap (λ (z : List ℕ). slice_index z (n + 2 + i)) again ∙ o.3;
+        empty = λ free. ⊎_elim (λ (z : (w.hand ≡ Some (n + i)) × (v.hand ≡ None) × (b ≡ none)). absurd (free z.0)) (λ (z : (w.hand ≡ None) × (v.hand ≡ Some (n + i)) × (b ≡ some None)). here z.2 o.0) hands;
+        held = λ e. ⊎_elim (λ (z : (w.hand ≡ Some (n + i)) × (v.hand ≡ None) × (b ≡ none)). here z.2 o.0) (λ (z : (w.hand ≡ None) × (v.hand ≡ Some (n + i)) × (b ≡ some None)). absurd (clash w.hand (n + i) z.0 e)) hands;
+      })
+      (λ l' has'. (refl, o.2 ∙ ap (λ (z : LockView). some z) (same_lock (get_elem? v.locks i) l l' has (sym (ap (λ (z : Knows). get_elem? z.locks i) same) ∙ has')))))
+    where
+      to : (u : ℕ) → u ≢ threads k + i → v.hand ≡ Some u → ⊥
+      to u ne e = ⊎_elim (λ (z : (w.hand ≡ Some (threads k + i)) × (v.hand ≡ None) × (b ≡ none)). clash v.hand u z.1 e) (λ (z : (w.hand ≡ None) × (v.hand ≡ Some (threads k + i)) × (b ≡ some None)). ne (same_place v.hand (threads k + i) u z.1 e)) hands
+
+      back : (u : ℕ) → u ≢ threads k + i → w.hand ≡ Some u → ⊥
+      back u ne e = ⊎_elim (λ (z : (w.hand ≡ Some (threads k + i)) × (v.hand ≡ None) × (b ≡ none)). ne (same_place w.hand (threads k + i) u z.0 e)) (λ (z : (w.hand ≡ None) × (v.hand ≡ Some (threads k + i)) × (b ≡ some None)). clash w.hand u z.0 e) hands
+
+      here : {c : maybe.Option (Option Cargo)} → b ≡ c → i < locks k → get_elem? (set s.homes (threads k + i) b) (threads k + i) ≡ some c
+      here e h = set_here s.homes (threads k + i) b (omega (arith, r.slots)) ∙ ap (λ (z : maybe.Option (Option Cargo)). some z) e
+
+  abbrev pub LaysLock : ℕ → ℕ → Knows → List (ℕ × Option Cargo) → Type 0
+  LaysLock slots id v c = Allows (Kept k) slots id (v, c) 0 (λ n. n) (laid (step slots 0 0 0 none) (v, c))
+
+  pub lays_lock : (slots id i : ℕ) (v : Knows) (l : LockView) (c : List (ℕ × Option Cargo)) → c ≡ (threads k + i, None) ∷ [] → v.hand ≡ Some (threads k + i) → v.spent ≡ false → HasLock v i l → LaysLock slots id v c
+  lays_lock slots id i v l c one hand live has = subst (LaysLock slots id v) (sym one) (λ s r deep at small.
+      let w : Knows = record v { hand = None } in
+      let kept' : Kept k record { words = s.words; homes = set s.homes (threads k + i) (some None); views = set s.views id w } = lock_slot_moves s r id i v w l (some None) at live has (inr (refl, hand, refl)) refl in
+      (w, gives, tt, subst (λ (z : List ℕ). Kept k record { words = z; homes = set s.homes (threads k + i) (some None); views = set s.views id w }) (sym (set-get_or s.words 0 0)) kept', refl))
+
+  abbrev pub ReachesLock : ℕ → ℕ → ℕ → Knows → List (ℕ × Option Cargo) → Type 0
+  ReachesLock slots id word v c = Allows (Kept k) slots id (v, c) word (λ n. n) (reached (step slots word 0 0 none) (v, c))
+
+  pub reaches_lock : (slots id i : ℕ) (v : Knows) (l : LockView) (c : List (ℕ × Option Cargo)) → c ≡ [] → v.hand ≡ None → v.spent ≡ false → HasLock v i l → ReachesLock slots id (threads k + i + 2) v c
+  reaches_lock slots id i v l c empty free live has = subst (ReachesLock slots id (threads k + i + 2) v) (sym empty) (λ s r deep at small.
+      let slot : ℕ = threads k + i in
+      let w : Knows = record v { hand = Some slot } in
+      let o = is_lock_out s r id i v l at has in
+      let kept' : Kept k record { words = s.words; homes = set s.homes slot none; views = set s.views id w } = lock_slot_moves s r id i v w l none at live has (inl (refl, free, refl)) refl in (
+        w,
+        takes slot None,
+        o.4 (λ e. clash v.hand slot free e),
+        subst (λ (z : List ℕ). Kept k record { words = z; homes = set s.homes slot none; views = set s.views id w }) (sym (set-get_or s.words (slot + 2) 0)) kept',
+        (λ u e. ap (λ (z : ℕ). (record v { hand = Some z }, (z, None) ∷ [])) (let x : slot ≡ u = omega arith in x)),
+      ))

@@ -1,0 +1,253 @@
+-- `put`, `look`, `stop`, `stopped` and `commit` keep the rule.
+use Rattle.std.proofs.Common.{◌≡◌, ◌≢◌, ◌⊎◌, ℕ, zero, suc, ◌+◌, ◌<◌, ◌≤◌, ◌==◌, Bool, true, false, List, [], ◌∷◌, ◌++◌, length, set, sym, refl, ap, ◌∙◌, subst, ⊎_elim, inl, inr, arith, Option, Some, None, slice_index, length-set, get_or-set_other, get_or-set_same}
+use mathlib.Core.Option.{none, some, some-injective, some-ne-none}
+use mathlib.Core.Option as maybe
+use lib.ListN.{get_elem?}
+use lib.Seq.{set-get_or}
+use Rattle.atomic_table.specs.Table.{step, keeps, gives, Allows}
+use Rattle.atomic_table.proofs.Lists.{set_here, set_else, at_longer, at_last}
+use Rattle.tc_journal.proofs.Batching.{any_worker}
+use Rattle.tc_segment.specs.View.{LockView, blocks_of}
+use Rattle.tc_context.specs.declared.package.Grant.{Grant}
+use Rattle.tc_context.specs.Locks.{lock_in}
+use Rattle.tc_context.specs.View.{PackageView, bare, fits_of, fits_granted, fits_in}
+use Rattle.tc_context.proofs.Lawful.{there}
+use Rattle.tc_hall.specs.declared.board.Given.{Given}
+use Rattle.tc_hall.specs.declared.place.Place.{Place}
+use Rattle.tc_hall.specs.declared.board.Knows.{Knows}
+use Rattle.tc_hall.specs.declared.board.Terms.{Terms}
+use Rattle.tc_hall.specs.declared.board.Call.{Call}
+use Rattle.tc_hall.specs.declared.board.Call.TheVariants.{Put, Look, Stop, Stopped}
+use Rattle.tc_hall.specs.declared.board.Cargo.{Cargo}
+use Rattle.tc_hall.specs.declared.board.Cargo.TheVariants.{Package}
+use Rattle.tc_hall.specs.Places.{code_of, place_of}
+use Rattle.tc_hall.specs.Rule.{grants_adopted, threads, locks, IsInOrder, Kept}
+use Rattle.tc_hall.specs.Steps.{Sat, did_put, looked, stopping, saw_stopped, after_put, with_call, numbers, given_of, MayPut, HasStop, made, seen}
+use Rattle.tc_hall.proofs.Placing.{moves, stays}
+use Rattle.tc_hall.proofs.Packing.{puts_locks, locks_stay}
+use Rattle.tc_hall.proofs.Ranks.{apart_stays, stop_stays, IsTrueCall, pass_kept, passes_stay, done_still, stops_still, stops_back}
+use Rattle.std.proofs.lemmas.Bool.Decides.{nat_tests}
+use Rattle.std.proofs.Common.{◌-◌, if◌then◌else◌}
+use Rattle.tc_hall.specs.declared.place.Place.TheVariants.{Ready, Parked, Done, Waiting}
+use Rattle.tc_hall.specs.Places.{IsInRange}
+use Rattle.tc_hall.specs.Rule.{HasStopped}
+use Rattle.tc_hall.proofs.Moves.{St, is_out, clash, same_place, none_some}
+
+pub place_codes : (p : Place) → place_of (code_of p) ≡ p
+unfolding place_of
+place_codes Ready = refl
+place_codes Parked = refl
+place_codes Done = refl
+place_codes (Waiting lock) =
+    let a : (256 + lock == 0) ≡ false = grind (arith, nat_tests) in
+    let b : (256 + lock == 1) ≡ false = grind (arith, nat_tests) in
+    let c : (256 + lock == 2) ≡ false = grind (arith, nat_tests) in
+    let d : 256 + lock - 256 ≡ lock = omega arith in
+    ap (λ (z : Bool). if z then Ready else (if 256 + lock == 1 then Parked else (if 256 + lock == 2 then Done else Waiting (256 + lock - 256)))) a
+    ∙ (ap (λ (z : Bool). if z then Parked else (if 256 + lock == 2 then Done else Waiting (256 + lock - 256))) b
+    ∙ (ap (λ (z : Bool). if z then Done else Waiting (256 + lock - 256)) c ∙ ap (λ (z : ℕ). Waiting z) d))
+
+pub code_low : (m : ℕ) (p : Place) → IsInRange m p → m ≤ 16 → code_of p < 512
+code_low m Ready r h = omega arith
+code_low m Parked r h = omega arith
+code_low m Done r h = omega arith
+code_low m (Waiting lock) r h = omega arith
+
+abbrev filled : Knows → Place → PackageView → Sat
+filled v place q = (record (after_put v q place) { hand = None }, [])
+
+put_true : (ws : List ℕ) (t : ℕ) (p : Place) (ls : List ℕ) (g : Option Given) → IsTrueCall ws (Put t p ls g)
+put_true ws t p ls g = record { look = λ u e. absurd (no_look u (Put t p ls g) refl e); stop = λ e. absurd (no_stop (Put t p ls g) refl e); stopped = λ e. absurd (no_stopped (Put t p ls g) refl e) }
+  where
+    no_look : (u : ℕ) (c : Call) → c ≡ Put t p ls g → c ≡ Look u 2 → ⊥
+    no_look u c a b = cc (a, b)
+
+    no_stop : (c : Call) → c ≡ Put t p ls g → c ≡ Stop → ⊥
+    no_stop c a b = cc (a, b)
+
+    no_stopped : (c : Call) → c ≡ Put t p ls g → c ≡ Stopped 1 → ⊥
+    no_stopped c a b = cc (a, b)
+
+-- what is at a place of a list with one more at the end
+pub snoc_at : {A : Type 0} (l : List A) (a b : A) (i : ℕ) → get_elem? (l ++ a ∷ []) i ≡ some b → (get_elem? l i ≡ some b) ⊎ ((i ≡ length l) × (a ≡ b))
+snoc_at [] a b zero e = inr (refl, some-injective a b e)
+snoc_at [] a b (suc i) e = absurd (some-ne-none b (sym e))
+snoc_at (x ∷ xs) a b zero e = inl e
+snoc_at (x ∷ xs) a b (suc i) e = ⊎_elim (λ h. inl h) (λ (h : (i ≡ length xs) × (a ≡ b)). inr (ap suc h.0, h.1)) (snoc_at xs a b i e)
+
+-- a grant that isn't Adopted fits all workers or none
+pub fits_all : (q : PackageView) (w u : ℕ) → grants_adopted q.granted ≡ false → fits_of q w ≡ true → fits_of q u ≡ true
+fits_all q w u a e = go q.granted a e
+  where
+    go : (o : Option Grant) → grants_adopted o ≡ false → fits_granted q.context o w ≡ true → fits_granted q.context o u ≡ true
+    go None a e = refl
+    go (Some g) a e = within (lock_in q.context.locks g.lock) e
+      where
+        within : (x : Option LockView) → fits_in x g.lock g.kind w ≡ true → fits_in x g.lock g.kind u ≡ true
+        within None e = refl
+        within (Some l) e = sym (any_worker g.lock l.journal.limit (blocks_of l) g.kind w u a) ∙ e
+
+module _ (k : Terms) where
+  abbrev pub Fills : ℕ → ℕ → ℕ → ℕ → Knows → List (ℕ × Option Cargo) → Type 0
+  Fills slots id t code v c = Allows (Kept k) slots id (v, c) (t + 2) (λ _. code) (λ _. did_put (step slots (t + 2) code 0 none) (v, c) code)
+
+  shows_stop : (s : St k) (r : Kept k s) (id : ℕ) (v : Knows) → get_elem? s.views id ≡ some v → HasStop v → slice_index s.words 1 ≡ 1
+  shows_stop s r id v at (made i e) = (r.passes id v at).stop i e
+  shows_stop s r id v at (seen i e) = (r.passes id v at).stopped i e
+
+  -- the filled slot goes home
+  pub fills : (slots id : ℕ) (place : Place) (v : Knows) (q : PackageView) (c : List (ℕ × Option Cargo)) → c ≡ (q.context.thread, Some (Package q)) ∷ [] → v.hand ≡ Some q.context.thread → v.spent ≡ false → IsInRange (locks k) place → MayPut place v q
+      → Fills slots id q.context.thread (code_of place) v c
+  fills slots id place v q c one hand live range may = subst (Fills slots id q.context.thread (code_of place) v) (sym one) (λ s r deep at small.
+      let t : ℕ = q.context.thread in
+      let code : ℕ = code_of place in
+      let w : Knows = record (after_put v q (place_of code)) { hand = None } in
+      let o = is_out k s r id t v (bare q) at may.has in
+      let below : t < threads k = o.0 in
+      let wide : length v.packages ≡ threads k = r.placed.sized id v at live in
+      let low : code < 512 = code_low (locks k) place range r.told.limits.locks in
+      let ws' : List ℕ = set s.words (t + 2) code in
+      let full : maybe.Option (Option Cargo) = some (Some (Package q)) in
+      let done = done_still s.words (t + 2) code (λ e. let z = o.3 in omega arith) in
+      let stops = stops_still s.words (t + 2) code (λ e. omega arith) in
+      let old = r.passes id v at in
+      let here : get_elem? w.packages t ≡ some None = set_here v.packages t None (omega arith) in (
+        w,
+        gives,
+        tt,
+        record {
+          told = r.told;
+          words = length-set s.words (t + 2) code ∙ r.words;
+          slots = length-set s.homes t full ∙ r.slots;
+          clock = get_or-set_other s.words (t + 2) 0 code 0 (λ e. omega arith) ∙ r.clock;
+          placed = moves s.words ws' s.homes (set s.homes t full) s.views id v w at stops (threads k) r.told.places r.told.places t none r.placed (inr o.1)
+              (λ u ne. get_or-set_other s.words (t + 2) (u + 2) code 0 (λ e. ne (omega arith))) (λ u ne. set_else s.homes t u full ne) (λ u ne. refl) r.told.law.all_packages
+              record { worker = refl; spent = refl; long = length-set v.packages t None; out = λ u ne. set_else v.packages t u None ne; hand = λ u _ ne e. absurd (ne (same_place v.hand t u hand e)); hand_back = λ u _ ne e. absurd (clash None u refl e) }
+              (λ p' e. let word : slice_index ws' (t + 2) ≡ code = get_or-set_same s.words (t + 2) code 0 (omega (arith, r.words)) in record {
+                context = q;
+                slot = set_here s.homes t full (omega (arith, r.slots));
+                same = some-injective (bare q) p' (sym o.2 ∙ e);
+                word = omega arith;
+                order = subst (λ (z : ℕ). IsInOrder z q) (sym word) may.order;
+                fits = record { stop = λ a. stops (shows_stop s r id v at (may.stop a)); fits = λ a u. fits_all q v.worker u a (may.fits a) };
+              })
+              (λ p' has'. absurd (none_some p' (get_elem? w.packages t) here has'));
+          locks_placed = puts_locks (threads k) (locks k) r.told.segments s.words ws' s.homes s.views id v w q t r.locks_placed r.told.law.all_states at live refl refl
+              (λ i. get_or-set_other s.words (t + 2) (threads k + 2 + i) code 0 (λ e. omega arith)) below (o.5 hand) hand refl may.locks;
+          passes = passes_stay k.image.value k.workers r.told.history r.told.history s.words ws' (λ b e. e) done stops s.views id w r.passes
+              (pass_kept k.image.value k.workers r.told.history r.told.history s.words ws' (λ b e. e) done stops v w old (refl, refl, refl) (λ i u e. inl e) (λ i b e. inl e)
+              (λ i c e. ⊎_elim (λ z. inl z) (λ (z : (i ≡ length v.calls) × (Put t (place_of code) (numbers q.context.locks) (given_of q) ≡ c)). inr (subst (IsTrueCall ws') z.1 (put_true ws' t (place_of code) (numbers q.context.locks) (given_of q)))) (snoc_at v.calls (Put t (place_of code) (numbers q.context.locks) (given_of q)) c i e))
+              (λ u e. inl e));
+          stop = λ e. stop_stays s.views id v w at (λ i h. (i, at_longer v.calls (Put t (place_of code) (numbers q.context.locks) (given_of q) ∷ []) i Stop h)) (r.stop (stops_back s.words (t + 2) code (λ e. omega arith) e));
+          apart = apart_stays s.views id v w at record { worker = refl; maker = refl; made = refl; spent = refl; joined = refl } live r.apart;
+        },
+        (λ u x e. let same : q ≡ x = package_is t u q x e in ap (filled v (place_of code)) same),
+      ))
+    where
+      first : List (ℕ × Option Cargo) → Option Cargo
+      first [] = None
+      first (x ∷ xs) = x.1
+
+      one_of : ℕ → PackageView → List (ℕ × Option Cargo)
+      one_of t a = (t, Some (Package a)) ∷ []
+
+      package_is : (t u : ℕ) (a b : PackageView) → one_of t a ≡ one_of u b → a ≡ b
+      package_is t u a b e = let f : Some (Package a) ≡ Some (Package b) = ap first e in cc f
+
+  -- a call is told, and at most the stop becomes 1
+  tells_kept : (s : St k) (r : Kept k s) (ws' : List ℕ) (id : ℕ) (v : Knows) (c : Call) → get_elem? s.views id ≡ some v → v.spent ≡ false → IsTrueCall ws' c
+      → ((j : ℕ) → j ≢ 1 → slice_index ws' j ≡ slice_index s.words j) → (slice_index s.words 1 ≡ 1 → slice_index ws' 1 ≡ 1) → length ws' ≡ length s.words
+      → (slice_index ws' 1 ≡ 1 → HasStopped (set s.views id (with_call v c)))
+      → Kept k record { words = ws'; homes = s.homes; views = set s.views id (with_call v c) }
+  tells_kept s r ws' id v c at live true' words stops long stop =
+      let w : Knows = with_call v c in
+      let done : (u : ℕ) → slice_index s.words (u + 2) ≡ 2 → slice_index ws' (u + 2) ≡ 2 = λ u e. words (u + 2) (λ z. omega arith) ∙ e in
+      let old = r.passes id v at in record {
+        told = r.told;
+        words = long ∙ r.words;
+        slots = r.slots;
+        clock = words 0 (λ z. omega arith) ∙ r.clock;
+        placed = stays s.words ws' s.homes s.homes s.views id v w at stops (threads k) r.told.places r.placed r.told.law.all_packages (λ u b. words (u + 2) (λ z. omega arith)) (λ u b. refl) refl refl refl (λ u b e. e) (λ u b e. e);
+        locks_placed = locks_stay (threads k) (locks k) r.told.segments s.words ws' s.homes s.homes s.views id v w at (λ i. words (threads k + 2 + i) (λ z. omega arith)) (λ i. refl) (λ u q b e. e) (λ u q b e. e) refl refl (λ i e. e) (λ i e. e) r.locks_placed;
+        passes = passes_stay k.image.value k.workers r.told.history r.told.history s.words ws' (λ b e. e) done stops s.views id w r.passes
+            (pass_kept k.image.value k.workers r.told.history r.told.history s.words ws' (λ b e. e) done stops v w old (refl, refl, refl) (λ i u e. inl e) (λ i b e. inl e)
+            (λ i d e. ⊎_elim (λ z. inl z) (λ (z : (i ≡ length v.calls) × (c ≡ d)). inr (subst (IsTrueCall ws') z.1 true')) (snoc_at v.calls c d i e)) (λ u e. inl e));
+        stop = stop;
+        apart = apart_stays s.views id v w at record { worker = refl; maker = refl; made = refl; spent = refl; joined = refl } live r.apart;
+      }
+
+  still_stopped : (s : St k) (r : Kept k s) (id : ℕ) (v : Knows) (c : Call) → get_elem? s.views id ≡ some v → slice_index s.words 1 ≡ 1 → HasStopped (set s.views id (with_call v c))
+  still_stopped s r id v c at e = stop_stays s.views id v (with_call v c) at (λ i h. (i, at_longer v.calls (c ∷ []) i Stop h)) (r.stop e)
+
+  abbrev pub Looks : ℕ → ℕ → ℕ → Knows → List (ℕ × Option Cargo) → Type 0
+  Looks slots id t v c = Allows (Kept k) slots id (v, c) (t + 2) (λ n. n) (looked (step slots (t + 2) 0 0 none) (v, c))
+
+  pub looks : (slots id t : ℕ) (v : Knows) (c : List (ℕ × Option Cargo)) → c ≡ [] → v.spent ≡ false → Looks slots id t v c
+  looks slots id t v c empty live = subst (Looks slots id t v) (sym empty) (λ s r deep at small.
+      let found : ℕ = slice_index s.words (t + 2) in (
+        with_call v (Look t found),
+        keeps,
+        tt,
+        subst (λ (z : List ℕ). Kept k record { words = z; homes = s.homes; views = set s.views id (with_call v (Look t found)) }) (sym (set-get_or s.words (t + 2) 0))
+            (tells_kept s r s.words id v (Look t found) at live (look_true s.words t found refl) (λ j ne. refl) (λ e. e) refl (still_stopped s r id v (Look t found) at)),
+        (λ u e. ap (λ (z : ℕ). (with_call v (Look z found), [])) (let x : t ≡ u = omega arith in x)),
+      ))
+    where
+      look_true : (ws : List ℕ) (t found : ℕ) → found ≡ slice_index ws (t + 2) → IsTrueCall ws (Look t found)
+      look_true ws t found is = record {
+        look = λ u e. let f : (t ≡ u) × (found ≡ 2) = look_is t found u 2 (Look t found) refl e in ap (λ (z : ℕ). slice_index ws (z + 2)) (sym f.0) ∙ (sym is ∙ f.1);
+        stop = λ e. absurd (no_stop (Look t found) refl e);
+        stopped = λ e. absurd (no_stopped (Look t found) refl e);
+      }
+        where
+          look_is : (a b c d : ℕ) (x : Call) → x ≡ Look a b → x ≡ Look c d → (a ≡ c) × (b ≡ d)
+          look_is a b c d x e f = (cc (e, f), cc (e, f))
+
+          no_stop : (c : Call) → c ≡ Look t found → c ≡ Stop → ⊥
+          no_stop c a b = cc (a, b)
+
+          no_stopped : (c : Call) → c ≡ Look t found → c ≡ Stopped 1 → ⊥
+          no_stopped c a b = cc (a, b)
+
+  abbrev pub Stops : ℕ → ℕ → Knows → List (ℕ × Option Cargo) → Type 0
+  Stops slots id v c = Allows (Kept k) slots id (v, c) 1 (λ _. 1) (λ _. stopping (step slots 1 1 0 none) (v, c) 1)
+
+  pub stops : (slots id : ℕ) (v : Knows) (c : List (ℕ × Option Cargo)) → c ≡ [] → v.spent ≡ false → Stops slots id v c
+  stops slots id v c empty live = subst (Stops slots id v) (sym empty) (λ s r deep at small.
+      let one : slice_index (set s.words 1 1) 1 ≡ 1 = get_or-set_same s.words 1 1 0 (omega (arith, r.words)) in (
+        with_call v Stop,
+        keeps,
+        tt,
+        tells_kept s r (set s.words 1 1) id v Stop at live record { look = λ u e. absurd (no_look u Stop refl e); stop = λ _. one; stopped = λ _. one }
+            (λ j ne. get_or-set_other s.words 1 j 1 0 ne) (λ _. one) (length-set s.words 1 1)
+            (λ _. record { id = id; view = with_call v Stop; pass = set_here s.views id (with_call v Stop) (there s.views id v v at).0; place = length v.calls; call = at_last v.calls Stop (length v.calls) refl }),
+        refl,
+      ))
+    where
+      no_look : (u : ℕ) (c : Call) → c ≡ Stop → c ≡ Look u 2 → ⊥
+      no_look u c a b = cc (a, b)
+
+  abbrev pub Sees : ℕ → ℕ → Knows → List (ℕ × Option Cargo) → Type 0
+  Sees slots id v c = Allows (Kept k) slots id (v, c) 1 (λ n. n) (saw_stopped (step slots 1 0 0 none) (v, c))
+
+  pub sees : (slots id : ℕ) (v : Knows) (c : List (ℕ × Option Cargo)) → c ≡ [] → v.spent ≡ false → Sees slots id v c
+  sees slots id v c empty live = subst (Sees slots id v) (sym empty) (λ s r deep at small.
+      let found : ℕ = slice_index s.words 1 in (
+        with_call v (Stopped found),
+        keeps,
+        tt,
+        subst (λ (z : List ℕ). Kept k record { words = z; homes = s.homes; views = set s.views id (with_call v (Stopped found)) }) (sym (set-get_or s.words 1 0))
+            (tells_kept s r s.words id v (Stopped found) at live
+            record { look = λ u e. absurd (no_look u found (Stopped found) refl e); stop = λ e. absurd (no_stop found (Stopped found) refl e); stopped = λ e. one found (Stopped found) refl e }
+            (λ j ne. refl) (λ e. e) refl (still_stopped s r id v (Stopped found) at)),
+        (refl, (λ t e. (r.passes id v at).misfit t e)),
+      ))
+    where
+      one : (n : ℕ) (c : Call) → c ≡ Stopped n → c ≡ Stopped 1 → n ≡ 1
+      one n c a b = cc (a, b)
+
+      no_look : (u n : ℕ) (c : Call) → c ≡ Stopped n → c ≡ Look u 2 → ⊥
+      no_look u n c a b = cc (a, b)
+
+      no_stop : (n : ℕ) (c : Call) → c ≡ Stopped n → c ≡ Stop → ⊥
+      no_stop n c a b = cc (a, b)

@@ -1,0 +1,74 @@
+use Rattle.std.proofs.Common.{◌≡◌, ◌+◌, ◌<◌, ℕ, Option, Some, None, refl, sym, ap, ◌∙◌, subst, arith}
+use Rattle.tc_context.specs.View.{PackageView, bare}
+use Rattle.tc_hall.specs.declared.board.Knows.{Knows}
+use Rattle.tc_hall.specs.declared.board.Cargo.{Cargo}
+use Rattle.tc_hall.specs.declared.board.Cargo.TheVariants.{Package}
+use Rattle.tc_hall.specs.PassView.{PassView, HallView}
+use Rattle.tc_hall.specs.Rule.{threads, locks, Has}
+use Rattle.tc_hall.specs.Steps.{Gets}
+use Rattle.tc_hall.proofs.Moves.{claims, lays}
+use Rattle.tc_hall.proofs.Holding.{got_slot, got_found, got_carried, got_view, got_last, got_empty}
+use Rattle.tc_hall.proofs.hall.Hall.claim_from.Goals as goal
+
+pub compare_exchange-found-requires : goal.compare_exchange-found-requires
+compare_exchange-found-requires c =
+    let seat = c.pass.inside.seat in
+    let own = ap (λ (p : PassView). p.table) c.pass.view_is ∙ (c.requires.own ∙ sym (ap (λ (h : HallView). h.table) c.self.view_is)) in
+    let below : c.args.t < threads c.self.inside.board.shared.key = subst (λ (h : HallView). c.args.t < threads h.terms) (sym c.self.view_is) c.requires.thread in
+    let code : c.args.code < 256 + locks c.self.inside.board.shared.key = subst (λ (h : HallView). c.args.code < 256 + locks h.terms) (sym c.self.view_is) c.requires.code.1 in
+    let low : c.args.code < 512 = (let same = c.self.invariant.3 in let most = c.self.invariant.9 in omega arith) in (
+      own,
+      omega (arith, c.self.invariant.0, c.self.invariant.1),
+      claims c.self.inside.board.shared.key _ seat.id c.args.t c.args.code _ seat.me.0 seat.me.1 c.pass.invariant.0 low c.requires.code.0 (ap (λ (k : ℕ). 512 + k) (c.from-at.ensures ∙ c.pass.invariant.2)) below c.pass.invariant.3 c.pass.invariant.1,
+    )
+
+pub exchange-slot-requires : goal.exchange-slot-requires
+exchange-slot-requires c =
+    let own = ap (λ (p : PassView). p.table) c.pass.view_is ∙ (c.requires.own ∙ sym (ap (λ (h : HallView). h.table) c.self.view_is)) in
+    let did = c.compare_exchange-found.ensures in
+    let got = did.2.0 c.if-found-code.false c.args.t refl in
+    (did.0 ∙ own, got_slot c.args.t (Package got.0) got.1 c.pass.inside.seat.me c.compare_exchange-found.new.seat.me got.3)
+
+pub load-requires : goal.load-requires
+load-requires c =
+    let own = ap (λ (p : PassView). p.table) c.pass.view_is ∙ (c.requires.own ∙ sym (ap (λ (h : HallView). h.table) c.self.view_is)) in
+    let did = c.compare_exchange-found.ensures in
+    let got = did.2.0 c.if-found-code.false c.args.t refl in
+    let m2 = c.exchange-slot.new.seat.me in
+    let view = got_view c.args.t (Package got.0) got.1 c.pass.inside.seat.me c.compare_exchange-found.new.seat.me got.3 c.pass.invariant.0 m2 c.exchange-slot.ensures.3 in (
+      c.exchange-slot.ensures.0 ∙ (did.0 ∙ own),
+      omega (arith, c.self.invariant.1),
+      lays c.self.inside.board.shared.key _ _ c.args.t m2.0 (bare got.0) m2.1 (got_carried c.args.t (Package got.0) got.1 c.pass.inside.seat.me c.compare_exchange-found.new.seat.me got.3 c.pass.invariant.0 m2 c.exchange-slot.ensures.3)
+          (ap (λ (z : Knows). z.hand) view) (ap (λ (z : Knows). z.spent) view ∙ (ap (λ (z : Knows). z.spent) got.2.now ∙ c.pass.invariant.3)) (subst (λ (z : Knows). Has z c.args.t (bare got.0)) (sym view) got.2.has),
+    )
+
+pub package_of-requires : goal.package_of-requires
+package_of-requires c =
+    let got = c.compare_exchange-found.ensures.2.0 c.if-found-code.false c.args.t refl in
+    (got.0, got_found c.args.t (Package got.0) got.1 c.pass.inside.seat.me c.compare_exchange-found.new.seat.me got.3 c.exchange-slot.result c.exchange-slot.ensures.2)
+
+pub invariant_of-pass-2 : goal.invariant_of-pass-2
+invariant_of-pass-2 c =
+    let got = c.compare_exchange-found.ensures.2.0 c.if-found-code.false c.args.t refl in
+    let free : got.1.hand ≡ None = ap (λ (z : Knows). z.hand) got.2.now ∙ c.pass.invariant.1 in
+    let m = c.pass.inside.seat.me in
+    let last = got_last c.args.t (Package got.0) got.1 m c.compare_exchange-found.new.seat.me got.3 c.pass.invariant.0 c.exchange-slot.new.seat.me c.exchange-slot.ensures.3 free c.load.new.seat.me c.load.ensures.2 in (
+      got_empty c.args.t (Package got.0) got.1 m c.compare_exchange-found.new.seat.me got.3 c.pass.invariant.0 c.exchange-slot.new.seat.me c.exchange-slot.ensures.3 free c.load.new.seat.me c.load.ensures.2,
+      ap (λ (z : Knows). z.hand) last ∙ free,
+      c.pass.invariant.2 ∙ sym (ap (λ (z : Knows). z.worker) (last ∙ got.2.now)),
+      ap (λ (z : Knows). z.spent) (last ∙ got.2.now) ∙ c.pass.invariant.3,
+    )
+
+pub returns-clause-result : goal.returns-clause-result
+returns-clause-result c =
+    let got = c.compare_exchange-found.ensures.2.0 c.if-found-code.false c.args.t refl in
+    let m = c.pass.inside.seat.me in
+    let free : got.1.hand ≡ None = ap (λ (z : Knows). z.hand) got.2.now ∙ c.pass.invariant.1 in
+    let last = got_last c.args.t (Package got.0) got.1 m c.compare_exchange-found.new.seat.me got.3 c.pass.invariant.0 c.exchange-slot.new.seat.me c.exchange-slot.ensures.3 free c.load.new.seat.me c.load.ensures.2 in
+    let found = got_found c.args.t (Package got.0) got.1 m c.compare_exchange-found.new.seat.me got.3 c.exchange-slot.result c.exchange-slot.ensures.2 in
+    let same : got.0 ≡ c.package_of.result = package_is got.0 c.package_of.result c.exchange-slot.result found c.package_of.ensures in
+    subst (λ (p : PassView). Gets c.args.code c.args.t c.package_of.result p.knows c.load.new.seat.me.0) c.pass.view_is
+    (subst (λ (z : PackageView × Knows). Gets c.args.code c.args.t z.0 m.0 z.1) (λ i. (same i, sym last i)) got.2)
+  where
+    package_is : (a b : PackageView) (x : Option Cargo) → x ≡ Some (Package a) → x ≡ Some (Package b) → a ≡ b
+    package_is a b x e f = cc (e, f)

@@ -1,0 +1,85 @@
+use Rattle.std.proofs.Common.{◌≡◌, ◌<◌, ◌+◌, ℕ, [], ◌∷◌, Option, Some, None, refl, sym, ap, ◌∙◌, subst, arith}
+use Rattle.tc_segment.specs.View.{kept}
+use Rattle.tc_hall.specs.declared.board.Knows.{Knows}
+use Rattle.tc_hall.specs.declared.board.Cargo.{Cargo}
+use Rattle.tc_hall.specs.declared.board.Cargo.TheVariants.{Lock}
+use Rattle.tc_hall.specs.PassView.{PassView, HallView}
+use Rattle.tc_hall.specs.Rule.{threads, locks}
+use Rattle.tc_hall.specs.Steps.{Sat, MayFree, Freed}
+use Rattle.tc_hall.proofs.Taking.{ReachesLock, reaches_lock, FreesAll, frees}
+use Rattle.tc_hall.proofs.Putting.{freed}
+use Rattle.tc_hall.proofs.Holding.{put_slot, put_found, put_carried, put_view}
+use Rattle.tc_hall.proofs.hall.Hall.free.Goals as goal
+
+pub load-requires : goal.load-requires
+load-requires c =
+    let seat = c.pass.inside.seat in
+    let key = c.self.inside.board.shared.key in
+    let l = c.args.lock in
+    let own = ap (λ (p : PassView). p.table) c.pass.view_is ∙ (c.requires.own ∙ sym (ap (λ (h : HallView). h.table) c.self.view_is)) in
+    let below : l.number < locks key = subst (λ (h : HallView). l.number < locks h.terms) (sym c.self.view_is) c.requires.lock in
+    let may : MayFree seat.me.0 l = subst (λ (p : PassView). MayFree p.knows l) (sym c.pass.view_is) c.requires.ready in
+    let at : threads key + l.number ≡ c.self.inside.threads + c.number.result = (let n = c.self.invariant.0 in let e = c.number.ensures in omega arith) in (
+      own,
+      omega (arith, c.self.invariant.1, c.self.invariant.3, c.number.ensures),
+      subst (λ (z : ℕ). ReachesLock key c.self.inside.board.shared.table_id.slots seat.id (z + 2) seat.me.0 seat.me.1) at (reaches_lock key _ seat.id l.number seat.me.0 (kept l) seat.me.1 c.pass.invariant.0 c.pass.invariant.1 c.pass.invariant.3 may.has),
+    )
+
+pub exchange-requires : goal.exchange-requires
+exchange-requires c =
+    let own = ap (λ (p : PassView). p.table) c.pass.view_is ∙ (c.requires.own ∙ sym (ap (λ (h : HallView). h.table) c.self.view_is)) in
+    let did = c.load.ensures in
+    let slot : ℕ = c.self.inside.threads + c.number.result in
+    (did.0 ∙ own, put_slot slot (Lock c.args.lock) c.pass.inside.seat.me c.load.new.seat.me c.pass.invariant.0 (did.2 slot refl))
+
+pub unreachable-requires : goal.unreachable-requires
+unreachable-requires c =
+    let slot : ℕ = c.self.inside.threads + c.number.result in
+    let none = put_found slot (Lock c.args.lock) c.pass.inside.seat.me c.load.new.seat.me c.pass.invariant.0 (c.load.ensures.2 slot refl) c.exchange.result c.exchange.ensures.2 in
+    apart c.in-Some.field-0 c.exchange.result none c.in-Some.is
+  where
+    apart : (p : Cargo) (x : Option Cargo) → x ≡ None → x ≡ Some p → ⊥
+    apart p x a b = cc (a, b)
+
+pub store-requires : goal.store-requires
+store-requires c =
+    let own = ap (λ (p : PassView). p.table) c.pass.view_is ∙ (c.requires.own ∙ sym (ap (λ (h : HallView). h.table) c.self.view_is)) in
+    let key = c.self.inside.board.shared.key in
+    let m = c.pass.inside.seat.me in
+    let m2 = c.exchange.new.seat.me in
+    let m2id = c.exchange.new.seat.id in
+    let l = c.args.lock in
+    let did = c.load.ensures in
+    let slot : ℕ = c.self.inside.threads + c.number.result in
+    let below : l.number < locks key = subst (λ (h : HallView). l.number < locks h.terms) (sym c.self.view_is) c.requires.lock in
+    let may : MayFree m.0 l = subst (λ (p : PassView). MayFree p.knows l) (sym c.pass.view_is) c.requires.ready in
+    let at : threads key + l.number ≡ slot = (let n = c.self.invariant.0 in let e = c.number.ensures in omega arith) in
+    let got = did.2 slot refl in
+    let view = put_view slot (Lock l) m c.load.new.seat.me c.pass.invariant.0 got m2 c.exchange.ensures.3 in (
+      c.exchange.ensures.0 ∙ (did.0 ∙ own),
+      omega (arith, c.self.invariant.1, c.self.invariant.3, c.number.ensures),
+      subst (λ (z : ℕ). FreesAll key c.self.inside.board.shared.table_id.slots m2id (z + 2) m2.0 m2.1) at
+          (frees key _ _ m2.0 l m2.1
+          (put_carried slot (Lock l) m c.load.new.seat.me c.pass.invariant.0 got m2 c.exchange.ensures.3 ∙ ap (λ (z : ℕ). (z, Some (Lock l)) ∷ []) (sym at))
+          (ap (λ (z : Knows). z.hand) view ∙ ap (λ (z : ℕ). Some z) (sym at)) (ap (λ (z : Knows). z.spent) view ∙ c.pass.invariant.3) (subst (λ (z : Knows). MayFree z l) (sym view) record { has = may.has; rests = may.rests })),
+    )
+
+pub invariant_of-pass : goal.invariant_of-pass
+invariant_of-pass c =
+    let m = c.pass.inside.seat.me in
+    let slot : ℕ = c.self.inside.threads + c.number.result in
+    let got = c.load.ensures.2 slot refl in
+    let carried = put_carried slot (Lock c.args.lock) m c.load.new.seat.me c.pass.invariant.0 got c.exchange.new.seat.me c.exchange.ensures.3 in
+    let view = put_view slot (Lock c.args.lock) m c.load.new.seat.me c.pass.invariant.0 got c.exchange.new.seat.me c.exchange.ensures.3 in
+    let did = c.store.ensures.2 slot c.args.lock carried in
+    (ap (λ (z : Sat). z.1) did, ap (λ (z : Sat). z.0.hand) did, c.pass.invariant.2 ∙ sym (ap (λ (z : Sat). z.0.worker) did ∙ ap (λ (v : Knows). v.worker) view), ap (λ (z : Sat). z.0.spent) did ∙ (ap (λ (v : Knows). v.spent) view ∙ c.pass.invariant.3))
+
+pub returns-clause-freed : goal.returns-clause-freed
+returns-clause-freed c =
+    let m = c.pass.inside.seat.me in
+    let slot : ℕ = c.self.inside.threads + c.number.result in
+    let got = c.load.ensures.2 slot refl in
+    let carried = put_carried slot (Lock c.args.lock) m c.load.new.seat.me c.pass.invariant.0 got c.exchange.new.seat.me c.exchange.ensures.3 in
+    let view = put_view slot (Lock c.args.lock) m c.load.new.seat.me c.pass.invariant.0 got c.exchange.new.seat.me c.exchange.ensures.3 in
+    let did = c.store.ensures.2 slot c.args.lock carried in
+    subst (λ (p : PassView). Freed c.args.lock p.knows c.store.new.seat.me.0) c.pass.view_is (freed c.args.lock m.0 c.exchange.new.seat.me.0 c.store.new.seat.me.0 slot view c.pass.invariant.1 (ap (λ (z : Sat). z.0) did))

@@ -1,0 +1,10 @@
+use Rattle.std.proofs.Common.{ap, ◌∙◌, sym, arith}
+use Rattle.tc_hall.specs.PassView.{PassView, HallView}
+use Rattle.tc_hall.proofs.Telling.{sees}
+use Rattle.tc_hall.proofs.hall.Hall.stopped.Goals as goal
+
+pub load-requires : goal.load-requires
+load-requires c =
+    let seat = c.pass.inside.seat in
+    let own = ap (λ (p : PassView). p.table) c.pass.view_is ∙ (c.requires.own ∙ sym (ap (λ (h : HallView). h.table) c.self.view_is)) in
+    (own, omega (arith, c.self.invariant.1), sees c.self.inside.board.shared.key _ seat.id seat.me.0 seat.me.1 c.pass.invariant.0 c.pass.invariant.3)

@@ -1,0 +1,82 @@
+use Rattle.std.proofs.Common.{◌≡◌, ◌+◌, ◌<◌, ℕ, [], ◌∷◌, Option, Some, None, refl, sym, ap, ◌∙◌, subst, arith}
+use Rattle.tc_segment.specs.View.{LockView, kept}
+use Rattle.tc_hall.specs.declared.board.Knows.{Knows}
+use Rattle.tc_hall.specs.declared.board.Cargo.{Cargo}
+use Rattle.tc_hall.specs.declared.board.Cargo.TheVariants.{Lock}
+use Rattle.tc_hall.specs.PassView.{PassView, HallView}
+use Rattle.tc_hall.specs.Rule.{threads, locks, HasLock}
+use Rattle.tc_hall.specs.Steps.{Takes, Took}
+use Rattle.tc_hall.proofs.Taking.{TakesAll, takes_lock, lays_lock}
+use Rattle.tc_hall.proofs.Holding.{got_slot, got_found, got_carried, got_view, got_last, got_empty}
+use Rattle.tc_hall.proofs.hall.Hall.take_as.Goals as goal
+
+pub compare_exchange-found-requires : goal.compare_exchange-found-requires
+compare_exchange-found-requires g c =
+    let seat = c.pass.inside.seat in
+    let key = c.self.inside.board.shared.key in
+    let own = ap (λ (p : PassView). p.table) c.pass.view_is ∙ (c.requires.own ∙ sym (ap (λ (h : HallView). h.table) c.self.view_is)) in
+    let below : c.args.lock < locks key = subst (λ (h : HallView). c.args.lock < locks h.terms) (sym c.self.view_is) c.requires.lock in
+    let n = c.self.invariant.0 in
+    let m = c.self.invariant.3 in (
+      own,
+      omega (arith, c.self.invariant.1),
+      subst (λ (z : Option ℕ × ℕ). TakesAll key c.self.inside.board.shared.table_id.slots seat.id z.0 (z.1 + c.args.lock + 2) seat.me.0 seat.me.1) (λ i. (sym c.requires.picked i, sym n i)) (takes_lock key _ seat.id c.args.lock seat.me.0 seat.me.1 c.pass.invariant.0 below c.pass.invariant.3 c.pass.invariant.1),
+    )
+
+pub exchange-slot-requires : goal.exchange-slot-requires
+exchange-slot-requires g c =
+    let own = ap (λ (p : PassView). p.table) c.pass.view_is ∙ (c.requires.own ∙ sym (ap (λ (h : HallView). h.table) c.self.view_is)) in
+    let did = c.compare_exchange-found.ensures in
+    let slot : ℕ = c.self.inside.threads + c.args.lock in
+    let got : Took c.args.lock slot c.pass.inside.seat.me c.compare_exchange-found.new.seat.me = did.2.0 c.if-found-ne0.false c.args.lock slot c.requires.picked refl in
+    (did.0 ∙ own, got_slot slot (Lock got.0) got.1 c.pass.inside.seat.me c.compare_exchange-found.new.seat.me got.3)
+
+pub load-requires : goal.load-requires
+load-requires g c =
+    let own = ap (λ (p : PassView). p.table) c.pass.view_is ∙ (c.requires.own ∙ sym (ap (λ (h : HallView). h.table) c.self.view_is)) in
+    let key = c.self.inside.board.shared.key in
+    let did = c.compare_exchange-found.ensures in
+    let slot : ℕ = c.self.inside.threads + c.args.lock in
+    let got : Took c.args.lock slot c.pass.inside.seat.me c.compare_exchange-found.new.seat.me = did.2.0 c.if-found-ne0.false c.args.lock slot c.requires.picked refl in
+    let m2 = c.exchange-slot.new.seat.me in
+    let at : slot ≡ threads key + c.args.lock = (let n = c.self.invariant.0 in omega arith) in
+    let view = got_view slot (Lock got.0) got.1 c.pass.inside.seat.me c.compare_exchange-found.new.seat.me got.3 c.pass.invariant.0 m2 c.exchange-slot.ensures.3 in (
+      c.exchange-slot.ensures.0 ∙ (did.0 ∙ own),
+      omega (arith, c.self.invariant.1),
+      lays_lock key _ _ c.args.lock m2.0 (kept got.0) m2.1 (got_carried slot (Lock got.0) got.1 c.pass.inside.seat.me c.compare_exchange-found.new.seat.me got.3 c.pass.invariant.0 m2 c.exchange-slot.ensures.3 ∙ ap (λ (z : ℕ). (z, None) ∷ []) at)
+          (ap (λ (z : Knows). z.hand) view ∙ ap (λ (z : ℕ). Some z) at) (ap (λ (z : Knows). z.spent) view ∙ (ap (λ (z : Knows). z.spent) got.2.now ∙ c.pass.invariant.3)) (subst (λ (z : Knows). HasLock z c.args.lock (kept got.0)) (sym view) got.2.has),
+    )
+
+pub lock_of-requires : goal.lock_of-requires
+lock_of-requires g c =
+    let slot : ℕ = c.self.inside.threads + c.args.lock in
+    let got : Took c.args.lock slot c.pass.inside.seat.me c.compare_exchange-found.new.seat.me = c.compare_exchange-found.ensures.2.0 c.if-found-ne0.false c.args.lock slot c.requires.picked refl in
+    (got.0, got_found slot (Lock got.0) got.1 c.pass.inside.seat.me c.compare_exchange-found.new.seat.me got.3 c.exchange-slot.result c.exchange-slot.ensures.2)
+
+pub invariant_of-pass-2 : goal.invariant_of-pass-2
+invariant_of-pass-2 g c =
+    let slot : ℕ = c.self.inside.threads + c.args.lock in
+    let got : Took c.args.lock slot c.pass.inside.seat.me c.compare_exchange-found.new.seat.me = c.compare_exchange-found.ensures.2.0 c.if-found-ne0.false c.args.lock slot c.requires.picked refl in
+    let free : got.1.hand ≡ None = ap (λ (z : Knows). z.hand) got.2.now ∙ c.pass.invariant.1 in
+    let m = c.pass.inside.seat.me in
+    let last = got_last slot (Lock got.0) got.1 m c.compare_exchange-found.new.seat.me got.3 c.pass.invariant.0 c.exchange-slot.new.seat.me c.exchange-slot.ensures.3 free c.load.new.seat.me c.load.ensures.2 in (
+      got_empty slot (Lock got.0) got.1 m c.compare_exchange-found.new.seat.me got.3 c.pass.invariant.0 c.exchange-slot.new.seat.me c.exchange-slot.ensures.3 free c.load.new.seat.me c.load.ensures.2,
+      ap (λ (z : Knows). z.hand) last ∙ free,
+      c.pass.invariant.2 ∙ sym (ap (λ (z : Knows). z.worker) (last ∙ got.2.now)),
+      ap (λ (z : Knows). z.spent) (last ∙ got.2.now) ∙ c.pass.invariant.3,
+    )
+
+pub returns-clause-result : goal.returns-clause-result
+returns-clause-result g c =
+    let slot : ℕ = c.self.inside.threads + c.args.lock in
+    let got : Took c.args.lock slot c.pass.inside.seat.me c.compare_exchange-found.new.seat.me = c.compare_exchange-found.ensures.2.0 c.if-found-ne0.false c.args.lock slot c.requires.picked refl in
+    let m = c.pass.inside.seat.me in
+    let free : got.1.hand ≡ None = ap (λ (z : Knows). z.hand) got.2.now ∙ c.pass.invariant.1 in
+    let last = got_last slot (Lock got.0) got.1 m c.compare_exchange-found.new.seat.me got.3 c.pass.invariant.0 c.exchange-slot.new.seat.me c.exchange-slot.ensures.3 free c.load.new.seat.me c.load.ensures.2 in
+    let found = got_found slot (Lock got.0) got.1 m c.compare_exchange-found.new.seat.me got.3 c.exchange-slot.result c.exchange-slot.ensures.2 in
+    let same : got.0 ≡ c.lock_of.result = lock_is got.0 c.lock_of.result c.exchange-slot.result found c.lock_of.ensures in
+    subst (λ (p : PassView). Takes c.args.lock c.lock_of.result p.knows c.load.new.seat.me.0) c.pass.view_is
+    (subst (λ (z : LockView × Knows). Takes c.args.lock z.0 m.0 z.1) (λ i. (same i, sym last i)) got.2)
+  where
+    lock_is : (a b : LockView) (x : Option Cargo) → x ≡ Some (Lock a) → x ≡ Some (Lock b) → a ≡ b
+    lock_is a b x e f = cc (e, f)

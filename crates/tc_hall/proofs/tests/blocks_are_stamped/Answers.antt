@@ -1,0 +1,16 @@
+use Rattle.std.proofs.Common.{◌≡◌}
+use Rattle.tc_hall.specs.PassView.{PassView}
+use Rattle.tc_hall.proofs.Dealt.{popped}
+use Rattle.tc_hall.proofs.tests.blocks_are_stamped.Goals as goal
+
+pub see_stamps-requires-clause-own : goal.see_stamps-requires-clause-own
+see_stamps-requires-clause-own g c =
+    let own : PassView → Type 0 = λ p. p.table ≡ c.in_ok-hall.hall.table in
+    let dealt = c.in_ok-hall.ensures.passes in
+    (popped own c.in_ok-hall.passes.items c.pop.new.self.items c.pop.result c.expect-pass.result (λ i q e. (dealt.each i q e).0) c.pop.ensures.items c.expect-pass.ensures).0
+
+pub see_stamps-requires-clause-image : goal.see_stamps-requires-clause-image
+see_stamps-requires-clause-image g c =
+    let of : PassView → Type 0 = λ p. p.knows.image ≡ c.in_ok-image.image in
+    let dealt = c.in_ok-hall.ensures.passes in
+    (popped of c.in_ok-hall.passes.items c.pop.new.self.items c.pop.result c.expect-pass.result (λ i q e. (dealt.each i q e).1.of) c.pop.ensures.items c.expect-pass.ensures).0

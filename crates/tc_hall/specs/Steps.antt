@@ -1,0 +1,301 @@
+-- What each step tells, and its effect on the view of the pass.
+use Rattle.std.specs.Prelude.{◌≡◌, ◌≢◌, ◌⊎◌, ℕ, ◌+◌, ◌<◌, Bool, true, false, not, List, [], ◌∷◌, ◌++◌, length, slice_set, map, filter, is_some, Option, Some, None}
+use Rattle.std.specs.List.{range_with_len}
+use Rattle.std.specs.Option.{option_map}
+use mathlib.Core.Option.{some}
+use lib.ListN.{get_elem?}
+use Rattle.atomic_table.specs.Table.{Me, Step, rest}
+use Rattle.tc_elf.specs.Shown.{Shown}
+use Rattle.tc_journal.specs.declared.block.Block.{Block}
+use Rattle.tc_turn.specs.Turn.{is_running}
+use Rattle.tc_segment.specs.View.{LockView, IsAtRest, blocks_of, kept, sealed_block}
+use Rattle.tc_context.specs.declared.package.Grant.{Grant}
+use Rattle.tc_context.specs.Locks.{lock_in}
+use Rattle.tc_context.specs.View.{PackageView, AllowsPending, Rests, bare, fits_of, number_in, with_seal}
+use Rattle.tc_context.specs.Ran.{DidRun}
+use Rattle.tc_context.specs.Lawful.{Lawful}
+use Rattle.tc_hall.specs.declared.place.Place.{Place}
+use Rattle.tc_hall.specs.declared.place.Place.TheVariants.{Ready}
+use Rattle.tc_hall.specs.declared.board.Given.{Given}
+use Rattle.tc_hall.specs.declared.board.Terms.{Terms}
+use Rattle.tc_hall.specs.declared.board.Knows.{Knows}
+use Rattle.tc_hall.specs.declared.board.Call.{Call}
+use Rattle.tc_hall.specs.declared.board.Call.TheVariants.{Put, Free, Look, Stop, Stopped}
+use Rattle.tc_hall.specs.declared.board.Cargo.{Cargo}
+use Rattle.tc_hall.specs.declared.board.Cargo.TheVariants.{Package, Lock}
+use Rattle.tc_hall.specs.Places.{code_of, place_of}
+use Rattle.tc_hall.specs.Rule.{Has, HasLock, IsInOrder, grants_adopted, locked_in, ran_with, clean}
+use Rattle.tc_hall.specs.PassView.{PassView}
+
+abbrev pub At : Type 0
+At = Step (Option Cargo)
+
+abbrev pub Sat : Type 0
+Sat = Me (Option Cargo) Knows
+
+abbrev pub IsSamePass : PassView → PassView → Type 0
+IsSamePass p q = (q.table ≡ p.table) × (q.seat ≡ p.seat)
+
+-- the effects on the view: of `claim` and `adopt`
+
+-- what is out after these locks came or changed
+abbrev pub or_kept : Option LockView → Option LockView → Option LockView
+or_kept old None = old
+or_kept old (Some l) = Some (kept l)
+
+abbrev pub add_all : List (Option LockView) → List (Option LockView) → List (Option LockView)
+add_all [] slots = []
+add_all (x ∷ xs) [] = x ∷ xs
+add_all (x ∷ xs) (o ∷ slots) = or_kept x o ∷ add_all xs slots
+
+-- with the package q and all its locks
+abbrev pub with_package : Knows → PackageView → Knows
+with_package v q = record v { packages = slice_set v.packages q.context.thread (Some (bare q)); locks = add_all v.locks q.context.locks }
+
+abbrev pub after_claim : Knows → PackageView → Knows
+after_claim v q = record (with_package v q) { misfits = slice_set v.misfits q.context.thread (not (fits_of q v.worker)) }
+
+-- of `commit`, where the block b was sealed and the package is then q
+abbrev pub after_commit : Knows → Block → PackageView → Knows
+after_commit v b q = record (with_package v q) { sealed = v.sealed ++ b ∷ [] }
+
+-- of `put`
+
+abbrev pub or_none : Option LockView → Option LockView → Option LockView
+or_none old None = old
+or_none old (Some l) = None
+
+abbrev pub remove_all : List (Option LockView) → List (Option LockView) → List (Option LockView)
+remove_all [] slots = []
+remove_all (x ∷ xs) [] = x ∷ xs
+remove_all (x ∷ xs) (o ∷ slots) = or_none x o ∷ remove_all xs slots
+
+-- the numbers of the locks in a package, the least first
+abbrev pub numbers : List (Option LockView) → List ℕ
+numbers slots = filter (λ i. is_some (lock_in slots i)) (range_with_len 0 (length slots))
+
+-- the lock that is granted, with its kind and the number of its turn
+abbrev pub given_of : PackageView → Option Given
+given_of q = option_map (λ (g : Grant). record { lock = g.lock; kind = g.kind; number = number_in q g.lock }) q.granted
+
+abbrev pub after_put : Knows → PackageView → Place → Knows
+after_put v q place =
+    record v {
+      packages = slice_set v.packages q.context.thread None;
+      locks = remove_all v.locks q.context.locks;
+      calls = v.calls ++ Put q.context.thread place (numbers q.context.locks) (given_of q) ∷ [];
+    }
+
+-- of `take` and `free`
+abbrev pub after_take : Knows → LockView → Knows
+after_take v l = record v { locks = slice_set v.locks l.number (Some (kept l)) }
+
+abbrev pub after_free : Knows → LockView → Knows
+after_free v l = record v { locks = slice_set v.locks l.number None; calls = v.calls ++ Free l.number ∷ [] }
+
+-- of a compare-and-swap that fails
+abbrev pub after_miss : Knows → ℕ → ℕ → Knows
+after_miss v word found = record v { missed = v.missed ++ record { word = word; found = found } ∷ [] }
+
+-- of `look`, `stop` and `stopped`
+abbrev pub with_call : Knows → Call → Knows
+with_call v c = record v { calls = v.calls ++ c ∷ [] }
+
+abbrev pub after_look : Knows → ℕ → ℕ → Knows
+after_look v t word = with_call v (Look t word)
+
+abbrev pub after_stop : Knows → Knows
+after_stop v = with_call v Stop
+
+abbrev pub after_stopped : Knows → ℕ → Knows
+after_stopped v word = with_call v (Stopped word)
+
+-- of the making of a pass, and of `join`
+abbrev pub dealt : Knows → Knows
+dealt v = record v { made = v.made + 1 }
+
+abbrev pub fresh : Knows → Knows
+fresh v = clean v.image (length v.packages) (length v.locks) v.made false
+
+abbrev pub merged : Knows → Knows → Knows
+merged v w = record v { joined = v.joined ++ w.worker ∷ w.joined; sealed = v.sealed ++ w.sealed; calls = v.calls ++ w.calls; missed = v.missed ++ w.missed }
+
+-- a pass that was joined into another
+abbrev pub gone : Knows
+gone = record { image = record { ranges = []; entries = []; guards = [] }; worker = 0; maker = false; made = 0; spent = true; joined = []; packages = []; misfits = []; locks = []; hand = None; sealed = []; calls = []; missed = [] }
+
+-- the clauses of the calls
+
+-- what was out is out as it was
+abbrev pub StaysOut : Knows → Knows → Type 0
+StaysOut v w = ((u : ℕ) (p : PackageView) → Has v u p → Has w u p) × ((i : ℕ) (l : LockView) → HasLock v i l → HasLock w i l)
+
+-- the package q of thread t was taken out of its slot, where its thread's word was this
+pub record Gets (word t : ℕ) (q : PackageView) (v w : Knows) : Type 0 where
+  pub now : w ≡ after_claim v q
+  pub has : Has w t (bare q)
+  pub locks : (i : ℕ) (l : LockView) → locked_in q i ≡ Some l → HasLock w i (kept l)
+  pub others : StaysOut v w
+  pub thread : q.context.thread ≡ t
+  pub of : q.image ≡ v.image
+  pub settled : q.pending ≡ None
+  pub order : IsInOrder word q
+  pub fits : grants_adopted q.granted ≡ false → (worker : ℕ) → fits_of q worker ≡ true
+  -- its log has each block of its thread that the pass has sealed
+  pub sealed : (i : ℕ) (b : Block) → get_elem? v.sealed i ≡ some b → b.thread ≡ t → (j : ℕ) × (get_elem? q.log j ≡ some b)
+
+-- the word was found to be another than wanted
+abbrev pub Missed : ℕ → ℕ → ℕ → Knows → Knows → Type 0
+Missed wanted word found v w = (found ≢ wanted) × (w ≡ after_miss v word found)
+
+-- the pass's list shows that a stop was made
+pub data HasStop (v : Knows) : Type 0 where
+  made : (i : ℕ) → get_elem? v.calls i ≡ some Stop → HasStop v
+  seen : (i : ℕ) → get_elem? v.calls i ≡ some (Stopped 1) → HasStop v
+
+-- the package may be put at this place
+pub record MayPut (place : Place) (v : Knows) (q : PackageView) : Type 0 where
+  pub has : Has v q.context.thread (bare q)
+  pub locks : (i : ℕ) (l : LockView) → locked_in q i ≡ Some l → HasLock v i (kept l)
+  pub order : IsInOrder (code_of place) q
+  pub stop : grants_adopted q.granted ≡ true → HasStop v
+  pub fits : grants_adopted q.granted ≡ false → fits_of q v.worker ≡ true
+
+abbrev pub MayPutReady : Knows → PackageView → Type 0
+MayPutReady = MayPut Ready
+
+-- the package was put at the place
+pub record Gave (place : Place) (q : PackageView) (v w : Knows) : Type 0 where
+  pub now : w ≡ after_put v q place
+  pub others : (u : ℕ) (p : PackageView) → u ≢ q.context.thread → Has v u p → Has w u p
+  pub others_locks : (i : ℕ) (l : LockView) → locked_in q i ≡ None → HasLock v i l → HasLock w i l
+
+-- the state of lock i was taken out of its slot
+pub record Takes (i : ℕ) (l : LockView) (v w : Knows) : Type 0 where
+  pub now : w ≡ after_take v l
+  pub has : HasLock w i (kept l)
+  pub others : StaysOut v w
+  pub rest : IsAtRest v.image i l
+  -- it has each block of the lock that the pass has sealed
+  pub sealed : (e : ℕ) (b : Block) → get_elem? v.sealed e ≡ some b → ran_with b i ≡ true → (j : ℕ) × (get_elem? (blocks_of l) j ≡ some b)
+
+pub record MayFree (v : Knows) (l : LockView) : Type 0 where
+  pub has : HasLock v l.number (kept l)
+  pub rests : Rests l.number l
+
+pub record Freed (l : LockView) (v w : Knows) : Type 0 where
+  pub now : w ≡ after_free v l
+  pub others : (u : ℕ) (p : PackageView) → Has v u p → Has w u p
+  pub others_locks : (i : ℕ) (k : LockView) → i ≢ l.number → HasLock v i k → HasLock w i k
+
+-- a block made the package of one that the pass has out, and the batch rule allows it the pass's worker
+pub record Seals (v : Knows) (q : PackageView) : Type 0 where
+  pub before : PackageView
+  pub has : Has v q.context.thread (bare before)
+  pub locks : (i : ℕ) (l : LockView) → locked_in before i ≡ Some l → HasLock v i (kept l)
+  pub ran : DidRun v.image before q
+  pub allows : AllowsPending q v.worker
+
+-- its block got the stamp n
+pub record DidSeal (q : PackageView) (n : ℕ) (v w : Knows) : Type 0 where
+  pub block : Block
+  pub pending : q.pending ≡ Some block
+  pub now : w ≡ after_commit v (sealed_block n v.worker block) (with_seal n v.worker q)
+  pub has : Has w q.context.thread (bare (with_seal n v.worker q))
+  pub locks : (i : ℕ) (l : LockView) → locked_in (with_seal n v.worker q) i ≡ Some l → HasLock w i (kept l)
+  pub others : (u : ℕ) (p : PackageView) → u ≢ q.context.thread → Has v u p → Has w u p
+  pub others_locks : (i : ℕ) (l : LockView) → locked_in q i ≡ None → HasLock v i l → HasLock w i l
+  pub after_own : (i : ℕ) (b : Block) → get_elem? v.sealed i ≡ some b → b.stamp < n
+  -- each other block in its log and in its locks has a lower stamp
+  pub after_log : (i : ℕ) (b : Block) → get_elem? (with_seal n v.worker q).log i ≡ some b → (b.stamp < n) ⊎ (b ≡ sealed_block n v.worker block)
+  pub after_locks : (k : ℕ) (l : LockView) (i : ℕ) (b : Block) → locked_in (with_seal n v.worker q) k ≡ Some l → get_elem? (blocks_of l) i ≡ some b → (b.stamp < n) ⊎ (b ≡ sealed_block n v.worker block)
+
+-- what each step on the table tells
+
+-- the package of thread t was taken, and the pass has its slot in hand
+abbrev pub Got : ℕ → ℕ → Sat → Sat → Type 0
+Got word t m m' = (q : PackageView) × (w : Knows) × Gets word t q m.0 w × (m' ≡ (record w { hand = Some t }, (t, Some (Package q)) ∷ m.1))
+
+abbrev pub claimed : At → Sat → ℕ → Sat → Type 0
+claimed st m r m' = (r ≡ st.first → (t : ℕ) → st.word ≡ t + 2 → Got st.first t m m') × (r ≢ st.first → m' ≡ (after_miss m.0 st.word r, m.1))
+
+-- the state of lock i was taken, and the pass has the slot in hand
+abbrev pub Took : ℕ → ℕ → Sat → Sat → Type 0
+Took i slot m m' = (l : LockView) × (w : Knows) × Takes i l m.0 w × (m' ≡ (record w { hand = Some slot }, (slot, Some (Lock l)) ∷ m.1))
+
+abbrev pub took_as : Option ℕ → At → Sat → ℕ → Sat → Type 0
+took_as o st m r m' = (r ≡ st.first → (i slot : ℕ) → o ≡ Some i → st.word ≡ slot + 2 → Took i slot m m') × (r ≢ st.first → m' ≡ (after_miss m.0 st.word r, m.1))
+
+abbrev pub laid : At → Sat → ℕ → Sat → Type 0
+laid st m r m' = m' ≡ (record m.0 { hand = None }, rest m.1)
+
+abbrev pub reached : At → Sat → ℕ → Sat → Type 0
+reached st m r m' = (slot : ℕ) → st.word ≡ slot + 2 → m' ≡ (record m.0 { hand = Some slot }, (slot, None) ∷ m.1)
+
+abbrev pub did_put : At → Sat → ℕ → Sat → Type 0
+did_put st m r m' = (t : ℕ) (q : PackageView) → m.1 ≡ (t, Some (Package q)) ∷ [] → m' ≡ (record (after_put m.0 q (place_of st.first)) { hand = None }, [])
+
+abbrev pub did_free : At → Sat → ℕ → Sat → Type 0
+did_free st m r m' = (slot : ℕ) (l : LockView) → m.1 ≡ (slot, Some (Lock l)) ∷ [] → m' ≡ (record (after_free m.0 l) { hand = None }, [])
+
+abbrev pub looked : At → Sat → ℕ → Sat → Type 0
+looked st m r m' = (t : ℕ) → st.word ≡ t + 2 → m' ≡ (with_call m.0 (Look t r), m.1)
+
+abbrev pub stopping : At → Sat → ℕ → Sat → Type 0
+stopping st m r m' = m' ≡ (with_call m.0 Stop, m.1)
+
+-- a pass that took a package which didn't fit sees the stop
+abbrev pub saw_stopped : At → Sat → ℕ → Sat → Type 0
+saw_stopped st m r m' = (m' ≡ (with_call m.0 (Stopped r), m.1)) × ((t : ℕ) → get_elem? m.0.misfits t ≡ some true → r ≡ 1)
+
+-- the package whose block is sealed, where one was picked
+abbrev pub sealed_as : Option PackageView → At → Sat → ℕ → Sat → Type 0
+sealed_as o st m r m' = (q : PackageView) → o ≡ Some q → DidSeal q r m.0 m'.0 × (m'.1 ≡ m.1)
+
+-- at the making and the end
+
+-- the pass of a worker, which has done nothing
+pub record IsNew (image : Shown) (n m worker : ℕ) (v : Knows) : Type 0 where
+  pub of : v.image ≡ image
+  pub now : v ≡ record (clean v.image n m worker v.maker) { made = v.made }
+
+-- nothing is out with the pass
+pub record IsFree (v : Knows) : Type 0 where
+  pub packages : (t : ℕ) (p : PackageView) → ¬ Has v t p
+  pub locks : (i : ℕ) (l : LockView) → ¬ HasLock v i l
+
+-- the pass has seen each thread at 2
+abbrev pub HasSeenAll : ℕ → Knows → Type 0
+HasSeenAll n v = (t : ℕ) → t < n → (i : ℕ) × (get_elem? v.calls i ≡ some (Look t 2))
+
+-- each worker is the pass's own or was joined
+abbrev pub HasAll : ℕ → Knows → Type 0
+HasAll workers v = (u : ℕ) → u < workers → (u ≡ v.worker) ⊎ ((e : ℕ) × (get_elem? v.joined e ≡ some u))
+
+-- the packages and lock states in order, at the end
+pub record IsEnd (k : Terms) (qs : List PackageView) (ls : List LockView) : Type 0 where
+  pub history : List Block
+  pub law : Lawful k.image.value k.fuel k.limit history (map bare qs) (map kept ls)
+  pub workers : (i : ℕ) (b : Block) → get_elem? history i ≡ some b → b.worker < k.workers
+  pub ended : (t : ℕ) (q : PackageView) → get_elem? qs t ≡ some q → (is_running q.context.guest.status ≡ false) × ((i : ℕ) → locked_in q i ≡ None)
+
+-- what lies in a slot
+abbrev pub IsPackage : Option Cargo → Type 0
+IsPackage x = (q : PackageView) × (x ≡ Some (Package q))
+
+abbrev pub is_package : Option Cargo → PackageView → Type 0
+is_package x q = x ≡ Some (Package q)
+
+abbrev pub is_lock : Option Cargo → LockView → Type 0
+is_lock x l = x ≡ Some (Lock l)
+
+abbrev pub IsLock : Option Cargo → Type 0
+IsLock x = (l : LockView) × (x ≡ Some (Lock l))
+
+-- the stop word was seen, as 1 or not; it was 1 where the pass took a package that didn't fit
+pub record SawStopped (yes : Bool) (v w : Knows) : Type 0 where
+  pub word : ℕ
+  pub now : w ≡ after_stopped v word
+  pub one : yes ≡ true → word ≡ 1
+  pub other : yes ≡ false → word ≢ 1
+  pub misfit : (t : ℕ) → get_elem? v.misfits t ≡ some true → yes ≡ true

@@ -1,0 +1,122 @@
+//! The table that the workers share, and what a pass knows.
+//!
+//! Word 0 is the clock, word 1 the stop, word t + 2 shows where thread t is, and word threads + 2 +
+//! i whether lock i is out. Slot t is for the package of thread t, and slot threads + i for the
+//! state of lock i. So the word of a slot is its number and 2.
+use crate::place::Place;
+use atomic_table::{Seat, Table, TableRule};
+use std::alloc::Global;
+use std::collections::LinkedList;
+use std::snapshot::Snapshot;
+use tc_context::package::Package;
+use tc_elf::image::Image;
+use tc_journal::block::{Block, Kind};
+use tc_segment::state::LockState;
+
+/// What a hall is made with.
+#[derive(Drop)]
+pub struct Terms {
+    /// The guest that it runs.
+    pub image: Snapshot<Image>,
+    /// The fuel of each thread at its start.
+    pub fuel: u32,
+    /// The number of workers, and so of passes.
+    pub workers: u32,
+    /// The batch limit.
+    pub limit: u32,
+}
+
+/// What a slot is for.
+#[derive(Drop)]
+pub enum Cargo {
+    /// The package of a thread.
+    Package(Package),
+    /// The state of a lock.
+    Lock(LockState),
+}
+
+/// A lock that was granted in a package that is put. No value of it is made.
+#[derive(Clone, Copy)]
+pub struct Given {
+    /// The number of the lock.
+    pub lock: u32,
+    /// How it came.
+    pub kind: Kind,
+    /// The number of the queue turn with which it came.
+    pub number: u64,
+}
+
+/// A call that a pass made. No value of it is made.
+pub enum Call {
+    /// The thread, its place, the numbers of the locks in its package, and what was granted.
+    Put(u32, Place, LinkedList<u32>, Option<Given>),
+    /// The lock.
+    Free(u32),
+    /// The thread and the word that was seen.
+    Look(u32, u64),
+    /// A stop.
+    Stop,
+    /// The word that was seen.
+    Stopped(u64),
+}
+
+/// A word that was found to be another than the step asked for.
+#[derive(Clone, Copy)]
+pub struct Miss {
+    /// The number of the word in the table.
+    pub word: u64,
+    /// What it was.
+    pub found: u64,
+}
+
+/// What a pass knows. No value of it is made.
+pub struct Knows {
+    /// The image that the hall runs.
+    pub image: Image,
+    /// The number of its worker.
+    pub worker: u32,
+    /// Whether it is the pass that makes the others.
+    pub maker: bool,
+    /// How many others it has made.
+    pub made: u32,
+    /// Whether the pass was joined into another.
+    pub spent: bool,
+    /// The workers of the passes that were joined into this one.
+    pub joined: LinkedList<u32>,
+    /// For each thread its package without its locks, as of its last commit, where the pass has it
+    /// out.
+    pub packages: LinkedList<Option<Package>>,
+    /// For each thread whether its package didn't fit the worker when the pass last took it.
+    pub misfits: LinkedList<bool>,
+    /// For each lock its state, as of its last commit, where the pass has it out.
+    pub locks: LinkedList<Option<LockState>>,
+    /// The slot that the pass holds, inside a call.
+    pub hand: Option<u32>,
+    /// The blocks that it sealed and those of the passes that were joined into it.
+    pub sealed: LinkedList<Block>,
+    /// The calls of `put`, `free`, `look`, `stop` and `stopped`, in their order, and then those of
+    /// each pass that was joined.
+    pub calls: LinkedList<Call>,
+    /// The compare-and-swaps that failed.
+    pub missed: LinkedList<Miss>,
+}
+
+/// What a slot of the table holds.
+pub type Slot = Option<Cargo>;
+
+/// The rule of the table.
+pub struct Ruled;
+
+impl TableRule<Slot, Knows, Terms> for Ruled {
+    ghost use Rattle.tc_hall.specs.Rule.{Kept, starting};
+
+    ghost holds = { Kept };
+
+    ghost first = { starting };
+}
+
+/// The table of a hall.
+pub type Board = Table<Slot, Knows, Terms, Ruled, Global>;
+
+/// The seat of a pass.
+pub type Sitting = Seat<Slot, Knows>;

@@ -1,0 +1,425 @@
+//! Halls and their calls.
+
+ghost use Rattle.std.specs.Prelude.{◌≡◌, ◌≢◌, ◌<◌, ◌≤◌, ◌+◌, length, MatchResult, IfOk, Some, true};
+ghost use Rattle.tc_isa.specs.declared.limits.TheConstants.{MAX_FUEL, MAX_WORKERS, MAX_BATCH};
+ghost use Rattle.tc_elf.specs.declared.limits.TheConstants.{MAX_THREADS, MAX_GUARDS};
+ghost use Rattle.tc_elf.specs.Shown.{Shown};
+ghost use Rattle.tc_context.specs.View.{with_seal};
+ghost use Rattle.tc_hall.specs.Places.{IsInRange, origin_code};
+ghost use Rattle.tc_hall.specs.Rule.{threads, locks};
+ghost use Rattle.tc_hall.specs.Steps.{IsSamePass, IsPackage, IsLock, is_package, is_lock, Gets, MayPut, Gave, Missed, Takes, MayFree, Freed, Seals, DidSeal, after_look, after_stop, SawStopped, merged, IsFree, HasAll, HasSeenAll, IsEnd};
+ghost use Rattle.tc_hall.specs.Made.{IsHallOf, AreDealt, AreStocked};
+
+use crate::board::{Board, Cargo, Slot, Terms};
+use crate::closed::Closed;
+use crate::pass::Pass;
+use crate::place::{Origin, Place};
+use crate::plays::{
+    Asked, Claim, Deal, Fill, Free, Lay, Look, Merge, Reach, Seal, Stop, Stopped, Take, Wanted,
+};
+use atomic_table::{Refused, Table};
+use std::alloc::{AllocError, Global};
+use std::marker::{Brand, Model};
+use std::snapshot::Snapshot;
+use tc_context::package::Package;
+use tc_elf::image::Image;
+use tc_segment::state::LockState;
+
+/// What `claim` answers where the thread was not where it is claimed from: the word that was seen.
+#[derive(Clone, Copy, PartialEq, Eq, Debug)]
+pub struct NotReady(
+    /// The word that was seen.
+    pub u64,
+);
+
+/// What `adopt` answers where the thread was not waiting for the lock: the word that was seen.
+#[derive(Clone, Copy, PartialEq, Eq, Debug)]
+pub struct NotWaiting(
+    /// The word that was seen.
+    pub u64,
+);
+
+/// What `take` answers where the lock was not home: the word that was seen.
+#[derive(Clone, Copy, PartialEq, Eq, Debug)]
+pub struct LockOut(
+    /// The word that was seen.
+    pub u64,
+);
+
+/// A table of packages and lock states, which passes take out and put back. The workers share it:
+/// each calls it with its own pass. After `new` no call takes memory, and none waits for another.
+#[derive(Drop)]
+pub struct Hall {
+    board: Board,
+    threads: u32,
+    locks: u32,
+    // Room for what is taken out at the end.
+    packages: Vec<Package>,
+    lock_states: Vec<LockState>,
+}
+
+impl Model for Hall {
+    ghost use Rattle.std.specs.Prelude.{◌≡◌, ◌≤◌, ◌+◌, [], length, vec_capacity};
+    ghost use Rattle.tc_hall.specs.PassView.{HallView};
+
+    ghost Value = { HallView };
+
+    ghost view = { λ h. record { table = h.board.shared.table_id; terms = h.board.shared.key } };
+
+    ghost invariant = { λ h. (h.threads ≡ length h.board.shared.key.image.value.entries)
+        × (h.board.shared.table_id.words ≡ h.threads + 2 + h.locks)
+        × (h.board.shared.table_id.slots ≡ h.threads + h.locks)
+        × (h.locks ≡ length h.board.shared.key.image.value.guards)
+        × (h.packages.items ≡ [])
+        × (h.threads ≤ vec_capacity h.packages)
+        × (h.lock_states.items ≡ [])
+        × (h.locks ≤ vec_capacity h.lock_states)
+        × (h.threads ≤ 16)
+        × (h.locks ≤ 16) };
+}
+
+// The package that lay in a slot.
+fn package_of(slot: Slot) -> Package
+    requires { IsPackage slot }
+    ensures { is_package slot result }
+{
+    match slot {
+        Some(Cargo::Package(package)) => package,
+        Some(Cargo::Lock(_)) => unreachable!(),
+        None => unreachable!(),
+    }
+}
+
+// The lock state that lay in a slot.
+fn lock_of(slot: Slot) -> LockState
+    requires { IsLock slot }
+    ensures { is_lock slot result }
+{
+    match slot {
+        Some(Cargo::Lock(lock)) => lock,
+        Some(Cargo::Package(_)) => unreachable!(),
+        None => unreachable!(),
+    }
+}
+
+// The packages of all threads, ready, and then the states of all locks.
+fn stock(alloc: Global, image: &Image, fuel: u32, limit: u32) -> Result<Vec<Slot>, AllocError>
+    requires { (1 ≤ fuel) × (fuel ≤ MAX_FUEL) × (limit ≤ MAX_BATCH) }
+    ensures { IfOk result (λ v. AreStocked image.now (length image.now.entries)
+        (length image.now.guards) fuel limit v.items) }
+{
+    let threads = image.threads();
+    let locks = image.guards();
+    let mut slots = Vec::with_capacity(alloc, threads as usize + locks as usize)?;
+    for t in 0..threads {
+        slots.push_reserved(Some(Cargo::Package(Package::start(alloc, image, t, fuel)?)));
+    }
+    for i in 0..locks {
+        slots.push_reserved(Some(Cargo::Lock(LockState::new(alloc, image, i, limit)?)));
+    }
+    Ok(slots)
+}
+
+impl Hall {
+    /// A hall of so many workers, and a pass for each of them. Each thread is at its start and
+    /// ready, and its package and the states of all locks are home. All memory that the hall ever
+    /// needs is taken here, so that a refusal is want of memory alone.
+    pub fn new(
+        alloc: Global,
+        image: &Image,
+        fuel: u32,
+        workers: u32,
+        limit: u32,
+    ) -> Result<(Hall, Vec<Pass>), AllocError>
+        requires fuel { (1 ≤ fuel) × (fuel ≤ MAX_FUEL) }
+        requires workers { (1 ≤ workers) × (workers ≤ MAX_WORKERS) }
+        requires limit { limit ≤ MAX_BATCH }
+        ensures hall { IfOk result (λ r. IsHallOf image.now fuel workers limit r.0) }
+        ensures passes { IfOk result (λ r. AreDealt image.now (length image.now.entries)
+            (length image.now.guards) workers r.0.table r.1.items) }
+    {
+        let threads = image.threads() as usize;
+        let locks = image.guards() as usize;
+        let packages = Vec::with_capacity(alloc, threads)?;
+        let lock_states = Vec::with_capacity(alloc, locks)?;
+        let mut passes = Vec::with_capacity(alloc, workers as usize)?;
+        let words = Vec::from_elem(alloc, 0u64, threads + 2 + locks)?;
+        let slots = stock(alloc, image, fuel, limit)?;
+        let terms = Terms {
+            image: Snapshot::of(image),
+            fuel,
+            workers,
+            limit,
+        };
+        let (board, mut first) = match Table::new(alloc, words.as_slice(), slots, &terms) {
+            Ok(made) => made,
+            Err(Refused { slots: _ }) => return Err(AllocError),
+        };
+        for worker in 0..workers - 1 {
+            let seat = board.shared.split_seat::<Deal>(&mut first);
+            passes.push_reserved(Pass {
+                seat,
+                number: worker,
+            });
+        }
+        passes.push_reserved(Pass {
+            seat: first,
+            number: workers - 1,
+        });
+        let hall = Hall {
+            board,
+            threads: image.threads(),
+            locks: image.guards(),
+            packages,
+            lock_states,
+        };
+        Ok((hall, passes))
+    }
+
+    /// Takes in another pass of the hall, which ends with it: its blocks and calls follow those of
+    /// this pass, and its worker number counts as joined.
+    pub fn join(&self, pass: &mut Pass, other: Pass)
+        requires own { (pass.old.table ≡ self.now.table) × (other.table ≡ self.now.table) }
+        requires free { IsFree other.knows }
+        ensures own { IsSamePass pass.old pass.new }
+        ensures merged { pass.new.knows ≡ merged pass.old.knows other.knows }
+    {
+        let Pass { seat, number: _ } = other;
+        self.board.shared.join_seat::<Merge>(&mut pass.seat, seat);
+    }
+
+    /// Ends the hall. It answers all packages and all lock states, in order of number, which are as
+    /// the history of all sealed blocks leaves them: the stamps in the logs are the numbers from 0
+    /// on, each once. It goes over the slots, and takes no memory.
+    pub fn close(self, pass: Pass) -> Closed
+        requires own { pass.table ≡ self.table }
+        requires all { HasAll self.terms.workers pass.knows }
+        requires free { IsFree pass.knows }
+        requires done { HasSeenAll (threads self.terms) pass.knows }
+        ensures { IsEnd self.terms result.packages result.locks }
+    {
+        let Hall {
+            board,
+            threads,
+            locks,
+            mut packages,
+            mut lock_states,
+        } = self;
+        let Pass { seat, number: _ } = pass;
+        let mut closed = board.close_with(seat);
+        for t in 0..threads as usize {
+            packages.push_reserved(package_of(closed.take(t)));
+        }
+        for i in 0..locks as usize {
+            lock_states.push_reserved(lock_of(closed.take(threads as usize + i)));
+        }
+        closed.free();
+        Closed {
+            packages,
+            locks: lock_states,
+        }
+    }
+
+    /// Ends the hall before its threads have ended, and drops all packages and lock states.
+    pub fn abandon(self, pass: Pass)
+        requires own { pass.table ≡ self.table }
+        requires all { HasAll self.terms.workers pass.knows }
+        requires free { IsFree pass.knows }
+    {
+        drop(pass);
+        drop(self);
+    }
+
+    // The package of a thread whose word is this.
+    fn claim_from(&self, pass: &mut Pass, t: u32, code: u64) -> Result<Package, u64>
+        requires own { pass.old.table ≡ self.now.table }
+        requires thread { t < threads self.now.terms }
+        requires code { (code ≢ 2) × (code < 256 + locks self.now.terms) }
+        ensures own { IsSamePass pass.old pass.new }
+        ensures result { MatchResult result
+            (λ p. Gets code t p pass.old.knows pass.new.knows)
+            (λ e. Missed code (t + 2) e pass.old.knows pass.new.knows) }
+    {
+        let at = 512 + u64::from(pass.number);
+        let words = &self.board.shared;
+        let found = words.compare_exchange::<Claim>(&mut pass.seat, t as usize + 2, code, at);
+        if found != code {
+            return Err(found);
+        }
+        let slot = words.exchange(&mut pass.seat, t as usize, None);
+        words.load::<Lay>(&mut pass.seat, 0);
+        Ok(package_of(slot))
+    }
+
+    /// Takes the package of a ready or a parked thread, by one compare-and-swap on the thread's
+    /// word, which shows the pass's worker afterwards. It refuses exactly where the word was
+    /// another, and nothing changes then but that the pass has missed. It does not try again.
+    pub fn claim(&self, pass: &mut Pass, t: u32, from: Origin) -> Result<Package, NotReady>
+        requires own { pass.old.table ≡ self.now.table }
+        requires thread { t < threads self.now.terms }
+        ensures own { IsSamePass pass.old pass.new }
+        ensures result { MatchResult result
+            (λ p. Gets (origin_code from) t p pass.old.knows pass.new.knows)
+            (λ e. Missed (origin_code from) (t + 2) e.0 pass.old.knows pass.new.knows) }
+    {
+        match self.claim_from(pass, t, from.code()) {
+            Ok(package) => Ok(package),
+            Err(word) => Err(NotReady(word)),
+        }
+    }
+
+    /// Takes the package of a thread that waits for the lock, by one compare-and-swap on the
+    /// thread's word, which shows the pass's worker afterwards. It refuses exactly where the word
+    /// was another, and does not try again.
+    pub fn adopt(&self, pass: &mut Pass, t: u32, lock: u32) -> Result<Package, NotWaiting>
+        requires own { pass.old.table ≡ self.now.table }
+        requires thread { t < threads self.now.terms }
+        requires lock { lock < locks self.now.terms }
+        ensures own { IsSamePass pass.old pass.new }
+        ensures result { MatchResult result
+            (λ p. Gets (256 + lock) t p pass.old.knows pass.new.knows)
+            (λ e. Missed (256 + lock) (t + 2) e.0 pass.old.knows pass.new.knows) }
+    {
+        match self.claim_from(pass, t, 256 + u64::from(lock)) {
+            Ok(package) => Ok(package),
+            Err(word) => Err(NotWaiting(word)),
+        }
+    }
+
+    /// Puts a package that the pass has out into its thread's slot, with all locks that are in it.
+    /// Its step is the store of the place on the thread's word, once the slot is filled: from then
+    /// on any pass may take it there.
+    pub fn put(&self, pass: &mut Pass, package: Package, place: Place)
+        requires own { pass.old.table ≡ self.now.table }
+        requires thread { «package».context.thread < threads self.now.terms }
+        requires place { IsInRange (locks self.now.terms) place }
+        requires ready { MayPut place pass.old.knows «package» }
+        ensures own { IsSamePass pass.old pass.new }
+        ensures put { Gave place «package» pass.old.knows pass.new.knows }
+    {
+        let t = package.thread() as usize;
+        let code = place.code();
+        let words = &self.board.shared;
+        words.load::<Reach>(&mut pass.seat, t + 2);
+        match words.exchange(&mut pass.seat, t, Some(Cargo::Package(package))) {
+            None => {}
+            Some(_) => unreachable!(),
+        }
+        words.store::<Fill>(&mut pass.seat, t + 2, code);
+    }
+
+    // Takes J's lock.
+    fn take_as<J: Wanted>(&self, pass: &mut Pass, lock: u32) -> Result<LockState, LockOut>
+        requires own { pass.old.table ≡ self.now.table }
+        requires picked { J.number ≡ Some lock }
+        requires lock { lock < locks self.now.terms }
+        ensures own { IsSamePass pass.old pass.new }
+        ensures result { MatchResult result
+            (λ l. Takes lock l pass.old.knows pass.new.knows)
+            (λ e. Missed 0 (threads self.now.terms + lock + 2) e.0
+            pass.old.knows pass.new.knows) }
+    {
+        let place = self.threads as usize + lock as usize;
+        let words = &self.board.shared;
+        let found = words.compare_exchange::<Take<J>>(&mut pass.seat, place + 2, 0, 1);
+        if found != 0 {
+            return Err(LockOut(found));
+        }
+        let slot = words.exchange(&mut pass.seat, place, None);
+        words.load::<Lay>(&mut pass.seat, 0);
+        Ok(lock_of(slot))
+    }
+
+    /// Takes the state of a lock that is home, by one compare-and-swap on the lock's word from 0 to
+    /// 1. It refuses exactly where the word was not 0, and does not try again.
+    pub fn take(&self, pass: &mut Pass, lock: u32) -> Result<LockState, LockOut>
+        requires own { pass.old.table ≡ self.now.table }
+        requires lock { lock < locks self.now.terms }
+        ensures own { IsSamePass pass.old pass.new }
+        ensures result { MatchResult result
+            (λ l. Takes lock l pass.old.knows pass.new.knows)
+            (λ e. Missed 0 (threads self.now.terms + lock + 2) e.0
+            pass.old.knows pass.new.knows) }
+    {
+        self.take_as::<Brand>(pass, lock)
+    }
+
+    /// Brings the state of a lock home. Its step is the store of 0 on the lock's word, once the
+    /// slot is filled: from then on any pass may take it.
+    pub fn free(&self, pass: &mut Pass, lock: LockState)
+        requires own { pass.old.table ≡ self.now.table }
+        requires lock { lock.number < locks self.now.terms }
+        requires ready { MayFree pass.old.knows lock }
+        ensures own { IsSamePass pass.old pass.new }
+        ensures freed { Freed lock pass.old.knows pass.new.knows }
+    {
+        let place = self.threads as usize + lock.number() as usize;
+        let words = &self.board.shared;
+        words.load::<Reach>(&mut pass.seat, place + 2);
+        match words.exchange(&mut pass.seat, place, Some(Cargo::Lock(lock))) {
+            None => {}
+            Some(_) => unreachable!(),
+        }
+        words.store::<Free>(&mut pass.seat, place + 2, 0);
+    }
+
+    /// The word of a thread, by one load: 0 for ready, 1 for parked, 2 for done, 256 and the lock's
+    /// number for waiting, 512 and the worker's number for out. The pass's list keeps what was
+    /// seen.
+    pub fn look(&self, pass: &mut Pass, t: u32) -> u64
+        requires own { pass.old.table ≡ self.now.table }
+        requires thread { t < threads self.now.terms }
+        ensures own { IsSamePass pass.old pass.new }
+        ensures look { pass.new.knows ≡ after_look pass.old.knows t result }
+    {
+        self.board
+            .shared
+            .load::<Look>(&mut pass.seat, t as usize + 2)
+    }
+
+    /// Tells all workers to stop, by one store of 1 on the stop word, which no call takes back.
+    pub fn stop(&self, pass: &mut Pass)
+        requires own { pass.old.table ≡ self.now.table }
+        ensures own { IsSamePass pass.old pass.new }
+        ensures stop { pass.new.knows ≡ after_stop pass.old.knows }
+    {
+        self.board.shared.store::<Stop>(&mut pass.seat, 1, 1);
+    }
+
+    /// Whether a stop was made, by one load of the stop word. It was, where the pass took a package
+    /// that did not fit its worker, since such a package comes only from a stop.
+    pub fn stopped(&self, pass: &mut Pass) -> bool
+        requires own { pass.old.table ≡ self.now.table }
+        ensures own { IsSamePass pass.old pass.new }
+        ensures stopped { SawStopped result pass.old.knows pass.new.knows }
+    {
+        self.board.shared.load::<Stopped>(&mut pass.seat, 1) == 1
+    }
+
+    // The step that seals the block of J's package.
+    fn seal_as<J: Asked>(&self, pass: &mut Pass, package: &Package) -> u64
+        requires own { pass.old.table ≡ self.now.table }
+        requires picked { J.picked ≡ Some «package».now }
+        requires ready { Seals pass.old.knows «package».now }
+        ensures own { IsSamePass pass.old pass.new }
+        ensures seals { DidSeal «package».now result pass.old.knows pass.new.knows }
+    {
+        let _ = package;
+        self.board.shared.fetch_add::<Seal<J>>(&mut pass.seat, 0, 1)
+    }
+
+    /// Seals the pending block of a package that the pass has out, by one fetch-and-add on the
+    /// clock. The number that was found is the block's stamp and the answer, and the pass's worker
+    /// is the block's.
+    pub fn commit(&self, pass: &mut Pass, package: &mut Package) -> u64
+        requires own { pass.old.table ≡ self.now.table }
+        requires ready { Seals pass.old.knows «package».old }
+        ensures own { IsSamePass pass.old pass.new }
+        ensures seals { DidSeal «package».old result pass.old.knows pass.new.knows }
+        ensures context { «package».new ≡ with_seal result pass.old.knows.worker «package».old }
+    {
+        let stamp = self.seal_as::<Brand>(pass, package);
+        package.seal(stamp, pass.number);
+        stamp
+    }
+}

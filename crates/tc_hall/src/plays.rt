@@ -1,0 +1,116 @@
+//! What each step on the table tells.
+ghost use Rattle.tc_hall.specs.Steps.{claimed, laid, reached, did_put, did_free, looked, stopping, saw_stopped, sealed_as, took_as, dealt, fresh, merged, gone};
+
+use crate::board::{Knows, Slot};
+use atomic_table::{Join, Play, Split};
+use std::marker::{Brand, PhantomData};
+
+pub(crate) struct Claim;
+
+impl Play<Slot, Knows> for Claim {
+    ghost then = { claimed };
+}
+
+// Gives the slot back, empty.
+pub(crate) struct Lay;
+
+impl Play<Slot, Knows> for Lay {
+    ghost then = { laid };
+}
+
+// Takes the empty slot, to fill it.
+pub(crate) struct Reach;
+
+impl Play<Slot, Knows> for Reach {
+    ghost then = { reached };
+}
+
+pub(crate) struct Fill;
+
+impl Play<Slot, Knows> for Fill {
+    ghost then = { did_put };
+}
+
+pub(crate) struct Free;
+
+impl Play<Slot, Knows> for Free {
+    ghost then = { did_free };
+}
+
+pub(crate) struct Look;
+
+impl Play<Slot, Knows> for Look {
+    ghost then = { looked };
+}
+
+pub(crate) struct Stop;
+
+impl Play<Slot, Knows> for Stop {
+    ghost then = { stopping };
+}
+
+pub(crate) struct Stopped;
+
+impl Play<Slot, Knows> for Stopped {
+    ghost then = { saw_stopped };
+}
+
+/// The package whose block is sealed. Each call picks it.
+pub trait Asked {
+    ghost use Rattle.std.specs.Prelude.{Option};
+    ghost use Rattle.tc_context.specs.View.{PackageView};
+
+    ghost picked: { Option PackageView };
+}
+
+impl Asked for Brand {
+    ghost use Rattle.std.specs.Prelude.{None};
+
+    ghost picked = { None };
+}
+
+pub(crate) struct Seal<J> {
+    marker: PhantomData<J>,
+}
+
+impl<J: Asked> Play<Slot, Knows> for Seal<J> {
+    ghost then = { sealed_as J.picked };
+}
+
+/// The lock that is taken. Each call picks it.
+pub trait Wanted {
+    ghost use Rattle.std.specs.Prelude.{Option, ℕ};
+
+    ghost number: { Option ℕ };
+}
+
+impl Wanted for Brand {
+    ghost use Rattle.std.specs.Prelude.{None};
+
+    ghost number = { None };
+}
+
+pub(crate) struct Take<J> {
+    marker: PhantomData<J>,
+}
+
+impl<J: Wanted> Play<Slot, Knows> for Take<J> {
+    ghost then = { took_as J.number };
+}
+
+// Makes another pass.
+pub(crate) struct Deal;
+
+impl Split<Knows> for Deal {
+    ghost left = { dealt };
+
+    ghost right = { fresh };
+}
+
+pub(crate) struct Merge;
+
+impl Join<Knows> for Merge {
+    ghost both = { merged };
+
+    ghost spent = { gone };
+}
