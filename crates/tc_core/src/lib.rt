@@ -6,7 +6,8 @@
 //! step and when, so every order of the workers' steps is a list of events. The layers above are
 //! promised what `theorem::theorem` states: with workers and delegation forgotten, each list of
 //! enabled events is a run of ordinary mutexes, turn by turn and block by block; each lock is given
-//! in the order of entry; and no more sections in a row are adopted than the batch limit says.
+//! in the order of entry; no more sections in a row are adopted than the batch limit says; and the
+//! held set of a block is the locks that its thread has.
 //!
 //! - `event`: the events. `place`: where threads and locks are. `specs/Core.antt`: the state.
 //! - `theorem`: the theorem. `specs/Stories.antt` has the lists of events, `specs/Theorem.antt`

@@ -379,7 +379,7 @@ fn tried(core: &mut Core, image: &Image, tries: &[(Event, u32, bool)]) -> u32
     count
 }
 
-/// A lock that is loose is given to a thread: by Adopt, or by Grant.
+/// The worker passes the lock on to the thread: by Adopt, or by Grant.
 fn pass(adopted: bool, worker: u32, thread: u32, lock: u32) -> Event {
     if adopted {
         adopt(worker, thread, lock)
@@ -388,8 +388,7 @@ fn pass(adopted: bool, worker: u32, thread: u32, lock: u32) -> Event {
     }
 }
 
-/// Three threads want lock 1, up to where thread 0 has it and all rows but one condition hold: 43
-/// rows.
+/// Up to where thread 0 has released lock 1, while threads 1 and 2 stand in its line: 43 rows.
 fn to_the_line(core: &mut Core, image: &Image) -> u32
     requires { IsCoreOf image.now core.old }
     ensures { IsCoreOf image.now core.new }
@@ -450,7 +449,7 @@ fn to_the_line(core: &mut Core, image: &Image) -> u32
     tried(core, image, &tries)
 }
 
-/// Lock 1 goes from thread to thread, and thread 0 leaves the line of lock 0: 44 rows.
+/// Lock 1 goes to thread 1 and then to thread 2, thread 0 leaves lock 0 and ends: 44 rows.
 fn to_the_end(core: &mut Core, image: &Image, adopted: bool) -> u32
     requires { IsCoreOf image.now core.old }
     ensures { IsCoreOf image.now core.new }
@@ -511,9 +510,9 @@ fn to_the_end(core: &mut Core, image: &Image, adopted: bool) -> u32
     tried(core, image, &tries)
 }
 
-/// Each event is tried where just one of its conditions fails. There is no row for a condition that
-/// never fails alone: a number out of range is at no worker and in no line, and a LOCK within a
-/// block has ended it.
+/// Each event is tried where just one of its conditions fails. A condition that never fails alone
+/// has no row: a number out of range is at no worker and in no line, a LOCK within a block ends the
+/// block before it, and a thread that has ended takes no lock.
 #[test]
 fn each_condition_counts(rt: HostRuntime) -> Result<(), Fail> {
     // Each thread takes lock 1 and gives it back, and then lock 0.

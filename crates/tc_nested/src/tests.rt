@@ -33,7 +33,11 @@ fn a_lock_goes_to_a_waiter_by_the_batch_limit(rt: HostRuntime) {
         (0, 4, false, Next::Free),
     ];
     for (run, limit, waiting, next) in cases {
-        assert_eq!(rt; plan(&block, 0, run, limit, waiting), next, "{run} of {limit}");
+        assert_eq!(rt;
+            plan(&block, 0, run, limit, waiting),
+            next,
+            "{run} of {limit}"
+        );
     }
 }
 
