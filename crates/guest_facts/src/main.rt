@@ -25,6 +25,7 @@ use std::sync::Wait;
 use std::thread::Threads;
 use tc_io::memory::{MemSink, MemSource};
 use tc_io::word::Word;
+use tc_main::gate::Open;
 use tc_main::top::tclocks;
 
 /// How many bytes a report may have.
@@ -42,7 +43,7 @@ fn report_of<R: Threads + Wait + Sync>(
     }
     let mut source = MemSource::new(file, 4096, Vec::new(alloc));
     let mut sink = MemSink::new(alloc, ROOM, ROOM, Vec::new(alloc))?;
-    tclocks(rt, alloc, &words, &mut source, &mut sink);
+    tclocks(rt, alloc, &words, &mut source, &mut sink, &Open);
     Vec::from_slice(alloc, sink.written())
 }
 

@@ -1,11 +1,11 @@
-//! Compares `decode` and `encode` with what other tools say of 1,500 words.
+//! Compares `decode` and `encode` with what other tools say of 1,778 words.
 //!
 //! The table comes on standard input, as `stdin` of this folder holds it: a line of headings, and
 //! a line `word,row,rd,rs1,rs2,imm` for each word, in ascending order. The columns come from
 //! outside of this repository: objdump of GNU Binutils and the disassembler of LLVM named the
-//! instruction, its registers and its immediate, and the emulator QEMU, with the extensions turned
-//! off, said which words are legal. A word that QEMU takes for no instruction of RV32I is
-//! `undefined`, though a disassembler may know it from an extension, as 027302b3 (`mul`). The words
+//! instruction, its registers and its immediate, and the emulator QEMU, with all extensions but M
+//! turned off, said which words are legal. A word that QEMU takes for no instruction of RV32IM is
+//! `undefined`, though a disassembler may know it from an extension, as 0a7342b3 (`min`). The words
 //! are some of every instruction, each with single bits turned, and random ones.
 //!
 //! `row` prints what `decode` says of a word as a line of the table. A word agrees where that line

@@ -171,5 +171,13 @@ fn op_name(op: RegOp) -> &'static str {
         RegOp::Sra => "sra",
         RegOp::Or => "or",
         RegOp::And => "and",
+        RegOp::Mul => "mul",
+        RegOp::Mulh => "mulh",
+        RegOp::Mulhsu => "mulhsu",
+        RegOp::Mulhu => "mulhu",
+        RegOp::Div => "div",
+        RegOp::Divu => "divu",
+        RegOp::Rem => "rem",
+        RegOp::Remu => "remu",
     }
 }

@@ -1,2 +1,4 @@
 pub mod NoteSteps
 pub mod Images
+mod Reach
+mod Table

@@ -1,5 +1,5 @@
 -- The notes of a file (System V gABI, "Note Section"), and the one on threads and guards.
-use Rattle.std.specs.Prelude.{◌≡◌, ℕ, zero, suc, ◌+◌, ◌*◌, ◌/◌, ◌==◌, nat_lt, not, ◌&&◌, ◌||◌, if◌then◌else◌, Bool, List, [], ◌∷◌, ◌++◌, Option, Some, None, length, take, drop, map, filter, codes}
+use Rattle.std.specs.Prelude.{◌≡◌, ℕ, zero, suc, ◌+◌, ◌*◌, ◌/◌, ◌==◌, nat_lt, nat_le, not, ◌&&◌, ◌||◌, if◌then◌else◌, Bool, List, [], ◌∷◌, ◌++◌, Option, Some, None, length, take, drop, map, filter, codes}
 use Rattle.std.specs.List.{range_with_len}
 use Rattle.std.specs.Option.{option_map}
 use Rattle.std.specs.Str.{bytes_eq}
@@ -94,18 +94,27 @@ pub record Layout : Type 0 where
   pub entries : List Entry
   pub guards : List Guard
 
--- the descriptor: three words, its version 1 and the numbers of threads and of guards, then a pair of words for each
+-- the descriptor: three words, its version and the numbers of threads and of guards, then a pair of words for each
 -- thread and for each guard
+abbrev pub version : List ℕ → ℕ
+version d = word_at d 0
+
 abbrev pub thread_count : List ℕ → ℕ
 thread_count d = word_at d 4
 
 abbrev pub guard_count : List ℕ → ℕ
 guard_count d = word_at d 8
 
+-- version 1 has at most 16 threads and 16 guards, and version 2 as many as there may be
+abbrev pub has_room : ℕ → ℕ → ℕ → Bool
+has_room version threads guards =
+    version == 1 && nat_le threads 16 && nat_le guards 16
+    || version == 2 && nat_le threads MAX_THREADS && nat_le guards MAX_GUARDS
+
 abbrev pub is_bad_descriptor : List ℕ → Bool
 is_bad_descriptor d =
-    nat_lt (length d) 12 || not (word_at d 0 == 1)
-    || thread_count d == 0 || nat_lt MAX_THREADS (thread_count d) || nat_lt MAX_GUARDS (guard_count d)
+    nat_lt (length d) 12 || thread_count d == 0
+    || not (has_room (version d) (thread_count d) (guard_count d))
     || not (length d == 12 + 8 * thread_count d + 8 * guard_count d)
 
 abbrev pub entry_in : List ℕ → ℕ → Entry

@@ -25,6 +25,12 @@ stack_length = 0x4000
 abbrev pub in_range : ℕ → ℕ → Range → Bool
 in_range addr width r = lies_in addr width r.start r.length
 
+abbrev pub touches_range : ℕ → ℕ → Range → Bool
+touches_range addr width r = meets addr width r.start r.length
+
+abbrev pub touches_text : ℕ → ℕ → Range → Bool
+touches_text addr width r = not r.writable && touches_range addr width r
+
 abbrev pub in_text : ℕ → ℕ → Range → Bool
 in_text addr width r = not r.writable && in_range addr width r
 

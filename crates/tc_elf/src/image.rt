@@ -1,14 +1,15 @@
 //! The image of a guest: its ranges of memory, its threads' entries and its guards.
 
-ghost use Rattle.std.specs.Prelude.{◌≡◌, ◌<◌, ◌≤◌, ◌%◌, true, length, IfSome, position, find};
+ghost use Rattle.std.specs.Prelude.{◌≡◌, ℕ, ◌+◌, ◌<◌, ◌≤◌, ◌%◌, true, length, Some, IfSome, position, find, slice_index};
 ghost use Rattle.std.specs.List.{list_any};
 ghost use Rattle.std.specs.Option.{option_copied};
 ghost use Rattle.tc_elf.specs.Shown.{entry_at, guard_at, range_at, outline};
 ghost use Rattle.tc_elf.specs.declared.limits.TheConstants.{MAX_HEADERS, MAX_THREADS, MAX_GUARDS};
 ghost use Rattle.tc_elf.specs.Kept.{IsRange, IsGuard};
-ghost use Rattle.tc_elf.specs.Places.{lies_in, meets, in_range, in_text, in_writable, in_code, in_guard, touches, region_of, unguarded_region, fetched, byte_of};
+ghost use Rattle.tc_elf.specs.Places.{lies_in, meets, in_range, in_text, in_writable, in_code, in_guard, touches, touches_range, region_of, unguarded_region, fetched, byte_of};
 
 use crate::limits::{STACK_LENGTH, STACK_START};
+use crate::places::{Place, place_in};
 use byteorder::{ByteOrder, LittleEndian};
 use std::marker::Model;
 
@@ -79,11 +80,12 @@ pub struct Image {
     pub(crate) ranges: Vec<Range>,
     pub(crate) entries: Vec<Entry>,
     pub(crate) guards: Vec<Guard>,
+    pub(crate) places: Vec<Place>,
 }
 
 impl Model for Image {
     ghost use Rattle.tc_elf.specs.Shown.{Shown};
-    ghost use Rattle.tc_elf.specs.Kept.{IsImage};
+    ghost use Rattle.tc_elf.specs.Table.{IsTabled};
 
     ghost Value = { Shown };
 
@@ -93,11 +95,11 @@ impl Model for Image {
       guards = i.guards.items;
     } };
 
-    ghost invariant = { λ i. IsImage (record {
+    ghost invariant = { λ i. IsTabled (record {
       ranges = i.ranges.items;
       entries = i.entries.items;
       guards = i.guards.items;
-    }) };
+    }) i.places.items };
 }
 
 /// The place that holds all bytes of an access.
@@ -116,7 +118,7 @@ pub enum Region {
 }
 
 /// Whether all bytes of an access lie in what begins at `start` and has this length.
-fn lies_in(addr: u32, width: u32, start: u32, length: u32) -> bool
+pub(crate) fn lies_in(addr: u32, width: u32, start: u32, length: u32) -> bool
     ensures { result ≡ lies_in addr width start length }
 {
     addr >= start && addr as u64 + width as u64 <= start as u64 + length as u64
@@ -138,20 +140,20 @@ impl Range {
 }
 
 impl Guard {
-    fn has(&self, addr: u32, width: u32) -> bool
+    pub(crate) fn has(&self, addr: u32, width: u32) -> bool
         ensures { result ≡ in_guard addr width self.now }
     {
         lies_in(addr, width, self.start, self.length)
     }
 
-    fn touches(&self, addr: u32, width: u32) -> bool
+    pub(crate) fn touches(&self, addr: u32, width: u32) -> bool
         ensures { result ≡ touches addr width self.now }
     {
         meets(addr, width, self.start, self.length)
     }
 }
 
-fn any_text(ranges: &[Range], addr: u32, width: u32) -> bool
+pub(crate) fn any_text(ranges: &[Range], addr: u32, width: u32) -> bool
     ensures { result ≡ list_any (in_text addr width) ranges.now }
 {
     ranges.iter().any(|r| !r.writable && r.has(addr, width))
@@ -171,7 +173,7 @@ pub(crate) fn any_writable(ranges: &[Range], addr: u32, width: u32) -> bool
     ranges.iter().any(|r| r.writable && r.has(addr, width))
 }
 
-fn any_touched(guards: &[Guard], addr: u32, width: u32) -> bool
+pub(crate) fn any_touched(guards: &[Guard], addr: u32, width: u32) -> bool
     ensures { result ≡ list_any (touches addr width) guards.now }
 {
     guards.iter().any(|g| g.touches(addr, width))
@@ -189,6 +191,15 @@ fn range_with(ranges: &[Range], addr: u32) -> Option<&Range>
     ensures has { IfSome result (λ r. in_range addr 1 r.now ≡ true) }
 {
     ranges.iter().find(|r| r.has(addr, 1))
+}
+
+/// The first range that has an address of those from one on.
+fn range_meeting(ranges: &[Range], start: u32, length: u32) -> Option<&Range>
+    ensures first { option_copied result ≡ find (touches_range start length) ranges.now }
+{
+    ranges
+        .iter()
+        .find(|r| meets(start, length, r.start, r.length))
 }
 
 fn code_with(ranges: &[Range], pc: u32) -> Option<&Range>
@@ -275,14 +286,27 @@ impl Image {
         }
     }
 
-    /// The one place that holds all bytes of an access.
+    /// The place of an access, looked for in guards and ranges.
     #[tactic(auto, unfolding(crate::specs::Places::region_of))]
-    pub fn region(&self, addr: u32, width: u32) -> Region
+    fn searched_region(&self, addr: u32, width: u32) -> Region
         ensures { result ≡ region_of self.now addr width }
     {
         match guard_with(&self.guards, addr, width) {
             Some(lock) => Region::Guard(lock as u32),
             None => self.unguarded_region(addr, width),
+        }
+    }
+
+    /// The one place that holds all bytes of an access.
+    pub fn region(&self, addr: u32, width: u32) -> Region
+        ensures { result ≡ region_of self.now addr width }
+    {
+        if width == 0 {
+            return self.searched_region(addr, width);
+        }
+        match place_in(&self.places, addr, width) {
+            Some(region) => region,
+            None => self.searched_region(addr, width),
         }
     }
 
@@ -304,5 +328,21 @@ impl Image {
     {
         let range = range_with(&self.ranges, addr)?;
         Some(range.bytes[(addr - range.start) as usize])
+    }
+
+    /// The bytes that one range has from an address on at the start, where it has so many there.
+    /// It costs a copy nothing but its length; `byte` asks all ranges for each byte.
+    #[tactic(auto, unfolding(crate::specs::Places::byte_of))]
+    pub fn bytes(&self, start: u32, count: u32) -> Option<&[u8]>
+        ensures count { IfSome result (λ bytes. length bytes.now ≡ count) }
+        ensures each { IfSome result (λ bytes. (i : ℕ) → i < count
+            → byte_of self.now (start + i) ≡ Some (slice_index bytes.now i)) }
+    {
+        let range = range_meeting(&self.ranges, start, count)?;
+        if !range.has(start, count) {
+            return None;
+        }
+        let at = (start - range.start) as usize;
+        Some(&range.bytes[at..at + count as usize])
     }
 }

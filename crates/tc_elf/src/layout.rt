@@ -1,15 +1,16 @@
 //! The threads and the guards of a file.
 //!
 //! The descriptor of the note on them has the words version, number of threads and number of
-//! guards, then a pair of words for each thread and one for each guard.
+//! guards, then a pair of words for each thread and one for each guard. The versions differ only in
+//! how many of both they may have.
 
 ghost use Rattle.std.specs.Prelude.{◌≡◌, ◌≢◌, ◌≤◌, ◌+◌, ◌*◌, false, length, Some, None, IfOk, IfErr};
-ghost use Rattle.tc_elf.specs.Notes.{is_bad_descriptor, entry_in, guard_in, entries_from, guards_from, described_layout, header_layout, layout_over, HasBadNote};
+ghost use Rattle.tc_elf.specs.Notes.{has_room, is_bad_descriptor, entry_in, guard_in, entries_from, guards_from, described_layout, header_layout, layout_over, HasBadNote};
 ghost use Rattle.tc_elf.specs.declared.refusal.Refusal.TheVariants.{OutOfMemory, BadNote};
 
 use crate::header::HEADER_LENGTH;
 use crate::image::{Entry, Guard};
-use crate::limits::{MAX_GUARDS, MAX_THREADS};
+use crate::limits::{FIRST_VERSION_MOST, MAX_GUARDS, MAX_THREADS};
 use crate::notes::descriptor;
 use crate::refusal::Refusal;
 use crate::segment::{Segment, word_at};
@@ -19,8 +20,10 @@ use std::marker::Model;
 /// The length of a descriptor before its pairs, in bytes.
 const LAYOUT_HEADER_LENGTH: usize = 12;
 
-/// The version of the descriptor.
-const LAYOUT_VERSION: u32 = 1;
+/// The versions of the descriptor.
+const FIRST_VERSION: u32 = 1;
+
+const SECOND_VERSION: u32 = 2;
 
 /// Which threads and guards a file has.
 #[derive(Drop)]
@@ -37,6 +40,17 @@ impl Model for Layout {
     ghost view = { λ l. record { entries = l.entries.items; guards = l.guards.items } };
 }
 
+/// Whether a version of the descriptor may have so many threads and guards.
+fn has_room(version: u32, threads: u32, guards: u32) -> bool
+    ensures { result ≡ has_room version threads guards }
+{
+    match version {
+        FIRST_VERSION => threads <= FIRST_VERSION_MOST && guards <= FIRST_VERSION_MOST,
+        SECOND_VERSION => threads <= MAX_THREADS && guards <= MAX_GUARDS,
+        _ => false,
+    }
+}
+
 fn is_bad_descriptor(descriptor: &[u8]) -> bool
     ensures { result ≡ is_bad_descriptor descriptor.now }
 {
@@ -45,10 +59,8 @@ fn is_bad_descriptor(descriptor: &[u8]) -> bool
     }
     let threads = word_at(descriptor, 4);
     let guards = word_at(descriptor, 8);
-    word_at(descriptor, 0) != LAYOUT_VERSION
-        || threads == 0
-        || threads > MAX_THREADS
-        || guards > MAX_GUARDS
+    threads == 0
+        || !has_room(word_at(descriptor, 0), threads, guards)
         || descriptor.len() != LAYOUT_HEADER_LENGTH + 8 * threads as usize + 8 * guards as usize
 }
 

@@ -10,10 +10,13 @@ pub const MAX_HEADERS: u16 = 16;
 pub const MAX_MEMORY: u64 = 1_048_576;
 
 /// The greatest number of threads; there is one at least.
-pub const MAX_THREADS: u32 = 16;
+pub const MAX_THREADS: u32 = 32;
 
 /// The greatest number of guards.
-pub const MAX_GUARDS: u32 = 16;
+pub const MAX_GUARDS: u32 = 32;
+
+/// The greatest number of threads, and that of guards, in a note of version 1.
+pub const FIRST_VERSION_MOST: u32 = 16;
 
 /// The least length of a guard in bytes.
 pub const MIN_GUARD_LENGTH: u32 = 4;

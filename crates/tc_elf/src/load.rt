@@ -13,6 +13,7 @@ use crate::header::segments;
 use crate::image::{Image, Range};
 use crate::layout::Layout;
 use crate::limits::MAX_FILE;
+use crate::places::places;
 use crate::refusal::Refusal;
 use crate::segment::Segment;
 use std::alloc::{AllocError, Global};
@@ -86,9 +87,11 @@ pub fn load(alloc: Global, bytes: &[u8]) -> Result<Image, Refusal>
     ensures kept { IfOk result (λ image. IsImage image) }
 {
     let (ranges, layout) = parts(alloc, bytes)?;
+    let places = places(alloc, &ranges, &layout.guards)?;
     Ok(Image {
         ranges,
         entries: layout.entries,
         guards: layout.guards,
+        places,
     })
 }

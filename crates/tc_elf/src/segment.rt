@@ -26,7 +26,7 @@ const PT_TLS: u32 = 7;
 
 /// A segment, as its program header describes it; words that nothing looks at are left out.
 #[derive(Clone, Copy)]
-pub(crate) struct Segment {
+pub struct Segment {
     kind: u32,
     offset: u32,
     pub(crate) address: u32,

@@ -93,6 +93,8 @@ fn loads_a_linked_file(rt: HostRuntime) -> Result<(), Fail> {
     ] {
         assert_eq!(rt; image.byte(addr), byte, "at {addr}");
     }
+    assert!(rt; image.bytes(0x20000, 2) == Some([0xcd, 0xab].as_slice()));
+    assert!(rt; image.bytes(0x2001f, 2).is_none());
     Ok(())
 }
 
@@ -165,7 +167,9 @@ fn refuses_the_linked_file_changed(rt: HostRuntime) -> Result<(), Fail> {
         (53, 0xffff_fffd, 12),
         (54, 0xffff_fffd, 12),
         // The descriptor's version, its numbers of threads and guards, and its length.
-        (67, 2, 12),
+        (67, 0, 12),
+        (67, 2, 0),
+        (67, 3, 12),
         (68, 0, 12),
         (69, 0, 12),
         (63, 0x20, 12),
@@ -227,13 +231,13 @@ fn program_header(kind: u32, flags: u32, part: (u32, u32), addr: u32, memory: u3
 }
 
 /// How much a file has of what is limited: program headers, bytes of memory, threads, guards, and
-/// bytes of each guard.
-type Amounts = (u32, u32, u32, u32, u32);
+/// bytes of each guard. Before these the version of its note.
+type Amounts = (u32, u32, u32, u32, u32, u32);
 
 /// A file of these amounts. It has a note, two words of code at 0x00010000, data from 0x00020000
 /// on of which the file has no bytes, and headers that are passed over. Guards are 8 bytes apart.
 fn file_with(alloc: Global, amounts: Amounts) -> Result<Vec<u8>, AllocError> {
-    let (headers, memory, threads, guards, length) = amounts;
+    let (version, headers, memory, threads, guards, length) = amounts;
     let pairs = threads.wrapping_add(guards).wrapping_mul(8);
     let note = headers.wrapping_mul(32).wrapping_add(52);
     let note_size = pairs.wrapping_add(32);
@@ -247,7 +251,7 @@ fn file_with(alloc: Global, amounts: Amounts) -> Result<Vec<u8>, AllocError> {
         words.extend_from_slice(&program_header(0x6474_e551, 6, (0, 0), 0, 0))?;
     }
     words.extend_from_slice(&[8, pairs.wrapping_add(12), 1, 0x4f4c_4354, 0x0053_4b43])?;
-    words.extend_from_slice(&[1, threads, guards])?;
+    words.extend_from_slice(&[version, threads, guards])?;
     for _ in 0..threads {
         words.extend_from_slice(&[0x1_0000, 0])?;
     }
@@ -261,17 +265,21 @@ fn file_with(alloc: Global, amounts: Amounts) -> Result<Vec<u8>, AllocError> {
 #[test]
 fn loads_up_to_the_limits(rt: HostRuntime) -> Result<(), Fail> {
     let cases = [
-        ((16, 66_000, 1, 0, 0), 0),
-        ((17, 66_000, 1, 0, 0), 7),
-        ((3, 1_048_576, 1, 0, 0), 0),
-        ((3, 1_048_577, 1, 0, 0), 9),
-        ((3, 66_000, 16, 0, 0), 0),
-        ((3, 66_000, 17, 0, 0), 12),
-        ((3, 66_000, 1, 16, 4), 0),
-        ((3, 66_000, 1, 17, 4), 12),
-        ((3, 66_000, 1, 1, 0), 14),
-        ((3, 66_000, 1, 1, 65_536), 0),
-        ((3, 66_000, 1, 1, 65_540), 14),
+        ((1, 16, 66_000, 1, 0, 0), 0),
+        ((1, 17, 66_000, 1, 0, 0), 7),
+        ((1, 3, 1_048_576, 1, 0, 0), 0),
+        ((1, 3, 1_048_577, 1, 0, 0), 9),
+        ((1, 3, 66_000, 16, 16, 4), 0),
+        ((1, 3, 66_000, 17, 16, 4), 12),
+        ((1, 3, 66_000, 16, 17, 4), 12),
+        ((2, 3, 66_000, 1, 0, 0), 0),
+        ((2, 3, 66_000, 32, 32, 4), 0),
+        ((2, 3, 66_000, 33, 32, 4), 12),
+        ((2, 3, 66_000, 32, 33, 4), 12),
+        ((2, 3, 66_000, 0, 32, 4), 12),
+        ((1, 3, 66_000, 1, 1, 0), 14),
+        ((1, 3, 66_000, 1, 1, 65_536), 0),
+        ((1, 3, 66_000, 1, 1, 65_540), 14),
     ];
     for (amounts, number) in cases {
         let bytes = file_with(rt.alloc(), amounts)?;

@@ -3,3 +3,5 @@ pub mod Cases
 pub mod Kept
 pub mod Laws
 pub mod NoLock
+mod DoneTold
+mod Slots

@@ -1,5 +1,5 @@
 -- Only an ECALL with the number of LOCK in x17 is a LOCK.
-use Rattle.std.proofs.Common.{◌≡◌, ℕ, ◌*◌, ◌%◌, ◌/◌, Bool, false, refl, sym, subst, ap}
+use Rattle.std.proofs.Common.{◌≡◌, ℕ, ◌*◌, ◌%◌, ◌/◌, Bool, false, refl, sym, subst, ap, ◌∙◌}
 use Rattle.std.specs.Prelude.{Option, Some, None, Result, Ok, Err, ◌==◌}
 use Rattle.tc_isa.specs.Registers.{Registers, get, with_register}
 use Rattle.tc_isa.specs.declared.fault.Fault.{Fault}
@@ -15,12 +15,13 @@ use Rattle.tc_exec.proofs.Cases.{choose}
 use Rattle.tc_exec.specs.Arithmetic.{plus, is_taken}
 use Rattle.tc_exec.specs.Flow.{at_next, set, jump_to, branch, faulted_or}
 use Rattle.tc_exec.specs.Access.{load_width, store_width, extended, load_fault, store_fault, load, put_at, store}
-use Rattle.tc_exec.specs.Calls.{unlock_fault, sleep_fault, answered, guest_call}
+use Rattle.tc_exec.specs.Calls.{lock_fault, unlock_fault, sleep_fault, answered, guest_call}
 use Rattle.tc_exec.specs.Step.{decoded_from, instruction_at, act_by, act_from, act_of}
-use Rattle.tc_exec.specs.Told.{IsNoLock}
+use Rattle.tc_exec.specs.Told.{IsNoLock, taken_by}
+use Rattle.tc_exec.specs.Statements.{NeverLocks, CallsLock}
 use Rattle.tc_exec.specs.declared.outcome.Act.{Act}
 use Rattle.tc_exec.specs.declared.outcome.Act.TheVariants.{Next, Called, Faulted}
-use Rattle.tc_exec.specs.declared.outcome.Call.TheVariants.{Unlock, Sleep, Exit}
+use Rattle.tc_exec.specs.declared.outcome.Call.TheVariants.{Lock, Unlock, Sleep, Exit}
 
 pub no_lock_or : (f : Option Fault) (act : Act) → IsNoLock act → IsNoLock (faulted_or f act)
 no_lock_or (Some f) act h = tt
@@ -85,3 +86,38 @@ other_word image held r answer word at other =
 pub no_word : (image : Shown) (held : ℕ → Bool) (r : Registers) (answer : ℕ) → fetched image r.pc ≡ None → IsNoLock (act_of image held r answer)
 unfolding act_of instruction_at
 no_word image held r answer at = subst (λ o. IsNoLock (act_from image held r answer (decoded_from o))) (sym at) tt
+
+-- the word of ECALL, with the number of LOCK
+pub calls : (image : Shown) (r : Registers) (word : ℕ) → get r 17 ≡ 1 → fetched image r.pc ≡ Some word → decoded word ≡ Some Ecall → CallsLock image r
+unfolding instruction_at
+calls image r word number at decodes = record { ecall = ap decoded_from at ∙ ap (λ o. ok_or o fault.Illegal) decodes; number = number }
+
+-- ---- the lock that an act takes
+
+none_taken : (a : Act) → IsNoLock a → taken_by a ≡ None
+none_taken (Next next put) h = refl
+none_taken (Called (Lock lock) next) h = absurd h
+none_taken (Called (Unlock lock) next) h = refl
+none_taken (Called (Sleep blocks) next) h = refl
+none_taken (Called Exit next) h = refl
+none_taken (Faulted f) h = refl
+
+pub taken_none : (image : Shown) (held : ℕ → Bool) (r : Registers) → NeverLocks image r → (answer : ℕ) → None ≡ taken_by (act_of image held r answer)
+taken_none image held r never answer = sym (none_taken (act_of image held r answer) (never held answer))
+
+-- an ECALL with the number of LOCK is a LOCK, or its fault
+calls_lock : (image : Shown) (held : ℕ → Bool) (r : Registers) → CallsLock image r → (answer : ℕ)
+    → act_of image held r answer ≡ faulted_or (lock_fault image held (get r 10)) (Called (Lock (get r 10)) (answered r answer))
+unfolding act_of act_by guest_call
+calls_lock image held r calls answer = rw (calls.ecall, calls.number) refl
+
+pub taken_some : (image : Shown) (held : ℕ → Bool) (r : Registers) (f : Option Fault) → CallsLock image r → lock_fault image held (get r 10) ≡ f → (answer : ℕ)
+    → taken_by (act_of image held r answer) ≡ (elim f as (λ f. Option ℕ) [ Some g ↦ None | None ↦ Some (get r 10) ])
+taken_some image held r f calls is answer =
+    ap taken_by (calls_lock image held r calls answer)
+    ∙ ap (λ f. taken_by (faulted_or f (Called (Lock (get r 10)) (answered r answer)))) is
+    ∙ by f
+  where
+    by : (f : Option Fault) → taken_by (faulted_or f (Called (Lock (get r 10)) (answered r answer))) ≡ (elim f as (λ f. Option ℕ) [ Some g ↦ None | None ↦ Some (get r 10) ])
+    by (Some g) = refl
+    by None = refl

@@ -1,6 +1,7 @@
--- Arithmetic on words of 32 bits (RISC-V Unprivileged ISA, RV32I, "Integer Computational Instructions").
-use Rattle.std.specs.Prelude.{ℕ, ◌+◌, ◌-◌, ◌*◌, ◌/◌, ◌%◌, ◌^◌, ◌==◌, nat_lt, int_lt, not, if◌then◌else◌, Bool, bit_and, bit_or, bit_xor}
-use Rattle.std.specs.Int.{w32, cast_signed, cast_unsigned, int_shr}
+-- Arithmetic on words of 32 bits (RISC-V Unprivileged ISA, RV32I, "Integer Computational Instructions", and the M extension, "Multiplication
+-- Operations" and "Division Operations").
+use Rattle.std.specs.Prelude.{ℕ, ◌+◌, ◌-◌, ◌*◌, ◌/◌, ◌%◌, ◌^◌, ◌==◌, ℤ, pos, ◌*ℤ◌, nat_lt, int_lt, int_div, int_rem, not, if◌then◌else◌, Bool, bit_and, bit_or, bit_xor}
+use Rattle.std.specs.Int.{w32, w64, cast_signed, cast_unsigned, int_shr}
 use Rattle.tc_isa.specs.declared.instr.RegOp.{RegOp}
 use Rattle.tc_isa.specs.declared.instr.RegOp.TheVariants as op
 use Rattle.tc_isa.specs.declared.instr.ImmOp.{ImmOp}
@@ -30,6 +31,29 @@ shifted_right a by = a / 2 ^ by
 abbrev pub shifted_signed : ℕ → ℕ → ℕ
 shifted_signed a by = cast_unsigned w32 (int_shr (cast_signed w32 a) by)
 
+-- the number that a word is in two's complement
+abbrev pub signed : ℕ → ℤ
+signed a = cast_signed w32 a
+
+-- the high 32 of the 64 bits of a product
+abbrev pub high_half : ℤ → ℕ
+high_half z = cast_unsigned w64 z / 2 ^ 32
+
+-- the quotient as signed numbers, rounded toward zero: by 0 it has all bits set, and -2 ^ 31 by -1, which is 2 ^ 31, has the bits of -2 ^ 31
+abbrev pub quotient : ℕ → ℕ → ℕ
+quotient a b = if b == 0 then 2 ^ 32 - 1 else cast_unsigned w32 (int_div (signed a) (signed b))
+
+-- its remainder, with the sign of the first: by 0 it is the first
+abbrev pub remainder : ℕ → ℕ → ℕ
+remainder a b = if b == 0 then a else cast_unsigned w32 (int_rem (signed a) (signed b))
+
+-- the same as unsigned numbers
+abbrev pub quotient_unsigned : ℕ → ℕ → ℕ
+quotient_unsigned a b = if b == 0 then 2 ^ 32 - 1 else a / b
+
+abbrev pub remainder_unsigned : ℕ → ℕ → ℕ
+remainder_unsigned a b = if b == 0 then a else a % b
+
 abbrev pub flag : Bool → ℕ
 flag b = if b then 1 else 0
 
@@ -45,6 +69,14 @@ value_of op.Srl a b = shifted_right a (b % 32)
 value_of op.Sra a b = shifted_signed a (b % 32)
 value_of op.Or a b = bit_or a b
 value_of op.And a b = bit_and a b
+value_of op.Mul a b = a * b % 2 ^ 32
+value_of op.Mulh a b = high_half (signed a *ℤ signed b)
+value_of op.Mulhsu a b = high_half (signed a *ℤ pos b)
+value_of op.Mulhu a b = high_half (pos a *ℤ pos b)
+value_of op.Div a b = quotient a b
+value_of op.Divu a b = quotient_unsigned a b
+value_of op.Rem a b = remainder a b
+value_of op.Remu a b = remainder_unsigned a b
 
 -- an operation with an immediate is the one on registers with the immediate in the second's place
 abbrev pub op_of_imm : ImmOp → RegOp

@@ -1,10 +1,11 @@
 -- The laws of one instruction: all that the layers above need to know of instructions.
-use Rattle.std.specs.Prelude.{◌≡◌, ℕ, ◌<◌, ◌≤◌, Bool, true, false, length, Some}
-use Rattle.tc_isa.specs.Registers.{Registers, IsRegisters}
+use Rattle.std.specs.Prelude.{◌≡◌, ℕ, ◌<◌, ◌≤◌, Bool, true, false, length, Some, Ok}
+use Rattle.tc_isa.specs.Registers.{Registers, IsRegisters, get}
+use Rattle.tc_isa.specs.declared.instr.Instr.TheVariants.{Ecall}
 use Rattle.tc_elf.specs.Shown.{Shown}
 use Rattle.tc_elf.specs.declared.image.Region.TheVariants as region
 use Rattle.tc_exec.specs.Calls.{answered}
-use Rattle.tc_exec.specs.Step.{wants_of, act_of}
+use Rattle.tc_exec.specs.Step.{instruction_at, wants_of, act_of}
 use Rattle.tc_exec.specs.Told.{IsNoLock, KeepsRegisters}
 use Rattle.tc_exec.specs.declared.outcome.Act.TheVariants.{Next, Called}
 use Rattle.tc_exec.specs.declared.outcome.Call.TheVariants.{Lock, Unlock}
@@ -39,6 +40,11 @@ LockIsFree = (image : Shown) (held : ℕ → Bool) (r : Registers) (answer : ℕ
 -- whatever locks are held and whatever is answered, the next instruction is no LOCK
 abbrev pub NeverLocks : Shown → Registers → Type 0
 NeverLocks image r = (held : ℕ → Bool) (answer : ℕ) → IsNoLock (act_of image held r answer)
+
+-- the next instruction is ECALL, with the number of LOCK
+pub record CallsLock (image : Shown) (r : Registers) : Type 0 where
+  pub ecall : instruction_at image r.pc ≡ Ok Ecall
+  pub number : get r 17 ≡ 1
 
 -- a LOCK loads nothing
 abbrev pub LockWantsNothing : Type 0

@@ -1,5 +1,5 @@
 -- What is true of every load, store and guest call of an instruction.
-use Rattle.std.specs.Prelude.{◌≡◌, ◌⊎◌, ℕ, ◌*◌, ◌%◌, ◌^◌, ◌<◌, ◌≤◌, Bool, true, false, length, Some, None}
+use Rattle.std.specs.Prelude.{◌≡◌, ◌⊎◌, ℕ, ◌*◌, ◌%◌, ◌^◌, ◌<◌, ◌≤◌, Bool, true, false, length, Option, Some, None}
 use Rattle.tc_isa.specs.Registers.{Registers, IsRegisters}
 use Rattle.tc_isa.specs.declared.limits.TheConstants.{MAX_SLEEP}
 use Rattle.tc_elf.specs.Shown.{Shown}
@@ -64,6 +64,15 @@ IsAct image held r (Called (Unlock lock) next) = IsUnlock image held lock × (ne
 IsAct image held r (Called (Sleep blocks) next) = (blocks ≤ MAX_SLEEP) × (next ≡ answered r 0)
 IsAct image held r (Called Exit next) = next ≡ r
 IsAct image held r (Faulted f) = Unit {0}
+
+-- the lock that an act takes, where it is a LOCK
+abbrev pub taken_by : Act → Option ℕ
+taken_by (Next next put) = None
+taken_by (Called (Lock lock) next) = Some lock
+taken_by (Called (Unlock lock) next) = None
+taken_by (Called (Sleep blocks) next) = None
+taken_by (Called Exit next) = None
+taken_by (Faulted f) = None
 
 -- an act that is no LOCK
 abbrev pub IsNoLock : Act → Type 0

@@ -23,7 +23,7 @@ pub(crate) enum Width {
 }
 
 impl Width {
-    fn of_load(kind: LoadKind) -> Width
+    pub(crate) fn of_load(kind: LoadKind) -> Width
         ensures { width_bytes result ≡ access.load_width kind }
     {
         match kind {
@@ -33,7 +33,7 @@ impl Width {
         }
     }
 
-    fn of_store(kind: StoreKind) -> Width
+    pub(crate) fn of_store(kind: StoreKind) -> Width
         ensures { width_bytes result ≡ access.store_width kind }
     {
         match kind {
@@ -43,7 +43,7 @@ impl Width {
         }
     }
 
-    fn bytes(self) -> u32
+    pub(crate) fn bytes(self) -> u32
         ensures { result ≡ width_bytes self }
     {
         match self {
@@ -78,7 +78,7 @@ fn low_half(number: u32) -> u16
     (number % 65_536) as u16
 }
 
-fn low_bytes(kind: StoreKind, value: u32) -> u32
+pub(crate) fn low_bytes(kind: StoreKind, value: u32) -> u32
     ensures { result ≡ value % 2 ^ (8 * access.store_width kind) }
 {
     match kind {
@@ -88,7 +88,7 @@ fn low_bytes(kind: StoreKind, value: u32) -> u32
     }
 }
 
-fn extended(kind: LoadKind, number: u32) -> u32
+pub(crate) fn extended(kind: LoadKind, number: u32) -> u32
     ensures { result ≡ access.extended kind number }
 {
     match kind {
@@ -120,7 +120,7 @@ fn misaligned_or(addr: u32, width: Width, other: Option<Fault>) -> Option<Fault>
     }
 }
 
-fn load_fault(held: Held, place: Region, addr: u32, width: Width) -> Option<Fault>
+pub(crate) fn load_fault(held: Held, place: Region, addr: u32, width: Width) -> Option<Fault>
     ensures { result ≡ access.load_fault (has held) place addr (width_bytes width) }
 {
     let fault = match place {
@@ -131,7 +131,7 @@ fn load_fault(held: Held, place: Region, addr: u32, width: Width) -> Option<Faul
     misaligned_or(addr, width, fault)
 }
 
-fn store_fault(held: Held, place: Region, addr: u32, width: Width) -> Option<Fault>
+pub(crate) fn store_fault(held: Held, place: Region, addr: u32, width: Width) -> Option<Fault>
     ensures { result ≡ access.store_fault (has held) place addr (width_bytes width) }
 {
     let fault = match place {

@@ -2,6 +2,7 @@
 
 ghost use Rattle.std.specs.Prelude.{◌≡◌, ◌<◌};
 ghost use Rattle.tc_exec.specs.Arithmetic as arithmetic;
+ghost use Rattle.tc_isa.specs.declared.instr.RegOp.TheVariants.{Mulh, Mulhsu, Mulhu};
 
 use tc_isa::instr::{Cond, ImmOp, RegOp};
 
@@ -16,6 +17,63 @@ fn shifted_signed(a: u32, by: u32) -> u32
     ensures { result ≡ arithmetic.shifted_signed a by }
 {
     (a.cast_signed() >> by).cast_unsigned()
+}
+
+/// The high 32 bits of a product of 64 bits.
+fn high_half(product: i64) -> u32
+    ensures { result ≡ arithmetic.high_half product }
+{
+    (product.cast_unsigned() >> 32) as u32
+}
+
+fn product_signed(a: u32, b: u32) -> u32
+    ensures { result ≡ arithmetic.value_of Mulh a b }
+{
+    high_half(i64::from(a.cast_signed()) * i64::from(b.cast_signed()))
+}
+
+fn product_mixed(a: u32, b: u32) -> u32
+    ensures { result ≡ arithmetic.value_of Mulhsu a b }
+{
+    high_half(i64::from(a.cast_signed()) * i64::from(b))
+}
+
+fn product_unsigned(a: u32, b: u32) -> u32
+    ensures { result ≡ arithmetic.value_of Mulhu a b }
+{
+    ((u64::from(a) * u64::from(b)) >> 32) as u32
+}
+
+fn quotient(a: u32, b: u32) -> u32
+    ensures { result ≡ arithmetic.quotient a b }
+{
+    if b == 0 {
+        return u32::MAX;
+    }
+    let quotient = a.cast_signed().wrapping_div(b.cast_signed());
+    quotient.cast_unsigned()
+}
+
+fn remainder(a: u32, b: u32) -> u32
+    ensures { result ≡ arithmetic.remainder a b }
+{
+    if b == 0 {
+        return a;
+    }
+    let remainder = a.cast_signed().wrapping_rem(b.cast_signed());
+    remainder.cast_unsigned()
+}
+
+fn quotient_unsigned(a: u32, b: u32) -> u32
+    ensures { result ≡ arithmetic.quotient_unsigned a b }
+{
+    if b == 0 { u32::MAX } else { a / b }
+}
+
+fn remainder_unsigned(a: u32, b: u32) -> u32
+    ensures { result ≡ arithmetic.remainder_unsigned a b }
+{
+    if b == 0 { a } else { a % b }
 }
 
 /// What an operation on two numbers gives.
@@ -33,6 +91,14 @@ pub fn value_of(op: RegOp, a: u32, b: u32) -> u32
         RegOp::Sra => shifted_signed(a, b % 32),
         RegOp::Or => a | b,
         RegOp::And => a & b,
+        RegOp::Mul => a.wrapping_mul(b),
+        RegOp::Mulh => product_signed(a, b),
+        RegOp::Mulhsu => product_mixed(a, b),
+        RegOp::Mulhu => product_unsigned(a, b),
+        RegOp::Div => quotient(a, b),
+        RegOp::Divu => quotient_unsigned(a, b),
+        RegOp::Rem => remainder(a, b),
+        RegOp::Remu => remainder_unsigned(a, b),
     }
 }
 

@@ -17,13 +17,13 @@ use tc_isa::reg::Reg;
 use tc_isa::regs::Regs;
 
 /// The numbers of the guest calls.
-const LOCK: u32 = 1;
+pub(crate) const LOCK: u32 = 1;
 
-const UNLOCK: u32 = 2;
+pub(crate) const UNLOCK: u32 = 2;
 
-const SLEEP: u32 = 3;
+pub(crate) const SLEEP: u32 = 3;
 
-const EXIT: u32 = 93;
+pub(crate) const EXIT: u32 = 93;
 
 fn is_above_held(held: Held, lock: u32) -> bool
     ensures { result ≡ calls.is_above_held (has held) lock }
@@ -41,7 +41,7 @@ fn holds_most(held: Held) -> bool
     held.count() >= MAX_HELD
 }
 
-fn lock_fault(image: &Image, held: Held, lock: u32) -> Option<Fault>
+pub(crate) fn lock_fault(image: &Image, held: Held, lock: u32) -> Option<Fault>
     ensures { result ≡ calls.lock_fault image.now (has held) lock }
 {
     if lock >= image.guards() || holds_most(held) {
@@ -53,7 +53,7 @@ fn lock_fault(image: &Image, held: Held, lock: u32) -> Option<Fault>
     }
 }
 
-fn unlock_fault(image: &Image, held: Held, lock: u32) -> Option<Fault>
+pub(crate) fn unlock_fault(image: &Image, held: Held, lock: u32) -> Option<Fault>
     ensures { result ≡ calls.unlock_fault image.now (has held) lock }
 {
     if lock >= image.guards() {
@@ -65,7 +65,7 @@ fn unlock_fault(image: &Image, held: Held, lock: u32) -> Option<Fault>
     }
 }
 
-fn sleep_fault(blocks: u32) -> Option<Fault>
+pub(crate) fn sleep_fault(blocks: u32) -> Option<Fault>
     ensures { result ≡ calls.sleep_fault blocks }
 {
     if blocks > MAX_SLEEP {

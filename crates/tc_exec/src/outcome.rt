@@ -50,3 +50,16 @@ pub enum Act {
     /// The thread ends, with its registers as they were.
     Faulted(Fault),
 }
+
+/// What an instruction does beside the registers, which have it already.
+#[derive(Clone, Copy, Debug, PartialEq, Eq)]
+pub enum Done {
+    /// The thread goes on.
+    Went,
+    /// The thread goes on after a store.
+    Stored(Put),
+    /// A guest call.
+    Called(Call),
+    /// The thread ends, with its registers as they were.
+    Faulted(Fault),
+}

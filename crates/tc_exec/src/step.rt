@@ -1,14 +1,14 @@
 //! The next instruction: what it loads, and what it does.
 
-ghost use Rattle.std.specs.Prelude.{◌≡◌, false};
+ghost use Rattle.std.specs.Prelude.{◌≡◌, ℕ, true, false};
 ghost use Rattle.tc_isa.specs.Sets.{has};
 ghost use Rattle.tc_exec.specs.Step as step;
-ghost use Rattle.tc_exec.specs.Statements.{NeverLocks};
-ghost use Rattle.tc_exec.specs.Told.{IsWant, IsAct};
+ghost use Rattle.tc_exec.specs.Statements.{NeverLocks, CallsLock};
+ghost use Rattle.tc_exec.specs.Told.{IsWant, IsAct, taken_by};
 
 use crate::access::{load, load_want, store};
 use crate::arithmetic::{op_of_imm, value_of};
-use crate::calls::{guest_call, is_numbered_lock};
+use crate::calls::{guest_call, is_numbered_lock, lock_fault};
 use crate::flow::{at_next, branch, jump, set};
 use crate::outcome::{Act, Want};
 use tc_elf::image::Image;
@@ -16,13 +16,14 @@ use tc_isa::decode::{decode, rows_decide};
 use tc_isa::fault::Fault;
 use tc_isa::held::Held;
 use tc_isa::instr::Instr;
+use tc_isa::reg::Reg;
 use tc_isa::regs::Regs;
 
 /// The word of ECALL.
 const ECALL: u32 = 0x73;
 
 #[tactic(auto, unfolding(crate::specs::Step::instruction_at))]
-fn instruction_at(image: &Image, pc: u32) -> Result<Instr, Fault>
+pub(crate) fn instruction_at(image: &Image, pc: u32) -> Result<Instr, Fault>
     ensures { result ≡ step.instruction_at image.now pc }
 {
     let word = image.fetch(pc).ok_or(Fault::Fetch)?;
@@ -30,7 +31,7 @@ fn instruction_at(image: &Image, pc: u32) -> Result<Instr, Fault>
 }
 
 #[tactic(auto, unfolding(crate::specs::Step::wants_by))]
-fn wants_by(image: &Image, held: Held, regs: &Regs, instr: Instr) -> Want
+pub(crate) fn wants_by(image: &Image, held: Held, regs: &Regs, instr: Instr) -> Want
     ensures { result ≡ step.wants_by image.now (has held) regs.now instr }
 {
     match instr {
@@ -105,7 +106,7 @@ pub fn wants(image: &Image, held: Held, regs: &Regs) -> Want
 
 /// What the next instruction does. `answer` is the number that `wants` asked for, zero-extended
 /// from its width; for a lawful LOCK it is 1 where the lock is broken and else 0; otherwise it is
-/// not looked at. The effects are those of RV32I (RISC-V Unprivileged ISA); an ECALL is a guest
+/// not looked at. The effects are those of RV32IM (RISC-V Unprivileged ISA); an ECALL is a guest
 /// call by the number in x17.
 #[tactic(auto, unfolding(crate::specs::Step::act_of))]
 pub fn act(image: &Image, held: Held, regs: &Regs, answer: u32) -> Act
@@ -121,7 +122,8 @@ pub fn act(image: &Image, held: Held, regs: &Regs, answer: u32) -> Act
 /// Whether the next instruction may be a LOCK: x17 has its number, and the instruction is ECALL.
 /// It costs much less than `act`.
 pub fn may_lock(image: &Image, regs: &Regs) -> bool
-    ensures { result ≡ false → NeverLocks image.now regs.now }
+    ensures no { result ≡ false → NeverLocks image.now regs.now }
+    ensures yes { result ≡ true → CallsLock image.now regs.now }
 {
     // ECALL has one word.
     rows_decide();
@@ -131,5 +133,21 @@ pub fn may_lock(image: &Image, regs: &Regs) -> bool
     match image.fetch(regs.pc()) {
         Some(word) => word == ECALL,
         None => false,
+    }
+}
+
+/// The lock that the next instruction takes, where that is a lawful LOCK. It is so whatever is
+/// answered, and costs much less than `act`.
+#[tactic(auto, using(crate::proofs::NoLock::taken_none, crate::proofs::NoLock::taken_some))]
+pub fn lock_wanted(image: &Image, held: Held, regs: &Regs) -> Option<u32>
+    ensures { (answer : ℕ) → result ≡ taken_by (step.act_of image.now (has held) regs.now answer) }
+{
+    if !may_lock(image, regs) {
+        return None;
+    }
+    let lock = regs.get(Reg::of(10));
+    match lock_fault(image, held, lock) {
+        Some(_) => None,
+        None => Some(lock),
     }
 }

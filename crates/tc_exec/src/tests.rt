@@ -1,10 +1,11 @@
-//! What single instructions do, worked out by hand from the RISC-V Unprivileged ISA, RV32I. The
+//! What single instructions do, worked out by hand from the RISC-V Unprivileged ISA, RV32IM. The
 //! words are what an assembler gives for the texts beside them. Each is all the code of an image of
 //! its own.
 //!
 //! x5, x11 and x17 have one number before, and x10 and x12 another.
 
 mod guards;
+mod in_place;
 
 use crate::outcome::{Act, Call, Put, Want};
 use crate::step::{act, wants};
@@ -228,7 +229,7 @@ static OTHERS: [(u32, u32, u32, Effect); 41] = [
     (0x0330_000f, 0, 0, Goes(0, 0, CODE + 4)), // fence rw, rw
     (0x0ff0_000f, 0, 0, Goes(0, 0, CODE + 4)), // fence, with all bits
     (0x0000_100f, 0, 0, Faults(Illegal)), // fence.i
-    (0x0273_02b3, 0, 0, Faults(Illegal)), // mul x5, x6, x7
+    (0x0273_02b3, 0, 0, Goes(5, 0, CODE + 4)), // mul x5, x6, x7
     (0x0000_0000, 0, 0, Faults(Illegal)), // zeros
     (0xffff_ffff, 0, 0, Faults(Illegal)), // ones
     (0x0010_0073, 0, 0, Faults(Break)), // ebreak
@@ -351,7 +352,7 @@ fn check(
         next,
         "{text}"
     );
-    Ok(())
+    in_place::check_in_place(rt, alloc, &image, Held::none(), regs, 0x5a5a_5a5a)
 }
 
 /// Asserts what a load from a region wants and does.
@@ -368,7 +369,7 @@ fn check_load(rt: &impl Abort, alloc: Global, region: Region, row: Loaded) -> Re
     let text = format!(in alloc; "{word:x} of {x11:x}")?;
     assert_eq!(rt; wants(&image, Held::none(), &regs), want, "{text}");
     assert_eq!(rt; act(&image, Held::none(), &regs, answer), next, "{text}");
-    Ok(())
+    in_place::check_in_place(rt, alloc, &image, Held::none(), regs, answer)
 }
 
 #[test]

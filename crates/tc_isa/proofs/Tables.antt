@@ -73,6 +73,14 @@ op_again op.Srl = refl
 op_again op.Sra = refl
 op_again op.Or = refl
 op_again op.And = refl
+op_again op.Mul = refl
+op_again op.Mulh = refl
+op_again op.Mulhsu = refl
+op_again op.Mulhu = refl
+op_again op.Div = refl
+op_again op.Divu = refl
+op_again op.Rem = refl
+op_again op.Remu = refl
 
 pub op_fits : (k : RegOp) → ((op_code k).0 < 128) × ((op_code k).1 < 8)
 op_fits op.Add = omega arith
@@ -85,6 +93,14 @@ op_fits op.Srl = omega arith
 op_fits op.Sra = omega arith
 op_fits op.Or = omega arith
 op_fits op.And = omega arith
+op_fits op.Mul = omega arith
+op_fits op.Mulh = omega arith
+op_fits op.Mulhsu = omega arith
+op_fits op.Mulhu = omega arith
+op_fits op.Div = omega arith
+op_fits op.Divu = omega arith
+op_fits op.Rem = omega arith
+op_fits op.Remu = omega arith
 
 pub op_back : (m n : ℕ) → IfSome (op_of m n) (λ k. (m ≡ (op_code k).0) × (n ≡ (op_code k).1))
 op_back m n = grind (arith, nat_tests)

@@ -62,6 +62,10 @@ op_of m n =
     else if (m == 0) && (n == 3) then Some op.Sltu else if (m == 0) && (n == 4) then Some op.Xor
     else if (m == 0) && (n == 5) then Some op.Srl else if (m == 32) && (n == 5) then Some op.Sra
     else if (m == 0) && (n == 6) then Some op.Or else if (m == 0) && (n == 7) then Some op.And
+    else if (m == 1) && (n == 0) then Some op.Mul else if (m == 1) && (n == 1) then Some op.Mulh
+    else if (m == 1) && (n == 2) then Some op.Mulhsu else if (m == 1) && (n == 3) then Some op.Mulhu
+    else if (m == 1) && (n == 4) then Some op.Div else if (m == 1) && (n == 5) then Some op.Divu
+    else if (m == 1) && (n == 6) then Some op.Rem else if (m == 1) && (n == 7) then Some op.Remu
     else None
 
 abbrev pub imm_of : ℕ → ℕ → Option ImmOp

@@ -68,6 +68,14 @@ op_code op.Srl = (0, 5)
 op_code op.Sra = (32, 5)
 op_code op.Or = (0, 6)
 op_code op.And = (0, 7)
+op_code op.Mul = (1, 0)
+op_code op.Mulh = (1, 1)
+op_code op.Mulhsu = (1, 2)
+op_code op.Mulhu = (1, 3)
+op_code op.Div = (1, 4)
+op_code op.Divu = (1, 5)
+op_code op.Rem = (1, 6)
+op_code op.Remu = (1, 7)
 
 -- ---- rows
 

@@ -1,5 +1,5 @@
 //! From a word to its instruction (RISC-V Unprivileged ISA, chapter "RV32/64G Instruction Set
-//! Listings", table "RV32I Base Instruction Set").
+//! Listings", tables "RV32I Base Instruction Set" and "RV32M Standard Extension").
 
 ghost use Rattle.std.specs.Prelude.{◌≡◌, Some, IfSome};
 ghost use Rattle.tc_isa.specs.Rows.{Decodes};
@@ -83,6 +83,14 @@ fn op_of(funct7: u32, funct3: u32) -> Option<RegOp>
         (32, 5) => Some(RegOp::Sra),
         (0, 6) => Some(RegOp::Or),
         (0, 7) => Some(RegOp::And),
+        (1, 0) => Some(RegOp::Mul),
+        (1, 1) => Some(RegOp::Mulh),
+        (1, 2) => Some(RegOp::Mulhsu),
+        (1, 3) => Some(RegOp::Mulhu),
+        (1, 4) => Some(RegOp::Div),
+        (1, 5) => Some(RegOp::Divu),
+        (1, 6) => Some(RegOp::Rem),
+        (1, 7) => Some(RegOp::Remu),
         _ => None,
     }
 }
@@ -268,8 +276,8 @@ fn instr_of(fields: &Fields) -> Option<Instr>
     }
 }
 
-/// The instruction of a word, None of a word that is no instruction of RV32I: compressed code, the
-/// extensions, CSRs and FENCE.I are none.
+/// The instruction of a word, None of a word that is no instruction of RV32IM: compressed code, the
+/// other extensions, CSRs and FENCE.I are none.
 #[tactic(auto, unfolding(crate::specs::Reading::decoded))]
 pub fn decode(word: u32) -> Option<Instr>
     ensures value { result ≡ reading.decoded word }

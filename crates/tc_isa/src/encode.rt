@@ -1,7 +1,8 @@
 //! From an instruction to its word.
 
-ghost use Rattle.std.specs.Prelude.{◌≡◌, ◌<◌};
+ghost use Rattle.std.specs.Prelude.{◌≡◌, ◌<◌, Some};
 ghost use Rattle.tc_isa.specs.Rows.{IsValid, from_fields, i_fields, r_fields, encoded, cond_code, load_code, store_code, op_code};
+ghost use Rattle.tc_isa.specs.Reading.{decoded};
 
 use crate::fields::{bits, then};
 use crate::instr::{Cond, ImmOp, Instr, LoadKind, RegOp, StoreKind};
@@ -64,6 +65,14 @@ fn op_code(op: RegOp) -> (u32, u32)
         RegOp::Sra => (32, 5),
         RegOp::Or => (0, 6),
         RegOp::And => (0, 7),
+        RegOp::Mul => (1, 0),
+        RegOp::Mulh => (1, 1),
+        RegOp::Mulhsu => (1, 2),
+        RegOp::Mulhu => (1, 3),
+        RegOp::Div => (1, 4),
+        RegOp::Divu => (1, 5),
+        RegOp::Rem => (1, 6),
+        RegOp::Remu => (1, 7),
     }
 }
 
@@ -133,7 +142,9 @@ fn branch_word(cond: Cond, rs1: Reg, rs2: Reg, off: u32) -> u32
 /// The word of an instruction whose fields are in their ranges, as `is_valid` tests.
 pub fn encode(instr: &Instr) -> u32
     requires { IsValid instr.now }
-    ensures { result ≡ encoded instr.now }
+    ensures word { result ≡ encoded instr.now }
+    // What `decode` answers at the word.
+    ensures decodes { decoded result ≡ Some instr.now }
 {
     match *instr {
         Instr::Lui { rd, imm } => then(then(bits(imm, 31, 12), 5, rd.number()), 7, 0x37),

@@ -64,11 +64,26 @@ impl Regs {
         ensures { result ≡ with_register self register value }
     {
         let mut regs = self;
+        regs.put(register, value);
+        regs
+    }
+
+    /// Writes a number into a register; a write to register 0 has no effect.
+    pub fn put(&mut self, register: Reg, value: u32)
+        ensures { self.new ≡ with_register self.old register value }
+    {
         let number = register.number();
         if number > 0 {
-            regs.words[number as usize] = value;
+            self.words[number as usize] = value;
         }
-        regs
+    }
+
+    /// Goes to another program counter.
+    pub fn go(&mut self, pc: u32)
+        requires { pc % 4 ≡ 0 }
+        ensures { self.new ≡ record self.old { pc = pc } }
+    {
+        self.counter = pc;
     }
 
     /// These registers with another program counter.
@@ -77,7 +92,7 @@ impl Regs {
         ensures { result ≡ record self { pc = pc } }
     {
         let mut regs = self;
-        regs.counter = pc;
+        regs.go(pc);
         regs
     }
 }

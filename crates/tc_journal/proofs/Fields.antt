@@ -1,46 +1,57 @@
 -- The fields of a block's line, told apart again.
-use Rattle.std.proofs.Common.{◌≡◌, ℕ, ◌^◌, ◌<◌, true, List, ◌∷◌, ◌++◌, refl, ap, ◌∙◌, append_assoc, arith}
+use Rattle.std.proofs.Common.{◌≡◌, ℕ, ◌^◌, ◌<◌, true, List, ◌∷◌, ◌++◌, Option, Some, None, refl, ap, ◌∙◌, append_assoc, arith}
 use Rattle.std.specs.Prelude.{codes, decimal}
+use Rattle.tc_journal.specs.Digits.{hex8}
 use Rattle.tc_isa.specs.Faults.{fault_number}
 use Rattle.tc_isa.specs.Sets.{locks_of}
 use Rattle.tc_isa.specs.declared.fault.Fault.{Fault as GuestFault}
 use Rattle.tc_isa.specs.declared.fault.Fault.TheVariants as fault
-use Rattle.tc_journal.specs.declared.block.Block.{Block}
+use Rattle.tc_journal.specs.declared.block.Told.{Told}
 use Rattle.tc_journal.specs.declared.block.Kind.{Kind}
 use Rattle.tc_journal.specs.declared.block.Kind.TheVariants.{Start, On, Taken, Adopted, Granted}
 use Rattle.tc_journal.specs.declared.block.End.{End}
 use Rattle.tc_journal.specs.declared.block.End.TheVariants.{Wants, Unlocked, Slept, Cut, Exit, Fault, Spent}
-use Rattle.tc_journal.specs.History.{IsBlock, IsEnd}
-use Rattle.tc_journal.specs.Line.{numbers_text, kind_text, end_text, block_text, block_line}
-use Rattle.tc_journal.specs.Spelling.{before, behind, value_of, rest_of, end_word, end_number}
+use Rattle.tc_journal.specs.History.{IsTold, IsEnd}
+use Rattle.tc_journal.specs.Line.{numbers_text, kind_text, end_text, pc_text, told_text, told_line}
+use Rattle.tc_journal.specs.Spelling.{before, behind, value_of, rest_of, end_word, end_number, from_pc}
 use Rattle.tc_journal.proofs.Sets.{AreLocks-locks_of}
+use Rattle.tc_journal.proofs.HexWord.{lacks-hex8}
 use Rattle.tc_journal.proofs.Words.{lacks, lacks-append, lacks-decimal, lacks-numbers_text, before-at, before-all, behind-at, behind-all}
 
--- the line from each of its fields on, and what follows it
-abbrev from_end : Block → List ℕ → List ℕ
-from_end b more = codes "end" ++ 32 ∷ (end_text b.end ++ 10 ∷ more)
+-- what follows the name of the end
+abbrev pub from_end : Told → List ℕ → List ℕ
+from_end t more = end_text t.block.end ++ 10 ∷ more
 
-abbrev from_worker : Block → List ℕ → List ℕ
-from_worker b more = codes "worker" ++ 32 ∷ (decimal b.worker ++ 32 ∷ from_end b more)
+-- the line from each of its fields on, before what follows the worker
+abbrev pub from_worker : Told → List ℕ → List ℕ
+from_worker t rest = codes "worker" ++ 32 ∷ (decimal t.block.worker ++ rest)
 
-abbrev from_kind : Block → List ℕ → List ℕ
-from_kind b more = codes "kind" ++ 32 ∷ (kind_text b.kind ++ 32 ∷ from_worker b more)
+abbrev pub from_kind : Told → List ℕ → List ℕ
+from_kind t rest = codes "kind" ++ 32 ∷ (kind_text t.block.kind ++ 32 ∷ from_worker t rest)
 
-abbrev from_held : Block → List ℕ → List ℕ
-from_held b more = codes "held" ++ 32 ∷ (numbers_text (locks_of b.held) ++ 32 ∷ from_kind b more)
+abbrev pub from_held : Told → List ℕ → List ℕ
+from_held t rest = codes "held" ++ 32 ∷ (numbers_text (locks_of t.block.held) ++ 32 ∷ from_kind t rest)
 
-abbrev from_turns : Block → List ℕ → List ℕ
-from_turns b more = codes "turns" ++ 32 ∷ (decimal b.turns ++ 32 ∷ from_held b more)
+abbrev pub from_turns : Told → List ℕ → List ℕ
+from_turns t rest = codes "turns" ++ 32 ∷ (decimal t.block.turns ++ 32 ∷ from_held t rest)
 
-abbrev from_thread : Block → List ℕ → List ℕ
-from_thread b more = codes "thread" ++ 32 ∷ (decimal b.thread ++ 32 ∷ from_turns b more)
+abbrev pub from_thread : Told → List ℕ → List ℕ
+from_thread t rest = codes "thread" ++ 32 ∷ (decimal t.block.thread ++ 32 ∷ from_turns t rest)
 
-abbrev from_stamp : Block → List ℕ → List ℕ
-from_stamp b more = codes "block" ++ 32 ∷ (decimal b.stamp ++ 32 ∷ from_thread b more)
+abbrev pub from_stamp : Told → List ℕ → List ℕ
+from_stamp t rest = codes "block" ++ 32 ∷ (decimal t.block.stamp ++ 32 ∷ from_thread t rest)
 
-fields : (b : Block) (more : List ℕ) → block_line b ++ more ≡ from_stamp b more
-unfolding block_text
-fields b more = simp append_assoc
+-- a line with its fields one after another
+pub words : (t : Told) (more : List ℕ) → told_line t ++ more ≡ from_stamp t (pc_text t.pc ++ 32 ∷ (codes "end " ++ from_end t more))
+unfolding told_text
+words t more = simp append_assoc
+
+behind_worker : (pc : Option ℕ) (text : List ℕ) → pc_text pc ++ 32 ∷ text ≡ 32 ∷ from_pc pc text
+behind_worker None text = refl
+behind_worker (Some pc) text = refl
+
+fields : (t : Told) (more : List ℕ) → told_line t ++ more ≡ from_stamp t (32 ∷ from_pc t.pc (codes "end " ++ from_end t more))
+fields t more = words t more ∙ ap (from_stamp t) (behind_worker t.pc (codes "end " ++ from_end t more))
 
 value-field : (name word rest : List ℕ) → lacks 32 name ≡ true → lacks 32 word ≡ true → value_of (name ++ 32 ∷ (word ++ 32 ∷ rest)) ≡ word
 value-field name word rest h k = ap (before 32) (behind-at 32 name (word ++ 32 ∷ rest) h) ∙ before-at 32 word rest k
@@ -96,41 +107,56 @@ number-end Exit = behind-all 32 (codes "exit") refl
 number-end (Fault fault) = behind-at 32 (codes "fault") (decimal (fault_number fault)) refl
 number-end Spent = behind-all 32 (codes "spent") refl
 
--- what is found at the places of the fields is what was written there
-pub record HasFields (text : List ℕ) (b : Block) : Type 0 where
-  pub stamp : value_of text ≡ decimal b.stamp
-  pub thread : value_of (rest_of text) ≡ decimal b.thread
-  pub turns : value_of (rest_of (rest_of text)) ≡ decimal b.turns
-  pub held : value_of (rest_of (rest_of (rest_of text))) ≡ numbers_text (locks_of b.held)
-  pub kind : value_of (rest_of (rest_of (rest_of (rest_of text)))) ≡ kind_text b.kind
-  pub worker : value_of (rest_of (rest_of (rest_of (rest_of (rest_of text))))) ≡ decimal b.worker
-  pub word : before 32 (before 10 (behind 32 (rest_of (rest_of (rest_of (rest_of (rest_of (rest_of text)))))))) ≡ end_word b.end
-  pub number : behind 32 (before 10 (behind 32 (rest_of (rest_of (rest_of (rest_of (rest_of (rest_of text)))))))) ≡ end_number b.end
+-- the field of a pc is there, and what follows it; and where none is told, no such field is there
+pub pc_field : (pc : ℕ) (more : List ℕ) → (value_of (from_pc (Some pc) more) ≡ hex8 pc) × (rest_of (from_pc (Some pc) more) ≡ more)
+pc_field pc more = (value-field (codes "pc") (hex8 pc) more refl (lacks-hex8 pc), rest-field (codes "pc") (hex8 pc) more refl (lacks-hex8 pc))
 
-pub has_fields : (b : Block) (more text : List ℕ) → IsBlock b → text ≡ block_line b ++ more → HasFields text b
-has_fields b more text h e =
-    let stamp : lacks 32 (decimal b.stamp) ≡ true = lacks-decimal 32 b.stamp (omega arith) h.stamp in
-    let thread : lacks 32 (decimal b.thread) ≡ true = lacks-decimal 32 b.thread (omega arith) (omega (arith, h.thread)) in
-    let turns : lacks 32 (decimal b.turns) ≡ true = lacks-decimal 32 b.turns (omega arith) (omega (arith, h.most_turns)) in
-    let held : lacks 32 (numbers_text (locks_of b.held)) ≡ true = lacks-numbers_text (locks_of b.held) (AreLocks-locks_of b.held) in
-    let worker : lacks 32 (decimal b.worker) ≡ true = lacks-decimal 32 b.worker (omega arith) (omega (arith, h.worker)) in
-    let r0 : text ≡ from_stamp b more = e ∙ fields b more in
-    let r1 : rest_of text ≡ from_thread b more = ap rest_of r0 ∙ rest-field (codes "block") _ _ refl stamp in
-    let r2 : rest_of (rest_of text) ≡ from_turns b more = ap rest_of r1 ∙ rest-field (codes "thread") _ _ refl thread in
-    let r3 : rest_of (rest_of (rest_of text)) ≡ from_held b more = ap rest_of r2 ∙ rest-field (codes "turns") _ _ refl turns in
-    let r4 : rest_of (rest_of (rest_of (rest_of text))) ≡ from_kind b more = ap rest_of r3 ∙ rest-field (codes "held") _ _ refl held in
-    let r5 : rest_of (rest_of (rest_of (rest_of (rest_of text)))) ≡ from_worker b more = ap rest_of r4 ∙ rest-field (codes "kind") _ _ refl (lacks-kind_text b.kind) in
-    let r6 : rest_of (rest_of (rest_of (rest_of (rest_of (rest_of text))))) ≡ from_end b more = ap rest_of r5 ∙ rest-field (codes "worker") _ _ refl worker in
-    let end : before 10 (behind 32 (rest_of (rest_of (rest_of (rest_of (rest_of (rest_of text))))))) ≡ end_text b.end =
-    ap (λ t. before 10 (behind 32 t)) r6 ∙ ap (before 10) (behind-at 32 (codes "end") (end_text b.end ++ 10 ∷ more) refl)
-    ∙ before-at 10 (end_text b.end) more (lacks-end_text b.end h.end) in
+-- what is found at the places of the fields is what was written there
+pub record HasFields (text : List ℕ) (t : Told) (more : List ℕ) : Type 0 where
+  pub stamp : value_of text ≡ decimal t.block.stamp
+  pub thread : value_of (rest_of text) ≡ decimal t.block.thread
+  pub turns : value_of (rest_of (rest_of text)) ≡ decimal t.block.turns
+  pub held : value_of (rest_of (rest_of (rest_of text))) ≡ numbers_text (locks_of t.block.held)
+  pub kind : value_of (rest_of (rest_of (rest_of (rest_of text)))) ≡ kind_text t.block.kind
+  pub worker : value_of (rest_of (rest_of (rest_of (rest_of (rest_of text))))) ≡ decimal t.block.worker
+  pub pc : rest_of (rest_of (rest_of (rest_of (rest_of (rest_of text))))) ≡ from_pc t.pc (codes "end " ++ from_end t more)
+
+-- and so is the end, behind its name
+pub record HasEnd (rest : List ℕ) (t : Told) : Type 0 where
+  pub word : before 32 (before 10 (behind 32 rest)) ≡ end_word t.block.end
+  pub number : behind 32 (before 10 (behind 32 rest)) ≡ end_number t.block.end
+
+pub has_end : (t : Told) (more rest : List ℕ) → IsTold t → rest ≡ codes "end " ++ from_end t more → HasEnd rest t
+has_end t more rest h e =
+    let end : before 10 (behind 32 rest) ≡ end_text t.block.end =
+    ap (λ x. before 10 (behind 32 x)) e ∙ ap (before 10) (behind-at 32 (codes "end") (from_end t more) refl)
+    ∙ before-at 10 (end_text t.block.end) more (lacks-end_text t.block.end h.end) in
+    record {
+      word = ap (before 32) end ∙ word-end t.block.end;
+      number = ap (behind 32) end ∙ number-end t.block.end;
+    }
+
+pub has_fields : (t : Told) (more text : List ℕ) → IsTold t → text ≡ told_line t ++ more → HasFields text t more
+has_fields t more text h e =
+    let stamp : lacks 32 (decimal t.block.stamp) ≡ true = lacks-decimal 32 t.block.stamp (omega arith) h.stamp in
+    let thread : lacks 32 (decimal t.block.thread) ≡ true = lacks-decimal 32 t.block.thread (omega arith) (omega (arith, h.thread)) in
+    let turns : lacks 32 (decimal t.block.turns) ≡ true = lacks-decimal 32 t.block.turns (omega arith) (omega (arith, h.most_turns)) in
+    let held : lacks 32 (numbers_text (locks_of t.block.held)) ≡ true = lacks-numbers_text (locks_of t.block.held) (AreLocks-locks_of t.block.held) in
+    let worker : lacks 32 (decimal t.block.worker) ≡ true = lacks-decimal 32 t.block.worker (omega arith) (omega (arith, h.worker)) in
+    let rest : List ℕ = 32 ∷ from_pc t.pc (codes "end " ++ from_end t more) in
+    let r0 : text ≡ from_stamp t rest = e ∙ fields t more in
+    let r1 : rest_of text ≡ from_thread t rest = ap rest_of r0 ∙ rest-field (codes "block") _ _ refl stamp in
+    let r2 : rest_of (rest_of text) ≡ from_turns t rest = ap rest_of r1 ∙ rest-field (codes "thread") _ _ refl thread in
+    let r3 : rest_of (rest_of (rest_of text)) ≡ from_held t rest = ap rest_of r2 ∙ rest-field (codes "turns") _ _ refl turns in
+    let r4 : rest_of (rest_of (rest_of (rest_of text))) ≡ from_kind t rest = ap rest_of r3 ∙ rest-field (codes "held") _ _ refl held in
+    let r5 : rest_of (rest_of (rest_of (rest_of (rest_of text)))) ≡ from_worker t rest = ap rest_of r4 ∙ rest-field (codes "kind") _ _ refl (lacks-kind_text t.block.kind) in
+    let r6 : rest_of (rest_of (rest_of (rest_of (rest_of (rest_of text))))) ≡ from_pc t.pc (codes "end " ++ from_end t more) = ap rest_of r5 ∙ rest-field (codes "worker") _ _ refl worker in
     record {
       stamp = ap value_of r0 ∙ value-field (codes "block") _ _ refl stamp;
       thread = ap value_of r1 ∙ value-field (codes "thread") _ _ refl thread;
       turns = ap value_of r2 ∙ value-field (codes "turns") _ _ refl turns;
       held = ap value_of r3 ∙ value-field (codes "held") _ _ refl held;
-      kind = ap value_of r4 ∙ value-field (codes "kind") _ _ refl (lacks-kind_text b.kind);
+      kind = ap value_of r4 ∙ value-field (codes "kind") _ _ refl (lacks-kind_text t.block.kind);
       worker = ap value_of r5 ∙ value-field (codes "worker") _ _ refl worker;
-      word = ap (before 32) end ∙ word-end b.end;
-      number = ap (behind 32) end ∙ number-end b.end;
+      pc = r6;
     }

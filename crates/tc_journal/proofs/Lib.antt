@@ -1,9 +1,12 @@
 pub mod Ranges
+pub mod Locks
 pub mod Greatest
 pub mod Words
 pub mod Sets
 pub mod HeldWord
+pub mod HexWord
 pub mod Fields
 pub mod Histories
 pub mod Merged
 pub mod Batching
+pub mod Buffers

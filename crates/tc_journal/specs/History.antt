@@ -1,10 +1,13 @@
 -- Histories: which lists of blocks they are, and what they are looked at for.
-use Rattle.std.specs.Prelude.{◌≡◌, ℕ, ◌+◌, ◌^◌, ◌<◌, ◌≤◌, ◌==◌, List, [], ◌∷◌, length, map, filter, Contains, Vec}
+use Rattle.std.specs.Prelude.{◌≡◌, ℕ, ◌+◌, ◌^◌, ◌<◌, ◌≤◌, ◌==◌, List, [], ◌∷◌, length, map, filter, Contains, IfSome, Vec}
 use Rattle.std.specs.Global.{Global}
 use Rattle.std.specs.List.{flat_map, range_with_len}
 use Rattle.tc_isa.specs.Sets.{has}
 use Rattle.tc_isa.specs.declared.limits.TheConstants.{MAX_TURNS}
+use Rattle.tc_journal.specs.Told.{told}
 use Rattle.tc_journal.specs.declared.block.Block.{Block}
+use Rattle.tc_journal.specs.declared.block.BlockV1.{BlockV1}
+use Rattle.tc_journal.specs.declared.block.Told.{Told}
 use Rattle.tc_journal.specs.declared.block.End.{End}
 use Rattle.tc_journal.specs.declared.block.End.TheVariants.{Wants, Unlocked, Slept, Cut, Exit, Fault, Spent}
 
@@ -18,21 +21,30 @@ IsEnd Exit = Unit {0}
 IsEnd (Fault fault) = Unit {0}
 IsEnd Spent = Unit {0}
 
--- a block that may stand in a history: it has 1 to MAX_TURNS turns, its locks are below 32, and its other numbers are
--- of their types
-pub record IsBlock (b : Block) : Type 0 where
-  pub stamp : b.stamp < 2 ^ 64
-  pub thread : b.thread < 2 ^ 32
-  pub some_turns : 1 ≤ b.turns
-  pub most_turns : b.turns ≤ MAX_TURNS
-  pub held : b.held < 2 ^ 32
-  pub worker : b.worker < 2 ^ 32
-  pub end : IsEnd b.end
+-- what may be told of a block in a history: it has 1 to MAX_TURNS turns, its locks are below 32, and its other numbers
+-- are of their types
+pub record IsTold (t : Told) : Type 0 where
+  pub stamp : t.block.stamp < 2 ^ 64
+  pub thread : t.block.thread < 2 ^ 32
+  pub some_turns : 1 ≤ t.block.turns
+  pub most_turns : t.block.turns ≤ MAX_TURNS
+  pub held : t.block.held < 2 ^ 32
+  pub worker : t.block.worker < 2 ^ 32
+  pub pc : IfSome t.pc (λ pc. pc < 2 ^ 32)
+  pub end : IsEnd t.block.end
+
+-- a block that may stand in a history
+abbrev pub IsBlock : Block → Type 0
+IsBlock b = IsTold (told b)
+
+-- blocks of which their lines tell this, and whose stamps are the numbers from `first` on
+abbrev pub IsToldFrom : {B : Type 0} → (B → Told) → ℕ → List B → Type 0
+IsToldFrom told_of first [] = Unit {0}
+IsToldFrom told_of first (b ∷ bs) = IsTold (told_of b) × ((told_of b).block.stamp ≡ first) × IsToldFrom told_of (first + 1) bs
 
 -- blocks whose stamps are the numbers from `first` on
 abbrev pub IsHistoryFrom : ℕ → List Block → Type 0
-IsHistoryFrom first [] = Unit {0}
-IsHistoryFrom first (b ∷ bs) = IsBlock b × (b.stamp ≡ first) × IsHistoryFrom (first + 1) bs
+IsHistoryFrom first h = IsToldFrom told first h
 
 -- blocks whose stamps are 0, 1, 2 and so on
 abbrev pub IsHistory : List Block → Type 0
@@ -45,6 +57,9 @@ IsInOrder h = map (λ b. b.stamp) h ≡ range_with_len 0 (length h)
 -- in which order the threads have their turns: pairs of a thread and a number of turns
 abbrev pub schedule : List Block → List (ℕ × ℕ)
 schedule h = map (λ b. (b.thread, b.turns)) h
+
+abbrev pub schedule_v1 : List BlockV1 → List (ℕ × ℕ)
+schedule_v1 old = map (λ b. (b.thread, b.turns)) old
 
 -- the blocks of a thread
 abbrev pub of_thread : List Block → ℕ → List Block

@@ -1,4 +1,6 @@
 pub mod Rule
+pub mod Digits
+pub mod Told
 pub mod Line
 pub mod Batch
 pub mod History

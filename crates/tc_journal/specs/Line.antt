@@ -1,9 +1,12 @@
--- The printed line of a block.
-use Rattle.std.specs.Prelude.{ℕ, List, [], ◌∷◌, ◌++◌, codes, decimal}
+-- The printed line of a block, and the old line, which has no pc.
+use Rattle.std.specs.Prelude.{ℕ, List, [], ◌∷◌, ◌++◌, Option, Some, None, codes, decimal}
 use Rattle.std.specs.List.{flat_map}
 use Rattle.tc_isa.specs.Faults.{fault_number}
 use Rattle.tc_isa.specs.Sets.{locks_of}
+use Rattle.tc_journal.specs.Digits.{hex8}
+use Rattle.tc_journal.specs.Told.{told}
 use Rattle.tc_journal.specs.declared.block.Block.{Block}
+use Rattle.tc_journal.specs.declared.block.Told.{Told}
 use Rattle.tc_journal.specs.declared.block.Kind.{Kind}
 use Rattle.tc_journal.specs.declared.block.Kind.TheVariants.{Start, On, Taken, Adopted, Granted}
 use Rattle.tc_journal.specs.declared.block.End.{End}
@@ -34,15 +37,28 @@ abbrev pub numbers_text : List ℕ → List ℕ
 numbers_text [] = codes "-"
 numbers_text (n ∷ ns) = decimal n ++ flat_map comma_text ns
 
--- a block's line, without its end of line
-unfoldable pub block_text : Block → List ℕ
-block_text b =
-    codes "block " ++ decimal b.stamp ++ codes " thread " ++ decimal b.thread ++ codes " turns " ++ decimal b.turns
-    ++ codes " held " ++ numbers_text (locks_of b.held) ++ codes " kind " ++ kind_text b.kind ++ codes " worker " ++ decimal b.worker
-    ++ codes " end " ++ end_text b.end
+-- the pc, which an old line has not
+abbrev pub pc_text : Option ℕ → List ℕ
+pc_text None = []
+pc_text (Some pc) = codes " pc " ++ hex8 pc
 
+-- the line that tells this, without its end of line
+unfoldable pub told_text : Told → List ℕ
+told_text t =
+    codes "block " ++ decimal t.block.stamp ++ codes " thread " ++ decimal t.block.thread ++ codes " turns " ++ decimal t.block.turns
+    ++ codes " held " ++ numbers_text (locks_of t.block.held) ++ codes " kind " ++ kind_text t.block.kind ++ codes " worker " ++ decimal t.block.worker
+    ++ pc_text t.pc ++ codes " end " ++ end_text t.block.end
+
+abbrev pub told_line : Told → List ℕ
+told_line t = told_text t ++ 10 ∷ []
+
+-- the line of a block
 abbrev pub block_line : Block → List ℕ
-block_line b = block_text b ++ 10 ∷ []
+block_line b = told_line (told b)
+
+-- the lines of blocks, by what each line tells
+abbrev pub lines_text : {B : Type 0} → (B → Told) → List B → List ℕ
+lines_text told_of blocks = flat_map (λ b. told_line (told_of b)) blocks
 
 -- the lines of the blocks of a history
 abbrev pub history_text : List Block → List ℕ

@@ -1,7 +1,8 @@
 -- How the words of a line are told apart.
-use Rattle.std.specs.Prelude.{ℕ, ◌+◌, ◌==◌, List, [], take, drop, codes, decimal}
+use Rattle.std.specs.Prelude.{ℕ, ◌+◌, ◌==◌, List, [], ◌∷◌, ◌++◌, Option, Some, None, take, drop, codes, decimal}
 use Rattle.std.specs.List.{position_or_len}
 use Rattle.tc_isa.specs.Faults.{fault_number}
+use Rattle.tc_journal.specs.Digits.{hex8}
 use Rattle.tc_journal.specs.declared.block.End.{End}
 use Rattle.tc_journal.specs.declared.block.End.TheVariants.{Wants, Unlocked, Slept, Cut, Exit, Fault, Spent}
 
@@ -20,6 +21,11 @@ value_of text = before 32 (behind 32 text)
 -- what stands behind that field
 abbrev pub rest_of : List ℕ → List ℕ
 rest_of text = behind 32 (behind 32 text)
+
+-- the field of a pc, where one is told, before what follows it
+abbrev pub from_pc : Option ℕ → List ℕ → List ℕ
+from_pc None more = more
+from_pc (Some pc) more = codes "pc" ++ 32 ∷ (hex8 pc ++ 32 ∷ more)
 
 -- the first word of an end
 abbrev pub end_word : End → List ℕ

@@ -1,6 +1,8 @@
 //! What a block of a history is.
 
-use std::fmt;
+ghost use Rattle.std.specs.Prelude.{◌≡◌};
+ghost use Rattle.tc_journal.specs.Told.{with_pc, without_pc};
+
 use tc_isa::fault::Fault;
 use tc_isa::held::Held;
 
@@ -52,45 +54,80 @@ pub struct Block {
     pub kind: Kind,
     /// The number of the worker that ran it.
     pub worker: u32,
+    /// The thread's `pc` before its first turn.
+    pub pc: u32,
     pub end: End,
 }
 
-impl fmt::Display for Kind {
-    ghost use Rattle.std.specs.Prelude.{Some};
-    ghost use Rattle.tc_journal.specs.Line.{kind_text};
+/// A block as it was told before its line had a `pc`: the other fields of `Block`.
+#[derive(Clone, Copy, Debug, PartialEq, Eq)]
+pub struct BlockV1 {
+    pub stamp: u64,
+    pub thread: u32,
+    pub turns: u32,
+    pub held: Held,
+    pub kind: Kind,
+    pub worker: u32,
+    pub end: End,
+}
 
-    ghost output = { λ k. Some (kind_text k) };
+/// What a line tells of a block: no `pc`, where the line has the old form.
+#[derive(Clone, Copy, Debug, PartialEq, Eq)]
+pub struct Told {
+    pub block: BlockV1,
+    pub pc: Option<u32>,
+}
 
-    fn fmt<W: fmt::Write>(&self, f: &mut fmt::Formatter<W>) -> fmt::Result {
-        let text = match self {
-            Kind::Start => "start",
-            Kind::On => "on",
-            Kind::Taken => "taken",
-            Kind::Adopted => "adopted",
-            Kind::Granted => "granted",
-        };
-        f.write_str(text)
+impl BlockV1 {
+    /// The same block with its `pc`.
+    pub fn with_pc(self, pc: u32) -> Block
+        ensures { result ≡ with_pc self pc }
+    {
+        let BlockV1 {
+            stamp,
+            thread,
+            turns,
+            held,
+            kind,
+            worker,
+            end,
+        } = self;
+        Block {
+            stamp,
+            thread,
+            turns,
+            held,
+            kind,
+            worker,
+            pc,
+            end,
+        }
     }
 }
 
-impl fmt::Display for End {
-    ghost use Rattle.std.specs.Prelude.{Some};
-    ghost use Rattle.tc_journal.specs.Line.{end_text};
-
-    ghost output = { λ e. Some (end_text e) };
-
-    fn fmt<W: fmt::Write>(&self, f: &mut fmt::Formatter<W>) -> fmt::Result {
-        match self {
-            End::Wants(lock) => write!(f, "wants {lock}"),
-            End::Unlocked(lock) => write!(f, "unlocked {lock}"),
-            End::Slept => write!(f, "slept"),
-            End::Cut => write!(f, "cut"),
-            End::Exit => write!(f, "exit"),
-            End::Fault(fault) => {
-                let number = fault.number();
-                write!(f, "fault {number}")
-            }
-            End::Spent => write!(f, "spent"),
+impl Block {
+    /// The same block without its `pc`.
+    pub fn without_pc(self) -> BlockV1
+        ensures { result ≡ without_pc self }
+    {
+        let Block {
+            stamp,
+            thread,
+            turns,
+            held,
+            kind,
+            worker,
+            pc: _,
+            end,
+        } = self;
+        BlockV1 {
+            stamp,
+            thread,
+            turns,
+            held,
+            kind,
+            worker,
+            end,
         }
     }
 }

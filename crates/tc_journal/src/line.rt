@@ -1,51 +1,92 @@
-//! The printed line of a block.
+//! The printed line of a block, in its form and in the old form.
 
-ghost use Rattle.std.specs.Prelude.{◌≡◌, ◌++◌, [], if◌then◌else◌, OnOk, string_bytes};
+ghost use Rattle.std.specs.Prelude.{◌≡◌, ◌+◌, ◌<◌, ◌≤◌, ◌++◌, [], OnOk, length, string_bytes};
 ghost use Rattle.tc_journal.specs.Line as spec;
-ghost use Rattle.tc_isa.specs.Sets.{has, locks_of};
+ghost use Rattle.tc_isa.specs.Sets.{locks_of};
 
-use crate::block::Block;
+use crate::block::{Block, BlockV1, End, Kind, Told};
+use crate::buffer::{Buffer, ROOM};
+use crate::form::Form;
 use std::alloc::AllocError;
-use std::fmt::Write;
 use tc_isa::held::Held;
 
-/// Writes a lock after a comma where it is held.
-#[tactic(auto, unfolding(crate::specs::Line::comma_text))]
-fn push_if_held(text: &mut String, held: Held, lock: u32) -> Result<(), AllocError>
-    ensures { OnOk result
-        (string_bytes text.new
-        ≡ string_bytes text.old ++ (if has held lock then spec.comma_text lock else [])) }
-{
-    if held.has(lock) {
-        write!(text, ",{lock}")
-    } else {
-        Ok(())
-    }
-}
-
-/// Writes the numbers of a set of locks in ascending order, with commas between, or a dash.
-fn push_held(text: &mut String, held: Held) -> Result<(), AllocError>
-    ensures { OnOk result
-        (string_bytes text.new ≡ string_bytes text.old ++ spec.numbers_text (locks_of held)) }
+/// Puts the numbers of a set of locks in front, in ascending order with commas between, or a dash.
+fn put_held(line: &mut Buffer, held: Held)
+    requires { 120 + length line.old ≤ ROOM }
+    ensures value { line.new ≡ spec.numbers_text (locks_of held) ++ line.old }
+    ensures len { length line.new ≤ 100 + length line.old }
 {
     let Some(least) = held.least() else {
-        return text.push_str("-");
+        return line.put_str("-");
     };
-    write!(text, "{least}")?;
-    for lock in least + 1..32 {
-        push_if_held(text, held, lock)?;
+    let mut left = held.less(least);
+    while let Some(lock) = left.greatest() {
+        line.put_number(u64::from(lock));
+        line.put_str(",");
+        left = left.less(lock);
     }
-    Ok(())
+    line.put_number(u64::from(least));
 }
 
-/// Writes the line of a block at the end of a text. Where memory is refused, a front of the line
-/// may have been written.
-#[tactic(auto, unfolding(crate::specs::Line::block_text))]
-pub fn push_block(text: &mut String, block: &Block) -> Result<(), AllocError>
-    ensures { OnOk result
-        (string_bytes text.new ≡ string_bytes text.old ++ spec.block_line block.now) }
+/// Puts a kind in front.
+fn put_kind(line: &mut Buffer, kind: Kind)
+    requires { 7 + length line.old ≤ ROOM }
+    ensures value { line.new ≡ spec.kind_text kind ++ line.old }
+    ensures len { length line.new ≤ 7 + length line.old }
 {
-    let Block {
+    match kind {
+        Kind::Start => line.put_str("start"),
+        Kind::On => line.put_str("on"),
+        Kind::Taken => line.put_str("taken"),
+        Kind::Adopted => line.put_str("adopted"),
+        Kind::Granted => line.put_str("granted"),
+    }
+}
+
+/// Puts an end in front.
+fn put_end(line: &mut Buffer, end: End)
+    requires { 29 + length line.old ≤ ROOM }
+    ensures value { line.new ≡ spec.end_text end ++ line.old }
+    ensures len { length line.new ≤ 19 + length line.old }
+{
+    match end {
+        End::Wants(lock) => {
+            line.put_number(u64::from(lock));
+            line.put_str("wants ");
+        }
+        End::Unlocked(lock) => {
+            line.put_number(u64::from(lock));
+            line.put_str("unlocked ");
+        }
+        End::Slept => line.put_str("slept"),
+        End::Cut => line.put_str("cut"),
+        End::Exit => line.put_str("exit"),
+        End::Fault(fault) => {
+            line.put_number(u64::from(fault.number()));
+            line.put_str("fault ");
+        }
+        End::Spent => line.put_str("spent"),
+    }
+}
+
+/// Puts the part of a line that tells a pc in front, where one is told.
+fn put_pc(line: &mut Buffer, pc: Option<u32>)
+    requires { 12 + length line.old ≤ ROOM }
+    ensures value { line.new ≡ spec.pc_text pc ++ line.old }
+    ensures len { length line.new ≤ 12 + length line.old }
+{
+    if let Some(pc) = pc {
+        line.put_word(pc);
+        line.put_str(" pc ");
+    }
+}
+
+/// Puts the line that tells this in front.
+fn put_told(line: &mut Buffer, told: &Told)
+    requires { line.old ≡ [] }
+    ensures { line.new ≡ spec.told_line told.now }
+{
+    let BlockV1 {
         stamp,
         thread,
         turns,
@@ -53,8 +94,39 @@ pub fn push_block(text: &mut String, block: &Block) -> Result<(), AllocError>
         kind,
         worker,
         end,
-    } = *block;
-    write!(text, "block {stamp} thread {thread} turns {turns} held ")?;
-    push_held(text, held)?;
-    writeln!(text, " kind {kind} worker {worker} end {end}")
+    } = told.block;
+    line.put_str("\n");
+    put_end(line, end);
+    line.put_str(" end ");
+    put_pc(line, told.pc);
+    line.put_number(u64::from(worker));
+    line.put_str(" worker ");
+    put_kind(line, kind);
+    line.put_str(" kind ");
+    put_held(line, held);
+    line.put_str(" held ");
+    line.put_number(u64::from(turns));
+    line.put_str(" turns ");
+    line.put_number(u64::from(thread));
+    line.put_str(" thread ");
+    line.put_number(stamp);
+    line.put_str("block ");
+}
+
+/// Writes the line that tells this at the end of a text.
+pub(crate) fn push_told(text: &mut String, told: &Told) -> Result<(), AllocError>
+    ensures { OnOk result
+        (string_bytes text.new ≡ string_bytes text.old ++ spec.told_line told.now) }
+{
+    let mut line = Buffer::new();
+    put_told(&mut line, told);
+    text.push_str(line.as_str())
+}
+
+/// Writes the line of a block at the end of a text. Where memory is refused, nothing is written.
+pub fn push_block(text: &mut String, block: &Block) -> Result<(), AllocError>
+    ensures { OnOk result
+        (string_bytes text.new ≡ string_bytes text.old ++ spec.block_line block.now) }
+{
+    push_told(text, &block.told())
 }

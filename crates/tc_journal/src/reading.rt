@@ -1,15 +1,17 @@
 //! Histories read back from their text.
 
 ghost use Rattle.std.specs.Prelude.{◌≡◌, ℕ, ◌++◌, ◌⊎◌, List, Some, IfOk, IfSome, IsErrOf, MatchBool, MatchResult, ◌≤◌, drop, length, string_bytes};
-ghost use Rattle.tc_journal.specs.History.{IsHistory};
 ghost use Rattle.tc_journal.specs.Line as spec;
-ghost use Rattle.tc_journal.specs.Reading.{BeginsWith, IsFirstWrong};
+ghost use Rattle.tc_journal.specs.Reading.{BeginsWith, IsTextOf, IsFirstWrong};
+ghost use Rattle.tc_journal.specs.Told.{told, told_v1};
 ghost use Rattle.tc_journal.specs.declared.block.Block.{Block as BlockValue};
+ghost use Rattle.tc_journal.specs.declared.block.BlockV1.{BlockV1 as BlockV1Value};
 ghost use Rattle.tc_journal.specs.declared.reading.BadText.TheVariants.{OutOfMemory};
 
-use crate::block::Block;
-use crate::line::push_block;
-use crate::spelling::block_at_front;
+use crate::block::{Block, BlockV1};
+use crate::form::Form;
+use crate::line::push_told;
+use crate::spelling::told_at_front;
 use std::alloc::{AllocError, Global};
 
 /// Why a text was not read.
@@ -46,37 +48,34 @@ fn text_from(text: &[u8], start: usize) -> &[u8]
 
 /// The block of a history with this stamp whose line stands at the front of a text. That line is
 /// then left in the buffer.
-fn first_block(line: &mut String, text: &[u8], stamp: u64) -> Result<Option<Block>, AllocError>
-    ensures some { IfOk result (λ o. IfSome o
-        (λ b. BeginsWith text.now stamp b × (string_bytes line.new ≡ spec.block_line b))) }
-    ensures every { IfOk result (λ o. (b : BlockValue) → BeginsWith text.now stamp b → o ≡ Some b) }
+fn first_block<B: Form>(line: &mut String, text: &[u8], stamp: u64) -> Result<Option<B>, AllocError>
+    ensures some { IfOk result (λ o. IfSome o (λ b. BeginsWith text.now stamp (B.told b)
+        × (string_bytes line.new ≡ spec.told_line (B.told b)))) }
+    ensures every { IfOk result
+        (λ o. (b : B) → BeginsWith text.now stamp (B.told b) → o ≡ Some b) }
 {
-    let Some(block) = block_at_front(text) else {
+    let Some(told) = told_at_front(text) else {
         return Ok(None);
     };
-    if block.stamp != stamp {
+    if told.block.stamp != stamp {
         return Ok(None);
     }
     line.clear();
-    push_block(line, &block)?;
+    push_told(line, &told)?;
     if is_front(line.as_bytes(), text) {
-        Ok(Some(block))
+        Ok(B::of_told(told))
     } else {
         Ok(None)
     }
 }
 
-/// The history of a text, where the text is that of a history: one line for each block, each with
-/// its end of line, in order of their stamps 0, 1, 2 and so on, with numbers that fit a block.
-pub fn read(alloc: Global, bytes: &[u8]) -> Result<Vec<Block>, BadText>
-    ensures ok { IfOk result
-        (λ blocks. IsHistory blocks.items × (bytes.now ≡ spec.history_text blocks.items)) }
-    ensures line { (n : ℕ) → IsErrOf result (BadText.Line n) → IsFirstWrong bytes.now n }
-
-    // It gives up on no text, for want of memory apart.
-    ensures read_back { (h : List BlockValue) → IsHistory h → bytes.now ≡ spec.history_text h
+/// The blocks of a text whose lines have the form of such blocks.
+fn read_lines<B: Form>(alloc: Global, bytes: &[u8]) -> Result<Vec<B>, BadText>
+    ensures ok { IfOk result (λ blocks. IsTextOf B.told bytes.now blocks.items) }
+    ensures line { (n : ℕ) → IsErrOf result (BadText.Line n) → IsFirstWrong B.told bytes.now n }
+    ensures read_back { (h : List B) → IsTextOf B.told bytes.now h
         → MatchResult result (λ blocks. blocks.items ≡ h) (λ e. e ≡ BadText.OutOfMemory) }
-    ensures wrong { (n : ℕ) → IsFirstWrong bytes.now n
+    ensures wrong { (n : ℕ) → IsFirstWrong B.told bytes.now n
         → IsErrOf result (BadText.Line n) ⊎ IsErrOf result BadText.OutOfMemory }
 {
     let mut blocks = Vec::new(alloc);
@@ -93,4 +92,34 @@ pub fn read(alloc: Global, bytes: &[u8]) -> Result<Vec<Block>, BadText>
         rest = text_from(rest, line.len());
     }
     Ok(blocks)
+}
+
+/// The history of a text, where the text is that of a history: one line for each block, each with
+/// its end of line, in order of their stamps 0, 1, 2 and so on, with numbers that fit a block.
+pub fn read(alloc: Global, bytes: &[u8]) -> Result<Vec<Block>, BadText>
+    ensures ok { IfOk result (λ blocks. IsTextOf told bytes.now blocks.items) }
+    ensures line { (n : ℕ) → IsErrOf result (BadText.Line n) → IsFirstWrong told bytes.now n }
+
+    // It gives up on no text, for want of memory apart.
+    ensures read_back { (h : List BlockValue) → IsTextOf told bytes.now h
+        → MatchResult result (λ blocks. blocks.items ≡ h) (λ e. e ≡ BadText.OutOfMemory) }
+    ensures wrong { (n : ℕ) → IsFirstWrong told bytes.now n
+        → IsErrOf result (BadText.Line n) ⊎ IsErrOf result BadText.OutOfMemory }
+{
+    read_lines(alloc, bytes)
+}
+
+/// The history of a text in the old form, whose lines have no pc. It reads that form as `read`
+/// reads the other.
+pub fn read_v1(alloc: Global, bytes: &[u8]) -> Result<Vec<BlockV1>, BadText>
+    ensures ok { IfOk result (λ blocks. IsTextOf told_v1 bytes.now blocks.items) }
+    ensures line { (n : ℕ) → IsErrOf result (BadText.Line n) → IsFirstWrong told_v1 bytes.now n }
+
+    // It gives up on no text, for want of memory apart.
+    ensures read_back { (h : List BlockV1Value) → IsTextOf told_v1 bytes.now h
+        → MatchResult result (λ blocks. blocks.items ≡ h) (λ e. e ≡ BadText.OutOfMemory) }
+    ensures wrong { (n : ℕ) → IsFirstWrong told_v1 bytes.now n
+        → IsErrOf result (BadText.Line n) ⊎ IsErrOf result BadText.OutOfMemory }
+{
+    read_lines(alloc, bytes)
 }

@@ -3,17 +3,19 @@
 //! The functions here are sure to find the block of a line that a block has. Of any other line
 //! they may make a block too: `reading` prints the block again, and compares.
 
-ghost use Rattle.std.specs.Prelude.{◌≡◌, ◌==◌, ℕ, ◌^◌, ◌<◌, ◌≤◌, ◌++◌, List, Some, IfSome, MatchBool, codes, decimal, length, position};
+ghost use Rattle.std.specs.Prelude.{◌≡◌, ◌==◌, ℕ, ◌^◌, ◌<◌, ◌≤◌, ◌++◌, List, Option, Some, IfSome, MatchBool, codes, decimal, length, position};
 ghost use Rattle.tc_isa.specs.Sets.{locks_of};
 ghost use Rattle.tc_isa.specs.declared.limits.TheConstants.{MAX_TURNS};
-ghost use Rattle.tc_journal.specs.History.{IsBlock, IsEnd};
+ghost use Rattle.tc_journal.specs.Digits.{hex8};
+ghost use Rattle.tc_journal.specs.History.{IsTold, IsEnd};
 ghost use Rattle.tc_journal.specs.Line as spec;
-ghost use Rattle.tc_journal.specs.Spelling.{before, behind, value_of, rest_of, end_word, end_number};
-ghost use Rattle.tc_journal.specs.declared.block.Block.{Block as BlockValue};
+ghost use Rattle.tc_journal.specs.Spelling.{before, behind, value_of, rest_of, end_word, end_number, from_pc};
+ghost use Rattle.tc_journal.specs.declared.block.Told.{Told as ToldValue};
 ghost use Rattle.tc_journal.specs.declared.block.Kind.{Kind as KindValue};
 ghost use Rattle.tc_journal.specs.declared.block.End.{End as EndValue};
 
-use crate::block::{Block, End, Kind};
+use crate::block::{BlockV1, End, Kind, Told};
+use hex::FromHex;
 use std::str::from_utf8;
 use tc_isa::fault::Fault;
 use tc_isa::held::Held;
@@ -133,11 +135,37 @@ fn end(word: &[u8], number: &[u8]) -> Option<End>
     }
 }
 
-/// The block whose line stands at the front of a text.
-pub(crate) fn block_at_front(text: &[u8]) -> Option<Block>
-    ensures every { (b : BlockValue) (more : List ℕ)
-        → IsBlock b → text.now ≡ spec.block_line b ++ more → result ≡ Some b }
-    ensures valid { IfSome result (λ b. IsBlock b) }
+/// A word of eight digits.
+fn hex_word(word: &[u8]) -> Option<u32>
+    ensures { (n : ℕ) → n < 2 ^ 32 → word.now ≡ hex8 n → result ≡ Some n }
+{
+    let bytes = <[u8; 4] as FromHex>::from_hex(word).ok()?;
+    Some(u32::from_be_bytes(bytes))
+}
+
+/// The pc at the front of the part of a line behind its worker, where one is told there, and what
+/// follows it.
+fn pc_and_rest(text: &[u8]) -> (Option<Option<u32>>, &[u8])
+    ensures every { (pc : Option ℕ) (more : List ℕ) → IfSome pc (λ n. n < 2 ^ 32)
+        → text.now ≡ from_pc pc (codes "end " ++ more)
+        → (result.0 ≡ Some pc) × (result.1.now ≡ codes "end " ++ more) }
+    ensures bound { IfSome result.0 (λ pc. IfSome pc (λ n. n < 2 ^ 32)) }
+{
+    if !text.starts_with(b"pc ") {
+        return (Some(None), text);
+    }
+    let (word, rest) = field(text);
+    match hex_word(word) {
+        None => (None, rest),
+        Some(pc) => (Some(Some(pc)), rest),
+    }
+}
+
+/// What the line at the front of a text tells.
+pub(crate) fn told_at_front(text: &[u8]) -> Option<Told>
+    ensures every { (t : ToldValue) (more : List ℕ)
+        → IsTold t → text.now ≡ spec.told_line t ++ more → result ≡ Some t }
+    ensures valid { IfSome result (λ t. IsTold t) }
 {
     let (stamp, rest) = field(text);
     let (thread, rest) = field(rest);
@@ -145,10 +173,11 @@ pub(crate) fn block_at_front(text: &[u8]) -> Option<Block>
     let (locks, rest) = field(rest);
     let (kind_word, rest) = field(rest);
     let (worker, rest) = field(rest);
+    let (pc, rest) = pc_and_rest(rest);
     let (_, rest) = split_at_byte(rest, b' ');
     let (end_text, _) = split_at_byte(rest, b'\n');
     let (end_word, end_number) = split_at_byte(end_text, b' ');
-    Some(Block {
+    let block = BlockV1 {
         stamp: number(stamp)?,
         thread: small_number(thread)?,
         turns: number_of_turns(turns)?,
@@ -156,5 +185,6 @@ pub(crate) fn block_at_front(text: &[u8]) -> Option<Block>
         kind: kind(kind_word)?,
         worker: small_number(worker)?,
         end: end(end_word, end_number)?,
-    })
+    };
+    Some(Told { block, pc: pc? })
 }

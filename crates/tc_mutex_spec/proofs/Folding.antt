@@ -1,10 +1,12 @@
 -- Runs are folds, and histories grow at their end.
-use Rattle.std.proofs.Common.{◌≡◌, ℕ, zero, suc, ◌+◌, ◌-◌, ◌<◌, true, false, List, [], ◌∷◌, ◌++◌, replicate, refl, sym, ap, subst, ◌∙◌, arith, append_assoc, append-nil}
+use Rattle.std.proofs.Common.{◌≡◌, ℕ, zero, suc, ◌+◌, ◌-◌, ◌<◌, ◌≤◌, ◌&&◌, nat_lt, length, Bool, true, false, List, [], ◌∷◌, ◌++◌, replicate, refl, sym, ap, subst, ◌∙◌, arith, append_assoc, append-nil}
 use Rattle.std.specs.Prelude.{Option, Some, None, option_and_then}
+use Rattle.std.proofs.lemmas.Bool.Decides.{nat_tests}
 use Rattle.std.proofs.lemmas.List.{replicate_more, replicate-append-replicate}
 use Rattle.tc_elf.specs.Shown.{Shown}
 use Rattle.tc_journal.specs.declared.block.Block.{Block}
-use Rattle.tc_mutex_spec.specs.Machine.{State, can_turn, after, turn, turns, run_from, spread}
+use Rattle.tc_mutex_spec.specs.Machine.{State, can_turn, is_open, after, turn, turns, run_from, spread}
+use Rattle.tc_turn.specs.Turn.{is_running, next_lock}
 use Rattle.tc_mutex_spec.specs.Blocks.{reach, Stands, TellsAfter}
 use Rattle.tc_journal.specs.History.{schedule}
 
@@ -76,3 +78,26 @@ turns-stuck image m s t n count ran stuck lt =
     ∙ turns-append image m (replicate n t) (replicate (suc (count - (n + 1))) t)
     ∙ ap (option_and_then (λ x. turns image x (replicate (suc (count - (n + 1))) t))) ran
     ∙ ap (option_and_then (λ x. turns image x (replicate (count - (n + 1)) t))) (turn-stuck image s t stuck)
+
+-- where the turns of one thread are defined, they lead to what they reach
+pub turns-led : (image : Shown) (m s : State) (t n : ℕ) → turns image m (replicate n t) ≡ Some s → s ≡ reach image m t n
+turns-led image m s t zero e = (let is : m ≡ s = cc in sym is)
+turns-led image m s t (suc n) e = go (λ x. turns-led image m x t n) (turns image m (replicate n t)) refl (sym (ap (turns image m) more ∙ turns-append image m (replicate n t) (t ∷ [])) ∙ e)
+  where
+    more : replicate (suc n) t ≡ replicate n t ++ t ∷ []
+    more = (let e : suc n ≡ n + 1 = omega arith in ap (λ x. replicate x t) e ∙ sym (replicate_more n t))
+
+    last : (x : State) (b : Bool) → can_turn image x t ≡ b → option_and_then (λ y. turns image y []) (turn image x t) ≡ Some s → s ≡ after image x t
+    last x true can e = (let is : Some (after image x t) ≡ Some s = sym (ap (option_and_then (λ y. turns image y [])) (turn-defined image x t can)) ∙ e in cc)
+    last x false can e = absurd (let no : None ≡ Some s = sym (ap (option_and_then (λ y. turns image y [])) (turn-stuck image x t can)) ∙ e in cc)
+
+    go : ((x : State) → turns image m (replicate n t) ≡ Some x → x ≡ reach image m t n) → (o : Option State) → turns image m (replicate n t) ≡ o → option_and_then (λ x. turns image x (t ∷ [])) o ≡ Some s → s ≡ after image (reach image m t n) t
+    go led None is e = absurd (cc)
+    go led (Some x) is e = last x (can_turn image x t) refl e ∙ ap (λ y. after image y t) (led x is)
+
+-- no turn of a thread that is none is defined
+pub no_thread-stuck : (image : Shown) (m : State) (t count : ℕ) → length image.entries ≤ t → 1 ≤ count → turns image m (replicate count t) ≡ None
+unfolding can_turn
+no_thread-stuck image m t count none some =
+    let past : nat_lt t (length image.entries) ≡ false = grind (arith, nat_tests) in
+    turns-stuck image m m t 0 count refl (ap (λ b. b && (is_running (m.threads t).status && is_open (next_lock image (m.threads t)) m.locks)) past) some

@@ -12,3 +12,5 @@ pub mod Going
 pub mod BlockEnds
 pub mod EntriesAlike
 pub mod Owners
+pub mod Leaving
+pub mod Histories

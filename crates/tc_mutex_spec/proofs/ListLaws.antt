@@ -1,7 +1,9 @@
 -- Lists by place: an item that is written, and a list that a loop makes.
-use Rattle.std.proofs.Common.{◌≡◌, ◌≢◌, ◌⊎◌, ℕ, zero, suc, ◌<◌, ◌≤◌, List, [], ◌∷◌, set, length, refl, ap, ◌∙◌, arith}
+use Rattle.std.proofs.Common.{◌≡◌, ◌≢◌, ◌⊎◌, ℕ, zero, suc, ◌<◌, ◌≤◌, List, [], ◌∷◌, set, length, get_or, refl, sym, ap, ◌∙◌, arith, inl, inr, ⊎_elim}
 use Rattle.std.specs.Prelude.{slice_get, map, Some, None}
 use Rattle.std.specs.List.{range_with_len}
+use mathlib.Core.Option.{some, some-injective, some-ne-none}
+use lib.ListN.{get_elem?}
 use Rattle.std.proofs.lemmas.List.FromFn.{length-map-range_with_len, get_or-map-range_with_len}
 use Rattle.std.proofs.lemmas.Option.{slice_get-get_or, slice_get_past}
 
@@ -28,3 +30,32 @@ made_get f n k d lt =
 
 pub made_past : {A : Type 0} (f : ℕ → A) (n k : ℕ) → n ≤ k → slice_get (map f (range_with_len 0 n)) k ≡ None
 made_past f n k le = slice_get_past (map f (range_with_len 0 n)) k (let e = length-map-range_with_len f 0 n in omega arith)
+
+-- ---- lists by number
+
+module _ {A : Type 0} where
+  pub there : (l : List A) (i : ℕ) (a d : A) → get_elem? l i ≡ some a → (i < length l) × (get_or l i d ≡ a)
+  there [] i a d e = absurd (some-ne-none a (sym e))
+  there (x ∷ xs) zero a d e = (omega arith, some-injective x a e)
+  there (x ∷ xs) (suc i) a d e = (let r = there xs i a d e in (omega arith, r.1))
+
+  pub at_place : (l : List A) (i : ℕ) → i < length l → (a : A) × (get_elem? l i ≡ some a)
+  at_place [] i h = absurd (omega arith)
+  at_place (x ∷ xs) zero h = (x, refl)
+  at_place (x ∷ xs) (suc i) h = at_place xs i (omega arith)
+
+  pub set_at : (l : List A) (i j : ℕ) (a b : A) → get_elem? (set l i a) j ≡ some b → ((j ≡ i) × (a ≡ b)) ⊎ ((j ≢ i) × (get_elem? l j ≡ some b))
+  set_at [] i j a b e = absurd (some-ne-none b (sym e))
+  set_at (x ∷ xs) zero zero a b e = inl (refl, some-injective a b e)
+  set_at (x ∷ xs) zero (suc j) a b e = inr ((λ h. omega arith), e)
+  set_at (x ∷ xs) (suc i) zero a b e = inr ((λ h. omega arith), e)
+  set_at (x ∷ xs) (suc i) (suc j) a b e = ⊎_elim (λ t. inl (ap suc t.0, t.1)) (λ t. let n = t.0 in inr ((λ h. n (omega arith)), t.1)) (set_at xs i j a b e)
+
+  pub same_list : (xs ys : List A) → ((i : ℕ) (a : A) → get_elem? xs i ≡ some a → get_elem? ys i ≡ some a) → ((i : ℕ) (a : A) → get_elem? ys i ≡ some a → get_elem? xs i ≡ some a) → xs ≡ ys
+  same_list [] [] f g = refl
+  same_list [] (y ∷ ys) f g = absurd (some-ne-none y (sym (g 0 y refl)))
+  same_list (x ∷ xs) [] f g = absurd (some-ne-none x (sym (f 0 x refl)))
+  same_list (x ∷ xs) (y ∷ ys) f g =
+      let head : y ≡ x = some-injective y x (f 0 x refl) in
+      let tail = same_list xs ys (λ i a e. f (suc i) a e) (λ i a e. g (suc i) a e) in
+      cc (head, tail)

@@ -1,5 +1,5 @@
 -- A turn touches its thread and the locks that a set covers, and nothing else.
-use Rattle.std.proofs.Common.{◌≡◌, ◌≢◌, ℕ, Bool, true, ◌&&◌, ◌==◌, length, refl, sym, ap, ◌∙◌, inl, inr}
+use Rattle.std.proofs.Common.{◌≡◌, ◌≢◌, ℕ, Bool, true, ◌&&◌, ◌==◌, length, refl, sym, ap, subst, ◌∙◌, inl, inr}
 use Rattle.std.specs.Prelude.{nat_lt, if◌then◌else◌, Option, Some, None}
 use Rattle.std.proofs.lemmas.Bool.Decides.{eqb_tells}
 use Rattle.tc_elf.specs.Shown.{Shown}
@@ -51,3 +51,23 @@ turn_agree image m n t set covers agree =
       thread = after_thread image m t ∙ (λ i. thread_after (agree.thread i) (acts i)) ∙ sym (after_thread image n t);
       locks = λ k is. after_mutex image m t k ∙ (λ i. mutex_after image t (agree.thread i).held (acts i) k (agree.locks k is i)) ∙ sym (after_mutex image n t k);
     }
+
+-- ---- what agrees on the same locks
+
+pub agree_trans : (t : ℕ) (set : ℕ → Bool) (a b c : State) → Agree t set a b → Agree t set b c → Agree t set a c
+agree_trans t set a b c p q = record { thread = p.thread ∙ q.thread; locks = λ k h. p.locks k h ∙ q.locks k h }
+
+pub agree_at : (t u : ℕ) (set other : ℕ → Bool) (a b : State) → t ≡ u → ((k : ℕ) → set k ≡ other k) → Agree t set a b → Agree u other a b
+agree_at t u set other a b e same agree = record {
+  thread = subst (λ v. a.threads v ≡ b.threads v) e agree.thread;
+  locks = λ k h. agree.locks k (same k ∙ h);
+}
+
+pub covers_at : (image : Shown) (set other : ℕ → Bool) (d : Thread) → ((k : ℕ) → set k ≡ other k) → Covers image set d → Covers image other d
+covers_at image set other d same covers = record { held = λ k h. sym (same k) ∙ covers.held k h; next = λ k h. sym (same k) ∙ covers.next k h }
+
+pub apart_at : (t u : ℕ) (set other : ℕ → Bool) (a b : State) → t ≡ u → ((k : ℕ) → set k ≡ other k) → Apart t set a b → Apart u other a b
+apart_at t u set other a b e same apart = record {
+  threads = λ k ne. apart.threads k (λ f. ne (f ∙ e));
+  locks = λ k out. apart.locks k (same k ∙ out);
+}

@@ -63,7 +63,7 @@ unowned_stored image (region.Guard lock) k l addr width value = unowned_when (k 
 unowned_stored image region.Nothing k l addr width value = refl
 
 -- the owner doesn't count
-unowned_after : (image : Shown) (t : ℕ) (held : ℕ → Bool) (a : Option Act) (k : ℕ) (l : Mutex) → unowned (mutex_after image t held a k (unowned l)) ≡ unowned (mutex_after image t held a k l)
+pub unowned_after : (image : Shown) (t : ℕ) (held : ℕ → Bool) (a : Option Act) (k : ℕ) (l : Mutex) → unowned (mutex_after image t held a k (unowned l)) ≡ unowned (mutex_after image t held a k l)
 unowned_after image t held None k l = unowned_given (held k) l
 unowned_after image t held (Some (Next regs None)) k l = refl
 unowned_after image t held (Some (Next regs (Some put))) k l = unowned_stored image put.region k l put.addr put.width put.value

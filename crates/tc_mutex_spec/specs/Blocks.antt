@@ -4,7 +4,9 @@ use Rattle.tc_isa.specs.Sets.{has}
 use Rattle.tc_elf.specs.Shown.{Shown}
 use Rattle.tc_journal.specs.Batch.{is_section, ends_section}
 use Rattle.tc_journal.specs.Rule.{end_rule}
+use Rattle.tc_journal.specs.Told.{with_pc}
 use Rattle.tc_journal.specs.declared.block.Block.{Block}
+use Rattle.tc_journal.specs.declared.block.BlockV1.{BlockV1}
 use Rattle.tc_journal.specs.declared.block.End.{End}
 use Rattle.tc_journal.specs.declared.block.Kind.{Kind}
 use Rattle.tc_journal.specs.declared.block.Kind.TheVariants.{Start, On, Taken, Adopted, Granted}
@@ -52,10 +54,12 @@ abbrev pub has_block : List Block → ℕ → Bool
 has_block [] t = false
 has_block (b ∷ h) t = (b.thread == t) || has_block h t
 
--- the block stands after those that were seen, from m to last. Stamp, worker and the way in which a lock came do not count
+-- the block stands after those that were seen, from m to last, and its pc is that of its thread in m. Stamp, worker and
+-- the way in which a lock came do not count
 pub record Stands (image : Shown) (seen : List Block) (m : State) (b : Block) (last : State) : Type 0 where
   pub runs : Runs image m b.thread b.turns b.end last
   pub held : (k : ℕ) → has b.held k ≡ locks_of_block (m.threads b.thread).held (next_lock image (m.threads b.thread)) k
+  pub pc : b.pc ≡ (m.threads b.thread).regs.pc
   pub section : is_section b.kind ≡ is_some (next_lock image (m.threads b.thread))
   pub first : is_section b.kind ≡ false → is_first b.kind ≡ not (has_block seen b.thread)
 
@@ -78,6 +82,11 @@ owner_by k (Some b) = if ends_section k b then None else Some b.thread
 abbrev pub led_to : Shown → State → List Block → State
 led_to image m [] = m
 led_to image m (b ∷ h) = led_to image (reach image m b.thread b.turns) h
+
+-- old blocks from m on, each with its thread's pc before it
+abbrev pub with_pcs : Shown → State → List BlockV1 → List Block
+with_pcs image m [] = []
+with_pcs image m (b ∷ old) = with_pc b (m.threads b.thread).regs.pc ∷ with_pcs image (reach image m b.thread b.turns) old
 
 -- the machine at the end of a history
 abbrev pub end_after : Shown → ℕ → List Block → State

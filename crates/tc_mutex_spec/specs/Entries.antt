@@ -27,7 +27,7 @@ entries_after image k m (b ∷ h) = with_front (has b.held k) (entry_of image k 
 abbrev pub entries_by : Shown → ℕ → List Block → ℕ → List Entry
 entries_by image fuel h k = entries_after image k (start image fuel) h
 
--- the journal of lock k by a history that leads to m: its blocks are those of the lock, and RV32I replays it from the guard's
+-- the journal of lock k by a history that leads to m: its blocks are those of the lock, and RV32IM replays it from the guard's
 -- first bytes to the lock as it is in m
 pub record HasJournal (image : Shown) (fuel : ℕ) (h : List Block) (m : State) (k : ℕ) : Type 0 where
   pub blocks : map block_in (entries_by image fuel h k) ≡ of_lock h k

@@ -1,4 +1,4 @@
--- The machine of ordinary mutexes: threads of RV32I that never leave a worker, and one owner field for each mutex.
+-- The machine of ordinary mutexes: threads of RV32IM that never leave a worker, and one owner field for each mutex.
 use Rattle.std.specs.Prelude.{◌≡◌, ◌↔◌, ℕ, Bool, true, false, ◌&&◌, ◌==◌, nat_lt, if◌then◌else◌, List, [], ◌∷◌, ◌++◌, length, replicate, Option, Some, None, option_and_then}
 use Rattle.tc_elf.specs.Shown.{Shown}
 use Rattle.tc_turn.specs.Turn.{Thread, Mutex, thread_at_start, no_thread, mutex_at_start, is_running, next_lock, next_act, thread_after, mutex_after}

@@ -9,6 +9,7 @@
 //!   `specs/Entries.antt`: the entries that a history gives the journal of each lock.
 //! - `law`: the laws, as functions that do nothing and whose contracts hold.
 //! - `slow`: the program, `Slow::run`; `locks`: its locks.
+//! - `upgrade`: an old history with the pc of each block, which it finds by a run.
 #![tactic(auto)]
 
 pub mod law;
@@ -16,3 +17,4 @@ mod locks;
 pub mod slow;
 #[cfg(test)]
 mod tests;
+pub mod upgrade;

@@ -169,7 +169,7 @@ impl Slow {
     }
 
     /// So many turns of the thread, where they are defined.
-    fn turns(&mut self, image: &Image, t: u32, count: u32) -> bool
+    pub(crate) fn turns(&mut self, image: &Image, t: u32, count: u32) -> bool
         requires { Suits image.now self.old }
         ensures ran { LeadsTo (turns image.now (state_of self.old) (replicate count t))
             result self.new }
@@ -223,7 +223,7 @@ impl Slow {
         requires { t < length self.now.threads }
         ensures { result ≡ ((state_of self.now).threads t).regs }
     {
-        self.threads[t as usize].regs()
+        *self.threads[t as usize].regs()
     }
 
     /// How many instructions a thread may still run.

@@ -1,4 +1,7 @@
+ghost use Rattle.std.specs.Prelude.{◌≡◌};
+
 use crate::slow::{Slow, SlowStatus};
+use crate::upgrade::upgrade;
 use std::alloc::Global;
 use std::test::Fail;
 use tc_elf::image::Image;
@@ -7,6 +10,7 @@ use tc_elf::load::load;
 use tc_elf::refusal::Refusal;
 use tc_isa::held::Held;
 use tc_isa::reg::Reg;
+use tc_journal::block::{BlockV1, End, Kind};
 
 /// A guest's file of one segment at the address 0x00010054: `addi x17,x0,93` and `ecall`.
 const SMALLEST: [u8; 92] = [
@@ -137,6 +141,69 @@ fn a_lock_is_broken_by_a_thread_that_ends_inside(rt: HostRuntime) -> Result<(), 
             assert!(rt; slow.owner(0) == Some(1));
         }
         None => assert!(rt; false, "an ended thread owns no lock"),
+    }
+    Ok(())
+}
+
+/// A block of an old history of the smallest guest, or of the thread of this number.
+fn old_block(thread: u32, turns: u32) -> BlockV1
+    ensures { result.turns ≡ turns }
+{
+    BlockV1 {
+        stamp: 0,
+        thread,
+        turns,
+        held: Held::none(),
+        kind: Kind::Start,
+        worker: 0,
+        end: End::Exit,
+    }
+}
+
+/// An old history gets the pc of each block where its run is defined: the thread exits with its
+/// second turn, and there is one thread.
+#[test]
+fn old_blocks_get_their_pc(rt: HostRuntime) -> Result<(), Fail> {
+    let image = load(rt.alloc(), &SMALLEST)?;
+    let new = upgrade(rt.alloc(), &image, 100, &[old_block(0, 2)])?;
+    let want = old_block(0, 2).with_pc(0x0001_0054);
+    match new {
+        Some(blocks) => assert_eq!(rt; blocks.as_slice(), [want].as_slice()),
+        None => assert!(rt; false, "two turns are defined"),
+    }
+    assert!(rt; upgrade(rt.alloc(), &image, 100, &[old_block(0, 3)])?.is_none());
+    assert!(rt; upgrade(rt.alloc(), &image, 100, &[old_block(1, 1)])?.is_none());
+    Ok(())
+}
+
+/// So do the blocks of two threads that each have one section.
+#[test]
+fn old_blocks_of_two_threads_get_their_pcs(rt: HostRuntime) -> Result<(), Fail> {
+    let image = one(rt.alloc())?;
+    let old = [
+        old_block(0, 3),
+        old_block(0, 7),
+        old_block(1, 3),
+        old_block(1, 7),
+        old_block(0, 2),
+        old_block(1, 2),
+    ];
+    let pcs = [
+        0x0010_0000,
+        0x0010_000c,
+        0x0010_0000,
+        0x0010_000c,
+        0x0010_0028,
+        0x0010_0028,
+    ];
+    match upgrade(rt.alloc(), &image, 100, &old)? {
+        Some(blocks) => {
+            assert_eq!(rt; blocks.len(), pcs.len());
+            for (block, pc) in blocks.iter().zip(pcs) {
+                assert_eq!(rt; block.pc, pc);
+            }
+        }
+        None => assert!(rt; false, "the run is defined"),
     }
     Ok(())
 }

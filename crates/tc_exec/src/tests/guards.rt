@@ -16,10 +16,10 @@ use tc_isa::held::Held;
 use tc_isa::regs::Regs;
 
 /// The address of the one word of code.
-const CODE: u32 = 0x0010_0000;
+pub(super) const CODE: u32 = 0x0010_0000;
 
 /// The address of the first guard. The second is at 0x2_0008.
-const DATA: u32 = 0x2_0000;
+pub(super) const DATA: u32 = 0x2_0000;
 
 /// lw x10, 0(x11)
 const LW: u32 = 0x0005_a503;
@@ -135,13 +135,13 @@ fn file_of(alloc: Global, word: u32) -> Result<Vec<u8>, AllocError> {
 }
 
 /// The image of that file.
-fn image_of(rt: &impl Abort, alloc: Global, word: u32) -> Result<Image, Fail> {
+pub(super) fn image_of(rt: &impl Abort, alloc: Global, word: u32) -> Result<Image, Fail> {
     let file = file_of(alloc, word)?;
     assert_eq!(rt; file.len(), 272);
     Ok(load(alloc, &file)?)
 }
 
-fn held_of(locks: &[u32]) -> Held {
+pub(super) fn held_of(locks: &[u32]) -> Held {
     let mut held = Held::none();
     for &lock in locks {
         if lock < 32 {

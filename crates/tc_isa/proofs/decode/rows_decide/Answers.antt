@@ -1,17 +1,11 @@
-use Rattle.std.proofs.Common.{◌≡◌, ℕ, ◌<◌, ◌^◌, Some, refl, sym, ◌∙◌, arith, subst, Option}
+use Rattle.std.proofs.Common.{◌≡◌, ℕ, ◌<◌, ◌^◌, Some, refl, sym, ◌∙◌, subst, Option}
 use Rattle.std.specs.Prelude.{IfSome}
 use Rattle.tc_isa.specs.Rows.{Decodes}
-use Rattle.tc_isa.specs.Reading.{decoded, instr_of, fields_of, IsSplit}
+use Rattle.tc_isa.specs.Reading.{decoded, instr_of, fields_of}
 use Rattle.tc_isa.specs.declared.instr.Instr.{Instr}
-use Rattle.tc_isa.proofs.Laws.{again, fits}
+use Rattle.tc_isa.proofs.RoundTrip.{split_of, there, decodes_again}
 use Rattle.tc_isa.proofs.Sound.{sound}
 use Rattle.tc_isa.proofs.decode.rows_decide.Goals as goal
-
-split_of : (word : ℕ) → word < 2 ^ 32 → IsSplit word (fields_of word)
-split_of word h = record {
-  within = record { funct7 = omega arith; rs2 = omega arith; rs1 = omega arith; funct3 = omega arith; rd = omega arith; opcode = omega arith };
-  whole = omega arith;
-}
 
 back : (word : ℕ) (i : Instr) → word < 2 ^ 32 → decoded word ≡ Some i → Decodes word i
 unfolding decoded
@@ -21,10 +15,6 @@ back word i h e =
     let Q : ℕ → Type 0 = λ w. IfSome (instr_of (fields_of word)) (λ i. Decodes w i) in
     subst P e (subst Q (sym s.whole) (sound (fields_of word) s.within))
 
-there : (word : ℕ) (i : Instr) → word < 2 ^ 32 → Decodes word i → decoded word ≡ Some i
-unfolding decoded
-there word i h d = let s = split_of word h in again i (fields_of word) s.within d.0 (sym s.whole ∙ d.1)
-
 pub returns-clause-rows : goal.returns-clause-rows
 returns-clause-rows c = λ word i h. (back word i h, there word i h)
 
@@ -32,7 +22,7 @@ pub returns-clause-one : goal.returns-clause-one
 returns-clause-one c = λ word i j h d e. let same : Some i ≡ Some j = sym (there word i h d) ∙ there word j h e in cc
 
 pub returns-clause-again : goal.returns-clause-again
-returns-clause-again c = λ i v. there _ i (fits i v) (v, refl)
+returns-clause-again c = λ i v. decodes_again _ i v refl
 
 pub returns-clause-back : goal.returns-clause-back
 returns-clause-back c = λ word i h e. sym (back word i h e).1

@@ -1,0 +1,19 @@
+-- What is true of what an act does beside the registers.
+use Rattle.std.proofs.Common.{ℕ, Bool}
+use Rattle.std.specs.Prelude.{Some, None}
+use Rattle.tc_isa.specs.Registers.{Registers}
+use Rattle.tc_elf.specs.Shown.{Shown}
+use Rattle.tc_exec.specs.Told.{IsAct}
+use Rattle.tc_exec.specs.InPlace.{done_of, IsDone}
+use Rattle.tc_exec.specs.declared.outcome.Act.{Act}
+use Rattle.tc_exec.specs.declared.outcome.Act.TheVariants.{Next, Called, Faulted}
+use Rattle.tc_exec.specs.declared.outcome.Call.TheVariants.{Lock, Unlock, Sleep, Exit}
+
+pub done_told : (image : Shown) (held : ℕ → Bool) (r : Registers) (a : Act) → IsAct image held r a → IsDone image held (done_of a)
+done_told image held r (Next next None) t = tt
+done_told image held r (Next next (Some put)) t = t
+done_told image held r (Called (Lock lock) next) t = t
+done_told image held r (Called (Unlock lock) next) t = t.0
+done_told image held r (Called (Sleep blocks) next) t = t.0
+done_told image held r (Called Exit next) t = tt
+done_told image held r (Faulted f) t = tt

@@ -1,0 +1,196 @@
+//! Decoded code: the words of an image, each decoded once.
+//!
+//! The table is sound and not complete: a place that it has is the instruction there, and a place
+//! that it has not tells nothing. So what is not found in it is fetched and decoded as ever.
+
+ghost use Rattle.std.specs.Prelude.{◌≡◌, ◌*◌, ◌+◌, ◌≤◌, ◌^◌, IfOk, IfSome, Ok};
+ghost use Rattle.tc_isa.specs.Sets.{has};
+ghost use Rattle.tc_elf.specs.Shown.{Shown};
+ghost use Rattle.tc_exec.specs.Code.{SlotTells, SlotsTell, PartsTell};
+ghost use Rattle.tc_exec.specs.InPlace.{IsDone, done_of, regs_after};
+ghost use Rattle.tc_exec.specs.Plain.{PlainRun};
+ghost use Rattle.tc_exec.specs.Step as step;
+ghost use Rattle.tc_exec.specs.Told.{IsWant};
+
+use crate::in_place::{go, go_by};
+use crate::outcome::{Done, Want};
+use crate::plain::run_in;
+use crate::step::{instruction_at, wants, wants_by};
+use std::alloc::{AllocError, Global};
+use std::marker::Model;
+use std::snapshot::Snapshot;
+use tc_elf::image::Image;
+use tc_isa::held::Held;
+use tc_isa::instr::Instr;
+use tc_isa::regs::Regs;
+
+/// The instructions from a place on, four bytes for each.
+#[derive(Drop)]
+struct Part {
+    start: u32,
+    slots: Vec<Option<Instr>>,
+}
+
+/// The decoded code of an image. A contract sees the image.
+#[derive(Drop)]
+pub struct Code {
+    of: Snapshot<Image>,
+    parts: Vec<Part>,
+}
+
+impl Model for Code {
+    ghost use Rattle.tc_elf.specs.Shown.{Shown};
+    ghost use Rattle.tc_exec.specs.Code.{PartsTell};
+
+    ghost Value = { Shown };
+
+    ghost view = { λ c. c.of.value };
+
+    ghost invariant = { λ c. PartsTell c.of.value c.parts.items };
+}
+
+/// The decoded word of a place.
+fn slot_at(image: &Image, pc: u32) -> Option<Instr>
+    ensures { SlotTells image.now pc result }
+{
+    match instruction_at(image, pc) {
+        Ok(instr) => Some(instr),
+        Err(_) => None,
+    }
+}
+
+/// So many decoded words from a place on.
+fn slots_from(
+    alloc: Global,
+    image: &Image,
+    start: u32,
+    count: u32,
+) -> Result<Vec<Option<Instr>>, AllocError>
+    requires { start + 4 * count ≤ 2 ^ 32 }
+    ensures { IfOk result (λ v. SlotsTell image.now start v.items) }
+{
+    let mut slots = Vec::with_capacity(alloc, count as usize)?;
+    'words: for i in 0..count {
+        slots.push(slot_at(image, start + 4 * i))?;
+    }
+    Ok(slots)
+}
+
+/// The slot of a place, where there is one.
+pub(crate) fn slot_in(slots: &[Option<Instr>], start: u32, pc: u32) -> Option<&Instr>
+    ensures { (image : Shown) → SlotsTell image start slots.now → IfSome result (λ i. step.instruction_at image pc ≡ Ok i.now) }
+{
+    if pc < start || (pc - start) % 4 != 0 {
+        return None;
+    }
+    let at = ((pc - start) / 4) as usize;
+    if at >= slots.len() {
+        return None;
+    }
+    match &slots[at] {
+        Some(instr) => Some(instr),
+        None => None,
+    }
+}
+
+/// The decoded words of a range.
+fn part_of(alloc: Global, image: &Image, start: u32, length: u32) -> Result<Part, AllocError>
+    requires { start + length ≤ 2 ^ 32 }
+    ensures { IfOk result (λ p. SlotsTell image.now p.start p.slots.items) }
+{
+    let slots = slots_from(alloc, image, start, length / 4)?;
+    Ok(Part { start, slots })
+}
+
+/// The decoded words of the executable ranges.
+#[tactic(auto, using(crate::proofs::Slots::part_more))]
+fn parts_of(alloc: Global, image: &Image) -> Result<Vec<Part>, AllocError>
+    ensures { IfOk result (λ v. PartsTell image.now v.items) }
+{
+    let mut parts = Vec::new(alloc);
+    'each: for i in 0..image.ranges() {
+        let (start, length, _, executable) = image.range(i);
+        if executable {
+            parts.push(part_of(alloc, image, start, length)?)?;
+        }
+    }
+    Ok(parts)
+}
+
+impl Code {
+    /// The code of an image, with each word of its executable ranges decoded.
+    pub fn of(alloc: Global, image: &Image) -> Result<Code, AllocError>
+        ensures { IfOk result (λ code. code ≡ image.now) }
+    {
+        Ok(Code {
+            of: Snapshot::of(image),
+            parts: parts_of(alloc, image)?,
+        })
+    }
+
+    /// The code of an image with nothing decoded. It takes no memory, and each instruction costs
+    /// what it costs without a table.
+    pub fn undecoded(alloc: Global, image: &Image) -> Code
+        ensures { result ≡ image.now }
+    {
+        Code {
+            of: Snapshot::of(image),
+            parts: Vec::new(alloc),
+        }
+    }
+
+    /// The instruction at a place, where it was decoded. None says nothing.
+    pub fn find(&self, pc: u32) -> Option<&Instr>
+        ensures { IfSome result (λ instr. step.instruction_at self.now pc ≡ Ok instr.now) }
+    {
+        'parts: for part in &self.parts {
+            if let Some(instr) = slot_in(&part.slots, part.start, pc) {
+                return Some(instr);
+            }
+        }
+        None
+    }
+
+    /// Does plain instructions, those that neither load nor store, are no guest call and do not
+    /// fault, and says how many it did. It ends at the first that is not plain or not decoded, and
+    /// after `most`.
+    pub fn run(&self, regs: &mut Regs, most: u32) -> u32
+        ensures runs { PlainRun self.now result regs.old regs.new }
+        ensures most { result ≤ most }
+    {
+        'parts: for part in &self.parts {
+            if slot_in(&part.slots, part.start, regs.pc()).is_some() {
+                return run_in(&part.slots, part.start, regs, most);
+            }
+        }
+        0
+    }
+
+    /// What `step::wants` answers, from the decoded instruction where there is one.
+    #[tactic(auto, unfolding(crate::specs::Step::wants_of))]
+    pub fn wants(&self, image: &Image, held: Held, regs: &Regs) -> Want
+        requires { self.now ≡ image.now }
+        ensures value { result ≡ step.wants_of image.now (has held) regs.now }
+        ensures told { IsWant image.now (has held) result }
+    {
+        match self.find(regs.pc()) {
+            Some(instr) => wants_by(image, held, regs, *instr),
+            None => wants(image, held, regs),
+        }
+    }
+
+    /// What `in_place::go` does, from the decoded instruction where there is one.
+    #[tactic(auto, unfolding(crate::specs::Step::act_of))]
+    pub fn go(&self, image: &Image, held: Held, regs: &mut Regs, answer: u32) -> Done
+        requires { self.now ≡ image.now }
+        ensures done { result ≡ done_of (step.act_of image.now (has held) regs.old answer) }
+        ensures regs { regs.new
+            ≡ regs_after (step.act_of image.now (has held) regs.old answer) regs.old }
+        ensures told { IsDone image.now (has held) result }
+    {
+        match self.find(regs.pc()) {
+            Some(instr) => go_by(image, held, regs, answer, instr),
+            None => go(image, held, regs, answer),
+        }
+    }
+}

@@ -1,0 +1,123 @@
+//! The calls in place, with and without decoded code, tell what the plain calls tell.
+
+use super::guards;
+use crate::code::Code;
+use crate::in_place::go;
+use crate::outcome::{Act, Done};
+use crate::step::{act, lock_wanted, wants};
+use std::alloc::Global;
+use std::process::Abort;
+use std::test::Fail;
+use tc_elf::image::Image;
+use tc_isa::held::Held;
+use tc_isa::reg::Reg;
+use tc_isa::regs::Regs;
+
+/// A load or a store of each width, a jump, a branch, a sum and a call, all by x10, x11 and x12.
+static WORDS: [u32; 12] = [
+    0x0005_8503, // lb x10, 0(x11)
+    0x0005_9503, // lh x10, 0(x11)
+    0x0005_a503, // lw x10, 0(x11)
+    0x00c5_8023, // sb x12, 0(x11)
+    0x00c5_9023, // sh x12, 0(x11)
+    0x00c5_a023, // sw x12, 0(x11)
+    0x0005_8567, // jalr x10, 0(x11)
+    0x02c5_c563, // blt x11, x12, 42
+    0x00c5_8533, // add x10, x11, x12
+    0x0000_0517, // auipc x10, 0
+    0x0000_0073, // ecall
+    0x0000_0000, // no instruction
+];
+
+/// The registers that an act leaves, of those before it, and what it does beside them.
+fn parts_of(before: Regs, act: &Act) -> (Regs, Done) {
+    match *act {
+        Act::Next { regs, put: None } => (regs, Done::Went),
+        Act::Next {
+            regs,
+            put: Some(put),
+        } => (regs, Done::Stored(put)),
+        Act::Called { call, regs } => (regs, Done::Called(call)),
+        Act::Faulted(fault) => (before, Done::Faulted(fault)),
+    }
+}
+
+/// Asserts that the calls in place tell of an instruction what `wants` and `act` tell of it.
+pub(super) fn check_in_place(
+    rt: &impl Abort,
+    alloc: Global,
+    image: &Image,
+    held: Held,
+    regs: Regs,
+    answer: u32,
+) -> Result<(), Fail> {
+    let code = Code::of(alloc, image)?;
+    let (next, done) = parts_of(regs, &act(image, held, &regs, answer));
+    let mut fetched = regs;
+    assert_eq!(rt; go(image, held, &mut fetched, answer), done);
+    assert_eq!(rt; fetched, next);
+    let mut found = regs;
+    assert_eq!(rt; code.go(image, held, &mut found, answer), done);
+    assert_eq!(rt; found, next);
+    assert_eq!(rt; code.wants(image, held, &regs), wants(image, held, &regs));
+    let mut ran = regs;
+    match code.run(&mut ran, 1) {
+        0 => assert_eq!(rt; ran, regs),
+        _ => assert_eq!(rt; (ran, Done::Went), (next, done)),
+    }
+    let none = Code::undecoded(alloc, image);
+    assert_eq!(rt; none.run(&mut ran, 1), 0);
+    Ok(())
+}
+
+/// The next number of a row of pseudo-random ones (Marsaglia's xorshift of 32 bits).
+fn random_after(number: u32) -> u32 {
+    let number = number ^ (number << 13);
+    let number = number ^ (number >> 17);
+    number ^ (number << 5)
+}
+
+#[test]
+fn random_registers_make_no_difference(rt: HostRuntime) -> Result<(), Fail> {
+    let mut random = 1;
+    for word in WORDS.iter().copied() {
+        let image = guards::image_of(&rt, rt.alloc(), word)?;
+        for round in 0..10u32 {
+            let mut regs = Regs::start(guards::CODE, 0, 0);
+            // Numbers near the data, numbers of calls, and any.
+            for (number, least, mask) in [
+                (10, 0, 7),
+                (11, guards::DATA - 8, 63),
+                (12, 0, u32::MAX),
+                (17, 1, 3),
+            ] {
+                random = random_after(random);
+                regs.put(Reg::of(number), (random & mask).wrapping_add(least));
+            }
+            if round == 9 {
+                regs.put(Reg::of(11), random);
+            }
+            random = random_after(random);
+            let held = guards::held_of(&[random % 5, random / 5 % 5]);
+            check_in_place(&rt, rt.alloc(), &image, held, regs, random)?;
+        }
+    }
+    Ok(())
+}
+
+#[test]
+fn a_lock_is_wanted_where_it_is_taken(rt: HostRuntime) -> Result<(), Fail> {
+    let image = guards::image_of(&rt, rt.alloc(), 0x0000_0073)?;
+    for (x17, x10, held, lock) in [
+        (1, 4, 2, Some(4)),
+        (1, 2, 4, None),
+        (1, 5, 0, None),
+        (2, 4, 4, None),
+    ] {
+        let mut regs = Regs::start(guards::CODE, 0, 0);
+        regs.put(Reg::of(17), x17);
+        regs.put(Reg::of(10), x10);
+        assert_eq!(rt; lock_wanted(&image, guards::held_of(&[held]), &regs), lock);
+    }
+    Ok(())
+}

@@ -1,0 +1,13 @@
+use Rattle.std.proofs.Common.{◌≡◌, ◌+◌, ◌-◌, ◌++◌, drop, ap, ◌∙◌, arith}
+use Rattle.tc_journal.specs.Digits.{hex2}
+use Rattle.tc_journal.proofs.Buffers.{start_of, text_in_front, IsUtf8-hex2}
+use Rattle.tc_journal.proofs.buffer.Buffer.put_byte.Goals as goal
+
+pub invariant_of-self : goal.invariant_of-self
+invariant_of-self c =
+    let start = start_of c.self.inside.start c.self.inside.bytes c.args.self.now (omega arith) c.self.invariant.0 c.self.view_is in
+    let at : c.self.inside.start - 2 + 2 ≡ c.self.inside.start = omega (arith, start) in (
+      omega arith,
+      text_in_front (hex2 c.args.byte) (drop c.self.inside.start c.self.inside.bytes) _ (IsUtf8-hex2 c.args.byte (omega (arith, c.ranges.byte))) c.self.invariant.1
+          (c.write_byte.ensures ∙ ap (λ n. hex2 c.args.byte ++ drop n c.self.inside.bytes) at),
+    )

@@ -1,0 +1,125 @@
+//! A line in one array. It is written from its end to its front, so that the digits of a number,
+//! which come up from the last to the first, are written where they stay and not counted first.
+
+ghost use Rattle.std.specs.Prelude.{◌≡◌, ℕ, ◌+◌, ◌^◌, ◌<◌, ◌≤◌, ◌∷◌, ◌++◌, [], false, decimal, drop, length};
+ghost use Rattle.std.specs.Fmt.{digit_glyph};
+ghost use Rattle.tc_journal.specs.Digits.{hex2, hex8};
+
+use itoa::write_digits;
+use std::marker::Model;
+use std::str::from_utf8_unchecked;
+
+/// How many bytes a buffer takes. No line of a block is longer.
+pub(crate) const ROOM: usize = 240;
+
+/// What is written of a line, which is text. A contract sees its bytes.
+#[derive(Drop)]
+pub(crate) struct Buffer {
+    bytes: [u8; ROOM],
+    start: usize,
+}
+
+impl Model for Buffer {
+    ghost use Rattle.std.specs.Prelude.{ℕ, List, ◌≤◌, drop, IsUtf8};
+    ghost use Rattle.tc_journal.specs.declared.buffer.TheConstants.{ROOM};
+
+    ghost Value = { List ℕ };
+
+    ghost view = { λ b. drop b.start b.bytes };
+
+    ghost invariant = { λ b. (b.start ≤ ROOM) × ∥ IsUtf8 (drop b.start b.bytes) ∥₁ };
+}
+
+static DIGITS: [u8; 16] = *b"0123456789abcdef";
+
+/// A digit in lower case.
+fn glyph(digit: u8) -> u8
+    requires { digit < 16 }
+    ensures { result ≡ digit_glyph false digit }
+{
+    DIGITS[digit as usize]
+}
+
+/// Writes the digits of a byte from a place on.
+fn write_byte(bytes: &mut [u8], at: usize, byte: u8)
+    requires { at + 2 ≤ length bytes.old }
+    ensures { drop at bytes.new ≡ hex2 byte ++ drop (at + 2) bytes.old }
+{
+    let (high, low) = (glyph(byte / 16), glyph(byte % 16));
+    bytes[at] = high;
+    bytes[at + 1] = low;
+}
+
+/// Writes a text from a place on.
+fn write_text(bytes: &mut [u8], at: usize, text: &[u8])
+    requires { at + length text.now ≤ length bytes.old }
+    ensures { drop at bytes.new ≡ text.now ++ drop (at + length text.now) bytes.old }
+{
+    bytes[at..at + text.len()].copy_from_slice(text);
+}
+
+impl Buffer {
+    /// A buffer with nothing written.
+    pub fn new() -> Buffer
+        ensures { result ≡ [] }
+    {
+        Buffer {
+            bytes: [0; ROOM],
+            start: ROOM,
+        }
+    }
+
+    /// Puts a text in front.
+    pub fn put_str(&mut self, text: &str)
+        requires { length text.now + length self.old ≤ ROOM }
+        ensures value { self.new ≡ text.now ++ self.old }
+        ensures len { length self.new ≡ length text.now + length self.old }
+    {
+        let at = self.start - text.len();
+        write_text(&mut self.bytes, at, text.as_bytes());
+        self.start = at;
+    }
+
+    /// Puts a number in front.
+    pub fn put_number(&mut self, number: u64)
+        requires { 20 + length self.old ≤ ROOM }
+        ensures value { self.new ≡ decimal number ++ self.old }
+        ensures len { length self.new ≤ 20 + length self.old }
+        ensures word { number < 2 ^ 32 → length self.new ≤ 10 + length self.old }
+        ensures lock { number < 100 → length self.new ≤ 2 + length self.old }
+    {
+        self.start = write_digits(number, &mut self.bytes, self.start);
+    }
+
+    /// Puts a byte in front, as two digits.
+    fn put_byte(&mut self, byte: u8)
+        requires { 2 + length self.old ≤ ROOM }
+        ensures value { self.new ≡ hex2 byte ++ self.old }
+        ensures len { length self.new ≡ 2 + length self.old }
+    {
+        let at = self.start - 2;
+        write_byte(&mut self.bytes, at, byte);
+        self.start = at;
+    }
+
+    /// Puts a word in front, as eight digits.
+    #[tactic(auto, unfolding(crate::specs::Digits::hex8))]
+    pub fn put_word(&mut self, word: u32)
+        requires { 8 + length self.old ≤ ROOM }
+        ensures value { self.new ≡ hex8 word ++ self.old }
+        ensures len { length self.new ≡ 8 + length self.old }
+    {
+        self.put_byte((word & 0xff) as u8);
+        self.put_byte((word >> 8 & 0xff) as u8);
+        self.put_byte((word >> 16 & 0xff) as u8);
+        self.put_byte((word >> 24 & 0xff) as u8);
+    }
+
+    /// The line. What was put in front each time is a text, so the line is one too: that is proved
+    /// of each call and tested by none, which would go over each line once more.
+    pub fn as_str(&self) -> &str
+        ensures { result.now ≡ self.now }
+    {
+        unsafe { from_utf8_unchecked(&self.bytes[self.start..]) }
+    }
+}
