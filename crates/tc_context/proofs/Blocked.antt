@@ -1,5 +1,5 @@
 -- A whole block: from journals at rest to journals with an entry more.
-use Rattle.std.proofs.Common.{◌≡◌, ℕ, ◌≤◌, Bool, true, false, ◌||◌, List, refl, sym, ap, subst, ◌∙◌, arith}
+use Rattle.std.proofs.Common.{◌≡◌, ℕ, ◌≤◌, Bool, true, false, ◌||◌, List, refl, sym, ap, subst, ◌∙◌}
 use Rattle.std.specs.Prelude.{Option, Some, None, is_some, if◌then◌else◌}
 use Rattle.std.specs.Option.{option_map}
 use Rattle.tc_isa.specs.Sets.{has}
@@ -15,6 +15,7 @@ use Rattle.tc_turn.specs.Replay.{Entry, Replays, replay_entry, ended, unowned}
 use Rattle.tc_mutex_spec.specs.Machine.{State}
 use Rattle.tc_mutex_spec.specs.Locality.{Agree, Apart}
 use Rattle.tc_mutex_spec.specs.Blocks.{locks_of_block, reach, Runs}
+use Rattle.tc_mutex_spec.proofs.Local.{agree_at, apart_at, covers_at}
 use Rattle.tc_mutex_spec.proofs.BlocksAlike.{covers_block}
 use Rattle.tc_segment.specs.View.{LockView, Journal, Opened, Closes, lock_of, with_end, with_journal, opened_at, noted, entry_from, closed_with}
 use Rattle.tc_context.specs.Locks.{lock_in, mutex_of, mutex_or, when_in, Changed, opened_in, closed_in}
@@ -24,20 +25,15 @@ use Rattle.tc_context.specs.Middle.{noted_when, words_of, AreOpen, HasRoom, AreR
 use Rattle.tc_context.specs.Ran.{slept_at}
 use Rattle.tc_context.proofs.Moved.{map_some, identifies_when, keeps_changed, journals_changed, mutexes_same}
 use Rattle.tc_context.proofs.Noting.{same_mutex}
-use Rattle.tc_context.proofs.Partway.{keeps_all, agree_at, covers_at}
-use Rattle.tc_mutex_spec.proofs.Replaying.{IsRecord, replays, replay_is}
+use Rattle.tc_context.proofs.Partway.{keeps_all}
+use Rattle.tc_context.proofs.Staging.{record_is}
+use Rattle.tc_mutex_spec.proofs.Replaying.{replays, replay_is}
 use Rattle.tc_mutex_spec.proofs.Going.{block_broken}
 
 -- the two packages are the same part of the machine
 pub record SamePart (a b : Context) : Type 0 where
   pub keeps : Keeps a b
   pub machine : whole b ≡ whole a
-
-apart_at : (t u : ℕ) (set other : ℕ → Bool) (a b : State) → t ≡ u → ((k : ℕ) → set k ≡ other k) → Apart t set a b → Apart u other a b
-apart_at t u set other a b e same apart = record {
-  threads = λ k ne. apart.threads k (λ f. ne (f ∙ e));
-  locks = λ k out. apart.locks k (same k ∙ out);
-}
 
 -- so their next block has the same locks
 same_block : (image : Shown) (a b : Context) → SamePart a b → ((k : ℕ) → block_locks image b k ≡ block_locks image a k)
@@ -160,11 +156,11 @@ module _ (image : Shown) (old : Context) (held : ℕ) (locks : List (Option Lock
       let was = map_some (opening k) (journal_at old k) j (sym (begun_journals k) ∙ at) in
       subst (λ n. 4096 ≤ n) (sym (ap (λ (i : Journal). i.word_room) was.2 ∙ room_opened (has held k) (unowned (mutex_at old k)) old.guest.regs old.guest.fuel was.0)) (ready k was.0 was.1 (sym (begins.is k) ∙ h)).words
 
-  module _ (ran : Context) (turns : ℕ) (kind : Kind) (end : End) (runs : RunsAs image begun ran turns end)
+  module _ (ran : Context) (turns : ℕ) (kind : Kind) (pc : ℕ) (end : End) (runs : RunsAs image begun ran turns end)
       (noted_all : AreNoted image (has held) turns begun ran)
       (section : is_section kind ≡ is_some (next_lock image (thread_in old))) where
     abbrev pub made : Block
-    made = record { stamp = 0; thread = old.thread; turns = turns; held = held; kind = kind; worker = 0; end = end }
+    made = record { stamp = 0; thread = old.thread; turns = turns; held = held; kind = kind; worker = 0; pc = pc; end = end }
 
     pub old_runs : RunsAs image old ran turns end
     old_runs = runs_from image old begun ran turns end begun_part runs
@@ -179,18 +175,6 @@ module _ (image : Shown) (old : Context) (held : ℕ) (locks : List (Option Lock
 
     to_is : alone.0 ≡ reach image (whole old) old.thread turns
     to_is = alone.1.last
-
-    some_of : (o : Option LockView) → is_some o ≡ true → (l : LockView) × (o ≡ Some l)
-    some_of None e = absurd (cc)
-    some_of (Some l) e = (l, refl)
-
-    record_is : IsRecord image (whole old) made
-    record_is = record {
-      few = go.guards;
-      small = λ k h. (let l = some_of (lock_in old.locks k) (go.covers.held k h) in let known = (go.of k l.0 l.1).known in let few = go.guards in omega (arith, known, few));
-      held = begins.is;
-      section = section;
-    }
 
     finish_is : ran.guest.regs ≡ ((reach image (whole old) old.thread turns).threads old.thread).regs
     finish_is = ap (λ (d : Thread). d.regs) alone.2.thread ∙ ap (λ (m : State). (m.threads old.thread).regs) to_is
@@ -239,8 +223,8 @@ module _ (image : Shown) (old : Context) (held : ℕ) (locks : List (Option Lock
         let from : unowned (mutex_at old k) ≡ o.from = ap (λ (x : Opened). x.from) same in
         let runs' : Runs image (whole old) old.thread turns end alone.0 = alone.1 in
         record {
-          replays = subst (λ (x : Shown × ℕ × Entry × Mutex). Replays x.0 x.1 x.2 x.3) (λ i. (sym of.of i, sym of.number i, entry i, from i)) (replays image k (whole old) made alone.0 runs' record_is);
-          lock = (λ i. replay_entry (of.of i) (of.number i) (sym entry i) (sym from i)) ∙ replay_is image k (whole old) made alone.0 runs' record_is ∙ ap (ended end) (lock_is k l found h);
+          replays = subst (λ (x : Shown × ℕ × Entry × Mutex). Replays x.0 x.1 x.2 x.3) (λ i. (sym of.of i, sym of.number i, entry i, from i)) (replays image k (whole old) made alone.0 runs' (record_is image old made go begins.is section));
+          lock = (λ i. replay_entry (of.of i) (of.number i) (sym entry i) (sym from i)) ∙ replay_is image k (whole old) made alone.0 runs' (record_is image old made go begins.is section) ∙ ap (ended end) (lock_is k l found h);
         }
 
     module _ (after : List (Option LockView)) (shuts : Changed (closed_in (has held) made ran.guest.regs) ran.locks after) where

@@ -32,7 +32,7 @@ use Rattle.tc_context.specs.History.{ThreadFollows, StateFollows, Follows, Grows
 use Rattle.tc_context.proofs.Moved.{map_some}
 use Rattle.tc_mutex_spec.proofs.Going.{in_block}
 use Rattle.tc_context.proofs.Partway.{block_inside}
-use Rattle.tc_context.proofs.Staging.{false_true, some_of, closed_none, block_follows, block_passes, sealed_at, placed, left_there, lock_was}
+use Rattle.tc_context.proofs.Staging.{false_true, some_of, entered_rest, closed_none, block_follows, block_passes, sealed_at, placed, left_there, lock_was}
 use Rattle.tc_mutex_spec.proofs.EntriesAlike.{entry_same}
 
 first_is : (h : List Block) (t : ℕ) (log : List Block) → of_thread h t ≡ log → is_first (kind_of None log) ≡ not (has_block h t)
@@ -59,10 +59,6 @@ holds_told image fuel h m told = holds_turns image (spread (schedule h)) (start 
 -- the sealed blocks of a lock state are those of the history
 pub blocks_are : (image : Shown) (fuel limit : ℕ) (h : List Block) (m : State) (k : ℕ) (l : LockView) → StateFollows image fuel limit h m k l → blocks_of l ≡ of_lock h k
 blocks_are image fuel limit h m k l was = ap (map block_in) was.entries ∙ entries_blocks image k (start image fuel) h
-
-entered_keeps : (v : Bool) (e : Entry) (j : Journal) → ((entered v e j).sealed ≡ j.sealed) × ((entered v e j).limit ≡ j.limit)
-entered_keeps true e j = (refl, refl)
-entered_keeps false e j = (refl, refl)
 
 -- what a seal makes of a journal that has the block's entry, where nothing else waits
 sealed_more : (v : Bool) (stamp worker : ℕ) (i j : Journal) (e : Entry) → i ≡ entered v e j → (v ≡ false → i.closed ≡ None)
@@ -146,6 +142,7 @@ module _ (image : Shown) (fuel limit : ℕ) (h : List Block) (m : State) (p v : 
       stands = record {
         runs = runs;
         held = held;
+        pc = ran.pc ∙ ap (λ (x : Thread). x.regs.pc) d;
         section = ran.section ∙ ap (λ (x : Thread). is_some (next_lock image x)) d;
         first = λ out. ap is_first (ran.first out) ∙ first_is h c.thread p.log (ap (of_thread h) ran.thread ∙ sym was.thread.log);
       }
@@ -182,7 +179,7 @@ module _ (image : Shown) (fuel limit : ℕ) (h : List Block) (m : State) (p v : 
             lock = lock_after k l e (has b.held k) refl;
             entries = sealed_more (has b.held k) stamp worker l.journal x.state.journal (entry_of image k (whole p.context) b) x.journal (none_waits k l e)
                 ∙ (λ i. x.follows.entries i ++ with_front (has c.held k) (record (same_entry k i) { block = c }) []) ∙ sym (entries_more image k [] h (start image fuel) m c told);
-            bound = ap (λ (j : Journal). j.limit) x.journal ∙ (entered_keeps (has b.held k) (entry_of image k (whole p.context) b) x.state.journal).1 ∙ x.follows.bound;
+            bound = ap (λ (j : Journal). j.limit) x.journal ∙ (entered_rest (has b.held k) (entry_of image k (whole p.context) b) x.state.journal).1 ∙ x.follows.bound;
           }
 
       pub follows_more : Follows image fuel limit (h ++ c ∷ []) to (with_seal stamp worker v)
@@ -197,7 +194,7 @@ module _ (image : Shown) (fuel limit : ℕ) (h : List Block) (m : State) (p v : 
   blocks_there : (k : ℕ) (l : LockView) → lock_in v.context.locks k ≡ Some l → blocks_of l ≡ of_lock h k
   blocks_there k l e =
       let x = before k l e in
-      ap (λ (j : Journal). map block_in j.sealed) x.journal ∙ ap (map block_in) (entered_keeps (has b.held k) (entry_of image k (whole p.context) b) x.state.journal).0 ∙ blocks_are image fuel limit h m k x.state x.follows
+      ap (λ (j : Journal). map block_in j.sealed) x.journal ∙ ap (map block_in) (entered_rest (has b.held k) (entry_of image k (whole p.context) b) x.state.journal).0 ∙ blocks_are image fuel limit h m k x.state x.follows
 
   -- the history obeys the batch limit with the block at its end
   obeys_still : (stamp worker : ℕ) → Allows v.context b worker → ((k : ℕ) → Obeys k limit (of_lock h k)) → (k : ℕ) → Obeys k limit (of_lock (h ++ sealed_block stamp worker b ∷ []) k)
@@ -210,7 +207,7 @@ module _ (image : Shown) (fuel limit : ℕ) (h : List Block) (m : State) (p v : 
       by true mine =
           let l = some_of (lock_in v.context.locks k) (ran.runs.keeps.set k ∙ here k (sym (ran.held k) ∙ mine)) in
           let x = before k l.0 l.1 in
-          let keeps = entered_keeps (has b.held k) (entry_of image k (whole p.context) b) x.state.journal in
+          let keeps = entered_rest (has b.held k) (entry_of image k (whole p.context) b) x.state.journal in
           let bound : l.0.journal.limit ≡ limit = ap (λ (j : Journal). j.limit) x.journal ∙ keeps.1 ∙ x.follows.bound in
           let blocks = blocks_there k l.0 l.1 in
           obeys-more k limit [] (of_lock h k) (sealed_block stamp worker b) (obeys k)

@@ -1,5 +1,5 @@
 -- A package's block at the end of the history keeps the law.
-use Rattle.std.proofs.Common.{◌≡◌, ◌≢◌, ◌⊎◌, ℕ, zero, suc, ◌+◌, ◌*◌, ◌^◌, ◌<◌, ◌≤◌, ◌==◌, Bool, true, false, List, [], ◌∷◌, ◌++◌, length, get_or, set, refl, sym, ap, subst, ◌∙◌, arith, inl, inr, ⊎_elim, length-append, length-set, if◌then◌else◌}
+use Rattle.std.proofs.Common.{◌≡◌, ◌≢◌, ◌⊎◌, ℕ, zero, suc, ◌+◌, ◌*◌, ◌^◌, ◌<◌, ◌≤◌, Bool, true, false, List, [], ◌∷◌, ◌++◌, length, get_or, refl, sym, ap, subst, ◌∙◌, arith, inl, inr, ⊎_elim, length-append, length-set, if◌then◌else◌}
 use Rattle.std.specs.Prelude.{Option, Some, None, IfSome, is_some, nat_lt, All}
 use Rattle.std.proofs.lemmas.Bool.Decides.{nat_tests}
 use Rattle.std.proofs.lemmas.Nat.{mul-le}
@@ -7,17 +7,17 @@ use Rattle.std.proofs.lemmas.List.Sums.{sum_by-set, sum_by-le}
 use mathlib.Core.Option.{some, some-injective, some-ne-none}
 use lib.ListN.{get_elem?}
 use Rattle.tc_isa.specs.Sets.{has}
+use Rattle.tc_elf.specs.declared.limits.TheConstants.{MAX_THREADS}
 use Rattle.tc_elf.specs.Shown.{Shown}
 use Rattle.tc_journal.specs.Batch.{ends_section, last_of}
-use Rattle.tc_journal.specs.History.{IsBlock, IsHistoryFrom, of_thread}
+use Rattle.tc_journal.specs.History.{IsBlock, of_thread}
 use Rattle.tc_journal.specs.declared.block.Block.{Block}
 use Rattle.tc_journal.proofs.Histories.{IsHistory_push}
 use Rattle.tc_turn.specs.Turn.{Thread, is_running, thread_at_start, no_thread}
 use Rattle.tc_mutex_spec.specs.Machine.{State, start}
-use Rattle.tc_mutex_spec.specs.Blocks.{TellsAfter, Tells, end_after}
+use Rattle.tc_mutex_spec.specs.Blocks.{Tells, end_after}
 use Rattle.tc_mutex_spec.proofs.BlockEnds.{block_falls, left_falls}
 use Rattle.tc_mutex_spec.proofs.Entries.{tells_end}
-use Rattle.tc_mutex_spec.proofs.Holds.{can_thread}
 use Rattle.tc_mutex_spec.proofs.Owners.{no_owner}
 use Rattle.tc_mutex_spec.proofs.Replaying.{turn_runs}
 use Rattle.tc_segment.specs.View.{LockView, kept, with_journal, sealed_as, sealed_block}
@@ -27,39 +27,12 @@ use Rattle.tc_context.specs.View.{PackageView, Allows, Rests, bare, with_seal}
 use Rattle.tc_context.specs.Ran.{DidRun}
 use Rattle.tc_context.specs.History.{Follows, Grows}
 use Rattle.tc_context.specs.Lawful.{IsPackageAfter, IsStateAfter, blocks_left, all_left, Lawful, IsLimited, IsAmong, with_package, with_states, AreFresh}
+pub use Rattle.tc_mutex_spec.proofs.ListLaws.{there, at_place, set_at, same_list}
+pub use Rattle.tc_mutex_spec.proofs.Histories.{filter_has, filter_from, stamp_at, thread_at}
 use Rattle.tc_context.proofs.Moved.{map_some, some_map}
 use Rattle.tc_context.proofs.Partway.{block_inside}
 use Rattle.tc_context.proofs.Staging.{sealed_at}
 use Rattle.tc_context.proofs.Following.{holds_told, blocks_are, grown, obeyed, thread_still, state_still, state_kept}
-
--- ---- lists by number
-
-module _ {A : Type 0} where
-  pub there : (l : List A) (i : ℕ) (a d : A) → get_elem? l i ≡ some a → (i < length l) × (get_or l i d ≡ a)
-  there [] i a d e = absurd (some-ne-none a (sym e))
-  there (x ∷ xs) zero a d e = (omega arith, some-injective x a e)
-  there (x ∷ xs) (suc i) a d e = (let r = there xs i a d e in (omega arith, r.1))
-
-  pub at_place : (l : List A) (i : ℕ) → i < length l → (a : A) × (get_elem? l i ≡ some a)
-  at_place [] i h = absurd (omega arith)
-  at_place (x ∷ xs) zero h = (x, refl)
-  at_place (x ∷ xs) (suc i) h = at_place xs i (omega arith)
-
-  set_at : (l : List A) (i j : ℕ) (a b : A) → get_elem? (set l i a) j ≡ some b → ((j ≡ i) × (a ≡ b)) ⊎ ((j ≢ i) × (get_elem? l j ≡ some b))
-  set_at [] i j a b e = absurd (some-ne-none b (sym e))
-  set_at (x ∷ xs) zero zero a b e = inl (refl, some-injective a b e)
-  set_at (x ∷ xs) zero (suc j) a b e = inr ((λ h. omega arith), e)
-  set_at (x ∷ xs) (suc i) zero a b e = inr ((λ h. omega arith), e)
-  set_at (x ∷ xs) (suc i) (suc j) a b e = ⊎_elim (λ t. inl (ap suc t.0, t.1)) (λ t. let n = t.0 in inr ((λ h. n (omega arith)), t.1)) (set_at xs i j a b e)
-
-  same_list : (xs ys : List A) → ((i : ℕ) (a : A) → get_elem? xs i ≡ some a → get_elem? ys i ≡ some a) → ((i : ℕ) (a : A) → get_elem? ys i ≡ some a → get_elem? xs i ≡ some a) → xs ≡ ys
-  same_list [] [] f g = refl
-  same_list [] (y ∷ ys) f g = absurd (some-ne-none y (sym (g 0 y refl)))
-  same_list (x ∷ xs) [] f g = absurd (some-ne-none x (sym (f 0 x refl)))
-  same_list (x ∷ xs) (y ∷ ys) f g =
-      let head : y ≡ x = some-injective y x (f 0 x refl) in
-      let tail = same_list xs ys (λ i a e. f (suc i) a e) (λ i a e. g (suc i) a e) in
-      cc (head, tail)
 
 pub with_states-length : (slots : List (Option LockView)) (states : List LockView) → length (with_states slots states) ≡ length states
 with_states-length [] states = refl
@@ -99,7 +72,7 @@ module _ (image : Shown) (fuel limit : ℕ) (h : List Block) (packages : List Pa
   }
 
   short : length h < 2 ^ 64
-  short = (let a = law.bound in let b : length image.entries * (fuel + 1) ≤ 16 * 65537 = mul-le (length image.entries) (fuel + 1) 16 65537 limits.threads (omega (arith, limits.turns)) in omega (arith, a, b))
+  short = (let a = law.bound in let b : length image.entries * (fuel + 1) ≤ MAX_THREADS * 65537 = mul-le (length image.entries) (fuel + 1) MAX_THREADS 65537 limits.threads (omega (arith, limits.turns)) in omega (arith, a, b))
 
   module _ (worker : ℕ) (small : worker < 2 ^ 32) (allows : Allows v.context ran.block worker) where
     abbrev c : Block
@@ -130,7 +103,7 @@ module _ (image : Shown) (fuel limit : ℕ) (h : List Block) (packages : List Pa
     grows_on = subst (Grows image fuel h m c) end grows
 
     block : IsBlock c
-    block = (let b = ran.bounds in record { stamp = short; thread = b.thread; some_turns = b.some_turns; most_turns = b.most_turns; held = b.held; worker = small; end = b.end })
+    block = (let b = ran.bounds in record { stamp = short; thread = b.thread; some_turns = b.some_turns; most_turns = b.most_turns; held = b.held; worker = small; pc = b.pc; end = b.end })
 
     same : q.context.thread ≡ p.context.thread
     same = ran.runs.keeps.thread
@@ -206,41 +179,6 @@ appended image fuel limit h packages states p v limits law here ran worker small
 
 -- ---- the logs determine the history
 
--- a block of the history is in its thread's log
-pub filter_has : (t : ℕ) (h : List Block) (i : ℕ) (b : Block) → get_elem? h i ≡ some b → b.thread ≡ t → (j : ℕ) × (get_elem? (of_thread h t) j ≡ some b)
-filter_has t [] i b e is = absurd (some-ne-none b (sym e))
-filter_has t (c ∷ cs) zero b e is =
-    let same : c ≡ b = some-injective c b e in
-    let hit : (c.thread == t) ≡ true = let m : c.thread ≡ t = ap (λ (z : Block). z.thread) same ∙ is in grind (arith, nat_tests) in
-    (0, ap (λ (v : Bool). get_elem? (if v then c ∷ of_thread cs t else of_thread cs t) 0) hit ∙ e)
-filter_has t (c ∷ cs) (suc i) b e is = (let r = filter_has t cs i b e is in more (c.thread == t) c (of_thread cs t) r.0 b r.1)
-  where
-    more : (v : Bool) (c : Block) (l : List Block) (j : ℕ) (b : Block) → get_elem? l j ≡ some b → (m : ℕ) × (get_elem? (if v then c ∷ l else l) m ≡ some b)
-    more true c l j b e = (suc j, e)
-    more false c l j b e = (j, e)
-
--- what is in a thread's log is in the history
-pub filter_from : (t : ℕ) (h : List Block) (j : ℕ) (b : Block) → get_elem? (of_thread h t) j ≡ some b → (i : ℕ) × (get_elem? h i ≡ some b)
-filter_from t [] j b e = absurd (some-ne-none b (sym e))
-filter_from t (c ∷ cs) j b e = from_head (c.thread == t) c cs (of_thread cs t) j b (λ k f. filter_from t cs k b f) e
-  where
-    from_head : (v : Bool) (c : Block) (cs l : List Block) (j : ℕ) (b : Block) → ((k : ℕ) → get_elem? l k ≡ some b → (i : ℕ) × (get_elem? cs i ≡ some b)) → get_elem? (if v then c ∷ l else l) j ≡ some b → (i : ℕ) × (get_elem? (c ∷ cs) i ≡ some b)
-    from_head true c cs l zero b tail e = (0, e)
-    from_head true c cs l (suc k) b tail e = (let r = tail k e in (suc r.0, r.1))
-    from_head false c cs l k b tail e = (let r = tail k e in (suc r.0, r.1))
-
-pub stamp_at : (first : ℕ) (h : List Block) (i : ℕ) (b : Block) → IsHistoryFrom first h → get_elem? h i ≡ some b → b.stamp ≡ first + i
-stamp_at first [] i b is e = absurd (some-ne-none b (sym e))
-stamp_at first (c ∷ cs) zero b is e = (let f : c.stamp ≡ b.stamp = ap (λ (z : Block). z.stamp) (some-injective c b e) in let g = is.1 in omega (arith, f, g))
-stamp_at first (c ∷ cs) (suc i) b is e = (let r = stamp_at (first + 1) cs i b is.2 e in omega (arith, r))
-
--- each block of a history that tells is that of a thread
-pub thread_at : (image : Shown) (seen h : List Block) (from m : State) → TellsAfter image seen from h m → (i : ℕ) (b : Block) → get_elem? h i ≡ some b → b.thread < length image.entries
-thread_at image seen [] from m told i b e = absurd (some-ne-none b (sym e))
-thread_at image seen (c ∷ cs) from m told zero b e =
-    subst (λ (z : Block). z.thread < length image.entries) (some-injective c b e) (can_thread image from c.thread (told.1.runs.defined 0 told.1.runs.some))
-thread_at image seen (c ∷ cs) from m told (suc i) b e = thread_at image (seen ++ c ∷ []) cs told.0 m told.2 i b e
-
 within : (image : Shown) (fuel limit : ℕ) (g h : List Block) (packages : List PackageView) (states others : List LockView) → Lawful image fuel limit g packages states → Lawful image fuel limit h packages others
     → (i : ℕ) (b : Block) → get_elem? g i ≡ some b → get_elem? h i ≡ some b
 within image fuel limit g h packages states others one two i b e =
@@ -260,7 +198,7 @@ one_history image fuel limit g h packages states others one two =
 
 pub short_history : (image : Shown) (fuel limit : ℕ) (h : List Block) (packages : List PackageView) (states : List LockView) → IsLimited image fuel → Lawful image fuel limit h packages states → length h < 2 ^ 32
 short_history image fuel limit h packages states limits law =
-    let b : length image.entries * (fuel + 1) ≤ 16 * 65537 = mul-le (length image.entries) (fuel + 1) 16 65537 limits.threads (omega (arith, limits.turns)) in
+    let b : length image.entries * (fuel + 1) ≤ MAX_THREADS * 65537 = mul-le (length image.entries) (fuel + 1) MAX_THREADS 65537 limits.threads (omega (arith, limits.turns)) in
     let a = law.bound in omega (arith, a, b)
 
 all_of : {A : Type 0} (P : A → Type 0) (xs : List A) → ((i : ℕ) (a : A) → get_elem? xs i ≡ some a → P a) → All P xs

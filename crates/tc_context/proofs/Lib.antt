@@ -3,8 +3,8 @@ pub mod Moved
 pub mod Noting
 pub mod Partway
 pub mod Blocked
-pub mod Leaving
 pub mod Staging
 pub mod Running
 pub mod Following
 pub mod Lawful
+pub mod Plain

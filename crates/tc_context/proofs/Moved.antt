@@ -1,6 +1,6 @@
 -- What the thread and the locks of a package are after a turn.
 use Rattle.std.proofs.Common.{◌≡◌, ℕ, ◌<◌, ◌≤◌, Bool, true, false, not, ◌||◌, ◌&&◌, ◌==◌, List, length, refl, sym, ap, subst, ◌∙◌, arith}
-use Rattle.std.specs.Prelude.{Option, Some, None, is_some, if◌then◌else◌}
+use Rattle.std.specs.Prelude.{IfSome, Option, Some, None, is_some, if◌then◌else◌}
 use Rattle.std.specs.Option.{option_map, option_map_or}
 use Rattle.std.specs.List.{position, list_any}
 use Rattle.std.proofs.lemmas.List.Quantifiers.{position-Some}
@@ -14,18 +14,21 @@ use Rattle.tc_exec.specs.Told.{IsAct, IsPut}
 use Rattle.tc_exec.proofs.Cases.{act_told}
 use Rattle.tc_exec.proofs.Laws.{put_is_held}
 use Rattle.tc_exec.specs.declared.outcome.Act.{Act}
+use Rattle.tc_exec.specs.InPlace.{done_of}
+use Rattle.tc_exec.specs.declared.outcome.Done.{Done}
+use Rattle.tc_exec.specs.declared.outcome.Done.TheVariants as done
 use Rattle.tc_exec.specs.declared.outcome.Act.TheVariants.{Next, Called, Faulted}
 use Rattle.tc_exec.specs.declared.outcome.Call.TheVariants.{Lock, Unlock, Sleep, Exit}
 use Rattle.tc_exec.specs.declared.outcome.Put.{Put}
 use Rattle.tc_turn.specs.Memory.{put_number}
+use Rattle.tc_turn.specs.InPlace.{DoneFits}
 use Rattle.tc_turn.specs.Reads.{Covers}
-use Rattle.tc_turn.specs.Turn.{Thread, act_with, thread_after, mutex_after, guard_with, given_up, when, taken, released}
+use Rattle.tc_turn.specs.Turn.{Thread, ActFits, act_with, thread_after, mutex_after, guard_with, given_up, when, taken, released}
 use Rattle.tc_turn.proofs.Turns.{act_some, act_takes, next_known}
 use Rattle.tc_segment.specs.View.{LockView, Journal, guard_of, with_store, with_section, with_break}
 use Rattle.tc_context.specs.Locks.{lock_in, mutex_of, mutex_or, IsLockOf, AreOf, when_in, stored_in, turned, TurnReady, StoreReady, TurnFits, StoreFits, Changed}
 use Rattle.tc_context.specs.declared.context.Context.{Context}
-use Rattle.tc_context.specs.Whole.{thread_in, mutex_at, set_of, journal_in, journal_at, Keeps}
-use Rattle.tc_context.specs.Middle.{Moves}
+use Rattle.tc_context.specs.Whole.{mutex_at, journal_in, journal_at, Keeps}
 
 -- ---- a change of each lock, seen as a change of what the package has
 
@@ -107,8 +110,8 @@ released_mutex : (t : ℕ) (b v : Bool) (l : LockView) → mutex_of t (not v && 
 released_mutex t b true l = refl
 released_mutex t b false l = refl
 
-turned_mutex : (image : Shown) (t k : ℕ) (d : Thread) (a : Option Act) (l : LockView) → IsLockOf image k l
-    → mutex_of t ((thread_after d a).held k) (turned d.held a k l) ≡ mutex_after image t d.held a k (mutex_of t (d.held k) l)
+pub turned_mutex : (image : Shown) (t k : ℕ) (d : Thread) (a : Option Act) (l : LockView) → IsLockOf image k l
+    → mutex_of t ((thread_after d a).held k) (turned d.held (option_map done_of a) k l) ≡ mutex_after image t d.held a k (mutex_of t (d.held k) l)
 turned_mutex image t k d None l of = broken_mutex t (d.held k) l
 turned_mutex image t k d (Some (Next regs None)) l of = refl
 turned_mutex image t k d (Some (Next regs (Some put))) l of = stored_mutex image t k (d.held k) put.region put.addr put.width put.value l of
@@ -132,35 +135,15 @@ same_stored region.Stack k addr width value l = (refl, refl)
 same_stored (region.Guard lock) k addr width value l = same_when (k == lock) (with_store addr width value) l (refl, refl)
 same_stored region.Nothing k addr width value l = (refl, refl)
 
-same_turned : (held : ℕ → Bool) (a : Option Act) (k : ℕ) (l : LockView) → IsSame l (turned held a k l)
+pub same_turned : (held : ℕ → Bool) (a : Option Done) (k : ℕ) (l : LockView) → IsSame l (turned held a k l)
 same_turned held None k l = same_when (held k) with_break l (refl, refl)
-same_turned held (Some (Next regs None)) k l = (refl, refl)
-same_turned held (Some (Next regs (Some put))) k l = same_stored put.region k put.addr put.width put.value l
-same_turned held (Some (Called (Lock lock) regs)) k l = same_when (k == lock) with_section l (refl, refl)
-same_turned held (Some (Called (Unlock lock) regs)) k l = (refl, refl)
-same_turned held (Some (Called (Sleep n) regs)) k l = (refl, refl)
-same_turned held (Some (Called Exit regs)) k l = same_when (held k) with_break l (refl, refl)
-same_turned held (Some (Faulted f)) k l = same_when (held k) with_break l (refl, refl)
-
-journals_id : (o : Option Journal) → option_map (λ j. j) o ≡ o
-journals_id None = refl
-journals_id (Some j) = refl
-
-pub moved : (image : Shown) (old new : Context) (a : Option Act) → AreOf image old.locks → new.thread ≡ old.thread → thread_in new ≡ thread_after (thread_in old) a
-    → Changed (turned (has old.guest.held) a) old.locks new.locks → Moves image old new a
-moved image old new a of number thread changed =
-    let f : ℕ → LockView → LockView = turned (has old.guest.held) a in
-    record {
-      thread = thread;
-      locks = λ k some. (λ i. mutex_or (number i) ((thread i).held k) (changed k i)) ∙ mutex k some (lock_in old.locks k) refl;
-      keeps = keeps_changed f old new (λ k l. (let s = same_turned (has old.guest.held) a k l in (s.0, ap (λ (j : Journal). j.image) s.1))) changed number;
-      journals = λ k. journals_changed f (λ j i. i) old new changed (λ j l e. (same_turned (has old.guest.held) a j l).1) k ∙ journals_id (journal_at old k);
-    }
-  where
-    mutex : (k : ℕ) → set_of old k ≡ true → (o : Option LockView) → lock_in old.locks k ≡ o
-        → mutex_or old.thread ((thread_after (thread_in old) a).held k) (option_map (turned (has old.guest.held) a k) o) ≡ mutex_after image old.thread (has old.guest.held) a k (mutex_or old.thread (has old.guest.held k) o)
-    mutex k some None e = absurd (let f : is_some (lock_in old.locks k) ≡ false = ap is_some e in cc)
-    mutex k some (Some l) e = turned_mutex image old.thread k (thread_in old) a l (of k l e)
+same_turned held (Some done.Went) k l = (refl, refl)
+same_turned held (Some (done.Stored put)) k l = same_stored put.region k put.addr put.width put.value l
+same_turned held (Some (done.Called (Lock lock))) k l = same_when (k == lock) with_section l (refl, refl)
+same_turned held (Some (done.Called (Unlock lock))) k l = (refl, refl)
+same_turned held (Some (done.Called (Sleep n))) k l = (refl, refl)
+same_turned held (Some (done.Called Exit)) k l = same_when (held k) with_break l (refl, refl)
+same_turned held (Some (done.Faulted f)) k l = same_when (held k) with_break l (refl, refl)
 
 -- ---- what a turn asks of the locks
 
@@ -199,7 +182,7 @@ put_ready image held put (region.Guard lock) k l e is of opened holds = λ same.
 put_ready image held put region.Nothing k l e is of opened holds = tt
 
 pub turn_ready : (image : Shown) (block : ℕ → Bool) (d : Thread) (answer : ℕ) (a : Option Act) → act_with image d answer ≡ a → Covers image block d
-    → (k : ℕ) (l : LockView) → IsLockOf image k l → (block k ≡ true → is_some l.journal.opened ≡ true) → TurnReady d.held a k l
+    → (k : ℕ) (l : LockView) → IsLockOf image k l → (block k ≡ true → is_some l.journal.opened ≡ true) → TurnReady d.held (option_map done_of a) k l
 turn_ready image block d answer None e covers k l of opened = λ h. opened (covers.held k h)
 turn_ready image block d answer (Some (Next regs None)) e covers k l of opened = tt
 turn_ready image block d answer (Some (Next regs (Some put))) e covers k l of opened =
@@ -219,7 +202,7 @@ put_fits image held put region.Stack e is few = tt
 put_fits image held put (region.Guard lock) e is few = (let g = in_its_guard image put.addr put.width lock (sym is.lies ∙ e) in (omega (arith, g.0, few), is.width_fits))
 put_fits image held put region.Nothing e is few = tt
 
-pub turn_fits : (image : Shown) (d : Thread) (answer : ℕ) (a : Option Act) → act_with image d answer ≡ a → length image.guards ≤ 32 → TurnFits a
+pub turn_fits : (image : Shown) (d : Thread) (answer : ℕ) (a : Option Act) → act_with image d answer ≡ a → length image.guards ≤ 32 → TurnFits (option_map done_of a)
 turn_fits image d answer None e few = tt
 turn_fits image d answer (Some (Next regs None)) e few = tt
 turn_fits image d answer (Some (Next regs (Some put))) e few =
@@ -229,3 +212,13 @@ turn_fits image d answer (Some (Called (Unlock lock) regs)) e few = tt
 turn_fits image d answer (Some (Called (Sleep n) regs)) e few = tt
 turn_fits image d answer (Some (Called Exit regs)) e few = tt
 turn_fits image d answer (Some (Faulted f)) e few = tt
+
+pub act_fits : (a : Option Act) → IfSome (option_map done_of a) DoneFits → IfSome a ActFits
+act_fits None fits = tt
+act_fits (Some (Next regs None)) fits = tt
+act_fits (Some (Next regs (Some put))) fits = fits
+act_fits (Some (Called (Lock lock) regs)) fits = fits
+act_fits (Some (Called (Unlock lock) regs)) fits = fits
+act_fits (Some (Called (Sleep n) regs)) fits = tt
+act_fits (Some (Called Exit regs)) fits = tt
+act_fits (Some (Faulted f)) fits = tt

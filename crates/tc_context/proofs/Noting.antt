@@ -1,56 +1,23 @@
 -- The words of a turn, noted in the journals.
-use Rattle.std.proofs.Common.{◌≡◌, ℕ, ◌+◌, ◌-◌, Bool, true, false, ◌&&◌, ◌==◌, List, [], ◌∷◌, ◌++◌, length, refl, sym, ap, ◌∙◌, arith, append-nil, append_assoc, length-append}
+use Rattle.std.proofs.Common.{◌≡◌, ℕ, Bool, true, false, ◌&&◌, ◌==◌, List, [], ◌∷◌, ◌++◌, refl, sym, ap, ◌∙◌}
 use Rattle.std.specs.Prelude.{Option, Some, None, is_some, if◌then◌else◌}
 use Rattle.std.specs.Option.{option_map}
 use Rattle.tc_isa.specs.Sets.{has}
 use Rattle.tc_elf.specs.Shown.{Shown}
 use Rattle.tc_exec.specs.Step.{wants_of}
+use Rattle.tc_exec.specs.InPlace.{done_of}
+use Rattle.tc_exec.specs.declared.outcome.Done.{Done}
 use Rattle.tc_exec.specs.declared.outcome.Want.{Want}
-use Rattle.tc_turn.specs.Turn.{Thread, Mutex, Guest, thread_of, next_lock, answer_to}
+use Rattle.tc_turn.specs.Turn.{Thread, Mutex, next_lock, answer_to, thread_after, mutex_after}
 use Rattle.tc_turn.specs.Replay.{takes_word, word_of}
-use Rattle.tc_segment.specs.View.{LockView, Journal, Opened, with_journal, more_words, noted}
-use Rattle.tc_context.specs.Locks.{mutex_of, when_in, noted_in, Changed}
+use Rattle.tc_segment.specs.View.{LockView, Journal, with_journal, noted}
+use Rattle.tc_context.specs.Locks.{lock_in, mutex_of, mutex_or, when_in, turned, noted_in, Changed, AreOf, IsLockOf}
 use Rattle.tc_context.specs.declared.context.Context.{Context}
-use Rattle.tc_context.specs.Whole.{thread_in, journal_at}
-use Rattle.tc_context.specs.Middle.{word_with, noted_when, Notes, AreOpen}
-use Rattle.tc_context.proofs.Moved.{map_some, identifies_when, keeps_changed, journals_changed, mutexes_same}
-
--- ---- words one after another
-
-more_nil : (o : Option Opened) → option_map (more_words []) o ≡ o
-more_nil None = refl
-more_nil (Some o) = (let e = append-nil o.foreign in λ i. Some (record { start = o.start; fuel = o.fuel; from = o.from; foreign = e i }))
-
-less_nil : (b : Bool) (n : ℕ) → (if b then n - 0 else n) ≡ n
-less_nil true n = omega arith
-less_nil false n = refl
-
-noted_nil : (j : Journal) → noted [] j ≡ j
-noted_nil j =
-    let o = more_nil j.opened in
-    let r = less_nil (is_some j.opened) j.word_room in
-    λ i. record { image = j.image; limit = j.limit; sealed = j.sealed; closed = j.closed; opened = o i; entry_room = j.entry_room; word_room = r i }
-
-more_more : (ws vs : List ℕ) (o : Option Opened) → option_map (more_words vs) (option_map (more_words ws) o) ≡ option_map (more_words (ws ++ vs)) o
-more_more ws vs None = refl
-more_more ws vs (Some o) = (let e = append_assoc o.foreign ws vs in λ i. Some (record { start = o.start; fuel = o.fuel; from = o.from; foreign = e i }))
-
-more_some : (ws : List ℕ) (o : Option Opened) → is_some (option_map (more_words ws) o) ≡ is_some o
-more_some ws None = refl
-more_some ws (Some o) = refl
-
-less_more : (b c : Bool) (n v w : ℕ) → c ≡ b → (if c then (if b then n - v else n) - w else (if b then n - v else n)) ≡ (if b then n - (v + w) else n)
-less_more true true n v w e = omega arith
-less_more true false n v w e = absurd (cc)
-less_more false true n v w e = absurd (cc)
-less_more false false n v w e = refl
-
-noted_more : (ws vs : List ℕ) (j : Journal) → noted vs (noted ws j) ≡ noted (ws ++ vs) j
-noted_more ws vs j =
-    let o = more_more ws vs j.opened in
-    let r = less_more (is_some j.opened) (is_some (option_map (more_words ws) j.opened)) j.word_room (length ws) (length vs) (more_some ws j.opened)
-    ∙ ap (λ n. if is_some j.opened then j.word_room - n else j.word_room) (sym (length-append ws vs)) in
-    λ i. record { image = j.image; limit = j.limit; sealed = j.sealed; closed = j.closed; opened = o i; entry_room = j.entry_room; word_room = r i }
+use Rattle.tc_context.specs.Whole.{thread_in, mutex_at, set_of, journal_in}
+use Rattle.tc_context.specs.Middle.{act_in, noted_when, IsTurn, AreOpen}
+use Rattle.tc_context.proofs.LockList.{option_map-twice}
+use Rattle.tc_segment.proofs.Words.{noted_nil, noted_more, more_some}
+use Rattle.tc_context.proofs.Moved.{map_some, Identifies, identifies_when, of_changed, keeps_changed, journals_changed, turned_mutex, same_turned}
 
 pub when_nil : (b : Bool) (j : Journal) → noted_when b [] j ≡ j
 when_nil true j = noted_nil j
@@ -64,41 +31,82 @@ pub when_open : (b : Bool) (ws : List ℕ) (j : Journal) → is_some (noted_when
 when_open true ws j = more_some ws j.opened
 when_open false ws j = refl
 
--- ---- one turn's word
+-- ---- one turn
 
-pub words_now : (image : Shown) (d : Thread) (locks : ℕ → Mutex) (k : ℕ) (wanted : Want) (next : Option ℕ) (answer : ℕ)
+words_now : (image : Shown) (d : Thread) (locks : ℕ → Mutex) (k : ℕ) (wanted : Want) (next : Option ℕ) (answer : ℕ)
     → wanted ≡ wants_of image d.held d.regs → next ≡ next_lock image d → answer ≡ answer_to image wanted next d.own locks
-    → word_with d wanted next answer k ≡ word_of image k d locks
+    → (if d.fuel == 0 then [] else (if takes_word k wanted next then answer ∷ [] else [])) ≡ word_of image k d locks
 unfolding word_of
 words_now image d locks k wanted next answer w n a =
     let b : answer ≡ answer_to image (wants_of image d.held d.regs) (next_lock image d) d.own locks = a ∙ (λ i. answer_to image (w i) (n i) d.own locks) in
     λ i. if d.fuel == 0 then [] else (if takes_word k (w i) (n i) then b i ∷ [] else [])
 
-noted_journal : (b t : Bool) (value : ℕ) (l : LockView) → (when_in (b && t) (with_journal (noted (value ∷ []))) l).journal ≡ noted_when b (if t then value ∷ [] else []) l.journal
-noted_journal true true value l = refl
-noted_journal true false value l = sym (noted_nil l.journal)
-noted_journal false t value l = refl
+noted_word : (b t : Bool) (value : ℕ) (l : LockView) → (when_in (b && t) (with_journal (noted (value ∷ []))) l).journal ≡ noted_when b (if t then value ∷ [] else []) l.journal
+noted_word true true value l = refl
+noted_word true false value l = sym (noted_nil l.journal)
+noted_word false t value l = refl
+
+noted_journal : (spent b t n : Bool) (value : ℕ) (l : LockView) → n ≡ (if spent then false else b)
+    → (when_in (n && t) (with_journal (noted (value ∷ []))) l).journal ≡ noted_when b (if spent then [] else (if t then value ∷ [] else [])) l.journal
+noted_journal true b t n value l e = ap (λ v. (when_in (v && t) (with_journal (noted (value ∷ []))) l).journal) e ∙ sym (when_nil b l.journal)
+noted_journal false b t n value l e = ap (λ v. (when_in (v && t) (with_journal (noted (value ∷ []))) l).journal) e ∙ noted_word b t value l
+
+pub noting_block : (spent b n : Bool) → n ≡ (if spent then false else b) → n ≡ true → b ≡ true
+noting_block true b n e h = absurd (cc)
+noting_block false b n e h = sym e ∙ h
 
 pub same_mutex : (t : ℕ) (held b : Bool) (f : LockView → LockView) (l : LockView) → mutex_of t held (f l) ≡ mutex_of t held l → mutex_of t held (when_in b f l) ≡ mutex_of t held l
 same_mutex t held true f l e = e
 same_mutex t held false f l e = refl
 
-pub notes_one : (old new : Context) (wanted : Want) (next : Option ℕ) (answer : ℕ) (block : ℕ → Bool) → (old.guest.fuel == 0) ≡ false → new.thread ≡ old.thread → new.guest ≡ old.guest
-    → Changed (noted_in block wanted next answer) old.locks new.locks → Notes (word_with (thread_in old) wanted next answer) block old new
-notes_one old new wanted next answer block fuel number guest changed =
-    let f : ℕ → LockView → LockView = noted_in block wanted next answer in
-    record {
-      keeps = keeps_changed f old new (λ k l. identifies_when (block k && takes_word k wanted next) (with_journal (noted (answer ∷ []))) l refl refl) changed number;
-      thread = ap (λ (g : Guest). thread_of g) guest;
-      locks = mutexes_same f old new changed number (λ k. ap (λ (g : Guest). has g.held k) guest)
-          (λ t k b l e. same_mutex t b (block k && takes_word k wanted next) (with_journal (noted (answer ∷ []))) l refl);
-      journals = journals_changed f (λ k. noted_when (block k) (word_with (thread_in old) wanted next answer k)) old new changed
-          (λ k l e. noted_journal (block k) (takes_word k wanted next) answer l
-          ∙ ap (λ b. noted_when (block k) (if b then [] else (if takes_word k wanted next then answer ∷ [] else [])) l.journal) (sym fuel));
-    }
+still_open : (b : Bool) (value : ℕ) (l : LockView) → is_some (when_in b (with_journal (noted (value ∷ []))) l).journal.opened ≡ is_some l.journal.opened
+still_open true value l = more_some (value ∷ []) l.journal.opened
+still_open false value l = refl
 
--- the entries stay open
-pub open_noted : (words : ℕ → List ℕ) (block : ℕ → Bool) (old new : Context) → Notes words block old new → AreOpen block old → AreOpen block new
-open_noted words block old new notes opened k j at h =
-    let was = map_some (noted_when (block k) (words k)) (journal_at old k) j (sym (notes.journals k) ∙ at) in
-    ap (λ (i : Journal). is_some i.opened) was.2 ∙ when_open (block k) (words k) was.0 ∙ opened k was.0 was.1 h
+same_lock : (noting : ℕ → Bool) (wanted : Want) (next : Option ℕ) (answer : ℕ) → Identifies (noted_in noting wanted next answer)
+same_lock noting wanted next answer k l = identifies_when (noting k && takes_word k wanted next) (with_journal (noted (answer ∷ []))) l refl refl
+
+-- a lock whose word is noted is one of the image, and its entry is open as before
+pub noted_lock : (image : Shown) (block noting : ℕ → Bool) (old : Context) (mid : List (Option LockView)) (wanted : Want) (next : Option ℕ) (answer : ℕ) → AreOf image old.locks → AreOpen block old
+    → Changed (noted_in noting wanted next answer) old.locks mid → (k : ℕ) (l : LockView) → lock_in mid k ≡ Some l → IsLockOf image k l × (block k ≡ true → is_some l.journal.opened ≡ true)
+noted_lock image block noting old mid wanted next answer of opened changed k l found =
+    let x = map_some (noted_in noting wanted next answer k) (lock_in old.locks k) l (sym (changed k) ∙ found) in (
+      of_changed (noted_in noting wanted next answer) old.locks mid (same_lock noting wanted next answer) changed image of k l found,
+      λ h. ap (λ (y : LockView). is_some y.journal.opened) x.2 ∙ still_open (noting k && takes_word k wanted next) answer x.0 ∙ opened k x.0.journal (ap (option_map journal_in) x.1) h,
+    )
+
+-- the turn, from what its parts make of each lock
+module _ (image : Shown) (block noting : ℕ → Bool) (old new : Context) (mid : List (Option LockView)) (wanted : Want) (next : Option ℕ) (answer : ℕ) where
+  abbrev held : ℕ → Bool
+  held = has old.guest.held
+
+  abbrev did : Option Done
+  did = option_map done_of (act_in image old)
+
+  abbrev note : ℕ → LockView → LockView
+  note = noted_in noting wanted next answer
+
+  abbrev change : ℕ → LockView → LockView
+  change k l = turned held did k (note k l)
+
+  mutex : AreOf image old.locks → (k : ℕ) → set_of old k ≡ true → (o : Option LockView) → lock_in old.locks k ≡ o
+      → mutex_or old.thread ((thread_after (thread_in old) (act_in image old)).held k) (option_map (change k) o) ≡ mutex_after image old.thread held (act_in image old) k (mutex_or old.thread (held k) o)
+  mutex of k some None e = absurd (let g : is_some (lock_in old.locks k) ≡ false = ap is_some e in cc)
+  mutex of k some (Some l) e =
+      let m = same_lock noting wanted next answer k l in
+      let was = of k l e in
+      turned_mutex image old.thread k (thread_in old) (act_in image old) (note k l) (record { number = m.0 ∙ was.number; known = was.known; of = m.1 ∙ was.of })
+      ∙ ap (mutex_after image old.thread held (act_in image old) k) (same_mutex old.thread (held k) (noting k && takes_word k wanted next) (with_journal (noted (answer ∷ []))) l refl)
+
+  pub turn_from : AreOf image old.locks → wanted ≡ wants_of image held old.guest.regs → next ≡ next_lock image (thread_in old) → answer ≡ answer_to image wanted next (thread_in old).own (mutex_at old)
+      → ((k : ℕ) → noting k ≡ (if old.guest.fuel == 0 then false else block k)) → Changed note old.locks mid → Changed (turned held did) mid new.locks → new.thread ≡ old.thread → thread_in new ≡ thread_after (thread_in old) (act_in image old) → IsTurn image block old new
+  turn_from of w n a notes first second number thread =
+      let changed : Changed change old.locks new.locks = λ k. second k ∙ ap (option_map (turned held did k)) (first k) ∙ option_map-twice (note k) (turned held did k) (change k) (lock_in old.locks k) (λ l. refl) in
+      record {
+        keeps = keeps_changed change old new (λ k l. (let s = same_turned held did k (note k l) in let m = same_lock noting wanted next answer k l in (s.0 ∙ m.0, ap (λ (j : Journal). j.image) s.1 ∙ m.1))) changed number;
+        thread = thread;
+        locks = λ k some. (λ i. mutex_or (number i) ((thread i).held k) (changed k i)) ∙ mutex of k some (lock_in old.locks k) refl;
+        journals = journals_changed change (λ k. noted_when (block k) (word_of image k (thread_in old) (mutex_at old))) old new changed
+            (λ k l e. (same_turned held did k (note k l)).1 ∙ noted_journal (old.guest.fuel == 0) (block k) (takes_word k wanted next) (noting k) answer l (notes k)
+            ∙ ap (λ ws. noted_when (block k) ws l.journal) (words_now image (thread_in old) (mutex_at old) k wanted next answer w n a));
+      }

@@ -1,35 +1,29 @@
 -- What running a block makes of a package, and sealing it.
 use Rattle.std.proofs.Common.{◌≡◌, ℕ, ◌-◌, Bool, true, false, List, [], ◌∷◌, ◌++◌, map, length, set, refl, sym, ap, subst, ◌∙◌}
-use Rattle.std.specs.Prelude.{Option, Some, None, IfSome, is_some, if◌then◌else◌}
+use Rattle.std.specs.Prelude.{Option, Some, None, is_some, if◌then◌else◌}
 use Rattle.std.specs.Option.{option_map}
 use Rattle.std.proofs.lemmas.List.{length-map}
 use Rattle.tc_isa.specs.Sets.{has}
 use Rattle.tc_elf.specs.Shown.{Shown}
-use Rattle.tc_journal.specs.Batch.{is_section, takes_of, ends_section, last_of, run_of, may_begin, allows_of}
+use Rattle.tc_journal.specs.Batch.{is_section, takes_of, allows_of}
 use Rattle.tc_journal.specs.History.{IsBlock}
 use Rattle.tc_journal.specs.declared.block.Block.{Block}
-use Rattle.tc_journal.specs.declared.block.Kind.TheVariants.{Taken}
 use Rattle.tc_turn.specs.declared.status.Status.TheVariants.{Running}
 use Rattle.tc_turn.specs.Turn.{is_running, next_lock}
-use Rattle.tc_turn.specs.Replay.{Entry}
 use Rattle.tc_turn.proofs.Turns.{next_free}
 use Rattle.tc_segment.specs.View.{LockView, Journal, block_in, blocks_of, with_journal, sealed_block, sealed_list, sealed_as}
 use Rattle.tc_context.specs.declared.context.Context.{Context}
 use Rattle.tc_context.specs.declared.package.Grant.{Grant}
 use Rattle.tc_context.specs.Locks.{lock_in, when_in, Changed, sealed_in, sealed_all}
 use Rattle.tc_context.specs.Whole.{thread_in, whole, journal_in, journal_at, CanGo, RunsAs, entry_of, entered, Journals}
-use Rattle.tc_context.specs.View.{PackageView, granted_lock, want_of, kind_of, waiting_in, MayTake, IsSound, IsStored, Rests, Allows, fits_in, fits_granted, fits_of, sealed_log, with_seal}
+use Rattle.tc_context.specs.View.{PackageView, granted_lock, want_of, kind_of, waiting_in, MayTake, IsSound, IsStored, Allows, fits_in, fits_granted, fits_of, sealed_log, with_seal}
 use Rattle.tc_context.specs.Ran.{DidRun, slept_at}
 use Rattle.tc_context.proofs.LockList.{locks_ext}
 use Rattle.tc_context.proofs.Moved.{map_some}
 use Rattle.tc_mutex_spec.proofs.Replaying.{record_takes}
-use Rattle.tc_context.proofs.Staging.{can_go, kind_section, record_is, idle_at, closed_none, sealed_at, begun_is, ran_sound}
+use Rattle.tc_context.proofs.Staging.{entered_rest, can_go, kind_section, record_is, idle_at, closed_none, sealed_at, begun_is, ran_sound}
 
 -- ---- the batch rule
-
-entered_rest : (v : Bool) (e : Entry) (i : Journal) → ((entered v e i).sealed ≡ i.sealed) × ((entered v e i).limit ≡ i.limit)
-entered_rest true e i = (refl, refl)
-entered_rest false e i = (refl, refl)
 
 -- a package that fits a worker runs a block that the batch rule allows with this worker
 pub fits_allows : (image : Shown) (p : PackageView) (v : Context) (b : Block) (worker : ℕ) → CanGo image p.context → Journals image p.context v b → b.kind ≡ kind_of p.granted p.log → is_section b.kind ≡ is_some (next_lock image (thread_in p.context))
@@ -53,15 +47,6 @@ fits_allows image p v b worker can journals kind section want fits k l begun fou
         ∙ ap (λ n. fits_in (lock_in p.context.locks n) n g.kind worker) (sym same)
         ∙ ap (λ o. fits_granted p.context o worker) (sym e) ∙ fits
 
--- a lock whose last block ended a section of it allows the next one to be taken
-pub taken_fits : (k worker : ℕ) (l : LockView) → Rests k l → allows_of k l.journal.limit (blocks_of l) Taken worker ≡ true
-unfolding allows_of
-taken_fits k worker l rests = go (last_of (blocks_of l)) rests
-  where
-    go : (o : Option Block) → IfSome o (λ b. ends_section k b ≡ true) → may_begin k l.journal.limit o (run_of k (blocks_of l)) Taken worker ≡ true
-    go None h = refl
-    go (Some b) h = h
-
 -- ---- the block
 
 no_grant : (image : Shown) (p : PackageView) (g : Option Grant) → MayTake p.image p.context g → is_section (kind_of g p.log) ≡ false → kind_of g p.log ≡ kind_of None p.log
@@ -69,10 +54,10 @@ no_grant image p None may out = refl
 no_grant image p (Some g) may out = absurd (let f : true ≡ false = sym may.section ∙ out in cc)
 
 pub did_run : (image : Shown) (p old : PackageView) (new : Context) (b : Block) (log : List Block) (slept : ℕ) → p ≡ old → p.image ≡ image → IsSound p → p.pending ≡ None → p.context.guest.status ≡ Running
-    → ((k : ℕ) → want_of image p.context ≡ Some k → granted_lock p.granted ≡ Some k) → RunsAs image p.context new b.turns b.end → Journals image p.context new b → b.thread ≡ p.context.thread → b.kind ≡ kind_of p.granted p.log → IsBlock b → length new.locks ≡ 32
+    → ((k : ℕ) → want_of image p.context ≡ Some k → granted_lock p.granted ≡ Some k) → RunsAs image p.context new b.turns b.end → Journals image p.context new b → b.thread ≡ p.context.thread → b.kind ≡ kind_of p.granted p.log → b.pc ≡ (thread_in p.context).regs.pc → IsBlock b → length new.locks ≡ 32
     → slept ≡ slept_at image (whole p.context) p.context.thread (b.turns - 1) → log ≡ p.log ++ b ∷ []
     → DidRun image old (record { image = p.image; context = new; granted = None; pending = Some b; log = log; log_room = p.log_room - 1; numbers = p.numbers; turns = p.turns; slept = slept })
-did_run image p old new b log slept same is sound rest running want runs journals thread kind bounds places sleeps logged =
+did_run image p old new b log slept same is sound rest running want runs journals thread kind at bounds places sleeps logged =
     let can = can_go image p is sound running want in
     let section = ap is_section kind ∙ kind_section image p is sound running want in
     let new_view : PackageView = record { image = p.image; context = new; granted = None; pending = Some b; log = log; log_room = p.log_room - 1; numbers = p.numbers; turns = p.turns; slept = slept } in
@@ -84,6 +69,7 @@ did_run image p old new b log slept same is sound rest running want runs journal
       kind = kind;
       first = λ out. kind ∙ no_grant image p p.granted sound.grant (ap is_section (sym kind) ∙ out);
       section = section;
+      pc = at;
       held = journals.held;
       covers = can.covers;
       rests = λ k l next e. (idle_at p k l sound rest e).rests (next_free image (thread_in p.context) k next);

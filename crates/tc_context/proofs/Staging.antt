@@ -1,6 +1,6 @@
 -- What a package keeps, through each of its calls.
-use Rattle.std.proofs.Common.{◌≡◌, ◌≢◌, ℕ, zero, suc, ◌-◌, ◌<◌, ◌≤◌, Bool, true, false, not, ◌||◌, ◌&&◌, ◌==◌, List, [], ◌∷◌, ◌++◌, map, length, refl, sym, ap, subst, ◌∙◌, arith, inl, inr, length-append}
-use Rattle.std.specs.Prelude.{Option, Some, None, IfSome, is_some, slice_get, set, if◌then◌else◌}
+use Rattle.std.proofs.Common.{◌≡◌, ◌≢◌, ℕ, ◌-◌, ◌<◌, ◌≤◌, Bool, true, false, not, ◌||◌, ◌&&◌, ◌==◌, List, [], ◌∷◌, ◌++◌, map, length, refl, sym, ap, subst, ◌∙◌, arith, inl, inr, length-append}
+use Rattle.std.specs.Prelude.{Option, Some, None, IfSome, is_some, slice_get, slice_index_or, set, if◌then◌else◌}
 use Rattle.std.specs.Option.{option_map}
 use Rattle.std.proofs.lemmas.Bool.Decides.{eqb_tells}
 use Rattle.std.proofs.lemmas.List.{map-append, length-map, length-set, get_or-set_same, get_or-set_other}
@@ -10,31 +10,27 @@ use Rattle.tc_isa.specs.Sets.{has}
 use Rattle.tc_elf.specs.Shown.{Shown}
 use Rattle.tc_journal.specs.Batch.{is_section, begins, is_lock, takes_of, last_of, allows_of, may_go_on, may_follow, ends_section, passes_to, passes_on}
 use Rattle.tc_journal.specs.declared.block.Block.{Block}
-use Rattle.tc_journal.specs.declared.block.End.{End}
 use Rattle.tc_journal.specs.declared.block.Kind.{Kind}
 use Rattle.tc_turn.specs.declared.status.Status.{Status}
 use Rattle.tc_turn.specs.declared.status.Status.TheVariants.{Running, Exited, Faulted as Failed, SpentFuel}
-use Rattle.tc_turn.specs.Turn.{Thread, Mutex, Guest, thread_of, is_running, next_lock, next_act, thread_after}
-use Rattle.tc_turn.specs.Reads.{Covers}
+use Rattle.tc_turn.specs.Turn.{Thread, Guest, thread_of, is_running, next_lock}
 use Rattle.tc_turn.specs.Replay.{Entry}
-use Rattle.tc_turn.proofs.Turns.{next_free, next_known, held_grows, act_takes}
+use Rattle.tc_turn.proofs.Turns.{next_free, next_known}
 use Rattle.tc_mutex_spec.specs.Machine.{State}
 use Rattle.tc_mutex_spec.specs.Blocks.{locks_of_block, reach, Runs}
-use Rattle.tc_mutex_spec.proofs.Local.{after_thread}
-use Rattle.tc_mutex_spec.proofs.BlocksAlike.{covers_within, covers_block}
-use Rattle.tc_segment.specs.View.{LockView, Journal, IsAtRest, kept, block_in, blocks_of, with_journal, sealed_block, sealed_entry, sealed_list, sealed_as}
+use Rattle.tc_segment.specs.View.{LockView, Journal, IsAtRest, kept, block_in, blocks_of, with_journal, with_room, sealed_block, sealed_entry, sealed_list, sealed_as}
 use Rattle.tc_context.specs.declared.context.Context.{Context}
 use Rattle.tc_context.specs.declared.package.Grant.{Grant}
-use Rattle.tc_context.specs.Locks.{slot_of, lock_in, AreOf, Changed, SameLocks, roomy_in, sealed_all}
+use Rattle.tc_context.specs.Locks.{slot_of, lock_in, when_in, AreOf, Changed, IsPlaced, SameLocks, roomy_in, sealed_all}
 use Rattle.tc_context.specs.Whole.{thread_in, whole, set_of, journal_in, journal_at, CanGo, RunsAs, block_locks, entry_of, entered, Journals}
 use Rattle.tc_context.specs.Middle.{IsReady, AreReady}
-use Rattle.tc_context.specs.View.{PackageView, granted_lock, want_of, kind_of, number_in, waiting_in, IsNumber, IsReserved, IsFresh, Rests, IsIdle, IsPending, IsAt, IsStored, IsAfter, IsLeft, EndsWith, MayTake, IsSound, IsWanted, IsWaiting, IsRoomier, Allows, with_grant, without_lock, sealed_log, with_seal}
+use Rattle.tc_context.specs.View.{PackageView, granted_lock, want_of, kind_of, number_in, waiting_in, IsNumber, IsReserved, IsFresh, Rests, IsIdle, IsPending, IsAt, IsStored, IsAfter, IsLeft, EndsWith, MayTake, IsSound, IsWanted, LastIsSealed, IsWaiting, IsRoomier, Allows, with_grant, without_lock, sealed_log, with_seal}
 use Rattle.tc_context.proofs.LockList.{option_map-twice, put_place}
-use Rattle.tc_context.proofs.Moved.{map_some}
+use Rattle.tc_context.proofs.Moved.{map_some, some_map}
 use Rattle.tc_mutex_spec.proofs.Replaying.{IsRecord, record_takes}
 use Rattle.tc_mutex_spec.proofs.Going.{block_survives, block_gives, in_block}
 use Rattle.tc_context.proofs.Partway.{block_inside}
-use Rattle.tc_context.proofs.Leaving.{block_runs, block_next}
+use Rattle.tc_mutex_spec.proofs.Leaving.{block_runs, block_next, block_releases, block_covered}
 
 pub none_some : {X : Type 0} (o : Option X) (x : X) → o ≡ None → o ≡ Some x → ⊥
 none_some o x e f = (let h : None ≡ Some x = sym e ∙ f in cc)
@@ -65,6 +61,9 @@ place_small p k sound here = (let l = some_of (lock_in p.context.locks k) here i
 -- where no block is pending
 pub idle_at : (p : PackageView) (k : ℕ) (l : LockView) → IsSound p → p.pending ≡ None → lock_in p.context.locks k ≡ Some l → IsIdle p k l
 idle_at p k l sound rest e = subst (λ x. IsAt x p k l) rest (sound.stored k l e).at
+
+pub last_sealed : (p : PackageView) → IsSound p → LastIsSealed p
+last_sealed p sound rest none b is k l e h = (idle_at p k l sound rest e).last b is h (λ f. (let g : None ≡ Some k = ap granted_lock (sym none) ∙ f in cc))
 
 pub closed_none : (o : Option Entry) → option_map block_in o ≡ None → o ≡ None
 closed_none None e = refl
@@ -153,6 +152,7 @@ left_as image p q (Some b) thread guest left = record {
   runs = ap (λ (g : Guest). is_running g.status) guest ∙ left.runs;
   next = λ k e. ap (λ (g : Guest). next_lock image (thread_of g)) guest ∙ left.next k e;
   held = λ k. ap (λ (g : Guest). has g.held k) guest ∙ left.held k;
+  released = left.released;
 }
 
 may_take : (image : Shown) (p q : Context) (g : Option Grant) → q.thread ≡ p.thread → thread_in q ≡ thread_in p → ((k : ℕ) → set_of q k ≡ set_of p k)
@@ -170,8 +170,41 @@ may_take image p q (Some g) number thread set same may = record {
 abbrev pub with_rooms : PackageView → List (Option LockView) → ℕ → ℕ → PackageView
 with_rooms p locks room turns = record (with_locks p locks) { log_room = room; turns = turns }
 
-pub same_locks : (old new : List (Option LockView)) → Changed (roomy_in 1 4096) old new → SameLocks old new
-same_locks old new changed k = ap (option_map kept) (changed k) ∙ option_map-twice (roomy_in 1 4096 k) kept kept (lock_in old k) (λ l. refl)
+kept_room : (b : Bool) (l : LockView) → kept (when_in b (with_journal (with_room 1 4096)) l) ≡ kept l
+kept_room true l = refl
+kept_room false l = refl
+
+pub same_locks : (held : ℕ → Bool) (old new : List (Option LockView)) → Changed (roomy_in held 1 4096) old new → SameLocks old new
+same_locks held old new changed k = ap (option_map kept) (changed k) ∙ option_map-twice (roomy_in held 1 4096 k) kept kept (lock_in old k) (λ l. kept_room (held k) l)
+
+-- each lock that is there has room, where it was made in the locks that are there
+pub has_room : (held : ℕ → Bool) (old new : List (Option LockView)) (k : ℕ) (l : LockView) → ((k : ℕ) → is_some (lock_in old k) ≡ held k) → Changed (roomy_in held 1 4096) old new → lock_in new k ≡ Some l
+    → (l.journal.entry_room ≡ 1) × (l.journal.word_room ≡ 4096)
+has_room held old new k l there changed found =
+    let x = map_some (roomy_in held 1 4096 k) (lock_in old k) l (sym (changed k) ∙ found) in
+    let in_held : held k ≡ true = sym (there k) ∙ ap is_some x.1 in
+    let is : l ≡ with_journal (with_room 1 4096) x.0 = x.2 ∙ ap (λ b. when_in b (with_journal (with_room 1 4096)) x.0) in_held in
+    (ap (λ (y : LockView). y.journal.entry_room) is, ap (λ (y : LockView). y.journal.word_room) is)
+
+pub changed_set : (f : ℕ → LockView → LockView) (old new : List (Option LockView)) → Changed f old new → (k : ℕ) → is_some (lock_in new k) ≡ is_some (lock_in old k)
+changed_set f old new changed k = ap is_some (changed k) ∙ some_map (f k) (lock_in old k)
+
+-- one lock more, or less
+pub set_with : (n m : ℕ) (l : LockView) (old new : List (Option LockView)) (was now : ℕ) → m ≡ n → IsPlaced n (Some l) old new → ((k : ℕ) → has now k ≡ ((k == m) || has was k)) → ((k : ℕ) → is_some (lock_in old k) ≡ has was k)
+    → (k : ℕ) → is_some (lock_in new k) ≡ has now k
+set_with n m l old new was now is placed plus same k = ap is_some (placed k) ∙ go (k == n) ∙ ap (λ j. (k == j) || has was k) (sym is) ∙ sym (plus k)
+  where
+    go : (b : Bool) → is_some (if b then Some l else lock_in old k) ≡ (b || has was k)
+    go true = refl
+    go false = same k
+
+pub set_without : (n : ℕ) (old new : List (Option LockView)) (was now : ℕ) → IsPlaced n None old new → ((k : ℕ) → has now k ≡ (not (k == n) && has was k)) → ((k : ℕ) → is_some (lock_in old k) ≡ has was k)
+    → (k : ℕ) → is_some (lock_in new k) ≡ has now k
+set_without n old new was now placed less same k = ap is_some (placed k) ∙ go (k == n) ∙ sym (less k)
+  where
+    go : (b : Bool) → is_some (if b then None else lock_in old k) ≡ (not b && has was k)
+    go true = refl
+    go false = same k
 
 pub lock_was : (o p : Option LockView) (l : LockView) → option_map kept p ≡ option_map kept o → p ≡ Some l → (x : LockView) × (o ≡ Some x) × (kept l ≡ kept x)
 lock_was o p l same e = map_some kept o (kept l) (sym same ∙ ap (option_map kept) e)
@@ -181,6 +214,10 @@ some_same None None e = refl
 some_same None (Some l) e = absurd (cc)
 some_same (Some l) None e = absurd (cc)
 some_same (Some l) (Some x) e = refl
+
+-- the same locks are there
+pub same_set : (old new : List (Option LockView)) → SameLocks old new → (k : ℕ) → is_some (lock_in new k) ≡ is_some (lock_in old k)
+same_set old new same k = some_same (lock_in old k) (lock_in new k) (same k)
 
 pub roomier_set : (p q : PackageView) (k : ℕ) → IsRoomier p q → set_of q.context k ≡ set_of p.context k
 roomier_set p q k roomier = some_same (lock_in p.context.locks k) (lock_in q.context.locks k) (roomier.locks k)
@@ -263,23 +300,6 @@ kind_section image p is sound running want = go p.granted p.log sound.grant (λ 
         no_next None h = refl
         no_next (Some k) h = absurd (let f = h k refl in cc)
 
--- what a thread holds after a turn is covered by what covered the turn
-turn_covered : (image : Shown) (set : ℕ → Bool) (d : Thread) (locks : ℕ → Mutex) (k : ℕ) → Covers image set d → (thread_after d (next_act image d locks)).held k ≡ true → set k ≡ true
-unfolding next_act
-turn_covered image set d locks k covers h = elim (held_grows d (next_act image d locks) k h) [
-  | inl before ↦ covers.held k before
-  | inr took ↦ covers.next k (act_takes image d _ k took.0 took.1)
-]
-
--- what a thread holds after a block is a lock of the block
-block_covered : (image : Shown) (m to : State) (t n : ℕ) (e : End) → Runs image m t n e to → (k : ℕ) → ((reach image m t n).threads t).held k ≡ true → locks_of_block (m.threads t).held (next_lock image (m.threads t)) k ≡ true
-block_covered image m to t zero e runs k h = absurd (let s = runs.some in omega arith)
-block_covered image m to t (suc n) e runs k h =
-    let set = locks_of_block (m.threads t).held (next_lock image (m.threads t)) in
-    let from = reach image m t n in
-    turn_covered image set (from.threads t) from.locks k (covers_within image set m t (suc n) (covers_block image (m.threads t)) runs.before n (omega arith))
-    (sym (ap (λ (x : Thread). x.held k) (after_thread image from t)) ∙ h)
-
 entered_was : (b : Bool) (e : Entry) (o : Option Journal) (j : Journal) → option_map (entered b e) o ≡ Some j → (i : Journal) × (o ≡ Some i) × (j ≡ entered b e i)
 entered_was b e o j is = map_some (entered b e) o j is
 
@@ -287,9 +307,9 @@ entered_stage : (b : Bool) (block : Block) (e : Entry) (i : Journal) → e.block
 entered_stage true block e i is o c = (refl, ap Some is)
 entered_stage false block e i is o c = (o, c)
 
-entered_sealed : (b : Bool) (e : Entry) (i : Journal) → (entered b e i).sealed ≡ i.sealed
-entered_sealed true e i = refl
-entered_sealed false e i = refl
+pub entered_rest : (b : Bool) (e : Entry) (i : Journal) → ((entered b e i).sealed ≡ i.sealed) × ((entered b e i).limit ≡ i.limit)
+entered_rest true e i = (refl, refl)
+entered_rest false e i = (refl, refl)
 
 -- a lock that isn't of the block wasn't held before it
 not_before : (held : ℕ → Bool) (next : Option ℕ) (k : ℕ) → locks_of_block held next k ≡ false → held k ≡ false
@@ -360,6 +380,7 @@ module _ (image : Shown) (old : PackageView) (new : Context) (b : Block) (log : 
     runs = ap (λ (d : Thread). is_running d.status) thread_is ∙ block_runs image (whole old.context) last t b.turns b.end alone;
     next = λ k e. (λ i. next_lock (is i) (thread_is i)) ∙ block_next image (whole old.context) last t b.turns b.end alone k e;
     held = held_after;
+    released = λ k e. journals.held k ∙ block_releases image (whole old.context) last t b.turns b.end alone k e;
   }
 
   takes : takes_of b ≡ next_lock image (thread_in old.context)
@@ -391,7 +412,7 @@ module _ (image : Shown) (old : PackageView) (new : Context) (b : Block) (log : 
         let s = sound.stored k x.0 x.1 in
         let of = runs.keeps.of old.image (are_of old sound) k l e in
         let stage = entered_stage (has b.held k) b (entry_of image k (whole old.context) b) was.0 refl (ap (λ (i : Journal). i.opened) x.2 ∙ s.opened) (ap (λ (i : Journal). option_map block_in i.closed) x.2 ∙ s.closed ∙ ap (λ o. waiting_in o k) rest) in
-        let sealed : l.journal.sealed ≡ x.0.journal.sealed = ap (λ (i : Journal). i.sealed) was.2 ∙ entered_sealed (has b.held k) (entry_of image k (whole old.context) b) was.0 ∙ ap (λ (i : Journal). i.sealed) x.2 in
+        let sealed : l.journal.sealed ≡ x.0.journal.sealed = ap (λ (i : Journal). i.sealed) was.2 ∙ (entered_rest (has b.held k) (entry_of image k (whole old.context) b) was.0).0 ∙ ap (λ (i : Journal). i.sealed) x.2 in
         record {
           number = of.number;
           known = of.known;
@@ -543,7 +564,7 @@ module _ (p : PackageView) (b : Block) (stamp worker : ℕ) (sound : IsSound p) 
     thread = sound.thread;
     held = λ k h. seal_set stamp worker p k ∙ sound.held k h;
     stored = λ k l e. (let x = map_some seal (lock_in p.context.locks k) l (sym (sealed_at stamp worker p.context.locks k) ∙ e) in subst (IsStored q k) (sym x.2) (sealed_here k x.0 (sound.stored k x.0 x.1)));
-    left = subst (IsLeft p.image q.context) (sym seal_last) (record { thread = left_was.thread; runs = left_was.runs; next = left_was.next; held = left_was.held });
+    left = subst (IsLeft p.image q.context) (sym seal_last) (record { thread = left_was.thread; runs = left_was.runs; next = left_was.next; held = left_was.held; released = left_was.released });
     grant = subst (MayTake p.image q.context) (sym (sound.alone (ap is_some pending))) tt;
     log = tt;
     alone = λ h. absurd (cc);
@@ -611,6 +632,13 @@ granted_sound p lock kind number sound waiting rest section passes small =
       log = sound.log;
       alone = λ h. absurd (false_true _ (ap is_some waiting.pending) h);
     }
+
+-- the number at each place
+pub numbered : (xs : List ℕ) (n number k : ℕ) → n < length xs → slice_index_or (set xs n number) k 0 ≡ (if k == n then number else slice_index_or xs k 0)
+numbered xs n number k lt = elim (eqb_tells k n) [
+  | inl e ↦ ap (λ j. slice_index_or (set xs n number) j 0) e.1 ∙ get_or-set_same xs n number 0 lt ∙ ap (λ b. if b then number else slice_index_or xs k 0) (sym e.0)
+  | inr e ↦ get_or-set_other xs n k number 0 e.1 ∙ ap (λ b. if b then number else slice_index_or xs k 0) (sym e.0)
+]
 
 pub left_there : (b : Bool) (o : Option LockView) (l : LockView) → (if b then None else o) ≡ Some l → o ≡ Some l
 left_there true o l e = absurd (cc)

@@ -1,9 +1,13 @@
 -- A package's fields, as it is seen, and what they keep.
-use Rattle.std.specs.Prelude.{◌+◌, ◌≤◌, vec_len, vec_capacity}
-use Rattle.tc_context.specs.declared.package.Package.TheInside.{Inside}
+use Rattle.std.specs.Prelude.{◌≡◌, ℕ, ◌+◌, ◌≤◌, vec_len, vec_capacity}
+use Rattle.std.specs.Arc.{arc_value}
+use Rattle.tc_isa.specs.Sets.{has}
+use Rattle.tc_turn.specs.Turn.{next_lock}
+use Rattle.tc_context.specs.declared.package.Contents.{Contents}
+use Rattle.tc_context.specs.Whole.{thread_in, set_of}
 use Rattle.tc_context.specs.View.{PackageView, IsSound}
 
-abbrev pub view_of : Inside → PackageView
+abbrev pub view_of : Contents → PackageView
 view_of a = record {
   image = a.of.value;
   context = a.context;
@@ -16,6 +20,9 @@ view_of a = record {
   slept = a.slept;
 }
 
-pub record Kept (a : Inside) : Type 0 where
+pub record Kept (a : Contents) : Type 0 where
   pub sound : IsSound (view_of a)
+  pub code : arc_value a.code ≡ a.of.value
+  pub next : a.next ≡ next_lock a.of.value (thread_in a.context)
+  pub present : (k : ℕ) → set_of a.context k ≡ has a.present k
   pub log : vec_len a.log + a.log_room ≤ vec_capacity a.log

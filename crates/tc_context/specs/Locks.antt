@@ -6,8 +6,8 @@ use Rattle.tc_elf.specs.Places.{in_guard}
 use Rattle.tc_elf.specs.declared.image.Region.{Region}
 use Rattle.tc_elf.specs.declared.image.Region.TheVariants as region
 use Rattle.tc_exec.specs.Told.{IsWidth}
-use Rattle.tc_exec.specs.declared.outcome.Act.{Act}
-use Rattle.tc_exec.specs.declared.outcome.Act.TheVariants.{Next, Called, Faulted}
+use Rattle.tc_exec.specs.declared.outcome.Done.{Done}
+use Rattle.tc_exec.specs.declared.outcome.Done.TheVariants.{Went, Stored, Called, Faulted}
 use Rattle.tc_exec.specs.declared.outcome.Call.TheVariants.{Lock, Unlock, Sleep, Exit}
 use Rattle.tc_exec.specs.declared.outcome.Put.{Put}
 use Rattle.tc_exec.specs.declared.outcome.Want.{Want}
@@ -89,18 +89,18 @@ stored_in region.Stack k addr width value l = l
 stored_in (region.Guard lock) k addr width value l = when_in (k == lock) (with_store addr width value) l
 stored_in region.Nothing k addr width value l = l
 
-abbrev pub put_in : Option Put → ℕ → LockView → LockView
-put_in None k l = l
-put_in (Some put) k l = stored_in put.region k put.addr put.width put.value l
+abbrev pub put_in : Put → ℕ → LockView → LockView
+put_in put k l = stored_in put.region k put.addr put.width put.value l
 
--- lock k after a turn of a thread that held these locks before it
-abbrev pub turned : (ℕ → Bool) → Option Act → ℕ → LockView → LockView
+-- lock k after a turn that did this, of a thread that held these locks before it
+abbrev pub turned : (ℕ → Bool) → Option Done → ℕ → LockView → LockView
 turned held None k l = when_in (held k) with_break l
-turned held (Some (Next regs put)) k l = put_in put k l
-turned held (Some (Called (Lock lock) regs)) k l = when_in (k == lock) with_section l
-turned held (Some (Called (Unlock lock) regs)) k l = l
-turned held (Some (Called (Sleep blocks) regs)) k l = l
-turned held (Some (Called Exit regs)) k l = when_in (held k) with_break l
+turned held (Some Went) k l = l
+turned held (Some (Stored put)) k l = put_in put k l
+turned held (Some (Called (Lock lock))) k l = when_in (k == lock) with_section l
+turned held (Some (Called (Unlock lock))) k l = l
+turned held (Some (Called (Sleep blocks))) k l = l
+turned held (Some (Called Exit)) k l = when_in (held k) with_break l
 turned held (Some (Faulted f)) k l = when_in (held k) with_break l
 
 -- a store into the lock's guard
@@ -119,17 +119,17 @@ StoreReady region.Stack k addr width l = Unit {0}
 StoreReady (region.Guard lock) k addr width l = k ≡ lock → (in_guard addr width (guard_of l) ≡ true) × (is_open_lock l ≡ true)
 StoreReady region.Nothing k addr width l = Unit {0}
 
-abbrev pub PutReady : Option Put → ℕ → LockView → Type 0
-PutReady None k l = Unit {0}
-PutReady (Some put) k l = StoreReady put.region k put.addr put.width l
+abbrev pub PutReady : Put → ℕ → LockView → Type 0
+PutReady put k l = StoreReady put.region k put.addr put.width l
 
-abbrev pub TurnReady : (ℕ → Bool) → Option Act → ℕ → LockView → Type 0
+abbrev pub TurnReady : (ℕ → Bool) → Option Done → ℕ → LockView → Type 0
 TurnReady held None k l = held k ≡ true → is_open_lock l ≡ true
-TurnReady held (Some (Next regs put)) k l = PutReady put k l
-TurnReady held (Some (Called (Lock lock) regs)) k l = k ≡ lock → is_open_lock l ≡ true
-TurnReady held (Some (Called (Unlock lock) regs)) k l = Unit {0}
-TurnReady held (Some (Called (Sleep blocks) regs)) k l = Unit {0}
-TurnReady held (Some (Called Exit regs)) k l = held k ≡ true → is_open_lock l ≡ true
+TurnReady held (Some Went) k l = Unit {0}
+TurnReady held (Some (Stored put)) k l = PutReady put k l
+TurnReady held (Some (Called (Lock lock))) k l = k ≡ lock → is_open_lock l ≡ true
+TurnReady held (Some (Called (Unlock lock))) k l = Unit {0}
+TurnReady held (Some (Called (Sleep blocks))) k l = Unit {0}
+TurnReady held (Some (Called Exit)) k l = held k ≡ true → is_open_lock l ≡ true
 TurnReady held (Some (Faulted f)) k l = held k ≡ true → is_open_lock l ≡ true
 
 -- what a turn stores in a guard, or takes, is of a lock below 32, and a store has a lawful width
@@ -140,17 +140,17 @@ StoreFits region.Stack width = Unit {0}
 StoreFits (region.Guard lock) width = (lock < 32) × IsWidth width
 StoreFits region.Nothing width = Unit {0}
 
-abbrev pub PutFits : Option Put → Type 0
-PutFits None = Unit {0}
-PutFits (Some put) = StoreFits put.region put.width
+abbrev pub PutFits : Put → Type 0
+PutFits put = StoreFits put.region put.width
 
-abbrev pub TurnFits : Option Act → Type 0
+abbrev pub TurnFits : Option Done → Type 0
 TurnFits None = Unit {0}
-TurnFits (Some (Next regs put)) = PutFits put
-TurnFits (Some (Called (Lock lock) regs)) = lock < 32
-TurnFits (Some (Called (Unlock lock) regs)) = Unit {0}
-TurnFits (Some (Called (Sleep blocks) regs)) = Unit {0}
-TurnFits (Some (Called Exit regs)) = Unit {0}
+TurnFits (Some Went) = Unit {0}
+TurnFits (Some (Stored put)) = PutFits put
+TurnFits (Some (Called (Lock lock))) = lock < 32
+TurnFits (Some (Called (Unlock lock))) = Unit {0}
+TurnFits (Some (Called (Sleep blocks))) = Unit {0}
+TurnFits (Some (Called Exit)) = Unit {0}
 TurnFits (Some (Faulted f)) = Unit {0}
 
 -- the changes of each lock k, at its place
@@ -172,8 +172,8 @@ closed_in held block finish k l = when_in (held k) (λ m. with_end block.end (wi
 abbrev pub sealed_in : (ℕ → Bool) → ℕ → ℕ → ℕ → LockView → LockView
 sealed_in held stamp worker k l = when_in (held k) (with_journal (sealed_as stamp worker)) l
 
-abbrev pub roomy_in : ℕ → ℕ → ℕ → LockView → LockView
-roomy_in entries words k l = with_journal (with_room entries words) l
+abbrev pub roomy_in : (ℕ → Bool) → ℕ → ℕ → ℕ → LockView → LockView
+roomy_in held entries words k l = when_in (held k) (with_journal (with_room entries words)) l
 
 -- each entry that isn't sealed yet is
 abbrev pub sealed_all : ℕ → ℕ → List (Option LockView) → List (Option LockView)

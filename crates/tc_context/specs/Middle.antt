@@ -1,38 +1,33 @@
 -- A package in the middle of a block.
-use Rattle.std.specs.Prelude.{◌≡◌, ℕ, ◌<◌, ◌≤◌, Bool, true, false, ◌==◌, if◌then◌else◌, List, [], ◌∷◌, Option, Some, None, is_some}
+use Rattle.std.specs.Prelude.{◌≡◌, ℕ, zero, suc, ◌+◌, ◌<◌, ◌≤◌, Bool, true, false, List, Option, Some, None, is_some}
 use Rattle.std.specs.Option.{option_map}
 use Rattle.tc_isa.specs.Sets.{has}
 use Rattle.tc_elf.specs.Shown.{Shown}
+use Rattle.tc_exec.specs.InPlace.{done_of}
 use Rattle.tc_exec.specs.declared.outcome.Act.{Act}
-use Rattle.tc_exec.specs.declared.outcome.Want.{Want}
-use Rattle.tc_turn.specs.Turn.{Thread, thread_after, mutex_after}
-use Rattle.tc_turn.specs.Replay.{takes_word, word_of, words_from}
+use Rattle.tc_exec.specs.declared.outcome.Done.{Done}
+use Rattle.tc_journal.specs.declared.rule.Outcome.TheVariants.{Went}
+use Rattle.tc_turn.specs.Turn.{next_act, next_lock, outcome_of, thread_after, mutex_after}
+use Rattle.tc_turn.specs.Replay.{word_of, words_from}
 use Rattle.tc_mutex_spec.specs.Blocks.{reach}
 use Rattle.tc_segment.specs.View.{Journal, noted}
 use Rattle.tc_context.specs.declared.context.Context.{Context}
 use Rattle.tc_context.specs.Whole.{thread_in, mutex_at, whole, set_of, journal_at, block_locks, Keeps}
 
--- the thread and the locks that are in the package after a turn in which the thread did this
-pub record Moves (image : Shown) (old new : Context) (a : Option Act) : Type 0 where
-  pub thread : thread_in new ≡ thread_after (thread_in old) a
-  pub locks : (k : ℕ) → set_of old k ≡ true → mutex_at new k ≡ mutex_after image old.thread (has old.guest.held) a k (mutex_at old k)
-  pub keeps : Keeps old new
-  pub journals : (k : ℕ) → journal_at new k ≡ journal_at old k
-
--- the word of a turn that wants this, as lock k sees it
-abbrev pub word_with : Thread → Want → Option ℕ → ℕ → ℕ → List ℕ
-word_with d want next answer k = if d.fuel == 0 then [] else (if takes_word k want next then answer ∷ [] else [])
+-- what the next turn does, on the package alone
+abbrev pub act_in : Shown → Context → Option Act
+act_in image p = next_act image (thread_in p) (mutex_at p)
 
 abbrev pub noted_when : Bool → List ℕ → Journal → Journal
 noted_when true ws j = noted ws j
 noted_when false ws j = j
 
--- these words are noted in the block's locks, and nothing else is changed
-pub record Notes (words : ℕ → List ℕ) (block : ℕ → Bool) (old new : Context) : Type 0 where
+-- the next turn: the thread and the locks change by what it does, and its words are noted in the block's locks
+pub record IsTurn (image : Shown) (block : ℕ → Bool) (old new : Context) : Type 0 where
   pub keeps : Keeps old new
-  pub thread : thread_in new ≡ thread_in old
-  pub locks : (k : ℕ) → mutex_at new k ≡ mutex_at old k
-  pub journals : (k : ℕ) → journal_at new k ≡ option_map (noted_when (block k) (words k)) (journal_at old k)
+  pub thread : thread_in new ≡ thread_after (thread_in old) (act_in image old)
+  pub locks : (k : ℕ) → set_of old k ≡ true → mutex_at new k ≡ mutex_after image old.thread (has old.guest.held) (act_in image old) k (mutex_at old k)
+  pub journals : (k : ℕ) → journal_at new k ≡ option_map (noted_when (block k) (word_of image k (thread_in old) (mutex_at old))) (journal_at old k)
 
 -- the entries of the block's locks are open
 abbrev pub AreOpen : (ℕ → Bool) → Context → Type 0
@@ -52,12 +47,6 @@ pub record IsReady (j : Journal) : Type 0 where
 abbrev pub AreReady : Shown → Context → Type 0
 AreReady image p = (k : ℕ) (j : Journal) → journal_at p k ≡ Some j → block_locks image p k ≡ true → IsReady j
 
--- a turn: its words are noted in the block's locks, and then the thread and the locks change by what it did
-pub record IsTurn (image : Shown) (block : ℕ → Bool) (old new : Context) (a : Option Act) : Type 0 where
-  pub middle : Context
-  pub notes : Notes (λ k. word_of image k (thread_in old) (mutex_at old)) block old middle
-  pub moves : Moves image middle new a
-
 -- the words of n turns on the package alone, as lock k sees them
 abbrev pub words_of : Shown → Context → ℕ → ℕ → List ℕ
 words_of image p k n =
@@ -67,6 +56,16 @@ words_of image p k n =
 abbrev pub AreNoted : Shown → (ℕ → Bool) → ℕ → Context → Context → Type 0
 AreNoted image block n old new = (k : ℕ) → journal_at new k ≡ option_map (noted_when (block k) (words_of image old k n)) (journal_at old k)
 
--- the word of a turn that wants this is noted in the block's locks
-abbrev pub NotesWord : (ℕ → Bool) → Want → Option ℕ → ℕ → Context → Context → Type 0
-NotesWord block want next answer old new = Notes (word_with (thread_in old) want next answer) block old new
+-- so many turns, each of which goes on and is followed by no LOCK
+abbrev pub GoesOn : Shown → (ℕ → Bool) → ℕ → Context → Context → Type 0
+GoesOn image block zero old now = old ≡ now
+GoesOn image block (suc n) old now = (mid : Context) × GoesOn image block n old mid × IsTurn image block mid now × (outcome_of (act_in image mid) ≡ Went) × (next_lock image (thread_in now) ≡ None)
+
+-- so many turns, of which the last did this beside the registers, and each before it goes on
+pub record AreTurns (image : Shown) (block : ℕ → Bool) (old new : Context) (n : ℕ) (done : Option Done) : Type 0 where
+  pub before : ℕ
+  pub count : n ≡ before + 1
+  pub last : Context
+  pub goes : GoesOn image block before old last
+  pub turn : IsTurn image block last new
+  pub did : done ≡ option_map done_of (act_in image last)

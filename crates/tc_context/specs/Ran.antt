@@ -1,9 +1,10 @@
 -- What running one block made of a package.
-use Rattle.std.specs.Prelude.{◌≡◌, ℕ, ◌-◌, true, false, [], ◌∷◌, ◌++◌, Option, Some, None, is_some}
+use Rattle.std.specs.Prelude.{◌≡◌, ℕ, ◌-◌, true, false, [], ◌∷◌, ◌++◌, Option, Some, None, is_some, option_map}
 use Rattle.tc_isa.specs.Sets.{has}
 use Rattle.tc_elf.specs.Shown.{Shown}
-use Rattle.tc_exec.specs.declared.outcome.Act.{Act}
-use Rattle.tc_exec.specs.declared.outcome.Act.TheVariants.{Next, Called, Faulted}
+use Rattle.tc_exec.specs.InPlace.{done_of}
+use Rattle.tc_exec.specs.declared.outcome.Done.{Done}
+use Rattle.tc_exec.specs.declared.outcome.Done.TheVariants.{Went, Stored, Called, Faulted}
 use Rattle.tc_exec.specs.declared.outcome.Call.TheVariants.{Lock, Unlock, Sleep, Exit}
 use Rattle.tc_journal.specs.Batch.{is_section}
 use Rattle.tc_journal.specs.History.{IsBlock}
@@ -19,18 +20,19 @@ use Rattle.tc_context.specs.Whole.{thread_in, whole, set_of, block_locks, RunsAs
 use Rattle.tc_context.specs.View.{PackageView, kind_of, IsSound, Rests, Allows, fits_of}
 
 -- the number of a SLEEP, 0 of any other turn
-abbrev pub slept_by : Option Act → ℕ
+abbrev pub slept_by : Option Done → ℕ
 slept_by None = 0
-slept_by (Some (Next regs put)) = 0
-slept_by (Some (Called (Lock lock) regs)) = 0
-slept_by (Some (Called (Unlock lock) regs)) = 0
-slept_by (Some (Called (Sleep blocks) regs)) = blocks
-slept_by (Some (Called Exit regs)) = 0
+slept_by (Some Went) = 0
+slept_by (Some (Stored put)) = 0
+slept_by (Some (Called (Lock lock))) = 0
+slept_by (Some (Called (Unlock lock))) = 0
+slept_by (Some (Called (Sleep blocks))) = blocks
+slept_by (Some (Called Exit)) = 0
 slept_by (Some (Faulted f)) = 0
 
 -- that of turn number n of the thread t from m on, which counts from 0
 abbrev pub slept_at : Shown → State → ℕ → ℕ → ℕ
-slept_at image m t n = slept_by (next_act image ((reach image m t n).threads t) (reach image m t n).locks)
+slept_at image m t n = slept_by (option_map done_of (next_act image ((reach image m t n).threads t) (reach image m t n).locks))
 
 -- that of the last turn of a block of so many turns
 abbrev pub slept_in : Shown → Context → ℕ → ℕ
@@ -45,6 +47,8 @@ pub record DidRun (image : Shown) (old new : PackageView) : Type 0 where
   pub kind : block.kind ≡ kind_of old.granted old.log
   pub first : is_section block.kind ≡ false → block.kind ≡ kind_of None old.log
   pub section : is_section block.kind ≡ is_some (next_lock image (thread_in old.context))
+  -- where its thread stood before it
+  pub pc : block.pc ≡ (thread_in old.context).regs.pc
   -- its locks, which are in the package; the one that it took was at rest
   pub held : (k : ℕ) → has block.held k ≡ block_locks image old.context k
   pub covers : Covers image (set_of old.context) (thread_in old.context)

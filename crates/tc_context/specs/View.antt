@@ -1,14 +1,17 @@
 -- A package, as contracts see it, and what each keeps.
-use Rattle.std.specs.Prelude.{◌≡◌, ◌≢◌, ℕ, ◌<◌, ◌≤◌, ◌-◌, Bool, true, false, not, ◌&&◌, List, [], ◌∷◌, set, length, replicate, slice_index_or, Option, Some, None, IfSome, is_some, if◌then◌else◌}
+use Rattle.std.specs.Prelude.{◌≡◌, ◌≢◌, ℕ, ◌<◌, ◌≤◌, ◌-◌, Bool, true, false, not, ◌&&◌, ◌==◌, List, [], ◌∷◌, set, length, replicate, slice_index_or, Option, Some, None, IfSome, is_some, if◌then◌else◌}
 use Rattle.std.specs.Option.{option_map}
+use Rattle.tc_isa.specs.Registers.{Registers}
 use Rattle.tc_isa.specs.Sets.{has}
 use Rattle.tc_elf.specs.Shown.{Shown}
 use Rattle.tc_journal.specs.Batch.{is_section, begins, last_of, allows_of, may_go_on, ends_thread, ends_section, passes_to, passes_on}
 use Rattle.tc_journal.specs.declared.block.Block.{Block}
-use Rattle.tc_journal.specs.declared.block.End.TheVariants.{Wants}
+use Rattle.tc_journal.specs.declared.block.End.TheVariants.{Wants, Unlocked}
 use Rattle.tc_journal.specs.declared.block.Kind.{Kind}
 use Rattle.tc_journal.specs.declared.block.Kind.TheVariants.{Start, On}
+use Rattle.tc_turn.specs.Memory.{own_of}
 use Rattle.tc_turn.specs.Turn.{is_running, next_lock, thread_at_start}
+use Rattle.tc_turn.specs.declared.status.Status.{Status}
 use Rattle.tc_turn.specs.declared.status.Status.TheVariants.{Running}
 use Rattle.tc_segment.specs.View.{LockView, block_in, blocks_of, sealed_block}
 use Rattle.tc_context.specs.declared.context.Context.{Context}
@@ -29,6 +32,28 @@ pub record PackageView : Type 0 where
   pub numbers : List ℕ
   pub turns : ℕ
   pub slept : ℕ
+
+-- the number of its thread, and the thread's registers, fuel, status, held set and own memory; the locks, by their numbers
+abbrev pub thread_number : PackageView → ℕ
+thread_number p = p.context.thread
+
+abbrev pub regs_in : PackageView → Registers
+regs_in p = p.context.guest.regs
+
+abbrev pub fuel_in : PackageView → ℕ
+fuel_in p = p.context.guest.fuel
+
+abbrev pub status_in : PackageView → Status
+status_in p = p.context.guest.status
+
+abbrev pub held_in : PackageView → ℕ
+held_in p = p.context.guest.held
+
+abbrev pub own_in : PackageView → ℕ → Option ℕ
+own_in p addr = own_of p.context.guest.own addr
+
+abbrev pub locks_in : PackageView → List (Option LockView)
+locks_in p = p.context.locks
 
 abbrev pub granted_lock : Option Grant → Option ℕ
 granted_lock None = None
@@ -62,6 +87,10 @@ IsNumber n = (1 ≤ n) × (n ≤ MAX_NUMBER)
 -- the number of the queue turn with which lock k came
 abbrev pub number_in : PackageView → ℕ → ℕ
 number_in p k = slice_index_or p.numbers k 0
+
+-- lock n has this number now, and the others have what they had
+abbrev pub IsNumbered : ℕ → ℕ → PackageView → PackageView → Type 0
+IsNumbered n number old new = (k : ℕ) → number_in new k ≡ (if k == n then number else number_in old k)
 
 -- a package in which nothing ran
 pub record IsFresh (image : Shown) (t fuel : ℕ) (p : PackageView) : Type 0 where
@@ -116,12 +145,13 @@ pub record IsStored (p : PackageView) (k : ℕ) (l : LockView) : Type 0 where
   pub at : IsAt p.pending p k l
 
 -- the thread is as its block b left it: it runs unless the block ended it, is about to take the lock that the block's end
--- wants, and holds those locks of the block of which the block ended no section
+-- wants, and holds those locks of the block of which the block ended no section; a lock that the end releases is the block's
 pub record IsAfter (image : Shown) (p : Context) (b : Block) : Type 0 where
   pub thread : b.thread ≡ p.thread
   pub runs : is_running p.guest.status ≡ not (ends_thread b.end)
   pub next : (k : ℕ) → b.end ≡ Wants k → next_lock image (thread_in p) ≡ Some k
   pub held : (k : ℕ) → has p.guest.held k ≡ (has b.held k && not (ends_section k b))
+  pub released : (k : ℕ) → b.end ≡ Unlocked k → has b.held k ≡ true
 
 -- before its first block it runs, and holds nothing
 pub record IsBefore (p : Context) : Type 0 where
@@ -176,6 +206,10 @@ pub record IsWanted (p : PackageView) (k : ℕ) : Type 0 where
 -- so is the lock that it wants, where it wants one
 abbrev pub WantIsLawful : PackageView → Type 0
 WantIsLawful p = (k : ℕ) → want_of p.image p.context ≡ Some k → IsWanted p k
+
+-- where nothing is pending or granted, the last block is the last sealed one of each lock that it had
+abbrev pub LastIsSealed : PackageView → Type 0
+LastIsSealed p = p.pending ≡ None → p.granted ≡ None → (b : Block) → last_of p.log ≡ Some b → (k : ℕ) (l : LockView) → lock_in p.context.locks k ≡ Some l → has b.held k ≡ true → last_of (blocks_of l) ≡ Some b
 
 -- the lock that it wants, where it wants one, is granted to it
 abbrev pub WantIsGranted : Shown → PackageView → Type 0

@@ -1,40 +1,57 @@
 //! A thread with the locks that are in its package, and the blocks that it runs.
 
-ghost use Rattle.std.specs.Prelude.{◌≡◌, ℕ, ◌+◌, ◌<◌, ◌≤◌, ◌^◌, is_some, length, None, IfOk, IfSome};
+ghost use Rattle.std.specs.Prelude.{◌≡◌, ℕ, ◌+◌, ◌<◌, ◌≤◌, ◌^◌, ◌==◌, false, is_some, length, None, IfOk, IfSome, if◌then◌else◌};
+ghost use Rattle.std.specs.Option.{option_map};
 ghost use Rattle.tc_isa.specs.Sets.{has};
 ghost use Rattle.tc_journal.specs.Batch.{is_section};
 ghost use Rattle.tc_journal.specs.History.{IsBlock, IsEnd};
 ghost use Rattle.tc_turn.specs.Reads.{Covers};
-ghost use Rattle.tc_turn.specs.Turn.{next_lock, next_act, ActFits, thread_at_start};
+ghost use Rattle.tc_exec.specs.InPlace.{done_of};
+ghost use Rattle.tc_turn.specs.InPlace.{DoneFits};
+ghost use Rattle.tc_turn.specs.Turn.{next_lock, thread_at_start};
 ghost use Rattle.tc_mutex_spec.specs.Blocks.{locks_of_block};
-ghost use Rattle.tc_context.specs.Locks.{lock_in, AreOf, EachLock, TurnFits, TurnReady};
-ghost use Rattle.tc_context.specs.Ran.{slept_in, slept_by as slept_of_act};
+ghost use Rattle.tc_context.specs.Locks.{lock_in};
+ghost use Rattle.tc_context.specs.Ran.{slept_in, slept_by as slept_of_turn};
 
 use crate::locks::LockSet;
 use std::alloc::{AllocError, Global};
 use tc_elf::image::Image;
-use tc_exec::outcome::{Act, Call, Want};
+use tc_exec::code::Code;
+use tc_exec::outcome::{Call, Done};
 use tc_isa::held::Held;
+use tc_isa::limits::MAX_TURNS;
 use tc_journal::block::{Block, End, Kind};
 use tc_journal::rule::end_of;
 use tc_turn::answer::{Surroundings, answer};
-use tc_turn::outcome::outcome_of;
+use tc_turn::outcome::outcome_by;
 use tc_turn::thread::GuestThread;
 
-/// What the turns of a block came to: how it ended, how many they are, and the number of the SLEEP
-/// with which the last one ended it, else 0.
+/// What the turns of a block came to: how it ended, how many they are, the number of the SLEEP with
+/// which the last one ended it, else 0, and the lock that the next turn takes.
 #[derive(Clone, Copy)]
 pub(crate) struct Turns {
     end: End,
     count: u32,
     slept: u32,
+    next: Option<u32>,
 }
 
-/// A block that ran, and the number of the SLEEP with which it ended, else 0.
+/// Some turns: what the last of them did beside the registers, how many they are, and whether they
+/// went on by registers alone.
+#[derive(Clone, Copy)]
+struct Steps {
+    done: Option<Done>,
+    count: u32,
+    plain: bool,
+}
+
+/// A block that ran, the number of the SLEEP with which it ended, else 0, and the lock that the
+/// thread's next turn takes.
 #[derive(Clone, Copy)]
 pub(crate) struct Ran {
     pub(crate) block: Block,
     pub(crate) slept: u32,
+    pub(crate) next: Option<u32>,
 }
 
 /// A thread, its number, and the locks that are in its package: those that it holds, the granted
@@ -48,7 +65,7 @@ pub struct Context {
 
 impl Context {
     ghost use Rattle.tc_context.specs.Whole.{thread_in, mutex_at, CanGo, RunsAs, Journals};
-    ghost use Rattle.tc_context.specs.Middle.{Moves, NotesWord, IsTurn, AreNoted, AreOpen, HasRoom, AreReady};
+    ghost use Rattle.tc_context.specs.Middle.{act_in, IsTurn, AreTurns, AreNoted, AreOpen, HasRoom, AreReady};
 
     /// The thread of this number at its start, with no lock.
     pub(crate) fn start(
@@ -70,56 +87,82 @@ impl Context {
         })
     }
 
-    /// The thread and each lock after a turn in which the thread did this.
-    fn go(&mut self, image: &Image, act: &Option<Act>)
-        requires of { AreOf image.now self.old.locks }
-        requires fuel { IfSome act.now (λ a. 0 < self.old.guest.fuel) }
-        requires fits { IfSome act.now ActFits }
-        requires ready { EachLock (TurnReady (has self.old.guest.held) act.now) self.old.locks }
-        requires places { TurnFits act.now }
-        ensures { Moves image.now self.old self.new act.now }
-    {
-        let _ = image;
-        self.locks.take_turn(self.guest.held(), act);
-        self.guest.take_turn(act);
-    }
-
-    /// Notes this value, where the thread's next turn takes it from elsewhere for a lock of its
-    /// block. A turn that finds no fuel takes none.
-    fn note(&mut self, block: Held, want: Want, next: Option<u32>, answer: u32)
-        requires opened { AreOpen (has block) self.old }
-        requires room { HasRoom 1 (has block) self.old }
-        ensures { NotesWord (has block) want next answer self.old self.new }
+    /// Those of the block's locks that note the word of the next turn: none where the thread has
+    /// no fuel.
+    fn noting(&self, block: Held) -> Held
+        ensures { (k : ℕ) → has result k ≡ (if self.now.guest.fuel == 0 then false else has block k) }
     {
         if self.guest.fuel() == 0 {
-            return;
+            return Held::none();
         }
-        self.locks.note(block, want, next, answer);
+        block
     }
 
-    /// One turn of a block with these locks, whose entries are open, and what it did. `next` is
-    /// the lock that the turn takes.
-    fn turn(&mut self, image: &Image, block: Held, next: Option<u32>) -> Option<Act>
+    /// One turn of a block with these locks, whose entries are open, and what it did beside the
+    /// registers. `next` is the lock that the turn takes.
+    fn turn(&mut self, image: &Image, code: &Code, block: Held, next: Option<u32>) -> Option<Done>
+        requires code { code.now ≡ image.now }
         requires go { CanGo image.now self.old }
         requires next { next ≡ next_lock image.now (thread_in self.old) }
         requires covers { Covers image.now (has block) (thread_in self.old) }
         requires opened { AreOpen (has block) self.old }
         requires room { HasRoom 1 (has block) self.old }
-        ensures act { result ≡ next_act image.now (thread_in self.old) (mutex_at self.old) }
-        ensures fits { IfSome result ActFits }
-        ensures moves { IsTurn image.now (has block) self.old self.new result }
+        ensures done { result ≡ option_map done_of (act_in image.now self.old) }
+        ensures fits { IfSome result DoneFits }
+        ensures turn { IsTurn image.now (has block) self.old self.new }
     {
-        let want = self.guest.wants(image);
+        let want = self.guest.load_wanted(image, code);
         let answer = answer(self, image, want, next);
-        let act = self.guest.act(image, answer);
-        self.note(block, want, next, answer);
-        self.go(image, &act);
-        act
+        let noting = self.noting(block);
+        self.locks.note(noting, want, next, answer);
+        let held = self.guest.held();
+        let done = self.guest.turn(image, code, answer);
+        self.locks.take_turn(held, &done);
+        done
+    }
+
+    /// One turn, or as many as go on by registers alone, but at most so many. Whether to look for
+    /// such turns changes nothing but what it costs.
+    fn advance(
+        &mut self,
+        image: &Image,
+        code: &Code,
+        block: Held,
+        next: Option<u32>,
+        most: u32,
+        looks: bool,
+    ) -> Steps
+        requires code { code.now ≡ image.now }
+        requires go { CanGo image.now self.old }
+        requires next { next ≡ next_lock image.now (thread_in self.old) }
+        requires covers { Covers image.now (has block) (thread_in self.old) }
+        requires opened { AreOpen (has block) self.old }
+        requires room { HasRoom 1 (has block) self.old }
+        requires most { 0 < most }
+        ensures turns { AreTurns image.now (has block) self.old self.new result.count result.done }
+        ensures fits { IfSome result.done DoneFits }
+        ensures most { result.count ≤ most }
+    {
+        let ran = self.guest.run_plain(code, most_plain(most, looks));
+        if ran > 0 {
+            return Steps {
+                done: Some(Done::Went),
+                count: ran,
+                plain: true,
+            };
+        }
+        let done = self.turn(image, code, block, next);
+        Steps {
+            done,
+            count: 1,
+            plain: false,
+        }
     }
 
     /// Runs the turns of one block with these locks, whose entries are open. `takes` is the lock
     /// that the first turn takes.
-    fn turns(&mut self, image: &Image, block: Held, takes: Option<u32>) -> Turns
+    fn turns(&mut self, image: &Image, code: &Code, block: Held, takes: Option<u32>) -> Turns
+        requires code { code.now ≡ image.now }
         requires go { CanGo image.now self.old }
         requires takes { takes ≡ next_lock image.now (thread_in self.old) }
         requires covers { Covers image.now (has block) (thread_in self.old) }
@@ -130,24 +173,40 @@ impl Context {
         ensures end { IsEnd result.end }
         ensures slept { result.slept ≡ slept_in image.now self.old result.count }
         ensures journals { AreNoted image.now (has block) result.count self.old self.new }
+        ensures next { result.next ≡ next_lock image.now (thread_in self.new) }
     {
         let mut next = takes;
         let mut count = 0;
+        // A LOCK is no plain turn, nor is the one behind plain turns.
+        let mut looks = takes.is_none();
         'block: loop {
-            let act = self.turn(image, block, next);
-            count += 1;
+            let steps = self.advance(image, code, block, next, MAX_TURNS - count, looks);
+            count += steps.count;
+            looks = !steps.plain;
             next = self.guest.next_lock(image);
-            if let Some(end) = end_of(outcome_of(&act), count, next) {
-                let slept = slept_by(&act);
-                return Turns { end, count, slept };
+            if let Some(end) = end_of(outcome_by(&steps.done), count, next) {
+                return Turns {
+                    end,
+                    count,
+                    slept: slept_by(&steps.done),
+                    next,
+                };
             }
         }
     }
 
-    /// Runs one block, with an entry in the journal of each of its locks. The block has no stamp
-    /// and no worker yet.
-    pub(crate) fn run_block(&mut self, image: &Image, kind: Kind) -> Ran
+    /// Runs one block, with an entry in the journal of each of its locks. `takes` is the lock that
+    /// its first turn takes. The block has no stamp and no worker yet.
+    pub(crate) fn run_block(
+        &mut self,
+        image: &Image,
+        code: &Code,
+        kind: Kind,
+        takes: Option<u32>,
+    ) -> Ran
+        requires code { code.now ≡ image.now }
         requires go { CanGo image.now self.old }
+        requires takes { takes ≡ next_lock image.now (thread_in self.old) }
         requires ready { AreReady image.now self.old }
         requires kind { is_section kind ≡ is_some (next_lock image.now (thread_in self.old)) }
         ensures runs { RunsAs image.now self.old self.new result.block.turns result.block.end }
@@ -155,16 +214,18 @@ impl Context {
         ensures slept { result.slept ≡ slept_in image.now self.old result.block.turns }
         ensures thread { result.block.thread ≡ self.old.thread }
         ensures kind { result.block.kind ≡ kind }
+        ensures pc { result.block.pc ≡ (thread_in self.old).regs.pc }
         ensures bounds { IsBlock result.block }
+        ensures next { result.next ≡ next_lock image.now (thread_in self.new) }
     {
-        let takes = self.guest.next_lock(image);
         let held = block_held(self.guest.held(), takes);
         let thread = self.thread;
         prove!(held.bits() <= u32::MAX);
         prove!(thread <= u32::MAX);
         self.locks
             .open_entries(held, self.guest.regs(), self.guest.fuel());
-        let turns = self.turns(image, held, takes);
+        let pc = self.guest.regs().pc();
+        let turns = self.turns(image, code, held, takes);
         let block = Block {
             stamp: 0,
             thread,
@@ -172,6 +233,7 @@ impl Context {
             held,
             kind,
             worker: 0,
+            pc,
             end: turns.end,
         };
         self.locks
@@ -179,6 +241,7 @@ impl Context {
         Ran {
             block,
             slept: turns.slept,
+            next: turns.next,
         }
     }
 }
@@ -209,17 +272,22 @@ impl Surroundings for Context {
     }
 }
 
-/// The number of a SLEEP, 0 of any other turn.
-fn slept_by(act: &Option<Act>) -> u32
-    ensures { result ≡ slept_of_act act.now }
+/// At most how many plain turns to do: none where it isn't looked for them.
+fn most_plain(most: u32, looks: bool) -> u32
+    ensures { result ≤ most }
 {
-    match act {
-        Some(
-            Act::Called {
-                call: Call::Sleep(blocks),
-                ..
-            },
-        ) => *blocks,
+    if looks {
+        return most;
+    }
+    0
+}
+
+/// The number of a SLEEP, 0 of any other turn.
+fn slept_by(done: &Option<Done>) -> u32
+    ensures { result ≡ slept_of_turn done.now }
+{
+    match done {
+        Some(Done::Called(Call::Sleep(blocks))) => *blocks,
         _ => 0,
     }
 }

@@ -9,7 +9,7 @@ ghost use Rattle.tc_journal.specs.declared.block.Block.{Block};
 ghost use Rattle.tc_mutex_spec.specs.Machine.{State};
 ghost use Rattle.tc_mutex_spec.specs.Blocks.{Tells};
 ghost use Rattle.tc_segment.specs.View.{LockView};
-ghost use Rattle.tc_context.specs.View.{PackageView, Allows, Rests, with_seal};
+ghost use Rattle.tc_context.specs.View.{PackageView, Allows, Rests, held_in, locks_in, with_seal};
 ghost use Rattle.tc_context.specs.Ran.{DidRun, block_sealed};
 ghost use Rattle.tc_context.specs.History.{Follows, Grows};
 ghost use Rattle.tc_context.specs.Lawful.{Lawful, IsLimited, StandsAt, IsAmong, AreFresh, owner_after, with_package, with_states, sealed_after};
@@ -63,7 +63,7 @@ pub fn append()
         → (worker : ℕ) → worker < 2 ^ 32 → Allows v.context ran.block worker
         → Lawful image fuel limit (h ++ block_sealed ran (length h) worker ∷ [])
         (with_package (sealed_after h worker v) packages)
-        (with_states (sealed_after h worker v).context.locks states) }
+        (with_states (locks_in (sealed_after h worker v)) states) }
 {}
 
 /// The logs determine the history, and it is short: a count of its blocks in 64 bits never wraps.
@@ -89,5 +89,5 @@ pub fn own()
         → (packages : List PackageView) (states : List LockView)
         → Lawful image fuel limit h packages states
         → (t : ℕ) (p : PackageView) → StandsAt packages t p
-        → (k : ℕ) → has p.context.guest.held k ≡ true → owner_after image fuel h k ≡ Some t }
+        → (k : ℕ) → has (held_in p) k ≡ true → owner_after image fuel h k ≡ Some t }
 {}

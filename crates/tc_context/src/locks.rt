@@ -13,7 +13,7 @@ ghost use Rattle.tc_context.specs.Locks.{broken_in, opened_in, noted_in, closed_
 use std::alloc::{AllocError, Global};
 use std::marker::Model;
 use tc_elf::image::{Image, Region};
-use tc_exec::outcome::{Act, Call, Put, Want};
+use tc_exec::outcome::{Call, Done, Put, Want};
 use tc_isa::held::Held;
 use tc_isa::limits::MAX_TURNS;
 use tc_isa::regs::Regs;
@@ -132,12 +132,12 @@ impl LockSet {
         }
     }
 
-    fn open_one(&mut self, lock: u32, held: Held, start: Regs, fuel: u32)
+    fn open_one(&mut self, lock: u32, held: Held, start: &Regs, fuel: u32)
         requires lock { lock < 32 }
         requires opened { HeldAt lock (has held) (λ l. l.journal.opened ≡ None) self.old }
         requires closed { HeldAt lock (has held) (λ l. l.journal.closed ≡ None) self.old }
         requires room { HeldAt lock (has held) (λ l. 0 < l.journal.entry_room) self.old }
-        ensures { Changed (at_place lock (opened_in (has held) start fuel lock)) self.old self.new }
+        ensures { Changed (at_place lock (opened_in (has held) start.now fuel lock)) self.old self.new }
     {
         if let Some(state) = &mut self.places[lock as usize] {
             if held.has(lock) {
@@ -147,11 +147,11 @@ impl LockSet {
     }
 
     /// Opens an entry in each of these locks.
-    pub fn open_entries(&mut self, held: Held, start: Regs, fuel: u32)
+    pub fn open_entries(&mut self, held: Held, start: &Regs, fuel: u32)
         requires opened { EachHeld (has held) (λ l. l.journal.opened ≡ None) self.old }
         requires closed { EachHeld (has held) (λ l. l.journal.closed ≡ None) self.old }
         requires room { EachHeld (has held) (λ l. 0 < l.journal.entry_room) self.old }
-        ensures { Changed (opened_in (has held) start fuel) self.old self.new }
+        ensures { Changed (opened_in (has held) start.now fuel) self.old self.new }
     {
         let mut left = held;
         while let Some(lock) = left.least() {
@@ -189,27 +189,27 @@ impl LockSet {
         }
     }
 
-    fn close_one(&mut self, image: &Image, lock: u32, held: Held, block: &Block, finish: Regs)
+    fn close_one(&mut self, image: &Image, lock: u32, held: Held, block: &Block, finish: &Regs)
         requires lock { lock < 32 }
         requires image { HeldAt lock (has held) (λ l. l.journal.image ≡ image.now) self.old }
         requires opened { HeldAt lock (has held) (λ l. is_some l.journal.opened ≡ true) self.old }
-        requires closes { HeldAt lock (has held) (MayClose block.now finish) self.old }
-        ensures { Changed (one_place (closed_in (has held) block.now finish) lock)
+        requires closes { HeldAt lock (has held) (MayClose block.now finish.now) self.old }
+        ensures { Changed (one_place (closed_in (has held) block.now finish.now) lock)
             self.old self.new }
     {
         if let Some(state) = &mut self.places[lock as usize] {
             if held.has(lock) {
-                state.close_entry(image, *block, finish);
+                state.close_entry(image, block, finish);
             }
         }
     }
 
     /// Closes the entry of each of these locks.
-    pub fn close_entries(&mut self, image: &Image, held: Held, block: &Block, finish: Regs)
+    pub fn close_entries(&mut self, image: &Image, held: Held, block: &Block, finish: &Regs)
         requires image { EachHeld (has held) (λ l. l.journal.image ≡ image.now) self.old }
         requires opened { EachHeld (has held) (λ l. is_some l.journal.opened ≡ true) self.old }
-        requires closes { EachHeld (has held) (MayClose block.now finish) self.old }
-        ensures { Changed (closed_in (has held) block.now finish) self.old self.new }
+        requires closes { EachHeld (has held) (MayClose block.now finish.now) self.old }
+        ensures { Changed (closed_in (has held) block.now finish.now) self.old self.new }
     {
         let mut left = held;
         while let Some(lock) = left.least() {
@@ -246,58 +246,58 @@ impl LockSet {
         }
     }
 
-    fn reserve_one(&mut self, lock: u32) -> Result<(), AllocError>
+    fn reserve_one(&mut self, lock: u32, held: Held) -> Result<(), AllocError>
         requires { lock < 32 }
-        ensures ok { OnOk result (Changed (one_place (roomy_in 1 4096) lock) self.old self.new) }
+        ensures ok { OnOk result
+            (Changed (one_place (roomy_in (has held) 1 4096) lock) self.old self.new) }
         ensures err { OnErr result (Changed (λ k l. l) self.old self.new) }
     {
         match &mut self.places[lock as usize] {
-            Some(state) => state.reserve(MAX_TURNS as usize),
-            None => Ok(()),
+            Some(state) if held.has(lock) => state.reserve(MAX_TURNS as usize),
+            _ => Ok(()),
         }
     }
 
-    /// Makes room for one entry and its words in each.
-    pub fn reserve(&mut self) -> Result<(), AllocError>
-        ensures ok { OnOk result (Changed (roomy_in 1 4096) self.old self.new) }
+    /// Makes room for one entry and its words in each of these locks.
+    pub fn reserve(&mut self, held: Held) -> Result<(), AllocError>
+        ensures ok { OnOk result (Changed (roomy_in (has held) 1 4096) self.old self.new) }
         ensures err { OnErr result (SameLocks self.old self.new) }
     {
-        self.bound();
-        for lock in 0..PLACES {
-            self.reserve_one(lock)?;
+        let mut left = held;
+        while let Some(lock) = left.least() {
+            self.reserve_one(lock, held)?;
+            left = left.less(lock);
         }
         Ok(())
     }
 
-    /// Each lock after a turn of a thread that held these locks before it.
-    pub fn take_turn(&mut self, held: Held, act: &Option<Act>)
-        requires fits { TurnFits act.now }
-        requires ready { EachLock (TurnReady (has held) act.now) self.old }
-        ensures { Changed (turned (has held) act.now) self.old self.new }
+    /// Each lock after a turn that did this, of a thread that held these locks before it.
+    pub fn take_turn(&mut self, held: Held, done: &Option<Done>)
+        requires fits { TurnFits done.now }
+        requires ready { EachLock (TurnReady (has held) done.now) self.old }
+        ensures { Changed (turned (has held) done.now) self.old self.new }
     {
-        let Some(act) = act else {
+        let Some(done) = done else {
             self.give_up(held);
             return;
         };
-        match act {
-            Act::Next { put, .. } => self.put(put),
-            Act::Called { call, .. } => match call {
+        match done {
+            Done::Went => {}
+            Done::Stored(put) => self.put(put),
+            Done::Called(call) => match call {
                 Call::Lock(lock) => self.begin(*lock),
                 Call::Unlock(_) | Call::Sleep(_) => {}
                 Call::Exit => self.give_up(held),
             },
-            Act::Faulted(_) => self.give_up(held),
+            Done::Faulted(_) => self.give_up(held),
         }
     }
 
-    fn put(&mut self, put: &Option<Put>)
+    fn put(&mut self, put: &Put)
         requires fits { PutFits put.now }
         requires ready { EachLock (PutReady put.now) self.old }
         ensures { Changed (put_in put.now) self.old self.new }
     {
-        let Some(put) = put else {
-            return;
-        };
         match put.region {
             Region::Guard(lock) => self.store(lock, put),
             Region::Text | Region::Private | Region::Stack | Region::Nothing => {}

@@ -1,25 +1,28 @@
 //! Packages.
 
 ghost use Rattle.std.specs.Prelude.{◌≡◌, ◌<◌, ◌≤◌, ◌+◌, min, true, false, is_some, length, Some, None, IfOk, OnOk, OnErr};
+ghost use Rattle.std.specs.Arc.{arc_value};
 ghost use Rattle.tc_isa.specs.Sets.{has};
 ghost use Rattle.tc_isa.specs.declared.limits.TheConstants.{MAX_FUEL};
 ghost use Rattle.tc_journal.specs.Batch.{is_section, last_of};
 ghost use Rattle.tc_journal.specs.declared.block.End.TheVariants.{Slept};
-ghost use Rattle.tc_turn.specs.Memory.{own_of};
 ghost use Rattle.tc_turn.specs.declared.status.Status.TheVariants.{Running};
 ghost use Rattle.tc_segment.specs.View.{IsAtRest};
 ghost use Rattle.tc_context.specs.declared.package.TheConstants.{MAX_NUMBER};
 ghost use Rattle.tc_context.specs.Locks.{lock_in, IsPlaced};
 ghost use Rattle.tc_context.specs.Ran.{DidRun};
 ghost use Rattle.tc_context.specs.View.{granted_lock, want_of, kind_of, fits_of, number_in, with_grant, with_seal, with_turns, without_lock};
-ghost use Rattle.tc_context.specs.View.{IsFresh, IsSound, WantIsLawful, IsReserved, IsRoomier, WantIsGranted, HasBlock, AllowsPending, IsWaiting, MayPassTo, IsNumber};
+ghost use Rattle.tc_context.specs.View.{thread_number, regs_in, fuel_in, status_in, held_in, own_in, locks_in};
+ghost use Rattle.tc_context.specs.View.{IsFresh, IsSound, WantIsLawful, IsReserved, IsRoomier, WantIsGranted, HasBlock, AllowsPending, IsWaiting, MayPassTo, IsNumber, IsNumbered, LastIsSealed};
 
 use crate::context::Context;
 use crate::locks::LockSet;
 use std::alloc::{AllocError, Global};
 use std::marker::Model;
 use std::snapshot::Snapshot;
+use std::sync::Arc;
 use tc_elf::image::Image;
+use tc_exec::code::Code;
 use tc_isa::held::Held;
 use tc_isa::regs::Regs;
 use tc_journal::block::{Block, End, Kind};
@@ -39,11 +42,15 @@ pub struct Grant {
     pub kind: Kind,
 }
 
-/// A thread's whole context.
+/// What a package has, in one piece of memory.
 #[derive(Drop)]
-pub struct Package {
+struct Contents {
     of: Snapshot<Image>,
+    code: Arc<Code, Global>,
     context: Context,
+    // The lock that the thread's next turn takes, and the locks that are in the package.
+    next: Option<u32>,
+    present: Held,
     granted: Option<Grant>,
     pending: Option<Block>,
     log: Vec<Block>,
@@ -51,6 +58,12 @@ pub struct Package {
     numbers: [u64; 32],
     turns: u64,
     slept: u32,
+}
+
+/// A thread's whole context.
+#[derive(Drop)]
+pub struct Package {
+    contents: Box<Contents>,
 }
 
 impl Model for Package {
@@ -61,9 +74,9 @@ impl Model for Package {
 
     ghost use Rattle.tc_context.specs.Kept.{view_of, Kept};
 
-    ghost view = { view_of };
+    ghost view = { λ a. view_of a.contents.value };
 
-    ghost invariant = { Kept };
+    ghost invariant = { λ a. Kept a.contents.value };
 }
 
 impl Package {
@@ -71,43 +84,44 @@ impl Package {
     pub fn keeps(&self)
         ensures sound { IsSound self.now }
         ensures want { WantIsLawful self.now }
+        ensures last { LastIsSealed self.now }
     {
-        let _ = &self.log_room;
+        let _ = &self.contents.log_room;
     }
 
     /// The number of the thread.
     pub fn thread(&self) -> u32
-        ensures { result ≡ self.now.context.thread }
+        ensures { result ≡ thread_number self.now }
     {
-        self.context.thread
+        self.contents.context.thread
     }
 
     /// The registers.
     pub fn regs(&self) -> Regs
-        ensures { result ≡ self.now.context.guest.regs }
+        ensures { result ≡ regs_in self.now }
     {
-        self.context.guest.regs()
+        *self.contents.context.guest.regs()
     }
 
     /// How many instructions the thread may still run.
     pub fn fuel(&self) -> u32
-        ensures { result ≡ self.now.context.guest.fuel }
+        ensures { result ≡ fuel_in self.now }
     {
-        self.context.guest.fuel()
+        self.contents.context.guest.fuel()
     }
 
     /// Whether and how the thread has ended.
     pub fn status(&self) -> Status
-        ensures { result ≡ self.now.context.guest.status }
+        ensures { result ≡ status_in self.now }
     {
-        self.context.guest.status()
+        self.contents.context.guest.status()
     }
 
     /// The locks that the thread holds.
     pub fn held(&self) -> Held
-        ensures { result ≡ self.now.context.guest.held }
+        ensures { result ≡ held_in self.now }
     {
-        self.context.guest.held()
+        self.contents.context.guest.held()
     }
 
     /// The blocks that the thread ran, in their order. The last one has no stamp and no worker yet
@@ -115,7 +129,7 @@ impl Package {
     pub fn log(&self) -> &[Block]
         ensures { result.now ≡ self.now.log }
     {
-        &self.log
+        &self.contents.log
     }
 
     /// The last block of the log: the pending one, where one is pending.
@@ -123,7 +137,8 @@ impl Package {
         requires { 0 < length self.now.log }
         ensures { last_of self.now.log ≡ Some result }
     {
-        self.log[self.log.len() - 1]
+        let log = &self.contents.log;
+        log[log.len() - 1]
     }
 
     /// For how many blocks the thread sleeps: the x10 of the SLEEP with which its last block ended.
@@ -131,22 +146,22 @@ impl Package {
         requires { HasBlock (λ b. b.end ≡ Slept) (last_of self.now.log) }
         ensures { result ≡ self.now.slept }
     {
-        self.slept
+        self.contents.slept
     }
 
     /// Whether a block ran that is not sealed yet.
     pub fn pending(&self) -> bool
         ensures { result ≡ is_some self.now.pending }
     {
-        self.pending.is_some()
+        self.contents.pending.is_some()
     }
 
     /// The byte of the thread's own memory at an address, None exactly where the address is not in
     /// it.
     pub fn byte(&self, addr: u32) -> Option<u8>
-        ensures { result ≡ own_of self.now.context.guest.own addr }
+        ensures { result ≡ own_in self.now addr }
     {
-        self.context.guest.byte(addr)
+        self.contents.context.guest.byte(addr)
     }
 
     /// The lock of the thread's next turn, exactly where the thread runs, has fuel and its next
@@ -155,29 +170,52 @@ impl Package {
         requires { self.now.image ≡ image.now }
         ensures { result ≡ want_of image.now self.now.context }
     {
-        if self.context.guest.status() != Status::Running {
+        let _ = image;
+        if self.contents.context.guest.status() != Status::Running {
             return None;
         }
-        self.context.guest.next_lock(image)
+        self.contents.next
     }
 
     /// The lock that was granted and whose LOCK turn has not come.
     pub fn granted(&self) -> Option<u32>
         ensures { result ≡ granted_lock self.now.granted }
     {
-        Some(self.granted?.lock)
+        Some(self.contents.granted?.lock)
     }
 
-    /// The thread of this number at its start, with no lock.
+    /// The thread of this number at its start, with no lock. Its instructions are decoded one by
+    /// one as they run.
     pub fn start(alloc: Global, image: &Image, t: u32, fuel: u32) -> Result<Package, AllocError>
         requires thread { t < length image.now.entries }
         requires fuel { (1 ≤ fuel) × (fuel ≤ MAX_FUEL) }
         ensures { IfOk result (IsFresh image.now t fuel) }
     {
+        let code = Arc::new(alloc, Code::undecoded(alloc, image))?;
+        Package::start_with(alloc, image, &code, t, fuel)
+    }
+
+    /// The same, which runs by decoded code that it shares with others.
+    pub fn start_with(
+        alloc: Global,
+        image: &Image,
+        code: &Arc<Code, Global>,
+        t: u32,
+        fuel: u32,
+    ) -> Result<Package, AllocError>
+        requires code { arc_value code.now ≡ image.now }
+        requires thread { t < length image.now.entries }
+        requires fuel { (1 ≤ fuel) × (fuel ≤ MAX_FUEL) }
+        ensures { IfOk result (IsFresh image.now t fuel) }
+    {
         prove!(image.guards() <= 32);
-        Ok(Package {
+        let context = Context::start(alloc, image, t, fuel)?;
+        let contents = Contents {
             of: Snapshot::of(image),
-            context: Context::start(alloc, image, t, fuel)?,
+            code: Arc::clone(code)?,
+            next: context.guest.next_lock(image),
+            context,
+            present: Held::none(),
             granted: None,
             pending: None,
             log: Vec::new(alloc),
@@ -185,6 +223,9 @@ impl Package {
             numbers: [0; 32],
             turns: 0,
             slept: 0,
+        };
+        Ok(Package {
+            contents: Box::new(alloc, contents)?,
         })
     }
 
@@ -193,10 +234,11 @@ impl Package {
     pub fn fits(&self, worker: u32) -> bool
         ensures { result ≡ fits_of self.now worker }
     {
-        let Some(grant) = self.granted else {
+        let contents = &*self.contents;
+        let Some(grant) = contents.granted else {
             return true;
         };
-        match self.context.locks.find(grant.lock) {
+        match contents.context.locks.find(grant.lock) {
             Some(state) => state.allows(grant.kind, worker),
             None => true,
         }
@@ -211,11 +253,12 @@ impl Package {
         ensures room { OnOk result (self.new.log_room ≡ 1) }
         ensures refused { OnErr result (self.new.log_room ≡ self.old.log_room) }
     {
-        self.log.reserve(1)?;
-        let made = self.context.locks.reserve();
-        self.context.locks.bound();
+        let contents = &mut *self.contents;
+        contents.log.reserve(1)?;
+        let made = contents.context.locks.reserve(contents.present);
+        contents.context.locks.bound();
         made?;
-        self.log_room = 1;
+        contents.log_room = 1;
         Ok(())
     }
 
@@ -226,23 +269,27 @@ impl Package {
         requires image { self.old.image ≡ image.now }
         requires pending { self.old.pending ≡ None }
         requires reserved { IsReserved self.old }
-        requires running { self.old.context.guest.status ≡ Running }
+        requires running { status_in self.old ≡ Running }
         requires want { WantIsGranted image.now self.old }
         ensures ran { DidRun image.now self.old self.new }
         ensures end { HasBlock (λ b. b.end ≡ result) self.new.pending }
     {
         let kind = self.next_kind();
-        let ran = self.context.run_block(image, kind);
-        self.context.locks.bound();
+        let contents = &mut *self.contents;
+        let ran = contents
+            .context
+            .run_block(image, &contents.code, kind, contents.next);
+        contents.context.locks.bound();
         let block = &ran.block;
-        match self.log.push(*block) {
+        match contents.log.push(*block) {
             Ok(()) => {}
             Err(_) => unreachable!(),
         }
-        self.log_room -= 1;
-        self.granted = None;
-        self.pending = Some(*block);
-        self.slept = ran.slept;
+        contents.log_room -= 1;
+        contents.granted = None;
+        contents.pending = Some(*block);
+        contents.slept = ran.slept;
+        contents.next = ran.next;
         block.end
     }
 
@@ -250,10 +297,10 @@ impl Package {
     fn next_kind(&self) -> Kind
         ensures { result ≡ kind_of self.now.granted self.now.log }
     {
-        match self.granted {
+        match self.contents.granted {
             Some(grant) => grant.kind,
             None => {
-                if self.log.is_empty() {
+                if self.contents.log.is_empty() {
                     Kind::Start
                 } else {
                     Kind::On
@@ -269,18 +316,19 @@ impl Package {
         requires allows { AllowsPending self.old worker }
         ensures { self.new ≡ with_seal stamp worker self.old }
     {
-        let Some(block) = self.pending else {
+        let contents = &mut *self.contents;
+        let Some(block) = contents.pending else {
             return;
         };
-        self.context.locks.seal(block.held, stamp, worker);
-        self.context.locks.bound();
-        let last = self.log.len() - 1;
-        self.log[last] = Block {
+        contents.context.locks.seal(block.held, stamp, worker);
+        contents.context.locks.bound();
+        let last = contents.log.len() - 1;
+        contents.log[last] = Block {
             stamp,
             worker,
             ..block
         };
-        self.pending = None;
+        contents.pending = None;
     }
 
     /// Puts a lock into the package as it is: the thread's next turn takes it. `number` is the
@@ -289,33 +337,37 @@ impl Package {
         requires waiting { IsWaiting self.old lock.number }
         requires rest { IsAtRest self.old.image lock.number lock }
         requires kind { is_section kind ≡ true }
-        requires passes { MayPassTo lock kind self.old.context.thread }
+        requires passes { MayPassTo lock kind (thread_number self.old) }
         requires number { IsNumber number }
         ensures is { self.new ≡ with_grant lock kind number self.old }
-        ensures locks { IsPlaced lock.number (Some lock)
-            self.old.context.locks self.new.context.locks }
+        ensures locks { IsPlaced lock.number (Some lock) (locks_in self.old) (locks_in self.new) }
+        ensures numbers { IsNumbered lock.number number self.old self.new }
     {
+        let contents = &mut *self.contents;
         let granted = Grant {
             lock: lock.number(),
             kind,
         };
-        self.numbers[granted.lock as usize] = number;
-        self.context.locks.put_in(lock);
-        self.granted = Some(granted);
+        contents.numbers[granted.lock as usize] = number;
+        contents.context.locks.put_in(lock);
+        contents.present = contents.present.plus(granted.lock);
+        contents.granted = Some(granted);
     }
 
     /// Takes out a lock that the last block released, as it is.
     pub fn take_out(&mut self, lock: u32) -> LockState
         requires pending { self.old.pending ≡ None }
         requires granted { self.old.granted ≡ None }
-        requires released { has self.old.context.guest.held lock ≡ false }
-        requires here { is_some (lock_in self.old.context.locks lock) ≡ true }
-        ensures lock { lock_in self.old.context.locks lock ≡ Some result }
+        requires released { has (held_in self.old) lock ≡ false }
+        requires here { is_some (lock_in (locks_in self.old) lock) ≡ true }
+        ensures lock { lock_in (locks_in self.old) lock ≡ Some result }
         ensures rest { IsAtRest self.old.image lock result }
         ensures is { self.new ≡ without_lock lock self.old }
-        ensures locks { IsPlaced lock None self.old.context.locks self.new.context.locks }
+        ensures locks { IsPlaced lock None (locks_in self.old) (locks_in self.new) }
     {
-        match self.context.locks.take_out(lock) {
+        let contents = &mut *self.contents;
+        contents.present = contents.present.less(lock);
+        match contents.context.locks.take_out(lock) {
             Some(state) => state,
             None => unreachable!(),
         }
@@ -325,18 +377,21 @@ impl Package {
     /// there.
     pub fn next_number(&mut self) -> u64
         ensures is { result ≡ min (self.old.turns + 1) MAX_NUMBER }
+        ensures number { IsNumber result }
         ensures rest { self.new ≡ with_turns result self.old }
     {
-        self.turns = self.turns.saturating_add(1).min(MAX_NUMBER);
-        self.turns
+        let contents = &mut *self.contents;
+        contents.turns = contents.turns.saturating_add(1).min(MAX_NUMBER);
+        contents.turns
     }
 
     /// The number of the queue turn with which the thread got a lock.
     pub fn number_of(&self, lock: u32) -> u64
-        requires { is_some (lock_in self.now.context.locks lock) ≡ true }
+        requires { is_some (lock_in (locks_in self.now) lock) ≡ true }
         ensures is { result ≡ number_in self.now lock }
         ensures number { IsNumber result }
     {
-        self.numbers[lock as usize]
+        let contents = &*self.contents;
+        contents.numbers[lock as usize]
     }
 }

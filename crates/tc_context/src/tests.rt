@@ -127,7 +127,7 @@ fn take_out<R: Abort>(rt: &R, package: &mut Package, lock: u32, number: u64) -> 
 }
 
 /// A block of thread 0 that worker 0 ran.
-fn block(stamp: u64, turns: u32, held: Held, kind: Kind, end: End) -> Block {
+fn block(stamp: u64, turns: u32, held: Held, kind: Kind, pc: u32, end: End) -> Block {
     Block {
         stamp,
         thread: 0,
@@ -135,6 +135,7 @@ fn block(stamp: u64, turns: u32, held: Held, kind: Kind, end: End) -> Block {
         held,
         kind,
         worker: 0,
+        pc,
         end,
     }
 }
@@ -199,7 +200,10 @@ fn a_package_sleeps(rt: HostRuntime) -> Result<(), Fail> {
     step(&rt, &mut package, &image, 0, End::Slept)?;
     assert!(rt; !package.log().is_empty());
     let last = package.last();
-    assert_eq!(rt; last, block(0, 3, Held::none(), Kind::Start, End::Slept));
+    assert_eq!(rt;
+        last,
+        block(0, 3, Held::none(), Kind::Start, 0x0010_0000, End::Slept)
+    );
     assert_eq!(rt; package.regs().get(Reg::of(10)), 0);
     match last.end {
         End::Slept => assert_eq!(rt; package.slept(), 9),
@@ -234,11 +238,18 @@ fn a_package_runs_to_its_end(rt: HostRuntime) -> Result<(), Fail> {
 fn check_end<R: Abort>(rt: &R, package: &Package) {
     let none = Held::none();
     let log = [
-        block(0, 2, none, Kind::Start, End::Wants(0)),
-        block(1, 3, none.plus(0), Kind::Taken, End::Wants(1)),
-        block(2, 4, none.plus(0).plus(1), Kind::Taken, End::Unlocked(0)),
-        block(3, 3, none.plus(1), Kind::On, End::Unlocked(1)),
-        block(4, 2, none, Kind::On, End::Exit),
+        block(0, 2, none, Kind::Start, 0x0010_0000, End::Wants(0)),
+        block(1, 3, none.plus(0), Kind::Taken, 0x0010_0008, End::Wants(1)),
+        block(
+            2,
+            4,
+            none.plus(0).plus(1),
+            Kind::Taken,
+            0x0010_0014,
+            End::Unlocked(0),
+        ),
+        block(3, 3, none.plus(1), Kind::On, 0x0010_0024, End::Unlocked(1)),
+        block(4, 2, none, Kind::On, 0x0010_0030, End::Exit),
     ];
     assert_eq!(rt; package.log(), log.as_slice());
     assert!(rt; package.status() == Status::Exited);
@@ -254,9 +265,20 @@ fn check_end<R: Abort>(rt: &R, package: &Package) {
 fn check_zero<R: Abort>(rt: &R, alloc: Global, lock: &LockState) -> Result<(), AllocError> {
     let first = Held::none().plus(0);
     let entries = [
-        (block(1, 3, first, Kind::Taken, End::Wants(1)), 98, [0]),
         (
-            block(2, 4, first.plus(1), Kind::Taken, End::Unlocked(0)),
+            block(1, 3, first, Kind::Taken, 0x0010_0008, End::Wants(1)),
+            98,
+            [0],
+        ),
+        (
+            block(
+                2,
+                4,
+                first.plus(1),
+                Kind::Taken,
+                0x0010_0014,
+                End::Unlocked(0),
+            ),
             95,
             [0],
         ),
@@ -286,8 +308,18 @@ fn check_one<R: Abort>(rt: &R, alloc: Global, lock: &LockState) -> Result<(), Al
     let both = Held::none().plus(0).plus(1);
     let told = journal(alloc, lock)?;
     assert_eq!(rt; told.len(), 2);
-    let last = block(3, 3, Held::none().plus(1), Kind::On, End::Unlocked(1));
-    assert_eq!(rt; told[0].0, block(2, 4, both, Kind::Taken, End::Unlocked(0)));
+    let last = block(
+        3,
+        3,
+        Held::none().plus(1),
+        Kind::On,
+        0x0010_0024,
+        End::Unlocked(1),
+    );
+    assert_eq!(rt;
+        told[0].0,
+        block(2, 4, both, Kind::Taken, 0x0010_0014, End::Unlocked(0))
+    );
     assert_eq!(rt; told[0].2.as_slice(), [0].as_slice());
     assert_eq!(rt; told[1].0, last);
     assert_eq!(rt; told[1].1, 91);

@@ -1,8 +1,9 @@
 -- What a lock state keeps through its calls.
-use Rattle.std.proofs.Common.{◌≡◌, ℕ, zero, suc, ◌-◌, Bool, true, false, List, [], ◌∷◌, ◌++◌, map, length, take, drop, refl, sym, ap, subst, ◌∙◌, ◌<◌, ◌≤◌, arith, length-drop, length-append}
+use Rattle.std.proofs.Common.{◌≡◌, ℕ, zero, suc, ◌+◌, ◌-◌, Bool, true, false, List, [], ◌∷◌, ◌++◌, map, set, length, take, drop, refl, sym, ap, subst, ◌∙◌, ◌<◌, ◌≤◌, arith, length-drop, length-append, inl, inr}
 use Rattle.std.specs.Prelude.{Option, Some, None, option_map, is_some, slice_get, if◌then◌else◌}
-use Rattle.std.proofs.lemmas.Option.{slice_get-map}
-use Rattle.std.proofs.lemmas.List.{map-append, take_all, take-append-le, drop-append-le}
+use Rattle.std.proofs.Math.Seq.{get_or-append_seam}
+use Rattle.std.proofs.lemmas.Option.{slice_get-get_or, slice_get_cases}
+use Rattle.std.proofs.lemmas.List.{take_all, drop_all, take-append-le, drop-append-le}
 use Rattle.std.proofs.lemmas.List.FromFn.{length-map-range_with_len}
 use Rattle.tc_isa.specs.declared.limits.TheConstants.{MAX_BATCH}
 use Rattle.tc_elf.specs.Shown.{Shown, guard_at}
@@ -14,71 +15,94 @@ use Rattle.tc_turn.specs.Turn.{Mutex, mutex_at_start}
 use Rattle.tc_turn.specs.Replay.{Entry, Replays, replay_entry, replayed, AreReplayed}
 use Rattle.tc_segment.specs.declared.record.Record.{Record}
 use Rattle.tc_segment.specs.declared.record.Opening.{Opening}
-use Rattle.tc_segment.specs.View.{Opened, LockView, with_closed, entries, replay_in, IsSound, with_journal, more_words, noted, entry_from, closed_with, with_end, Closes, fresh_state}
-use Rattle.tc_segment.specs.Kept.{shown, shown_open, shown_journal, Fits, AllFit, ClosedFits, OpenFits}
+use Rattle.tc_segment.specs.View.{Opened, LockView, with_closed, entries, lock_of, replay_in, IsSound, with_journal, opened_at, more_words, noted, entry_from, closed_with, with_end, Closes, fresh_state}
+use Rattle.tc_segment.specs.Kept.{regs_at, shown, shown_open, shown_journal, Fits, AllFit, OpenFits, Extends}
 use Rattle.tc_segment.proofs.Journals.{replayed-more, are_replayed-more}
 
--- further words at the end change nothing that is shown
+-- registers and words that were there still are
+pub record Grows (edges more : List Registers) (words longer : List ℕ) : Type 0 where
+  pub regs : Extends edges more
+  pub count : length words ≤ length longer
+  pub same : (from n : ℕ) → from + n ≤ length words → take n (drop from longer) ≡ take n (drop from words)
 
-shown-more : (words ws : List ℕ) (r : Record) → Fits words r → shown (words ++ ws) r ≡ shown words r
-shown-more words ws r fits =
+pub word_more : (edges : List Registers) (words ws : List ℕ) → Grows edges edges words (words ++ ws)
+word_more edges words ws = record {
+  regs = record { longer = omega arith; same = λ i lt. refl };
+  count = omega (arith, length-append words ws);
+  same = λ from n le. ap (take n) (drop-append-le from words ws (omega (arith, le))) ∙ take-append-le n (drop from words) ws (omega (arith, length-drop from words, le));
+}
+
+pub edges_more : (edges more : List Registers) (words : List ℕ) → Extends edges more → Grows edges more words words
+edges_more edges more words e = record { regs = e; count = omega arith; same = λ from n le. refl }
+
+-- so nothing changes that is shown of what was there
+
+fits_one : {edges more : List Registers} {words longer : List ℕ} → Grows edges more words longer → (r : Record) → Fits edges words r → Fits more longer r
+fits_one grows r fits =
+    let e = grows.regs.longer in
+    let w = grows.count in
+    record {
+      start = (let h = fits.start in omega arith);
+      finish = (let h = fits.finish in omega arith);
+      order = fits.order;
+      inside = (let h = fits.inside in omega arith);
+    }
+
+pub fits_grown : {edges more : List Registers} {words longer : List ℕ} → Grows edges more words longer → (rs : List Record) → AllFit edges words rs → AllFit more longer rs
+fits_grown grows [] fit = tt
+fits_grown grows (r ∷ rs) fit = (fits_one grows r fit.0, fits_grown grows rs fit.1)
+
+shown_one : {edges more : List Registers} {words longer : List ℕ} → Grows edges more words longer → (r : Record) → Fits edges words r → shown more longer r ≡ shown edges words r
+shown_one grows r fits =
+    let start = grows.regs.same r.start fits.start in
+    let finish = grows.regs.same r.finish fits.finish in
     let order = fits.order in
     let inside = fits.inside in
-    let e : take (r.to - r.from) (drop r.from (words ++ ws)) ≡ take (r.to - r.from) (drop r.from words) =
-    ap (take (r.to - r.from)) (drop-append-le r.from words ws (omega arith))
-    ∙ take-append-le (r.to - r.from) (drop r.from words) ws (omega (arith, length-drop r.from words)) in
-    λ i. record { block = r.block; start = r.start; fuel = r.fuel; finish = r.finish; foreign = e i }
+    let foreign = grows.same r.from (r.to - r.from) (omega arith) in
+    λ i. record { block = r.block; start = start i; fuel = r.fuel; finish = finish i; foreign = foreign i }
 
-all_shown-more : (words ws : List ℕ) (rs : List Record) → AllFit words rs → map (shown (words ++ ws)) rs ≡ map (shown words) rs
-all_shown-more words ws [] fit = refl
-all_shown-more words ws (r ∷ rs) fit =
-    let e = shown-more words ws r fit.0 in
-    let es = all_shown-more words ws rs fit.1 in
+pub shown_grown : {edges more : List Registers} {words longer : List ℕ} → Grows edges more words longer → (rs : List Record) → AllFit edges words rs → map (shown more longer) rs ≡ map (shown edges words) rs
+shown_grown grows [] fit = refl
+shown_grown grows (r ∷ rs) fit =
+    let e = shown_one grows r fit.0 in
+    let es = shown_grown grows rs fit.1 in
     λ i. e i ∷ es i
 
-closed_shown-more : (words ws : List ℕ) (r : Option Record) → ClosedFits words r → option_map (shown (words ++ ws)) r ≡ option_map (shown words) r
-closed_shown-more words ws None fit = refl
-closed_shown-more words ws (Some r) fit = ap Some (shown-more words ws r fit)
+-- an open entry has the words that come
+open_more : (from : Mutex) (edges : List Registers) (words ws : List ℕ) (o : Option Opening) → OpenFits edges words o → option_map (shown_open from edges (words ++ ws)) o ≡ option_map (more_words ws) (option_map (shown_open from edges words) o)
+open_more from edges words ws None fit = refl
+open_more from edges words ws (Some o) fit =
+    let e = drop-append-le o.from words ws fit.1 in
+    λ i. Some (record { start = regs_at edges o.start; fuel = o.fuel; from = from; foreign = e i })
 
-open_shown-more : (from : Mutex) (words ws : List ℕ) (o : Option Opening) → OpenFits words o → option_map (shown_open from (words ++ ws)) o ≡ option_map (more_words ws) (option_map (shown_open from words) o)
-open_shown-more from words ws None fit = refl
-open_shown-more from words ws (Some o) fit =
-    let e = drop-append-le o.from words ws fit in
-    λ i. Some (record { start = o.start; fuel = o.fuel; from = from; foreign = e i })
+pub open_fits-more : (edges : List Registers) (words ws : List ℕ) (o : Option Opening) → OpenFits edges words o → OpenFits edges (words ++ ws) o
+open_fits-more edges words ws None fit = tt
+open_fits-more edges words ws (Some o) fit = (fit.0, (let h = fit.1 in omega (arith, length-append words ws)))
 
-pub fits-more : (words ws : List ℕ) (rs : List Record) → AllFit words rs → AllFit (words ++ ws) rs
-fits-more words ws [] fit = tt
-fits-more words ws (r ∷ rs) fit = (record { order = fit.0.order; inside = (let h = fit.0.inside in omega (arith, length-append words ws)) }, fits-more words ws rs fit.1)
-
-pub closed_fits-more : (words ws : List ℕ) (r : Option Record) → ClosedFits words r → ClosedFits (words ++ ws) r
-closed_fits-more words ws None fit = tt
-closed_fits-more words ws (Some r) fit = record { order = fit.order; inside = (let h = fit.inside in omega (arith, length-append words ws)) }
-
-pub open_fits-more : (words ws : List ℕ) (o : Option Opening) → OpenFits words o → OpenFits (words ++ ws) o
-open_fits-more words ws None fit = tt
-open_fits-more words ws (Some o) fit = omega (arith, length-append words ws)
-
-some_open : (from : Mutex) (words : List ℕ) (o : Option Opening) → is_some (option_map (shown_open from words) o) ≡ is_some o
-some_open from words None = refl
-some_open from words (Some o) = refl
+-- all entries: those that are sealed, and the closed one
+pub entries_are : (n : ℕ) (es : List Entry) → length es ≤ n + 1 → with_closed (take n es) (slice_get es n) ≡ es
+entries_are zero [] le = refl
+entries_are zero (e ∷ []) le = refl
+entries_are zero (e ∷ f ∷ es) le = absurd (omega arith)
+entries_are (suc n) [] le = refl
+entries_are (suc n) (e ∷ es) le = closed_behind e (take n es) (slice_get es n) ∙ ap (λ x. e ∷ x) (entries_are n es (omega (arith, le)))
+  where
+    closed_behind : (e : Entry) (xs : List Entry) (o : Option Entry) → with_closed (e ∷ xs) o ≡ e ∷ with_closed xs o
+    closed_behind e xs None = refl
+    closed_behind e xs (Some x) = refl
 
 room_is : (b : Bool) (n : ℕ) → b ≡ true → n - 1 ≡ (if b then n - 1 else n)
 room_is true n e = refl
 room_is false n e = absurd (cc)
 
 -- a word more
-pub noted_journal : (image : Shown) (number limit : ℕ) (words : List ℕ) (sealed : List Record) (closed : Option Record) (opened : Option Opening) (er wr value : ℕ)
-    → AllFit words sealed → ClosedFits words closed → OpenFits words opened
-    → is_some (shown_journal image number limit words sealed closed opened er wr).opened ≡ true
-    → shown_journal image number limit (words ++ value ∷ []) sealed closed opened er (wr - 1) ≡ noted (value ∷ []) (shown_journal image number limit words sealed closed opened er wr)
-noted_journal image number limit words sealed closed opened er wr value s c o was =
-    let ss = all_shown-more words (value ∷ []) sealed s in
-    let cs = closed_shown-more words (value ∷ []) closed c in
-    let from : replayed image number (mutex_at_start image number) (with_closed (map (shown (words ++ value ∷ [])) sealed) (option_map (shown (words ++ value ∷ [])) closed)) ≡ replayed image number (mutex_at_start image number) (with_closed (map (shown words) sealed) (option_map (shown words) closed)) =
-    (λ i. replayed image number (mutex_at_start image number) (with_closed (ss i) (cs i))) in
-    let os = ap (λ f. option_map (shown_open f (words ++ value ∷ [])) opened) from ∙ open_shown-more _ words (value ∷ []) opened o in
+pub noted_journal : (image : Shown) (number limit : ℕ) (old new : List Entry) (sealed : ℕ) (edges : List Registers) (words : List ℕ) (opened : Option Opening) (er wr value : ℕ)
+    → new ≡ old → OpenFits edges words opened → is_some (shown_journal image number limit old sealed edges words opened er wr).opened ≡ true
+    → shown_journal image number limit new sealed edges (words ++ value ∷ []) opened er (wr - 1) ≡ noted (value ∷ []) (shown_journal image number limit old sealed edges words opened er wr)
+noted_journal image number limit old new sealed edges words opened er wr value same fits was =
+    let os = ap (λ es. option_map (shown_open (replayed image number (mutex_at_start image number) es) edges (words ++ value ∷ [])) opened) same ∙ open_more _ edges words (value ∷ []) opened fits in
     let room = room_is _ wr was in
-    λ i. record { image = image; limit = limit; sealed = ss i; closed = cs i; opened = os i; entry_room = er; word_room = room i }
+    λ i. record { image = image; limit = limit; sealed = take sealed (same i); closed = slice_get (same i) sealed; opened = os i; entry_room = er; word_room = room i }
 
 noted_from : (ws : List ℕ) (at : Mutex) (p : Option Opened) → ((o : Opened) → p ≡ Some o → o.from ≡ at) → (o : Opened) → option_map (more_words ws) p ≡ Some o → o.from ≡ at
 noted_from ws at None from o e = absurd (cc)
@@ -103,16 +127,63 @@ sound_noted ws l sound was = record {
   passes = sound.passes;
 }
 
+last_at : (es : List Entry) (e : Entry) (n : ℕ) → n ≡ length es → slice_get (es ++ e ∷ []) n ≡ Some e
+last_at es e n is = ap (slice_get (es ++ e ∷ [])) is ∙ slice_get-get_or (es ++ e ∷ []) (length es) e (omega (arith, length-append es (e ∷ []))) ∙ ap Some (get_or-append_seam es e [] e)
+
+pub not_open : (f : Opening → Opened) (o : Option Opening) → option_map f o ≡ None → o ≡ None
+not_open f None e = refl
+not_open f (Some o) e = absurd (cc)
+
+-- where no entry is closed, each is sealed
+pub none_closed : (n : ℕ) (es : List Entry) → n ≤ length es → slice_get es n ≡ None → n ≡ length es
+none_closed n es le none = elim (slice_get_cases es n).1 [
+  | inl x ↦ absurd (let e : None ≡ Some x.0 = sym none ∙ x.2 in cc)
+  | inr y ↦ omega (arith, y.0, le)
+]
+
+-- an entry is opened
+pub opened_journal : (image : Shown) (number limit : ℕ) (old new : List Entry) (sealed : ℕ) (edges more : List Registers) (words : List ℕ) (er wr place from : ℕ) (start : Registers) (fuel : ℕ) (at : Mutex)
+    → new ≡ old → regs_at more place ≡ start → from ≡ length words → replayed image number (mutex_at_start image number) old ≡ at
+    → shown_journal image number limit new sealed more words (Some (record { fuel = fuel; start = place; from = from })) (er - 1) wr ≡ opened_at at start fuel (shown_journal image number limit old sealed edges words None er wr)
+opened_journal image number limit old new sealed edges more words er wr place from start fuel at same is len lock =
+    let none = drop_all from words (omega (arith, len)) in
+    let at_new = ap (replayed image number (mutex_at_start image number)) same ∙ lock in
+    λ i. record { image = image; limit = limit; sealed = take sealed (same i); closed = slice_get (same i) sealed; opened = Some (record { start = is i; fuel = fuel; from = at_new i; foreign = none i }); entry_room = er - 1; word_room = wr }
+
+opened_from : (at m : Mutex) (start : Registers) (fuel : ℕ) (o : Opened) → at ≡ m → Some (record { start = start; fuel = fuel; from = at; foreign = [] }) ≡ Some o → o.from ≡ m
+opened_from at m start fuel o is e = (let same : record { start = start; fuel = fuel; from = at; foreign = [] } ≡ o = cc in ap (λ (x : Opened). x.from) (sym same) ∙ is)
+
+pub sound_opened : (start : Registers) (fuel : ℕ) (l : LockView) → IsSound l → l.journal.opened ≡ None → l.journal.closed ≡ None → IsSound (with_journal (opened_at (lock_of l) start fuel) l)
+sound_opened start fuel l sound none closed = record {
+  bytes = sound.bytes;
+  known = sound.known;
+  small = sound.small;
+  guard = sound.guard;
+  limit = sound.limit;
+  replays = sound.replays;
+  rest = λ e. absurd (cc);
+  from = λ o e. opened_from (lock_of l) (replay_in l.number l.journal) start fuel o (sound.rest none) e;
+  alone = λ h. closed;
+  obeys = sound.obeys;
+  passes = sound.passes;
+}
+
 -- the entry closed
-pub closed_journal : (image : Shown) (number limit : ℕ) (words : List ℕ) (sealed : List Record) (closed : Option Record) (opened : Option Opening) (er wr : ℕ) (o : Opening) (block : Block) (finish : Registers) (to : ℕ)
-    → opened ≡ Some o → to ≡ length words
-    → shown_journal image number limit words sealed (Some (record { block = block; start = o.start; fuel = o.fuel; finish = finish; from = o.from; to = to })) None er wr ≡ closed_with block finish (shown_journal image number limit words sealed closed opened er wr)
-closed_journal image number limit words sealed closed opened er wr o block finish to is e =
-    let all : take (to - o.from) (drop o.from words) ≡ drop o.from words = take_all (to - o.from) (drop o.from words) (omega (arith, length-drop o.from words, e)) in
-    let from = replayed image number (mutex_at_start image number) (with_closed (map (shown words) sealed) (option_map (shown words) closed)) in
-    let entry : Some (shown words (record { block = block; start = o.start; fuel = o.fuel; finish = finish; from = o.from; to = to })) ≡ option_map (entry_from block finish) (option_map (shown_open from words) opened) =
-    (λ i. Some (record { block = block; start = o.start; fuel = o.fuel; finish = finish; foreign = all i })) ∙ ap (λ x. option_map (entry_from block finish) (option_map (shown_open from words) x)) (sym is) in
-    λ i. record { image = image; limit = limit; sealed = map (shown words) sealed; closed = entry i; opened = None; entry_room = er; word_room = wr }
+pub closed_journal : (image : Shown) (number limit : ℕ) (old new : List Entry) (sealed : ℕ) (edges more : List Registers) (words : List ℕ) (opened : Option Opening) (er wr : ℕ) (o : Opening) (block : Block) (finish : Registers) (place to : ℕ)
+    → opened ≡ Some o → Extends edges more → OpenFits edges words (Some o) → regs_at more place ≡ finish → to ≡ length words → sealed ≡ length old
+    → new ≡ old ++ shown more words (record { block = block; fuel = o.fuel; start = o.start; finish = place; from = o.from; to = to }) ∷ []
+    → shown_journal image number limit new sealed more words None er wr ≡ closed_with block finish (shown_journal image number limit old sealed edges words opened er wr)
+closed_journal image number limit old new sealed edges more words opened er wr o block finish place to is extends fits there len count made =
+    let all : take (to - o.from) (drop o.from words) ≡ drop o.from words = take_all (to - o.from) (drop o.from words) (omega (arith, length-drop o.from words, len)) in
+    let from = replayed image number (mutex_at_start image number) old in
+    let start = extends.same o.start fits.0 in
+    let x = shown more words (record { block = block; fuel = o.fuel; start = o.start; finish = place; from = o.from; to = to }) in
+    let before : take sealed new ≡ take sealed old = ap (take sealed) made ∙ take-append-le sealed old (x ∷ []) (omega (arith, count)) in
+    let last : slice_get new sealed ≡ Some x = ap (λ es. slice_get es sealed) made ∙ last_at old x sealed count in
+    let entry : Some x ≡ option_map (entry_from block finish) (option_map (shown_open from edges words) opened) =
+    (λ i. Some (record { block = block; start = start i; fuel = o.fuel; finish = there i; foreign = all i })) ∙ ap (λ y. option_map (entry_from block finish) (option_map (shown_open from edges words) y)) (sym is) in
+    let closed = last ∙ entry in
+    λ i. record { image = image; limit = limit; sealed = before i; closed = closed i; opened = None; entry_room = er; word_room = wr }
 
 pub sound_closed : (block : Block) (finish : Registers) (l : LockView) (o : Opened) → IsSound l → l.journal.opened ≡ Some o → Closes l block finish o → IsSound (with_end block.end (with_journal (closed_with block finish) l))
 sound_closed block finish l o sound is closes =
@@ -140,9 +211,9 @@ sound_closed block finish l o sound is closes =
 
 -- ---- a new lock state
 
-pub fresh_view : (of image : Shown) (number limit : ℕ) (bytes words : List ℕ) (sealed : List Record) → of ≡ image → bytes ≡ (mutex_at_start image number).bytes → words ≡ [] → sealed ≡ []
-    → record { number = number; bytes = bytes; broken = false; sections = 0; journal = shown_journal of number limit words sealed None None 0 0 } ≡ fresh_state image number limit
-fresh_view of image number limit bytes words sealed o b w s = λ i. record { number = number; bytes = b i; broken = false; sections = 0; journal = shown_journal (o i) number limit (w i) (s i) None None 0 0 }
+pub fresh_view : (of image : Shown) (number limit : ℕ) (bytes words : List ℕ) (edges : List Registers) (records : List Record) → of ≡ image → bytes ≡ (mutex_at_start image number).bytes → records ≡ []
+    → record { number = number; bytes = bytes; broken = false; sections = 0; journal = shown_journal of number limit (map (shown edges words) records) 0 edges words None 0 0 } ≡ fresh_state image number limit
+fresh_view of image number limit bytes words edges records o b r = λ i. record { number = number; bytes = b i; broken = false; sections = 0; journal = shown_journal (o i) number limit (map (shown edges words) (r i)) 0 edges words None 0 0 }
 
 pub sound_fresh : (image : Shown) (number limit : ℕ) → number < length image.guards → number < 32 → IsGuard image (guard_at image number) → limit ≤ MAX_BATCH → IsSound (fresh_state image number limit)
 sound_fresh image number limit known small guard most = record {
@@ -161,26 +232,19 @@ sound_fresh image number limit known small guard most = record {
 
 -- ---- the entries
 
-pub with_closed-map : {X Y : Type 0} (f : X → Y) (xs : List X) (x : Option X) → with_closed (map f xs) (option_map f x) ≡ map f (with_closed xs x)
-with_closed-map f xs None = refl
-with_closed-map f xs (Some x) = sym (map-append f xs (x ∷ []))
+-- the record at a place has its registers and words
+pub fits_at : (edges : List Registers) (words : List ℕ) (rs : List Record) (i : ℕ) (r : Record) → AllFit edges words rs → slice_get rs i ≡ Some r → Fits edges words r
+fits_at edges words [] i r all is = absurd (cc)
+fits_at edges words (x ∷ rs) zero r all is = (let same : x ≡ r = cc in subst (λ (y : Record). Fits edges words y) same all.0)
+fits_at edges words (x ∷ rs) (suc i) r all is = fits_at edges words rs i r all.1 is
 
-fits_get : (words : List ℕ) (rs : List Record) (i : ℕ) (r : Record) → AllFit words rs → slice_get rs i ≡ Some r → Fits words r
-fits_get words [] i r all is = absurd (cc)
-fits_get words (x ∷ rs) zero r all is = (let same : x ≡ r = cc in subst (λ (y : Record). Fits words y) same all.0)
-fits_get words (x ∷ rs) (suc i) r all is = fits_get words rs i r all.1 is
+-- one record more
+pub fits_end : (edges : List Registers) (words : List ℕ) (rs : List Record) (r : Record) → AllFit edges words rs → Fits edges words r → AllFit edges words (rs ++ r ∷ [])
+fits_end edges words [] r all fits = (fits, tt)
+fits_end edges words (x ∷ rs) r all fits = (all.0, fits_end edges words rs r all.1 fits)
 
-fits_all : (words : List ℕ) (rs : List Record) (closed : Option Record) → AllFit words rs → ClosedFits words closed → AllFit words (with_closed rs closed)
-fits_all words rs None all fits = all
-fits_all words [] (Some r) all fits = (fits, tt)
-fits_all words (x ∷ rs) (Some r) all fits = (all.0, fits_all words rs (Some r) all.1 fits)
-
--- the record at a place has its words
-pub fits_at : (words : List ℕ) (rs : List Record) (closed : Option Record) (i : ℕ) (r : Record) → AllFit words rs → ClosedFits words closed → slice_get (with_closed rs closed) i ≡ Some r → Fits words r
-fits_at words rs closed i r all fits is = fits_get words (with_closed rs closed) i r (fits_all words rs closed all fits) is
-
--- the entry at a place is the one that the record there shows
-pub entry_at : (words : List ℕ) (rs : List Record) (closed : Option Record) (i : ℕ) (r : Record) → slice_get (with_closed rs closed) i ≡ Some r
-    → slice_get (with_closed (map (shown words) rs) (option_map (shown words) closed)) i ≡ Some (shown words r)
-entry_at words rs closed i r is =
-    ap (λ es. slice_get es i) (with_closed-map (shown words) rs closed) ∙ slice_get-map (shown words) (with_closed rs closed) i ∙ ap (option_map (shown words)) is
+-- a record that is stamped
+pub fits_set : (edges : List Registers) (words : List ℕ) (rs : List Record) (i : ℕ) (r : Record) → AllFit edges words rs → Fits edges words r → AllFit edges words (set rs i r)
+fits_set edges words [] i r all fits = tt
+fits_set edges words (x ∷ rs) zero r all fits = (fits, all.1)
+fits_set edges words (x ∷ rs) (suc i) r all fits = (all.0, fits_set edges words rs i r all.1 fits)

@@ -1,5 +1,7 @@
 pub mod Journals
+pub mod Edges
 pub mod Keeping
 pub mod Sealing
 pub mod Inside
 pub mod Resting
+pub mod Words

@@ -1,7 +1,8 @@
 -- An entry that is sealed.
-use Rattle.std.proofs.Common.{◌≡◌, ℕ, ◌+◌, ◌-◌, ◌≤◌, Bool, true, false, ◌&&◌, List, [], ◌∷◌, ◌++◌, map, length, refl, sym, ap, subst, ◌∙◌, arith, append_assoc, append-nil, ◌==◌}
-use Rattle.std.proofs.lemmas.List.{map-append, length-map}
-use Rattle.std.proofs.lemmas.Option.{slice_get-map}
+use Rattle.std.proofs.Common.{◌≡◌, ℕ, ◌+◌, ◌-◌, ◌≤◌, Bool, true, false, ◌&&◌, ◌<◌, List, [], ◌∷◌, ◌++◌, map, set, take, length, refl, sym, ap, subst, ◌∙◌, arith, append_assoc, append-nil, ◌==◌}
+use Rattle.tc_isa.specs.Registers.{Registers}
+use Rattle.std.proofs.lemmas.List.{map-append, length-map, length-set, take-map, take_all, take_more_set}
+use Rattle.std.proofs.lemmas.Option.{slice_get-map, slice_get_past, slice_get_within}
 use Rattle.std.specs.Prelude.{Option, Some, None, option_map, nat_lt, slice_get, if◌then◌else◌}
 use Rattle.std.proofs.lemmas.Bool.Decides.{nat_tests}
 use Rattle.tc_elf.specs.Shown.{Shown}
@@ -14,12 +15,17 @@ use Rattle.tc_segment.specs.declared.record.Record.{Record}
 use Rattle.tc_segment.specs.declared.record.Opening.{Opening}
 use Rattle.tc_journal.specs.Batch.{begins, unlocks, is_only, may_adopt, is_adopted, run_after, run_from, run_of, last_of, may_begin, allows_of, may_follow, ObeysAfter, Obeys, passes_on, PassesOnAfter, PassesOn}
 use Rattle.tc_segment.specs.View.{LockView, with_closed, entries, block_in, blocks_of, IsSound, with_journal, sealed_block, sealed_entry, sealed_list, sealed_as}
-use Rattle.tc_segment.specs.Kept.{shown, block_of, shown_open, shown_journal, Fits, AllFit}
+use Rattle.tc_segment.specs.Kept.{shown, block_of, shown_open, shown_journal}
 use Rattle.tc_segment.proofs.Journals.{replayed-more}
+use Rattle.tc_segment.proofs.Keeping.{entries_are}
 
-pub blocks_shown : (words : List ℕ) (rs : List Record) → map block_in (map (shown words) rs) ≡ map block_of rs
-blocks_shown words [] = refl
-blocks_shown words (r ∷ rs) = (let e = blocks_shown words rs in λ i. r.block ∷ e i)
+blocks_all : (edges : List Registers) (words : List ℕ) (rs : List Record) → map block_in (map (shown edges words) rs) ≡ map block_of rs
+blocks_all edges words [] = refl
+blocks_all edges words (r ∷ rs) = (let e = blocks_all edges words rs in λ i. r.block ∷ e i)
+
+-- the blocks of the first so many
+pub blocks_shown : (edges : List Registers) (words : List ℕ) (n : ℕ) (rs : List Record) → map block_in (take n (map (shown edges words) rs)) ≡ map block_of (take n rs)
+blocks_shown edges words n rs = ap (map block_in) (take-map (shown edges words) n rs) ∙ blocks_all edges words (take n rs)
 
 pub last_shown : (rs : List Record) → last_of (map block_of rs) ≡ option_map block_of (slice_get rs (length rs - 1))
 last_shown rs = ap (λ n. slice_get (map block_of rs) (n - 1)) (length-map rs block_of) ∙ slice_get-map block_of rs (length rs - 1)
@@ -81,17 +87,22 @@ run_short lock limit before b short follows =
       | false ↦ λ e. short
     ]) refl
 
-pub sealed_journal : (image : Shown) (number limit : ℕ) (words : List ℕ) (sealed : List Record) (closed : Option Record) (opened : Option Opening) (er wr stamp worker : ℕ) (r s : Record) → closed ≡ Some r
-    → s ≡ record { block = sealed_block stamp worker r.block; start = r.start; fuel = r.fuel; finish = r.finish; from = r.from; to = r.to }
-    → shown_journal image number limit words (sealed ++ s ∷ []) None opened er wr ≡ sealed_as stamp worker (shown_journal image number limit words sealed closed opened er wr)
-sealed_journal image number limit words sealed closed opened er wr stamp worker r s is made =
-    let es = map (shown words) sealed in
-    let e : Entry = shown words r in
-    let all : map (shown words) (sealed ++ s ∷ []) ≡ es ++ sealed_entry stamp worker e ∷ [] = map-append (shown words) sealed (s ∷ []) ∙ ap (λ x. es ++ shown words x ∷ []) made in
-    let list : map (shown words) (sealed ++ s ∷ []) ≡ sealed_list stamp worker es (option_map (shown words) closed) = all ∙ ap (λ x. sealed_list stamp worker es (option_map (shown words) x)) (sym is) in
-    let from : replayed image number (mutex_at_start image number) (map (shown words) (sealed ++ s ∷ [])) ≡ replayed image number (mutex_at_start image number) (with_closed es (option_map (shown words) closed)) =
-    ap (replayed image number (mutex_at_start image number)) all ∙ replayed_sealed image number stamp worker (mutex_at_start image number) es e ∙ ap (λ x. replayed image number (mutex_at_start image number) (with_closed es (option_map (shown words) x))) (sym is) in
-    λ i. record { image = image; limit = limit; sealed = list i; closed = None; opened = option_map (shown_open (from i) words) opened; entry_room = er; word_room = wr }
+pub sealed_journal : (image : Shown) (number limit : ℕ) (old new : List Entry) (sealed : ℕ) (edges : List Registers) (words : List ℕ) (opened : Option Opening) (er wr stamp worker : ℕ) (e : Entry)
+    → slice_get old sealed ≡ Some e → length old ≤ sealed + 1 → new ≡ set old sealed (sealed_entry stamp worker e)
+    → shown_journal image number limit new (sealed + 1) edges words opened er wr ≡ sealed_as stamp worker (shown_journal image number limit old sealed edges words opened er wr)
+sealed_journal image number limit old new sealed edges words opened er wr stamp worker e is short made =
+    let there : sealed < length old = slice_get_within old sealed e is in
+    let s = sealed_entry stamp worker e in
+    let start = mutex_at_start image number in
+    let first : take (sealed + 1) new ≡ take sealed old ++ s ∷ [] = ap (take (sealed + 1)) made ∙ take_more_set old sealed s there in
+    let list : take (sealed + 1) new ≡ sealed_list stamp worker (take sealed old) (slice_get old sealed) = first ∙ ap (sealed_list stamp worker (take sealed old)) (sym is) in
+    let count : length new ≡ length old = ap length made ∙ length-set old sealed s in
+    let none : slice_get new (sealed + 1) ≡ None = slice_get_past new (sealed + 1) (omega (arith, count)) in
+    let all : new ≡ take sealed old ++ s ∷ [] = sym (take_all (sealed + 1) new (omega (arith, count))) ∙ first in
+    let was : old ≡ take sealed old ++ e ∷ [] = sym (entries_are sealed old short) ∙ ap (with_closed (take sealed old)) is in
+    let from : replayed image number start new ≡ replayed image number start old =
+    ap (replayed image number start) all ∙ replayed_sealed image number stamp worker start (take sealed old) e ∙ ap (replayed image number start) (sym was) in
+    λ i. record { image = image; limit = limit; sealed = list i; closed = none i; opened = option_map (shown_open (from i) edges words) opened; entry_room = er; word_room = wr }
 
 stamped_passes : (lock stamp worker : ℕ) (bs : List Block) (b : Block) → passes_on lock bs b ≡ true → passes_on lock bs (sealed_block stamp worker b) ≡ true
 unfolding passes_on
@@ -118,7 +129,3 @@ sound_sealed stamp worker l e sound is follows passes =
       obeys = subst (λ bs. Obeys l.number j.limit bs) (sym (ap (map block_in) new ∙ blocks)) (obeys-more l.number j.limit [] (map block_in j.sealed) (sealed_block stamp worker e.block) sound.obeys follows);
       passes = subst (λ bs. PassesOn l.number bs) (sym (ap (map block_in) new ∙ blocks)) (passes-more l.number [] (map block_in j.sealed) (sealed_block stamp worker e.block) sound.passes (stamped_passes l.number stamp worker (map block_in j.sealed) e.block passes));
     }
-
-pub fits-end : (words : List ℕ) (rs : List Record) (r s : Record) → AllFit words rs → Fits words r → s.from ≡ r.from → s.to ≡ r.to → AllFit words (rs ++ s ∷ [])
-fits-end words [] r s all fits from to = (record { order = (let h = fits.order in omega (arith, from, to)); inside = (let h = fits.inside in omega (arith, to)) }, tt)
-fits-end words (x ∷ rs) r s all fits from to = (all.0, fits-end words rs r s all.1 fits from to)

@@ -1,6 +1,6 @@
 //! Lock states: a lock with the bytes of its guard and the journal of the blocks that ran with it.
 //!
-//! Each lock state, wherever it is, keeps that the entries of its journal replay: RV32I runs from
+//! Each lock state, wherever it is, keeps that the entries of its journal replay: RV32IM runs from
 //! the registers and the foreign words of each entry, and what it leaves of the guard is what the
 //! lock state has. It also keeps that its sealed blocks obey its batch limit, and that a section
 //! which is passed on goes to another thread. `LockState::keeps` states this. `specs/View.antt` is

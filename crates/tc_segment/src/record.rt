@@ -1,77 +1,84 @@
-//! How entries are kept: their foreign words stand in one vector.
+//! How entries are kept: their registers stand in one vector, and their foreign words in another.
 
-ghost use Rattle.std.specs.Prelude.{◌≡◌, ◌<◌, length, map, slice_get, Some};
+ghost use Rattle.std.specs.Prelude.{◌≡◌, ◌+◌, ◌<◌, ◌≤◌, length, map, take, vec_len, vec_capacity};
 ghost use Rattle.tc_journal.specs.Batch.{last_of};
-ghost use Rattle.tc_segment.specs.View.{with_closed};
-ghost use Rattle.tc_segment.specs.Kept.{block_of, shown, sealed_record, Fits};
+ghost use Rattle.tc_segment.specs.Kept.{block_of, shown, sealed_record, Fits, StandsAt, Extends};
 ghost use Rattle.tc_segment.specs.Lent.{entry_lent};
 
 use crate::entry::Entry;
 use tc_isa::regs::Regs;
 use tc_journal::block::Block;
 
-/// An entry whose foreign words stand at these places.
+/// An entry whose registers and foreign words stand at these places.
 #[derive(Clone, Copy)]
 pub(crate) struct Record {
     pub(crate) block: Block,
-    pub(crate) start: Regs,
     pub(crate) fuel: u32,
-    pub(crate) finish: Regs,
+    pub(crate) start: usize,
+    pub(crate) finish: usize,
     pub(crate) from: usize,
     pub(crate) to: usize,
 }
 
-/// The entry of a block that runs, whose foreign words begin at this place.
+/// The entry of a block that runs, whose registers before it stand at one of these places, and whose
+/// foreign words begin at the other.
 #[derive(Clone, Copy)]
 pub(crate) struct Opening {
-    pub(crate) start: Regs,
     pub(crate) fuel: u32,
+    pub(crate) start: usize,
     pub(crate) from: usize,
 }
 
 impl Record {
-    pub(crate) fn sealed(self, stamp: u64, worker: u32) -> Record
-        ensures { result ≡ sealed_record stamp worker self }
+    /// Gives its block this stamp and worker.
+    pub(crate) fn stamp(&mut self, stamp: u64, worker: u32)
+        ensures { self.new ≡ sealed_record stamp worker self.old }
     {
-        let block = Block {
-            stamp,
-            worker,
-            ..self.block
-        };
-        Record { block, ..self }
+        self.block.stamp = stamp;
+        self.block.worker = worker;
     }
 
     /// The entry, which lends its part of all words.
-    pub(crate) fn entry(self, words: &[u32]) -> Entry<'_>
-        requires { Fits words.now self }
-        ensures { entry_lent result ≡ shown words.now self }
+    pub(crate) fn entry<'a>(&self, edges: &[Regs], words: &'a [u32]) -> Entry<'a>
+        requires { Fits edges.now words.now self.now }
+        ensures { entry_lent result ≡ shown edges.now words.now self.now }
     {
         Entry {
             block: self.block,
-            start: self.start,
+            start: edges[self.start],
             fuel: self.fuel,
-            end: self.finish,
+            end: edges[self.finish],
             foreign: &words[self.from..self.to],
         }
     }
 }
 
-/// The record at a place, where a closed one follows those that are sealed.
-pub(crate) fn record_at(sealed: &[Record], closed: Option<Record>, i: usize) -> Record
-    requires { i < length (with_closed sealed.now closed) }
-    ensures { slice_get (with_closed sealed.now closed) i ≡ Some result }
+/// The block of the last of the first so many records.
+pub(crate) fn last_block(records: &[Record], sealed: usize) -> Option<Block>
+    requires { sealed ≤ length records.now }
+    ensures { result ≡ last_of (map block_of (take sealed records.now)) }
 {
-    if i < sealed.len() {
-        return sealed[i];
-    }
-    match closed {
-        Some(record) => record,
-        None => unreachable!(),
+    match sealed {
+        0 => None,
+        _ => Some(records[sealed - 1].block),
     }
 }
 
-pub(crate) fn last_block(records: &[Record]) -> Option<Block>
-    ensures { result ≡ last_of (map block_of records.now) }
+/// The place of these registers behind all others, or that of the last ones where those are the
+/// same, as they are between two blocks of one section.
+pub(crate) fn place_of(edges: &mut Vec<Regs>, regs: &Regs) -> usize
+    requires { vec_len edges.old < vec_capacity edges.old }
+    ensures place { StandsAt edges.new.items result regs.now }
+    ensures more { Extends edges.old.items edges.new.items }
+    ensures room { vec_len edges.new ≤ vec_len edges.old + 1 }
+    ensures capacity { vec_capacity edges.old ≤ vec_capacity edges.new }
 {
-    Some(records.last()?.block)
+    let count = edges.len();
+    if count > 0 && edges[count - 1] == *regs {
+        return count - 1;
+    }
+    match edges.push(*regs) {
+        Ok(()) => count,
+        Err(_) => unreachable!(),
+    }
 }

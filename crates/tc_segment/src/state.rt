@@ -10,7 +10,7 @@ ghost use Rattle.tc_segment.specs.Lent.{entry_lent};
 ghost use Rattle.tc_segment.specs.View.{IsSound, allows_in, number_of_guard, ClosesWith, MayFollow, MayPass, lock_of, guard_of, with_store, with_section, with_break, with_end, with_journal, opened_at, noted, closed_with, sealed_as, with_room, blocks_of, entries, fresh_state};
 
 use crate::entry::Entry;
-use crate::record::{Opening, Record, last_block, record_at};
+use crate::record::{Opening, Record, last_block, place_of};
 use std::alloc::{AllocError, Global};
 use std::marker::Model;
 use std::snapshot::Snapshot;
@@ -20,13 +20,9 @@ use tc_journal::batch::{may_begin, passes_to, run_after};
 use tc_journal::block::{Block, End, Kind};
 use tc_turn::memory::{byte_from, put_number, starting_bytes};
 
-/// A lock with the bytes of its guard, and the journal of the blocks that ran with it.
-///
-/// While a block runs, its entry is open: the block's turns then change the lock and note the
-/// words that came from elsewhere. The entry is closed with the block, and sealed once the block
-/// has its stamp and worker.
+/// What a lock state has, in one piece of memory.
 #[derive(Drop)]
-pub struct LockState {
+struct Contents {
     of: Snapshot<Image>,
     number: u32,
     limit: u32,
@@ -35,12 +31,24 @@ pub struct LockState {
     broken: bool,
     sections: u64,
     run: u32,
-    sealed: Vec<Record>,
-    closed: Option<Record>,
+    // Those of all entries, of which so many are sealed.
+    records: Vec<Record>,
+    sealed: usize,
     opened: Option<Opening>,
+    edges: Vec<Regs>,
     words: Vec<u32>,
     entry_room: usize,
     word_room: usize,
+}
+
+/// A lock with the bytes of its guard, and the journal of the blocks that ran with it.
+///
+/// While a block runs, its entry is open: the block's turns then change the lock and note the
+/// words that came from elsewhere. The entry is closed with the block, and sealed once the block
+/// has its stamp and worker.
+#[derive(Drop)]
+pub struct LockState {
+    contents: Box<Contents>,
 }
 
 impl Model for LockState {
@@ -50,9 +58,9 @@ impl Model for LockState {
 
     ghost use Rattle.tc_segment.specs.Kept.{view_of, Kept};
 
-    ghost view = { view_of };
+    ghost view = { λ a. view_of a.contents.value };
 
-    ghost invariant = { Kept };
+    ghost invariant = { λ a. Kept a.contents.value };
 }
 
 impl LockState {
@@ -64,7 +72,7 @@ impl LockState {
     {
         prove!(image.guards() <= 32);
         let (start, length) = image.guard(lock);
-        Ok(LockState {
+        let contents = Contents {
             of: Snapshot::of(image),
             number: lock,
             limit,
@@ -73,12 +81,16 @@ impl LockState {
             broken: false,
             sections: 0,
             run: 0,
-            sealed: Vec::new(alloc),
-            closed: None,
+            records: Vec::new(alloc),
+            sealed: 0,
             opened: None,
+            edges: Vec::new(alloc),
             words: Vec::new(alloc),
             entry_room: 0,
             word_room: 0,
+        };
+        Ok(LockState {
+            contents: Box::new(alloc, contents)?,
         })
     }
 
@@ -86,7 +98,7 @@ impl LockState {
     pub fn keeps(&self)
         ensures { IsSound self.now }
     {
-        let _ = &self.number;
+        let _ = &self.contents.number;
     }
 
     /// The number of the lock.
@@ -94,49 +106,49 @@ impl LockState {
         ensures is { result ≡ self.now.number }
         ensures small { result < 32 }
     {
-        self.number
+        self.contents.number
     }
 
     /// The batch limit: how many Adopted sections may stand in a row.
     pub fn limit(&self) -> u32
         ensures { result ≡ self.now.journal.limit }
     {
-        self.limit
+        self.contents.limit
     }
 
     /// Whether a thread ended while it held the lock.
     pub fn broken(&self) -> bool
         ensures { result ≡ self.now.broken }
     {
-        self.broken
+        self.contents.broken
     }
 
     /// The streak: how many Adopted sections stand in a row at the end.
     pub fn run(&self) -> u32
         ensures { result ≡ run_of self.now.number (blocks_of self.now) }
     {
-        self.run
+        self.contents.run
     }
 
     /// How many sections began.
     pub fn sections(&self) -> u64
         ensures { result ≡ self.now.sections }
     {
-        self.sections
+        self.contents.sections
     }
 
     /// The bytes of the guard.
     pub fn bytes(&self) -> &[u8]
         ensures { result.now ≡ self.now.bytes }
     {
-        &self.bytes
+        &self.contents.bytes
     }
 
     /// The number of entries, with one that is closed and not sealed yet.
     pub fn entries(&self) -> usize
         ensures { result ≡ length (entries self.now.journal) }
     {
-        self.sealed.len() + usize::from(self.closed.is_some())
+        self.contents.records.len()
     }
 
     /// The entry at a place, from 0, in the order in which they were closed.
@@ -144,7 +156,8 @@ impl LockState {
         requires { i < length (entries self.now.journal) }
         ensures { slice_get (entries self.now.journal) i ≡ Some (entry_lent result) }
     {
-        record_at(&self.sealed, self.closed, i).entry(&self.words)
+        let contents = &*self.contents;
+        contents.records[i].entry(&contents.edges, &contents.words)
     }
 
     /// Whether the batch rule lets this be the kind, and the worker of the first block, of the
@@ -152,11 +165,12 @@ impl LockState {
     pub fn allows(&self, kind: Kind, worker: u32) -> bool
         ensures { result ≡ allows_in self.now kind worker }
     {
+        let contents = &*self.contents;
         may_begin(
-            self.number,
-            self.limit,
-            last_block(&self.sealed),
-            self.run,
+            contents.number,
+            contents.limit,
+            last_block(&contents.records, contents.sealed),
+            contents.run,
             kind,
             worker,
         )
@@ -167,7 +181,9 @@ impl LockState {
     pub fn passes_to(&self, kind: Kind, thread: u32) -> bool
         ensures { result ≡ passes_to (last_of (blocks_of self.now)) kind thread }
     {
-        passes_to(last_block(&self.sealed), kind, thread)
+        let contents = &*self.contents;
+        let last = last_block(&contents.records, contents.sealed);
+        passes_to(last, kind, thread)
     }
 
     /// Makes room for one entry and for as many foreign words.
@@ -175,27 +191,31 @@ impl LockState {
         ensures ok { OnOk result (self.new ≡ with_journal (with_room 1 turns) self.old) }
         ensures err { OnErr result (self.new ≡ self.old) }
     {
-        // One more beside one that is closed and one that is open.
-        self.sealed.reserve(3)?;
-        self.words.reserve(turns)?;
-        self.entry_room = 1;
-        self.word_room = turns;
+        let contents = &mut *self.contents;
+        // One more beside one that is open, with the registers before and after each.
+        contents.records.reserve(2)?;
+        contents.edges.reserve(3)?;
+        contents.words.reserve(turns)?;
+        contents.entry_room = 1;
+        contents.word_room = turns;
         Ok(())
     }
 
     /// Opens the entry of a block whose thread has these registers and this fuel before it.
-    pub fn open_entry(&mut self, start: Regs, fuel: u32)
+    pub fn open_entry(&mut self, start: &Regs, fuel: u32)
         requires opened { self.old.journal.opened ≡ None }
         requires closed { self.old.journal.closed ≡ None }
         requires room { 0 < self.old.journal.entry_room }
-        ensures { self.new ≡ with_journal (opened_at (lock_of self.old) start fuel) self.old }
+        ensures { self.new ≡ with_journal (opened_at (lock_of self.old) start.now fuel) self.old }
     {
-        self.opened = Some(Opening {
-            start,
+        let contents = &mut *self.contents;
+        let start = place_of(&mut contents.edges, start);
+        contents.opened = Some(Opening {
             fuel,
-            from: self.words.len(),
+            start,
+            from: contents.words.len(),
         });
-        self.entry_room -= 1;
+        contents.entry_room -= 1;
     }
 
     /// The little-endian number of 1, 2 or 4 bytes of the guard.
@@ -204,7 +224,7 @@ impl LockState {
         requires inside { in_guard addr width (guard_of self.now) ≡ true }
         ensures { result ≡ number_of_guard self.now addr width }
     {
-        number_in(self.start, &self.bytes, addr, width)
+        number_in(self.contents.start, &self.contents.bytes, addr, width)
     }
 
     /// Writes the low bytes of a value, 1, 2 or 4, into the guard, the lowest first.
@@ -214,7 +234,13 @@ impl LockState {
         requires opened { is_some self.old.journal.opened ≡ true }
         ensures { self.new ≡ with_store addr width value self.old }
     {
-        put_number(self.start, &mut self.bytes, addr, width, value);
+        put_number(
+            self.contents.start,
+            &mut self.contents.bytes,
+            addr,
+            width,
+            value,
+        );
     }
 
     /// Notes a word that came from elsewhere: a load outside the guard, or the answer to a LOCK.
@@ -223,11 +249,12 @@ impl LockState {
         requires room { 0 < self.old.journal.word_room }
         ensures { self.new ≡ with_journal (noted (value ∷ [])) self.old }
     {
-        match self.words.push(value) {
+        let contents = &mut *self.contents;
+        match contents.words.push(value) {
             Ok(()) => {}
             Err(_) => unreachable!(),
         }
-        self.word_room -= 1;
+        contents.word_room -= 1;
     }
 
     /// Counts a section: the turn took the lock.
@@ -235,7 +262,7 @@ impl LockState {
         requires { is_some self.old.journal.opened ≡ true }
         ensures { self.new ≡ with_section self.old }
     {
-        self.sections = self.sections.saturating_add(1);
+        self.contents.sections = self.contents.sections.saturating_add(1);
     }
 
     /// Breaks the lock: its thread ended while it held it.
@@ -243,31 +270,39 @@ impl LockState {
         requires { is_some self.old.journal.opened ≡ true }
         ensures { self.new ≡ with_break self.old }
     {
-        self.broken = true;
+        self.contents.broken = true;
     }
 
     /// Closes the open entry with its block and the registers after it. The lock is broken from
     /// then on where the block ended its thread. The block's stamp and worker don't count yet.
-    pub fn close_entry(&mut self, image: &Image, block: Block, end: Regs)
+    pub fn close_entry(&mut self, image: &Image, block: &Block, end: &Regs)
         requires image { self.old.journal.image ≡ image.now }
         requires opened { is_some self.old.journal.opened ≡ true }
-        requires closes { ClosesWith block end self.old }
-        ensures { self.new ≡ with_end block.end (with_journal (closed_with block end) self.old) }
+        requires closes { ClosesWith block.now end.now self.old }
+        ensures { self.new
+            ≡ with_end block.now.end (with_journal (closed_with block.now end.now) self.old) }
     {
         let _ = image;
-        let broken = broken_after(self.broken, block.end);
-        if let Some(opening) = self.opened {
-            self.closed = Some(Record {
-                block,
-                start: opening.start,
-                fuel: opening.fuel,
-                finish: end,
-                from: opening.from,
-                to: self.words.len(),
-            });
-            self.opened = None;
-            self.broken = broken;
+        let contents = &mut *self.contents;
+        let broken = broken_after(contents.broken, block.end);
+        let Some(opening) = contents.opened else {
+            return;
+        };
+        let finish = place_of(&mut contents.edges, end);
+        let record = Record {
+            block: *block,
+            fuel: opening.fuel,
+            start: opening.start,
+            finish,
+            from: opening.from,
+            to: contents.words.len(),
+        };
+        match contents.records.push(record) {
+            Ok(()) => {}
+            Err(_) => unreachable!(),
         }
+        contents.opened = None;
+        contents.broken = broken;
     }
 
     /// Seals the closed entry: its block gets this stamp and worker.
@@ -277,15 +312,11 @@ impl LockState {
         requires passes { MayPass self.old }
         ensures { self.new ≡ with_journal (sealed_as stamp worker) self.old }
     {
-        if let Some(record) = self.closed {
-            let record = record.sealed(stamp, worker);
-            self.run = run_after(self.number, self.run, &record.block);
-            match self.sealed.push(record) {
-                Ok(()) => {}
-                Err(_) => unreachable!(),
-            }
-            self.closed = None;
-        }
+        let contents = &mut *self.contents;
+        let record = &mut contents.records[contents.sealed];
+        record.stamp(stamp, worker);
+        contents.run = run_after(contents.number, contents.run, &record.block);
+        contents.sealed += 1;
     }
 }
 

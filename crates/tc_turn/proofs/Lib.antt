@@ -1,3 +1,4 @@
 pub mod MemoryLaws
 pub mod Turns
 pub mod Words
+pub mod InPlace

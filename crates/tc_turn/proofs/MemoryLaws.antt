@@ -1,16 +1,16 @@
 -- A thread's own memory, kept in parts, is a map from addresses to bytes.
 use Rattle.std.proofs.Common.{◌≡◌, ◌≢◌, ℕ, zero, suc, ◌+◌, ◌-◌, ◌/◌, ◌%◌, ◌<◌, ◌==◌, Bool, true, false, ◌||◌, ◌&&◌, List, [], ◌∷◌, ◌++◌, take, length, map, set, get_or, replicate, refl, sym, ap, ◌∙◌, arith, inl, inr}
-use Rattle.std.specs.Prelude.{if◌then◌else◌, slice_get, Option, Some, None}
+use Rattle.std.specs.Prelude.{if◌then◌else◌, slice_get, Option, Some, None, unwrap_or}
 use Rattle.std.specs.List.{list_any}
 use Rattle.std.specs.Option.{option_map, option_or}
 use Rattle.std.proofs.lemmas.Bool.Decides.{eqb_tells, leb_tells}
 use Rattle.std.proofs.lemmas.Option.{slice_get-get_or, slice_get_past}
-use Rattle.std.proofs.lemmas.List.{get_or-replicate, length-replicate}
+use Rattle.std.proofs.lemmas.List.{get_or-replicate, length-replicate, ext_get_or}
 use Rattle.std.proofs.lemmas.List.Folds.{list_any_more}
 use Rattle.std.proofs.lemmas.List.FromFn.{length-map-range_with_len, get_or-map-range_with_len}
 use Rattle.tc_elf.specs.Shown.{Shown, Range}
 use Rattle.tc_elf.specs.declared.limits.TheConstants.{STACK_START, STACK_LENGTH}
-use Rattle.tc_elf.specs.Places.{lies_in, in_writable, touches}
+use Rattle.tc_elf.specs.Places.{lies_in, in_writable, touches, byte_of}
 use Rattle.tc_turn.specs.Memory.{with_byte, with_number, byte_from, put_byte, part_with, Part, Own, byte_in, own_of, starting_byte, starting_bytes, part_of, writable_byte, stack_byte, own_at_start}
 
 -- ---- one byte in a list of bytes
@@ -126,6 +126,14 @@ byte_from_each start bytes f at each = elim (leb_tells start at) [
 
 length_starting : (image : Shown) (start n : ℕ) → length (starting_bytes image start n) ≡ n
 length_starting image start n = length-map-range_with_len (starting_byte image) start n
+
+-- the bytes of addresses of which each has one
+pub bytes_each : (image : Shown) (start n : ℕ) (bytes : List ℕ) → length bytes ≡ n → ((i : ℕ) → i < n → byte_of image (start + i) ≡ Some (get_or bytes i 0)) → bytes ≡ starting_bytes image start n
+bytes_each image start n bytes long each =
+    ext_get_or 0 bytes (starting_bytes image start n) (long ∙ sym (length_starting image start n))
+    (λ i below.
+    let within : i < n = omega (arith, long) in
+    sym (get_or-map-range_with_len (starting_byte image) start n i (start + i) 0 within refl ∙ ap (λ o. unwrap_or o 0) (each i within)))
 
 byte_of_part : (image : Shown) (r : Range) (at : ℕ) → byte_from r.start (starting_bytes image r.start r.length) at ≡ (if lies_in at 1 r.start r.length then Some (starting_byte image at) else None)
 byte_of_part image r at =

@@ -9,7 +9,6 @@ use Rattle.tc_elf.specs.declared.image.Region.{Region}
 use Rattle.tc_elf.specs.declared.image.Region.TheVariants as region
 use Rattle.tc_exec.specs.Calls.{answered}
 use Rattle.tc_exec.specs.Step.{wants_of, act_of}
-use Rattle.tc_exec.specs.Told.{IsNoLock}
 use Rattle.tc_exec.specs.declared.outcome.Act.{Act}
 use Rattle.tc_exec.specs.declared.outcome.Act.TheVariants.{Next, Called, Faulted}
 use Rattle.tc_exec.specs.declared.outcome.Call.TheVariants.{Lock, Unlock, Sleep, Exit}
@@ -38,22 +37,6 @@ taken_was (Called (Unlock j) regs) k e = absurd (cc)
 taken_was (Called (Sleep n) regs) k e = absurd (cc)
 taken_was (Called Exit regs) k e = absurd (cc)
 taken_was (Faulted f) k e = absurd (cc)
-
-no_lock_taken : (a : Act) → IsNoLock a → taken_by a ≡ None
-no_lock_taken (Next regs put) h = refl
-no_lock_taken (Called (Lock k) regs) h = absurd h
-no_lock_taken (Called (Unlock k) regs) h = refl
-no_lock_taken (Called (Sleep n) regs) h = refl
-no_lock_taken (Called Exit regs) h = refl
-no_lock_taken (Faulted f) h = refl
-
--- no lock is taken where no act from these registers is a LOCK
-pub none_next : (image : Shown) (d : Thread) → ((held : ℕ → Bool) (answer : ℕ) → IsNoLock (act_of image held d.regs answer)) → next_lock image d ≡ None
-unfolding next_lock
-none_next image d none = elim (d.fuel == 0) as (λ b. (if b then None else taken_by (act_of image d.held d.regs 0)) ≡ None) [
-  | true ↦ refl
-  | false ↦ no_lock_taken (act_of image d.held d.regs 0) (none d.held 0)
-]
 
 pub next_some : (image : Shown) (d : Thread) (k : ℕ) → next_lock image d ≡ Some k → (regs : Registers) × (act_of image d.held d.regs 0 ≡ Called (Lock k) regs)
 unfolding next_lock

@@ -2,3 +2,4 @@ pub mod Memory
 pub mod Turn
 pub mod Reads
 pub mod Replay
+pub mod InPlace

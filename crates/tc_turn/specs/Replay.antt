@@ -1,4 +1,4 @@
--- One lock's side of a block: the bytes of its guard, and the words that came from elsewhere. RV32I runs on these alone.
+-- One lock's side of a block: the bytes of its guard, and the words that came from elsewhere. RV32IM runs on these alone.
 use Rattle.std.specs.Prelude.{◌≡◌, ℕ, zero, suc, ◌+◌, ◌<◌, Bool, true, false, not, ◌&&◌, ◌||◌, ◌==◌, if◌then◌else◌, List, [], ◌∷◌, ◌++◌, Option, Some, None, unwrap_or}
 use Rattle.tc_isa.specs.Registers.{Registers}
 use Rattle.tc_elf.specs.Shown.{Shown, guard_at}

@@ -7,6 +7,7 @@ use Rattle.tc_elf.specs.Places.{byte_of}
 use Rattle.tc_elf.specs.declared.image.Region.{Region}
 use Rattle.tc_elf.specs.declared.image.Region.TheVariants as region
 use Rattle.tc_exec.specs.Step.{wants_of, act_of}
+pub use Rattle.tc_exec.specs.Told.{taken_by}
 use Rattle.tc_exec.specs.declared.outcome.Act.{Act}
 use Rattle.tc_exec.specs.declared.outcome.Act.TheVariants.{Next, Called, Faulted}
 use Rattle.tc_exec.specs.declared.outcome.Call.TheVariants.{Lock, Unlock, Sleep, Exit}
@@ -75,15 +76,6 @@ mutex_at_start image lock = record {
 }
 
 -- ---- what the next turn does
-
--- the lock that an act takes, where it is a LOCK
-abbrev pub taken_by : Act → Option ℕ
-taken_by (Next regs put) = None
-taken_by (Called (Lock lock) regs) = Some lock
-taken_by (Called (Unlock lock) regs) = None
-taken_by (Called (Sleep blocks) regs) = None
-taken_by (Called Exit regs) = None
-taken_by (Faulted f) = None
 
 -- the lock of the next turn, where that is a lawful LOCK; its answer, not known yet, does not count there
 unfoldable pub next_lock : Shown → Thread → Option ℕ

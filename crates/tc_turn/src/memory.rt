@@ -63,8 +63,8 @@ pub fn put_number(start: u32, bytes: &mut [u8], addr: u32, width: u32, value: u3
     }
 }
 
-/// The bytes that the file gives the addresses from one on.
-pub fn starting_bytes(
+/// The bytes that the file gives the addresses from one on, each asked for alone.
+fn single_bytes(
     alloc: Global,
     image: &Image,
     start: u32,
@@ -78,6 +78,31 @@ pub fn starting_bytes(
         bytes.push(image.byte(start + i).unwrap_or(0))?;
     }
     Ok(bytes)
+}
+
+fn copied(alloc: Global, bytes: &[u8]) -> Result<Vec<u8>, AllocError>
+    ensures { IfOk result (λ copy. copy.items ≡ bytes.now) }
+{
+    let mut copy = Vec::with_capacity(alloc, bytes.len())?;
+    copy.extend_from_slice(bytes)?;
+    Ok(copy)
+}
+
+/// The bytes that the file gives the addresses from one on. Where one range has them, as it has
+/// those of its own and of a guard, they are copied at once.
+pub fn starting_bytes(
+    alloc: Global,
+    image: &Image,
+    start: u32,
+    length: u32,
+) -> Result<Vec<u8>, AllocError>
+    requires { start + length ≤ 2 ^ 32 }
+    ensures { IfOk result (λ bytes. bytes.items ≡ starting_bytes image.now start length) }
+{
+    match image.bytes(start, length) {
+        Some(there) => copied(alloc, there),
+        None => single_bytes(alloc, image, start, length),
+    }
 }
 
 impl Part {

@@ -1,9 +1,10 @@
 //! How a turn came out.
 
 ghost use Rattle.std.specs.Prelude.{◌≡◌};
+ghost use Rattle.tc_turn.specs.InPlace.{outcome_done};
 ghost use Rattle.tc_turn.specs.Turn as turn;
 
-use tc_exec::outcome::{Act, Call};
+use tc_exec::outcome::{Act, Call, Done};
 use tc_journal::rule::Outcome;
 
 /// How a turn that did this came out for the block that it is in. None is the turn of a thread
@@ -26,15 +27,21 @@ pub fn outcome_of(act: &Option<Act>) -> Outcome
     }
 }
 
-/// The lock that an act takes, where it is a LOCK.
-pub fn taken_by(act: &Act) -> Option<u32>
-    ensures { result ≡ turn.taken_by act.now }
+/// The same of what the turn did beside the registers.
+pub fn outcome_by(done: &Option<Done>) -> Outcome
+    ensures { result ≡ outcome_done done.now }
 {
-    match act {
-        Act::Next { .. } | Act::Faulted(_) => None,
-        Act::Called { call, .. } => match call {
-            Call::Lock(lock) => Some(*lock),
-            Call::Unlock(_) | Call::Sleep(_) | Call::Exit => None,
+    let Some(done) = done else {
+        return Outcome::Spent;
+    };
+    match done {
+        Done::Went | Done::Stored(_) => Outcome::Went,
+        Done::Called(call) => match call {
+            Call::Lock(_) => Outcome::Went,
+            Call::Unlock(lock) => Outcome::Unlocked(*lock),
+            Call::Sleep(_) => Outcome::Slept,
+            Call::Exit => Outcome::Exited,
         },
+        Done::Faulted(fault) => Outcome::Faulted(*fault),
     }
 }

@@ -1,10 +1,11 @@
 use crate::memory::{Memory, byte_from, put_number, starting_bytes};
-use crate::outcome::{outcome_of, taken_by};
+use crate::outcome::{outcome_by, outcome_of};
 use crate::status::Status;
 use crate::thread::GuestThread;
 use std::test::Fail;
 use tc_elf::load::load;
-use tc_exec::outcome::{Act, Call, Want};
+use tc_exec::code::Code;
+use tc_exec::outcome::{Call, Done, Want};
 use tc_isa::held::Held;
 use tc_isa::reg::Reg;
 use tc_journal::rule::Outcome;
@@ -40,16 +41,20 @@ fn a_thread_runs_to_its_exit(rt: HostRuntime) -> Result<(), Fail> {
 }
 
 #[test]
-fn a_lock_is_taken_by_a_lock_call_alone(rt: HostRuntime) -> Result<(), Fail> {
+fn turns_in_place_are_the_turns(rt: HostRuntime) -> Result<(), Fail> {
     let image = load(rt.alloc(), &SMALLEST)?;
-    let regs = GuestThread::start(rt.alloc(), &image, 1, 0)?.regs();
-    for (call, lock) in [
-        (Call::Lock(3), Some(3)),
-        (Call::Unlock(3), None),
-        (Call::Sleep(3), None),
-    ] {
-        assert!(rt; taken_by(&Act::Called { call, regs }) == lock);
-    }
+    let code = Code::of(rt.alloc(), &image)?;
+    let mut thread = GuestThread::start(rt.alloc(), &image, 100, 0)?;
+    assert!(rt; thread.load_wanted(&image, &code) == Want::Nothing);
+    // ECALL is not plain.
+    assert_eq!(rt; thread.run_plain(&code, 9), 1);
+    assert_eq!(rt; thread.regs().pc(), 0x10058);
+    assert_eq!(rt; thread.fuel(), 99);
+    let last = thread.turn(&image, &code, 0);
+    assert!(rt; last == Some(Done::Called(Call::Exit)));
+    assert!(rt; outcome_by(&last) == Outcome::Exited);
+    assert!(rt; thread.status() == Status::Exited);
+    assert_eq!(rt; thread.fuel(), 98);
     Ok(())
 }
 

@@ -1,20 +1,24 @@
 //! A guest thread.
 
-ghost use Rattle.std.specs.Prelude.{◌≡◌, ◌<◌, IfOk, IfSome, length};
+ghost use Rattle.std.specs.Prelude.{◌≡◌, ◌<◌, ◌≤◌, IfOk, IfSome, length};
+ghost use Rattle.std.specs.Option.{option_map};
 ghost use Rattle.tc_isa.specs.Sets.{has};
+ghost use Rattle.tc_exec.specs.InPlace.{done_of};
+ghost use Rattle.tc_exec.specs.Plain.{PlainRun};
 ghost use Rattle.tc_exec.specs.Step.{wants_of};
 ghost use Rattle.tc_exec.specs.Told.{IsWant};
+ghost use Rattle.tc_turn.specs.InPlace.{thread_done, ran_plain, DoneFits};
 ghost use Rattle.tc_turn.specs.Memory.{own_of};
 ghost use Rattle.tc_turn.specs.Turn.{thread_of, thread_at_start, next_lock, act_with, ActFits, PutFits, thread_after, with_end, with_put};
 
 use crate::memory::Memory;
-use crate::outcome::taken_by;
 use crate::status::Status;
 use std::alloc::{AllocError, Global};
 use std::marker::Model;
 use tc_elf::image::{Image, Region};
-use tc_exec::outcome::{Act, Call, Put, Want};
-use tc_exec::step::{act, may_lock, wants};
+use tc_exec::code::Code;
+use tc_exec::outcome::{Act, Call, Done, Put, Want};
+use tc_exec::step::{act, lock_wanted, wants};
 use tc_isa::held::Held;
 use tc_isa::regs::Regs;
 
@@ -53,10 +57,10 @@ impl GuestThread {
     }
 
     /// The registers.
-    pub fn regs(&self) -> Regs
-        ensures { result ≡ self.now.regs }
+    pub fn regs(&self) -> &Regs
+        ensures { result.now ≡ self.now.regs }
     {
-        self.regs
+        &self.regs
     }
 
     /// How many instructions it may still run.
@@ -111,14 +115,83 @@ impl GuestThread {
 
     /// The lock of its next turn, where that is a lawful LOCK. It costs little where the next
     /// instruction is no LOCK.
-    #[tactic(auto, unfolding(crate::specs::Turn::next_lock), using(crate::proofs::Turns::none_next))]
+    #[tactic(auto, unfolding(crate::specs::Turn::next_lock))]
     pub fn next_lock(&self, image: &Image) -> Option<u32>
         ensures { result ≡ next_lock image.now (thread_of self.now) }
     {
-        if !may_lock(image, &self.regs) {
-            return None;
+        match self.fuel {
+            0 => None,
+            _ => lock_wanted(image, self.held, &self.regs),
         }
-        taken_by(&self.act(image, 0)?)
+    }
+
+    /// The load that its next instruction needs, as `wants` tells it, from the decoded code of its
+    /// image.
+    pub fn load_wanted(&self, image: &Image, code: &Code) -> Want
+        requires { code.now ≡ image.now }
+        ensures value { result ≡ wants_of image.now (has self.now.held) self.now.regs }
+        ensures told { IsWant image.now (has self.now.held) result }
+    {
+        code.wants(image, self.held, &self.regs)
+    }
+
+    /// Does plain instructions, which touch registers alone, and says how many: at most `most`, no
+    /// more than the thread has fuel for, and none that was not decoded. Each is a turn.
+    pub fn run_plain(&mut self, code: &Code, most: u32) -> u32
+        ensures runs { PlainRun code.now result self.old.regs self.new.regs }
+        ensures rest { self.new ≡ ran_plain result self.new.regs self.old }
+        ensures fuel { result ≤ self.old.fuel }
+        ensures most { result ≤ most }
+    {
+        let most = most.min(self.fuel);
+        if most == 0 {
+            return 0;
+        }
+        let ran = code.run(&mut self.regs, most);
+        self.fuel -= ran;
+        ran
+    }
+
+    /// Its next turn with the answer to its load or to its LOCK, and what it did beside the
+    /// registers. None is the turn in which it ends for want of fuel. It is `act` and `take_turn`
+    /// at once, from the decoded code of its image.
+    #[tactic(auto, using(crate::proofs::InPlace::same_thread))]
+    pub fn turn(&mut self, image: &Image, code: &Code, answer: u32) -> Option<Done>
+        requires { code.now ≡ image.now }
+        ensures done { result
+            ≡ option_map done_of (act_with image.now (thread_of self.old) answer) }
+        ensures thread { thread_of self.new
+            ≡ thread_after (thread_of self.old) (act_with image.now (thread_of self.old) answer) }
+        ensures fits { IfSome result DoneFits }
+    {
+        let Some(left) = self.fuel.checked_sub(1) else {
+            self.end(Status::SpentFuel);
+            return None;
+        };
+        // So each lock that an act names is below 32.
+        prove!(image.guards() <= 32);
+        self.fuel = left;
+        let done = code.go(image, self.held, &mut self.regs, answer);
+        self.follow(&done);
+        Some(done)
+    }
+
+    /// Follows what its turn did beside the registers and the fuel, which have it already.
+    fn follow(&mut self, done: &Done)
+        requires { DoneFits done.now }
+        ensures { thread_of self.new ≡ thread_done (thread_of self.old) done.now }
+    {
+        match done {
+            Done::Went => {}
+            Done::Stored(put) => self.put(&Some(*put)),
+            Done::Called(call) => match *call {
+                Call::Lock(lock) => self.held = self.held.plus(lock),
+                Call::Unlock(lock) => self.held = self.held.less(lock),
+                Call::Sleep(_) => {}
+                Call::Exit => self.end(Status::Exited),
+            },
+            Done::Faulted(fault) => self.end(Status::Faulted(*fault)),
+        }
     }
 
     /// The thread after its turn. None is the turn in which it ends for want of fuel.

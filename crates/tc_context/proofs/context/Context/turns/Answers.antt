@@ -1,71 +1,73 @@
-use Rattle.std.proofs.Common.{◌+◌, ℕ, List, sym, ◌∙◌}
+use Rattle.std.proofs.Common.{◌+◌, ◌∙◌, ap, sym, subst}
+use Rattle.std.specs.Prelude.{IfSome}
 use Rattle.tc_isa.specs.Sets.{has}
 use Rattle.tc_journal.specs.Rule.{end_rule}
 use Rattle.tc_turn.specs.Turn.{next_lock}
-use Rattle.tc_turn.specs.Replay.{word_of}
-use Rattle.tc_context.specs.Whole.{thread_in, mutex_at}
+use Rattle.tc_turn.specs.InPlace.{DoneFits}
+use Rattle.tc_context.specs.Whole.{thread_in, RunsAs}
+use Rattle.tc_context.specs.Middle.{act_in, AreNoted}
+use Rattle.tc_context.specs.Ran.{slept_by, slept_in}
+use Rattle.tc_context.proofs.Moved.{act_fits}
+use Rattle.tc_context.proofs.Partway.{Partway, partway_start, partway_more, partway_ends, partway_slept, noted_next, opened_here, room_here}
+use Rattle.tc_context.proofs.Plain.{taken}
 use Rattle.tc_mutex_spec.proofs.Going.{next_small, end_fits}
-use Rattle.tc_context.proofs.Partway.{partway_start, partway_more, partway_ends, partway_slept, partway_noted, act_noted, journaled_start, journaled_more, journals_ended, opened_here, room_here}
 use Rattle.tc_context.proofs.context.Context.turns.Goals as goal
 
-pub turn-act-requires-clause-opened : goal.turn-act-requires-clause-opened
-turn-act-requires-clause-opened c = opened_here c.args.image.now (has c.args.block) c.args.self.now c.block.self c.block.count c.requires.opened c.block.invariant.journaled
+pub advance-steps-requires-clause-opened : goal.advance-steps-requires-clause-opened
+advance-steps-requires-clause-opened c = opened_here c.args.image.now (has c.args.block) c.args.self.now c.block.self c.block.count c.requires.opened c.block.invariant.partway
 
-pub turn-act-requires-clause-room : goal.turn-act-requires-clause-room
-turn-act-requires-clause-room c = room_here c.args.image.now (has c.args.block) c.args.self.now c.block.self c.block.count c.block.invariant.partway.short c.requires.opened c.requires.room c.block.invariant.journaled
+pub advance-steps-requires-clause-room : goal.advance-steps-requires-clause-room
+advance-steps-requires-clause-room c = room_here c.args.image.now (has c.args.block) c.args.self.now c.block.self c.block.count c.requires.opened c.requires.room c.block.invariant.partway
 
 pub returns-in-Some-clause-runs : goal.returns-in-Some-clause-runs
 returns-in-Some-clause-runs c =
     let image = c.args.image.now in
-    let old = c.args.self.now in
-    let now = c.block.self in
-    let turn = c.turn-act.ensures.moves in
-    let words : ℕ → List ℕ = λ k. word_of image k (thread_in now) (mutex_at now) in
-    let rule = (λ i. end_rule (sym c.outcome_of.ensures i) (c.block.count + 1) (sym c.next_lock-next.ensures i)) ∙ sym c.end_of.ensures ∙ c.in-Some.is in
-    partway_ends image old turn.middle c.turn-act.new.self c.block.count c.turn-act.result c.in-Some.end c.requires.go
-    (partway_noted image old now turn.middle c.block.count words (has c.args.block) c.block.invariant.partway turn.notes)
-    (act_noted image now turn.middle words (has c.args.block) c.turn-act.result turn.notes c.turn-act.ensures.act) turn.moves rule
+    let steps = c.advance-steps.ensures in
+    let new = c.advance-steps.new.self in
+    let t = taken image (has c.args.block) c.args.self.now c.block.self new c.block.count c.advance-steps.result.count c.advance-steps.result.done c.block.invariant.partway steps.most steps.turns in
+    let rule = (λ i. end_rule ((t.came ∙ sym c.outcome_by.ensures) i) (sym t.count i) (sym c.next_lock-next.ensures i)) ∙ sym c.end_of.ensures ∙ c.in-Some.is in
+    subst (λ n. RunsAs image c.args.self.now new n c.in-Some.end) (sym t.count) (partway_ends image (has c.args.block) c.args.self.now t.last new t.before c.in-Some.end t.partway t.turn rule c.requires.go)
 
 pub returns-in-Some-clause-slept : goal.returns-in-Some-clause-slept
 returns-in-Some-clause-slept c =
     let image = c.args.image.now in
-    let now = c.block.self in
-    let turn = c.turn-act.ensures.moves in
-    let words : ℕ → List ℕ = λ k. word_of image k (thread_in now) (mutex_at now) in
-    c.slept_by-slept.ensures
-    ∙ partway_slept image c.args.self.now turn.middle c.turn-act.new.self c.block.count c.turn-act.result (partway_noted image c.args.self.now now turn.middle c.block.count words (has c.args.block) c.block.invariant.partway turn.notes)
-    (act_noted image now turn.middle words (has c.args.block) c.turn-act.result turn.notes c.turn-act.ensures.act) turn.moves
+    let steps = c.advance-steps.ensures in
+    let new = c.advance-steps.new.self in
+    let t = taken image (has c.args.block) c.args.self.now c.block.self new c.block.count c.advance-steps.result.count c.advance-steps.result.done c.block.invariant.partway steps.most steps.turns in
+    c.slept_by.ensures ∙ ap slept_by t.done ∙ partway_slept image (has c.args.block) c.args.self.now t.last new t.before t.partway t.turn ∙ ap (slept_in image c.args.self.now) (sym t.count)
 
 pub returns-in-Some-clause-end : goal.returns-in-Some-clause-end
 returns-in-Some-clause-end c =
     let image = c.args.image.now in
-    let d = thread_in c.turn-act.new.self in
-    let rule = (λ i. end_rule (sym c.outcome_of.ensures i) (c.block.count + 1) (sym c.next_lock-next.ensures i)) ∙ sym c.end_of.ensures ∙ c.in-Some.is in
-    end_fits c.turn-act.result (c.block.count + 1) (next_lock image d) c.in-Some.end c.turn-act.ensures.fits (next_small image d c.requires.go.guards) rule
+    let steps = c.advance-steps.ensures in
+    let new = c.advance-steps.new.self in
+    let t = taken image (has c.args.block) c.args.self.now c.block.self new c.block.count c.advance-steps.result.count c.advance-steps.result.done c.block.invariant.partway steps.most steps.turns in
+    let rule = (λ i. end_rule ((t.came ∙ sym c.outcome_by.ensures) i) (sym t.count i) (sym c.next_lock-next.ensures i)) ∙ sym c.end_of.ensures ∙ c.in-Some.is in
+    let fits = act_fits (act_in image t.last) (subst (λ o. IfSome o DoneFits) t.done steps.fits) in
+    end_fits (act_in image t.last) (t.before + 1) (next_lock image (thread_in new)) c.in-Some.end fits (next_small image (thread_in new) c.requires.go.guards) rule
 
 pub returns-in-Some-clause-journals : goal.returns-in-Some-clause-journals
 returns-in-Some-clause-journals c =
-    journals_ended c.args.image.now (has c.args.block) c.args.self.now c.block.self c.turn-act.new.self c.block.count c.turn-act.result c.block.invariant.partway c.block.invariant.journaled c.turn-act.ensures.moves
+    let image = c.args.image.now in
+    let steps = c.advance-steps.ensures in
+    let new = c.advance-steps.new.self in
+    let t = taken image (has c.args.block) c.args.self.now c.block.self new c.block.count c.advance-steps.result.count c.advance-steps.result.done c.block.invariant.partway steps.most steps.turns in
+    subst (λ n. AreNoted image (has c.args.block) n c.args.self.now new) (sym t.count) (noted_next image (has c.args.block) c.args.self.now t.last new t.before t.partway t.turn)
 
 pub block-preserved : goal.block-preserved
 block-preserved c =
     let image = c.args.image.now in
-    let old = c.args.self.now in
-    let now = c.block.self in
-    let turn = c.turn-act.ensures.moves in
-    let words : ℕ → List ℕ = λ k. word_of image k (thread_in now) (mutex_at now) in
-    let rule = (λ i. end_rule (sym c.outcome_of.ensures i) (c.block.count + 1) (sym c.next_lock-next.ensures i)) ∙ sym c.end_of.ensures ∙ c.in_default.is in
+    let steps = c.advance-steps.ensures in
+    let new = c.advance-steps.new.self in
+    let t = taken image (has c.args.block) c.args.self.now c.block.self new c.block.count c.advance-steps.result.count c.advance-steps.result.done c.block.invariant.partway steps.most steps.turns in
+    let rule = (λ i. end_rule ((t.came ∙ sym c.outcome_by.ensures) i) (sym t.count i) (sym c.next_lock-next.ensures i)) ∙ sym c.end_of.ensures ∙ c.in_default.is in
     record {
-      partway = partway_more image old turn.middle c.turn-act.new.self c.block.count c.turn-act.result
-          (partway_noted image old now turn.middle c.block.count words (has c.args.block) c.block.invariant.partway turn.notes)
-          (act_noted image now turn.middle words (has c.args.block) c.turn-act.result turn.notes c.turn-act.ensures.act) turn.moves rule;
-      journaled = journaled_more image (has c.args.block) old now c.turn-act.new.self c.block.count c.turn-act.result c.block.invariant.partway c.block.invariant.journaled c.turn-act.ensures.act turn rule;
+      partway = subst (λ n. Partway image (has c.args.block) c.args.self.now new n) (sym t.count) (partway_more image (has c.args.block) c.args.self.now t.last new t.before t.partway t.turn rule);
       next = c.next_lock-next.ensures;
     }
 
 pub block-init : goal.block-init
 block-init c = record {
-  partway = partway_start c.args.image.now c.args.self.now c.requires.go;
-  journaled = journaled_start c.args.image.now (has c.args.block) c.args.self.now c.requires.covers;
+  partway = partway_start c.args.image.now (has c.args.block) c.args.self.now c.requires.go c.requires.covers;
   next = c.requires.takes;
 }

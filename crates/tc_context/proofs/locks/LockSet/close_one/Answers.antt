@@ -19,8 +19,8 @@ returns c = λ k.
     let n = c.args.lock in
     let items = c.self.inside.places.items in
     let lt : n < length items = omega (arith, c.requires.lock, c.self.invariant) in
-    let g : LockView → LockView = λ m. with_end c.args.block.now.end (with_journal (closed_with c.args.block.now c.args.finish) m) in
-    let f : LockView → LockView = closed_in (has c.args.held) c.args.block.now c.args.finish n in
+    let g : LockView → LockView = λ m. with_end c.args.block.now.end (with_journal (closed_with c.args.block.now c.args.finish.now) m) in
+    let f : LockView → LockView = closed_in (has c.args.held) c.args.block.now c.args.finish.now n in
     (elim c.match-index_mut.branch [
       | in-Some+then-has w ↦ ap (λ x. lock_in x.places.items k) w.self-inside-is
           ∙ changed_place f items n c.index_mut.result.now _ lt c.index_mut.ensures.value (ap Some (w.close_entry.ensures ∙ when_true (has c.args.held n) g w.in-Some.state (sym w.has.ensures ∙ w.if-has.true)) ∙ ap (option_map f) (sym w.in-Some.is)) k

@@ -1,16 +1,9 @@
 use Rattle.std.proofs.Common.{refl, subst}
-use Rattle.std.specs.Prelude.{Some}
-use Rattle.tc_context.specs.Locks.{PutReady, StoreReady}
+use Rattle.tc_context.specs.Locks.{StoreReady}
 use Rattle.tc_context.proofs.locks.LockSet.put.Goals as goal
 
 pub store-requires-clause-inside : goal.store-requires-clause-inside
-store-requires-clause-inside c = λ l found.
-    let put = c.in-Some.put in
-    let ready : PutReady (Some put) c.in-Guard.lock l = subst (λ p. PutReady p c.in-Guard.lock l) c.in-Some.is (c.requires.ready c.in-Guard.lock l found) in
-    (subst (λ r. StoreReady r c.in-Guard.lock put.addr put.width l) c.in-Guard.is ready refl).0
+store-requires-clause-inside c = λ l found. (subst (λ r. StoreReady r c.in-Guard.lock c.args.put.now.addr c.args.put.now.width l) c.in-Guard.is (c.requires.ready c.in-Guard.lock l found) refl).0
 
 pub store-requires-clause-opened : goal.store-requires-clause-opened
-store-requires-clause-opened c = λ l found.
-    let put = c.in-Some.put in
-    let ready : PutReady (Some put) c.in-Guard.lock l = subst (λ p. PutReady p c.in-Guard.lock l) c.in-Some.is (c.requires.ready c.in-Guard.lock l found) in
-    (subst (λ r. StoreReady r c.in-Guard.lock put.addr put.width l) c.in-Guard.is ready refl).1
+store-requires-clause-opened c = λ l found. (subst (λ r. StoreReady r c.in-Guard.lock c.args.put.now.addr c.args.put.now.width l) c.in-Guard.is (c.requires.ready c.in-Guard.lock l found) refl).1

@@ -1,6 +1,10 @@
+use Rattle.tc_isa.specs.Sets.{has}
 use Rattle.tc_context.specs.Locks.{Changed, roomy_in}
-use Rattle.tc_context.proofs.LockList.{up_to}
+use Rattle.tc_context.proofs.LockList.{outside}
 use Rattle.tc_context.proofs.locks.LockSet.reserve.Given as goal
 
 abbrev pub invariant-loop-lock : goal.invariant-loop-lock
-invariant-loop-lock l = Changed (up_to (roomy_in 1 4096) l.lock) l.fn.self l.self
+invariant-loop-lock l = Changed (outside (has l.left) (roomy_in (has l.held) 1 4096)) l.fn.self l.self
+
+abbrev pub decreases-loop-lock : goal.decreases-loop-lock
+decreases-loop-lock l = l.left

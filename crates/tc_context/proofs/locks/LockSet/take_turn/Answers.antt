@@ -1,7 +1,7 @@
 use Rattle.std.proofs.Common.{◌∙◌, ap, refl, subst}
 use Rattle.std.specs.Prelude.{Some}
 use Rattle.tc_isa.specs.Sets.{has}
-use Rattle.tc_exec.specs.declared.outcome.Act.TheVariants.{Called}
+use Rattle.tc_exec.specs.declared.outcome.Done.TheVariants.{Called}
 use Rattle.tc_context.specs.Locks.{TurnReady}
 use Rattle.tc_context.proofs.locks.LockSet.take_turn.Goals as goal
 
@@ -9,14 +9,14 @@ pub give_up-requires : goal.give_up-requires
 give_up-requires c = record { ready = λ k l found. subst (λ a. TurnReady (has c.args.held) a k l) c.in_default.is (c.requires.ready k l found) }
 
 pub put-requires-clause-ready : goal.put-requires-clause-ready
-put-requires-clause-ready c = λ k l found. subst (λ a. TurnReady (has c.args.held) a k l) (c.in-Some.is ∙ ap Some c.in-Next.is) (c.requires.ready k l found)
+put-requires-clause-ready c = λ k l found. subst (λ a. TurnReady (has c.args.held) a k l) (c.in-Some.is ∙ ap Some c.in-Stored.is) (c.requires.ready k l found)
 
 pub begin-requires-clause-ready : goal.begin-requires-clause-ready
 begin-requires-clause-ready c = λ l found.
-    subst (λ a. TurnReady (has c.args.held) a c.in-Lock.lock l) (c.in-Some.is ∙ ap Some (c.in-Called.is ∙ ap (λ x. Called x c.in-Called.regs) c.in-Lock.is)) (c.requires.ready c.in-Lock.lock l found) refl
+    subst (λ a. TurnReady (has c.args.held) a c.in-Lock.lock l) (c.in-Some.is ∙ ap Some (c.in-Called.is ∙ ap Called c.in-Lock.is)) (c.requires.ready c.in-Lock.lock l found) refl
 
 pub give_up-requires-in-Exit : goal.give_up-requires-in-Exit
-give_up-requires-in-Exit c = record { ready = λ k l found. subst (λ a. TurnReady (has c.args.held) a k l) (c.in-Some.is ∙ ap Some (c.in-Called.is ∙ ap (λ x. Called x c.in-Called.regs) c.in-Exit.is)) (c.requires.ready k l found) }
+give_up-requires-in-Exit c = record { ready = λ k l found. subst (λ a. TurnReady (has c.args.held) a k l) (c.in-Some.is ∙ ap Some (c.in-Called.is ∙ ap Called c.in-Exit.is)) (c.requires.ready k l found) }
 
 pub give_up-requires-in-Faulted : goal.give_up-requires-in-Faulted
 give_up-requires-in-Faulted c = record { ready = λ k l found. subst (λ a. TurnReady (has c.args.held) a k l) (c.in-Some.is ∙ ap Some c.in-Faulted.is) (c.requires.ready k l found) }

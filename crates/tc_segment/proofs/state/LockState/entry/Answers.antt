@@ -1,21 +1,34 @@
-use Rattle.std.proofs.Common.{ap, subst, sym, ◌∙◌}
+use Rattle.std.proofs.Common.{◌∙◌, ap, subst, sym, map, length, refl, arith}
 use Rattle.std.specs.Prelude.{slice_get, Some}
-use Rattle.tc_segment.specs.View.{LockView, with_closed, entries}
-use Rattle.tc_segment.specs.Kept.{shown, Fits}
-use Rattle.tc_segment.proofs.Keeping.{fits_at, entry_at}
+use Rattle.std.specs.Option.{option_map}
+use Rattle.std.proofs.lemmas.List.{length-map}
+use Rattle.std.proofs.lemmas.Option.{slice_get-map, slice_get_read}
+use Rattle.tc_segment.specs.View.{LockView, entries}
+use Rattle.tc_segment.specs.Kept.{shown, Fits, view_of, Kept}
+use Rattle.tc_segment.proofs.Keeping.{fits_at, entries_are}
 use Rattle.tc_segment.proofs.state.LockState.entry.Goals as goal
 
 pub entry-requires : goal.entry-requires
 entry-requires c =
-    let a = c.self.inside in
-    let is = ap (λ rs. slice_get (with_closed rs a.closed) c.args.i) (sym c.deref.ensures.value) ∙ c.record_at.ensures in
-    subst (λ ws. Fits ws c.record_at.result) (sym c.deref-2.ensures.value) (fits_at a.words.items a.sealed.items a.closed c.args.i c.record_at.result c.self.invariant.sealed c.self.invariant.closed is)
+    let kept = subst Kept (sym c.deref-contents.ensures) c.self.invariant in
+    let shows = ap view_of c.deref-contents.ensures ∙ c.self.view_is in
+    let a = c.deref-contents.result.now in
+    let all = entries_are a.sealed (map (shown a.edges.items a.words.items) a.records.items) (let h = kept.closed in omega (arith, length-map a.records.items (shown a.edges.items a.words.items))) in
+    let count = ap (λ (l : LockView). length (entries l.journal)) (sym shows) ∙ ap length all ∙ length-map a.records.items (shown a.edges.items a.words.items) in
+    let is = slice_get_read a.records.items _ c.args.i c.index.result.now refl (let lt = c.requires in omega (arith, count)) c.index.ensures in
+    subst (λ es. Fits es c.deref-2.result.now c.index.result.now) (sym c.deref.ensures.value)
+    (subst (λ ws. Fits a.edges.items ws c.index.result.now) (sym c.deref-2.ensures.value) (fits_at a.edges.items a.words.items a.records.items c.args.i c.index.result.now kept.records is))
 
 pub returns : goal.returns
 returns c =
-    let a = c.self.inside in
-    let is = ap (λ rs. slice_get (with_closed rs a.closed) c.args.i) (sym c.deref.ensures.value) ∙ c.record_at.ensures in
-    ap (λ (l : LockView). slice_get (entries l.journal) c.args.i) (sym c.self.view_is)
-    ∙ entry_at a.words.items a.sealed.items a.closed c.args.i c.record_at.result is
-    ∙ ap (λ ws. Some (shown ws c.record_at.result)) (sym c.deref-2.ensures.value)
+    let kept = subst Kept (sym c.deref-contents.ensures) c.self.invariant in
+    let shows = ap view_of c.deref-contents.ensures ∙ c.self.view_is in
+    let a = c.deref-contents.result.now in
+    let f = shown a.edges.items a.words.items in
+    let all = entries_are a.sealed (map f a.records.items) (let h = kept.closed in omega (arith, length-map a.records.items f)) in
+    let count = ap (λ (l : LockView). length (entries l.journal)) (sym shows) ∙ ap length all ∙ length-map a.records.items f in
+    let is = slice_get_read a.records.items _ c.args.i c.index.result.now refl (let lt = c.requires in omega (arith, count)) c.index.ensures in
+    ap (λ (l : LockView). slice_get (entries l.journal) c.args.i) (sym shows)
+    ∙ ap (λ es. slice_get es c.args.i) all ∙ slice_get-map f a.records.items c.args.i ∙ ap (option_map f) is
+    ∙ sym (λ i. Some (shown (c.deref.ensures.value i) (c.deref-2.ensures.value i) c.index.result.now))
     ∙ ap Some (sym c.entry.ensures)

@@ -1,10 +1,9 @@
-use Rattle.std.proofs.Common.{◌≡◌, ◌∙◌, sym, ap, subst, arith}
-use Rattle.std.specs.Prelude.{map}
+use Rattle.std.proofs.Common.{◌≡◌, ◌∙◌, length, sym, ap, subst, arith}
 use Rattle.tc_elf.specs.Shown.{Shown, guard_at}
 use Rattle.tc_journal.specs.Batch.{run_of}
 use Rattle.tc_turn.specs.Memory.{starting_bytes}
-use Rattle.tc_segment.specs.View.{LockView, IsSound, block_in}
-use Rattle.tc_segment.specs.Kept.{shown, AllFit}
+use Rattle.tc_segment.specs.View.{LockView, IsSound, blocks_of}
+use Rattle.tc_segment.specs.Kept.{AllFit, Kept}
 use Rattle.tc_segment.proofs.Keeping.{fresh_view, sound_fresh}
 use Rattle.tc_segment.proofs.state.LockState.new.Goals as goal
 
@@ -16,17 +15,21 @@ invariant_of-result c =
     let of : c.of.result.value ≡ image = c.of.ensures in
     let start = ap (λ p. p.0) place ∙ ap (λ (x : Shown). (guard_at x c.args.lock).start) (sym of) in
     let bytes = c.in_ok-starting_bytes.ensures ∙ ap (λ p. starting_bytes image p.0 p.1) place in
-    let words = c.new-2.ensures.items in
-    let sealed = c.new.ensures.items in
-    let view = fresh_view _ image c.args.lock c.args.limit _ _ _ of bytes words sealed in
-    record {
+    let edges = c.new-2.result.items in
+    let words = c.new-3.result.items in
+    let records = c.new.ensures.items in
+    let view = fresh_view _ image c.args.lock c.args.limit _ words edges _ of bytes records in
+    let none = ap length records in
+    subst Kept (sym c.in_ok-new.ensures.ok) (record {
       sound = subst (λ (l : LockView). IsSound l) (sym view) (sound_fresh image c.args.lock c.args.limit c.requires.lock (omega arith) guard.kept c.requires.limit);
       start = start;
-      sealed = subst (λ rs. AllFit c.new-2.result.items rs) (sym sealed) tt;
-      closed = tt;
+      records = subst (λ rs. AllFit edges words rs) (sym records) tt;
+      sealed = omega arith;
+      closed = omega (arith, none);
       opened = tt;
-      run = sym (ap (λ rs. run_of c.args.lock (map block_in (map (shown c.new-2.result.items) rs))) sealed);
+      run = sym (ap (λ (l : LockView). run_of c.args.lock (blocks_of l)) view);
       short = omega arith;
       entry_room = omega arith;
+      edge_room = omega arith;
       word_room = omega arith;
-    }
+    })

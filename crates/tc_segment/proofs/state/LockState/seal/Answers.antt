@@ -1,62 +1,89 @@
-use Rattle.std.proofs.Common.{◌≡◌, ℕ, List, [], ◌∷◌, ◌++◌, ◌≤◌, true, map, sym, ap, subst, ◌∙◌, arith}
-use Rattle.std.specs.Prelude.{Option, Some, None, option_map}
-use Rattle.std.proofs.lemmas.List.{map-append}
+use Rattle.std.proofs.Common.{◌≡◌, ℕ, ◌+◌, ◌<◌, ◌≤◌, [], ◌∷◌, ◌++◌, true, map, set, get_or, length, inl, inr, sym, ap, subst, ◌∙◌, arith}
+use Rattle.std.specs.Prelude.{Some, is_some, slice_get}
+use Rattle.std.specs.Option.{option_map}
+use Rattle.std.proofs.lemmas.List.{length-map, length-set, map-append, map-set}
+use Rattle.std.proofs.lemmas.Option.{slice_get-map, slice_get-get_or, slice_get_cases}
 use Rattle.tc_turn.specs.Replay.{Entry}
 use Rattle.tc_segment.specs.declared.record.Record.{Record}
-use Rattle.tc_segment.specs.declared.state.LockState.TheInside.{Inside}
+use Rattle.tc_segment.specs.declared.state.Contents.{Contents}
 use Rattle.tc_journal.specs.Batch.{run_of, run_after, may_follow, passes_on}
 use Rattle.tc_segment.specs.View.{LockView, with_journal, sealed_as, sealed_block, sealed_entry, sealed_list, IsSound, block_in, blocks_of}
-use Rattle.tc_segment.specs.Kept.{shown, shown_journal, AllFit, ClosedFits, view_of, count}
-use Rattle.tc_segment.proofs.Sealing.{sealed_journal, sound_sealed, run-more, run_short, fits-end}
+use Rattle.tc_segment.specs.Kept.{shown, shown_journal, sealed_record, Fits, view_of, Kept}
+use Rattle.tc_segment.proofs.Keeping.{fits_at, fits_set}
+use Rattle.tc_segment.proofs.Sealing.{sealed_journal, sound_sealed, run-more, run_short}
 use Rattle.tc_segment.proofs.state.LockState.seal.Goals as goal
 
-sealed_view : (a : Inside) (stamp worker : ℕ) (r s : Record) (records : List Record) → a.closed ≡ Some r
-    → s ≡ record { block = sealed_block stamp worker r.block; start = r.start; fuel = r.fuel; finish = r.finish; from = r.from; to = r.to }
-    → records ≡ a.sealed.items ++ s ∷ []
-    → record { number = a.number; bytes = a.bytes.items; broken = a.broken; sections = a.sections; journal = shown_journal a.of.value a.number a.limit a.words.items records None a.opened a.entry_room a.word_room } ≡ with_journal (sealed_as stamp worker) (view_of a)
-sealed_view a stamp worker r s records is made items =
-    let j = ap (λ rs. shown_journal a.of.value a.number a.limit a.words.items rs None a.opened a.entry_room a.word_room) items
-    ∙ sealed_journal a.of.value a.number a.limit a.words.items a.sealed.items a.closed a.opened a.entry_room a.word_room stamp worker r s is made in
+-- the closed entry, which is that of the record behind the sealed ones
+closed_at : (a : Contents) (r : Record) → slice_get a.records.items a.sealed ≡ Some r → (view_of a).journal.closed ≡ Some (shown a.edges.items a.words.items r)
+closed_at a r is = slice_get-map (shown a.edges.items a.words.items) a.records.items a.sealed ∙ ap (option_map (shown a.edges.items a.words.items)) is
+
+sealed_view : (a : Contents) (stamp worker : ℕ) (r s : Record) → Kept a → slice_get a.records.items a.sealed ≡ Some r → s ≡ sealed_record stamp worker r
+    → record { number = a.number; bytes = a.bytes.items; broken = a.broken; sections = a.sections; journal = shown_journal a.of.value a.number a.limit (map (shown a.edges.items a.words.items) (set a.records.items a.sealed s)) (a.sealed + 1) a.edges.items a.words.items a.opened a.entry_room a.word_room } ≡ with_journal (sealed_as stamp worker) (view_of a)
+sealed_view a stamp worker r s k is made =
+    let f = shown a.edges.items a.words.items in
+    let old = map f a.records.items in
+    let new = map-set f a.records.items a.sealed s ∙ ap (λ x. set old a.sealed (f x)) made in
+    let j = sealed_journal a.of.value a.number a.limit old _ a.sealed a.edges.items a.words.items a.opened a.entry_room a.word_room stamp worker (f r) (closed_at a r is)
+    (let h = k.closed in omega (arith, length-map a.records.items f)) new in
     λ i. record { number = a.number; bytes = a.bytes.items; broken = a.broken; sections = a.sections; journal = j i }
 
-pub returns-in-Ok : goal.returns-in-Ok
-returns-in-Ok c =
-    sealed_view c.self.inside c.args.stamp c.args.worker c.in-Some.record c.sealed-record.result _ c.in-Some.is c.sealed-record.ensures c.in-Ok.ensures.items
-    ∙ ap (with_journal (sealed_as c.args.stamp c.args.worker)) c.self.view_is
+-- there is one
+closed_there : (a : Contents) (x : Record) → a.sealed < length a.records.items → x ≡ get_or a.records.items a.sealed x → slice_get a.records.items a.sealed ≡ Some x
+closed_there a x lt is = slice_get-get_or a.records.items a.sealed x lt ∙ ap Some (sym is)
+
+some_closed : (a : Contents) → is_some (view_of a).journal.closed ≡ true → a.sealed < length a.records.items
+some_closed a some = elim (slice_get_cases a.records.items a.sealed).1 [
+  | inl x ↦ x.1
+  | inr y ↦ absurd (let e = ap is_some (sym (slice_get-map (shown a.edges.items a.words.items) a.records.items a.sealed ∙ ap (option_map (shown a.edges.items a.words.items)) y.1)) ∙ some in cc)
+]
+
+pub returns : goal.returns
+returns c =
+    let shows = ap view_of c.deref_mut-contents.ensures.value ∙ c.self.view_is in
+    let kept = subst Kept (sym c.deref_mut-contents.ensures.value) c.self.invariant in
+    let a = c.deref_mut-contents.result.now in
+    let lt = some_closed a (ap (λ (l : LockView). is_some l.journal.closed) shows ∙ c.requires.closed) in
+    sealed_view a c.args.stamp c.args.worker c.index_mut-record.result.now c.stamp.new.self kept (closed_there a c.index_mut-record.result.now lt c.index_mut-record.ensures.value) c.stamp.ensures
+    ∙ ap (with_journal (sealed_as c.args.stamp c.args.worker)) shows
 
 pub invariant_of-self : goal.invariant_of-self
 invariant_of-self c =
-    let a = c.self.inside in
-    let k = c.self.invariant in
-    let r = c.in-Some.record in
-    let s = c.sealed-record.result in
+    let shows = ap view_of c.deref_mut-contents.ensures.value ∙ c.self.view_is in
+    let kept = subst Kept (sym c.deref_mut-contents.ensures.value) c.self.invariant in
+    let a = c.deref_mut-contents.result.now in
+    let k = kept in
+    let r = c.index_mut-record.result.now in
+    let s = c.stamp.new.self in
     let stamp = c.args.stamp in
     let worker = c.args.worker in
-    let e : Entry = shown a.words.items r in
-    let view = sealed_view a stamp worker r s _ c.in-Some.is c.sealed-record.ensures c.in-Ok.ensures.items in
-    let was : (view_of a).journal.closed ≡ Some e = ap (option_map (shown a.words.items)) c.in-Some.is in
+    let lt = some_closed a (ap (λ (l : LockView). is_some l.journal.closed) shows ∙ c.requires.closed) in
+    let is = closed_there a r lt c.index_mut-record.ensures.value in
+    let e : Entry = shown a.edges.items a.words.items r in
+    let view = sealed_view a stamp worker r s k is c.stamp.ensures in
+    let was : (view_of a).journal.closed ≡ Some e = closed_at a r is in
     let follows : may_follow a.number a.limit (blocks_of (view_of a)) (sealed_block stamp worker r.block) ≡ true =
-    ap (λ (l : LockView). may_follow l.number l.journal.limit (blocks_of l) (sealed_block stamp worker r.block)) c.self.view_is
-    ∙ c.requires.follows e (ap (λ (l : LockView). l.journal.closed) (sym c.self.view_is) ∙ was) in
+    ap (λ (l : LockView). may_follow l.number l.journal.limit (blocks_of l) (sealed_block stamp worker r.block)) shows
+    ∙ c.requires.follows e (ap (λ (l : LockView). l.journal.closed) (sym shows) ∙ was) in
     let passes : passes_on a.number (blocks_of (view_of a)) r.block ≡ true =
-    ap (λ (l : LockView). passes_on l.number (blocks_of l) r.block) c.self.view_is
-    ∙ c.requires.passes e (ap (λ (l : LockView). l.journal.closed) (sym c.self.view_is) ∙ was) in
-    let block : s.block ≡ sealed_block stamp worker r.block = ap (λ (x : Record). x.block) c.sealed-record.ensures in
-    let run : c.run_after-self-inside.result ≡ run_after a.number (run_of a.number (blocks_of (view_of a))) (sealed_block stamp worker r.block) =
-    c.run_after-self-inside.ensures ∙ (λ i. run_after a.number (k.run i) (block i)) in
-    let fits = subst (λ x. ClosedFits a.words.items x) c.in-Some.is k.closed in
-    let one : count a.closed ≡ 1 = ap (λ (x : Option Record). count x) c.in-Some.is in
-    let room = k.entry_room in
+    ap (λ (l : LockView). passes_on l.number (blocks_of l) r.block) shows
+    ∙ c.requires.passes e (ap (λ (l : LockView). l.journal.closed) (sym shows) ∙ was) in
+    let block : s.block ≡ sealed_block stamp worker r.block = ap (λ (x : Record). x.block) c.stamp.ensures in
+    let run : c.run_after-contents.result ≡ run_after a.number (run_of a.number (blocks_of (view_of a))) (sealed_block stamp worker r.block) =
+    c.run_after-contents.ensures ∙ (λ i. run_after a.number (k.run i) (block i)) in
     let blocks : blocks_of (with_journal (sealed_as stamp worker) (view_of a)) ≡ blocks_of (view_of a) ++ sealed_block stamp worker r.block ∷ [] =
     ap (λ x. map block_in (sealed_list stamp worker (view_of a).journal.sealed x)) was ∙ map-append block_in (view_of a).journal.sealed (sealed_entry stamp worker e ∷ []) in
+    let fits = fits_at a.edges.items a.words.items a.records.items a.sealed r k.records is in
+    let len = length-set a.records.items a.sealed s in
     record {
       sound = subst (λ (l : LockView). IsSound l) (sym view) (sound_sealed stamp worker (view_of a) e k.sound was follows passes);
       start = k.start;
-      sealed = subst (λ rs. AllFit a.words.items rs) (sym c.in-Ok.ensures.items) (fits-end a.words.items a.sealed.items r s k.sealed fits (ap (λ (x : Record). x.from) c.sealed-record.ensures) (ap (λ (x : Record). x.to) c.sealed-record.ensures));
-      closed = tt;
+      records = fits_set a.edges.items a.words.items a.records.items a.sealed s k.records (subst (λ x. Fits a.edges.items a.words.items x) (sym c.stamp.ensures) (record { start = fits.start; finish = fits.finish; order = fits.order; inside = fits.inside }));
+      sealed = omega (arith, lt, len);
+      closed = (let h = k.closed in omega (arith, len));
       opened = k.opened;
       run = run ∙ sym (run-more a.number 0 (blocks_of (view_of a)) (sealed_block stamp worker r.block)) ∙ ap (run_of a.number) (sym blocks) ∙ ap (λ (l : LockView). run_of a.number (blocks_of l)) (sym view);
       short = subst (λ n. n ≤ a.limit) (sym run) (run_short a.number a.limit (blocks_of (view_of a)) (sealed_block stamp worker r.block) (subst (λ n. n ≤ a.limit) k.run k.short) follows);
-      entry_room = omega (arith, one, c.in-Ok.ensures.len, c.in-Ok.ensures.capacity);
+      entry_room = k.entry_room;
+      edge_room = k.edge_room;
       word_room = k.word_room;
     }

@@ -1,0 +1,30 @@
+use Rattle.std.proofs.Common.{refl, arith, ap, subst, sym, ◌∙◌, ◌==◌}
+use Rattle.std.specs.Prelude.{is_some}
+use Rattle.std.proofs.lemmas.Nat.Bits.{bit_at-zero}
+use Rattle.tc_isa.specs.Sets.{has}
+use Rattle.tc_turn.specs.Turn.{next_lock}
+use Rattle.tc_context.specs.Whole.{thread_in}
+use Rattle.tc_context.specs.Kept.{Kept}
+use Rattle.tc_context.proofs.Staging.{fresh_sound}
+use Rattle.tc_context.proofs.package.Package.start_with.Goals as goal
+
+pub invariant_of-result : goal.invariant_of-result
+invariant_of-result c = subst Kept (sym c.in_ok-new.ensures.ok) (record {
+  sound = fresh_sound c.args.image.now c.args.t c.args.fuel _ (record {
+    image_is = c.of.ensures;
+    number = c.in_ok-context.ensures.number;
+    thread = c.in_ok-context.ensures.thread;
+    locks = c.in_ok-context.ensures.locks;
+    granted = refl;
+    pending = refl;
+    log = c.new.ensures.items;
+    log_room = refl;
+    numbers = refl;
+    turns = refl;
+    slept = refl;
+  }) c.requires.thread (omega (arith, c.guards.ensures.value, c.guards.ensures.bound)) c.in_ok-context.ensures.places refl;
+  next = c.next_lock.ensures ∙ ap (λ x. next_lock x (thread_in c.in_ok-context.context)) (sym c.of.ensures);
+  present = λ k. ap is_some (c.in_ok-context.ensures.locks k) ∙ sym (ap (λ n. has n k) c.none.ensures ∙ ap (λ b. b == 1) (bit_at-zero k));
+  code = c.in_ok-clone.ensures.cases ∙ c.requires.code ∙ sym c.of.ensures;
+  log = omega (arith, c.new.ensures.len, c.new.ensures.capacity);
+})
