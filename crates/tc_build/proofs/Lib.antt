@@ -1,0 +1,10 @@
+pub mod Files
+pub mod Reading
+pub mod Headers
+pub mod Segments
+pub mod Parts
+pub mod Noted
+pub mod Standing
+pub mod Coding
+pub mod Sizes
+pub mod Places

@@ -1,0 +1,5 @@
+pub mod Build
+pub mod Described
+pub mod Code
+pub mod Generator
+pub mod Loaded
