@@ -63,7 +63,7 @@ may_go_back image limits c w t =
 
 -- the block that released a lock, as far as the batch rule looks at it
 abbrev pub released_by : Release → Block
-released_by r = record { stamp = 0; thread = 0; turns = 0; held = r.held; kind = kind.On; worker = 0; end = r.end }
+released_by r = record { stamp = 0; thread = 0; turns = 0; held = r.held; kind = kind.On; worker = 0; pc = 0; end = r.end }
 
 -- the batch rule says that the next section of the lock is Adopted
 abbrev pub is_adoptable : Limits → ℕ → ℕ → Option Release → Bool

@@ -216,6 +216,7 @@ impl Release {
             held: self.held,
             kind: Kind::On,
             worker: 0,
+            pc: 0,
             end: self.end,
         }
     }

@@ -109,7 +109,7 @@ module _ (k : Terms) (id : ℕ) (v : Knows) (ws : List ℕ) (xs : List (Option C
   pub some_lock : (i : ℕ) (x : Option Cargo) → i < locks k → get_elem? xs (threads k + i) ≡ some x → IsLock x
   some_lock i x h at = let p = at_place rule.told.segments i (omega (arith, rule.told.law.all_states)) in let q = lock_in_slot i p.0 p.1 in (q.0, some-injective x (Some (Lock q.0)) (sym at ∙ q.1))
 
-  pub ends : (qs : List PackageView) (ls : List LockView) → AreTaken (λ (q : PackageView). Package q) 0 (threads k) xs qs → AreTaken (λ (l : LockView). Lock l) (threads k) (locks k) xs ls → IsEnd k qs ls
+  pub ends : (qs : List PackageView) (ls : List LockView) → AreTaken (λ (q : PackageView). Package q) 0 (threads k) xs qs → AreTaken (λ (l : LockView). Lock l) (threads k) (locks k) xs ls → IsEnd k v qs ls
   ends qs ls taken taken_locks =
       let at : (t : ℕ) (q : PackageView) → get_elem? qs t ≡ some q → get_elem? xs t ≡ some (Some (Package q)) = λ t q e. subst (λ (z : ℕ). get_elem? xs z ≡ some (Some (Package q))) (omega arith) (taken.each t q e) in
       let same : map bare qs ≡ rule.told.places = sym (same_list rule.told.places (map bare qs) (rule.told.law.all_packages ∙ sym (length-map qs bare ∙ taken.count))
@@ -126,6 +126,7 @@ module _ (k : Terms) (id : ℕ) (v : Knows) (ws : List ℕ) (xs : List (Option C
         history = rule.told.history;
         law = subst (λ (z : List PackageView × List LockView). Lawful k.image.value k.fuel k.limit rule.told.history z.0 z.1) (λ i. (sym same i, sym same_locks i)) rule.told.law;
         workers = rule.told.workers;
+        sealed = (rule.passes id v final.1.1).sealed;
         ended = λ t q e. let place = at_place rule.told.places t (let b = (there qs t q q e).0 in omega (arith, rule.told.law.all_packages, taken.count)) in
             let slot = in_slot t place.0 place.1 in
             let both : slot.context ≡ q = pick (get_elem? xs t) slot.context q slot.at (at t q e) in

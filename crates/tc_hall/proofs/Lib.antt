@@ -1,4 +1,5 @@
 pub mod LockLists
+pub mod Outs
 pub mod Placing
 pub mod Packing
 pub mod Ranks
@@ -12,4 +13,12 @@ pub mod Ended
 pub mod Holding
 pub mod Putting
 pub mod Dealt
-pub mod Walked
+pub mod Waiting
+pub mod InHand
+pub mod Crossing
+pub mod Shows
+pub mod Outlines
+pub mod Tying
+pub mod Alike
+pub mod Through
+pub mod Committing

@@ -36,12 +36,12 @@ no_misfit (suc n) (suc t) e = no_misfit n t e
 pub clean_free : (image : Shown) (n m worker : ℕ) (maker : Bool) → IsFree (clean image n m worker maker)
 clean_free image n m worker maker = record { packages = λ t p e. none_there n t p e; locks = λ i l e. none_there m i l e }
 
-gone_free : IsFree gone
+pub gone_free : IsFree gone
 gone_free = record { packages = λ t p e. some-ne-none (Some p) (sym e); locks = λ i l e. some-ne-none (Some l) (sym e) }
 
 -- a pass that has told nothing
-pub clean_pass : (image its : Shown) (workers : ℕ) (h : List Block) (ws : List ℕ) (n m worker : ℕ) (maker : Bool) → its ≡ image → worker < workers → IsPass image workers h ws (clean its n m worker maker)
-clean_pass image its workers h ws n m worker maker same below = record {
+pub clean_pass : (image its : Shown) (workers : ℕ) (h : List Block) (ws : List ℕ) (n m worker : ℕ) (maker : Bool) → its ≡ image → worker < workers → n ≡ length image.entries → IsPass image workers h ws (clean its n m worker maker)
+clean_pass image its workers h ws n m worker maker same below long = record {
   of = λ live. same;
   worker = below;
   joined = λ i w e. absurd (some-ne-none w (sym e));
@@ -50,6 +50,7 @@ clean_pass image its workers h ws n m worker maker same below = record {
   stop = λ i e. absurd (some-ne-none Stop (sym e));
   stopped = λ i e. absurd (some-ne-none (Stopped 1) (sym e));
   misfit = λ t e. absurd (no_misfit n t e);
+  sized = λ live. length-replicate n false ∙ long;
 }
 
 apart_bools : (b : Bool) → b ≡ false → b ≡ true → ⊥
@@ -296,7 +297,7 @@ module _ (k : Terms) where
       let one = stays s.words s.words s.homes s.homes s.views id v left at (λ e. e) n r.told.places r.placed r.told.law.all_packages (λ u b. refl) (λ u b. refl) refl refl refl (λ u b e. e) (λ u b e. e) in
       let two = locks_stay n (locks k) r.told.segments s.words s.words s.homes s.homes s.views id v left at (λ i. refl) (λ i. refl) (λ u q b e. e) (λ u q b e. e) refl refl (λ i e. e) (λ i e. e) r.locks_placed in
       let all = passes_stay k.image.value k.workers r.told.history r.told.history s.words s.words (λ b e. e) (λ u e. e) (λ e. e) s.views id left r.passes
-      (pass_same k.image.value k.workers r.told.history r.told.history s.words s.words (λ b e. e) (λ u e. e) (λ e. e) v left old (refl, refl, refl) refl refl refl refl) in
+      (pass_same k.image.value k.workers r.told.history r.told.history s.words s.words (λ b e. e) (λ u e. e) (λ e. e) v left old (refl, refl, refl, refl) refl refl refl refl) in
       let new : Knows = fresh v in
       record {
         told = r.told;
@@ -306,7 +307,7 @@ module _ (k : Terms) where
         placed = more n (locks k) r.told.places r.told.segments s.words s.homes vs' one two new (clean_free v.image (length v.packages) (length v.locks) v.made false) (length-replicate (length v.packages) None ∙ wide);
         locks_placed = locks_more n (locks k) r.told.places r.told.segments s.words s.homes vs' one two new (clean_free v.image (length v.packages) (length v.locks) v.made false) (length-replicate (length v.locks) None ∙ wide_locks);
         passes = λ j x e. ⊎_elim (λ (o : get_elem? vs' j ≡ some x). all j x o)
-            (λ (o : new ≡ x). subst (IsPass k.image.value k.workers r.told.history s.words) o (clean_pass k.image.value v.image k.workers r.told.history s.words (length v.packages) (length v.locks) v.made false (old.of live) (omega arith)))
+            (λ (o : new ≡ x). subst (IsPass k.image.value k.workers r.told.history s.words) o (clean_pass k.image.value v.image k.workers r.told.history s.words (length v.packages) (length v.locks) v.made false (old.of live) (omega arith) wide))
             (at_snoc vs' new x j e);
         stop = λ e. let h = stop_stays s.views id v left at (λ i e. (i, e)) (r.stop e) in record { id = h.id; view = h.view; pass = at_longer vs' (new ∷ []) h.id h.view h.pass; place = h.place; call = h.call };
         apart = apart_deals s.views id v (length v.packages) (length v.locks) at live makes room r.apart;
@@ -324,7 +325,7 @@ module _ (k : Terms) where
       let two = locks_stay n (locks k) r.told.segments s.words s.words s.homes s.homes s.views id v both' at (λ i. refl) (λ i. refl) (λ u q b e. e) (λ u q b e. e) refl refl (λ i e. e) (λ i e. e) r.locks_placed in
       let h = r.told.history in
       let all = passes_stay k.image.value k.workers h h s.words s.words (λ b e. e) (λ u e. e) (λ e. e) s.views id both' r.passes
-      (pass_kept k.image.value k.workers h h s.words s.words (λ b e. e) (λ u e. e) (λ e. e) v both' old (refl, refl, refl)
+      (pass_kept k.image.value k.workers h h s.words s.words (λ b e. e) (λ u e. e) (λ e. e) v both' old (refl, refl, refl, refl)
       (λ i u e. ⊎_elim (λ o. inl o) (λ (o : (f : ℕ) × (get_elem? (w.worker ∷ w.joined) f ≡ some u)). inr (joined_below o.0 u theirs o.1)) (either_at v.joined (w.worker ∷ w.joined) i u e))
       (λ i b e. ⊎_elim (λ o. inl o) (λ (o : (f : ℕ) × (get_elem? w.sealed f ≡ some b)). inr (theirs.sealed o.0 b o.1)) (either_at v.sealed w.sealed i b e))
       (λ i c e. ⊎_elim (λ o. inl o) (λ (o : (f : ℕ) × (get_elem? w.calls f ≡ some c)). inr record {
@@ -349,6 +350,7 @@ module _ (k : Terms) where
           stop = λ i e. absurd (some-ne-none Stop (sym e));
           stopped = λ i e. absurd (some-ne-none (Stopped 1) (sym e));
           misfit = λ t e. absurd (some-ne-none true (sym e));
+          sized = λ live. absurd (apart_bools true live refl);
         };
         stop = λ e. stop_joins s.views id other v w at its live lives ne r.apart (r.stop e);
         apart = apart_joins s.views id other v w at its live lives ne r.apart;

@@ -1,5 +1,5 @@
 -- Each step on a package keeps the rule.
-use Rattle.std.proofs.Common.{◌≡◌, ◌≢◌, ◌⊎◌, ℕ, ◌+◌, ◌<◌, ◌==◌, true, false, not, List, [], ◌∷◌, length, set, sym, refl, ap, ◌∙◌, subst, ⊎_elim, inl, inr, arith, Option, Some, None, slice_index, length-set, get_or-set_other, get_or-set_same}
+use Rattle.std.proofs.Common.{◌≡◌, ◌≢◌, ◌⊎◌, ℕ, ◌+◌, ◌<◌, ◌==◌, Bool, true, false, not, List, [], ◌∷◌, length, set, sym, refl, ap, ◌∙◌, subst, ⊎_elim, inl, inr, arith, Option, Some, None, slice_index, length-set, get_or-set_other, get_or-set_same}
 use mathlib.Core.Logic.{dite}
 use mathlib.Core.Option.{none, some, some-injective, some-ne-none}
 use mathlib.Core.Option as maybe
@@ -18,11 +18,12 @@ use Rattle.tc_hall.specs.declared.board.Knows.{Knows}
 use Rattle.tc_hall.specs.declared.board.Terms.{Terms}
 use Rattle.tc_hall.specs.declared.board.Cargo.{Cargo}
 use Rattle.tc_hall.specs.declared.board.Cargo.TheVariants.{Package}
-use Rattle.tc_hall.specs.Rule.{locked_in, threads, locks, Homes, Has, IsHome, IsOut, Lies, Spot, inside, out, IsLockOut, LiesLock, Kept}
+use Rattle.tc_hall.specs.Rule.{locked_in, threads, locks, Homes, Has, HasLock, IsHome, IsOut, Lies, Spot, inside, out, IsLockOut, LiesLock, Kept}
 use Rattle.tc_hall.specs.Steps.{Gets, Got, claimed, laid, reached, after_claim, after_miss}
 use Rattle.tc_hall.proofs.Placing.{moves, stays}
 use Rattle.tc_hall.proofs.Packing.{claims_locks, locks_stay}
 use Rattle.tc_hall.proofs.LockLists.{add_all-has, add_all-else}
+use Rattle.tc_hall.proofs.Outs.{package_came, no_call_claimed}
 use Rattle.tc_hall.proofs.Ranks.{apart_stays, stop_stays, pass_kept, pass_same, passes_stay, done_still, stops_still, stops_back, misfit_stop}
 
 pub some_same : (u t : ℕ) → Some t ≡ Some u → u ≡ t
@@ -89,7 +90,7 @@ module _ (k : Terms) where
         clock = r.clock;
         placed = stays s.words s.words s.homes s.homes s.views id v w at (λ e. e) (threads k) r.told.places r.placed r.told.law.all_packages (λ u b. refl) (λ u b. refl) refl refl refl (λ u b e. e) (λ u b e. e);
         locks_placed = locks_stay (threads k) (locks k) r.told.segments s.words s.words s.homes s.homes s.views id v w at (λ i. refl) (λ i. refl) (λ u q b e. e) (λ u q b e. e) refl refl (λ i e. e) (λ i e. e) r.locks_placed;
-        passes = passes_stay k.image.value k.workers h h s.words s.words (λ b e. e) (λ u e. e) (λ e. e) s.views id w r.passes (pass_same k.image.value k.workers h h s.words s.words (λ b e. e) (λ u e. e) (λ e. e) v w (r.passes id v at) (refl, refl, refl) refl refl refl refl);
+        passes = passes_stay k.image.value k.workers h h s.words s.words (λ b e. e) (λ u e. e) (λ e. e) s.views id w r.passes (pass_same k.image.value k.workers h h s.words s.words (λ b e. e) (λ u e. e) (λ e. e) v w (r.passes id v at) (refl, refl, refl, refl) refl refl refl refl);
         stop = λ e. stop_stays s.views id v w at (λ i e. (i, e)) (r.stop e);
         apart = apart_stays s.views id v w at record { worker = refl; maker = refl; made = refl; spent = refl; joined = refl } live r.apart;
       }
@@ -97,7 +98,7 @@ module _ (k : Terms) where
   abbrev pub taken : Knows → ℕ → PackageView → Knows
   taken v t q = record (after_claim v q) { hand = Some t }
 
-  takes_home : (s : St) (r : Kept k s) (id t new : ℕ) (v : Knows) (p : PackageView) (h : IsHome s.words s.homes t p) → get_elem? s.views id ≡ some v → v.spent ≡ false → v.hand ≡ None → t < threads k → new ≡ 512 + v.worker
+  pub takes_home : (s : St) (r : Kept k s) (id t new : ℕ) (v : Knows) (p : PackageView) (h : IsHome s.words s.homes t p) → get_elem? s.views id ≡ some v → v.spent ≡ false → v.hand ≡ None → t < threads k → new ≡ 512 + v.worker
       → slice_index s.words (t + 2) ≢ 2 → get_elem? r.told.places t ≡ some p → r.placed.holder t ≡ none → h.context.context.thread ≡ t → Kept k (stepped s (t + 2) new id [] (taken v t h.context) (takes t (Some (Package h.context))))
   takes_home s r id t new v p h at live free below new_is not_two place is_home thread =
       let q : PackageView = h.context in
@@ -127,7 +128,7 @@ module _ (k : Terms) where
         locks_placed = claims_locks (threads k) (locks k) r.told.segments s.words ws' s.homes s.views id v w q r.locks_placed r.told.law.all_states at live refl refl
             (λ i. get_or-set_other s.words (t + 2) (threads k + 2 + i) new 0 (λ e. omega arith)) t below h.slot free refl;
         passes = passes_stay k.image.value k.workers r.told.history r.told.history s.words ws' (λ b e. e) done stops s.views id w r.passes
-            (pass_kept k.image.value k.workers r.told.history r.told.history s.words ws' (λ b e. e) done stops v w old (refl, refl, refl) (λ i u e. inl e) (λ i b e. inl e) (λ i c e. inl e)
+            (pass_kept k.image.value k.workers r.told.history r.told.history s.words ws' (λ b e. e) done stops v w old (refl, refl, refl, length-set v.misfits q.context.thread (not (fits_of q v.worker))) (λ i u e. inl e) (λ i b e. inl e) (λ i c e. inl e)
             (λ u e. ⊎_elim (λ (o : (u ≡ q.context.thread) × (not (fits_of q v.worker) ≡ true)). inr (stops (misfit_stop (slice_index s.words 1) q v.worker h.fits o.1))) (λ (o : (u ≢ q.context.thread) × (get_elem? v.misfits u ≡ some true)). inl o.1) (at_set v.misfits q.context.thread u (not (fits_of q v.worker)) true e)));
         stop = λ e. stop_stays s.views id v w at (λ i e. (i, e)) (r.stop (stops_back s.words (t + 2) new (λ e. omega arith) e));
         apart = apart_stays s.views id v w at record { worker = refl; maker = refl; made = refl; spent = refl; joined = refl } live r.apart;
@@ -140,11 +141,13 @@ module _ (k : Terms) where
       let q : PackageView = h.context in
       let after : IsPackageAfter k.image.value k.fuel r.told.history t p = r.told.law.packages_after t p place in
       let wide : length v.locks ≡ locks k = r.locks_placed.sized id v at live in
+      let has_it : Has (after_claim v q) q.context.thread (bare q) = set_here v.packages q.context.thread (Some (bare q)) (omega (arith, r.placed.sized id v at live)) in
+      let has_locks : (i : ℕ) (l : LockView) → locked_in q i ≡ Some l → HasLock (after_claim v q) i (kept l) = λ i l e. add_all-has v.locks q.context.locks i l
+      (let p = r.locks_placed.packed t q i l below h.slot e in let b = (there r.told.segments i (kept l) (kept l) p.1).0 in omega (arith, wide, r.told.law.all_states)) e in
       record {
         now = refl;
-        has = subst (λ (z : ℕ). get_elem? (set v.packages z (Some (bare q))) t ≡ some (Some (bare q))) (sym thread) (set_here v.packages t (Some (bare q)) (omega (arith, r.placed.sized id v at live)));
-        locks = λ i l e. add_all-has v.locks q.context.locks i l
-            (let p = r.locks_placed.packed t q i l below h.slot e in let b = (there r.told.segments i (kept l) (kept l) p.1).0 in omega (arith, wide, r.told.law.all_states)) e;
+        has = subst (λ (z : ℕ). Has (after_claim v q) z (bare q)) thread has_it;
+        locks = has_locks;
         others = (
           (λ u p' has. set_else v.packages q.context.thread u (Some (bare q)) (λ (e : u ≡ q.context.thread). some-ne-none id (sym (r.placed.owned id v u p' at has).0 ∙ (ap r.placed.holder (e ∙ thread) ∙ is_home))) ∙ has),
           (λ i l has. ⊎_elim
@@ -158,6 +161,12 @@ module _ (k : Terms) where
         fits = h.fits.fits;
         sealed = λ i b e is. let f = filter_has t r.told.history b.stamp b ((r.passes id v at).sealed i b e) is in
             (f.0, ap (λ (z : PackageView). get_elem? z.log f.0) h.same ∙ (ap (λ (l : List Block). get_elem? l f.0) after.follows.log ∙ f.1));
+        came = package_came v q has_it has_locks
+            (λ p' has. some-ne-none id (sym (r.placed.owned id v q.context.thread p' at has).0 ∙ (ap r.placed.holder thread ∙ is_home)))
+            (λ i l e l' has. out_inside id t (r.locks_placed.spot i) (r.locks_placed.owned id v i l' at has).0 (r.locks_placed.packed t q i l below h.slot e).0);
+        called = no_call_claimed v q;
+        misfit = λ e. subst (λ (z : ℕ). get_elem? (set v.misfits z (not (fits_of q v.worker))) t ≡ some (not (fits_of q v.worker))) (sym thread)
+            (set_here v.misfits t (not (fits_of q v.worker)) (let n = (r.passes id v at).sized live in omega (arith, n, below))) ∙ ap (λ (z : Bool). some (not z)) e;
       }
 
   abbrev pub Claims : ℕ → ℕ → ℕ → ℕ → ℕ → Knows → List (ℕ × Option Cargo) → Type 0
@@ -235,7 +244,7 @@ module _ (k : Terms) where
             (λ u q _ e. full_still s.homes t a b slot full u q e) (λ u q _ e. full_back s.homes t b full' u q e) (ap (λ (z : Knows). z.locks) same) (ap (λ (z : Knows). z.spent) same)
             (λ i e. absurd (to (threads k + i) (λ e. omega arith) e)) (λ i e. absurd (back (threads k + i) (λ e. omega arith) e)) r.locks_placed;
         passes = passes_stay k.image.value k.workers r.told.history r.told.history s.words s.words (λ b e. e) (λ u e. e) (λ e. e) s.views id w r.passes
-            (pass_same k.image.value k.workers r.told.history r.told.history s.words s.words (λ b e. e) (λ u e. e) (λ e. e) v w old (ap (λ (z : Knows). z.worker) same, ap (λ (z : Knows). z.spent) same, ap (λ (z : Knows). z.image) same) (ap (λ (z : Knows). z.joined) same) (ap (λ (z : Knows). z.sealed) same) (ap (λ (z : Knows). z.calls) same) (ap (λ (z : Knows). z.misfits) same));
+            (pass_same k.image.value k.workers r.told.history r.told.history s.words s.words (λ b e. e) (λ u e. e) (λ e. e) v w old (ap (λ (z : Knows). z.worker) same, ap (λ (z : Knows). z.spent) same, ap (λ (z : Knows). z.image) same, ap (λ (z : Knows). length z.misfits) same) (ap (λ (z : Knows). z.joined) same) (ap (λ (z : Knows). z.sealed) same) (ap (λ (z : Knows). z.calls) same) (ap (λ (z : Knows). z.misfits) same));
         stop = λ e. stop_stays s.views id v w at (λ i e. (i, ap (λ (z : Knows). get_elem? z.calls i) same ∙ e)) (r.stop e);
         apart = apart_stays s.views id v w at record { worker = ap (λ (z : Knows). z.worker) same; maker = ap (λ (z : Knows). z.maker) same; made = ap (λ (z : Knows). z.made) same; spent = ap (λ (z : Knows). z.spent) same; joined = ap (λ (z : Knows). z.joined) same } live r.apart;
       }

@@ -170,7 +170,7 @@ module _ (k : Terms) where
               let same : q ≡ r.0 = package_is q r.0 (get_elem? (map some slots) t) e (at_map some slots t (Some (Package r.0)) r.1) in
               absurd (no_lock l (locked_in q i) (ap (λ (x : PackageView). locked_in x i) same ∙ r.2.locks i) has);
         };
-        passes = λ id v e. let some' = limits.workers.0 in subst (IsPass k.image.value k.workers [] ws) (first_is id v e).1 (clean_pass k.image.value k.image.value k.workers [] ws n m (k.workers - 1) true refl (omega arith));
+        passes = λ id v e. let some' = limits.workers.0 in subst (IsPass k.image.value k.workers [] ws) (first_is id v e).1 (clean_pass k.image.value k.image.value k.workers [] ws n m (k.workers - 1) true refl (omega arith) refl);
         stop = λ e. let z = zero_at 1 (omega arith) in absurd (omega arith);
         apart = record {
           apart = λ i j v w ev ew lv lw e. (first_is i v ev).0 ∙ sym (first_is j w ew).0;

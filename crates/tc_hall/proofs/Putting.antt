@@ -1,14 +1,19 @@
 -- What `put` and `free` ask and say, seen past the slot that the pass holds in between.
-use Rattle.std.proofs.Common.{◌≡◌, ℕ, Option, Some, None, sym, ap, ◌∙◌, subst}
+use Rattle.std.proofs.Common.{◌≡◌, ℕ, [], ◌∷◌, Option, Some, None, refl, sym, ap, ◌∙◌, subst}
+use lib.ListN.{get_elem?}
 use Rattle.atomic_table.proofs.Lists.{set_else}
 use Rattle.tc_segment.specs.View.{LockView}
 use Rattle.tc_context.specs.View.{PackageView}
 use Rattle.tc_hall.specs.declared.place.Place.{Place}
 use Rattle.tc_hall.specs.declared.board.Knows.{Knows}
+use Rattle.tc_hall.specs.declared.board.Terms.{Terms}
 use Rattle.tc_hall.specs.Places.{code_of, place_of}
+use Rattle.tc_hall.specs.declared.board.Call.TheVariants.{Free}
+use Rattle.tc_hall.specs.Outs.{outs, Called}
 use Rattle.tc_hall.specs.Rule.{Has, HasLock}
-use Rattle.tc_hall.specs.Steps.{MayPut, HasStop, made, seen, Gave, after_put, Freed, after_free}
+use Rattle.tc_hall.specs.Steps.{MayPut, HasStop, made, seen, Gave, IsAsLeft, after_put, put_call, Freed, after_free}
 use Rattle.tc_hall.proofs.LockLists.{remove_all-else}
+use Rattle.tc_hall.proofs.Outs.{put_outs, free_outs}
 use Rattle.tc_hall.proofs.Telling.{place_codes}
 
 with_hand : (v : Knows) (o : Option ℕ) → HasStop v → HasStop (record v { hand = o })
@@ -18,6 +23,9 @@ with_hand v o (seen i e) = seen i e
 pub may_put_as : (place : Place) (v w : Knows) (q : PackageView) (o : Option ℕ) → w ≡ record v { hand = o } → MayPut place v q → MayPut place w q
 may_put_as place v w q o is may = subst (λ (z : Knows). MayPut place z q) (sym is) record { has = may.has; locks = may.locks; order = may.order; stop = λ a. with_hand v o (may.stop a); fits = may.fits }
 
+pub left_as : (k : Terms) (v w : Knows) (q : PackageView) (o : Option ℕ) → w ≡ record v { hand = o } → IsAsLeft k w q → IsAsLeft k v q
+left_as k v w q o is left = record { history = left.history; tells = left.tells; obeys = left.obeys; follows = left.follows; sealed = λ i b e. left.sealed i b (ap (λ (z : Knows). get_elem? z.sealed i) is ∙ e) }
+
 pub gave : (place : Place) (code : ℕ) (q : PackageView) (v v2 w : Knows) (t : ℕ) → v2 ≡ record v { hand = Some t } → v.hand ≡ None → code ≡ code_of place → w ≡ record (after_put v2 q (place_of code)) { hand = None } → Gave place q v w
 gave place code q v v2 w t held free is did =
     let now : w ≡ after_put v q place = did ∙ (ap (λ (z : Knows × Place). record (after_put z.0 q z.1) { hand = None }) (λ i. (held i, (ap place_of is ∙ place_codes place) i)) ∙ ap (λ (z : Option ℕ). record (after_put v q place) { hand = z }) (sym free)) in
@@ -25,6 +33,8 @@ gave place code q v v2 w t held free is did =
       now = now;
       others = λ u p ne has. subst (λ (z : Knows). Has z u p) (sym now) (set_else v.packages q.context.thread u None ne ∙ has);
       others_locks = λ i l e has. subst (λ (z : Knows). HasLock z i l) (sym now) (remove_all-else v.locks q.context.locks i e ∙ has);
+      rest = ap outs now ∙ put_outs v q place;
+      called = subst (Called (put_call q place ∷ []) v) (sym now) record { image = refl; worker = refl; sealed = refl; joined = refl; calls = refl };
     }
 
 pub freed : (l : LockView) (v v2 w : Knows) (slot : ℕ) → v2 ≡ record v { hand = Some slot } → v.hand ≡ None → w ≡ record (after_free v2 l) { hand = None } → Freed l v w
@@ -34,4 +44,6 @@ freed l v v2 w slot held free did =
       now = now;
       others = λ u p has. subst (λ (z : Knows). Has z u p) (sym now) has;
       others_locks = λ i k ne has. subst (λ (z : Knows). HasLock z i k) (sym now) (set_else v.locks l.number i None ne ∙ has);
+      rest = ap outs now ∙ free_outs v l;
+      called = subst (Called (Free l.number ∷ []) v) (sym now) record { image = refl; worker = refl; sealed = refl; joined = refl; calls = refl };
     }

@@ -1,5 +1,5 @@
 -- What stays true of the passes when one of them has a new view.
-use Rattle.std.proofs.Common.{◌≡◌, ◌≢◌, ◌⊎◌, ℕ, ◌+◌, ◌<◌, Bool, true, false, not, List, set, sym, refl, ap, ◌∙◌, subst, ⊎_elim, inl, slice_index, get_or-set_other}
+use Rattle.std.proofs.Common.{◌≡◌, ◌≢◌, ◌⊎◌, ℕ, ◌+◌, ◌<◌, Bool, true, false, not, List, length, set, sym, refl, ap, ◌∙◌, subst, ⊎_elim, inl, slice_index, get_or-set_other}
 use mathlib.Core.Logic.{dite}
 use mathlib.Core.Option.{some, some-injective}
 use native.Mathlib.Decide.{ℕ_discrete}
@@ -58,9 +58,9 @@ pub record IsTrueCall (ws : List ℕ) (c : Call) : Type 0 where
   pub stop : c ≡ Stop → slice_index ws 1 ≡ 1
   pub stopped : c ≡ Stopped 1 → slice_index ws 1 ≡ 1
 
--- the pass of the same worker, in the same hall
+-- the pass of the same worker, in the same hall, which says of as many threads whether their packages fitted
 abbrev pub IsSameSeat : Knows → Knows → Type 0
-IsSameSeat v w = (w.worker ≡ v.worker) × (w.spent ≡ v.spent) × (w.image ≡ v.image)
+IsSameSeat v w = (w.worker ≡ v.worker) × (w.spent ≡ v.spent) × (w.image ≡ v.image) × (length w.misfits ≡ length v.misfits)
 
 module _ (image : Shown) (workers : ℕ) (h h' : List Block) (ws ws' : List ℕ) (grows : (b : Block) → get_elem? h b.stamp ≡ some b → get_elem? h' b.stamp ≡ some b)
     (done : (t : ℕ) → slice_index ws (t + 2) ≡ 2 → slice_index ws' (t + 2) ≡ 2) (stops : slice_index ws 1 ≡ 1 → slice_index ws' 1 ≡ 1) where
@@ -79,6 +79,7 @@ module _ (image : Shown) (workers : ℕ) (h h' : List Block) (ws ws' : List ℕ)
     stop = λ i e. ⊎_elim (λ o. stops (old.stop i o)) (λ (o : IsTrueCall ws' Stop). o.stop refl) (calls i Stop e);
     stopped = λ i e. ⊎_elim (λ o. stops (old.stopped i o)) (λ (o : IsTrueCall ws' (Stopped 1)). o.stopped refl) (calls i (Stopped 1) e);
     misfit = λ t e. ⊎_elim (λ o. stops (old.misfit t o)) (λ o. o) (misfits t e);
+    sized = λ live. worker.3 ∙ old.sized (sym worker.1 ∙ live);
   }
 
   -- of a pass that told nothing new
@@ -92,7 +93,7 @@ module _ (image : Shown) (workers : ℕ) (h h' : List Block) (ws ws' : List ℕ)
       → (j : ℕ) (x : Knows) → get_elem? (set vs id w) j ≡ some x → IsPass image workers h' ws' x
   passes_stay vs id w all mine j x is = ⊎_elim
       (λ (o : (j ≡ id) × (w ≡ x)). subst (IsPass image workers h' ws') o.1 mine)
-      (λ (o : (j ≢ id) × (get_elem? vs j ≡ some x)). pass_same x x (all j x o.1) (refl, refl, refl) refl refl refl refl)
+      (λ (o : (j ≢ id) × (get_elem? vs j ≡ some x)). pass_same x x (all j x o.1) (refl, refl, refl, refl) refl refl refl refl)
       (at_set vs id j w x is)
 
 -- a word that isn't 2 changes

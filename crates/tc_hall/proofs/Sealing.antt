@@ -8,6 +8,7 @@ use lib.ListN.{get_elem?}
 use Rattle.atomic_table.specs.Table.{step, keeps, stepped, Allows}
 use Rattle.atomic_table.proofs.Lists.{set_here, set_else, at_longer, at_last}
 use Rattle.tc_isa.specs.Sets.{has}
+use Rattle.tc_elf.specs.declared.limits.TheConstants.{MAX_THREADS}
 use Rattle.tc_elf.specs.Shown.{Shown}
 use Rattle.tc_journal.specs.declared.block.Block.{Block}
 use Rattle.tc_mutex_spec.specs.Blocks.{end_after}
@@ -26,6 +27,7 @@ use Rattle.tc_hall.specs.declared.board.Cargo.{Cargo}
 use Rattle.tc_hall.specs.Rule.{locked_in, threads, locks, IsPass, Kept}
 use Rattle.tc_hall.specs.Steps.{after_commit, Seals, DidSeal}
 use Rattle.tc_hall.specs.Steps as steps
+use Rattle.tc_hall.proofs.Outs.{seal_outs}
 use Rattle.tc_hall.proofs.Placing.{moves}
 use Rattle.tc_hall.proofs.Packing.{seals_locks}
 use Rattle.tc_hall.proofs.LockLists.{add_all-has, add_all-else, with_states-has}
@@ -93,7 +95,7 @@ module _ (k : Terms) (s : St k) (r : Kept k s) (id : ℕ) (v : Knows) (q : Packa
       law_after k.image.value v.image k.fuel k.limit h r.told.places r.told.segments a.before q stamp v.worker (old.of live) (record { threads = r.told.limits.threads; turns = r.told.limits.fuel }) r.told.law o.2 mine a.ran r.clock
       (let x = old.worker in let y = r.told.limits.workers.1 in omega (arith, x, y)) (a.allows a.ran.block a.ran.pending)
 
-  seals_kept : Kept k (stepped s 0 ((stamp + 1) % 18446744073709551616) id [] w keeps)
+  pub seals_kept : Kept k (stepped s 0 ((stamp + 1) % 18446744073709551616) id [] w keeps)
   seals_kept =
       let new : ℕ = (stamp + 1) % 18446744073709551616 in
       let wide : length v.packages ≡ threads k = r.placed.sized id v at live in
@@ -101,7 +103,7 @@ module _ (k : Terms) (s : St k) (r : Kept k s) (id : ℕ) (v : Knows) (q : Packa
       let here : get_elem? w.packages t ≡ some (Some (bare now)) = set_here v.packages t (Some (bare now)) (omega (arith, wide, below)) in
       let place : get_elem? (set r.told.places t (bare now)) t ≡ some (bare now) = set_here r.told.places t (bare now) (omega (arith, r.told.law.all_packages, below)) in
       let words' : (u : ℕ) → slice_index (set s.words 0 new) (u + 2) ≡ slice_index s.words (u + 2) = λ u. get_or-set_other s.words 0 (u + 2) new 0 (λ e. omega arith) in
-      let most : threads k * (k.fuel + 1) ≤ 16 * 65537 = mul-le (threads k) (k.fuel + 1) 16 65537 r.told.limits.threads (omega (arith, r.told.limits.fuel)) in
+      let most : threads k * (k.fuel + 1) ≤ MAX_THREADS * 65537 = mul-le (threads k) (k.fuel + 1) MAX_THREADS 65537 r.told.limits.threads (omega (arith, r.told.limits.fuel)) in
       let count : length (h ++ b ∷ []) ≡ length h + 1 = length-append h (b ∷ []) in
       let bound = law.bound in let clock = r.clock in
       let done : (u : ℕ) → slice_index s.words (u + 2) ≡ 2 → slice_index (set s.words 0 new) (u + 2) ≡ 2 = λ u e. words' u ∙ e in
@@ -134,7 +136,7 @@ module _ (k : Terms) (s : St k) (r : Kept k s) (id : ℕ) (v : Knows) (q : Packa
         locks_placed = seals_locks (threads k) (locks k) r.told.segments s.words (set s.words 0 new) s.homes s.views id v w now r.locks_placed r.told.law.all_states at live refl refl
             (λ i. get_or-set_other s.words 0 (threads k + 2 + i) new 0 (λ e. omega arith)) a.before came_here a.locks refl;
         passes = passes_stay k.image.value k.workers h (h ++ b ∷ []) s.words (set s.words 0 new) grows done stops s.views id w r.passes
-            (pass_kept k.image.value k.workers h (h ++ b ∷ []) s.words (set s.words 0 new) grows done stops v w old (refl, refl, refl) (λ i u e. inl e)
+            (pass_kept k.image.value k.workers h (h ++ b ∷ []) s.words (set s.words 0 new) grows done stops v w old (refl, refl, refl, refl) (λ i u e. inl e)
             (λ i c e. ⊎_elim (λ z. inl z) (λ (z : (i ≡ length v.sealed) × (b ≡ c)). inr (subst (λ (x : Block). get_elem? (h ++ b ∷ []) x.stamp ≡ some x) z.1 (at_last h b b.stamp (sym r.clock)))) (snoc_at v.sealed b c i e))
             (λ i c e. inl e) (λ u e. inl e));
         stop = λ e. stop_stays s.views id v w at (λ i e. (i, e)) (r.stop (stops_back s.words 0 new (λ e. omega arith) e));
@@ -160,6 +162,7 @@ module _ (k : Terms) (s : St k) (r : Kept k s) (id : ℕ) (v : Knows) (q : Packa
         add_all-has v.locks now.context.locks i l (let z = (there r.told.segments i (kept was.0) (kept was.0) p).0 in omega (arith, r.locks_placed.sized id v at live, r.told.law.all_states, z)) e);
     others = λ u p ne has. set_else v.packages t u (Some (bare now)) ne ∙ has;
     others_locks = λ i l e has. add_all-else v.locks now.context.locks i (sealed_at stamp v.worker q.context.locks i ∙ ap (option_map (with_journal (sealed_as stamp v.worker))) e) ∙ has;
+    rest = seal_outs v (sealed_block stamp v.worker a.ran.block) stamp q;
     after_own = λ i c e. (let z = there h c.stamp c c (old.sealed i c e) in let clock = r.clock in omega (arith, clock, z.0));
     after_log = λ i c e. (let f = filter_has (λ (x : Block). x.thread == t) (h ++ b ∷ []) i c (ap (λ (x : List Block). get_elem? x i) (sym (law.packages_after t (bare now) place_here).follows.log) ∙ e) in lower f.0 c f.1);
     after_locks = λ j l i c is e. (let was = came_here j l is in let p = mine j was.0 was.1 in

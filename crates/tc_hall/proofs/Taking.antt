@@ -22,6 +22,7 @@ use Rattle.tc_hall.specs.declared.board.Cargo.{Cargo}
 use Rattle.tc_hall.specs.declared.board.Cargo.TheVariants.{Lock}
 use Rattle.tc_hall.specs.Rule.{threads, locks, Homes, HasLock, Spot, home, inside, out, IsLockHome, IsLockOut, LiesLock, Kept}
 use Rattle.tc_hall.specs.Steps.{laid, reached, did_free, took_as, Took, MayFree, after_take, after_free}
+use Rattle.tc_hall.proofs.Outs.{lock_came, no_call_taken}
 use Rattle.tc_hall.proofs.Placing.{stays}
 use Rattle.tc_hall.proofs.Packing.{IsElseLock, lock_moves}
 use Rattle.tc_hall.proofs.Ranks.{apart_stays, stop_stays, IsTrueCall, pass_kept, passes_stay, done_still, stops_still, stops_back}
@@ -112,7 +113,7 @@ module _ (k : Terms) where
         locks_placed = lock_moves n (locks k) r.told.segments s.words ws' s.homes (set s.homes (n + i) a) s.views id v w at i to r.locks_placed mine
             (λ j' ne. get_or-set_other s.words j (n + 2 + j') word 0 (λ e. ne (omega arith))) (λ u ne. set_else s.homes (n + i) u a ne) e now own;
         passes = passes_stay k.image.value k.workers r.told.history r.told.history s.words ws' (λ b e. e) done stops s.views id w r.passes
-            (pass_kept k.image.value k.workers r.told.history r.told.history s.words ws' (λ b e. e) done stops v w old (worker, e.spent, image) (λ i u h. inl (ap (λ (l : List ℕ). get_elem? l i) (sym joined) ∙ h))
+            (pass_kept k.image.value k.workers r.told.history r.told.history s.words ws' (λ b e. e) done stops v w old (worker, e.spent, image, ap length misfits) (λ i u h. inl (ap (λ (l : List ℕ). get_elem? l i) (sym joined) ∙ h))
             (λ i b h. inl (ap (λ (l : List Block). get_elem? l i) (sym sealed') ∙ h)) calls (λ t h. inl (ap (λ (l : List Bool). get_elem? l t) (sym misfits) ∙ h)));
         stop = λ h. stop_stays s.views id v w at shows (r.stop (stops_back s.words j word (λ e. omega arith) h));
         apart = apart_stays s.views id v w at record { worker = worker; maker = maker; made = made'; spent = e.spent; joined = joined } live r.apart;
@@ -120,6 +121,30 @@ module _ (k : Terms) where
 
   abbrev pub TakesAll : ℕ → ℕ → Option ℕ → ℕ → Knows → List (ℕ × Option Cargo) → Type 0
   TakesAll slots id o word v c = Allows (Kept k) slots id (v, c) word (λ x. either (x == 0) 1 x) (took_as o (step slots word 0 1 none) (v, c))
+
+  -- the state of a lock that is home is taken
+  pub take_kept : (s : St k) (r : Kept k s) (id i : ℕ) (v : Knows) (p : LockView) (h : IsLockHome (threads k) s.words s.homes i p) → get_elem? s.views id ≡ some v → v.spent ≡ false → v.hand ≡ None → i < locks k → slice_index s.words (threads k + 2 + i) ≡ 0
+      → r.locks_placed.spot i ≡ home → get_elem? r.told.segments i ≡ some p → h.segment.number ≡ i
+      → Kept k (stepped s (threads k + 2 + i) 1 id [] (record (after_take v h.segment) { hand = Some (threads k + i) }) (takes (threads k + i) (Some (Lock h.segment))))
+  take_kept s r id i v p h at live free below hit is_home segment number =
+      let n : ℕ = threads k in
+      let j : ℕ = n + 2 + i in
+      let l : LockView = h.segment in
+      let w : Knows = record (after_take v l) { hand = Some (n + i) } in
+      let wide : length v.locks ≡ locks k = r.locks_placed.sized id v at live in
+      let here : HasLock w i (kept l) = subst (λ (z : ℕ). get_elem? (set v.locks z (Some (kept l))) i ≡ some (Some (kept l))) (sym number) (set_here v.locks i (Some (kept l)) (omega arith)) in
+      lock_step s r id i 1 v w none (out id) at live below (inl is_home)
+      record { spent = refl; long = length-set v.locks l.number (Some (kept l)); out = λ e ne. set_else v.locks l.number e (Some (kept l)) (λ z. ne (z ∙ number)); hand = λ e ne h. absurd (clash v.hand (n + e) free h); hand_back = λ e ne h. let z = some_same (n + e) (n + i) h in absurd (ne (omega arith)) }
+      refl refl refl refl refl refl refl refl (λ e c h. inl h) (λ e h. (e, h)) (λ u b h. clash v.hand u free h) (λ u b h. let z = some_same u (n + i) h in omega arith) (λ h. let z = hit in omega arith)
+      (λ l' e. record {
+        view = w;
+        pass = set_here s.views id w (there s.views id v v at).0;
+        has = here ∙ ap (λ (z : LockView). some (Some z)) (h.same ∙ some-injective p l' (sym segment ∙ e));
+        word = get_or-set_same s.words j 1 0 (omega (arith, r.words));
+        empty = λ out. absurd (out refl);
+        held = λ _. set_here s.homes (n + i) none (omega (arith, r.slots));
+      })
+      (λ l' has. (refl, segment ∙ ap (λ (z : LockView). some z) (sym h.same ∙ same_lock (get_elem? w.locks i) (kept l) l' here has)))
 
   pub takes_lock : (slots id i : ℕ) (v : Knows) (c : List (ℕ × Option Cargo)) → c ≡ [] → i < locks k → v.spent ≡ false → v.hand ≡ None → TakesAll slots id (Some i) (threads k + i + 2) v c
   takes_lock slots id i v c empty below live free = subst (λ (z : List (ℕ × Option Cargo) × ℕ). TakesAll slots id (Some i) z.1 v z.0) (λ y. (sym empty y, (let x : threads k + 2 + i ≡ threads k + i + 2 = omega arith in x) y)) (λ s r deep at small.
@@ -141,18 +166,7 @@ module _ (k : Terms) where
         w,
         takes (n + i) (Some (Lock l)),
         h.slot,
-        lock_step s r id i 1 v w none (out id) at live below (inl lies.0)
-            record { spent = refl; long = length-set v.locks l.number (Some (kept l)); out = λ e ne. set_else v.locks l.number e (Some (kept l)) (λ z. ne (z ∙ number)); hand = λ e ne h. absurd (clash v.hand (n + e) free h); hand_back = λ e ne h. let z = some_same (n + e) (n + i) h in absurd (ne (omega arith)) }
-            refl refl refl refl refl refl refl refl (λ e c h. inl h) (λ e h. (e, h)) (λ u b h. clash v.hand u free h) (λ u b h. let z = some_same u (n + i) h in omega arith) (λ h. let z = hit in omega arith)
-            (λ l' e. record {
-              view = w;
-              pass = set_here s.views id w (there s.views id v v at).0;
-              has = here ∙ ap (λ (z : LockView). some (Some z)) (h.same ∙ some-injective place.0 l' (sym place.1 ∙ e));
-              word = get_or-set_same s.words j 1 0 (omega (arith, r.words));
-              empty = λ out. absurd (out refl);
-              held = λ _. set_here s.homes (n + i) none (omega (arith, r.slots));
-            })
-            (λ l' has. (refl, place.1 ∙ ap (λ (z : LockView). some z) (sym h.same ∙ same_lock (get_elem? w.locks i) (kept l) l' here has))),
+        take_kept s r id i v place.0 h at live free below hit lies.0 place.1 number,
         (
           (λ _ u slot same e. subst (λ (z : ℕ × ℕ). Took z.0 z.1 (v, []) (w, (n + i, Some (Lock l)) ∷ [])) (λ y. (sym (some_same u i same) y, (let x : n + i ≡ slot = omega arith in x) y)) (
             l,
@@ -174,6 +188,8 @@ module _ (k : Terms) where
               sealed = λ e b is held. (let f = filter_finds (λ (z : Block). has z.held i) r.told.history b.stamp b ((r.passes id v at).sealed e b is) held in
                   let blocks = blocks_are k.image.value k.fuel k.limit r.told.history (end_after k.image.value k.fuel r.told.history) i place.0 after.follows in
                   (f.0, ap (λ (z : LockView). get_elem? (blocks_of z) f.0) h.same ∙ (ap (λ (z : List Block). get_elem? z f.0) blocks ∙ f.1)));
+              came = lock_came v l (subst (λ (z : ℕ). HasLock taken z (kept l)) (sym number) here) (λ x has. home_out (r.locks_placed.spot l.number) id (ap r.locks_placed.spot number ∙ lies.0) (r.locks_placed.owned id v l.number x at has).0);
+              called = no_call_taken v l;
             },
             refl,
           )),
@@ -189,34 +205,40 @@ module _ (k : Terms) where
   FreesAll slots id word v c = Allows (Kept k) slots id (v, c) word (λ _. 0) (λ _. did_free (step slots word 0 0 none) (v, c) 0)
 
   -- the filled slot of a lock goes home
-  pub frees : (slots id : ℕ) (v : Knows) (l : LockView) (c : List (ℕ × Option Cargo)) → c ≡ (threads k + l.number, Some (Lock l)) ∷ [] → v.hand ≡ Some (threads k + l.number) → v.spent ≡ false → MayFree v l
-      → FreesAll slots id (threads k + l.number + 2) v c
-  frees slots id v l c one hand live may = subst (λ (z : List (ℕ × Option Cargo) × ℕ). FreesAll slots id z.1 v z.0) (λ y. (sym one y, (let x : threads k + 2 + l.number ≡ threads k + l.number + 2 = omega arith in x) y)) (λ s r deep at small.
+  pub free_kept : (s : St k) (r : Kept k s) (id : ℕ) (v : Knows) (l : LockView) → get_elem? s.views id ≡ some v → v.hand ≡ Some (threads k + l.number) → v.spent ≡ false → MayFree v l
+      → Kept k (stepped s (threads k + 2 + l.number) 0 id ((threads k + l.number, Some (Lock l)) ∷ []) (record (after_free v l) { hand = None }) gives)
+  free_kept s r id v l at hand live may =
       let n : ℕ = threads k in
       let i : ℕ = l.number in
       let w : Knows = record (after_free v l) { hand = None } in
       let o = is_lock_out s r id i v (kept l) at may.has in
       let wide : length v.locks ≡ locks k = r.locks_placed.sized id v at live in
-      let here : get_elem? w.locks i ≡ some None = set_here v.locks i None (let z = o.0 in omega arith) in (
-        w,
-        gives,
-        tt,
-        lock_step s r id i 0 v w (some (Some (Lock l))) home at live o.0 (inr o.1)
-            record { spent = refl; long = length-set v.locks i None; out = λ e ne. set_else v.locks i e None ne; hand = λ e ne h. absurd (ne (let z = same_place v.hand (n + i) (n + e) hand h in omega arith)); hand_back = λ e ne h. absurd (clash None (n + e) refl h) }
-            refl refl refl refl refl refl refl refl
-            (λ e c h. ⊎_elim (λ z. inl z) (λ (z : (e ≡ length v.calls) × (Free i ≡ c)). inr (subst (IsTrueCall (set s.words (n + 2 + i) 0)) z.1 (free_true (set s.words (n + 2 + i) 0) i))) (snoc_at v.calls (Free i) c e h))
-            (λ e h. (e, at_longer v.calls (Free i ∷ []) e Stop h))
-            (λ u b h. let z = same_place v.hand (n + i) u hand h in omega arith) (λ u b h. clash None u refl h) (λ h. let z = o.3 in omega arith)
-            (λ l' e. record {
-              segment = l;
-              slot = set_here s.homes (n + i) (some (Some (Lock l))) (let z = o.0 in omega (arith, r.slots));
-              same = some-injective (kept l) l' (sym o.2 ∙ e);
-              word = get_or-set_same s.words (n + 2 + i) 0 0 (let z = o.0 in omega (arith, r.words));
-              rests = may.rests;
-            })
-            (λ l' has. absurd (no_lock_there l' (get_elem? w.locks i) here has)),
-        (λ slot x e. let same : l ≡ x = lock_is (n + i) slot l x e in ap (freed v) same),
-      ))
+      let here : get_elem? w.locks i ≡ some None = set_here v.locks i None (let z = o.0 in omega arith) in
+      lock_step s r id i 0 v w (some (Some (Lock l))) home at live o.0 (inr o.1)
+      record { spent = refl; long = length-set v.locks i None; out = λ e ne. set_else v.locks i e None ne; hand = λ e ne h. absurd (ne (let z = same_place v.hand (n + i) (n + e) hand h in omega arith)); hand_back = λ e ne h. absurd (clash None (n + e) refl h) }
+      refl refl refl refl refl refl refl refl
+      (λ e c h. ⊎_elim (λ z. inl z) (λ (z : (e ≡ length v.calls) × (Free i ≡ c)). inr (subst (IsTrueCall (set s.words (n + 2 + i) 0)) z.1 (free_true (set s.words (n + 2 + i) 0) i))) (snoc_at v.calls (Free i) c e h))
+      (λ e h. (e, at_longer v.calls (Free i ∷ []) e Stop h))
+      (λ u b h. let z = same_place v.hand (n + i) u hand h in omega arith) (λ u b h. clash None u refl h) (λ h. let z = o.3 in omega arith)
+      (λ l' e. record {
+        segment = l;
+        slot = set_here s.homes (n + i) (some (Some (Lock l))) (let z = o.0 in omega (arith, r.slots));
+        same = some-injective (kept l) l' (sym o.2 ∙ e);
+        word = get_or-set_same s.words (n + 2 + i) 0 0 (let z = o.0 in omega (arith, r.words));
+        rests = may.rests;
+      })
+      (λ l' has. absurd (no_lock_there l' (get_elem? w.locks i) here has))
+
+  -- so the step that fills it is allowed
+  pub frees : (slots id : ℕ) (v : Knows) (l : LockView) (c : List (ℕ × Option Cargo)) → c ≡ (threads k + l.number, Some (Lock l)) ∷ [] → v.hand ≡ Some (threads k + l.number) → v.spent ≡ false → MayFree v l
+      → FreesAll slots id (threads k + l.number + 2) v c
+  frees slots id v l c one hand live may = subst (λ (z : List (ℕ × Option Cargo) × ℕ). FreesAll slots id z.1 v z.0) (λ y. (sym one y, (let x : threads k + 2 + l.number ≡ threads k + l.number + 2 = omega arith in x) y)) (λ s r deep at small. (
+    record (after_free v l) { hand = None },
+    gives,
+    tt,
+    free_kept s r id v l at hand live may,
+    (λ slot x e. let same : l ≡ x = lock_is (threads k + l.number) slot l x e in ap (freed v) same),
+  ))
     where
       first : List (ℕ × Option Cargo) → Option Cargo
       first [] = None

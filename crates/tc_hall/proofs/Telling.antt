@@ -4,10 +4,11 @@ use mathlib.Core.Option.{none, some, some-injective, some-ne-none}
 use mathlib.Core.Option as maybe
 use lib.ListN.{get_elem?}
 use lib.Seq.{set-get_or}
-use Rattle.atomic_table.specs.Table.{step, keeps, gives, Allows}
+use Rattle.atomic_table.specs.Table.{step, keeps, gives, stepped, Allows}
 use Rattle.atomic_table.proofs.Lists.{set_here, set_else, at_longer, at_last}
+use Rattle.tc_elf.specs.declared.limits.TheConstants.{MAX_GUARDS}
 use Rattle.tc_journal.proofs.Batching.{any_worker}
-use Rattle.tc_segment.specs.View.{LockView, blocks_of}
+use Rattle.tc_segment.specs.View.{LockView, blocks_of, kept}
 use Rattle.tc_context.specs.declared.package.Grant.{Grant}
 use Rattle.tc_context.specs.Locks.{lock_in}
 use Rattle.tc_context.specs.View.{PackageView, bare, fits_of, fits_granted, fits_in}
@@ -22,7 +23,7 @@ use Rattle.tc_hall.specs.declared.board.Cargo.{Cargo}
 use Rattle.tc_hall.specs.declared.board.Cargo.TheVariants.{Package}
 use Rattle.tc_hall.specs.Places.{code_of, place_of}
 use Rattle.tc_hall.specs.Rule.{grants_adopted, threads, locks, IsInOrder, Kept}
-use Rattle.tc_hall.specs.Steps.{Sat, did_put, looked, stopping, saw_stopped, after_put, with_call, numbers, given_of, MayPut, HasStop, made, seen}
+use Rattle.tc_hall.specs.Steps.{Sat, IsAsLeft, put_as, looked, stopping, saw_stopped, after_put, with_call, numbers, given_of, MayPut, HasStop, made, seen}
 use Rattle.tc_hall.proofs.Placing.{moves, stays}
 use Rattle.tc_hall.proofs.Packing.{puts_locks, locks_stay}
 use Rattle.tc_hall.proofs.Ranks.{apart_stays, stop_stays, IsTrueCall, pass_kept, passes_stay, done_still, stops_still, stops_back}
@@ -47,7 +48,7 @@ place_codes (Waiting lock) =
     ∙ (ap (λ (z : Bool). if z then Parked else (if 256 + lock == 2 then Done else Waiting (256 + lock - 256))) b
     ∙ (ap (λ (z : Bool). if z then Done else Waiting (256 + lock - 256)) c ∙ ap (λ (z : ℕ). Waiting z) d))
 
-pub code_low : (m : ℕ) (p : Place) → IsInRange m p → m ≤ 16 → code_of p < 512
+pub code_low : (m : ℕ) (p : Place) → IsInRange m p → m ≤ MAX_GUARDS → code_of p < 512
 code_low m Ready r h = omega arith
 code_low m Parked r h = omega arith
 code_low m Done r h = omega arith
@@ -88,17 +89,20 @@ fits_all q w u a e = go q.granted a e
         within (Some l) e = sym (any_worker g.lock l.journal.limit (blocks_of l) g.kind w u a) ∙ e
 
 module _ (k : Terms) where
+  abbrev pub FillsAs : Option Terms → ℕ → ℕ → ℕ → ℕ → Knows → List (ℕ × Option Cargo) → Type 0
+  FillsAs o slots id t code v c = Allows (Kept k) slots id (v, c) (t + 2) (λ _. code) (λ _. put_as o (step slots (t + 2) code 0 none) (v, c) code)
+
   abbrev pub Fills : ℕ → ℕ → ℕ → ℕ → Knows → List (ℕ × Option Cargo) → Type 0
-  Fills slots id t code v c = Allows (Kept k) slots id (v, c) (t + 2) (λ _. code) (λ _. did_put (step slots (t + 2) code 0 none) (v, c) code)
+  Fills = FillsAs (Some k)
 
   shows_stop : (s : St k) (r : Kept k s) (id : ℕ) (v : Knows) → get_elem? s.views id ≡ some v → HasStop v → slice_index s.words 1 ≡ 1
   shows_stop s r id v at (made i e) = (r.passes id v at).stop i e
   shows_stop s r id v at (seen i e) = (r.passes id v at).stopped i e
 
   -- the filled slot goes home
-  pub fills : (slots id : ℕ) (place : Place) (v : Knows) (q : PackageView) (c : List (ℕ × Option Cargo)) → c ≡ (q.context.thread, Some (Package q)) ∷ [] → v.hand ≡ Some q.context.thread → v.spent ≡ false → IsInRange (locks k) place → MayPut place v q
-      → Fills slots id q.context.thread (code_of place) v c
-  fills slots id place v q c one hand live range may = subst (Fills slots id q.context.thread (code_of place) v) (sym one) (λ s r deep at small.
+  pub fills_kept : (s : St k) (r : Kept k s) (id : ℕ) (place : Place) (v : Knows) (q : PackageView) → get_elem? s.views id ≡ some v → v.hand ≡ Some q.context.thread → v.spent ≡ false → IsInRange (locks k) place → MayPut place v q
+      → Kept k (stepped s (q.context.thread + 2) (code_of place) id ((q.context.thread, Some (Package q)) ∷ []) (record (after_put v q (place_of (code_of place))) { hand = None }) gives)
+  fills_kept s r id place v q at hand live range may =
       let t : ℕ = q.context.thread in
       let code : ℕ = code_of place in
       let w : Knows = record (after_put v q (place_of code)) { hand = None } in
@@ -111,39 +115,66 @@ module _ (k : Terms) where
       let done = done_still s.words (t + 2) code (λ e. let z = o.3 in omega arith) in
       let stops = stops_still s.words (t + 2) code (λ e. omega arith) in
       let old = r.passes id v at in
-      let here : get_elem? w.packages t ≡ some None = set_here v.packages t None (omega arith) in (
-        w,
-        gives,
-        tt,
-        record {
-          told = r.told;
-          words = length-set s.words (t + 2) code ∙ r.words;
-          slots = length-set s.homes t full ∙ r.slots;
-          clock = get_or-set_other s.words (t + 2) 0 code 0 (λ e. omega arith) ∙ r.clock;
-          placed = moves s.words ws' s.homes (set s.homes t full) s.views id v w at stops (threads k) r.told.places r.told.places t none r.placed (inr o.1)
-              (λ u ne. get_or-set_other s.words (t + 2) (u + 2) code 0 (λ e. ne (omega arith))) (λ u ne. set_else s.homes t u full ne) (λ u ne. refl) r.told.law.all_packages
-              record { worker = refl; spent = refl; long = length-set v.packages t None; out = λ u ne. set_else v.packages t u None ne; hand = λ u _ ne e. absurd (ne (same_place v.hand t u hand e)); hand_back = λ u _ ne e. absurd (clash None u refl e) }
-              (λ p' e. let word : slice_index ws' (t + 2) ≡ code = get_or-set_same s.words (t + 2) code 0 (omega (arith, r.words)) in record {
-                context = q;
-                slot = set_here s.homes t full (omega (arith, r.slots));
-                same = some-injective (bare q) p' (sym o.2 ∙ e);
-                word = omega arith;
-                order = subst (λ (z : ℕ). IsInOrder z q) (sym word) may.order;
-                fits = record { stop = λ a. stops (shows_stop s r id v at (may.stop a)); fits = λ a u. fits_all q v.worker u a (may.fits a) };
-              })
-              (λ p' has'. absurd (none_some p' (get_elem? w.packages t) here has'));
-          locks_placed = puts_locks (threads k) (locks k) r.told.segments s.words ws' s.homes s.views id v w q t r.locks_placed r.told.law.all_states at live refl refl
-              (λ i. get_or-set_other s.words (t + 2) (threads k + 2 + i) code 0 (λ e. omega arith)) below (o.5 hand) hand refl may.locks;
-          passes = passes_stay k.image.value k.workers r.told.history r.told.history s.words ws' (λ b e. e) done stops s.views id w r.passes
-              (pass_kept k.image.value k.workers r.told.history r.told.history s.words ws' (λ b e. e) done stops v w old (refl, refl, refl) (λ i u e. inl e) (λ i b e. inl e)
-              (λ i c e. ⊎_elim (λ z. inl z) (λ (z : (i ≡ length v.calls) × (Put t (place_of code) (numbers q.context.locks) (given_of q) ≡ c)). inr (subst (IsTrueCall ws') z.1 (put_true ws' t (place_of code) (numbers q.context.locks) (given_of q)))) (snoc_at v.calls (Put t (place_of code) (numbers q.context.locks) (given_of q)) c i e))
-              (λ u e. inl e));
-          stop = λ e. stop_stays s.views id v w at (λ i h. (i, at_longer v.calls (Put t (place_of code) (numbers q.context.locks) (given_of q) ∷ []) i Stop h)) (r.stop (stops_back s.words (t + 2) code (λ e. omega arith) e));
-          apart = apart_stays s.views id v w at record { worker = refl; maker = refl; made = refl; spent = refl; joined = refl } live r.apart;
-        },
-        (λ u x e. let same : q ≡ x = package_is t u q x e in ap (filled v (place_of code)) same),
-      ))
+      let here : get_elem? w.packages t ≡ some None = set_here v.packages t None (omega arith) in
+      record {
+        told = r.told;
+        words = length-set s.words (t + 2) code ∙ r.words;
+        slots = length-set s.homes t full ∙ r.slots;
+        clock = get_or-set_other s.words (t + 2) 0 code 0 (λ e. omega arith) ∙ r.clock;
+        placed = moves s.words ws' s.homes (set s.homes t full) s.views id v w at stops (threads k) r.told.places r.told.places t none r.placed (inr o.1)
+            (λ u ne. get_or-set_other s.words (t + 2) (u + 2) code 0 (λ e. ne (omega arith))) (λ u ne. set_else s.homes t u full ne) (λ u ne. refl) r.told.law.all_packages
+            record { worker = refl; spent = refl; long = length-set v.packages t None; out = λ u ne. set_else v.packages t u None ne; hand = λ u _ ne e. absurd (ne (same_place v.hand t u hand e)); hand_back = λ u _ ne e. absurd (clash None u refl e) }
+            (λ p' e. let word : slice_index ws' (t + 2) ≡ code = get_or-set_same s.words (t + 2) code 0 (omega (arith, r.words)) in record {
+              context = q;
+              slot = set_here s.homes t full (omega (arith, r.slots));
+              same = some-injective (bare q) p' (sym o.2 ∙ e);
+              word = omega arith;
+              order = subst (λ (z : ℕ). IsInOrder z q) (sym word) may.order;
+              fits = record { stop = λ a. stops (shows_stop s r id v at (may.stop a)); fits = λ a u. fits_all q v.worker u a (may.fits a) };
+            })
+            (λ p' has'. absurd (none_some p' (get_elem? w.packages t) here has'));
+        locks_placed = puts_locks (threads k) (locks k) r.told.segments s.words ws' s.homes s.views id v w q t r.locks_placed r.told.law.all_states at live refl refl
+            (λ i. get_or-set_other s.words (t + 2) (threads k + 2 + i) code 0 (λ e. omega arith)) below (o.5 hand) hand refl may.locks;
+        passes = passes_stay k.image.value k.workers r.told.history r.told.history s.words ws' (λ b e. e) done stops s.views id w r.passes
+            (pass_kept k.image.value k.workers r.told.history r.told.history s.words ws' (λ b e. e) done stops v w old (refl, refl, refl, refl) (λ i u e. inl e) (λ i b e. inl e)
+            (λ i c e. ⊎_elim (λ z. inl z) (λ (z : (i ≡ length v.calls) × (Put t (place_of code) (numbers q.context.locks) (given_of q) ≡ c)). inr (subst (IsTrueCall ws') z.1 (put_true ws' t (place_of code) (numbers q.context.locks) (given_of q)))) (snoc_at v.calls (Put t (place_of code) (numbers q.context.locks) (given_of q)) c i e))
+            (λ u e. inl e));
+        stop = λ e. stop_stays s.views id v w at (λ i h. (i, at_longer v.calls (Put t (place_of code) (numbers q.context.locks) (given_of q) ∷ []) i Stop h)) (r.stop (stops_back s.words (t + 2) code (λ e. omega arith) e));
+        apart = apart_stays s.views id v w at record { worker = refl; maker = refl; made = refl; spent = refl; joined = refl } live r.apart;
+      }
+
+  -- the package is as the history leaves it
+  as_left : (s : St k) (r : Kept k s) (id : ℕ) (place : Place) (v : Knows) (q : PackageView) → get_elem? s.views id ≡ some v → MayPut place v q → IsAsLeft k v q
+  as_left s r id place v q at may =
+      let t = (r.told.law.packages_after q.context.thread (bare q) (is_out k s r id q.context.thread v (bare q) at may.has).2).follows in record {
+        history = r.told.history;
+        tells = r.told.law.tells;
+        obeys = r.told.law.obeys;
+        follows = record {
+          thread = record { of = t.of; number = t.number; thread = t.thread; log = t.log };
+          states = λ i l e. (let f = (r.told.law.states_after i (kept l) (r.locks_placed.owned id v i (kept l) at (may.locks i l e)).1).follows in
+              record { of = f.of; number = f.number; lock = f.lock; entries = f.entries; bound = f.bound });
+        };
+        sealed = (r.passes id v at).sealed;
+      }
+
+  -- so the step that fills it is allowed
+  pub fills : (slots id : ℕ) (place : Place) (v : Knows) (q : PackageView) (c : List (ℕ × Option Cargo)) → c ≡ (q.context.thread, Some (Package q)) ∷ [] → v.hand ≡ Some q.context.thread → v.spent ≡ false → IsInRange (locks k) place → MayPut place v q
+      → Fills slots id q.context.thread (code_of place) v c
+  fills slots id place v q c one hand live range may = subst (Fills slots id q.context.thread (code_of place) v) (sym one) (λ s r deep at small. (
+    record (after_put v q (place_of (code_of place))) { hand = None },
+    gives,
+    tt,
+    fills_kept s r id place v q at hand live range may,
+    (λ u x e. let same : q ≡ x = package_is q.context.thread u q x e in (
+      ap (filled v (place_of (code_of place))) same,
+      (λ j is. subst (λ (z : Terms × PackageView). IsAsLeft z.0 v z.1) (λ i. (terms_are k j is i, same i)) (as_left s r id place v q at may)),
+    )),
+  ))
     where
+      terms_are : (a b : Terms) → Some a ≡ Some b → a ≡ b
+      terms_are a b e = cc e
+
       first : List (ℕ × Option Cargo) → Option Cargo
       first [] = None
       first (x ∷ xs) = x.1
@@ -170,7 +201,7 @@ module _ (k : Terms) where
         placed = stays s.words ws' s.homes s.homes s.views id v w at stops (threads k) r.told.places r.placed r.told.law.all_packages (λ u b. words (u + 2) (λ z. omega arith)) (λ u b. refl) refl refl refl (λ u b e. e) (λ u b e. e);
         locks_placed = locks_stay (threads k) (locks k) r.told.segments s.words ws' s.homes s.homes s.views id v w at (λ i. words (threads k + 2 + i) (λ z. omega arith)) (λ i. refl) (λ u q b e. e) (λ u q b e. e) refl refl (λ i e. e) (λ i e. e) r.locks_placed;
         passes = passes_stay k.image.value k.workers r.told.history r.told.history s.words ws' (λ b e. e) done stops s.views id w r.passes
-            (pass_kept k.image.value k.workers r.told.history r.told.history s.words ws' (λ b e. e) done stops v w old (refl, refl, refl) (λ i u e. inl e) (λ i b e. inl e)
+            (pass_kept k.image.value k.workers r.told.history r.told.history s.words ws' (λ b e. e) done stops v w old (refl, refl, refl, refl) (λ i u e. inl e) (λ i b e. inl e)
             (λ i d e. ⊎_elim (λ z. inl z) (λ (z : (i ≡ length v.calls) × (c ≡ d)). inr (subst (IsTrueCall ws') z.1 true')) (snoc_at v.calls c d i e)) (λ u e. inl e));
         stop = stop;
         apart = apart_stays s.views id v w at record { worker = refl; maker = refl; made = refl; spent = refl; joined = refl } live r.apart;
@@ -182,16 +213,13 @@ module _ (k : Terms) where
   abbrev pub Looks : ℕ → ℕ → ℕ → Knows → List (ℕ × Option Cargo) → Type 0
   Looks slots id t v c = Allows (Kept k) slots id (v, c) (t + 2) (λ n. n) (looked (step slots (t + 2) 0 0 none) (v, c))
 
-  pub looks : (slots id t : ℕ) (v : Knows) (c : List (ℕ × Option Cargo)) → c ≡ [] → v.spent ≡ false → Looks slots id t v c
-  looks slots id t v c empty live = subst (Looks slots id t v) (sym empty) (λ s r deep at small.
-      let found : ℕ = slice_index s.words (t + 2) in (
-        with_call v (Look t found),
-        keeps,
-        tt,
-        subst (λ (z : List ℕ). Kept k record { words = z; homes = s.homes; views = set s.views id (with_call v (Look t found)) }) (sym (set-get_or s.words (t + 2) 0))
-            (tells_kept s r s.words id v (Look t found) at live (look_true s.words t found refl) (λ j ne. refl) (λ e. e) refl (still_stopped s r id v (Look t found) at)),
-        (λ u e. ap (λ (z : ℕ). (with_call v (Look z found), [])) (let x : t ≡ u = omega arith in x)),
-      ))
+  -- a word is looked at
+  pub look_kept : (s : St k) (r : Kept k s) (id t : ℕ) (v : Knows) → get_elem? s.views id ≡ some v → v.spent ≡ false
+      → Kept k (stepped s (t + 2) (slice_index s.words (t + 2)) id [] (with_call v (Look t (slice_index s.words (t + 2)))) keeps)
+  look_kept s r id t v at live =
+      let found : ℕ = slice_index s.words (t + 2) in
+      subst (λ (z : List ℕ). Kept k record { words = z; homes = s.homes; views = set s.views id (with_call v (Look t found)) }) (sym (set-get_or s.words (t + 2) 0))
+      (tells_kept s r s.words id v (Look t found) at live (look_true s.words t found refl) (λ j ne. refl) (λ e. e) refl (still_stopped s r id v (Look t found) at))
     where
       look_true : (ws : List ℕ) (t found : ℕ) → found ≡ slice_index ws (t + 2) → IsTrueCall ws (Look t found)
       look_true ws t found is = record {
@@ -209,39 +237,43 @@ module _ (k : Terms) where
           no_stopped : (c : Call) → c ≡ Look t found → c ≡ Stopped 1 → ⊥
           no_stopped c a b = cc (a, b)
 
+  pub looks : (slots id t : ℕ) (v : Knows) (c : List (ℕ × Option Cargo)) → c ≡ [] → v.spent ≡ false → Looks slots id t v c
+  looks slots id t v c empty live = subst (Looks slots id t v) (sym empty) (λ s r deep at small. (
+    with_call v (Look t (slice_index s.words (t + 2))),
+    keeps,
+    tt,
+    look_kept s r id t v at live,
+    (λ u e. ap (λ (z : ℕ). (with_call v (Look z (slice_index s.words (t + 2))), [])) (let x : t ≡ u = omega arith in x)),
+  ))
+
   abbrev pub Stops : ℕ → ℕ → Knows → List (ℕ × Option Cargo) → Type 0
   Stops slots id v c = Allows (Kept k) slots id (v, c) 1 (λ _. 1) (λ _. stopping (step slots 1 1 0 none) (v, c) 1)
 
-  pub stops : (slots id : ℕ) (v : Knows) (c : List (ℕ × Option Cargo)) → c ≡ [] → v.spent ≡ false → Stops slots id v c
-  stops slots id v c empty live = subst (Stops slots id v) (sym empty) (λ s r deep at small.
-      let one : slice_index (set s.words 1 1) 1 ≡ 1 = get_or-set_same s.words 1 1 0 (omega (arith, r.words)) in (
-        with_call v Stop,
-        keeps,
-        tt,
-        tells_kept s r (set s.words 1 1) id v Stop at live record { look = λ u e. absurd (no_look u Stop refl e); stop = λ _. one; stopped = λ _. one }
-            (λ j ne. get_or-set_other s.words 1 j 1 0 ne) (λ _. one) (length-set s.words 1 1)
-            (λ _. record { id = id; view = with_call v Stop; pass = set_here s.views id (with_call v Stop) (there s.views id v v at).0; place = length v.calls; call = at_last v.calls Stop (length v.calls) refl }),
-        refl,
-      ))
+  -- the stop is made
+  pub stop_kept : (s : St k) (r : Kept k s) (id : ℕ) (v : Knows) → get_elem? s.views id ≡ some v → v.spent ≡ false → Kept k (stepped s 1 1 id [] (with_call v Stop) keeps)
+  stop_kept s r id v at live =
+      let one : slice_index (set s.words 1 1) 1 ≡ 1 = get_or-set_same s.words 1 1 0 (omega (arith, r.words)) in
+      tells_kept s r (set s.words 1 1) id v Stop at live record { look = λ u e. absurd (no_look u Stop refl e); stop = λ _. one; stopped = λ _. one }
+      (λ j ne. get_or-set_other s.words 1 j 1 0 ne) (λ _. one) (length-set s.words 1 1)
+      (λ _. record { id = id; view = with_call v Stop; pass = set_here s.views id (with_call v Stop) (there s.views id v v at).0; place = length v.calls; call = at_last v.calls Stop (length v.calls) refl })
     where
       no_look : (u : ℕ) (c : Call) → c ≡ Stop → c ≡ Look u 2 → ⊥
       no_look u c a b = cc (a, b)
 
+  pub stops : (slots id : ℕ) (v : Knows) (c : List (ℕ × Option Cargo)) → c ≡ [] → v.spent ≡ false → Stops slots id v c
+  stops slots id v c empty live = subst (Stops slots id v) (sym empty) (λ s r deep at small. (with_call v Stop, keeps, tt, stop_kept s r id v at live, refl))
+
   abbrev pub Sees : ℕ → ℕ → Knows → List (ℕ × Option Cargo) → Type 0
   Sees slots id v c = Allows (Kept k) slots id (v, c) 1 (λ n. n) (saw_stopped (step slots 1 0 0 none) (v, c))
 
-  pub sees : (slots id : ℕ) (v : Knows) (c : List (ℕ × Option Cargo)) → c ≡ [] → v.spent ≡ false → Sees slots id v c
-  sees slots id v c empty live = subst (Sees slots id v) (sym empty) (λ s r deep at small.
-      let found : ℕ = slice_index s.words 1 in (
-        with_call v (Stopped found),
-        keeps,
-        tt,
-        subst (λ (z : List ℕ). Kept k record { words = z; homes = s.homes; views = set s.views id (with_call v (Stopped found)) }) (sym (set-get_or s.words 1 0))
-            (tells_kept s r s.words id v (Stopped found) at live
-            record { look = λ u e. absurd (no_look u found (Stopped found) refl e); stop = λ e. absurd (no_stop found (Stopped found) refl e); stopped = λ e. one found (Stopped found) refl e }
-            (λ j ne. refl) (λ e. e) refl (still_stopped s r id v (Stopped found) at)),
-        (refl, (λ t e. (r.passes id v at).misfit t e)),
-      ))
+  -- the stop word is seen
+  pub see_kept : (s : St k) (r : Kept k s) (id : ℕ) (v : Knows) → get_elem? s.views id ≡ some v → v.spent ≡ false → Kept k (stepped s 1 (slice_index s.words 1) id [] (with_call v (Stopped (slice_index s.words 1))) keeps)
+  see_kept s r id v at live =
+      let found : ℕ = slice_index s.words 1 in
+      subst (λ (z : List ℕ). Kept k record { words = z; homes = s.homes; views = set s.views id (with_call v (Stopped found)) }) (sym (set-get_or s.words 1 0))
+      (tells_kept s r s.words id v (Stopped found) at live
+      record { look = λ u e. absurd (no_look u found (Stopped found) refl e); stop = λ e. absurd (no_stop found (Stopped found) refl e); stopped = λ e. one found (Stopped found) refl e }
+      (λ j ne. refl) (λ e. e) refl (still_stopped s r id v (Stopped found) at))
     where
       one : (n : ℕ) (c : Call) → c ≡ Stopped n → c ≡ Stopped 1 → n ≡ 1
       one n c a b = cc (a, b)
@@ -251,3 +283,12 @@ module _ (k : Terms) where
 
       no_stop : (n : ℕ) (c : Call) → c ≡ Stopped n → c ≡ Stop → ⊥
       no_stop n c a b = cc (a, b)
+
+  pub sees : (slots id : ℕ) (v : Knows) (c : List (ℕ × Option Cargo)) → c ≡ [] → v.spent ≡ false → Sees slots id v c
+  sees slots id v c empty live = subst (Sees slots id v) (sym empty) (λ s r deep at small. (
+    with_call v (Stopped (slice_index s.words 1)),
+    keeps,
+    tt,
+    see_kept s r id v at live,
+    (refl, (λ t e. (r.passes id v at).misfit t e)),
+  ))

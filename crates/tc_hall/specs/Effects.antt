@@ -1,5 +1,5 @@
 -- The effect of each kind of step on the words, the slots and the view of the pass that makes it.
-use Rattle.std.specs.Prelude.{ℕ, ◌+◌, ◌%◌, List, [], ◌∷◌, Option, Some, None}
+use Rattle.std.specs.Prelude.{ℕ, ◌+◌, ◌%◌, List, [], ◌∷◌, ◌++◌, slice_set, Option, Some, None}
 use Rattle.atomic_table.specs.Table.{State, Act, keeps, takes, gives, stepped}
 use Rattle.tc_journal.specs.declared.block.Block.{Block}
 use Rattle.tc_segment.specs.View.{LockView, sealed_block}
@@ -10,7 +10,7 @@ use Rattle.tc_hall.specs.declared.board.Call.TheVariants.{Look, Stop, Stopped}
 use Rattle.tc_hall.specs.declared.board.Cargo.{Cargo}
 use Rattle.tc_hall.specs.declared.board.Cargo.TheVariants.{Package, Lock}
 use Rattle.tc_hall.specs.Places.{code_of}
-use Rattle.tc_hall.specs.Steps.{after_claim, after_commit, after_put, after_take, after_free, with_call}
+use Rattle.tc_hall.specs.Steps.{after_claim, after_commit, after_put, after_take, after_free, after_miss, with_call, dealt, fresh, merged, gone}
 
 abbrev pub Hall : Type 0
 Hall = State (Option Cargo) Knows
@@ -55,3 +55,15 @@ stop_effect v = record { word = 1; left = 1; holds = []; knows = with_call v Sto
 
 abbrev pub stopped_effect : Knows → ℕ → Effect
 stopped_effect v found = record { word = 1; left = found; holds = []; knows = with_call v (Stopped found); act = keeps }
+
+-- a compare-and-swap that fails leaves it too
+abbrev pub miss_effect : Knows → ℕ → ℕ → Effect
+miss_effect v word found = record { word = word; left = found; holds = []; knows = after_miss v word found; act = keeps }
+
+-- the pass id makes another, which is the last
+abbrev pub with_new_pass : Hall → ℕ → Knows → Hall
+with_new_pass s id v = record { words = s.words; homes = s.homes; views = slice_set s.views id (dealt v) ++ fresh v ∷ [] }
+
+-- the pass id takes in the other, which ends
+abbrev pub with_joined : Hall → ℕ → Knows → ℕ → Knows → Hall
+with_joined s id v other w = record { words = s.words; homes = s.homes; views = slice_set (slice_set s.views id (merged v w)) other gone }

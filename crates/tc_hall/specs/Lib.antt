@@ -1,6 +1,10 @@
 pub mod Places
 pub mod PassView
 pub mod Rule
+pub mod Outs
 pub mod Steps
 pub mod Made
 pub mod Effects
+pub mod Outline
+pub mod Shown
+pub mod Ties

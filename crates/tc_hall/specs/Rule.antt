@@ -163,6 +163,7 @@ pub record IsPass (image : Shown) (workers : ℕ) (h : List Block) (ws : List �
   pub stop : (i : ℕ) → get_elem? v.calls i ≡ some Stop → slice_index ws 1 ≡ 1
   pub stopped : (i : ℕ) → get_elem? v.calls i ≡ some (Stopped 1) → slice_index ws 1 ≡ 1
   pub misfit : (t : ℕ) → get_elem? v.misfits t ≡ some true → slice_index ws 1 ≡ 1
+  pub sized : v.spent ≡ false → length v.misfits ≡ length image.entries
 
 -- the stop word is 1 only where some pass made a stop
 pub record HasStopped (vs : List Knows) : Type 0 where

@@ -6,13 +6,17 @@ use mathlib.Core.Option.{some}
 use lib.ListN.{get_elem?}
 use Rattle.atomic_table.specs.Table.{Me, Step, rest}
 use Rattle.tc_elf.specs.Shown.{Shown}
+use Rattle.tc_journal.specs.Batch.{Obeys}
+use Rattle.tc_journal.specs.History.{of_lock}
 use Rattle.tc_journal.specs.declared.block.Block.{Block}
 use Rattle.tc_turn.specs.Turn.{is_running}
+use Rattle.tc_mutex_spec.specs.Blocks.{Tells, end_after}
 use Rattle.tc_segment.specs.View.{LockView, IsAtRest, blocks_of, kept, sealed_block}
 use Rattle.tc_context.specs.declared.package.Grant.{Grant}
 use Rattle.tc_context.specs.Locks.{lock_in}
 use Rattle.tc_context.specs.View.{PackageView, AllowsPending, Rests, bare, fits_of, number_in, with_seal}
 use Rattle.tc_context.specs.Ran.{DidRun}
+use Rattle.tc_context.specs.History.{Follows}
 use Rattle.tc_context.specs.Lawful.{Lawful}
 use Rattle.tc_hall.specs.declared.place.Place.{Place}
 use Rattle.tc_hall.specs.declared.place.Place.TheVariants.{Ready}
@@ -25,6 +29,7 @@ use Rattle.tc_hall.specs.declared.board.Cargo.{Cargo}
 use Rattle.tc_hall.specs.declared.board.Cargo.TheVariants.{Package, Lock}
 use Rattle.tc_hall.specs.Places.{code_of, place_of}
 use Rattle.tc_hall.specs.Rule.{Has, HasLock, IsInOrder, grants_adopted, locked_in, ran_with, clean}
+use Rattle.tc_hall.specs.Outs.{outs, erase, Pack, Loose, CameOut, Called}
 use Rattle.tc_hall.specs.PassView.{PassView}
 
 abbrev pub At : Type 0
@@ -78,12 +83,16 @@ numbers slots = filter (λ i. is_some (lock_in slots i)) (range_with_len 0 (leng
 abbrev pub given_of : PackageView → Option Given
 given_of q = option_map (λ (g : Grant). record { lock = g.lock; kind = g.kind; number = number_in q g.lock }) q.granted
 
+-- the call that puts the package at the place
+abbrev pub put_call : PackageView → Place → Call
+put_call q place = Put q.context.thread place (numbers q.context.locks) (given_of q)
+
 abbrev pub after_put : Knows → PackageView → Place → Knows
 after_put v q place =
     record v {
       packages = slice_set v.packages q.context.thread None;
       locks = remove_all v.locks q.context.locks;
-      calls = v.calls ++ Put q.context.thread place (numbers q.context.locks) (given_of q) ∷ [];
+      calls = v.calls ++ put_call q place ∷ [];
     }
 
 -- of `take` and `free`
@@ -143,6 +152,10 @@ pub record Gets (word t : ℕ) (q : PackageView) (v w : Knows) : Type 0 where
   pub fits : grants_adopted q.granted ≡ false → (worker : ℕ) → fits_of q worker ≡ true
   -- its log has each block of its thread that the pass has sealed
   pub sealed : (i : ℕ) (b : Block) → get_elem? v.sealed i ≡ some b → b.thread ≡ t → (j : ℕ) × (get_elem? q.log j ≡ some b)
+  -- a package that does not fit the worker is noted as such
+  pub misfit : fits_of q v.worker ≡ false → get_elem? w.misfits t ≡ some true
+  pub came : CameOut (Pack q) v w
+  pub called : Called [] v w
 
 -- the word was found to be another than wanted
 abbrev pub Missed : ℕ → ℕ → ℕ → Knows → Knows → Type 0
@@ -169,6 +182,17 @@ pub record Gave (place : Place) (q : PackageView) (v w : Knows) : Type 0 where
   pub now : w ≡ after_put v q place
   pub others : (u : ℕ) (p : PackageView) → u ≢ q.context.thread → Has v u p → Has w u p
   pub others_locks : (i : ℕ) (l : LockView) → locked_in q i ≡ None → HasLock v i l → HasLock w i l
+  pub rest : outs w ≡ erase (outs v) (Pack q)
+  pub called : Called (put_call q place ∷ []) v w
+
+-- the package and the lock states in it are as a history leaves them, which tells a run, obeys the batch limit, and has each
+-- block that the pass has sealed
+pub record IsAsLeft (k : Terms) (v : Knows) (q : PackageView) : Type 0 where
+  pub history : List Block
+  pub tells : Tells k.image.value k.fuel history (end_after k.image.value k.fuel history)
+  pub obeys : (i : ℕ) → Obeys i k.limit (of_lock history i)
+  pub follows : Follows k.image.value k.fuel k.limit history (end_after k.image.value k.fuel history) q
+  pub sealed : (i : ℕ) (b : Block) → get_elem? v.sealed i ≡ some b → get_elem? history b.stamp ≡ some b
 
 -- the state of lock i was taken out of its slot
 pub record Takes (i : ℕ) (l : LockView) (v w : Knows) : Type 0 where
@@ -178,6 +202,8 @@ pub record Takes (i : ℕ) (l : LockView) (v w : Knows) : Type 0 where
   pub rest : IsAtRest v.image i l
   -- it has each block of the lock that the pass has sealed
   pub sealed : (e : ℕ) (b : Block) → get_elem? v.sealed e ≡ some b → ran_with b i ≡ true → (j : ℕ) × (get_elem? (blocks_of l) j ≡ some b)
+  pub came : CameOut (Loose l) v w
+  pub called : Called [] v w
 
 pub record MayFree (v : Knows) (l : LockView) : Type 0 where
   pub has : HasLock v l.number (kept l)
@@ -187,6 +213,8 @@ pub record Freed (l : LockView) (v w : Knows) : Type 0 where
   pub now : w ≡ after_free v l
   pub others : (u : ℕ) (p : PackageView) → Has v u p → Has w u p
   pub others_locks : (i : ℕ) (k : LockView) → i ≢ l.number → HasLock v i k → HasLock w i k
+  pub rest : outs w ≡ erase (outs v) (Loose l)
+  pub called : Called (Free l.number ∷ []) v w
 
 -- a block made the package of one that the pass has out, and the batch rule allows it the pass's worker
 pub record Seals (v : Knows) (q : PackageView) : Type 0 where
@@ -205,6 +233,7 @@ pub record DidSeal (q : PackageView) (n : ℕ) (v w : Knows) : Type 0 where
   pub locks : (i : ℕ) (l : LockView) → locked_in (with_seal n v.worker q) i ≡ Some l → HasLock w i (kept l)
   pub others : (u : ℕ) (p : PackageView) → u ≢ q.context.thread → Has v u p → Has w u p
   pub others_locks : (i : ℕ) (l : LockView) → locked_in q i ≡ None → HasLock v i l → HasLock w i l
+  pub rest : erase (outs w) (Pack (with_seal n v.worker q)) ≡ erase (outs v) (Pack q)
   pub after_own : (i : ℕ) (b : Block) → get_elem? v.sealed i ≡ some b → b.stamp < n
   -- each other block in its log and in its locks has a lower stamp
   pub after_log : (i : ℕ) (b : Block) → get_elem? (with_seal n v.worker q).log i ≡ some b → (b.stamp < n) ⊎ (b ≡ sealed_block n v.worker block)
@@ -232,8 +261,9 @@ laid st m r m' = m' ≡ (record m.0 { hand = None }, rest m.1)
 abbrev pub reached : At → Sat → ℕ → Sat → Type 0
 reached st m r m' = (slot : ℕ) → st.word ≡ slot + 2 → m' ≡ (record m.0 { hand = Some slot }, (slot, None) ∷ m.1)
 
-abbrev pub did_put : At → Sat → ℕ → Sat → Type 0
-did_put st m r m' = (t : ℕ) (q : PackageView) → m.1 ≡ (t, Some (Package q)) ∷ [] → m' ≡ (record (after_put m.0 q (place_of st.first)) { hand = None }, [])
+-- the package was put, in a hall of these terms, where they were picked
+abbrev pub put_as : Option Terms → At → Sat → ℕ → Sat → Type 0
+put_as o st m r m' = (t : ℕ) (q : PackageView) → m.1 ≡ (t, Some (Package q)) ∷ [] → (m' ≡ (record (after_put m.0 q (place_of st.first)) { hand = None }, [])) × ((k : Terms) → o ≡ Some k → IsAsLeft k m.0 q)
 
 abbrev pub did_free : At → Sat → ℕ → Sat → Type 0
 did_free st m r m' = (slot : ℕ) (l : LockView) → m.1 ≡ (slot, Some (Lock l)) ∷ [] → m' ≡ (record (after_free m.0 l) { hand = None }, [])
@@ -272,11 +302,13 @@ HasSeenAll n v = (t : ℕ) → t < n → (i : ℕ) × (get_elem? v.calls i ≡ s
 abbrev pub HasAll : ℕ → Knows → Type 0
 HasAll workers v = (u : ℕ) → u < workers → (u ≡ v.worker) ⊎ ((e : ℕ) × (get_elem? v.joined e ≡ some u))
 
--- the packages and lock states in order, at the end
-pub record IsEnd (k : Terms) (qs : List PackageView) (ls : List LockView) : Type 0 where
+-- the packages and lock states in order, at the end, where this was the last pass
+pub record IsEnd (k : Terms) (v : Knows) (qs : List PackageView) (ls : List LockView) : Type 0 where
   pub history : List Block
   pub law : Lawful k.image.value k.fuel k.limit history (map bare qs) (map kept ls)
   pub workers : (i : ℕ) (b : Block) → get_elem? history i ≡ some b → b.worker < k.workers
+  -- each block that it sealed, or that a pass joined into it sealed, is in the history at its stamp
+  pub sealed : (i : ℕ) (b : Block) → get_elem? v.sealed i ≡ some b → get_elem? history b.stamp ≡ some b
   pub ended : (t : ℕ) (q : PackageView) → get_elem? qs t ≡ some q → (is_running q.context.guest.status ≡ false) × ((i : ℕ) → locked_in q i ≡ None)
 
 -- what lies in a slot

@@ -4,10 +4,10 @@ ghost use Rattle.std.specs.Prelude.{◌≡◌, ◌≢◌, ◌<◌, ◌≤◌, �
 ghost use Rattle.tc_isa.specs.declared.limits.TheConstants.{MAX_FUEL, MAX_WORKERS, MAX_BATCH};
 ghost use Rattle.tc_elf.specs.declared.limits.TheConstants.{MAX_THREADS, MAX_GUARDS};
 ghost use Rattle.tc_elf.specs.Shown.{Shown};
-ghost use Rattle.tc_context.specs.View.{with_seal};
+ghost use Rattle.tc_context.specs.View.{IsWaiting, with_seal};
 ghost use Rattle.tc_hall.specs.Places.{IsInRange, origin_code};
 ghost use Rattle.tc_hall.specs.Rule.{threads, locks};
-ghost use Rattle.tc_hall.specs.Steps.{IsSamePass, IsPackage, IsLock, is_package, is_lock, Gets, MayPut, Gave, Missed, Takes, MayFree, Freed, Seals, DidSeal, after_look, after_stop, SawStopped, merged, IsFree, HasAll, HasSeenAll, IsEnd};
+ghost use Rattle.tc_hall.specs.Steps.{IsSamePass, IsPackage, IsLock, is_package, is_lock, Gets, MayPut, Gave, IsAsLeft, Missed, Takes, MayFree, Freed, Seals, DidSeal, after_look, after_stop, SawStopped, merged, IsFree, HasAll, HasSeenAll, IsEnd};
 ghost use Rattle.tc_hall.specs.Made.{IsHallOf, AreDealt, AreStocked};
 
 use crate::board::{Board, Cargo, Slot, Terms};
@@ -15,14 +15,17 @@ use crate::closed::Closed;
 use crate::pass::Pass;
 use crate::place::{Origin, Place};
 use crate::plays::{
-    Asked, Claim, Deal, Fill, Free, Lay, Look, Merge, Reach, Seal, Stop, Stopped, Take, Wanted,
+    Asked, Claim, Deal, Fill, Free, Lay, Look, Merge, Reach, Seal, Stop, Stopped, Take, Under,
+    Wanted,
 };
 use atomic_table::{Refused, Table};
 use std::alloc::{AllocError, Global};
 use std::marker::{Brand, Model};
 use std::snapshot::Snapshot;
+use std::sync::Arc;
 use tc_context::package::Package;
 use tc_elf::image::Image;
+use tc_exec::code::Code;
 use tc_segment::state::LockState;
 
 /// What `claim` answers where the thread was not where it is claimed from: the word that was seen.
@@ -60,6 +63,7 @@ pub struct Hall {
 
 impl Model for Hall {
     ghost use Rattle.std.specs.Prelude.{◌≡◌, ◌≤◌, ◌+◌, [], length, vec_capacity};
+    ghost use Rattle.tc_elf.specs.declared.limits.TheConstants.{MAX_THREADS, MAX_GUARDS};
     ghost use Rattle.tc_hall.specs.PassView.{HallView};
 
     ghost Value = { HallView };
@@ -74,8 +78,8 @@ impl Model for Hall {
         × (h.threads ≤ vec_capacity h.packages)
         × (h.lock_states.items ≡ [])
         × (h.locks ≤ vec_capacity h.lock_states)
-        × (h.threads ≤ 16)
-        × (h.locks ≤ 16) };
+        × (h.threads ≤ MAX_THREADS)
+        × (h.locks ≤ MAX_GUARDS) };
 }
 
 // The package that lay in a slot.
@@ -102,7 +106,8 @@ fn lock_of(slot: Slot) -> LockState
     }
 }
 
-// The packages of all threads, ready, and then the states of all locks.
+// The packages of all threads, ready, and then the states of all locks. The packages share the
+// code, which is decoded here.
 fn stock(alloc: Global, image: &Image, fuel: u32, limit: u32) -> Result<Vec<Slot>, AllocError>
     requires { (1 ≤ fuel) × (fuel ≤ MAX_FUEL) × (limit ≤ MAX_BATCH) }
     ensures { IfOk result (λ v. AreStocked image.now (length image.now.entries)
@@ -110,9 +115,11 @@ fn stock(alloc: Global, image: &Image, fuel: u32, limit: u32) -> Result<Vec<Slot
 {
     let threads = image.threads();
     let locks = image.guards();
+    let code = Arc::new(alloc, Code::of(alloc, image)?)?;
     let mut slots = Vec::with_capacity(alloc, threads as usize + locks as usize)?;
     for t in 0..threads {
-        slots.push_reserved(Some(Cargo::Package(Package::start(alloc, image, t, fuel)?)));
+        let package = Package::start_with(alloc, image, &code, t, fuel)?;
+        slots.push_reserved(Some(Cargo::Package(package)));
     }
     for i in 0..locks {
         slots.push_reserved(Some(Cargo::Lock(LockState::new(alloc, image, i, limit)?)));
@@ -196,7 +203,7 @@ impl Hall {
         requires all { HasAll self.terms.workers pass.knows }
         requires free { IsFree pass.knows }
         requires done { HasSeenAll (threads self.terms) pass.knows }
-        ensures { IsEnd self.terms result.packages result.locks }
+        ensures { IsEnd self.terms pass.knows result.packages result.locks }
     {
         let Hall {
             board,
@@ -269,8 +276,9 @@ impl Hall {
     }
 
     /// Takes the package of a thread that waits for the lock, by one compare-and-swap on the
-    /// thread's word, which shows the pass's worker afterwards. It refuses exactly where the word
-    /// was another, and does not try again.
+    /// thread's word, which shows the pass's worker afterwards. The lock's state is not in the
+    /// package, and may be granted to it. It refuses exactly where the word was another, and does
+    /// not try again.
     pub fn adopt(&self, pass: &mut Pass, t: u32, lock: u32) -> Result<Package, NotWaiting>
         requires own { pass.old.table ≡ self.now.table }
         requires thread { t < threads self.now.terms }
@@ -279,23 +287,27 @@ impl Hall {
         ensures result { MatchResult result
             (λ p. Gets (256 + lock) t p pass.old.knows pass.new.knows)
             (λ e. Missed (256 + lock) (t + 2) e.0 pass.old.knows pass.new.knows) }
+        ensures waiting { IfOk result (λ p. IsWaiting p lock) }
     {
         match self.claim_from(pass, t, 256 + u64::from(lock)) {
-            Ok(package) => Ok(package),
+            Ok(package) => {
+                package.keeps();
+                Ok(package)
+            }
             Err(word) => Err(NotWaiting(word)),
         }
     }
 
-    /// Puts a package that the pass has out into its thread's slot, with all locks that are in it.
-    /// Its step is the store of the place on the thread's word, once the slot is filled: from then
-    /// on any pass may take it there.
-    pub fn put(&self, pass: &mut Pass, package: Package, place: Place)
+    // Puts the package, in a hall of J's terms.
+    fn put_as<J: Under>(&self, pass: &mut Pass, package: Package, place: Place)
         requires own { pass.old.table ≡ self.now.table }
+        requires picked { J.terms ≡ Some self.now.terms }
         requires thread { «package».context.thread < threads self.now.terms }
         requires place { IsInRange (locks self.now.terms) place }
         requires ready { MayPut place pass.old.knows «package» }
         ensures own { IsSamePass pass.old pass.new }
         ensures put { Gave place «package» pass.old.knows pass.new.knows }
+        ensures left { IsAsLeft self.now.terms pass.old.knows «package» }
     {
         let t = package.thread() as usize;
         let code = place.code();
@@ -305,7 +317,23 @@ impl Hall {
             None => {}
             Some(_) => unreachable!(),
         }
-        words.store::<Fill>(&mut pass.seat, t + 2, code);
+        words.store::<Fill<J>>(&mut pass.seat, t + 2, code);
+    }
+
+    /// Puts a package that the pass has out into its thread's slot, with all locks that are in it.
+    /// Its step is the store of the place on the thread's word, once the slot is filled: from then
+    /// on any pass may take it there. The package is as the history of the blocks that were sealed
+    /// by then leaves its thread.
+    pub fn put(&self, pass: &mut Pass, package: Package, place: Place)
+        requires own { pass.old.table ≡ self.now.table }
+        requires thread { «package».context.thread < threads self.now.terms }
+        requires place { IsInRange (locks self.now.terms) place }
+        requires ready { MayPut place pass.old.knows «package» }
+        ensures own { IsSamePass pass.old pass.new }
+        ensures put { Gave place «package» pass.old.knows pass.new.knows }
+        ensures left { IsAsLeft self.now.terms pass.old.knows «package» }
+    {
+        self.put_as::<Brand>(pass, package, place);
     }
 
     // Takes J's lock.

@@ -12,11 +12,13 @@
 //!
 //! - `specs/Rule.antt`: what holds between any two steps. `specs/Steps.antt`: what each call says
 //!   of its pass. `specs/Effects.antt`: the effect of each kind of step on the table.
-//!   `specs/Made.antt`: what `new` makes. `specs/Places.antt`: the words of the places.
+//!   `specs/Outline.antt`, `specs/Shown.antt` and `specs/Ties.antt`: what a step is to the pure
+//!   machine of tc_core. `specs/Made.antt`: what `new` makes. `specs/Places.antt`: the words of the places.
 //!   `specs/PassView.antt`: passes and halls as contracts see them.
 //! - `hall`: halls and their calls. `pass`: a worker's right to step. `place`: where packages are
 //!   put and from where they are claimed. `closed`: what a hall had at its end.
-//! - `board`: the table, and what a pass knows. `plays`: what each kind of step on it tells.
+//! - `showing`: `tie`, which states that each step keeps the rule and is an event of the pure machine
+//!   or none. `board`: the table, and what a pass knows. `plays`: what each kind of step on it tells.
 #![tactic(auto)]
 
 pub mod board;
@@ -25,5 +27,6 @@ pub mod hall;
 pub mod pass;
 pub mod place;
 mod plays;
+pub mod showing;
 #[cfg(test)]
 mod tests;

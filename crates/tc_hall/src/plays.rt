@@ -1,5 +1,5 @@
 //! What each step on the table tells.
-ghost use Rattle.tc_hall.specs.Steps.{claimed, laid, reached, did_put, did_free, looked, stopping, saw_stopped, sealed_as, took_as, dealt, fresh, merged, gone};
+ghost use Rattle.tc_hall.specs.Steps.{claimed, laid, reached, put_as, did_free, looked, stopping, saw_stopped, sealed_as, took_as, dealt, fresh, merged, gone};
 
 use crate::board::{Knows, Slot};
 use atomic_table::{Join, Play, Split};
@@ -25,10 +25,26 @@ impl Play<Slot, Knows> for Reach {
     ghost then = { reached };
 }
 
-pub(crate) struct Fill;
+/// The terms of the hall in which a package is put. Each call picks them.
+pub trait Under {
+    ghost use Rattle.std.specs.Prelude.{Option};
+    ghost use Rattle.tc_hall.specs.declared.board.Terms.{Terms};
 
-impl Play<Slot, Knows> for Fill {
-    ghost then = { did_put };
+    ghost terms: { Option Terms };
+}
+
+impl Under for Brand {
+    ghost use Rattle.std.specs.Prelude.{None};
+
+    ghost terms = { None };
+}
+
+pub(crate) struct Fill<J> {
+    marker: PhantomData<J>,
+}
+
+impl<J: Under> Play<Slot, Knows> for Fill<J> {
+    ghost then = { put_as J.terms };
 }
 
 pub(crate) struct Free;

@@ -17,6 +17,7 @@ fn section(held: Held, end: End) -> Block
         held,
         kind: Kind::Taken,
         worker: 0,
+        pc: 0x0010_000c,
         end,
     }
 }

@@ -11,7 +11,7 @@ push_reserved-requires c = let n = c.loop-t.slots.ok.0 in let r = c.loop-t.invar
 
 pub loop-t-preserved : goal.loop-t-preserved
 loop-t-preserved c = record {
-  stocked = package_stocked c.args.image.now c.loop-t.t c.args.fuel c.args.limit c.loop-t.slots.items c.push_reserved.new.self.items c.in_ok-start.field-0 c.loop-t.invariant.stocked c.in_ok-start.ensures c.push_reserved.ensures.items;
+  stocked = package_stocked c.args.image.now c.loop-t.t c.args.fuel c.args.limit c.loop-t.slots.items c.push_reserved.new.self.items c.in_ok-package.package c.loop-t.invariant.stocked c.in_ok-package.ensures c.push_reserved.ensures.items;
   room = let m = c.loop-t.invariant.room in let e = c.push_reserved.ensures.capacity in omega arith;
 }
 

@@ -121,5 +121,5 @@ returns c =
     let m : c.loop-i.i ≡ locks key = (let b = c.loop-i.auto.i-end in let z = c.loop-i-test.false in let m = c.self.invariant.3 in omega arith) in
     let taken = subst (λ (z : ℕ). AreTaken (λ (q : PackageView). Package q) 0 z (slots_items c.close_with-closed.result.slots) c.loop-t.packages.items) n c.loop-t.invariant.taken in
     let taken_locks = subst (λ (z : ℕ × ℕ × List (Option Cargo)). AreTaken (λ (q : LockView). Lock q) z.0 z.1 z.2 c.loop-i.lock_states.items) (λ i. (c.self.invariant.0 i, m i, c.loop-t.invariant.same i)) c.loop-i.invariant.taken in
-    subst (λ (h : HallView). IsEnd h.terms c.loop-t.packages.items c.loop-i.lock_states.items) c.self.view_is
+    subst (λ (z : HallView × PassView). IsEnd z.0.terms z.1.knows c.loop-t.packages.items c.loop-i.lock_states.items) (λ i. (c.self.view_is i, c.pass.view_is i))
     (ends key c.pass.inside.seat.id v _ _ c.close_with-closed.ensures.values.2 c.pass.invariant.3 seen all free c.loop-t.packages.items c.loop-i.lock_states.items taken taken_locks)

@@ -1,4 +1,5 @@
 use Rattle.std.proofs.Common.{◌≡◌, ◌≤◌, ◌+◌, ◌-◌, ℕ, length, replicate, sym, ap, ◌∙◌, subst, arith}
+use Rattle.tc_elf.specs.declared.limits.TheConstants.{MAX_THREADS, MAX_GUARDS}
 use Rattle.tc_elf.specs.Shown.{Shown}
 use Rattle.tc_hall.specs.declared.board.Terms.{Terms}
 use Rattle.tc_hall.specs.declared.board.Knows.{Knows}
@@ -13,8 +14,8 @@ new-requires c =
     let k : Terms = record { image = c.of.result; fuel = c.args.fuel; workers = c.args.workers; limit = c.args.limit } in
     let image = c.of.ensures in
     let limits : IsLimited k = record {
-      threads = subst (λ (x : Shown). length x.entries ≤ 16) (sym image) (omega (arith, c.threads-threads.ensures.bound));
-      locks = subst (λ (x : Shown). length x.guards ≤ 16) (sym image) (omega (arith, c.guards-locks.ensures.bound));
+      threads = subst (λ (x : Shown). length x.entries ≤ MAX_THREADS) (sym image) (omega (arith, c.threads-threads.ensures.bound));
+      locks = subst (λ (x : Shown). length x.guards ≤ MAX_GUARDS) (sym image) (omega (arith, c.guards-locks.ensures.bound));
       fuel = c.requires.fuel.1;
       workers = c.requires.workers;
     } in

@@ -1,20 +1,21 @@
 use Rattle.std.proofs.Common.{◌≡◌, ◌<◌, ℕ, [], ◌∷◌, Option, Some, None, refl, sym, ap, ◌∙◌, subst, arith}
 use Rattle.tc_context.specs.View.{bare}
 use Rattle.tc_hall.specs.declared.board.Knows.{Knows}
+use Rattle.tc_hall.specs.declared.board.Terms.{Terms}
 use Rattle.tc_hall.specs.declared.board.Cargo.{Cargo}
 use Rattle.tc_hall.specs.declared.board.Cargo.TheVariants.{Package}
 use Rattle.tc_hall.specs.PassView.{PassView, HallView}
 use Rattle.tc_hall.specs.Places.{IsInRange}
 use Rattle.tc_hall.specs.Rule.{threads, locks, Has}
-use Rattle.tc_hall.specs.Steps.{Sat, MayPut, Gave}
+use Rattle.tc_hall.specs.Steps.{Sat, MayPut, Gave, IsAsLeft}
 use Rattle.tc_hall.proofs.Moves.{reaches}
-use Rattle.tc_hall.proofs.Telling.{Fills, fills}
-use Rattle.tc_hall.proofs.Putting.{may_put_as, gave}
+use Rattle.tc_hall.proofs.Telling.{FillsAs, Fills, fills}
+use Rattle.tc_hall.proofs.Putting.{may_put_as, left_as, gave}
 use Rattle.tc_hall.proofs.Holding.{put_slot, put_found, put_carried, put_view}
-use Rattle.tc_hall.proofs.hall.Hall.put.Goals as goal
+use Rattle.tc_hall.proofs.hall.Hall.put_as.Goals as goal
 
 pub load-requires : goal.load-requires
-load-requires c =
+load-requires g c =
     let seat = c.pass.inside.seat in
     let own = ap (λ (p : PassView). p.table) c.pass.view_is ∙ (c.requires.own ∙ sym (ap (λ (h : HallView). h.table) c.self.view_is)) in
     let below : c.args.«package».context.thread < threads c.self.inside.board.shared.key = subst (λ (h : HallView). c.args.«package».context.thread < threads h.terms) (sym c.self.view_is) c.requires.thread in
@@ -26,13 +27,13 @@ load-requires c =
     )
 
 pub exchange-requires : goal.exchange-requires
-exchange-requires c =
+exchange-requires g c =
     let own = ap (λ (p : PassView). p.table) c.pass.view_is ∙ (c.requires.own ∙ sym (ap (λ (h : HallView). h.table) c.self.view_is)) in
     let did = c.load.ensures in
     (did.0 ∙ own, put_slot c.thread-t.result (Package c.args.«package») c.pass.inside.seat.me c.load.new.seat.me c.pass.invariant.0 (did.2 c.thread-t.result refl))
 
 pub unreachable-requires : goal.unreachable-requires
-unreachable-requires c =
+unreachable-requires g c =
     let none = put_found c.thread-t.result (Package c.args.«package») c.pass.inside.seat.me c.load.new.seat.me c.pass.invariant.0 (c.load.ensures.2 c.thread-t.result refl) c.exchange.result c.exchange.ensures.2 in
     apart c.in-Some.field-0 c.exchange.result none c.in-Some.is
   where
@@ -40,7 +41,7 @@ unreachable-requires c =
     apart p x a b = cc (a, b)
 
 pub store-requires : goal.store-requires
-store-requires c =
+store-requires g c =
     let own = ap (λ (p : PassView). p.table) c.pass.view_is ∙ (c.requires.own ∙ sym (ap (λ (h : HallView). h.table) c.self.view_is)) in
     let key = c.self.inside.board.shared.key in
     let m = c.pass.inside.seat.me in
@@ -56,27 +57,40 @@ store-requires c =
     let view = put_view c.thread-t.result (Package q) m c.load.new.seat.me c.pass.invariant.0 got m2 c.exchange.ensures.3 in (
       c.exchange.ensures.0 ∙ (did.0 ∙ own),
       omega (arith, c.self.invariant.0, c.self.invariant.1),
-      subst (λ (z : ℕ × ℕ). Fills key c.self.inside.board.shared.table_id.slots m2id z.0 z.1 m2.0 m2.1) (λ i. (sym t i, sym c.code-code.ensures i))
+      subst (λ (o : Option Terms). FillsAs key o c.self.inside.board.shared.table_id.slots m2id c.thread-t.result c.code-code.result m2.0 m2.1) (sym (c.requires.picked ∙ ap (λ (h : HallView). Some h.terms) (sym c.self.view_is)))
+          (subst (λ (z : ℕ × ℕ). Fills key c.self.inside.board.shared.table_id.slots m2id z.0 z.1 m2.0 m2.1) (λ i. (sym t i, sym c.code-code.ensures i))
           (fills key _ _ c.args.place m2.0 q m2.1
           (put_carried c.thread-t.result (Package q) m c.load.new.seat.me c.pass.invariant.0 got m2 c.exchange.ensures.3 ∙ ap (λ (z : ℕ). (z, Some (Package q)) ∷ []) t)
-          (ap (λ (z : Knows). z.hand) view ∙ ap (λ (z : ℕ). Some z) t) (ap (λ (z : Knows). z.spent) view ∙ c.pass.invariant.3) range (may_put_as c.args.place m.0 m2.0 q (Some c.thread-t.result) view may)),
+          (ap (λ (z : Knows). z.hand) view ∙ ap (λ (z : ℕ). Some z) t) (ap (λ (z : Knows). z.spent) view ∙ c.pass.invariant.3) range (may_put_as c.args.place m.0 m2.0 q (Some c.thread-t.result) view may))),
     )
 
 pub invariant_of-pass : goal.invariant_of-pass
-invariant_of-pass c =
+invariant_of-pass g c =
     let m = c.pass.inside.seat.me in
     let got = c.load.ensures.2 c.thread-t.result refl in
     let carried = put_carried c.thread-t.result (Package c.args.«package») m c.load.new.seat.me c.pass.invariant.0 got c.exchange.new.seat.me c.exchange.ensures.3 in
     let view = put_view c.thread-t.result (Package c.args.«package») m c.load.new.seat.me c.pass.invariant.0 got c.exchange.new.seat.me c.exchange.ensures.3 in
-    let did = c.store.ensures.2 c.thread-t.result c.args.«package» carried in
+    let did = (c.store.ensures.2 c.thread-t.result c.args.«package» carried).0 in
     (ap (λ (z : Sat). z.1) did, ap (λ (z : Sat). z.0.hand) did, c.pass.invariant.2 ∙ sym (ap (λ (z : Sat). z.0.worker) did ∙ ap (λ (v : Knows). v.worker) view), ap (λ (z : Sat). z.0.spent) did ∙ (ap (λ (v : Knows). v.spent) view ∙ c.pass.invariant.3))
 
 pub returns-clause-put : goal.returns-clause-put
-returns-clause-put c =
+returns-clause-put g c =
     let m = c.pass.inside.seat.me in
     let got = c.load.ensures.2 c.thread-t.result refl in
     let carried = put_carried c.thread-t.result (Package c.args.«package») m c.load.new.seat.me c.pass.invariant.0 got c.exchange.new.seat.me c.exchange.ensures.3 in
     let view = put_view c.thread-t.result (Package c.args.«package») m c.load.new.seat.me c.pass.invariant.0 got c.exchange.new.seat.me c.exchange.ensures.3 in
-    let did = c.store.ensures.2 c.thread-t.result c.args.«package» carried in
+    let did = (c.store.ensures.2 c.thread-t.result c.args.«package» carried).0 in
     subst (λ (p : PassView). Gave c.args.place c.args.«package» p.knows c.store.new.seat.me.0) c.pass.view_is
     (gave c.args.place c.code-code.result c.args.«package» m.0 c.exchange.new.seat.me.0 c.store.new.seat.me.0 c.thread-t.result view c.pass.invariant.1 c.code-code.ensures (ap (λ (z : Sat). z.0) did))
+
+pub returns-clause-left : goal.returns-clause-left
+returns-clause-left g c =
+    let m = c.pass.inside.seat.me in
+    let m2 = c.exchange.new.seat.me in
+    let q = c.args.«package» in
+    let got = c.load.ensures.2 c.thread-t.result refl in
+    let carried = put_carried c.thread-t.result (Package q) m c.load.new.seat.me c.pass.invariant.0 got m2 c.exchange.ensures.3 in
+    let view = put_view c.thread-t.result (Package q) m c.load.new.seat.me c.pass.invariant.0 got m2 c.exchange.ensures.3 in
+    let terms : Terms = c.self.inside.board.shared.key in
+    let left = (c.store.ensures.2 c.thread-t.result q carried).1 terms (c.requires.picked ∙ ap (λ (h : HallView). Some h.terms) (sym c.self.view_is)) in
+    subst (λ (z : HallView × PassView). IsAsLeft z.0.terms z.1.knows q) (λ i. (c.self.view_is i, c.pass.view_is i)) (left_as terms m.0 m2.0 q (Some c.thread-t.result) view left)

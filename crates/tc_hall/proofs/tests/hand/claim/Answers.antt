@@ -1,0 +1,14 @@
+use Rattle.std.proofs.Common.{rules, ◌≡◌, None}
+use Rattle.tc_context.specs.View.{granted_lock}
+use Rattle.tc_hall.proofs.InHand.{claimed, none_in}
+use Rattle.tc_hall.proofs.tests.hand.claim.Goals as goal
+
+pub invariant_of-result : goal.invariant_of-result
+invariant_of-result g c = let h = claimed _ _ c.in-Ok.carried c.args.pass.knows c.claim.new.pass.knows c.in-Ok.ensures.result c.requires.free in record { out = h.out; only = h.only; image = h.image; settled = h.settled }
+
+pub returns-clause-none : goal.returns-clause-none
+returns-clause-none g c =
+    let q = c.in-Ok.carried in
+    let held : q.context.guest.held ≡ 0 = search rules in
+    let granted : granted_lock q.granted ≡ None = search rules in
+    none_in 0 q c.in-Ok.ensures.result.order held granted

@@ -1,0 +1,17 @@
+use Rattle.std.proofs.Common.{rules, ◌≡◌, ℕ, true, Some, None, ap, ◌∙◌, arith}
+use Rattle.tc_turn.specs.Turn.{is_running}
+use Rattle.tc_context.specs.View.{want_of}
+use Rattle.tc_hall.specs.declared.place.Place.TheVariants.{Waiting}
+use Rattle.tc_hall.proofs.InHand.{may_put}
+use Rattle.tc_hall.proofs.tests.hand.put_waiting.Goals as goal
+
+pub put-requires-clause-ready : goal.put-requires-clause-ready
+put-requires-clause-ready g c =
+    let q = c.args.hand.carried in
+    let none : q.granted ≡ None = search rules in
+    let runs : is_running q.context.guest.status ≡ true = search rules in
+    let want : want_of q.image q.context ≡ Some 0 = search rules in
+    may_put (Waiting 0) c.args.hand.pass.knows q c.args.hand.out c.requires.none none (λ z. absurd (omega (arith, z))) (λ _. runs) (λ i z. want ∙ ap (λ (k : ℕ). Some k) (omega (arith, z)))
+
+pub returns-clause-free : goal.returns-clause-free
+returns-clause-free g c = c.put.ensures.put.rest ∙ c.args.hand.only
