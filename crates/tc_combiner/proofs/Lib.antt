@@ -1,0 +1,11 @@
+pub mod Owning
+pub mod Readying
+pub mod Walking
+pub mod Packages
+pub mod Handing
+pub mod Unlocking
+pub mod Seats
+pub mod Ending
+pub mod Settling
+pub mod Fitting
+pub mod Ties

@@ -1,0 +1,304 @@
+-- What is out, split among those who have it in hand.
+use Rattle.std.proofs.Common.{◌≡◌, ◌≢◌, ℕ, ◌==◌, Bool, true, false, if◌then◌else◌, List, [], ◌∷◌, ◌++◌, refl, sym, ap, ◌∙◌, subst, arith, Option, Some, None}
+use Rattle.std.proofs.lemmas.Bool.Decides.{nat_tests}
+use Rattle.tc_journal.specs.declared.block.Kind.{Kind}
+use Rattle.tc_hall.specs.declared.board.Knows.{Knows}
+use Rattle.tc_segment.specs.View.{LockView, kept}
+use Rattle.tc_context.specs.Locks.{IsPlaced}
+use Rattle.tc_context.specs.View.{PackageView, bare, with_turns}
+use Rattle.tc_hall.specs.Rule.{locked_in}
+use Rattle.tc_combiner.specs.Packages.{DidGrant, DidTakeOut}
+use Rattle.tc_hall.specs.Outs.{Outs, outs, Item, Pack, Loose, keep, part, unless, minus, Within, IsOut, erase}
+use Rattle.tc_combiner.specs.Walks.{Moves, Owned, packed, Owns}
+
+module _ {A : Type 0} where
+  -- a, or else d
+  abbrev pub either : Option A → Option A → Option A
+  either (Some a) d = Some a
+  either None d = d
+
+  unless_some : (a x : Option A) (c : A) → unless a x ≡ Some c → (a ≡ None) × (x ≡ Some c)
+  unless_some None x c e = (refl, e)
+  unless_some (Some a) x c e = let n : ⊥ = cc in absurd n
+
+  unless_free : (a x : Option A) → a ≡ None → unless a x ≡ x
+  unless_free a x e = ap (λ (z : Option A). unless z x) e
+
+  unless_twice : (a d x : Option A) → unless d (unless a x) ≡ unless (either a d) x
+  unless_twice None d x = refl
+  unless_twice (Some a) None x = refl
+  unless_twice (Some a) (Some d) x = refl
+
+  unless_swap : (a d x : Option A) → unless d (unless a x) ≡ unless a (unless d x)
+  unless_swap None d x = refl
+  unless_swap (Some a) None x = refl
+  unless_swap (Some a) (Some d) x = refl
+
+  -- apart from a, if what d has is left where a is taken away
+  apart_at : (a d x : Option A) (c : A) → ((e : A) → d ≡ Some e → unless a x ≡ Some e) → a ≡ Some c → d ≡ None
+  apart_at a None x c h e = refl
+  apart_at a (Some g) x c h e = let k = (unless_some a x g (h g refl)).0 in let n : ⊥ = cc in absurd n
+
+  either_some : (a d : Option A) (c : A) → either a d ≡ Some c → (a ≡ None → d ≡ Some c) × ((b : A) → a ≡ Some b → a ≡ Some c)
+  either_some None d c e = (λ _. e, λ b f. let n : ⊥ = cc in absurd n)
+  either_some (Some a) d c e = (λ f. let n : ⊥ = cc in absurd n, λ b f. e)
+
+  either_in : (a d x : Option A) (c : A) → ((e : A) → a ≡ Some e → x ≡ Some e) → ((e : A) → d ≡ Some e → unless a x ≡ Some e) → either a d ≡ Some c → x ≡ Some c
+  either_in None d x c h k e = k c e
+  either_in (Some a) d x c h k e = h c e
+
+-- x is out beside y, as y is beside x
+beside : (o f g : Outs) → Within f o → Within g (minus o f) → Within f (minus o g)
+beside o f g a b = record {
+  contexts = λ u c e. unless_free (g.context u) (o.context u) (apart_at (f.context u) (g.context u) (o.context u) c (b.contexts u) e) ∙ a.contexts u c e;
+  locks = λ i c e. unless_free (g.lock i) (o.lock i) (apart_at (f.lock i) (g.lock i) (o.lock i) c (b.locks i) e) ∙ a.locks i c e;
+}
+
+weaken : (o f g : Outs) → Within g (minus o f) → Within g o
+weaken o f g b = record {
+  contexts = λ u c e. (unless_some (f.context u) (o.context u) c (b.contexts u c e)).1;
+  locks = λ i c e. (unless_some (f.lock i) (o.lock i) c (b.locks i c e)).1;
+}
+
+minus_swap : (o f g : Outs) → minus (minus o f) g ≡ minus (minus o g) f
+minus_swap o f g = λ j. record { context = λ u. unless_swap (f.context u) (g.context u) (o.context u) j; lock = λ i. unless_swap (f.lock i) (g.lock i) (o.lock i) j }
+
+pub swap : (b o : Outs) (x y : Item) (zs : List Item) → Owns b o (x ∷ y ∷ zs) → Owns b o (y ∷ x ∷ zs)
+swap b o x y zs h = (weaken o (part x) (part y) h.1.0, (beside o (part x) (part y) h.0 h.1.0, subst (λ (z : Outs). Owns b z zs) (minus_swap o (part x) (part y)) h.1.1))
+
+-- f is a and d together
+pub record Joins (a d f : Outs) : Type 0 where
+  pub contexts : (u : ℕ) → f.context u ≡ either (a.context u) (d.context u)
+  pub locks : (i : ℕ) → f.lock i ≡ either (a.lock i) (d.lock i)
+
+minus_join : (o a d f : Outs) → Joins a d f → minus (minus o a) d ≡ minus o f
+minus_join o a d f j = λ k. record {
+  context = λ u. (unless_twice (a.context u) (d.context u) (o.context u) ∙ ap (λ (z : Option PackageView). unless z (o.context u)) (sym (j.contexts u))) k;
+  lock = λ i. (unless_twice (a.lock i) (d.lock i) (o.lock i) ∙ ap (λ (z : Option LockView). unless z (o.lock i)) (sym (j.locks i))) k;
+}
+
+pub joined : (b o : Outs) (x y z : Item) (zs : List Item) → Joins (part x) (part y) (part z) → Owns b o (x ∷ y ∷ zs) → Owns b o (z ∷ zs)
+joined b o x y z zs j h = (
+  record {
+    contexts = λ u c e. either_in ((part x).context u) ((part y).context u) (o.context u) c (h.0.contexts u) (h.1.0.contexts u) (sym (j.contexts u) ∙ e);
+    locks = λ i c e. either_in ((part x).lock i) ((part y).lock i) (o.lock i) c (h.0.locks i) (h.1.0.locks i) (sym (j.locks i) ∙ e);
+  },
+  subst (λ (w : Outs). Owns b w zs) (minus_join o (part x) (part y) (part z) j) h.1.1,
+)
+
+-- a and d have nothing in common
+pub record AreApart (a d : Outs) : Type 0 where
+  pub contexts : (u : ℕ) (c : PackageView) → d.context u ≡ Some c → a.context u ≡ None
+  pub locks : (i : ℕ) (l : LockView) → d.lock i ≡ Some l → a.lock i ≡ None
+
+either_left : {A : Type 0} (a d : Option A) (c : A) → a ≡ Some c → either a d ≡ Some c
+either_left None d c e = let n : ⊥ = cc in absurd n
+either_left (Some a) d c e = e
+
+either_right : {A : Type 0} (a d : Option A) → a ≡ None → either a d ≡ d
+either_right None d e = refl
+either_right (Some a) d e = let n : ⊥ = cc in absurd n
+
+pub parted : (b o : Outs) (x y z : Item) (zs : List Item) → Joins (part x) (part y) (part z) → AreApart (part x) (part y) → Owns b o (z ∷ zs) → Owns b o (x ∷ y ∷ zs)
+parted b o x y z zs j p h =
+    let fx = part x in
+    let fy = part y in (
+      record {
+        contexts = λ u c e. h.0.contexts u c (j.contexts u ∙ either_left (fx.context u) (fy.context u) c e);
+        locks = λ i c e. h.0.locks i c (j.locks i ∙ either_left (fx.lock i) (fy.lock i) c e);
+      },
+      (
+        record {
+          contexts = λ u c e. unless_free (fx.context u) (o.context u) (p.contexts u c e) ∙ h.0.contexts u c (j.contexts u ∙ (either_right (fx.context u) (fy.context u) (p.contexts u c e) ∙ e));
+          locks = λ i c e. unless_free (fx.lock i) (o.lock i) (p.locks i c e) ∙ h.0.locks i c (j.locks i ∙ (either_right (fx.lock i) (fy.lock i) (p.locks i c e) ∙ e));
+        },
+        subst (λ (w : Outs). Owns b w zs) (sym (minus_join o (part x) (part y) (part z) j)) h.1,
+      ),
+    )
+
+-- what a call of the hall moves
+pub moves_none : (v w : Knows) → outs w ≡ outs v → Moves v w [] []
+moves_none v w e b zs h = subst (λ (o : Outs). Owns b o zs) (sym e) h
+
+pub moves_in : (v w : Knows) (x : Item) → outs w ≡ erase (outs v) x → Moves v w (x ∷ []) []
+moves_in v w x e b zs h = subst (λ (o : Outs). Owns b o zs) (sym e) h.1
+
+pub moves_out : (v w : Knows) (x : Item) → IsOut (outs w) x → erase (outs w) x ≡ outs v → Moves v w [] (x ∷ [])
+moves_out v w x out e b zs h = (out, subst (λ (o : Outs). Owns b o zs) (sym e) h)
+
+-- q is p with the lock state l in it besides
+pub record IsWith (l : LockView) (p q : PackageView) : Type 0 where
+  pub same : bare q ≡ bare p
+  pub here : locked_in q l.number ≡ Some l
+  pub free : locked_in p l.number ≡ None
+  pub others : (i : ℕ) → i ≢ l.number → locked_in q i ≡ locked_in p i
+
+either_none : {A : Type 0} (a : Option A) → either a None ≡ a
+either_none None = refl
+either_none (Some a) = refl
+
+abbrev at_thread : PackageView → ℕ → Option PackageView
+at_thread c u = if u == c.context.thread then Some c else None
+
+lock_joins : (l : LockView) (p q : PackageView) → IsWith l p q → (i : ℕ) → keep (locked_in q i) ≡ either (keep (locked_in p i)) ((if i == l.number then Some (kept l) else None))
+lock_joins l p q h i = elim (i == l.number) as (λ (b : Bool). (i == l.number) ≡ b → keep (locked_in q i) ≡ either (keep (locked_in p i)) (if b then Some (kept l) else None)) [
+  | true ↦ λ r. let e : i ≡ l.number = grind (arith, nat_tests) in
+      ap (λ (k : ℕ). keep (locked_in q k)) e ∙ (ap keep h.here ∙ sym (ap (λ (z : Option LockView). either (keep z) (Some (kept l))) (ap (locked_in p) e ∙ h.free)))
+  | false ↦ λ r. let ne : i ≢ l.number = grind (arith, nat_tests) in ap keep (h.others i ne) ∙ sym (either_none (keep (locked_in p i)))
+] refl
+
+pub with_joins : (l : LockView) (p q : PackageView) → IsWith l p q → Joins (part (Pack p)) (part (Loose l)) (part (Pack q))
+with_joins l p q h = record {
+  contexts = λ u. ap (λ (c : PackageView). at_thread c u) h.same ∙ sym (either_none (at_thread (bare p) u));
+  locks = lock_joins l p q h;
+}
+
+pub with_apart : (l : LockView) (p q : PackageView) → IsWith l p q → AreApart (part (Pack p)) (part (Loose l))
+with_apart l p q h = record {
+  contexts = λ u c e. let n : ⊥ = cc in absurd n;
+  locks = λ i k e. elim (i == l.number) as (λ (b : Bool). (i == l.number) ≡ b → (if b then Some (kept l) else None) ≡ Some k → keep (locked_in p i) ≡ None) [
+    | true ↦ λ r f. let g : i ≡ l.number = grind (arith, nat_tests) in ap keep (ap (locked_in p) g ∙ h.free)
+    | false ↦ λ r f. let n : ⊥ = cc in absurd n
+  ] refl e;
+}
+
+-- a lock state goes into a package, and comes out of it
+pub goes_in : (v : Knows) (l : LockView) (p q : PackageView) → IsWith l p q → Moves v v (Pack p ∷ Loose l ∷ []) (Pack q ∷ [])
+goes_in v l p q h b zs o = joined b (outs v) (Pack p) (Loose l) (Pack q) zs (with_joins l p q h) o
+
+pub comes_out : (v : Knows) (l : LockView) (p q : PackageView) → IsWith l q p → Moves v v (Pack p ∷ []) (Pack q ∷ Loose l ∷ [])
+comes_out v l p q h b zs o = parted b (outs v) (Pack q) (Loose l) (Pack p) zs (with_joins l q p h) (with_apart l q p h) o
+
+pub same_number : (n : ℕ) → (n == n) ≡ true
+same_number n = grind (arith, nat_tests)
+
+pub place_here : (n : ℕ) (o : Option LockView) (p q : PackageView) → IsPlaced n o p.context.locks q.context.locks → locked_in q n ≡ o
+place_here n o p q h = h n ∙ ap (λ (b : Bool). if b then o else locked_in p n) (let e : (n == n) ≡ true = grind (arith, nat_tests) in e)
+
+pub place_other : (n : ℕ) (o : Option LockView) (p q : PackageView) → IsPlaced n o p.context.locks q.context.locks → (i : ℕ) → i ≢ n → locked_in q i ≡ locked_in p i
+place_other n o p q h i ne = h i ∙ ap (λ (b : Bool). if b then o else locked_in p i) (let e : (i == n) ≡ false = grind (arith, nat_tests) in e)
+
+pub granted_with : (l : LockView) (k : Kind) (n : ℕ) (p q : PackageView) → DidGrant l k n p q → locked_in p l.number ≡ None → IsWith l p q
+granted_with l k n p q d free = record {
+  same = ap bare d.is;
+  here = place_here l.number (Some l) p q d.locks;
+  free = free;
+  others = place_other l.number (Some l) p q d.locks;
+}
+
+pub taken_with : (i : ℕ) (l : LockView) (p q : PackageView) → DidTakeOut i l p q → IsWith l q p
+taken_with i l p q d = record {
+  same = sym (ap bare d.is);
+  here = ap (locked_in p) d.rest.number ∙ d.was;
+  free = ap (locked_in q) d.rest.number ∙ place_here i None p q d.locks;
+  others = λ j ne. sym (place_other i None p q d.locks j (λ e. ne (e ∙ sym d.rest.number)));
+}
+
+-- the count of a package's turns is no part of what is out
+pub counted : (v : Knows) (p : PackageView) (n : ℕ) → Moves v v (Pack p ∷ []) (Pack (with_turns n p) ∷ [])
+counted v p n b zs o = (record { contexts = o.0.contexts; locks = o.0.locks }, o.1)
+
+pub moves_then : (v w x : Knows) (xs ys zs : List Item) → Moves v w xs ys → Moves w x ys zs → Moves v x xs zs
+moves_then v w x xs ys zs a c b us o = c b us (a b us o)
+
+pub moves_same : (v w : Knows) (xs : List Item) → outs w ≡ outs v → Moves v w xs xs
+moves_same v w xs e b zs h = subst (λ (o : Outs). Owns b o (xs ++ zs)) (sym e) h
+
+pub takes_in : (v w : Knows) (l : LockView) (p q : PackageView) → Moves v w [] (Loose l ∷ []) → IsWith l p q → Moves v w (Pack p ∷ []) (Pack q ∷ [])
+takes_in v w l p q m h b zs o = goes_in w l p q h b zs (swap b (outs w) (Loose l) (Pack p) zs (m b (Pack p ∷ zs) o))
+
+pub framed : (v w : Knows) (xs : List Item) → Moves v w [] [] → Moves v w xs xs
+framed v w xs m b zs o = m b (xs ++ zs) o
+
+pub counted_then : (v w : Knows) (p q : PackageView) (n : ℕ) (xs ys : List Item) → q ≡ with_turns n p → Moves v w (Pack q ∷ xs) ys → Moves v w (Pack p ∷ xs) ys
+counted_then v w p q n xs ys e m b zs o = subst (λ (z : PackageView). Owns b (outs v) (Pack z ∷ (xs ++ zs)) → Owns b (outs w) (ys ++ zs)) e (m b zs) (counted v p n b (xs ++ zs) o)
+
+pub counted_owned : (v : Knows) (p q : PackageView) (n : ℕ) (xs : List Item) → q ≡ with_turns n p → Owned v (Pack p ∷ xs) → Owned v (Pack q ∷ xs)
+counted_owned v p q n xs e o = subst (λ (z : PackageView). Owned v (Pack z ∷ xs)) (sym e) (o.0, (record { contexts = o.1.0.contexts; locks = o.1.0.locks }, o.1.1))
+
+pub one_gone : (v w : Knows) (x : Item) (xs : List Item) → Moves v w (x ∷ []) [] → Moves v w (x ∷ xs) xs
+one_gone v w x xs m b zs o = m b (xs ++ zs) o
+
+pub both_gone : (v w x : Knows) (p q : PackageView) (a : Option PackageView) → a ≡ Some q → Moves v w (Pack p ∷ []) [] → Moves w x (Pack q ∷ []) [] → Moves v x (Pack p ∷ packed a) []
+both_gone v w x p q a e m n = subst (λ (o : Option PackageView). Moves v x (Pack p ∷ packed o) []) (sym e) (λ b zs o. n b zs (m b (Pack q ∷ zs) o))
+
+pub owned_changed : (v w : Knows) (x y : Item) (xs : List Item) → Moves v w (x ∷ []) (y ∷ []) → Owned v (x ∷ xs) → Owned w (y ∷ xs)
+owned_changed v w x y xs m o = (o.0, m o.0 xs o.1)
+
+-- the first was changed, and then all of them
+pub changed_then : (v w z : Knows) (x y : Item) (xs ys : List Item) → Moves v w (x ∷ []) (y ∷ []) → Moves w z (y ∷ xs) ys → Moves v z (x ∷ xs) ys
+changed_then v w z x y xs ys m n b zs o = n b zs (m b (xs ++ zs) o)
+
+pub stopped_moves : (v w z : Knows) (x y : Item) (xs : List Item) (a : Option PackageView) → a ≡ None → Moves v w (x ∷ []) (y ∷ []) → Moves w z (y ∷ xs) [] → Moves v z (x ∷ xs) (packed a)
+stopped_moves v w z x y xs a e m n = subst (λ (o : Option PackageView). Moves v z (x ∷ xs) (packed o)) (sym e) (changed_then v w z x y xs [] m n)
+
+pub ended_moves : (v w z : Knows) (x y : Item) (xs : List Item) → Moves v w (x ∷ []) (y ∷ []) → outs z ≡ erase (outs w) y → Moves v z (x ∷ xs) xs
+ended_moves v w z x y xs m e b zs o = subst (λ (a : Outs). Owns b a (xs ++ zs)) (sym e) (m b (xs ++ zs) o).1
+
+pub one_changed : (v w : Knows) (x y : Item) (xs : List Item) → Moves v w (x ∷ []) (y ∷ []) → Moves v w (x ∷ xs) (y ∷ xs)
+one_changed v w x y xs m b zs o = m b (xs ++ zs) o
+
+pub granted_moves : (v : Knows) (l : LockView) (k : Kind) (n : ℕ) (p q : PackageView) → DidGrant l k n p q → locked_in p l.number ≡ None → Moves v v (Pack p ∷ Loose l ∷ []) (Pack q ∷ [])
+granted_moves v l k n p q d free = goes_in v l p q (granted_with l k n p q d free)
+
+pub owned_then : (v w : Knows) (xs ys : List Item) → Owned v (xs ++ []) → Moves v w xs ys → Owned w (ys ++ [])
+owned_then v w xs ys o m = (o.0, m o.0 [] o.1)
+
+-- the last of these comes first
+pub rotate : (b o : Outs) (x : Item) (ys zs : List Item) → Owns b o (ys ++ (x ∷ zs)) → Owns b o (x ∷ (ys ++ zs))
+rotate b o x [] zs h = h
+rotate b o x (y ∷ ys) zs h = swap b o y x (ys ++ zs) (h.0, rotate b (erase o y) x ys zs h.1)
+
+-- no item of these has a package of thread u
+abbrev pub NoneAt : ℕ → List Item → Type 0
+NoneAt u [] = Unit {0}
+NoneAt u (x ∷ xs) = ((part x).context u ≡ None) × NoneAt u xs
+
+base_at : (u : ℕ) (b o : Outs) (xs : List Item) → Owns b o xs → NoneAt u xs → o.context u ≡ b.context u
+base_at u b o [] h n = ap (λ (z : Outs). z.context u) h
+base_at u b o (x ∷ xs) h n = sym (unless_free ((part x).context u) (o.context u) n.0) ∙ base_at u b (erase o x) xs h.1 n.1
+
+base_out : (u : ℕ) (c : PackageView) (b o : Outs) (xs : List Item) → Owns b o xs → b.context u ≡ Some c → o.context u ≡ Some c
+base_out u c b o [] h e = ap (λ (z : Outs). z.context u) h ∙ e
+base_out u c b o (x ∷ xs) h e = (unless_some ((part x).context u) (o.context u) c (base_out u c b (erase o x) xs h.1 e)).1
+
+add_none : (b o : Outs) (xs : List Item) → Owns b o xs → Owns b o (xs ++ [])
+add_none b o [] h = h
+add_none b o (x ∷ xs) h = (h.0, add_none b (erase o x) xs h.1)
+
+drop_none : (b o : Outs) (xs : List Item) → Owns b o (xs ++ []) → Owns b o xs
+drop_none b o [] h = h
+drop_none b o (x ∷ xs) h = (h.0, drop_none b (erase o x) xs h.1)
+
+-- beside what was in hand, what was out stays out as it was
+pub stays_out : (v w : Knows) (xs ys : List Item) (u : ℕ) (c : PackageView) → Moves v w xs ys → Owned v xs → NoneAt u xs → (outs v).context u ≡ Some c → (outs w).context u ≡ Some c
+stays_out v w xs ys u c m o n e =
+    let after : Owns o.0 (outs w) (ys ++ []) = m o.0 [] (add_none o.0 (outs v) xs o.1) in
+    base_out u c o.0 (outs w) ys (drop_none o.0 (outs w) ys after) (sym (base_at u o.0 (outs v) xs o.1 n) ∙ e)
+
+-- of all else nothing is out afterwards
+pub nothing_else : (v w : Knows) (xs ys : List Item) (u : ℕ) (c : PackageView) → Moves v w xs ys → Owned v xs → NoneAt u ys → (outs w).context u ≡ Some c → (outs v).context u ≡ Some c
+nothing_else v w xs ys u c m o n e =
+    let after : Owns o.0 (outs w) (ys ++ []) = m o.0 [] (add_none o.0 (outs v) xs o.1) in
+    base_out u c o.0 (outs v) xs o.1 (sym (base_at u o.0 (outs w) ys (drop_none o.0 (outs w) ys after) n) ∙ e)
+
+-- two packages of two threads, the second without locks, are out apart
+pub both_owned : (v : Knows) (q a : PackageView) → IsOut (outs v) (Pack q) → IsOut (outs v) (Pack a) → ((i : ℕ) → locked_in a i ≡ None) → a.context.thread ≢ q.context.thread → Owned v (Pack q ∷ Pack a ∷ [])
+both_owned v q a out beside free ne = (
+  erase (erase (outs v) (Pack q)) (Pack a),
+  (
+    out,
+    (
+      record {
+        contexts = λ u c e. elim (u == a.context.thread) as (λ (b : Bool). (u == a.context.thread) ≡ b → (if b then Some (bare a) else None) ≡ Some c → (erase (outs v) (Pack q)).context u ≡ Some c) [
+          | true ↦ λ r f. let s : u ≡ a.context.thread = grind (arith, nat_tests) in
+              let t : (u == q.context.thread) ≡ false = (let k : u ≢ q.context.thread = (λ z. ne (sym s ∙ z)) in grind (arith, nat_tests)) in
+              ap (λ (z : Bool). unless (if z then Some (bare q) else None) ((outs v).context u)) t ∙ beside.contexts u c e
+          | false ↦ λ r f. let n : ⊥ = cc in absurd n
+        ] refl e;
+        locks = λ i l e. let n : ⊥ = (let k : keep (locked_in a i) ≡ None = ap keep (free i) in cc) in absurd n;
+      },
+      refl,
+    ),
+  ),
+)

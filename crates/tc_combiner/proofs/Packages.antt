@@ -1,0 +1,126 @@
+-- Packages that were granted a lock, and packages that are put.
+use Rattle.std.proofs.Common.{◌≡◌, ◌≢◌, inl, inr, ⊎_elim, ℕ, ◌+◌, true, false, List, refl, sym, ap, ◌∙◌, subst, arith, Option, Some, None, IfSome}
+use native.Mathlib.Decide.{ℕ_discrete}
+use mathlib.Core.Logic.{dite}
+use Rattle.tc_isa.specs.Sets.{has}
+use Rattle.tc_elf.specs.Shown.{Shown}
+use Rattle.tc_journal.specs.Batch.{last_of, run_of, ends_section, allows_of, may_begin, passes_to}
+use Rattle.tc_journal.specs.declared.block.Block.{Block}
+use Rattle.tc_journal.specs.declared.block.Kind.{Kind}
+use Rattle.tc_journal.specs.declared.block.Kind.TheVariants.{Taken}
+use Rattle.tc_turn.specs.Turn.{is_running}
+use Rattle.tc_segment.specs.View.{LockView, blocks_of}
+use Rattle.tc_context.specs.declared.package.Grant.{Grant}
+use Rattle.tc_context.specs.View.{PackageView, IsWaiting, WantIsLawful, fits_of, fits_granted, fits_in, granted_lock}
+use Rattle.tc_hall.specs.declared.board.Knows.{Knows}
+use Rattle.tc_hall.specs.declared.place.Place.TheVariants.{Ready}
+use Rattle.tc_hall.specs.Rule.{IsInOrder, locked_in, grants_adopted}
+use Rattle.tc_hall.specs.Steps.{put_call, Gets}
+use Rattle.tc_combiner.specs.Packages.{DidGrant, DidTake, HasNoOther, HasOnlyHeld, IsGood, IsGoodFor, IsPlain, IsWaiter, Runs, Wants}
+use Rattle.tc_combiner.specs.Walks.{Walks, Shows, HasSeenStop}
+use Rattle.tc_combiner.specs.Answers.{WasStopped, place_back}
+use Rattle.tc_combiner.proofs.Owning.{place_here, place_other}
+use Rattle.tc_combiner.proofs.Walking.{seen_later, seen_sooner}
+
+pub taken_passes : (o : Option Block) (t : ℕ) → passes_to o Taken t ≡ true
+taken_passes None t = refl
+taken_passes (Some b) t = refl
+
+taken_begins : (k limit run w : ℕ) (o : Option Block) → IfSome o (λ b. ends_section k b ≡ true) → may_begin k limit o run Taken w ≡ true
+taken_begins k limit run w None h = refl
+taken_begins k limit run w (Some b) h = h
+
+pub taken_allowed : (k limit w : ℕ) (bs : List Block) → IfSome (last_of bs) (λ b. ends_section k b ≡ true) → allows_of k limit bs Taken w ≡ true
+unfolding allows_of
+taken_allowed k limit w bs h = taken_begins k limit (run_of k bs) w (last_of bs) h
+
+ungranted : (g : Option Grant) (i : ℕ) → g ≡ None → granted_lock g ≡ Some i → ⊥
+ungranted None i e f = cc
+ungranted (Some g) i e f = cc
+
+pub only_held : (p : PackageView) → HasNoOther p → p.granted ≡ None → HasOnlyHeld p
+only_held p h free i l e = ⊎_elim (λ y. y) (λ y. absurd (ungranted p.granted i free y)) (h i l e)
+
+pub no_other : (p : PackageView) → HasOnlyHeld p → HasNoOther p
+no_other p h i l e = inl (h i l e)
+
+pub granted_no_other : (l : LockView) (k : Kind) (n : ℕ) (p q : PackageView) → DidGrant l k n p q → HasOnlyHeld p → HasNoOther q
+granted_no_other l k n p q d h i m e = dite (ℕ_discrete i l.number)
+    (λ (s : i ≡ l.number). inr (ap (λ (c : PackageView). granted_lock c.granted) d.is ∙ ap (λ (j : ℕ). Some j) (sym s)))
+    (λ (ne : i ≢ l.number). inl (ap (λ (c : PackageView). has c.context.guest.held i) d.is ∙ h i m (sym (place_other l.number (Some l) p q d.locks i ne) ∙ e)))
+
+pub granted_fits : (l : LockView) (k : Kind) (n w : ℕ) (p q : PackageView) → DidGrant l k n p q → allows_of l.number l.journal.limit (blocks_of l) k w ≡ true → fits_of q w ≡ true
+granted_fits l k n w p q d a =
+    ap (λ (g : Option Grant). fits_granted q.context g w) (ap (λ (c : PackageView). c.granted) d.is)
+    ∙ (ap (λ (o : Option LockView). fits_in o l.number k w) (place_here l.number (Some l) p q d.locks) ∙ a)
+
+pub granted_good : (l : LockView) (k : Kind) (n w : ℕ) (image : Shown) (p q : PackageView) → DidGrant l k n p q → p.image ≡ image → p.pending ≡ None → Runs p → HasOnlyHeld p
+    → allows_of l.number l.journal.limit (blocks_of l) k w ≡ true → IsGood q image w
+granted_good l k n w image p q d of s r h a = record {
+  of = ap (λ (c : PackageView). c.image) d.is ∙ of;
+  settled = ap (λ (c : PackageView). c.pending) d.is ∙ s;
+  runs = ap (λ (c : PackageView). is_running c.context.guest.status) d.is ∙ r;
+  locks = granted_no_other l k n p q d h;
+  fits = granted_fits l k n w p q d a;
+}
+
+pub taken_good : (i : ℕ) (l : LockView) (n m w : ℕ) (image : Shown) (p q : PackageView) → DidTake i l n p q → p.image ≡ image → IsPlain m p → Runs p → IsGood q image w
+taken_good i l n m w image p q d of h r = granted_good l Taken n w image p q d.grant of h.settled r h.locks
+    (taken_allowed l.number l.journal.limit w (blocks_of l) (subst (λ (k : ℕ). IfSome (last_of (blocks_of l)) (λ b. ends_section k b ≡ true)) (sym d.rest.number) d.rest.ended))
+
+pub none_is : (o : Option LockView) → ((l : LockView) → o ≡ Some l → ⊥) → o ≡ None
+none_is None h = refl
+none_is (Some l) h = absurd (h l refl)
+
+-- a package that wants a lock does not hold it, so it has no state of it
+pub not_held : (p : PackageView) (i : ℕ) → HasOnlyHeld p → has p.context.guest.held i ≡ false → locked_in p i ≡ None
+not_held p i h free = none_is (locked_in p i) (λ l e. let y = h i l e in let n : ⊥ = cc in n)
+
+pub waits_for : (n i : ℕ) (p : PackageView) → IsPlain n p → WantIsLawful p → Wants p i → IsWaiting p i
+waits_for n i p h law want = record { pending = h.settled; granted = h.granted; want = want; absent = not_held p i h.locks (law i want).free }
+
+pub was_stopped : (v w x : Knows) (p q : PackageView) (a b : Option PackageView) → Walks v w → HasSeenStop v w → Walks w x → Shows w.calls x.calls (put_call p (place_back p)) → p ≡ q
+    → ((c : PackageView) → a ≡ Some c → Shows w.calls x.calls (put_call c Ready)) → b ≡ None → WasStopped v x q a b
+was_stopped v w x p q a b k s j put e others gone = record {
+  seen = seen_later v w x _ s j;
+  put = subst (λ (c : PackageView). Shows v.calls x.calls (put_call c (place_back c))) e (seen_sooner v w x (put_call p (place_back p)) k put);
+  aside_put = λ c f. seen_sooner v w x (put_call c Ready) k (others c f);
+  aside_gone = gone;
+}
+
+pub waiter_good : (l : LockView) (k : Kind) (t n w : ℕ) (image : Shown) (p q : PackageView) → IsWaiter t l.number image p → DidGrant l k n p q → allows_of l.number l.journal.limit (blocks_of l) k w ≡ true → IsGood q image w
+waiter_good l k t n w image p q h d a = granted_good l k n w image p q d h.of h.waits.pending h.runs (only_held p h.locks h.waits.granted) a
+
+pub good_order : (q : PackageView) (image : Shown) (w : ℕ) → IsGood q image w → IsInOrder 0 q
+good_order q image w h = record {
+  ended = λ e. let k : ⊥ = omega arith in absurd k;
+  runs = λ ne. h.runs;
+  own = h.locks;
+  waits = λ i e. let k : ⊥ = omega arith in absurd k;
+  ready = λ g e. refl;
+}
+
+no_grant : (o : Option Grant) → ((g : Grant) → o ≡ Some g → ⊥) → o ≡ None
+no_grant None h = refl
+no_grant (Some g) h = absurd (h g refl)
+
+pub ungranted_fits : (q : PackageView) (w : ℕ) → q.granted ≡ None → fits_of q w ≡ true
+ungranted_fits q w e = ap (λ (g : Option Grant). fits_granted q.context g w) e
+
+pub plain_good : (n : ℕ) (q : PackageView) (v : Knows) → IsPlain n q → Runs q → q.image ≡ v.image → IsGoodFor v q
+plain_good n q v h r e = record { of = e; settled = h.settled; runs = r; locks = no_other q h.locks; fits = ungranted_fits q v.worker h.granted }
+
+-- the package that `adopt` gives waits for the lock
+pub is_waiter : (t i : ℕ) (q : PackageView) (v w : Knows) → Gets (256 + i) t q v w → WantIsLawful q → IsWaiter t i v.image q
+is_waiter t i q v w g law =
+    let want : Wants q i = g.order.waits i refl in
+    let none : q.granted ≡ None = no_grant q.granted (λ a e. let k = g.order.ready a e in let n : ⊥ = omega arith in n) in record {
+      thread = g.thread;
+      of = g.of;
+      waits = record { pending = g.settled; granted = none; want = want; absent = not_held q i (only_held q g.order.own none) (law i want).free };
+      runs = g.order.runs (λ e. let n : ⊥ = omega arith in n);
+      locks = g.order.own;
+    }
+
+pub ungranted_plain : (q : PackageView) → q.granted ≡ None → grants_adopted q.granted ≡ false
+ungranted_plain q e = ap grants_adopted e

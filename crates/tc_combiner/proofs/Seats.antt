@@ -1,0 +1,92 @@
+-- A desk's seats, and the queues of a bench, by their places.
+use Rattle.std.proofs.Common.{◌≡◌, ◌≢◌, ℕ, zero, suc, ◌<◌, List, [], ◌∷◌, length, map, get_or, set, refl, sym, ap, ◌∙◌, subst, subst₂, arith, length-set, get_or-set_same, get_or-set_other}
+use Rattle.std.proofs.Common.{Vec}
+use Rattle.std.specs.Vec.{with_items}
+use Rattle.std.proofs.lemmas.List.{with_items_is}
+use native.Mathlib.Decide.{ℕ_discrete}
+use mathlib.Core.Logic.{dite}
+use Rattle.tc_hall.specs.declared.board.Terms.{Terms}
+use Rattle.tc_hall.specs.Rule.{locks, threads}
+use Rattle.tc_queue.specs.View.{QueueView}
+use Rattle.tc_combiner.specs.View.{AreSeats, no_seat}
+use Rattle.tc_combiner.specs.Ends.{AreSameSeats, IsSameSeat, seat_at}
+use Rattle.tc_queue.specs.Lines.{SeatView, IsSeatOf}
+
+module _ {A B : Type 0} where
+  pub map_at : (f : A → B) (xs : List A) (i : ℕ) (d : A) → get_or (map f xs) i (f d) ≡ f (get_or xs i d)
+  map_at f [] i d = refl
+  map_at f (x ∷ xs) zero d = refl
+  map_at f (x ∷ xs) (suc i) d = map_at f xs i d
+
+  pub map_set : (f : A → B) (xs : List A) (i : ℕ) (v : A) → map f (set xs i v) ≡ set (map f xs) i (f v)
+  map_set f [] i v = refl
+  map_set f (x ∷ xs) zero v = refl
+  map_set f (x ∷ xs) (suc i) v = ap (λ (l : List B). f x ∷ l) (map_set f xs i v)
+
+  pub map_length : (f : A → B) (xs : List A) → length (map f xs) ≡ length xs
+  map_length f [] = refl
+  map_length f (x ∷ xs) = ap suc (map_length f xs)
+
+pub any_default : {A : Type 0} (xs : List A) (i : ℕ) (d e : A) → i < length xs → get_or xs i d ≡ get_or xs i e
+any_default [] i d e h = absurd (let n : ⊥ = omega arith in n)
+any_default (x ∷ xs) zero d e h = refl
+any_default (x ∷ xs) (suc i) d e h = any_default xs i d e (omega arith)
+
+module _ {S X : Type 0} where
+  pub seat_of : (seen : S → SeatView) (queue : X → QueueView) (ss : List S) (qs : List X) (i : ℕ) (s : S) (x : X) (ds : List SeatView) → map seen ss ≡ ds → s ≡ get_or ss i s → IsSeatOf (get_or (map queue qs) i (queue x)) (get_or ds i (seen s)) → IsSeatOf (queue (get_or qs i x)) (seen s)
+  seat_of seen queue ss qs i s x ds e is h =
+      let at : get_or ds i (seen s) ≡ seen s = ap (λ (l : List SeatView). get_or l i (seen s)) (sym e) ∙ (map_at seen ss i s ∙ ap seen (sym is)) in
+      subst (λ (z : SeatView). IsSeatOf (queue (get_or qs i x)) z) at (subst (λ (q : QueueView). IsSeatOf q (get_or ds i (seen s))) (map_at queue qs i x) h)
+
+module _ {S : Type 0} where
+  -- the seat at a place, as the desk shows it
+  pub seat_before : (seen : S → SeatView) (ss : List S) (i : ℕ) (s : S) (d : SeatView) → i < length ss → s ≡ get_or ss i s → get_or (map seen ss) i d ≡ seen s
+  seat_before seen ss i s d h is = any_default (map seen ss) i d (seen s) (let l = map_length seen ss in omega arith) ∙ (map_at seen ss i s ∙ ap seen (sym is))
+
+  pub seat_after : (seen : S → SeatView) (ss : List S) (i : ℕ) (t : S) (d : SeatView) → i < length ss → get_or (map seen (set ss i t)) i d ≡ seen t
+  seat_after seen ss i t d h = ap (λ (l : List SeatView). get_or l i d) (map_set seen ss i t) ∙ get_or-set_same (map seen ss) i (seen t) d (let l = map_length seen ss in omega arith)
+
+  pub other_seats : (seen : S → SeatView) (ss : List S) (i j : ℕ) (t : S) (d : SeatView) → j ≢ i → get_or (map seen (set ss i t)) j d ≡ get_or (map seen ss) j d
+  other_seats seen ss i j t d ne = ap (λ (l : List SeatView). get_or l j d) (map_set seen ss i t) ∙ get_or-set_other (map seen ss) i j (seen t) d ne
+
+  pub seats_count : (seen : S → SeatView) (ss : List S) (i : ℕ) (t : S) → length (map seen (set ss i t)) ≡ length (map seen ss)
+  seats_count seen ss i t = ap length (map_set seen ss i t) ∙ length-set (map seen ss) i (seen t)
+
+module _ {S X : Type 0} where
+  -- one of the seats of a desk that has asked since
+  pub seat_one : (seen : S → SeatView) (queue : X → QueueView) (k : Terms) (qs : List X) (ss ts : List S) (i : ℕ) (x : X) (s : S) → length ss ≡ locks k → AreSeats k (map queue qs) (map seen ss) → AreSameSeats (map seen ss) (map seen ts) → i < locks k
+      → IsSeatOf (queue (get_or qs i x)) (seen (get_or ts i s)) × ((queue (get_or qs i x)).threads ≡ threads k)
+  seat_one seen queue k qs ss ts i x s count of same low =
+      let q = queue x in
+      let is : get_or (map queue qs) i q ≡ queue (get_or qs i x) = map_at queue qs i x in
+      let old : IsSeatOf (get_or (map queue qs) i q) (seat_at (map seen ss) i) = of.each i q no_seat low in
+      let more = same.each i in
+      let deep : i < length (map seen ts) = let a = map_length seen ss in let b = same.count in omega arith in
+      let now : seat_at (map seen ts) i ≡ seen (get_or ts i s) = any_default (map seen ts) i no_seat (seen s) deep ∙ map_at seen ts i s in
+      let seat : IsSeatOf (get_or (map queue qs) i q) (seat_at (map seen ts) i) = (more.0 ∙ old.0, more.1 ∙ old.1) in
+      (subst₂ (λ (a : QueueView) (b : SeatView). IsSeatOf a b) is now seat, ap (λ (a : QueueView). a.threads) (sym is) ∙ of.made i q low)
+
+module _ {S X : Type 0} where
+  -- the seat and the queue at one place
+  pub at_one : (seen : S → SeatView) (queue : X → QueueView) (k : Terms) (qs : List X) (ss : List S) (i : ℕ) (x : X) (s : S) → x ≡ get_or qs i x → AreSeats k (map queue qs) (map seen ss) → i < locks k → IsSeatOf (queue x) (seen (get_or ss i s))
+  at_one seen queue k qs ss i x s is of low =
+      subst₂ (λ (a : QueueView) (b : SeatView). IsSeatOf a b) (map_at queue qs i x ∙ ap queue (sym is)) (map_at seen ss i s) (of.each i (queue x) (seen s) low)
+
+  pub made_one : (seen : S → SeatView) (queue : X → QueueView) (k : Terms) (qs : List X) (ss : List S) (i : ℕ) (x : X) → x ≡ get_or qs i x → AreSeats k (map queue qs) (map seen ss) → i < locks k → (queue x).threads ≡ threads k
+  made_one seen queue k qs ss i x is of low = ap (λ (a : QueueView). a.threads) (sym (map_at queue qs i x ∙ ap queue (sym is))) ∙ of.made i (queue x) low
+
+module _ {S : Type 0} where
+  -- a seat of the same queue stands where it stood
+  pub seats_set : (seen : S → SeatView) (ss : List S) (i : ℕ) (s t : S) → i < length ss → s ≡ get_or ss i s → IsSameSeat (seen (get_or ss i s)) (seen t) → AreSameSeats (map seen ss) (map seen (set ss i t))
+  seats_set seen ss i s t deep is same = record {
+    count = seats_count seen ss i t;
+    each = λ j. dite (ℕ_discrete j i)
+        (λ (e : j ≡ i). subst (λ (n : ℕ). IsSameSeat (seat_at (map seen ss) n) (seat_at (map seen (set ss i t)) n)) (sym e)
+        (subst₂ (λ (a b : SeatView). IsSameSeat a b) (sym (seat_before seen ss i s no_seat deep is ∙ ap seen is)) (sym (seat_after seen ss i t no_seat deep)) same))
+        (λ (ne : j ≢ i). let e = other_seats seen ss i j t no_seat ne in (ap (λ (x : SeatView). x.table) e, ap (λ (x : SeatView). x.threads) e));
+  }
+
+module _ {S Z : Type 0} where
+  -- the seats as they were written back
+  pub written_back : (seen : S → SeatView) (v : Vec S Z) (xs ts : List S) → xs ≡ v.items → AreSameSeats (map seen xs) (map seen ts) → (with_items v ts).items ≡ ts
+  written_back seen v xs ts e same = with_items_is v ts (sym (map_length seen ts) ∙ (same.count ∙ (map_length seen xs ∙ (ap length e ∙ sym v.ok.0))))

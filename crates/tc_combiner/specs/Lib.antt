@@ -1,0 +1,8 @@
+pub mod Packages
+pub mod Walks
+pub mod Answers
+pub mod Release
+pub mod View
+pub mod Ends
+pub mod Settling
+pub mod Ties

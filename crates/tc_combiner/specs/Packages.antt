@@ -1,0 +1,88 @@
+-- What desks ask and say of packages.
+use Rattle.std.specs.Prelude.{◌≡◌, ◌≢◌, ℕ, ◌<◌, true, false, Some, None}
+use Rattle.tc_isa.specs.Sets.{has}
+use Rattle.tc_elf.specs.Shown.{Shown}
+use Rattle.tc_journal.specs.declared.block.Kind.{Kind}
+use Rattle.tc_journal.specs.declared.block.Kind.TheVariants.{Taken}
+use Rattle.tc_turn.specs.Turn.{is_running}
+use Rattle.tc_segment.specs.View.{LockView, IsAtRest}
+use Rattle.tc_context.specs.Locks.{IsPlaced}
+use Rattle.tc_context.specs.View.{PackageView, IsWaiting, fits_of, want_of, with_grant, without_lock}
+use Rattle.tc_hall.specs.declared.board.Knows.{Knows}
+use Rattle.tc_hall.specs.declared.board.Terms.{Terms}
+use Rattle.tc_hall.specs.Rule.{IsOwn, locked_in, threads}
+
+-- no lock is in it but held ones and a granted one
+abbrev pub HasNoOther : PackageView → Type 0
+HasNoOther q = (i : ℕ) (l : LockView) → locked_in q i ≡ Some l → IsOwn q i
+
+-- no lock is in it but held ones
+abbrev pub HasOnlyHeld : PackageView → Type 0
+HasOnlyHeld q = (i : ℕ) (l : LockView) → locked_in q i ≡ Some l → has q.context.guest.held i ≡ true
+
+-- in a package whose block released lock i there are its held locks and this one
+abbrev pub HasHeldAnd : ℕ → PackageView → Type 0
+HasHeldAnd i q = (j : ℕ) (l : LockView) → locked_in q j ≡ Some l → j ≢ i → has q.context.guest.held j ≡ true
+
+abbrev pub HasNone : PackageView → Type 0
+HasNone q = (i : ℕ) → locked_in q i ≡ None
+
+abbrev pub HoldsNone : PackageView → Type 0
+HoldsNone q = (i : ℕ) → has q.context.guest.held i ≡ false
+
+abbrev pub Wants : PackageView → ℕ → Type 0
+Wants q i = want_of q.image q.context ≡ Some i
+
+abbrev pub Runs : PackageView → Type 0
+Runs q = is_running q.context.guest.status ≡ true
+
+-- a package that a desk may run, or hand back
+pub record IsGood (q : PackageView) (image : Shown) (worker : ℕ) : Type 0 where
+  pub of : q.image ≡ image
+  pub settled : q.pending ≡ None
+  pub runs : Runs q
+  pub locks : HasNoOther q
+  pub fits : fits_of q worker ≡ true
+
+abbrev pub IsGoodFor : Knows → PackageView → Type 0
+IsGoodFor v q = IsGood q v.image v.worker
+
+-- a package of one of so many threads that has nothing granted and no lock but held ones, and none where its thread has ended
+pub record IsPlain (threads : ℕ) (q : PackageView) : Type 0 where
+  pub thread : q.context.thread < threads
+  pub settled : q.pending ≡ None
+  pub granted : q.granted ≡ None
+  pub locks : HasOnlyHeld q
+  pub ended : is_running q.context.guest.status ≡ false → HasNone q
+
+-- one that may be set aside, in a hall made with these terms
+pub record IsAside (k : Terms) (a : PackageView) : Type 0 where
+  pub plain : IsPlain (threads k) a
+  pub of : a.image ≡ k.image.value
+  pub runs : Runs a
+  pub free : HasNone a
+
+-- a package of thread t that waits for lock i
+pub record IsWaiter (t i : ℕ) (image : Shown) (q : PackageView) : Type 0 where
+  pub thread : q.context.thread ≡ t
+  pub of : q.image ≡ image
+  pub waits : IsWaiting q i
+  pub runs : Runs q
+  pub locks : HasNoOther q
+
+-- lock l was granted to p, which then is q
+pub record DidGrant (l : LockView) (kind : Kind) (n : ℕ) (p q : PackageView) : Type 0 where
+  pub is : q ≡ with_grant l kind n p
+  pub locks : IsPlaced l.number (Some l) p.context.locks q.context.locks
+
+-- lock i was taken from its home as l and granted to p, which then is q
+pub record DidTake (i : ℕ) (l : LockView) (n : ℕ) (p q : PackageView) : Type 0 where
+  pub rest : IsAtRest p.image i l
+  pub grant : DidGrant l Taken n p q
+
+-- lock i was taken out of p as l, and p then is q
+pub record DidTakeOut (i : ℕ) (l : LockView) (p q : PackageView) : Type 0 where
+  pub was : locked_in p i ≡ Some l
+  pub is : q ≡ without_lock i p
+  pub locks : IsPlaced i None p.context.locks q.context.locks
+  pub rest : IsAtRest p.image i l

@@ -1,0 +1,123 @@
+-- What `settle` asks of a package, and what becomes of it by the end of its last block.
+use Rattle.std.specs.Prelude.{◌≡◌, ◌≢◌, ℕ, ◌+◌, ◌-◌, ◌^◌, min, true, [], ◌∷◌, length, slice_set, Some, None, is_some}
+use Rattle.tc_isa.specs.Sets.{has}
+use Rattle.tc_elf.specs.Shown.{Shown}
+use Rattle.tc_journal.specs.Batch.{last_of}
+use Rattle.tc_journal.specs.declared.block.Block.{Block}
+use Rattle.tc_journal.specs.declared.block.End.{End}
+use Rattle.tc_journal.specs.declared.block.End.TheVariants.{Wants, Unlocked, Slept, Cut, Exit, Fault, Spent}
+use Rattle.tc_context.specs.View.{PackageView, want_of}
+use Rattle.tc_hall.specs.declared.place.Place.TheVariants.{Parked}
+use Rattle.tc_hall.specs.declared.board.Terms.{Terms}
+use Rattle.tc_hall.specs.Rule.{locked_in, threads}
+use Rattle.tc_hall.specs.Steps.{put_call, IsSamePass}
+use Rattle.tc_combiner.specs.declared.settled.Settled.{Settled}
+use Rattle.tc_combiner.specs.declared.settled.Settled.TheVariants.{GoesOn, Adopted, Shipped, Parked as Did_park, Ended, Stopped}
+use Rattle.tc_combiner.specs.Packages.{HasOnlyHeld, IsGoodFor}
+use Rattle.tc_combiner.specs.Walks.{Owned, Shows, Walks, packed, Asks}
+use Rattle.tc_combiner.specs.Answers.{AcquiredAs, HasReadied}
+use Rattle.tc_combiner.specs.Release.{UnlockedAs, turn_of}
+use Rattle.tc_combiner.specs.Ends.{EndedAs, seat_at}
+use Rattle.tc_combiner.specs.View.{DeskView}
+use Rattle.tc_hall.specs.Outs.{Pack}
+
+-- the desk has the package in hand, apart from the one that is set aside
+abbrev pub IsInHand : DeskView → PackageView → Type 0
+IsInHand d q = Owned d.pass.knows (Pack q ∷ packed d.aside)
+
+-- what the calls of a desk keep: it has its pass, to whose list calls were added, none of them a stop, its clock, and its
+-- places for sleepers
+pub record Works (d e : DeskView) : Type 0 where
+  pub own : IsSamePass d.pass e.pass
+  pub walks : Walks d.pass.knows e.pass.knows
+  pub now : e.now ≡ d.now
+  pub room : length e.sleepers ≡ length d.sleepers
+
+-- the desk tells the threads that it put as ready in the call, in order; none where the run was stopped
+abbrev pub TellsReady : Terms → Settled → DeskView → DeskView → Type 0
+TellsReady k r d e = HasReadied (threads k) r [] e.handed d.pass.knows e.pass.knows
+
+-- a package that wants a lock, and has nothing granted and no lock but held ones
+pub record MayAcquire (image : Shown) (q : PackageView) : Type 0 where
+  pub of : q.image ≡ image
+  pub settled : q.pending ≡ None
+  pub granted : q.granted ≡ None
+  pub locks : HasOnlyHeld q
+  pub wants : is_some (want_of q.image q.context) ≡ true
+
+-- package q is in hand after its last block b, of this worker and with this end; the locks in it are those of the block: the
+-- held ones and those that it released
+pub record IsAfterBlock (image : Shown) (worker : ℕ) (end : End) (b : Block) (q : PackageView) : Type 0 where
+  pub of : q.image ≡ image
+  pub settled : q.pending ≡ None
+  pub granted : q.granted ≡ None
+  pub last : last_of q.log ≡ Some b
+  pub end_is : b.end ≡ end
+  pub worker_is : b.worker ≡ worker
+  pub locks : (i : ℕ) → is_some (locked_in q i) ≡ has b.held i
+
+abbrev pub MaySettle : Shown → ℕ → End → PackageView → Type 0
+MaySettle image worker end q = (b : Block) × IsAfterBlock image worker end b q
+
+-- the other seats and the sleepers are as they were
+pub record IsSameBut (i : ℕ) (d e : DeskView) : Type 0 where
+  pub others : (j : ℕ) → j ≢ i → seat_at e.seats j ≡ seat_at d.seats j
+  pub sleepers : e.sleepers ≡ d.sleepers
+
+-- what became of the package q, which wants lock i
+pub record DidAcquire (i : ℕ) (q : PackageView) (d e : DeskView) (r : Settled) : Type 0 where
+  pub same : IsSameBut i d e
+  pub acquired : AcquiredAs i q d.pass.knows e.pass.knows (seat_at d.seats i) (seat_at e.seats i) d.aside e.aside r
+
+-- of one whose block b unlocked lock i: the seat has asked for its turn alone
+pub record DidUnlock (i : ℕ) (q : PackageView) (b : Block) (d e : DeskView) (r : Settled) : Type 0 where
+  pub same : IsSameBut i d e
+  pub asks : Asks (turn_of q i) (seat_at d.seats i) (seat_at e.seats i)
+  pub unlocked : UnlockedAs i q b (seat_at d.seats i) (seat_at e.seats i) d.pass.knows e.pass.knows d.aside e.aside r
+
+-- of one that sleeps: it was put as Parked, and its thread is due so many blocks from now
+pub record DidPark (q : PackageView) (d e : DeskView) : Type 0 where
+  pub seats : e.seats ≡ d.seats
+  pub aside : e.aside ≡ d.aside
+  pub put : Shows d.pass.knows.calls e.pass.knows.calls (put_call q Parked)
+  pub sleeper : e.sleepers ≡ slice_set d.sleepers q.context.thread (Some (min (d.now + q.slept) (2 ^ 64 - 1)))
+
+-- of one whose thread ended with the block b
+pub record DidEnd (q : PackageView) (b : Block) (d e : DeskView) (r : Settled) : Type 0 where
+  pub sleepers : e.sleepers ≡ d.sleepers
+  pub ended : EndedAs q b d.seats e.seats d.pass.knows e.pass.knows d.aside e.aside r
+
+-- it goes on, and nothing was done
+abbrev pub DidNothing : PackageView → DeskView → DeskView → Settled → Type 0
+DidNothing q d e (GoesOn p) = (p ≡ q) × (e ≡ record d { handed = [] }) × IsGoodFor e.pass.knows q
+DidNothing q d e (Adopted p) = ⊥
+DidNothing q d e Shipped = ⊥
+DidNothing q d e Did_park = ⊥
+DidNothing q d e Ended = ⊥
+DidNothing q d e Stopped = ⊥
+
+abbrev pub DidSleep : PackageView → DeskView → DeskView → Settled → Type 0
+DidSleep q d e (GoesOn p) = ⊥
+DidSleep q d e (Adopted p) = ⊥
+DidSleep q d e Shipped = ⊥
+DidSleep q d e Did_park = DidPark q d e
+DidSleep q d e Ended = ⊥
+DidSleep q d e Stopped = ⊥
+
+-- of one whose last block is b
+abbrev pub SettledAs : End → PackageView → Block → DeskView → DeskView → Settled → Type 0
+SettledAs (Wants i) q b d e r = DidAcquire i q d e r
+SettledAs (Unlocked i) q b d e r = DidUnlock i q b d e r
+SettledAs Slept q b d e r = DidSleep q d e r
+SettledAs Cut q b d e r = DidNothing q d e r
+SettledAs Exit q b d e r = DidEnd q b d e r
+SettledAs (Fault f) q b d e r = DidEnd q b d e r
+SettledAs Spent q b d e r = DidEnd q b d e r
+
+-- a package that wants a lock was acquired for
+abbrev pub HasAcquired : PackageView → DeskView → DeskView → Settled → Type 0
+HasAcquired q d e r = (i : ℕ) × (want_of q.image q.context ≡ Some i) × DidAcquire i q d e r
+
+-- a package was settled by the end of its last block
+abbrev pub HasSettled : End → PackageView → DeskView → DeskView → Settled → Type 0
+HasSettled end q d e r = (b : Block) × (last_of q.log ≡ Some b) × SettledAs end q b d e r

@@ -1,0 +1,57 @@
+-- What contracts see of a desk, and when it fits a bench.
+use Rattle.std.specs.Prelude.{◌≡◌, ◌≢◌, ℕ, ◌<◌, ◌≤◌, List, [], length, get_or, Option, Some}
+use Rattle.tc_elf.specs.Shown.{Shown}
+use Rattle.tc_context.specs.View.{PackageView}
+use Rattle.tc_hall.specs.declared.board.Terms.{Terms}
+use Rattle.tc_hall.specs.Rule.{threads, locks}
+use Rattle.tc_hall.specs.Steps.{IsSamePass}
+use Rattle.tc_hall.specs.PassView.{HallView, PassView}
+use Rattle.tc_queue.specs.View.{QueueView}
+use Rattle.tc_queue.specs.Lines.{SeatView, IsSeatOf}
+use Rattle.tc_combiner.specs.Packages.{IsAside}
+
+-- the number of blocks that it committed is `now`; `handed` are the threads that its last call put as ready
+pub record DeskView : Type 0 where
+  pub pass : PassView
+  pub seats : List SeatView
+  pub sleepers : List (Option ℕ)
+  pub now : ℕ
+  pub aside : Option PackageView
+  pub handed : List ℕ
+
+abbrev pub desk_of : PassView → List SeatView → List (Option ℕ) → ℕ → Option PackageView → List ℕ → DeskView
+desk_of pass seats sleepers now aside handed = record { pass = pass; seats = seats; sleepers = sleepers; now = now; aside = aside; handed = handed }
+
+-- what the workers share
+pub record BenchView : Type 0 where
+  pub image : Shown
+  pub hall : HallView
+  pub queues : List QueueView
+
+-- each seat is one of its queue, which was made for the threads of the hall
+pub record AreSeats (k : Terms) (queues : List QueueView) (seats : List SeatView) : Type 0 where
+  pub each : (i : ℕ) (q : QueueView) (s : SeatView) → i < locks k → IsSeatOf (get_or queues i q) (get_or seats i s)
+  pub made : (i : ℕ) (q : QueueView) → i < locks k → (get_or queues i q).threads ≡ threads k
+
+-- a desk fits a bench
+pub record FitsBench (bench : BenchView) (d : DeskView) : Type 0 where
+  pub hall : bench.hall.terms.image.value ≡ bench.image
+  pub own : d.pass.table ≡ bench.hall.table
+  pub image : d.pass.knows.image ≡ bench.image
+  pub count : length bench.queues ≡ locks bench.hall.terms
+  pub seats : length d.seats ≡ locks bench.hall.terms
+  pub of : AreSeats bench.hall.terms bench.queues d.seats
+  pub sleepers : threads bench.hall.terms ≤ length d.sleepers
+  pub aside : (a : PackageView) → d.aside ≡ Some a → IsAside bench.hall.terms a
+
+-- a seat that no desk has, where a list is read past its end
+abbrev pub no_seat : SeatView
+no_seat = record { table = record { words = 0; slots = 0; views_name = 0; atom = 0; block = 0; offset = 0; slot_names = [] }; threads = 0; calls = [] }
+
+-- the desk is the same but for its pass, this seat and the package that is set aside
+pub record IsSameDesk (i : ℕ) (d e : DeskView) : Type 0 where
+  pub own : IsSamePass d.pass e.pass
+  pub count : length e.seats ≡ length d.seats
+  pub others : (j : ℕ) (s : SeatView) → j ≢ i → get_or e.seats j s ≡ get_or d.seats j s
+  pub sleepers : e.sleepers ≡ d.sleepers
+  pub now : e.now ≡ d.now

@@ -1,0 +1,232 @@
+//! Desks and benches.
+
+ghost use Rattle.std.specs.Prelude.{ℕ, ◌≡◌, ◌≢◌, ◌<◌, ◌≤◌, ◌+◌, ◌-◌, ◌^◌, ◌++◌, [], ◌∷◌, None, Some, min, length, map};
+ghost use Rattle.std.specs.Borrow.{Lends, sem};
+ghost use Rattle.tc_context.specs.View.{PackageView, with_seal};
+ghost use Rattle.tc_hall.specs.contracts.pass.Pass.{the_row as pass_row};
+ghost use Rattle.tc_park.specs.contracts.sleepers.Sleepers.{the_row as sleepers_row};
+ghost use Rattle.tc_combiner.specs.contracts.desk.Desk.{the_row};
+ghost use Rattle.tc_hall.specs.Outs.{Pack};
+ghost use Rattle.tc_hall.specs.Steps.{DidSeal, IsSamePass, Seals};
+ghost use Rattle.tc_combiner.specs.Walks.{Moves, packed};
+ghost use Rattle.tc_combiner.specs.Answers.{carried};
+ghost use Rattle.tc_combiner.specs.View.{FitsBench, desk_of};
+ghost use Rattle.tc_combiner.specs.Settling.{HasAcquired, HasSettled, IsInHand, MayAcquire, MaySettle, TellsReady, Works};
+
+use crate::ready::ReadyList;
+use crate::settle::{acquire_at, settle_with};
+use crate::settled::Settled;
+use std::marker::Model;
+use std::sync::Wait;
+use tc_context::package::Package;
+use tc_elf::image::Image;
+use tc_hall::hall::Hall;
+use tc_hall::pass::Pass;
+use tc_journal::block::End;
+use tc_park::Sleepers;
+use tc_queue::Waiters;
+
+/// What the workers share: the image, the hall, and a queue for each lock.
+#[derive(Drop)]
+pub struct Bench<'a, Q: Waiters> {
+    /// The guest that runs.
+    pub image: &'a Image,
+    /// Where packages and lock states change hands.
+    pub hall: &'a Hall,
+    /// The queues of the locks, in order of number.
+    pub queues: &'a [Q],
+}
+
+impl<'a, Q: Waiters> Model for Bench<'a, Q> {
+    ghost use Rattle.std.specs.Prelude.{map};
+    ghost use Rattle.tc_combiner.specs.View.{BenchView};
+
+    ghost Value = { BenchView };
+
+    ghost view = { λ b. record { image = b.image.now; hall = b.hall.now; queues = map Q.queue b.queues.now } };
+}
+
+/// A worker's place.
+#[derive(Drop)]
+pub struct Desk<Q: Waiters> {
+    pass: Pass,
+    seats: Vec<Q::Seat>,
+    sleepers: Sleepers,
+    clock: u64,
+    aside: Option<Package>,
+    ready: ReadyList,
+}
+
+impl<Q: Waiters> Model for Desk<Q> {
+    ghost use Rattle.std.specs.Prelude.{map};
+    ghost use Rattle.tc_combiner.specs.View.{DeskView};
+
+    ghost Value = { DeskView };
+
+    ghost view = { λ d. record { pass = d.pass; seats = map Q.seen d.seats.items; sleepers = d.sleepers; now = d.clock; aside = d.aside; handed = d.ready.items } };
+}
+
+impl<Q: Waiters> Desk<Q> {
+    /// The place of the pass's worker, with one seat of each queue, in order of lock. Its clock
+    /// starts at 0, nothing is set aside, and it put no thread as ready.
+    pub fn new(pass: Pass, seats: Vec<Q::Seat>, sleepers: Sleepers) -> Desk<Q>
+        ensures { result ≡ desk_of pass (map Q.seen seats.items) sleepers 0 None [] }
+    {
+        Desk {
+            pass,
+            seats,
+            sleepers,
+            clock: 0,
+            aside: None,
+            ready: ReadyList::new(),
+        }
+    }
+
+    /// The pass.
+    pub fn pass(&mut self) -> &mut Pass
+        ensures* writes_back { sem 𝓛 (Lends (the_row Q.row Q.Seat.row Q.Place.row Q.Waiters) pass_row self.entry result (λ pass. record self.old { pass = pass })) }
+        ensures value { result.now ≡ self.old.pass }
+    {
+        &mut self.pass
+    }
+
+    /// The sleepers.
+    pub fn sleepers(&mut self) -> &mut Sleepers
+        ensures* writes_back { sem 𝓛 (Lends (the_row Q.row Q.Seat.row Q.Place.row Q.Waiters) sleepers_row self.entry result (λ sleepers. record self.old { sleepers = sleepers })) }
+        ensures value { result.now ≡ self.old.sleepers }
+    {
+        &mut self.sleepers
+    }
+
+    /// The clock: how many blocks it committed, unless it was advanced.
+    pub fn now(&self) -> u64
+        ensures { result ≡ self.now.now }
+    {
+        self.clock
+    }
+
+    /// Moves the clock on, to a turn that is not before.
+    pub fn advance(&mut self, to: u64)
+        requires { self.old.now ≤ to }
+        ensures { self.new ≡ record self.old { now = to } }
+    {
+        self.clock = to;
+    }
+
+    /// Seals the package's pending block, with a stamp that is the answer. The clock rises by 1; one
+    /// that stands at the greatest u64 stays there.
+    pub fn commit(&mut self, bench: &Bench<'_, Q>, package: &mut Package) -> u64
+        requires fits { FitsBench bench.now self.old }
+        requires ready { Seals self.old.pass.knows «package».old }
+        ensures same { IsSamePass self.old.pass self.new.pass }
+        ensures sealed { DidSeal «package».old result self.old.pass.knows self.new.pass.knows }
+        ensures context { «package».new
+            ≡ with_seal result self.old.pass.knows.worker «package».old }
+        ensures rest { self.new ≡ record self.old
+            { pass = self.new.pass; now = min (self.old.now + 1) (2 ^ 64 - 1) } }
+        ensures fits { FitsBench bench.now self.new }
+    {
+        let stamp = bench.hall.commit(&mut self.pass, package);
+        self.clock = self.clock.saturating_add(1);
+        stamp
+    }
+
+    /// Enters the queue of the lock that the package wants. Where nobody is there, it takes the lock,
+    /// once it is home, and the package goes on; else the package waits, with all its locks, and is
+    /// linked. It may wait for the lock, until the run is stopped.
+    pub fn acquire<R: Wait>(&mut self, rt: &R, bench: &Bench<'_, Q>, package: Package) -> Settled
+        requires fits { FitsBench bench.now self.old }
+        requires hand { IsInHand self.old «package» }
+        requires may { MayAcquire bench.now.image «package» }
+        ensures works { Works self.old self.new }
+        ensures moves { Moves self.old.pass.knows self.new.pass.knows
+            (Pack «package» ∷ packed self.old.aside) (carried result ++ packed self.new.aside) }
+        ensures readied { TellsReady bench.now.hall.terms result self.old self.new }
+        ensures acquired { HasAcquired «package» self.old self.new result }
+        ensures fits { FitsBench bench.now self.new }
+    {
+        self.ready.clear();
+        package.keeps();
+        let lock = match package.want(bench.image) {
+            Some(lock) => lock,
+            None => unreachable!(),
+        };
+        acquire_at(
+            rt,
+            bench.hall,
+            &mut self.pass,
+            bench.queues,
+            self.seats.as_mut_slice(),
+            &mut self.aside,
+            package,
+            lock,
+        )
+    }
+
+    /// Does with a package what the end of its last block asks. It may wait: for a lock that is not
+    /// home yet, for a waiter that is not linked or not put yet, until the run is stopped.
+    pub fn settle<R: Wait>(
+        &mut self,
+        rt: &R,
+        bench: &Bench<'_, Q>,
+        package: Package,
+        end: End,
+    ) -> Settled
+        requires fits { FitsBench bench.now self.old }
+        requires hand { IsInHand self.old «package» }
+        requires may { MaySettle bench.now.image self.old.pass.knows.worker end «package» }
+        ensures works { Works self.old self.new }
+        ensures moves { Moves self.old.pass.knows self.new.pass.knows
+            (Pack «package» ∷ packed self.old.aside) (carried result ++ packed self.new.aside) }
+        ensures readied { TellsReady bench.now.hall.terms result self.old self.new }
+        ensures settled { HasSettled end «package» self.old self.new result }
+        ensures fits { FitsBench bench.now self.new }
+    {
+        settle_with(
+            rt,
+            bench.hall,
+            &mut self.pass,
+            bench.queues,
+            self.seats.as_mut_slice(),
+            &mut self.sleepers,
+            self.clock,
+            &mut self.aside,
+            package,
+            end,
+            &mut self.ready,
+        )
+    }
+
+    /// Gives back the package that was set aside.
+    pub fn back(&mut self) -> Option<Package>
+        ensures given { result ≡ self.old.aside }
+        ensures rest { self.new ≡ record self.old { aside = None } }
+    {
+        self.aside.take()
+    }
+
+    /// The threads that the last `acquire` or `settle` put as ready, in that order: a waiter that was
+    /// granted a lock, and an adopted package that was handed back. None where the run was stopped.
+    pub fn handed(&self) -> &[u32]
+        ensures { result.now ≡ self.now.handed }
+    {
+        self.ready.as_slice()
+    }
+
+    /// Ends the place.
+    pub fn finish(self) -> (Pass, Vec<Q::Seat>)
+        requires { self.aside ≡ None }
+        ensures pass { result.0 ≡ self.pass }
+        ensures seats { map Q.seen result.1.items ≡ self.seats }
+    {
+        let Desk {
+            pass,
+            seats,
+            sleepers: _,
+            clock: _,
+            aside: _,
+            ready: _,
+        } = self;
+        (pass, seats)
+    }
+}

@@ -1,0 +1,14 @@
+//! Who stands behind a turn.
+
+use tc_queue::Turn;
+
+/// Who stands behind a turn.
+#[derive(Clone, Copy)]
+pub enum Found {
+    /// Nobody: the line was left.
+    Nobody,
+    /// This turn.
+    Next(Turn),
+    /// Somebody, who is not linked yet.
+    Unknown,
+}
