@@ -1,0 +1,10 @@
+pub mod Passes
+pub mod Running
+pub mod Desks
+pub mod Offering
+pub mod Crossing
+pub mod Hiring
+pub mod Joining
+pub mod Rows
+pub mod Wholes
+pub mod Playing

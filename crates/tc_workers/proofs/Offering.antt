@@ -1,0 +1,37 @@
+-- Offers, one after another.
+use Rattle.std.proofs.Common.{◌≡◌, ◌≢◌, ℕ, ◌<◌, Bool, true, false, List, [], ◌∷◌, ◌++◌, length, map, refl, sym, ap, ◌∙◌, arith, append_assoc, append-nil}
+use Rattle.std.proofs.lemmas.List.{map-append}
+use Rattle.std.specs.Prelude.{MatchBool}
+use Rattle.tc_ready.specs.ReadyView.{Offered, ReadyView}
+use Rattle.tc_ready.specs.Rule.{offer}
+use Rattle.tc_workers.specs.Offers.{HasOffered, thread_of}
+
+pub offers_none : (r : ReadyView) → HasOffered [] r r
+offers_none r = record { threads = refl; room = refl; offered = []; rest = []; parts = refl; given = sym (append-nil (map thread_of r.given)); full = λ ne. absurd (ne refl) }
+
+none_left : (rest : List ℕ) → (rest ≢ [] → ⊥) → rest ≡ []
+none_left [] h = refl
+none_left (t ∷ ts) h = absurd (h (λ e. let n : ⊥ = cc in n))
+
+pub offers_more : (ts : List ℕ) (t : ℕ) (b : Bool) (r s u : ReadyView) → HasOffered ts r s → MatchBool b ((length s.given < s.room) × Offered t s u) ((length s.given ≡ s.room) × (u ≡ s)) → HasOffered (ts ++ t ∷ []) r u
+offers_more ts t true r s u h m =
+    let low : length s.given < s.room = m.0 in
+    let whole : h.rest ≡ [] = none_left h.rest (λ ne. let f : length s.given ≡ r.room = h.full ne in let e : s.room ≡ r.room = h.room in let n : ⊥ = omega arith in n) in
+    record {
+      threads = ap (λ (x : ReadyView). x.threads) m.1 ∙ h.threads;
+      room = ap (λ (x : ReadyView). x.room) m.1 ∙ h.room;
+      offered = h.offered ++ t ∷ [];
+      rest = [];
+      parts = ap (λ (l : List ℕ). l ++ t ∷ []) (h.parts ∙ (ap (λ (l : List ℕ). h.offered ++ l) whole ∙ append-nil h.offered)) ∙ sym (append-nil (h.offered ++ t ∷ []));
+      given = ap (λ (x : ReadyView). map thread_of x.given) m.1 ∙ (map-append thread_of s.given (offer (length s.given) t ∷ []) ∙ (ap (λ (l : List ℕ). l ++ t ∷ []) h.given ∙ append_assoc (map thread_of r.given) h.offered (t ∷ [])));
+      full = λ ne. absurd (ne refl);
+    }
+offers_more ts t false r s u h m = record {
+  threads = ap (λ (x : ReadyView). x.threads) m.1 ∙ h.threads;
+  room = ap (λ (x : ReadyView). x.room) m.1 ∙ h.room;
+  offered = h.offered;
+  rest = h.rest ++ t ∷ [];
+  parts = ap (λ (l : List ℕ). l ++ t ∷ []) h.parts ∙ append_assoc h.offered h.rest (t ∷ []);
+  given = ap (λ (x : ReadyView). map thread_of x.given) m.1 ∙ h.given;
+  full = λ ne. ap (λ (x : ReadyView). length x.given) m.1 ∙ (m.0 ∙ h.room);
+}

@@ -1,0 +1,41 @@
+-- A desk that is driven by hand, from what its worker has in hand.
+use Rattle.std.proofs.Common.{◌≡◌, ℕ, List, length, Option, Some, None, refl, sym, subst}
+use Rattle.tc_journal.specs.declared.block.End.{End}
+use Rattle.tc_context.specs.View.{PackageView}
+use Rattle.tc_hall.specs.Outs.{outs}
+use Rattle.tc_hall.specs.PassView.{PassView}
+use Rattle.tc_combiner.specs.View.{BenchView, DeskView}
+use Rattle.tc_workers.specs.declared.step.Step.{Step}
+use Rattle.tc_workers.specs.declared.step.Step.TheVariants.{On}
+use Rattle.tc_workers.specs.Worker.{HasSealed, IsAtDesk, IsStep, IsStill}
+use Rattle.tc_workers.specs.Scripts.{IsPlaying}
+use Rattle.tc_workers.proofs.Desks.{at_still, other_sleepers, with_pass}
+
+-- no block waits to be settled
+pub at_desk : (b : BenchView) (d : DeskView) (hand h : Option PackageView) (end : Option End) → IsPlaying b d hand end → end ≡ None → hand ≡ h → IsAtDesk b h d
+at_desk b d hand h None p e f = subst (λ (o : Option PackageView). IsAtDesk b o d) f p
+at_desk b d hand h (Some x) p e f = absurd (let n : ⊥ = cc in n)
+
+pub playing : (b : BenchView) (d : DeskView) (hand h : Option PackageView) (end : Option End) → IsAtDesk b h d → end ≡ None → hand ≡ h → IsPlaying b d hand end
+playing b d hand h None p e f = subst (λ (o : Option PackageView). IsAtDesk b o d) (sym f) p
+playing b d hand h (Some x) p e f = absurd (let n : ⊥ = cc in n)
+
+-- a block waits to be settled
+pub has_sealed : (b : BenchView) (d : DeskView) (hand : Option PackageView) (end : Option End) (q : PackageView) (x : End) → IsPlaying b d hand end → hand ≡ Some q → end ≡ Some x → HasSealed b x q d
+has_sealed b d None None q x p e f = absurd (let n : ⊥ = cc in n)
+has_sealed b d (Some r) None q x p e f = absurd (let n : ⊥ = cc in n)
+has_sealed b d None (Some y) q x p e f = absurd p
+has_sealed b d (Some r) (Some y) q x p e f = subst (λ (z : Option End). IsPlaying b d (Some q) z) f (subst (λ (o : Option PackageView). IsPlaying b d o (Some y)) e p)
+
+-- the desk goes on with what comes
+pub goes_on : (b : BenchView) (d : DeskView) (s t : Step) (hand : Option PackageView) → IsStep b d s → t ≡ s → t ≡ On hand → IsAtDesk b hand d
+goes_on b d s t hand h e f = subst (λ (z : Step). IsStep b d z) f (subst (λ (z : Step). IsStep b d z) (sym e) h)
+
+-- the clock was moved, and a sleeper was woken
+pub woken : (b : BenchView) (d m : DeskView) (hand : Option PackageView) (end : Option End) (sleepers : List (Option ℕ)) (now : ℕ) → IsPlaying b d hand end → end ≡ None → hand ≡ None → m ≡ record d { now = now } → length sleepers ≡ length d.sleepers → IsPlaying b (record m { sleepers = sleepers }) hand end
+woken b d m hand end sleepers now p e f is same =
+    playing b (record m { sleepers = sleepers }) hand None end (subst (λ (z : DeskView). IsAtDesk b None (record z { sleepers = sleepers })) (sym is) (other_sleepers b d sleepers now (at_desk b d hand None end p e f) same)) e f
+
+-- the pass made calls, and has out what it had
+pub looked_on : (b : BenchView) (d : DeskView) (q : PassView) (hand : Option PackageView) (end : Option End) → IsPlaying b d hand end → end ≡ None → IsStill d.pass q → outs q.knows ≡ outs d.pass.knows → IsPlaying b (with_pass d q) hand end
+looked_on b d q hand end p e s same = let r : hand ≡ hand = refl in playing b (with_pass d q) hand hand end (at_still b hand d q (at_desk b d hand hand end p e r) s same) e r

@@ -1,0 +1,62 @@
+use Rattle.std.proofs.Common.{rules, ◌≡◌, ◌<◌, ◌∙◌, ◌||◌, Bool, sym, ap, subst, length}
+use denote.Param.{param}
+use denote.Ref.{NamedLft}
+use denote.Param.Send.{IsSend, IsSync, sendable}
+use Rattle.std.proofs.Crossing.{crosses}
+use Rattle.tc_combiner.specs.View.{BenchView}
+use Rattle.tc_combiner.specs.contracts.desk.Bench as Bench
+use Rattle.tc_workers.specs.contracts.worker.Worker as Worker
+use Rattle.tc_workers.specs.Crew.{HaveFinished}
+use Rattle.tc_workers.proofs.Crossing.{bench_sync, worker_send, finished_send}
+use Rattle.tc_workers.proofs.Joining.{at_work_last, one_finished, all_finished}
+use Rattle.tc_workers.proofs.crew.+crew.Goals as goal
+use Rattle.tc_workers.proofs.crew.+crew.Goals.{then-all_done, else-all_done}
+
+pub work-requires-clause-work : goal.work-requires-clause-work
+work-requires-clause-work g t c κs within = (at_work_last c.args.bench.now c.pop.new.self.items c.args.crew.items c.in-Some.worker c.requires.work c.in-Some.ensures.items).0
+
+pub returns-then-is_empty : goal.returns-then-is_empty
+returns-then-is_empty g t c =
+    let work = (at_work_last c.args.bench.now c.pop.new.self.items c.args.crew.items c.in-Some.worker c.requires.work c.in-Some.ensures.items).0 in
+    let none : length c.pop.new.self.items ≡ 0 = search rules in
+    one_finished c.args.bench.now c.in-Some.worker c.pop.new.self.items c.args.crew.items c.work.result.pass c.work.result.all_done work c.work.ensures c.in-Some.ensures.items none
+
+pub join-rest-requires-send-F : goal.join-rest-requires-send-F
+join-rest-requires-send-F g t c κs within =
+    let seat : IsSend (param 3 g.row.Q-Seat) = search (rules, sendable) in
+    let queue : IsSync (param 2 g.row.Q) = search (rules, sendable) in
+    let gate : IsSync (param 1 g.row.G) = search (rules, sendable) in
+    let rt : IsSync (param 0 g.row.R) = search (rules, sendable) in
+    let worker : IsSend (Worker.the_row (param 2 g.row.Q) (param 3 g.row.Q-Seat) (param 4 g.row.Q-Place) g.Q.Waiters) = worker_send (param 2 g.row.Q) (param 3 g.row.Q-Seat) (param 4 g.row.Q-Place) g.Q.Waiters seat in
+    let bench : (l : NamedLft) → IsSync (Bench.the_row l (param 2 g.row.Q) (param 3 g.row.Q-Seat) (param 4 g.row.Q-Place) g.Q.Waiters) = λ l. bench_sync (param 2 g.row.Q) (param 3 g.row.Q-Seat) (param 4 g.row.Q-Place) g.Q.Waiters l queue in
+    search (sendable, crosses, bench) depth 20
+
+pub join-rest-requires-send-A : goal.join-rest-requires-send-A
+join-rest-requires-send-A g t c κs within = search (sendable, finished_send)
+
+pub join-rest-requires-after_bounds : goal.join-rest-requires-after_bounds
+join-rest-requires-after_bounds g t c κs within =
+    let both = at_work_last c.args.bench.now c.pop.new.self.items c.args.crew.items c.in-Some.worker c.requires.work c.in-Some.ensures.items in
+    let work = both.0 in
+    let others = both.1 in
+    let some : 0 < length c.pop.new.self.items = search rules in
+    search (rules, sendable) depth 20
+
+pub join-requires-clause-own : goal.join-requires-clause-own
+join-requires-clause-own g t c =
+    let table = ap (λ (b : BenchView). b.hall.table) c.bench.view_is in
+    let work = (at_work_last c.args.bench.now c.pop.new.self.items c.args.crew.items c.in-Some.worker c.requires.work c.in-Some.ensures.items).0 in
+    let own = c.join-rest.ensures.second in
+    let rest = c.join-rest.ensures.first in
+    ((own.still.own.0 ∙ work.desk.fits.own) ∙ sym table, rest.own ∙ sym table)
+
+pub returns : goal.returns
+returns g t c =
+    let work = (at_work_last c.args.bench.now c.pop.new.self.items c.args.crew.items c.in-Some.worker c.requires.work c.in-Some.ensures.items).0 in
+    let own = c.join-rest.ensures.second in
+    let rest = c.join-rest.ensures.first in
+    let own_done = c.join-rest.result.1.all_done in
+    let rest_done = c.join-rest.result.0.all_done in
+    let done : (own_done || rest_done) ≡ c.if-all_done.result = elim c.if-all_done.branch [ then-all_done w ↦ ap (λ (x : Bool). x || rest_done) w.if-all_done.true ∙ (sym w.if-all_done.true ∙ sym w.result-is) | else-all_done w ↦ ap (λ (x : Bool). x || rest_done) w.if-all_done.false ∙ sym w.result-is ] in
+    subst (λ (x : Bool). HaveFinished c.args.bench.now c.args.crew.items c.join.new.pass x) done
+    (all_finished c.args.bench.now c.in-Some.worker c.pop.new.self.items c.args.crew.items c.join-rest.result.1.pass c.join-rest.result.0.pass c.join.new.pass own_done rest_done work own rest c.in-Some.ensures.items c.join.ensures.own c.join.ensures.merged)

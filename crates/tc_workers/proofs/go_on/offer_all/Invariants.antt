@@ -1,0 +1,6 @@
+use Rattle.std.proofs.Common.{take}
+use Rattle.tc_workers.specs.Offers.{HasOffered}
+use Rattle.tc_workers.proofs.go_on.offer_all.Given as goal
+
+abbrev pub invariant-loop-t : goal.invariant-loop-t
+invariant-loop-t g l = HasOffered (take l.t-index l.handed) l.initial.ready l.ready

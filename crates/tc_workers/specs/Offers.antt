@@ -1,0 +1,17 @@
+-- The threads that a worker offers.
+use Rattle.std.specs.Prelude.{◌≡◌, ◌≢◌, ℕ, List, [], ◌++◌, length, map}
+use Rattle.tc_ready.specs.declared.ends.Offer.{Offer}
+use Rattle.tc_ready.specs.ReadyView.{ReadyView}
+
+abbrev pub thread_of : Offer → ℕ
+thread_of o = o.thread
+
+-- these threads were offered, in order; some of the last were not only where the room for offers is used up
+pub record HasOffered (ts : List ℕ) (r s : ReadyView) : Type 0 where
+  pub threads : s.threads ≡ r.threads
+  pub room : s.room ≡ r.room
+  pub offered : List ℕ
+  pub rest : List ℕ
+  pub parts : ts ≡ offered ++ rest
+  pub given : map thread_of s.given ≡ map thread_of r.given ++ offered
+  pub full : rest ≢ [] → length s.given ≡ r.room

@@ -1,0 +1,104 @@
+-- What contracts see of a worker, and what holds of one at work.
+use Rattle.std.specs.Prelude.{◌≡◌, ℕ, true, false, List, [], ◌∷◌, ◌++◌, length, Option, Some, None}
+use mathlib.Core.Option.{some}
+use lib.ListN.{get_elem?}
+use Rattle.tc_journal.specs.declared.block.End.{End}
+use Rattle.tc_context.specs.View.{PackageView, fits_of}
+use Rattle.tc_hall.specs.declared.board.Knows.{Knows}
+use Rattle.tc_hall.specs.Outs.{Outs, outs, Item, Pack}
+use Rattle.tc_hall.specs.PassView.{PassView}
+use Rattle.tc_hall.specs.Rule.{threads, grants_adopted}
+use Rattle.tc_hall.specs.Steps.{IsSamePass, HasSeenAll, HasStop}
+use Rattle.tc_ready.specs.ReadyView.{ReadyView}
+use Rattle.tc_combiner.specs.Packages.{HasNoOther, IsGoodFor, Runs}
+use Rattle.tc_combiner.specs.Walks.{Owns, packed}
+use Rattle.tc_combiner.specs.View.{BenchView, DeskView, FitsBench}
+use Rattle.tc_combiner.specs.Settling.{MaySettle}
+use Rattle.tc_workers.specs.declared.step.Step.{Step}
+use Rattle.tc_workers.specs.declared.step.Step.TheVariants.{On, AllDone, Stopped}
+
+pub record WorkerView : Type 0 where
+  pub desk : DeskView
+  pub ready : ReadyView
+
+-- ---- what is out with a pass
+
+abbrev pub nothing : Outs
+nothing = record { context = λ u. None; lock = λ i. None }
+
+-- these are out, each apart from the others, and nothing else
+abbrev pub HasOut : Knows → List Item → Type 0
+HasOut v xs = Owns nothing (outs v) xs
+
+-- the same pass, of the same worker, with the same passes joined into it
+pub record IsStill (p q : PassView) : Type 0 where
+  pub own : IsSamePass p q
+  pub image : q.knows.image ≡ p.knows.image
+  pub worker : q.knows.worker ≡ p.knows.worker
+  pub joined : q.knows.joined ≡ p.knows.joined
+
+-- ---- packages in hand
+
+-- one that may be put back where the run was stopped: it fits the worker, unless its grant is Adopted
+pub record MayGoBack (v : Knows) (q : PackageView) : Type 0 where
+  pub of : q.image ≡ v.image
+  pub settled : q.pending ≡ None
+  pub runs : Runs q
+  pub locks : HasNoOther q
+  pub fits : grants_adopted q.granted ≡ false → fits_of q v.worker ≡ true
+
+-- the pass took a package that did not fit its worker
+pub record HasMisfit (v : Knows) : Type 0 where
+  pub thread : ℕ
+  pub noted : get_elem? v.misfits thread ≡ some true
+
+-- one that was claimed: one that does not fit the worker is noted as such
+pub record IsClaimed (v : Knows) (q : PackageView) : Type 0 where
+  pub back : MayGoBack v q
+  pub misfit : fits_of q v.worker ≡ false → HasMisfit v
+
+-- what a worker has in hand is fit to run
+abbrev pub IsFit : Knows → Option PackageView → Type 0
+IsFit v None = Unit {0}
+IsFit v (Some q) = IsGoodFor v q
+
+-- ---- a worker at its desk
+
+-- a desk at the bench: nothing is out but the package in hand, where there is one, and the one that is set aside
+pub record IsAtDesk (b : BenchView) (hand : Option PackageView) (d : DeskView) : Type 0 where
+  pub fits : FitsBench b d
+  pub sleepers : length d.sleepers ≡ threads b.hall.terms
+  pub out : HasOut d.pass.knows (packed hand ++ packed d.aside)
+  pub fit : IsFit d.pass.knows hand
+
+-- a package was claimed, and nothing else is out
+pub record HasClaimed (b : BenchView) (q : PackageView) (d : DeskView) : Type 0 where
+  pub fits : FitsBench b d
+  pub sleepers : length d.sleepers ≡ threads b.hall.terms
+  pub aside : d.aside ≡ None
+  pub out : HasOut d.pass.knows (Pack q ∷ [])
+  pub claimed : IsClaimed d.pass.knows q
+
+-- the block of a package in hand was sealed, and ended so
+pub record HasSealed (b : BenchView) (end : End) (q : PackageView) (d : DeskView) : Type 0 where
+  pub fits : FitsBench b d
+  pub sleepers : length d.sleepers ≡ threads b.hall.terms
+  pub out : HasOut d.pass.knows (Pack q ∷ packed d.aside)
+  pub may : MaySettle b.image d.pass.knows.worker end q
+
+-- all was put back
+pub record HasLeft (d : DeskView) : Type 0 where
+  pub aside : d.aside ≡ None
+  pub out : HasOut d.pass.knows []
+
+-- after a step: it is at its desk with what it has in hand; or it has left, and has seen every thread Done, or that a stop was
+-- made
+abbrev pub IsStep : BenchView → DeskView → Step → Type 0
+IsStep b d (On hand) = IsAtDesk b hand d
+IsStep b d AllDone = HasLeft d × HasSeenAll (threads b.hall.terms) d.pass.knows
+IsStep b d Stopped = HasLeft d × HasStop d.pass.knows
+
+-- a worker at the bench, with this package in hand, where there is one
+pub record IsAtWork (b : BenchView) (hand : Option PackageView) (w : WorkerView) : Type 0 where
+  pub desk : IsAtDesk b hand w.desk
+  pub ready : w.ready.threads ≡ threads b.hall.terms

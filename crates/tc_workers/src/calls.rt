@@ -1,0 +1,80 @@
+//! The calls of the hall, as a worker makes them.
+
+ghost use Rattle.std.specs.Prelude.{◌≡◌, ◌<◌, [], ◌∷◌, true, MatchOption};
+ghost use Rattle.tc_hall.specs.Rule.{threads};
+ghost use Rattle.tc_hall.specs.Steps.{HasSeenAll, HasStop};
+ghost use Rattle.tc_hall.specs.Outs.{outs, erase, IsOut, Pack};
+ghost use Rattle.tc_workers.specs.Worker.{HasMisfit, HasOut, IsClaimed, IsStill, MayGoBack};
+
+use tc_context::package::Package;
+use tc_hall::hall::Hall;
+use tc_hall::pass::Pass;
+use tc_hall::place::{Origin, Place};
+
+/// Takes the package of a ready or a parked thread, where the thread is still there.
+pub fn claim(hall: &Hall, pass: &mut Pass, t: u32, from: Origin) -> Option<Package>
+    requires own { pass.old.table ≡ hall.now.table }
+    requires thread { t < threads hall.now.terms }
+    requires free { HasOut pass.old.knows [] }
+    ensures still { IsStill pass.old pass.new }
+    ensures result { MatchOption result (HasOut pass.new.knows [])
+        (λ q. HasOut pass.new.knows (Pack q ∷ []) × IsClaimed pass.new.knows q) }
+{
+    match hall.claim(pass, t, from) {
+        Ok(package) => Some(package),
+        Err(_) => None,
+    }
+}
+
+/// Puts a package back as ready, since the run was stopped.
+pub fn put_back(hall: &Hall, pass: &mut Pass, package: Package)
+    requires own { pass.old.table ≡ hall.now.table }
+    requires image { pass.old.knows.image ≡ hall.now.terms.image.value }
+    requires out { IsOut (outs pass.old.knows) (Pack «package») }
+    requires may { MayGoBack pass.old.knows «package» }
+    requires stop { HasStop pass.old.knows }
+    ensures still { IsStill pass.old pass.new }
+    ensures outs { outs pass.new.knows ≡ erase (outs pass.old.knows) (Pack «package») }
+    ensures stop { HasStop pass.new.knows }
+{
+    package.keeps();
+    hall.put(pass, package, Place::Ready);
+}
+
+/// Whether the run was stopped.
+pub fn stopped(hall: &Hall, pass: &mut Pass) -> bool
+    requires own { pass.old.table ≡ hall.now.table }
+    ensures still { IsStill pass.old pass.new }
+    ensures outs { outs pass.new.knows ≡ outs pass.old.knows }
+    ensures seen { result ≡ true → HasStop pass.new.knows }
+    ensures misfit { HasMisfit pass.old.knows → result ≡ true }
+{
+    hall.stopped(pass)
+}
+
+/// Stops the run.
+pub fn stop(hall: &Hall, pass: &mut Pass)
+    requires own { pass.old.table ≡ hall.now.table }
+    ensures still { IsStill pass.old pass.new }
+    ensures outs { outs pass.new.knows ≡ outs pass.old.knows }
+    ensures made { HasStop pass.new.knows }
+{
+    hall.stop(pass);
+}
+
+/// Whether each of the threads is seen to have ended. It looks at them in order, up to the first
+/// that has not.
+pub fn all_done(hall: &Hall, pass: &mut Pass, count: u32) -> bool
+    requires own { pass.old.table ≡ hall.now.table }
+    requires count { count ≡ threads hall.now.terms }
+    ensures still { IsStill pass.old pass.new }
+    ensures outs { outs pass.new.knows ≡ outs pass.old.knows }
+    ensures done { result ≡ true → HasSeenAll count pass.new.knows }
+{
+    for t in 0..count {
+        if hall.look(pass, t) != 2 {
+            return false;
+        }
+    }
+    true
+}

@@ -1,0 +1,117 @@
+//! All workers of a run, beside one another.
+
+ghost use Rattle.std.specs.Prelude.{◌≡◌, ◌<◌, None, All, IfOk, length, map};
+ghost use denote.Param.Send.{IsSend, IsSync};
+ghost use Rattle.tc_hall.specs.Made.{AreDealt};
+ghost use Rattle.tc_hall.specs.Rule.{threads};
+ghost use Rattle.tc_workers.specs.Worker.{IsAtWork};
+ghost use Rattle.tc_workers.specs.Finished.{IsFinished};
+ghost use Rattle.tc_workers.specs.Crew.{AreAtWork, AreHired, AreSeatsOf, HaveFinished, IsBench, IsDealt, IsHired};
+
+use crate::finished::Finished;
+use crate::gate::Gate;
+use crate::work::work;
+use crate::worker::Worker;
+use std::alloc::{AllocError, Global};
+use std::sync::Wait;
+use std::thread::{Threads, join};
+use tc_combiner::{Bench, Desk};
+use tc_hall::pass::Pass;
+use tc_park::Sleepers;
+use tc_queue::Waiters;
+use tc_ready::Ready;
+
+// The worker of the pass, who has not begun.
+fn hire_one<Q: Waiters>(
+    alloc: Global,
+    bench: &Bench<'_, Q>,
+    pass: Pass,
+    seats: Vec<Q::Seat>,
+    ready: Ready,
+) -> Result<Worker<Q>, AllocError>
+    requires bench { IsBench bench.now }
+    requires pass { IsDealt bench.now pass }
+    requires seats { AreSeatsOf bench.now.queues (map Q.seen seats.items) }
+    requires ready { ready.threads ≡ threads bench.now.hall.terms }
+    ensures { IfOk result (λ w. IsHired bench.now pass.knows.worker w) }
+{
+    let sleepers = Sleepers::new(alloc, bench.image.threads())?;
+    let desk = Desk::new(pass, seats, sleepers);
+    Ok(Worker { desk, ready })
+}
+
+/// A worker for each pass, who has not begun. The one with the greatest number comes first.
+pub(crate) fn hire<Q: Waiters>(
+    alloc: Global,
+    bench: &Bench<'_, Q>,
+    mut passes: Vec<Pass>,
+    mut seats: Vec<Vec<Q::Seat>>,
+    mut crew: Vec<Ready>,
+) -> Result<Vec<Worker<Q>>, AllocError>
+    requires bench { IsBench bench.now }
+    requires passes { AreDealt bench.now.image (length bench.now.image.entries)
+        (length bench.now.image.guards) (length passes.items) bench.now.hall.table passes.items }
+    requires seats { (length seats.items ≡ length passes.items)
+        × All (λ row. AreSeatsOf bench.now.queues (map Q.seen row.items)) seats.items }
+    requires crew { (length crew.items ≡ length passes.items)
+        × All (λ r. r.threads ≡ threads bench.now.hall.terms) crew.items }
+    ensures { IfOk result (λ ws. AreHired bench.now (length passes.items) (length passes.items)
+        ws.items) }
+{
+    let mut workers = Vec::with_capacity(alloc, passes.len())?;
+    for hired in 0..passes.len() {
+        let Some(pass) = passes.pop() else {
+            unreachable!();
+        };
+        let Some(row) = seats.pop() else {
+            unreachable!();
+        };
+        let Some(ready) = crew.pop() else {
+            unreachable!();
+        };
+        let worker = hire_one(alloc, bench, pass, row, ready)?;
+        workers.push_reserved(worker);
+    }
+    Ok(workers)
+}
+
+/// Runs the workers beside one another until all have ended, and joins their passes into one.
+#[cycle(crew)]
+pub(crate) fn together<R: Threads + Wait + Sync, G: Gate, Q: Waiters>(
+    rt: &R,
+    bench: &Bench<'_, Q>,
+    gate: &G,
+    mut crew: Vec<Worker<Q>>,
+) -> Finished
+where
+    Q::Place: Send,
+    requires some { 0 < length crew.items }
+    requires work { AreAtWork bench.now crew.items }
+    ensures { HaveFinished bench.now crew.items result.pass result.all_done }
+{
+    let Some(worker) = crew.pop() else {
+        unreachable!();
+    };
+    if crew.is_empty() {
+        return work(rt, bench, gate, worker);
+    }
+    let others = move || -> Finished
+        requires { IsSync R.row × IsSync G.row × IsSync Q.row × IsSend Q.Seat.row × IsSend Q.Place.row × (0 < length crew.items) × AreAtWork bench.now crew.items }
+        ensures { HaveFinished bench.entry.now crew.items result.pass result.all_done }
+    { together(rt, bench, gate, crew) };
+    let own = move || -> Finished
+        requires { IsAtWork bench.now None worker }
+        ensures { IsFinished bench.entry.now.hall.terms worker.desk.pass result.pass result.all_done }
+    { work(rt, bench, gate, worker) };
+    let (rest, own) = join(rt, others, own);
+    let Finished { mut pass, all_done } = own;
+    let Finished {
+        pass: other,
+        all_done: others_done,
+    } = rest;
+    bench.hall.join(&mut pass, other);
+    Finished {
+        pass,
+        all_done: all_done || others_done,
+    }
+}

@@ -1,0 +1,36 @@
+//! Workers: they run the threads of a guest over one hall, until each has ended.
+//!
+//! A worker has a desk and its ready threads. It takes a package, runs a block of it and settles it,
+//! again and again; it ends where it has seen every thread Done, or where the run is stopped.
+//!
+//! - `specs/Worker.antt`: workers as contracts see them, and what holds of one at work.
+//!   `specs/Settled.antt`: what a worker does after its desk's answer. `specs/Offers.antt`: the threads
+//!   that it offers. `specs/Finished.antt`: what a worker's end gives. `specs/Crew.antt`: a crew of
+//!   workers and their queues. `specs/Run.antt`: what a whole run gives. `specs/Scripts.antt`: a desk
+//!   that is driven by hand, for tests.
+//! - `gate`: whom a worker tells how far it is. `worker`: workers. `work`: a worker's steps, in their
+//!   order. `find`, `go_on`, `leave`: how it finds a package, goes on with one, and leaves. `calls`:
+//!   the calls of the hall, as workers make them. `step`, `finished`: what a step and the end give.
+//! - `crew`: all workers beside one another. `lines`: the queues of all locks, and their seats.
+//!   `run`: whole runs. `options`: with what a guest is run.
+#![tactic(auto)]
+
+mod calls;
+mod crew;
+mod find;
+mod finished;
+pub mod gate;
+mod go_on;
+mod leave;
+mod lines;
+pub mod options;
+mod run;
+#[cfg(test)]
+mod scripts;
+mod step;
+#[cfg(test)]
+mod tests;
+mod work;
+mod worker;
+
+pub use run::{run_all, run_with};

@@ -1,0 +1,136 @@
+//! Whole runs.
+
+ghost use Rattle.std.specs.Prelude.{◌≡◌, ◌<◌, ◌≤◌, ◌+◌, ◌*◌, ◌/◌, All, IfOk, length, map, true};
+ghost use Rattle.tc_isa.specs.declared.limits.TheConstants.{MAX_FUEL};
+ghost use Rattle.tc_elf.specs.declared.limits.TheConstants.{MAX_THREADS};
+ghost use Rattle.tc_hall.specs.Made.{AreDealt};
+ghost use Rattle.tc_hall.specs.Rule.{threads};
+ghost use Rattle.tc_hall.specs.Steps.{HasAll, HasSeenAll, IsEnd, IsFree};
+ghost use Rattle.tc_ready.specs.declared.limits.TheConstants.{MAX_ROOM};
+ghost use Rattle.tc_workers.specs.Crew.{AreQueues, AreSeatsOf, HasRun, IsBench};
+ghost use Rattle.tc_workers.specs.Run.{IsWholeRun};
+
+use crate::crew::{hire, together};
+use crate::finished::Finished;
+use crate::gate::Gate;
+use crate::lines::{Lines, line_up};
+use crate::options::Options;
+use std::alloc::{AllocError, Global};
+use std::sync::Wait;
+use std::thread::Threads;
+use tc_combiner::Bench;
+use tc_elf::image::Image;
+use tc_hall::closed::Closed;
+use tc_hall::hall::Hall;
+use tc_hall::pass::Pass;
+use tc_queue::{Queue, Waiters};
+use tc_ready::Ready;
+
+// How many offers a worker may come to make: at most one for each section, and a section has a turn
+// at its beginning and, but for the last ones of a thread, one at its end.
+fn room_of(threads: u32, fuel: u32) -> u32
+    requires threads { (1 ≤ threads) × (threads ≤ MAX_THREADS) }
+    requires fuel { fuel ≤ MAX_FUEL }
+    ensures value { result ≡ threads * (fuel / 2 + 2) }
+    ensures least { 1 ≤ result }
+    ensures most { result ≤ MAX_ROOM }
+{
+    threads * (fuel / 2 + 2)
+}
+
+// Ends a hall whose workers have all ended.
+fn finish(hall: Hall, finished: Finished) -> Result<Closed, AllocError>
+    requires own { finished.pass.table ≡ hall.table }
+    requires all { HasAll hall.terms.workers finished.pass.knows }
+    requires free { IsFree finished.pass.knows }
+    requires done { finished.all_done ≡ true
+        → HasSeenAll (threads hall.terms) finished.pass.knows }
+    ensures { IfOk result (λ c. IsEnd hall.terms finished.pass.knows c.packages c.locks) }
+{
+    let Finished { pass, all_done } = finished;
+    if all_done {
+        Ok(hall.close(pass))
+    } else {
+        hall.abandon(pass);
+        Err(AllocError)
+    }
+}
+
+// Hires the workers at the bench, and lets them run until all have ended.
+fn run_at<R: Threads + Wait + Sync, Q: Waiters, G: Gate>(
+    rt: &R,
+    alloc: Global,
+    bench: &Bench<'_, Q>,
+    passes: Vec<Pass>,
+    seats: Vec<Vec<Q::Seat>>,
+    ready: Vec<Ready>,
+    gate: &G,
+) -> Result<Finished, AllocError>
+where
+    Q::Place: Send,
+    requires bench { IsBench bench.now }
+    requires some { 0 < length passes.items }
+    requires passes { AreDealt bench.now.image (length bench.now.image.entries)
+        (length bench.now.image.guards) (length passes.items) bench.now.hall.table passes.items }
+    requires seats { (length seats.items ≡ length passes.items)
+        × All (λ row. AreSeatsOf bench.now.queues (map Q.seen row.items)) seats.items }
+    requires ready { (length ready.items ≡ length passes.items)
+        × All (λ r. r.threads ≡ threads bench.now.hall.terms) ready.items }
+    ensures { IfOk result (λ f. HasRun bench.now (length passes.items) f.pass f.all_done) }
+{
+    let crew = hire(alloc, bench, passes, seats, ready)?;
+    Ok(together(rt, bench, gate, crew))
+}
+
+/// Runs the threads of an image to their ends, by so many workers beside one another, with these
+/// queues of waiters: one for each lock, and for each worker a list with one seat of each. Each
+/// thread has the fuel, and the batch limit is that of the options. It may wait, as a desk may.
+///
+/// The one refusal is want of memory.
+pub fn run_with<R: Threads + Wait + Sync, Q: Waiters + Drop, G: Gate>(
+    rt: &R,
+    alloc: Global,
+    image: &Image,
+    options: Options,
+    queues: Vec<Q>,
+    seats: Vec<Vec<Q::Seat>>,
+    gate: &G,
+) -> Result<Closed, AllocError>
+where
+    Q::Place: Send,
+    requires queues { AreQueues image.now (map Q.queue queues.items) }
+    requires count { length seats.items ≡ options.workers }
+    requires seats { All
+        (λ row. AreSeatsOf (map Q.queue queues.items) (map Q.seen row.items)) seats.items }
+    ensures { IfOk result (λ closed. IsWholeRun image.now options closed) }
+{
+    let (fuel, workers) = (options.fuel, options.workers);
+    let (hall, passes) = Hall::new(alloc, image, fuel, workers, options.limit)?;
+    let threads = image.threads();
+    let ready = Ready::crew(alloc, workers, threads, room_of(threads, fuel))?;
+    let bench = Bench {
+        image,
+        hall: &hall,
+        queues: queues.as_slice(),
+    };
+    let finished = run_at(rt, alloc, &bench, passes, seats, ready, gate)?;
+    finish(hall, finished)
+}
+
+/// Runs the threads of an image to their ends, by so many workers beside one another, with the
+/// queues of tc_queue. Each thread has the fuel, and the batch limit is that of the options. It may
+/// wait, as a desk may.
+///
+/// The one refusal is want of memory.
+pub fn run_all<R: Threads + Wait + Sync, G: Gate>(
+    rt: &R,
+    alloc: Global,
+    image: &Image,
+    options: Options,
+    gate: &G,
+) -> Result<Closed, AllocError>
+    ensures { IfOk result (λ closed. IsWholeRun image.now options closed) }
+{
+    let Lines { queues, rows } = line_up(alloc, image, options.workers)?;
+    run_with(rt, alloc, image, options, queues, rows, gate)
+}

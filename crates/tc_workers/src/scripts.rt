@@ -1,0 +1,803 @@
+//! Scripts: desks that are driven by hand on one thread, in the order written, each on a worker of
+//! its own. The history of each is compared with the lines of its row.
+
+ghost use Rattle.std.specs.Prelude.{◌≡◌, ◌<◌, None, All, IfOk, OnOk};
+ghost use Rattle.tc_workers.specs.Crew.{AreAtWork};
+ghost use Rattle.tc_workers.specs.Scripts.{IsPlaying};
+
+use crate::crew::hire;
+use crate::find::claim;
+use crate::gate::Open;
+use crate::go_on::{next, seal_block, wants_lock};
+use crate::lines::{Lines, line_up};
+use crate::step::Step;
+use crate::worker::Worker;
+use std::alloc::{AllocError, Global};
+use std::process::Abort;
+use std::sync::Wait;
+use std::test::Fail;
+use tc_build::build::build;
+use tc_combiner::{Bench, Desk, Settled};
+use tc_context::package::Package;
+use tc_elf::image::Image;
+use tc_elf::limits::MAX_THREADS;
+use tc_elf::load::load;
+use tc_hall::hall::Hall;
+use tc_hall::place::Origin;
+use tc_isa::limits::{MAX_BATCH, MAX_WORKERS};
+use tc_isa::reg::Reg;
+use tc_journal::block::{Block, End};
+use tc_journal::reading::read_v1;
+use tc_queue::Queue;
+use tc_ready::Ready;
+
+/// What is done with a desk.
+#[derive(Clone, Copy)]
+enum Action<'a> {
+    /// Claims this thread, which is ready.
+    Claim(u32),
+    /// Runs a block of the package in hand, and commits it.
+    Run,
+    /// Settles the package in hand: it goes on, or the one that was set aside, of this thread.
+    GoesOn(u32),
+    /// Settles it: a waiter is adopted, of this thread.
+    Adopts(u32),
+    /// Settles it: it is shipped.
+    Ships,
+    /// Settles it: it sleeps, and the least sleeper is due then.
+    Parks(u64),
+    /// Settles it: its thread has ended.
+    Ends,
+    /// Gives back the package that was set aside, of this thread.
+    Back(u32),
+    /// Moves the clock to a turn, wakes the sleeper that is due then, and claims it.
+    Wake(u64, u32),
+    /// What the last call put as ready, in order.
+    Tells(&'a [u32]),
+    /// Looks at a thread: the word of its place.
+    Looks(u32, u64),
+    /// Reads a register of the thread in hand.
+    Reads(u32, u32),
+}
+
+/// A desk, and what its worker has in hand: a package, and the end of the package's last block where
+/// that is not settled yet.
+#[derive(Drop)]
+struct Player {
+    desk: Desk<Queue>,
+    hand: Option<Package>,
+    end: Option<End>,
+}
+
+/// Whether the answer is that of the action.
+fn is_as(settled: &Settled, action: Action<'_>) -> bool {
+    match (settled, action) {
+        (Settled::GoesOn(package), Action::GoesOn(t)) => package.thread() == t,
+        (Settled::Adopted(package), Action::Adopts(t)) => package.thread() == t,
+        (Settled::Shipped, Action::Ships) => true,
+        (Settled::Parked, Action::Parks(_)) => true,
+        (Settled::Ended, Action::Ends) => true,
+        _ => false,
+    }
+}
+
+/// Claims a thread.
+fn claim_thread<R: Abort>(
+    rt: &R,
+    bench: &Bench<'_, Queue>,
+    player: &mut Player,
+    t: u32,
+    from: Origin,
+)
+    requires { IsPlaying bench.now player.old.desk player.old.hand player.old.end }
+    ensures { IsPlaying bench.now player.new.desk player.new.hand player.new.end }
+{
+    assert!(rt; player.hand.is_none());
+    assert!(rt; player.end.is_none());
+    assert!(rt; player.desk.back().is_none());
+    assert!(rt; t < bench.image.threads());
+    match claim(bench, &Open, &mut player.desk, t, from) {
+        Step::On(Some(package)) => player.hand = Some(package),
+        _ => panic!(rt; "thread {t} is not there"),
+    }
+}
+
+/// Runs a block of the package in hand, and commits it.
+fn run_block<R: Abort>(rt: &R, bench: &Bench<'_, Queue>, player: &mut Player) -> Block
+    requires { IsPlaying bench.now player.old.desk player.old.hand player.old.end }
+    ensures { IsPlaying bench.now player.new.desk player.new.hand player.new.end }
+{
+    assert!(rt; player.end.is_none());
+    let Some(mut package) = player.hand.take() else {
+        panic!(rt; "no package is in hand")
+    };
+    assert!(rt; !wants_lock(&package, bench.image));
+    assert!(rt; package.reserve().is_ok());
+    let end = seal_block(bench, &mut player.desk, &mut package);
+    let Some(&block) = package.log().last() else {
+        panic!(rt; "a block was run")
+    };
+    player.hand = Some(package);
+    player.end = Some(end);
+    block
+}
+
+/// Settles the package in hand, and goes on with what comes.
+fn settle_as<R: Abort + Wait>(
+    rt: &R,
+    bench: &Bench<'_, Queue>,
+    player: &mut Player,
+    action: Action<'_>,
+)
+    requires { IsPlaying bench.now player.old.desk player.old.hand player.old.end }
+    ensures { IsPlaying bench.now player.new.desk player.new.hand player.new.end }
+{
+    let Some(package) = player.hand.take() else {
+        panic!(rt; "no package is in hand")
+    };
+    let Some(end) = player.end.take() else {
+        panic!(rt; "no block was run")
+    };
+    let settled = player.desk.settle(rt, bench, package, end);
+    assert!(rt; is_as(&settled, action));
+    match next(settled) {
+        Step::On(hand) => player.hand = hand,
+        _ => panic!(rt; "nobody stopped the run"),
+    }
+}
+
+/// Wakes a sleeper at a turn, to which the clock is moved, and claims it.
+fn wake<R: Abort>(rt: &R, bench: &Bench<'_, Queue>, player: &mut Player, turn: u64, t: u32)
+    requires { IsPlaying bench.now player.old.desk player.old.hand player.old.end }
+    ensures { IsPlaying bench.now player.new.desk player.new.hand player.new.end }
+{
+    assert!(rt; player.hand.is_none());
+    assert!(rt; player.end.is_none());
+    assert!(rt; player.desk.now() < turn);
+    assert_eq!(rt; player.desk.sleepers().least(), Some(turn));
+    player.desk.advance(turn);
+    assert_eq!(rt; player.desk.sleepers().due(turn), Some(t));
+    claim_thread(rt, bench, player, t, Origin::Parked);
+}
+
+/// Goes on with the package that was set aside.
+fn take_back<R: Abort>(rt: &R, bench: &Bench<'_, Queue>, player: &mut Player, t: u32)
+    requires { IsPlaying bench.now player.old.desk player.old.hand player.old.end }
+    ensures { IsPlaying bench.now player.new.desk player.new.hand player.new.end }
+{
+    let _ = bench;
+    assert!(rt; player.hand.is_none());
+    assert!(rt; player.end.is_none());
+    let Some(package) = player.desk.back() else {
+        panic!(rt; "no package is set aside")
+    };
+    assert_eq!(rt; package.thread(), t);
+    player.hand = Some(package);
+}
+
+/// Looks at a thread.
+fn look_at<R: Abort>(rt: &R, bench: &Bench<'_, Queue>, player: &mut Player, t: u32, word: u64)
+    requires { IsPlaying bench.now player.old.desk player.old.hand player.old.end }
+    ensures { IsPlaying bench.now player.new.desk player.new.hand player.new.end }
+{
+    assert!(rt; player.end.is_none());
+    assert!(rt; t < bench.image.threads());
+    assert_eq!(rt; bench.hall.look(player.desk.pass(), t), word);
+}
+
+/// Whether a register of the package in hand has this value.
+fn reads(hand: &Option<Package>, register: u32, value: u32) -> bool {
+    match (hand, Reg::new(register)) {
+        (Some(package), Some(register)) => package.regs().get(register) == value,
+        _ => false,
+    }
+}
+
+/// Does one action with a desk. A block that it runs joins the history.
+fn act<R: Abort + Wait>(
+    rt: &R,
+    bench: &Bench<'_, Queue>,
+    player: &mut Player,
+    history: &mut Vec<Block>,
+    action: Action<'_>,
+) -> Result<(), AllocError>
+    requires { IsPlaying bench.now player.old.desk player.old.hand player.old.end }
+    ensures { OnOk result (IsPlaying bench.now player.new.desk player.new.hand player.new.end) }
+{
+    match action {
+        Action::Claim(t) => claim_thread(rt, bench, player, t, Origin::Ready),
+        Action::Run => {
+            let block = run_block(rt, bench, player);
+            history.push(block)?;
+        }
+        Action::Back(t) => take_back(rt, bench, player, t),
+        Action::Wake(turn, t) => wake(rt, bench, player, turn, t),
+        Action::Tells(threads) => assert_eq!(rt; player.desk.handed(), threads),
+        Action::Looks(t, word) => look_at(rt, bench, player, t, word),
+        Action::Parks(turn) => {
+            settle_as(rt, bench, player, action);
+            assert_eq!(rt; player.desk.sleepers().least(), Some(turn));
+        }
+        Action::Reads(register, value) => assert!(rt; reads(&player.hand, register, value)),
+        _ => settle_as(rt, bench, player, action),
+    }
+    Ok(())
+}
+
+/// A script: a guest, with how many desks and with which batch limit it is run, what is done with
+/// which desk, and the lines of its history as they were before blocks had a `pc`.
+struct Script<'a> {
+    code: &'a [u32],
+    entries: &'a [(u32, u32)],
+    guards: &'a [(u32, u32)],
+    desks: u32,
+    limit: u32,
+    steps: &'a [(usize, Action<'a>)],
+    history: &'a str,
+}
+
+/// The image of a guest, whose guards are zeros at the start.
+fn image_of<R: Abort>(rt: &R, alloc: Global, script: &Script<'_>) -> Result<Image, Fail> {
+    assert!(rt; 1 <= script.entries.len() && script.entries.len() <= MAX_THREADS as usize);
+    assert!(rt; script.guards.len() <= 3);
+    assert!(rt; script.code.len() <= 100);
+    let zeros = [0u8; 12];
+    let fill = &zeros[..4 * script.guards.len()];
+    let file = build(alloc, script.code, script.entries, fill, script.guards)?;
+    Ok(load(alloc, &file)?)
+}
+
+/// Gives each worker's desk to a player; the least number comes first.
+fn players(
+    alloc: Global,
+    bench: &Bench<'_, Queue>,
+    mut hired: Vec<Worker<Queue>>,
+) -> Result<Vec<Player>, AllocError>
+    requires { AreAtWork bench.now hired.items }
+    ensures { IfOk result (λ players. All (λ p. IsPlaying bench.now p.desk p.hand p.end)
+        players.items) }
+{
+    let _ = bench;
+    let mut players = Vec::with_capacity(alloc, hired.len())?;
+    while let Some(worker) = hired.pop() {
+        let Worker { desk, ready: _ } = worker;
+        players.push(Player {
+            desk,
+            hand: None,
+            end: None,
+        })?;
+    }
+    Ok(players)
+}
+
+/// Compares the history with the script's lines.
+fn check_history<R: Abort>(
+    rt: &R,
+    alloc: Global,
+    history: &[Block],
+    lines: &str,
+) -> Result<(), Fail> {
+    let told = read_v1(alloc, lines.as_bytes())?;
+    assert_eq!(rt; history.len(), told.len());
+    for (block, told) in history.iter().zip(told.iter()) {
+        assert_eq!(rt; block.without_pc(), *told);
+    }
+    Ok(())
+}
+
+/// Does the actions in their order.
+fn follow<R: Abort + Wait>(
+    rt: &R,
+    bench: &Bench<'_, Queue>,
+    players: &mut Vec<Player>,
+    history: &mut Vec<Block>,
+    steps: &[(usize, Action<'_>)],
+) -> Result<(), AllocError>
+    requires { All (λ p. IsPlaying bench.now p.desk p.hand p.end) players.old.items }
+{
+    for step in steps {
+        let (desk, action) = *step;
+        assert!(rt; desk < players.len());
+        act(rt, bench, &mut players[desk], history, action)?;
+    }
+    Ok(())
+}
+
+/// Seats a player at each worker's place, plays the script, and checks what came of it.
+fn perform<R: Abort + Wait>(
+    rt: &R,
+    alloc: Global,
+    bench: &Bench<'_, Queue>,
+    script: &Script<'_>,
+    hired: Vec<Worker<Queue>>,
+) -> Result<(), Fail>
+    requires { AreAtWork bench.now hired.items }
+{
+    let mut players = players(alloc, bench, hired)?;
+    let mut history = Vec::new(alloc);
+    follow(rt, bench, &mut players, &mut history, script.steps)?;
+    check_history(rt, alloc, &history, script.history)?;
+    Ok(())
+}
+
+/// Plays a script.
+fn play<R: Abort + Wait>(rt: &R, alloc: Global, script: &Script<'_>) -> Result<(), Fail> {
+    let image = image_of(rt, alloc, script)?;
+    assert!(rt; 1 <= script.desks && script.desks <= MAX_WORKERS);
+    assert!(rt; script.limit <= MAX_BATCH);
+    let (hall, passes) = Hall::new(alloc, &image, 100, script.desks, script.limit)?;
+    let Lines { queues, rows } = line_up(alloc, &image, script.desks)?;
+    let ready = Ready::crew(alloc, script.desks, image.threads(), 1)?;
+    let bench = Bench {
+        image: &image,
+        hall: &hall,
+        queues: queues.as_slice(),
+    };
+    let hired = hire(alloc, &bench, passes, rows, ready)?;
+    perform(rt, alloc, &bench, script, hired)
+}
+
+/// One section, in which 1 is added to the guard's word.
+const ONE: [u32; 12] = [
+    0x000202b7, 0x00000513, 0x00100893, 0x00000073, 0x0002a383, 0x00138393, 0x0072a023, 0x00000513,
+    0x00200893, 0x00000073, 0x05d00893, 0x00000073,
+];
+
+/// A section in which the thread sleeps for three blocks, and behind it the code of `ONE`.
+const DOZE_AND_ONE: [u32; 24] = [
+    0x000202b7, 0x00000513, 0x00100893, 0x00000073, 0x00300513, 0x00300893, 0x00000073, 0x00000513,
+    0x00200893, 0x00000073, 0x05d00893, 0x00000073, 0x000202b7, 0x00000513, 0x00100893, 0x00000073,
+    0x0002a383, 0x00138393, 0x0072a023, 0x00000513, 0x00200893, 0x00000073, 0x05d00893, 0x00000073,
+];
+
+const START: (u32, u32) = (0x00100000, 0);
+
+const ONE_GUARD: [(u32, u32); 1] = [(0x00020000, 4)];
+
+const TWO_GUARDS: [(u32, u32); 2] = [(0x00020000, 4), (0x00020004, 4)];
+
+const THREE_GUARDS: [(u32, u32); 3] = [(0x00020000, 4), (0x00020004, 4), (0x00020008, 4)];
+
+/// The holder of a lock runs the section of a waiter.
+const ADOPTION: Script<'static> = Script {
+    code: &ONE,
+    entries: &[START, START],
+    guards: &ONE_GUARD,
+    desks: 2,
+    limit: 4,
+    steps: &[
+        (0, Action::Claim(0)),
+        (0, Action::Run),
+        (0, Action::GoesOn(0)),
+        (0, Action::Run),
+        (1, Action::Claim(1)),
+        (1, Action::Run),
+        (1, Action::Ships),
+        (1, Action::Looks(1, 256)),
+        (0, Action::Adopts(1)),
+        (0, Action::Tells(&[])),
+        (0, Action::Run),
+        (0, Action::GoesOn(0)),
+        (0, Action::Tells(&[1])),
+        (0, Action::Run),
+        (0, Action::Reads(7, 1)),
+        (0, Action::Reads(11, 0)),
+        (0, Action::Ends),
+        (1, Action::Claim(1)),
+        (1, Action::Run),
+        (1, Action::Reads(7, 2)),
+        (1, Action::Reads(11, 1)),
+        (1, Action::Ends),
+    ],
+    history: "\
+block 0 thread 0 turns 3 held - kind start worker 0 end wants 0
+block 1 thread 0 turns 7 held 0 kind taken worker 0 end unlocked 0
+block 2 thread 1 turns 3 held - kind start worker 1 end wants 0
+block 3 thread 1 turns 7 held 0 kind adopted worker 0 end unlocked 0
+block 4 thread 0 turns 2 held - kind on worker 0 end exit
+block 5 thread 1 turns 2 held - kind on worker 1 end exit
+",
+};
+
+/// With batch limit 0 the waiter is granted the lock, and runs on the worker that claims it.
+const NO_BATCH: Script<'static> = Script {
+    code: &ONE,
+    entries: &[START, START],
+    guards: &ONE_GUARD,
+    desks: 2,
+    limit: 0,
+    steps: &[
+        (0, Action::Claim(0)),
+        (0, Action::Run),
+        (0, Action::GoesOn(0)),
+        (0, Action::Run),
+        (1, Action::Claim(1)),
+        (1, Action::Run),
+        (1, Action::Ships),
+        (0, Action::GoesOn(0)),
+        (0, Action::Tells(&[1])),
+        (0, Action::Looks(1, 0)),
+        (1, Action::Claim(1)),
+        (1, Action::Run),
+        (1, Action::GoesOn(1)),
+        (1, Action::Tells(&[])),
+        (0, Action::Run),
+        (0, Action::Ends),
+        (1, Action::Run),
+        (1, Action::Reads(7, 2)),
+        (1, Action::Ends),
+    ],
+    history: "\
+block 0 thread 0 turns 3 held - kind start worker 0 end wants 0
+block 1 thread 0 turns 7 held 0 kind taken worker 0 end unlocked 0
+block 2 thread 1 turns 3 held - kind start worker 1 end wants 0
+block 3 thread 1 turns 7 held 0 kind granted worker 1 end unlocked 0
+block 4 thread 0 turns 2 held - kind on worker 0 end exit
+block 5 thread 1 turns 2 held - kind on worker 1 end exit
+",
+};
+
+/// With batch limit 1 every second section of a busy lock is adopted.
+const SHORT_BATCH: Script<'static> = Script {
+    code: &ONE,
+    entries: &[START, START, START, START],
+    guards: &ONE_GUARD,
+    desks: 2,
+    limit: 1,
+    steps: &[
+        (0, Action::Claim(0)),
+        (0, Action::Run),
+        (0, Action::GoesOn(0)),
+        (0, Action::Run),
+        (1, Action::Claim(1)),
+        (1, Action::Run),
+        (1, Action::Ships),
+        (1, Action::Claim(2)),
+        (1, Action::Run),
+        (1, Action::Ships),
+        (1, Action::Claim(3)),
+        (1, Action::Run),
+        (1, Action::Ships),
+        (0, Action::Adopts(1)),
+        (0, Action::Run),
+        (0, Action::GoesOn(0)),
+        (0, Action::Tells(&[2, 1])),
+        (0, Action::Run),
+        (0, Action::Ends),
+        (1, Action::Claim(2)),
+        (1, Action::Run),
+        (1, Action::Adopts(3)),
+        (1, Action::Run),
+        (1, Action::GoesOn(2)),
+        (1, Action::Tells(&[3])),
+        (1, Action::Run),
+        (1, Action::Ends),
+        (0, Action::Claim(1)),
+        (0, Action::Run),
+        (0, Action::Ends),
+        (1, Action::Claim(3)),
+        (1, Action::Run),
+        (1, Action::Reads(7, 4)),
+        (1, Action::Ends),
+    ],
+    history: "\
+block 0 thread 0 turns 3 held - kind start worker 0 end wants 0
+block 1 thread 0 turns 7 held 0 kind taken worker 0 end unlocked 0
+block 2 thread 1 turns 3 held - kind start worker 1 end wants 0
+block 3 thread 2 turns 3 held - kind start worker 1 end wants 0
+block 4 thread 3 turns 3 held - kind start worker 1 end wants 0
+block 5 thread 1 turns 7 held 0 kind adopted worker 0 end unlocked 0
+block 6 thread 0 turns 2 held - kind on worker 0 end exit
+block 7 thread 2 turns 7 held 0 kind granted worker 1 end unlocked 0
+block 8 thread 3 turns 7 held 0 kind adopted worker 1 end unlocked 0
+block 9 thread 2 turns 2 held - kind on worker 1 end exit
+block 10 thread 1 turns 2 held - kind on worker 0 end exit
+block 11 thread 3 turns 2 held - kind on worker 1 end exit
+",
+};
+
+/// A waiter is adopted, and shipped on from within its section with the lock that it holds.
+const NESTED: Script<'static> = Script {
+    code: &[
+        // Thread 0: lock 1.
+        0x00100513, 0x00100893, 0x00000073, 0x00100513, 0x00200893, 0x00000073, 0x05d00893,
+        0x00000073, // Thread 1: lock 0.
+        0x00000513, 0x00100893, 0x00000073, 0x00000513, 0x00200893, 0x00000073, 0x05d00893,
+        0x00000073, // Thread 2: lock 0, and in it lock 1.
+        0x00000513, 0x00100893, 0x00000073, 0x00100513, 0x00100893, 0x00000073, 0x00100513,
+        0x00200893, 0x00000073, 0x00000513, 0x00200893, 0x00000073, 0x05d00893, 0x00000073,
+    ],
+    entries: &[START, (0x00100020, 0), (0x00100040, 0)],
+    guards: &TWO_GUARDS,
+    desks: 3,
+    limit: 4,
+    steps: &[
+        (0, Action::Claim(0)),
+        (0, Action::Run),
+        (0, Action::GoesOn(0)),
+        (0, Action::Run),
+        (1, Action::Claim(1)),
+        (1, Action::Run),
+        (1, Action::GoesOn(1)),
+        (1, Action::Run),
+        (2, Action::Claim(2)),
+        (2, Action::Run),
+        (2, Action::Ships),
+        (1, Action::Adopts(2)),
+        (1, Action::Run),
+        (1, Action::Ships),
+        (1, Action::Looks(2, 257)),
+        (1, Action::Back(1)),
+        (0, Action::Adopts(2)),
+        (0, Action::Run),
+        (0, Action::GoesOn(2)),
+        (0, Action::Run),
+        (0, Action::GoesOn(0)),
+        (0, Action::Tells(&[2])),
+        (0, Action::Run),
+        (0, Action::Ends),
+        (1, Action::Run),
+        (1, Action::Ends),
+        (2, Action::Claim(2)),
+        (2, Action::Run),
+        (2, Action::Ends),
+    ],
+    history: "\
+block 0 thread 0 turns 2 held - kind start worker 0 end wants 1
+block 1 thread 0 turns 4 held 1 kind taken worker 0 end unlocked 1
+block 2 thread 1 turns 2 held - kind start worker 1 end wants 0
+block 3 thread 1 turns 4 held 0 kind taken worker 1 end unlocked 0
+block 4 thread 2 turns 2 held - kind start worker 2 end wants 0
+block 5 thread 2 turns 3 held 0 kind adopted worker 1 end wants 1
+block 6 thread 2 turns 4 held 0,1 kind adopted worker 0 end unlocked 1
+block 7 thread 2 turns 3 held 0 kind on worker 0 end unlocked 0
+block 8 thread 0 turns 2 held - kind on worker 0 end exit
+block 9 thread 1 turns 2 held - kind on worker 1 end exit
+block 10 thread 2 turns 2 held - kind on worker 2 end exit
+",
+};
+
+/// A thread sleeps inside its section, and keeps the lock while others wait for it.
+const SLEEP: Script<'static> = Script {
+    code: &DOZE_AND_ONE,
+    entries: &[START, (0x00100030, 0)],
+    guards: &ONE_GUARD,
+    desks: 2,
+    limit: 4,
+    steps: &[
+        (0, Action::Claim(0)),
+        (0, Action::Run),
+        (0, Action::GoesOn(0)),
+        (0, Action::Run),
+        (0, Action::Parks(5)),
+        (0, Action::Looks(0, 1)),
+        (1, Action::Claim(1)),
+        (1, Action::Run),
+        (1, Action::Ships),
+        (0, Action::Wake(5, 0)),
+        (0, Action::Run),
+        (0, Action::Adopts(1)),
+        (0, Action::Run),
+        (0, Action::GoesOn(0)),
+        (0, Action::Run),
+        (0, Action::Ends),
+        (1, Action::Claim(1)),
+        (1, Action::Run),
+        (1, Action::Reads(7, 1)),
+        (1, Action::Ends),
+    ],
+    history: "\
+block 0 thread 0 turns 3 held - kind start worker 0 end wants 0
+block 1 thread 0 turns 4 held 0 kind taken worker 0 end slept
+block 2 thread 1 turns 3 held - kind start worker 1 end wants 0
+block 3 thread 0 turns 3 held 0 kind on worker 0 end unlocked 0
+block 4 thread 1 turns 7 held 0 kind adopted worker 0 end unlocked 0
+block 5 thread 0 turns 2 held - kind on worker 0 end exit
+block 6 thread 1 turns 2 held - kind on worker 1 end exit
+",
+};
+
+/// A thread ends inside two sections: the waiter of the one lock is granted it, the other goes home,
+/// and both are broken.
+const END: Script<'static> = Script {
+    code: &[
+        // Thread 0: locks 0 and 1, and then no instruction.
+        0x00000513, 0x00100893, 0x00000073, 0x00100513, 0x00100893, 0x00000073, 0x00000000,
+        // Thread 1: lock 0, whose answer goes to x8.
+        0x00000513, 0x00100893, 0x00000073, 0x00050413, 0x00000513, 0x00200893, 0x00000073,
+        0x05d00893, 0x00000073,
+    ],
+    entries: &[START, (0x0010001c, 0)],
+    guards: &TWO_GUARDS,
+    desks: 2,
+    limit: 4,
+    steps: &[
+        (0, Action::Claim(0)),
+        (0, Action::Run),
+        (0, Action::GoesOn(0)),
+        (0, Action::Run),
+        (0, Action::GoesOn(0)),
+        (0, Action::Run),
+        (1, Action::Claim(1)),
+        (1, Action::Run),
+        (1, Action::Ships),
+        (0, Action::Ends),
+        (0, Action::Tells(&[1])),
+        (0, Action::Looks(0, 2)),
+        (0, Action::Looks(1, 0)),
+        (1, Action::Claim(1)),
+        (1, Action::Run),
+        (1, Action::Reads(8, 1)),
+        (1, Action::GoesOn(1)),
+        (1, Action::Run),
+        (1, Action::Ends),
+    ],
+    history: "\
+block 0 thread 0 turns 2 held - kind start worker 0 end wants 0
+block 1 thread 0 turns 3 held 0 kind taken worker 0 end wants 1
+block 2 thread 0 turns 2 held 0,1 kind taken worker 0 end fault 1
+block 3 thread 1 turns 2 held - kind start worker 1 end wants 0
+block 4 thread 1 turns 5 held 0 kind granted worker 1 end unlocked 0
+block 5 thread 1 turns 2 held - kind on worker 1 end exit
+",
+};
+
+/// Three locks in one another, and a shipment at each.
+const THREE_DEEP: Script<'static> = Script {
+    code: &[
+        // Thread 0: lock 2.
+        0x00200513, 0x00100893, 0x00000073, 0x00200513, 0x00200893, 0x00000073, 0x05d00893,
+        0x00000073, // Thread 1: lock 1.
+        0x00100513, 0x00100893, 0x00000073, 0x00100513, 0x00200893, 0x00000073, 0x05d00893,
+        0x00000073, // Thread 2: lock 0.
+        0x00000513, 0x00100893, 0x00000073, 0x00000513, 0x00200893, 0x00000073, 0x05d00893,
+        0x00000073, // Thread 3: locks 0, 1 and 2.
+        0x00000513, 0x00100893, 0x00000073, 0x00100513, 0x00100893, 0x00000073, 0x00200513,
+        0x00100893, 0x00000073, 0x00200513, 0x00200893, 0x00000073, 0x00100513, 0x00200893,
+        0x00000073, 0x00000513, 0x00200893, 0x00000073, 0x05d00893, 0x00000073,
+    ],
+    entries: &[START, (0x00100020, 0), (0x00100040, 0), (0x00100060, 0)],
+    guards: &THREE_GUARDS,
+    desks: 4,
+    limit: 4,
+    steps: &[
+        (0, Action::Claim(0)),
+        (0, Action::Run),
+        (0, Action::GoesOn(0)),
+        (0, Action::Run),
+        (1, Action::Claim(1)),
+        (1, Action::Run),
+        (1, Action::GoesOn(1)),
+        (1, Action::Run),
+        (2, Action::Claim(2)),
+        (2, Action::Run),
+        (2, Action::GoesOn(2)),
+        (2, Action::Run),
+        (3, Action::Claim(3)),
+        (3, Action::Run),
+        (3, Action::Ships),
+        (2, Action::Adopts(3)),
+        (2, Action::Run),
+        (2, Action::Ships),
+        (2, Action::Back(2)),
+        (1, Action::Adopts(3)),
+        (1, Action::Run),
+        (1, Action::Ships),
+        (1, Action::Back(1)),
+        (0, Action::Adopts(3)),
+        (0, Action::Run),
+        (0, Action::GoesOn(3)),
+        (0, Action::Run),
+        (0, Action::GoesOn(3)),
+        (0, Action::Tells(&[])),
+        (0, Action::Run),
+        (0, Action::GoesOn(0)),
+        (0, Action::Tells(&[3])),
+        (0, Action::Run),
+        (0, Action::Ends),
+        (1, Action::Run),
+        (1, Action::Ends),
+        (2, Action::Run),
+        (2, Action::Ends),
+        (3, Action::Claim(3)),
+        (3, Action::Run),
+        (3, Action::Ends),
+    ],
+    history: "\
+block 0 thread 0 turns 2 held - kind start worker 0 end wants 2
+block 1 thread 0 turns 4 held 2 kind taken worker 0 end unlocked 2
+block 2 thread 1 turns 2 held - kind start worker 1 end wants 1
+block 3 thread 1 turns 4 held 1 kind taken worker 1 end unlocked 1
+block 4 thread 2 turns 2 held - kind start worker 2 end wants 0
+block 5 thread 2 turns 4 held 0 kind taken worker 2 end unlocked 0
+block 6 thread 3 turns 2 held - kind start worker 3 end wants 0
+block 7 thread 3 turns 3 held 0 kind adopted worker 2 end wants 1
+block 8 thread 3 turns 3 held 0,1 kind adopted worker 1 end wants 2
+block 9 thread 3 turns 4 held 0,1,2 kind adopted worker 0 end unlocked 2
+block 10 thread 3 turns 3 held 0,1 kind on worker 0 end unlocked 1
+block 11 thread 3 turns 3 held 0 kind on worker 0 end unlocked 0
+block 12 thread 0 turns 2 held - kind on worker 0 end exit
+block 13 thread 1 turns 2 held - kind on worker 1 end exit
+block 14 thread 2 turns 2 held - kind on worker 2 end exit
+block 15 thread 3 turns 2 held - kind on worker 3 end exit
+",
+};
+
+/// A batch ends because the adopted thread still holds another lock: the next waiter is granted the
+/// lock.
+const KEPT_LOCK: Script<'static> = Script {
+    code: &[
+        // Thread 0: lock 1.
+        0x00100513, 0x00100893, 0x00000073, 0x00100513, 0x00200893, 0x00000073, 0x05d00893,
+        0x00000073, // Thread 1: lock 0, and in it lock 1.
+        0x00000513, 0x00100893, 0x00000073, 0x00100513, 0x00100893, 0x00000073, 0x00100513,
+        0x00200893, 0x00000073, 0x00000513, 0x00200893, 0x00000073, 0x05d00893, 0x00000073,
+    ],
+    entries: &[START, (0x00100020, 0), START],
+    guards: &TWO_GUARDS,
+    desks: 2,
+    limit: 4,
+    steps: &[
+        (0, Action::Claim(0)),
+        (0, Action::Run),
+        (0, Action::GoesOn(0)),
+        (0, Action::Run),
+        (1, Action::Claim(1)),
+        (1, Action::Run),
+        (1, Action::GoesOn(1)),
+        (1, Action::Run),
+        (1, Action::Ships),
+        (1, Action::Claim(2)),
+        (1, Action::Run),
+        (1, Action::Ships),
+        (0, Action::Adopts(1)),
+        (0, Action::Run),
+        (0, Action::GoesOn(1)),
+        (0, Action::Tells(&[2])),
+        (0, Action::Looks(2, 0)),
+        (0, Action::Run),
+        (0, Action::GoesOn(0)),
+        (0, Action::Tells(&[1])),
+        (0, Action::Run),
+        (0, Action::Ends),
+        (1, Action::Claim(2)),
+        (1, Action::Run),
+        (1, Action::GoesOn(2)),
+        (1, Action::Run),
+        (1, Action::Ends),
+        (1, Action::Claim(1)),
+        (1, Action::Run),
+        (1, Action::Ends),
+    ],
+    history: "\
+block 0 thread 0 turns 2 held - kind start worker 0 end wants 1
+block 1 thread 0 turns 4 held 1 kind taken worker 0 end unlocked 1
+block 2 thread 1 turns 2 held - kind start worker 1 end wants 0
+block 3 thread 1 turns 3 held 0 kind taken worker 1 end wants 1
+block 4 thread 2 turns 2 held - kind start worker 1 end wants 1
+block 5 thread 1 turns 4 held 0,1 kind adopted worker 0 end unlocked 1
+block 6 thread 1 turns 3 held 0 kind on worker 0 end unlocked 0
+block 7 thread 0 turns 2 held - kind on worker 0 end exit
+block 8 thread 2 turns 4 held 1 kind granted worker 1 end unlocked 1
+block 9 thread 2 turns 2 held - kind on worker 1 end exit
+block 10 thread 1 turns 2 held - kind on worker 1 end exit
+",
+};
+
+#[test]
+fn desks_follow_their_scripts(rt: HostRuntime) -> Result<(), Fail> {
+    let scripts = [
+        &ADOPTION,
+        &NO_BATCH,
+        &SHORT_BATCH,
+        &NESTED,
+        &SLEEP,
+        &END,
+        &THREE_DEEP,
+        &KEPT_LOCK,
+    ];
+    for script in scripts {
+        play(&rt, rt.alloc(), script)?;
+    }
+    Ok(())
+}
