@@ -1,6 +1,6 @@
 pub mod Numbered
 pub mod Ranges
-pub mod RunnerSteps
-pub mod Recording
+pub mod Merging
+pub mod Outcomes
+pub mod Reporting
 pub mod Statuses
-pub mod Files

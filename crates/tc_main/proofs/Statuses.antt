@@ -7,7 +7,7 @@ use Rattle.tc_io.specs.Stream.{Stream}
 use Rattle.tc_elf.specs.Loading.{refusal}
 use Rattle.tc_elf.specs.Refused.{refusal_number}
 use Rattle.tc_elf.specs.declared.limits.TheConstants.{MAX_FILE}
-use Rattle.tc_main.specs.declared.options.Options.{Options}
+use Rattle.tc_workers.specs.declared.options.Options.{Options}
 use Rattle.tc_main.specs.Words.{Asks, AsksNothing}
 use Rattle.tc_main.specs.Top.{Ends, IsRefused, IsReport, MustRefuse, ReadsAll, RefusesBytes}
 use Rattle.tc_main.specs.declared.status.Status.{Status}

@@ -1,16 +1,15 @@
 -- What a report tells of a run: the results of a legal run to the end of every thread.
-use Rattle.std.specs.Prelude.{◌≡◌, ℕ, ◌<◌, length, map, All}
+use Rattle.std.specs.Prelude.{◌≡◌, ℕ, ◌<◌, List, length, map, All}
 use Rattle.std.specs.List.{range_with_len}
 use Rattle.tc_elf.specs.Shown.{Shown, guard_at}
 use Rattle.tc_journal.specs.Batch.{Obeys, PassesOn}
 use Rattle.tc_journal.specs.History.{IsHistory, of_lock}
 use Rattle.tc_journal.specs.declared.block.Block.{Block}
 use Rattle.tc_mutex_spec.specs.Machine.{State}
-use Rattle.tc_mutex_spec.specs.Blocks.{Tells, IsComplete}
+use Rattle.tc_mutex_spec.specs.Blocks.{Tells, IsComplete, end_after}
 use Rattle.tc_mutex_spec.specs.Entries.{HasJournal}
-use Rattle.tc_main.specs.Results.{Results, Guarded}
-use Rattle.tc_main.specs.declared.results.Finished.{Finished}
-use Rattle.tc_main.specs.declared.options.Options.{Options}
+use Rattle.tc_workers.specs.declared.options.Options.{Options}
+use Rattle.tc_main.specs.Results.{Results, Finished, Guarded}
 
 -- a thread of the machine, as the report prints it
 abbrev pub finished_in : State → ℕ → Finished
@@ -25,10 +24,18 @@ guarded_in image m lock = record {
   sections = (m.locks lock).sections;
 }
 
+-- what the machine's run with this history came to
+abbrev pub results_after : Shown → Options → List Block → Results
+results_after image o h = record {
+  history = h;
+  threads = map (finished_in (end_after image o.fuel h)) (range_with_len 0 (length image.entries));
+  locks = map (guarded_in image (end_after image o.fuel h)) (range_with_len 0 (length image.guards));
+}
+
 -- The history tells a run of the guest's threads under ordinary mutexes, with this fuel for each, to the end of every
 -- thread; each block is of a worker that there is; and the threads and the locks are as that run leaves them. The blocks of
 -- each lock obey the batch limit, each section of it that was passed on is of another thread than the one before it, and the
--- lock is the RV32I replay of its journal, whose entries are those of the run.
+-- lock is the RV32IM replay of its journal, whose entries are those of the run.
 pub record IsLegalRun (image : Shown) (o : Options) (results : Results) : Type 0 where
   pub last : State
   pub history : IsHistory results.history

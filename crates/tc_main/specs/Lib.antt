@@ -1,9 +1,8 @@
 pub mod Statuses
 pub mod Words
-pub mod Hex
 pub mod Results
 pub mod Report
+pub mod Summary
 pub mod Legal
-pub mod Runner
+pub mod Outcome
 pub mod Top
-pub mod Build

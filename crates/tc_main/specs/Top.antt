@@ -13,7 +13,7 @@ use Rattle.tc_main.specs.Legal.{IsLegalRun}
 use Rattle.tc_main.specs.Report.{report_text}
 use Rattle.tc_main.specs.Results.{Results}
 use Rattle.tc_main.specs.Words.{Asks, AsksNothing, AsksRun}
-use Rattle.tc_main.specs.declared.options.Options.{Options}
+use Rattle.tc_workers.specs.declared.options.Options.{Options}
 use Rattle.tc_main.specs.declared.status.Status.{Status}
 use Rattle.tc_main.specs.declared.status.Status.TheVariants.{Done, Usage, ReadFault, Refused, WriteFault, OutOfMemory}
 
@@ -49,17 +49,21 @@ IsRefused before now k name =
     (ReadsTooMany before now × (k ≡ 0) × (name ≡ codes "TooLarge"))
     ⊎ ((bytes : List ℕ) × ReadsAll before now bytes × IsRefusedFile bytes k name)
 
+-- the text is the report of a legal run of this image with these options
+pub record IsReportOf (image : Shown) (o : Options) (text : List ℕ) : Type 0 where
+  pub results : Results
+  pub legal : IsLegalRun image o results
+  pub printed : text ≡ report_text image o results
+
 -- the text is the report of a legal run of the guest that the source had, with the options that the words give
 pub record IsReport (words : List (List ℕ)) (before now : Stream) (text : List ℕ) : Type 0 where
   pub options : Options
   pub bytes : List ℕ
   pub image : Shown
-  pub results : Results
   pub asked : Asks words options
   pub read : ReadsAll before now bytes
   pub loaded : subset bytes image
-  pub legal : IsLegalRun image options results
-  pub printed : text ≡ report_text image options results
+  pub report : IsReportOf image options text
 
 -- ---- what is to be refused
 
@@ -92,8 +96,7 @@ WritesNothing had has = Gives had has []
 
 -- what the bytes of a file come to, with the text that goes with it
 abbrev pub FileAnswers : List ℕ → Options → Status → List ℕ → Type 0
-FileAnswers bytes o Done text =
-    (image : Shown) × (results : Results) × subset bytes image × IsLegalRun image o results × (text ≡ report_text image o results)
+FileAnswers bytes o Done text = (image : Shown) × subset bytes image × IsReportOf image o text
 FileAnswers bytes o (Refused k) text = (name : List ℕ) × IsRefusedFile bytes k name × (text ≡ refused_line k name)
 FileAnswers bytes o Usage text = ⊥
 FileAnswers bytes o ReadFault text = ⊥

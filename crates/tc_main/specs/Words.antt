@@ -1,6 +1,6 @@
 -- The words of the command line: `run W F B`, each number in decimal digits without a leading zero.
 use Rattle.std.specs.Prelude.{◌≡◌, ℕ, List, [], ◌∷◌, codes, decimal}
-use Rattle.tc_main.specs.declared.options.Options.{Options}
+use Rattle.tc_workers.specs.declared.options.Options.{Options}
 
 -- the words ask for a run with these options
 pub record Asks (words : List (List ℕ)) (o : Options) : Type 0 where

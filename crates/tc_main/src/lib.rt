@@ -6,18 +6,18 @@
 //! status why it comes and what was written. Which runs are legal is one word of the contract,
 //! `IsLegalRun`; the text of a report does not depend on it.
 //!
-//! - `words`: what the words of the command line ask for. `options`: with what a guest is run.
-//! - `runner`: the run of a guest's threads in their packages, one after another.
-//! - `results`: what a run came to. `report`, `hex`: its text.
-//! - `build`: files of guests. `status`: how the program ends. `top`: the top call.
+//! - `words`: what the words of the command line ask for. `run`: a run by workers, from the image
+//!   to the report. `report`: the text of a report.
+//! - `build`: files of guests, of tc_build. `options`, `gate`: with what a guest is run, and whom its
+//!   workers tell how far they are, of tc_workers.
+//! - `status`: how the program ends. `top`: the top call.
 #![tactic(auto)]
 
-pub mod build;
-mod hex;
-pub mod options;
-mod report;
-mod results;
-mod runner;
+pub mod report;
+mod run;
 pub mod status;
 pub mod top;
 pub mod words;
+
+pub use tc_build::build;
+pub use tc_workers::{gate, options};

@@ -1,21 +1,24 @@
 //! The text of a report.
 
 ghost use Rattle.std.specs.Prelude.{◌≡◌, ◌+◌, ◌*◌, ◌<◌, ◌≤◌, ◌++◌, IfOk, OnOk, length, string_bytes};
+ghost use Rattle.tc_journal.specs.Digits.{hex2, hex8};
 ghost use Rattle.tc_journal.specs.Line.{history_text};
-ghost use Rattle.tc_main.specs.Hex.{hex2, hex8};
+ghost use Rattle.tc_main.specs.Legal.{results_after};
+ghost use Rattle.tc_main.specs.Outcome.{IsOutcome};
 ghost use Rattle.tc_main.specs.Report as text;
 
-use crate::hex::{Hex2, Hex8};
-use crate::options::Options;
-use crate::results::{Finished, Guarded, Results};
 use std::alloc::{AllocError, Global};
 use std::fmt::Write;
+use tc_context::package::Package;
 use tc_elf::image::Image;
 use tc_isa::reg::Reg;
 use tc_isa::regs::Regs;
 use tc_journal::block::Block;
+use tc_journal::digits::{Hex2, Hex8};
 use tc_journal::line::push_block;
+use tc_segment::state::LockState;
 use tc_turn::status::Status;
+use tc_workers::options::Options;
 
 /// Writes how many threads and guards the guest has.
 #[tactic(auto, unfolding(crate::specs::Report::guest_line))]
@@ -92,12 +95,13 @@ fn push_status(out: &mut String, status: Status) -> Result<(), AllocError>
 
 /// Writes the line of a thread.
 #[tactic(auto, unfolding(crate::specs::Report::thread_line))]
-fn push_thread_line(out: &mut String, number: usize, thread: &Finished) -> Result<(), AllocError>
+fn push_thread_line(out: &mut String, number: usize, thread: &Package) -> Result<(), AllocError>
     ensures { OnOk result (string_bytes out.new
-        ≡ string_bytes out.old ++ text.thread_line number thread.now) }
+        ≡ string_bytes out.old ++ text.thread_line number (text.finished_of thread.now)) }
 {
-    let Finished { status, fuel, regs } = *thread;
-    let pc = Hex8(regs.pc());
+    let status = thread.status();
+    let fuel = thread.fuel();
+    let pc = Hex8(thread.regs().pc());
     write!(out, "thread {number} ")?;
     push_status(out, status)?;
     writeln!(out, " fuel {fuel} pc {pc}")
@@ -105,33 +109,34 @@ fn push_thread_line(out: &mut String, number: usize, thread: &Finished) -> Resul
 
 /// Writes how a thread ended and its registers.
 #[tactic(auto, unfolding(crate::specs::Report::thread_text))]
-fn push_thread(out: &mut String, number: usize, thread: &Finished) -> Result<(), AllocError>
+fn push_thread(out: &mut String, number: usize, thread: &Package) -> Result<(), AllocError>
     ensures { OnOk result (string_bytes out.new
-        ≡ string_bytes out.old ++ text.thread_text (number, thread.now)) }
+        ≡ string_bytes out.old ++ text.package_text (number, thread.now)) }
 {
     push_thread_line(out, number, thread)?;
-    push_registers(out, &thread.regs, 0)?;
-    push_registers(out, &thread.regs, 8)?;
-    push_registers(out, &thread.regs, 16)?;
-    push_registers(out, &thread.regs, 24)
+    let regs = thread.regs();
+    push_registers(out, &regs, 0)?;
+    push_registers(out, &regs, 8)?;
+    push_registers(out, &regs, 16)?;
+    push_registers(out, &regs, 24)
 }
 
-/// Writes how the threads ended and their registers.
-fn push_threads(out: &mut String, threads: &[Finished]) -> Result<(), AllocError>
+/// Writes how the threads of the packages ended and their registers.
+fn push_threads(out: &mut String, packages: &[Package]) -> Result<(), AllocError>
     ensures { OnOk result (string_bytes out.new
-        ≡ string_bytes out.old ++ text.threads_text threads.now) }
+        ≡ string_bytes out.old ++ text.packages_text packages.now) }
 {
-    for number in 0..threads.len() {
-        push_thread(out, number, &threads[number])?;
+    for number in 0..packages.len() {
+        push_thread(out, number, &packages[number])?;
     }
     Ok(())
 }
 
 /// Writes the line of a lock.
 #[tactic(auto, unfolding(crate::specs::Report::lock_line))]
-fn push_lock_line(out: &mut String, number: usize, lock: &Guarded) -> Result<(), AllocError>
-    ensures { OnOk result (string_bytes out.new
-        ≡ string_bytes out.old ++ text.lock_line number lock.now) }
+fn push_lock_line(out: &mut String, number: u32, lock: &LockState) -> Result<(), AllocError>
+    ensures { OnOk result (string_bytes out.new ≡ string_bytes out.old
+        ++ text.lock_line number lock.now.sections lock.now.broken (length lock.now.bytes)) }
 {
     let sections = lock.sections();
     let broken = if lock.broken() { "1" } else { "0" };
@@ -170,40 +175,41 @@ fn address_at(start: u32, from: usize) -> u32
     (address % (1 << 32)) as u32
 }
 
-/// Writes the data line of this number of a lock's bytes.
+/// Writes the data line of this number, of bytes from an address on.
 #[tactic(auto, unfolding(crate::specs::Report::data_line_at))]
-fn push_data_at(out: &mut String, lock: &Guarded, i: usize) -> Result<(), AllocError>
-    requires { 32 * i < length lock.now.bytes }
+fn push_data_at(out: &mut String, start: u32, bytes: &[u8], i: usize) -> Result<(), AllocError>
+    requires { 32 * i < length bytes.now }
     ensures { OnOk result (string_bytes out.new
-        ≡ string_bytes out.old ++ text.data_line_at lock.now i) }
+        ≡ string_bytes out.old ++ text.data_line_at start bytes.now i) }
 {
-    let bytes = lock.bytes();
     let from = 32 * i;
     let to = bytes.len().min(from + 32);
-    push_data(out, address_at(lock.start(), from), &bytes[from..to])
+    push_data(out, address_at(start, from), &bytes[from..to])
 }
 
-/// Writes the line of a lock and its data lines.
+/// Writes the line of a lock, whose guard begins at an address, and its data lines.
 #[tactic(auto, unfolding(crate::specs::Report::lock_text))]
-fn push_lock(out: &mut String, number: usize, lock: &Guarded) -> Result<(), AllocError>
+fn push_lock(out: &mut String, number: u32, start: u32, lock: &LockState) -> Result<(), AllocError>
     ensures { OnOk result (string_bytes out.new
-        ≡ string_bytes out.old ++ text.lock_text (number, lock.now)) }
+        ≡ string_bytes out.old ++ text.lock_text (number, text.guarded_of start lock.now)) }
 {
     push_lock_line(out, number, lock)?;
-    let lines = lock.bytes().len().div_ceil(32);
-    for i in 0..lines {
-        push_data_at(out, lock, i)?;
+    let bytes = lock.bytes();
+    for i in 0..bytes.len().div_ceil(32) {
+        push_data_at(out, start, bytes, i)?;
     }
     Ok(())
 }
 
-/// Writes the lines of the locks.
-fn push_locks(out: &mut String, locks: &[Guarded]) -> Result<(), AllocError>
+/// Writes the lines of the locks of an image.
+fn push_locks(out: &mut String, image: &Image, locks: &[LockState]) -> Result<(), AllocError>
+    requires { length locks.now ≡ length image.now.guards }
     ensures { OnOk result (string_bytes out.new
-        ≡ string_bytes out.old ++ text.locks_text locks.now) }
+        ≡ string_bytes out.old ++ text.states_text image.now locks.now) }
 {
-    for number in 0..locks.len() {
-        push_lock(out, number, &locks[number])?;
+    for number in 0..image.guards() {
+        let (start, _) = image.guard(number);
+        push_lock(out, number, start, &locks[number as usize])?;
     }
     Ok(())
 }
@@ -212,8 +218,8 @@ fn push_locks(out: &mut String, locks: &[Guarded]) -> Result<(), AllocError>
 const HEAD_ROOM: usize = 96;
 
 /// The room for the line of a block. No line of a run is longer: a stamp has at most 7 digits, a
-/// thread 2, the turns 4, a worker 1, and four locks with their commas 11 bytes.
-const BLOCK_ROOM: usize = 90;
+/// thread 2, the turns 4, a worker 1, a pc 8, and four locks with their commas 11 bytes.
+const BLOCK_ROOM: usize = 102;
 
 /// The room for the five lines of a thread.
 const THREAD_ROOM: usize = 352;
@@ -225,7 +231,7 @@ const LOCK_ROOM: usize = 80;
 const DATA_ROOM: usize = 80;
 
 /// The room for the lines of the locks, in bytes.
-fn locks_room(locks: &[Guarded]) -> usize {
+fn locks_room(locks: &[LockState]) -> usize {
     let mut room: usize = 0;
     for lock in locks {
         let data = lock.bytes().len().div_ceil(32).saturating_mul(DATA_ROOM);
@@ -235,34 +241,40 @@ fn locks_room(locks: &[Guarded]) -> usize {
 }
 
 /// The room for a report, in bytes. No report of a run is longer; a longer one would grow.
-fn room_for(results: &Results) -> usize {
-    let blocks = results.history().len().saturating_mul(BLOCK_ROOM);
-    let threads = results.threads().len().saturating_mul(THREAD_ROOM);
+fn room_for(history: &[Block], packages: &[Package], locks: &[LockState]) -> usize {
+    let blocks = history.len().saturating_mul(BLOCK_ROOM);
+    let threads = packages.len().saturating_mul(THREAD_ROOM);
     HEAD_ROOM
         .saturating_add(blocks)
         .saturating_add(threads)
-        .saturating_add(locks_room(results.locks()))
+        .saturating_add(locks_room(locks))
 }
 
-/// The report of a run. The memory for the whole text is taken at once, before any of it is
-/// written, so that no second copy is made as it grows.
-#[tactic(auto, unfolding(crate::specs::Report::report_text))]
+/// The report of a run to the end of every thread: its text, line by line, over the blocks of the
+/// history and the state in which the history ends. The packages and lock states are those that the
+/// run left, of all threads and locks in order of number.
+///
+/// The memory for the whole text is taken at once, before any of it is written, so that no second
+/// copy is made as it grows.
 pub fn report(
     alloc: Global,
     image: &Image,
     options: Options,
-    results: &Results,
-) -> Result<String, AllocError>
-    ensures { IfOk result (λ out.
-        string_bytes out ≡ text.report_text image.now options results.now) }
+    history: &[Block],
+    packages: &[Package],
+    locks: &[LockState],
+) -> Result<Vec<u8>, AllocError>
+    requires { IsOutcome image.now options history.now packages.now locks.now }
+    ensures { IfOk result (λ out. out.items
+        ≡ text.report_text image.now options (results_after image.now options history.now)) }
 {
-    let mut out = String::with_capacity(alloc, room_for(results))?;
-    out.push_str("tclocks 1\n")?;
+    let mut out = String::with_capacity(alloc, room_for(history, packages, locks))?;
+    out.push_str("tclocks 2\n")?;
     push_guest(&mut out, image.threads(), image.guards())?;
     push_run(&mut out, options)?;
-    push_history(&mut out, results.history())?;
-    push_threads(&mut out, results.threads())?;
-    push_locks(&mut out, results.locks())?;
+    push_history(&mut out, history)?;
+    push_threads(&mut out, packages)?;
+    push_locks(&mut out, image, locks)?;
     out.push_str("end\n")?;
-    Ok(out)
+    Ok(out.into_bytes())
 }

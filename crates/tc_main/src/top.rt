@@ -1,6 +1,6 @@
 //! The top call.
 
-ghost use Rattle.std.specs.Prelude.{◌≡◌, ◌≤◌, ℕ, List, Some, None, IfOk, length, string_bytes, ◌⊎◌};
+ghost use Rattle.std.specs.Prelude.{◌≡◌, ◌≤◌, ℕ, List, Some, None, IfOk, length, ◌⊎◌};
 ghost use Rattle.tc_elf.specs.Loading.{refusal};
 ghost use Rattle.tc_elf.specs.declared.limits.TheConstants.{MAX_FILE};
 ghost use Rattle.tc_io.specs.Causes.{Rose};
@@ -9,12 +9,10 @@ ghost use Rattle.tc_io.specs.Taken.{FailsAmid, Gives};
 ghost use Rattle.tc_main.specs.Words.{Asks, AsksNothing, AsksRun};
 ghost use Rattle.tc_main.specs.Top.{Answers, Ends, FileAnswers, IsRefused, IsReport, MustRefuse};
 ghost use Rattle.tc_main.specs.Top.{Writes, WritesNothing, refused_line, usage_line};
-ghost use Rattle.tc_main.specs.declared.options.Options.{Options as Asked};
+ghost use Rattle.tc_workers.specs.declared.options.Options.{Options as Asked};
 ghost use Rattle.tc_main.specs.declared.status.Status.{Status as Answered};
 
-use crate::options::Options;
-use crate::report::report;
-use crate::runner::run;
+use crate::run::run_report;
 use crate::status::Status;
 use crate::words::options_of;
 use std::alloc::{AllocError, Global};
@@ -27,40 +25,46 @@ use tc_elf::refusal::Refusal;
 use tc_io::all::{ReadAll, read_all, write_all};
 use tc_io::source::{Sink, Source};
 use tc_io::word::Word;
+use tc_workers::gate::Gate;
+use tc_workers::options::Options;
 
 /// The line that says what the program can be asked for.
-fn usage(alloc: Global) -> Result<String, AllocError>
-    ensures { IfOk result (λ text. string_bytes text ≡ usage_line) }
+fn usage(alloc: Global) -> Result<Vec<u8>, AllocError>
+    ensures { IfOk result (λ text. text.items ≡ usage_line) }
 {
-    String::from_str(
-        alloc,
-        "usage: tclocks run W F B | tclocks gen N | tclocks demo N W\n",
-    )
+    let line = "usage: tclocks run W F B | tclocks gen N | tclocks demo N W\n";
+    Vec::from_slice(alloc, line.as_bytes())
 }
 
 /// The line that says why a file is refused.
-fn refused(alloc: Global, number: u32, name: &str) -> Result<String, AllocError>
-    ensures { IfOk result (λ text. string_bytes text ≡ refused_line number name.now) }
+fn refused(alloc: Global, number: u32, name: &str) -> Result<Vec<u8>, AllocError>
+    ensures { IfOk result (λ text. text.items ≡ refused_line number name.now) }
 {
-    format!(in alloc; "refused {number} {name}\n")
+    let line = format!(in alloc; "refused {number} {name}\n")?;
+    Ok(line.into_bytes())
 }
 
 /// A status with the text that goes with it. Want of memory goes with no text.
 #[derive(Drop)]
 struct Answer {
     status: Status,
-    text: String,
+    text: Vec<u8>,
 }
 
 /// What the bytes of a file come to.
-fn answer_file(alloc: Global, options: Options, bytes: &[u8]) -> Result<Answer, AllocError>
+fn answer_file<R: Threads + Wait + Sync, G: Gate>(
+    rt: &R,
+    alloc: Global,
+    options: Options,
+    bytes: &[u8],
+    gate: &G,
+) -> Result<Answer, AllocError>
     requires { length bytes.now ≤ MAX_FILE }
-    ensures { IfOk result (λ a. FileAnswers bytes.now options a.status (string_bytes a.text)) }
+    ensures { IfOk result (λ a. FileAnswers bytes.now options a.status a.text.items) }
 {
     match load(alloc, bytes) {
         Ok(image) => {
-            let results = run(alloc, &image, options)?;
-            let text = report(alloc, &image, options, &results)?;
+            let text = run_report(rt, alloc, &image, options, gate)?;
             Ok(Answer {
                 status: Status::Done,
                 text,
@@ -79,13 +83,15 @@ fn answer_file(alloc: Global, options: Options, bytes: &[u8]) -> Result<Answer, 
 }
 
 /// What the words and the source come to.
-fn answer_words<S: Source>(
+fn answer_words<R: Threads + Wait + Sync, S: Source, G: Gate>(
+    rt: &R,
     alloc: Global,
     words: &[Word],
     source: &mut S,
+    gate: &G,
 ) -> Result<Answer, AllocError>
     ensures { IfOk result (λ a. Answers words.now (S.stream source.old) (S.stream source.new)
-        a.status (string_bytes a.text)) }
+        a.status a.text.items) }
 {
     let Some(options) = options_of(alloc, words)? else {
         let text = usage(alloc)?;
@@ -95,10 +101,10 @@ fn answer_words<S: Source>(
         });
     };
     match read_all(alloc, source, MAX_BYTES) {
-        Ok(bytes) => answer_file(alloc, options, &bytes),
+        Ok(bytes) => answer_file(rt, alloc, options, &bytes, gate),
         Err(ReadAll::Fault) => Ok(Answer {
             status: Status::ReadFault,
-            text: String::new(alloc),
+            text: Vec::new(alloc),
         }),
         Err(ReadAll::OverLimit) => {
             let text = refused(alloc, 0, "TooLarge")?;
@@ -114,10 +120,10 @@ fn answer_words<S: Source>(
 /// Writes a text, and says how the program ends.
 fn written<K: Sink>(sink: &mut K, answer: &Answer) -> Status
     ensures { (words : List (List ℕ)) (before now : Stream)
-        → Answers words before now answer.now.status (string_bytes answer.now.text)
+        → Answers words before now answer.now.status answer.now.text.items
         → Ends words before now (K.stream sink.old) (K.stream sink.new) result }
 {
-    match write_all(sink, answer.text.as_bytes()) {
+    match write_all(sink, &answer.text) {
         Ok(()) => answer.status,
         Err(_) => match answer.status {
             Status::Done => Status::WriteFault,
@@ -127,16 +133,18 @@ fn written<K: Sink>(sink: &mut K, answer: &Answer) -> Status
 }
 
 /// Does what the words ask for.
-fn run_words<S: Source, K: Sink>(
+fn run_words<R: Threads + Wait + Sync, S: Source, K: Sink, G: Gate>(
+    rt: &R,
     alloc: Global,
     words: &[Word],
     source: &mut S,
     sink: &mut K,
+    gate: &G,
 ) -> Status
     ensures { Ends words.now (S.stream source.old) (S.stream source.new)
         (K.stream sink.old) (K.stream sink.new) result }
 {
-    match answer_words(alloc, words, source) {
+    match answer_words(rt, alloc, words, source, gate) {
         Ok(answer) => written(sink, &answer),
         Err(_) => Status::OutOfMemory,
     }
@@ -146,14 +154,16 @@ fn run_words<S: Source, K: Sink>(
 /// and answers how it ended. The words are those after the program's name: `run W F B` with the
 /// number of workers, the fuel of each thread and the batch limit.
 ///
-/// The source is read to its end before the guest runs, and the text is made whole before any of
-/// it is written. Want of memory may come at any growth, and nothing is written then.
-pub fn tclocks<R: Threads + Wait + Sync, S: Source, K: Sink>(
+/// The source is read to its end before a worker starts, and the text is made whole before any of
+/// it is written. Want of memory may come at any growth, and nothing is written then. Each worker
+/// tells the gate how far it is; what is promised holds for every gate.
+pub fn tclocks<R: Threads + Wait + Sync, S: Source, K: Sink, G: Gate>(
     rt: &R,
     alloc: Global,
     words: &[Word],
     source: &mut S,
     sink: &mut K,
+    gate: &G,
 ) -> Status
     // What was asked for is done: the report of a legal run of the source's guest was written.
     ensures done { result ≡ Status.Done → (text : List ℕ)
@@ -196,5 +206,5 @@ pub fn tclocks<R: Threads + Wait + Sync, S: Source, K: Sink>(
         → ¬ Rose (K.stream sink.old) (K.stream sink.new)
         → (result ≡ Status.Done) ⊎ (result ≡ Status.OutOfMemory) }
 {
-    run_words(alloc, words, source, sink)
+    run_words(rt, alloc, words, source, sink, gate)
 }

@@ -3,11 +3,11 @@
 ghost use Rattle.std.specs.Prelude.{◌≡◌, ℕ, ◌≤◌, MatchBool, IfOk, IfSome, IfNone, codes, decimal};
 ghost use Rattle.tc_main.specs.Words.{Asks, AsksNothing};
 
-use crate::options::Options;
 use std::alloc::{AllocError, Global};
 use std::str::from_utf8;
 use tc_io::word::Word;
 use tc_isa::limits::{MAX_BATCH, MAX_FUEL, MAX_WORKERS};
+use tc_workers::options::Options;
 
 /// Whether this is how the number is written.
 fn is_decimal(alloc: Global, text: &str, number: u32) -> Result<bool, AllocError>

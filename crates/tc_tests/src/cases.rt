@@ -25,8 +25,8 @@ pub(crate) struct Case<'a> {
     pub code: &'a [&'a [u32]],
     /// How many locks the guest has, each with a guard of one word from 0x00020000 on.
     pub guards: usize,
-    /// The numbers of workers, fuel and batch limit.
-    pub asked: [&'a str; 3],
+    /// The numbers of fuel and batch limit. Each case is run by each number of workers.
+    pub asked: [&'a str; 2],
     /// The lines of blocks.
     pub blocks: &'a [&'a str],
     /// How the thread ends, with its fuel and its program counter.
@@ -40,12 +40,15 @@ pub(crate) struct Case<'a> {
     pub locks: &'a [&'a str],
 }
 
-/// What most cases share: two workers, fuel 100, batch limit 4, and a thread that ends at its start.
+/// The numbers of workers.
+pub(crate) const WORKERS: [&str; 8] = ["1", "2", "3", "4", "5", "6", "7", "8"];
+
+/// What most cases share: fuel 100, batch limit 4, and a thread that ends at its start.
 pub(crate) const LONE: Case<'static> = Case {
     nops: 0,
     code: &[],
     guards: 0,
-    asked: ["2", "100", "4"],
+    asked: ["100", "4"],
     blocks: &[],
     end: "",
     x0: START,
@@ -69,8 +72,8 @@ fn push_lines(text: &mut String, lines: &[&str]) -> Result<(), AllocError> {
     Ok(())
 }
 
-/// The whole report of a case.
-fn report_of(alloc: Global, case: &Case<'_>) -> Result<String, AllocError> {
+/// The whole report of a case with so many workers, where worker 0 runs each block.
+fn report_of(alloc: Global, case: &Case<'_>, workers: &str) -> Result<String, AllocError> {
     let Case {
         guards,
         end,
@@ -79,8 +82,8 @@ fn report_of(alloc: Global, case: &Case<'_>) -> Result<String, AllocError> {
         x17,
         ..
     } = *case;
-    let [workers, fuel, batch] = case.asked;
-    let mut text = String::from_str(alloc, "tclocks 1\n")?;
+    let [fuel, batch] = case.asked;
+    let mut text = String::from_str(alloc, "tclocks 2\n")?;
     write!(text, "guest threads 1 guards {guards}\n")?;
     write!(text, "run workers {workers} fuel {fuel} batch {batch}\n")?;
     push_lines(&mut text, case.blocks)?;
@@ -95,18 +98,22 @@ fn report_of(alloc: Global, case: &Case<'_>) -> Result<String, AllocError> {
     Ok(text)
 }
 
-/// Runs a file, and compares its report with the case's.
+/// Runs a file with each number of workers, and compares its report with the case's, whichever
+/// worker ran each block.
 fn check<R: Threads + Wait + Sync + Abort>(
     rt: &R,
     alloc: Global,
     file: &[u8],
     case: &Case<'_>,
 ) -> Result<(), AllocError> {
-    let ran = run(rt, alloc, case.asked, file)?;
-    let report = report_of(alloc, case)?;
-    assert_eq!(rt; ran.status, Status::Done);
-    let text = ran.text();
-    assert!(rt; text == report.as_str(), "{text}instead of\n{report}");
+    let [fuel, batch] = case.asked;
+    for workers in WORKERS {
+        let ran = run(rt, alloc, [workers, fuel, batch], file)?;
+        let report = report_of(alloc, case, workers)?;
+        assert_eq!(rt; ran.status, Status::Done);
+        let text = ran.by_worker_0(alloc)?;
+        assert!(rt; text == report, "{text}instead of\n{report}");
+    }
     Ok(())
 }
 

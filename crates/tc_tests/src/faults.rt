@@ -1,8 +1,8 @@
 //! Every fault of a guest, by a thread that holds a lock: what the report then has of the thread
 //! and the lock, and what the next thread to take the lock is told.
 //!
-//! The reports were worked out by hand from the rules of `docs/GUEST.md`. Thread 0 runs to its end
-//! before thread 1, by the plain runner.
+//! The reports were worked out by hand from the rules of `docs/GUEST.md`. One worker runs thread 0
+//! to its end, and then thread 1.
 
 use crate::guests::{DATA, ECALL, EXIT, KEEP, LOCK_0, LOCK_1, LOCK_2, UNLOCK_0, built, joined};
 use crate::ran::{Ran, run};
@@ -27,17 +27,17 @@ const X16: &str = "x16 00000000 00000001 00000000 00000000 00000000 00000000 000
 
 /// The lines of a report before block 1.
 const BEFORE: &str = "\
-tclocks 1
+tclocks 2
 guest threads 2 guards 5
 run workers 1 fuel 100 batch 4
-block 0 thread 0 turns 3 held - kind start worker 0 end wants 0
+block 0 thread 0 turns 3 held - kind start worker 0 pc 00100024 end wants 0
 ";
 
 /// The lines between block 1 and thread 0: what thread 1 runs.
 const BETWEEN: &str = "\
-block 2 thread 1 turns 2 held - kind start worker 0 end wants 0
-block 3 thread 1 turns 5 held 0 kind taken worker 0 end unlocked 0
-block 4 thread 1 turns 2 held - kind on worker 0 end exit
+block 2 thread 1 turns 2 held - kind start worker 0 pc 00100000 end wants 0
+block 3 thread 1 turns 5 held 0 kind taken worker 0 pc 00100008 end unlocked 0
+block 4 thread 1 turns 2 held - kind on worker 0 pc 0010001c end exit
 ";
 
 /// The lines after x16 of thread 0. Thread 1 keeps the answer of its LOCK in x8. The guard of lock
@@ -232,7 +232,7 @@ fn report_of(alloc: Global, shown: &Shown<'_>) -> Result<String, AllocError> {
         "block 1 thread 0 turns {} held 0 kind taken",
         shown.turns
     )?;
-    write!(text, " worker 0 end fault {fault}\n")?;
+    write!(text, " worker 0 pc 00100030 end fault {fault}\n")?;
     text.push_str(BETWEEN)?;
     write!(text, "thread 0 fault {fault} fuel {fuel} pc {}\n", shown.pc)?;
     write!(text, "{}\n{}\n{}\n", shown.x0, shown.x8, shown.x16)?;
@@ -274,9 +274,9 @@ fn a_lock_out_of_order_breaks_each_lock_that_is_held(rt: HostRuntime) -> Result<
     let ran = ran(&rt, rt.alloc(), &[&LOCK_0, &LOCK_2, &LOCK_1])?;
     assert_eq!(rt; ran.blocks(), 6);
     for line in [
-        "block 1 thread 0 turns 3 held 0 kind taken worker 0 end wants 2",
-        "block 2 thread 0 turns 4 held 0,2 kind taken worker 0 end fault 11",
-        "block 4 thread 1 turns 5 held 0 kind taken worker 0 end unlocked 0",
+        "block 1 thread 0 turns 3 held 0 kind taken worker 0 pc 0010002c end wants 2",
+        "block 2 thread 0 turns 4 held 0,2 kind taken worker 0 pc 00100038 end fault 11",
+        "block 4 thread 1 turns 5 held 0 kind taken worker 0 pc 00100008 end unlocked 0",
         "thread 0 fault 11 fuel 91 pc 00100044",
         "x8 00000000 00000000 00000001 00000000 00000000 00000000 00000000 00000000",
         "x8 00000001 00000000 00000000 00000001 00000000 00000000 00000000 00000000",

@@ -85,11 +85,32 @@ pub(crate) fn built<R: Abort>(
         entries.push((CODE_START + thread.0 % 4096 * 4, thread.1))?;
     }
     let mut guards = Vec::new(alloc);
-    for lock in 0..locks.min(16) {
+    for lock in 0..locks.min(32) {
         guards.push((DATA_START + lock as u32 * 4, 4))?;
     }
-    assert!(rt; !entries.is_empty() && entries.len() <= 16 && guards.len() <= 16);
+    assert!(rt; !entries.is_empty() && entries.len() <= 32 && guards.len() <= 32);
     assert!(rt; code.len() <= 20_000);
-    let zeros = [0; 64];
+    let zeros = [0; 128];
     build(alloc, code, &entries, &zeros[..guards.len() * 4], &guards)
+}
+
+/// A guest whose threads count to 100 each under one lock. Before and after the words of a section
+/// stand addi x6,x0,100, and addi x6,x6,-1 with bne x6,x0,-40.
+pub(crate) fn counting<R: Abort>(
+    rt: &R,
+    alloc: Global,
+    threads: usize,
+) -> Result<Vec<u8>, AllocError> {
+    let pieces: [&[u32]; 7] = [
+        &DATA,
+        &[0x0640_0313],
+        &LOCK_0,
+        &ADD,
+        &UNLOCK_0,
+        &[0xfff3_0313, 0xfc03_1ce3],
+        &EXIT,
+    ];
+    let code = joined(alloc, &pieces)?;
+    let entries = vec![in alloc; (0u32, 0u32); threads]?;
+    built(rt, alloc, &code, &entries, 1)
 }

@@ -1,8 +1,7 @@
 //! Tests of the program as a whole, through its top call. `guests` has code and makes files, `ran`
 //! runs them, `cases` compares whole reports. `runs` has lone threads, `words` single instructions,
 //! `locks` guests with locks, `faults` every fault of a thread that holds a lock, `limits` what
-//! stands at a limit, `outside` what is answered by a status. `images` compares what is loaded of a
-//! built file with what was described.
+//! stands at a limit, `outside` what is answered by a status, `gates` what workers report.
 #![tactic(auto)]
 
 #[cfg(test)]
@@ -10,9 +9,9 @@ mod cases;
 #[cfg(test)]
 mod faults;
 #[cfg(test)]
-mod guests;
+mod gates;
 #[cfg(test)]
-mod images;
+mod guests;
 #[cfg(test)]
 mod limits;
 #[cfg(test)]

@@ -46,25 +46,25 @@ const OWN_LOCK: [&[u32]; 6] = [
     &EXIT,
 ];
 
-/// Sixteen threads and sixteen locks: thread t takes lock 15 - t, which is its argument.
+/// As many threads and locks as there may be: thread t takes lock 31 - t, which is its argument.
 #[test]
-fn sixteen_threads_take_a_lock_each(rt: HostRuntime) -> Result<(), Fail> {
+fn thirty_two_threads_take_a_lock_each(rt: HostRuntime) -> Result<(), Fail> {
     let alloc = rt.alloc();
-    let mut threads = [(0u32, 0u32); 16];
+    let mut threads = [(0u32, 0u32); 32];
     for (lock, thread) in threads.iter_mut().rev().enumerate() {
         thread.1 = lock as u32;
     }
     let code = joined(alloc, &OWN_LOCK)?;
-    let file = built(&rt, alloc, &code, &threads, 16)?;
+    let file = built(&rt, alloc, &code, &threads, 32)?;
     let ran = run(&rt, alloc, ["1", "100", "0"], &file)?;
     assert_eq!(rt; ran.status, Status::Done);
-    assert_eq!(rt; ran.blocks(), 48);
-    assert!(rt; ran.has_line("guest threads 16 guards 16"));
+    assert_eq!(rt; ran.blocks(), 96);
+    assert!(rt; ran.has_line("guest threads 32 guards 32"));
     for (thread, (_, lock)) in threads.iter().enumerate() {
         for line in [
             format!(in alloc; "thread {thread} exit fuel 88 pc 0010002c")?,
             format!(in alloc; "lock {lock} sections 1 broken 0 bytes 4")?,
-            format!(in alloc; "data {:08x} {thread:02x}000000", 0x20000 + lock % 16 * 4)?,
+            format!(in alloc; "data {:08x} {thread:02x}000000", 0x20000 + lock % 32 * 4)?,
         ] {
             assert!(rt; ran.has_line(&line), "{line}");
         }
@@ -96,7 +96,7 @@ fn slept<R: Threads + Wait + Sync + Abort>(
 /// program counter, and their numbers in x11.
 fn end_of(alloc: Global, threads: usize, last: &str, pc: &str) -> Result<String, AllocError> {
     let mut text = format!(in alloc; "block {last} turns 1 held - kind on")?;
-    text.push_str(" worker 0 end spent\n")?;
+    write!(text, " worker 0 pc {pc} end spent\n")?;
     for t in 0..threads {
         write!(text, "thread {t} spent fuel 0 pc {pc}\n{START}\n")?;
         write!(text, "x8 00000000 00000000 00000000 {t:08x}")?;
@@ -107,7 +107,7 @@ fn end_of(alloc: Global, threads: usize, last: &str, pc: &str) -> Result<String,
     Ok(text)
 }
 
-/// Reports of more than 64 KiB and 16 MiB are written whole; the plain runner ends thread 15 last.
+/// Reports of more than 64 KiB and 16 MiB are written whole; one worker ends thread 15 last.
 #[test]
 fn large_reports_are_written_whole(rt: HostRuntime) -> Result<(), Fail> {
     let threads = [(0u32, 0u32); 16];
@@ -141,7 +141,7 @@ fn faults_are_told_for_each_number_of_workers(rt: HostRuntime) -> Result<(), Fai
         };
         let ran = run_with(&rt, rt.alloc(), &words, &SMALLEST, &failing)?;
         assert_eq!(rt; ran.status, Status::WriteFault);
-        assert_eq!(rt; ran.written.as_slice(), b"tclocks 1\nguest ".as_slice());
+        assert_eq!(rt; ran.written.as_slice(), b"tclocks 2\nguest ".as_slice());
     }
     Ok(())
 }

@@ -1,12 +1,12 @@
 //! Built guests with locks, whose code begins at 0x00100000, and whose guards are words from
 //! 0x00020000 on.
 
-use crate::cases::{Case, LONE, check_built};
+use crate::cases::{Case, LONE, WORKERS, check_built};
 use crate::guests::{
     ADD, DATA, EXIT, KEEP, LOCK_0, LOCK_1, LOCK_2, LOCK_3, LOCK_4, UNLOCK_0, UNLOCK_1, built,
-    joined,
+    counting, joined,
 };
-use crate::ran::run;
+use crate::ran::{CALM, Outside, run, run_with};
 use std::test::Fail;
 use tc_main::status::Status;
 
@@ -14,11 +14,11 @@ use tc_main::status::Status;
 const SECTION: Case<'static> = Case {
     code: &[&DATA, &LOCK_0, &ADD, &UNLOCK_0, &EXIT],
     guards: 1,
-    asked: ["1", "100", "4"],
+    asked: ["100", "4"],
     blocks: &[
-        "block 0 thread 0 turns 3 held - kind start worker 0 end wants 0",
-        "block 1 thread 0 turns 7 held 0 kind taken worker 0 end unlocked 0",
-        "block 2 thread 0 turns 2 held - kind on worker 0 end exit",
+        "block 0 thread 0 turns 3 held - kind start worker 0 pc 00100000 end wants 0",
+        "block 1 thread 0 turns 7 held 0 kind taken worker 0 pc 0010000c end unlocked 0",
+        "block 2 thread 0 turns 2 held - kind on worker 0 pc 00100028 end exit",
     ],
     end: "exit fuel 88 pc 0010002c",
     x0: "x0 00000000 00000000 80000000 00000000 00000000 00020000 00000000 00000001",
@@ -42,11 +42,11 @@ const WITH_LOCKS: [Case<'static>; 10] = [
     SECTION,
     // The fuel ends behind the section.
     Case {
-        asked: ["2", "10", "4"],
+        asked: ["10", "4"],
         blocks: &[
-            "block 0 thread 0 turns 3 held - kind start worker 0 end wants 0",
-            "block 1 thread 0 turns 7 held 0 kind taken worker 0 end unlocked 0",
-            "block 2 thread 0 turns 1 held - kind on worker 0 end spent",
+            "block 0 thread 0 turns 3 held - kind start worker 0 pc 00100000 end wants 0",
+            "block 1 thread 0 turns 7 held 0 kind taken worker 0 pc 0010000c end unlocked 0",
+            "block 2 thread 0 turns 1 held - kind on worker 0 pc 00100028 end spent",
         ],
         end: "spent fuel 0 pc 00100028",
         x17: 2,
@@ -54,10 +54,10 @@ const WITH_LOCKS: [Case<'static>; 10] = [
     },
     // The fuel ends inside the section.
     Case {
-        asked: ["2", "9", "4"],
+        asked: ["9", "4"],
         blocks: &[
-            "block 0 thread 0 turns 3 held - kind start worker 0 end wants 0",
-            "block 1 thread 0 turns 7 held 0 kind taken worker 0 end spent",
+            "block 0 thread 0 turns 3 held - kind start worker 0 pc 00100000 end wants 0",
+            "block 1 thread 0 turns 7 held 0 kind taken worker 0 pc 0010000c end spent",
         ],
         end: "spent fuel 0 pc 00100024",
         x17: 2,
@@ -69,8 +69,8 @@ const WITH_LOCKS: [Case<'static>; 10] = [
     },
     // The fuel ends before the section.
     Case {
-        asked: ["2", "3", "4"],
-        blocks: &["block 0 thread 0 turns 4 held - kind start worker 0 end spent"],
+        asked: ["3", "4"],
+        blocks: &["block 0 thread 0 turns 4 held - kind start worker 0 pc 00100000 end spent"],
         end: "spent fuel 0 pc 0010000c",
         x0: "x0 00000000 00000000 80000000 00000000 00000000 00020000 00000000 00000000",
         x17: 1,
@@ -81,13 +81,13 @@ const WITH_LOCKS: [Case<'static>; 10] = [
     Case {
         code: &[&LOCK_0, &LOCK_1, &UNLOCK_0, &UNLOCK_1, &EXIT],
         guards: 2,
-        asked: ["1", "100", "4"],
+        asked: ["100", "4"],
         blocks: &[
-            "block 0 thread 0 turns 2 held - kind start worker 0 end wants 0",
-            "block 1 thread 0 turns 3 held 0 kind taken worker 0 end wants 1",
-            "block 2 thread 0 turns 4 held 0,1 kind taken worker 0 end unlocked 0",
-            "block 3 thread 0 turns 3 held 1 kind on worker 0 end unlocked 1",
-            "block 4 thread 0 turns 2 held - kind on worker 0 end exit",
+            "block 0 thread 0 turns 2 held - kind start worker 0 pc 00100000 end wants 0",
+            "block 1 thread 0 turns 3 held 0 kind taken worker 0 pc 00100008 end wants 1",
+            "block 2 thread 0 turns 4 held 0,1 kind taken worker 0 pc 00100014 end unlocked 0",
+            "block 3 thread 0 turns 3 held 1 kind on worker 0 pc 00100024 end unlocked 1",
+            "block 4 thread 0 turns 2 held - kind on worker 0 pc 00100030 end exit",
         ],
         end: "exit fuel 86 pc 00100034",
         x17: 0x5d,
@@ -104,11 +104,11 @@ const WITH_LOCKS: [Case<'static>; 10] = [
         code: &[&LOCK_0, &LOCK_1, &LOCK_2, &LOCK_3, &LOCK_4],
         guards: 5,
         blocks: &[
-            "block 0 thread 0 turns 2 held - kind start worker 0 end wants 0",
-            "block 1 thread 0 turns 3 held 0 kind taken worker 0 end wants 1",
-            "block 2 thread 0 turns 3 held 0,1 kind taken worker 0 end wants 2",
-            "block 3 thread 0 turns 3 held 0,1,2 kind taken worker 0 end wants 3",
-            "block 4 thread 0 turns 4 held 0,1,2,3 kind taken worker 0 end fault 10",
+            "block 0 thread 0 turns 2 held - kind start worker 0 pc 00100000 end wants 0",
+            "block 1 thread 0 turns 3 held 0 kind taken worker 0 pc 00100008 end wants 1",
+            "block 2 thread 0 turns 3 held 0,1 kind taken worker 0 pc 00100014 end wants 2",
+            "block 3 thread 0 turns 3 held 0,1,2 kind taken worker 0 pc 00100020 end wants 3",
+            "block 4 thread 0 turns 4 held 0,1,2,3 kind taken worker 0 pc 0010002c end fault 10",
         ],
         end: "fault 10 fuel 85 pc 00100038",
         x10: 4,
@@ -131,7 +131,7 @@ const WITH_LOCKS: [Case<'static>; 10] = [
     Case {
         code: &[&LOCK_1],
         guards: 1,
-        blocks: &["block 0 thread 0 turns 3 held - kind start worker 0 end fault 10"],
+        blocks: &["block 0 thread 0 turns 3 held - kind start worker 0 pc 00100000 end fault 10"],
         end: "fault 10 fuel 97 pc 00100008",
         x10: 1,
         x17: 1,
@@ -142,8 +142,8 @@ const WITH_LOCKS: [Case<'static>; 10] = [
     Case {
         code: &[&DATA, &[0x0002_a383]],
         guards: 1,
-        asked: ["1", "10", "0"],
-        blocks: &["block 0 thread 0 turns 2 held - kind start worker 0 end fault 7"],
+        asked: ["10", "0"],
+        blocks: &["block 0 thread 0 turns 2 held - kind start worker 0 pc 00100000 end fault 7"],
         end: "fault 7 fuel 8 pc 00100004",
         x0: "x0 00000000 00000000 80000000 00000000 00000000 00020000 00000000 00000000",
         locks: &UNTAKEN,
@@ -154,11 +154,11 @@ const WITH_LOCKS: [Case<'static>; 10] = [
         nops: 4094,
         code: &[&LOCK_0, &UNLOCK_0, &EXIT],
         guards: 1,
-        asked: ["1", "5000", "0"],
+        asked: ["5000", "0"],
         blocks: &[
-            "block 0 thread 0 turns 4096 held - kind start worker 0 end wants 0",
-            "block 1 thread 0 turns 4 held 0 kind taken worker 0 end unlocked 0",
-            "block 2 thread 0 turns 2 held - kind on worker 0 end exit",
+            "block 0 thread 0 turns 4096 held - kind start worker 0 pc 00100000 end wants 0",
+            "block 1 thread 0 turns 4 held 0 kind taken worker 0 pc 00104000 end unlocked 0",
+            "block 2 thread 0 turns 2 held - kind on worker 0 pc 00104010 end exit",
         ],
         end: "exit fuel 898 pc 00104014",
         x17: 0x5d,
@@ -168,10 +168,10 @@ const WITH_LOCKS: [Case<'static>; 10] = [
     Case {
         nops: 4097,
         code: &[&EXIT],
-        asked: ["1", "5000", "0"],
+        asked: ["5000", "0"],
         blocks: &[
-            "block 0 thread 0 turns 4096 held - kind start worker 0 end cut",
-            "block 1 thread 0 turns 3 held - kind on worker 0 end exit",
+            "block 0 thread 0 turns 4096 held - kind start worker 0 pc 00100000 end cut",
+            "block 1 thread 0 turns 3 held - kind on worker 0 pc 00104000 end exit",
         ],
         end: "exit fuel 901 pc 00104008",
         x17: 0x5d,
@@ -185,52 +185,87 @@ fn guests_with_locks_are_reported_whole(rt: HostRuntime) -> Result<(), Fail> {
     Ok(())
 }
 
-/// Two threads count to 100 each under one lock: no increment is lost. Before and after the words
-/// of a section stand addi x6,x0,100, and addi x6,x6,-1 with bne x6,x0,-40.
+/// No increment is lost, of two threads and of more than a note of version 1 has room for.
 #[test]
-fn two_threads_count_under_one_lock(rt: HostRuntime) -> Result<(), Fail> {
-    let pieces: [&[u32]; 7] = [
-        &DATA,
-        &[0x0640_0313],
-        &LOCK_0,
-        &ADD,
-        &UNLOCK_0,
-        &[0xfff3_0313, 0xfc03_1ce3],
-        &EXIT,
-    ];
-    let code = joined(rt.alloc(), &pieces)?;
-    let file = built(&rt, rt.alloc(), &code, &[(0, 0), (0, 0)], 1)?;
-    let ran = run(&rt, rt.alloc(), ["2", "2000", "8"], &file)?;
-    assert_eq!(rt; ran.status, Status::Done);
-    assert_eq!(rt; ran.blocks(), 402);
-    let end = b"lock 0 sections 200 broken 0 bytes 4\ndata 00020000 c8000000\nend\n".as_slice();
-    assert!(rt; ran.written.ends_with(end));
-    assert!(rt; ran.has_line("thread 0 exit fuel 896 pc 00100038"));
-    assert!(rt; ran.has_line("thread 1 exit fuel 896 pc 00100038"));
+fn threads_count_under_one_lock(rt: HostRuntime) -> Result<(), Fail> {
+    let outside = Outside {
+        room: 524_288,
+        ..CALM
+    };
+    for (threads, workers, blocks, end) in [
+        (
+            2usize,
+            b"2".as_slice(),
+            402,
+            "lock 0 sections 200 broken 0 bytes 4\ndata 00020000 c8000000\nend\n",
+        ),
+        (
+            17,
+            b"4",
+            3417,
+            "lock 0 sections 1700 broken 0 bytes 4\ndata 00020000 a4060000\nend\n",
+        ),
+    ] {
+        let file = counting(&rt, rt.alloc(), threads)?;
+        let words = [b"run".as_slice(), workers, b"2000", b"8"];
+        let ran = run_with(&rt, rt.alloc(), &words, &file, &outside)?;
+        assert_eq!(rt; ran.status, Status::Done);
+        assert_eq!(rt; ran.blocks(), blocks);
+        assert!(rt; ran.written.ends_with(end.as_bytes()), "{threads} threads");
+        for thread in 0..threads {
+            let line = format!(in rt.alloc(); "thread {thread} exit fuel 896 pc 00100038")?;
+            assert!(rt; ran.has_line(&line), "{line}");
+        }
+    }
     Ok(())
 }
 
-/// A lock out of order ends its thread and breaks the lock that the thread holds. The next thread
-/// to take that lock is told so: it keeps the answer in x8. Thread 0 runs first, by the plain runner.
+/// A note of version 1 with 17 threads is refused, and one of version 2 with 33.
+#[test]
+fn a_note_without_room_is_refused(rt: HostRuntime) -> Result<(), Fail> {
+    let file = counting(&rt, rt.alloc(), 17)?;
+    assert_eq!(rt; file.len(), 388);
+    for (place, byte) in [(168usize, 1u8), (172, 33)] {
+        let mut changed = file.clone()?;
+        changed[place] = byte;
+        let ran = run(&rt, rt.alloc(), ["1", "2000", "8"], &changed)?;
+        assert_eq!(rt; ran.status, Status::Refused(12));
+        assert_eq!(rt; ran.written.as_slice(), b"refused 12 BadNote\n".as_slice());
+    }
+    Ok(())
+}
+
+/// A lock out of order ends its thread and breaks the lock that the thread holds. The other thread
+/// takes that lock too, and keeps the answer in x8: it is told so exactly where its section comes
+/// later.
 #[test]
 fn a_broken_lock_is_told_to_the_next_thread(rt: HostRuntime) -> Result<(), Fail> {
     let pieces: [&[u32]; 6] = [&LOCK_1, &LOCK_0, &LOCK_1, &KEEP, &UNLOCK_1, &EXIT];
     let code = joined(rt.alloc(), &pieces)?;
     let file = built(&rt, rt.alloc(), &code, &[(0, 0), (6, 0)], 2)?;
-    let ran = run(&rt, rt.alloc(), ["2", "100", "4"], &file)?;
-    assert_eq!(rt; ran.status, Status::Done);
-    assert_eq!(rt; ran.blocks(), 5);
-    for line in [
-        "block 1 thread 0 turns 4 held 1 kind taken worker 0 end fault 11",
-        "block 3 thread 1 turns 5 held 1 kind taken worker 0 end unlocked 1",
-        "thread 0 fault 11 fuel 94 pc 00100014",
-        "thread 1 exit fuel 91 pc 00100038",
-        "x8 00000001 00000000 00000000 00000001 00000000 00000000 00000000 00000000",
-    ] {
-        assert!(rt; ran.has_line(line), "{line}");
+    for workers in WORKERS {
+        let ran = run(&rt, rt.alloc(), [workers, "100", "4"], &file)?;
+        assert_eq!(rt; ran.status, Status::Done);
+        assert_eq!(rt; ran.blocks(), 5);
+        let text = ran.text();
+        let breaks = text.find("thread 0 turns 4 held 1 kind ");
+        let takes = text.find("thread 1 turns 5 held 1 kind ");
+        assert!(rt; breaks.is_some() && takes.is_some());
+        let told = if breaks < takes {
+            "x8 00000001 00000000 00000000 00000001 00000000 00000000 00000000 00000000"
+        } else {
+            "x8 00000000 00000000 00000000 00000001 00000000 00000000 00000000 00000000"
+        };
+        for line in [
+            "thread 0 fault 11 fuel 94 pc 00100014",
+            "thread 1 exit fuel 91 pc 00100038",
+            told,
+        ] {
+            assert!(rt; ran.has_line(line), "{line}");
+        }
+        let end =
+            b"lock 0 sections 0 broken 0 bytes 4\ndata 00020000 00000000\nlock 1 sections 2 broken 1 bytes 4\ndata 00020004 00000000\nend\n".as_slice();
+        assert!(rt; ran.written.ends_with(end));
     }
-    let end =
-        b"lock 0 sections 0 broken 0 bytes 4\ndata 00020000 00000000\nlock 1 sections 2 broken 1 bytes 4\ndata 00020004 00000000\nend\n".as_slice();
-    assert!(rt; ran.written.ends_with(end));
     Ok(())
 }

@@ -94,7 +94,7 @@ fn answers_faults_of_the_outside(rt: HostRuntime) -> Result<(), Fail> {
             &[1],
             Status::WriteFault,
             4,
-            b"tclocks 1\nguest ",
+            b"tclocks 2\nguest ",
         ),
         (&words, 4096, &[0], &[], Status::ReadFault, 2, b""),
         (&words, 10, &[3], &[], Status::ReadFault, 2, b""),

@@ -6,6 +6,7 @@ use std::sync::Wait;
 use std::thread::Threads;
 use tc_io::memory::{MemSink, MemSource};
 use tc_io::word::Word;
+use tc_main::gate::{Gate, Open};
 use tc_main::status::Status;
 use tc_main::top::tclocks;
 
@@ -45,6 +46,22 @@ impl Ran {
         self.text().lines().any(|own| own == line)
     }
 
+    /// The text, in which worker 0 runs each block: which worker ran it depends on how the workers
+    /// came.
+    pub(crate) fn by_worker_0(&self, alloc: Global) -> Result<String, AllocError> {
+        let mut text = String::new(alloc);
+        for line in self.text().lines() {
+            match line.split_once(" worker ") {
+                Some((front, back)) => {
+                    let rest = back.split_once(" ").map_or("", |(_, rest)| rest);
+                    write!(text, "{front} worker 0 {rest}\n")?;
+                }
+                None => write!(text, "{line}\n")?,
+            }
+        }
+        Ok(text)
+    }
+
     /// How many of the text's lines are of blocks.
     pub(crate) fn blocks(&self) -> usize {
         let lines = self.text().lines();
@@ -52,13 +69,15 @@ impl Ran {
     }
 }
 
-/// Runs the program on the words and a file, with this source and sink.
-pub(crate) fn run_with<R: Threads + Wait + Sync>(
+/// Runs the program on the words and a file, with this source and sink, and with workers that tell
+/// a gate how far they are.
+pub(crate) fn run_at<R: Threads + Wait + Sync, G: Gate>(
     rt: &R,
     alloc: Global,
     words: &[&[u8]],
     file: &[u8],
     outside: &Outside<'_>,
+    gate: &G,
 ) -> Result<Ran, AllocError> {
     let mut given = Vec::new(alloc);
     for word in words {
@@ -70,9 +89,20 @@ pub(crate) fn run_with<R: Threads + Wait + Sync>(
     let mut source = MemSource::new(file, most, failing);
     let failing = Vec::from_slice(alloc, outside.failing_writes)?;
     let mut sink = MemSink::new(alloc, outside.room, most, failing)?;
-    let status = tclocks(rt, alloc, &given, &mut source, &mut sink);
+    let status = tclocks(rt, alloc, &given, &mut source, &mut sink, gate);
     let written = Vec::from_slice(alloc, sink.written())?;
     Ok(Ran { status, written })
+}
+
+/// Runs the program on the words and a file, with this source and sink.
+pub(crate) fn run_with<R: Threads + Wait + Sync>(
+    rt: &R,
+    alloc: Global,
+    words: &[&[u8]],
+    file: &[u8],
+    outside: &Outside<'_>,
+) -> Result<Ran, AllocError> {
+    run_at(rt, alloc, words, file, outside, &Open)
 }
 
 /// Runs the program on `run` with the numbers of workers, fuel and batch limit, where no call

@@ -11,6 +11,7 @@ use std::io::ErrorKind;
 use std::process::ExitCode;
 use tc_io::streams::{StdSink, StdSource};
 use tc_io::word::Word;
+use tc_main::gate::Open;
 use tc_main::status::Status;
 use tc_main::top::tclocks;
 
@@ -35,7 +36,7 @@ fn main(rt: HostRuntime) -> ExitCode {
     let mut source = StdSource::new(rt.stdin());
     let mut sink = StdSink::new(rt.stdout());
     let status = match words_of(&rt, alloc) {
-        Ok(words) => tclocks(&rt, alloc, &words, &mut source, &mut sink),
+        Ok(words) => tclocks(&rt, alloc, &words, &mut source, &mut sink, &Open),
         Err(_) => Status::OutOfMemory,
     };
     ExitCode::from(status.number() as u8)

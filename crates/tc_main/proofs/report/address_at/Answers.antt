@@ -1,5 +1,5 @@
 use Rattle.std.proofs.Common.{◌≡◌, ◌/◌, ◌%◌, ◌^◌, ◌++◌, ℕ, arith}
-use Rattle.tc_main.specs.Hex.{hex2, hex8}
+use Rattle.tc_journal.specs.Digits.{hex2, hex8}
 use Rattle.tc_main.proofs.report.address_at.Goals as goal
 
 -- the digits of a number are those of its lowest 32 bits

@@ -1,7 +1,7 @@
 use Rattle.std.proofs.Common.{◌≡◌, ◌++◌, take}
 use Rattle.std.specs.Prelude.{string_bytes, codes}
 use Rattle.std.specs.List.{flat_map}
-use Rattle.tc_main.specs.Hex.{hex2, hex8}
+use Rattle.tc_journal.specs.Digits.{hex2, hex8}
 use Rattle.tc_main.proofs.report.push_data.Given as goal
 
 abbrev pub invariant-loop-byte : goal.invariant-loop-byte

@@ -2,7 +2,7 @@ use Rattle.std.proofs.Common.{◌≡◌, ◌+◌, ◌-◌, ◌*◌, ◌++◌, �
 use Rattle.std.proofs.lemmas.List.{take_min}
 use Rattle.std.specs.Prelude.{OnOk, string_bytes, codes}
 use Rattle.std.specs.List.{flat_map}
-use Rattle.tc_main.specs.Hex.{hex2, hex8}
+use Rattle.tc_journal.specs.Digits.{hex2, hex8}
 use Rattle.tc_main.specs.Report.{data_line_at, data_line}
 use Rattle.tc_main.proofs.report.push_data_at.Goals as goal
 
@@ -23,6 +23,6 @@ unfolding data_line_at
 returns c =
     let from = 32 * c.args.i in
     let written : List ℕ → Type 0 = λ line. OnOk c.push_data.result (string_bytes c.push_data.new.out ≡ string_bytes c.args.out.now ++ line) in
-    let part = part_is c.bytes-bytes.result.now from 32 c.min-to.result c.min-to.ensures ∙ ap (λ b. take 32 (drop from b)) c.bytes-bytes.ensures in
-    let line = line_is _ _ _ c.address_at.ensures ∙ ap (λ s. data_line (s + from) (take (c.min-to.result - from) (drop from c.bytes-bytes.result.now))) c.start.ensures ∙ ap (data_line (c.args.lock.now.start + from)) part in
+    let part = part_is c.args.bytes.now from 32 c.min-to.result c.min-to.ensures in
+    let line = line_is _ _ _ c.address_at.ensures ∙ ap (data_line (c.args.start + from)) part in
     subst written line c.push_data.ensures

@@ -1,10 +1,10 @@
 use Rattle.std.proofs.Common.{arith}
 use Rattle.std.specs.Prelude.{string_bytes}
-use Rattle.tc_main.specs.Report.{thread_text}
+use Rattle.tc_main.specs.Report.{package_text}
 use Rattle.tc_main.proofs.Numbered.{numbered_more}
 use Rattle.tc_main.proofs.report.push_threads.Goals as goal
 
 pub loop-number-preserved : goal.loop-number-preserved
 loop-number-preserved c =
     let number = c.loop-number.number in
-    numbered_more thread_text (string_bytes c.args.out.now) _ _ 0 c.args.threads.now number number c.index-threads-number.result c.loop-number-test.true (omega arith) c.index-threads-number.is c.loop-number.invariant c.in_ok-push_thread.ensures
+    numbered_more package_text (string_bytes c.args.out.now) _ _ 0 c.args.packages.now number number c.index-packages-number.result c.loop-number-test.true (omega arith) c.index-packages-number.is c.loop-number.invariant c.in_ok-push_thread.ensures

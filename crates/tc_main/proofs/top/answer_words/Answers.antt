@@ -1,10 +1,10 @@
 use Rattle.std.proofs.Common.{ℕ, List, inl, inr, refl, ap, arith}
-use Rattle.std.specs.Prelude.{string_bytes, codes, Err}
+use Rattle.std.specs.Prelude.{codes, Err}
 use Rattle.std.proofs.lemmas.Result.{IfOk-weaker}
 use Rattle.tc_main.specs.Words.{Asks}
 use Rattle.tc_main.specs.Top.{Answers, FileAnswers, ReadsAll}
 use Rattle.tc_io.specs.Stream.{Stream}
-use Rattle.tc_main.specs.declared.options.Options.{Options}
+use Rattle.tc_workers.specs.declared.options.Options.{Options}
 use Rattle.tc_main.specs.declared.status.Status.{Status}
 use Rattle.tc_main.specs.declared.status.Status.TheVariants.{Done, Usage, ReadFault, Refused, WriteFault, OutOfMemory}
 use Rattle.tc_main.proofs.top.answer_words.Goals as goal
@@ -12,7 +12,7 @@ use Rattle.tc_main.proofs.top.answer_words.Goals as goal
 -- what the bytes of a file that was read whole come to
 of_file : (words : List (List ℕ)) (before now : Stream) (o : Options) (bytes : List ℕ) → Asks words o → ReadsAll before now bytes → (s : Status) (text : List ℕ) → FileAnswers bytes o s text → Answers words before now s text
 of_file words before now o bytes asked read Done text f =
-    record { options = o; bytes = bytes; image = f.0; results = f.1; asked = asked; read = read; loaded = f.2; legal = f.3; printed = f.4 }
+    record { options = o; bytes = bytes; image = f.0; asked = asked; read = read; loaded = f.1; report = f.2 }
 of_file words before now o bytes asked read Usage text f = absurd f
 of_file words before now o bytes asked read ReadFault text f = absurd f
 of_file words before now o bytes asked read (Refused k) text f = ((o, asked), (f.0, inr (bytes, read, f.1), f.2))
@@ -24,13 +24,13 @@ returns-in-Ok g c =
     let asked : Asks c.args.words.now c.in-Some.options = rw c.in-Some.is at c.in_ok-options.ensures.some in
     let read : ReadsAll (g.S.Source.stream c.args.source.now) (g.S.Source.stream c.read_all.new.source) c.deref.result.now =
     record { few = omega (arith, c.deref.ensures.len, c.in-Ok.ensures.limit); read = rw c.deref.ensures.value c.in-Ok.ensures.ok } in
-    IfOk-weaker c.answer_file.result _ _ (λ a f. of_file _ _ _ c.in-Some.options c.deref.result.now asked read a.status (string_bytes a.text) f) c.answer_file.ensures
+    IfOk-weaker c.answer_file.result _ _ (λ a f. of_file _ _ _ c.in-Some.options c.deref.result.now asked read a.status a.text.items f) c.answer_file.ensures
 
 pub returns-in-Err-Fault : goal.returns-in-Err-Fault
 returns-in-Err-Fault g c =
     let asked : Asks c.args.words.now c.in-Some.options = rw c.in-Some.is at c.in_ok-options.ensures.some in
     let fails = c.in-Err-Fault.ensures.fault (ap Err c.in-Err-Fault.field-0-is) in
-    ((c.in-Some.options, asked), omega (arith, fails.fault.next), c.new.ensures.bytes)
+    ((c.in-Some.options, asked), omega (arith, fails.fault.next), c.new.ensures.items)
 
 pub returns-in_ok-text-in-Err-OverLimit : goal.returns-in_ok-text-in-Err-OverLimit
 returns-in_ok-text-in-Err-OverLimit g c =

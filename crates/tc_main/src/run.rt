@@ -1,0 +1,70 @@
+//! A run of a guest, from its image to the report.
+
+ghost use Rattle.std.specs.Prelude.{◌≡◌, All, IfOk, map};
+ghost use Rattle.std.specs.List.Sorted.{IsPermutation};
+ghost use Rattle.tc_journal.specs.History.{HasEachStamp, IsInOrder};
+ghost use Rattle.tc_segment.specs.View.{IsSound};
+ghost use Rattle.tc_main.specs.Outcome.{log_in, logs_of};
+ghost use Rattle.tc_main.specs.Top.{IsReportOf};
+
+use crate::report::report;
+use std::alloc::{AllocError, Global};
+use std::sync::Wait;
+use std::thread::Threads;
+use tc_context::package::Package;
+use tc_elf::image::Image;
+use tc_journal::block::Block;
+use tc_journal::history::merge;
+use tc_segment::state::LockState;
+use tc_workers::gate::Gate;
+use tc_workers::options::Options;
+use tc_workers::run_all;
+
+/// What each of the lock states keeps. A law: it goes over them, and does nothing.
+fn keep(locks: &[LockState])
+    ensures { All IsSound locks.now }
+{
+    for lock in locks {
+        lock.keeps();
+    }
+}
+
+/// The logs of the packages.
+fn copied_logs(alloc: Global, packages: &[Package]) -> Result<Vec<Vec<Block>>, AllocError>
+    ensures { IfOk result (λ logs. map (λ log. log.items) logs.items ≡ map log_in packages.now) }
+{
+    let mut logs = Vec::new(alloc);
+    for package in packages {
+        logs.push(Vec::from_slice(alloc, package.log())?)?;
+    }
+    Ok(logs)
+}
+
+/// The blocks of all packages, in the order of their stamps.
+fn history_of(alloc: Global, packages: &[Package]) -> Result<Vec<Block>, AllocError>
+    requires { HasEachStamp (logs_of packages.now) }
+    ensures blocks { IfOk result (λ history. IsPermutation (logs_of packages.now) history.items) }
+    ensures order { IfOk result (λ history. IsInOrder history.items) }
+{
+    let logs = copied_logs(alloc, packages)?;
+    merge(alloc, &logs)
+}
+
+/// Runs the guest, and answers the report of the run. The text is made whole, of the hall that the
+/// workers left, once each of them has ended.
+pub fn run_report<R: Threads + Wait + Sync, G: Gate>(
+    rt: &R,
+    alloc: Global,
+    image: &Image,
+    options: Options,
+    gate: &G,
+) -> Result<Vec<u8>, AllocError>
+    ensures { IfOk result (λ out. IsReportOf image.now options out.items) }
+{
+    let closed = run_all(rt, alloc, image, options, gate)?;
+    let packages = closed.packages();
+    let locks = closed.locks();
+    keep(locks);
+    let history = history_of(alloc, packages)?;
+    report(alloc, image, options, &history, packages, locks)
+}

@@ -1,0 +1,192 @@
+//! Gates: what each worker reports, and a worker that is held until another has come so far.
+
+use crate::guests::{EXIT, built, counting};
+use crate::ran::{CALM, Outside, Ran, run_at};
+use std::alloc::{AllocError, Global};
+use std::sync::atomic::{AtomicBool, Ordering};
+use std::sync::{Mutex, Wait};
+use std::test::Fail;
+use std::thread::yield_now;
+use tc_journal::block::End;
+use tc_main::gate::{Gate, Point};
+use tc_main::status::Status;
+
+/// How often a held worker looks whether it may go on: one that runs all threads alone gives up.
+const LOOKS: u32 = 10_000_000;
+
+/// A worker's number, and where it is.
+type Report = (u32, Point);
+
+/// Where a worker is held, once in a run, and until what.
+#[derive(Clone, Copy)]
+enum Hold {
+    /// Where thread 0 was claimed, until thread 1 is.
+    Claim,
+    /// Where a block released lock 0, until a thread is shipped.
+    Release,
+}
+
+impl Hold {
+    fn begins(self, point: Point) -> bool {
+        match (self, point) {
+            (Hold::Claim, Point::Claimed(thread)) => thread == 0,
+            (Hold::Release, Point::Committed(_, end)) => end == End::Unlocked(0),
+            _ => false,
+        }
+    }
+
+    fn ends(self, point: Point) -> bool {
+        match (self, point) {
+            (Hold::Claim, Point::Claimed(thread)) => thread == 1,
+            (Hold::Release, Point::Shipped(_)) => true,
+            _ => false,
+        }
+    }
+}
+
+/// Keeps all reports, and holds a worker.
+#[derive(Drop)]
+struct Watch<'a, R: Wait + Sync> {
+    rt: &'a R,
+    hold: Hold,
+    reports: Mutex<Vec<Report>>,
+    held: AtomicBool,
+    over: AtomicBool,
+}
+
+impl<'a, R: Wait + Sync> Watch<'a, R> {
+    fn new(rt: &'a R, alloc: Global, hold: Hold) -> Self {
+        Watch {
+            rt,
+            hold,
+            reports: Mutex::new(Vec::new(alloc)),
+            held: AtomicBool::new(false),
+            over: AtomicBool::new(false),
+        }
+    }
+}
+
+/// Waits until the mark is set, for a limited number of looks.
+fn wait_for(mark: &AtomicBool) {
+    for _ in 0..LOOKS {
+        if mark.load(Ordering::SeqCst) {
+            return;
+        }
+        yield_now();
+    }
+}
+
+impl<R: Wait + Sync> Gate for Watch<'_, R> {
+    fn at(&self, worker: u32, point: Point) {
+        let _ = self.reports.lock(self.rt).push((worker, point));
+        if self.hold.ends(point) {
+            self.over.store(true, Ordering::SeqCst);
+        }
+        if self.hold.begins(point) && !self.held.swap(true, Ordering::SeqCst) {
+            wait_for(&self.over);
+        }
+    }
+}
+
+/// The worker that claimed a thread first.
+fn claimer(reports: &[Report], thread: u32) -> Option<u32> {
+    let claimed = Point::Claimed(thread);
+    let first = reports.iter().find(|report| report.1 == claimed)?;
+    Some(first.0)
+}
+
+/// Two threads are claimed by two workers: the first waits until the second has its thread.
+#[test]
+fn two_workers_claim_a_thread_each(rt: HostRuntime) -> Result<(), Fail> {
+    let alloc = rt.alloc();
+    let file = built(&rt, alloc, &EXIT, &[(0, 0), (0, 0)], 0)?;
+    let gate = Watch::new(&rt, alloc, Hold::Claim);
+    let words = [b"run".as_slice(), b"2", b"100", b"4"];
+    let ran = run_at(&rt, alloc, &words, &file, &CALM, &gate)?;
+    assert_eq!(rt; ran.status, Status::Done);
+    assert_eq!(rt; ran.blocks(), 2);
+    let reports = gate.reports.lock(&rt);
+    let (first, second) = (claimer(&reports, 0), claimer(&reports, 1));
+    assert!(rt; first.is_some() && second.is_some() && first != second);
+    Ok(())
+}
+
+/// The end of a block's line that has this end.
+fn end_of(alloc: Global, end: End) -> Result<String, AllocError> {
+    match end {
+        End::Wants(lock) => format!(in alloc; " end wants {lock}"),
+        End::Unlocked(lock) => format!(in alloc; " end unlocked {lock}"),
+        End::Exit => String::from_str(alloc, " end exit"),
+        _ => String::from_str(alloc, " end other"),
+    }
+}
+
+/// Whether a line is of the block that was committed here.
+fn is_line_of(alloc: Global, line: &str, point: Point) -> Result<bool, AllocError> {
+    let Point::Committed(thread, end) = point else {
+        return Ok(false);
+    };
+    let thread = format!(in alloc; " thread {thread} turns ")?;
+    let end = end_of(alloc, end)?;
+    Ok(line.contains(thread.as_str()) && line.ends_with(end.as_str()))
+}
+
+/// Whether the lines of a worker's blocks are those that it committed, in their order.
+fn are_reported(
+    alloc: Global,
+    ran: &Ran,
+    worker: u32,
+    reports: &[Report],
+) -> Result<bool, AllocError> {
+    let by_worker = format!(in alloc; " worker {worker} ")?;
+    let mut own = Vec::new(alloc);
+    for (by, point) in reports {
+        if let Point::Committed(_, _) = point {
+            if *by == worker {
+                own.push(*point)?;
+            }
+        }
+    }
+    let mut count = 0;
+    for line in ran.text().lines() {
+        if line.contains(by_worker.as_str()) {
+            let Some(point) = own.get(count) else {
+                return Ok(false);
+            };
+            if !is_line_of(alloc, line, *point)? {
+                return Ok(false);
+            }
+            count += 1;
+        }
+    }
+    Ok(count == own.len())
+}
+
+/// Two workers count under one lock. The worker that releases it first waits until the other thread
+/// is shipped, and then runs that thread's section. The printed blocks of each worker are those that
+/// it reported.
+#[test]
+fn a_thread_that_waits_is_adopted(rt: HostRuntime) -> Result<(), Fail> {
+    let alloc = rt.alloc();
+    let file = counting(&rt, alloc, 2)?;
+    let gate = Watch::new(&rt, alloc, Hold::Release);
+    let words = [b"run".as_slice(), b"2", b"2000", b"8"];
+    let outside = Outside {
+        room: 524_288,
+        ..CALM
+    };
+    let ran = run_at(&rt, alloc, &words, &file, &outside, &gate)?;
+    assert_eq!(rt; ran.status, Status::Done);
+    assert_eq!(rt; ran.blocks(), 402);
+    let mut sections = ran.text().lines().filter(|line| line.contains(" held 0 "));
+    let second = sections.nth(1).unwrap_or("");
+    assert!(rt; second.contains(" kind adopted "), "{second}");
+    let reports = gate.reports.lock(&rt);
+    for worker in 0..2 {
+        assert!(rt;
+            are_reported(alloc, &ran, worker, &reports)?,
+            "worker {worker}"
+        );
+    }
+    Ok(())
+}
