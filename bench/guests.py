@@ -1,6 +1,6 @@
 """Makes the guests of the bench: ELF32 files of the form of docs/GUEST.md.
 
-A guest is a list of RV32I instructions, each a tuple of a mnemonic and its operands. Registers are
+A guest is a list of instructions, each a tuple of a mnemonic and its operands. Registers are
 numbers, and the target of a jump or a branch is a distance in bytes.
 """
 

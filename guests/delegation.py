@@ -1,28 +1,34 @@
-"""Legal histories with delegation, by the model: several workers take turns in an order that is
-drawn from a seed, and hand contexts and locks on by the rules of batch, adoption, grant and sleep.
+"""Legal histories by the model: workers hand contexts and locks on by the rules of batch, adoption,
+grant and sleep. Several of them take turns in an order that is drawn from a seed; what one worker
+alone does is determined, and the program does the same.
 
 It is a simulation of the rules and no run of the program. Every block is run by legal.Run, which
 refuses what is not legal.
 """
+import collections
 import heapq
+import itertools
 import random
 
 import legal
+import report
 
 READY, WAITING, PARKED, TAKEN, DONE = "ready", "waiting", "parked", "taken", "done"
 
 
 class Worker:
-    """A worker: its clock of blocks, its sleepers, and the threads that it set aside."""
+    """A worker: its clock of blocks, its sleepers, the thread that it set aside, and those that it
+    made ready and offers, the oldest first."""
 
     def __init__(self, number):
         self.number, self.clock, self.sleepers, self.aside = number, 0, [], None
+        self.offers = collections.deque()
 
 
 class Hall:
     """Where threads and locks are, and who stands in each lock's line."""
 
-    def __init__(self, guest, workers, fuel, limit, seed, version=1):
+    def __init__(self, guest, workers, fuel, limit, seed, version=2):
         self.run = legal.Run(guest, workers, fuel, limit, version)
         self.threads = self.run.machine.threads
         self.place = [READY] * len(self.threads)
@@ -76,16 +82,28 @@ class Hall:
             hand, worker.aside = worker.aside, None
             return hand
         due = min((sleeper for sleeper in worker.sleepers if sleeper[0] <= worker.clock), default=None)
-        ready = [t for t, place in enumerate(self.place) if place == READY]
         if due is not None:
             worker.sleepers.remove(due)
             hand = due[1]
-        elif ready:
-            hand = self.chance.choice(ready)
         else:
-            return None
-        self.place[hand] = TAKEN
+            hand = self.pick_ready(worker)
+        if hand is not None:
+            self.place[hand] = TAKEN
         return hand
+
+    def pick_ready(self, worker):
+        """A thread that is ready, or None: any where workers race; by one worker alone the oldest
+        offer, else the least thread."""
+        ready = [t for t, place in enumerate(self.place) if place == READY]
+        if not ready:
+            return None
+        if self.run.workers > 1:
+            return self.chance.choice(ready)
+        return worker.offers.popleft() if worker.offers else ready[0]
+
+    def make_ready(self, worker, thread):
+        self.place[thread] = READY
+        worker.offers.append(thread)
 
     def run_block(self, worker, thread):
         """Runs and commits a block; it takes as long as it has turns."""
@@ -134,10 +152,10 @@ class Hall:
             if worker.aside is None:
                 worker.aside = thread
             else:
-                self.place[thread] = READY
+                self.make_ready(worker, thread)
             return adopted
         if worker.aside is not None and not block.kept:
-            self.place[thread] = READY
+            self.make_ready(worker, thread)
             thread, worker.aside = worker.aside, None
         return thread
 
@@ -157,23 +175,29 @@ class Hall:
         self.linked.discard((waiter, lock))
         adopts = "adopted" in self.run.kinds(waiter, worker.number)
         self.granted[waiter] = "adopted" if adopts else "granted"
-        self.place[waiter] = TAKEN if adopts else READY
+        if adopts:
+            self.place[waiter] = TAKEN
+        else:
+            self.make_ready(worker, waiter)
         yield 1
         return waiter if adopts else None
 
 
-def plain(guest, fuel, workers, limit, version=1):
-    """The history of one worker that runs the threads one after another, as the program does
-    today: the run and its blocks."""
-    run = legal.Run(guest, workers, fuel, limit, version)
-    return run, list(run.go_on())
-
-
-def delegated(guest, fuel, workers, limit, seed, version=1):
-    """A history with delegation that the seed stands for: the run and its blocks."""
+def delegated(guest, fuel, workers, limit, seed=0, version=2):
+    """The history that the seed stands for, which one worker alone does not look at: the run and
+    its blocks."""
     hall = Hall(guest, workers, fuel, limit, seed, version)
     blocks = hall.history()
     return hall.run, blocks
+
+
+def check_alone(guest, fuel, limit, report_text):
+    """Wrong where a report of one worker is not the model's, to the last byte."""
+    lines = text(*delegated(guest, fuel, 1, limit))
+    pairs = itertools.zip_longest(report_text.splitlines(), lines)
+    for number, (line, wanted) in enumerate(pairs, 1):
+        if line != wanted:
+            raise report.Wrong(f"line {number} is {line!r}, and by the model {wanted!r}")
 
 
 def text(run, blocks):

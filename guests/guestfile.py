@@ -11,6 +11,7 @@ import model
 import tool
 
 MOST_BYTES = 1048576
+MOST = {1: 16, 2: 32}  # threads, and guards, by the version of their note
 STACK = model.STACK
 TYPES = {1: "PT_LOAD", 2: "PT_DYNAMIC", 3: "PT_INTERP", 4: "PT_NOTE", 7: "PT_TLS"}
 
@@ -178,9 +179,11 @@ def descriptor(content, header):
         raise Refused(12, "BadNote", f"{header}: the descriptor has {len(content)} bytes, fewer than 12")
     version, threads, guards = struct.unpack_from("<3I", content)
     wanted = 12 + 8 * threads + 8 * guards
-    for wrong, why in ((version != 1, f"the note's version is {version}, not 1"),
-                       (not 1 <= threads <= 16, f"the note names {threads} threads, not 1 to 16"),
-                       (guards > 16, f"the note names {guards} guards, not 0 to 16"),
+    most = MOST.get(version, 0)
+    of_version = f"in a note of version {version}"
+    for wrong, why in ((not most, f"the note's version is {version}, not 1 or 2"),
+                       (not 1 <= threads <= most, f"{of_version} are {threads} threads, not 1 to {most}"),
+                       (guards > most, f"{of_version} are {guards} guards, not 0 to {most}"),
                        (len(content) != wanted, f"{threads} threads and {guards} guards are {wanted} "
                         f"bytes of descriptor, and it has {len(content)}")):
         if wrong:

@@ -77,7 +77,7 @@ class Release(NamedTuple):
 class Run:
     """A guest's machine with the batch rule of each lock, and the blocks that were run."""
 
-    def __init__(self, guest, workers, fuel, limit, version=1):
+    def __init__(self, guest, workers, fuel, limit, version=2):
         self.workers, self.fuel, self.limit, self.version = workers, fuel, limit, version
         self.machine = model.Machine(guest, fuel)
         self.batches = [Batch(limit) for _ in self.machine.locks]

@@ -1,6 +1,7 @@
 /* One product of two matrices of 8 by 8, one row for each thread. A thread
  * computes its row in its own memory, and takes the lock once, to hand it in.
- * RV32I has no multiplication, so the compiler calls a function for it. */
+ * It is built for rv32i, which has no multiplication, so the compiler calls a
+ * function for it. */
 #include "tclocks.h"
 
 #define SIZE 8

@@ -229,6 +229,8 @@ class Machine:
             value = operation(kind, kind == 5 and top == 32, a, immediate)
         elif opcode == 0x33 and (top == 0 or (top == 32 and kind in (0, 5))):
             value = operation(kind, top == 32, a, b)
+        elif opcode == 0x33 and top == 1:
+            value = product(kind, a, b) if kind < 4 else quotient(kind, a, b)
         elif word == 0x00100073:
             raise Fault(8)
         elif not (opcode == 0x0F and kind == 0):
@@ -286,6 +288,24 @@ def operation(kind, other, a, b):
     if kind == 5:
         return signed(a) >> (b & 31) if other else a >> (b & 31)
     return a | b if kind == 6 else a & b
+
+
+def product(kind, a, b):
+    """MUL, MULH, MULHSU, MULHU by kind."""
+    if kind == 0:
+        return a * b
+    return (a if kind == 3 else signed(a)) * (signed(b) if kind == 1 else b) >> 32
+
+
+def quotient(kind, a, b):
+    """DIV, DIVU, REM, REMU by kind. A quotient is rounded toward zero."""
+    if kind in (4, 6):
+        a, b = signed(a), signed(b)
+    if b == 0:
+        whole = -1
+    else:
+        whole = abs(a) // abs(b) * (1 if (a < 0) == (b < 0) else -1)
+    return whole if kind < 6 else a - whole * b
 
 
 def differences(facts, machine):

@@ -4,7 +4,7 @@ import re
 
 import guestfile
 import report
-import rv32i
+import rv32im
 
 CALLS = {1: "LOCK", 2: "UNLOCK", 3: "SLEEP", 93: "EXIT"}
 EXTENSIONS = {0x2F: "an atomic instruction (A)", 0x07: "a floating-point load", 0x27: "a floating-point store",
@@ -21,7 +21,7 @@ def place(file, address):
 def instruction(file, pc):
     """The address of an instruction with its symbol and text."""
     word = file.word(pc)
-    return f"{place(file, pc)} " + ("can't be fetched" if word is None else rv32i.text(word, pc))
+    return f"{place(file, pc)} " + ("can't be fetched" if word is None else rv32im.text(word, pc))
 
 
 def call_text(thread):
@@ -52,10 +52,8 @@ def illegal(file, thread, _):
     word = file.word(thread.pc)
     if word & 3 != 3:
         hint = "the word 0 is none" if word == 0 else "its low bits are those of compressed code (C)"
-    elif word & 0x7F == 0x33 and word >> 25 == 1:
-        hint = "it is a multiplication or division (M): build for rv32i"
     else:
-        hint = EXTENSIONS.get(word & 0x7F, "no row of RV32I gives it")
+        hint = EXTENSIONS.get(word & 0x7F, "no row of RV32IM gives it")
     return f"the word {word:08x} is no instruction: {hint}"
 
 
@@ -92,12 +90,12 @@ def guard_span(file, number):
 
 
 def target(file, thread, _):
-    address = rv32i.jump_target(file.word(thread.pc), thread.pc, thread.x)
+    address = rv32im.jump_target(file.word(thread.pc), thread.pc, thread.x)
     return f"it goes to {address:08x}, which is no multiple of 4"
 
 
 def access(file, thread, held):
-    kind, address, width = rv32i.access(file.word(thread.pc), thread.x)
+    kind, address, width = rv32im.access(file.word(thread.pc), thread.x)
     said = f"it {kind}s {width} byte{'s' * (width > 1)} at {place(file, address)}"
     if address % width:
         return f"{said}, which is no multiple of {width}"

@@ -8,12 +8,14 @@ CC    := $(CROSS)gcc
 NEED_CC = @command -v $(firstword $(CC)) >/dev/null || { echo "$(firstword $(CC)) is missing: \
 install the Debian package gcc-riscv64-unknown-elf, or give another prefix by CROSS=" >&2; exit 1; }
 
+# With rv32im products and quotients are instructions. MARCH=rv32i leaves them to functions of
+# libgcc, which take more turns.
+MARCH   ?= rv32im
 # -mstrict-align: an access at no multiple of its width is fault 6.
-TARGET  := -march=rv32i -mabi=ilp32 -mcmodel=medlow -mstrict-align
+TARGET   = -march=$(MARCH) -mabi=ilp32 -mcmodel=medlow -mstrict-align
 CFLAGS  ?= -O2
-# Products and quotients are functions of libgcc.
 LIBS    ?= -lgcc
-COMPILE := $(TARGET) -std=gnu11 -Wall -Wextra -Werror -g0 -ffreestanding \
+COMPILE  = $(TARGET) -std=gnu11 -Wall -Wextra -Werror -g0 -ffreestanding \
            -fno-pic -fno-common -fno-asynchronous-unwind-tables \
            -fno-stack-protector -ffunction-sections -fdata-sections -I$(KIT)
 # max-page-size: ranges are not rounded to pages, so the file can be small.

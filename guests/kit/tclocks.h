@@ -15,13 +15,10 @@
 #include <stdint.h>
 
 #if !defined(__riscv) || __riscv_xlen != 32
-#error "build for rv32i and ilp32"
+#error "build for rv32im or rv32i, and ilp32"
 #endif
-/* A file does not tell whether its code has multiplications, so the program
- * cannot refuse it, and the first one is fault 1. */
-#if defined(__riscv_mul) || defined(__riscv_compressed) \
-	|| defined(__riscv_atomic) || defined(__riscv_flen)
-#error "build for rv32i alone: no extension is there"
+#if defined(__riscv_compressed) || defined(__riscv_atomic) || defined(__riscv_flen)
+#error "build for rv32im or rv32i: no other extension is there"
 #endif
 
 /* ---- guest calls ---- */
@@ -115,8 +112,8 @@ TC_INLINE void tc_barrier(void)
 
 #define TC_GUEST(threads, guards)                                             \
 	enum { tc_threads = TC_COUNT(threads), tc_guards = TC_COUNT(guards) };\
-	_Static_assert(tc_threads >= 1 && tc_threads <= 16, "1 to 16 threads");\
-	_Static_assert(tc_guards <= 16, "at most 16 guards");                 \
+	_Static_assert(tc_threads >= 1 && tc_threads <= 32, "1 to 32 threads");\
+	_Static_assert(tc_guards <= 32, "at most 32 guards");                 \
 	__attribute__((section(".note.tclocks"), used, aligned(4)))           \
 	static const struct {                                                 \
 		uint32_t name_size, content_size, type;                       \
@@ -125,6 +122,7 @@ TC_INLINE void tc_barrier(void)
 		uint32_t thread[tc_threads][2], guard[tc_guards][2];          \
 	} tc_note = {                                                         \
 		8, 12 + 8 * (tc_threads + tc_guards), 1, "TCLOCKS",           \
-		1, tc_threads, tc_guards, { threads }, { guards } };
+		tc_threads <= 16 && tc_guards <= 16 ? 1 : 2,                  \
+		tc_threads, tc_guards, { threads }, { guards } };
 
 #endif

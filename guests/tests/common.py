@@ -2,6 +2,7 @@
 from docs, from facts.json and from guests whose runs are known on paper."""
 import json
 import pathlib
+import re
 import struct
 import subprocess
 import sys
@@ -20,16 +21,18 @@ TEMPORARY = pathlib.Path(FOLDER.name)
 # lui x5,0x20; lock(0); x7 = load, plus 1, store; unlock(0); exit.
 ONE = (0x000202B7, 0x00000513, 0x00100893, 0x00000073, 0x0002A383, 0x00138393, 0x0072A023,
        0x00000513, 0x00200893, 0x00000073, 0x05D00893, 0x00000073)
-BY_HAND = """tclocks 1
+BY_HAND = """tclocks 2
 guest threads 2 guards 1
 run workers 2 fuel 100 batch 4
-block 0 thread 0 turns 3 held - kind start worker 0 end wants 0
-block 1 thread 0 turns 7 held 0 kind taken worker 0 end unlocked 0
-block 2 thread 1 turns 3 held - kind start worker 1 end wants 0
-block 3 thread 1 turns 7 held 0 kind adopted worker 0 end unlocked 0
-block 4 thread 0 turns 2 held - kind on worker 0 end exit
-block 5 thread 1 turns 2 held - kind on worker 1 end exit
+block 0 thread 0 turns 3 held - kind start worker 0 pc 00100000 end wants 0
+block 1 thread 0 turns 7 held 0 kind taken worker 0 pc 0010000c end unlocked 0
+block 2 thread 1 turns 3 held - kind start worker 1 pc 00100000 end wants 0
+block 3 thread 1 turns 7 held 0 kind adopted worker 0 pc 0010000c end unlocked 0
+block 4 thread 0 turns 2 held - kind on worker 0 pc 00100028 end exit
+block 5 thread 1 turns 2 held - kind on worker 1 pc 00100028 end exit
 """
+# The same in the form of before, without the program counters.
+BY_HAND_V1 = re.sub(" pc [0-9a-f]{8}", "", BY_HAND).replace("tclocks 2", "tclocks 1")
 PCS = ("00100000", "0010000c", "00100000", "0010000c", "00100028", "00100028")
 
 
@@ -45,7 +48,8 @@ def built(code, threads, guards):
     """A guest's file: code at 00100000, data at 00020000 with guards of one word; threads are
     the places where they enter, in words."""
     code, data = struct.pack(f"<{len(code)}I", *code), bytes(4 * guards)
-    note = struct.pack("<3I8s3I", 8, 12 + 8 * (len(threads) + guards), 1, b"TCLOCKS", 1, len(threads), guards)
+    note = struct.pack("<3I8s3I", 8, 12 + 8 * (len(threads) + guards), 1, b"TCLOCKS",
+                       1 if len(threads) <= 16 and guards <= 16 else 2, len(threads), guards)
     note += b"".join(struct.pack("<2I", 0x100000 + 4 * place, 0) for place in threads)
     note += b"".join(struct.pack("<2I", 0x20000 + 4 * lock, 4) for lock in range(guards))
     at, file = 52 + 3 * 32, b"\x7fELF\1\1\1" + bytes(9) + struct.pack(
@@ -73,7 +77,7 @@ def run(tool, *words, given=b"", **more):
                           check=False, timeout=120, **how, **more)
 
 
-def history(name, workers, batch, seed, fuel=20000, version=1):
+def history(name, workers, batch, seed, fuel=20000, version=2):
     made = delegation.delegated(guestfile.load(elf(name)).guest, fuel, workers, batch, seed, version)
     return made[1], "\n".join(delegation.text(*made)) + "\n"
 

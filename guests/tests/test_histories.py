@@ -3,7 +3,7 @@ import json
 import re
 import unittest
 
-from common import BY_HAND, EXIT, GUESTS, NAMES, ONE, PCS, Case, built, call, elf, history, run, saved
+from common import BY_HAND, BY_HAND_V1, EXIT, GUESTS, NAMES, ONE, PCS, Case, built, call, elf, history, run, saved
 import delegation
 import guestfile
 import model
@@ -30,17 +30,14 @@ class ByHand(Case):
         self.assertEqual(run("finish", self.guest, given=short).stdout, run("finish", self.guest, given=BY_HAND).stdout)
 
     def test_both_forms(self):
-        lines = BY_HAND.replace("tclocks 1", "tclocks 2").splitlines()
-        for i, pc in enumerate(PCS):
-            lines[3 + i] = lines[3 + i].replace(" end", f" pc {pc} end")
-        text = "\n".join(lines) + "\n"
-        self.says("legal so far, 6 blocks", run("judge", self.guest, given=text))
+        self.says("legal so far, 6 blocks", run("judge", self.guest, given=BY_HAND_V1))
         self.says("block 1, line 5: pc is 00100008, and must be 0010000c",
-                  run("judge", self.guest, given=text.replace("pc 0010000c", "pc 00100008", 1)))
+                  run("judge", self.guest, given=BY_HAND.replace("pc 0010000c", "pc 00100008", 1)))
         for old, new in (("tclocks 2", "tclocks 1"), ("tclocks 2", "tclocks 3")):
-            self.one_line(run("judge", self.guest, given=text.replace(old, new)), 3)
-        explained = run("explain", self.guest, "-", given=BY_HAND).stdout.decode()
-        self.assertEqual(tuple(re.findall(r"# ([0-9a-f]{8})", explained)), PCS)
+            self.one_line(run("judge", self.guest, given=BY_HAND.replace(old, new)), 3)
+        for text in (BY_HAND, BY_HAND_V1):
+            explained = run("explain", self.guest, "-", given=text).stdout.decode()
+            self.assertEqual(tuple(re.findall(r"# ([0-9a-f]{8})", explained)), PCS)
 
     def test_first_block_that_is_not_legal(self):
         changes = {"batch 4": ("batch 0", "block 3"), "adopted worker 0": ("adopted worker 1", "block 3"),
@@ -56,7 +53,8 @@ class ByHand(Case):
 
     def test_what_would_have_been_legal(self):
         done = run("finish", self.guest, given=BY_HAND.replace("batch 4", "batch 0"))
-        self.says("block 3 thread 1 turns 7 held 0 kind granted worker 0 end unlocked 0  # or worker 1", done)
+        self.says("block 3 thread 1 turns 7 held 0 kind granted worker 0 pc 0010000c end unlocked 0"
+                  "  # or worker 1", done)
         self.says("block 3 thread 0 turns 2 held - kind on", done)
 
     def test_who_releases_does_not_wait(self):
@@ -129,11 +127,11 @@ class OnPaper(Case):
     def test_unlock_out_of_order(self):
         code = call(1, 0) + call(1, 1) + call(2, 0) + call(2, 1) + EXIT
         done = run("simulate", saved("paper.elf", built(code, (0,), 2)), "1", "100", "4")
-        self.says("""block 0 thread 0 turns 2 held - kind start worker 0 end wants 0
-block 1 thread 0 turns 3 held 0 kind taken worker 0 end wants 1
-block 2 thread 0 turns 4 held 0,1 kind taken worker 0 end unlocked 0
-block 3 thread 0 turns 3 held 1 kind on worker 0 end unlocked 1
-block 4 thread 0 turns 2 held - kind on worker 0 end exit
+        self.says("""block 0 thread 0 turns 2 held - kind start worker 0 pc 00100000 end wants 0
+block 1 thread 0 turns 3 held 0 kind taken worker 0 pc 00100008 end wants 1
+block 2 thread 0 turns 4 held 0,1 kind taken worker 0 pc 00100014 end unlocked 0
+block 3 thread 0 turns 3 held 1 kind on worker 0 pc 00100024 end unlocked 1
+block 4 thread 0 turns 2 held - kind on worker 0 pc 00100030 end exit
 thread 0 exit fuel 86""", done)
 
 

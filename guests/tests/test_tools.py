@@ -21,6 +21,14 @@ class Explanations(Case):
             self.refused(file[:offset] + value + file[offset + len(value):], number)
         self.refused(file + bytes(1048577 - 92), 0)
 
+    def test_refusals_of_notes_without_room(self):
+        file = built(ONE, 17 * (0,), 32)
+        guestfile.check(file)
+        self.refused(file[:168] + b"\1" + file[169:], 12)
+        self.refused(file[:168] + b"\3" + file[169:], 12)
+        self.refused(built(ONE, 33 * (0,), 1), 12)
+        self.refused(built(ONE, (0,), 33), 12)
+
     def refused(self, file, number):
         with self.assertRaises(guestfile.Refused) as refused:
             guestfile.check(file)

@@ -38,7 +38,7 @@ def explain_report(file, text):
     for block in text.blocks():
         start = reasons.start_text(file, threads[block.thread])
         run.follow(block, f", line {text.lines.at()}")
-        print(f"{block.line(1)}  # {start}")
+        print(f"{block.line(text.version)}  # {start}")
         thread = threads[block.thread]
         if block.ends_thread:
             held = f"; locks {report.held_text(block.held)} break" if block.held else ""

@@ -12,7 +12,7 @@ import legal
 import report
 import tool
 
-DEFAULTS = {"version": 1, "workers": 8, "fuel": 20000, "batch": 8}
+DEFAULTS = {"version": 2, "workers": 8, "fuel": 20000, "batch": 8}
 
 
 def step(run, line):

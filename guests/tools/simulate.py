@@ -1,7 +1,7 @@
 """Prints the report of a legal run of a guest, made by model.py and without the program.
 
-Without a seed it is the run that ./tclocks makes today: one worker runs the threads one after
-another. With a seed several workers delegate, in an interleaving that the seed stands for.
+What one worker does is determined: ./tclocks prints the same. Several workers delegate in an
+interleaving that the seed stands for; the program's is another one each time.
 """
 import delegation
 import guestfile
@@ -15,14 +15,14 @@ def main(words):
     for name, (least, most) in report.LIMITS.items():
         parser.add_argument(name, metavar=name.upper(), type=tool.number(least, most),
                             help=f"{least} to {most}")
-    parser.add_argument("--seed", type=tool.number(0, 10**9), help="delegate, in the interleaving of this number")
-    parser.add_argument("--form", type=int, choices=(1, 2), default=1,
-                        help="2: block lines with the program counter")
+    parser.add_argument("--seed", type=tool.number(0, 10**9), default=0,
+                        help="the interleaving of several workers, 0 if it is not given")
+    parser.add_argument("--form", type=int, choices=(1, 2), default=2,
+                        help="1: block lines without the program counter, as they were before")
     asked = parser.parse_args(words)
     guest = guestfile.load(asked.guest).guest
     options = (asked.fuel, asked.workers, asked.batch)
-    made = (delegation.plain(guest, *options, asked.form) if asked.seed is None
-            else delegation.delegated(guest, *options, asked.seed, asked.form))
+    made = delegation.delegated(guest, *options, asked.seed, asked.form)
     for line in delegation.text(*made):
         print(line)
 

@@ -1,4 +1,4 @@
-"""RV32I as text: what a word is, and which address it goes to."""
+"""RV32IM as text: what a word is, and which address it goes to."""
 import model
 
 NAMES = ("zero ra sp gp tp t0 t1 t2 s0 s1 a0 a1 a2 a3 a4 a5 a6 a7 "
@@ -7,6 +7,7 @@ BRANCHES = {0: "beq", 1: "bne", 4: "blt", 5: "bge", 6: "bltu", 7: "bgeu"}
 LOADS = {0: "lb", 1: "lh", 2: "lw", 4: "lbu", 5: "lhu"}
 STORES = {0: "sb", 1: "sh", 2: "sw"}
 OPERATIONS = ("add", "sll", "slt", "sltu", "xor", "srl", "or", "and")
+PRODUCTS = ("mul", "mulh", "mulhsu", "mulhu", "div", "divu", "rem", "remu")
 
 
 def operation_name(kind, other):
@@ -34,6 +35,8 @@ def text(word, pc=0):
         return immediate_text(word, kind, rd, a, immediate)
     if opcode == 0x33 and (top == 0 or (top == 32 and kind in (0, 5))):
         return f"{operation_name(kind, top == 32)} {rd},{a},{b}"
+    if opcode == 0x33 and top == 1:
+        return f"{PRODUCTS[kind]} {rd},{a},{b}"
     if opcode == 0x0F and kind == 0:
         return "fence"
     return {0x73: "ecall", 0x00100073: "ebreak"}.get(word, f".word {word:#010x}")

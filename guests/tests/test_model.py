@@ -1,0 +1,21 @@
+"""Products and quotients of the model, against values that come from outside of this repository."""
+import unittest
+
+from common import GUESTS
+import model
+
+VALUES = GUESTS.parent / "crates" / "value_vectors" / "stdin"
+
+
+class Values(unittest.TestCase):
+    def test_products_and_quotients(self):
+        heading, *lines = VALUES.read_text().splitlines()
+        for line in lines:
+            a, b, *values = (int(value, 16) for value in line.split(","))
+            for kind, (name, value) in enumerate(zip(heading.split(",")[2:], values)):
+                said = model.product(kind, a, b) if kind < 4 else model.quotient(kind, a, b)
+                self.assertEqual(said % 2**32, value, f"{name} of {a:08x} and {b:08x}")
+
+
+if __name__ == "__main__":
+    unittest.main()
