@@ -54,8 +54,8 @@ impl Surroundings for Beside<'_> {
 
     ghost locks = { λ s. mutex_at s.locks.now };
 
-    fn own_byte(&self, addr: u32) -> Option<u8> {
-        self.thread.byte(addr)
+    fn own_number(&self, addr: u32, width: u32) -> u32 {
+        self.thread.number(addr, width)
     }
 
     fn guard(&self, lock: u32) -> &[u8] {

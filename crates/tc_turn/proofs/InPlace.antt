@@ -1,19 +1,18 @@
 -- A turn in place is the turn.
-use Rattle.std.proofs.Common.{◌≡◌, ℕ, ◌+◌, ◌-◌, ◌<◌, ◌≤◌, ◌==◌, Bool, false, [], refl, ap, ◌∙◌, arith}
+use Rattle.std.proofs.Common.{◌≡◌, ℕ, ◌+◌, ◌-◌, ◌<◌, ◌==◌, Bool, false, [], refl, ap, ◌∙◌, arith}
 use Rattle.std.specs.Prelude.{if◌then◌else◌, Option, Some, None}
 use Rattle.std.specs.Option.{option_map}
 use Rattle.std.proofs.lemmas.Bool.Decides.{nat_tests}
 use Rattle.tc_isa.specs.Registers.{Registers}
 use Rattle.tc_elf.specs.Shown.{Shown}
-use Rattle.tc_exec.specs.Step.{wants_of, act_of}
+use Rattle.tc_exec.specs.Step.{act_of}
 use Rattle.tc_exec.specs.InPlace.{regs_after, done_of}
 use Rattle.tc_exec.specs.Plain.{IsPlain}
 use Rattle.tc_exec.specs.declared.outcome.Act.{Act}
 use Rattle.tc_exec.specs.declared.outcome.Act.TheVariants.{Next, Called, Faulted}
 use Rattle.tc_exec.specs.declared.outcome.Call.TheVariants.{Lock, Unlock, Sleep, Exit}
-use Rattle.tc_exec.specs.declared.outcome.Want.TheVariants as want
 use Rattle.tc_turn.specs.Turn.{Thread, Mutex, Guest, thread_of, taken_by, next_lock, next_act, answer_of, thread_after, mutex_after, outcome_of}
-use Rattle.tc_turn.specs.Replay.{takes_word, word_of}
+use Rattle.tc_turn.specs.Replay.{word_of}
 use Rattle.tc_turn.specs.InPlace.{thread_done, with_regs, mutex_done, outcome_done, ran_plain}
 
 -- ---- an act seen by its registers, and what is done beside them

@@ -1,5 +1,5 @@
 -- A turn that is done in place: what becomes of a thread and of a lock by what the turn did beside the registers.
-use Rattle.std.specs.Prelude.{ℕ, ◌+◌, ◌-◌, ◌^◌, ◌<◌, ◌≤◌, ◌==◌, Bool, Option, Some, None}
+use Rattle.std.specs.Prelude.{ℕ, ◌-◌, ◌<◌, ◌==◌, Bool, Option, Some, None}
 use Rattle.tc_isa.specs.Registers.{Registers}
 use Rattle.tc_elf.specs.Shown.{Shown}
 use Rattle.tc_exec.specs.declared.outcome.Done.{Done}

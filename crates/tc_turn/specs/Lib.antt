@@ -1,4 +1,5 @@
 pub mod Memory
+pub mod Clear
 pub mod Turn
 pub mod Reads
 pub mod Replay

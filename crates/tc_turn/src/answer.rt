@@ -1,18 +1,19 @@
 //! The answers that a turn finds.
 
-ghost use Rattle.std.specs.Prelude.{◌≡◌, ℕ, ◌+◌, ◌≤◌, ◌<◌, ◌^◌, unwrap_or};
+ghost use Rattle.std.specs.Prelude.{◌≡◌, ℕ, ◌+◌, ◌≤◌, ◌^◌, unwrap_or};
 ghost use Rattle.tc_elf.specs.Shown.{guard_at};
 ghost use Rattle.tc_exec.specs.Told.{IsWant};
-ghost use Rattle.tc_turn.specs.Memory.{byte_from, number_at};
+ghost use Rattle.tc_turn.specs.Memory.{number_at, starting_byte};
 ghost use Rattle.tc_turn.specs.Turn.{byte_at, answer_to};
 
-use crate::memory::byte_from;
+use crate::number::{Bytes, bytewise, number_from};
 use tc_elf::image::{Image, Region};
 use tc_exec::outcome::Want;
 
 /// A thread with the locks beside it, which a turn of the thread reads.
 pub trait Surroundings {
-    ghost use Rattle.std.specs.Prelude.{ℕ};
+    ghost use Rattle.std.specs.Prelude.{ℕ, ◌+◌, ◌≤◌, ◌^◌, unwrap_or};
+    ghost use Rattle.tc_turn.specs.Memory.{number_at};
     ghost use Rattle.tc_turn.specs.Turn.{Thread, Mutex};
 
     // The thread, and each lock by its number.
@@ -20,10 +21,12 @@ pub trait Surroundings {
 
     ghost locks: { Self → ℕ → Mutex };
 
-    /// The byte of the thread's own memory at an address, None exactly where the address is not in
-    /// it.
-    fn own_byte(&self, addr: u32) -> Option<u8>
-        ensures { result ≡ (thread self.now).own addr };
+    /// The number in so many bytes of the thread's own memory. A byte that is not in it counts as 0.
+    fn own_number(&self, addr: u32, width: u32) -> u32
+        requires fits { addr + width ≤ 2 ^ 32 }
+        requires small { width ≤ 4 }
+        ensures { result
+            ≡ number_at (λ at. unwrap_or ((thread self.now).own at) 0) addr width };
 
     /// The bytes of a lock's guard.
     fn guard(&self, lock: u32) -> &[u8]
@@ -34,45 +37,60 @@ pub trait Surroundings {
         ensures { result ≡ (locks self.now lock).broken };
 }
 
-/// The byte at an address of a lock's guard, which has these bytes: 0 outside of it.
-fn guard_byte(image: &Image, lock: u32, bytes: &[u8], addr: u32) -> u8
-    ensures { result ≡ unwrap_or (byte_from (guard_at image.now lock).start bytes.now addr) 0 }
-{
-    if lock >= image.guards() {
-        return byte_from(0, bytes, addr).unwrap_or(0);
-    }
-    let (start, _) = image.guard(lock);
-    byte_from(start, bytes, addr).unwrap_or(0)
+/// The bytes of an image's ranges at the start, with 0 where no range has the address.
+#[derive(Clone, Copy)]
+struct Text<'a> {
+    image: &'a Image,
 }
 
-/// The byte at an address of a place.
-fn byte<S: Surroundings>(at: &S, image: &Image, region: Region, addr: u32) -> u8
-    ensures { result ≡ byte_at image.now (S.thread at.now).own (S.locks at.now) region addr }
-{
-    match region {
-        Region::Text => image.byte(addr).unwrap_or(0),
-        Region::Private | Region::Stack => at.own_byte(addr).unwrap_or(0),
-        Region::Guard(lock) => guard_byte(image, lock, at.guard(lock), addr),
-        Region::Nothing => 0,
+impl Bytes for Text<'_> {
+    ghost use Rattle.tc_turn.specs.Memory.{starting_byte};
+
+    ghost bytes = { λ t. starting_byte t.image.now };
+
+    fn at(&self, addr: u32) -> u8 {
+        self.image.byte(addr).unwrap_or(0)
     }
+}
+
+/// A number of the file's bytes.
+fn text_number(image: &Image, addr: u32, width: u32) -> u32
+    requires fits { addr + width ≤ 2 ^ 32 }
+    requires small { width ≤ 4 }
+    ensures { result ≡ number_at (starting_byte image.now) addr width }
+{
+    match image.bytes(addr, width) {
+        Some(bytes) => number_from(addr, bytes, addr, width),
+        None => bytewise(&Text { image }, addr, width),
+    }
+}
+
+/// The start of a lock's guard, 0 of a lock that the image has not.
+fn guard_start(image: &Image, lock: u32) -> u32
+    ensures { result ≡ (guard_at image.now lock).start }
+{
+    if lock >= image.guards() {
+        return 0;
+    }
+    image.guard(lock).0
 }
 
 /// The number in so many bytes of a place from an address on, the lowest first.
+#[tactic(auto, using(crate::proofs::ClearLaws::number_nothing))]
 fn number<S: Surroundings>(at: &S, image: &Image, region: Region, addr: u32, width: u32) -> u32
     requires fits { addr + width ≤ 2 ^ 32 }
     requires small { width ≤ 4 }
-    ensures value { result
+    ensures { result
         ≡ number_at (byte_at image.now (S.thread at.now).own (S.locks at.now) region) addr width }
-    ensures bound { result < 256 ^ width }
 {
-    if width == 0 {
-        return 0;
+    match region {
+        Region::Text => text_number(image, addr, width),
+        Region::Private | Region::Stack => at.own_number(addr, width),
+        Region::Guard(lock) => {
+            number_from(guard_start(image, lock), at.guard(lock), addr, width)
+        }
+        Region::Nothing => 0,
     }
-    let low = u32::from(byte(at, image, region, addr));
-    if width == 1 {
-        return low;
-    }
-    low + 256 * number(at, image, region, addr + 1, width - 1)
 }
 
 /// The answer to this load, or to the LOCK of this lock.

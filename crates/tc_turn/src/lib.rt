@@ -7,14 +7,17 @@
 //! replays on what one lock saw of it.
 //!
 //! - `status`: whether and how a thread has ended. `outcome`: how a turn came out for its block.
-//! - `memory`: a thread's own memory. `thread`: a thread, which does what an act says.
+//! - `number`: numbers in bytes. `memory`: a thread's own memory, with `clear`, its table of the
+//!   addresses that need no search. `thread`: a thread, which does what an act says.
 //! - `answer`: the answer that a turn finds in its surroundings.
 //! - `law`: what a turn reads and what it leaves alone.
 #![tactic(auto)]
 
 pub mod answer;
+mod clear;
 pub mod law;
 pub mod memory;
+pub mod number;
 pub mod outcome;
 pub mod status;
 #[cfg(test)]

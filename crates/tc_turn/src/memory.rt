@@ -1,11 +1,15 @@
 //! A thread's own memory.
 
-ghost use Rattle.std.specs.Prelude.{◌≡◌, ℕ, ◌+◌, ◌≤◌, ◌^◌, ◌<◌, IfOk, length, map, replicate};
+ghost use Rattle.std.specs.Prelude.{◌≡◌, ℕ, ◌+◌, ◌≤◌, ◌^◌, ◌<◌, IfOk, IfSome, List, length, map, replicate, unwrap_or};
 ghost use Rattle.std.specs.List.{list_any};
 ghost use Rattle.tc_elf.specs.Places.{touches};
-ghost use Rattle.tc_elf.specs.Shown.{range_at};
-ghost use Rattle.tc_turn.specs.Memory.{byte_from, put_byte, put_number, part_with, with_number, own_of, own_at_start, starting_bytes, writable_byte, part_of, byte_in};
+ghost use Rattle.tc_elf.specs.Shown.{Guard, range_at};
+ghost use Rattle.tc_turn.specs.Clear.{part_at, part_byte, part_has, part_meets, IsAlone};
+ghost use Rattle.tc_turn.specs.Memory.{byte_from, number_at, part_with, with_number, own_of, own_at_start, starting_bytes, writable_byte, part_of, byte_in};
 
+use crate::clear::{Clear, clear_places, part_by, place_near};
+use crate::number::{Bytes, bytewise, number_from};
+pub use crate::number::{byte_from, put_number};
 use std::alloc::{AllocError, Global};
 use std::marker::Model;
 use tc_elf::image::Image;
@@ -13,7 +17,7 @@ use tc_elf::limits::{STACK_LENGTH, STACK_START};
 
 /// Bytes from a start on.
 #[derive(Drop)]
-struct Part {
+pub(crate) struct Part {
     start: u32,
     bytes: Vec<u8>,
 }
@@ -24,43 +28,6 @@ impl Model for Part {
     ghost Value = { ShownPart };
 
     ghost view = { λ p. record { start = p.start; bytes = p.bytes.items } };
-}
-
-/// The byte at an address of the bytes that stand from `start` on.
-pub fn byte_from(start: u32, bytes: &[u8], addr: u32) -> Option<u8>
-    ensures { result ≡ byte_from start bytes.now addr }
-{
-    if addr < start {
-        return None;
-    }
-    bytes.get((addr - start) as usize).copied()
-}
-
-fn put_byte(start: u32, bytes: &mut [u8], addr: u32, value: u8)
-    ensures { bytes.new ≡ put_byte start bytes.old addr value }
-{
-    if addr < start {
-        return;
-    }
-    let place = (addr - start) as usize;
-    if place < bytes.len() {
-        bytes[place] = value;
-    }
-}
-
-/// Writes the low `width` bytes of a value, the lowest first, to the addresses from `addr` on,
-/// where `bytes` stand from `start` on. What lies outside of them is not written.
-pub fn put_number(start: u32, bytes: &mut [u8], addr: u32, width: u32, value: u32)
-    requires { addr + width ≤ 2 ^ 32 }
-    ensures { bytes.new ≡ put_number start bytes.old addr width value }
-{
-    if width == 0 {
-        return;
-    }
-    put_byte(start, bytes, addr, (value % 256) as u8);
-    if width > 1 {
-        put_number(start, bytes, addr + 1, width - 1, value / 256);
-    }
 }
 
 /// The bytes that the file gives the addresses from one on, each asked for alone.
@@ -106,10 +73,44 @@ pub fn starting_bytes(
 }
 
 impl Part {
+    pub(crate) fn start(&self) -> u32 {
+        self.start
+    }
+
+    /// The address behind its last byte, or the greatest address.
+    pub(crate) fn end(&self) -> u32 {
+        let length = u32::try_from(self.bytes.len()).unwrap_or(u32::MAX);
+        self.start.saturating_add(length)
+    }
+
+    /// Whether it has all of these addresses.
+    pub(crate) fn has(&self, start: u32, length: u32) -> bool
+        ensures { result ≡ part_has start length self.now }
+    {
+        start >= self.start
+            && start as u64 + length as u64 <= self.start as u64 + self.bytes.len() as u64
+    }
+
+    /// Whether it has one of these addresses.
+    pub(crate) fn meets(&self, start: u32, length: u32) -> bool
+        ensures { result ≡ part_meets start length self.now }
+    {
+        (start as u64) < self.start as u64 + self.bytes.len() as u64
+            && (self.start as u64) < start as u64 + length as u64
+    }
+
     fn byte(&self, addr: u32) -> Option<u8>
         ensures { result ≡ byte_from self.now.start self.now.bytes addr }
     {
         byte_from(self.start, &self.bytes, addr)
+    }
+
+    fn number(&self, addr: u32, width: u32) -> u32
+        requires fits { addr + width ≤ 2 ^ 32 }
+        requires small { width ≤ 4 }
+        ensures { result ≡ number_at (λ at. unwrap_or (part_byte self.now at) 0) addr width }
+    {
+        number_from(self.start, &self.bytes, addr, width)
     }
 
     fn put(&mut self, addr: u32, width: u32, value: u32)
@@ -122,7 +123,7 @@ impl Part {
 
 /// A guard that may lie in a part.
 #[derive(Clone, Copy)]
-struct Gap {
+pub(crate) struct Gap {
     start: u32,
     length: u32,
 }
@@ -138,28 +139,56 @@ impl Model for Gap {
 }
 
 impl Gap {
-    fn has(&self, addr: u32) -> bool
-        ensures { result ≡ touches addr 1 self.now }
+    pub(crate) fn start(&self) -> u32 {
+        self.start
+    }
+
+    /// The address behind its last one, or the greatest address.
+    pub(crate) fn end(&self) -> u32 {
+        self.start.saturating_add(self.length)
+    }
+
+    /// Whether it has one of these addresses.
+    pub(crate) fn meets(&self, start: u32, length: u32) -> bool
+        ensures { result ≡ touches start length self.now }
     {
-        addr >= self.start && (addr as u64) < self.start as u64 + self.length as u64
+        (start as u64) < self.start as u64 + self.length as u64
+            && (self.start as u64) < start as u64 + length as u64
     }
 }
 
 /// The bytes that a thread has for itself: those of the writable ranges outside the guards, and its
 /// stack. A contract sees the parts and the guards, and `own_of` makes of these a map from
-/// addresses to bytes.
+/// addresses to bytes. Beside them stands the table of the addresses that one part alone has, with
+/// the place of the last store in it, which is tried first.
 #[derive(Drop)]
 pub struct Memory {
     parts: Vec<Part>,
     guards: Vec<Gap>,
+    places: Vec<Clear>,
+    last: usize,
 }
 
 impl Model for Memory {
+    ghost use Rattle.tc_turn.specs.Clear.{AreAlone};
     ghost use Rattle.tc_turn.specs.Memory.{Own};
 
     ghost Value = { Own };
 
     ghost view = { λ m. record { parts = m.parts.items; guards = m.guards.items } };
+
+    ghost invariant = { λ m. AreAlone m.parts.items m.guards.items m.places.items };
+}
+
+impl Bytes for Memory {
+    ghost use Rattle.std.specs.Prelude.{unwrap_or};
+    ghost use Rattle.tc_turn.specs.Memory.{own_of};
+
+    ghost bytes = { λ m at. unwrap_or (own_of m at) 0 };
+
+    fn at(&self, addr: u32) -> u8 {
+        self.byte(addr).unwrap_or(0)
+    }
 }
 
 fn byte_in(parts: &[Part], addr: u32) -> Option<u8>
@@ -176,7 +205,48 @@ fn byte_in(parts: &[Part], addr: u32) -> Option<u8>
 fn any_gap(guards: &[Gap], addr: u32) -> bool
     ensures { result ≡ list_any (touches addr 1) guards.now }
 {
-    guards.iter().any(|g| g.has(addr))
+    guards.iter().any(|g| g.meets(addr, 1))
+}
+
+/// The number in so many bytes of a part.
+fn number_in_part(parts: &[Part], part: usize, addr: u32, width: u32) -> u32
+    requires known { part < length parts.now }
+    requires fits { addr + width ≤ 2 ^ 32 }
+    requires small { width ≤ 4 }
+    ensures { result ≡ number_at (λ at. unwrap_or (part_byte (part_at parts.now part) at) 0) addr width }
+{
+    parts[part].number(addr, width)
+}
+
+/// Writes the low `width` bytes of a value in every part.
+fn put_in_parts(parts: &mut [Part], addr: u32, width: u32, value: u32)
+    requires { addr + width ≤ 2 ^ 32 }
+    ensures { parts.new ≡ map (part_with addr width value) parts.old }
+{
+    for part in parts.iter_mut() {
+        part.put(addr, width, value);
+    }
+}
+
+/// The same where one part alone has the addresses.
+fn put_in_part(parts: &mut [Part], part: usize, addr: u32, width: u32, value: u32)
+    requires fits { addr + width ≤ 2 ^ 32 }
+    requires alone { (guards : List Guard) × IsAlone parts.old guards part addr width }
+    ensures { parts.new ≡ map (part_with addr width value) parts.old }
+{
+    parts[part].put(addr, width, value);
+}
+
+/// The same where one part, if it is known, alone has the addresses.
+fn put_in(parts: &mut [Part], part: Option<usize>, addr: u32, width: u32, value: u32)
+    requires fits { addr + width ≤ 2 ^ 32 }
+    requires alone { (guards : List Guard) × IfSome part (λ i. IsAlone parts.old guards i addr width) }
+    ensures { parts.new ≡ map (part_with addr width value) parts.old }
+{
+    match part {
+        Some(part) => put_in_part(parts, part, addr, width, value),
+        None => put_in_parts(parts, addr, width, value),
+    }
 }
 
 fn zeros(alloc: Global, length: u32) -> Result<Vec<u8>, AllocError>
@@ -231,7 +301,13 @@ impl Memory {
             bytes: zeros(alloc, STACK_LENGTH)?,
         })?;
         let guards = gaps(alloc, image)?;
-        Ok(Memory { parts, guards })
+        let places = clear_places(alloc, &parts, &guards)?;
+        Ok(Memory {
+            parts,
+            guards,
+            places,
+            last: 0,
+        })
     }
 
     /// The byte at an address, None exactly where the address is not in this memory.
@@ -244,22 +320,28 @@ impl Memory {
         byte_in(&self.parts, addr)
     }
 
+    /// The number in so many bytes from an address on. A byte that is not in this memory counts as
+    /// 0.
+    pub fn number(&self, addr: u32, width: u32) -> u32
+        requires fits { addr + width ≤ 2 ^ 32 }
+        requires small { width ≤ 4 }
+        ensures { result ≡ number_at (λ at. unwrap_or (own_of self.now at) 0) addr width }
+    {
+        let place = place_near(&self.places, self.last, addr, width);
+        match part_by(&self.places, place, addr, width) {
+            Some(part) => number_in_part(&self.parts, part, addr, width),
+            None => bytewise(self, addr, width),
+        }
+    }
+
     /// Writes the low `width` bytes of a value, the lowest first, to the addresses from `addr` on.
     /// What is not in this memory is not written.
     pub fn put(&mut self, addr: u32, width: u32, value: u32)
         requires { addr + width ≤ 2 ^ 32 }
         ensures { own_of self.new ≡ with_number (own_of self.old) addr width value }
     {
-        self.put_in_parts(addr, width, value);
-    }
-
-    fn put_in_parts(&mut self, addr: u32, width: u32, value: u32)
-        requires { addr + width ≤ 2 ^ 32 }
-        ensures { self.new
-            ≡ record self.old { parts = map (part_with addr width value) self.old.parts } }
-    {
-        for part in self.parts.iter_mut() {
-            part.put(addr, width, value);
-        }
+        self.last = place_near(&self.places, self.last, addr, width);
+        let part = part_by(&self.places, self.last, addr, width);
+        put_in(&mut self.parts, part, addr, width, value);
     }
 }

@@ -1,4 +1,5 @@
 use crate::memory::{Memory, byte_from, put_number, starting_bytes};
+use crate::number::number_from;
 use crate::outcome::{outcome_by, outcome_of};
 use crate::status::Status;
 use crate::thread::GuestThread;
@@ -74,7 +75,14 @@ fn numbers_stand_in_little_endian_order(rt: HostRuntime) -> Result<(), Fail> {
     ] {
         assert!(rt; memory.byte(addr) == byte, "at {addr}");
     }
+    assert_eq!(rt; memory.number(0x7fff_fffc, 4), 0x0403_0201);
+    assert_eq!(rt; memory.number(0x7fff_fffe, 2), 0x0403);
+    assert_eq!(rt; memory.number(0x7fff_ffff, 1), 4);
+    // What is not in the memory counts as 0.
+    assert_eq!(rt; memory.number(0x0001_0054, 4), 0);
     let mut bytes = starting_bytes(rt.alloc(), &image, 0x10054, 8)?;
+    assert_eq!(rt; number_from(0x10054, &bytes, 0x10058, 4), 0x73);
+    assert_eq!(rt; number_from(0x10054, &bytes, 0x1005a, 4), 0);
     put_number(0x10054, &mut bytes, 0x10058, 2, 0xabcd);
     assert!(rt; bytes.as_slice() == b"\x93\x08\xd0\x05\xcd\xab\0\0".as_slice());
     assert!(rt; byte_from(0x10054, &bytes, 0x10059) == Some(0xab));

@@ -1,6 +1,6 @@
 //! A guest thread.
 
-ghost use Rattle.std.specs.Prelude.{◌≡◌, ◌<◌, ◌≤◌, IfOk, IfSome, length};
+ghost use Rattle.std.specs.Prelude.{◌≡◌, ◌+◌, ◌<◌, ◌≤◌, ◌^◌, IfOk, IfSome, length, unwrap_or};
 ghost use Rattle.std.specs.Option.{option_map};
 ghost use Rattle.tc_isa.specs.Sets.{has};
 ghost use Rattle.tc_exec.specs.InPlace.{done_of};
@@ -8,7 +8,7 @@ ghost use Rattle.tc_exec.specs.Plain.{PlainRun};
 ghost use Rattle.tc_exec.specs.Step.{wants_of};
 ghost use Rattle.tc_exec.specs.Told.{IsWant};
 ghost use Rattle.tc_turn.specs.InPlace.{thread_done, ran_plain, DoneFits};
-ghost use Rattle.tc_turn.specs.Memory.{own_of};
+ghost use Rattle.tc_turn.specs.Memory.{number_at, own_of};
 ghost use Rattle.tc_turn.specs.Turn.{thread_of, thread_at_start, next_lock, act_with, ActFits, PutFits, thread_after, with_end, with_put};
 
 use crate::memory::Memory;
@@ -89,6 +89,16 @@ impl GuestThread {
         ensures { result ≡ own_of self.now.own addr }
     {
         self.own.byte(addr)
+    }
+
+    /// The number in so many bytes of its own memory from an address on. A byte that is not in it
+    /// counts as 0.
+    pub fn number(&self, addr: u32, width: u32) -> u32
+        requires fits { addr + width ≤ 2 ^ 32 }
+        requires small { width ≤ 4 }
+        ensures { result ≡ number_at (λ at. unwrap_or (own_of self.now.own at) 0) addr width }
+    {
+        self.own.number(addr, width)
     }
 
     /// The load that its next instruction needs.

@@ -1,5 +1,5 @@
 use Rattle.std.proofs.Common.{◌≡◌, ℕ, ◌+◌, ◌-◌, ◌*◌, ◌^◌, ◌<◌, ◌≤◌, ◌⊎◌, sym, subst, arith, inl, inr}
-use Rattle.tc_turn.proofs.answer.+number.Goals as goal
+use Rattle.tc_turn.proofs.number.+bytewise.Goals as goal
 
 wide : (width : ℕ) → 1 < width → width ≤ 4 → (width ≡ 2) ⊎ (width ≡ 3) ⊎ (width ≡ 4)
 wide width low high = grind arith
@@ -18,15 +18,15 @@ room width n low high fits =
 
 pub overflow_mul-result : goal.overflow_mul-result
 overflow_mul-result g t c =
-    let r = room c.args.width c.number.result (let a = c.if-width-eq0.false in let b = c.if-width-eq1.false in omega arith) c.requires.small c.number.ensures.bound in
+    let r = room c.args.width c.bytewise.result (let a = c.if-width-eq0.false in let b = c.if-width-eq1.false in omega arith) c.requires.small c.bytewise.ensures.bound in
     omega (arith, r.0, r.1)
 
 pub overflow_add-result : goal.overflow_add-result
 overflow_add-result g t c =
-    let r = room c.args.width c.number.result (let a = c.if-width-eq0.false in let b = c.if-width-eq1.false in omega arith) c.requires.small c.number.ensures.bound in
-    omega (arith, r.0, r.1, c.from-low.ensures, c.byte.type_inv)
+    let r = room c.args.width c.bytewise.result (let a = c.if-width-eq0.false in let b = c.if-width-eq1.false in omega arith) c.requires.small c.bytewise.ensures.bound in
+    omega (arith, r.0, r.1, c.from-low.ensures, c.at.type_inv)
 
 pub returns-clause-bound : goal.returns-clause-bound
 returns-clause-bound g t c =
-    let r = room c.args.width c.number.result (let a = c.if-width-eq0.false in let b = c.if-width-eq1.false in omega arith) c.requires.small c.number.ensures.bound in
-    omega (arith, r.0, c.from-low.ensures, c.byte.type_inv)
+    let r = room c.args.width c.bytewise.result (let a = c.if-width-eq0.false in let b = c.if-width-eq1.false in omega arith) c.requires.small c.bytewise.ensures.bound in
+    omega (arith, r.0, c.from-low.ensures, c.at.type_inv)

@@ -1,0 +1,171 @@
+//! Numbers of a few bytes, the lowest first.
+//!
+//! A number whose bytes all stand in one list is read and written at once. What else is asked for is
+//! taken byte by byte.
+
+ghost use Rattle.std.specs.Prelude.{◌≡◌, ℕ, ◌+◌, ◌≤◌, ◌<◌, ◌^◌, true, false, length, drop, unwrap_or, IfSome};
+ghost use Rattle.byteorder.specs.Endian.{little_number};
+ghost use Rattle.tc_turn.specs.Memory.{byte_from, put_byte, put_number, number_at};
+
+use byteorder::{ByteOrder, LittleEndian};
+
+/// A byte at each address.
+pub trait Bytes {
+    ghost use Rattle.std.specs.Prelude.{ℕ};
+
+    // The byte by its address.
+    ghost bytes: { Self → ℕ → ℕ };
+
+    /// The byte at an address.
+    fn at(&self, addr: u32) -> u8
+        ensures { result ≡ bytes self.now addr };
+}
+
+/// Bytes that stand from a start on, with 0 at every other address.
+#[derive(Clone, Copy)]
+struct Standing<'a> {
+    start: u32,
+    bytes: &'a [u8],
+}
+
+impl Bytes for Standing<'_> {
+    ghost use Rattle.std.specs.Prelude.{unwrap_or};
+    ghost use Rattle.tc_turn.specs.Memory.{byte_from};
+
+    ghost bytes = { λ f at. unwrap_or (byte_from f.start f.bytes.now at) 0 };
+
+    fn at(&self, addr: u32) -> u8 {
+        byte_from(self.start, self.bytes, addr).unwrap_or(0)
+    }
+}
+
+/// The byte at an address of the bytes that stand from `start` on.
+pub fn byte_from(start: u32, bytes: &[u8], addr: u32) -> Option<u8>
+    ensures { result ≡ byte_from start bytes.now addr }
+{
+    if addr < start {
+        return None;
+    }
+    bytes.get((addr - start) as usize).copied()
+}
+
+/// The number in so many bytes from an address on, each asked for alone.
+pub fn bytewise<B: Bytes>(bytes: &B, addr: u32, width: u32) -> u32
+    requires fits { addr + width ≤ 2 ^ 32 }
+    requires small { width ≤ 4 }
+    ensures value { result ≡ number_at (B.bytes bytes.now) addr width }
+    ensures bound { result < 256 ^ width }
+{
+    if width == 0 {
+        return 0;
+    }
+    let low = u32::from(bytes.at(addr));
+    if width == 1 {
+        return low;
+    }
+    low + 256 * bytewise(bytes, addr + 1, width - 1)
+}
+
+/// Where the bytes of an access begin among so many that stand from `start` on, if all of them are
+/// there.
+fn place_of(start: u32, count: usize, addr: u32, width: u32) -> Option<usize>
+    ensures { IfSome result (λ at. (start + at ≡ addr) × (at + width ≤ count)) }
+{
+    if addr < start {
+        return None;
+    }
+    let at = (addr - start) as usize;
+    if count < width as usize || at > count - width as usize {
+        return None;
+    }
+    Some(at)
+}
+
+/// The number of 1, 2 or 4 bytes from a place on.
+fn whole(bytes: &[u8], at: usize, width: u32) -> Option<u32>
+    requires { at + width ≤ length bytes.now }
+    ensures { IfSome result (λ n. n ≡ little_number width (drop at bytes.now)) }
+{
+    let bytes = &bytes[at..];
+    match width {
+        1 => Some(u32::from(bytes[0])),
+        2 => Some(u32::from(LittleEndian::read_u16(bytes))),
+        4 => Some(LittleEndian::read_u32(bytes)),
+        _ => None,
+    }
+}
+
+/// The number in so many bytes from an address on, of the bytes that stand from `start` on. A byte
+/// that is not there counts as 0.
+pub fn number_from(start: u32, bytes: &[u8], addr: u32, width: u32) -> u32
+    requires fits { addr + width ≤ 2 ^ 32 }
+    requires small { width ≤ 4 }
+    ensures { result
+        ≡ number_at (λ at. unwrap_or (byte_from start bytes.now at) 0) addr width }
+{
+    if let Some(at) = place_of(start, bytes.len(), addr, width) {
+        if let Some(number) = whole(bytes, at, width) {
+            return number;
+        }
+    }
+    bytewise(&Standing { start, bytes }, addr, width)
+}
+
+fn put_byte(start: u32, bytes: &mut [u8], addr: u32, value: u8)
+    ensures { bytes.new ≡ put_byte start bytes.old addr value }
+{
+    if addr < start {
+        return;
+    }
+    let place = (addr - start) as usize;
+    if place < bytes.len() {
+        bytes[place] = value;
+    }
+}
+
+/// Writes the low `width` bytes of a value one by one.
+fn put_bytewise(start: u32, bytes: &mut [u8], addr: u32, width: u32, value: u32)
+    requires { addr + width ≤ 2 ^ 32 }
+    ensures { bytes.new ≡ put_number start bytes.old addr width value }
+{
+    if width == 0 {
+        return;
+    }
+    put_byte(start, bytes, addr, (value % 256) as u8);
+    if width > 1 {
+        put_bytewise(start, bytes, addr + 1, width - 1, value / 256);
+    }
+}
+
+fn put_half(bytes: &mut [u8], at: usize, value: u32)
+    requires { at + 2 ≤ length bytes.old }
+    ensures { (start addr : ℕ) → start + at ≡ addr
+        → bytes.new ≡ put_number start bytes.old addr 2 value }
+{
+    bytes[at] = (value % 256) as u8;
+    bytes[at + 1] = (value / 256 % 256) as u8;
+}
+
+fn put_word(bytes: &mut [u8], at: usize, value: u32)
+    requires { at + 4 ≤ length bytes.old }
+    ensures { (start addr : ℕ) → start + at ≡ addr
+        → bytes.new ≡ put_number start bytes.old addr 4 value }
+{
+    bytes[at] = (value % 256) as u8;
+    bytes[at + 1] = (value / 256 % 256) as u8;
+    bytes[at + 1 + 1] = (value / 256 / 256 % 256) as u8;
+    bytes[at + 1 + 1 + 1] = (value / 256 / 256 / 256 % 256) as u8;
+}
+
+/// Writes the low `width` bytes of a value, the lowest first, to the addresses from `addr` on,
+/// where `bytes` stand from `start` on. What lies outside of them is not written.
+pub fn put_number(start: u32, bytes: &mut [u8], addr: u32, width: u32, value: u32)
+    requires { addr + width ≤ 2 ^ 32 }
+    ensures { bytes.new ≡ put_number start bytes.old addr width value }
+{
+    match (width, place_of(start, bytes.len(), addr, width)) {
+        (4, Some(at)) => put_word(bytes, at, value),
+        (2, Some(at)) => put_half(bytes, at, value),
+        _ => put_bytewise(start, bytes, addr, width, value),
+    }
+}
