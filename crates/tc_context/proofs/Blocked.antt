@@ -1,5 +1,5 @@
 -- A whole block: from journals at rest to journals with an entry more.
-use Rattle.std.proofs.Common.{◌≡◌, ℕ, ◌≤◌, Bool, true, false, ◌||◌, List, refl, sym, ap, subst, ◌∙◌}
+use Rattle.std.proofs.Common.{◌≡◌, ℕ, ◌≤◌, arith, Bool, true, false, ◌||◌, List, refl, sym, ap, subst, ◌∙◌}
 use Rattle.std.specs.Prelude.{Option, Some, None, is_some, if◌then◌else◌}
 use Rattle.std.specs.Option.{option_map}
 use Rattle.tc_isa.specs.Sets.{has}
@@ -23,11 +23,11 @@ use Rattle.tc_context.specs.declared.context.Context.{Context}
 use Rattle.tc_context.specs.Whole.{thread_in, mutex_at, whole, set_of, journal_in, journal_at, Keeps, CanGo, RunsAs, block_locks, entry_of, with_entry, entered, Journals}
 use Rattle.tc_context.specs.Middle.{noted_when, words_of, AreOpen, HasRoom, AreReady, AreNoted}
 use Rattle.tc_context.specs.Ran.{slept_at}
+use Rattle.tc_context.proofs.LockList.{when_field, with_locks}
 use Rattle.tc_context.proofs.Moved.{map_some, identifies_when, keeps_changed, journals_changed, mutexes_same}
-use Rattle.tc_context.proofs.Noting.{same_mutex}
 use Rattle.tc_context.proofs.Partway.{keeps_all}
-use Rattle.tc_context.proofs.Staging.{record_is}
-use Rattle.tc_mutex_spec.proofs.Replaying.{replays, replay_is}
+use Rattle.tc_context.proofs.Staging.{some_of}
+use Rattle.tc_mutex_spec.proofs.Replaying.{IsRecord, replays, replay_is}
 use Rattle.tc_mutex_spec.proofs.Going.{block_broken}
 
 -- the two packages are the same part of the machine
@@ -63,9 +63,6 @@ runs_to image a b c turns end same runs = record {
   others = λ k out. ap (λ (m : State). m.locks k) same.machine ∙ runs.others k out;
 }
 
-abbrev pub with_locks : Context → List (Option LockView) → Context
-with_locks p locks = record { thread = p.thread; guest = p.guest; locks = locks }
-
 same_part : (p : Context) (f : ℕ → LockView → LockView) (locks : List (Option LockView)) → ((k : ℕ) (l : LockView) → ((f k l).number ≡ l.number) × ((f k l).journal.image ≡ l.journal.image)) → Changed f p.locks locks
     → ((t k : ℕ) (b : Bool) (l : LockView) → lock_in p.locks k ≡ Some l → mutex_of t b (f k l) ≡ mutex_of t b l) → SamePart p (with_locks p locks)
 same_part p f locks identifies changed each =
@@ -75,32 +72,19 @@ same_part p f locks identifies changed each =
       machine = λ i. record { threads = λ k. thread_in p; locks = λ k. h k i };
     }
 
-abbrev pub opened_when : Bool → Mutex → Registers → ℕ → Journal → Journal
-opened_when true from start fuel j = opened_at from start fuel j
-opened_when false from start fuel j = j
+-- the record of a package's next block has its held set and its kind
+pub record_is : (image : Shown) (p : Context) (b : Block) → CanGo image p → ((k : ℕ) → has b.held k ≡ block_locks image p k) → is_section b.kind ≡ is_some (next_lock image (thread_in p)) → IsRecord image (whole p) b
+record_is image p b go held section = record {
+  few = go.guards;
+  small = λ k h. (let l = some_of (lock_in p.locks k) (go.covers.held k h) in let known = (go.of k l.0 l.1).known in let few = go.guards in omega (arith, known, few));
+  held = held;
+  section = section;
+}
 
-opened_journal : (b : Bool) (from : Mutex) (start : Registers) (fuel : ℕ) (l : LockView) → lock_of l ≡ from → (when_in b (with_journal (opened_at (lock_of l) start fuel)) l).journal ≡ opened_when b from start fuel l.journal
-opened_journal true from start fuel l e = ap (λ m. opened_at m start fuel l.journal) e
-opened_journal false from start fuel l e = refl
-
-some_opened : (b : Bool) (from : Mutex) (start : Registers) (fuel : ℕ) (j : Journal) → b ≡ true → is_some (opened_when b from start fuel j).opened ≡ true
-some_opened true from start fuel j e = refl
-some_opened false from start fuel j e = absurd (cc)
-
-room_opened : (b : Bool) (from : Mutex) (start : Registers) (fuel : ℕ) (j : Journal) → (opened_when b from start fuel j).word_room ≡ j.word_room
-room_opened true from start fuel j = refl
-room_opened false from start fuel j = refl
-
-abbrev closed_when : Bool → Block → Registers → Journal → Journal
-closed_when true block finish j = closed_with block finish j
-closed_when false block finish j = j
-
-closed_journal : (b : Bool) (block : Block) (finish : Registers) (l : LockView) → (when_in b (λ m. with_end block.end (with_journal (closed_with block finish) m)) l).journal ≡ closed_when b block finish l.journal
-closed_journal true block finish l = refl
-closed_journal false block finish l = refl
-
-some_same : {X : Type 0} (a b : X) → Some a ≡ Some b → a ≡ b
-some_same a b e = cc
+-- a change of the journal alone
+journal_when : (b : Bool) (f : Journal → Journal) (g : LockView → LockView) (l : LockView) → (g l).journal ≡ f l.journal → (when_in b g l).journal ≡ when_in b f l.journal
+journal_when true f g l e = e
+journal_when false f g l e = refl
 
 -- a lock that is broken where the thread ended is the same with the thread's end
 ended_broken : (end : End) (broken : Bool) → (ends_thread end ≡ true → broken ≡ true) → (ends_thread end || broken) ≡ broken
@@ -125,14 +109,15 @@ module _ (image : Shown) (old : Context) (held : ℕ) (locks : List (Option Lock
   pub begun_part : SamePart old begun
   begun_part = same_part old (opened_in (has held) old.guest.regs old.guest.fuel) locks
       (λ k l. identifies_when (has held k) (with_journal (opened_at (lock_of l) old.guest.regs old.guest.fuel)) l refl refl) begins.opens
-      (λ t k b l e. same_mutex t b (has held k) (with_journal (opened_at (lock_of l) old.guest.regs old.guest.fuel)) l refl)
+      (λ t k b l e. when_field (mutex_of t b) (has held k) (with_journal (opened_at (lock_of l) old.guest.regs old.guest.fuel)) l refl)
 
   abbrev opening : ℕ → Journal → Journal
-  opening k = opened_when (has held k) (unowned (mutex_at old k)) old.guest.regs old.guest.fuel
+  opening k = when_in (has held k) (opened_at (unowned (mutex_at old k)) old.guest.regs old.guest.fuel)
 
   pub begun_journals : (k : ℕ) → journal_at begun k ≡ option_map (opening k) (journal_at old k)
   begun_journals = journals_changed (opened_in (has held) old.guest.regs old.guest.fuel) opening old begun begins.opens
-      (λ k l found. opened_journal (has held k) (unowned (mutex_at old k)) old.guest.regs old.guest.fuel l (ap (λ o. unowned (mutex_or old.thread (has old.guest.held k) o)) (sym found)))
+      (λ k l found. journal_when (has held k) (opened_at (unowned (mutex_at old k)) old.guest.regs old.guest.fuel) (with_journal (opened_at (lock_of l) old.guest.regs old.guest.fuel)) l
+      (ap (λ o. opened_at (unowned (mutex_or old.thread (has old.guest.held k) o)) old.guest.regs old.guest.fuel l.journal) (sym found)))
 
   pub begun_go : CanGo image begun
   begun_go = record {
@@ -149,12 +134,12 @@ module _ (image : Shown) (old : Context) (held : ℕ) (locks : List (Option Lock
   pub begun_opened : AreOpen (has held) begun
   begun_opened k j at h =
       let was = map_some (opening k) (journal_at old k) j (sym (begun_journals k) ∙ at) in
-      ap (λ (i : Journal). is_some i.opened) was.2 ∙ some_opened (has held k) (unowned (mutex_at old k)) old.guest.regs old.guest.fuel was.0 h
+      ap (λ (i : Journal). is_some i.opened) was.2 ∙ ap (λ v. is_some (when_in v (opened_at (unowned (mutex_at old k)) old.guest.regs old.guest.fuel) was.0).opened) h
 
   pub begun_room : HasRoom 4096 (has held) begun
   begun_room k j at h =
       let was = map_some (opening k) (journal_at old k) j (sym (begun_journals k) ∙ at) in
-      subst (λ n. 4096 ≤ n) (sym (ap (λ (i : Journal). i.word_room) was.2 ∙ room_opened (has held k) (unowned (mutex_at old k)) old.guest.regs old.guest.fuel was.0)) (ready k was.0 was.1 (sym (begins.is k) ∙ h)).words
+      subst (λ n. 4096 ≤ n) (sym (ap (λ (i : Journal). i.word_room) was.2 ∙ ap (λ v. (when_in v (opened_at (unowned (mutex_at old k)) old.guest.regs old.guest.fuel) was.0).word_room) h)) (ready k was.0 was.1 (sym (begins.is k) ∙ h)).words
 
   module _ (ran : Context) (turns : ℕ) (kind : Kind) (pc : ℕ) (end : End) (runs : RunsAs image begun ran turns end)
       (noted_all : AreNoted image (has held) turns begun ran)
@@ -173,11 +158,8 @@ module _ (image : Shown) (old : Context) (held : ℕ) (locks : List (Option Lock
     pub old_slept : (n : ℕ) → slept_at image (whole begun) begun.thread n ≡ slept_at image (whole old) old.thread n
     old_slept n = ap (λ m. slept_at image m old.thread n) begun_part.machine
 
-    to_is : alone.0 ≡ reach image (whole old) old.thread turns
-    to_is = alone.1.last
-
     finish_is : ran.guest.regs ≡ ((reach image (whole old) old.thread turns).threads old.thread).regs
-    finish_is = ap (λ (d : Thread). d.regs) alone.2.thread ∙ ap (λ (m : State). (m.threads old.thread).regs) to_is
+    finish_is = ap (λ (d : Thread). d.regs) alone.2.thread ∙ ap (λ (m : State). (m.threads old.thread).regs) alone.1.last
 
     abbrev words : ℕ → List ℕ
     words k = words_of image begun k turns
@@ -200,7 +182,7 @@ module _ (image : Shown) (old : Context) (held : ℕ) (locks : List (Option Lock
     was_ready k l found h =
         let a = map_some (noted_when (has held k) (words k)) (journal_at begun k) l.journal (sym (noted_all k) ∙ ap (option_map journal_in) found) in
         let b = map_some (opening k) (journal_at old k) a.0 (sym (begun_journals k) ∙ a.1) in
-        (b.0, b.1, a.2 ∙ ap (λ v. noted_when v (words k) a.0) h ∙ ap (noted (words k)) (b.2 ∙ ap (λ v. opened_when v (unowned (mutex_at old k)) old.guest.regs old.guest.fuel b.0) h))
+        (b.0, b.1, a.2 ∙ ap (λ v. noted_when v (words k) a.0) h ∙ ap (noted (words k)) (b.2 ∙ ap (λ v. when_in v (opened_at (unowned (mutex_at old k)) old.guest.regs old.guest.fuel) b.0) h))
 
     pub closes_image : (k : ℕ) (l : LockView) → lock_in ran.locks k ≡ Some l → has held k ≡ true → l.journal.image ≡ image
     closes_image k l found h = (old_runs.keeps.of image go.of k l found).of
@@ -212,19 +194,19 @@ module _ (image : Shown) (old : Context) (held : ℕ) (locks : List (Option Lock
     lock_is : (k : ℕ) (l : LockView) → lock_in ran.locks k ≡ Some l → has held k ≡ true → unowned ((reach image (whole old) old.thread turns).locks k) ≡ lock_of l
     lock_is k l found h =
         let some : block_locks image old k ≡ true = sym (begins.is k) ∙ h in
-        ap (λ (m : State). unowned (m.locks k)) (sym to_is) ∙ ap unowned (sym (alone.2.locks k some)) ∙ ap (λ x. unowned (mutex_or ran.thread (has ran.guest.held k) x)) found
+        ap (λ (m : State). unowned (m.locks k)) (sym alone.1.last) ∙ ap unowned (sym (alone.2.locks k some)) ∙ ap (λ x. unowned (mutex_or ran.thread (has ran.guest.held k) x)) found
 
     pub closes : (k : ℕ) (l : LockView) → lock_in ran.locks k ≡ Some l → has held k ≡ true → (o : Opened) → l.journal.opened ≡ Some o → Closes l made ran.guest.regs o
     closes k l found h o e =
         let w = was_ready k l found h in
         let of = old_runs.keeps.of image go.of k l found in
-        let same : filled k ≡ o = some_same (filled k) o (sym (ap (λ (x : Journal). x.opened) w.2) ∙ e) in
+        let some : Some (filled k) ≡ Some o = sym (ap (λ (x : Journal). x.opened) w.2) ∙ e in
+        let same : filled k ≡ o = cc in
         let entry : entry_of image k (whole old) made ≡ entry_from made ran.guest.regs o = entry_is k ∙ ap (entry_from made ran.guest.regs) same in
         let from : unowned (mutex_at old k) ≡ o.from = ap (λ (x : Opened). x.from) same in
-        let runs' : Runs image (whole old) old.thread turns end alone.0 = alone.1 in
         record {
-          replays = subst (λ (x : Shown × ℕ × Entry × Mutex). Replays x.0 x.1 x.2 x.3) (λ i. (sym of.of i, sym of.number i, entry i, from i)) (replays image k (whole old) made alone.0 runs' (record_is image old made go begins.is section));
-          lock = (λ i. replay_entry (of.of i) (of.number i) (sym entry i) (sym from i)) ∙ replay_is image k (whole old) made alone.0 runs' (record_is image old made go begins.is section) ∙ ap (ended end) (lock_is k l found h);
+          replays = subst (λ (x : Shown × ℕ × Entry × Mutex). Replays x.0 x.1 x.2 x.3) (λ i. (sym of.of i, sym of.number i, entry i, from i)) (replays image k (whole old) made alone.0 alone.1 (record_is image old made go begins.is section));
+          lock = (λ i. replay_entry (of.of i) (of.number i) (sym entry i) (sym from i)) ∙ replay_is image k (whole old) made alone.0 alone.1 (record_is image old made go begins.is section) ∙ ap (ended end) (lock_is k l found h);
         }
 
     module _ (after : List (Option LockView)) (shuts : Changed (closed_in (has held) made ran.guest.regs) ran.locks after) where
@@ -233,8 +215,7 @@ module _ (image : Shown) (old : Context) (held : ℕ) (locks : List (Option Lock
 
       is_broken : (k : ℕ) (l : LockView) → lock_in ran.locks k ≡ Some l → has held k ≡ true → ends_thread end ≡ true → l.broken ≡ true
       is_broken k l found h ends =
-          let runs' : Runs image (whole old) old.thread turns end alone.0 = alone.1 in
-          sym (ap (λ (m : Mutex). m.broken) (lock_is k l found h)) ∙ block_broken image (whole old) alone.0 old.thread turns end runs' k (sym (begins.is k) ∙ h) ends
+          sym (ap (λ (m : Mutex). m.broken) (lock_is k l found h)) ∙ block_broken image (whole old) alone.0 old.thread turns end alone.1 k (sym (begins.is k) ∙ h) ends
 
       same_ended : (t k : ℕ) (b : Bool) (l : LockView) → lock_in ran.locks k ≡ Some l → mutex_of t b (closed_in (has held) made ran.guest.regs k l) ≡ mutex_of t b l
       same_ended t k b l found = (elim (has held k) as (λ v. has held k ≡ v → mutex_of t b (when_in v (λ m. with_end end (with_journal (closed_with made ran.guest.regs) m)) l) ≡ mutex_of t b l) [
@@ -247,11 +228,11 @@ module _ (image : Shown) (old : Context) (held : ℕ) (locks : List (Option Lock
           (λ k l. identifies_when (has held k) (λ m. with_end end (with_journal (closed_with made ran.guest.regs) m)) l refl refl) shuts same_ended) old_runs
 
       all_three : (k : ℕ) (o : Option Journal)
-          → option_map (closed_when (has held k) made ran.guest.regs) (option_map (noted_when (has held k) (words k)) (option_map (opening k) o))
+          → option_map (when_in (has held k) (closed_with made ran.guest.regs)) (option_map (noted_when (has held k) (words k)) (option_map (opening k) o))
           ≡ option_map (entered (has held k) (entry_of image k (whole old) made)) o
       all_three k None = refl
       all_three k (Some j) =
-          ap Some (elim (has held k) as (λ b. closed_when b made ran.guest.regs (noted_when b (words k) (opened_when b (unowned (mutex_at old k)) old.guest.regs old.guest.fuel j)) ≡ entered b (entry_of image k (whole old) made) j) [
+          ap Some (elim (has held k) as (λ b. when_in b (closed_with made ran.guest.regs) (noted_when b (words k) (when_in b (opened_at (unowned (mutex_at old k)) old.guest.regs old.guest.fuel) j)) ≡ entered b (entry_of image k (whole old) made) j) [
             | true ↦ ap (λ x. with_entry x j) (sym (entry_is k))
             | false ↦ refl
           ])
@@ -260,7 +241,8 @@ module _ (image : Shown) (old : Context) (held : ℕ) (locks : List (Option Lock
       finished_journals = record {
         held = begins.is;
         entries = λ k.
-            journals_changed (closed_in (has held) made ran.guest.regs) (λ j. closed_when (has held j) made ran.guest.regs) ran finished shuts (λ j l e. closed_journal (has held j) made ran.guest.regs l) k
-            ∙ ap (option_map (closed_when (has held k) made ran.guest.regs)) (noted_all k ∙ ap (option_map (noted_when (has held k) (words k))) (begun_journals k))
+            journals_changed (closed_in (has held) made ran.guest.regs) (λ j. when_in (has held j) (closed_with made ran.guest.regs)) ran finished shuts
+            (λ j l e. journal_when (has held j) (closed_with made ran.guest.regs) (λ m. with_end end (with_journal (closed_with made ran.guest.regs) m)) l refl) k
+            ∙ ap (option_map (when_in (has held k) (closed_with made ran.guest.regs))) (noted_all k ∙ ap (option_map (noted_when (has held k) (words k))) (begun_journals k))
             ∙ all_three k (journal_at old k);
       }

@@ -1,10 +1,7 @@
 pub mod LockList
+pub mod Few
 pub mod Moved
-pub mod Noting
 pub mod Partway
 pub mod Blocked
 pub mod Staging
 pub mod Running
-pub mod Following
-pub mod Lawful
-pub mod Plain

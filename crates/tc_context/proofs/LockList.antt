@@ -1,16 +1,18 @@
 -- A package's lock states after a change of each of them.
 use Rattle.std.proofs.Common.{◌≡◌, ℕ, suc, [], ◌∷◌, arith, get_or, set, ◌<◌, Bool, true, false, not, ◌==◌, List, length, refl, sym, ap, ◌∙◌, inl, inr}
-use Rattle.std.specs.Prelude.{Option, Some, None, nat_lt, if◌then◌else◌}
+use Rattle.std.specs.Prelude.{Option, Some, None, if◌then◌else◌}
 use Rattle.std.specs.Option.{option_map}
 use Rattle.std.proofs.lemmas.Bool.Decides.{eqb_tells}
 use Rattle.tc_segment.specs.View.{LockView}
+use Rattle.tc_context.specs.declared.context.Context.{Context}
 use Rattle.tc_context.specs.Locks.{slot_of, lock_in, when_in, Changed, at_place}
 use Rattle.tc_mutex_spec.proofs.ListLaws.{get-set_same, get-set_other}
 use Rattle.std.proofs.lemmas.Option.{slice_get-get_or}
 
--- the changes of the places below a number
-abbrev pub up_to : (ℕ → LockView → LockView) → ℕ → ℕ → LockView → LockView
-up_to f n k l = when_in (nat_lt k n) (f k) l
+-- what a change leaves, it leaves where it is made in some cases alone
+pub when_field : {X Y : Type 0} (g : X → Y) (b : Bool) (f : X → X) (x : X) → g (f x) ≡ g x → g (when_in b f x) ≡ g x
+when_field g true f x e = e
+when_field g false f x e = refl
 
 pub option_map-id : {X : Type 0} (g : X → X) (o : Option X) → ((x : X) → g x ≡ x) → option_map g o ≡ o
 option_map-id g None same = refl
@@ -37,6 +39,10 @@ outside left f k l = when_in (not (left k)) (f k) l
 pub outside_here : (left : ℕ → Bool) (f : ℕ → LockView → LockView) (n : ℕ) (old now : List (Option LockView)) → left n ≡ true → Changed (outside left f) old now → lock_in now n ≡ lock_in old n
 outside_here left f n old now has_n changed = changed n ∙ option_map-id (outside left f n) (lock_in old n) (λ l. ap (λ b. when_in (not b) (f n) l) has_n)
 
+-- the context with other locks
+abbrev pub with_locks : Context → List (Option LockView) → Context
+with_locks p locks = record { thread = p.thread; guest = p.guest; locks = locks }
+
 -- ---- one place
 
 pub place_is : (items : List (Option LockView)) (n : ℕ) (o : Option LockView) → n < length items → o ≡ get_or items n o → lock_in items n ≡ o
@@ -55,11 +61,3 @@ changed_place f items n o new lt is e k = put_place items n new k lt ∙ (elim (
   | inl h ↦ ap (λ b. if b then new else lock_in items k) h.0 ∙ e ∙ sym (ap (λ b. option_map (λ l. when_in b f l) (lock_in items k)) h.0 ∙ ap (λ j. option_map f (lock_in items j)) h.1 ∙ ap (option_map f) (place_is items n o lt is))
   | inr h ↦ ap (λ b. if b then new else lock_in items k) h.0 ∙ sym (ap (λ b. option_map (λ l. when_in b f l) (lock_in items k)) h.0 ∙ option_map-id (λ l. l) (lock_in items k) (λ l. refl))
 ])
-
-pub when_true : (b : Bool) (g : LockView → LockView) (l : LockView) → b ≡ true → g l ≡ when_in b g l
-when_true true g l e = refl
-when_true false g l e = absurd (cc)
-
-pub when_false : (b : Bool) (g : LockView → LockView) (l : LockView) → b ≡ false → l ≡ when_in b g l
-when_false true g l e = absurd (cc)
-when_false false g l e = refl

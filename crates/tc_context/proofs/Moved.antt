@@ -1,34 +1,38 @@
--- What the thread and the locks of a package are after a turn.
-use Rattle.std.proofs.Common.{◌≡◌, ℕ, ◌<◌, ◌≤◌, Bool, true, false, not, ◌||◌, ◌&&◌, ◌==◌, List, length, refl, sym, ap, subst, ◌∙◌, arith}
+-- One turn of a package: what its thread and its locks are after it, and the words that its journals note.
+use Rattle.std.proofs.Common.{◌≡◌, ℕ, ◌≤◌, Bool, true, false, not, ◌||◌, ◌&&◌, ◌==◌, List, length, refl, sym, ap, subst, ◌∙◌, arith, [], ◌∷◌, ◌++◌}
 use Rattle.std.specs.Prelude.{IfSome, Option, Some, None, is_some, if◌then◌else◌}
-use Rattle.std.specs.Option.{option_map, option_map_or}
-use Rattle.std.specs.List.{position, list_any}
-use Rattle.std.proofs.lemmas.List.Quantifiers.{position-Some}
+use Rattle.std.specs.Option.{option_map}
 use Rattle.tc_isa.specs.Sets.{has}
 use Rattle.tc_elf.specs.Shown.{Shown, guard_at}
-use Rattle.tc_elf.specs.Places.{in_guard, in_text, in_writable, touches, lies_in, unguarded_region, region_of}
-use Rattle.tc_elf.specs.declared.limits.TheConstants.{STACK_START, STACK_LENGTH}
+use Rattle.tc_elf.specs.Places.{in_guard}
 use Rattle.tc_elf.specs.declared.image.Region.{Region}
-use Rattle.tc_elf.specs.declared.image.Region.TheVariants as region
 use Rattle.tc_exec.specs.Told.{IsAct, IsPut}
 use Rattle.tc_exec.proofs.Cases.{act_told}
 use Rattle.tc_exec.proofs.Laws.{put_is_held}
 use Rattle.tc_exec.specs.declared.outcome.Act.{Act}
 use Rattle.tc_exec.specs.InPlace.{done_of}
 use Rattle.tc_exec.specs.declared.outcome.Done.{Done}
-use Rattle.tc_exec.specs.declared.outcome.Done.TheVariants as done
 use Rattle.tc_exec.specs.declared.outcome.Act.TheVariants.{Next, Called, Faulted}
 use Rattle.tc_exec.specs.declared.outcome.Call.TheVariants.{Lock, Unlock, Sleep, Exit}
 use Rattle.tc_exec.specs.declared.outcome.Put.{Put}
 use Rattle.tc_turn.specs.Memory.{put_number}
 use Rattle.tc_turn.specs.InPlace.{DoneFits}
 use Rattle.tc_turn.specs.Reads.{Covers}
-use Rattle.tc_turn.specs.Turn.{Thread, ActFits, act_with, thread_after, mutex_after, guard_with, given_up, when, taken, released}
+use Rattle.tc_turn.specs.Turn.{Thread, ActFits, act_with, thread_after, mutex_after, guard_with, given_up, when, taken, released, Mutex, next_lock, answer_to}
 use Rattle.tc_turn.proofs.Turns.{act_some, act_takes, next_known}
-use Rattle.tc_segment.specs.View.{LockView, Journal, guard_of, with_store, with_section, with_break}
-use Rattle.tc_context.specs.Locks.{lock_in, mutex_of, mutex_or, IsLockOf, AreOf, when_in, stored_in, turned, TurnReady, StoreReady, TurnFits, StoreFits, Changed}
+use Rattle.tc_segment.specs.View.{LockView, Journal, guard_of, with_store, with_section, with_break, with_journal, noted}
+use Rattle.tc_context.specs.Locks.{lock_in, mutex_of, mutex_or, IsLockOf, AreOf, when_in, stored_in, turned, TurnReady, StoreReady, TurnFits, StoreFits, Changed, noted_in}
 use Rattle.tc_context.specs.declared.context.Context.{Context}
-use Rattle.tc_context.specs.Whole.{mutex_at, journal_in, journal_at, Keeps}
+use Rattle.tc_context.specs.Whole.{mutex_at, journal_in, journal_at, Keeps, thread_in, set_of}
+use Rattle.tc_exec.specs.Step.{wants_of}
+use Rattle.tc_exec.specs.declared.outcome.Want.{Want}
+use Rattle.tc_turn.specs.Replay.{takes_word, word_of}
+use Rattle.tc_context.specs.Middle.{act_in, noted_when, IsTurn, AreOpen}
+use Rattle.tc_context.proofs.LockList.{option_map-twice, when_field}
+use Rattle.tc_segment.proofs.Inside.{guard_has}
+use Rattle.tc_segment.proofs.Words.{noted_nil, noted_more, more_some}
+use Rattle.tc_elf.specs.declared.image.Region.TheVariants as region
+use Rattle.tc_exec.specs.declared.outcome.Done.TheVariants as done
 
 -- ---- a change of each lock, seen as a change of what the package has
 
@@ -45,8 +49,7 @@ abbrev pub Identifies : (ℕ → LockView → LockView) → Type 0
 Identifies f = (k : ℕ) (l : LockView) → ((f k l).number ≡ l.number) × ((f k l).journal.image ≡ l.journal.image)
 
 pub identifies_when : (b : Bool) (f : LockView → LockView) (l : LockView) → (f l).number ≡ l.number → (f l).journal.image ≡ l.journal.image → ((when_in b f l).number ≡ l.number) × ((when_in b f l).journal.image ≡ l.journal.image)
-identifies_when true f l p q = (p, q)
-identifies_when false f l p q = (refl, refl)
+identifies_when b f l p q = (when_field (λ x. x.number) b f l p, when_field (λ x. x.journal.image) b f l q)
 
 pub of_changed : (f : ℕ → LockView → LockView) (old new : List (Option LockView)) → Identifies f → Changed f old new → (image : Shown) → AreOf image old → AreOf image new
 of_changed f old new same changed image of k l found =
@@ -68,35 +71,26 @@ keeps_changed f old new same changed thread = record {
 
 pub journals_changed : (f : ℕ → LockView → LockView) (g : ℕ → Journal → Journal) (old new : Context) → Changed f old.locks new.locks
     → ((k : ℕ) (l : LockView) → lock_in old.locks k ≡ Some l → (f k l).journal ≡ g k l.journal) → (k : ℕ) → journal_at new k ≡ option_map (g k) (journal_at old k)
-journals_changed f g old new changed each k = ap (option_map journal_in) (changed k) ∙ go (lock_in old.locks k) refl
-  where
-    go : (o : Option LockView) → lock_in old.locks k ≡ o → option_map journal_in (option_map (f k) o) ≡ option_map (g k) (option_map journal_in o)
-    go None e = refl
-    go (Some l) e = ap Some (each k l e)
+journals_changed f g old new changed each k =
+    ap (option_map journal_in) (changed k) ∙ (elim (lock_in old.locks k) as (λ o. lock_in old.locks k ≡ o → option_map journal_in (option_map (f k) o) ≡ option_map (g k) (option_map journal_in o)) [ None ↦ λ e. refl | Some l ↦ λ e. ap Some (each k l e) ]) refl
 
 pub mutexes_same : (f : ℕ → LockView → LockView) (old new : Context) → Changed f old.locks new.locks → new.thread ≡ old.thread → ((k : ℕ) → has new.guest.held k ≡ has old.guest.held k)
     → ((t k : ℕ) (b : Bool) (l : LockView) → lock_in old.locks k ≡ Some l → mutex_of t b (f k l) ≡ mutex_of t b l) → (k : ℕ) → mutex_at new k ≡ mutex_at old k
 mutexes_same f old new changed thread held each k =
-    (λ i. mutex_or (thread i) (held k i) (changed k i)) ∙ go (lock_in old.locks k) refl
-  where
-    go : (o : Option LockView) → lock_in old.locks k ≡ o → mutex_or old.thread (has old.guest.held k) (option_map (f k) o) ≡ mutex_or old.thread (has old.guest.held k) o
-    go None e = refl
-    go (Some l) e = each old.thread k (has old.guest.held k) l e
+    let held_was = has old.guest.held k in
+    (λ i. mutex_or (thread i) (held k i) (changed k i))
+    ∙ (elim (lock_in old.locks k) as (λ o. lock_in old.locks k ≡ o → mutex_or old.thread held_was (option_map (f k) o) ≡ mutex_or old.thread held_was o) [ None ↦ λ e. refl | Some l ↦ each old.thread k held_was l ]) refl
 
 -- ---- a turn
 
+when_mutex : (t : ℕ) (b v : Bool) (f : LockView → LockView) (l : LockView) (m : Mutex) → mutex_of t b (f l) ≡ m → mutex_of t b (when_in v f l) ≡ when v m (mutex_of t b l)
+when_mutex t b true f l m e = e
+when_mutex t b false f l m e = refl
+
 stored_mutex : (image : Shown) (t k : ℕ) (b : Bool) (place : Region) (addr width value : ℕ) (l : LockView) → IsLockOf image k l
     → mutex_of t b (stored_in place k addr width value l) ≡ guard_with image place k (mutex_of t b l) addr width value
-stored_mutex image t k b region.Text addr width value l of = refl
-stored_mutex image t k b region.Private addr width value l of = refl
-stored_mutex image t k b region.Stack addr width value l of = refl
-stored_mutex image t k b (region.Guard lock) addr width value l of =
-    elim (k == lock) as (λ v. mutex_of t b (when_in v (with_store addr width value) l)
-    ≡ when v (record { bytes = put_number (guard_at image k).start l.bytes addr width value; broken = l.broken; sections = l.sections; owner = if b then Some t else None }) (mutex_of t b l)) [
-      | true ↦ (λ i. record { bytes = put_number (guard_at (of.of i) (of.number i)).start l.bytes addr width value; broken = l.broken; sections = l.sections; owner = if b then Some t else None })
-      | false ↦ refl
-    ]
-stored_mutex image t k b region.Nothing addr width value l of = refl
+stored_mutex image t k b (region.Guard lock) addr width value l of = when_mutex t b (k == lock) (with_store addr width value) l _ (λ i. record (mutex_of t b l) { bytes = put_number (guard_at (of.of i) (of.number i)).start l.bytes addr width value })
+stored_mutex image t k b _ addr width value l of = refl
 
 broken_mutex : (t : ℕ) (b : Bool) (l : LockView) → mutex_of t false (when_in b with_break l) ≡ given_up b (mutex_of t b l)
 broken_mutex t true l = refl
@@ -125,100 +119,135 @@ abbrev IsSame : LockView → LockView → Type 0
 IsSame l x = (x.number ≡ l.number) × (x.journal ≡ l.journal)
 
 same_when : (b : Bool) (f : LockView → LockView) (l : LockView) → IsSame l (f l) → IsSame l (when_in b f l)
-same_when true f l e = e
-same_when false f l e = (refl, refl)
+same_when b f l e = (when_field (λ x. x.number) b f l e.0, when_field (λ x. x.journal) b f l e.1)
 
 same_stored : (place : Region) (k addr width value : ℕ) (l : LockView) → IsSame l (stored_in place k addr width value l)
-same_stored region.Text k addr width value l = (refl, refl)
-same_stored region.Private k addr width value l = (refl, refl)
-same_stored region.Stack k addr width value l = (refl, refl)
 same_stored (region.Guard lock) k addr width value l = same_when (k == lock) (with_store addr width value) l (refl, refl)
-same_stored region.Nothing k addr width value l = (refl, refl)
+same_stored _ k addr width value l = (refl, refl)
 
 pub same_turned : (held : ℕ → Bool) (a : Option Done) (k : ℕ) (l : LockView) → IsSame l (turned held a k l)
 same_turned held None k l = same_when (held k) with_break l (refl, refl)
-same_turned held (Some done.Went) k l = (refl, refl)
 same_turned held (Some (done.Stored put)) k l = same_stored put.region k put.addr put.width put.value l
 same_turned held (Some (done.Called (Lock lock))) k l = same_when (k == lock) with_section l (refl, refl)
-same_turned held (Some (done.Called (Unlock lock))) k l = (refl, refl)
-same_turned held (Some (done.Called (Sleep n))) k l = (refl, refl)
 same_turned held (Some (done.Called Exit)) k l = same_when (held k) with_break l (refl, refl)
 same_turned held (Some (done.Faulted f)) k l = same_when (held k) with_break l (refl, refl)
+same_turned held _ k l = (refl, refl)
 
 -- ---- what a turn asks of the locks
 
-or_else : (b : Bool) (x y : Region) (lock : ℕ) → (if b then x else y) ≡ region.Guard lock → (x ≡ region.Guard lock → ⊥) → (y ≡ region.Guard lock → ⊥) → ⊥
-or_else true x y lock e p q = p e
-or_else false x y lock e p q = q e
-
-no_guard : (image : Shown) (addr width lock : ℕ) → unguarded_region image addr width ≡ region.Guard lock → ⊥
-no_guard image addr width lock e =
-    or_else (list_any (in_text addr width) image.ranges) _ _ lock e (λ p. cc) (λ p.
-    or_else (list_any (in_writable addr width) image.ranges && not (list_any (touches addr width) image.guards)) _ _ lock p (λ q. cc) (λ q.
-    or_else (lies_in addr width STACK_START STACK_LENGTH) _ _ lock q (λ r. cc) (λ r. cc)))
-
-from_position : (image : Shown) (addr width lock : ℕ) (o : Option ℕ) → option_map_or region.Guard o (unguarded_region image addr width) ≡ region.Guard lock → o ≡ Some lock
-from_position image addr width lock None e = absurd (no_guard image addr width lock e)
-from_position image addr width lock (Some k) e = (let same : k ≡ lock = cc in ap Some same)
-
--- an access in a guard lies in it
-pub in_its_guard : (image : Shown) (addr width lock : ℕ) → region_of image addr width ≡ region.Guard lock → (lock < length image.guards) × (in_guard addr width (guard_at image lock) ≡ true)
-unfolding region_of
-in_its_guard image addr width lock e =
-    let p = position-Some (in_guard addr width) image.guards lock (record { start = 0; length = 0 }) (from_position image addr width lock (position (in_guard addr width) image.guards) e) in
-    (p.0, p.1)
-
 put_ready : (image : Shown) (held : ℕ → Bool) (put : Put) (place : Region) (k : ℕ) (l : LockView) → put.region ≡ place → IsPut image held put → IsLockOf image k l
     → (held k ≡ true → is_some l.journal.opened ≡ true) → ((lock : ℕ) → put.region ≡ region.Guard lock → held lock ≡ true) → StoreReady place k put.addr put.width l
-put_ready image held put region.Text k l e is of opened holds = tt
-put_ready image held put region.Private k l e is of opened holds = tt
-put_ready image held put region.Stack k l e is of opened holds = tt
 put_ready image held put (region.Guard lock) k l e is of opened holds = λ same.
-    let g = in_its_guard image put.addr put.width lock (sym is.lies ∙ e) in
+    let g = guard_has image lock put.addr put.width (sym is.lies ∙ e) in
     let here : guard_of l ≡ guard_at image lock = (λ i. guard_at (of.of i) (of.number i)) ∙ ap (guard_at image) same in (
-      ap (in_guard put.addr put.width) here ∙ g.1,
+      ap (in_guard put.addr put.width) here ∙ g.inside,
       opened (ap held same ∙ holds lock e),
     )
-put_ready image held put region.Nothing k l e is of opened holds = tt
+put_ready image held put _ k l e is of opened holds = tt
 
 pub turn_ready : (image : Shown) (block : ℕ → Bool) (d : Thread) (answer : ℕ) (a : Option Act) → act_with image d answer ≡ a → Covers image block d
     → (k : ℕ) (l : LockView) → IsLockOf image k l → (block k ≡ true → is_some l.journal.opened ≡ true) → TurnReady d.held (option_map done_of a) k l
 turn_ready image block d answer None e covers k l of opened = λ h. opened (covers.held k h)
-turn_ready image block d answer (Some (Next regs None)) e covers k l of opened = tt
 turn_ready image block d answer (Some (Next regs (Some put))) e covers k l of opened =
     let act = act_some image d answer (Next regs (Some put)) e in
     put_ready image d.held put put.region k l refl (subst (λ x. IsAct image d.held d.regs x) act (act_told image d.held d.regs answer)) of (λ h. opened (covers.held k h))
     (λ lock place. put_is_held image d.held d.regs answer regs put lock act place)
 turn_ready image block d answer (Some (Called (Lock lock) regs)) e covers k l of opened = λ same. opened (ap block same ∙ covers.next lock (act_takes image d answer lock regs e))
-turn_ready image block d answer (Some (Called (Unlock lock) regs)) e covers k l of opened = tt
-turn_ready image block d answer (Some (Called (Sleep n) regs)) e covers k l of opened = tt
 turn_ready image block d answer (Some (Called Exit regs)) e covers k l of opened = λ h. opened (covers.held k h)
 turn_ready image block d answer (Some (Faulted f)) e covers k l of opened = λ h. opened (covers.held k h)
+turn_ready image block d answer _ e covers k l of opened = tt
 
 put_fits : (image : Shown) (held : ℕ → Bool) (put : Put) (place : Region) → put.region ≡ place → IsPut image held put → length image.guards ≤ 32 → StoreFits place put.width
-put_fits image held put region.Text e is few = tt
-put_fits image held put region.Private e is few = tt
-put_fits image held put region.Stack e is few = tt
-put_fits image held put (region.Guard lock) e is few = (let g = in_its_guard image put.addr put.width lock (sym is.lies ∙ e) in (omega (arith, g.0, few), is.width_fits))
-put_fits image held put region.Nothing e is few = tt
+put_fits image held put (region.Guard lock) e is few = (let g = guard_has image lock put.addr put.width (sym is.lies ∙ e) in (omega (arith, g.known, few), is.width_fits))
+put_fits image held put _ e is few = tt
 
 pub turn_fits : (image : Shown) (d : Thread) (answer : ℕ) (a : Option Act) → act_with image d answer ≡ a → length image.guards ≤ 32 → TurnFits (option_map done_of a)
-turn_fits image d answer None e few = tt
-turn_fits image d answer (Some (Next regs None)) e few = tt
 turn_fits image d answer (Some (Next regs (Some put))) e few =
     put_fits image d.held put put.region refl (subst (λ x. IsAct image d.held d.regs x) (act_some image d answer (Next regs (Some put)) e) (act_told image d.held d.regs answer)) few
 turn_fits image d answer (Some (Called (Lock lock) regs)) e few = (let known = next_known image d lock (act_takes image d answer lock regs e) in omega (arith, known, few))
-turn_fits image d answer (Some (Called (Unlock lock) regs)) e few = tt
-turn_fits image d answer (Some (Called (Sleep n) regs)) e few = tt
-turn_fits image d answer (Some (Called Exit regs)) e few = tt
-turn_fits image d answer (Some (Faulted f)) e few = tt
+turn_fits image d answer _ e few = tt
 
 pub act_fits : (a : Option Act) → IfSome (option_map done_of a) DoneFits → IfSome a ActFits
-act_fits None fits = tt
-act_fits (Some (Next regs None)) fits = tt
 act_fits (Some (Next regs (Some put))) fits = fits
 act_fits (Some (Called (Lock lock) regs)) fits = fits
 act_fits (Some (Called (Unlock lock) regs)) fits = fits
-act_fits (Some (Called (Sleep n) regs)) fits = tt
-act_fits (Some (Called Exit regs)) fits = tt
-act_fits (Some (Faulted f)) fits = tt
+act_fits _ fits = tt
+
+-- ---- the words of a turn, noted in the journals
+
+pub when_nil : (b : Bool) (j : Journal) → noted_when b [] j ≡ j
+when_nil b j = when_field (λ x. x) b (noted []) j (noted_nil j)
+
+pub when_more : (b : Bool) (ws vs : List ℕ) (j : Journal) → noted_when b vs (noted_when b ws j) ≡ noted_when b (ws ++ vs) j
+when_more true ws vs j = noted_more ws vs j
+when_more false ws vs j = refl
+
+pub when_open : (b : Bool) (ws : List ℕ) (j : Journal) → is_some (noted_when b ws j).opened ≡ is_some j.opened
+when_open b ws j = when_field (λ x. is_some x.opened) b (noted ws) j (more_some ws j.opened)
+
+-- ---- one turn
+
+words_now : (image : Shown) (d : Thread) (locks : ℕ → Mutex) (k : ℕ) (wanted : Want) (next : Option ℕ) (answer : ℕ)
+    → wanted ≡ wants_of image d.held d.regs → next ≡ next_lock image d → answer ≡ answer_to image wanted next d.own locks
+    → (if d.fuel == 0 then [] else (if takes_word k wanted next then answer ∷ [] else [])) ≡ word_of image k d locks
+unfolding word_of
+words_now image d locks k wanted next answer w n a =
+    let b : answer ≡ answer_to image (wants_of image d.held d.regs) (next_lock image d) d.own locks = a ∙ (λ i. answer_to image (w i) (n i) d.own locks) in
+    λ i. if d.fuel == 0 then [] else (if takes_word k (w i) (n i) then b i ∷ [] else [])
+
+noted_journal : (spent b t : Bool) (value : ℕ) (l : LockView) → (when_in ((if spent then false else b) && t) (with_journal (noted (value ∷ []))) l).journal ≡ noted_when b (if spent then [] else (if t then value ∷ [] else [])) l.journal
+noted_journal true b t value l = sym (when_nil b l.journal)
+noted_journal false true false value l = sym (noted_nil l.journal)
+noted_journal false _ _ value l = refl
+
+pub noting_block : (spent b n : Bool) → n ≡ (if spent then false else b) → n ≡ true → b ≡ true
+noting_block true b n e h = absurd (cc)
+noting_block false b n e h = sym e ∙ h
+
+same_lock : (noting : ℕ → Bool) (wanted : Want) (next : Option ℕ) (answer : ℕ) → Identifies (noted_in noting wanted next answer)
+same_lock noting wanted next answer k l = identifies_when (noting k && takes_word k wanted next) (with_journal (noted (answer ∷ []))) l refl refl
+
+-- a lock whose word is noted is one of the image, and its entry is open as before
+pub noted_lock : (image : Shown) (block noting : ℕ → Bool) (old : Context) (mid : List (Option LockView)) (wanted : Want) (next : Option ℕ) (answer : ℕ) → AreOf image old.locks → AreOpen block old
+    → Changed (noted_in noting wanted next answer) old.locks mid → (k : ℕ) (l : LockView) → lock_in mid k ≡ Some l → IsLockOf image k l × (block k ≡ true → is_some l.journal.opened ≡ true)
+noted_lock image block noting old mid wanted next answer of opened changed k l found =
+    let x = map_some (noted_in noting wanted next answer k) (lock_in old.locks k) l (sym (changed k) ∙ found) in (
+      of_changed (noted_in noting wanted next answer) old.locks mid (same_lock noting wanted next answer) changed image of k l found,
+      λ h. ap (λ (y : LockView). is_some y.journal.opened) x.2 ∙ when_field (λ y. is_some y.journal.opened) (noting k && takes_word k wanted next) (with_journal (noted (answer ∷ []))) x.0 (more_some (answer ∷ []) x.0.journal.opened) ∙ opened k x.0.journal (ap (option_map journal_in) x.1) h,
+    )
+
+-- the turn, from what its parts make of each lock
+module _ (image : Shown) (block noting : ℕ → Bool) (old new : Context) (mid : List (Option LockView)) (wanted : Want) (next : Option ℕ) (answer : ℕ) where
+  abbrev held : ℕ → Bool
+  held = has old.guest.held
+
+  abbrev did : Option Done
+  did = option_map done_of (act_in image old)
+
+  abbrev note : ℕ → LockView → LockView
+  note = noted_in noting wanted next answer
+
+  abbrev change : ℕ → LockView → LockView
+  change k l = turned held did k (note k l)
+
+  mutex : AreOf image old.locks → (k : ℕ) → set_of old k ≡ true → (o : Option LockView) → lock_in old.locks k ≡ o
+      → mutex_or old.thread ((thread_after (thread_in old) (act_in image old)).held k) (option_map (change k) o) ≡ mutex_after image old.thread held (act_in image old) k (mutex_or old.thread (held k) o)
+  mutex of k some None e = absurd (let g : is_some (lock_in old.locks k) ≡ false = ap is_some e in cc)
+  mutex of k some (Some l) e =
+      let m = same_lock noting wanted next answer k l in
+      let was = of k l e in
+      turned_mutex image old.thread k (thread_in old) (act_in image old) (note k l) (record { number = m.0 ∙ was.number; known = was.known; of = m.1 ∙ was.of })
+      ∙ ap (mutex_after image old.thread held (act_in image old) k) (when_field (mutex_of old.thread (held k)) (noting k && takes_word k wanted next) (with_journal (noted (answer ∷ []))) l refl)
+
+  pub turn_from : AreOf image old.locks → wanted ≡ wants_of image held old.guest.regs → next ≡ next_lock image (thread_in old) → answer ≡ answer_to image wanted next (thread_in old).own (mutex_at old)
+      → ((k : ℕ) → noting k ≡ (if old.guest.fuel == 0 then false else block k)) → Changed note old.locks mid → Changed (turned held did) mid new.locks → new.thread ≡ old.thread → thread_in new ≡ thread_after (thread_in old) (act_in image old) → IsTurn image block old new
+  turn_from of w n a notes first second number thread =
+      let changed : Changed change old.locks new.locks = λ k. second k ∙ ap (option_map (turned held did k)) (first k) ∙ option_map-twice (note k) (turned held did k) (change k) (lock_in old.locks k) (λ l. refl) in
+      record {
+        keeps = keeps_changed change old new (λ k l. (let s = same_turned held did k (note k l) in let m = same_lock noting wanted next answer k l in (s.0 ∙ m.0, ap (λ (j : Journal). j.image) s.1 ∙ m.1))) changed number;
+        thread = thread;
+        locks = λ k some. (λ i. mutex_or (number i) ((thread i).held k) (changed k i)) ∙ mutex of k some (lock_in old.locks k) refl;
+        journals = journals_changed change (λ k. noted_when (block k) (word_of image k (thread_in old) (mutex_at old))) old new changed
+            (λ k l e. (same_turned held did k (note k l)).1 ∙ ap (λ v. (when_in (v && takes_word k wanted next) (with_journal (noted (answer ∷ []))) l).journal) (notes k) ∙ noted_journal (old.guest.fuel == 0) (block k) (takes_word k wanted next) answer l
+            ∙ ap (λ ws. noted_when (block k) ws l.journal) (words_now image (thread_in old) (mutex_at old) k wanted next answer w n a));
+      }

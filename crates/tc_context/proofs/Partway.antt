@@ -1,14 +1,14 @@
 -- A package in the middle of a block.
-use Rattle.std.proofs.Common.{◌≡◌, ◌≢◌, ℕ, ◌+◌, ◌-◌, ◌<◌, ◌≤◌, Bool, true, false, ◌&&◌, ◌++◌, length, refl, sym, ap, subst, ◌∙◌, arith, add-one, inl, inr}
+use Rattle.std.proofs.Common.{◌≡◌, ℕ, ◌+◌, ◌-◌, ◌<◌, ◌≤◌, Bool, true, false, ◌&&◌, ◌++◌, length, refl, sym, ap, subst, ◌∙◌, arith, add-one, below_more, inl, inr, zero, suc}
 use Rattle.std.specs.Prelude.{Option, Some, None, nat_lt, is_some, if◌then◌else◌}
 use Rattle.std.specs.Option.{option_map}
-use Rattle.std.proofs.lemmas.Bool.Decides.{nat_tests, eqb_tells}
+use Rattle.std.proofs.lemmas.Bool.Decides.{nat_tests}
 use Rattle.tc_isa.specs.Sets.{has}
 use Rattle.tc_elf.specs.Shown.{Shown}
 use Rattle.tc_exec.specs.InPlace.{done_of}
 use Rattle.tc_journal.specs.Rule.{end_rule}
 use Rattle.tc_journal.specs.declared.block.End.{End}
-use Rattle.tc_turn.specs.Turn.{Thread, is_running, next_lock, next_act, outcome_of}
+use Rattle.tc_turn.specs.Turn.{Thread, is_running, next_lock, next_act, outcome_of, Guest, thread_after, mutex_after}
 use Rattle.tc_turn.specs.Reads.{Covers}
 use Rattle.tc_turn.specs.Replay.{word_of}
 use Rattle.tc_turn.proofs.Turns.{next_free, covers_on, goes_on}
@@ -21,13 +21,19 @@ use Rattle.tc_segment.specs.View.{LockView, Journal}
 use Rattle.tc_context.specs.Locks.{lock_in, mutex_or}
 use Rattle.tc_context.specs.declared.context.Context.{Context}
 use Rattle.tc_context.specs.Whole.{thread_in, mutex_at, whole, set_of, journal_at, Keeps, CanGo, block_locks, RunsAs}
-use Rattle.tc_context.specs.Middle.{act_in, IsTurn, noted_when, words_of, AreOpen, HasRoom, AreNoted}
+use Rattle.tc_context.specs.Middle.{act_in, IsTurn, noted_when, words_of, AreOpen, HasRoom, AreNoted, GoesOn, AreTurns}
 use Rattle.tc_context.specs.Ran.{slept_by, slept_at}
 use Rattle.tc_mutex_spec.proofs.Going.{in_block}
 use Rattle.tc_context.proofs.LockList.{option_map-id, option_map-twice}
-use Rattle.tc_context.proofs.Moved.{map_some}
+use Rattle.tc_context.proofs.Moved.{map_some, when_nil, when_more, when_open}
 use Rattle.tc_turn.proofs.Words.{words_more, words_short, word_same}
-use Rattle.tc_context.proofs.Noting.{when_nil, when_more, when_open}
+use Rattle.tc_isa.specs.Registers.{Registers}
+use Rattle.tc_exec.specs.Plain.{IsPlain, PlainRun}
+use Rattle.tc_exec.specs.declared.outcome.Done.{Done}
+use Rattle.tc_turn.specs.InPlace.{ran_plain, outcome_done}
+use Rattle.tc_turn.proofs.InPlace.{IsPlainTurn, plain_turn, ran_more, same_outcome}
+use Rattle.tc_exec.specs.declared.outcome.Done.TheVariants as done
+use Rattle.tc_journal.specs.declared.rule.Outcome.TheVariants as outcome
 
 pub record Partway (image : Shown) (block : ℕ → Bool) (old now : Context) (n : ℕ) : Type 0 where
   pub short : n < 4096
@@ -54,26 +60,19 @@ partway_start image block p go covers = record {
   journals = λ k. sym (option_map-id (noted_when (block k) (words_of image p k 0)) (journal_at p k) (when_nil (block k)));
 }
 
-owner_none : (t : ℕ) (o : Option LockView) → (mutex_or t false o).owner ≡ None
-owner_none t None = refl
-owner_none t (Some l) = refl
-
 -- a package's next lock isn't held, so it has no owner there
 open_here : (image : Shown) (p : Context) (o : Option ℕ) → next_lock image (thread_in p) ≡ o → is_open o (mutex_at p) ≡ true
 open_here image p None e = refl
 open_here image p (Some k) e =
     ap (λ b. is_free (mutex_or p.thread b (lock_in p.locks k)).owner) (next_free image (thread_in p) k e)
-    ∙ ap is_free (owner_none p.thread (lock_in p.locks k))
-
-all_true : (a b c : Bool) → a ≡ true → b ≡ true → c ≡ true → (a && (b && c)) ≡ true
-all_true a b c p q r = λ i. p i && (q i && r i)
+    ∙ (elim (lock_in p.locks k) as (λ l. is_free (mutex_or p.thread false l).owner ≡ true) [ None ↦ refl | Some l ↦ refl ])
 
 -- a package that can go takes a turn
 goes : (image : Shown) (p : Context) → CanGo image p → can_turn image (whole p) p.thread ≡ true
 unfolding can_turn
 goes image p go =
     let lt : nat_lt p.thread (length image.entries) ≡ true = (let h = go.thread in grind (arith, nat_tests)) in
-    all_true _ _ _ lt (ap is_running go.running) (open_here image p (next_lock image (thread_in p)) refl)
+    λ i. lt i && (is_running (go.running i) && open_here image p (next_lock image (thread_in p)) refl i)
 
 -- the turn leaves the machine's part as the package has it
 agree_moved : (image : Shown) (block : ℕ → Bool) (now new : Context) → IsTurn image block now new → Agree now.thread (set_of now) (after image (whole now) now.thread) (whole new)
@@ -128,9 +127,6 @@ noted_next image block old now new n partway turn k =
     (sym (ap (λ j. words_of image old k j) (add-one n) ∙ words_more image k _ _ 0 n
     ∙ ap (λ j. ws ++ word_of image k ((reach image (whole old) t j).threads t) (reach image (whole old) t j).locks) (let e : 0 + n ≡ n = omega arith in e)))
 
-below : (P : ℕ → Type 0) (n : ℕ) → ((k : ℕ) → k < n → P k) → P n → (k : ℕ) → k < n + 1 → P k
-below P n before here k lt = elim (eqb_tells k n) [ inl e ↦ subst P (sym e.1) here | inr e ↦ before k (let ne : k ≢ n = e.1 in omega arith) ]
-
 -- the same set covers the thread after a turn that ends no block
 covers_moved : (image : Shown) (set block : ℕ → Bool) (now new : Context) → Covers image set (thread_in now) → IsTurn image block now new → next_lock image (thread_in new) ≡ None → Covers image set (thread_in new)
 covers_moved image set block now new covers turn none =
@@ -151,8 +147,8 @@ partway_more image block old now new n partway turn none =
         covers = covers_at image (set_of now) (set_of new) (thread_in new) (λ k. sym (turn.keeps.set k)) (covers_moved image (set_of now) block now new partway.go.covers turn on.0);
       };
       agree = f.agree;
-      defined = below (λ k. can_turn image (reach image (whole old) old.thread k) old.thread ≡ true) n partway.defined f.defined;
-      before = below (λ k. end_at image (whole old) old.thread k ≡ None) n partway.before (f.end ∙ none);
+      defined = below_more (λ k. can_turn image (reach image (whole old) old.thread k) old.thread ≡ true) n partway.defined f.defined;
+      before = below_more (λ k. end_at image (whole old) old.thread k ≡ None) n partway.before (f.end ∙ none);
       covers = covers_moved image block block now new partway.covers turn on.0;
       journals = noted_next image block old now new n partway turn;
     }
@@ -183,7 +179,7 @@ module _ (image : Shown) (block : ℕ → Bool) (old now new : Context) (n : ℕ
   runs : Runs image (whole old) t (n + 1) end last
   runs = record {
     some = omega arith;
-    defined = below (λ k. can_turn image (reach image (whole old) t k) t ≡ true) n partway.defined f.defined;
+    defined = below_more (λ k. can_turn image (reach image (whole old) t k) t ≡ true) n partway.defined f.defined;
     before = λ k lt. partway.before k (omega arith);
     ends = λ k e. (let same : k ≡ n = omega arith in subst (λ j. end_at image (whole old) t j ≡ Some end) (sym same) (f.end ∙ ends));
     last = refl;
@@ -220,18 +216,111 @@ opened_here image block old now n opened partway k j at h =
     let was = map_some (noted_when (block k) (words_of image old k n)) (journal_at old k) j (sym (partway.journals k) ∙ at) in
     ap (λ (i : Journal). is_some i.opened) was.2 ∙ when_open (block k) (words_of image old k n) was.0 ∙ opened k was.0 was.1 h
 
-room_left : (b c : Bool) (ws : _) (j : Journal) (n : ℕ) → b ≡ true → is_some j.opened ≡ true → length ws ≤ n → n + 1 ≤ j.word_room → 1 ≤ (noted_when b ws j).word_room
-room_left true c ws j n e o short room =
-    let r : (if is_some j.opened then j.word_room - length ws else j.word_room) ≡ j.word_room - length ws = ap (λ v. if v then j.word_room - length ws else j.word_room) o in
-    subst (λ x. 1 ≤ x) (sym r) (omega (arith, short, room))
-room_left false c ws j n e o short room = absurd (cc)
-
 -- there is room for one word more
 pub room_here : (image : Shown) (block : ℕ → Bool) (old now : Context) (n : ℕ) → AreOpen block old → HasRoom 4096 block old → Partway image block old now n → HasRoom 1 block now
 room_here image block old now n opened room partway k j at h =
     let ws = words_of image old k n in
     let was = map_some (noted_when (block k) ws) (journal_at old k) j (sym (partway.journals k) ∙ at) in
+    let r : j.word_room ≡ was.0.word_room - length ws = ap (λ (i : Journal). i.word_room) was.2 ∙ ap (λ v. (noted_when v ws was.0).word_room) h ∙ ap (λ v. if v then was.0.word_room - length ws else was.0.word_room) (opened k was.0 was.1 h) in
     let big = room k was.0 was.1 h in
+    let less : length ws ≤ n = words_short image k _ _ 0 n in
     let short = partway.short in
-    subst (λ (i : Journal). 1 ≤ i.word_room) (sym was.2)
-    (room_left (block k) true ws was.0 n h (opened k was.0 was.1 h) (words_short image k _ _ 0 n) (omega (arith, short, big)))
+    omega (arith, r, big, less, short)
+
+-- ---- plain turns, one after another
+
+-- the package with another thread of the same number
+abbrev pub with_guest : Context → Guest → Context
+with_guest p g = record { thread = p.thread; guest = g; locks = p.locks }
+
+-- a plain turn changes the registers and the fuel alone
+plain_is : (image : Shown) (block : ℕ → Bool) (p : Context) (next : Registers) → IsPlainTurn image (thread_in p) (thread_in (with_guest p (ran_plain 1 next p.guest))) → IsTurn image block p (with_guest p (ran_plain 1 next p.guest))
+plain_is image block p next plain =
+    let acts = plain.acts (mutex_at p) in
+    record {
+      keeps = record { thread = refl; set = λ k. refl; of = λ i of. of };
+      thread = sym (ap (thread_after (thread_in p)) acts ∙ plain.after);
+      locks = λ k some. sym (ap (λ a. mutex_after image p.thread (has p.guest.held) a k (mutex_at p k)) acts);
+      journals = λ k. sym (ap (λ ws. option_map (noted_when (block k) ws) (journal_at p k)) (plain.words k (mutex_at p)) ∙ option_map-id (noted_when (block k) _) (journal_at p k) (when_nil (block k)));
+    }
+
+module _ (image : Shown) (block : ℕ → Bool) (p : Context) where
+  -- the package after so many plain turns, which left it these registers
+  abbrev pub plainly : ℕ → Registers → Context
+  plainly n r = with_guest p (ran_plain n r p.guest)
+
+  unmoved : (r : Registers) → p.guest.regs ≡ r → p ≡ plainly 0 r
+  unmoved r e = (let z : p.guest.fuel ≡ p.guest.fuel - 0 = omega arith in λ i. with_guest p (record { regs = e i; own = p.guest.own; fuel = z i; status = p.guest.status; held = p.guest.held }))
+
+  turn_at : (n : ℕ) (mid last : Registers) → IsPlain image mid last → suc n ≤ p.guest.fuel → IsPlainTurn image (thread_in (plainly n mid)) (thread_in (with_guest (plainly n mid) (ran_plain 1 last (ran_plain n mid p.guest))))
+  turn_at n mid last plain le = plain_turn image (ran_plain n mid p.guest) last plain (omega (arith, le))
+
+  after_is : (n : ℕ) (mid last : Registers) → with_guest (plainly n mid) (ran_plain 1 last (ran_plain n mid p.guest)) ≡ plainly (suc n) last
+  after_is n mid last = ap (with_guest p) (ran_more n mid last p.guest) ∙ ap (λ k. plainly k last) (add-one n)
+
+  step : (n : ℕ) (mid last : Registers) → IsPlain image mid last → suc n ≤ p.guest.fuel → IsTurn image block (plainly n mid) (plainly (suc n) last)
+  step n mid last plain le = subst (IsTurn image block (plainly n mid)) (after_is n mid last) (plain_is image block (plainly n mid) last (turn_at n mid last plain le))
+
+  all_go : (n : ℕ) (r : Registers) → PlainRun image n p.guest.regs r → n ≤ p.guest.fuel → next_lock image (thread_in (plainly n r)) ≡ None → GoesOn image block n p (plainly n r)
+  all_go zero r run le none = unmoved r run
+  all_go (suc n) r run le none =
+      let t = turn_at n run.0 r run.2 le in (
+        plainly n run.0,
+        all_go n run.0 run.1 (omega (arith, le)) t.none,
+        step n run.0 r run.2 le,
+        ap outcome_of (t.acts (mutex_at (plainly n run.0))),
+        none,
+      )
+
+  pub plain_turns : (n : ℕ) (r : Registers) → 0 < n → PlainRun image n p.guest.regs r → n ≤ p.guest.fuel → AreTurns image block p (plainly n r) n (Some done.Went)
+  plain_turns zero r some run le = absurd (omega arith)
+  plain_turns (suc n) r some run le =
+      let t = turn_at n run.0 r run.2 le in
+      record {
+        before = n;
+        count = sym (add-one n);
+        last = plainly n run.0;
+        goes = all_go n run.0 run.1 (omega (arith, le)) t.none;
+        turn = step n run.0 r run.2 le;
+        did = sym (ap (option_map done_of) (t.acts (mutex_at (plainly n run.0))));
+      }
+
+  -- no turn
+  pub stays : (n : ℕ) (g : Guest) → n ≤ 0 → PlainRun image n p.guest.regs g.regs → g ≡ ran_plain n g.regs p.guest → p ≡ with_guest p g
+  stays zero g le run rest = unmoved g.regs run ∙ ap (with_guest p) (sym rest)
+  stays (suc n) g le run rest = absurd (omega (arith, le))
+
+no_cut : (n : ℕ) → n < 4096 → end_rule outcome.Went n None ≡ None
+no_cut n lt = grind (arith, nat_tests)
+
+-- turns that go on leave the package in the middle of its block
+pub partway_on : (image : Shown) (block : ℕ → Bool) (old now : Context) (c n : ℕ) (last : Context) → Partway image block old now c → c + n < 4096 → GoesOn image block n now last → Partway image block old last (c + n)
+partway_on image block old now c zero last partway lt goes = subst (λ (x : Context × ℕ). Partway image block old x.0 x.1) (let e : c ≡ c + 0 = omega arith in λ i. (goes i, e i)) partway
+partway_on image block old now c (suc n) last partway lt goes =
+    let mid = partway_on image block old now c n goes.0 partway (omega (arith, lt)) goes.1 in
+    let rule = (λ i. end_rule (goes.3 i) (c + n + 1) (goes.4 i)) ∙ no_cut (c + n + 1) (omega (arith, lt)) in
+    subst (Partway image block old last) (let e : c + n + 1 ≡ c + suc n = omega arith in e) (partway_more image block old goes.0 last (c + n) mid goes.2 rule)
+
+-- turns that were taken in the middle of a block: the package before the last of them, and that turn
+pub record Taken (image : Shown) (block : ℕ → Bool) (old new : Context) (n : ℕ) (did : Option Done) : Type 0 where
+  pub last : Context
+  pub before : ℕ
+  pub count : n ≡ before + 1
+  pub partway : Partway image block old last before
+  pub turn : IsTurn image block last new
+  pub came : outcome_of (act_in image last) ≡ outcome_done did
+  pub done : did ≡ option_map done_of (act_in image last)
+
+pub taken : (image : Shown) (block : ℕ → Bool) (old now new : Context) (c n : ℕ) (did : Option Done) → Partway image block old now c → n ≤ 4096 - c → AreTurns image block now new n did → Taken image block old new (c + n) did
+taken image block old now new c n did partway most turns =
+    let short = partway.short in
+    let count = turns.count in
+    record {
+      last = turns.last;
+      before = c + turns.before;
+      count = omega arith;
+      partway = partway_on image block old now c turns.before turns.last partway (omega arith) turns.goes;
+      turn = turns.turn;
+      came = sym (same_outcome (act_in image turns.last)) ∙ ap outcome_done (sym turns.did);
+      done = turns.did;
+    }

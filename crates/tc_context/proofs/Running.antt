@@ -1,83 +1,256 @@
 -- What running a block makes of a package, and sealing it.
-use Rattle.std.proofs.Common.{◌≡◌, ℕ, ◌-◌, Bool, true, false, List, [], ◌∷◌, ◌++◌, map, length, set, refl, sym, ap, subst, ◌∙◌}
-use Rattle.std.specs.Prelude.{Option, Some, None, is_some, if◌then◌else◌}
+use Rattle.std.proofs.Common.{◌≡◌, ℕ, ◌-◌, ◌<◌, ◌≤◌, Bool, true, false, not, ◌||◌, ◌&&◌, ◌==◌, List, [], ◌∷◌, ◌++◌, map, length, refl, sym, ap, subst, ◌∙◌, inl, inr, set}
+use Rattle.std.specs.Prelude.{Option, Some, None, is_some, set, if◌then◌else◌, IfSome, slice_get}
 use Rattle.std.specs.Option.{option_map}
-use Rattle.std.proofs.lemmas.List.{length-map}
+use Rattle.std.proofs.lemmas.Bool.Decides.{eqb_tells}
 use Rattle.tc_isa.specs.Sets.{has}
 use Rattle.tc_elf.specs.Shown.{Shown}
-use Rattle.tc_journal.specs.Batch.{is_section, takes_of, allows_of}
-use Rattle.tc_journal.specs.History.{IsBlock}
+use Rattle.tc_journal.specs.Batch.{is_section, begins, is_lock, takes_of, last_of, allows_of, may_go_on, ends_section, passes_to, passes_on, may_follow}
 use Rattle.tc_journal.specs.declared.block.Block.{Block}
 use Rattle.tc_turn.specs.declared.status.Status.TheVariants.{Running}
-use Rattle.tc_turn.specs.Turn.{is_running, next_lock}
+use Rattle.tc_turn.specs.Turn.{Thread, is_running, next_lock}
+use Rattle.tc_turn.specs.Replay.{Entry}
 use Rattle.tc_turn.proofs.Turns.{next_free}
-use Rattle.tc_segment.specs.View.{LockView, Journal, block_in, blocks_of, with_journal, sealed_block, sealed_list, sealed_as}
+use Rattle.tc_mutex_spec.specs.Machine.{State}
+use Rattle.tc_mutex_spec.specs.Blocks.{locks_of_block, reach, Runs}
+use Rattle.tc_segment.specs.View.{LockView, Journal, block_in, blocks_of, with_journal, sealed_block, sealed_entry, sealed_list, sealed_as}
 use Rattle.tc_context.specs.declared.context.Context.{Context}
 use Rattle.tc_context.specs.declared.package.Grant.{Grant}
-use Rattle.tc_context.specs.Locks.{lock_in, when_in, Changed, sealed_in, sealed_all}
-use Rattle.tc_context.specs.Whole.{thread_in, whole, journal_in, journal_at, CanGo, RunsAs, entry_of, entered, Journals}
-use Rattle.tc_context.specs.View.{PackageView, granted_lock, want_of, kind_of, waiting_in, MayTake, IsSound, IsStored, Allows, fits_in, fits_granted, fits_of, sealed_log, with_seal}
-use Rattle.tc_context.specs.Ran.{DidRun, slept_at}
-use Rattle.tc_context.proofs.LockList.{locks_ext}
-use Rattle.tc_context.proofs.Moved.{map_some}
+use Rattle.tc_context.specs.Locks.{lock_in, AreOf, slot_of, when_in, Changed, sealed_all, sealed_in}
+use Rattle.tc_context.specs.Whole.{thread_in, whole, set_of, journal_in, journal_at, CanGo, RunsAs, entry_of, with_entry, entered, Journals}
+use Rattle.tc_context.specs.Middle.{IsReady, AreReady}
+use Rattle.tc_context.specs.View.{PackageView, granted_lock, kind_of, waiting_in, IsReserved, IsPending, IsStored, IsAfter, IsLeft, IsGranted, MayTake, IsSoundPackage, Allows, fits_in, fits_granted, fits_of, WantIsGranted, IsIdle, IsAt, EndsWith, sealed_log, with_seal}
+use Rattle.tc_journal.proofs.Batching.{last_more}
+use Rattle.tc_mutex_spec.proofs.BlocksAlike.{eq_self}
+use Rattle.tc_context.proofs.LockList.{when_field, locks_ext}
+use Rattle.tc_context.proofs.Moved.{map_some, some_map}
 use Rattle.tc_mutex_spec.proofs.Replaying.{record_takes}
-use Rattle.tc_context.proofs.Staging.{entered_rest, can_go, kind_section, record_is, idle_at, closed_none, sealed_at, begun_is, ran_sound}
+use Rattle.tc_mutex_spec.proofs.Going.{block_survives, block_gives, in_block}
+use Rattle.tc_context.proofs.Partway.{block_inside}
+use Rattle.tc_mutex_spec.proofs.Leaving.{block_runs, block_next, block_releases, block_covered}
+use Rattle.tc_journal.specs.History.{IsBlock}
+use Rattle.tc_context.specs.Ran.{DidRun, slept_at}
+use Rattle.tc_context.proofs.Staging.{false_true, rests_as, are_of, idle_at, closed_none, grant_of, goes_on}
+use Rattle.tc_context.proofs.Few.{left_few, block_few}
+use Rattle.tc_context.proofs.Blocked.{record_is}
+use Rattle.std.proofs.lemmas.Bool.{not-false}
+use Rattle.std.proofs.lemmas.List.{map-append, length-map, length-set}
+use Rattle.std.proofs.lemmas.Option.{slice_get-map, slice_get_within}
+use Rattle.tc_mutex_spec.proofs.ListLaws.{get-set_same}
 
--- ---- the batch rule
+-- what a package needs for a block, beside room
+pub record MayRun (image : Shown) (p : PackageView) : Type 0 where
+  pub is : p.image ≡ image
+  pub sound : IsSoundPackage p
+  pub rest : p.pending ≡ None
+  pub running : p.context.guest.status ≡ Running
+  pub want : WantIsGranted image p
 
--- a package that fits a worker runs a block that the batch rule allows with this worker
-pub fits_allows : (image : Shown) (p : PackageView) (v : Context) (b : Block) (worker : ℕ) → CanGo image p.context → Journals image p.context v b → b.kind ≡ kind_of p.granted p.log → is_section b.kind ≡ is_some (next_lock image (thread_in p.context))
-    → ((k : ℕ) → want_of image p.context ≡ Some k → granted_lock p.granted ≡ Some k) → fits_of p worker ≡ true → Allows v b worker
-unfolding allows_of
-fits_allows image p v b worker can journals kind section want fits k l begun found =
-    let next : next_lock image (thread_in p.context) ≡ Some k = sym (record_takes image (whole p.context) b (record_is image p.context b can journals.held section)) ∙ begun_is (takes_of b) k begun in
-    go p.granted refl (want k (ap (λ s. if is_running s then next_lock image (thread_in p.context) else None) can.running ∙ next))
-  where
-    go : (g : Option Grant) → p.granted ≡ g → granted_lock g ≡ Some k → allows_of k l.journal.limit (blocks_of l) b.kind worker ≡ true
-    go None e h = absurd (cc)
-    go (Some g) e h =
-        let same : g.lock ≡ k = cc in
-        let x = map_some (entered (has b.held k) (entry_of image k (whole p.context) b)) (journal_at p.context k) l.journal (sym (journals.entries k) ∙ ap (option_map journal_in) found) in
-        let z = map_some journal_in (lock_in p.context.locks k) x.0 x.1 in
-        let rest = entered_rest (has b.held k) (entry_of image k (whole p.context) b) x.0 in
-        let bound : l.journal.limit ≡ z.0.journal.limit = ap (λ (j : Journal). j.limit) x.2 ∙ rest.1 ∙ ap (λ (j : Journal). j.limit) z.2 in
-        let sealed : l.journal.sealed ≡ z.0.journal.sealed = ap (λ (j : Journal). j.sealed) x.2 ∙ rest.0 ∙ ap (λ (j : Journal). j.sealed) z.2 in
-        (λ i. allows_of k (bound i) (map block_in (sealed i)) ((kind ∙ ap (λ o. kind_of o p.log) e) i) worker)
-        ∙ (λ i. fits_in (sym z.1 i) k g.kind worker)
-        ∙ ap (λ n. fits_in (lock_in p.context.locks n) n g.kind worker) (sym same)
-        ∙ ap (λ o. fits_granted p.context o worker) (sym e) ∙ fits
+entered_stage : (b : Bool) (block : Block) (e : Entry) (i : Journal) → e.block ≡ block → i.opened ≡ None → option_map block_in i.closed ≡ None → (((entered b e i).opened ≡ None) × (option_map block_in (entered b e i).closed ≡ (if b then Some block else None)))
+entered_stage true block e i is o c = (refl, ap Some is)
+entered_stage false block e i is o c = (o, c)
 
--- ---- the block
+pub entered_rest : (b : Bool) (e : Entry) (i : Journal) → ((entered b e i).sealed ≡ i.sealed) × ((entered b e i).limit ≡ i.limit)
+entered_rest b e i = (when_field (λ (j : Journal). j.sealed) b (with_entry e) i refl, when_field (λ (j : Journal). j.limit) b (with_entry e) i refl)
 
-no_grant : (image : Shown) (p : PackageView) (g : Option Grant) → MayTake p.image p.context g → is_section (kind_of g p.log) ≡ false → kind_of g p.log ≡ kind_of None p.log
-no_grant image p None may out = refl
-no_grant image p (Some g) may out = absurd (let f : true ≡ false = sym may.section ∙ out in cc)
+-- a lock that isn't of the block wasn't held before it
+not_before : (held : ℕ → Bool) (next : Option ℕ) (k : ℕ) → locks_of_block held next k ≡ false → held k ≡ false
+not_before held None k out = out
+not_before held (Some lock) k out = (elim (k == lock) as (λ b. (b || held k) ≡ false → held k ≡ false) [ true ↦ λ e. absurd (cc) | false ↦ λ e. e ]) out
 
-pub did_run : (image : Shown) (p old : PackageView) (new : Context) (b : Block) (log : List Block) (slept : ℕ) → p ≡ old → p.image ≡ image → IsSound p → p.pending ≡ None → p.context.guest.status ≡ Running
-    → ((k : ℕ) → want_of image p.context ≡ Some k → granted_lock p.granted ≡ Some k) → RunsAs image p.context new b.turns b.end → Journals image p.context new b → b.thread ≡ p.context.thread → b.kind ≡ kind_of p.granted p.log → b.pc ≡ (thread_in p.context).regs.pc → IsBlock b → length new.locks ≡ 32
-    → slept ≡ slept_at image (whole p.context) p.context.thread (b.turns - 1) → log ≡ p.log ++ b ∷ []
-    → DidRun image old (record { image = p.image; context = new; granted = None; pending = Some b; log = log; log_room = p.log_room - 1; numbers = p.numbers; turns = p.turns; slept = slept })
-did_run image p old new b log slept same is sound rest running want runs journals thread kind at bounds places sleeps logged =
-    let can = can_go image p is sound running want in
-    let section = ap is_section kind ∙ kind_section image p is sound running want in
-    let new_view : PackageView = record { image = p.image; context = new; granted = None; pending = Some b; log = log; log_room = p.log_room - 1; numbers = p.numbers; turns = p.turns; slept = slept } in
-    subst (λ v. DidRun image v new_view) same (record {
+begun_is : (o : Option ℕ) (k : ℕ) → is_lock o k ≡ true → o ≡ Some k
+begun_is None k h = absurd (cc)
+begun_is (Some lock) k h = elim (eqb_tells k lock) [ inl e ↦ ap Some (sym e.1) | inr e ↦ absurd (false_true _ e.0 h) ]
+
+module _ (image : Shown) (p : PackageView) (m : MayRun image p) where
+  abbrev takes : Option ℕ
+  takes = next_lock image (thread_in p.context)
+
+  granted_next : (k : ℕ) → takes ≡ Some k → granted_lock p.granted ≡ Some k
+  granted_next k next = m.want k (ap (λ s. if is_running s then takes else None) m.running ∙ next)
+
+  granted_as : (o : Option Grant) (g : Grant) → p.granted ≡ o → o ≡ Some g → IsGranted p.image p.context g
+  granted_as o g is e = subst (MayTake p.image p.context) (is ∙ e) m.sound.grant
+
+  -- the locks of the block have rest and room
+  pub ready_from : IsReserved p → AreReady image p.context
+  ready_from reserved k j e h =
+      let l = map_some journal_in (lock_in p.context.locks k) j e in
+      let s = m.sound.stored k l.0 l.1 in
+      subst IsReady (sym l.2) (record {
+        opened = s.opened;
+        closed = closed_none l.0.journal.closed (s.closed ∙ ap (λ o. waiting_in o k) m.rest);
+        entry = reserved.entries k l.0 l.1;
+        words = reserved.words k l.0 l.1;
+      })
+
+  pub can_go : CanGo image p.context
+  can_go = record {
+    guards = subst (λ (x : Shown). length x.guards ≤ 32) m.is m.sound.few;
+    thread = subst (λ (x : Shown). p.context.thread < length x.entries) m.is m.sound.thread;
+    running = m.running;
+    of = subst (λ x. AreOf x p.context.locks) m.is (are_of p m.sound);
+    covers = record { held = m.sound.held; next = λ k e. (let g = grant_of p.image p.context p.granted k m.sound.grant (granted_next k e) in subst (λ j. set_of p.context j ≡ true) g.2 g.3.here) };
+  }
+
+  -- the kind of a block tells whether it begins a section
+  pub kind_section : is_section (kind_of p.granted p.log) ≡ is_some takes
+  kind_section = by p.granted p.log takes granted_next (λ g e. (let may = granted_as p.granted g refl e in (may.section, ap (λ x. next_lock x (thread_in p.context)) (sym m.is) ∙ may.next)))
+    where
+      by : (o : Option Grant) (log : List Block) (n : Option ℕ) → ((k : ℕ) → n ≡ Some k → granted_lock o ≡ Some k) → ((g : Grant) → o ≡ Some g → (is_section g.kind ≡ true) × (n ≡ Some g.lock)) → is_section (kind_of o log) ≡ is_some n
+      by (Some g) log n all may = (let r = may g refl in r.0 ∙ sym (ap is_some r.1))
+      by None [] None all may = refl
+      by None (b ∷ bs) None all may = refl
+      by None log (Some k) all may = absurd (let f : None ≡ Some k = all k refl in cc)
+
+  -- a block that begins no section was granted nothing
+  no_grant : is_section (kind_of p.granted p.log) ≡ false → kind_of p.granted p.log ≡ kind_of None p.log
+  no_grant out = (elim p.granted as (λ o. p.granted ≡ o → is_section (kind_of o p.log) ≡ false → kind_of o p.log ≡ kind_of None p.log) [
+    | None ↦ λ is none. refl
+    | Some g ↦ λ is none. absurd (false_true _ none (granted_as (Some g) g is refl).section)
+  ]) refl out
+
+  module _ (new : Context) (b : Block) (log : List Block) (slept : ℕ) (places : length new.locks ≡ 32) (runs : RunsAs image p.context new b.turns b.end) (journals : Journals image p.context new b)
+      (thread : b.thread ≡ p.context.thread) (kind : b.kind ≡ kind_of p.granted p.log) (logged : log ≡ p.log ++ b ∷ []) where
+    abbrev t : ℕ
+    t = p.context.thread
+
+    abbrev last : State
+    last = reach image (whole p.context) t b.turns
+
+    abbrev ran : PackageView
+    ran = record p { context = new; granted = None; pending = Some b; log = log; log_room = p.log_room - 1; slept = slept }
+
+    alone : Runs image (whole p.context) t b.turns b.end last
+    alone = (let r = runs.block (whole p.context) (record { thread = refl; locks = λ k h. refl }) in subst (λ x. Runs image (whole p.context) t b.turns b.end x) r.1.last r.1)
+
+    thread_is : thread_in new ≡ last.threads t
+    thread_is = (let r = runs.block (whole p.context) (record { thread = refl; locks = λ k h. refl }) in r.2.thread ∙ ap (λ (m : State). m.threads t) r.1.last)
+
+    held_is : (k : ℕ) → has new.guest.held k ≡ (last.threads t).held k
+    held_is k = ap (λ (d : Thread). d.held k) thread_is
+
+    held_locks : (k : ℕ) → has new.guest.held k ≡ true → has b.held k ≡ true
+    held_locks k h = journals.held k ∙ block_covered image (whole p.context) last t b.turns b.end alone k (sym (held_is k) ∙ h)
+
+    -- what is held after the block is what the block had and didn't give up
+    held_after : (k : ℕ) → has new.guest.held k ≡ (has b.held k && not (ends_section k b))
+    held_after k = by (has b.held k) (has new.guest.held k) refl refl
+      where
+        by : (v w : Bool) → has b.held k ≡ v → has new.guest.held k ≡ w → w ≡ (v && not (ends_section k b))
+        by false false out free = refl
+        by false true out h = absurd (false_true _ out (held_locks k h))
+        by true true mine h = (let s = block_survives image (whole p.context) last t b.turns b.end alone k (sym (held_is k) ∙ h) in λ i. not (sym s.0 i || sym s.1 i))
+        by true false mine free = ap not (sym (block_gives image (whole p.context) last t b.turns b.end alone k (sym (journals.held k) ∙ mine) (sym (held_is k) ∙ free)))
+
+    ran_after : IsAfter p.image new b
+    ran_after = record {
+      thread = thread ∙ sym runs.keeps.thread;
+      runs = ap (λ (d : Thread). is_running d.status) thread_is ∙ block_runs image (whole p.context) last t b.turns b.end alone;
+      next = λ k e. (λ i. next_lock (m.is i) (thread_is i)) ∙ block_next image (whole p.context) last t b.turns b.end alone k e;
+      held = held_after;
+      released = λ k e. journals.held k ∙ block_releases image (whole p.context) last t b.turns b.end alone k e;
+      few = block_few image (thread_in p.context) b.held journals.held (left_few p.image p.context (last_of p.log) m.sound.left);
+    }
+
+    section : is_section b.kind ≡ is_some takes
+    section = ap is_section kind ∙ kind_section
+
+    begun_next : (k : ℕ) → begins k b ≡ true → takes ≡ Some k
+    begun_next k begun = sym (record_takes image (whole p.context) b (record_is image p.context b can_go journals.held section)) ∙ begun_is (takes_of b) k begun
+
+    -- lock k of the package as it was before
+    was : (k : ℕ) (l : LockView) → lock_in new.locks k ≡ Some l → (x : LockView) × (lock_in p.context.locks k ≡ Some x) × (l.journal ≡ entered (has b.held k) (entry_of image k (whole p.context) b) x.journal)
+    was k l e =
+        let j = map_some (entered (has b.held k) (entry_of image k (whole p.context) b)) (journal_at p.context k) l.journal (sym (journals.entries k) ∙ ap (option_map journal_in) e) in
+        let x = map_some journal_in (lock_in p.context.locks k) j.0 j.1 in
+        (x.0, x.1, j.2 ∙ ap (entered (has b.held k) (entry_of image k (whole p.context) b)) x.2)
+
+    sealed_was : (k : ℕ) (l x : LockView) → l.journal ≡ entered (has b.held k) (entry_of image k (whole p.context) b) x.journal → (l.journal.sealed ≡ x.journal.sealed) × (l.journal.limit ≡ x.journal.limit)
+    sealed_was k l x e = (let rest = entered_rest (has b.held k) (entry_of image k (whole p.context) b) x.journal in (ap (λ (j : Journal). j.sealed) e ∙ rest.0, ap (λ (j : Journal). j.limit) e ∙ rest.1))
+
+    -- a lock that was passed on was so by its grant
+    passed : (k : ℕ) (x : LockView) → lock_in p.context.locks k ≡ Some x → (w : Bool) → begins k b ≡ w → passes_on k (blocks_of x) b ≡ true
+    unfolding passes_on
+    passed k x e false out = ap (λ w. if w then passes_to (last_of (blocks_of x)) b.kind b.thread else true) out
+    passed k x e true begun =
+        let g = grant_of p.image p.context p.granted k m.sound.grant (granted_next k (begun_next k begun)) in
+        ap (λ w. if w then passes_to (last_of (blocks_of x)) b.kind b.thread else true) begun
+        ∙ (λ i. passes_to (last_of (blocks_of x)) ((kind ∙ ap (λ o. kind_of o p.log) g.1) i) (thread i)) ∙ g.3.passes x (ap (lock_in p.context.locks) g.2 ∙ e)
+
+    pending_at : (k : ℕ) (l x : LockView) → lock_in p.context.locks k ≡ Some x → l.journal.sealed ≡ x.journal.sealed → IsPending b k l
+    pending_at k l x e sealed = record {
+      rests = λ out. rests_as k x l sealed ((idle_at p k x m.sound m.rest e).rests (not_before (has p.context.guest.held) takes k (sym (journals.held k) ∙ out)));
+      on = λ h none.
+          (let held : has p.context.guest.held k ≡ true = elim (in_block (has p.context.guest.held) takes k (sym (journals.held k) ∙ h)) [
+            | inl before ↦ before
+            | inr took ↦ absurd (false_true _ (ap (λ o. is_lock o k) (sym (record_takes image (whole p.context) b (record_is image p.context b can_go journals.held section) ∙ took)) ∙ none) (eq_self k))
+          ] in
+          (λ i. may_go_on k (last_of (map block_in (sealed i))) (thread i)) ∙ goes_on p k x m.sound m.rest held e);
+      passes = λ h. ap (λ y. passes_on k (map block_in y) b) sealed ∙ passed k x e (begins k b) refl;
+    }
+
+    ran_stored : (k : ℕ) (l : LockView) → lock_in new.locks k ≡ Some l → IsStored ran k l
+    ran_stored k l e =
+        let x = was k l e in
+        let s = m.sound.stored k x.0 x.1 in
+        let of = runs.keeps.of p.image (are_of p m.sound) k l e in
+        let stage = entered_stage (has b.held k) b (entry_of image k (whole p.context) b) x.0.journal refl s.opened (s.closed ∙ ap (λ o. waiting_in o k) m.rest) in
+        record {
+          number = of.number;
+          known = of.known;
+          of = of.of;
+          turn = s.turn;
+          opened = ap (λ (i : Journal). i.opened) x.2 ∙ stage.0;
+          closed = ap (λ (i : Journal). option_map block_in i.closed) x.2 ∙ stage.1;
+          at = pending_at k l x.0 x.1 (sealed_was k l x.0 x.2).0;
+        }
+
+    last_is : last_of log ≡ Some b
+    last_is = ap last_of logged ∙ last_more p.log b
+
+    pub ran_sound : IsSoundPackage ran
+    ran_sound = record {
+      few = m.sound.few;
+      places = (places, m.sound.places.1);
+      thread = rw runs.keeps.thread m.sound.thread;
+      held = λ k h. runs.keeps.set k ∙ block_inside image (set_of p.context) (thread_in p.context) can_go.covers k (sym (journals.held k) ∙ held_locks k h);
+      stored = ran_stored;
+      left = subst (IsLeft p.image new) (sym last_is) ran_after;
+      grant = tt;
+      log = last_is;
+      alone = λ h. refl;
+    }
+
+    -- a package that fits a worker runs a block that the batch rule allows with this worker
+    fits_allows : (worker : ℕ) → fits_of p worker ≡ true → Allows new b worker
+    unfolding allows_of
+    fits_allows worker fits k l begun found =
+        let g = grant_of p.image p.context p.granted k m.sound.grant (granted_next k (begun_next k begun)) in
+        let x = was k l found in
+        let same = sealed_was k l x.0 x.2 in
+        (λ i. allows_of k (same.1 i) (map block_in (same.0 i)) ((kind ∙ ap (λ o. kind_of o p.log) g.1) i) worker)
+        ∙ (λ i. fits_in (sym x.1 i) k g.0.kind worker) ∙ ap (λ n. fits_in (lock_in p.context.locks n) n g.0.kind worker) (sym g.2)
+        ∙ ap (λ o. fits_granted p.context o worker) (sym g.1) ∙ fits
+
+    pub did_run : (old : PackageView) → p ≡ old → b.pc ≡ (thread_in p.context).regs.pc → IsBlock b → slept ≡ slept_at image (whole p.context) p.context.thread (b.turns - 1) → DidRun image old ran
+    did_run old same at bounds sleeps = subst (λ v. DidRun image v ran) same (record {
       block = b;
       pending = refl;
       bounds = bounds;
       thread = thread;
       kind = kind;
-      first = λ out. kind ∙ no_grant image p p.granted sound.grant (ap is_section (sym kind) ∙ out);
+      first = λ out. kind ∙ no_grant (ap is_section (sym kind) ∙ out);
       section = section;
       pc = at;
       held = journals.held;
-      covers = can.covers;
-      rests = λ k l next e. (idle_at p k l sound rest e).rests (next_free image (thread_in p.context) k next);
-      sound = ran_sound image p new b log (p.log_room - 1) slept is sound rest can places runs journals thread section kind want logged;
+      covers = can_go.covers;
+      rests = λ k l next e. (idle_at p k l m.sound m.rest e).rests (next_free image (thread_in p.context) k next);
+      sound = ran_sound;
       runs = runs;
       journals = journals;
       slept = sleeps;
-      fits = λ worker fits. fits_allows image p new b worker can journals kind section want fits;
+      fits = fits_allows;
       log = logged;
       granted = refl;
       image_is = refl;
@@ -88,13 +261,128 @@ did_run image p old new b log slept same is sound rest running want runs journal
 
 -- ---- the seal
 
+-- the entry of a lock of the pending block
+entry_was : (p : PackageView) (b : Block) (k : ℕ) (l : LockView) → IsStored p k l → p.pending ≡ Some b → has b.held k ≡ true → (e : Entry) × (l.journal.closed ≡ Some e) × (b ≡ e.block)
+entry_was p b k l s pending h = map_some block_in l.journal.closed b (s.closed ∙ ap (λ o. waiting_in o k) pending ∙ ap (λ v. if v then Some b else None) h)
+
+closed_block : (p : PackageView) (b : Block) (k : ℕ) (l : LockView) → IsStored p k l → p.pending ≡ Some b → has b.held k ≡ true → (e : Entry) → l.journal.closed ≡ Some e → e.block ≡ b
+closed_block p b k l s pending h e is = (let w = entry_was p b k l s pending h in let same : Some e ≡ Some w.0 = sym is ∙ w.1 in let f : e ≡ w.0 = cc in ap block_in f ∙ sym w.2)
+
+pub seal_closed : (p : PackageView) (b : Block) → IsSoundPackage p → p.pending ≡ Some b → (k : ℕ) (l : LockView) → lock_in p.context.locks k ≡ Some l → has b.held k ≡ true → is_some l.journal.closed ≡ true
+seal_closed p b sound pending k l found h = ap is_some (entry_was p b k l (sound.stored k l found) pending h).1
+
+-- the batch rule lets the pending block follow, where it allows the section that the block began
+pub block_follows : (p : PackageView) (b : Block) (stamp worker : ℕ) → IsSoundPackage p → p.pending ≡ Some b → Allows p.context b worker → (k : ℕ) (l : LockView) → lock_in p.context.locks k ≡ Some l → has b.held k ≡ true
+    → may_follow k l.journal.limit (blocks_of l) (sealed_block stamp worker b) ≡ true
+unfolding may_follow
+block_follows p b stamp worker sound pending allows k l found h =
+    let ran : IsPending b k l = subst (λ x. IsAt x p k l) pending (sound.stored k l found).at in
+    let before = blocks_of l in
+    (elim (begins k b) as (λ v. begins k b ≡ v → (if v then allows_of k l.journal.limit before b.kind worker else may_go_on k (last_of before) b.thread) ≡ true) [ true ↦ λ begun. allows k l begun found | false ↦ ran.on h ]) refl
+
+pub seal_follows : (p : PackageView) (b : Block) (stamp worker : ℕ) → IsSoundPackage p → p.pending ≡ Some b → Allows p.context b worker → (k : ℕ) (l : LockView) → lock_in p.context.locks k ≡ Some l → has b.held k ≡ true
+    → (e : Entry) → l.journal.closed ≡ Some e → may_follow l.number l.journal.limit (blocks_of l) (sealed_block stamp worker e.block) ≡ true
+seal_follows p b stamp worker sound pending allows k l found h e is =
+    let s = sound.stored k l found in
+    (λ i. may_follow (s.number i) l.journal.limit (blocks_of l) (sealed_block stamp worker (closed_block p b k l s pending h e is i))) ∙ block_follows p b stamp worker sound pending allows k l found h
+
+-- its stamp and worker don't count for the section that was passed on to it
+pub block_passes : (p : PackageView) (b : Block) (stamp worker : ℕ) → IsSoundPackage p → p.pending ≡ Some b → (k : ℕ) (l : LockView) → lock_in p.context.locks k ≡ Some l → has b.held k ≡ true → passes_on k (blocks_of l) (sealed_block stamp worker b) ≡ true
+unfolding passes_on
+block_passes p b stamp worker sound pending k l found h = (subst (λ x. IsAt x p k l) pending (sound.stored k l found).at).passes h
+
+pub seal_passes : (p : PackageView) (b : Block) → IsSoundPackage p → p.pending ≡ Some b → (k : ℕ) (l : LockView) → lock_in p.context.locks k ≡ Some l → has b.held k ≡ true → (e : Entry) → l.journal.closed ≡ Some e → passes_on l.number (blocks_of l) e.block ≡ true
+seal_passes p b sound pending k l found h e is =
+    let s = sound.stored k l found in
+    let ran : IsPending b k l = subst (λ x. IsAt x p k l) pending s.at in
+    (λ i. passes_on (s.number i) (blocks_of l) (closed_block p b k l s pending h e is i)) ∙ ran.passes h
+
+slot_map : (g : LockView → LockView) (o : Option (Option LockView)) → slot_of (option_map (option_map g) o) ≡ option_map g (slot_of o)
+slot_map g None = refl
+slot_map g (Some o) = refl
+
+pub sealed_at : (stamp worker : ℕ) (locks : List (Option LockView)) (k : ℕ) → lock_in (sealed_all stamp worker locks) k ≡ option_map (with_journal (sealed_as stamp worker)) (lock_in locks k)
+sealed_at stamp worker locks k = (let g = with_journal (sealed_as stamp worker) in ap slot_of (slice_get-map (option_map g) locks k) ∙ slot_map g (slice_get locks k))
+
+pub seal_set : (stamp worker : ℕ) (p : PackageView) (k : ℕ) → set_of (with_seal stamp worker p).context k ≡ set_of p.context k
+seal_set stamp worker p k = ap is_some (sealed_at stamp worker p.context.locks k) ∙ some_map (with_journal (sealed_as stamp worker)) (lock_in p.context.locks k)
+
+last_set : (xs : List Block) (b y : Block) → last_of xs ≡ Some b → last_of (set xs (length xs - 1) y) ≡ Some y
+last_set xs b y is =
+    let lt = slice_get_within xs (length xs - 1) b is in
+    ap (λ n. slice_get (set xs (length xs - 1) y) (n - 1)) (length-set xs (length xs - 1) y) ∙ get-set_same xs (length xs - 1) y lt
+
+module _ (p : PackageView) (b : Block) (stamp worker : ℕ) (sound : IsSoundPackage p) (pending : p.pending ≡ Some b) where
+  abbrev q : PackageView
+  q = with_seal stamp worker p
+
+  abbrev c : Block
+  c = sealed_block stamp worker b
+
+  -- it is the last of the log
+  pub seal_last : last_of q.log ≡ Some c
+  seal_last = ap (λ o. last_of (sealed_log stamp worker p.log o)) pending ∙ last_set p.log b c (subst (EndsWith p.log) pending sound.log)
+
+  abbrev seal : LockView → LockView
+  seal = with_journal (sealed_as stamp worker)
+
+  left_was : IsAfter p.image p.context b
+  left_was = subst (IsLeft p.image p.context) (subst (EndsWith p.log) pending sound.log) sound.left
+
+  -- and of each of its locks
+  last_there : (k : ℕ) (x : LockView) → IsStored p k x → has b.held k ≡ true → last_of (blocks_of (seal x)) ≡ Some c
+  last_there k x s h =
+      let e = entry_was p b k x s pending h in
+      ap (λ o. last_of (map block_in (sealed_list stamp worker x.journal.sealed o))) e.1 ∙ ap last_of (map-append block_in x.journal.sealed (sealed_entry stamp worker e.0 ∷ []))
+      ∙ last_more (blocks_of x) (sealed_block stamp worker e.0.block) ∙ ap (λ y. Some (sealed_block stamp worker y)) (sym e.2)
+
+  sealed_here : (k : ℕ) (x : LockView) → IsStored p k x → IsStored q k (seal x)
+  sealed_here k x s = record {
+    number = s.number;
+    known = s.known;
+    of = s.of;
+    turn = s.turn;
+    opened = s.opened;
+    closed = refl;
+    at = by (has b.held k) refl;
+  }
+    where
+      was : IsPending b k x
+      was = subst (λ o. IsAt o p k x) pending s.at
+
+      same : (y : Block) → last_of q.log ≡ Some y → y ≡ c
+      same y e = (let f : Some y ≡ Some c = sym e ∙ seal_last in cc)
+
+      by : (v : Bool) → has b.held k ≡ v → IsIdle q k (seal x)
+      by true h = record {
+        rests = λ free. subst (λ o. IfSome o (λ y. ends_section k y ≡ true)) (sym (last_there k x s h)) (not-false (ends_section k b) (sym (ap (λ v. v && not (ends_section k b)) h) ∙ sym (left_was.held k) ∙ free));
+        last = λ y e mine none. last_there k x s h ∙ ap Some (sym (same y e));
+      }
+      by false out = record {
+        rests = λ free. rests_as k x (seal x) (ap (sealed_list stamp worker x.journal.sealed) (closed_none x.journal.closed (s.closed ∙ ap (λ o. waiting_in o k) pending ∙ ap (λ v. if v then Some b else None) out))) (was.rests out);
+        last = λ y e mine none. absurd (false_true _ (ap (λ (z : Block). has z.held k) (same y e) ∙ out) mine);
+      }
+
+  pub sealed_sound : IsSoundPackage q
+  sealed_sound = record {
+    few = sound.few;
+    places = (length-map p.context.locks (option_map seal) ∙ sound.places.0, sound.places.1);
+    thread = sound.thread;
+    held = λ k h. seal_set stamp worker p k ∙ sound.held k h;
+    stored = λ k l e. (let x = map_some seal (lock_in p.context.locks k) l (sym (sealed_at stamp worker p.context.locks k) ∙ e) in subst (IsStored q k) (sym x.2) (sealed_here k x.0 (sound.stored k x.0 x.1)));
+    left = subst (IsLeft p.image q.context) (sym seal_last) (record { thread = left_was.thread; runs = left_was.runs; next = left_was.next; held = left_was.held; released = left_was.released; few = left_was.few });
+    grant = subst (MayTake p.image q.context) (sym (sound.alone (ap is_some pending))) tt;
+    log = tt;
+    alone = λ h. absurd (cc);
+  }
+
 not_sealed : (stamp worker : ℕ) (l : LockView) → l.journal.closed ≡ None → l ≡ with_journal (sealed_as stamp worker) l
 not_sealed stamp worker l none =
     let s = ap (sealed_list stamp worker l.journal.sealed) none in
     λ i. record { number = l.number; bytes = l.bytes; broken = l.broken; sections = l.sections; journal = record { image = l.journal.image; limit = l.journal.limit; sealed = sym s i; closed = none i; opened = l.journal.opened; entry_room = l.journal.entry_room; word_room = l.journal.word_room } }
 
 -- in a lock that isn't of the pending block nothing waits
-pub seal_all : (p : PackageView) (b : Block) (stamp worker : ℕ) (locks : List (Option LockView)) → IsSound p → p.pending ≡ Some b → length locks ≡ 32 → Changed (sealed_in (has b.held) stamp worker) p.context.locks locks → locks ≡ sealed_all stamp worker p.context.locks
+pub seal_all : (p : PackageView) (b : Block) (stamp worker : ℕ) (locks : List (Option LockView)) → IsSoundPackage p → p.pending ≡ Some b → length locks ≡ 32 → Changed (sealed_in (has b.held) stamp worker) p.context.locks locks → locks ≡ sealed_all stamp worker p.context.locks
 seal_all p b stamp worker locks sound pending places changed =
     locks_ext locks (sealed_all stamp worker p.context.locks) (places ∙ sym sound.places.0 ∙ sym (length-map p.context.locks (option_map (with_journal (sealed_as stamp worker)))))
     (λ k. changed k ∙ each k (lock_in p.context.locks k) refl ∙ sym (sealed_at stamp worker p.context.locks k))

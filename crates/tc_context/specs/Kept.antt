@@ -5,7 +5,7 @@ use Rattle.tc_isa.specs.Sets.{has}
 use Rattle.tc_turn.specs.Turn.{next_lock}
 use Rattle.tc_context.specs.declared.package.Contents.{Contents}
 use Rattle.tc_context.specs.Whole.{thread_in, set_of}
-use Rattle.tc_context.specs.View.{PackageView, IsSound}
+use Rattle.tc_context.specs.View.{PackageView, IsSoundPackage}
 
 abbrev pub view_of : Contents → PackageView
 view_of a = record {
@@ -20,8 +20,8 @@ view_of a = record {
   slept = a.slept;
 }
 
-pub record Kept (a : Contents) : Type 0 where
-  pub sound : IsSound (view_of a)
+pub record KeptPackage (a : Contents) : Type 0 where
+  pub sound : IsSoundPackage (view_of a)
   pub code : arc_value a.code ≡ a.of.value
   pub next : a.next ≡ next_lock a.of.value (thread_in a.context)
   pub present : (k : ℕ) → set_of a.context k ≡ has a.present k

@@ -4,5 +4,3 @@ pub mod Middle
 pub mod View
 pub mod Kept
 pub mod Ran
-pub mod History
-pub mod Lawful

@@ -14,7 +14,7 @@ use Rattle.tc_exec.specs.declared.outcome.Want.{Want}
 use Rattle.tc_journal.specs.declared.block.Block.{Block}
 use Rattle.tc_turn.specs.Turn.{Mutex}
 use Rattle.tc_turn.specs.Replay.{takes_word}
-use Rattle.tc_segment.specs.View.{LockView, Opened, Closes, kept, lock_of, guard_of, with_store, with_section, with_break, with_end, with_journal, opened_at, noted, closed_with, sealed_as, with_room}
+use Rattle.tc_segment.specs.View.{LockView, kept, lock_of, guard_of, with_store, with_section, with_break, with_end, with_journal, opened_at, noted, closed_with, sealed_as, with_room}
 
 abbrev pub slot_of : Option (Option LockView) → Option LockView
 slot_of None = None
@@ -62,10 +62,6 @@ IsPlaced n o old new = (k : ℕ) → lock_in new k ≡ (if k == n then o else lo
 abbrev pub SameLocks : List (Option LockView) → List (Option LockView) → Type 0
 SameLocks old new = (k : ℕ) → option_map kept (lock_in new k) ≡ option_map kept (lock_in old k)
 
--- the open entry of the lock may be closed with this block and these registers
-abbrev pub MayClose : Block → Registers → LockView → Type 0
-MayClose block finish l = (o : Opened) → l.journal.opened ≡ Some o → Closes l block finish o
-
 -- each lock state has the number of its place, and stands for the image
 pub record IsLockOf (image : Shown) (k : ℕ) (l : LockView) : Type 0 where
   pub number : l.number ≡ k
@@ -77,17 +73,14 @@ AreOf image slots = (k : ℕ) (l : LockView) → lock_in slots k ≡ Some l → 
 
 -- ---- changes of one lock state
 
-abbrev pub when_in : Bool → (LockView → LockView) → LockView → LockView
-when_in true f l = f l
-when_in false f l = l
+abbrev pub when_in : {X : Type 0} → Bool → (X → X) → X → X
+when_in true f x = f x
+when_in false f x = x
 
 -- a store, by its place
 abbrev pub stored_in : Region → ℕ → ℕ → ℕ → ℕ → LockView → LockView
-stored_in region.Text k addr width value l = l
-stored_in region.Private k addr width value l = l
-stored_in region.Stack k addr width value l = l
 stored_in (region.Guard lock) k addr width value l = when_in (k == lock) (with_store addr width value) l
-stored_in region.Nothing k addr width value l = l
+stored_in _ k addr width value l = l
 
 abbrev pub put_in : Put → ℕ → LockView → LockView
 put_in put k l = stored_in put.region k put.addr put.width put.value l
@@ -103,21 +96,10 @@ turned held (Some (Called (Sleep blocks))) k l = l
 turned held (Some (Called Exit)) k l = when_in (held k) with_break l
 turned held (Some (Faulted f)) k l = when_in (held k) with_break l
 
--- a store into the lock's guard
-abbrev pub with_put : Put → LockView → LockView
-with_put put l = with_store put.addr put.width put.value l
-
--- which lies in it
-abbrev pub IsInside : Put → LockView → Type 0
-IsInside put l = in_guard put.addr put.width (guard_of l) ≡ true
-
 -- the entry of each lock that a turn changes is open, and a store lies in the guard
 abbrev pub StoreReady : Region → ℕ → ℕ → ℕ → LockView → Type 0
-StoreReady region.Text k addr width l = Unit {0}
-StoreReady region.Private k addr width l = Unit {0}
-StoreReady region.Stack k addr width l = Unit {0}
 StoreReady (region.Guard lock) k addr width l = k ≡ lock → (in_guard addr width (guard_of l) ≡ true) × (is_open_lock l ≡ true)
-StoreReady region.Nothing k addr width l = Unit {0}
+StoreReady _ k addr width l = Unit {0}
 
 abbrev pub PutReady : Put → ℕ → LockView → Type 0
 PutReady put k l = StoreReady put.region k put.addr put.width l
@@ -134,19 +116,13 @@ TurnReady held (Some (Faulted f)) k l = held k ≡ true → is_open_lock l ≡ t
 
 -- what a turn stores in a guard, or takes, is of a lock below 32, and a store has a lawful width
 abbrev pub StoreFits : Region → ℕ → Type 0
-StoreFits region.Text width = Unit {0}
-StoreFits region.Private width = Unit {0}
-StoreFits region.Stack width = Unit {0}
 StoreFits (region.Guard lock) width = (lock < 32) × IsWidth width
-StoreFits region.Nothing width = Unit {0}
-
-abbrev pub PutFits : Put → Type 0
-PutFits put = StoreFits put.region put.width
+StoreFits _ width = Unit {0}
 
 abbrev pub TurnFits : Option Done → Type 0
 TurnFits None = Unit {0}
 TurnFits (Some Went) = Unit {0}
-TurnFits (Some (Stored put)) = PutFits put
+TurnFits (Some (Stored put)) = StoreFits put.region put.width
 TurnFits (Some (Called (Lock lock))) = lock < 32
 TurnFits (Some (Called (Unlock lock))) = Unit {0}
 TurnFits (Some (Called (Sleep blocks))) = Unit {0}

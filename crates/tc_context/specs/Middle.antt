@@ -1,5 +1,5 @@
 -- A package in the middle of a block.
-use Rattle.std.specs.Prelude.{◌≡◌, ℕ, zero, suc, ◌+◌, ◌<◌, ◌≤◌, Bool, true, false, List, Option, Some, None, is_some}
+use Rattle.std.specs.Prelude.{◌≡◌, ℕ, zero, suc, ◌+◌, ◌<◌, ◌≤◌, Bool, true, List, Option, Some, None, is_some}
 use Rattle.std.specs.Option.{option_map}
 use Rattle.tc_isa.specs.Sets.{has}
 use Rattle.tc_elf.specs.Shown.{Shown}
@@ -12,6 +12,7 @@ use Rattle.tc_turn.specs.Replay.{word_of, words_from}
 use Rattle.tc_mutex_spec.specs.Blocks.{reach}
 use Rattle.tc_segment.specs.View.{Journal, noted}
 use Rattle.tc_context.specs.declared.context.Context.{Context}
+use Rattle.tc_context.specs.Locks.{when_in}
 use Rattle.tc_context.specs.Whole.{thread_in, mutex_at, whole, set_of, journal_at, block_locks, Keeps}
 
 -- what the next turn does, on the package alone
@@ -19,8 +20,7 @@ abbrev pub act_in : Shown → Context → Option Act
 act_in image p = next_act image (thread_in p) (mutex_at p)
 
 abbrev pub noted_when : Bool → List ℕ → Journal → Journal
-noted_when true ws j = noted ws j
-noted_when false ws j = j
+noted_when b ws j = when_in b (noted ws) j
 
 -- the next turn: the thread and the locks change by what it does, and its words are noted in the block's locks
 pub record IsTurn (image : Shown) (block : ℕ → Bool) (old new : Context) : Type 0 where

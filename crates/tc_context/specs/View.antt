@@ -2,7 +2,8 @@
 use Rattle.std.specs.Prelude.{◌≡◌, ◌≢◌, ℕ, ◌<◌, ◌≤◌, ◌-◌, Bool, true, false, not, ◌&&◌, ◌==◌, List, [], ◌∷◌, set, length, replicate, slice_index_or, Option, Some, None, IfSome, is_some, if◌then◌else◌}
 use Rattle.std.specs.Option.{option_map}
 use Rattle.tc_isa.specs.Registers.{Registers}
-use Rattle.tc_isa.specs.Sets.{has}
+use Rattle.tc_isa.specs.Sets.{has, locks_of}
+use Rattle.tc_isa.specs.declared.limits.TheConstants.{MAX_HELD}
 use Rattle.tc_elf.specs.Shown.{Shown}
 use Rattle.tc_journal.specs.Batch.{is_section, begins, last_of, allows_of, may_go_on, ends_thread, ends_section, passes_to, passes_on}
 use Rattle.tc_journal.specs.declared.block.Block.{Block}
@@ -145,13 +146,15 @@ pub record IsStored (p : PackageView) (k : ℕ) (l : LockView) : Type 0 where
   pub at : IsAt p.pending p k l
 
 -- the thread is as its block b left it: it runs unless the block ended it, is about to take the lock that the block's end
--- wants, and holds those locks of the block of which the block ended no section; a lock that the end releases is the block's
+-- wants, and holds those locks of the block of which the block ended no section; a lock that the end releases is the block's,
+-- which has no more locks than a thread may hold
 pub record IsAfter (image : Shown) (p : Context) (b : Block) : Type 0 where
   pub thread : b.thread ≡ p.thread
   pub runs : is_running p.guest.status ≡ not (ends_thread b.end)
   pub next : (k : ℕ) → b.end ≡ Wants k → next_lock image (thread_in p) ≡ Some k
   pub held : (k : ℕ) → has p.guest.held k ≡ (has b.held k && not (ends_section k b))
   pub released : (k : ℕ) → b.end ≡ Unlocked k → has b.held k ≡ true
+  pub few : length (locks_of b.held) ≤ MAX_HELD
 
 -- before its first block it runs, and holds nothing
 pub record IsBefore (p : Context) : Type 0 where
@@ -185,7 +188,7 @@ MayTake image p None = Unit {0}
 MayTake image p (Some g) = IsGranted image p g
 
 -- what each package keeps, wherever it is
-pub record IsSound (p : PackageView) : Type 0 where
+pub record IsSoundPackage (p : PackageView) : Type 0 where
   pub few : length p.image.guards ≤ 32
   pub places : (length p.context.locks ≡ 32) × (length p.numbers ≡ 32)
   pub thread : p.context.thread < length p.image.entries

@@ -1,5 +1,5 @@
 -- A package's thread and locks as a part of the machine.
-use Rattle.std.specs.Prelude.{◌≡◌, ℕ, ◌<◌, ◌≤◌, ◌-◌, Bool, true, false, length, Option, Some, None, is_some}
+use Rattle.std.specs.Prelude.{◌≡◌, ℕ, ◌<◌, ◌≤◌, ◌-◌, Bool, false, length, Option, Some, None, is_some}
 use Rattle.std.specs.Option.{option_map}
 use Rattle.tc_isa.specs.Sets.{has}
 use Rattle.tc_elf.specs.Shown.{Shown}
@@ -14,7 +14,7 @@ use Rattle.tc_mutex_spec.specs.Locality.{Agree, Apart}
 use Rattle.tc_mutex_spec.specs.Blocks.{locks_of_block, Runs}
 pub use Rattle.tc_mutex_spec.specs.Entries.{entry_of}
 use Rattle.tc_segment.specs.View.{LockView, Journal}
-use Rattle.tc_context.specs.Locks.{lock_in, mutex_or, AreOf}
+use Rattle.tc_context.specs.Locks.{lock_in, mutex_or, when_in, AreOf}
 use Rattle.tc_context.specs.declared.context.Context.{Context}
 
 abbrev pub thread_in : Context → Thread
@@ -79,8 +79,7 @@ with_entry e j = record {
 }
 
 abbrev pub entered : Bool → Entry → Journal → Journal
-entered true e j = with_entry e j
-entered false e j = j
+entered b e j = when_in b (with_entry e) j
 
 -- each lock of the block has the block's entry more, and no other entry is changed
 pub record Journals (image : Shown) (old new : Context) (b : Block) : Type 0 where

@@ -253,8 +253,8 @@ impl Surroundings for Context {
 
     ghost locks = { mutex_at };
 
-    fn own_byte(&self, addr: u32) -> Option<u8> {
-        self.guest.byte(addr)
+    fn own_number(&self, addr: u32, width: u32) -> u32 {
+        self.guest.number(addr, width)
     }
 
     fn guard(&self, lock: u32) -> &[u8] {

@@ -10,14 +10,11 @@
 //!
 //! - `specs/View.antt`: a package as contracts see it, and what each keeps. `specs/Whole.antt`: its
 //!   thread and locks as a part of the machine. `specs/Ran.antt`: what a block made of it.
-//!   `specs/History.antt`: threads and lock states beside a history. `specs/Lawful.antt`: the law
-//!   over a history, all packages and all lock states.
 //! - `package`: packages. `context`: the thread, its locks and the turns of a block. `locks`: the
-//!   lock states of a package. `law`: the laws of packages and a history.
+//!   lock states of a package.
 #![tactic(auto)]
 
 pub mod context;
-pub mod law;
 pub mod locks;
 pub mod package;
 #[cfg(test)]

@@ -1,12 +1,13 @@
 //! The lock states that a package has.
 
-ghost use Rattle.std.specs.Prelude.{◌≡◌, ℕ, ◌<◌, ◌≤◌, true, false, is_some, length, set, Some, None, IfOk, OnOk, OnErr};
+ghost use Rattle.std.specs.Prelude.{◌≡◌, ℕ, ◌<◌, ◌≤◌, ◌&&◌, true, false, is_some, length, set, Some, None, IfOk, OnOk, OnErr};
 ghost use Rattle.std.specs.Option.{option_map};
 ghost use Rattle.tc_isa.specs.Sets.{has};
+ghost use Rattle.tc_elf.specs.Places.{in_guard};
 ghost use Rattle.tc_exec.specs.Told.{IsWidth};
 ghost use Rattle.tc_turn.specs.Replay.{takes_word as takes};
-ghost use Rattle.tc_segment.specs.View.{MayFollow, MayPass, with_section};
-ghost use Rattle.tc_context.specs.Locks.{lock_in, turned, put_in, with_put, TurnReady, PutReady, TurnFits, PutFits, IsInside, MayClose};
+ghost use Rattle.tc_segment.specs.View.{ClosesWith, MayFollow, MayPass, guard_of, with_section, with_store};
+ghost use Rattle.tc_context.specs.Locks.{lock_in, turned, put_in, TurnReady, PutReady, TurnFits, StoreFits};
 ghost use Rattle.tc_context.specs.Locks.{Changed, HoldsAt, HeldAt, EachHeld, EachLock, IsPlaced, SameLocks, at_place, one_place};
 ghost use Rattle.tc_context.specs.Locks.{broken_in, opened_in, noted_in, closed_in, sealed_in, roomy_in};
 
@@ -86,15 +87,15 @@ impl LockSet {
         self.places[lock as usize].take()
     }
 
-    fn store(&mut self, lock: u32, put: &Put)
+    fn store(&mut self, lock: u32, addr: u32, width: u32, value: u32)
         requires lock { lock < 32 }
-        requires width { IsWidth put.now.width }
-        requires inside { HoldsAt lock (IsInside put.now) self.old }
+        requires width { IsWidth width }
+        requires inside { HoldsAt lock (λ l. in_guard addr width (guard_of l) ≡ true) self.old }
         requires opened { HoldsAt lock (λ l. is_some l.journal.opened ≡ true) self.old }
-        ensures { Changed (at_place lock (with_put put.now)) self.old self.new }
+        ensures { Changed (at_place lock (with_store addr width value)) self.old self.new }
     {
         if let Some(state) = &mut self.places[lock as usize] {
-            state.store(put.addr, put.width, put.value);
+            state.store(addr, width, value);
         }
     }
 
@@ -167,7 +168,7 @@ impl LockSet {
         ensures { Changed (one_place (noted_in (has held) want next value) lock) self.old self.new }
     {
         if let Some(state) = &mut self.places[lock as usize] {
-            if held.has(lock) && takes_word(lock, want, next) {
+            if notes(lock, held, want, next) {
                 state.note_foreign(value);
             }
         }
@@ -193,7 +194,7 @@ impl LockSet {
         requires lock { lock < 32 }
         requires image { HeldAt lock (has held) (λ l. l.journal.image ≡ image.now) self.old }
         requires opened { HeldAt lock (has held) (λ l. is_some l.journal.opened ≡ true) self.old }
-        requires closes { HeldAt lock (has held) (MayClose block.now finish.now) self.old }
+        requires closes { HeldAt lock (has held) (ClosesWith block.now finish.now) self.old }
         ensures { Changed (one_place (closed_in (has held) block.now finish.now) lock)
             self.old self.new }
     {
@@ -208,7 +209,7 @@ impl LockSet {
     pub fn close_entries(&mut self, image: &Image, held: Held, block: &Block, finish: &Regs)
         requires image { EachHeld (has held) (λ l. l.journal.image ≡ image.now) self.old }
         requires opened { EachHeld (has held) (λ l. is_some l.journal.opened ≡ true) self.old }
-        requires closes { EachHeld (has held) (MayClose block.now finish.now) self.old }
+        requires closes { EachHeld (has held) (ClosesWith block.now finish.now) self.old }
         ensures { Changed (closed_in (has held) block.now finish.now) self.old self.new }
     {
         let mut left = held;
@@ -294,12 +295,12 @@ impl LockSet {
     }
 
     fn put(&mut self, put: &Put)
-        requires fits { PutFits put.now }
+        requires fits { StoreFits put.now.region put.now.width }
         requires ready { EachLock (PutReady put.now) self.old }
         ensures { Changed (put_in put.now) self.old self.new }
     {
         match put.region {
-            Region::Guard(lock) => self.store(lock, put),
+            Region::Guard(lock) => self.store(lock, put.addr, put.width, put.value),
             Region::Text | Region::Private | Region::Stack | Region::Nothing => {}
         }
     }
@@ -313,6 +314,14 @@ fn takes_any(want: Want, next: Option<u32>) -> bool
         Want::Load { .. } => true,
         Want::Nothing => next.is_some(),
     }
+}
+
+/// Whether the lock notes the value of a turn in a block with these locks.
+fn notes(lock: u32, held: Held, want: Want, next: Option<u32>) -> bool
+    ensures is { result ≡ (has held lock && takes lock want next) }
+    ensures held { result ≡ true → has held lock ≡ true }
+{
+    held.has(lock) && takes_word(lock, want, next)
 }
 
 /// Whether the value of a turn comes from elsewhere for the lock.

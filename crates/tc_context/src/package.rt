@@ -13,7 +13,7 @@ ghost use Rattle.tc_context.specs.Locks.{lock_in, IsPlaced};
 ghost use Rattle.tc_context.specs.Ran.{DidRun};
 ghost use Rattle.tc_context.specs.View.{granted_lock, want_of, kind_of, fits_of, number_in, with_grant, with_seal, with_turns, without_lock};
 ghost use Rattle.tc_context.specs.View.{thread_number, regs_in, fuel_in, status_in, held_in, own_in, locks_in};
-ghost use Rattle.tc_context.specs.View.{IsFresh, IsSound, WantIsLawful, IsReserved, IsRoomier, WantIsGranted, HasBlock, AllowsPending, IsWaiting, MayPassTo, IsNumber, IsNumbered, LastIsSealed};
+ghost use Rattle.tc_context.specs.View.{IsFresh, IsSoundPackage, WantIsLawful, IsReserved, IsRoomier, WantIsGranted, HasBlock, AllowsPending, IsWaiting, MayPassTo, IsNumber, IsNumbered, LastIsSealed};
 
 use crate::context::Context;
 use crate::locks::LockSet;
@@ -72,17 +72,17 @@ impl Model for Package {
 
     ghost Value = { PackageView };
 
-    ghost use Rattle.tc_context.specs.Kept.{view_of, Kept};
+    ghost use Rattle.tc_context.specs.Kept.{view_of, KeptPackage};
 
     ghost view = { λ a. view_of a.contents.value };
 
-    ghost invariant = { λ a. Kept a.contents.value };
+    ghost invariant = { λ a. KeptPackage a.contents.value };
 }
 
 impl Package {
     /// What each package keeps, wherever it is. A law: it does nothing when it is called.
     pub fn keeps(&self)
-        ensures sound { IsSound self.now }
+        ensures sound { IsSoundPackage self.now }
         ensures want { WantIsLawful self.now }
         ensures last { LastIsSealed self.now }
     {

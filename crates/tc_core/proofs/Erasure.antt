@@ -15,11 +15,11 @@ use Rattle.tc_core.specs.declared.event.Event.TheVariants.{Turn, Commit}
 use Rattle.tc_core.specs.declared.place.LockPlace.TheVariants as place
 use Rattle.tc_core.specs.Core.{Core, Limits, Custody, LockPlace, Release, With, Granted, Loose, is_granted, is_number, with_of, first_core}
 use Rattle.tc_core.specs.Events.{is_enabled, effect, has_thread, is_worker, is_thread, runs, is_between, may_take, custody_on, custody_past, after_turn}
-use Rattle.tc_core.specs.View.{IsSound}
+use Rattle.tc_core.specs.View.{IsSoundCore}
 use Rattle.tc_core.specs.Stories.{AreEnabled, after_all, turns_of}
 use Rattle.tc_core.proofs.Quiet.{both, Quiet, quiet_event}
 
-pub quiet_sound : (c d : Core) → Quiet c d → IsSound c → IsSound d
+pub quiet_sound : (c d : Core) → Quiet c d → IsSoundCore c → IsSoundCore d
 quiet_sound c d quiet sound = record {
   owners = subst (λ m. IsHeldByOwner m) (sym quiet.machine) sound.owners;
   with = λ t k h. quiet.owned k ∙ sound.with t k (ap (λ (m : State). (m.threads t).held k) (sym quiet.machine) ∙ h);
@@ -62,7 +62,7 @@ free_owner : (o : Option ℕ) → ((u : ℕ) → o ≡ Some u → ⊥) → is_fr
 free_owner None h = refl
 free_owner (Some u) h = absurd (h u refl)
 
-open_lock : (image : Shown) (c : Core) (t : ℕ) → IsSound c → MayTurn image c t → (o : Option ℕ) → next_lock image (c.machine.threads t) ≡ o → is_open o c.machine.locks ≡ true
+open_lock : (image : Shown) (c : Core) (t : ℕ) → IsSoundCore c → MayTurn image c t → (o : Option ℕ) → next_lock image (c.machine.threads t) ≡ o → is_open o c.machine.locks ≡ true
 open_lock image c t sound may None e = refl
 open_lock image c t sound may (Some k) e =
     let none = (take_facts image c t k may e).1 in
@@ -71,7 +71,7 @@ open_lock image c t sound may (Some k) e =
 all_true : (a b c : Bool) → a ≡ true → b ≡ true → c ≡ true → (a && (b && c)) ≡ true
 all_true a b c p q r = λ i. p i && (q i && r i)
 
-pub turn_can : (image : Shown) (c : Core) (t : ℕ) → IsSound c → MayTurn image c t → can_turn image c.machine t ≡ true
+pub turn_can : (image : Shown) (c : Core) (t : ℕ) → IsSoundCore c → MayTurn image c t → can_turn image c.machine t ≡ true
 unfolding can_turn
 turn_can image c t sound may = all_true _ _ _ may.thread may.running (open_lock image c t sound may _ refl)
 
@@ -91,7 +91,7 @@ turn_takes image d m k h none = elim (held_grows d (next_act image d m.locks) k 
   | inr took ↦ act_takes image d _ k took.0 took.1
 ]
 
-pub turn_sound : (image : Shown) (c : Core) (t : ℕ) → IsSound c → MayTurn image c t → IsSound (after_turn image c t)
+pub turn_sound : (image : Shown) (c : Core) (t : ℕ) → IsSoundCore c → MayTurn image c t → IsSoundCore (after_turn image c t)
 turn_sound image c t sound may =
     let m = c.machine in
     let d = m.threads t in
@@ -129,7 +129,7 @@ pub commit_machine : (image : Shown) (c : Core) (w t : ℕ) → (effect image c 
 unfolding effect
 commit_machine image c w t = refl
 
-pub commit_sound : (image : Shown) (c : Core) (w t : ℕ) → IsSound c → IsSound (effect image c (Commit w t))
+pub commit_sound : (image : Shown) (c : Core) (w t : ℕ) → IsSoundCore c → IsSoundCore (effect image c (Commit w t))
 unfolding effect
 commit_sound image c w t sound = record {
   owners = sound.owners;
@@ -141,8 +141,8 @@ pub turn_is : (image : Shown) (c : Core) (w t : ℕ) → effect image c (Turn w 
 unfolding effect
 turn_is image c w t = refl
 
-pub sound_after : (image : Shown) (limits : Limits) (c : Core) (e : Event) → is_enabled image limits c e ≡ true → IsSound c → IsSound (effect image c e)
-sound_after image limits c (Turn w t) on sound = subst (λ x. IsSound x) (sym (turn_is image c w t)) (turn_sound image c t sound (may_turn image limits c w t on))
+pub sound_after : (image : Shown) (limits : Limits) (c : Core) (e : Event) → is_enabled image limits c e ≡ true → IsSoundCore c → IsSoundCore (effect image c e)
+sound_after image limits c (Turn w t) on sound = subst (λ x. IsSoundCore x) (sym (turn_is image c w t)) (turn_sound image c t sound (may_turn image limits c w t on))
 sound_after image limits c (Commit w t) on sound = commit_sound image c w t sound
 sound_after image limits c e on sound = quiet_sound c (effect image c e) (quiet_event image limits c e on refl) sound
 
@@ -150,19 +150,19 @@ sound_after image limits c e on sound = quiet_sound c (effect image c e) (quiet_
 
 pub record Erased (image : Shown) (c : Core) (es : List Event) : Type 0 where
   pub run : turns image c.machine (turns_of es) ≡ Some (after_all image c es).machine
-  pub sound : IsSound (after_all image c es)
+  pub sound : IsSoundCore (after_all image c es)
 
-quiet_step : (image : Shown) (e : Event) (es : List Event) (c : Core) → Quiet c (effect image c e) → turns_of (e ∷ es) ≡ turns_of es → IsSound c
-    → (IsSound (effect image c e) → Erased image (effect image c e) es) → Erased image c (e ∷ es)
+quiet_step : (image : Shown) (e : Event) (es : List Event) (c : Core) → Quiet c (effect image c e) → turns_of (e ∷ es) ≡ turns_of es → IsSoundCore c
+    → (IsSoundCore (effect image c e) → Erased image (effect image c e) es) → Erased image c (e ∷ es)
 quiet_step image e es c quiet none sound rec =
     let r = rec (quiet_sound c (effect image c e) quiet sound) in
     record { run = ap (turns image c.machine) none ∙ ap (λ m. turns image m (turns_of es)) (sym quiet.machine) ∙ r.run; sound = r.sound }
 
-pub erased : (image : Shown) (limits : Limits) (events : List Event) (c : Core) → IsSound c → AreEnabled image limits c events → Erased image c events
+pub erased : (image : Shown) (limits : Limits) (events : List Event) (c : Core) → IsSoundCore c → AreEnabled image limits c events → Erased image c events
 erased image limits [] c sound on = record { run = refl; sound = sound }
 erased image limits (Turn w t ∷ es) c sound on =
     let may = may_turn image limits c w t on.0 in
-    let sound' : IsSound (effect image c (Turn w t)) = subst (λ x. IsSound x) (sym (turn_is image c w t)) (turn_sound image c t sound may) in
+    let sound' : IsSoundCore (effect image c (Turn w t)) = subst (λ x. IsSoundCore x) (sym (turn_is image c w t)) (turn_sound image c t sound may) in
     let r = erased image limits es (effect image c (Turn w t)) sound' on.1 in
     record {
       run = ap (option_and_then (λ n. turns image n (turns_of es))) (turn-defined image c.machine t (turn_can image c t sound may))
@@ -177,5 +177,5 @@ erased image limits (e ∷ es) c sound on = quiet_step image e es c (quiet_event
 pub started_none : (image : Shown) (fuel t k : ℕ) → ((first_core image fuel).machine.threads t).held k ≡ true → ⊥
 started_none image fuel t k h = (let o = (holds_start image fuel t k).0 h in cc)
 
-pub first_sound : (image : Shown) (fuel : ℕ) → IsSound (first_core image fuel)
+pub first_sound : (image : Shown) (fuel : ℕ) → IsSoundCore (first_core image fuel)
 first_sound image fuel = record { owners = holds_start image fuel; with = λ t k h. absurd (started_none image fuel t k h) }

@@ -28,7 +28,7 @@ use Rattle.tc_core.specs.declared.event.Event.{Event}
 use Rattle.tc_core.specs.declared.event.Event.TheVariants.{Turn, Commit}
 use Rattle.tc_core.specs.Core.{Core, Limits, Course, Custody, Release, With, Loose, is_number, with_of, first_core}
 use Rattle.tc_core.specs.Events.{is_enabled, effect, end_here, held_with, held_past, course_on, course_past, custody_on, custody_past, release_of, after_turn}
-use Rattle.tc_core.specs.View.{IsSound}
+use Rattle.tc_core.specs.View.{IsSoundCore}
 use Rattle.tc_core.specs.Stories.{AreEnabled, Story, after_all, last_core}
 use Rattle.tc_core.specs.Theorem.{IsTracked}
 use Rattle.tc_core.proofs.Quiet.{Quiet, pick_mine, pick_other, quiet_event}
@@ -188,7 +188,7 @@ past_other held w t u r x ne = go (is_number (with_of x.place) t) held refl
     go true false e = number_apart (with_of x.place) t u ne e
     go false h e = refl
 
-tracked_commit : (image : Shown) (c : Core) (w t : ℕ) → IsSound c → Tracks c → Tracks (effect image c (Commit w t))
+tracked_commit : (image : Shown) (c : Core) (w t : ℕ) → IsSoundCore c → Tracks c → Tracks (effect image c (Commit w t))
 unfolding effect
 tracked_commit image c w t sound tr =
     let mine = pick_mine t (course_past (c.course t)) (c.course t) in
@@ -213,12 +213,12 @@ tracked_quiet c d quiet tr = record {
   kept = λ t k. (λ i. has (held_past (quiet.held t i) (quiet.ended t i)) k) ∙ tr.kept t k ∙ ap (λ (m : State). (m.threads t).held k) (sym quiet.machine);
 }
 
-tracked_after : (image : Shown) (limits : Limits) (c : Core) (e : Event) → is_enabled image limits c e ≡ true → IsSound c → Tracks c → Tracks (effect image c e)
+tracked_after : (image : Shown) (limits : Limits) (c : Core) (e : Event) → is_enabled image limits c e ≡ true → IsSoundCore c → Tracks c → Tracks (effect image c e)
 tracked_after image limits c (Turn w t) on sound tr = subst (λ x. Tracks x) (sym (turn_is image c w t)) (tracked_turn image c t (may_turn image limits c w t on) tr)
 tracked_after image limits c (Commit w t) on sound tr = tracked_commit image c w t sound tr
 tracked_after image limits c e on sound tr = tracked_quiet c (effect image c e) (quiet_event image limits c e on refl) tr
 
-tracked : (image : Shown) (limits : Limits) (events : List Event) (c : Core) → IsSound c → Tracks c → AreEnabled image limits c events → Tracks (after_all image c events)
+tracked : (image : Shown) (limits : Limits) (events : List Event) (c : Core) → IsSoundCore c → Tracks c → AreEnabled image limits c events → Tracks (after_all image c events)
 tracked image limits [] c sound tr on = tr
 tracked image limits (e ∷ es) c sound tr on =
     tracked image limits es (effect image c e) (sound_after image limits c e on.0 sound) (tracked_after image limits c e on.0 sound tr) on.1

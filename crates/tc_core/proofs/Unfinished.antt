@@ -12,7 +12,7 @@ use Rattle.tc_core.specs.declared.event.Event.{Event}
 use Rattle.tc_core.specs.declared.event.Event.TheVariants.{Turn, Commit}
 use Rattle.tc_core.specs.Core.{Core, Limits, Course, Custody, Release, Loose, is_number, with_of}
 use Rattle.tc_core.specs.Events.{is_enabled, effect, has_thread, custody_past, after_turn}
-use Rattle.tc_core.specs.View.{IsSound}
+use Rattle.tc_core.specs.View.{IsSoundCore}
 use Rattle.tc_core.specs.Stories.{AreEnabled, after_all, counts_on, blocks_from}
 use Rattle.tc_core.specs.Theorem.{AreBlocks}
 use Rattle.tc_core.proofs.Gathers.{Gathers, HasEnds}
@@ -32,7 +32,7 @@ no_end (Some x) e = absurd (cc)
 
 -- what is kept besides
 pub record Keeps (image : Shown) (c : Core) (base : State) : Type 0 where
-  pub sound : IsSound c
+  pub sound : IsSoundCore c
   pub gathers : Gathers image c.machine base (owned c) (done_of c)
   pub ends : HasEnds image base (done_of c) (ended_of c)
 
@@ -49,7 +49,7 @@ keeps_quiet image c d base quiet keeps =
       ends = subst (λ f. HasEnds image base f (ended_of d)) (sym n) (subst (λ f. HasEnds image base (done_of c) f) (sym e) keeps.ends);
     }
 
-extends_core : (image : Shown) (c : Core) (t : ℕ) → IsSound c → MayTurn image c t → Extends image c.machine t (owned c) (owned (after_turn image c t)) (done_of c) (done_of (after_turn image c t))
+extends_core : (image : Shown) (c : Core) (t : ℕ) → IsSoundCore c → MayTurn image c t → Extends image c.machine t (owned c) (owned (after_turn image c t)) (done_of c) (done_of (after_turn image c t))
 unfolding owned done_of
 extends_core image c t owners may = record {
   can = turn_can image c t owners may;

@@ -54,14 +54,14 @@ pub record HasParts (image : Shown) (v : CoreView) : Type 0 where
   pub lines : (k : ℕ) → IsLine (length image.entries) (custody_at v.custodies k).line
 
 -- a lock's owner is the thread that holds it, and a lock that is held is with its thread
-pub record IsSound (c : Core) : Type 0 where
+pub record IsSoundCore (c : Core) : Type 0 where
   pub owners : IsHeldByOwner c.machine
   pub with : (t k : ℕ) → (c.machine.threads t).held k ≡ true → with_of (c.custody k).place ≡ Some t
 
 -- the core is one of the image's
 pub record IsCoreOf (image : Shown) (v : CoreView) : Type 0 where
   pub parts : HasParts image v
-  pub sound : IsSound (core_of v)
+  pub sound : IsSoundCore (core_of v)
 
 -- what a step did: its event was enabled and had its effect, or was not and nothing changed
 abbrev pub Stepped : Shown → CoreView → Event → Bool → CoreView → Type 0

@@ -6,7 +6,7 @@ ghost use Rattle.tc_isa.specs.declared.limits.TheConstants.{MAX_BATCH, MAX_FUEL,
 ghost use Rattle.tc_core.specs.Core as core;
 ghost use Rattle.tc_core.specs.Events as events;
 ghost use Rattle.tc_core.specs.Lines.{is_in_line};
-ghost use Rattle.tc_core.specs.View.{core_of, limits_of, custody_at, course_at, HasParts, IsSound, IsCoreOf, Stepped};
+ghost use Rattle.tc_core.specs.View.{core_of, limits_of, custody_at, course_at, HasParts, IsSoundCore, IsCoreOf, Stepped};
 ghost use Rattle.tc_core.specs.declared.event.Event.TheVariants as event;
 
 use crate::courses::Courses;
@@ -340,7 +340,7 @@ impl Core {
     #[tactic(auto, unfolding(crate::specs::Events::effect))]
     fn take_effect(&mut self, image: &Image, event: Event)
         requires parts { HasParts image.now self.old }
-        requires sound { IsSound (core_of self.old) }
+        requires sound { IsSoundCore (core_of self.old) }
         requires enabled { events.is_enabled image.now (limits_of self.old)
             (core_of self.old) event ≡ true }
         ensures core { core_of self.new ≡ events.effect image.now (core_of self.old) event }
@@ -394,7 +394,7 @@ impl Core {
     /// One turn of the thread.
     fn turn(&mut self, image: &Image, worker: u32, thread: u32)
         requires parts { HasParts image.now self.old }
-        requires sound { IsSound (core_of self.old) }
+        requires sound { IsSoundCore (core_of self.old) }
         requires enabled { events.is_enabled image.now (limits_of self.old)
             (core_of self.old) (event.Turn worker thread) ≡ true }
         ensures core { core_of self.new ≡ events.after_turn image.now (core_of self.old) thread }

@@ -24,7 +24,8 @@ use Rattle.tc_context.specs.Whole.{thread_in, mutex_at, whole, set_of, block_loc
 use Rattle.tc_context.specs.View.{PackageView, bare, with_seal, sealed_log}
 use Rattle.tc_context.specs.Ran.{DidRun}
 use Rattle.tc_context.proofs.Partway.{block_inside}
-use Rattle.tc_context.proofs.Staging.{sealed_at, some_of}
+use Rattle.tc_context.proofs.Staging.{some_of}
+use Rattle.tc_context.proofs.Running.{sealed_at}
 use Rattle.tc_core.specs.Core.{Core}
 use Rattle.tc_core.specs.Stories.{AreEnabled}
 use Rattle.tc_core.specs.declared.event.Event.TheVariants.{Commit}

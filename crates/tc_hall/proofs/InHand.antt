@@ -13,7 +13,8 @@ use Rattle.tc_context.specs.Locks.{lock_in, IsPlaced, SameLocks}
 use Rattle.tc_context.specs.Whole.{set_of}
 use Rattle.tc_context.specs.View.{PackageView, IsRoomier, Allows, Rests, bare, fits_of, fits_granted, granted_lock, want_of, with_seal}
 use Rattle.tc_context.specs.Ran.{DidRun}
-use Rattle.tc_context.proofs.Staging.{roomier_set, seal_set}
+use Rattle.tc_context.proofs.Staging.{roomier_set}
+use Rattle.tc_context.proofs.Running.{seal_set}
 use mathlib.Core.Option.{some}
 use lib.ListN.{get_elem?}
 use Rattle.atomic_table.proofs.Lists.{at_longer, at_last}

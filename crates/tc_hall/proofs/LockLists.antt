@@ -4,7 +4,7 @@ use mathlib.Core.Option.{some, some-injective, some-ne-none}
 use lib.ListN.{get_elem?}
 use Rattle.tc_segment.specs.View.{LockView, kept}
 use Rattle.tc_context.specs.Locks.{lock_in}
-use Rattle.tc_context.specs.Lawful.{with_states}
+use Rattle.tc_law.specs.Lawful.{with_states}
 use Rattle.tc_hall.specs.Steps.{or_kept, or_none, add_all, remove_all}
 
 clash : (a b : Option LockView) (l : LockView) → a ≡ b → a ≡ None → b ≡ Some l → ⊥

@@ -11,12 +11,12 @@ use Rattle.tc_elf.specs.Shown.{Shown}
 use Rattle.tc_journal.specs.declared.block.Block.{Block}
 use Rattle.tc_segment.specs.View.{LockView}
 use Rattle.tc_context.specs.View.{PackageView}
-use Rattle.tc_context.proofs.Lawful.{there}
+use Rattle.tc_mutex_spec.proofs.ListLaws.{there}
 use Rattle.tc_hall.specs.declared.board.Knows.{Knows}
 use Rattle.tc_hall.specs.declared.board.Terms.{Terms}
 use Rattle.tc_hall.specs.declared.board.Call.{Call}
 use Rattle.tc_hall.specs.declared.board.Call.TheVariants.{Look, Stop, Stopped}
-use Rattle.tc_hall.specs.Rule.{threads, locks, Homes, Lies, ArePlaced, Spot, home, inside, out, LiesLock, AreLocksPlaced, IsPass, HasStopped, AreApart, Kept, clean}
+use Rattle.tc_hall.specs.Rule.{threads, locks, Homes, Lies, ArePlaced, Spot, home, inside, out, LiesLock, AreLocksPlaced, IsPass, HasStopped, AreApart, KeptHall, clean}
 use Rattle.tc_hall.specs.Steps.{dealt, fresh, merged, gone, IsFree}
 use Rattle.tc_hall.proofs.Telling.{snoc_at}
 use Rattle.tc_hall.proofs.Placing.{stays}
@@ -285,7 +285,7 @@ module _ (vs : List Knows) (id other : ℕ) (v w : Knows) (at : get_elem? vs id 
       here = set_else (set vs id both) other id gone (λ z. ne (sym z)) ∙ set_here vs id both (there vs id v v at).0
 
 module _ (k : Terms) where
-  pub deals : (id : ℕ) (v : Knows) → v.spent ≡ false → v.maker ≡ true → v.made < v.worker → Splits (Kept k) id v (dealt v) (fresh v)
+  pub deals : (id : ℕ) (v : Knows) → v.spent ≡ false → v.maker ≡ true → v.made < v.worker → Splits (KeptHall k) id v (dealt v) (fresh v)
   deals id v live makes room s r at =
       let left : Knows = dealt v in
       let n : ℕ = threads k in
@@ -313,7 +313,7 @@ module _ (k : Terms) where
         apart = apart_deals s.views id v (length v.packages) (length v.locks) at live makes room r.apart;
       }
 
-  pub joins : (id : ℕ) (v : Knows) (other : ℕ) (w : Knows) → v.spent ≡ false → w.spent ≡ false → IsFree w → Joins (Kept k) id v other w (merged v w) gone
+  pub joins : (id : ℕ) (v : Knows) (other : ℕ) (w : Knows) → v.spent ≡ false → w.spent ≡ false → IsFree w → Joins (KeptHall k) id v other w (merged v w) gone
   joins id v other w live lives free s r at ne there' =
       let both' : Knows = merged v w in
       let n : ℕ = threads k in

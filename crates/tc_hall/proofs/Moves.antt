@@ -12,13 +12,14 @@ use Rattle.atomic_table.proofs.Lists.{at_set, set_here, set_else, exchanged}
 use Rattle.tc_journal.specs.declared.block.Block.{Block}
 use Rattle.tc_segment.specs.View.{LockView, kept}
 use Rattle.tc_context.specs.View.{PackageView, bare, fits_of}
-use Rattle.tc_context.specs.Lawful.{IsPackageAfter}
-use Rattle.tc_context.proofs.Lawful.{there, at_place, filter_has}
+use Rattle.tc_law.specs.Lawful.{IsPackageAfter}
+use Rattle.tc_mutex_spec.proofs.ListLaws.{there, at_place}
+use Rattle.tc_mutex_spec.proofs.Histories.{filter_has}
 use Rattle.tc_hall.specs.declared.board.Knows.{Knows}
 use Rattle.tc_hall.specs.declared.board.Terms.{Terms}
 use Rattle.tc_hall.specs.declared.board.Cargo.{Cargo}
 use Rattle.tc_hall.specs.declared.board.Cargo.TheVariants.{Package}
-use Rattle.tc_hall.specs.Rule.{locked_in, threads, locks, Homes, Has, HasLock, IsHome, IsOut, Lies, Spot, inside, out, IsLockOut, LiesLock, Kept}
+use Rattle.tc_hall.specs.Rule.{locked_in, threads, locks, Homes, Has, HasLock, IsHome, IsPackageOut, Lies, Spot, inside, out, IsLockOut, LiesLock, KeptHall}
 use Rattle.tc_hall.specs.Steps.{Gets, Got, claimed, laid, reached, after_claim, after_miss}
 use Rattle.tc_hall.proofs.Placing.{moves, stays}
 use Rattle.tc_hall.proofs.Packing.{claims_locks, locks_stay}
@@ -45,9 +46,9 @@ pub home_of : (ws : List ℕ) (hs : Homes) (vs : List Knows) (t : ℕ) (p : Pack
 home_of ws hs vs t p none l h = (refl, l)
 home_of ws hs vs t p (some id) l h = let w = l.word in absurd (omega arith)
 
-pub out_of : (ws : List ℕ) (hs : Homes) (vs : List Knows) (t id : ℕ) (p : PackageView) (o : maybe.Option ℕ) → Lies ws hs vs t p o → o ≡ some id → IsOut ws hs vs t p id
+pub out_of : (ws : List ℕ) (hs : Homes) (vs : List Knows) (t id : ℕ) (p : PackageView) (o : maybe.Option ℕ) → Lies ws hs vs t p o → o ≡ some id → IsPackageOut ws hs vs t p id
 out_of ws hs vs t id p none l e = absurd (some-ne-none id (sym e))
-out_of ws hs vs t id p (some j) l e = subst (IsOut ws hs vs t p) (some-injective j id e) l
+out_of ws hs vs t id p (some j) l e = subst (IsPackageOut ws hs vs t p) (some-injective j id e) l
 
 pub lock_out_of : (n : ℕ) (ws : List ℕ) (hs : Homes) (vs : List Knows) (i : ℕ) (l : LockView) (id : ℕ) (s : Spot) → s ≡ out id → LiesLock n ws hs vs i l s → IsLockOut n ws hs vs i l id
 lock_out_of n ws hs vs i l id s e lies = subst (LiesLock n ws hs vs i l) e lies
@@ -64,11 +65,11 @@ module _ (k : Terms) where
   St = State (Option Cargo) Knows
 
   -- where a package or a lock that a pass has out lies
-  pub is_out : (s : St) (r : Kept k s) (id t : ℕ) (v : Knows) (p : PackageView) → get_elem? s.views id ≡ some v → Has v t p
+  pub is_out : (s : St) (r : KeptHall k s) (id t : ℕ) (v : Knows) (p : PackageView) → get_elem? s.views id ≡ some v → Has v t p
       → (t < threads k) × (r.placed.holder t ≡ some id) × (get_elem? r.told.places t ≡ some p) × (slice_index s.words (t + 2) ≡ 512 + v.worker) × (v.hand ≢ Some t → get_elem? s.homes t ≡ some (some None)) × (v.hand ≡ Some t → get_elem? s.homes t ≡ some none)
   is_out s r id t v p at has =
       let o = r.placed.owned id v t p at has in
-      let l : IsOut s.words s.homes s.views t p id = out_of s.words s.homes s.views t id p (r.placed.holder t) (r.placed.each t p o.1) o.0 in
+      let l : IsPackageOut s.words s.homes s.views t p id = out_of s.words s.homes s.views t id p (r.placed.holder t) (r.placed.each t p o.1) o.0 in
       let same : v ≡ l.view = some-injective v l.view (sym at ∙ l.pass) in (
         (let b = (there r.told.places t p p o.1).0 in omega (arith, r.told.law.all_packages)),
         o.0,
@@ -79,11 +80,11 @@ module _ (k : Terms) where
       )
 
   -- a compare-and-swap fails
-  pub misses : (s : St) (i id : ℕ) (v : Knows) → get_elem? s.views id ≡ some v → v.spent ≡ false → Kept k s → Kept k (stepped s i (slice_index s.words i) id [] (after_miss v i (slice_index s.words i)) keeps)
+  pub misses : (s : St) (i id : ℕ) (v : Knows) → get_elem? s.views id ≡ some v → v.spent ≡ false → KeptHall k s → KeptHall k (stepped s i (slice_index s.words i) id [] (after_miss v i (slice_index s.words i)) keeps)
   misses s i id v at live r =
       let w : Knows = after_miss v i (slice_index s.words i) in
       let h = r.told.history in
-      subst (λ (z : List ℕ). Kept k record { words = z; homes = s.homes; views = set s.views id w }) (sym (set-get_or s.words i 0)) record {
+      subst (λ (z : List ℕ). KeptHall k record { words = z; homes = s.homes; views = set s.views id w }) (sym (set-get_or s.words i 0)) record {
         told = r.told;
         words = r.words;
         slots = r.slots;
@@ -98,8 +99,8 @@ module _ (k : Terms) where
   abbrev pub taken : Knows → ℕ → PackageView → Knows
   taken v t q = record (after_claim v q) { hand = Some t }
 
-  pub takes_home : (s : St) (r : Kept k s) (id t new : ℕ) (v : Knows) (p : PackageView) (h : IsHome s.words s.homes t p) → get_elem? s.views id ≡ some v → v.spent ≡ false → v.hand ≡ None → t < threads k → new ≡ 512 + v.worker
-      → slice_index s.words (t + 2) ≢ 2 → get_elem? r.told.places t ≡ some p → r.placed.holder t ≡ none → h.context.context.thread ≡ t → Kept k (stepped s (t + 2) new id [] (taken v t h.context) (takes t (Some (Package h.context))))
+  pub takes_home : (s : St) (r : KeptHall k s) (id t new : ℕ) (v : Knows) (p : PackageView) (h : IsHome s.words s.homes t p) → get_elem? s.views id ≡ some v → v.spent ≡ false → v.hand ≡ None → t < threads k → new ≡ 512 + v.worker
+      → slice_index s.words (t + 2) ≢ 2 → get_elem? r.told.places t ≡ some p → r.placed.holder t ≡ none → h.context.context.thread ≡ t → KeptHall k (stepped s (t + 2) new id [] (taken v t h.context) (takes t (Some (Package h.context))))
   takes_home s r id t new v p h at live free below new_is not_two place is_home thread =
       let q : PackageView = h.context in
       let w : Knows = taken v t q in
@@ -135,7 +136,7 @@ module _ (k : Terms) where
       }
 
   -- what the pass learns of it
-  pub gets : (s : St) (r : Kept k s) (id t : ℕ) (v : Knows) (p : PackageView) (h : IsHome s.words s.homes t p) → get_elem? s.views id ≡ some v → v.spent ≡ false → t < threads k
+  pub gets : (s : St) (r : KeptHall k s) (id t : ℕ) (v : Knows) (p : PackageView) (h : IsHome s.words s.homes t p) → get_elem? s.views id ≡ some v → v.spent ≡ false → t < threads k
       → get_elem? r.told.places t ≡ some p → r.placed.holder t ≡ none → h.context.context.thread ≡ t → Gets (slice_index s.words (t + 2)) t h.context v (after_claim v h.context)
   gets s r id t v p h at live below place is_home thread =
       let q : PackageView = h.context in
@@ -170,13 +171,13 @@ module _ (k : Terms) where
       }
 
   abbrev pub Claims : ℕ → ℕ → ℕ → ℕ → ℕ → Knows → List (ℕ × Option Cargo) → Type 0
-  Claims slots id t code new v c = Allows (Kept k) slots id (v, c) (t + 2) (λ x. either (x == code) new x) (claimed (step slots (t + 2) code new none) (v, c))
+  Claims slots id t code new v c = Allows (KeptHall k) slots id (v, c) (t + 2) (λ x. either (x == code) new x) (claimed (step slots (t + 2) code new none) (v, c))
 
   pub claims : (slots id t code new : ℕ) (v : Knows) (c : List (ℕ × Option Cargo)) → c ≡ [] → code < 512 → code ≢ 2 → new ≡ 512 + v.worker → t < threads k → v.spent ≡ false → v.hand ≡ None → Claims slots id t code new v c
   claims slots id t code new v c empty low not_two new_is below live free = subst (Claims slots id t code new v) (sym empty) (λ s r deep at small.
       let found : ℕ = slice_index s.words (t + 2) in
       let place = at_place r.told.places t (omega (arith, r.told.law.all_packages)) in
-      let F : ℕ → Type 0 = λ x. (w : Knows) × (a : Act (Option Cargo)) × Valid s.homes [] a × Kept k (stepped s (t + 2) x id [] w a) × claimed (step slots (t + 2) code new none) (v, []) found (w, carried_after [] a) in
+      let F : ℕ → Type 0 = λ x. (w : Knows) × (a : Act (Option Cargo)) × Valid s.homes [] a × KeptHall k (stepped s (t + 2) x id [] w a) × claimed (step slots (t + 2) code new none) (v, []) found (w, carried_after [] a) in
       exchanged found code new F
       (λ hit. let lies = home_of s.words s.homes s.views t place.0 (r.placed.holder t) (r.placed.each t place.0 place.1) (omega arith) in
       let h = lies.1 in
@@ -216,10 +217,10 @@ module _ (k : Terms) where
   no_home q e = some-ne-none (Some (Package q)) (sym e)
 
   -- the pass takes the empty slot of a package that it has out, or gives it back
-  slot_moves : (s : St) (r : Kept k s) (id t : ℕ) (v w : Knows) (p : PackageView) (a b : maybe.Option (Option Cargo)) → get_elem? s.views id ≡ some v → v.spent ≡ false → Has v t p
+  slot_moves : (s : St) (r : KeptHall k s) (id t : ℕ) (v w : Knows) (p : PackageView) (a b : maybe.Option (Option Cargo)) → get_elem? s.views id ≡ some v → v.spent ≡ false → Has v t p
       → get_elem? s.homes t ≡ some a → ((q : PackageView) → a ≢ some (Some (Package q))) → ((q : PackageView) → b ≢ some (Some (Package q)))
       → ((w.hand ≡ Some t) × (v.hand ≡ None) × (b ≡ none)) ⊎ ((w.hand ≡ None) × (v.hand ≡ Some t) × (b ≡ some None)) → w ≡ record v { hand = w.hand }
-      → Kept k record { words = s.words; homes = set s.homes t b; views = set s.views id w }
+      → KeptHall k record { words = s.words; homes = set s.homes t b; views = set s.views id w }
   slot_moves s r id t v w p a b at live has slot full full' hands same =
       let o = is_out s r id t v p at has in
       let below : t < threads k = o.0 in
@@ -259,19 +260,19 @@ module _ (k : Terms) where
       here e = set_here s.homes t b (there s.homes t a a slot).0 ∙ ap (λ (z : maybe.Option (Option Cargo)). some z) e
 
   abbrev pub Lays : ℕ → ℕ → Knows → List (ℕ × Option Cargo) → Type 0
-  Lays slots id v c = Allows (Kept k) slots id (v, c) 0 (λ n. n) (laid (step slots 0 0 0 none) (v, c))
+  Lays slots id v c = Allows (KeptHall k) slots id (v, c) 0 (λ n. n) (laid (step slots 0 0 0 none) (v, c))
 
   -- the empty slot of a package goes back
   pub lays : (slots id t : ℕ) (v : Knows) (p : PackageView) (c : List (ℕ × Option Cargo)) → c ≡ (t, None) ∷ [] → v.hand ≡ Some t → v.spent ≡ false → Has v t p → Lays slots id v c
   lays slots id t v p c one hand live has = subst (Lays slots id v) (sym one) (λ s r deep at small.
       let w : Knows = record v { hand = None } in
       let o = is_out s r id t v p at has in
-      let kept' : Kept k record { words = s.words; homes = set s.homes t (some None); views = set s.views id w } =
+      let kept' : KeptHall k record { words = s.words; homes = set s.homes t (some None); views = set s.views id w } =
       slot_moves s r id t v w p none (some None) at live has (o.5 hand) no_home no_package (inr (refl, hand, refl)) refl in
-      (w, gives, tt, subst (λ (z : List ℕ). Kept k record { words = z; homes = set s.homes t (some None); views = set s.views id w }) (sym (set-get_or s.words 0 0)) kept', refl))
+      (w, gives, tt, subst (λ (z : List ℕ). KeptHall k record { words = z; homes = set s.homes t (some None); views = set s.views id w }) (sym (set-get_or s.words 0 0)) kept', refl))
 
   abbrev pub Reaches : ℕ → ℕ → ℕ → Knows → List (ℕ × Option Cargo) → Type 0
-  Reaches slots id t v c = Allows (Kept k) slots id (v, c) (t + 2) (λ n. n) (reached (step slots (t + 2) 0 0 none) (v, c))
+  Reaches slots id t v c = Allows (KeptHall k) slots id (v, c) (t + 2) (λ n. n) (reached (step slots (t + 2) 0 0 none) (v, c))
 
   -- the pass takes the empty slot of a package that it has out
   pub reaches : (slots id t : ℕ) (v : Knows) (p : PackageView) (c : List (ℕ × Option Cargo)) → c ≡ [] → v.hand ≡ None → v.spent ≡ false → Has v t p → Reaches slots id t v c
@@ -279,11 +280,11 @@ module _ (k : Terms) where
       let w : Knows = record v { hand = Some t } in
       let o = is_out s r id t v p at has in
       let slot = o.4 (λ e. clash v.hand t free e) in
-      let kept' : Kept k record { words = s.words; homes = set s.homes t none; views = set s.views id w } =
+      let kept' : KeptHall k record { words = s.words; homes = set s.homes t none; views = set s.views id w } =
       slot_moves s r id t v w p (some None) none at live has slot no_package no_home (inl (refl, free, refl)) refl in (
         w,
         takes t None,
         slot,
-        subst (λ (z : List ℕ). Kept k record { words = z; homes = set s.homes t none; views = set s.views id w }) (sym (set-get_or s.words (t + 2) 0)) kept',
+        subst (λ (z : List ℕ). KeptHall k record { words = z; homes = set s.homes t none; views = set s.views id w }) (sym (set-get_or s.words (t + 2) 0)) kept',
         (λ u e. ap (λ (z : ℕ). (record v { hand = Some z }, (z, None) ∷ [])) (let x : t ≡ u = omega arith in x)),
       ))

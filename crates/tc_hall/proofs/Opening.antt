@@ -17,13 +17,13 @@ use Rattle.tc_journal.specs.declared.block.Block.{Block}
 use Rattle.tc_segment.specs.View.{LockView, kept, fresh_state}
 use Rattle.tc_context.specs.View.{PackageView, IsFresh, Rests, bare, fits_granted}
 use Rattle.tc_context.specs.Whole.{thread_in}
-use Rattle.tc_context.specs.Lawful.{IsPackageAfter, Lawful, blocks_left}
-use Rattle.tc_context.proofs.Lawful.{fresh_lawful}
+use Rattle.tc_law.specs.Lawful.{IsPackageAfter, Lawful, blocks_left}
+use Rattle.tc_law.proofs.Lawful.{fresh_lawful}
 use Rattle.tc_hall.specs.declared.board.Knows.{Knows}
 use Rattle.tc_hall.specs.declared.board.Terms.{Terms}
 use Rattle.tc_hall.specs.declared.board.Cargo.{Cargo}
 use Rattle.tc_hall.specs.declared.board.Cargo.TheVariants.{Package, Lock}
-use Rattle.tc_hall.specs.Rule.{grants_adopted, locked_in, threads, locks, home, IsPass, IsLimited, Kept, clean, starting as first_view}
+use Rattle.tc_hall.specs.Rule.{grants_adopted, locked_in, threads, locks, home, IsPass, IsLimited, KeptHall, clean, starting as first_view}
 use Rattle.tc_hall.specs.Steps.{dealt, fresh, IsNew}
 use Rattle.tc_hall.specs.Made.{AreStocked, AreDealt, IsMaker}
 use Rattle.tc_hall.specs.PassView.{PassView}
@@ -104,7 +104,7 @@ module _ (k : Terms) where
   first_is zero v e = (refl, some-injective (first_view k) v e)
   first_is (suc id) v e = absurd (some-ne-none v (sym e))
 
-  pub opens : (ws : List ℕ) (slots : List (Option Cargo)) → IsLimited k → AreStocked k.image.value (threads k) (locks k) k.fuel k.limit slots → ws ≡ replicate (threads k + 2 + locks k) 0 → Kept k (opening ws slots (first_view k))
+  pub opens : (ws : List ℕ) (slots : List (Option Cargo)) → IsLimited k → AreStocked k.image.value (threads k) (locks k) k.fuel k.limit slots → ws ≡ replicate (threads k + 2 + locks k) 0 → KeptHall k (opening ws slots (first_view k))
   opens ws slots limits ready zeros =
       let n : ℕ = threads k in
       let m : ℕ = locks k in

@@ -9,7 +9,7 @@ use Rattle.tc_journal.specs.declared.block.Block.{Block}
 use Rattle.tc_segment.specs.View.{LockView, kept, with_journal, sealed_as}
 use Rattle.tc_context.specs.Locks.{lock_in}
 use Rattle.tc_context.specs.View.{PackageView, bare, with_seal}
-use Rattle.tc_context.proofs.Staging.{sealed_at}
+use Rattle.tc_context.proofs.Running.{sealed_at}
 use Rattle.tc_hall.specs.declared.board.Knows.{Knows}
 use Rattle.tc_hall.specs.declared.place.Place.{Place}
 use Rattle.tc_hall.specs.Outs.{Outs, outs, erase, keep, unless, Pack, Loose, IsOut, CameOut, Called}

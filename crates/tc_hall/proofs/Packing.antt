@@ -8,8 +8,9 @@ use lib.ListN.{get_elem?}
 use Rattle.atomic_table.proofs.Lists.{at_set, set_here, set_else}
 use Rattle.tc_segment.specs.View.{LockView, kept}
 use Rattle.tc_context.specs.View.{PackageView}
-use Rattle.tc_context.specs.Lawful.{with_states}
-use Rattle.tc_context.proofs.Lawful.{there, with_states-at}
+use Rattle.tc_law.specs.Lawful.{with_states}
+use Rattle.tc_law.proofs.Lawful.{with_states-at}
+use Rattle.tc_mutex_spec.proofs.ListLaws.{there}
 use Rattle.tc_hall.specs.declared.board.Knows.{Knows}
 use Rattle.tc_hall.specs.declared.board.Cargo.{Cargo}
 use Rattle.tc_hall.specs.declared.board.Cargo.TheVariants.{Package}

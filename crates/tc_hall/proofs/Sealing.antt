@@ -16,15 +16,18 @@ use Rattle.tc_segment.specs.View.{LockView, kept, with_journal, sealed_as, seale
 use Rattle.tc_context.specs.Locks.{lock_in}
 use Rattle.tc_context.specs.View.{PackageView, Allows as AllowsBlock, bare, with_seal}
 use Rattle.tc_context.specs.Ran.{DidRun}
-use Rattle.tc_context.specs.Lawful.{Lawful, IsLimited, with_states}
-use Rattle.tc_context.proofs.Following.{blocks_are}
-use Rattle.tc_context.proofs.Lawful.{there, stamp_at, appended}
+use Rattle.tc_law.specs.Lawful.{Lawful, IsLimited, with_states}
+use Rattle.tc_law.proofs.Following.{blocks_are}
+use Rattle.tc_law.proofs.Lawful.{appended}
+use Rattle.tc_mutex_spec.proofs.ListLaws.{there}
+use Rattle.tc_mutex_spec.proofs.Histories.{stamp_at}
 use Rattle.tc_context.proofs.Moved.{some_map}
-use Rattle.tc_context.proofs.Staging.{sealed_at, some_of}
+use Rattle.tc_context.proofs.Staging.{some_of}
+use Rattle.tc_context.proofs.Running.{sealed_at}
 use Rattle.tc_hall.specs.declared.board.Knows.{Knows}
 use Rattle.tc_hall.specs.declared.board.Terms.{Terms}
 use Rattle.tc_hall.specs.declared.board.Cargo.{Cargo}
-use Rattle.tc_hall.specs.Rule.{locked_in, threads, locks, IsPass, Kept}
+use Rattle.tc_hall.specs.Rule.{locked_in, threads, locks, IsPass, KeptHall}
 use Rattle.tc_hall.specs.Steps.{after_commit, Seals, DidSeal}
 use Rattle.tc_hall.specs.Steps as steps
 use Rattle.tc_hall.proofs.Outs.{seal_outs}
@@ -59,7 +62,7 @@ filter_has {A} f (c ∷ cs) i b e = by (f c) (λ j h. filter_has f cs j b h) i e
     by true more (suc i) e = (let r = more i e in (suc r.0, r.1))
     by false more i e = (let r = more i e in (suc r.0, r.1))
 
-module _ (k : Terms) (s : St k) (r : Kept k s) (id : ℕ) (v : Knows) (q : PackageView) (a : Seals v q) (live : v.spent ≡ false) (at : get_elem? s.views id ≡ some v) where
+module _ (k : Terms) (s : St k) (r : KeptHall k s) (id : ℕ) (v : Knows) (q : PackageView) (a : Seals v q) (live : v.spent ≡ false) (at : get_elem? s.views id ≡ some v) where
   abbrev stamp : ℕ
   stamp = slice_index s.words 0
 
@@ -95,7 +98,7 @@ module _ (k : Terms) (s : St k) (r : Kept k s) (id : ℕ) (v : Knows) (q : Packa
       law_after k.image.value v.image k.fuel k.limit h r.told.places r.told.segments a.before q stamp v.worker (old.of live) (record { threads = r.told.limits.threads; turns = r.told.limits.fuel }) r.told.law o.2 mine a.ran r.clock
       (let x = old.worker in let y = r.told.limits.workers.1 in omega (arith, x, y)) (a.allows a.ran.block a.ran.pending)
 
-  pub seals_kept : Kept k (stepped s 0 ((stamp + 1) % 18446744073709551616) id [] w keeps)
+  pub seals_kept : KeptHall k (stepped s 0 ((stamp + 1) % 18446744073709551616) id [] w keeps)
   seals_kept =
       let new : ℕ = (stamp + 1) % 18446744073709551616 in
       let wide : length v.packages ≡ threads k = r.placed.sized id v at live in
@@ -172,7 +175,7 @@ module _ (k : Terms) (s : St k) (r : Kept k s) (id : ℕ) (v : Knows) (q : Packa
   }
 
 abbrev pub SealsAll : Terms → ℕ → ℕ → Knows → Option PackageView → List (ℕ × Option Cargo) → Type 0
-SealsAll k slots id v o c = Allows (Kept k) slots id (v, c) 0 (λ n. (n + 1) % 2 ^ 64) (steps.sealed_as o (step slots 0 1 0 none) (v, c))
+SealsAll k slots id v o c = Allows (KeptHall k) slots id (v, c) 0 (λ n. (n + 1) % 2 ^ 64) (steps.sealed_as o (step slots 0 1 0 none) (v, c))
 
 pub seals : (k : Terms) (slots id : ℕ) (v : Knows) (q : PackageView) (c : List (ℕ × Option Cargo)) → c ≡ [] → v.spent ≡ false → Seals v q → SealsAll k slots id v (Some q) c
 seals k slots id v q c empty live a = subst (SealsAll k slots id v (Some q)) (sym empty) (λ s r deep at small. (

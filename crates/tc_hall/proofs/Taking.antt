@@ -11,16 +11,16 @@ use Rattle.tc_isa.specs.Sets.{has}
 use Rattle.tc_journal.specs.declared.block.Block.{Block}
 use Rattle.tc_mutex_spec.specs.Blocks.{end_after}
 use Rattle.tc_segment.specs.View.{LockView, kept, blocks_of}
-use Rattle.tc_context.specs.Lawful.{IsStateAfter}
-use Rattle.tc_context.proofs.Following.{blocks_are}
-use Rattle.tc_context.proofs.Lawful.{there, at_place}
+use Rattle.tc_law.specs.Lawful.{IsStateAfter}
+use Rattle.tc_law.proofs.Following.{blocks_are}
+use Rattle.tc_mutex_spec.proofs.ListLaws.{there, at_place}
 use Rattle.tc_hall.specs.declared.board.Knows.{Knows}
 use Rattle.tc_hall.specs.declared.board.Terms.{Terms}
 use Rattle.tc_hall.specs.declared.board.Call.{Call}
 use Rattle.tc_hall.specs.declared.board.Call.TheVariants.{Free, Look, Stop, Stopped}
 use Rattle.tc_hall.specs.declared.board.Cargo.{Cargo}
 use Rattle.tc_hall.specs.declared.board.Cargo.TheVariants.{Lock}
-use Rattle.tc_hall.specs.Rule.{threads, locks, Homes, HasLock, Spot, home, inside, out, IsLockHome, IsLockOut, LiesLock, Kept}
+use Rattle.tc_hall.specs.Rule.{threads, locks, Homes, HasLock, Spot, home, inside, out, IsLockHome, IsLockOut, LiesLock, KeptHall}
 use Rattle.tc_hall.specs.Steps.{laid, reached, did_free, took_as, Took, MayFree, after_take, after_free}
 use Rattle.tc_hall.proofs.Outs.{lock_came, no_call_taken}
 use Rattle.tc_hall.proofs.Placing.{stays}
@@ -70,7 +70,7 @@ free_true ws i = record { look = λ u e. absurd (no_look u (Free i) refl e); sto
 
 module _ (k : Terms) where
   -- where a lock that a pass has out lies
-  pub is_lock_out : (s : St k) (r : Kept k s) (id i : ℕ) (v : Knows) (l : LockView) → get_elem? s.views id ≡ some v → HasLock v i l
+  pub is_lock_out : (s : St k) (r : KeptHall k s) (id i : ℕ) (v : Knows) (l : LockView) → get_elem? s.views id ≡ some v → HasLock v i l
       → (i < locks k) × (r.locks_placed.spot i ≡ out id) × (get_elem? r.told.segments i ≡ some l) × (slice_index s.words (threads k + 2 + i) ≡ 1)
       × (v.hand ≢ Some (threads k + i) → get_elem? s.homes (threads k + i) ≡ some (some None)) × (v.hand ≡ Some (threads k + i) → get_elem? s.homes (threads k + i) ≡ some none)
   is_lock_out s r id i v l at has =
@@ -86,7 +86,7 @@ module _ (k : Terms) where
       )
 
   -- one word of a lock, its slot and the pass's view of it change
-  lock_step : (s : St k) (r : Kept k s) (id i word : ℕ) (v w : Knows) (a : maybe.Option (Option Cargo)) (to : Spot) → get_elem? s.views id ≡ some v → v.spent ≡ false → i < locks k
+  lock_step : (s : St k) (r : KeptHall k s) (id i word : ℕ) (v w : Knows) (a : maybe.Option (Option Cargo)) (to : Spot) → get_elem? s.views id ≡ some v → v.spent ≡ false → i < locks k
       → (r.locks_placed.spot i ≡ home) ⊎ (r.locks_placed.spot i ≡ out id)
       → IsElseLock (threads k) i v w → w.image ≡ v.image → w.worker ≡ v.worker → w.packages ≡ v.packages → w.maker ≡ v.maker → w.made ≡ v.made → w.joined ≡ v.joined → w.misfits ≡ v.misfits → w.sealed ≡ v.sealed
       → ((j : ℕ) (c : Call) → get_elem? w.calls j ≡ some c → (get_elem? v.calls j ≡ some c) ⊎ IsTrueCall (set s.words (threads k + 2 + i) word) c)
@@ -95,7 +95,7 @@ module _ (k : Terms) where
       → slice_index s.words (threads k + 2 + i) ≢ 2
       → ((l : LockView) → get_elem? r.told.segments i ≡ some l → LiesLock (threads k) (set s.words (threads k + 2 + i) word) (set s.homes (threads k + i) a) (set s.views id w) i l to)
       → ((l : LockView) → HasLock w i l → (to ≡ out id) × (get_elem? r.told.segments i ≡ some l))
-      → Kept k record { words = set s.words (threads k + 2 + i) word; homes = set s.homes (threads k + i) a; views = set s.views id w }
+      → KeptHall k record { words = set s.words (threads k + 2 + i) word; homes = set s.homes (threads k + i) a; views = set s.views id w }
   lock_step s r id i word v w a to at live below mine e image worker packages maker made' joined misfits sealed' calls shows hand hand' not_two now own =
       let n : ℕ = threads k in
       let j : ℕ = n + 2 + i in
@@ -120,12 +120,12 @@ module _ (k : Terms) where
       }
 
   abbrev pub TakesAll : ℕ → ℕ → Option ℕ → ℕ → Knows → List (ℕ × Option Cargo) → Type 0
-  TakesAll slots id o word v c = Allows (Kept k) slots id (v, c) word (λ x. either (x == 0) 1 x) (took_as o (step slots word 0 1 none) (v, c))
+  TakesAll slots id o word v c = Allows (KeptHall k) slots id (v, c) word (λ x. either (x == 0) 1 x) (took_as o (step slots word 0 1 none) (v, c))
 
   -- the state of a lock that is home is taken
-  pub take_kept : (s : St k) (r : Kept k s) (id i : ℕ) (v : Knows) (p : LockView) (h : IsLockHome (threads k) s.words s.homes i p) → get_elem? s.views id ≡ some v → v.spent ≡ false → v.hand ≡ None → i < locks k → slice_index s.words (threads k + 2 + i) ≡ 0
+  pub take_kept : (s : St k) (r : KeptHall k s) (id i : ℕ) (v : Knows) (p : LockView) (h : IsLockHome (threads k) s.words s.homes i p) → get_elem? s.views id ≡ some v → v.spent ≡ false → v.hand ≡ None → i < locks k → slice_index s.words (threads k + 2 + i) ≡ 0
       → r.locks_placed.spot i ≡ home → get_elem? r.told.segments i ≡ some p → h.segment.number ≡ i
-      → Kept k (stepped s (threads k + 2 + i) 1 id [] (record (after_take v h.segment) { hand = Some (threads k + i) }) (takes (threads k + i) (Some (Lock h.segment))))
+      → KeptHall k (stepped s (threads k + 2 + i) 1 id [] (record (after_take v h.segment) { hand = Some (threads k + i) }) (takes (threads k + i) (Some (Lock h.segment))))
   take_kept s r id i v p h at live free below hit is_home segment number =
       let n : ℕ = threads k in
       let j : ℕ = n + 2 + i in
@@ -152,7 +152,7 @@ module _ (k : Terms) where
       let j : ℕ = n + 2 + i in
       let found : ℕ = slice_index s.words j in
       let place = at_place r.told.segments i (omega (arith, r.told.law.all_states)) in
-      let F : ℕ → Type 0 = λ x. (w : Knows) × (a : Act (Option Cargo)) × Valid s.homes [] a × Kept k (stepped s j x id [] w a) × took_as (Some i) (step slots j 0 1 none) (v, []) found (w, carried_after [] a) in
+      let F : ℕ → Type 0 = λ x. (w : Knows) × (a : Act (Option Cargo)) × Valid s.homes [] a × KeptHall k (stepped s j x id [] w a) × took_as (Some i) (step slots j 0 1 none) (v, []) found (w, carried_after [] a) in
       exchanged found 0 1 F
       (λ hit. let lies = lock_home_of n s.words s.homes s.views i place.0 (r.locks_placed.spot i) (r.locks_placed.each i place.0 place.1) hit in
       let h = lies.1 in
@@ -202,11 +202,11 @@ module _ (k : Terms) where
       home_out s j a b = cc (a, b)
 
   abbrev pub FreesAll : ℕ → ℕ → ℕ → Knows → List (ℕ × Option Cargo) → Type 0
-  FreesAll slots id word v c = Allows (Kept k) slots id (v, c) word (λ _. 0) (λ _. did_free (step slots word 0 0 none) (v, c) 0)
+  FreesAll slots id word v c = Allows (KeptHall k) slots id (v, c) word (λ _. 0) (λ _. did_free (step slots word 0 0 none) (v, c) 0)
 
   -- the filled slot of a lock goes home
-  pub free_kept : (s : St k) (r : Kept k s) (id : ℕ) (v : Knows) (l : LockView) → get_elem? s.views id ≡ some v → v.hand ≡ Some (threads k + l.number) → v.spent ≡ false → MayFree v l
-      → Kept k (stepped s (threads k + 2 + l.number) 0 id ((threads k + l.number, Some (Lock l)) ∷ []) (record (after_free v l) { hand = None }) gives)
+  pub free_kept : (s : St k) (r : KeptHall k s) (id : ℕ) (v : Knows) (l : LockView) → get_elem? s.views id ≡ some v → v.hand ≡ Some (threads k + l.number) → v.spent ≡ false → MayFree v l
+      → KeptHall k (stepped s (threads k + 2 + l.number) 0 id ((threads k + l.number, Some (Lock l)) ∷ []) (record (after_free v l) { hand = None }) gives)
   free_kept s r id v l at hand live may =
       let n : ℕ = threads k in
       let i : ℕ = l.number in
@@ -254,15 +254,15 @@ module _ (k : Terms) where
       freed v l = (record (after_free v l) { hand = None }, [])
 
   -- the pass takes the empty slot of a lock that it has out, or gives it back
-  lock_slot_moves : (s : St k) (r : Kept k s) (id i : ℕ) (v w : Knows) (l : LockView) (b : maybe.Option (Option Cargo)) → get_elem? s.views id ≡ some v → v.spent ≡ false → HasLock v i l
+  lock_slot_moves : (s : St k) (r : KeptHall k s) (id i : ℕ) (v w : Knows) (l : LockView) (b : maybe.Option (Option Cargo)) → get_elem? s.views id ≡ some v → v.spent ≡ false → HasLock v i l
       → ((w.hand ≡ Some (threads k + i)) × (v.hand ≡ None) × (b ≡ none)) ⊎ ((w.hand ≡ None) × (v.hand ≡ Some (threads k + i)) × (b ≡ some None)) → w ≡ record v { hand = w.hand }
-      → Kept k record { words = s.words; homes = set s.homes (threads k + i) b; views = set s.views id w }
+      → KeptHall k record { words = s.words; homes = set s.homes (threads k + i) b; views = set s.views id w }
   lock_slot_moves s r id i v w l b at live has hands same =
       let n : ℕ = threads k in
       let o = is_lock_out s r id i v l at has in
       let word : ℕ = slice_index s.words (n + 2 + i) in
       let again : set s.words (n + 2 + i) word ≡ s.words = set-get_or s.words (n + 2 + i) 0 in
-      subst (λ (z : List ℕ). Kept k record { words = z; homes = set s.homes (n + i) b; views = set s.views id w }) again
+      subst (λ (z : List ℕ). KeptHall k record { words = z; homes = set s.homes (n + i) b; views = set s.views id w }) again
       (lock_step s r id i word v w b (out id) at live o.0 (inr o.1)
       record { spent = ap (λ (z : Knows). z.spent) same; long = ap (λ (z : Knows). length z.locks) same; out = λ e ne. ap (λ (z : Knows). get_elem? z.locks e) same; hand = λ e ne h. absurd (to (n + e) (λ z. ne (omega arith)) h); hand_back = λ e ne h. absurd (back (n + e) (λ z. ne (omega arith)) h) }
       (ap (λ (z : Knows). z.image) same) (ap (λ (z : Knows). z.worker) same) (ap (λ (z : Knows). z.packages) same) (ap (λ (z : Knows). z.maker) same) (ap (λ (z : Knows). z.made) same) (ap (λ (z : Knows). z.joined) same) (ap (λ (z : Knows). z.misfits) same) (ap (λ (z : Knows). z.sealed) same)
@@ -288,26 +288,26 @@ module _ (k : Terms) where
       here e h = set_here s.homes (threads k + i) b (omega (arith, r.slots)) ∙ ap (λ (z : maybe.Option (Option Cargo)). some z) e
 
   abbrev pub LaysLock : ℕ → ℕ → Knows → List (ℕ × Option Cargo) → Type 0
-  LaysLock slots id v c = Allows (Kept k) slots id (v, c) 0 (λ n. n) (laid (step slots 0 0 0 none) (v, c))
+  LaysLock slots id v c = Allows (KeptHall k) slots id (v, c) 0 (λ n. n) (laid (step slots 0 0 0 none) (v, c))
 
   pub lays_lock : (slots id i : ℕ) (v : Knows) (l : LockView) (c : List (ℕ × Option Cargo)) → c ≡ (threads k + i, None) ∷ [] → v.hand ≡ Some (threads k + i) → v.spent ≡ false → HasLock v i l → LaysLock slots id v c
   lays_lock slots id i v l c one hand live has = subst (LaysLock slots id v) (sym one) (λ s r deep at small.
       let w : Knows = record v { hand = None } in
-      let kept' : Kept k record { words = s.words; homes = set s.homes (threads k + i) (some None); views = set s.views id w } = lock_slot_moves s r id i v w l (some None) at live has (inr (refl, hand, refl)) refl in
-      (w, gives, tt, subst (λ (z : List ℕ). Kept k record { words = z; homes = set s.homes (threads k + i) (some None); views = set s.views id w }) (sym (set-get_or s.words 0 0)) kept', refl))
+      let kept' : KeptHall k record { words = s.words; homes = set s.homes (threads k + i) (some None); views = set s.views id w } = lock_slot_moves s r id i v w l (some None) at live has (inr (refl, hand, refl)) refl in
+      (w, gives, tt, subst (λ (z : List ℕ). KeptHall k record { words = z; homes = set s.homes (threads k + i) (some None); views = set s.views id w }) (sym (set-get_or s.words 0 0)) kept', refl))
 
   abbrev pub ReachesLock : ℕ → ℕ → ℕ → Knows → List (ℕ × Option Cargo) → Type 0
-  ReachesLock slots id word v c = Allows (Kept k) slots id (v, c) word (λ n. n) (reached (step slots word 0 0 none) (v, c))
+  ReachesLock slots id word v c = Allows (KeptHall k) slots id (v, c) word (λ n. n) (reached (step slots word 0 0 none) (v, c))
 
   pub reaches_lock : (slots id i : ℕ) (v : Knows) (l : LockView) (c : List (ℕ × Option Cargo)) → c ≡ [] → v.hand ≡ None → v.spent ≡ false → HasLock v i l → ReachesLock slots id (threads k + i + 2) v c
   reaches_lock slots id i v l c empty free live has = subst (ReachesLock slots id (threads k + i + 2) v) (sym empty) (λ s r deep at small.
       let slot : ℕ = threads k + i in
       let w : Knows = record v { hand = Some slot } in
       let o = is_lock_out s r id i v l at has in
-      let kept' : Kept k record { words = s.words; homes = set s.homes slot none; views = set s.views id w } = lock_slot_moves s r id i v w l none at live has (inl (refl, free, refl)) refl in (
+      let kept' : KeptHall k record { words = s.words; homes = set s.homes slot none; views = set s.views id w } = lock_slot_moves s r id i v w l none at live has (inl (refl, free, refl)) refl in (
         w,
         takes slot None,
         o.4 (λ e. clash v.hand slot free e),
-        subst (λ (z : List ℕ). Kept k record { words = z; homes = set s.homes slot none; views = set s.views id w }) (sym (set-get_or s.words (slot + 2) 0)) kept',
+        subst (λ (z : List ℕ). KeptHall k record { words = z; homes = set s.homes slot none; views = set s.views id w }) (sym (set-get_or s.words (slot + 2) 0)) kept',
         (λ u e. ap (λ (z : ℕ). (record v { hand = Some z }, (z, None) ∷ [])) (let x : slot ≡ u = omega arith in x)),
       ))

@@ -12,7 +12,7 @@ use Rattle.tc_segment.specs.View.{LockView, blocks_of, kept}
 use Rattle.tc_context.specs.declared.package.Grant.{Grant}
 use Rattle.tc_context.specs.Locks.{lock_in}
 use Rattle.tc_context.specs.View.{PackageView, bare, fits_of, fits_granted, fits_in}
-use Rattle.tc_context.proofs.Lawful.{there}
+use Rattle.tc_mutex_spec.proofs.ListLaws.{there}
 use Rattle.tc_hall.specs.declared.board.Given.{Given}
 use Rattle.tc_hall.specs.declared.place.Place.{Place}
 use Rattle.tc_hall.specs.declared.board.Knows.{Knows}
@@ -22,7 +22,7 @@ use Rattle.tc_hall.specs.declared.board.Call.TheVariants.{Put, Look, Stop, Stopp
 use Rattle.tc_hall.specs.declared.board.Cargo.{Cargo}
 use Rattle.tc_hall.specs.declared.board.Cargo.TheVariants.{Package}
 use Rattle.tc_hall.specs.Places.{code_of, place_of}
-use Rattle.tc_hall.specs.Rule.{grants_adopted, threads, locks, IsInOrder, Kept}
+use Rattle.tc_hall.specs.Rule.{grants_adopted, threads, locks, IsInOrder, KeptHall}
 use Rattle.tc_hall.specs.Steps.{Sat, IsAsLeft, put_as, looked, stopping, saw_stopped, after_put, with_call, numbers, given_of, MayPut, HasStop, made, seen}
 use Rattle.tc_hall.proofs.Placing.{moves, stays}
 use Rattle.tc_hall.proofs.Packing.{puts_locks, locks_stay}
@@ -90,18 +90,18 @@ fits_all q w u a e = go q.granted a e
 
 module _ (k : Terms) where
   abbrev pub FillsAs : Option Terms → ℕ → ℕ → ℕ → ℕ → Knows → List (ℕ × Option Cargo) → Type 0
-  FillsAs o slots id t code v c = Allows (Kept k) slots id (v, c) (t + 2) (λ _. code) (λ _. put_as o (step slots (t + 2) code 0 none) (v, c) code)
+  FillsAs o slots id t code v c = Allows (KeptHall k) slots id (v, c) (t + 2) (λ _. code) (λ _. put_as o (step slots (t + 2) code 0 none) (v, c) code)
 
   abbrev pub Fills : ℕ → ℕ → ℕ → ℕ → Knows → List (ℕ × Option Cargo) → Type 0
   Fills = FillsAs (Some k)
 
-  shows_stop : (s : St k) (r : Kept k s) (id : ℕ) (v : Knows) → get_elem? s.views id ≡ some v → HasStop v → slice_index s.words 1 ≡ 1
+  shows_stop : (s : St k) (r : KeptHall k s) (id : ℕ) (v : Knows) → get_elem? s.views id ≡ some v → HasStop v → slice_index s.words 1 ≡ 1
   shows_stop s r id v at (made i e) = (r.passes id v at).stop i e
   shows_stop s r id v at (seen i e) = (r.passes id v at).stopped i e
 
   -- the filled slot goes home
-  pub fills_kept : (s : St k) (r : Kept k s) (id : ℕ) (place : Place) (v : Knows) (q : PackageView) → get_elem? s.views id ≡ some v → v.hand ≡ Some q.context.thread → v.spent ≡ false → IsInRange (locks k) place → MayPut place v q
-      → Kept k (stepped s (q.context.thread + 2) (code_of place) id ((q.context.thread, Some (Package q)) ∷ []) (record (after_put v q (place_of (code_of place))) { hand = None }) gives)
+  pub fills_kept : (s : St k) (r : KeptHall k s) (id : ℕ) (place : Place) (v : Knows) (q : PackageView) → get_elem? s.views id ≡ some v → v.hand ≡ Some q.context.thread → v.spent ≡ false → IsInRange (locks k) place → MayPut place v q
+      → KeptHall k (stepped s (q.context.thread + 2) (code_of place) id ((q.context.thread, Some (Package q)) ∷ []) (record (after_put v q (place_of (code_of place))) { hand = None }) gives)
   fills_kept s r id place v q at hand live range may =
       let t : ℕ = q.context.thread in
       let code : ℕ = code_of place in
@@ -144,7 +144,7 @@ module _ (k : Terms) where
       }
 
   -- the package is as the history leaves it
-  as_left : (s : St k) (r : Kept k s) (id : ℕ) (place : Place) (v : Knows) (q : PackageView) → get_elem? s.views id ≡ some v → MayPut place v q → IsAsLeft k v q
+  as_left : (s : St k) (r : KeptHall k s) (id : ℕ) (place : Place) (v : Knows) (q : PackageView) → get_elem? s.views id ≡ some v → MayPut place v q → IsAsLeft k v q
   as_left s r id place v q at may =
       let t = (r.told.law.packages_after q.context.thread (bare q) (is_out k s r id q.context.thread v (bare q) at may.has).2).follows in record {
         history = r.told.history;
@@ -186,10 +186,10 @@ module _ (k : Terms) where
       package_is t u a b e = let f : Some (Package a) ≡ Some (Package b) = ap first e in cc f
 
   -- a call is told, and at most the stop becomes 1
-  tells_kept : (s : St k) (r : Kept k s) (ws' : List ℕ) (id : ℕ) (v : Knows) (c : Call) → get_elem? s.views id ≡ some v → v.spent ≡ false → IsTrueCall ws' c
+  tells_kept : (s : St k) (r : KeptHall k s) (ws' : List ℕ) (id : ℕ) (v : Knows) (c : Call) → get_elem? s.views id ≡ some v → v.spent ≡ false → IsTrueCall ws' c
       → ((j : ℕ) → j ≢ 1 → slice_index ws' j ≡ slice_index s.words j) → (slice_index s.words 1 ≡ 1 → slice_index ws' 1 ≡ 1) → length ws' ≡ length s.words
       → (slice_index ws' 1 ≡ 1 → HasStopped (set s.views id (with_call v c)))
-      → Kept k record { words = ws'; homes = s.homes; views = set s.views id (with_call v c) }
+      → KeptHall k record { words = ws'; homes = s.homes; views = set s.views id (with_call v c) }
   tells_kept s r ws' id v c at live true' words stops long stop =
       let w : Knows = with_call v c in
       let done : (u : ℕ) → slice_index s.words (u + 2) ≡ 2 → slice_index ws' (u + 2) ≡ 2 = λ u e. words (u + 2) (λ z. omega arith) ∙ e in
@@ -207,18 +207,18 @@ module _ (k : Terms) where
         apart = apart_stays s.views id v w at record { worker = refl; maker = refl; made = refl; spent = refl; joined = refl } live r.apart;
       }
 
-  still_stopped : (s : St k) (r : Kept k s) (id : ℕ) (v : Knows) (c : Call) → get_elem? s.views id ≡ some v → slice_index s.words 1 ≡ 1 → HasStopped (set s.views id (with_call v c))
+  still_stopped : (s : St k) (r : KeptHall k s) (id : ℕ) (v : Knows) (c : Call) → get_elem? s.views id ≡ some v → slice_index s.words 1 ≡ 1 → HasStopped (set s.views id (with_call v c))
   still_stopped s r id v c at e = stop_stays s.views id v (with_call v c) at (λ i h. (i, at_longer v.calls (c ∷ []) i Stop h)) (r.stop e)
 
   abbrev pub Looks : ℕ → ℕ → ℕ → Knows → List (ℕ × Option Cargo) → Type 0
-  Looks slots id t v c = Allows (Kept k) slots id (v, c) (t + 2) (λ n. n) (looked (step slots (t + 2) 0 0 none) (v, c))
+  Looks slots id t v c = Allows (KeptHall k) slots id (v, c) (t + 2) (λ n. n) (looked (step slots (t + 2) 0 0 none) (v, c))
 
   -- a word is looked at
-  pub look_kept : (s : St k) (r : Kept k s) (id t : ℕ) (v : Knows) → get_elem? s.views id ≡ some v → v.spent ≡ false
-      → Kept k (stepped s (t + 2) (slice_index s.words (t + 2)) id [] (with_call v (Look t (slice_index s.words (t + 2)))) keeps)
+  pub look_kept : (s : St k) (r : KeptHall k s) (id t : ℕ) (v : Knows) → get_elem? s.views id ≡ some v → v.spent ≡ false
+      → KeptHall k (stepped s (t + 2) (slice_index s.words (t + 2)) id [] (with_call v (Look t (slice_index s.words (t + 2)))) keeps)
   look_kept s r id t v at live =
       let found : ℕ = slice_index s.words (t + 2) in
-      subst (λ (z : List ℕ). Kept k record { words = z; homes = s.homes; views = set s.views id (with_call v (Look t found)) }) (sym (set-get_or s.words (t + 2) 0))
+      subst (λ (z : List ℕ). KeptHall k record { words = z; homes = s.homes; views = set s.views id (with_call v (Look t found)) }) (sym (set-get_or s.words (t + 2) 0))
       (tells_kept s r s.words id v (Look t found) at live (look_true s.words t found refl) (λ j ne. refl) (λ e. e) refl (still_stopped s r id v (Look t found) at))
     where
       look_true : (ws : List ℕ) (t found : ℕ) → found ≡ slice_index ws (t + 2) → IsTrueCall ws (Look t found)
@@ -247,10 +247,10 @@ module _ (k : Terms) where
   ))
 
   abbrev pub Stops : ℕ → ℕ → Knows → List (ℕ × Option Cargo) → Type 0
-  Stops slots id v c = Allows (Kept k) slots id (v, c) 1 (λ _. 1) (λ _. stopping (step slots 1 1 0 none) (v, c) 1)
+  Stops slots id v c = Allows (KeptHall k) slots id (v, c) 1 (λ _. 1) (λ _. stopping (step slots 1 1 0 none) (v, c) 1)
 
   -- the stop is made
-  pub stop_kept : (s : St k) (r : Kept k s) (id : ℕ) (v : Knows) → get_elem? s.views id ≡ some v → v.spent ≡ false → Kept k (stepped s 1 1 id [] (with_call v Stop) keeps)
+  pub stop_kept : (s : St k) (r : KeptHall k s) (id : ℕ) (v : Knows) → get_elem? s.views id ≡ some v → v.spent ≡ false → KeptHall k (stepped s 1 1 id [] (with_call v Stop) keeps)
   stop_kept s r id v at live =
       let one : slice_index (set s.words 1 1) 1 ≡ 1 = get_or-set_same s.words 1 1 0 (omega (arith, r.words)) in
       tells_kept s r (set s.words 1 1) id v Stop at live record { look = λ u e. absurd (no_look u Stop refl e); stop = λ _. one; stopped = λ _. one }
@@ -264,13 +264,13 @@ module _ (k : Terms) where
   stops slots id v c empty live = subst (Stops slots id v) (sym empty) (λ s r deep at small. (with_call v Stop, keeps, tt, stop_kept s r id v at live, refl))
 
   abbrev pub Sees : ℕ → ℕ → Knows → List (ℕ × Option Cargo) → Type 0
-  Sees slots id v c = Allows (Kept k) slots id (v, c) 1 (λ n. n) (saw_stopped (step slots 1 0 0 none) (v, c))
+  Sees slots id v c = Allows (KeptHall k) slots id (v, c) 1 (λ n. n) (saw_stopped (step slots 1 0 0 none) (v, c))
 
   -- the stop word is seen
-  pub see_kept : (s : St k) (r : Kept k s) (id : ℕ) (v : Knows) → get_elem? s.views id ≡ some v → v.spent ≡ false → Kept k (stepped s 1 (slice_index s.words 1) id [] (with_call v (Stopped (slice_index s.words 1))) keeps)
+  pub see_kept : (s : St k) (r : KeptHall k s) (id : ℕ) (v : Knows) → get_elem? s.views id ≡ some v → v.spent ≡ false → KeptHall k (stepped s 1 (slice_index s.words 1) id [] (with_call v (Stopped (slice_index s.words 1))) keeps)
   see_kept s r id v at live =
       let found : ℕ = slice_index s.words 1 in
-      subst (λ (z : List ℕ). Kept k record { words = z; homes = s.homes; views = set s.views id (with_call v (Stopped found)) }) (sym (set-get_or s.words 1 0))
+      subst (λ (z : List ℕ). KeptHall k record { words = z; homes = s.homes; views = set s.views id (with_call v (Stopped found)) }) (sym (set-get_or s.words 1 0))
       (tells_kept s r s.words id v (Stopped found) at live
       record { look = λ u e. absurd (no_look u found (Stopped found) refl e); stop = λ e. absurd (no_stop found (Stopped found) refl e); stopped = λ e. one found (Stopped found) refl e }
       (λ j ne. refl) (λ e. e) refl (still_stopped s r id v (Stopped found) at))

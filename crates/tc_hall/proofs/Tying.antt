@@ -9,10 +9,10 @@ use Rattle.atomic_table.specs.Table.{gives, stepped}
 use Rattle.atomic_table.proofs.Lists.{set_here, set_else}
 use Rattle.tc_turn.specs.Turn.{Thread, is_running}
 use Rattle.tc_segment.specs.View.{LockView, kept}
-use Rattle.tc_context.specs.Lawful.{IsPackageAfter, IsStateAfter}
+use Rattle.tc_law.specs.Lawful.{IsPackageAfter, IsStateAfter}
 use Rattle.tc_context.specs.Whole.{thread_in}
 use Rattle.tc_context.specs.View.{PackageView, bare}
-use Rattle.tc_context.proofs.Lawful.{at_place}
+use Rattle.tc_mutex_spec.proofs.ListLaws.{at_place}
 use Rattle.tc_mutex_spec.proofs.BlocksAlike.{eq_self}
 use Rattle.tc_core.specs.declared.place.Custody.{Custody}
 use Rattle.tc_core.specs.Core.{Core, is_claimable, is_waiting, is_loose, is_slept, is_free_lock, with_place, with_custody}
@@ -31,7 +31,7 @@ use Rattle.tc_hall.specs.declared.board.Cargo.TheVariants.{Package, Lock}
 use Rattle.tc_hall.specs.declared.place.Place.{Place}
 use Rattle.tc_hall.specs.declared.place.Place.TheVariants.{Ready, Waiting, Parked, Done}
 use Rattle.tc_hall.specs.Places.{code_of}
-use Rattle.tc_hall.specs.Rule.{threads, locks, HasLock, IsHome, Spot, out, IsLockHome, Kept, locked_in}
+use Rattle.tc_hall.specs.Rule.{threads, locks, HasLock, IsHome, Spot, out, IsLockHome, KeptHall, locked_in}
 use Rattle.tc_hall.specs.Steps.{Gets, after_claim, after_put, after_take, after_miss, with_call, dealt, fresh, merged, gone}
 use Rattle.tc_hall.specs.Effects.{Hall, after, claim_effect, put_effect, take_effect}
 use Rattle.tc_hall.specs.Outline.{outline, in_hand, packed, at_home, lies_with, lies_at}
@@ -58,7 +58,7 @@ module _ (k : Terms) (m : Moment k) where
   abbrev s : Hall
   s = m.state
 
-  abbrev r : Kept k m.state
+  abbrev r : KeptHall k m.state
   r = m.rule
 
   abbrev v : Knows
@@ -125,10 +125,10 @@ module _ (k : Terms) (m : Moment k) where
         subst (λ (z : PackageView). Gets (slice_index m.state.words (t + 2)) t z m.view (after_claim m.view z)) h.same
         (gets k m.state m.rule m.id t m.view h.stands h.home m.pass m.live a.below h.placed h.holder h.thread)
 
-    claim_kept : slice_index m.state.words (t + 2) ≢ 2 → Kept k (after m.state m.id (claim_effect m.view t q))
+    claim_kept : slice_index m.state.words (t + 2) ≢ 2 → KeptHall k (after m.state m.id (claim_effect m.view t q))
     claim_kept not_two =
         let h = at_its_home in
-        subst (λ (z : PackageView). Kept k (after m.state m.id (claim_effect m.view t z))) h.same
+        subst (λ (z : PackageView). KeptHall k (after m.state m.id (claim_effect m.view t z))) h.same
         (takes_home k m.state m.rule m.id t (512 + m.view.worker) m.view h.stands h.home m.pass m.live a.free a.below refl not_two h.placed h.holder h.thread)
 
     claim_shows : (c c' : Core) → IsShown k m.state (outline c) → Arrives c c' t (At m.view.worker)
@@ -219,9 +219,9 @@ module _ (k : Terms) (m : Moment k) (place : Place) (q : PackageView) (a : Puts 
   put_low : code_of place < 512
   put_low = code_low (locks k) place a.range m.rule.told.limits.locks
 
-  put_kept : Kept k (after m.state m.id (put_effect m.view q place))
+  put_kept : KeptHall k (after m.state m.id (put_effect m.view q place))
   put_kept =
-      subst (λ (z : Place). Kept k (stepped m.state (q.context.thread + 2) (code_of place) m.id ((q.context.thread, Some (Package q)) ∷ []) (record (after_put m.view q z) { hand = None }) gives)) (place_codes place)
+      subst (λ (z : Place). KeptHall k (stepped m.state (q.context.thread + 2) (code_of place) m.id ((q.context.thread, Some (Package q)) ∷ []) (record (after_put m.view q z) { hand = None }) gives)) (place_codes place)
       (fills_kept k m.state m.rule m.id place m.view q m.pass a.hand m.live a.range a.may)
 
   none_else : (j i : ℕ) (x : Knows) (l : LockView) → j ≢ m.id → get_elem? m.state.views j ≡ some x → HasLock x i l → locked_in q i ≡ None
@@ -298,7 +298,7 @@ take_tie k m t i l a =
     let number : l.number ≡ i = ap (λ (z : LockView). z.number) (sym same) ∙ its in
     let has : HasLock (after_take m.view l) i (kept l) = subst (λ (z : ℕ). get_elem? (set m.view.locks z (Some (kept l))) i ≡ some (Some (kept l))) (sym number) (set_here m.view.locks i (Some (kept l)) (let b = a.lock in let c = m.rule.locks_placed.sized m.id m.view m.pass m.live in omega arith)) in
     record {
-      kept = subst (λ (z : LockView). Kept k (after m.state m.id (take_effect (threads k) m.view i z))) same (take_kept k m.state m.rule m.id i m.view place'.0 h m.pass m.live a.free a.lock a.home lies.0 place'.1 its);
+      kept = subst (λ (z : LockView). KeptHall k (after m.state m.id (take_effect (threads k) m.view i z))) same (take_kept k m.state m.rule m.id i m.view place'.0 h m.pass m.live a.free a.lock a.home lies.0 place'.1 its);
       asks = λ c seen given. (
         at_it k m c t a.below (out_at k m c seen.shown t a.below a.at),
         (let b = a.lock in let e : nat_lt i (locks k) ≡ true = grind (arith, nat_tests) in e),
@@ -339,7 +339,7 @@ free_tie k m l hand may =
 -- ---- steps with no event
 
 -- the rule is kept, no word of a thread changes, and no view has more out
-ties_to_none : (k : Terms) (s : Hall) (ws' : List ℕ) (vs' : List Knows) → Kept k record { words = ws'; homes = s.homes; views = vs' } → ((u : ℕ) → slice_index ws' (u + 2) ≡ slice_index s.words (u + 2)) → HadOut s.views vs' → TiesToNone k s record { words = ws'; homes = s.homes; views = vs' }
+ties_to_none : (k : Terms) (s : Hall) (ws' : List ℕ) (vs' : List Knows) → KeptHall k record { words = ws'; homes = s.homes; views = vs' } → ((u : ℕ) → slice_index ws' (u + 2) ≡ slice_index s.words (u + 2)) → HadOut s.views vs' → TiesToNone k s record { words = ws'; homes = s.homes; views = vs' }
 ties_to_none k s ws' vs' kept words had = record {
   kept = kept;
   asks = λ c seen given. tt;

@@ -15,7 +15,7 @@ use Rattle.tc_segment.specs.View.{LockView, kept}
 use Rattle.tc_context.specs.declared.package.Grant.{Grant}
 use Rattle.tc_context.specs.Locks.{lock_in}
 use Rattle.tc_context.specs.View.{PackageView, Rests, bare, fits_of, granted_lock, want_of}
-use Rattle.tc_context.specs.Lawful.{Lawful}
+use Rattle.tc_law.specs.Lawful.{Lawful}
 use Rattle.tc_hall.specs.declared.board.Knows.{Knows}
 use Rattle.tc_hall.specs.declared.board.Terms.{Terms}
 use Rattle.tc_hall.specs.declared.board.Call.{Call}
@@ -86,7 +86,7 @@ pub record IsHome (ws : List ℕ) (hs : Homes) (t : ℕ) (p : PackageView) : Typ
   pub fits : FitsAll (slice_index ws 1) context
 
 -- a package that is out with the pass id
-pub record IsOut (ws : List ℕ) (hs : Homes) (vs : List Knows) (t : ℕ) (p : PackageView) (id : ℕ) : Type 0 where
+pub record IsPackageOut (ws : List ℕ) (hs : Homes) (vs : List Knows) (t : ℕ) (p : PackageView) (id : ℕ) : Type 0 where
   pub view : Knows
   pub pass : get_elem? vs id ≡ some view
   pub has : Has view t p
@@ -96,7 +96,7 @@ pub record IsOut (ws : List ℕ) (hs : Homes) (vs : List Knows) (t : ℕ) (p : P
 
 abbrev pub Lies : List ℕ → Homes → List Knows → ℕ → PackageView → maybe.Option ℕ → Type 0
 Lies ws hs vs t p none = IsHome ws hs t p
-Lies ws hs vs t p (some id) = IsOut ws hs vs t p id
+Lies ws hs vs t p (some id) = IsPackageOut ws hs vs t p id
 
 -- each package is in its slot or out in one pass
 pub record ArePlaced (n : ℕ) (places : List PackageView) (ws : List ℕ) (hs : Homes) (vs : List Knows) : Type 0 where
@@ -198,7 +198,7 @@ pub record Told (k : Terms) : Type 0 where
   pub law : Lawful k.image.value k.fuel k.limit history places segments
   pub workers : (i : ℕ) (b : Block) → get_elem? history i ≡ some b → b.worker < k.workers
 
-pub record Kept (k : Terms) (s : State (Option Cargo) Knows) : Type 0 where
+pub record KeptHall (k : Terms) (s : State (Option Cargo) Knows) : Type 0 where
   pub told : Told k
   pub words : length s.words ≡ threads k + 2 + locks k
   pub slots : length s.homes ≡ threads k + locks k

@@ -16,8 +16,8 @@ use Rattle.tc_context.specs.declared.package.Grant.{Grant}
 use Rattle.tc_context.specs.Locks.{lock_in}
 use Rattle.tc_context.specs.View.{PackageView, AllowsPending, Rests, bare, fits_of, number_in, with_seal}
 use Rattle.tc_context.specs.Ran.{DidRun}
-use Rattle.tc_context.specs.History.{Follows}
-use Rattle.tc_context.specs.Lawful.{Lawful}
+use Rattle.tc_law.specs.History.{Follows}
+use Rattle.tc_law.specs.Lawful.{Lawful}
 use Rattle.tc_hall.specs.declared.place.Place.{Place}
 use Rattle.tc_hall.specs.declared.place.Place.TheVariants.{Ready}
 use Rattle.tc_hall.specs.declared.board.Given.{Given}

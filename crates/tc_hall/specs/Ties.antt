@@ -21,7 +21,7 @@ use Rattle.tc_hall.specs.declared.place.Place.{Place}
 use Rattle.tc_hall.specs.declared.place.Place.TheVariants.{Ready, Waiting, Parked, Done}
 use Rattle.tc_hall.specs.declared.place.Origin.{Origin}
 use Rattle.tc_hall.specs.Places.{origin_code, IsInRange}
-use Rattle.tc_hall.specs.Rule.{threads, locks, HasLock, Kept, locked_in}
+use Rattle.tc_hall.specs.Rule.{threads, locks, HasLock, KeptHall, locked_in}
 use Rattle.tc_hall.specs.Steps.{MayPut, MayFree, Seals, IsFree}
 use Rattle.tc_hall.specs.Effects.{Hall, after, claim_effect, commit_effect, put_effect, take_effect, free_effect, look_effect, stop_effect, stopped_effect, miss_effect, with_new_pass, with_joined}
 use Rattle.tc_hall.specs.Outline.{outline, IsBetween}
@@ -47,7 +47,7 @@ loose_at k c w lock = has_lock k.image.value (limits_of k) c w lock
 -- a state of the hall that meets the rule, and a live pass in it
 pub record Moment (k : Terms) : Type 0 where
   pub state : Hall
-  pub rule : Kept k state
+  pub rule : KeptHall k state
   pub id : ℕ
   pub view : Knows
   pub pass : get_elem? state.views id ≡ some view
@@ -61,7 +61,7 @@ pub record Shows (k : Terms) (s : Hall) (c : Core) : Type 0 where
 -- a step from s to s' ties to the events: it keeps the rule; and for each core that s shows, of which this is given, what the
 -- events ask of places, of threads and of the ends of blocks holds, and if they may come, s' shows the core after them
 pub record Ties (k : Terms) (s s' : Hall) (given asked : Core → Type 0) (events : List Event) : Type 0 where
-  pub kept : Kept k s'
+  pub kept : KeptHall k s'
   pub asks : (c : Core) → Shows k s c → given c → asked c
   pub shows : (c : Core) → Shows k s c → given c → AreEnabled k.image.value (limits_of k) c events → Shows k s' (after_events k c events)
 

@@ -108,9 +108,9 @@ pub type Slot = Option<Cargo>;
 pub struct Ruled;
 
 impl TableRule<Slot, Knows, Terms> for Ruled {
-    ghost use Rattle.tc_hall.specs.Rule.{Kept, starting};
+    ghost use Rattle.tc_hall.specs.Rule.{KeptHall, starting};
 
-    ghost holds = { Kept };
+    ghost holds = { KeptHall };
 
     ghost first = { starting };
 }

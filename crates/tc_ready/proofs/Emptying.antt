@@ -5,7 +5,7 @@ use mathlib.Core.Option.{some, some-injective}
 use lib.ListN.{get_elem?}
 use Rattle.crossbeam_deque.proofs.Lists.{at_snoc}
 use Rattle.tc_ready.specs.declared.ends.Log.{Log}
-use Rattle.tc_ready.specs.Rule.{Kept}
+use Rattle.tc_ready.specs.Rule.{KeptDeque}
 use Rattle.tc_ready.specs.Law.{Limit}
 use Rattle.tc_ready.proofs.Keeping.{total_more, at_front}
 
@@ -14,7 +14,7 @@ limit tasks views v some_threads k at =
     let own : k.owner ≡ v = some-injective k.owner v (sym k.first ∙ at) in
     let n : k.owner.threads ≡ v.threads = ap (λ (z : Log). z.threads) own in
     let robber : Log = record { threads = v.threads; given = []; taken = k.rest; gone = 0 } in
-    let rule : Kept [] (views ++ robber ∷ []) = record {
+    let rule : KeptDeque [] (views ++ robber ∷ []) = record {
       owner = k.owner;
       left = k.left ++ k.rest;
       rest = [];

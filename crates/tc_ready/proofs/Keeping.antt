@@ -9,7 +9,7 @@ use Rattle.crossbeam_deque.specs.Tasks.{Pushes, Takes, Finds, Forks}
 use Rattle.crossbeam_deque.proofs.Lists.{at_set, set_here, set_again, at_snoc}
 use Rattle.tc_ready.specs.declared.ends.Offer.{Offer}
 use Rattle.tc_ready.specs.declared.ends.Log.{Log}
-use Rattle.tc_ready.specs.Rule.{fresh, opened, offer, thread_of, AreOffers, Kept, given, took, popped, found_empty}
+use Rattle.tc_ready.specs.Rule.{fresh, opened, offer, thread_of, AreOffers, KeptDeque, given, took, popped, found_empty}
 
 in_range : {A : Type 0} (l : List A) (i : ℕ) (a : A) → get_elem? l i ≡ some a → i < length l
 in_range [] i a e = absurd (some-ne-none a (sym e))
@@ -46,7 +46,7 @@ only : (P : Log → Type 0) (v : Log) → P v → (id : ℕ) (u : Log) → get_e
 only P v h zero u e = subst P (some-injective v u e) h
 only P v h (suc id) u e = absurd (some-ne-none u (sym e))
 
-pub begins : Kept [] (fresh ∷ [])
+pub begins : KeptDeque [] (fresh ∷ [])
 begins = record {
   owner = fresh;
   left = [];
@@ -63,7 +63,7 @@ begins = record {
 }
 
 -- a new deque is told how many threads there are, before any other pass is made
-pub opens : (n : ℕ) → 0 < n → Forks Kept 0 fresh (opened n) (opened n)
+pub opens : (n : ℕ) → 0 < n → Forks KeptDeque 0 fresh (opened n) (opened n)
 opens n some_threads tasks views k at = alone views at k.first (k.sole (ap (λ (z : Log). z.threads) own)) k
   where
     own : k.owner ≡ fresh
@@ -72,7 +72,7 @@ opens n some_threads tasks views k at = alone views at k.first (k.sole (ap (λ (
     nothing : (f : Offer → ℕ) → sum_by f k.left ≡ 0
     nothing f = let e : k.left ++ k.rest ≡ [] = sym k.split ∙ ap (λ (z : Log). z.given) own in let a = sum_by-append f k.left k.rest in let b = ap (sum_by f) e in omega arith
 
-    alone : (vs : List Log) → get_elem? vs 0 ≡ some fresh → get_elem? vs 0 ≡ some k.owner → length vs ≡ 1 → Kept tasks vs → Kept tasks (set vs 0 (opened n) ++ opened n ∷ [])
+    alone : (vs : List Log) → get_elem? vs 0 ≡ some fresh → get_elem? vs 0 ≡ some k.owner → length vs ≡ 1 → KeptDeque tasks vs → KeptDeque tasks (set vs 0 (opened n) ++ opened n ∷ [])
     alone [] at first one kk = absurd (omega arith)
     alone (x ∷ y ∷ xs) at first one kk = absurd (omega arith)
     alone (x ∷ []) at first one kk = record {
@@ -99,8 +99,8 @@ opens n some_threads tasks views k at = alone views at k.first (k.sole (ap (λ (
         two P h id u e ne = two_all P h id u e
 
 -- a pass for another worker
-pub deals : (v : Log) → 0 < v.threads → Forks Kept 0 v v (opened v.threads)
-deals v some_threads tasks views k at = subst (λ (l : List Log). Kept tasks (l ++ opened v.threads ∷ [])) (sym (set_again views 0 v at))
+pub deals : (v : Log) → 0 < v.threads → Forks KeptDeque 0 v v (opened v.threads)
+deals v some_threads tasks views k at = subst (λ (l : List Log). KeptDeque tasks (l ++ opened v.threads ∷ [])) (sym (set_again views 0 v at))
     (let own : k.owner ≡ v = some-injective k.owner v (sym k.first ∙ at) in
     let n : v.threads ≡ k.owner.threads = ap (λ (z : Log). z.threads) (sym own) in
     let u : Log = opened v.threads in
@@ -130,7 +130,7 @@ others_set views id v w at same all j u e ne = ⊎_elim
     (at_set views id j w u e)
 
 -- the worker gives one offer more, with the next number
-pub gives : (v : Log) (t : ℕ) → t < v.threads → Pushes Kept 0 v (t ∷ []) (given v (t ∷ []))
+pub gives : (v : Log) (t : ℕ) → t < v.threads → Pushes KeptDeque 0 v (t ∷ []) (given v (t ∷ []))
 gives v t low tasks views k at =
     let x : Offer = offer (length v.given) t in
     let w : Log = record v { given = v.given ++ x ∷ [] } in
@@ -156,7 +156,7 @@ gives v t low tasks views k at =
     )
 
 -- The deque without its first offer
-record Taken (t : ℕ) (tasks : List ℕ) (views : List Log) (k : Kept (t ∷ tasks) views) : Type 0 where
+record Taken (t : ℕ) (tasks : List ℕ) (views : List Log) (k : KeptDeque (t ∷ tasks) views) : Type 0 where
   serial : ℕ
   rest : List Offer
   is : k.rest ≡ offer serial t ∷ rest
@@ -165,7 +165,7 @@ record Taken (t : ℕ) (tasks : List ℕ) (views : List Log) (k : Kept (t ∷ ta
   place : serial ≡ length k.left
   own : serial < length k.owner.given
 
-first_of : (t : ℕ) (tasks : List ℕ) (views : List Log) (k : Kept (t ∷ tasks) views) → Taken t tasks views k
+first_of : (t : ℕ) (tasks : List ℕ) (views : List Log) (k : KeptDeque (t ∷ tasks) views) → Taken t tasks views k
 first_of t tasks views k = go k.rest refl k.lies
   where
     go : (l : List Offer) → k.rest ≡ l → t ∷ tasks ≡ map thread_of l → Taken t tasks views k
@@ -195,8 +195,8 @@ owner_after (x ∷ xs) zero v w o at first same same' most gone =
 owner_after (x ∷ xs) (suc id) v w o at first same same' most gone = (o, first, refl, refl, omega arith)
 
 -- the first offer leaves: its taker's view is then w
-leaves : (t : ℕ) (tasks : List ℕ) (views : List Log) (id : ℕ) (v w : Log) (k : Kept (t ∷ tasks) views) (h : Taken t tasks views k) → get_elem? views id ≡ some v → w.given ≡ v.given → w.threads ≡ v.threads
-    → w.gone ≤ max v.gone (h.serial + 1) → w.taken ≡ v.taken ++ offer h.serial t ∷ [] → Kept tasks (set views id w)
+leaves : (t : ℕ) (tasks : List ℕ) (views : List Log) (id : ℕ) (v w : Log) (k : KeptDeque (t ∷ tasks) views) (h : Taken t tasks views k) → get_elem? views id ≡ some v → w.given ≡ v.given → w.threads ≡ v.threads
+    → w.gone ≤ max v.gone (h.serial + 1) → w.taken ≡ v.taken ++ offer h.serial t ∷ [] → KeptDeque tasks (set views id w)
 leaves t tasks views id v w k h at same same' gone more =
     let x : Offer = offer h.serial t in
     let own = owner_after views id v w k.owner at k.first same same' (h.serial + 1) gone in
@@ -224,7 +224,7 @@ leaves t tasks views id v w k h at same same' gone more =
           let m : max k.owner.gone (h.serial + 1) ≤ length k.left + 1 = max-le (omega arith) (omega arith) in omega arith;
     }
 
-pub takes : (id : ℕ) (v : Log) → Takes Kept id v 1 (took v)
+pub takes : (id : ℕ) (v : Log) → Takes KeptDeque id v 1 (took v)
 takes id v [] tasks views some_there few k at = absurd (omega arith)
 takes id v (t ∷ []) tasks views some_there few k at =
     let h = first_of t tasks views k in
@@ -235,7 +235,7 @@ takes id v (t ∷ []) tasks views some_there few k at =
     )
 takes id v (t ∷ u ∷ ts) tasks views some_there few k at = absurd (omega arith)
 
-pub pops : (v : Log) → Takes Kept 0 v 1 (popped v)
+pub pops : (v : Log) → Takes KeptDeque 0 v 1 (popped v)
 pops v [] tasks views some_there few k at = absurd (omega arith)
 pops v (t ∷ []) tasks views some_there few k at =
     let h = first_of t tasks views k in
@@ -247,5 +247,5 @@ pops v (t ∷ []) tasks views some_there few k at =
     )
 pops v (t ∷ u ∷ ts) tasks views some_there few k at = absurd (omega arith)
 
-pub finds : (v : Log) → Finds Kept 0 v (found_empty v)
+pub finds : (v : Log) → Finds KeptDeque 0 v (found_empty v)
 finds v views k at = record { views = views; owner = v; rule = k; first = at; same = (refl, refl, refl) }

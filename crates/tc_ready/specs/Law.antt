@@ -4,7 +4,7 @@ use mathlib.Core.Option.{some}
 use lib.ListN.{get_elem?}
 use Rattle.tc_ready.specs.declared.ends.Offer.{Offer}
 use Rattle.tc_ready.specs.declared.ends.Log.{Log}
-use Rattle.tc_ready.specs.Rule.{Kept, SawEmpty, thread_of}
+use Rattle.tc_ready.specs.Rule.{KeptDeque, SawEmpty, thread_of}
 
 abbrev pub bit : Bool → ℕ
 bit b = cond b 1 0
@@ -21,8 +21,8 @@ pub record AreOnce (tasks : List ℕ) (views : List Log) (owner : Log) : Type 0 
   pub once : (n : ℕ) → times n owner.given ≤ 1
 
 abbrev pub EachOnce : Type 0
-EachOnce = (tasks : List ℕ) (views : List Log) (owner : Log) → Kept tasks views → get_elem? views 0 ≡ some owner → AreOnce tasks views owner
+EachOnce = (tasks : List ℕ) (views : List Log) (owner : Log) → KeptDeque tasks views → get_elem? views 0 ≡ some owner → AreOnce tasks views owner
 
 -- `SawEmpty` follows from any state of a deque, since others may take the rest while what the worker knows stays as it is
 abbrev pub Limit : Type 0
-Limit = (tasks : List ℕ) (views : List Log) (v : Log) → 0 < v.threads → Kept tasks views → get_elem? views 0 ≡ some v → SawEmpty v.threads v.given v.taken
+Limit = (tasks : List ℕ) (views : List Log) (v : Log) → 0 < v.threads → KeptDeque tasks views → get_elem? views 0 ≡ some v → SawEmpty v.threads v.given v.taken

@@ -25,7 +25,7 @@ AreOffers n xs = (i : ℕ) (x : Offer) → get_elem? xs i ≡ some x → (x.seri
 
 -- The first view is that of the deque's worker, who alone gives. What it gave is what has left and then what is in the deque,
 -- and what has left is what the workers took, each offer as often, however the offers are counted
-pub record Kept (tasks : List ℕ) (views : List Log) : Type 0 where
+pub record KeptDeque (tasks : List ℕ) (views : List Log) : Type 0 where
   pub owner : Log
   pub left : List Offer
   pub rest : List Offer
@@ -69,7 +69,7 @@ popped v (t ∷ ts) w = PoppedOne t v w
 pub record SawEmpty (threads : ℕ) (given taken : List Offer) : Type 0 where
   pub views : List Log
   pub owner : Log
-  pub rule : Kept [] views
+  pub rule : KeptDeque [] views
   pub first : get_elem? views 0 ≡ some owner
   pub same : (owner.threads ≡ threads) × (owner.given ≡ given) × (owner.taken ≡ taken)
 

@@ -37,9 +37,9 @@ pub struct Log {
 pub struct Ruled;
 
 impl Protocol<u32, Log> for Ruled {
-    ghost use Rattle.tc_ready.specs.Rule.{Kept, fresh};
+    ghost use Rattle.tc_ready.specs.Rule.{KeptDeque, fresh};
 
-    ghost holds = { Kept };
+    ghost holds = { KeptDeque };
 
     ghost first = { fresh };
 

@@ -15,7 +15,7 @@ use Rattle.tc_turn.specs.Turn.{Mutex, mutex_at_start}
 use Rattle.tc_turn.specs.Replay.{Entry, Replays, replay_entry, replayed, AreReplayed}
 use Rattle.tc_segment.specs.declared.record.Record.{Record}
 use Rattle.tc_segment.specs.declared.record.Opening.{Opening}
-use Rattle.tc_segment.specs.View.{Opened, LockView, with_closed, entries, lock_of, replay_in, IsSound, with_journal, opened_at, more_words, noted, entry_from, closed_with, with_end, Closes, fresh_state}
+use Rattle.tc_segment.specs.View.{Opened, LockView, with_closed, entries, lock_of, replay_in, IsSoundLock, with_journal, opened_at, more_words, noted, entry_from, closed_with, with_end, Closes, fresh_state}
 use Rattle.tc_segment.specs.Kept.{regs_at, shown, shown_open, shown_journal, Fits, AllFit, OpenFits, Extends}
 use Rattle.tc_segment.proofs.Journals.{replayed-more, are_replayed-more}
 
@@ -112,7 +112,7 @@ not_none : (ws : List ℕ) (p : Option Opened) → is_some p ≡ true → option
 not_none ws None was e = cc
 not_none ws (Some p) was e = cc
 
-pub sound_noted : (ws : List ℕ) (l : LockView) → IsSound l → is_some l.journal.opened ≡ true → IsSound (with_journal (noted ws) l)
+pub sound_noted : (ws : List ℕ) (l : LockView) → IsSoundLock l → is_some l.journal.opened ≡ true → IsSoundLock (with_journal (noted ws) l)
 sound_noted ws l sound was = record {
   bytes = sound.bytes;
   known = sound.known;
@@ -153,7 +153,7 @@ opened_journal image number limit old new sealed edges more words er wr place fr
 opened_from : (at m : Mutex) (start : Registers) (fuel : ℕ) (o : Opened) → at ≡ m → Some (record { start = start; fuel = fuel; from = at; foreign = [] }) ≡ Some o → o.from ≡ m
 opened_from at m start fuel o is e = (let same : record { start = start; fuel = fuel; from = at; foreign = [] } ≡ o = cc in ap (λ (x : Opened). x.from) (sym same) ∙ is)
 
-pub sound_opened : (start : Registers) (fuel : ℕ) (l : LockView) → IsSound l → l.journal.opened ≡ None → l.journal.closed ≡ None → IsSound (with_journal (opened_at (lock_of l) start fuel) l)
+pub sound_opened : (start : Registers) (fuel : ℕ) (l : LockView) → IsSoundLock l → l.journal.opened ≡ None → l.journal.closed ≡ None → IsSoundLock (with_journal (opened_at (lock_of l) start fuel) l)
 sound_opened start fuel l sound none closed = record {
   bytes = sound.bytes;
   known = sound.known;
@@ -185,7 +185,7 @@ closed_journal image number limit old new sealed edges more words opened er wr o
     let closed = last ∙ entry in
     λ i. record { image = image; limit = limit; sealed = before i; closed = closed i; opened = None; entry_room = er; word_room = wr }
 
-pub sound_closed : (block : Block) (finish : Registers) (l : LockView) (o : Opened) → IsSound l → l.journal.opened ≡ Some o → Closes l block finish o → IsSound (with_end block.end (with_journal (closed_with block finish) l))
+pub sound_closed : (block : Block) (finish : Registers) (l : LockView) (o : Opened) → IsSoundLock l → l.journal.opened ≡ Some o → Closes l block finish o → IsSoundLock (with_end block.end (with_journal (closed_with block finish) l))
 sound_closed block finish l o sound is closes =
     let j = l.journal in
     let none : j.closed ≡ None = sound.alone (ap (λ x. is_some x) is) in
@@ -215,7 +215,7 @@ pub fresh_view : (of image : Shown) (number limit : ℕ) (bytes words : List ℕ
     → record { number = number; bytes = bytes; broken = false; sections = 0; journal = shown_journal of number limit (map (shown edges words) records) 0 edges words None 0 0 } ≡ fresh_state image number limit
 fresh_view of image number limit bytes words edges records o b r = λ i. record { number = number; bytes = b i; broken = false; sections = 0; journal = shown_journal (o i) number limit (map (shown edges words) (r i)) 0 edges words None 0 0 }
 
-pub sound_fresh : (image : Shown) (number limit : ℕ) → number < length image.guards → number < 32 → IsGuard image (guard_at image number) → limit ≤ MAX_BATCH → IsSound (fresh_state image number limit)
+pub sound_fresh : (image : Shown) (number limit : ℕ) → number < length image.guards → number < 32 → IsGuard image (guard_at image number) → limit ≤ MAX_BATCH → IsSoundLock (fresh_state image number limit)
 sound_fresh image number limit known small guard most = record {
   known = known;
   small = small;

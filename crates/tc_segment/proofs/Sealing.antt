@@ -14,7 +14,7 @@ use Rattle.tc_turn.specs.Replay.{Entry, Replays, replay_entry, replayed, AreRepl
 use Rattle.tc_segment.specs.declared.record.Record.{Record}
 use Rattle.tc_segment.specs.declared.record.Opening.{Opening}
 use Rattle.tc_journal.specs.Batch.{begins, unlocks, is_only, may_adopt, is_adopted, run_after, run_from, run_of, last_of, may_begin, allows_of, may_follow, ObeysAfter, Obeys, passes_on, PassesOnAfter, PassesOn}
-use Rattle.tc_segment.specs.View.{LockView, with_closed, entries, block_in, blocks_of, IsSound, with_journal, sealed_block, sealed_entry, sealed_list, sealed_as}
+use Rattle.tc_segment.specs.View.{LockView, with_closed, entries, block_in, blocks_of, IsSoundLock, with_journal, sealed_block, sealed_entry, sealed_list, sealed_as}
 use Rattle.tc_segment.specs.Kept.{shown, block_of, shown_open, shown_journal}
 use Rattle.tc_segment.proofs.Journals.{replayed-more}
 use Rattle.tc_segment.proofs.Keeping.{entries_are}
@@ -108,7 +108,7 @@ stamped_passes : (lock stamp worker : ℕ) (bs : List Block) (b : Block) → pas
 unfolding passes_on
 stamped_passes lock stamp worker bs b passes = passes
 
-pub sound_sealed : (stamp worker : ℕ) (l : LockView) (e : Entry) → IsSound l → l.journal.closed ≡ Some e → may_follow l.number l.journal.limit (blocks_of l) (sealed_block stamp worker e.block) ≡ true → passes_on l.number (blocks_of l) e.block ≡ true → IsSound (with_journal (sealed_as stamp worker) l)
+pub sound_sealed : (stamp worker : ℕ) (l : LockView) (e : Entry) → IsSoundLock l → l.journal.closed ≡ Some e → may_follow l.number l.journal.limit (blocks_of l) (sealed_block stamp worker e.block) ≡ true → passes_on l.number (blocks_of l) e.block ≡ true → IsSoundLock (with_journal (sealed_as stamp worker) l)
 sound_sealed stamp worker l e sound is follows passes =
     let j = l.journal in
     let new : sealed_list stamp worker j.sealed j.closed ≡ j.sealed ++ sealed_entry stamp worker e ∷ [] = ap (sealed_list stamp worker j.sealed) is in

@@ -9,7 +9,7 @@ use Rattle.tc_turn.specs.Replay.{Entry, replayed}
 use Rattle.tc_segment.specs.declared.record.Record.{Record}
 use Rattle.tc_segment.specs.declared.record.Opening.{Opening}
 use Rattle.tc_segment.specs.declared.state.Contents.{Contents}
-use Rattle.tc_segment.specs.View.{LockView, Journal, Opened, IsSound, blocks_of, sealed_block}
+use Rattle.tc_segment.specs.View.{LockView, Journal, Opened, IsSoundLock, blocks_of, sealed_block}
 
 -- the registers at a place
 abbrev pub no_regs : Registers
@@ -73,8 +73,8 @@ abbrev pub count : {X : Type 0} → Option X → ℕ
 count None = 0
 count (Some x) = 1
 
-pub record Kept (a : Contents) : Type 0 where
-  pub sound : IsSound (view_of a)
+pub record KeptLock (a : Contents) : Type 0 where
+  pub sound : IsSoundLock (view_of a)
   pub start : a.start ≡ (guard_at a.of.value a.number).start
   pub records : AllFit a.edges.items a.words.items a.records.items
   pub sealed : a.sealed ≤ length a.records.items

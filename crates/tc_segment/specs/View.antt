@@ -71,7 +71,7 @@ replay_in number j = replayed j.image number (mutex_at_start j.image number) (en
 -- what each lock state keeps, wherever it is: it is of a guard of its image, its entries replay, and their replay is the
 -- lock as it is, or as it was when the open entry was opened; beside an open entry each is sealed; its sealed blocks obey
 -- its batch limit, and each section that was passed on is of another thread than the one before it
-pub record IsSound (l : LockView) : Type 0 where
+pub record IsSoundLock (l : LockView) : Type 0 where
   pub known : l.number < length l.journal.image.guards
   pub small : l.number < 32
   pub guard : IsGuard l.journal.image (guard_of l)

@@ -7,7 +7,7 @@ ghost use Rattle.tc_exec.specs.Told.{IsWidth};
 ghost use Rattle.tc_journal.specs.Batch.{ends_thread, last_of, passes_to, run_of};
 ghost use Rattle.tc_turn.specs.Memory.{byte_from as byte_from_start, number_at};
 ghost use Rattle.tc_segment.specs.Lent.{entry_lent};
-ghost use Rattle.tc_segment.specs.View.{IsSound, allows_in, number_of_guard, ClosesWith, MayFollow, MayPass, lock_of, guard_of, with_store, with_section, with_break, with_end, with_journal, opened_at, noted, closed_with, sealed_as, with_room, blocks_of, entries, fresh_state};
+ghost use Rattle.tc_segment.specs.View.{IsSoundLock, allows_in, number_of_guard, ClosesWith, MayFollow, MayPass, lock_of, guard_of, with_store, with_section, with_break, with_end, with_journal, opened_at, noted, closed_with, sealed_as, with_room, blocks_of, entries, fresh_state};
 
 use crate::entry::Entry;
 use crate::record::{Opening, Record, last_block, place_of};
@@ -56,11 +56,11 @@ impl Model for LockState {
 
     ghost Value = { LockView };
 
-    ghost use Rattle.tc_segment.specs.Kept.{view_of, Kept};
+    ghost use Rattle.tc_segment.specs.Kept.{view_of, KeptLock};
 
     ghost view = { λ a. view_of a.contents.value };
 
-    ghost invariant = { λ a. Kept a.contents.value };
+    ghost invariant = { λ a. KeptLock a.contents.value };
 }
 
 impl LockState {
@@ -96,7 +96,7 @@ impl LockState {
 
     /// What each lock state keeps, wherever it is. A law: it does nothing when it is called.
     pub fn keeps(&self)
-        ensures { IsSound self.now }
+        ensures { IsSoundLock self.now }
     {
         let _ = &self.contents.number;
     }

@@ -7,22 +7,20 @@ use Rattle.tc_turn.specs.Turn.{next_lock}
 use Rattle.tc_turn.specs.Reads.{Covers}
 use Rattle.tc_context.specs.Whole.{thread_in, CanGo}
 use Rattle.tc_context.specs.Middle.{AreTurns}
-use Rattle.tc_context.proofs.Plain.{with_guest, stays, plain_turns}
+use Rattle.tc_context.proofs.Partway.{with_guest, stays, plain_turns}
 use Rattle.tc_context.proofs.context.Context.advance.Goals as goal
 
-pub turn-done-requires-clause-go : goal.turn-done-requires-clause-go
-turn-done-requires-clause-go c =
-    subst (CanGo c.args.image.now) (stays c.args.code.now (has c.args.block) c.args.self.now c.run_plain-ran.result c.run_plain-ran.new.self c.if-ran-gt0.false c.run_plain-ran.ensures.runs c.run_plain-ran.ensures.rest) c.requires.go
-
-pub turn-done-requires-clause-next : goal.turn-done-requires-clause-next
-turn-done-requires-clause-next c =
-    c.requires.next
-    ∙ ap (λ p. next_lock c.args.image.now (thread_in p)) (stays c.args.code.now (has c.args.block) c.args.self.now c.run_plain-ran.result c.run_plain-ran.new.self c.if-ran-gt0.false c.run_plain-ran.ensures.runs c.run_plain-ran.ensures.rest)
-
-pub turn-done-requires-clause-covers : goal.turn-done-requires-clause-covers
-turn-done-requires-clause-covers c =
-    subst (λ p. Covers c.args.image.now (has c.args.block) (thread_in p))
-    (stays c.args.code.now (has c.args.block) c.args.self.now c.run_plain-ran.result c.run_plain-ran.new.self c.if-ran-gt0.false c.run_plain-ran.ensures.runs c.run_plain-ran.ensures.rest) c.requires.covers
+pub turn-done-requires : goal.turn-done-requires
+turn-done-requires c =
+    let same = stays c.args.code.now (has c.args.block) c.args.self.now c.run_plain-ran.result c.run_plain-ran.new.self c.if-ran-gt0.false c.run_plain-ran.ensures.runs c.run_plain-ran.ensures.rest in
+    record {
+      code = c.requires.code;
+      go = subst (CanGo c.args.image.now) same c.requires.go;
+      next = c.requires.next ∙ ap (λ p. next_lock c.args.image.now (thread_in p)) same;
+      covers = subst (λ p. Covers c.args.image.now (has c.args.block) (thread_in p)) same c.requires.covers;
+      opened = c.requires.opened;
+      room = c.requires.room;
+    }
 
 pub returns-then-ran-gt0-clause-turns : goal.returns-then-ran-gt0-clause-turns
 returns-then-ran-gt0-clause-turns c =

@@ -1,4 +1,4 @@
-use Rattle.std.proofs.Common.{◌+◌, ◌∙◌, ap, sym, subst}
+use Rattle.std.proofs.Common.{◌+◌, ◌∙◌, ap, sym, subst, arith}
 use Rattle.std.specs.Prelude.{IfSome}
 use Rattle.tc_isa.specs.Sets.{has}
 use Rattle.tc_journal.specs.Rule.{end_rule}
@@ -8,8 +8,7 @@ use Rattle.tc_context.specs.Whole.{thread_in, RunsAs}
 use Rattle.tc_context.specs.Middle.{act_in, AreNoted}
 use Rattle.tc_context.specs.Ran.{slept_by, slept_in}
 use Rattle.tc_context.proofs.Moved.{act_fits}
-use Rattle.tc_context.proofs.Partway.{Partway, partway_start, partway_more, partway_ends, partway_slept, noted_next, opened_here, room_here}
-use Rattle.tc_context.proofs.Plain.{taken}
+use Rattle.tc_context.proofs.Partway.{Partway, partway_start, partway_more, partway_ends, partway_slept, noted_next, opened_here, room_here, taken}
 use Rattle.tc_mutex_spec.proofs.Going.{next_small, end_fits}
 use Rattle.tc_context.proofs.context.Context.turns.Goals as goal
 
@@ -19,40 +18,22 @@ advance-steps-requires-clause-opened c = opened_here c.args.image.now (has c.arg
 pub advance-steps-requires-clause-room : goal.advance-steps-requires-clause-room
 advance-steps-requires-clause-room c = room_here c.args.image.now (has c.args.block) c.args.self.now c.block.self c.block.count c.requires.opened c.requires.room c.block.invariant.partway
 
-pub returns-in-Some-clause-runs : goal.returns-in-Some-clause-runs
-returns-in-Some-clause-runs c =
-    let image = c.args.image.now in
-    let steps = c.advance-steps.ensures in
-    let new = c.advance-steps.new.self in
-    let t = taken image (has c.args.block) c.args.self.now c.block.self new c.block.count c.advance-steps.result.count c.advance-steps.result.done c.block.invariant.partway steps.most steps.turns in
-    let rule = (λ i. end_rule ((t.came ∙ sym c.outcome_by.ensures) i) (sym t.count i) (sym c.next_lock-next.ensures i)) ∙ sym c.end_of.ensures ∙ c.in-Some.is in
-    subst (λ n. RunsAs image c.args.self.now new n c.in-Some.end) (sym t.count) (partway_ends image (has c.args.block) c.args.self.now t.last new t.before c.in-Some.end t.partway t.turn rule c.requires.go)
-
-pub returns-in-Some-clause-slept : goal.returns-in-Some-clause-slept
-returns-in-Some-clause-slept c =
-    let image = c.args.image.now in
-    let steps = c.advance-steps.ensures in
-    let new = c.advance-steps.new.self in
-    let t = taken image (has c.args.block) c.args.self.now c.block.self new c.block.count c.advance-steps.result.count c.advance-steps.result.done c.block.invariant.partway steps.most steps.turns in
-    c.slept_by.ensures ∙ ap slept_by t.done ∙ partway_slept image (has c.args.block) c.args.self.now t.last new t.before t.partway t.turn ∙ ap (slept_in image c.args.self.now) (sym t.count)
-
-pub returns-in-Some-clause-end : goal.returns-in-Some-clause-end
-returns-in-Some-clause-end c =
+pub returns-in-Some : goal.returns-in-Some
+returns-in-Some c =
     let image = c.args.image.now in
     let steps = c.advance-steps.ensures in
     let new = c.advance-steps.new.self in
     let t = taken image (has c.args.block) c.args.self.now c.block.self new c.block.count c.advance-steps.result.count c.advance-steps.result.done c.block.invariant.partway steps.most steps.turns in
     let rule = (λ i. end_rule ((t.came ∙ sym c.outcome_by.ensures) i) (sym t.count i) (sym c.next_lock-next.ensures i)) ∙ sym c.end_of.ensures ∙ c.in-Some.is in
     let fits = act_fits (act_in image t.last) (subst (λ o. IfSome o DoneFits) t.done steps.fits) in
-    end_fits (act_in image t.last) (t.before + 1) (next_lock image (thread_in new)) c.in-Some.end fits (next_small image (thread_in new) c.requires.go.guards) rule
-
-pub returns-in-Some-clause-journals : goal.returns-in-Some-clause-journals
-returns-in-Some-clause-journals c =
-    let image = c.args.image.now in
-    let steps = c.advance-steps.ensures in
-    let new = c.advance-steps.new.self in
-    let t = taken image (has c.args.block) c.args.self.now c.block.self new c.block.count c.advance-steps.result.count c.advance-steps.result.done c.block.invariant.partway steps.most steps.turns in
-    subst (λ n. AreNoted image (has c.args.block) n c.args.self.now new) (sym t.count) (noted_next image (has c.args.block) c.args.self.now t.last new t.before t.partway t.turn)
+    record {
+      runs = subst (λ n. RunsAs image c.args.self.now new n c.in-Some.end) (sym t.count) (partway_ends image (has c.args.block) c.args.self.now t.last new t.before c.in-Some.end t.partway t.turn rule c.requires.go);
+      most = (let short = c.block.invariant.partway.short in let few = steps.most in omega arith);
+      end = end_fits (act_in image t.last) (t.before + 1) (next_lock image (thread_in new)) c.in-Some.end fits (next_small image (thread_in new) c.requires.go.guards) rule;
+      slept = c.slept_by.ensures ∙ ap slept_by t.done ∙ partway_slept image (has c.args.block) c.args.self.now t.last new t.before t.partway t.turn ∙ ap (slept_in image c.args.self.now) (sym t.count);
+      journals = subst (λ n. AreNoted image (has c.args.block) n c.args.self.now new) (sym t.count) (noted_next image (has c.args.block) c.args.self.now t.last new t.before t.partway t.turn);
+      next = c.next_lock-next.ensures;
+    }
 
 pub block-preserved : goal.block-preserved
 block-preserved c =

@@ -3,10 +3,10 @@ use Rattle.std.specs.Prelude.{Some}
 use Rattle.std.specs.Option.{option_map}
 use Rattle.tc_isa.specs.Sets.{has}
 use Rattle.tc_segment.specs.View.{LockView, with_end, with_journal, closed_with}
-use Rattle.tc_context.specs.Locks.{lock_in, at_place, closed_in}
-use Rattle.tc_context.proofs.LockList.{place_is, changed_place, when_true, when_false}
-use Rattle.tc_context.proofs.locks.LockSet.close_one.Goals as goal
+use Rattle.tc_context.specs.Locks.{lock_in, when_in, at_place, closed_in}
+use Rattle.tc_context.proofs.LockList.{place_is, changed_place}
 use Rattle.tc_context.proofs.locks.LockSet.close_one.Goals.{in-Some+then-has, in-Some+else-has, in_default}
+use Rattle.tc_context.proofs.locks.LockSet.close_one.Goals as goal
 
 pub close_entry-requires-clause-closes : goal.close_entry-requires-clause-closes
 close_entry-requires-clause-closes c =
@@ -23,9 +23,9 @@ returns c = λ k.
     let f : LockView → LockView = closed_in (has c.args.held) c.args.block.now c.args.finish.now n in
     (elim c.match-index_mut.branch [
       | in-Some+then-has w ↦ ap (λ x. lock_in x.places.items k) w.self-inside-is
-          ∙ changed_place f items n c.index_mut.result.now _ lt c.index_mut.ensures.value (ap Some (w.close_entry.ensures ∙ when_true (has c.args.held n) g w.in-Some.state (sym w.has.ensures ∙ w.if-has.true)) ∙ ap (option_map f) (sym w.in-Some.is)) k
+          ∙ changed_place f items n c.index_mut.result.now _ lt c.index_mut.ensures.value (ap Some (w.close_entry.ensures ∙ sym (ap (λ v. when_in v g w.in-Some.state) (sym w.has.ensures ∙ w.if-has.true))) ∙ ap (option_map f) (sym w.in-Some.is)) k
       | in-Some+else-has w ↦ ap (λ x. lock_in x.places.items k) w.self-inside-is
-          ∙ changed_place f items n c.index_mut.result.now _ lt c.index_mut.ensures.value (ap Some (when_false (has c.args.held n) g w.in-Some.state (sym w.has.ensures ∙ w.if-has.false)) ∙ ap (option_map f) (sym w.in-Some.is)) k
+          ∙ changed_place f items n c.index_mut.result.now _ lt c.index_mut.ensures.value (ap Some (sym (ap (λ v. when_in v g w.in-Some.state) (sym w.has.ensures ∙ w.if-has.false))) ∙ ap (option_map f) (sym w.in-Some.is)) k
       | in_default w ↦ ap (λ x. lock_in x.places.items k) w.self-inside-is
           ∙ changed_place f items n c.index_mut.result.now _ lt c.index_mut.ensures.value (w.in_default.is ∙ ap (option_map f) (sym w.in_default.is)) k
     ])

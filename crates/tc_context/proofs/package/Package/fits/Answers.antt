@@ -1,20 +1,20 @@
-use Rattle.std.proofs.Common.{◌∙◌, ap, sym, subst}
+use Rattle.std.proofs.Common.{◌∙◌, ap, sym}
 use Rattle.std.specs.Option.{option_map}
 use Rattle.tc_journal.specs.Batch.{allows_of}
 use Rattle.tc_segment.specs.View.{blocks_of}
 use Rattle.tc_context.specs.View.{PackageView, fits_in, fits_granted, fits_of}
-use Rattle.tc_context.specs.Kept.{view_of, Kept}
+use Rattle.tc_context.specs.Kept.{view_of}
+use Rattle.tc_context.proofs.Staging.{shows}
 use Rattle.tc_context.proofs.package.Package.fits.Goals as goal
 
 pub returns-in-Some-find : goal.returns-in-Some-find
 returns-in-Some-find c =
-    let shows = ap view_of c.deref-contents.ensures ∙ c.self.view_is in
-    let kept = subst Kept (sym c.deref-contents.ensures) c.self.invariant in
+    let s = shows c.deref-contents.ensures c.self.view_is c.self.invariant in
     let p = view_of c.deref-contents.result.now in
     let g = c.in-Some.grant in
     let l = c.in-Some-find.state.now in
     let found = sym c.find.ensures ∙ ap (option_map (λ l. l.now)) c.in-Some-find.is in
-    let s = kept.sound.stored g.lock l found in
-    c.allows.ensures ∙ ap (λ n. allows_of n l.journal.limit (blocks_of l) g.kind c.args.worker) s.number
+    let stored = s.kept.sound.stored g.lock l found in
+    c.allows.ensures ∙ ap (λ n. allows_of n l.journal.limit (blocks_of l) g.kind c.args.worker) stored.number
     ∙ ap (λ o. fits_in o g.lock g.kind c.args.worker) (sym found)
-    ∙ ap (λ o. fits_granted p.context o c.args.worker) (sym c.in-Some.is) ∙ ap (λ (v : PackageView). fits_of v c.args.worker) shows
+    ∙ ap (λ o. fits_granted p.context o c.args.worker) (sym c.in-Some.is) ∙ ap (λ (v : PackageView). fits_of v c.args.worker) s.is

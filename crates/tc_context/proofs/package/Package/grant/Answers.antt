@@ -2,39 +2,37 @@ use Rattle.std.proofs.Common.{◌≡◌, ◌==◌, ◌∙◌, true, ap, sym, sub
 use Rattle.std.specs.Prelude.{Some, slice_index_or, if◌then◌else◌}
 use Rattle.tc_journal.specs.Batch.{last_of, passes_to}
 use Rattle.tc_segment.specs.View.{IsAtRest, blocks_of}
-use Rattle.tc_context.specs.View.{PackageView, IsSound, IsWaiting, number_in}
-use Rattle.tc_context.specs.Kept.{view_of, Kept}
-use Rattle.tc_context.proofs.Staging.{granted_sound, numbered, set_with, wanted}
+use Rattle.tc_context.specs.View.{PackageView, IsSoundPackage, IsWaiting, number_in}
+use Rattle.tc_context.specs.Kept.{view_of}
+use Rattle.tc_context.proofs.Staging.{shows, granted_sound, numbered, set_with, wanted}
 use Rattle.tc_context.proofs.package.Package.grant.Goals as goal
 
 pub invariant_of-self : goal.invariant_of-self
 invariant_of-self c =
-    let shows = ap view_of c.deref_mut-contents.ensures.value ∙ c.self.view_is in
-    let kept = subst Kept (sym c.deref_mut-contents.ensures.value) c.self.invariant in
+    let s = shows c.deref_mut-contents.ensures.value c.self.view_is c.self.invariant in
     let p = view_of c.deref_mut-contents.result.now in
     let n = c.number.ensures.is in
     record {
-      sound = subst IsSound (λ i. record p {
+      sound = subst IsSoundPackage (λ i. record p {
         context = record { thread = p.context.thread; guest = p.context.guest; locks = sym c.put_in.ensures.is i };
         granted = Some (record { lock = sym n i; kind = c.args.kind });
         numbers = set p.numbers (sym n i) c.args.number;
-      }) (granted_sound p c.args.lock c.args.kind c.args.number kept.sound (subst (λ v. IsWaiting v c.args.lock.number) (sym shows) c.requires.waiting)
-          (subst (λ (v : PackageView). IsAtRest v.image c.args.lock.number c.args.lock) (sym shows) c.requires.rest) c.requires.kind (subst (λ (v : PackageView). passes_to (last_of (blocks_of c.args.lock)) c.args.kind v.context.thread ≡ true) (sym shows) c.requires.passes) c.requires.number);
-      code = kept.code;
-      next = kept.next;
-      present = set_with c.args.lock.number _ c.args.lock p.context.locks _ c.deref_mut-contents.result.now.present _ n c.put_in.ensures.locks c.plus-contents.ensures.each kept.present;
-      log = kept.log;
+      }) (granted_sound p c.args.lock c.args.kind c.args.number s.kept.sound (subst (λ v. IsWaiting v c.args.lock.number) (sym s.is) c.requires.waiting)
+          (subst (λ (v : PackageView). IsAtRest v.image c.args.lock.number c.args.lock) (sym s.is) c.requires.rest) c.requires.kind (subst (λ (v : PackageView). passes_to (last_of (blocks_of c.args.lock)) c.args.kind v.context.thread ≡ true) (sym s.is) c.requires.passes) c.requires.number);
+      code = s.kept.code;
+      next = s.kept.next;
+      present = set_with c.args.lock.number _ c.args.lock p.context.locks _ c.deref_mut-contents.result.now.present _ n c.put_in.ensures.locks c.plus-contents.ensures.each s.kept.present;
+      log = s.kept.log;
     }
 
 pub returns-clause-numbers : goal.returns-clause-numbers
 returns-clause-numbers c =
-    let shows = ap view_of c.deref_mut-contents.ensures.value ∙ c.self.view_is in
-    let kept = subst Kept (sym c.deref_mut-contents.ensures.value) c.self.invariant in
+    let s = shows c.deref_mut-contents.ensures.value c.self.view_is c.self.invariant in
     λ k.
     let p = view_of c.deref_mut-contents.result.now in
     let n = c.args.lock.number in
     let number = c.args.number in
-    let waiting = subst (λ v. IsWaiting v n) (sym shows) c.requires.waiting in
-    let small = (wanted p kept.sound n waiting.want).small in
-    let full = kept.sound.places.1 in
-    ap (λ j. slice_index_or (set p.numbers j number) k 0) c.number.ensures.is ∙ numbered p.numbers n number k (omega (arith, small, full)) ∙ ap (λ v. if k == n then number else number_in v k) shows
+    let waiting = subst (λ v. IsWaiting v n) (sym s.is) c.requires.waiting in
+    let small = (wanted p s.kept.sound n waiting.want).small in
+    let full = s.kept.sound.places.1 in
+    ap (λ j. slice_index_or (set p.numbers j number) k 0) c.number.ensures.is ∙ numbered p.numbers n number k (omega (arith, small, full)) ∙ ap (λ v. if k == n then number else number_in v k) s.is

@@ -4,12 +4,12 @@ use Rattle.std.proofs.lemmas.Nat.Bits.{bit_at-zero}
 use Rattle.tc_isa.specs.Sets.{has}
 use Rattle.tc_turn.specs.Turn.{next_lock}
 use Rattle.tc_context.specs.Whole.{thread_in}
-use Rattle.tc_context.specs.Kept.{Kept}
+use Rattle.tc_context.specs.Kept.{KeptPackage}
 use Rattle.tc_context.proofs.Staging.{fresh_sound}
 use Rattle.tc_context.proofs.package.Package.start_with.Goals as goal
 
 pub invariant_of-result : goal.invariant_of-result
-invariant_of-result c = subst Kept (sym c.in_ok-new.ensures.ok) (record {
+invariant_of-result c = subst KeptPackage (sym c.in_ok-new.ensures.ok) (record {
   sound = fresh_sound c.args.image.now c.args.t c.args.fuel _ (record {
     image_is = c.of.ensures;
     number = c.in_ok-context.ensures.number;

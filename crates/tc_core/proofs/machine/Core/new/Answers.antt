@@ -1,6 +1,6 @@
 use Rattle.std.proofs.Common.{length, sym, subst, ◌∙◌, arith}
 use Rattle.tc_core.specs.Core.{Custody, first_course}
-use Rattle.tc_core.specs.View.{IsCourse, IsLine, IsSound}
+use Rattle.tc_core.specs.View.{IsCourse, IsLine, IsSoundCore}
 use Rattle.tc_core.proofs.Numbers.{line_none}
 use Rattle.tc_core.proofs.Erasure.{first_sound}
 use Rattle.tc_core.proofs.machine.Core.new.Goals as goal
@@ -19,5 +19,5 @@ returns-clause-suits c =
         blocks = λ t. subst (λ x. IsCourse x) (sym (courses.each t)) begins;
         lines = λ k. subst (λ (x : Custody). IsLine (length c.args.image.now.entries) x.line) (sym (custodies.each k)) (line_none _);
       };
-      sound = subst (λ x. IsSound x) (sym (λ i. record { machine = slow.start i; course = λ t. courses.each t i; custody = λ k. custodies.each k i })) (first_sound c.args.image.now c.args.fuel);
+      sound = subst (λ x. IsSoundCore x) (sym (λ i. record { machine = slow.start i; course = λ t. courses.each t i; custody = λ k. custodies.each k i })) (first_sound c.args.image.now c.args.fuel);
     }

@@ -3,12 +3,12 @@ use Rattle.std.proofs.Math.Nat.{max-le}
 use Rattle.crossbeam_deque.specs.Tasks.{Takes}
 use Rattle.crossbeam_deque.specs.Handles.{worker_view}
 use Rattle.tc_ready.specs.declared.ends.Log.{Log}
-use Rattle.tc_ready.specs.Rule.{Kept, popped}
+use Rattle.tc_ready.specs.Rule.{KeptDeque, popped}
 use Rattle.tc_ready.proofs.Keeping.{pops}
 use Rattle.tc_ready.proofs.ends.OwnEnd.pop.Goals as goal
 
 pub pop_as-requires-clause-fifo : goal.pop_as-requires-clause-fifo
-pop_as-requires-clause-fifo c = λ fifo. let v = worker_view c.self.inside.worker in subst (λ (p : ℕ). Takes Kept p v 1 (popped v)) (sym c.self.invariant.1) (pops v)
+pop_as-requires-clause-fifo c = λ fifo. let v = worker_view c.self.inside.worker in subst (λ (p : ℕ). Takes KeptDeque p v 1 (popped v)) (sym c.self.invariant.1) (pops v)
 
 pub invariant_of-self : goal.invariant_of-self
 invariant_of-self c =

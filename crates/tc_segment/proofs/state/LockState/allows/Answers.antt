@@ -1,7 +1,7 @@
 use Rattle.std.proofs.Common.{ap, sym, ◌∙◌, map, take, subst}
 use Rattle.tc_journal.specs.Batch.{allows_of, may_begin, last_of, run_of}
 use Rattle.tc_segment.specs.View.{LockView, blocks_of}
-use Rattle.tc_segment.specs.Kept.{block_of, view_of, Kept}
+use Rattle.tc_segment.specs.Kept.{block_of, view_of, KeptLock}
 use Rattle.tc_segment.proofs.Sealing.{blocks_shown}
 use Rattle.tc_segment.proofs.state.LockState.allows.Goals as goal
 
@@ -9,7 +9,7 @@ pub returns : goal.returns
 unfolding allows_of
 returns c =
     let shows = ap view_of c.deref-contents.ensures ∙ c.self.view_is in
-    let kept = subst Kept (sym c.deref-contents.ensures) c.self.invariant in
+    let kept = subst KeptLock (sym c.deref-contents.ensures) c.self.invariant in
     let a = c.deref-contents.result.now in
     let blocks = blocks_shown a.edges.items a.words.items a.sealed a.records.items in
     c.may_begin.ensures

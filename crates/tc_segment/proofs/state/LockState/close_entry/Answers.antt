@@ -9,8 +9,8 @@ use Rattle.tc_turn.specs.Replay.{replayed}
 use Rattle.tc_segment.specs.declared.record.Record.{Record}
 use Rattle.tc_segment.specs.declared.record.Opening.{Opening}
 use Rattle.tc_segment.specs.declared.state.Contents.{Contents}
-use Rattle.tc_segment.specs.View.{LockView, Journal, IsSound, block_in, Closes, ClosesWith, with_end, with_journal, closed_with}
-use Rattle.tc_segment.specs.Kept.{shown, shown_open, shown_journal, AllFit, OpenFits, view_of, count, Kept, StandsAt, Extends}
+use Rattle.tc_segment.specs.View.{LockView, Journal, IsSoundLock, block_in, Closes, ClosesWith, with_end, with_journal, closed_with}
+use Rattle.tc_segment.specs.Kept.{shown, shown_open, shown_journal, AllFit, OpenFits, view_of, count, KeptLock, StandsAt, Extends}
 use Rattle.tc_segment.proofs.Keeping.{edges_more, shown_grown, fits_grown, fits_end, none_closed, closed_journal, sound_closed}
 use Rattle.tc_segment.proofs.state.LockState.close_entry.Goals as goal
 
@@ -20,7 +20,7 @@ record_of block o finish to = record { block = block; fuel = o.fuel; start = o.s
 was_open : (a : Contents) (o : Opening) → a.opened ≡ Some o → is_some (view_of a).journal.opened ≡ true
 was_open a o is = ap (λ x. is_some (option_map (shown_open (replayed a.of.value a.number (mutex_at_start a.of.value a.number) (map (shown a.edges.items a.words.items) a.records.items)) a.edges.items a.words.items) x)) is
 
-closed_view : (a : Contents) (more : List Registers) (records : List Record) (o : Opening) (block : Block) (finish : Registers) (place to : ℕ) → Kept a → a.opened ≡ Some o → Extends a.edges.items more → StandsAt more place finish
+closed_view : (a : Contents) (more : List Registers) (records : List Record) (o : Opening) (block : Block) (finish : Registers) (place to : ℕ) → KeptLock a → a.opened ≡ Some o → Extends a.edges.items more → StandsAt more place finish
     → to ≡ length a.words.items → records ≡ a.records.items ++ record_of block o place to ∷ []
     → shown_journal a.of.value a.number a.limit (map (shown more a.words.items) records) a.sealed more a.words.items None a.entry_room a.word_room ≡ closed_with block finish (view_of a).journal
 closed_view a more records o block finish place to k is extends there len made =
@@ -35,7 +35,7 @@ closed_view a more records o block finish place to k is extends there len made =
 pub returns : goal.returns
 returns c =
     let shows = ap view_of c.deref_mut-contents.ensures.value ∙ c.self.view_is in
-    let kept = subst Kept (sym c.deref_mut-contents.ensures.value) c.self.invariant in
+    let kept = subst KeptLock (sym c.deref_mut-contents.ensures.value) c.self.invariant in
     let a = c.deref_mut-contents.result.now in
     let block = c.args.block.now in
     let finish = c.args.end.now in
@@ -47,7 +47,7 @@ returns c =
 pub invariant_of-self-2 : goal.invariant_of-self-2
 invariant_of-self-2 c =
     let shows = ap view_of c.deref_mut-contents.ensures.value ∙ c.self.view_is in
-    let kept = subst Kept (sym c.deref_mut-contents.ensures.value) c.self.invariant in
+    let kept = subst KeptLock (sym c.deref_mut-contents.ensures.value) c.self.invariant in
     let a = c.deref_mut-contents.result.now in
     let k = kept in
     let o = c.in-Some.opening in
@@ -72,7 +72,7 @@ invariant_of-self-2 c =
     let grown : length c.push.new.self.items ≡ length a.records.items + 1 = ap length items ∙ length-append a.records.items (r ∷ []) in
     let blocks = ap (λ (x : Journal). run_of a.number (map block_in x.sealed)) (sym j) in
     record {
-      sound = subst (λ (l : LockView). IsSound l) (λ i. record { number = a.number; bytes = a.bytes.items; broken = sym c.broken_after-broken.ensures i; sections = a.sections; journal = sym j i }) (sound_closed block finish (view_of a) p k.sound was closes);
+      sound = subst (λ (l : LockView). IsSoundLock l) (λ i. record { number = a.number; bytes = a.bytes.items; broken = sym c.broken_after-broken.ensures i; sections = a.sections; journal = sym j i }) (sound_closed block finish (view_of a) p k.sound was closes);
       start = k.start;
       records = subst (λ rs. AllFit c.place_of-finish.new.edges.items a.words.items rs) (sym items)
           (fits_end c.place_of-finish.new.edges.items a.words.items a.records.items r (fits_grown (edges_more a.edges.items _ a.words.items place.more) a.records.items k.records)

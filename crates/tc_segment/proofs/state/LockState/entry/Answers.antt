@@ -4,13 +4,13 @@ use Rattle.std.specs.Option.{option_map}
 use Rattle.std.proofs.lemmas.List.{length-map}
 use Rattle.std.proofs.lemmas.Option.{slice_get-map, slice_get_read}
 use Rattle.tc_segment.specs.View.{LockView, entries}
-use Rattle.tc_segment.specs.Kept.{shown, Fits, view_of, Kept}
+use Rattle.tc_segment.specs.Kept.{shown, Fits, view_of, KeptLock}
 use Rattle.tc_segment.proofs.Keeping.{fits_at, entries_are}
 use Rattle.tc_segment.proofs.state.LockState.entry.Goals as goal
 
 pub entry-requires : goal.entry-requires
 entry-requires c =
-    let kept = subst Kept (sym c.deref-contents.ensures) c.self.invariant in
+    let kept = subst KeptLock (sym c.deref-contents.ensures) c.self.invariant in
     let shows = ap view_of c.deref-contents.ensures ∙ c.self.view_is in
     let a = c.deref-contents.result.now in
     let all = entries_are a.sealed (map (shown a.edges.items a.words.items) a.records.items) (let h = kept.closed in omega (arith, length-map a.records.items (shown a.edges.items a.words.items))) in
@@ -21,7 +21,7 @@ entry-requires c =
 
 pub returns : goal.returns
 returns c =
-    let kept = subst Kept (sym c.deref-contents.ensures) c.self.invariant in
+    let kept = subst KeptLock (sym c.deref-contents.ensures) c.self.invariant in
     let shows = ap view_of c.deref-contents.ensures ∙ c.self.view_is in
     let a = c.deref-contents.result.now in
     let f = shown a.edges.items a.words.items in

@@ -2,8 +2,8 @@ use Rattle.std.proofs.Common.{◌≡◌, ◌∙◌, length, sym, ap, subst, arit
 use Rattle.tc_elf.specs.Shown.{Shown, guard_at}
 use Rattle.tc_journal.specs.Batch.{run_of}
 use Rattle.tc_turn.specs.Memory.{starting_bytes}
-use Rattle.tc_segment.specs.View.{LockView, IsSound, blocks_of}
-use Rattle.tc_segment.specs.Kept.{AllFit, Kept}
+use Rattle.tc_segment.specs.View.{LockView, IsSoundLock, blocks_of}
+use Rattle.tc_segment.specs.Kept.{AllFit, KeptLock}
 use Rattle.tc_segment.proofs.Keeping.{fresh_view, sound_fresh}
 use Rattle.tc_segment.proofs.state.LockState.new.Goals as goal
 
@@ -20,8 +20,8 @@ invariant_of-result c =
     let records = c.new.ensures.items in
     let view = fresh_view _ image c.args.lock c.args.limit _ words edges _ of bytes records in
     let none = ap length records in
-    subst Kept (sym c.in_ok-new.ensures.ok) (record {
-      sound = subst (λ (l : LockView). IsSound l) (sym view) (sound_fresh image c.args.lock c.args.limit c.requires.lock (omega arith) guard.kept c.requires.limit);
+    subst KeptLock (sym c.in_ok-new.ensures.ok) (record {
+      sound = subst (λ (l : LockView). IsSoundLock l) (sym view) (sound_fresh image c.args.lock c.args.limit c.requires.lock (omega arith) guard.kept c.requires.limit);
       start = start;
       records = subst (λ rs. AllFit edges words rs) (sym records) tt;
       sealed = omega arith;

@@ -2,12 +2,12 @@ use Rattle.std.proofs.Common.{◌≡◌, ℕ, [], List, ◌∷◌, ◌++◌, ◌
 use Rattle.std.specs.Prelude.{is_some}
 use Rattle.tc_segment.specs.declared.state.Contents.{Contents}
 use Rattle.tc_journal.specs.Batch.{run_of}
-use Rattle.tc_segment.specs.View.{LockView, with_journal, noted, IsSound, blocks_of}
-use Rattle.tc_segment.specs.Kept.{shown, shown_journal, AllFit, OpenFits, view_of, Kept}
+use Rattle.tc_segment.specs.View.{LockView, with_journal, noted, IsSoundLock, blocks_of}
+use Rattle.tc_segment.specs.Kept.{shown, shown_journal, AllFit, OpenFits, view_of, KeptLock}
 use Rattle.tc_segment.proofs.Keeping.{word_more, shown_grown, fits_grown, noted_journal, sound_noted, open_fits-more}
 use Rattle.tc_segment.proofs.state.LockState.note_foreign.Goals as goal
 
-noted_view : (a : Contents) (words : List ℕ) (value : ℕ) → Kept a → is_some (view_of a).journal.opened ≡ true → words ≡ a.words.items ++ value ∷ []
+noted_view : (a : Contents) (words : List ℕ) (value : ℕ) → KeptLock a → is_some (view_of a).journal.opened ≡ true → words ≡ a.words.items ++ value ∷ []
     → record { number = a.number; bytes = a.bytes.items; broken = a.broken; sections = a.sections; journal = shown_journal a.of.value a.number a.limit (map (shown a.edges.items words) a.records.items) a.sealed a.edges.items words a.opened a.entry_room (a.word_room - 1) } ≡ with_journal (noted (value ∷ [])) (view_of a)
 noted_view a words value k was e =
     let old = map (shown a.edges.items a.words.items) a.records.items in
@@ -19,14 +19,14 @@ noted_view a words value k was e =
 pub returns : goal.returns
 returns c =
     let shows = ap view_of c.deref_mut-contents.ensures.value ∙ c.self.view_is in
-    let kept = subst Kept (sym c.deref_mut-contents.ensures.value) c.self.invariant in
+    let kept = subst KeptLock (sym c.deref_mut-contents.ensures.value) c.self.invariant in
     noted_view c.deref_mut-contents.result.now _ c.args.value kept (ap (λ (l : LockView). is_some l.journal.opened) shows ∙ c.requires.opened) c.in-Ok.ensures.items
     ∙ ap (with_journal (noted (c.args.value ∷ []))) shows
 
 pub invariant_of-self : goal.invariant_of-self
 invariant_of-self c =
     let shows = ap view_of c.deref_mut-contents.ensures.value ∙ c.self.view_is in
-    let kept = subst Kept (sym c.deref_mut-contents.ensures.value) c.self.invariant in
+    let kept = subst KeptLock (sym c.deref_mut-contents.ensures.value) c.self.invariant in
     let a = c.deref_mut-contents.result.now in
     let k = kept in
     let items = c.in-Ok.ensures.items in
@@ -35,7 +35,7 @@ invariant_of-self c =
     let room : 0 < a.word_room = subst (λ (l : LockView). 0 < l.journal.word_room) (sym shows) c.requires.room in
     let words = k.word_room in
     record {
-      sound = subst (λ (l : LockView). IsSound l) (sym view) (sound_noted (c.args.value ∷ []) (view_of a) k.sound was);
+      sound = subst (λ (l : LockView). IsSoundLock l) (sym view) (sound_noted (c.args.value ∷ []) (view_of a) k.sound was);
       start = k.start;
       records = subst (λ ws. AllFit a.edges.items ws a.records.items) (sym items) (fits_grown (word_more a.edges.items a.words.items (c.args.value ∷ [])) a.records.items k.records);
       sealed = k.sealed;

@@ -6,12 +6,12 @@ use Rattle.tc_journal.specs.Batch.{run_of}
 use Rattle.tc_turn.specs.Turn.{mutex_at_start}
 use Rattle.tc_turn.specs.Replay.{replayed}
 use Rattle.tc_segment.specs.declared.state.Contents.{Contents}
-use Rattle.tc_segment.specs.View.{LockView, IsSound, lock_of, with_journal, opened_at, blocks_of}
-use Rattle.tc_segment.specs.Kept.{shown, shown_journal, view_of, Kept, StandsAt, Extends}
+use Rattle.tc_segment.specs.View.{LockView, IsSoundLock, lock_of, with_journal, opened_at, blocks_of}
+use Rattle.tc_segment.specs.Kept.{shown, shown_journal, view_of, KeptLock, StandsAt, Extends}
 use Rattle.tc_segment.proofs.Keeping.{edges_more, shown_grown, fits_grown, entries_are, not_open, opened_journal, sound_opened}
 use Rattle.tc_segment.proofs.state.LockState.open_entry.Goals as goal
 
-opened_view : (a : Contents) (more : List Registers) (place from fuel : ℕ) (start : Registers) → Kept a → (view_of a).journal.opened ≡ None → Extends a.edges.items more → StandsAt more place start → from ≡ length a.words.items
+opened_view : (a : Contents) (more : List Registers) (place from fuel : ℕ) (start : Registers) → KeptLock a → (view_of a).journal.opened ≡ None → Extends a.edges.items more → StandsAt more place start → from ≡ length a.words.items
     → record { number = a.number; bytes = a.bytes.items; broken = a.broken; sections = a.sections; journal = shown_journal a.of.value a.number a.limit (map (shown more a.words.items) a.records.items) a.sealed more a.words.items (Some (record { fuel = fuel; start = place; from = from })) (a.entry_room - 1) a.word_room } ≡ with_journal (opened_at (lock_of (view_of a)) start fuel) (view_of a)
 opened_view a more place from fuel start k none extends there len =
     let old = map (shown a.edges.items a.words.items) a.records.items in
@@ -25,7 +25,7 @@ opened_view a more place from fuel start k none extends there len =
 pub returns : goal.returns
 returns c =
     let shows = ap view_of c.deref_mut-contents.ensures.value ∙ c.self.view_is in
-    let kept = subst Kept (sym c.deref_mut-contents.ensures.value) c.self.invariant in
+    let kept = subst KeptLock (sym c.deref_mut-contents.ensures.value) c.self.invariant in
     let a = c.deref_mut-contents.result.now in
     let place = c.place_of-start.ensures in
     opened_view a _ _ _ c.args.fuel c.args.start.now kept (ap (λ (l : LockView). l.journal.opened) shows ∙ c.requires.opened) place.more place.place (c.len.ensures ∙ a.words.ok.0)
@@ -34,7 +34,7 @@ returns c =
 pub invariant_of-self : goal.invariant_of-self
 invariant_of-self c =
     let shows = ap view_of c.deref_mut-contents.ensures.value ∙ c.self.view_is in
-    let kept = subst Kept (sym c.deref_mut-contents.ensures.value) c.self.invariant in
+    let kept = subst KeptLock (sym c.deref_mut-contents.ensures.value) c.self.invariant in
     let a = c.deref_mut-contents.result.now in
     let k = kept in
     let place = c.place_of-start.ensures in
@@ -44,7 +44,7 @@ invariant_of-self c =
     let len = c.len.ensures ∙ a.words.ok.0 in
     let view = opened_view a _ _ _ c.args.fuel c.args.start.now k none place.more place.place len in
     record {
-      sound = subst (λ (l : LockView). IsSound l) (sym view) (sound_opened c.args.start.now c.args.fuel (view_of a) k.sound none closed);
+      sound = subst (λ (l : LockView). IsSoundLock l) (sym view) (sound_opened c.args.start.now c.args.fuel (view_of a) k.sound none closed);
       start = k.start;
       records = fits_grown (edges_more a.edges.items _ a.words.items place.more) a.records.items k.records;
       sealed = k.sealed;

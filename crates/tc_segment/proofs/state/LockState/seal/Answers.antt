@@ -7,8 +7,8 @@ use Rattle.tc_turn.specs.Replay.{Entry}
 use Rattle.tc_segment.specs.declared.record.Record.{Record}
 use Rattle.tc_segment.specs.declared.state.Contents.{Contents}
 use Rattle.tc_journal.specs.Batch.{run_of, run_after, may_follow, passes_on}
-use Rattle.tc_segment.specs.View.{LockView, with_journal, sealed_as, sealed_block, sealed_entry, sealed_list, IsSound, block_in, blocks_of}
-use Rattle.tc_segment.specs.Kept.{shown, shown_journal, sealed_record, Fits, view_of, Kept}
+use Rattle.tc_segment.specs.View.{LockView, with_journal, sealed_as, sealed_block, sealed_entry, sealed_list, IsSoundLock, block_in, blocks_of}
+use Rattle.tc_segment.specs.Kept.{shown, shown_journal, sealed_record, Fits, view_of, KeptLock}
 use Rattle.tc_segment.proofs.Keeping.{fits_at, fits_set}
 use Rattle.tc_segment.proofs.Sealing.{sealed_journal, sound_sealed, run-more, run_short}
 use Rattle.tc_segment.proofs.state.LockState.seal.Goals as goal
@@ -17,7 +17,7 @@ use Rattle.tc_segment.proofs.state.LockState.seal.Goals as goal
 closed_at : (a : Contents) (r : Record) → slice_get a.records.items a.sealed ≡ Some r → (view_of a).journal.closed ≡ Some (shown a.edges.items a.words.items r)
 closed_at a r is = slice_get-map (shown a.edges.items a.words.items) a.records.items a.sealed ∙ ap (option_map (shown a.edges.items a.words.items)) is
 
-sealed_view : (a : Contents) (stamp worker : ℕ) (r s : Record) → Kept a → slice_get a.records.items a.sealed ≡ Some r → s ≡ sealed_record stamp worker r
+sealed_view : (a : Contents) (stamp worker : ℕ) (r s : Record) → KeptLock a → slice_get a.records.items a.sealed ≡ Some r → s ≡ sealed_record stamp worker r
     → record { number = a.number; bytes = a.bytes.items; broken = a.broken; sections = a.sections; journal = shown_journal a.of.value a.number a.limit (map (shown a.edges.items a.words.items) (set a.records.items a.sealed s)) (a.sealed + 1) a.edges.items a.words.items a.opened a.entry_room a.word_room } ≡ with_journal (sealed_as stamp worker) (view_of a)
 sealed_view a stamp worker r s k is made =
     let f = shown a.edges.items a.words.items in
@@ -40,7 +40,7 @@ some_closed a some = elim (slice_get_cases a.records.items a.sealed).1 [
 pub returns : goal.returns
 returns c =
     let shows = ap view_of c.deref_mut-contents.ensures.value ∙ c.self.view_is in
-    let kept = subst Kept (sym c.deref_mut-contents.ensures.value) c.self.invariant in
+    let kept = subst KeptLock (sym c.deref_mut-contents.ensures.value) c.self.invariant in
     let a = c.deref_mut-contents.result.now in
     let lt = some_closed a (ap (λ (l : LockView). is_some l.journal.closed) shows ∙ c.requires.closed) in
     sealed_view a c.args.stamp c.args.worker c.index_mut-record.result.now c.stamp.new.self kept (closed_there a c.index_mut-record.result.now lt c.index_mut-record.ensures.value) c.stamp.ensures
@@ -49,7 +49,7 @@ returns c =
 pub invariant_of-self : goal.invariant_of-self
 invariant_of-self c =
     let shows = ap view_of c.deref_mut-contents.ensures.value ∙ c.self.view_is in
-    let kept = subst Kept (sym c.deref_mut-contents.ensures.value) c.self.invariant in
+    let kept = subst KeptLock (sym c.deref_mut-contents.ensures.value) c.self.invariant in
     let a = c.deref_mut-contents.result.now in
     let k = kept in
     let r = c.index_mut-record.result.now in
@@ -75,7 +75,7 @@ invariant_of-self c =
     let fits = fits_at a.edges.items a.words.items a.records.items a.sealed r k.records is in
     let len = length-set a.records.items a.sealed s in
     record {
-      sound = subst (λ (l : LockView). IsSound l) (sym view) (sound_sealed stamp worker (view_of a) e k.sound was follows passes);
+      sound = subst (λ (l : LockView). IsSoundLock l) (sym view) (sound_sealed stamp worker (view_of a) e k.sound was follows passes);
       start = k.start;
       records = fits_set a.edges.items a.words.items a.records.items a.sealed s k.records (subst (λ x. Fits a.edges.items a.words.items x) (sym c.stamp.ensures) (record { start = fits.start; finish = fits.finish; order = fits.order; inside = fits.inside }));
       sealed = omega (arith, lt, len);

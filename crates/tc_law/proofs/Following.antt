@@ -1,8 +1,7 @@
 -- A package's block at the end of a history, with its log and its journals.
-use Rattle.std.proofs.Common.{◌≡◌, ◌≢◌, ℕ, ◌-◌, ◌<◌, Bool, true, false, not, ◌==◌, List, [], ◌∷◌, ◌++◌, map, length, set, refl, sym, ap, subst, ◌∙◌, arith, inl, inr, length-append}
+use Rattle.std.proofs.Common.{◌≡◌, ◌≢◌, ℕ, ◌-◌, Bool, true, false, not, List, [], ◌∷◌, ◌++◌, map, length, set, refl, sym, ap, subst, ◌∙◌, arith, inl, inr, length-append}
 use Rattle.std.specs.Prelude.{Some, None, IfSome, is_some, if◌then◌else◌}
 use Rattle.std.specs.Option.{option_map}
-use Rattle.std.proofs.lemmas.Bool.Decides.{eqb_tells}
 use Rattle.std.proofs.lemmas.List.{append-nil}
 use Rattle.std.proofs.lemmas.List.Elements.{filter-append}
 use Rattle.tc_isa.specs.Sets.{has}
@@ -10,8 +9,7 @@ use Rattle.tc_elf.specs.Shown.{Shown}
 use Rattle.tc_journal.specs.Batch.{ends_section, last_of, may_follow, passes_on, Obeys, PassesOn}
 use Rattle.tc_journal.specs.History.{schedule, of_thread, of_lock}
 use Rattle.tc_journal.specs.declared.block.Block.{Block}
-use Rattle.tc_journal.specs.declared.block.Kind.{Kind}
-use Rattle.tc_turn.specs.Turn.{Thread, thread_of, thread_at_start, next_lock}
+use Rattle.tc_turn.specs.Turn.{Thread, next_lock}
 use Rattle.tc_turn.specs.Replay.{Entry, unowned}
 use Rattle.tc_mutex_spec.specs.Machine.{State, start, spread, IsHeldByOwner}
 use Rattle.tc_mutex_spec.specs.Locality.{Agree, Apart}
@@ -26,13 +24,14 @@ use Rattle.tc_segment.specs.View.{LockView, Journal, kept, lock_of, block_in, bl
 use Rattle.tc_segment.proofs.Sealing.{obeys-more, passes-more}
 use Rattle.tc_context.specs.Locks.{lock_in, mutex_or}
 use Rattle.tc_context.specs.Whole.{thread_in, mutex_at, whole, set_of, journal_in, journal_at, block_locks, entered}
-use Rattle.tc_context.specs.View.{PackageView, kind_of, waiting_in, bare, IsSound, IsFresh, IsRoomier, Allows, sealed_log, with_grant, with_seal, with_turns, without_lock}
+use Rattle.tc_context.specs.View.{PackageView, kind_of, waiting_in, Allows, sealed_log, with_seal}
 use Rattle.tc_context.specs.Ran.{DidRun}
-use Rattle.tc_context.specs.History.{ThreadFollows, StateFollows, Follows, Grows}
+use Rattle.tc_law.specs.History.{ThreadFollows, StateFollows, Follows, Grows}
 use Rattle.tc_context.proofs.Moved.{map_some}
 use Rattle.tc_mutex_spec.proofs.Going.{in_block}
 use Rattle.tc_context.proofs.Partway.{block_inside}
-use Rattle.tc_context.proofs.Staging.{false_true, some_of, entered_rest, closed_none, block_follows, block_passes, sealed_at, placed, left_there, lock_was}
+use Rattle.tc_context.proofs.Staging.{false_true, some_of, closed_none}
+use Rattle.tc_context.proofs.Running.{entered_rest, block_follows, block_passes, sealed_at}
 use Rattle.tc_mutex_spec.proofs.EntriesAlike.{entry_same}
 
 first_is : (h : List Block) (t : ℕ) (log : List Block) → of_thread h t ≡ log → is_first (kind_of None log) ≡ not (has_block h t)
@@ -247,14 +246,7 @@ thread_still image fuel h m to b t p grows other was = record { of = was.of; num
 pub state_still : (image : Shown) (fuel limit : ℕ) (h : List Block) (m to : State) (b : Block) (k : ℕ) (l : LockView) → Grows image fuel h m b to → has b.held k ≡ false → StateFollows image fuel limit h m k l → StateFollows image fuel limit (h ++ b ∷ []) to k l
 state_still image fuel limit h m to b k l grows out was = record { of = was.of; number = was.number; lock = was.lock ∙ ap unowned (sym (grows.locks k out)); entries = was.entries ∙ sym (grows.entries k out); bound = was.bound }
 
--- ---- the other calls
-
-pub follows_start : (image : Shown) (fuel limit t : ℕ) (h : List Block) (m : State) (p : PackageView) → IsFresh image t fuel p → m.threads t ≡ thread_at_start image fuel t → of_thread h t ≡ [] → Follows image fuel limit h m p
-follows_start image fuel limit t h m p fresh at none = record {
-  thread = record { of = fresh.image_is; number = refl; thread = fresh.thread ∙ sym at ∙ ap m.threads (sym fresh.number); log = fresh.log ∙ sym none ∙ ap (of_thread h) (sym fresh.number) };
-  states = λ k l e. absurd (let f : None ≡ Some l = sym (fresh.locks k) ∙ e in cc);
-}
-
+-- nor do rooms count
 pub state_kept : (image : Shown) (fuel limit : ℕ) (h : List Block) (m : State) (k : ℕ) (l x : LockView) → kept l ≡ kept x → StateFollows image fuel limit h m k x → StateFollows image fuel limit h m k l
 state_kept image fuel limit h m k l x same was = record {
   of = ap (λ (y : LockView). y.journal.image) same ∙ was.of;
@@ -263,40 +255,3 @@ state_kept image fuel limit h m k l x same was = record {
   entries = ap (λ (y : LockView). y.journal.sealed) same ∙ was.entries;
   bound = ap (λ (y : LockView). y.journal.limit) same ∙ was.bound;
 }
-
-pub follows_roomier : (image : Shown) (fuel limit : ℕ) (h : List Block) (m : State) (p q : PackageView) → Follows image fuel limit h m p → IsRoomier p q → Follows image fuel limit h m q
-follows_roomier image fuel limit h m p q was roomier =
-    let same : bare q ≡ bare p = roomier.rest in
-    let number : q.context.thread ≡ p.context.thread = ap (λ (x : PackageView). x.context.thread) same in
-    record {
-      thread = record {
-        of = ap (λ (x : PackageView). x.image) same ∙ was.thread.of;
-        number = refl;
-        thread = ap (λ (x : PackageView). thread_of x.context.guest) same ∙ was.thread.thread ∙ ap m.threads (sym number);
-        log = ap (λ (x : PackageView). x.log) same ∙ was.thread.log ∙ ap (of_thread h) (sym number);
-      };
-      states = λ k l e. (let x = lock_was (lock_in p.context.locks k) (lock_in q.context.locks k) l (roomier.locks k) e in state_kept image fuel limit h m k l x.0 x.2 (was.states k x.0 x.1));
-    }
-
--- with the same thread, a package follows where each of its locks does
-pub follows_turns : (image : Shown) (fuel limit : ℕ) (h : List Block) (m : State) (p : PackageView) (turns : ℕ) → Follows image fuel limit h m p → Follows image fuel limit h m (with_turns turns p)
-follows_turns image fuel limit h m p turns was = (let t = was.thread in record { thread = record { of = t.of; number = t.number; thread = t.thread; log = t.log }; states = was.states })
-
-pub follows_granted : (image : Shown) (fuel limit : ℕ) (h : List Block) (m : State) (p : PackageView) (lock : LockView) (kind : Kind) (number : ℕ) → IsSound p → lock.number < 32 → Follows image fuel limit h m p → StateFollows image fuel limit h m lock.number lock
-    → Follows image fuel limit h m (with_grant lock kind number p)
-follows_granted image fuel limit h m p lock kind number sound small was home = (let t = was.thread in record {
-  thread = record { of = t.of; number = t.number; thread = t.thread; log = t.log };
-  states = λ k l e. elim (eqb_tells k lock.number) [
-    | inl x ↦
-        let same : Some lock ≡ Some l = sym (ap (λ w. if w then Some lock else lock_in p.context.locks k) x.0) ∙ sym (placed p lock.number (Some lock) sound small k) ∙ e in
-        let is : lock ≡ l = cc in
-        subst (λ (z : ℕ × LockView). StateFollows image fuel limit h m z.0 z.1) (λ i. (sym x.1 i, is i)) home
-    | inr x ↦ was.states k l (sym (ap (λ w. if w then Some lock else lock_in p.context.locks k) x.0) ∙ sym (placed p lock.number (Some lock) sound small k) ∙ e)
-  ];
-})
-
-pub follows_taken : (image : Shown) (fuel limit : ℕ) (h : List Block) (m : State) (p : PackageView) (lock : ℕ) → IsSound p → lock < 32 → Follows image fuel limit h m p → Follows image fuel limit h m (without_lock lock p)
-follows_taken image fuel limit h m p lock sound small was = (let t = was.thread in record {
-  thread = record { of = t.of; number = t.number; thread = t.thread; log = t.log };
-  states = λ k l e. was.states k l (left_there (k == lock) (lock_in p.context.locks k) l (sym (placed p lock None sound small k) ∙ e));
-})

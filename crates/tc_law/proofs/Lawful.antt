@@ -25,14 +25,14 @@ use Rattle.tc_context.specs.Locks.{lock_in}
 use Rattle.tc_context.specs.Whole.{thread_in, set_of}
 use Rattle.tc_context.specs.View.{PackageView, Allows, Rests, bare, with_seal}
 use Rattle.tc_context.specs.Ran.{DidRun}
-use Rattle.tc_context.specs.History.{Follows, Grows}
-use Rattle.tc_context.specs.Lawful.{IsPackageAfter, IsStateAfter, blocks_left, all_left, Lawful, IsLimited, IsAmong, with_package, with_states, AreFresh}
-pub use Rattle.tc_mutex_spec.proofs.ListLaws.{there, at_place, set_at, same_list}
-pub use Rattle.tc_mutex_spec.proofs.Histories.{filter_has, filter_from, stamp_at, thread_at}
+use Rattle.tc_law.specs.History.{Follows, Grows}
+use Rattle.tc_law.specs.Lawful.{IsPackageAfter, IsStateAfter, blocks_left, all_left, Lawful, IsLimited, IsAmong, with_package, with_states, AreFresh}
+use Rattle.tc_mutex_spec.proofs.ListLaws.{there, at_place, set_at, same_list}
+use Rattle.tc_mutex_spec.proofs.Histories.{filter_has, filter_from, stamp_at, thread_at}
 use Rattle.tc_context.proofs.Moved.{map_some, some_map}
 use Rattle.tc_context.proofs.Partway.{block_inside}
-use Rattle.tc_context.proofs.Staging.{sealed_at}
-use Rattle.tc_context.proofs.Following.{holds_told, blocks_are, grown, obeyed, thread_still, state_still, state_kept}
+use Rattle.tc_context.proofs.Running.{sealed_at}
+use Rattle.tc_law.proofs.Following.{holds_told, blocks_are, grown, obeyed, thread_still, state_still, state_kept}
 
 pub with_states-length : (slots : List (Option LockView)) (states : List LockView) → length (with_states slots states) ≡ length states
 with_states-length [] states = refl

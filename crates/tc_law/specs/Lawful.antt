@@ -15,7 +15,7 @@ use Rattle.tc_segment.specs.View.{LockView, kept, fresh_state}
 use Rattle.tc_context.specs.Locks.{lock_in}
 use Rattle.tc_context.specs.Whole.{thread_in}
 use Rattle.tc_context.specs.View.{PackageView, IsFresh, bare, with_seal}
-use Rattle.tc_context.specs.History.{ThreadFollows, StateFollows}
+use Rattle.tc_law.specs.History.{ThreadFollows, StateFollows}
 
 -- the thing of this number
 abbrev pub StandsAt : {A : Type 0} → List A → ℕ → A → Type 0
