@@ -3,7 +3,7 @@ use Rattle.std.proofs.Common.{◌≡◌, ◌≢◌, ◌<◌, ◌≤◌, ◌⊎�
 use Rattle.std.proofs.lemmas.Bool.Decides.{nat_tests}
 use native.Mathlib.Decide.{ℕ_discrete}
 use mathlib.Core.Logic.{dite}
-use Rattle.tc_isa.specs.Sets.{has, without_lock}
+use Rattle.tc_isa.specs.Sets.{has, without_lock, locks_of}
 use Rattle.std.specs.Int.{bit_at}
 use Rattle.std.proofs.lemmas.Nat.{pow_pos}
 use Rattle.std.proofs.lemmas.Nat.Bits.{bit_at-zero}
@@ -15,7 +15,8 @@ use Rattle.tc_journal.specs.declared.block.End.{End}
 use Rattle.tc_journal.specs.declared.block.End.TheVariants.{Wants, Unlocked, Slept, Cut, Exit, Fault, Spent}
 use Rattle.tc_turn.specs.Turn.{is_running}
 use Rattle.tc_segment.specs.View.{LockView}
-use Rattle.tc_context.specs.View.{PackageView, IsSound, bare}
+use Rattle.tc_context.specs.View.{PackageView, IsSoundPackage, bare}
+use Rattle.tc_context.proofs.Few.{less_few}
 use Rattle.tc_hall.specs.declared.board.Knows.{Knows}
 use Rattle.tc_hall.specs.declared.board.Call.TheVariants.{Free}
 use Rattle.tc_hall.specs.declared.board.Terms.{Terms}
@@ -49,7 +50,7 @@ no_adopt b i run limit e m = let k = and_left (unlocks i b.end) _ (and_left (unl
 pub ended_not_adopted : (i : ℕ) (q : PackageView) (b : Block) (s t : SeatView) (v w : Knows) (r : PackageView) → ends_thread b.end ≡ true → PassedAs i q b s t v w (Was_adopted r) → ⊥
 ended_not_adopted i q b s t v w r e h = no_adopt b h.0.number _ _ e h.2.2.1
 
-pub freed_at : (i : ℕ) (q : PackageView) (b : Block) (s t : SeatView) (v w : Knows) → IsSound q → PassedAs i q b s t v w Was_stopped → Shows v.calls w.calls (Free i)
+pub freed_at : (i : ℕ) (q : PackageView) (b : Block) (s t : SeatView) (v w : Knows) → IsSoundPackage q → PassedAs i q b s t v w Was_stopped → Shows v.calls w.calls (Free i)
 freed_at i q b s t v w sound h = subst (λ (k : ℕ). Shows v.calls w.calls (Free k)) (sound.stored i h.0 h.1).number h.2.1
 
 pub seen_at : (i : ℕ) (q : PackageView) (b : Block) (s t : SeatView) (v w : Knows) → PassedAs i q b s t v w Was_stopped → HasSeenStop v w
@@ -197,11 +198,11 @@ still_may n stopped b q p rest ss ts v w i h m k waits = record {
   here = ap is_some (h.left i waits) ∙ (m.locks i ∙ h.within i waits);
 }
 
-pub known_in : (p : PackageView) (i : ℕ) (o : Option LockView) → IsSound p → locked_in p i ≡ o → is_some o ≡ true → i < length p.image.guards
+pub known_in : (p : PackageView) (i : ℕ) (o : Option LockView) → IsSoundPackage p → locked_in p i ≡ o → is_some o ≡ true → i < length p.image.guards
 known_in p i None s e f = let n : ⊥ = cc in absurd n
 known_in p i (Some l) s e f = (s.stored i l e).known
 
-pub lock_known : (k : Terms) (stopped : Bool) (b : Block) (q p : PackageView) (rest : ℕ) (ss ts : List SeatView) (v w : Knows) (i : ℕ) → Ending stopped b q p rest ss ts v w → (n : ℕ) → MayEnd v n b q → v.image ≡ k.image.value → IsSound p → has rest i ≡ true → i < locks k
+pub lock_known : (k : Terms) (stopped : Bool) (b : Block) (q p : PackageView) (rest : ℕ) (ss ts : List SeatView) (v w : Knows) (i : ℕ) → Ending stopped b q p rest ss ts v w → (n : ℕ) → MayEnd v n b q → v.image ≡ k.image.value → IsSoundPackage p → has rest i ≡ true → i < locks k
 lock_known k stopped b q p rest ss ts v w i h n m image s waits =
     subst (λ (x : Shown). i < length x.guards) (ap (λ (c : PackageView). c.image) h.same ∙ (m.of ∙ image))
     (known_in p i (locked_in p i) s refl (ap is_some (h.left i waits) ∙ (m.locks i ∙ h.within i waits)))
@@ -239,13 +240,16 @@ pub none_left : (P : Type 0) (Q : ℕ → Type 0) (o : Option ℕ) → MatchOpti
 none_left P Q None h n = h
 none_left P Q (Some x) h n = absurd (n x refl)
 
--- each lock that is left has a greater number than there are threads in the list
-pub few_more : (rest next i n m : ℕ) → ((k : ℕ) → has next k ≡ (not (k == i) && has rest k)) → ((k : ℕ) → has rest k ≡ true → i ≤ k) → n ≤ i → m ≤ n + 1 → (j : ℕ) → has next j ≡ true → m ≤ j
-few_more rest next i n m each least few more j waits = let y = left_in rest next i j each waits in let up = least j y.1 in let ne = y.0 in omega arith
+-- the threads in the list and the locks that are left are four at most
+pub few_at_end : (v : Knows) (n : ℕ) (b : Block) (q : PackageView) → IsSoundPackage q → MayEnd v n b q → length (locks_of b.held) ≤ 4
+few_at_end v n b q s m = (left_after q.image q b s.left m.last).few
+
+pub few_more : (rest next i n m : ℕ) → ((k : ℕ) → has next k ≡ (not (k == i) && has rest k)) → has rest i ≡ true → i < 32 → n + length (locks_of rest) ≤ 4 → m ≤ n + 1 → m + length (locks_of next) ≤ 4
+few_more rest next i n m each waits small few more = let less = less_few rest next i each waits small in omega arith
 
 -- so it has room for one more
-pub few_enough : (p : PackageView) (i n : ℕ) → IsSound p → is_some (locked_in p i) ≡ true → n ≤ i → n < 32
-few_enough p i n s here few = let low = known_in p i (locked_in p i) s refl here in let most = s.few in omega arith
+pub few_enough : (rest next i n : ℕ) → ((k : ℕ) → has next k ≡ (not (k == i) && has rest k)) → has rest i ≡ true → i < 32 → n + length (locks_of rest) ≤ 4 → n < 4
+few_enough rest next i n each waits small few = let less = less_few rest next i each waits small in omega arith
 
 -- ---- once all locks were passed on
 
@@ -261,10 +265,10 @@ ended_plain n stopped b q p ss ts v w m h = record {
   ended = λ e i. h.gone i (nothing_left i);
 }
 
-not_running : (q : PackageView) (b : Block) → IsSound q → last_of q.log ≡ Some b → ends_thread b.end ≡ true → is_running q.context.guest.status ≡ false
+not_running : (q : PackageView) (b : Block) → IsSoundPackage q → last_of q.log ≡ Some b → ends_thread b.end ≡ true → is_running q.context.guest.status ≡ false
 not_running q b s e r = (left_after q.image q b s.left e).runs ∙ ap not r
 
-pub ended_order : (stopped : Bool) (b : Block) (q p : PackageView) (ss ts : List SeatView) (v w : Knows) (n : ℕ) → MayEnd v n b q → IsSound q → Ending stopped b q p 0 ss ts v w → IsInOrder 2 p
+pub ended_order : (stopped : Bool) (b : Block) (q p : PackageView) (ss ts : List SeatView) (v w : Knows) (n : ℕ) → MayEnd v n b q → IsSoundPackage q → Ending stopped b q p 0 ss ts v w → IsInOrder 2 p
 ended_order stopped b q p ss ts v w n m s h = record {
   ended = λ e. (ap (λ (c : PackageView). is_running c.context.guest.status) h.same ∙ not_running q b s m.last m.ended, λ i. h.gone i (nothing_left i));
   runs = λ ne. absurd (ne refl);

@@ -8,7 +8,7 @@ use Rattle.tc_journal.specs.declared.block.Block.{Block}
 use Rattle.tc_journal.specs.declared.block.Kind.{Kind}
 use Rattle.tc_journal.specs.declared.block.Kind.TheVariants.{Adopted, Granted}
 use Rattle.tc_segment.specs.View.{LockView, IsAtRest, blocks_of}
-use Rattle.tc_context.specs.View.{PackageView, IsAt, IsSound, IsLeft, IsNumber, MayPassTo, Rests, bare, granted_lock}
+use Rattle.tc_context.specs.View.{PackageView, IsAt, IsSoundPackage, IsLeft, IsNumber, MayPassTo, Rests, bare, granted_lock}
 use Rattle.tc_hall.specs.declared.board.Knows.{Knows}
 use Rattle.tc_hall.specs.Rule.{locked_in}
 use Rattle.tc_nested.specs.Release.{Releases}
@@ -80,7 +80,7 @@ is_beside v w p t o e s =
 pub left_after : (image : Shown) (q : PackageView) (b : Block) → IsLeft image q.context (last_of q.log) → last_of q.log ≡ Some b → IsLeft image q.context (Some b)
 left_after image q b h e = subst (λ (o : Option Block). IsLeft image q.context o) e h
 
-pub block_thread : (q : PackageView) (b : Block) → IsSound q → last_of q.log ≡ Some b → b.thread ≡ q.context.thread
+pub block_thread : (q : PackageView) (b : Block) → IsSoundPackage q → last_of q.log ≡ Some b → b.thread ≡ q.context.thread
 block_thread q b s e = (left_after q.image q b s.left e).thread
 
 given_up : (x y : Bool) → y ≡ true → (x && not y) ≡ false
@@ -88,11 +88,11 @@ given_up true y e = ap not e
 given_up false y e = refl
 
 -- a lock that the last block released is not held
-pub released_free : (q : PackageView) (b : Block) (i : ℕ) → IsSound q → last_of q.log ≡ Some b → Releases i b → has q.context.guest.held i ≡ false
+pub released_free : (q : PackageView) (b : Block) (i : ℕ) → IsSoundPackage q → last_of q.log ≡ Some b → Releases i b → has q.context.guest.held i ≡ false
 released_free q b i s e r = (left_after q.image q b s.left e).held i ∙ given_up (has b.held i) (ends_section i b) r.1
 
 -- the lock that was taken out is as the last block left it
-pub is_released : (v w : Knows) (n i : ℕ) (b : Block) (l : LockView) (q : PackageView) → IsSound q → MayRelease v n i b q → w.image ≡ v.image → w.worker ≡ v.worker → locked_in q i ≡ Some l → IsAtRest q.image i l → IsReleased w b l
+pub is_released : (v w : Knows) (n i : ℕ) (b : Block) (l : LockView) (q : PackageView) → IsSoundPackage q → MayRelease v n i b q → w.image ≡ v.image → w.worker ≡ v.worker → locked_in q i ≡ Some l → IsAtRest q.image i l → IsReleased w b l
 is_released v w n i b l q s h image worker was rest =
     let stored = s.stored i l was in
     let at = subst (λ (p : Option Block). IsAt p q i l) h.settled stored.at in

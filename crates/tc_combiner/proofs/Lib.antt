@@ -9,3 +9,4 @@ pub mod Ending
 pub mod Settling
 pub mod Fitting
 pub mod Ties
+pub mod Sealing

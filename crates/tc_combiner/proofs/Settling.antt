@@ -10,7 +10,7 @@ use Rattle.tc_journal.specs.declared.block.End.TheVariants.{Wants, Unlocked, Sle
 use Rattle.tc_turn.specs.Turn.{next_lock}
 use Rattle.tc_segment.specs.View.{LockView}
 use Rattle.tc_context.specs.Whole.{thread_in}
-use Rattle.tc_context.specs.View.{PackageView, IsSound, IsAfter, HasBlock, WantIsLawful}
+use Rattle.tc_context.specs.View.{PackageView, IsSoundPackage, IsAfter, HasBlock, WantIsLawful}
 use Rattle.tc_hall.specs.declared.board.Knows.{Knows}
 use Rattle.tc_hall.specs.declared.board.Terms.{Terms}
 use Rattle.tc_hall.specs.Rule.{locked_in, locks, threads}
@@ -36,10 +36,10 @@ pub some_block : (bs : List Block) (b : Block) → last_of bs ≡ Some b → 0 <
 some_block [] b e = let n : ⊥ = cc in absurd n
 some_block (x ∷ bs) b e = omega arith
 
-pub after_of : (image : Shown) (worker : ℕ) (end : End) (b : Block) (q : PackageView) → IsSound q → IsAfterBlock image worker end b q → IsAfter q.image q.context b
+pub after_of : (image : Shown) (worker : ℕ) (end : End) (b : Block) (q : PackageView) → IsSoundPackage q → IsAfterBlock image worker end b q → IsAfter q.image q.context b
 after_of image worker end b q s m = left_after q.image q b s.left m.last
 
-module _ (k : Terms) (worker : ℕ) (end : End) (b : Block) (q : PackageView) (s : IsSound q) (m : IsAfterBlock k.image.value worker end b q) where
+module _ (k : Terms) (worker : ℕ) (end : End) (b : Block) (q : PackageView) (s : IsSoundPackage q) (m : IsAfterBlock k.image.value worker end b q) where
   pub thread_known : q.context.thread < threads k
   thread_known = subst (λ (x : Shown). q.context.thread < length x.entries) m.of s.thread
 
@@ -111,11 +111,11 @@ pub unlocked_other : (i j : ℕ) (b : Block) → b.end ≡ Unlocked i → j ≢ 
 unlocked_other i j b e ne = ap (λ (x : End). ends_section j (record b { end = x })) e ∙ (let t : ((i == j) || false) ≡ false = (let n : (i == j) ≡ false = (let m : i ≢ j = (λ y. ne (sym y)) in grind (arith, nat_tests)) in ap (λ (z : Bool). z || false) n) in t)
 
 -- the lock that it wants
-pub wants_lock : (image : Shown) (worker i : ℕ) (b : Block) (q : PackageView) → IsSound q → IsAfterBlock image worker (Wants i) b q → Runs q → Wants_lock q i
+pub wants_lock : (image : Shown) (worker i : ℕ) (b : Block) (q : PackageView) → IsSoundPackage q → IsAfterBlock image worker (Wants i) b q → Runs q → Wants_lock q i
 wants_lock image worker i b q s m r = ap (λ (x : Bool). if x then next_lock q.image (thread_in q.context) else None) r ∙ (after_of image worker (Wants i) b q s m).next i m.end_is
 
 pub slept_block : (image : Shown) (worker : ℕ) (b : Block) (q : PackageView) → IsAfterBlock image worker Slept b q → HasBlock (λ b. b.end ≡ Slept) (last_of q.log)
 slept_block image worker b q m = subst (λ (o : Option Block). HasBlock (λ b. b.end ≡ Slept) o) (sym m.last) m.end_is
 
-pub wanted_known : (k : Terms) (worker i : ℕ) (b : Block) (q : PackageView) → IsSound q → WantIsLawful q → IsAfterBlock k.image.value worker (Wants i) b q → i < locks k
+pub wanted_known : (k : Terms) (worker i : ℕ) (b : Block) (q : PackageView) → IsSoundPackage q → WantIsLawful q → IsAfterBlock k.image.value worker (Wants i) b q → i < locks k
 wanted_known k worker i b q s law m = subst (λ (x : Shown). i < length x.guards) m.of (law i (wants_lock k.image.value worker i b q s m (runs_on k worker (Wants i) b q s m refl))).known

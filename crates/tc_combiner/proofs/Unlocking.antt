@@ -14,7 +14,7 @@ use Rattle.tc_journal.specs.declared.block.Kind.{Kind}
 use Rattle.tc_journal.specs.declared.block.Kind.TheVariants.{Adopted, Granted}
 use Rattle.tc_segment.specs.View.{LockView}
 use Rattle.tc_turn.specs.Turn.{is_running}
-use Rattle.tc_context.specs.View.{PackageView, IsSound, without_lock}
+use Rattle.tc_context.specs.View.{PackageView, IsSoundPackage, without_lock}
 use Rattle.tc_hall.specs.declared.board.Knows.{Knows}
 use Rattle.tc_hall.specs.declared.board.Terms.{Terms}
 use Rattle.tc_hall.specs.Rule.{locked_in, threads}
@@ -82,7 +82,7 @@ past_none true y e = ap not e
 past_none false y e = refl
 
 -- what the package holds whose block may adopt
-pub alone_holds : (q : PackageView) (b : Block) (i run limit : ℕ) → IsSound q → last_of q.log ≡ Some b → ends_section i b ≡ true → may_adopt b i run limit ≡ true → HoldsNone q
+pub alone_holds : (q : PackageView) (b : Block) (i run limit : ℕ) → IsSoundPackage q → last_of q.log ≡ Some b → ends_section i b ≡ true → may_adopt b i run limit ≡ true → HoldsNone q
 alone_holds q b i run limit s e r a j =
     let held = (left_after q.image q b s.left e).held j in
     dite (ℕ_discrete j i)
@@ -93,7 +93,7 @@ none_in : (p : PackageView) → HasOnlyHeld p → HoldsNone p → HasNone p
 none_in p h n j = not_held p j h (n j)
 
 -- the package behind which a waiter was adopted may be set aside
-pub may_aside : (v w : Knows) (k : Terms) (i : ℕ) (b : Block) (l : LockView) (q p : PackageView) (s t : SeatView) (r : PackageView) → IsSound q → MayRelease v (threads k) i b q → v.image ≡ k.image.value → DidTakeOut i l q p → Runs q → HasHeldAnd i q
+pub may_aside : (v w : Knows) (k : Terms) (i : ℕ) (b : Block) (l : LockView) (q p : PackageView) (s t : SeatView) (r : PackageView) → IsSoundPackage q → MayRelease v (threads k) i b q → v.image ≡ k.image.value → DidTakeOut i l q p → Runs q → HasHeldAnd i q
     → PassedAs i q b s t v w (Was_adopted r) → IsAside k p
 may_aside v w k i b l q p s t r sound m image d runs h passed =
     let plain = left_plain v (threads k) i b l q p d m runs h in

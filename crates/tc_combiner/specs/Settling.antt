@@ -6,7 +6,8 @@ use Rattle.tc_journal.specs.Batch.{last_of}
 use Rattle.tc_journal.specs.declared.block.Block.{Block}
 use Rattle.tc_journal.specs.declared.block.End.{End}
 use Rattle.tc_journal.specs.declared.block.End.TheVariants.{Wants, Unlocked, Slept, Cut, Exit, Fault, Spent}
-use Rattle.tc_context.specs.View.{PackageView, want_of}
+use Rattle.tc_context.specs.Ran.{DidRun}
+use Rattle.tc_context.specs.View.{PackageView, AllowsPending, want_of}
 use Rattle.tc_hall.specs.declared.place.Place.TheVariants.{Parked}
 use Rattle.tc_hall.specs.declared.board.Terms.{Terms}
 use Rattle.tc_hall.specs.Rule.{locked_in, threads}
@@ -14,7 +15,7 @@ use Rattle.tc_hall.specs.Steps.{put_call, IsSamePass}
 use Rattle.tc_combiner.specs.declared.settled.Settled.{Settled}
 use Rattle.tc_combiner.specs.declared.settled.Settled.TheVariants.{GoesOn, Adopted, Shipped, Parked as Did_park, Ended, Stopped}
 use Rattle.tc_combiner.specs.Packages.{HasOnlyHeld, IsGoodFor}
-use Rattle.tc_combiner.specs.Walks.{Owned, Shows, Walks, packed, Asks}
+use Rattle.tc_combiner.specs.Walks.{Moves, Owned, Shows, Walks, packed, Asks}
 use Rattle.tc_combiner.specs.Answers.{AcquiredAs, HasReadied}
 use Rattle.tc_combiner.specs.Release.{UnlockedAs, turn_of}
 use Rattle.tc_combiner.specs.Ends.{EndedAs, seat_at}
@@ -36,6 +37,17 @@ pub record Works (d e : DeskView) : Type 0 where
 -- the desk tells the threads that it put as ready in the call, in order; none where the run was stopped
 abbrev pub TellsReady : Terms → Settled → DeskView → DeskView → Type 0
 TellsReady k r d e = HasReadied (threads k) r [] e.handed d.pass.knows e.pass.knows
+
+-- a block made the package of one that the desk has in hand, and the batch rule allows it the desk's worker
+pub record MayCommit (d : DeskView) (q : PackageView) : Type 0 where
+  pub before : PackageView
+  pub hand : IsInHand d before
+  pub ran : DidRun d.pass.knows.image before q
+  pub allows : AllowsPending q d.pass.knows.worker
+
+-- once it is sealed: whoever had the package before its block out has the sealed one out, and the rest is out as it was
+abbrev pub MovesSealed : PackageView → PackageView → DeskView → DeskView → Type 0
+MovesSealed q sealed d e = (p : PackageView) → DidRun d.pass.knows.image p q → Moves d.pass.knows e.pass.knows (Pack p ∷ []) (Pack sealed ∷ [])
 
 -- a package that wants a lock, and has nothing granted and no lock but held ones
 pub record MayAcquire (image : Shown) (q : PackageView) : Type 0 where

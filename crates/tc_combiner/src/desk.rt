@@ -7,11 +7,11 @@ ghost use Rattle.tc_hall.specs.contracts.pass.Pass.{the_row as pass_row};
 ghost use Rattle.tc_park.specs.contracts.sleepers.Sleepers.{the_row as sleepers_row};
 ghost use Rattle.tc_combiner.specs.contracts.desk.Desk.{the_row};
 ghost use Rattle.tc_hall.specs.Outs.{Pack};
-ghost use Rattle.tc_hall.specs.Steps.{DidSeal, IsSamePass, Seals};
+ghost use Rattle.tc_hall.specs.Steps.{DidSeal, IsSamePass};
 ghost use Rattle.tc_combiner.specs.Walks.{Moves, packed};
 ghost use Rattle.tc_combiner.specs.Answers.{carried};
 ghost use Rattle.tc_combiner.specs.View.{FitsBench, desk_of};
-ghost use Rattle.tc_combiner.specs.Settling.{HasAcquired, HasSettled, IsInHand, MayAcquire, MaySettle, TellsReady, Works};
+ghost use Rattle.tc_combiner.specs.Settling.{HasAcquired, HasSettled, IsInHand, MayAcquire, MayCommit, MaySettle, MovesSealed, TellsReady, Works};
 
 use crate::ready::ReadyList;
 use crate::settle::{acquire_at, settle_with};
@@ -117,8 +117,9 @@ impl<Q: Waiters> Desk<Q> {
     /// that stands at the greatest u64 stays there.
     pub fn commit(&mut self, bench: &Bench<'_, Q>, package: &mut Package) -> u64
         requires fits { FitsBench bench.now self.old }
-        requires ready { Seals self.old.pass.knows «package».old }
+        requires may { MayCommit self.old «package».old }
         ensures same { IsSamePass self.old.pass self.new.pass }
+        ensures moves { MovesSealed «package».old «package».new self.old self.new }
         ensures sealed { DidSeal «package».old result self.old.pass.knows self.new.pass.knows }
         ensures context { «package».new
             ≡ with_seal result self.old.pass.knows.worker «package».old }
@@ -208,7 +209,8 @@ impl<Q: Waiters> Desk<Q> {
     /// The threads that the last `acquire` or `settle` put as ready, in that order: a waiter that was
     /// granted a lock, and an adopted package that was handed back. None where the run was stopped.
     pub fn handed(&self) -> &[u32]
-        ensures { result.now ≡ self.now.handed }
+        ensures threads { result.now ≡ self.now.handed }
+        ensures few { length result.now ≤ 4 }
     {
         self.ready.as_slice()
     }

@@ -2,6 +2,6 @@
 
 use arrayvec::ArrayVec;
 
-/// Threads that were put as ready, in order. A call puts at most one for each lock, of which there
-/// are 32 at most.
-pub type ReadyList = ArrayVec<u32, 32>;
+/// Threads that were put as ready, in order. A call puts at most one for each lock of the block, and
+/// a block has at most four; an unlock puts the adopted package that it hands back besides.
+pub type ReadyList = ArrayVec<u32, 4>;

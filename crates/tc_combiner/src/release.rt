@@ -46,7 +46,7 @@ fn grant_to(
     requires other { block.now.thread ≢ next.thread }
     requires out { Owned pass.old.knows (Pack waiter ∷ Loose state ∷ []) }
     requires released { IsReleased pass.old.knows block.now state }
-    requires room { length ready.old.items < 32 }
+    requires room { length ready.old.items < 4 }
     ensures own { IsSamePass pass.old pass.new }
     ensures walks { Walks pass.old.knows pass.new.knows }
     ensures moves { Moves pass.old.knows pass.new.knows
@@ -84,7 +84,7 @@ fn hand_on<R: Wait>(
         × ((outs pass.old.knows).context block.now.thread ≡ Some q) }
     requires out { Owned pass.old.knows (Loose state ∷ []) }
     requires released { IsReleased pass.old.knows block.now state }
-    requires room { length ready.old.items < 32 }
+    requires room { length ready.old.items < 4 }
     ensures own { IsSamePass pass.old pass.new }
     ensures walks { Walks pass.old.knows pass.new.knows }
     ensures moves { Moves pass.old.knows pass.new.knows (Loose state ∷ []) (handed result) }
@@ -121,7 +121,7 @@ pub fn pass_on<R: Wait, Q: Waiters>(
     requires may { MayRelease pass.old.knows (threads hall.now.terms) lock block.now «package».old }
     requires seat { IsSeatOf (Q.queue queue.now) (Q.seen seat.old) }
     requires made { (Q.queue queue.now).threads ≡ threads hall.now.terms }
-    requires room { length ready.old.items < 32 }
+    requires room { length ready.old.items < 4 }
     ensures own { IsSamePass pass.old pass.new }
     ensures walks { Walks pass.old.knows pass.new.knows }
     ensures asks { Asks (turn_of «package».old lock) (Q.seen seat.old) (Q.seen seat.new) }

@@ -96,7 +96,7 @@ pub fn unlocked_at<R: Wait, Q: Waiters>(
     requires runs { Runs «package» }
     requires locks { HasHeldAnd lock «package» }
     requires aside { (a : PackageView) → aside.old ≡ Some a → IsAside hall.now.terms a }
-    requires room { length ready.old.items + 1 < 32 }
+    requires room { length ready.old.items + 1 < 4 }
     ensures own { IsSamePass pass.old pass.new }
     ensures walks { Walks pass.old.knows pass.new.knows }
     ensures moves { Moves pass.old.knows pass.new.knows

@@ -50,7 +50,7 @@ fn go_on(
     requires of { «package».image ≡ pass.old.knows.image }
     requires runs { Runs «package» }
     requires aside { (a : PackageView) → aside.old ≡ Some a → IsAside hall.now.terms a }
-    requires room { length ready.old.items < 32 }
+    requires room { length ready.old.items < 4 }
     ensures own { IsSamePass pass.old pass.new }
     ensures walks { Walks pass.old.knows pass.new.knows }
     ensures moves { Moves pass.old.knows pass.new.knows
@@ -85,7 +85,7 @@ fn set_aside(
     requires out { Owned pass.old.knows (Pack «package» ∷ packed aside.old) }
     requires may { IsAside hall.now.terms «package» }
     requires aside { (a : PackageView) → aside.old ≡ Some a → IsAside hall.now.terms a }
-    requires room { length ready.old.items < 32 }
+    requires room { length ready.old.items < 4 }
     ensures own { IsSamePass pass.old pass.new }
     ensures walks { Walks pass.old.knows pass.new.knows }
     ensures moves { Moves pass.old.knows pass.new.knows
@@ -126,7 +126,7 @@ pub fn unlocked_with<R: Wait, Q: Waiters>(
     requires aside { (a : PackageView) → aside.old ≡ Some a → IsAside hall.now.terms a }
     requires seat { IsSeatOf (Q.queue queue.now) (Q.seen seat.old) }
     requires made { (Q.queue queue.now).threads ≡ threads hall.now.terms }
-    requires room { length ready.old.items + 1 < 32 }
+    requires room { length ready.old.items + 1 < 4 }
     ensures own { IsSamePass pass.old pass.new }
     ensures walks { Walks pass.old.knows pass.new.knows }
     ensures asks { Asks (turn_of «package» lock) (Q.seen seat.old) (Q.seen seat.new) }

@@ -1,4 +1,4 @@
-use Rattle.std.proofs.Common.{ℕ, List, [], ◌∷◌, length, map, refl, sym, ap, ◌∙◌, subst, is_some, arith}
+use Rattle.std.proofs.Common.{ℕ, List, [], ◌∷◌, length, map, refl, sym, ap, ◌∙◌, subst, arith}
 use Rattle.tc_hall.specs.Outs.{Pack}
 use Rattle.tc_hall.specs.Rule.{threads}
 use Rattle.tc_combiner.specs.Walks.{Readied}
@@ -15,7 +15,7 @@ loop-lock-init g c = record {
   walks = walks_none c.args.pass.now.knows;
   moves = λ b zs o. o;
   readied = subst (λ (l : List ℕ). Readied (threads c.args.hall.now.terms) [] l c.args.pass.now.knows c.args.pass.now.knows) (sym c.requires.none) (readied_none c.args.pass.now.knows (threads c.args.hall.now.terms) []);
-  few = λ i waits. let none = ap (λ (l : List ℕ). length l) c.requires.none in omega arith;
+  few = let none = ap (λ (l : List ℕ). length l) c.requires.none in let most = c.requires.few in omega arith;
   seats = seats_first (map g.Q.Waiters.seen c.args.seats.now);
   ending = ends_first c.args.block.now c.args.«package».now (map g.Q.Waiters.seen c.args.seats.now) c.args.pass.now.knows c.requires.may.locks;
 }
@@ -50,7 +50,7 @@ loop-lock-preserved g c =
       walks = walks_then c.args.pass.now.knows c.loop-lock.pass.knows c.end_at-stopped.new.pass.knows k.walks e.walks;
       moves = moves_then c.args.pass.now.knows c.loop-lock.pass.knows c.end_at-stopped.new.pass.knows (Pack c.args.«package».now ∷ []) (Pack c.loop-lock.«package» ∷ []) (Pack c.end_at-stopped.new.«package» ∷ []) k.moves e.moves;
       readied = readied_then (threads c.args.hall.now.terms) [] c.loop-lock.ready.items c.end_at-stopped.new.ready.items c.args.pass.now.knows c.loop-lock.pass.knows c.end_at-stopped.new.pass.knows k.readied e.readied;
-      few = λ i waits. few_more c.loop-lock.rest c.less-rest.result c.in-Some.lock (length c.loop-lock.ready.items) (length c.end_at-stopped.new.ready.items) c.less-rest.ensures.each c.in-Some.ensures.value.1 (k.few c.in-Some.lock c.in-Some.ensures.value.0) e.few i waits;
+      few = few_more c.loop-lock.rest c.less-rest.result c.in-Some.lock (length c.loop-lock.ready.items) (length c.end_at-stopped.new.ready.items) c.less-rest.ensures.each c.in-Some.ensures.value.0 c.in-Some.ensures.bound k.few e.few;
       seats = seats_more (map g.Q.Waiters.seen c.args.seats.now) (map g.Q.Waiters.seen c.loop-lock.seats) (map g.Q.Waiters.seen c.end_at-stopped.new.seats) c.in-Some.lock k.seats (map_length g.Q.Waiters.seen c.end_at-stopped.new.seats ∙ (e.count ∙ sym (map_length g.Q.Waiters.seen c.loop-lock.seats))) e.seat e.others;
       ending = ends_more c.loop-lock.stopped c.end_at-stopped.result c.args.block.now c.args.«package».now c.loop-lock.«package» c.end_at-stopped.new.«package» c.loop-lock.rest c.less-rest.result (map g.Q.Waiters.seen c.args.seats.now) (map g.Q.Waiters.seen c.loop-lock.seats) (map g.Q.Waiters.seen c.end_at-stopped.new.seats) c.args.pass.now.knows c.loop-lock.pass.knows c.end_at-stopped.new.pass.knows c.in-Some.lock k.ending k.walks e.walks c.in-Some.ensures.value.0 c.in-Some.ensures.value.1
           (record { lock = e.taken.0; out = e.taken.1; others = e.others; passed = e.passed; home = e.home; before = e.before; seen = e.seen })
@@ -67,7 +67,7 @@ pub returns-clause-moves : goal.returns-clause-moves
 returns-clause-moves g c = c.loop-lock.invariant.moves
 
 pub end_at-stopped-requires-clause-room : goal.end_at-stopped-requires-clause-room
-end_at-stopped-requires-clause-room g c κs within = few_enough c.loop-lock.«package» c.in-Some.lock (length c.loop-lock.ready.items) c.keeps.ensures.sound (ap is_some (c.loop-lock.invariant.ending.left c.in-Some.lock c.in-Some.ensures.value.0) ∙ (c.requires.may.locks c.in-Some.lock ∙ c.loop-lock.invariant.ending.within c.in-Some.lock c.in-Some.ensures.value.0)) (c.loop-lock.invariant.few c.in-Some.lock c.in-Some.ensures.value.0)
+end_at-stopped-requires-clause-room g c κs within = few_enough c.loop-lock.rest c.less-rest.result c.in-Some.lock (length c.loop-lock.ready.items) c.less-rest.ensures.each c.in-Some.ensures.value.0 c.in-Some.ensures.bound c.loop-lock.invariant.few
 
 pub returns-clause-readied : goal.returns-clause-readied
 returns-clause-readied g c = c.loop-lock.invariant.readied

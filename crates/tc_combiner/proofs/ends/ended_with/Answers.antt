@@ -4,10 +4,13 @@ use Rattle.tc_combiner.specs.Walks.{packed}
 use Rattle.tc_combiner.proofs.Owning.{owned_changed, ended_moves, stopped_moves}
 use Rattle.tc_combiner.proofs.Walking.{walks_then, walks_told, shows_now, seen_sooner}
 use Rattle.tc_combiner.proofs.Packages.{was_stopped, ungranted_fits, ungranted_plain}
-use Rattle.tc_combiner.proofs.Ending.{ended_plain, ended_order, ended_all, stopped_all, emptied}
+use Rattle.tc_combiner.proofs.Ending.{few_at_end, ended_plain, ended_order, ended_all, stopped_all, emptied}
 use Rattle.tc_hall.specs.Rule.{threads}
 use Rattle.tc_combiner.proofs.Readying.{readied_by, readied_then}
 use Rattle.tc_combiner.proofs.ends.ended_with.Goals as goal
+
+pub end_all-requires-clause-few : goal.end_all-requires-clause-few
+end_all-requires-clause-few g c κs within = few_at_end c.args.pass.now.knows _ c.args.block.now c.args.«package» c.keeps.ensures.sound c.requires.may
 
 pub put_all_back-requires-clause-own : goal.put_all_back-requires-clause-own
 put_all_back-requires-clause-own g c = c.end_all.ensures.own.0 ∙ c.requires.own

@@ -1,9 +1,25 @@
-use Rattle.std.proofs.Common.{map, refl, sym, ap, ◌∙◌, subst}
+use Rattle.std.proofs.Common.{[], ◌∷◌, map, refl, sym, ap, ◌∙◌, subst}
+use Rattle.tc_context.specs.View.{PackageView}
+use Rattle.tc_hall.specs.Outs.{Pack}
+use Rattle.tc_combiner.specs.Settling.{MayCommit, MovesSealed}
+use Rattle.tc_combiner.specs.Walks.{Moves}
 use Rattle.tc_combiner.specs.View.{DeskView, FitsBench}
 use Rattle.tc_combiner.proofs.Fitting.{fits_after}
 use Rattle.tc_hall.specs.declared.board.Knows.{Knows}
 use Rattle.tc_combiner.proofs.Ending.{seats_first}
+use Rattle.tc_combiner.proofs.Sealing.{may_seal, sealed_moves}
 use Rattle.tc_combiner.proofs.desk.Desk.commit.Goals as goal
+
+pub commit-stamp-requires-clause-ready : goal.commit-stamp-requires-clause-ready
+commit-stamp-requires-clause-ready g c = may_seal _ c.args.«package».now (subst (λ (d : DeskView). MayCommit d c.args.«package».now) (sym c.self.view_is) c.requires.may)
+
+pub returns-clause-moves : goal.returns-clause-moves
+returns-clause-moves g c =
+    let q : PackageView = c.args.«package».now in
+    let v : Knows = c.self.inside.pass.knows in
+    let w : Knows = c.commit-stamp.new.pass.knows in
+    subst (λ (d : DeskView). MovesSealed q c.commit-stamp.new.«package» d (record d { pass = c.commit-stamp.new.pass })) c.self.view_is
+    (λ p ran. subst (λ (z : PackageView). Moves v w (Pack p ∷ []) (Pack z ∷ [])) (sym c.commit-stamp.ensures.context) (sealed_moves v.image v w p q c.commit-stamp.result ran c.commit-stamp.ensures.seals))
 
 pub returns-clause-fits : goal.returns-clause-fits
 returns-clause-fits g c =
