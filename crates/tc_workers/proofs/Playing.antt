@@ -4,12 +4,17 @@ use Rattle.tc_journal.specs.declared.block.End.{End}
 use Rattle.tc_context.specs.View.{PackageView}
 use Rattle.tc_hall.specs.Outs.{outs}
 use Rattle.tc_hall.specs.PassView.{PassView}
-use Rattle.tc_combiner.specs.View.{BenchView, DeskView}
+use Rattle.tc_combiner.specs.View.{BenchView, DeskView, FitsBench}
 use Rattle.tc_workers.specs.declared.step.Step.{Step}
 use Rattle.tc_workers.specs.declared.step.Step.TheVariants.{On}
 use Rattle.tc_workers.specs.Worker.{HasSealed, IsAtDesk, IsStep, IsStill}
 use Rattle.tc_workers.specs.Scripts.{IsPlaying}
 use Rattle.tc_workers.proofs.Desks.{at_still, other_sleepers, with_pass}
+
+pub at_bench : (b : BenchView) (d : DeskView) (hand : Option PackageView) (end : Option End) → IsPlaying b d hand end → FitsBench b d
+at_bench b d hand None p = p.fits
+at_bench b d None (Some x) p = absurd p
+at_bench b d (Some q) (Some x) p = p.fits
 
 -- no block waits to be settled
 pub at_desk : (b : BenchView) (d : DeskView) (hand h : Option PackageView) (end : Option End) → IsPlaying b d hand end → end ≡ None → hand ≡ h → IsAtDesk b h d

@@ -1,9 +1,7 @@
 -- Packages that get room, run a block and are sealed, and what is out meanwhile.
-use Rattle.std.proofs.Common.{◌≡◌, ◌≢◌, ◌⊎◌, ⊎_elim, inl, inr, ℕ, zero, suc, ◌==◌, ◌||◌, Bool, true, false, if◌then◌else◌, List, [], ◌∷◌, get_or, refl, sym, ap, ◌∙◌, subst, arith, Option, Some, None, is_some}
+use Rattle.std.proofs.Common.{◌≡◌, ◌≢◌, ◌⊎◌, ⊎_elim, inl, inr, ℕ, ◌==◌, ◌||◌, Bool, true, false, if◌then◌else◌, List, [], ◌∷◌, get_or, refl, sym, ap, ◌∙◌, subst, arith, Option, Some, None}
 use Rattle.std.specs.Option.{option_map}
 use Rattle.std.proofs.lemmas.Bool.Decides.{eqb_tells}
-use mathlib.Core.Option.{some, some-injective, some-ne-none}
-use lib.ListN.{get_elem?}
 use Rattle.tc_isa.specs.Sets.{has}
 use Rattle.tc_elf.specs.Shown.{Shown}
 use Rattle.tc_journal.specs.declared.block.Block.{Block}
@@ -17,47 +15,29 @@ use Rattle.tc_context.specs.declared.package.Grant.{Grant}
 use Rattle.tc_context.specs.Locks.{lock_in}
 use Rattle.tc_context.specs.Whole.{thread_in, set_of, block_locks}
 use Rattle.tc_context.specs.Ran.{DidRun}
-use Rattle.tc_context.specs.View.{PackageView, Allows, HasBlock, IsRoomier, IsSound, MayTake, WantIsGranted, bare, fits_granted, fits_in, fits_of, granted_lock, with_seal}
-use Rattle.tc_context.proofs.Staging.{lock_was, seal_last, seal_set, some_of}
+use Rattle.tc_context.specs.View.{PackageView, Allows, HasBlock, IsRoomier, IsSoundPackage, MayTake, WantIsGranted, bare, fits_granted, fits_in, fits_of, granted_lock, with_seal}
+use Rattle.tc_context.proofs.Staging.{lock_was, some_of}
+use Rattle.tc_context.proofs.Running.{seal_last, seal_set}
 use Rattle.tc_hall.specs.declared.board.Knows.{Knows}
 use Rattle.tc_hall.specs.declared.place.Place.TheVariants.{Ready}
-use Rattle.tc_hall.specs.Outs.{Outs, Item, Pack, Within, IsOut, outs, erase, keep, minus, part, unless}
-use Rattle.tc_hall.specs.Rule.{Has, HasLock, locked_in}
-use Rattle.tc_hall.specs.Steps.{DidSeal, HasStop, IsFree, MayPut, Seals}
+use Rattle.tc_hall.specs.Outs.{Outs, Item, Pack, Within, IsOut, outs, keep, minus, part}
+use Rattle.tc_hall.specs.Rule.{locked_in}
+use Rattle.tc_hall.specs.Steps.{HasStop, IsFree, MayPut}
 use Rattle.tc_hall.proofs.Outs.{is_there, same_outs}
 use Rattle.tc_combiner.specs.Packages.{HasNoOther, IsGoodFor, Runs}
-use Rattle.tc_combiner.specs.Settling.{MaySettle}
-use Rattle.tc_combiner.specs.Walks.{Owns}
+use Rattle.tc_combiner.specs.Settling.{MayCommit, MaySettle}
+use Rattle.tc_combiner.specs.View.{DeskView}
+use Rattle.tc_combiner.specs.Walks.{Owns, packed}
 use Rattle.tc_combiner.proofs.Owning.{same_number}
+use Rattle.tc_combiner.proofs.Sealing.{found, none_some}
 use Rattle.tc_workers.specs.Worker.{HasOut, MayGoBack, nothing}
 
 -- ---- what is out
-
-none_some : {A : Type 0} (o : Option A) (a : A) → o ≡ None → o ≡ Some a → ⊥
-none_some o a e f = cc (e, f)
-
-found : {A : Type 0} (xs : List A) (i : ℕ) (a d : A) → get_elem? xs i ≡ some a → get_or xs i d ≡ a
-found [] i a d e = absurd (some-ne-none a (sym e))
-found (x ∷ xs) zero a d e = some-injective x a e
-found (x ∷ xs) (suc i) a d e = found xs i a d e
 
 pub is_free : (v : Knows) → HasOut v [] → IsFree v
 is_free v e = record {
   packages = λ t p has. none_some (get_or v.packages t None) p (ap (λ (o : Outs). o.context t) e) (found v.packages t (Some p) None has);
   locks = λ i l has. none_some (get_or v.locks i None) l (ap (λ (o : Outs). o.lock i) e) (found v.locks i (Some l) None has);
-}
-
-kept_there : (xs : List (Option LockView)) (o : Option LockView) (i : ℕ) (l : LockView) → ((k : LockView) → o ≡ Some k → get_elem? xs i ≡ some (Some (kept k))) → keep o ≡ Some l → get_or xs i None ≡ Some l
-kept_there xs None i l has e = absurd (none_some None l refl e)
-kept_there xs (Some k) i l has e = found xs i (Some (kept k)) None (has k refl) ∙ e
-
-is_out : (v : Knows) (q : PackageView) → Has v q.context.thread (bare q) → ((i : ℕ) (l : LockView) → locked_in q i ≡ Some l → HasLock v i (kept l)) → IsOut (outs v) (Pack q)
-is_out v q here locks = record {
-  contexts = λ u c e. ⊎_elim
-      (λ (z : ((u == q.context.thread) ≡ true) × (u ≡ q.context.thread)). ap (λ (x : ℕ). get_or v.packages x None) z.1 ∙ (found v.packages q.context.thread (Some (bare q)) None here ∙ (sym (ap (λ (b : Bool). if b then Some (bare q) else None) z.0) ∙ e)))
-      (λ (z : ((u == q.context.thread) ≡ false) × (u ≢ q.context.thread)). absurd (none_some None c refl (sym (ap (λ (b : Bool). if b then Some (bare q) else None) z.0) ∙ e)))
-      (eqb_tells u q.context.thread);
-  locks = λ i l e. kept_there v.locks (locked_in q i) i l (locks i) e;
 }
 
 -- ---- room
@@ -108,39 +88,14 @@ is_running_is Exited e = absurd (cc)
 is_running_is (Faulted f) e = absurd (cc)
 is_running_is SpentFuel e = absurd (cc)
 
-pub may_seal : (image : Shown) (v : Knows) (p n : PackageView) (xs : List Item) → v.image ≡ image → HasOut v (Pack p ∷ xs) → fits_of p v.worker ≡ true → DidRun image p n → Seals v n
-may_seal image v p n xs is out fits ran = record {
+-- the desk may seal it
+pub may_commit : (d : DeskView) (p n : PackageView) → HasOut d.pass.knows (Pack p ∷ packed d.aside) → fits_of p d.pass.knows.worker ≡ true → DidRun d.pass.knows.image p n → MayCommit d n
+may_commit d p n out fits ran = record {
   before = p;
-  has = subst (λ (t : ℕ). Has v t (bare p)) (sym ran.runs.keeps.thread) (is_there v.packages p.context.thread (bare p) (out.0.contexts p.context.thread (bare p) (ap (λ (b : Bool). if b then Some (bare p) else None) (same_number p.context.thread))));
-  locks = λ i l e. is_there v.locks i (kept l) (out.0.locks i (kept l) (ap keep e));
-  ran = subst (λ (z : Shown). DidRun z p n) (sym is) ran;
-  allows = λ b e. (let one : ran.block ≡ b = cc (ran.pending, e) in subst (λ (z : Block). Allows n.context z v.worker) one (ran.fits v.worker fits));
+  hand = (nothing, out);
+  ran = ran;
+  allows = λ b e. (let one : ran.block ≡ b = cc (ran.pending, e) in subst (λ (z : Block). Allows n.context z d.pass.knows.worker) one (ran.fits d.pass.knows.worker fits));
 }
-
-unless_both : {A : Type 0} (a b x : Option A) → is_some a ≡ is_some b → unless a x ≡ unless b x
-unless_both None None x e = refl
-unless_both None (Some b) x e = absurd (cc)
-unless_both (Some a) None x e = absurd (cc)
-unless_both (Some a) (Some b) x e = refl
-
-some_if : {A : Type 0} (b : Bool) (a : A) → is_some (if b then Some a else None) ≡ b
-some_if true a = refl
-some_if false a = refl
-
-some_kept : (o : Option LockView) → is_some (keep o) ≡ is_some o
-some_kept None = refl
-some_kept (Some l) = refl
-
-same_place : (o : Outs) (p n : PackageView) → n.context.thread ≡ p.context.thread → ((i : ℕ) → is_some (locked_in n i) ≡ is_some (locked_in p i)) → erase o (Pack n) ≡ erase o (Pack p)
-same_place o p n t s = same_outs (erase o (Pack n)) (erase o (Pack p))
-    (λ u. unless_both (if u == n.context.thread then Some (bare n) else None) (if u == p.context.thread then Some (bare p) else None) (o.context u) (some_if (u == n.context.thread) (bare n) ∙ (ap (λ (z : ℕ). u == z) t ∙ sym (some_if (u == p.context.thread) (bare p)))))
-    (λ i. unless_both (keep (locked_in n i)) (keep (locked_in p i)) (o.lock i) (some_kept (locked_in n i) ∙ (s i ∙ sym (some_kept (locked_in p i)))))
-
-pub sealed_out : (image : Shown) (v w : Knows) (p n : PackageView) (stamp : ℕ) (xs : List Item) → HasOut v (Pack p ∷ xs) → DidRun image p n → DidSeal n stamp v w → HasOut w (Pack (with_seal stamp v.worker n) ∷ xs)
-sealed_out image v w p n stamp xs out ran did = (
-  is_out w (with_seal stamp v.worker n) did.has did.locks,
-  subst (λ (o : Outs). Owns nothing o xs) (sym (did.rest ∙ same_place (outs v) p n ran.runs.keeps.thread ran.runs.keeps.set)) out.1,
-)
 
 same_bools : (a b : Bool) → (a ≡ true → b ≡ true) → (b ≡ true → a ≡ true) → a ≡ b
 same_bools true b to from = sym (to refl)
@@ -165,7 +120,7 @@ of_block held (Some k) i h = ⊎_elim
     (λ (z : ((i == k) ≡ false) × (i ≢ k)). inl (sym (ap (λ (b : Bool). b || held i) z.0) ∙ h))
     (eqb_tells i k)
 
-module _ (image : Shown) (p : PackageView) (is : p.image ≡ image) (sound : IsSound p) (own : HasNoOther p) (runs : Runs p) (want : WantIsGranted image p) where
+module _ (image : Shown) (p : PackageView) (is : p.image ≡ image) (sound : IsSoundPackage p) (own : HasNoOther p) (runs : Runs p) (want : WantIsGranted image p) where
   granted_next : (i : ℕ) (o : Option Grant) → MayTake p.image p.context o → granted_lock o ≡ Some i → next_lock image (thread_in p.context) ≡ Some i
   granted_next i None may e = absurd (none_some None i refl e)
   granted_next i (Some g) may e = ap (λ (x : Shown). next_lock x (thread_in p.context)) (sym is) ∙ (may.next ∙ e)

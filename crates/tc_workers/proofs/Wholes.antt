@@ -7,7 +7,7 @@ use Rattle.tc_turn.specs.Turn.{Thread, is_running}
 use Rattle.tc_mutex_spec.proofs.ListLaws.{at_place}
 use Rattle.tc_segment.specs.View.{kept}
 use Rattle.tc_context.specs.View.{bare}
-use Rattle.tc_context.specs.Lawful.{Lawful}
+use Rattle.tc_law.specs.Lawful.{Lawful}
 use Rattle.tc_hall.specs.declared.board.Knows.{Knows}
 use Rattle.tc_hall.specs.Made.{IsHallOf}
 use Rattle.tc_hall.specs.PassView.{ClosedView, HallView}

@@ -5,7 +5,7 @@ use Rattle.tc_journal.specs.declared.block.Block.{Block}
 use Rattle.tc_mutex_spec.specs.Blocks.{IsComplete, end_after}
 use Rattle.tc_segment.specs.View.{kept}
 use Rattle.tc_context.specs.View.{bare}
-use Rattle.tc_context.specs.Lawful.{Lawful}
+use Rattle.tc_law.specs.Lawful.{Lawful}
 use Rattle.tc_hall.specs.PassView.{ClosedView}
 use Rattle.tc_workers.specs.declared.options.Options.{Options}
 

@@ -1,6 +1,6 @@
 //! Whole runs.
 
-ghost use Rattle.std.specs.Prelude.{◌≡◌, ◌<◌, ◌≤◌, ◌+◌, ◌*◌, ◌/◌, All, IfOk, length, map, true};
+ghost use Rattle.std.specs.Prelude.{◌≡◌, ◌<◌, ◌≤◌, ◌+◌, ◌*◌, ◌/◌, All, IfOk, length, map, min, true};
 ghost use Rattle.tc_isa.specs.declared.limits.TheConstants.{MAX_FUEL};
 ghost use Rattle.tc_elf.specs.declared.limits.TheConstants.{MAX_THREADS};
 ghost use Rattle.tc_hall.specs.Made.{AreDealt};
@@ -26,16 +26,21 @@ use tc_hall::pass::Pass;
 use tc_queue::{Queue, Waiters};
 use tc_ready::Ready;
 
-// How many offers a worker may come to make: at most one for each section, and a section has a turn
-// at its beginning and, but for the last ones of a thread, one at its end.
+// The most offers that there is room for. A deque uses each of its places once, and writes all of
+// them when it is made.
+const MOST_OFFERS: u32 = 4_096;
+
+// For how many offers a worker gets room. It makes at most one for each section, and a section has a
+// turn at its beginning and, but for the last ones of a thread, one at its end. A thread that is not
+// offered for want of room is found by the look over all threads.
 fn room_of(threads: u32, fuel: u32) -> u32
     requires threads { (1 ≤ threads) × (threads ≤ MAX_THREADS) }
     requires fuel { fuel ≤ MAX_FUEL }
-    ensures value { result ≡ threads * (fuel / 2 + 2) }
+    ensures value { result ≡ min (threads * (fuel / 2 + 2)) 4096 }
     ensures least { 1 ≤ result }
     ensures most { result ≤ MAX_ROOM }
 {
-    threads * (fuel / 2 + 2)
+    (threads * (fuel / 2 + 2)).min(MOST_OFFERS)
 }
 
 // Ends a hall whose workers have all ended.

@@ -1,5 +1,6 @@
 //! Scripts: desks that are driven by hand on one thread, in the order written, each on a worker of
-//! its own. The history of each is compared with the lines of its row.
+//! its own. The history of each is compared with its lines, and each lock is at home at the end, with
+//! these bytes in its guard.
 
 ghost use Rattle.std.specs.Prelude.{◌≡◌, ◌<◌, None, All, IfOk, OnOk};
 ghost use Rattle.tc_workers.specs.Crew.{AreAtWork};
@@ -50,6 +51,8 @@ enum Action<'a> {
     Ends,
     /// Gives back the package that was set aside, of this thread.
     Back(u32),
+    /// Reads the clock.
+    Now(u64),
     /// Moves the clock to a turn, wakes the sleeper that is due then, and claims it.
     Wake(u64, u32),
     /// What the last call put as ready, in order.
@@ -219,13 +222,15 @@ fn act<R: Abort + Wait>(
             assert_eq!(rt; player.desk.sleepers().least(), Some(turn));
         }
         Action::Reads(register, value) => assert!(rt; reads(&player.hand, register, value)),
+        Action::Now(turn) => assert_eq!(rt; player.desk.now(), turn),
         _ => settle_as(rt, bench, player, action),
     }
     Ok(())
 }
 
 /// A script: a guest, with how many desks and with which batch limit it is run, what is done with
-/// which desk, and the lines of its history as they were before blocks had a `pc`.
+/// which desk, the lines of its history as they were before blocks had a `pc`, and the bytes of each
+/// guard at the end.
 struct Script<'a> {
     code: &'a [u32],
     entries: &'a [(u32, u32)],
@@ -234,6 +239,7 @@ struct Script<'a> {
     limit: u32,
     steps: &'a [(usize, Action<'a>)],
     history: &'a str,
+    bytes: &'a [[u8; 4]],
 }
 
 /// The image of a guest, whose guards are zeros at the start.
@@ -294,6 +300,8 @@ fn follow<R: Abort + Wait>(
     steps: &[(usize, Action<'_>)],
 ) -> Result<(), AllocError>
     requires { All (λ p. IsPlaying bench.now p.desk p.hand p.end) players.old.items }
+    ensures { OnOk result
+        (All (λ p. IsPlaying bench.now p.desk p.hand p.end) players.new.items) }
 {
     for step in steps {
         let (desk, action) = *step;
@@ -301,6 +309,20 @@ fn follow<R: Abort + Wait>(
         act(rt, bench, &mut players[desk], history, action)?;
     }
     Ok(())
+}
+
+/// Takes each lock from its home, and compares the bytes of its guard.
+fn check_guards<R: Abort>(rt: &R, bench: &Bench<'_, Queue>, player: &mut Player, bytes: &[[u8; 4]])
+    requires { IsPlaying bench.now player.old.desk player.old.hand player.old.end }
+{
+    assert_eq!(rt; bench.image.guards() as usize, bytes.len());
+    let pass = player.desk.pass();
+    for lock in 0..bench.image.guards() {
+        let Ok(state) = bench.hall.take(pass, lock) else {
+            panic!(rt; "lock {lock} is not at home")
+        };
+        assert!(rt; state.bytes() == bytes[lock as usize].as_slice());
+    }
 }
 
 /// Seats a player at each worker's place, plays the script, and checks what came of it.
@@ -317,6 +339,8 @@ fn perform<R: Abort + Wait>(
     let mut history = Vec::new(alloc);
     follow(rt, bench, &mut players, &mut history, script.steps)?;
     check_history(rt, alloc, &history, script.history)?;
+    assert!(rt; !players.is_empty());
+    check_guards(rt, bench, &mut players[0], script.bytes);
     Ok(())
 }
 
@@ -397,6 +421,7 @@ block 3 thread 1 turns 7 held 0 kind adopted worker 0 end unlocked 0
 block 4 thread 0 turns 2 held - kind on worker 0 end exit
 block 5 thread 1 turns 2 held - kind on worker 1 end exit
 ",
+    bytes: &[[2, 0, 0, 0]],
 };
 
 /// With batch limit 0 the waiter is granted the lock, and runs on the worker that claims it.
@@ -435,6 +460,7 @@ block 3 thread 1 turns 7 held 0 kind granted worker 1 end unlocked 0
 block 4 thread 0 turns 2 held - kind on worker 0 end exit
 block 5 thread 1 turns 2 held - kind on worker 1 end exit
 ",
+    bytes: &[[2, 0, 0, 0]],
 };
 
 /// With batch limit 1 every second section of a busy lock is adopted.
@@ -494,6 +520,7 @@ block 9 thread 2 turns 2 held - kind on worker 1 end exit
 block 10 thread 1 turns 2 held - kind on worker 0 end exit
 block 11 thread 3 turns 2 held - kind on worker 1 end exit
 ",
+    bytes: &[[4, 0, 0, 0]],
 };
 
 /// A waiter is adopted, and shipped on from within its section with the lock that it holds.
@@ -555,6 +582,7 @@ block 8 thread 0 turns 2 held - kind on worker 0 end exit
 block 9 thread 1 turns 2 held - kind on worker 1 end exit
 block 10 thread 2 turns 2 held - kind on worker 2 end exit
 ",
+    bytes: &[[0; 4]; 2],
 };
 
 /// A thread sleeps inside its section, and keeps the lock while others wait for it.
@@ -570,11 +598,13 @@ const SLEEP: Script<'static> = Script {
         (0, Action::GoesOn(0)),
         (0, Action::Run),
         (0, Action::Parks(5)),
+        (0, Action::Now(2)),
         (0, Action::Looks(0, 1)),
         (1, Action::Claim(1)),
         (1, Action::Run),
         (1, Action::Ships),
         (0, Action::Wake(5, 0)),
+        (0, Action::Now(5)),
         (0, Action::Run),
         (0, Action::Adopts(1)),
         (0, Action::Run),
@@ -595,6 +625,7 @@ block 4 thread 1 turns 7 held 0 kind adopted worker 0 end unlocked 0
 block 5 thread 0 turns 2 held - kind on worker 0 end exit
 block 6 thread 1 turns 2 held - kind on worker 1 end exit
 ",
+    bytes: &[[1, 0, 0, 0]],
 };
 
 /// A thread ends inside two sections: the waiter of the one lock is granted it, the other goes home,
@@ -640,6 +671,7 @@ block 3 thread 1 turns 2 held - kind start worker 1 end wants 0
 block 4 thread 1 turns 5 held 0 kind granted worker 1 end unlocked 0
 block 5 thread 1 turns 2 held - kind on worker 1 end exit
 ",
+    bytes: &[[0; 4]; 2],
 };
 
 /// Three locks in one another, and a shipment at each.
@@ -721,6 +753,7 @@ block 13 thread 1 turns 2 held - kind on worker 1 end exit
 block 14 thread 2 turns 2 held - kind on worker 2 end exit
 block 15 thread 3 turns 2 held - kind on worker 3 end exit
 ",
+    bytes: &[[0; 4]; 3],
 };
 
 /// A batch ends because the adopted thread still holds another lock: the next waiter is granted the
@@ -782,22 +815,45 @@ block 8 thread 2 turns 4 held 1 kind granted worker 1 end unlocked 1
 block 9 thread 2 turns 2 held - kind on worker 1 end exit
 block 10 thread 1 turns 2 held - kind on worker 1 end exit
 ",
+    bytes: &[[0; 4]; 2],
 };
 
 #[test]
-fn desks_follow_their_scripts(rt: HostRuntime) -> Result<(), Fail> {
-    let scripts = [
-        &ADOPTION,
-        &NO_BATCH,
-        &SHORT_BATCH,
-        &NESTED,
-        &SLEEP,
-        &END,
-        &THREE_DEEP,
-        &KEPT_LOCK,
-    ];
-    for script in scripts {
-        play(&rt, rt.alloc(), script)?;
-    }
-    Ok(())
+fn a_holder_runs_the_section_of_a_waiter(rt: HostRuntime) -> Result<(), Fail> {
+    play(&rt, rt.alloc(), &ADOPTION)
+}
+
+#[test]
+fn without_a_batch_a_waiter_is_granted_the_lock(rt: HostRuntime) -> Result<(), Fail> {
+    play(&rt, rt.alloc(), &NO_BATCH)
+}
+
+#[test]
+fn a_batch_of_one_adopts_every_second_section(rt: HostRuntime) -> Result<(), Fail> {
+    play(&rt, rt.alloc(), &SHORT_BATCH)
+}
+
+#[test]
+fn a_waiter_is_shipped_on_with_the_lock_that_it_holds(rt: HostRuntime) -> Result<(), Fail> {
+    play(&rt, rt.alloc(), &NESTED)
+}
+
+#[test]
+fn a_sleeper_keeps_its_lock(rt: HostRuntime) -> Result<(), Fail> {
+    play(&rt, rt.alloc(), &SLEEP)
+}
+
+#[test]
+fn an_end_inside_two_sections_passes_the_locks_on(rt: HostRuntime) -> Result<(), Fail> {
+    play(&rt, rt.alloc(), &END)
+}
+
+#[test]
+fn three_locks_in_one_another_ship_at_each(rt: HostRuntime) -> Result<(), Fail> {
+    play(&rt, rt.alloc(), &THREE_DEEP)
+}
+
+#[test]
+fn a_batch_ends_at_a_thread_that_keeps_a_lock(rt: HostRuntime) -> Result<(), Fail> {
+    play(&rt, rt.alloc(), &KEPT_LOCK)
 }

@@ -1,4 +1,4 @@
-use Rattle.std.proofs.Common.{◌≡◌, None, subst, rules, ◌∙◌, ap}
+use Rattle.std.proofs.Common.{◌≡◌, None, subst, rules}
 use Rattle.tc_hall.specs.PassView.{PassView}
 use Rattle.tc_hall.specs.declared.board.Call.TheVariants.{Look}
 use Rattle.tc_hall.specs.Steps.{IsSamePass, after_look}

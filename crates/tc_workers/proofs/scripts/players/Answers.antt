@@ -1,4 +1,4 @@
-use Rattle.std.proofs.Common.{◌≡◌, ◌∷◌, List, All, None, sym, subst}
+use Rattle.std.proofs.Common.{List, All, None, sym, subst}
 use Rattle.std.proofs.lemmas.List.Elements.{All-push}
 use Rattle.tc_workers.specs.declared.scripts.Player.{Player}
 use Rattle.tc_workers.specs.Scripts.{IsPlaying}
