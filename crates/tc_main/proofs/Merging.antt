@@ -20,9 +20,9 @@ use Rattle.tc_mutex_spec.specs.Machine.{start}
 use Rattle.tc_mutex_spec.specs.Blocks.{end_after}
 use Rattle.tc_segment.specs.View.{LockView}
 use Rattle.tc_context.specs.View.{PackageView, bare}
-use Rattle.tc_context.specs.Lawful.{Lawful}
-use Rattle.tc_mutex_spec.proofs.ListLaws.{below_or}
-use Rattle.tc_context.proofs.Lawful.{there, at_place, same_list, stamp_at, thread_at}
+use Rattle.tc_law.specs.Lawful.{Lawful}
+use Rattle.tc_mutex_spec.proofs.ListLaws.{below_or, there, at_place, same_list}
+use Rattle.tc_mutex_spec.proofs.Histories.{stamp_at, thread_at}
 use Rattle.tc_main.specs.Outcome.{log_in, logs_of}
 use Rattle.tc_main.proofs.Ranges.{by_number}
 

@@ -17,20 +17,21 @@ use Rattle.tc_mutex_spec.specs.Machine.{State, start}
 use Rattle.tc_mutex_spec.specs.Blocks.{IsComplete, end_after}
 use Rattle.tc_mutex_spec.specs.Entries.{HasJournal, entries_by}
 use Rattle.tc_mutex_spec.proofs.Entries.{entries_blocks}
-use Rattle.tc_segment.specs.View.{LockView, IsSound, block_in, blocks_of, kept, lock_of, with_closed}
+use Rattle.tc_segment.specs.View.{LockView, IsSoundLock, block_in, blocks_of, kept, lock_of, with_closed}
 use Rattle.tc_context.specs.Whole.{thread_in}
 use Rattle.tc_context.specs.View.{PackageView, bare}
-use Rattle.tc_context.specs.Lawful.{IsStateAfter, Lawful}
-use Rattle.tc_context.proofs.Lawful.{there, at_place}
+use Rattle.tc_law.specs.Lawful.{IsStateAfter, Lawful}
+use Rattle.tc_mutex_spec.proofs.ListLaws.{there, at_place}
 use Rattle.tc_workers.specs.declared.options.Options.{Options}
 use Rattle.tc_main.specs.Legal.{finished_in, guarded_in, results_after, IsLegalRun}
 use Rattle.tc_main.specs.Outcome.{IsOutcome}
 use Rattle.tc_main.specs.Report.{finished_of, guarded_of, first_line, guest_line, run_line, package_text, state_text, packages_text, states_text, thread_text, lock_text, threads_text, locks_text, last_line, report_text}
+use Rattle.tc_main.specs.Summary.{demo_line, blocks_line, end_line, ends_text, packages_ends, summary_text}
 use Rattle.tc_main.proofs.Ranges.{text_by_number}
 
 -- where the law holds and each thread has ended, the packages and lock states are the outcome
 pub outcome : (image : Shown) (o : Options) (h : List Block) (packages : List PackageView) (states : List LockView) → Lawful image o.fuel o.limit h (map bare packages) (map kept states)
-    → IsComplete image (end_after image o.fuel h) → IsOutcome image o h packages states
+    → IsComplete image (end_after image o.fuel h) → IsOutcome image o.fuel o.limit h packages states
 outcome image o h packages states law complete = record {
   all_packages = sym (length-map packages bare) ∙ law.all_packages;
   all_states = sym (length-map states kept) ∙ law.all_states;
@@ -40,9 +41,9 @@ outcome image o h packages states law complete = record {
 }
 
 -- the outcome is told as the machine has it
-module _ (image : Shown) (o : Options) (h : List Block) (packages : List PackageView) (states : List LockView) (is : IsOutcome image o h packages states) where
+module _ (image : Shown) (fuel limit : ℕ) (h : List Block) (packages : List PackageView) (states : List LockView) (is : IsOutcome image fuel limit h packages states) where
   abbrev last : State
-  last = end_after image o.fuel h
+  last = end_after image fuel h
 
   thread_is : (t : ℕ) (p : PackageView) → get_elem? packages t ≡ some p → finished_of p ≡ finished_in last t
   thread_is t p e =
@@ -54,25 +55,36 @@ module _ (image : Shown) (o : Options) (h : List Block) (packages : List Package
       let lock : lock_of l ≡ unowned (last.locks k) = (is.states_after k l e).follows.lock in
       λ i. record { start = (guard_at image k).start; bytes = (lock i).bytes; broken = (lock i).broken; sections = (lock i).sections }
 
-  threads_told : packages_text packages ≡ threads_text (results_after image o h).threads
+  threads_told : packages_text packages ≡ threads_text (results_after image fuel h).threads
   threads_told =
       text_by_number package_text thread_text (finished_in last) 0 packages (λ i j p e s. let same : j ≡ i = omega (arith, s) in ap (λ x. thread_text (j, x)) (thread_is j p (ap (get_elem? packages) same ∙ e)))
       ∙ ap (λ n. threads_text (map (finished_in last) (range_with_len 0 n))) is.all_packages
 
-  locks_told : states_text image states ≡ locks_text (results_after image o h).locks
+  locks_told : states_text image states ≡ locks_text (results_after image fuel h).locks
   locks_told =
       text_by_number (state_text image) lock_text (guarded_in image last) 0 states (λ i j l e s. let same : j ≡ i = omega (arith, s) in ap (λ x. lock_text (j, x)) (lock_is j l (ap (get_elem? states) same ∙ e)))
       ∙ ap (λ n. locks_text (map (guarded_in image last) (range_with_len 0 n))) is.all_states
 
+  ends_told : packages_ends packages ≡ ends_text (results_after image fuel h).threads
+  ends_told =
+      text_by_number (λ (p : ℕ × PackageView). end_line (p.0, finished_of p.1)) end_line (finished_in last) 0 packages (λ i j p e s. let same : j ≡ i = omega (arith, s) in ap (λ x. end_line (j, x)) (thread_is j p (ap (get_elem? packages) same ∙ e)))
+      ∙ ap (λ n. ends_text (map (finished_in last) (range_with_len 0 n))) is.all_packages
+
   -- so the report is the text over them
-  pub told : report_text image o (results_after image o h)
+  pub told : (o : Options) → report_text image o (results_after image fuel h)
       ≡ first_line ++ guest_line (length image.entries) (length image.guards) ++ run_line o ++ history_text h ++ packages_text packages ++ states_text image states ++ last_line
   unfolding report_text
-  told i =
+  told o i =
       first_line ++ guest_line (length image.entries) (length image.guards) ++ run_line o ++ history_text h ++ sym threads_told i ++ sym locks_told i ++ last_line
 
+  -- and so is the summary
+  pub summed : (rounds : ℕ) → summary_text rounds (results_after image fuel h)
+      ≡ demo_line rounds ++ blocks_line h ++ packages_ends packages ++ states_text image states ++ last_line
+  unfolding summary_text
+  summed rounds i = demo_line rounds ++ blocks_line h ++ sym ends_told i ++ sym locks_told i ++ last_line
+
 -- a lock state that is sound, after the history
-module _ (image : Shown) (fuel limit : ℕ) (h : List Block) (k : ℕ) (l : LockView) (after : IsStateAfter image fuel limit h k (kept l)) (sound : IsSound l) where
+module _ (image : Shown) (fuel limit : ℕ) (h : List Block) (k : ℕ) (l : LockView) (after : IsStateAfter image fuel limit h k (kept l)) (sound : IsSoundLock l) where
   number : l.number ≡ k
   number = after.follows.number
 
@@ -97,20 +109,20 @@ module _ (image : Shown) (fuel limit : ℕ) (h : List Block) (k : ℕ) (l : Lock
 
 -- the history of an outcome whose lock states are sound is that of a legal run
 module _ (image : Shown) (o : Options) (h : List Block) (packages : List PackageView) (states : List LockView) (law : Lawful image o.fuel o.limit h (map bare packages) (map kept states))
-    (complete : IsComplete image (end_after image o.fuel h)) (workers : All (λ (b : Block). b.worker < o.workers) h) (all_sound : All IsSound states) where
+    (complete : IsComplete image (end_after image o.fuel h)) (workers : All (λ (b : Block). b.worker < o.workers) h) (all_sound : All IsSoundLock states) where
   record IsSoundState (k : ℕ) : Type 0 where
     pub state : LockView
     pub after : IsStateAfter image o.fuel o.limit h k (kept state)
-    pub sound : IsSound state
+    pub sound : IsSoundLock state
 
   state_of : (k : ℕ) → k < length image.guards → IsSoundState k
   state_of k lt =
       let count : length states ≡ length image.guards = sym (length-map states kept) ∙ law.all_states in
       let here = at_place states k (omega (arith, count)) in
       let place = there states k here.0 here.0 here.1 in
-      record { state = here.0; after = law.states_after k (kept here.0) (at_map kept states k here.0 here.1); sound = subst IsSound place.1 (all_sound k here.0 place.0) }
+      record { state = here.0; after = law.states_after k (kept here.0) (at_map kept states k here.0 here.1); sound = subst IsSoundLock place.1 (all_sound k here.0 place.0) }
 
-  pub legal : IsLegalRun image o (results_after image o h)
+  pub legal : IsLegalRun image o (results_after image o.fuel h)
   legal = record {
     last = end_after image o.fuel h;
     history = law.history;

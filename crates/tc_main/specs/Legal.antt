@@ -24,12 +24,12 @@ guarded_in image m lock = record {
   sections = (m.locks lock).sections;
 }
 
--- what the machine's run with this history came to
-abbrev pub results_after : Shown → Options → List Block → Results
-results_after image o h = record {
+-- what the machine's run with this history came to, where each thread has so much fuel
+abbrev pub results_after : Shown → ℕ → List Block → Results
+results_after image fuel h = record {
   history = h;
-  threads = map (finished_in (end_after image o.fuel h)) (range_with_len 0 (length image.entries));
-  locks = map (guarded_in image (end_after image o.fuel h)) (range_with_len 0 (length image.guards));
+  threads = map (finished_in (end_after image fuel h)) (range_with_len 0 (length image.entries));
+  locks = map (guarded_in image (end_after image fuel h)) (range_with_len 0 (length image.guards));
 }
 
 -- The history tells a run of the guest's threads under ordinary mutexes, with this fuel for each, to the end of every

@@ -6,18 +6,17 @@ use Rattle.tc_journal.specs.declared.block.Block.{Block}
 use Rattle.tc_mutex_spec.specs.Blocks.{IsComplete, end_after}
 use Rattle.tc_segment.specs.View.{LockView, kept}
 use Rattle.tc_context.specs.View.{PackageView, bare}
-use Rattle.tc_context.specs.Lawful.{StandsAt, IsPackageAfter, IsStateAfter}
-use Rattle.tc_workers.specs.declared.options.Options.{Options}
+use Rattle.tc_law.specs.Lawful.{StandsAt, IsPackageAfter, IsStateAfter}
 
 -- The packages of all threads and the states of all locks, in order of number, are as the history leaves them, and each
 -- thread has ended: the log of a package has the blocks of its thread and the entries of a lock state are those of its lock in
 -- the run, and each thread and lock is as in the run's end.
-pub record IsOutcome (image : Shown) (o : Options) (h : List Block) (packages : List PackageView) (states : List LockView) : Type 0 where
+pub record IsOutcome (image : Shown) (fuel limit : ℕ) (h : List Block) (packages : List PackageView) (states : List LockView) : Type 0 where
   pub all_packages : length packages ≡ length image.entries
   pub all_states : length states ≡ length image.guards
-  pub packages_after : (t : ℕ) (p : PackageView) → StandsAt packages t p → IsPackageAfter image o.fuel h t (bare p)
-  pub states_after : (k : ℕ) (l : LockView) → StandsAt states k l → IsStateAfter image o.fuel o.limit h k (kept l)
-  pub complete : IsComplete image (end_after image o.fuel h)
+  pub packages_after : (t : ℕ) (p : PackageView) → StandsAt packages t p → IsPackageAfter image fuel h t (bare p)
+  pub states_after : (k : ℕ) (l : LockView) → StandsAt states k l → IsStateAfter image fuel limit h k (kept l)
+  pub complete : IsComplete image (end_after image fuel h)
 
 abbrev pub log_in : PackageView → List Block
 log_in p = p.log

@@ -1,5 +1,5 @@
 -- What the program answers and writes.
-use Rattle.std.specs.Prelude.{◌≡◌, ◌≢◌, ℕ, ◌+◌, ◌<◌, ◌≤◌, ◌⊎◌, List, [], ◌∷◌, ◌++◌, length, Some, codes, decimal}
+use Rattle.std.specs.Prelude.{◌≡◌, ◌≢◌, ℕ, ◌+◌, ◌<◌, ◌≤◌, ◌⊎◌, List, [], ◌∷◌, ◌++◌, length, None, Some, codes, decimal}
 use Rattle.tc_io.specs.Causes.{Rose}
 use Rattle.tc_io.specs.Stream.{Stream}
 use Rattle.tc_io.specs.Taken.{FailsAmid, Gives, TakesAll, TakesCount}
@@ -9,10 +9,12 @@ use Rattle.tc_elf.specs.Shown.{Shown}
 use Rattle.tc_elf.specs.declared.limits.TheConstants.{MAX_FILE}
 use Rattle.tc_elf.specs.declared.refusal.Refusal.{Refusal}
 use Rattle.tc_elf.specs.declared.refusal.Refusal.TheVariants as refused
+use Rattle.tc_build.specs.Generator.{generated, generated_file}
 use Rattle.tc_main.specs.Legal.{IsLegalRun}
 use Rattle.tc_main.specs.Report.{report_text}
 use Rattle.tc_main.specs.Results.{Results}
-use Rattle.tc_main.specs.Words.{Asks, AsksNothing, AsksRun}
+use Rattle.tc_main.specs.Summary.{summary_text}
+use Rattle.tc_main.specs.Words.{Asks, AsksDemo, AsksFile, AsksNothing, AsksRun}
 use Rattle.tc_workers.specs.declared.options.Options.{Options}
 use Rattle.tc_main.specs.declared.status.Status.{Status}
 use Rattle.tc_main.specs.declared.status.Status.TheVariants.{Done, Usage, ReadFault, Refused, WriteFault, OutOfMemory}
@@ -49,6 +51,8 @@ IsRefused before now k name =
     (ReadsTooMany before now × (k ≡ 0) × (name ≡ codes "TooLarge"))
     ⊎ ((bytes : List ℕ) × ReadsAll before now bytes × IsRefusedFile bytes k name)
 
+-- ---- texts
+
 -- the text is the report of a legal run of this image with these options
 pub record IsReportOf (image : Shown) (o : Options) (text : List ℕ) : Type 0 where
   pub results : Results
@@ -64,6 +68,45 @@ pub record IsReport (words : List (List ℕ)) (before now : Stream) (text : List
   pub read : ReadsAll before now bytes
   pub loaded : subset bytes image
   pub report : IsReportOf image options text
+
+-- the text is the file of the generator's guest, with the rounds that the words give
+pub record IsFile (words : List (List ℕ)) (text : List ℕ) : Type 0 where
+  pub rounds : ℕ
+  pub asked : AsksFile words rounds
+  pub made : text ≡ generated_file rounds
+
+-- the text is the summary of a legal run of the generator's guest with so many rounds
+pub record IsSummaryOf (rounds : ℕ) (o : Options) (text : List ℕ) : Type 0 where
+  pub results : Results
+  pub legal : IsLegalRun (generated rounds) o results
+  pub printed : text ≡ summary_text rounds results
+
+-- the text is the summary of a legal run of that guest, with the rounds and the workers that the words give
+pub record IsSummary (words : List (List ℕ)) (text : List ℕ) : Type 0 where
+  pub rounds : ℕ
+  pub options : Options
+  pub asked : AsksDemo words rounds options
+  pub summary : IsSummaryOf rounds options text
+
+-- the text is what the words ask for: the report, the file or the summary
+abbrev pub IsWanted : List (List ℕ) → Stream → Stream → List ℕ → Type 0
+IsWanted words before now text = IsReport words before now text ⊎ (IsFile words text ⊎ IsSummary words text)
+
+-- ---- what is to be done
+
+-- the bytes of the source, which it tells and gives without a fault, are a file that is not refused
+pub record HasFile (before now : Stream) : Type 0 where
+  pub bytes : List ℕ
+  pub told : before.bytes ≡ Some bytes
+  pub few : length bytes ≤ MAX_FILE
+  pub fine : refusal bytes ≡ None
+  pub quiet : ¬ Rose before now
+
+-- the words ask for what can be done; a run needs a file
+abbrev pub CanBeDone : List (List ℕ) → Stream → Stream → Type 0
+CanBeDone words before now =
+    (AsksRun words × HasFile before now)
+    ⊎ (((rounds : ℕ) × AsksFile words rounds) ⊎ ((rounds : ℕ) × (o : Options) × AsksDemo words rounds o))
 
 -- ---- what is to be refused
 
@@ -105,7 +148,7 @@ FileAnswers bytes o OutOfMemory text = ⊥
 
 -- what the words and the source come to, with the text that goes with it
 abbrev pub Answers : List (List ℕ) → Stream → Stream → Status → List ℕ → Type 0
-Answers words before now Done text = IsReport words before now text
+Answers words before now Done text = IsWanted words before now text
 Answers words before now Usage text = AsksNothing words × (now ≡ before) × (text ≡ usage_line)
 Answers words before now ReadFault text = AsksRun words × Rose before now × (text ≡ [])
 Answers words before now (Refused k) text =
@@ -115,10 +158,10 @@ Answers words before now OutOfMemory text = ⊥
 
 -- how the program ends
 abbrev pub Ends : List (List ℕ) → Stream → Stream → Stream → Stream → Status → Type 0
-Ends words before now had has Done = (text : List ℕ) × IsReport words before now text × Gives had has text
+Ends words before now had has Done = (text : List ℕ) × IsWanted words before now text × Gives had has text
 Ends words before now had has Usage = AsksNothing words × (now ≡ before) × Writes had has usage_line
 Ends words before now had has ReadFault = AsksRun words × Rose before now × WritesNothing had has
 Ends words before now had has (Refused k) =
     AsksRun words × ((name : List ℕ) × IsRefused before now k name × Writes had has (refused_line k name))
-Ends words before now had has WriteFault = (text : List ℕ) × IsReport words before now text × FailsAmid had has text
+Ends words before now had has WriteFault = (text : List ℕ) × IsWanted words before now text × FailsAmid had has text
 Ends words before now had has OutOfMemory = WritesNothing had has

@@ -2,22 +2,26 @@
 //! the printed report.
 //!
 //! `top::tclocks` does all that the program does. Its contract promises to whoever runs it that a
-//! report is written only of a legal run of the guest that the source had, and says of every other
-//! status why it comes and what was written. Which runs are legal is one word of the contract,
-//! `IsLegalRun`; the text of a report does not depend on it.
+//! report is written only of a legal run of the guest that the source had, and a summary only of one
+//! of the generator's guest, and says of every other status why it comes and what was written. Which
+//! runs are legal is one word of the contract, `IsLegalRun`; the texts do not depend on it.
 //!
 //! - `words`: what the words of the command line ask for. `run`: a run by workers, from the image
-//!   to the report. `report`: the text of a report.
-//! - `build`: files of guests, of tc_build. `options`, `gate`: with what a guest is run, and whom its
-//!   workers tell how far they are, of tc_workers.
+//!   to the report. `report`: the text of a report. `demo`: a run of the generator's guest, to the
+//!   summary. `summary`: the text of a summary. `answer`: what the words and the source come to.
+//! - `build`, `generate`: files of guests, of tc_build. `options`, `gate`: with what a guest is run,
+//!   and whom its workers tell how far they are, of tc_workers.
 //! - `status`: how the program ends. `top`: the top call.
 #![tactic(auto)]
 
+mod answer;
+mod demo;
 pub mod report;
 mod run;
 pub mod status;
+pub mod summary;
 pub mod top;
 pub mod words;
 
-pub use tc_build::build;
+pub use tc_build::{build, generate};
 pub use tc_workers::{gate, options};

@@ -79,7 +79,7 @@ fn push_registers(out: &mut String, regs: &Regs, from: u32) -> Result<(), AllocE
 }
 
 /// Writes how a thread ended.
-fn push_status(out: &mut String, status: Status) -> Result<(), AllocError>
+pub(crate) fn push_status(out: &mut String, status: Status) -> Result<(), AllocError>
     ensures { OnOk result (string_bytes out.new ≡ string_bytes out.old ++ text.status_text status) }
 {
     match status {
@@ -189,7 +189,12 @@ fn push_data_at(out: &mut String, start: u32, bytes: &[u8], i: usize) -> Result<
 
 /// Writes the line of a lock, whose guard begins at an address, and its data lines.
 #[tactic(auto, unfolding(crate::specs::Report::lock_text))]
-fn push_lock(out: &mut String, number: u32, start: u32, lock: &LockState) -> Result<(), AllocError>
+pub(crate) fn push_lock(
+    out: &mut String,
+    number: u32,
+    start: u32,
+    lock: &LockState,
+) -> Result<(), AllocError>
     ensures { OnOk result (string_bytes out.new
         ≡ string_bytes out.old ++ text.lock_text (number, text.guarded_of start lock.now)) }
 {
@@ -264,9 +269,10 @@ pub fn report(
     packages: &[Package],
     locks: &[LockState],
 ) -> Result<Vec<u8>, AllocError>
-    requires { IsOutcome image.now options history.now packages.now locks.now }
+    requires { IsOutcome image.now options.fuel options.limit history.now packages.now locks.now }
     ensures { IfOk result (λ out. out.items
-        ≡ text.report_text image.now options (results_after image.now options history.now)) }
+        ≡ text.report_text image.now options
+        (results_after image.now options.fuel history.now)) }
 {
     let mut out = String::with_capacity(alloc, room_for(history, packages, locks))?;
     out.push_str("tclocks 2\n")?;

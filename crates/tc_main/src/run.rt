@@ -3,8 +3,9 @@
 ghost use Rattle.std.specs.Prelude.{◌≡◌, All, IfOk, map};
 ghost use Rattle.std.specs.List.Sorted.{IsPermutation};
 ghost use Rattle.tc_journal.specs.History.{HasEachStamp, IsInOrder};
-ghost use Rattle.tc_segment.specs.View.{IsSound};
-ghost use Rattle.tc_main.specs.Outcome.{log_in, logs_of};
+ghost use Rattle.tc_segment.specs.View.{IsSoundLock};
+ghost use Rattle.tc_main.specs.Legal.{IsLegalRun, results_after};
+ghost use Rattle.tc_main.specs.Outcome.{IsOutcome, log_in, logs_of};
 ghost use Rattle.tc_main.specs.Top.{IsReportOf};
 
 use crate::report::report;
@@ -13,6 +14,7 @@ use std::sync::Wait;
 use std::thread::Threads;
 use tc_context::package::Package;
 use tc_elf::image::Image;
+use tc_hall::closed::Closed;
 use tc_journal::block::Block;
 use tc_journal::history::merge;
 use tc_segment::state::LockState;
@@ -22,7 +24,7 @@ use tc_workers::run_all;
 
 /// What each of the lock states keeps. A law: it goes over them, and does nothing.
 fn keep(locks: &[LockState])
-    ensures { All IsSound locks.now }
+    ensures { All IsSoundLock locks.now }
 {
     for lock in locks {
         lock.keeps();
@@ -50,6 +52,32 @@ fn history_of(alloc: Global, packages: &[Package]) -> Result<Vec<Block>, AllocEr
     merge(alloc, &logs)
 }
 
+/// What the workers left of a run to the end of every thread, and the history of it.
+#[derive(Drop)]
+pub(crate) struct WholeRun {
+    pub closed: Closed,
+    pub history: Vec<Block>,
+}
+
+/// Runs the guest until each thread has ended.
+pub(crate) fn run_whole<R: Threads + Wait + Sync, G: Gate>(
+    rt: &R,
+    alloc: Global,
+    image: &Image,
+    options: Options,
+    gate: &G,
+) -> Result<WholeRun, AllocError>
+    ensures outcome { IfOk result (λ run. IsOutcome image.now options.fuel options.limit
+        run.history.items run.closed.packages run.closed.locks) }
+    ensures legal { IfOk result (λ run. IsLegalRun image.now options
+        (results_after image.now options.fuel run.history.items)) }
+{
+    let closed = run_all(rt, alloc, image, options, gate)?;
+    keep(closed.locks());
+    let history = history_of(alloc, closed.packages())?;
+    Ok(WholeRun { closed, history })
+}
+
 /// Runs the guest, and answers the report of the run. The text is made whole, of the hall that the
 /// workers left, once each of them has ended.
 pub fn run_report<R: Threads + Wait + Sync, G: Gate>(
@@ -61,10 +89,7 @@ pub fn run_report<R: Threads + Wait + Sync, G: Gate>(
 ) -> Result<Vec<u8>, AllocError>
     ensures { IfOk result (λ out. IsReportOf image.now options out.items) }
 {
-    let closed = run_all(rt, alloc, image, options, gate)?;
-    let packages = closed.packages();
-    let locks = closed.locks();
-    keep(locks);
-    let history = history_of(alloc, packages)?;
+    let WholeRun { closed, history } = run_whole(rt, alloc, image, options, gate)?;
+    let (packages, locks) = (closed.packages(), closed.locks());
     report(alloc, image, options, &history, packages, locks)
 }

@@ -9,4 +9,4 @@ returns c =
     let image = c.args.image.now in
     let written : c.into_bytes.result.items ≡ first_line ++ guest_line (length image.entries) (length image.guards) ++ run_line c.args.options ++ history_text c.args.history.now ++ packages_text c.args.packages.now ++ states_text image c.args.locks.now ++ last_line =
     search (rules, append_assoc) in
-    written ∙ sym (told image c.args.options c.args.history.now c.args.packages.now c.args.locks.now c.requires)
+    written ∙ sym (told image c.args.options.fuel c.args.options.limit c.args.history.now c.args.packages.now c.args.locks.now c.requires c.args.options)

@@ -1,5 +1,5 @@
 use Rattle.std.proofs.Common.{rules, append_assoc}
-use Rattle.tc_main.proofs.top.refused.Goals as goal
+use Rattle.tc_main.proofs.answer.refused.Goals as goal
 
 pub returns : goal.returns
 returns c = search (rules, append_assoc)
