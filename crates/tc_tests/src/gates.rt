@@ -1,5 +1,6 @@
 //! Gates: what each worker reports, and a worker that is held until another has come so far.
 
+use crate::demos::ONE_ROUND;
 use crate::guests::{EXIT, built, counting};
 use crate::ran::{CALM, Outside, Ran, run_at};
 use std::alloc::{AllocError, Global};
@@ -11,7 +12,8 @@ use tc_journal::block::End;
 use tc_main::gate::{Gate, Point};
 use tc_main::status::Status;
 
-/// How often a held worker looks whether it may go on: one that runs all threads alone gives up.
+/// How often a held worker looks whether it may go on. One that runs all threads alone comes to
+/// this limit, and the test fails there.
 const LOOKS: u32 = 10_000_000;
 
 /// A worker's number, and where it is.
@@ -44,7 +46,7 @@ impl Hold {
     }
 }
 
-/// Keeps all reports, and holds a worker.
+/// Keeps all reports, holds a worker, and notes whether it came to the limit.
 #[derive(Drop)]
 struct Watch<'a, R: Wait + Sync> {
     rt: &'a R,
@@ -52,6 +54,7 @@ struct Watch<'a, R: Wait + Sync> {
     reports: Mutex<Vec<Report>>,
     held: AtomicBool,
     over: AtomicBool,
+    gave_up: AtomicBool,
 }
 
 impl<'a, R: Wait + Sync> Watch<'a, R> {
@@ -62,18 +65,25 @@ impl<'a, R: Wait + Sync> Watch<'a, R> {
             reports: Mutex::new(Vec::new(alloc)),
             held: AtomicBool::new(false),
             over: AtomicBool::new(false),
+            gave_up: AtomicBool::new(false),
         }
+    }
+
+    /// Whether a worker was held, and was let go before the limit.
+    fn held_in_time(&self) -> bool {
+        self.held.load(Ordering::SeqCst) && !self.gave_up.load(Ordering::SeqCst)
     }
 }
 
-/// Waits until the mark is set, for a limited number of looks.
-fn wait_for(mark: &AtomicBool) {
+/// Waits until the mark is set, for a limited number of looks. Whether it was set.
+fn wait_for(mark: &AtomicBool) -> bool {
     for _ in 0..LOOKS {
         if mark.load(Ordering::SeqCst) {
-            return;
+            return true;
         }
         yield_now();
     }
+    false
 }
 
 impl<R: Wait + Sync> Gate for Watch<'_, R> {
@@ -83,7 +93,8 @@ impl<R: Wait + Sync> Gate for Watch<'_, R> {
             self.over.store(true, Ordering::SeqCst);
         }
         if self.hold.begins(point) && !self.held.swap(true, Ordering::SeqCst) {
-            wait_for(&self.over);
+            let let_go = wait_for(&self.over);
+            self.gave_up.store(!let_go, Ordering::SeqCst);
         }
     }
 }
@@ -105,6 +116,22 @@ fn two_workers_claim_a_thread_each(rt: HostRuntime) -> Result<(), Fail> {
     let ran = run_at(&rt, alloc, &words, &file, &CALM, &gate)?;
     assert_eq!(rt; ran.status, Status::Done);
     assert_eq!(rt; ran.blocks(), 2);
+    assert!(rt; gate.held_in_time());
+    let reports = gate.reports.lock(&rt);
+    let (first, second) = (claimer(&reports, 0), claimer(&reports, 1));
+    assert!(rt; first.is_some() && second.is_some() && first != second);
+    Ok(())
+}
+
+/// So are those of a demonstration, whose summary is as on one worker.
+#[test]
+fn two_workers_run_a_demonstration(rt: HostRuntime) -> Result<(), Fail> {
+    let gate = Watch::new(&rt, rt.alloc(), Hold::Claim);
+    let words = [b"demo".as_slice(), b"1", b"2"];
+    let ran = run_at(&rt, rt.alloc(), &words, &[], &CALM, &gate)?;
+    assert_eq!(rt; ran.status, Status::Done);
+    assert_eq!(rt; ran.text(), ONE_ROUND);
+    assert!(rt; gate.held_in_time());
     let reports = gate.reports.lock(&rt);
     let (first, second) = (claimer(&reports, 0), claimer(&reports, 1));
     assert!(rt; first.is_some() && second.is_some() && first != second);
@@ -178,6 +205,7 @@ fn a_thread_that_waits_is_adopted(rt: HostRuntime) -> Result<(), Fail> {
     let ran = run_at(&rt, alloc, &words, &file, &outside, &gate)?;
     assert_eq!(rt; ran.status, Status::Done);
     assert_eq!(rt; ran.blocks(), 402);
+    assert!(rt; gate.held_in_time());
     let mut sections = ran.text().lines().filter(|line| line.contains(" held 0 "));
     let second = sections.nth(1).unwrap_or("");
     assert!(rt; second.contains(" kind adopted "), "{second}");

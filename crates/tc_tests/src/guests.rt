@@ -49,6 +49,20 @@ pub(crate) const SMALLEST: [u8; 92] = [
     0x04, 0x00, 0x00, 0x00, 0x93, 0x08, 0xd0, 0x05, 0x73, 0x00, 0x00, 0x00,
 ];
 
+/// The report of the smallest guest by one worker, with fuel 100 and batch limit 0.
+pub(crate) const SMALLEST_REPORT: &str = "\
+tclocks 2
+guest threads 1 guards 0
+run workers 1 fuel 100 batch 0
+block 0 thread 0 turns 2 held - kind start worker 0 pc 00010054 end exit
+thread 0 exit fuel 98 pc 00010058
+x0 00000000 00000000 80000000 00000000 00000000 00000000 00000000 00000000
+x8 00000000 00000000 00000000 00000000 00000000 00000000 00000000 00000000
+x16 00000000 0000005d 00000000 00000000 00000000 00000000 00000000 00000000
+x24 00000000 00000000 00000000 00000000 00000000 00000000 00000000 00000000
+end
+";
+
 /// The words of several pieces of code, one after another.
 pub(crate) fn joined(alloc: Global, pieces: &[&[u32]]) -> Result<Vec<u32>, AllocError> {
     let mut words = Vec::new(alloc);

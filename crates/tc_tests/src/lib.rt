@@ -1,17 +1,29 @@
 //! Tests of the program as a whole, through its top call. `guests` has code and makes files, `ran`
 //! runs them, `cases` compares whole reports. `runs` has lone threads, `words` single instructions,
-//! `locks` guests with locks, `faults` every fault of a thread that holds a lock, `limits` what
-//! stands at a limit, `outside` what is answered by a status, `gates` what workers report.
+//! `locks` guests with locks, `faults` every fault of a thread that holds a lock, `held_faults` what
+//! another thread sees of it, `limits` what stands at a limit, `outside` words that ask for nothing,
+//! `cuts` and `fields` damaged files, `devices` sources and sinks that fail, `gates` what workers
+//! report, `demos` the generator's guest.
 #![tactic(auto)]
 
 #[cfg(test)]
 mod cases;
 #[cfg(test)]
+mod cuts;
+#[cfg(test)]
+mod demos;
+#[cfg(test)]
+mod devices;
+#[cfg(test)]
 mod faults;
+#[cfg(test)]
+mod fields;
 #[cfg(test)]
 mod gates;
 #[cfg(test)]
 mod guests;
+#[cfg(test)]
+mod held_faults;
 #[cfg(test)]
 mod limits;
 #[cfg(test)]

@@ -122,26 +122,3 @@ fn large_reports_are_written_whole(rt: HostRuntime) -> Result<(), Fail> {
     }
     Ok(())
 }
-
-/// A source that fails and a sink that fails are told for each number of workers.
-#[test]
-fn faults_are_told_for_each_number_of_workers(rt: HostRuntime) -> Result<(), Fail> {
-    for workers in [b"1", b"2", b"3", b"4", b"5", b"6", b"7", b"8"] {
-        let words = [b"run".as_slice(), workers, b"100", b"0"];
-        let failing = Outside {
-            failing_reads: &[0],
-            ..CALM
-        };
-        let ran = run_with(&rt, rt.alloc(), &words, &SMALLEST, &failing)?;
-        assert!(rt; ran.status == Status::ReadFault && ran.written.is_empty());
-        let failing = Outside {
-            most: 16,
-            failing_writes: &[1],
-            ..CALM
-        };
-        let ran = run_with(&rt, rt.alloc(), &words, &SMALLEST, &failing)?;
-        assert_eq!(rt; ran.status, Status::WriteFault);
-        assert_eq!(rt; ran.written.as_slice(), b"tclocks 2\nguest ".as_slice());
-    }
-    Ok(())
-}

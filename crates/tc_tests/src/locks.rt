@@ -1,10 +1,9 @@
 //! Built guests with locks, whose code begins at 0x00100000, and whose guards are words from
 //! 0x00020000 on.
 
-use crate::cases::{Case, LONE, WORKERS, check_built};
+use crate::cases::{Case, LONE, check_built};
 use crate::guests::{
-    ADD, DATA, EXIT, KEEP, LOCK_0, LOCK_1, LOCK_2, LOCK_3, LOCK_4, UNLOCK_0, UNLOCK_1, built,
-    counting, joined,
+    ADD, DATA, EXIT, LOCK_0, LOCK_1, LOCK_2, LOCK_3, LOCK_4, UNLOCK_0, UNLOCK_1, counting,
 };
 use crate::ran::{CALM, Outside, run, run_with};
 use std::test::Fail;
@@ -231,41 +230,6 @@ fn a_note_without_room_is_refused(rt: HostRuntime) -> Result<(), Fail> {
         let ran = run(&rt, rt.alloc(), ["1", "2000", "8"], &changed)?;
         assert_eq!(rt; ran.status, Status::Refused(12));
         assert_eq!(rt; ran.written.as_slice(), b"refused 12 BadNote\n".as_slice());
-    }
-    Ok(())
-}
-
-/// A lock out of order ends its thread and breaks the lock that the thread holds. The other thread
-/// takes that lock too, and keeps the answer in x8: it is told so exactly where its section comes
-/// later.
-#[test]
-fn a_broken_lock_is_told_to_the_next_thread(rt: HostRuntime) -> Result<(), Fail> {
-    let pieces: [&[u32]; 6] = [&LOCK_1, &LOCK_0, &LOCK_1, &KEEP, &UNLOCK_1, &EXIT];
-    let code = joined(rt.alloc(), &pieces)?;
-    let file = built(&rt, rt.alloc(), &code, &[(0, 0), (6, 0)], 2)?;
-    for workers in WORKERS {
-        let ran = run(&rt, rt.alloc(), [workers, "100", "4"], &file)?;
-        assert_eq!(rt; ran.status, Status::Done);
-        assert_eq!(rt; ran.blocks(), 5);
-        let text = ran.text();
-        let breaks = text.find("thread 0 turns 4 held 1 kind ");
-        let takes = text.find("thread 1 turns 5 held 1 kind ");
-        assert!(rt; breaks.is_some() && takes.is_some());
-        let told = if breaks < takes {
-            "x8 00000001 00000000 00000000 00000001 00000000 00000000 00000000 00000000"
-        } else {
-            "x8 00000000 00000000 00000000 00000001 00000000 00000000 00000000 00000000"
-        };
-        for line in [
-            "thread 0 fault 11 fuel 94 pc 00100014",
-            "thread 1 exit fuel 91 pc 00100038",
-            told,
-        ] {
-            assert!(rt; ran.has_line(line), "{line}");
-        }
-        let end =
-            b"lock 0 sections 0 broken 0 bytes 4\ndata 00020000 00000000\nlock 1 sections 2 broken 1 bytes 4\ndata 00020004 00000000\nend\n".as_slice();
-        assert!(rt; ran.written.ends_with(end));
     }
     Ok(())
 }

@@ -1,24 +1,10 @@
 //! Lone threads without locks, in files like the smallest guest's, whose code begins at 0x00010054.
 
 use crate::cases::{Case, LONE, check_plain};
-use crate::guests::{ECALL, EXIT, NOP, SMALLEST};
+use crate::guests::{ECALL, EXIT, NOP, SMALLEST, SMALLEST_REPORT};
 use crate::ran::run;
 use std::test::Fail;
 use tc_main::status::Status;
-
-/// The report of the smallest guest.
-const SMALLEST_REPORT: &str = "\
-tclocks 2
-guest threads 1 guards 0
-run workers 1 fuel 100 batch 0
-block 0 thread 0 turns 2 held - kind start worker 0 pc 00010054 end exit
-thread 0 exit fuel 98 pc 00010058
-x0 00000000 00000000 80000000 00000000 00000000 00000000 00000000 00000000
-x8 00000000 00000000 00000000 00000000 00000000 00000000 00000000 00000000
-x16 00000000 0000005d 00000000 00000000 00000000 00000000 00000000 00000000
-x24 00000000 00000000 00000000 00000000 00000000 00000000 00000000 00000000
-end
-";
 
 /// The report of the smallest guest, also where zeros follow the file up to its greatest length.
 #[test]
