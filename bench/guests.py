@@ -73,17 +73,25 @@ def note(entry, guards):
     return struct.pack("<3I", 8, len(descriptor), 1) + b"TCLOCKS\0" + descriptor
 
 
-def elf(code, guards):
-    """The file of a guest whose threads all run this code, with this number of locks."""
+def elf(code, guards, ranges=((DATA, b"", 16 * GUARD_BYTES),)):
+    """The file of a guest whose threads all run this code, with this number of locks.
+
+    Each range is an address, the bytes that the file gives it, and a length; it is writable.
+    """
     text = b"".join(struct.pack("<I", word(*one)) for one in code)
     notes = note(TEXT, guards)
-    at = 52 + 3 * 32
+    count = 2 + len(ranges)
+    at = 52 + count * 32
     headers = struct.pack("<8I", 1, at, TEXT, TEXT, len(text), len(text), 5, 4)
-    headers += struct.pack("<8I", 1, 0, DATA, DATA, 0, 16 * GUARD_BYTES, 6, 4)
-    headers += struct.pack("<8I", 4, at + len(text), 0, 0, len(notes), len(notes), 4, 4)
+    body = text
+    for start, given, length in ranges:
+        place = at + len(body) if given else 0
+        headers += struct.pack("<8I", 1, place, start, start, len(given), length, 6, 4)
+        body += given
+    headers += struct.pack("<8I", 4, at + len(body), 0, 0, len(notes), len(notes), 4, 4)
     ident = b"\x7fELF" + bytes([1, 1, 1]) + bytes(9)
-    head = struct.pack("<HHIIIIIHHHHHH", 2, 243, 1, TEXT, 52, 0, 0, 52, 32, 3, 0, 0, 0)
-    return ident + head + headers + text + notes
+    head = struct.pack("<HHIIIIIHHHHHH", 2, 243, 1, TEXT, 52, 0, 0, 52, 32, count, 0, 0, 0)
+    return ident + head + headers + body + notes
 
 
 def call(number, argument):
@@ -153,6 +161,39 @@ def shortest_blocks():
     return elf(taken + call(3, 0)[:2] + for_ever(65536 * [("ecall",)]), 16)
 
 
+def twelve_ranges(lengths):
+    """Twelve writable ranges behind one another, of these lengths; the first has the guards."""
+    ranges, start = [], DATA
+    for length in lengths:
+        ranges.append((start, bytes(range(256)) * (length // 256), length))
+        start += length + 0x1000
+    return ranges
+
+
+def image(kibibytes):
+    """Each thread ends at once: what is left is the start over so many bytes in 13 ranges."""
+    return elf(call(93, 0), 16, twelve_ranges(12 * [kibibytes * 1024 // 12]))
+
+
+def quarter_image():
+    return image(240)
+
+
+def half_image():
+    return image(480)
+
+
+def large_image():
+    return image(960)
+
+
+def many_ranges():
+    """Loads and stores in the last of 13 ranges, beside 16 guards that nobody uses."""
+    ranges = twelve_ranges(12 * [4096])
+    base = [("lui", 8, ranges[-1][0] >> 12)]
+    return elf(base + for_ever([("addi", 8, 8, 0)] + 4 * add_one(8)), 16, ranges)
+
+
 GUESTS = {
     "arithmetic": arithmetic,
     "memory": memory,
@@ -160,4 +201,8 @@ GUESTS = {
     "nested-locks": nested_locks,
     "sleeps": sleeps,
     "shortest-blocks": shortest_blocks,
+    "quarter-image": quarter_image,
+    "half-image": half_image,
+    "large-image": large_image,
+    "many-ranges": many_ranges,
 }

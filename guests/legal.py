@@ -1,7 +1,6 @@
 """Whether a history is that of a legal run: each block is run by model.py in its place, under
 ordinary mutexes, and compared with its line; its kind must be one that the batch rule allows."""
 import copy
-from typing import NamedTuple
 
 import model
 import report
@@ -19,14 +18,15 @@ class Batch:
     """
 
     def __init__(self, limit):
-        self.limit, self.adopted, self.last = limit, 0, None
+        self.limit, self.adopted = limit, 0
+        self.last = None  # the block that released the lock
         self.next = None  # the stamp of the next block of the worker that released
 
     def kinds(self, thread, worker, stamp):
         """The kinds for a thread whose last block has this stamp, with this worker."""
         if self.last is None or not self.waited(thread, stamp):
             return ["taken"]
-        if not self.last.free or self.adopted >= self.limit:
+        if not self.last.leaves_free or self.adopted >= self.limit:
             return ["taken", "granted"]
         return ["taken", "adopted"] if worker == self.last.worker and self.next is None else ["taken"]
 
@@ -46,7 +46,7 @@ class Batch:
         if kind == "granted":
             return (f"{self.adopted} adopted sections stand in a row, fewer than the batch limit "
                     f"{self.limit}, and the thread before goes on without a lock: a waiter is adopted")
-        if not last.free:
+        if not last.leaves_free:
             return "the thread before ended, or still holds another lock: a waiter is granted"
         if self.adopted >= self.limit:
             return (f"{self.adopted} adopted sections stand in a row, and the batch limit is "
@@ -58,20 +58,13 @@ class Batch:
     def begin(self, kind):
         self.adopted = self.adopted + 1 if kind == "adopted" else 0
 
-    def release(self, thread, worker, free):
-        self.last, self.next = Release(thread, worker, free), None
+    def release(self, block):
+        self.last, self.next = block, None
 
     def see(self, block):
         """Notes a block that is not the release itself."""
         if self.last is not None and self.next is None and block.worker == self.last.worker:
             self.next = block.stamp
-
-
-class Release(NamedTuple):
-    """Who released a lock; free: it goes on without any lock."""
-    thread: int
-    worker: int
-    free: bool
 
 
 class Run:
@@ -116,7 +109,7 @@ class Run:
         for batch in self.batches:
             batch.see(block)
         for released in block.released:
-            self.batches[released].release(number, worker, not block.ends_thread and not block.kept)
+            self.batches[released].release(block)
         self.stamps[number] = block.stamp
         self.count += 1
         return block

@@ -36,6 +36,23 @@ def start_text(file, thread):
     return text + (f" ({call_text(thread)})" if file.word(thread.pc) == 0x73 else "")
 
 
+def delegation(block, batch, came, away):
+    """How an adopted or granted section came about: `came` is the block in which its thread came to
+    its LOCK, and `batch` the lock's batch before the section."""
+    last = batch.last
+    shipped = f", shipped with {report.locks_text(came.kept)}" if came.kept else ""
+    text = (f"{block.kind}: thread {block.thread} waited for lock {block.begun} from block {came.stamp} on "
+            f"(worker {came.worker}){shipped}; ")
+    if block.kind == "adopted":
+        text += (f"worker {last.worker} released it in block {last.stamp} and runs the section, "
+                 f"adopted section {batch.adopted + 1} in a row")
+    else:
+        text += f"thread {last.thread} released it in block {last.stamp}"
+        text += (" and ended" if last.ends_thread else f" and still holds {report.locks_text(last.kept)}" if last.kept
+                 else f", with {report.several(batch.adopted, 'adopted section')} in a row: the batch limit")
+    return text + ("; away from the thread's own worker" if away else "")
+
+
 def ending(file, thread, held):
     """Why a thread ended that held these locks."""
     if thread.end == "exit":

@@ -71,6 +71,11 @@ class Block(NamedTuple):
             return self.held
         return tuple(lock for lock in self.held if lock not in released)
 
+    @property
+    def leaves_free(self):
+        """Whether its thread goes on without any lock."""
+        return not self.ends_thread and not self.kept
+
     def line(self, version):
         pc = f" pc {self.pc:08x}" if version == 2 else ""
         return (f"block {self.stamp} thread {self.thread} turns {self.turns} held "
@@ -93,6 +98,16 @@ class LockEnd(NamedTuple):
 
 def held_text(held):
     return ",".join(map(str, held)) or "-"
+
+
+def several(count, what):
+    """A number of things: '1 lock', '2 locks'."""
+    return f"{count} {what}{'s' * (count != 1)}"
+
+
+def locks_text(held):
+    """Locks in a sentence: 'lock 0', 'locks 0,1'."""
+    return f"lock{'s' * (len(held) > 1)} {held_text(held)}"
 
 
 class Lines:
@@ -250,6 +265,11 @@ class Report:
             content += bytes.fromhex(found[2])
             self.lines.take()
         return address, content
+
+    def title(self):
+        """What the header says, for headings."""
+        return ", ".join((several(self.threads, "thread"), several(self.guards, "lock"),
+                          several(self.workers, "worker"), f"fuel {self.fuel}", f"batch limit {self.batch}"))
 
     def cut_note(self):
         """What to say of a report that stops early, or None."""

@@ -4,7 +4,7 @@ can tell apart; kinds are told apart by letters and outlines too."""
 import html
 from collections import Counter
 
-from report import SECTIONS
+from report import SECTIONS, several
 import timeline
 
 COLOURS = ("#0072B2", "#E69F00", "#009E73", "#CC79A7", "#56B4E9", "#D55E00", "#F0E442")
@@ -21,7 +21,7 @@ STYLE = """text{font:11px 'DejaVu Sans',Verdana,sans-serif}
 .adopted{stroke:#000;stroke-width:2.2}.granted{stroke:#000;stroke-width:1.5;stroke-dasharray:3 2}
 .taken,.on,.start{stroke:#777;stroke-width:.6}
 .asleep{stroke-width:4;stroke-dasharray:2 3}.shipped{stroke-width:4;stroke-dasharray:9 3}
-.waiting{stroke:#777;stroke-width:1.2}.axis{fill:#555;font-size:9px}.h{font-size:14px;font-weight:bold}"""
+.waiting{stroke:#777;stroke-width:1.2}.holds{stroke-width:1.6}.axis{fill:#555;font-size:9px}.h{font-size:14px;font-weight:bold}"""
 
 PATTERNS = {1: '<path d="M0 6L6 0" stroke="#fff" stroke-width="1.6"/>',
             2: '<circle cx="3" cy="3" r="1.5" fill="#fff"/>',
@@ -127,6 +127,7 @@ def mark_items():
     yield (f'<path class="asleep" stroke="{fill(0)}" d="M0 9h24"/>' + label(12, 6, "z", "l"),
            "asleep with locks held")
     yield f'<path class="shipped" stroke="{fill(0)}" d="M0 9h24"/>', "shipped with locks held (nested)"
+    yield f'<path class="holds" stroke="{fill(0)}" d="M0 9h24"/>', "holds locks between two blocks"
     yield '<path class="waiting" d="M0 9h24"/>', "waits for a lock"
 
 
@@ -134,7 +135,7 @@ def legend(picture, items):
     """What colours, letters and marks mean."""
     x, y = 10, picture.height
     for part, text in items:
-        wide = 36 + 6.4 * len(text)
+        wide = 46 + 5.8 * len(text)
         if x + wide > picture.width:
             x, y = 10, y + 24
         picture.add(f'<g transform="translate({x:g} {y:g})">{part}{label(30, 13, text)}</g>')
@@ -144,12 +145,12 @@ def legend(picture, items):
 
 def strip(picture, line, first, last):
     """The lanes of some stamps, threads above workers."""
-    text, top = line.text, picture.height + 14
+    text, top = line.text, picture.height + 18
     marks, gaps = line.part(first, last)
     workers_top = top + LANE * text.threads + 6
     for stamp in range(first, last + 1):
         if stamp % 10 == 0:
-            picture.add(label(MARGIN + UNIT * (stamp - first), top - 6, str(stamp), "axis"))
+            picture.add(label(MARGIN + UNIT * (stamp - first), top - 10, str(stamp), "axis"))
     for number in range(text.threads):
         picture.add(label(10, top + LANE * number + 13, f"thread {number}"))
     for number in range(text.workers):
@@ -189,6 +190,7 @@ def overview(line, first, last, title):
                  "height of a bar for how many of them its lane has,")
     picture.text("compared with the highest bar of all threads, of all workers, of all kinds. Its colour is that of "
                  f"the innermost lock. --blocks {first}-{first + 399} draws some in full.")
+    picture.add("", 8)
     legend(picture, colour_items(line.text.guards))
     lanes = ([("thread", number) for number in range(line.text.threads)]
              + [("worker", number) for number in range(line.text.workers)]
@@ -253,5 +255,6 @@ def sentences(line, first, last):
     yield (f"Blocks {first} to {last} of {len(line.marks)}: " + ", ".join(
         f"{kinds[kind]} {kind}" for kind in ("start", "on") + SECTIONS)
         + f"; {sum(mark.away for mark in marks)} away from their thread's own worker.")
-    yield (f"{states[timeline.ASLEEP]} sleeps with locks held, {states[timeline.SHIPPED]} shipments with locks "
-           f"held, {states[timeline.WAITING]} waits without one.")
+    yield (f"{several(states[timeline.ASLEEP], 'sleep')} with locks held, "
+           f"{several(states[timeline.SHIPPED], 'shipment')} with locks held, "
+           f"{several(states[timeline.WAITING], 'wait')} without one.")

@@ -1,25 +1,27 @@
 """A report as a timeline: its blocks with what a picture says of each, and what threads do
 between two of their blocks while they hold locks or wait for one."""
-from typing import NamedTuple, Tuple
+from typing import NamedTuple, Optional, Tuple
 
 import counts
 import report
 import tool
 
-ASLEEP, SHIPPED, WAITING = "asleep", "shipped", "waiting"
+ASLEEP, SHIPPED, WAITING, HOLDS = "asleep", "shipped", "waiting", "holds"
 
 
 class Mark(NamedTuple):
-    """A block, and whether it ran away from its thread's own worker."""
+    """A block, whether it ran away from its thread's own worker, and of an adopted or granted
+    section the block in which its thread came to the LOCK."""
     block: report.Block
     away: bool
+    came: Optional[report.Block]
 
     def sentence(self):
         block = self.block
         parts = [f"block {block.stamp}: thread {block.thread}, worker {block.worker}",
                  f"{block.turns} turns", block.kind]
         if block.held:
-            parts.append("locks " + report.held_text(block.held))
+            parts.append(report.locks_text(block.held))
         if self.away:
             parts.append("away from the thread's own worker")
         if block.pc is not None:
@@ -36,11 +38,13 @@ class Gap(NamedTuple):
     held: Tuple[int, ...]
     wanted: int = -1
 
+    def what(self):
+        held = f" with {report.locks_text(self.held)} held" if self.held else ""
+        return {ASLEEP: "asleep", SHIPPED: f"shipped to lock {self.wanted}",
+                WAITING: f"waits for lock {self.wanted}", HOLDS: "between two blocks"}[self.state] + held
+
     def sentence(self):
-        held = f" with locks {report.held_text(self.held)} held" if self.held else ""
-        what = {ASLEEP: "asleep", SHIPPED: f"shipped to lock {self.wanted}",
-                WAITING: f"waits for lock {self.wanted}"}[self.state]
-        return f"thread {self.thread}, blocks {self.first} to {self.last}: {what}{held}"
+        return f"thread {self.thread}, blocks {self.first} to {self.last}: {self.what()}"
 
 
 class Timeline:
@@ -57,7 +61,7 @@ class Timeline:
         if before is not None and before.stamp + 1 < block.stamp:
             self.add_gap(before, block)
         self.last[block.thread] = block
-        self.marks.append(Mark(block, away))
+        self.marks.append(Mark(block, away, before if block.kind in ("adopted", "granted") else None))
 
     def add_gap(self, before, block):
         place = block.thread, before.stamp + 1, block.stamp - 1
@@ -66,6 +70,8 @@ class Timeline:
             self.gaps.append(Gap(*place, ASLEEP, kept))
         elif block.kind in ("adopted", "granted"):
             self.gaps.append(Gap(*place, SHIPPED if kept else WAITING, kept, block.begun))
+        elif kept:
+            self.gaps.append(Gap(*place, HOLDS, kept))
 
     def part(self, first, last):
         """The marks and gaps of some stamps; gaps are cut to them."""

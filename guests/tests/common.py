@@ -3,7 +3,6 @@ from docs, from facts.json and from guests whose runs are known on paper."""
 import json
 import pathlib
 import re
-import struct
 import subprocess
 import sys
 import tempfile
@@ -13,6 +12,7 @@ GUESTS = pathlib.Path(__file__).resolve().parent.parent
 sys.path.insert(0, str(GUESTS))
 import delegation
 import guestfile
+import made
 
 NAMES = sorted(json.loads((GUESTS / "facts.json").read_text()))
 FOLDER = tempfile.TemporaryDirectory()
@@ -45,19 +45,10 @@ EXIT = (0x05D00893, 0x00000073)
 
 
 def built(code, threads, guards):
-    """A guest's file: code at 00100000, data at 00020000 with guards of one word; threads are
-    the places where they enter, in words."""
-    code, data = struct.pack(f"<{len(code)}I", *code), bytes(4 * guards)
-    note = struct.pack("<3I8s3I", 8, 12 + 8 * (len(threads) + guards), 1, b"TCLOCKS",
-                       1 if len(threads) <= 16 and guards <= 16 else 2, len(threads), guards)
-    note += b"".join(struct.pack("<2I", 0x100000 + 4 * place, 0) for place in threads)
-    note += b"".join(struct.pack("<2I", 0x20000 + 4 * lock, 4) for lock in range(guards))
-    at, file = 52 + 3 * 32, b"\x7fELF\1\1\1" + bytes(9) + struct.pack(
-        "<2H5I6H", 2, 243, 1, 0x100000, 52, 0, 0, 52, 32, 3, 0, 0, 0)
-    for kind, address, content, flags in ((4, 0, note, 4), (1, 0x100000, code, 5), (1, 0x20000, data, 6)):
-        file += struct.pack("<8I", kind, at, address, address, len(content), len(content), flags, 4)
-        at += len(content)
-    return file + note + code + data
+    """A guest's file with guards of one word; threads are the places where they enter, in words."""
+    note = made.note([(made.CODE + 4 * place, 0) for place in threads],
+                     [(made.DATA + 4 * lock, 4) for lock in range(guards)])
+    return made.elf(note, code, bytes(4 * guards), 4 * guards)
 
 
 def saved(name, content):

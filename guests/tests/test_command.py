@@ -23,6 +23,7 @@ PROGRAM = """#!/bin/sh
 case $1 in
 status) exit "$2" ;;
 cat) cat ;;
+wait) echo here; while :; do sleep 0.1; done ;;
 esac
 """
 
@@ -94,6 +95,25 @@ class Command(unittest.TestCase):
             self.assertEqual(self.left(), [])
             self.assertEqual(subprocess.run(["pgrep", "-f", f"sh {self.root}/bin/rt"], check=False,
                                             stdout=subprocess.PIPE).stdout, b"")
+
+    def test_a_signal_ends_the_program_too(self):
+        self.run_command("status", "0")
+        for how in (signal.SIGINT, signal.SIGTERM, signal.SIGHUP):
+            started = self.begin("wait")
+            self.assertEqual(started.stdout.readline(), b"here\n")
+            time.sleep(0.3)
+            started.send_signal(how)
+            self.assertEqual(started.communicate(timeout=20), (b"", b""))
+            self.assertEqual(started.returncode, -how)
+            self.assertEqual(subprocess.run(["pgrep", "-f", f"sh {self.root}/crates"], check=False,
+                                            stdout=subprocess.PIPE).stdout, b"")
+
+    def test_closed_streams_are_passed_on(self):
+        self.run_command("status", "0")
+        for closed, status in (("<&-", 1), (">&-", 1), ("2>&-", 0)):
+            done = subprocess.run(["sh", "-c", f'exec "$0" cat {closed}', self.root / "tclocks"], input=b"x",
+                                  env=self.environment, capture_output=True, check=False)
+            self.assertEqual((done.returncode, done.stdout), (status, b"x" * (not status)))
 
     def test_failed_build_names_the_log(self):
         self.tool("bin/rt", "#!/bin/sh\necho no; exit 1\n")

@@ -3,7 +3,7 @@ import json
 import re
 import unittest
 
-from common import BY_HAND, BY_HAND_V1, EXIT, GUESTS, NAMES, ONE, PCS, Case, built, call, elf, history, run, saved
+from common import BY_HAND, BY_HAND_V1, EXIT, GUESTS, NAMES, ONE, PCS, TEMPORARY, Case, built, call, elf, history, run, saved
 import delegation
 import guestfile
 import model
@@ -56,6 +56,12 @@ class ByHand(Case):
         self.says("block 3 thread 1 turns 7 held 0 kind granted worker 0 pc 0010000c end unlocked 0"
                   "  # or worker 1", done)
         self.says("block 3 thread 0 turns 2 held - kind on", done)
+
+    def test_why_a_section_was_granted(self):
+        text = BY_HAND.replace("batch 4", "batch 0").replace("adopted", "granted")
+        self.says("\n  granted: thread 1 waited for lock 0 from block 2 on (worker 1); thread 0 released it in block 1, "
+                  "with 0 adopted sections in a row: the batch limit; away from the thread's own worker\n",
+                  run("explain", self.guest, "-", given=text))
 
     def test_who_releases_does_not_wait(self):
         """A thread that takes a lock twice in a row was not waiting for it."""
@@ -110,6 +116,12 @@ class OnPaper(Case):
             """, ("--workers", "3", "--batch", "4", "--fuel", "100"))
         picture = run("draw", "-", "--text", given=done.stdout).stdout.decode()
         self.assertIn("thread 2      sAAO  .", picture)
+        self.assertIn("\n          0         10\n", picture)
+        said = run("explain", TEMPORARY / "paper.elf", "-", given=done.stdout)
+        self.says("\n  adopted: thread 2 waited for lock 0 from block 4 on (worker 2); worker 1 released it in block 3 "
+                  "and runs the section, adopted section 1 in a row; away from the thread's own worker\n", said)
+        self.says("\n  adopted: thread 2 waited for lock 1 from block 5 on (worker 1), shipped with lock 0; worker 0 "
+                  "released it in block 2 and runs", said)
 
     def test_sleep_inside_a_section(self):
         done = self.finished(DOZE + ONE, (0, len(DOZE)), 1, """
@@ -122,7 +134,7 @@ class OnPaper(Case):
             thread 1 worker 1
             """, ("--workers", "2", "--batch", "4", "--fuel", "100"))
         self.says("data 00020000 01000000", done)
-        self.assertIn("asleep with locks 0 held", run("draw", "-", given=done.stdout).stdout.decode())
+        self.assertIn("asleep with lock 0 held", run("draw", "-", given=done.stdout).stdout.decode())
 
     def test_unlock_out_of_order(self):
         code = call(1, 0) + call(1, 1) + call(2, 0) + call(2, 1) + EXIT

@@ -1,7 +1,6 @@
 """What the tools print."""
 import json
 import re
-import subprocess
 import unittest
 
 from common import BY_HAND, GUESTS, NAMES, ONE, TEMPORARY, Case, built, elf, history, run, saved
@@ -88,12 +87,6 @@ class Tables(Case):
             self.assertEqual(len(by_worker), blocks)
             lanes = run("draw", "-", "--text", given=text).stdout.decode()
             self.assertIn("thread 0", lanes)
-
-    def test_pictures_of_the_docs_are_made_by_their_commands(self):
-        pictures = GUESTS.parent / "docs" / "pictures"
-        subprocess.run([pictures / "make", str(TEMPORARY)], check=True)
-        for path in pictures.glob("*.svg"):
-            self.assertEqual(path.read_bytes(), (TEMPORARY / path.name).read_bytes(), path.name)
 
     def test_draw_by_hand(self):
         guest = saved("one.elf", built(ONE, (0, 0), 1))

@@ -11,16 +11,17 @@ import re
 import shutil
 import sys
 
+import report
 import svg
 import timeline
 import tool
 
 MOST = 2000  # blocks that are drawn each
 LETTERS = {"start": "s", "on": ".", "taken": "t", "adopted": "a", "granted": "g"}
-STATES = {timeline.ASLEEP: "z", timeline.SHIPPED: "n", timeline.WAITING: "-"}
+STATES = {timeline.ASLEEP: "z", timeline.SHIPPED: "n", timeline.WAITING: "-", timeline.HOLDS: "="}
 LEGEND = """s start  . without a lock  t taken  a adopted  g granted  o on with a lock held
 a capital letter: away from the thread's own worker
-z asleep with locks held  n shipped with locks held (nested)  - waits for a lock
+z asleep with locks held  n shipped with locks held (nested)  - waits for a lock  = holds locks
 x behind a thread's last block; a worker's lane has the number of the thread (above 9: A, B ..)"""
 
 
@@ -46,7 +47,7 @@ class Canvas:
 
     def __init__(self, line, first, last):
         text = line.text
-        self.first = first
+        self.first, self.last = first, last
         self.names = [f"thread {t}" for t in range(text.threads)] + [f"worker {w}" for w in range(text.workers)]
         self.lanes = [[(" ", None)] * (last - first + 1) for _ in self.names]
         marks, gaps = line.part(first, last)
@@ -64,9 +65,16 @@ class Canvas:
     def put(self, lane, stamp, character, lock):
         self.lanes[lane][stamp - self.first] = character, lock
 
+    def ruler(self):
+        """The stamps that are multiples of 10, each above its column."""
+        row = ""
+        for stamp in range(-(-self.first // 10) * 10, self.last + 1, 10):
+            row = row.ljust(10 + stamp - self.first) + str(stamp)
+        return row
+
     def rows(self, colours):
         for name, lane in zip(self.names, self.lanes):
-            yield f"{name:<10}" + "".join(painted(*cell) if colours else cell[0] for cell in lane).rstrip()
+            yield f"{name:<10}{''.join(painted(*cell) if colours else cell[0] for cell in lane)}".rstrip()
 
 
 def painted(character, lock):
@@ -79,7 +87,8 @@ def painted(character, lock):
 
 
 def print_text(line, first, last, asked):
-    width = max(20, (shutil.get_terminal_size().columns if sys.stdout.isatty() else 100) - 11)
+    columns = shutil.get_terminal_size().columns if sys.stdout.isatty() else 100
+    width = max(20, (columns - 11) // 10 * 10)
     colours = asked.colour or (sys.stdout.isatty() and "NO_COLOR" not in os.environ)
     print(LEGEND)
     if colours:
@@ -88,7 +97,8 @@ def print_text(line, first, last, asked):
     for start in range(first, shown + 1, width):
         stop = min(start + width - 1, shown)
         print(f"\nblocks {start} to {stop}")
-        for row in Canvas(line, start, stop).rows(colours):
+        canvas = Canvas(line, start, stop)
+        for row in (canvas.ruler(), *canvas.rows(colours)):
             print(row)
     print()
     if shown < last:
@@ -97,30 +107,54 @@ def print_text(line, first, last, asked):
         print(sentence)
 
 
+# Lanes of a trace: the process and its first lane's number. No two lanes have one number, and
+# none is 0, which some viewers keep for the idle process.
+THREADS, WORKERS = {"pid": 1, "tid": 1}, {"pid": 2, "tid": 101}
+
+
+def lane(group, number):
+    return {**group, "tid": group["tid"] + number}
+
+
+def names(group, name, count):
+    """The events that name a process and its lanes, and say in which order they stand."""
+    yield {"ph": "M", "name": "process_name", **group, "args": {"name": name}}
+    yield {"ph": "M", "name": "process_sort_index", **group, "args": {"sort_index": group["pid"]}}
+    for number in range(count):
+        yield {"ph": "M", "name": "thread_name", **lane(group, number), "args": {"name": f"{name[:-1]} {number}"}}
+        yield {"ph": "M", "name": "thread_sort_index", **lane(group, number), "args": {"sort_index": number}}
+
+
 def events(line, first, last):
-    """The trace: a stamp is a microsecond; threads are process 1, workers process 2."""
-    for process, name, count in ((1, "threads", line.text.threads), (2, "workers", line.text.workers)):
-        yield {"ph": "M", "name": "process_name", "pid": process, "args": {"name": name}}
-        for number in range(count):
-            yield {"ph": "M", "name": "thread_name", "pid": process, "tid": number,
-                   "args": {"name": f"{name[:-1]} {number}"}}
+    """The trace: a stamp is a microsecond."""
+    yield from names(THREADS, "threads", line.text.threads)
+    yield from names(WORKERS, "workers", line.text.workers)
     marks, gaps = line.part(first, last)
     for mark in marks:
         yield from block_events(mark)
+    for mark in marks:
+        if mark.came is not None and mark.came.stamp >= first:
+            yield from arrow(mark)
     for gap in gaps:
-        yield {"ph": "X", "name": gap.state, "cat": "gap", "pid": 1, "tid": gap.thread, "ts": gap.first,
-               "dur": gap.last - gap.first + 1, "args": {"what": gap.sentence()}}
+        yield {"ph": "X", "name": gap.what(), "cat": gap.state, **lane(THREADS, gap.thread), "ts": gap.first,
+               "dur": gap.last - gap.first + 1}
 
 
 def block_events(mark):
     block = mark.block
-    locks = ",".join(map(str, block.held))
-    kind = block.kind + (f" lock {locks}" if locks else "")
+    kind = block.kind + (f" {report.locks_text(block.held)}" if block.held else "")
     common = {"ph": "X", "cat": block.kind + (",away" if mark.away else ""), "ts": block.stamp, "dur": 1,
-              "args": {"block": block.stamp, "turns": block.turns, "held": locks or "-", "kind": block.kind,
+              "args": {"block": block.stamp, "turns": block.turns, "held": report.held_text(block.held), "kind": block.kind,
                        "worker": block.worker, "thread": block.thread, "away": mark.away, "end": block.end}}
-    yield {**common, "name": kind + (" AWAY" if mark.away else ""), "pid": 1, "tid": block.thread}
-    yield {**common, "name": f"thread {block.thread} {kind}", "pid": 2, "tid": block.worker}
+    yield {**common, "name": kind + (" AWAY" if mark.away else ""), **lane(THREADS, block.thread)}
+    yield {**common, "name": f"thread {block.thread} {kind}", **lane(WORKERS, block.worker)}
+
+
+def arrow(mark):
+    """From where a thread came to its LOCK to where its section was adopted or granted, by worker."""
+    common = {"name": mark.block.kind, "cat": "passed on", "id": mark.block.stamp}
+    yield {"ph": "s", **common, **lane(WORKERS, mark.came.worker), "ts": mark.came.stamp}
+    yield {"ph": "f", "bp": "e", **common, **lane(WORKERS, mark.block.worker), "ts": mark.block.stamp}
 
 
 def print_trace(line, first, last, asked):
@@ -154,8 +188,7 @@ def main(words):
     first, last = asked.blocks or (0, count - 1)
     if first >= count:
         raise tool.Trouble(tool.WRONG, f"the report has {count} blocks, and none from {first} on")
-    asked.title = asked.title or (f"{text.threads} threads, {text.guards} locks, {text.workers} workers, "
-                                  f"fuel {text.fuel}, batch limit {text.batch}")
+    asked.title = asked.title or text.title()
     (asked.form or print_svg)(line, first, min(last, count - 1), asked)
     if text.cut_note():
         tool.note("draw", text.cut_note())

@@ -1,11 +1,13 @@
 """Explains a guest's file, or the program's answer to it.
 
 Without a report it says what the file has, or why it is refused. With one it says where each
-block began (symbol and instruction) and why each thread ended; a refusal is told with the
-numbers that disagree. After a usage line, --words says what is wrong with the words.
+block began (symbol and instruction), how each adopted or granted section came about, and why each
+thread ended; a refusal is told with the numbers that disagree. After a usage line, --words says what is wrong with the words.
 """
 import argparse
+import copy
 
+import counts
 import guestfile
 import legal
 import reasons
@@ -33,16 +35,20 @@ def explain_file(path):
 
 def explain_report(file, text):
     """Follows the blocks by the model, which knows where each begins."""
-    run = legal.begin(file.guest, text)
+    run, away, last = legal.begin(file.guest, text), counts.Away(text.threads), {}
     threads = run.machine.threads
     for block in text.blocks():
-        start = reasons.start_text(file, threads[block.thread])
+        thread, is_away = threads[block.thread], away.is_away(block)
+        start = reasons.start_text(file, thread)
+        batch = copy.copy(run.batches[block.begun]) if block.kind in ("adopted", "granted") else None
         run.follow(block, f", line {text.lines.at()}")
         print(f"{block.line(text.version)}  # {start}")
-        thread = threads[block.thread]
+        if batch:
+            print(f"  {reasons.delegation(block, batch, last[block.thread], is_away)}")
         if block.ends_thread:
-            held = f"; locks {report.held_text(block.held)} break" if block.held else ""
+            held = f"; {report.locks_text(block.held)} broken" if block.held else ""
             print(f"  thread {block.thread}: {reasons.ending(file, thread, block.held)}{held}")
+        last[block.thread] = block
     for number, thread in enumerate(threads):
         if thread.end is None:
             print(f"  thread {number} has not ended: it goes on at {reasons.start_text(file, thread)}")

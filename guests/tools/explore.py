@@ -16,7 +16,7 @@ import report
 import tool
 
 ROOT = pathlib.Path(__file__).resolve().parent.parent.parent
-OPTIONS = [(workers, batch) for workers in (1, 2, 4, 8) for batch in (0, 1, 8, 256)]
+OPTIONS = [(workers, batch) for batch in (8, 0, 1, 256) for workers in (1, 2, 4, 8)]
 
 
 class Outcome:

@@ -33,8 +33,7 @@ def print_text(counted):
     text = counted.text
     blocks = sum(worker.blocks for worker in counted.workers)
     turns = sum(worker.turns for worker in counted.workers)
-    print(f"{blocks} blocks, {turns} turns, {text.threads} threads, {text.guards} locks, "
-          f"{text.workers} workers, fuel {text.fuel}, batch limit {text.batch}")
+    print(f"{report.several(blocks, 'block')}, {report.several(turns, 'turn')}, {text.title()}")
     for _, rows in counted.tables():
         if not rows:
             continue
