@@ -29,6 +29,13 @@ esac
 
 
 class Command(unittest.TestCase):
+    @classmethod
+    def setUpClass(cls):
+        # A job in the background ignores some signals, and would hand that on.
+        for number in (signal.SIGINT, signal.SIGHUP, signal.SIGTERM):
+            if signal.getsignal(number) == signal.SIG_IGN:
+                signal.signal(number, signal.SIG_DFL)
+
     def setUp(self):
         self.folder = tempfile.TemporaryDirectory()
         self.root = pathlib.Path(self.folder.name)
@@ -68,9 +75,9 @@ class Command(unittest.TestCase):
     def test_first_build_says_how_far_it_is_and_the_next_call_says_nothing(self):
         status, out, said = self.run_command("cat", given=b"bytes\0")
         self.assertEqual((status, out), (0, b"bytes\0"))
-        for part in ("The log is", "proving tc_io, crate 1 of 20, for 0:01 so far", "tc_isa, crate 2 of 20",
+        for part in ("The log is", r"proving tc_io, crate 1 of \d+, for 0:01 so far", r"tc_isa, crate 2 of \d+",
                      "built in"):
-            self.assertIn(part, said)
+            self.assertRegex(said, part)
         self.assertEqual(self.run_command("cat", given=b"more"), (0, b"more", ""))
 
     def test_statuses_are_passed_on_and_three_have_a_line(self):
