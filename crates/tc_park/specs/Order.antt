@@ -1,5 +1,5 @@
 -- Who wakes first. Sleepers are a list with a place for each thread: the turn at which it is due, or nothing where it doesn't sleep.
-use Rattle.std.specs.Prelude.{◌≡◌, ◌⊎◌, ℕ, ◌<◌, ◌≤◌, List, length, slice_index_or, slice_set, nat_le, if◌then◌else◌, Option, Some, None}
+use Rattle.std.specs.Prelude.{◌≡◌, ◌⊎◌, ℕ, ◌<◌, ◌≤◌, List, length, slice_index_or, slice_set, Bool, false, Option, Some, None, IfSome}
 use Rattle.tc_park.specs.declared.sleepers.Sleeper.{Sleeper}
 
 -- this thread sleeps until this turn
@@ -34,15 +34,22 @@ pub record IsLeast (s : List (Option ℕ)) (due : ℕ) : Type 0 where
   pub sleeps : Sleeps s thread due
   pub least : (other later : ℕ) → Sleeps s other later → due ≤ later
 
--- the earlier of a sleeper and of a thread of a greater number
-abbrev pub earlier : Option Sleeper → ℕ → ℕ → Option Sleeper
-earlier None thread due = Some (record { thread = thread; due = due })
-earlier (Some s) thread due = if nat_le s.due due then Some s else Some (record { thread = thread; due = due })
+-- of those of whom `In` tells when they are due, this is the first, or there are none
+abbrev pub IsFirstOf : (ℕ → ℕ → Type 0) → Option Sleeper → Type 0
+IsFirstOf In None = (other later : ℕ) → In other later → ⊥
+IsFirstOf In (Some z) = In z.thread z.due × ((other later : ℕ) → In other later → ComesFirst z.thread z.due other later)
 
--- the same, where that thread may be awake
-abbrev pub first_after : Option Sleeper → ℕ → Option ℕ → Option Sleeper
-first_after first thread None = first
-first_after first thread (Some due) = earlier first thread due
+-- one of a sleeper, if there is one, and of this thread until this turn, which comes before the other one
+pub record IsEarlier (first : Option Sleeper) (thread due : ℕ) (z : Sleeper) : Type 0 where
+  pub one : (first ≡ Some z) ⊎ (z ≡ record { thread = thread; due = due })
+  pub before_first : IfSome first (λ s. ComesFirst z.thread z.due s.thread s.due)
+  pub before_thread : ComesFirst z.thread z.due thread due
+
+-- what sleepers keep beside their places: how many these are, the first sleeper, and whether others may sleep too
+pub record IsKept (room : ℕ) (s : List (Option ℕ)) (first : Option Sleeper) (others : Bool) : Type 0 where
+  pub places : length s ≡ room
+  pub first_is : IsFirstOf (Sleeps s) first
+  pub alone : others ≡ false → (thread due : ℕ) → Sleeps s thread due → IfSome first (λ z. thread ≡ z.thread)
 
 -- the sleepers without this one, or as they are
 abbrev pub without : Option ℕ → List (Option ℕ) → List (Option ℕ)

@@ -1,7 +1,7 @@
 //! The sleepers.
 
-ghost use Rattle.std.specs.Prelude.{◌≡◌, ◌<◌, ◌≤◌, Some, None, length, replicate, slice_set, IfOk, MatchOption};
-ghost use Rattle.tc_park.specs.Order.{IsFirst, IsFirstDue, NoneIsDue, NoneSleeps, IsLeast, first_after, without};
+ghost use Rattle.std.specs.Prelude.{◌≡◌, ◌<◌, Some, None, length, replicate, slice_set, IfOk, MatchOption};
+ghost use Rattle.tc_park.specs.Order.{Sleeps, IsFirstOf, IsFirstDue, IsEarlier, NoneIsDue, NoneSleeps, IsLeast, without};
 
 use std::alloc::{AllocError, Global};
 use std::marker::Model;
@@ -18,16 +18,20 @@ pub(crate) struct Sleeper {
 pub struct Sleepers {
     due: Vec<Option<u64>>,
     room: u32,
+    // The first of them, and whether another may sleep beside it.
+    first: Option<Sleeper>,
+    others: bool,
 }
 
 impl Model for Sleepers {
-    ghost use Rattle.std.specs.Prelude.{◌≡◌, ℕ, List, Option, length};
+    ghost use Rattle.std.specs.Prelude.{ℕ, List, Option};
+    ghost use Rattle.tc_park.specs.Order.{IsKept};
 
     ghost Value = { List (Option ℕ) };
 
     ghost view = { λ s. s.due.items };
 
-    ghost invariant = { λ s. length s.due.items ≡ s.room };
+    ghost invariant = { λ s. IsKept s.room s.due.items s.first s.others };
 }
 
 impl Sleepers {
@@ -36,7 +40,12 @@ impl Sleepers {
         ensures { IfOk result (λ s. s ≡ replicate room None) }
     {
         let due = Vec::from_elem(alloc, None, room as usize)?;
-        Ok(Sleepers { due, room })
+        Ok(Sleepers {
+            due,
+            room,
+            first: None,
+            others: false,
+        })
     }
 
     /// For how many threads it was made.
@@ -51,7 +60,15 @@ impl Sleepers {
         requires { thread < length self.old }
         ensures { self.new ≡ slice_set self.old thread (Some due) }
     {
+        let slept = self.due[thread as usize].is_some();
         self.due[thread as usize] = Some(due);
+        if slept {
+            self.first = first_in(&self.due, self.room);
+            self.others = true;
+        } else {
+            self.others = self.first.is_some();
+            self.first = Some(earlier(self.first, thread, due));
+        }
     }
 
     /// Takes out the first sleeper, where it is due by now.
@@ -59,11 +76,16 @@ impl Sleepers {
         ensures taken { self.new ≡ without result self.old }
         ensures first { MatchOption result (NoneIsDue now self.old) (λ t. IsFirstDue now self.old t) }
     {
-        let sleeper = self.first()?;
+        let sleeper = self.first?;
         if now < sleeper.due {
             return None;
         }
         self.due[sleeper.thread as usize] = None;
+        self.first = if self.others {
+            first_in(&self.due, self.room)
+        } else {
+            None
+        };
         Some(sleeper.thread)
     }
 
@@ -71,30 +93,34 @@ impl Sleepers {
     pub fn least(&self) -> Option<u64>
         ensures { MatchOption result (NoneSleeps self.now) (IsLeast self.now) }
     {
-        match self.first() {
+        match self.first {
             Some(sleeper) => Some(sleeper.due),
             None => None,
         }
     }
-
-    fn first(&self) -> Option<Sleeper>
-        ensures { MatchOption result (NoneSleeps self.now) (λ s. IsFirst self.now s.thread s.due) }
-    {
-        let mut first: Option<Sleeper> = None;
-        for thread in 0..self.room {
-            first = first_of(first, thread, self.due[thread as usize]);
-        }
-        first
-    }
 }
 
-/// The first of a sleeper, if there is one, and a thread of a greater number, if it sleeps.
-fn first_of(first: Option<Sleeper>, thread: u32, due: Option<u64>) -> Option<Sleeper>
-    ensures { result ≡ first_after first thread due }
+/// The first of the sleepers, which have so many places.
+fn first_in(due: &[Option<u64>], room: u32) -> Option<Sleeper>
+    requires { length due.now ≡ room }
+    ensures { IsFirstOf (Sleeps due.now) result }
 {
-    let Some(due) = due else { return first };
+    let mut first: Option<Sleeper> = None;
+    for thread in 0..room {
+        if let Some(turn) = due[thread as usize] {
+            first = Some(earlier(first, thread, turn));
+        }
+    }
+    first
+}
+
+/// The first of a sleeper, if there is one, and this thread that sleeps until this turn.
+fn earlier(first: Option<Sleeper>, thread: u32, due: u64) -> Sleeper
+    ensures { IsEarlier first thread due result }
+{
     match first {
-        Some(sleeper) if sleeper.due <= due => first,
-        _ => Some(Sleeper { thread, due }),
+        Some(sleeper) if sleeper.due < due => sleeper,
+        Some(sleeper) if sleeper.due == due && sleeper.thread <= thread => sleeper,
+        _ => Sleeper { thread, due },
     }
 }
