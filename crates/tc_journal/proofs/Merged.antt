@@ -1,13 +1,15 @@
 -- Numbers that ascend, and have each number of a range as long as they are, are that range.
-use Rattle.std.proofs.Common.{◌≡◌, ℕ, zero, suc, ◌+◌, ◌<◌, ◌≤◌, ◌⊎◌, inl, inr, List, [], ◌∷◌, length, map, slice_index_or, refl, ap, ◌∙◌, arith}
-use Rattle.std.specs.Prelude.{Contains}
-use Rattle.std.specs.List.{range_with_len}
+use Rattle.std.proofs.Common.{◌≡◌, ℕ, zero, suc, ◌+◌, ◌<◌, ◌≤◌, ◌⊎◌, inl, inr, List, [], ◌∷◌, length, map, slice_index_or, refl, sym, ap, ◌∙◌, arith, Bor}
+use Rattle.std.specs.Prelude.{Contains, Vec}
+use Rattle.std.specs.Global.{Global}
+use Rattle.std.specs.List.{flat_map, range_with_len}
 use Rattle.std.specs.List.Sorted.{IsPermutation, IsNonDecreasingBy}
 use Rattle.std.proofs.lemmas.Bool.{cases_lt}
 use Rattle.std.proofs.lemmas.List.Sorted.{Contains-permutation, IsPermutation-map, length_permutation}
 use Rattle.std.proofs.lemmas.List.{length-map}
+use Rattle.std.proofs.lemmas.List.Folds.{flat_map-map}
 use Rattle.tc_journal.specs.declared.block.Block.{Block}
-use Rattle.tc_journal.specs.History.{HasEachStamp}
+use Rattle.tc_journal.specs.History.{HasEachStamp, all_blocks}
 
 -- none is below the one before
 abbrev Ascends : ℕ → List ℕ → Type 0
@@ -84,3 +86,10 @@ in_order xs ys each moved up =
     let covers : Covers 0 (length ys) (map (λ b. b.stamp) ys) =
     λ k h small. Contains-permutation _ _ k stamps (each k (omega arith)) in
     same 0 (length ys) (map (λ b. b.stamp) ys) 0 (ascends 0 ys up (λ d some. omega arith)) (length-map ys (λ (b : Block). b.stamp)) covers
+
+-- logs where they stand have the blocks of the logs
+pub same_blocks : (parts : List (Bor (List Block))) (logs : List (Vec Block Global)) → map (λ (log : Bor (List Block)). log.now) parts ≡ map (λ (log : Vec Block Global). log.items) logs → flat_map (λ (log : Bor (List Block)). log.now) parts ≡ all_blocks logs
+same_blocks parts logs same =
+    sym (flat_map-map (λ (l : List Block). l) (λ (log : Bor (List Block)). log.now) parts)
+    ∙ ap (flat_map (λ (l : List Block). l)) same
+    ∙ flat_map-map (λ (l : List Block). l) (λ (log : Vec Block Global). log.items) logs

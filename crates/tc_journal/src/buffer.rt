@@ -50,12 +50,17 @@ fn write_byte(bytes: &mut [u8], at: usize, byte: u8)
     bytes[at + 1] = low;
 }
 
-/// Writes a text from a place on.
+/// Writes a text from a place on, its last byte first. The texts of a line are short and known where
+/// they are written, so that this becomes one or two stores there.
 fn write_text(bytes: &mut [u8], at: usize, text: &[u8])
     requires { at + length text.now ≤ length bytes.old }
     ensures { drop at bytes.new ≡ text.now ++ drop (at + length text.now) bytes.old }
 {
-    bytes[at..at + text.len()].copy_from_slice(text);
+    let mut left = text.len();
+    while left > 0 {
+        left -= 1;
+        bytes[at + left] = text[left];
+    }
 }
 
 impl Buffer {
@@ -67,6 +72,13 @@ impl Buffer {
             bytes: [0; ROOM],
             start: ROOM,
         }
+    }
+
+    /// Takes away all that is written.
+    pub fn clear(&mut self)
+        ensures { self.new ≡ [] }
+    {
+        self.start = ROOM;
     }
 
     /// Puts a text in front.

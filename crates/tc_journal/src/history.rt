@@ -1,18 +1,41 @@
 //! Histories put together and printed.
 
-ghost use Rattle.std.specs.Prelude.{◌≡◌, IfOk};
+ghost use Rattle.std.specs.Prelude.{◌≡◌, IfOk, map};
+ghost use Rattle.std.specs.List.{flat_map};
 ghost use Rattle.std.specs.List.Sorted.{IsPermutation};
 ghost use Rattle.tc_journal.specs.History.{all_blocks, HasEachStamp, IsInOrder};
 ghost use Rattle.tc_journal.specs.Line as spec;
 
 use crate::block::Block;
-use crate::line::push_block;
+use crate::line::push_history;
 use std::alloc::{AllocError, Global};
 
 /// The blocks of all logs, in the order of their stamps.
 pub fn merge(alloc: Global, logs: &[Vec<Block>]) -> Result<Vec<Block>, AllocError>
     requires { HasEachStamp (all_blocks logs.now) }
     ensures blocks { IfOk result (λ history. IsPermutation (all_blocks logs.now) history.items) }
+    ensures order { IfOk result (λ history. IsInOrder history.items) }
+{
+    let parts = lent(alloc, logs)?;
+    merge_lent(alloc, &parts)
+}
+
+/// Logs, where they stand.
+fn lent(alloc: Global, logs: &[Vec<Block>]) -> Result<Vec<&[Block]>, AllocError>
+    ensures { IfOk result (λ parts. map (λ log. log.now) parts.items ≡ map (λ log. log.items) logs.now) }
+{
+    let mut parts = Vec::new(alloc);
+    for log in logs {
+        parts.push(log.as_slice())?;
+    }
+    Ok(parts)
+}
+
+/// As `merge`, of logs that stand in different places.
+pub fn merge_lent(alloc: Global, logs: &[&[Block]]) -> Result<Vec<Block>, AllocError>
+    requires { HasEachStamp (flat_map (λ log. log.now) logs.now) }
+    ensures blocks { IfOk result (λ history.
+        IsPermutation (flat_map (λ log. log.now) logs.now) history.items) }
     ensures order { IfOk result (λ history. IsInOrder history.items) }
 {
     let mut history = Vec::new(alloc);
@@ -28,8 +51,6 @@ pub fn text(alloc: Global, history: &[Block]) -> Result<Vec<u8>, AllocError>
     ensures { IfOk result (λ bytes. bytes.items ≡ spec.history_text history.now) }
 {
     let mut lines = String::new(alloc);
-    for block in history {
-        push_block(&mut lines, block)?;
-    }
+    push_history(&mut lines, history)?;
     Ok(lines.into_bytes())
 }

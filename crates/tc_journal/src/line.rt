@@ -114,13 +114,21 @@ fn put_told(line: &mut Buffer, told: &Told)
 }
 
 /// Writes the line that tells this at the end of a text.
+fn push_line(text: &mut String, line: &mut Buffer, told: &Told) -> Result<(), AllocError>
+    ensures { OnOk result
+        (string_bytes text.new ≡ string_bytes text.old ++ spec.told_line told.now) }
+{
+    line.clear();
+    put_told(line, told);
+    text.push_str(line.as_str())
+}
+
+/// Writes the line that tells this at the end of a text.
 pub(crate) fn push_told(text: &mut String, told: &Told) -> Result<(), AllocError>
     ensures { OnOk result
         (string_bytes text.new ≡ string_bytes text.old ++ spec.told_line told.now) }
 {
-    let mut line = Buffer::new();
-    put_told(&mut line, told);
-    text.push_str(line.as_str())
+    push_line(text, &mut Buffer::new(), told)
 }
 
 /// Writes the line of a block at the end of a text. Where memory is refused, nothing is written.
@@ -129,4 +137,16 @@ pub fn push_block(text: &mut String, block: &Block) -> Result<(), AllocError>
         (string_bytes text.new ≡ string_bytes text.old ++ spec.block_line block.now) }
 {
     push_told(text, &block.told())
+}
+
+/// Writes the lines of a history at the end of a text.
+pub fn push_history(text: &mut String, history: &[Block]) -> Result<(), AllocError>
+    ensures { OnOk result
+        (string_bytes text.new ≡ string_bytes text.old ++ spec.history_text history.now) }
+{
+    let mut line = Buffer::new();
+    for block in history {
+        push_line(text, &mut line, &block.told())?;
+    }
+    Ok(())
 }

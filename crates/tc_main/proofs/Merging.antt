@@ -1,7 +1,6 @@
 -- The logs of all packages, merged, are the history.
-use Rattle.std.proofs.Common.{◌≡◌, ℕ, zero, suc, ◌+◌, ◌<◌, ◌==◌, Bool, true, false, not, cond, List, [], ◌∷◌, ◌++◌, length, map, filter, get_or, refl, sym, ap, ◌∙◌, subst, inl, inr, append_assoc, append-nil, add-zero, arith}
-use Rattle.std.specs.Prelude.{Contains, Vec, nat_lt}
-use Rattle.std.specs.Global.{Global}
+use Rattle.std.proofs.Common.{◌≡◌, ℕ, zero, suc, ◌+◌, ◌<◌, ◌==◌, Bool, true, false, not, cond, List, [], ◌∷◌, ◌++◌, length, map, filter, get_or, refl, sym, ap, ◌∙◌, subst, inl, inr, append_assoc, append-nil, add-zero, arith, Bor}
+use Rattle.std.specs.Prelude.{Contains, nat_lt}
 use Rattle.std.specs.List.{flat_map, range_with_len}
 use Rattle.std.specs.List.Sorted.{IsPermutation}
 use Rattle.std.proofs.lemmas.Bool.{lt-ltb, le-ltb}
@@ -14,7 +13,7 @@ use mathlib.Core.Option.{some}
 use lib.ListN.{get_elem?}
 use Rattle.atomic_table.proofs.Lists.{at_map}
 use Rattle.tc_elf.specs.Shown.{Shown}
-use Rattle.tc_journal.specs.History.{HasEachStamp, IsInOrder, all_blocks, of_thread}
+use Rattle.tc_journal.specs.History.{HasEachStamp, IsInOrder, of_thread}
 use Rattle.tc_journal.specs.declared.block.Block.{Block}
 use Rattle.tc_mutex_spec.specs.Machine.{start}
 use Rattle.tc_mutex_spec.specs.Blocks.{end_after}
@@ -115,10 +114,10 @@ place_of g order i b e =
 
 -- ---- the merged logs
 
--- copies of the logs have the same blocks
-pub copied : (logs : List (Vec Block Global)) (packages : List PackageView) → map (λ (log : Vec Block Global). log.items) logs ≡ map log_in packages → all_blocks logs ≡ logs_of packages
-copied logs packages same =
-    sym (flat_map-map (λ (l : List Block). l) (λ (log : Vec Block Global). log.items) logs)
+-- the logs that are lent have the same blocks
+pub lent : (logs : List (Bor (List Block))) (packages : List PackageView) → map (λ (log : Bor (List Block)). log.now) logs ≡ map log_in packages → flat_map (λ (log : Bor (List Block)). log.now) logs ≡ logs_of packages
+lent logs packages same =
+    sym (flat_map-map (λ (l : List Block). l) (λ (log : Bor (List Block)). log.now) logs)
     ∙ ap (flat_map (λ (l : List Block). l)) same
     ∙ flat_map-map (λ (l : List Block). l) log_in packages
 

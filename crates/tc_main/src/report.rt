@@ -15,7 +15,7 @@ use tc_isa::reg::Reg;
 use tc_isa::regs::Regs;
 use tc_journal::block::Block;
 use tc_journal::digits::{Hex2, Hex8};
-use tc_journal::line::push_block;
+use tc_journal::line::push_history;
 use tc_segment::state::LockState;
 use tc_turn::status::Status;
 use tc_workers::options::Options;
@@ -40,17 +40,6 @@ fn push_run(out: &mut String, options: Options) -> Result<(), AllocError>
         limit,
     } = options;
     writeln!(out, "run workers {workers} fuel {fuel} batch {limit}")
-}
-
-/// Writes the lines of the blocks.
-fn push_history(out: &mut String, history: &[Block]) -> Result<(), AllocError>
-    ensures { OnOk result (string_bytes out.new
-        ≡ string_bytes out.old ++ history_text history.now) }
-{
-    for block in history {
-        push_block(out, block)?;
-    }
-    Ok(())
 }
 
 /// Writes the word of a register after a space.

@@ -16,7 +16,7 @@ use tc_context::package::Package;
 use tc_elf::image::Image;
 use tc_hall::closed::Closed;
 use tc_journal::block::Block;
-use tc_journal::history::merge;
+use tc_journal::history::merge_lent;
 use tc_segment::state::LockState;
 use tc_workers::gate::Gate;
 use tc_workers::options::Options;
@@ -32,12 +32,12 @@ fn keep(locks: &[LockState])
 }
 
 /// The logs of the packages.
-fn copied_logs(alloc: Global, packages: &[Package]) -> Result<Vec<Vec<Block>>, AllocError>
-    ensures { IfOk result (λ logs. map (λ log. log.items) logs.items ≡ map log_in packages.now) }
+fn logs_in(alloc: Global, packages: &[Package]) -> Result<Vec<&[Block]>, AllocError>
+    ensures { IfOk result (λ logs. map (λ log. log.now) logs.items ≡ map log_in packages.now) }
 {
     let mut logs = Vec::new(alloc);
     for package in packages {
-        logs.push(Vec::from_slice(alloc, package.log())?)?;
+        logs.push(package.log())?;
     }
     Ok(logs)
 }
@@ -48,8 +48,8 @@ fn history_of(alloc: Global, packages: &[Package]) -> Result<Vec<Block>, AllocEr
     ensures blocks { IfOk result (λ history. IsPermutation (logs_of packages.now) history.items) }
     ensures order { IfOk result (λ history. IsInOrder history.items) }
 {
-    let logs = copied_logs(alloc, packages)?;
-    merge(alloc, &logs)
+    let logs = logs_in(alloc, packages)?;
+    merge_lent(alloc, &logs)
 }
 
 /// What the workers left of a run to the end of every thread, and the history of it.

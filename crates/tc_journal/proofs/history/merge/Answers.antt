@@ -1,18 +1,17 @@
-use Rattle.std.proofs.Common.{rules, ◌≡◌, ◌∙◌, ap, subst, arith}
-use Rattle.std.proofs.lemmas.List.{take_all}
-use Rattle.std.specs.List.Sorted.{IsPermutation, IsNonDecreasingBy}
-use Rattle.std.proofs.lemmas.List.Sorted.{IsNonDecreasingBy-from_sort_by_key}
-use Rattle.tc_journal.specs.declared.block.Block.{Block}
-use Rattle.tc_journal.specs.History.{all_blocks}
-use Rattle.tc_journal.proofs.Merged.{in_order}
+use Rattle.std.proofs.Common.{◌≡◌, sym, ap, ◌∙◌, subst}
+use Rattle.std.specs.List.{flat_map}
+use Rattle.std.specs.List.Sorted.{IsPermutation}
+use Rattle.std.proofs.lemmas.Result.{IfOk-weaker}
+use Rattle.tc_journal.specs.History.{HasEachStamp, all_blocks}
+use Rattle.tc_journal.proofs.Merged.{same_blocks}
 use Rattle.tc_journal.proofs.history.merge.Goals as goal
 
-pub returns-clause-order : goal.returns-clause-order
-returns-clause-order c =
-    let up : IsNonDecreasingBy (λ (b : Block). b.stamp) c.sort_by_key.new.self.items =
-    IsNonDecreasingBy-from_sort_by_key (λ (b : Block). b.stamp) _ c.in_ok-sort_by_key.ensures.sorted (λ a r q k. search rules) in
-    let gathered : c.loop-log.history.items ≡ all_blocks c.args.logs.now =
-    c.loop-log.invariant ∙ ap all_blocks (take_all c.loop-log.log-index c.args.logs.now (omega arith)) in
-    let moved : IsPermutation (all_blocks c.args.logs.now) c.sort_by_key.new.self.items =
-    subst (λ blocks. IsPermutation blocks c.sort_by_key.new.self.items) gathered c.in_ok-sort_by_key.ensures.permutation in
-    in_order (all_blocks c.args.logs.now) c.sort_by_key.new.self.items c.requires moved up
+pub merge_lent-requires : goal.merge_lent-requires
+merge_lent-requires c =
+    let all : flat_map (λ log. log.now) c.deref.result.now ≡ all_blocks c.args.logs.now = ap (λ logs. flat_map (λ log. log.now) logs) c.deref.ensures.value ∙ same_blocks c.in_ok-parts.parts.items c.args.logs.now c.in_ok-parts.ensures in
+    subst HasEachStamp (sym all) c.requires
+
+pub returns-clause-blocks : goal.returns-clause-blocks
+returns-clause-blocks c =
+    let all : flat_map (λ log. log.now) c.deref.result.now ≡ all_blocks c.args.logs.now = ap (λ logs. flat_map (λ log. log.now) logs) c.deref.ensures.value ∙ same_blocks c.in_ok-parts.parts.items c.args.logs.now c.in_ok-parts.ensures in
+    IfOk-weaker c.merge_lent.result _ _ (λ history same. subst (λ blocks. IsPermutation blocks history.items) all same) c.merge_lent.ensures.blocks

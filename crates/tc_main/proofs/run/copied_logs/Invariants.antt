@@ -1,6 +1,0 @@
-use Rattle.std.proofs.Common.{◌≡◌, map, take}
-use Rattle.tc_main.specs.Outcome.{log_in}
-use Rattle.tc_main.proofs.run.copied_logs.Given as goal
-
-abbrev pub invariant-loop-package : goal.invariant-loop-package
-invariant-loop-package l = map (λ log. log.items) l.logs.items ≡ map log_in (take l.package-index l.packages)
