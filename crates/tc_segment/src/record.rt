@@ -6,6 +6,7 @@ ghost use Rattle.tc_segment.specs.Kept.{block_of, shown, sealed_record, Fits, St
 ghost use Rattle.tc_segment.specs.Lent.{entry_lent};
 
 use crate::entry::Entry;
+use std::slice::from_ref;
 use tc_isa::regs::Regs;
 use tc_journal::block::Block;
 
@@ -77,7 +78,7 @@ pub(crate) fn place_of(edges: &mut Vec<Regs>, regs: &Regs) -> usize
     if count > 0 && edges[count - 1] == *regs {
         return count - 1;
     }
-    match edges.push(*regs) {
+    match edges.extend_from_slice(from_ref(regs)) {
         Ok(()) => count,
         Err(_) => unreachable!(),
     }

@@ -1,4 +1,4 @@
-use Rattle.std.proofs.Common.{◌∙◌, sym, subst, arith}
+use Rattle.std.proofs.Common.{◌≡◌, ◌∙◌, ◌++◌, ◌∷◌, [], ap, sym, subst, arith}
 use Rattle.tc_segment.specs.Kept.{StandsAt, Extends}
 use Rattle.tc_segment.proofs.Edges.{extends_more, stands_end, stands_there, same_regs}
 use Rattle.tc_segment.proofs.record.place_of.Goals as goal
@@ -12,7 +12,10 @@ returns-then-eq-clause-place c =
 pub returns-clause-place : goal.returns-clause-place
 returns-clause-place c =
     let edges = c.args.edges.now in
-    subst (λ es. StandsAt es c.len-count.result c.args.regs.now) (sym c.in-Ok.ensures.items) (stands_end edges.items c.args.regs.now c.len-count.result (c.len-count.ensures ∙ edges.ok.0))
+    let items : c.extend_from_slice.new.self.items ≡ edges.items ++ c.args.regs.now ∷ [] = c.in-Ok.ensures.items ∙ ap (λ more. edges.items ++ more) c.from_ref.ensures.value in
+    subst (λ es. StandsAt es c.len-count.result c.args.regs.now) (sym items) (stands_end edges.items c.args.regs.now c.len-count.result (c.len-count.ensures ∙ edges.ok.0))
 
 pub returns-clause-more : goal.returns-clause-more
-returns-clause-more c = subst (λ es. Extends c.args.edges.now.items es) (sym c.in-Ok.ensures.items) (extends_more c.args.edges.now.items c.args.regs.now)
+returns-clause-more c =
+    let items : c.extend_from_slice.new.self.items ≡ c.args.edges.now.items ++ c.args.regs.now ∷ [] = c.in-Ok.ensures.items ∙ ap (λ more. c.args.edges.now.items ++ more) c.from_ref.ensures.value in
+    subst (λ es. Extends c.args.edges.now.items es) (sym items) (extends_more c.args.edges.now.items c.args.regs.now)
