@@ -9,7 +9,7 @@ ghost use Rattle.tc_elf.specs.Kept.{IsRange, IsGuard};
 ghost use Rattle.tc_elf.specs.Places.{lies_in, meets, in_range, in_text, in_writable, in_code, in_guard, touches, touches_range, region_of, unguarded_region, fetched, byte_of};
 
 use crate::limits::{STACK_LENGTH, STACK_START};
-use crate::places::{Place, place_in};
+use crate::places::{Place, place_by, place_number};
 use byteorder::{ByteOrder, LittleEndian};
 use std::marker::Model;
 
@@ -301,10 +301,30 @@ impl Image {
     pub fn region(&self, addr: u32, width: u32) -> Region
         ensures { result ≡ region_of self.now addr width }
     {
+        self.region_by(place_number(&self.places, addr, width), addr, width)
+    }
+
+    /// What `region` answers. `near` is a number by which the place of the last access is tried
+    /// first; it may be any.
+    pub fn region_near(&self, near: &mut usize, addr: u32, width: u32) -> Region
+        requires { 0 < width }
+        ensures { result ≡ region_of self.now addr width }
+    {
+        if let Some(region) = place_by(&self.places, *near, addr, width) {
+            return region;
+        }
+        *near = place_number(&self.places, addr, width);
+        self.region_by(*near, addr, width)
+    }
+
+    /// What `region` answers, from the place of this number in the table where that has the access.
+    fn region_by(&self, number: usize, addr: u32, width: u32) -> Region
+        ensures { result ≡ region_of self.now addr width }
+    {
         if width == 0 {
             return self.searched_region(addr, width);
         }
-        match place_in(&self.places, addr, width) {
+        match place_by(&self.places, number, addr, width) {
             Some(region) => region,
             None => self.searched_region(addr, width),
         }

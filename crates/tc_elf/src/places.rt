@@ -157,12 +157,8 @@ pub(crate) fn places(
     Ok(places)
 }
 
-/// The place of an access, where the table has it.
-pub(crate) fn place_in(places: &[Place], addr: u32, width: u32) -> Option<Region>
-    requires { 0 < width }
-    ensures { (image : Shown) → PlacesTell image places.now
-        → IfSome result (λ region. region_of image addr width ≡ region) }
-{
+/// The number of the place that has an access, where one of the table has it.
+pub(crate) fn place_number(places: &[Place], addr: u32, width: u32) -> usize {
     let mut low = 0;
     let mut high = places.len();
     'halves: while low < high {
@@ -171,10 +167,26 @@ pub(crate) fn place_in(places: &[Place], addr: u32, width: u32) -> Option<Region
         if addr < place.start {
             high = middle;
         } else if lies_in(addr, width, place.start, place.length) {
-            return Some(place.region);
+            return middle;
         } else {
             low = middle + 1;
         }
     }
-    None
+    low
+}
+
+/// The place of an access, where the place of this number in the table has it.
+pub(crate) fn place_by(places: &[Place], number: usize, addr: u32, width: u32) -> Option<Region>
+    requires { 0 < width }
+    ensures { (image : Shown) → PlacesTell image places.now
+        → IfSome result (λ region. region_of image addr width ≡ region) }
+{
+    if number >= places.len() {
+        return None;
+    }
+    let place = &places[number];
+    if !lies_in(addr, width, place.start, place.length) {
+        return None;
+    }
+    Some(place.region)
 }

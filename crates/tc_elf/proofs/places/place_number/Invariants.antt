@@ -1,5 +1,5 @@
 use Rattle.std.proofs.Common.{◌-◌, ◌≤◌, length}
-use Rattle.tc_elf.proofs.places.place_in.Given as goal
+use Rattle.tc_elf.proofs.places.place_number.Given as goal
 
 abbrev pub invariant-halves : goal.invariant-halves
 invariant-halves l = l.high ≤ length l.places
