@@ -1,7 +1,8 @@
 -- One turn of a package: what its thread and its locks are after it, and the words that its journals note.
-use Rattle.std.proofs.Common.{◌≡◌, ℕ, ◌≤◌, Bool, true, false, not, ◌||◌, ◌&&◌, ◌==◌, List, length, refl, sym, ap, subst, ◌∙◌, arith, [], ◌∷◌, ◌++◌}
+use Rattle.std.proofs.Common.{◌≡◌, ℕ, ◌≤◌, Bool, true, false, not, ◌||◌, ◌&&◌, ◌==◌, List, length, ◌<◌, refl, sym, ap, subst, ◌∙◌, arith, [], ◌∷◌, ◌++◌}
 use Rattle.std.specs.Prelude.{IfSome, Option, Some, None, is_some, if◌then◌else◌}
 use Rattle.std.specs.Option.{option_map}
+use Rattle.tc_isa.specs.Registers.{Registers}
 use Rattle.tc_isa.specs.Sets.{has}
 use Rattle.tc_elf.specs.Shown.{Shown, guard_at}
 use Rattle.tc_elf.specs.Places.{in_guard}
@@ -16,10 +17,15 @@ use Rattle.tc_exec.specs.declared.outcome.Act.TheVariants.{Next, Called, Faulted
 use Rattle.tc_exec.specs.declared.outcome.Call.TheVariants.{Lock, Unlock, Sleep, Exit}
 use Rattle.tc_exec.specs.declared.outcome.Put.{Put}
 use Rattle.tc_turn.specs.Memory.{put_number}
-use Rattle.tc_turn.specs.InPlace.{DoneFits}
+use Rattle.tc_journal.specs.History.{IsEnd}
+use Rattle.tc_journal.specs.Rule.{end_rule}
+use Rattle.tc_journal.specs.declared.block.End.{End}
+use Rattle.tc_turn.specs.InPlace.{DoneFits, outcome_done}
 use Rattle.tc_turn.specs.Reads.{Covers}
-use Rattle.tc_turn.specs.Turn.{Thread, ActFits, act_with, thread_after, mutex_after, guard_with, given_up, when, taken, released, Mutex, next_lock, answer_to}
+use Rattle.tc_turn.specs.Turn.{Thread, act_with, thread_after, mutex_after, guard_with, given_up, when, taken, released, Mutex, next_lock, answer_to}
 use Rattle.tc_turn.proofs.Turns.{act_some, act_takes, next_known}
+use Rattle.tc_turn.proofs.Words.{words_now}
+use Rattle.tc_mutex_spec.proofs.Going.{end_fits}
 use Rattle.tc_segment.specs.View.{LockView, Journal, guard_of, with_store, with_section, with_break, with_journal, noted}
 use Rattle.tc_context.specs.Locks.{lock_in, mutex_of, mutex_or, IsLockOf, AreOf, when_in, stored_in, turned, TurnReady, StoreReady, TurnFits, StoreFits, Changed, noted_in}
 use Rattle.tc_context.specs.declared.context.Context.{Context}
@@ -167,11 +173,19 @@ turn_fits image d answer (Some (Next regs (Some put))) e few =
 turn_fits image d answer (Some (Called (Lock lock) regs)) e few = (let known = next_known image d lock (act_takes image d answer lock regs e) in omega (arith, known, few))
 turn_fits image d answer _ e few = tt
 
-pub act_fits : (a : Option Act) → IfSome (option_map done_of a) DoneFits → IfSome a ActFits
-act_fits (Some (Next regs (Some put))) fits = fits
-act_fits (Some (Called (Lock lock) regs)) fits = fits
-act_fits (Some (Called (Unlock lock) regs)) fits = fits
-act_fits _ fits = tt
+abbrev no_registers : Registers
+no_registers = record { pc = 0; words = [] }
+
+-- an end names a lock below 32, where what was done and the next turn do
+pub end_done : (did : Option Done) (n : ℕ) (next : Option ℕ) (e : End) → IfSome did DoneFits → IfSome next (λ k. k < 32) → end_rule (outcome_done did) n next ≡ Some e → IsEnd e
+end_done None n next e fits small is = end_fits None n next e fits small is
+end_done (Some done.Went) n next e fits small is = end_fits (Some (Next no_registers None)) n next e tt small is
+end_done (Some (done.Stored put)) n next e fits small is = end_fits (Some (Next no_registers (Some put))) n next e fits small is
+end_done (Some (done.Called (Lock lock))) n next e fits small is = end_fits (Some (Called (Lock lock) no_registers)) n next e fits small is
+end_done (Some (done.Called (Unlock lock))) n next e fits small is = end_fits (Some (Called (Unlock lock) no_registers)) n next e fits small is
+end_done (Some (done.Called (Sleep blocks))) n next e fits small is = end_fits (Some (Called (Sleep blocks) no_registers)) n next e tt small is
+end_done (Some (done.Called Exit)) n next e fits small is = end_fits (Some (Called Exit no_registers)) n next e tt small is
+end_done (Some (done.Faulted f)) n next e fits small is = end_fits (Some (Faulted f)) n next e tt small is
 
 -- ---- the words of a turn, noted in the journals
 
@@ -186,14 +200,6 @@ pub when_open : (b : Bool) (ws : List ℕ) (j : Journal) → is_some (noted_when
 when_open b ws j = when_field (λ x. is_some x.opened) b (noted ws) j (more_some ws j.opened)
 
 -- ---- one turn
-
-words_now : (image : Shown) (d : Thread) (locks : ℕ → Mutex) (k : ℕ) (wanted : Want) (next : Option ℕ) (answer : ℕ)
-    → wanted ≡ wants_of image d.held d.regs → next ≡ next_lock image d → answer ≡ answer_to image wanted next d.own locks
-    → (if d.fuel == 0 then [] else (if takes_word k wanted next then answer ∷ [] else [])) ≡ word_of image k d locks
-unfolding word_of
-words_now image d locks k wanted next answer w n a =
-    let b : answer ≡ answer_to image (wants_of image d.held d.regs) (next_lock image d) d.own locks = a ∙ (λ i. answer_to image (w i) (n i) d.own locks) in
-    λ i. if d.fuel == 0 then [] else (if takes_word k (w i) (n i) then b i ∷ [] else [])
 
 noted_journal : (spent b t : Bool) (value : ℕ) (l : LockView) → (when_in ((if spent then false else b) && t) (with_journal (noted (value ∷ []))) l).journal ≡ noted_when b (if spent then [] else (if t then value ∷ [] else [])) l.journal
 noted_journal true b t value l = sym (when_nil b l.journal)

@@ -1,5 +1,5 @@
 -- A package in the middle of a block.
-use Rattle.std.proofs.Common.{◌≡◌, ℕ, ◌+◌, ◌-◌, ◌<◌, ◌≤◌, Bool, true, false, ◌&&◌, ◌++◌, length, refl, sym, ap, subst, ◌∙◌, arith, add-one, below_more, inl, inr, zero, suc}
+use Rattle.std.proofs.Common.{◌≡◌, ℕ, ◌+◌, ◌-◌, ◌<◌, ◌≤◌, Bool, true, false, ◌&&◌, ◌++◌, [], length, refl, sym, ap, subst, ◌∙◌, arith, add-one, below_more, inl, inr, zero, suc}
 use Rattle.std.specs.Prelude.{Option, Some, None, nat_lt, is_some, if◌then◌else◌}
 use Rattle.std.specs.Option.{option_map}
 use Rattle.std.proofs.lemmas.Bool.Decides.{nat_tests}
@@ -8,7 +8,7 @@ use Rattle.tc_elf.specs.Shown.{Shown}
 use Rattle.tc_exec.specs.InPlace.{done_of}
 use Rattle.tc_journal.specs.Rule.{end_rule}
 use Rattle.tc_journal.specs.declared.block.End.{End}
-use Rattle.tc_turn.specs.Turn.{Thread, is_running, next_lock, next_act, outcome_of, Guest, thread_after, mutex_after}
+use Rattle.tc_turn.specs.Turn.{Thread, Mutex, thread_of, is_running, next_lock, next_act, outcome_of, Guest}
 use Rattle.tc_turn.specs.Reads.{Covers}
 use Rattle.tc_turn.specs.Replay.{word_of}
 use Rattle.tc_turn.proofs.Turns.{next_free, covers_on, goes_on}
@@ -27,11 +27,12 @@ use Rattle.tc_mutex_spec.proofs.Going.{in_block}
 use Rattle.tc_context.proofs.LockList.{option_map-id, option_map-twice}
 use Rattle.tc_context.proofs.Moved.{map_some, when_nil, when_more, when_open}
 use Rattle.tc_turn.proofs.Words.{words_more, words_short, word_same}
-use Rattle.tc_isa.specs.Registers.{Registers}
-use Rattle.tc_exec.specs.Plain.{IsPlain, PlainRun}
+use Rattle.tc_exec.specs.declared.outcome.Act.{Act}
+use Rattle.tc_exec.specs.declared.outcome.Act.TheVariants.{Next, Called, Faulted}
+use Rattle.tc_exec.specs.declared.outcome.Call.TheVariants.{Lock, Unlock, Sleep, Exit}
 use Rattle.tc_exec.specs.declared.outcome.Done.{Done}
-use Rattle.tc_turn.specs.InPlace.{ran_plain, outcome_done}
-use Rattle.tc_turn.proofs.InPlace.{IsPlainTurn, plain_turn, ran_more, same_outcome}
+use Rattle.tc_turn.specs.InPlace.{outcome_done}
+use Rattle.tc_turn.specs.Own.{IsOwnTurn, OwnRun}
 use Rattle.tc_exec.specs.declared.outcome.Done.TheVariants as done
 use Rattle.tc_journal.specs.declared.rule.Outcome.TheVariants as outcome
 
@@ -227,68 +228,69 @@ room_here image block old now n opened room partway k j at h =
     let short = partway.short in
     omega (arith, r, big, less, short)
 
--- ---- plain turns, one after another
+-- ---- turns that touch the thread's own memory alone, one after another
 
 -- the package with another thread of the same number
 abbrev pub with_guest : Context → Guest → Context
 with_guest p g = record { thread = p.thread; guest = g; locks = p.locks }
 
--- a plain turn changes the registers and the fuel alone
-plain_is : (image : Shown) (block : ℕ → Bool) (p : Context) (next : Registers) → IsPlainTurn image (thread_in p) (thread_in (with_guest p (ran_plain 1 next p.guest))) → IsTurn image block p (with_guest p (ran_plain 1 next p.guest))
-plain_is image block p next plain =
-    let acts = plain.acts (mutex_at p) in
-    record {
-      keeps = record { thread = refl; set = λ k. refl; of = λ i of. of };
-      thread = sym (ap (thread_after (thread_in p)) acts ∙ plain.after);
-      locks = λ k some. sym (ap (λ a. mutex_after image p.thread (has p.guest.held) a k (mutex_at p k)) acts);
-      journals = λ k. sym (ap (λ ws. option_map (noted_when (block k) ws) (journal_at p k)) (plain.words k (mutex_at p)) ∙ option_map-id (noted_when (block k) _) (journal_at p k) (when_nil (block k)));
-    }
+sleeps_not : (a : Option Act) → outcome_of a ≡ outcome.Went → slept_by (option_map done_of a) ≡ 0
+sleeps_not None e = refl
+sleeps_not (Some (Next next None)) e = refl
+sleeps_not (Some (Next next (Some put))) e = refl
+sleeps_not (Some (Called (Lock lock) next)) e = refl
+sleeps_not (Some (Called (Unlock lock) next)) e = refl
+sleeps_not (Some (Called (Sleep blocks) next)) e = absurd (cc)
+sleeps_not (Some (Called Exit next)) e = refl
+sleeps_not (Some (Faulted f)) e = refl
 
-module _ (image : Shown) (block : ℕ → Bool) (p : Context) where
-  -- the package after so many plain turns, which left it these registers
-  abbrev pub plainly : ℕ → Registers → Context
-  plainly n r = with_guest p (ran_plain n r p.guest)
+module _ (image : Shown) (block : ℕ → Bool) (loads : Bool) (quiet : loads ≡ true → (k : ℕ) → block k ≡ false) (p : Context) where
+  -- no lock of the block notes a word of such a turn
+  unnoted : (d : Thread) (locks : ℕ → Mutex) (k : ℕ) (j : Journal) → (loads ≡ false → word_of image k d locks ≡ []) → noted_when (block k) (word_of image k d locks) j ≡ j
+  unnoted d locks k j words = by loads refl
+    where
+      by : (b : Bool) → loads ≡ b → noted_when (block k) (word_of image k d locks) j ≡ j
+      by true e = ap (λ b. noted_when b (word_of image k d locks) j) (quiet e k)
+      by false e = ap (λ ws. noted_when (block k) ws j) (words e) ∙ when_nil (block k) j
 
-  unmoved : (r : Registers) → p.guest.regs ≡ r → p ≡ plainly 0 r
-  unmoved r e = (let z : p.guest.fuel ≡ p.guest.fuel - 0 = omega arith in λ i. with_guest p (record { regs = e i; own = p.guest.own; fuel = z i; status = p.guest.status; held = p.guest.held }))
+  own_is : (g h : Guest) → IsOwnTurn image loads (thread_of g) (thread_of h) → IsTurn image block (with_guest p g) (with_guest p h)
+  own_is g h turn =
+      let locks = mutex_at (with_guest p g) in
+      record {
+        keeps = record { thread = refl; set = λ k. refl; of = λ i of. of };
+        thread = sym (turn.after locks);
+        locks = λ k some. ap (λ (held : ℕ → Bool). mutex_or p.thread (held k) (lock_in p.locks k)) turn.held ∙ sym (turn.alone locks p.thread k (locks k));
+        journals = λ k. sym (option_map-id (noted_when (block k) (word_of image k (thread_of g) locks)) (journal_at p k) (λ j. unnoted (thread_of g) locks k j (λ no. turn.words no locks k)));
+      }
 
-  turn_at : (n : ℕ) (mid last : Registers) → IsPlain image mid last → suc n ≤ p.guest.fuel → IsPlainTurn image (thread_in (plainly n mid)) (thread_in (with_guest (plainly n mid) (ran_plain 1 last (ran_plain n mid p.guest))))
-  turn_at n mid last plain le = plain_turn image (ran_plain n mid p.guest) last plain (omega (arith, le))
+  all_go : (n : ℕ) (g h : Guest) → OwnRun image loads n g h → next_lock image (thread_of h) ≡ None → GoesOn image block n (with_guest p g) (with_guest p h)
+  all_go zero g h run none = ap (with_guest p) run
+  all_go (suc n) g h run none = (
+    with_guest p run.0,
+    all_go n g run.0 run.1 run.2.none,
+    own_is run.0 h run.2,
+    run.2.went (mutex_at (with_guest p run.0)),
+    none,
+  )
 
-  after_is : (n : ℕ) (mid last : Registers) → with_guest (plainly n mid) (ran_plain 1 last (ran_plain n mid p.guest)) ≡ plainly (suc n) last
-  after_is n mid last = ap (with_guest p) (ran_more n mid last p.guest) ∙ ap (λ k. plainly k last) (add-one n)
-
-  step : (n : ℕ) (mid last : Registers) → IsPlain image mid last → suc n ≤ p.guest.fuel → IsTurn image block (plainly n mid) (plainly (suc n) last)
-  step n mid last plain le = subst (IsTurn image block (plainly n mid)) (after_is n mid last) (plain_is image block (plainly n mid) last (turn_at n mid last plain le))
-
-  all_go : (n : ℕ) (r : Registers) → PlainRun image n p.guest.regs r → n ≤ p.guest.fuel → next_lock image (thread_in (plainly n r)) ≡ None → GoesOn image block n p (plainly n r)
-  all_go zero r run le none = unmoved r run
-  all_go (suc n) r run le none =
-      let t = turn_at n run.0 r run.2 le in (
-        plainly n run.0,
-        all_go n run.0 run.1 (omega (arith, le)) t.none,
-        step n run.0 r run.2 le,
-        ap outcome_of (t.acts (mutex_at (plainly n run.0))),
-        none,
-      )
-
-  pub plain_turns : (n : ℕ) (r : Registers) → 0 < n → PlainRun image n p.guest.regs r → n ≤ p.guest.fuel → AreTurns image block p (plainly n r) n (Some done.Went)
-  plain_turns zero r some run le = absurd (omega arith)
-  plain_turns (suc n) r some run le =
-      let t = turn_at n run.0 r run.2 le in
+  pub own_turns : (n : ℕ) (h : Guest) → 0 < n → OwnRun image loads n p.guest h → AreTurns image block p (with_guest p h) n (Some done.Went)
+  own_turns zero h some run = absurd (omega arith)
+  own_turns (suc n) h some run =
+      let went = run.2.went (mutex_at (with_guest p run.0)) in
       record {
         before = n;
         count = sym (add-one n);
-        last = plainly n run.0;
-        goes = all_go n run.0 run.1 (omega (arith, le)) t.none;
-        turn = step n run.0 r run.2 le;
-        did = sym (ap (option_map done_of) (t.acts (mutex_at (plainly n run.0))));
+        last = with_guest p run.0;
+        goes = all_go n p.guest run.0 run.1 run.2.none;
+        turn = own_is run.0 h run.2;
+        came = sym went;
+        slept = sym (sleeps_not (act_in image (with_guest p run.0)) went);
       }
 
   -- no turn
-  pub stays : (n : ℕ) (g : Guest) → n ≤ 0 → PlainRun image n p.guest.regs g.regs → g ≡ ran_plain n g.regs p.guest → p ≡ with_guest p g
-  stays zero g le run rest = unmoved g.regs run ∙ ap (with_guest p) (sym rest)
-  stays (suc n) g le run rest = absurd (omega (arith, le))
+  pub stays : (n : ℕ) (h : Guest) → n ≤ 0 → OwnRun image loads n p.guest h → p ≡ with_guest p h
+  stays zero h le run = ap (with_guest p) run
+  stays (suc n) h le run = absurd (omega (arith, le))
 
 no_cut : (n : ℕ) → n < 4096 → end_rule outcome.Went n None ≡ None
 no_cut n lt = grind (arith, nat_tests)
@@ -309,7 +311,7 @@ pub record Taken (image : Shown) (block : ℕ → Bool) (old new : Context) (n :
   pub partway : Partway image block old last before
   pub turn : IsTurn image block last new
   pub came : outcome_of (act_in image last) ≡ outcome_done did
-  pub done : did ≡ option_map done_of (act_in image last)
+  pub slept : slept_by did ≡ slept_by (option_map done_of (act_in image last))
 
 pub taken : (image : Shown) (block : ℕ → Bool) (old now new : Context) (c n : ℕ) (did : Option Done) → Partway image block old now c → n ≤ 4096 - c → AreTurns image block now new n did → Taken image block old new (c + n) did
 taken image block old now new c n did partway most turns =
@@ -321,6 +323,6 @@ taken image block old now new c n did partway most turns =
       count = omega arith;
       partway = partway_on image block old now c turns.before turns.last partway (omega arith) turns.goes;
       turn = turns.turn;
-      came = sym (same_outcome (act_in image turns.last)) ∙ ap outcome_done (sym turns.did);
-      done = turns.did;
+      came = sym turns.came;
+      slept = turns.slept;
     }

@@ -1,6 +1,6 @@
 //! A thread with the locks that are in its package, and the blocks that it runs.
 
-ghost use Rattle.std.specs.Prelude.{◌≡◌, ℕ, ◌+◌, ◌<◌, ◌≤◌, ◌^◌, ◌==◌, false, is_some, length, None, IfOk, IfSome, if◌then◌else◌};
+ghost use Rattle.std.specs.Prelude.{◌≡◌, ℕ, ◌+◌, ◌<◌, ◌≤◌, ◌^◌, ◌==◌, true, false, is_some, length, Some, None, IfOk, IfSome, if◌then◌else◌};
 ghost use Rattle.std.specs.Option.{option_map};
 ghost use Rattle.tc_isa.specs.Sets.{has};
 ghost use Rattle.tc_journal.specs.Batch.{is_section};
@@ -8,7 +8,7 @@ ghost use Rattle.tc_journal.specs.History.{IsBlock, IsEnd};
 ghost use Rattle.tc_turn.specs.Reads.{Covers};
 ghost use Rattle.tc_exec.specs.InPlace.{done_of};
 ghost use Rattle.tc_turn.specs.InPlace.{DoneFits};
-ghost use Rattle.tc_turn.specs.Turn.{next_lock, thread_at_start};
+ghost use Rattle.tc_turn.specs.Turn.{lock_answer, next_lock, thread_at_start};
 ghost use Rattle.tc_mutex_spec.specs.Blocks.{locks_of_block};
 ghost use Rattle.tc_context.specs.Locks.{lock_in};
 ghost use Rattle.tc_context.specs.Ran.{slept_in, slept_by as slept_of_turn};
@@ -17,7 +17,7 @@ use crate::locks::LockSet;
 use std::alloc::{AllocError, Global};
 use tc_elf::image::Image;
 use tc_exec::code::Code;
-use tc_exec::outcome::{Call, Done};
+use tc_exec::outcome::{Call, Done, Want};
 use tc_isa::held::Held;
 use tc_isa::limits::MAX_TURNS;
 use tc_journal::block::{Block, End, Kind};
@@ -36,13 +36,13 @@ pub(crate) struct Turns {
     next: Option<u32>,
 }
 
-/// Some turns: what the last of them did beside the registers, how many they are, and whether they
-/// went on by registers alone.
+/// Some turns: what the last of them did beside the registers and the thread's own memory, how many
+/// they are, and whether they touched nothing else.
 #[derive(Clone, Copy)]
 struct Steps {
     done: Option<Done>,
     count: u32,
-    plain: bool,
+    own: bool,
 }
 
 /// A block that ran, the number of the SLEEP with which it ended, else 0, and the lock that the
@@ -111,18 +111,63 @@ impl Context {
         ensures fits { IfSome result DoneFits }
         ensures turn { IsTurn image.now (has block) self.old self.new }
     {
-        let want = self.guest.load_wanted(image, code);
-        let answer = answer(self, image, want, next);
+        match next {
+            Some(lock) => Some(self.lock_turn(image, block, lock)),
+            None => self.other_turn(image, code, block),
+        }
+    }
+
+    /// The answer to the LOCK of this lock.
+    fn lock_answer(&self, lock: u32) -> u32
+        ensures { result ≡ lock_answer (mutex_at self.now lock) }
+    {
+        u32::from(self.is_broken(lock))
+    }
+
+    /// The turn that takes this lock.
+    fn lock_turn(&mut self, image: &Image, block: Held, lock: u32) -> Done
+        requires go { CanGo image.now self.old }
+        requires next { next_lock image.now (thread_in self.old) ≡ Some lock }
+        requires opened { AreOpen (has block) self.old }
+        requires room { HasRoom 1 (has block) self.old }
+        requires covers { Covers image.now (has block) (thread_in self.old) }
+        ensures done { Some result ≡ option_map done_of (act_in image.now self.old) }
+        ensures fits { DoneFits result }
+        ensures turn { IsTurn image.now (has block) self.old self.new }
+    {
+        let answer = self.lock_answer(lock);
+        self.locks
+            .note_each(block, Want::Nothing, Some(lock), answer);
+        self.guest.take_lock(lock, answer);
+        self.locks.begin(lock);
+        Done::Called(Call::Lock(lock))
+    }
+
+    /// A turn that takes no lock.
+    fn other_turn(&mut self, image: &Image, code: &Code, block: Held) -> Option<Done>
+        requires code { code.now ≡ image.now }
+        requires go { CanGo image.now self.old }
+        requires next { next_lock image.now (thread_in self.old) ≡ None }
+        requires covers { Covers image.now (has block) (thread_in self.old) }
+        requires opened { AreOpen (has block) self.old }
+        requires room { HasRoom 1 (has block) self.old }
+        ensures done { result ≡ option_map done_of (act_in image.now self.old) }
+        ensures fits { IfSome result DoneFits }
+        ensures turn { IsTurn image.now (has block) self.old self.new }
+    {
+        let found = code.instruction(image, self.guest.regs().pc());
+        let want = self.guest.load_wanted(image, &found);
+        let answer = answer(self, image, want, None);
         let noting = self.noting(block);
-        self.locks.note(noting, want, next, answer);
+        self.locks.note(noting, want, None, answer);
         let held = self.guest.held();
-        let done = self.guest.turn(image, code, answer);
+        let done = self.guest.turn(image, &found, want, answer);
         self.locks.take_turn(held, &done);
         done
     }
 
-    /// One turn, or as many as go on by registers alone, but at most so many. Whether to look for
-    /// such turns changes nothing but what it costs.
+    /// One turn, or as many as touch registers and the thread's own memory alone, but at most so
+    /// many. Whether to look for such turns changes nothing but what it costs.
     fn advance(
         &mut self,
         image: &Image,
@@ -143,19 +188,22 @@ impl Context {
         ensures fits { IfSome result.done DoneFits }
         ensures most { result.count ≤ most }
     {
-        let ran = self.guest.run_plain(code, most_plain(most, looks));
+        let loads = notes_nothing(block);
+        let ran = self
+            .guest
+            .run_own(image, code, most_own(most, looks), loads);
         if ran > 0 {
             return Steps {
                 done: Some(Done::Went),
                 count: ran,
-                plain: true,
+                own: true,
             };
         }
         let done = self.turn(image, code, block, next);
         Steps {
             done,
             count: 1,
-            plain: false,
+            own: false,
         }
     }
 
@@ -177,13 +225,13 @@ impl Context {
     {
         let mut next = takes;
         let mut count = 0;
-        // A LOCK is no plain turn, nor is the one behind plain turns.
+        // A LOCK touches more, and so does the turn at which such turns end.
         let mut looks = takes.is_none();
         'block: loop {
             let steps = self.advance(image, code, block, next, MAX_TURNS - count, looks);
             count += steps.count;
-            looks = !steps.plain;
-            next = self.guest.next_lock(image);
+            looks = !steps.own;
+            next = self.guest.lock_wanted(image, code);
             if let Some(end) = end_of(outcome_by(&steps.done), count, next) {
                 return Turns {
                     end,
@@ -272,8 +320,15 @@ impl Surroundings for Context {
     }
 }
 
-/// At most how many plain turns to do: none where it isn't looked for them.
-fn most_plain(most: u32, looks: bool) -> u32
+/// Whether a block has no lock, so that no journal notes what it loads.
+fn notes_nothing(block: Held) -> bool
+    ensures { result ≡ true → (k : ℕ) → has block k ≡ false }
+{
+    block == Held::none()
+}
+
+/// At most how many such turns to do: none where it isn't looked for them.
+fn most_own(most: u32, looks: bool) -> u32
     ensures { result ≤ most }
 {
     if looks {

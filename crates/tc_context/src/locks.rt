@@ -99,7 +99,7 @@ impl LockSet {
         }
     }
 
-    fn begin(&mut self, lock: u32)
+    pub(crate) fn begin(&mut self, lock: u32)
         requires lock { lock < 32 }
         requires ready { HoldsAt lock (λ l. is_some l.journal.opened ≡ true) self.old }
         ensures { Changed (at_place lock with_section) self.old self.new }
@@ -174,19 +174,27 @@ impl LockSet {
         }
     }
 
+    /// As `note`, with a look at each lock.
+    pub(crate) fn note_each(&mut self, held: Held, want: Want, next: Option<u32>, value: u32)
+        requires opened { EachHeld (has held) (λ l. is_some l.journal.opened ≡ true) self.old }
+        requires room { EachHeld (has held) (λ l. 0 < l.journal.word_room) self.old }
+        ensures { Changed (noted_in (has held) want next value) self.old self.new }
+    {
+        let mut left = held;
+        while let Some(lock) = left.least() {
+            self.note_one(lock, held, want, next, value);
+            left = left.less(lock);
+        }
+    }
+
     /// Notes the value in the entry of each of these locks for which it comes from elsewhere.
     pub fn note(&mut self, held: Held, want: Want, next: Option<u32>, value: u32)
         requires opened { EachHeld (has held) (λ l. is_some l.journal.opened ≡ true) self.old }
         requires room { EachHeld (has held) (λ l. 0 < l.journal.word_room) self.old }
         ensures { Changed (noted_in (has held) want next value) self.old self.new }
     {
-        if !takes_any(want, next) {
-            return;
-        }
-        let mut left = held;
-        while let Some(lock) = left.least() {
-            self.note_one(lock, held, want, next, value);
-            left = left.less(lock);
+        if takes_any(want, next) {
+            self.note_each(held, want, next, value);
         }
     }
 

@@ -5,3 +5,5 @@ pub mod Laws
 pub mod NoLock
 mod DoneTold
 mod Slots
+mod Loaded
+mod Touches

@@ -87,6 +87,12 @@ pub no_word : (image : Shown) (held : ℕ → Bool) (r : Registers) (answer : �
 unfolding act_of instruction_at
 no_word image held r answer at = subst (λ o. IsNoLock (act_from image held r answer (decoded_from o))) (sym at) tt
 
+-- another instruction
+pub other_instr : (image : Shown) (r : Registers) (instr : Instr) → instruction_at image r.pc ≡ Ok instr → (instr ≡ Ecall → ⊥) → NeverLocks image r
+unfolding act_of
+other_instr image r instr at other held answer =
+    subst (λ i. IsNoLock (act_from image held r answer i)) (sym at) (by_is_none image held r answer instr (λ e. absurd (other e)))
+
 -- the word of ECALL, with the number of LOCK
 pub calls : (image : Shown) (r : Registers) (word : ℕ) → get r 17 ≡ 1 → fetched image r.pc ≡ Some word → decoded word ≡ Some Ecall → CallsLock image r
 unfolding instruction_at

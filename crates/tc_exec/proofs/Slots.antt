@@ -1,6 +1,6 @@
 -- Decoded words.
-use Rattle.std.proofs.Common.{◌≡◌, ℕ, zero, suc, ◌+◌, ◌*◌, ◌++◌, length, sym, subst, arith}
-use Rattle.std.specs.Prelude.{List, [], ◌∷◌, Option, Some, None, slice_get}
+use Rattle.std.proofs.Common.{◌≡◌, ℕ, zero, suc, ◌+◌, ◌*◌, ◌++◌, length, subst, arith}
+use Rattle.std.specs.Prelude.{List, [], ◌∷◌, Option, Some, slice_get}
 use Rattle.tc_isa.specs.declared.instr.Instr.{Instr}
 use Rattle.tc_elf.specs.Shown.{Shown}
 use Rattle.tc_exec.specs.Code.{SlotTells, SlotsTell}

@@ -1,5 +1,5 @@
--- Runs of plain instructions: of those that neither load nor store, are no guest call and do not fault.
-use Rattle.std.specs.Prelude.{◌≡◌, ℕ, zero, suc, Bool, None}
+-- Plain instructions: those that neither load nor store, are no guest call and do not fault.
+use Rattle.std.specs.Prelude.{◌≡◌, ℕ, Bool, None}
 use Rattle.tc_isa.specs.Registers.{Registers}
 use Rattle.tc_elf.specs.Shown.{Shown}
 use Rattle.tc_exec.specs.Step.{wants_of, act_of}
@@ -10,8 +10,3 @@ use Rattle.tc_exec.specs.declared.outcome.Want.TheVariants as want
 pub record IsPlain (image : Shown) (r next : Registers) : Type 0 where
   pub act : (held : ℕ → Bool) (answer : ℕ) → act_of image held r answer ≡ Next next None
   pub want : (held : ℕ → Bool) → wants_of image held r ≡ want.Nothing
-
--- so many plain instructions lead from registers to others
-abbrev pub PlainRun : Shown → ℕ → Registers → Registers → Type 0
-PlainRun image zero r last = r ≡ last
-PlainRun image (suc n) r last = (mid : Registers) × PlainRun image n r mid × IsPlain image mid last

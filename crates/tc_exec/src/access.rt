@@ -1,6 +1,6 @@
 //! Loads and stores.
 
-ghost use Rattle.std.specs.Prelude.{◌≡◌, ◌==◌, ◌%◌, ◌^◌, ◌*◌};
+ghost use Rattle.std.specs.Prelude.{◌≡◌, ◌<◌, ◌==◌, ◌%◌, ◌^◌, ◌*◌};
 ghost use Rattle.tc_isa.specs.Sets.{has};
 ghost use Rattle.tc_exec.specs.Access as access;
 ghost use Rattle.tc_exec.specs.Access.{width_bytes};
@@ -44,7 +44,8 @@ impl Width {
     }
 
     pub(crate) fn bytes(self) -> u32
-        ensures { result ≡ width_bytes self }
+        ensures value { result ≡ width_bytes self }
+        ensures some { 0 < result }
     {
         match self {
             Width::Byte => 1,
@@ -54,7 +55,7 @@ impl Width {
     }
 
     /// Whether an address is a multiple of the width.
-    fn divides(self, addr: u32) -> bool
+    pub(crate) fn divides(self, addr: u32) -> bool
         ensures { result ≡ (addr % width_bytes self == 0) }
     {
         // No division by a number that is not known before.

@@ -76,7 +76,9 @@ fn remainder_unsigned(a: u32, b: u32) -> u32
     if b == 0 { a } else { a % b }
 }
 
-/// What an operation on two numbers gives.
+/// What an operation on two numbers gives. It stands in the loop over turns, where a call would
+/// cost more than most operations do.
+#[inline(always)]
 pub fn value_of(op: RegOp, a: u32, b: u32) -> u32
     ensures { result ≡ arithmetic.value_of op a b }
 {

@@ -3,23 +3,22 @@
 //! The table is sound and not complete: a place that it has is the instruction there, and a place
 //! that it has not tells nothing. So what is not found in it is fetched and decoded as ever.
 
-ghost use Rattle.std.specs.Prelude.{◌≡◌, ◌*◌, ◌+◌, ◌≤◌, ◌^◌, IfOk, IfSome, Ok};
+ghost use Rattle.std.specs.Prelude.{◌≡◌, ℕ, ◌*◌, ◌+◌, ◌≤◌, ◌^◌, true, false, IfOk, IfSome, Ok};
 ghost use Rattle.tc_isa.specs.Sets.{has};
+ghost use Rattle.tc_isa.specs.declared.instr.Instr.TheVariants.{Ecall};
 ghost use Rattle.tc_elf.specs.Shown.{Shown};
 ghost use Rattle.tc_exec.specs.Code.{SlotTells, SlotsTell, PartsTell};
-ghost use Rattle.tc_exec.specs.InPlace.{IsDone, done_of, regs_after};
-ghost use Rattle.tc_exec.specs.Plain.{PlainRun};
+ghost use Rattle.tc_exec.specs.Statements.{NeverLocks, CallsLock};
 ghost use Rattle.tc_exec.specs.Step as step;
-ghost use Rattle.tc_exec.specs.Told.{IsWant};
+ghost use Rattle.tc_exec.specs.Told.{taken_by};
 
-use crate::in_place::{go, go_by};
-use crate::outcome::{Done, Want};
-use crate::plain::run_in;
-use crate::step::{instruction_at, wants, wants_by};
+use crate::calls::is_numbered_lock;
+use crate::step::{instruction_at, lock_called, may_lock};
 use std::alloc::{AllocError, Global};
 use std::marker::Model;
 use std::snapshot::Snapshot;
 use tc_elf::image::Image;
+use tc_isa::fault::Fault;
 use tc_isa::held::Held;
 use tc_isa::instr::Instr;
 use tc_isa::regs::Regs;
@@ -47,6 +46,30 @@ impl Model for Code {
     ghost view = { λ c. c.of.value };
 
     ghost invariant = { λ c. PartsTell c.of.value c.parts.items };
+}
+
+/// Decoded words that stand in a row, four bytes for each.
+#[derive(Clone, Copy)]
+pub struct Stretch<'a> {
+    start: u32,
+    slots: &'a [Option<Instr>],
+}
+
+impl<'a> Stretch<'a> {
+    /// The instruction at a place, where the stretch has it. None says nothing.
+    pub fn find(&self, pc: u32) -> Option<&'a Instr>
+        ensures { (image : Shown) → SlotsTell image self.now.start self.now.slots.now
+            → IfSome result (λ instr. step.instruction_at image pc ≡ Ok instr.now) }
+    {
+        slot_in(self.slots, self.start, pc)
+    }
+}
+
+fn is_call(instr: &Instr) -> bool
+    ensures yes { result ≡ true → instr.now ≡ Ecall }
+    ensures no { result ≡ false → instr.now ≡ Ecall → ⊥ }
+{
+    matches!(instr, Instr::Ecall)
 }
 
 /// The decoded word of a place.
@@ -77,7 +100,7 @@ fn slots_from(
 }
 
 /// The slot of a place, where there is one.
-pub(crate) fn slot_in(slots: &[Option<Instr>], start: u32, pc: u32) -> Option<&Instr>
+fn slot_in(slots: &[Option<Instr>], start: u32, pc: u32) -> Option<&Instr>
     ensures { (image : Shown) → SlotsTell image start slots.now → IfSome result (λ i. step.instruction_at image pc ≡ Ok i.now) }
 {
     if pc < start || (pc - start) % 4 != 0 {
@@ -151,46 +174,57 @@ impl Code {
         None
     }
 
-    /// Does plain instructions, those that neither load nor store, are no guest call and do not
-    /// fault, and says how many it did. It ends at the first that is not plain or not decoded, and
-    /// after `most`.
-    pub fn run(&self, regs: &mut Regs, most: u32) -> u32
-        ensures runs { PlainRun self.now result regs.old regs.new }
-        ensures most { result ≤ most }
+    /// The instruction at a place, or why there is none, as it was decoded or else decoded now.
+    pub fn instruction(&self, image: &Image, pc: u32) -> Result<Instr, Fault>
+        requires { self.now ≡ image.now }
+        ensures { result ≡ step.instruction_at image.now pc }
+    {
+        match self.find(pc) {
+            Some(instr) => Ok(*instr),
+            None => instruction_at(image, pc),
+        }
+    }
+
+    /// The words round a place, where that was decoded.
+    pub fn stretch(&self, pc: u32) -> Option<Stretch<'_>>
+        ensures { IfSome result (λ s. SlotsTell self.now s.start s.slots.now) }
     {
         'parts: for part in &self.parts {
-            if slot_in(&part.slots, part.start, regs.pc()).is_some() {
-                return run_in(&part.slots, part.start, regs, most);
+            if slot_in(&part.slots, part.start, pc).is_some() {
+                return Some(Stretch {
+                    start: part.start,
+                    slots: &part.slots,
+                });
             }
         }
-        0
+        None
     }
 
-    /// What `step::wants` answers, from the decoded instruction where there is one.
-    #[tactic(auto, unfolding(crate::specs::Step::wants_of))]
-    pub fn wants(&self, image: &Image, held: Held, regs: &Regs) -> Want
+    /// What `step::may_lock` answers, from the decoded instruction where there is one.
+    fn may_lock(&self, image: &Image, regs: &Regs) -> bool
         requires { self.now ≡ image.now }
-        ensures value { result ≡ step.wants_of image.now (has held) regs.now }
-        ensures told { IsWant image.now (has held) result }
+        ensures no { result ≡ false → NeverLocks image.now regs.now }
+        ensures yes { result ≡ true → CallsLock image.now regs.now }
     {
+        if !is_numbered_lock(regs) {
+            return false;
+        }
         match self.find(regs.pc()) {
-            Some(instr) => wants_by(image, held, regs, *instr),
-            None => wants(image, held, regs),
+            Some(instr) => is_call(instr),
+            None => may_lock(image, regs),
         }
     }
 
-    /// What `in_place::go` does, from the decoded instruction where there is one.
-    #[tactic(auto, unfolding(crate::specs::Step::act_of))]
-    pub fn go(&self, image: &Image, held: Held, regs: &mut Regs, answer: u32) -> Done
+    /// What `step::lock_wanted` answers, from the decoded instruction where there is one.
+    #[tactic(auto, using(crate::proofs::NoLock::taken_none))]
+    pub fn lock_wanted(&self, image: &Image, held: Held, regs: &Regs) -> Option<u32>
         requires { self.now ≡ image.now }
-        ensures done { result ≡ done_of (step.act_of image.now (has held) regs.old answer) }
-        ensures regs { regs.new
-            ≡ regs_after (step.act_of image.now (has held) regs.old answer) regs.old }
-        ensures told { IsDone image.now (has held) result }
+        ensures { (answer : ℕ)
+            → result ≡ taken_by (step.act_of image.now (has held) regs.now answer) }
     {
-        match self.find(regs.pc()) {
-            Some(instr) => go_by(image, held, regs, answer, instr),
-            None => go(image, held, regs, answer),
+        if !self.may_lock(image, regs) {
+            return None;
         }
+        lock_called(image, held, regs)
     }
 }

@@ -1,5 +1,5 @@
-//! The next instruction, done in place: what `step::act` answers, with the registers written where
-//! they are.
+//! An instruction, done in place: what `step::act` answers, with the registers written where they
+//! are.
 
 ghost use Rattle.std.specs.Prelude.{◌≡◌};
 ghost use Rattle.tc_isa.specs.Sets.{has};
@@ -7,14 +7,13 @@ ghost use Rattle.tc_exec.specs.Access as access;
 ghost use Rattle.tc_exec.specs.Calls as calls;
 ghost use Rattle.tc_exec.specs.Flow as flow;
 ghost use Rattle.tc_exec.specs.Step as step;
-ghost use Rattle.tc_exec.specs.InPlace.{IsDone, done_of, regs_after};
+ghost use Rattle.tc_exec.specs.InPlace.{done_of, regs_after};
 ghost use Rattle.tc_exec.specs.declared.outcome.Act.TheVariants as TheAct;
 
 use crate::access::{Width, extended, load_fault, low_bytes, store_fault};
 use crate::arithmetic::{is_taken, op_of_imm, value_of};
 use crate::calls::{EXIT, LOCK, SLEEP, UNLOCK, lock_fault, sleep_fault, unlock_fault};
-use crate::outcome::{Call, Done, Put};
-use crate::step::instruction_at;
+use crate::outcome::{Call, Done, Put, Want};
 use tc_elf::image::Image;
 use tc_isa::fault::Fault;
 use tc_isa::held::Held;
@@ -67,19 +66,25 @@ fn branch(regs: &mut Regs, cond: Cond, rs1: Reg, rs2: Reg, off: u32) -> Done
     Done::Went
 }
 
-#[tactic(auto, unfolding(crate::specs::Access::load))]
+/// A load that wants this: its answer finishes it, where it does not fault.
+#[tactic(auto, using(crate::proofs::Loaded::loaded), unfolding(crate::specs::Access::load))]
 fn load(
     image: &Image,
     held: Held,
     regs: &mut Regs,
+    want: Want,
     answer: u32,
     kind: LoadKind,
     rd: Reg,
     addr: u32,
 ) -> Done
+    requires { want ≡ access.load_want image.now (has held) kind addr }
     ensures done { result ≡ done_of (access.load image.now (has held) regs.old answer kind rd addr) }
     ensures regs { regs.new ≡ regs_after (access.load image.now (has held) regs.old answer kind rd addr) regs.old }
 {
+    if let Want::Load { .. } = want {
+        return set(regs, rd, extended(kind, answer));
+    }
     let width = Width::of_load(kind);
     let region = image.region(addr, width.bytes());
     match load_fault(held, region, addr, width) {
@@ -107,6 +112,14 @@ fn store(image: &Image, held: Held, regs: &mut Regs, kind: StoreKind, addr: u32,
     })
 }
 
+/// Comes back from a guest call with its answer.
+pub fn come_back(regs: &mut Regs, answer: u32)
+    ensures { regs.new ≡ calls.answered regs.old answer }
+{
+    regs.put(Reg::of(10), answer);
+    step_on(regs);
+}
+
 fn called(fault: Option<Fault>, call: Call, regs: &mut Regs, value: u32) -> Done
     ensures done { result ≡ done_of (flow.faulted_or fault (TheAct.Called call (calls.answered regs.old value))) }
     ensures regs { regs.new ≡ regs_after (flow.faulted_or fault (TheAct.Called call (calls.answered regs.old value))) regs.old }
@@ -114,8 +127,7 @@ fn called(fault: Option<Fault>, call: Call, regs: &mut Regs, value: u32) -> Done
     match fault {
         Some(fault) => Done::Faulted(fault),
         None => {
-            regs.put(Reg::of(10), value);
-            step_on(regs);
+            come_back(regs, value);
             Done::Called(call)
         }
     }
@@ -142,8 +154,17 @@ fn guest_call(image: &Image, held: Held, regs: &mut Regs, answer: u32) -> Done
     }
 }
 
-#[tactic(auto, unfolding(crate::specs::Step::act_by))]
-pub(crate) fn go_by(image: &Image, held: Held, regs: &mut Regs, answer: u32, instr: &Instr) -> Done
+/// Does an instruction that wants this.
+#[tactic(auto, unfolding(crate::specs::Step::act_by, crate::specs::Step::wants_by))]
+pub(crate) fn go_by(
+    image: &Image,
+    held: Held,
+    regs: &mut Regs,
+    want: Want,
+    answer: u32,
+    instr: &Instr,
+) -> Done
+    requires { want ≡ step.wants_by image.now (has held) regs.old instr.now }
     ensures done { result ≡ done_of (step.act_by image.now (has held) regs.old answer instr.now) }
     ensures regs { regs.new
         ≡ regs_after (step.act_by image.now (has held) regs.old answer instr.now) regs.old }
@@ -170,7 +191,7 @@ pub(crate) fn go_by(image: &Image, held: Held, regs: &mut Regs, answer: u32, ins
         } => branch(regs, cond, rs1, rs2, off),
         Instr::Load { kind, rd, rs1, off } => {
             let addr = regs.get(rs1).wrapping_add(off);
-            load(image, held, regs, answer, kind, rd, addr)
+            load(image, held, regs, want, answer, kind, rd, addr)
         }
         Instr::Store {
             kind,
@@ -196,19 +217,5 @@ pub(crate) fn go_by(image: &Image, held: Held, regs: &mut Regs, answer: u32, ins
         }
         Instr::Ecall => guest_call(image, held, regs, answer),
         Instr::Ebreak => Done::Faulted(Fault::Break),
-    }
-}
-
-/// Does the next instruction to the registers, and says what it did beside them. `answer` is as in
-/// `step::act`, which tells the same of registers that it leaves alone; this costs much less.
-#[tactic(auto, unfolding(crate::specs::Step::act_of))]
-pub fn go(image: &Image, held: Held, regs: &mut Regs, answer: u32) -> Done
-    ensures done { result ≡ done_of (step.act_of image.now (has held) regs.old answer) }
-    ensures regs { regs.new ≡ regs_after (step.act_of image.now (has held) regs.old answer) regs.old }
-    ensures told { IsDone image.now (has held) result }
-{
-    match instruction_at(image, regs.pc()) {
-        Ok(instr) => go_by(image, held, regs, answer, &instr),
-        Err(fault) => Done::Faulted(fault),
     }
 }

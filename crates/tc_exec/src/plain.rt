@@ -1,17 +1,13 @@
-//! Runs of plain instructions: those that neither load nor store, are no guest call and do not
-//! fault.
+//! Plain instructions: those that neither load nor store, are no guest call and do not fault.
 
-ghost use Rattle.std.specs.Prelude.{◌≡◌, ◌≤◌, ℕ, Bool, true, false, None};
+ghost use Rattle.std.specs.Prelude.{◌≡◌, ℕ, Bool, true, false, None};
 ghost use Rattle.tc_elf.specs.Shown.{Shown};
 ghost use Rattle.tc_exec.specs.Step as step;
 ghost use Rattle.tc_exec.specs.Flow as flow;
-ghost use Rattle.tc_exec.specs.Code.{SlotsTell};
-ghost use Rattle.tc_exec.specs.Plain.{IsPlain, PlainRun};
 ghost use Rattle.tc_exec.specs.declared.outcome.Act.TheVariants.{Next};
 ghost use Rattle.tc_exec.specs.declared.outcome.Want.TheVariants.{Nothing};
 
 use crate::arithmetic::{is_taken, op_of_imm, value_of};
-use crate::code::slot_in;
 use tc_isa::instr::Instr;
 use tc_isa::reg::Reg;
 use tc_isa::regs::Regs;
@@ -55,7 +51,7 @@ fn jump_on(regs: &mut Regs, rd: Reg, target: u32) -> bool
 
 /// Does an instruction, where it is plain.
 #[tactic(auto, unfolding(crate::specs::Step::act_by, crate::specs::Step::wants_by))]
-fn plain_by(regs: &mut Regs, instr: &Instr) -> bool
+pub fn plain_by(regs: &mut Regs, instr: &Instr) -> bool
     ensures act { result ≡ true → (image : Shown) (held : ℕ → Bool) (answer : ℕ) → step.act_by image held regs.old answer instr.now ≡ Next regs.new None }
     ensures want { result ≡ true → (image : Shown) (held : ℕ → Bool) → step.wants_by image held regs.old instr.now ≡ Nothing }
     ensures no { result ≡ false → regs.new ≡ regs.old }
@@ -104,31 +100,4 @@ fn plain_by(regs: &mut Regs, instr: &Instr) -> bool
         }
         Instr::Load { .. } | Instr::Store { .. } | Instr::Ecall | Instr::Ebreak => false,
     }
-}
-
-/// Does the next instruction, where it was decoded and is plain.
-#[tactic(auto, unfolding(crate::specs::Step::act_of, crate::specs::Step::wants_of))]
-fn plain_in(slots: &[Option<Instr>], start: u32, regs: &mut Regs) -> bool
-    ensures yes { (image : Shown) → SlotsTell image start slots.now → result ≡ true → IsPlain image regs.old regs.new }
-    ensures no { result ≡ false → regs.new ≡ regs.old }
-{
-    match slot_in(slots, start, regs.pc()) {
-        Some(instr) => plain_by(regs, instr),
-        None => false,
-    }
-}
-
-/// Does plain instructions, at most so many, and says how many.
-pub(crate) fn run_in(slots: &[Option<Instr>], start: u32, regs: &mut Regs, most: u32) -> u32
-    ensures runs { (image : Shown) → SlotsTell image start slots.now → PlainRun image result regs.old regs.new }
-    ensures most { result ≤ most }
-{
-    let mut ran = 0;
-    'run: while ran < most {
-        if !plain_in(slots, start, regs) {
-            return ran;
-        }
-        ran += 1;
-    }
-    ran
 }

@@ -31,10 +31,10 @@ pub(crate) fn instruction_at(image: &Image, pc: u32) -> Result<Instr, Fault>
 }
 
 #[tactic(auto, unfolding(crate::specs::Step::wants_by))]
-pub(crate) fn wants_by(image: &Image, held: Held, regs: &Regs, instr: Instr) -> Want
-    ensures { result ≡ step.wants_by image.now (has held) regs.now instr }
+pub(crate) fn wants_by(image: &Image, held: Held, regs: &Regs, instr: &Instr) -> Want
+    ensures { result ≡ step.wants_by image.now (has held) regs.now instr.now }
 {
-    match instr {
+    match *instr {
         Instr::Load { kind, rs1, off, .. } => {
             let addr = regs.get(rs1).wrapping_add(off);
             load_want(image, held, kind, addr)
@@ -99,7 +99,7 @@ pub fn wants(image: &Image, held: Held, regs: &Regs) -> Want
     ensures told { IsWant image.now (has held) result }
 {
     match instruction_at(image, regs.pc()) {
-        Ok(instr) => wants_by(image, held, regs, instr),
+        Ok(instr) => wants_by(image, held, regs, &instr),
         Err(_) => Want::Nothing,
     }
 }
@@ -136,18 +136,27 @@ pub fn may_lock(image: &Image, regs: &Regs) -> bool
     }
 }
 
+/// The lock that an ECALL with the number of LOCK takes, where it is lawful.
+#[tactic(auto, using(crate::proofs::NoLock::taken_some))]
+pub(crate) fn lock_called(image: &Image, held: Held, regs: &Regs) -> Option<u32>
+    requires { CallsLock image.now regs.now }
+    ensures { (answer : ℕ) → result ≡ taken_by (step.act_of image.now (has held) regs.now answer) }
+{
+    let lock = regs.get(Reg::of(10));
+    match lock_fault(image, held, lock) {
+        Some(_) => None,
+        None => Some(lock),
+    }
+}
+
 /// The lock that the next instruction takes, where that is a lawful LOCK. It is so whatever is
 /// answered, and costs much less than `act`.
-#[tactic(auto, using(crate::proofs::NoLock::taken_none, crate::proofs::NoLock::taken_some))]
+#[tactic(auto, using(crate::proofs::NoLock::taken_none))]
 pub fn lock_wanted(image: &Image, held: Held, regs: &Regs) -> Option<u32>
     ensures { (answer : ℕ) → result ≡ taken_by (step.act_of image.now (has held) regs.now answer) }
 {
     if !may_lock(image, regs) {
         return None;
     }
-    let lock = regs.get(Reg::of(10));
-    match lock_fault(image, held, lock) {
-        Some(_) => None,
-        None => Some(lock),
-    }
+    lock_called(image, held, regs)
 }

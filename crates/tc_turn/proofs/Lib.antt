@@ -3,3 +3,5 @@ pub mod ClearLaws
 pub mod Turns
 pub mod Words
 pub mod InPlace
+pub mod OwnTurns
+pub mod Few

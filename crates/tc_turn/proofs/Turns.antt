@@ -57,6 +57,21 @@ next_free image d k e = (let was = next_some image d k e in (lock_is_free image 
 pub next_wants : (image : Shown) (d : Thread) (k : ℕ) → next_lock image d ≡ Some k → wants_of image d.held d.regs ≡ want.Nothing
 next_wants image d k e = (let was = next_some image d k e in lock_wants_nothing image d.held d.regs 0 was.0 k was.1)
 
+-- a turn that takes a lock has fuel
+pub next_fueled : (image : Shown) (d : Thread) (lock : ℕ) → next_lock image d ≡ Some lock → (d.fuel == 0) ≡ false
+unfolding next_lock
+next_fueled image d lock = elim (d.fuel == 0) as (λ b. (if b then None else taken_by (act_of image d.held d.regs 0)) ≡ Some lock → b ≡ false) [
+  | true ↦ λ e. absurd (cc)
+  | false ↦ λ e. refl
+]
+
+-- and does the LOCK at every answer
+pub next_acts : (image : Shown) (d : Thread) (lock answer : ℕ) → next_lock image d ≡ Some lock → act_with image d answer ≡ Some (Called (Lock lock) (answered d.regs answer))
+next_acts image d lock answer next =
+    let was = next_some image d lock next in
+    ap (λ b. if b then None else Some (act_of image d.held d.regs answer)) (next_fueled image d lock next)
+    ∙ ap Some ((lock_is_free image d.held d.regs 0 was.0 lock was.1).anyway answer)
+
 -- ---- what the next turn does
 
 pub act_some : (image : Shown) (d : Thread) (answer : ℕ) (a : Act) → act_with image d answer ≡ Some a → act_of image d.held d.regs answer ≡ a

@@ -1,10 +1,11 @@
 -- The foreign words of a block's turns.
 use Rattle.std.proofs.Common.{◌≡◌, ℕ, zero, suc, ◌+◌, ◌≤◌, Bool, true, false, ◌==◌, [], ◌∷◌, ◌++◌, length, sym, ap, ◌∙◌, arith, append-nil, append_assoc, length-append}
-use Rattle.std.specs.Prelude.{if◌then◌else◌}
+use Rattle.std.specs.Prelude.{if◌then◌else◌, Option}
 use Rattle.tc_elf.specs.Shown.{Shown}
 use Rattle.tc_exec.specs.Step.{wants_of}
 use Rattle.tc_exec.proofs.Laws.{guard_is_held}
-use Rattle.tc_turn.specs.Turn.{Thread, Mutex, next_lock}
+use Rattle.tc_exec.specs.declared.outcome.Want.{Want}
+use Rattle.tc_turn.specs.Turn.{Thread, Mutex, next_lock, answer_to}
 use Rattle.tc_turn.specs.Reads.{Covers}
 use Rattle.tc_turn.specs.Replay.{takes_word, word_of, words_from}
 use Rattle.tc_turn.proofs.Turns.{answer_same}
@@ -39,3 +40,12 @@ pub words_short : (image : Shown) (k : ℕ) (threads : ℕ → Thread) (locks : 
 words_short image k threads locks i zero = omega arith
 words_short image k threads locks i (suc n) =
     omega (arith, word_short image k (threads i) (locks i), words_short image k threads locks (i + 1) n, length-append (word_of image k (threads i) (locks i)) (words_from image k threads locks (i + 1) n))
+
+-- a turn's word, told by what the turn wants, the lock that it takes and its answer
+pub words_now : (image : Shown) (d : Thread) (locks : ℕ → Mutex) (k : ℕ) (wanted : Want) (next : Option ℕ) (answer : ℕ)
+    → wanted ≡ wants_of image d.held d.regs → next ≡ next_lock image d → answer ≡ answer_to image wanted next d.own locks
+    → (if d.fuel == 0 then [] else (if takes_word k wanted next then answer ∷ [] else [])) ≡ word_of image k d locks
+unfolding word_of
+words_now image d locks k wanted next answer w n a =
+    let b : answer ≡ answer_to image (wants_of image d.held d.regs) (next_lock image d) d.own locks = a ∙ (λ i. answer_to image (w i) (n i) d.own locks) in
+    λ i. if d.fuel == 0 then [] else (if takes_word k (w i) (n i) then b i ∷ [] else [])

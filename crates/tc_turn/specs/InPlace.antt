@@ -8,7 +8,7 @@ use Rattle.tc_exec.specs.declared.outcome.Call.TheVariants.{Lock, Unlock, Sleep,
 use Rattle.tc_journal.specs.declared.rule.Outcome.{Outcome}
 use Rattle.tc_journal.specs.declared.rule.Outcome.TheVariants as outcome
 use Rattle.tc_turn.specs.declared.status.Status.TheVariants as status
-use Rattle.tc_turn.specs.Turn.{Thread, Mutex, Guest, with_put, with_end, plus_lock, less_lock, when, given_up, taken, released, guard_after, PutFits}
+use Rattle.tc_turn.specs.Turn.{Thread, Mutex, with_put, with_end, plus_lock, less_lock, when, given_up, taken, released, guard_after, PutFits}
 
 -- the thread that did this beside the registers and the fuel, which have the turn already
 abbrev pub thread_done : Thread → Done → Thread
@@ -55,7 +55,3 @@ DoneFits (done.Called (Unlock lock)) = lock < 32
 DoneFits (done.Called (Sleep blocks)) = Unit {0}
 DoneFits (done.Called Exit) = Unit {0}
 DoneFits (done.Faulted f) = Unit {0}
-
--- a thread after so many plain instructions, which left it these registers
-abbrev pub ran_plain : ℕ → Registers → Guest → Guest
-ran_plain n r g = record { regs = r; own = g.own; fuel = g.fuel - n; status = g.status; held = g.held }

@@ -4,3 +4,4 @@ pub mod Turn
 pub mod Reads
 pub mod Replay
 pub mod InPlace
+pub mod Own

@@ -135,12 +135,8 @@ pub(crate) fn clear_places(
     Ok(places)
 }
 
-/// The number of the place that has an access, if one has it. It is looked for from the one of the
-/// last access on.
-pub(crate) fn place_near(places: &[Clear], last: usize, addr: u32, width: u32) -> usize {
-    if last < places.len() && places[last].has(addr, width) {
-        return last;
-    }
+/// The number of the place that has an access, if one has it.
+pub(crate) fn place_number(places: &[Clear], addr: u32, width: u32) -> usize {
     let mut low = 0;
     let mut high = places.len();
     'halves: while low < high {

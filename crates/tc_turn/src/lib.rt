@@ -8,7 +8,8 @@
 //!
 //! - `status`: whether and how a thread has ended. `outcome`: how a turn came out for its block.
 //! - `number`: numbers in bytes. `memory`: a thread's own memory, with `clear`, its table of the
-//!   addresses that need no search. `thread`: a thread, which does what an act says.
+//!   addresses that need no search. `thread`: a thread, which does what an act says. `own`: its
+//!   turns that touch its own memory alone.
 //! - `answer`: the answer that a turn finds in its surroundings.
 //! - `law`: what a turn reads and what it leaves alone.
 #![tactic(auto)]
@@ -19,6 +20,7 @@ pub mod law;
 pub mod memory;
 pub mod number;
 pub mod outcome;
+mod own;
 pub mod status;
 #[cfg(test)]
 mod tests;

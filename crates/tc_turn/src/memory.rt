@@ -1,13 +1,13 @@
 //! A thread's own memory.
 
-ghost use Rattle.std.specs.Prelude.{◌≡◌, ℕ, ◌+◌, ◌≤◌, ◌^◌, ◌<◌, IfOk, IfSome, List, length, map, replicate, unwrap_or};
+ghost use Rattle.std.specs.Prelude.{◌≡◌, ℕ, true, false, ◌+◌, ◌≤◌, ◌^◌, ◌<◌, IfOk, IfSome, List, length, map, replicate, unwrap_or};
 ghost use Rattle.std.specs.List.{list_any};
 ghost use Rattle.tc_elf.specs.Places.{touches};
 ghost use Rattle.tc_elf.specs.Shown.{Guard, range_at};
 ghost use Rattle.tc_turn.specs.Clear.{part_at, part_byte, part_has, part_meets, IsAlone};
 ghost use Rattle.tc_turn.specs.Memory.{byte_from, number_at, part_with, with_number, own_of, own_at_start, starting_bytes, writable_byte, part_of, byte_in};
 
-use crate::clear::{Clear, clear_places, part_by, place_near};
+use crate::clear::{Clear, clear_places, part_by, place_number};
 use crate::number::{Bytes, bytewise, number_from};
 pub use crate::number::{byte_from, put_number};
 use std::alloc::{AllocError, Global};
@@ -237,18 +237,6 @@ fn put_in_part(parts: &mut [Part], part: usize, addr: u32, width: u32, value: u3
     parts[part].put(addr, width, value);
 }
 
-/// The same where one part, if it is known, alone has the addresses.
-fn put_in(parts: &mut [Part], part: Option<usize>, addr: u32, width: u32, value: u32)
-    requires fits { addr + width ≤ 2 ^ 32 }
-    requires alone { (guards : List Guard) × IfSome part (λ i. IsAlone parts.old guards i addr width) }
-    ensures { parts.new ≡ map (part_with addr width value) parts.old }
-{
-    match part {
-        Some(part) => put_in_part(parts, part, addr, width, value),
-        None => put_in_parts(parts, addr, width, value),
-    }
-}
-
 fn zeros(alloc: Global, length: u32) -> Result<Vec<u8>, AllocError>
     ensures { IfOk result (λ bytes. bytes.items ≡ replicate length 0) }
 {
@@ -327,10 +315,26 @@ impl Memory {
         requires small { width ≤ 4 }
         ensures { result ≡ number_at (λ at. unwrap_or (own_of self.now at) 0) addr width }
     {
-        let place = place_near(&self.places, self.last, addr, width);
-        match part_by(&self.places, place, addr, width) {
-            Some(part) => number_in_part(&self.parts, part, addr, width),
+        if let Some(number) = self.number_by(self.last, addr, width) {
+            return number;
+        }
+        let place = place_number(&self.places, addr, width);
+        match self.number_by(place, addr, width) {
+            Some(number) => number,
             None => bytewise(self, addr, width),
+        }
+    }
+
+    /// The same where the place of this number in the table has all the bytes.
+    fn number_by(&self, place: usize, addr: u32, width: u32) -> Option<u32>
+        requires fits { addr + width ≤ 2 ^ 32 }
+        requires small { width ≤ 4 }
+        ensures { IfSome result
+            (λ n. n ≡ number_at (λ at. unwrap_or (own_of self.now at) 0) addr width) }
+    {
+        match part_by(&self.places, place, addr, width) {
+            Some(part) => Some(number_in_part(&self.parts, part, addr, width)),
+            None => None,
         }
     }
 
@@ -340,8 +344,36 @@ impl Memory {
         requires { addr + width ≤ 2 ^ 32 }
         ensures { own_of self.new ≡ with_number (own_of self.old) addr width value }
     {
-        self.last = place_near(&self.places, self.last, addr, width);
-        let part = part_by(&self.places, self.last, addr, width);
-        put_in(&mut self.parts, part, addr, width, value);
+        if self.put_by(self.last, addr, width, value) {
+            return;
+        }
+        self.last = place_number(&self.places, addr, width);
+        if !self.put_by(self.last, addr, width, value) {
+            self.put_all(addr, width, value);
+        }
+    }
+
+    /// The same where the place of this number in the table has all the addresses.
+    fn put_by(&mut self, place: usize, addr: u32, width: u32, value: u32) -> bool
+        requires { addr + width ≤ 2 ^ 32 }
+        ensures yes { result ≡ true
+            → own_of self.new ≡ with_number (own_of self.old) addr width value }
+        ensures no { result ≡ false → self.new ≡ self.old }
+    {
+        match part_by(&self.places, place, addr, width) {
+            Some(part) => {
+                put_in_part(&mut self.parts, part, addr, width, value);
+                true
+            }
+            None => false,
+        }
+    }
+
+    /// The same in each part that has one of the addresses.
+    fn put_all(&mut self, addr: u32, width: u32, value: u32)
+        requires { addr + width ≤ 2 ^ 32 }
+        ensures { own_of self.new ≡ with_number (own_of self.old) addr width value }
+    {
+        put_in_parts(&mut self.parts, addr, width, value);
     }
 }

@@ -46,12 +46,16 @@ fn turns_in_place_are_the_turns(rt: HostRuntime) -> Result<(), Fail> {
     let image = load(rt.alloc(), &SMALLEST)?;
     let code = Code::of(rt.alloc(), &image)?;
     let mut thread = GuestThread::start(rt.alloc(), &image, 100, 0)?;
-    assert!(rt; thread.load_wanted(&image, &code) == Want::Nothing);
-    // ECALL is not plain.
-    assert_eq!(rt; thread.run_plain(&code, 9), 1);
+    let first = code.instruction(&image, thread.regs().pc());
+    assert!(rt; thread.load_wanted(&image, &first) == Want::Nothing);
+    // ECALL touches no memory of its own.
+    assert_eq!(rt; thread.run_own(&image, &code, 9, true), 1);
     assert_eq!(rt; thread.regs().pc(), 0x10058);
     assert_eq!(rt; thread.fuel(), 99);
-    let last = thread.turn(&image, &code, 0);
+    assert!(rt; thread.lock_wanted(&image, &code).is_none());
+    let call = code.instruction(&image, thread.regs().pc());
+    let want = thread.load_wanted(&image, &call);
+    let last = thread.turn(&image, &call, want, 0);
     assert!(rt; last == Some(Done::Called(Call::Exit)));
     assert!(rt; outcome_by(&last) == Outcome::Exited);
     assert!(rt; thread.status() == Status::Exited);

@@ -1,13 +1,15 @@
 //! A guest thread.
 
-ghost use Rattle.std.specs.Prelude.{◌≡◌, ◌+◌, ◌<◌, ◌≤◌, ◌^◌, IfOk, IfSome, length, unwrap_or};
+ghost use Rattle.std.specs.Prelude.{◌≡◌, ◌+◌, ◌<◌, ◌≤◌, ◌^◌, IfOk, IfSome, Some, length, unwrap_or};
 ghost use Rattle.std.specs.Option.{option_map};
 ghost use Rattle.tc_isa.specs.Sets.{has};
+ghost use Rattle.tc_exec.specs.Calls.{answered};
 ghost use Rattle.tc_exec.specs.InPlace.{done_of};
-ghost use Rattle.tc_exec.specs.Plain.{PlainRun};
-ghost use Rattle.tc_exec.specs.Step.{wants_of};
+ghost use Rattle.tc_exec.specs.Step.{instruction_at, wants_of};
 ghost use Rattle.tc_exec.specs.Told.{IsWant};
-ghost use Rattle.tc_turn.specs.InPlace.{thread_done, ran_plain, DoneFits};
+ghost use Rattle.tc_exec.specs.declared.outcome.Act.TheVariants.{Called};
+ghost use Rattle.tc_exec.specs.declared.outcome.Call.TheVariants.{Lock};
+ghost use Rattle.tc_turn.specs.InPlace.{thread_done, DoneFits};
 ghost use Rattle.tc_turn.specs.Memory.{number_at, own_of};
 ghost use Rattle.tc_turn.specs.Turn.{thread_of, thread_at_start, next_lock, act_with, ActFits, PutFits, thread_after, with_end, with_put};
 
@@ -17,19 +19,25 @@ use std::alloc::{AllocError, Global};
 use std::marker::Model;
 use tc_elf::image::{Image, Region};
 use tc_exec::code::Code;
+use tc_exec::found;
+use tc_exec::in_place::come_back;
 use tc_exec::outcome::{Act, Call, Done, Put, Want};
 use tc_exec::step::{act, lock_wanted, wants};
+use tc_isa::fault::Fault;
 use tc_isa::held::Held;
+use tc_isa::instr::Instr;
 use tc_isa::regs::Regs;
 
-/// A guest thread, with all that is its own. A contract sees it as `thread_of` shows it.
+/// A guest thread, with all that is its own, and the number of the place of its last access. A
+/// contract sees it as `thread_of` shows it.
 #[derive(Drop)]
 pub struct GuestThread {
-    regs: Regs,
-    own: Memory,
-    fuel: u32,
+    pub(crate) regs: Regs,
+    pub(crate) own: Memory,
+    pub(crate) fuel: u32,
     status: Status,
     held: Held,
+    pub(crate) near: usize,
 }
 
 impl Model for GuestThread {
@@ -53,6 +61,7 @@ impl GuestThread {
             fuel,
             status: Status::Running,
             held: Held::none(),
+            near: 0,
         })
     }
 
@@ -135,39 +144,41 @@ impl GuestThread {
         }
     }
 
-    /// The load that its next instruction needs, as `wants` tells it, from the decoded code of its
-    /// image.
-    pub fn load_wanted(&self, image: &Image, code: &Code) -> Want
-        requires { code.now ≡ image.now }
+    /// The load that its next instruction needs, as `wants` tells it, where this was found at the
+    /// instruction's place.
+    pub fn load_wanted(&self, image: &Image, found: &Result<Instr, Fault>) -> Want
+        requires { found.now ≡ instruction_at image.now self.now.regs.pc }
         ensures value { result ≡ wants_of image.now (has self.now.held) self.now.regs }
         ensures told { IsWant image.now (has self.now.held) result }
     {
-        code.wants(image, self.held, &self.regs)
+        found::wants(image, self.held, &self.regs, found)
     }
 
-    /// Does plain instructions, which touch registers alone, and says how many: at most `most`, no
-    /// more than the thread has fuel for, and none that was not decoded. Each is a turn.
-    pub fn run_plain(&mut self, code: &Code, most: u32) -> u32
-        ensures runs { PlainRun code.now result self.old.regs self.new.regs }
-        ensures rest { self.new ≡ ran_plain result self.new.regs self.old }
-        ensures fuel { result ≤ self.old.fuel }
-        ensures most { result ≤ most }
+    /// The lock of its next turn, as `next_lock` tells it, from the decoded code of its image.
+    #[tactic(auto, unfolding(crate::specs::Turn::next_lock))]
+    pub fn lock_wanted(&self, image: &Image, code: &Code) -> Option<u32>
+        requires { code.now ≡ image.now }
+        ensures { result ≡ next_lock image.now (thread_of self.now) }
     {
-        let most = most.min(self.fuel);
-        if most == 0 {
-            return 0;
+        match self.fuel {
+            0 => None,
+            _ => code.lock_wanted(image, self.held, &self.regs),
         }
-        let ran = code.run(&mut self.regs, most);
-        self.fuel -= ran;
-        ran
     }
 
     /// Its next turn with the answer to its load or to its LOCK, and what it did beside the
-    /// registers. None is the turn in which it ends for want of fuel. It is `act` and `take_turn`
-    /// at once, from the decoded code of its image.
+    /// registers, where this was found at its place and that is the load that it needs. None is
+    /// the turn in which it ends for want of fuel. It is `act` and `take_turn` at once.
     #[tactic(auto, using(crate::proofs::InPlace::same_thread))]
-    pub fn turn(&mut self, image: &Image, code: &Code, answer: u32) -> Option<Done>
-        requires { code.now ≡ image.now }
+    pub fn turn(
+        &mut self,
+        image: &Image,
+        found: &Result<Instr, Fault>,
+        want: Want,
+        answer: u32,
+    ) -> Option<Done>
+        requires found { found.now ≡ instruction_at image.now self.old.regs.pc }
+        requires want { want ≡ wants_of image.now (has self.old.held) self.old.regs }
         ensures done { result
             ≡ option_map done_of (act_with image.now (thread_of self.old) answer) }
         ensures thread { thread_of self.new
@@ -181,9 +192,21 @@ impl GuestThread {
         // So each lock that an act names is below 32.
         prove!(image.guards() <= 32);
         self.fuel = left;
-        let done = code.go(image, self.held, &mut self.regs, answer);
+        let done = found::go(image, self.held, &mut self.regs, found, want, answer);
         self.follow(&done);
         Some(done)
+    }
+
+    /// Its next turn, where that is the lawful LOCK of this lock with that answer.
+    pub fn take_lock(&mut self, lock: u32, answer: u32)
+        requires fuel { 0 < self.old.fuel }
+        requires lock { lock < 32 }
+        ensures { thread_of self.new
+            ≡ thread_after (thread_of self.old) (Some (Called (Lock lock) (answered self.old.regs answer))) }
+    {
+        self.fuel -= 1;
+        come_back(&mut self.regs, answer);
+        self.held = self.held.plus(lock);
     }
 
     /// Follows what its turn did beside the registers and the fuel, which have it already.

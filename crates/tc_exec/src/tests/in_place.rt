@@ -1,15 +1,20 @@
 //! The calls in place, with and without decoded code, tell what the plain calls tell.
 
+ghost use Rattle.std.specs.Prelude.{◌≡◌};
+
 use super::guards;
 use crate::code::Code;
-use crate::in_place::go;
-use crate::outcome::{Act, Done};
+use crate::found;
+use crate::outcome::{Act, Done, Put};
+use crate::plain::plain_by;
 use crate::step::{act, lock_wanted, wants};
+use crate::touch::{Touch, finish_load, finish_store, touch_of};
 use std::alloc::Global;
 use std::process::Abort;
 use std::test::Fail;
 use tc_elf::image::Image;
 use tc_isa::held::Held;
+use tc_isa::instr::Instr;
 use tc_isa::reg::Reg;
 use tc_isa::regs::Regs;
 
@@ -52,22 +57,72 @@ pub(super) fn check_in_place(
     answer: u32,
 ) -> Result<(), Fail> {
     let code = Code::of(alloc, image)?;
-    let (next, done) = parts_of(regs, &act(image, held, &regs, answer));
-    let mut fetched = regs;
-    assert_eq!(rt; go(image, held, &mut fetched, answer), done);
-    assert_eq!(rt; fetched, next);
-    let mut found = regs;
-    assert_eq!(rt; code.go(image, held, &mut found, answer), done);
-    assert_eq!(rt; found, next);
-    assert_eq!(rt; code.wants(image, held, &regs), wants(image, held, &regs));
-    let mut ran = regs;
-    match code.run(&mut ran, 1) {
-        0 => assert_eq!(rt; ran, regs),
-        _ => assert_eq!(rt; (ran, Done::Went), (next, done)),
-    }
     let none = Code::undecoded(alloc, image);
-    assert_eq!(rt; none.run(&mut ran, 1), 0);
+    check_found(rt, image, &code, held, regs, answer)?;
+    check_found(rt, image, &none, held, regs, answer)?;
+    let (next, done) = parts_of(regs, &act(image, held, &regs, answer));
+    if let Some(instr) = code.find(regs.pc()) {
+        let mut ran = regs;
+        match plain_by(&mut ran, instr) {
+            false => assert_eq!(rt; ran, regs),
+            true => assert_eq!(rt; (ran, Done::Went), (next, done)),
+        }
+        if let Some(touch) = touch_of(image, &mut 0, &regs, instr, true) {
+            assert_eq!(rt; touched(image, regs, instr, touch, answer), (next, done));
+        }
+    }
+    assert!(rt; none.stretch(regs.pc()).is_none());
     Ok(())
+}
+
+/// Asserts that the calls by what was found tell the same.
+fn check_found(
+    rt: &impl Abort,
+    image: &Image,
+    code: &Code,
+    held: Held,
+    regs: Regs,
+    answer: u32,
+) -> Result<(), Fail>
+    requires { code.now ≡ image.now }
+{
+    let (next, done) = parts_of(regs, &act(image, held, &regs, answer));
+    let found = code.instruction(image, regs.pc());
+    let want = wants(image, held, &regs);
+    assert_eq!(rt; found::wants(image, held, &regs, &found), want);
+    let mut after = regs;
+    assert_eq!(rt;
+        found::go(image, held, &mut after, &found, want, answer),
+        done
+    );
+    assert_eq!(rt; after, next);
+    let lock = lock_wanted(image, held, &regs);
+    assert_eq!(rt; code.lock_wanted(image, held, &regs), lock);
+    Ok(())
+}
+
+/// The registers after a touch, and what it does beside them.
+fn touched(image: &Image, before: Regs, instr: &Instr, touch: Touch, answer: u32) -> (Regs, Done) {
+    let mut regs = before;
+    match touch {
+        Touch::Load { .. } => {
+            finish_load(&mut regs, instr, answer);
+            (regs, Done::Went)
+        }
+        Touch::Store { addr, width, value } => {
+            finish_store(&mut regs);
+            let region = image.region(addr, width);
+            (
+                regs,
+                Done::Stored(Put {
+                    region,
+                    addr,
+                    width,
+                    value,
+                }),
+            )
+        }
+    }
 }
 
 /// The next number of a row of pseudo-random ones (Marsaglia's xorshift of 32 bits).

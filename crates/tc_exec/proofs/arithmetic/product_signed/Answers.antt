@@ -1,6 +1,6 @@
-use Rattle.std.proofs.Common.{◌≡◌, ◌≤◌, ◌^◌, ◌*◌, ◌<◌, sym, ap, ◌∙◌, subst, arith, ℤ, pos, negsuc, ◌*ℤ◌, FitsSigned, unsigned_abs, w32, w64, to_z, of_z}
+use Rattle.std.proofs.Common.{◌≡◌, ◌≤◌, ◌^◌, ap, ◌∙◌, arith, ℤ, pos, negsuc, ◌*ℤ◌, FitsSigned, unsigned_abs, w32, w64, to_z, of_z}
 use Rattle.std.proofs.lemmas.Int.{to_z-of_z, fits_signed_mul}
-use Rattle.tc_exec.specs.Arithmetic.{high_half, signed}
+use Rattle.tc_exec.specs.Arithmetic.{high_half}
 use Rattle.tc_exec.proofs.arithmetic.product_signed.Goals as goal
 
 at_most : (x : ℤ) → FitsSigned w32 x → unsigned_abs x ≤ 2 ^ 31

@@ -1,4 +1,4 @@
-use Rattle.std.proofs.Common.{rules, refl, ◌≡◌, ◌*◌, ◌+◌, ◌/◌, ◌-◌, ◌<◌, subst, arith}
+use Rattle.std.proofs.Common.{refl, ◌≡◌, ◌*◌, ◌+◌, ◌/◌, ◌-◌, ◌<◌, subst, arith}
 use Rattle.std.specs.Prelude.{Option, Some, slice_get, length}
 use Rattle.std.proofs.lemmas.Option.{slice_get_read}
 use Rattle.std.proofs.lemmas.Bool.Decides.{nat_tests}

@@ -1,4 +1,4 @@
-use Rattle.std.proofs.Common.{rules, ◌≡◌, ◌+◌, ◌*◌, ◌++◌, ◌∷◌, [], length, List, sym, subst, arith, ◌∙◌}
+use Rattle.std.proofs.Common.{rules, ◌+◌, ◌*◌, List, sym, subst}
 use Rattle.std.specs.Prelude.{Option}
 use Rattle.tc_isa.specs.declared.instr.Instr.{Instr}
 use Rattle.tc_exec.specs.Code.{SlotsTell, SlotTells}

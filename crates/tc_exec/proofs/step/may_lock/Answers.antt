@@ -1,7 +1,6 @@
 use Rattle.std.proofs.Common.{◌≡◌, ◌==◌, ◌∙◌, false, ap, sym, arith}
 use Rattle.std.proofs.lemmas.Bool.Decides.{nat_tests}
 use Rattle.tc_isa.specs.Registers.{get}
-use Rattle.std.specs.Prelude.{ℕ, Some}
 use Rattle.tc_isa.specs.Reading.{decoded}
 use Rattle.tc_isa.specs.declared.instr.Instr.TheVariants.{Ecall}
 use Rattle.tc_elf.specs.Places.{fetched}

@@ -1,15 +1,13 @@
 use Rattle.std.proofs.Common.{◌+◌, ◌∙◌, ap, sym, subst, arith}
-use Rattle.std.specs.Prelude.{IfSome}
 use Rattle.tc_isa.specs.Sets.{has}
 use Rattle.tc_journal.specs.Rule.{end_rule}
 use Rattle.tc_turn.specs.Turn.{next_lock}
-use Rattle.tc_turn.specs.InPlace.{DoneFits}
 use Rattle.tc_context.specs.Whole.{thread_in, RunsAs}
-use Rattle.tc_context.specs.Middle.{act_in, AreNoted}
-use Rattle.tc_context.specs.Ran.{slept_by, slept_in}
-use Rattle.tc_context.proofs.Moved.{act_fits}
+use Rattle.tc_context.specs.Middle.{AreNoted}
+use Rattle.tc_context.specs.Ran.{slept_in}
+use Rattle.tc_context.proofs.Moved.{end_done}
 use Rattle.tc_context.proofs.Partway.{Partway, partway_start, partway_more, partway_ends, partway_slept, noted_next, opened_here, room_here, taken}
-use Rattle.tc_mutex_spec.proofs.Going.{next_small, end_fits}
+use Rattle.tc_mutex_spec.proofs.Going.{next_small}
 use Rattle.tc_context.proofs.context.Context.turns.Goals as goal
 
 pub advance-steps-requires-clause-opened : goal.advance-steps-requires-clause-opened
@@ -24,15 +22,14 @@ returns-in-Some c =
     let steps = c.advance-steps.ensures in
     let new = c.advance-steps.new.self in
     let t = taken image (has c.args.block) c.args.self.now c.block.self new c.block.count c.advance-steps.result.count c.advance-steps.result.done c.block.invariant.partway steps.most steps.turns in
-    let rule = (λ i. end_rule ((t.came ∙ sym c.outcome_by.ensures) i) (sym t.count i) (sym c.next_lock-next.ensures i)) ∙ sym c.end_of.ensures ∙ c.in-Some.is in
-    let fits = act_fits (act_in image t.last) (subst (λ o. IfSome o DoneFits) t.done steps.fits) in
+    let rule = (λ i. end_rule ((t.came ∙ sym c.outcome_by.ensures) i) (sym t.count i) (sym c.lock_wanted-next.ensures i)) ∙ sym c.end_of.ensures ∙ c.in-Some.is in
     record {
       runs = subst (λ n. RunsAs image c.args.self.now new n c.in-Some.end) (sym t.count) (partway_ends image (has c.args.block) c.args.self.now t.last new t.before c.in-Some.end t.partway t.turn rule c.requires.go);
       most = (let short = c.block.invariant.partway.short in let few = steps.most in omega arith);
-      end = end_fits (act_in image t.last) (t.before + 1) (next_lock image (thread_in new)) c.in-Some.end fits (next_small image (thread_in new) c.requires.go.guards) rule;
-      slept = c.slept_by.ensures ∙ ap slept_by t.done ∙ partway_slept image (has c.args.block) c.args.self.now t.last new t.before t.partway t.turn ∙ ap (slept_in image c.args.self.now) (sym t.count);
+      end = end_done c.advance-steps.result.done (t.before + 1) (next_lock image (thread_in new)) c.in-Some.end steps.fits (next_small image (thread_in new) c.requires.go.guards) (ap (λ o. end_rule o (t.before + 1) (next_lock image (thread_in new))) (sym t.came) ∙ rule);
+      slept = c.slept_by.ensures ∙ t.slept ∙ partway_slept image (has c.args.block) c.args.self.now t.last new t.before t.partway t.turn ∙ ap (slept_in image c.args.self.now) (sym t.count);
       journals = subst (λ n. AreNoted image (has c.args.block) n c.args.self.now new) (sym t.count) (noted_next image (has c.args.block) c.args.self.now t.last new t.before t.partway t.turn);
-      next = c.next_lock-next.ensures;
+      next = c.lock_wanted-next.ensures;
     }
 
 pub block-preserved : goal.block-preserved
@@ -41,10 +38,10 @@ block-preserved c =
     let steps = c.advance-steps.ensures in
     let new = c.advance-steps.new.self in
     let t = taken image (has c.args.block) c.args.self.now c.block.self new c.block.count c.advance-steps.result.count c.advance-steps.result.done c.block.invariant.partway steps.most steps.turns in
-    let rule = (λ i. end_rule ((t.came ∙ sym c.outcome_by.ensures) i) (sym t.count i) (sym c.next_lock-next.ensures i)) ∙ sym c.end_of.ensures ∙ c.in_default.is in
+    let rule = (λ i. end_rule ((t.came ∙ sym c.outcome_by.ensures) i) (sym t.count i) (sym c.lock_wanted-next.ensures i)) ∙ sym c.end_of.ensures ∙ c.in_default.is in
     record {
       partway = subst (λ n. Partway image (has c.args.block) c.args.self.now new n) (sym t.count) (partway_more image (has c.args.block) c.args.self.now t.last new t.before t.partway t.turn rule);
-      next = c.next_lock-next.ensures;
+      next = c.lock_wanted-next.ensures;
     }
 
 pub block-init : goal.block-init

@@ -1,4 +1,4 @@
-use Rattle.std.proofs.Common.{rules, refl, ◌≡◌, ◌<◌, sym, subst, ◌∙◌, ap, arith}
+use Rattle.std.proofs.Common.{refl, ◌≡◌, sym, subst, arith}
 use Rattle.std.specs.Prelude.{List, Option, Some, slice_get, length}
 use Rattle.std.proofs.lemmas.Option.{slice_get_read}
 use Rattle.tc_isa.specs.declared.instr.Instr.{Instr}

@@ -1,4 +1,3 @@
-use Rattle.std.proofs.Common.{◌≡◌}
 use Rattle.tc_exec.proofs.code.Code.find.Given as goal
 
 abbrev pub invariant-parts : goal.invariant-parts

@@ -1,0 +1,13 @@
+use Rattle.std.proofs.Common.{◌≤◌, ◌-◌}
+use Rattle.tc_turn.specs.Own.{OwnRun}
+use Rattle.tc_turn.proofs.thread.GuestThread.run_own.Given as goal
+
+abbrev pub invariant-run : goal.invariant-run
+invariant-run l = record {
+  runs : OwnRun l.image l.loads (l.before - l.self.fuel) l.fn.self l.self;
+  low : l.left ≤ l.self.fuel;
+  high : l.self.fuel ≤ l.before;
+}
+
+abbrev pub decreases-run : goal.decreases-run
+decreases-run l = l.self.fuel

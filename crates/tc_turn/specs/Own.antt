@@ -1,0 +1,32 @@
+-- Turns that touch the thread's own memory alone.
+use Rattle.std.specs.Prelude.{◌≡◌, ℕ, ◌-◌, zero, suc, Bool, false, [], None, unwrap_or}
+use Rattle.tc_isa.specs.Registers.{Registers}
+use Rattle.tc_elf.specs.Shown.{Shown}
+use Rattle.tc_journal.specs.declared.rule.Outcome.TheVariants.{Went}
+use Rattle.tc_turn.specs.Turn.{Thread, Mutex, Guest, thread_of, next_lock, next_act, outcome_of, thread_after, mutex_after}
+use Rattle.tc_turn.specs.Memory.{number_at, with_number}
+use Rattle.tc_turn.specs.Replay.{word_of}
+
+-- the number that a load of the thread's own memory finds
+abbrev pub own_number : Thread → ℕ → ℕ → ℕ
+own_number d addr width = number_at (λ at. unwrap_or (d.own at) 0) addr width
+
+-- the thread after a turn that left these registers and stored so many bytes of a value in its own memory
+abbrev pub stored : Registers → ℕ → ℕ → ℕ → Thread → Thread
+stored r addr width value d =
+    record { regs = r; own = with_number d.own addr width value; fuel = d.fuel - 1; status = d.status; held = d.held }
+
+-- the next turn goes on and leads to the same whatever the locks are; it takes and releases none, changes none, and gives
+-- their journals no word, unless it may load
+pub record IsOwnTurn (image : Shown) (loads : Bool) (d next : Thread) : Type 0 where
+  pub after : (locks : ℕ → Mutex) → thread_after d (next_act image d locks) ≡ next
+  pub went : (locks : ℕ → Mutex) → outcome_of (next_act image d locks) ≡ Went
+  pub alone : (locks : ℕ → Mutex) (t k : ℕ) (l : Mutex) → mutex_after image t d.held (next_act image d locks) k l ≡ l
+  pub none : next_lock image d ≡ None
+  pub held : next.held ≡ d.held
+  pub words : loads ≡ false → (locks : ℕ → Mutex) (k : ℕ) → word_of image k d locks ≡ []
+
+-- so many such turns lead from a thread to another
+abbrev pub OwnRun : Shown → Bool → ℕ → Guest → Guest → Type 0
+OwnRun image loads zero g last = g ≡ last
+OwnRun image loads (suc n) g last = (mid : Guest) × OwnRun image loads n g mid × IsOwnTurn image loads (thread_of mid) (thread_of last)

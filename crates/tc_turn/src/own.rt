@@ -1,0 +1,108 @@
+//! Turns that touch the thread's own memory alone, one after another.
+
+ghost use Rattle.std.specs.Prelude.{◌≡◌, ◌+◌, ◌<◌, ◌≤◌, ◌^◌, true, false, Ok, Some, None};
+ghost use Rattle.tc_exec.specs.Code.{SlotsTell};
+ghost use Rattle.tc_exec.specs.Flow.{at_next};
+ghost use Rattle.tc_exec.specs.Step.{instruction_at};
+ghost use Rattle.tc_exec.specs.Touch.{loaded};
+ghost use Rattle.tc_exec.specs.declared.outcome.Act.TheVariants.{Next};
+ghost use Rattle.tc_turn.specs.Own.{IsOwnTurn, OwnRun, own_number, stored};
+ghost use Rattle.tc_turn.specs.Turn.{thread_of, thread_after};
+
+use crate::thread::GuestThread;
+use tc_elf::image::Image;
+use tc_exec::code::{Code, Stretch};
+use tc_exec::plain::plain_by;
+use tc_exec::touch::{Touch, finish_load, finish_store, touch_of};
+use tc_isa::instr::Instr;
+
+impl GuestThread {
+    /// Does turns that touch registers and its own memory alone, and says how many: at most `most`,
+    /// and none that was not decoded. It loads only where `loads` says so. It is never inlined, so
+    /// that its loop has the registers of the host for itself.
+    #[inline(never)]
+    pub fn run_own(&mut self, image: &Image, code: &Code, most: u32, loads: bool) -> u32
+        requires { code.now ≡ image.now }
+        ensures runs { OwnRun image.now loads result self.old self.new }
+        ensures most { result ≤ most }
+    {
+        let before = self.fuel;
+        let left = before - most.min(before);
+        if left == before {
+            return 0;
+        }
+        let Some(stretch) = code.stretch(self.regs.pc()) else {
+            return 0;
+        };
+        'run: while self.fuel > left {
+            if !self.own_turn(image, stretch, loads) {
+                break;
+            }
+        }
+        before - self.fuel
+    }
+
+    /// Its next turn, where that is such a one.
+    fn own_turn(&mut self, image: &Image, stretch: Stretch<'_>, loads: bool) -> bool
+        requires stretch { SlotsTell image.now stretch.start stretch.slots.now }
+        requires fuel { 0 < self.old.fuel }
+        ensures yes { result ≡ true
+            → IsOwnTurn image.now loads (thread_of self.old) (thread_of self.new) }
+        ensures fuel { result ≡ true → self.new.fuel + 1 ≡ self.old.fuel }
+        ensures no { result ≡ false → self.new ≡ self.old }
+    {
+        let Some(instr) = stretch.find(self.regs.pc()) else {
+            return false;
+        };
+        if plain_by(&mut self.regs, instr) {
+            self.fuel -= 1;
+            return true;
+        }
+        self.touch(image, instr, loads)
+    }
+
+    /// Its next turn, where that loads or stores in its own memory.
+    fn touch(&mut self, image: &Image, instr: &Instr, loads: bool) -> bool
+        requires read { instruction_at image.now self.old.regs.pc ≡ Ok instr.now }
+        requires fuel { 0 < self.old.fuel }
+        ensures yes { result ≡ true
+            → IsOwnTurn image.now loads (thread_of self.old) (thread_of self.new) }
+        ensures fuel { result ≡ true → self.new.fuel + 1 ≡ self.old.fuel }
+        ensures no { result ≡ false → self.new ≡ self.old }
+    {
+        match touch_of(image, &mut self.near, &self.regs, instr, loads) {
+            Some(Touch::Load { addr, width }) => {
+                self.load(instr, addr, width);
+                true
+            }
+            Some(Touch::Store { addr, width, value }) => {
+                self.store(addr, width, value);
+                true
+            }
+            None => false,
+        }
+    }
+
+    fn load(&mut self, instr: &Instr, addr: u32, width: u32)
+        requires fits { addr + width ≤ 2 ^ 32 }
+        requires small { width ≤ 4 }
+        requires fuel { 0 < self.old.fuel }
+        ensures { thread_of self.new ≡ thread_after (thread_of self.old) (Some (Next
+            (loaded instr.now (own_number (thread_of self.old) addr width) self.old.regs) None)) }
+    {
+        let number = self.own.number(addr, width);
+        finish_load(&mut self.regs, instr, number);
+        self.fuel -= 1;
+    }
+
+    fn store(&mut self, addr: u32, width: u32, value: u32)
+        requires fits { addr + width ≤ 2 ^ 32 }
+        requires fuel { 0 < self.old.fuel }
+        ensures { thread_of self.new
+            ≡ stored (at_next self.old.regs) addr width value (thread_of self.old) }
+    {
+        self.own.put(addr, width, value);
+        finish_store(&mut self.regs);
+        self.fuel -= 1;
+    }
+}
