@@ -16,7 +16,7 @@ use Rattle.tc_journal.specs.declared.block.End.TheVariants.{Wants, Unlocked, Sle
 use Rattle.tc_turn.specs.Turn.{is_running}
 use Rattle.tc_segment.specs.View.{LockView}
 use Rattle.tc_context.specs.View.{PackageView, IsSoundPackage, bare}
-use Rattle.tc_context.proofs.Few.{less_few}
+use Rattle.tc_turn.proofs.Few.{less_few}
 use Rattle.tc_hall.specs.declared.board.Knows.{Knows}
 use Rattle.tc_hall.specs.declared.board.Call.TheVariants.{Free}
 use Rattle.tc_hall.specs.declared.board.Terms.{Terms}

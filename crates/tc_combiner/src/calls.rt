@@ -1,12 +1,12 @@
 //! The calls of the hall, as a desk makes them: what each adds to the list of the pass, and how what
 //! the pass has out changes.
 
-ghost use Rattle.std.specs.Prelude.{ℕ, ◌≡◌, ◌≢◌, ◌<◌, [], ◌∷◌, true, false, MatchResult};
+ghost use Rattle.std.specs.Prelude.{ℕ, ◌≡◌, ◌≢◌, ◌+◌, ◌<◌, [], ◌∷◌, true, false, IfErr, MatchResult};
 ghost use Rattle.tc_segment.specs.View.{IsAtRest};
 ghost use Rattle.tc_context.specs.View.{Rests, fits_of};
 ghost use Rattle.tc_hall.specs.Places.{IsInRange, code_of};
 ghost use Rattle.tc_hall.specs.Rule.{threads, locks, IsInOrder, grants_adopted};
-ghost use Rattle.tc_hall.specs.Steps.{IsSamePass, put_call};
+ghost use Rattle.tc_hall.specs.Steps.{IsSamePass, Missed, put_call};
 ghost use Rattle.tc_hall.specs.declared.board.Call.TheVariants.{Free, Stopped};
 ghost use Rattle.tc_hall.specs.Outs.{outs, erase, IsOut, Pack, Loose, Called};
 ghost use Rattle.tc_combiner.specs.Packages.{IsWaiter};
@@ -54,6 +54,8 @@ pub fn adopt(hall: &Hall, pass: &mut Pass, t: u32, lock: u32) -> Result<Package,
         (λ q. Moves pass.old.knows pass.new.knows [] (Pack q ∷ [])
         × IsWaiter t lock pass.old.knows.image q)
         (λ e. outs pass.new.knows ≡ outs pass.old.knows) }
+    ensures missed { IfErr result
+        (λ e. Missed (256 + lock) (t + 2) e.0 pass.old.knows pass.new.knows) }
 {
     match hall.adopt(pass, t, lock) {
         Ok(waiter) => {
@@ -73,6 +75,8 @@ pub fn take(hall: &Hall, pass: &mut Pass, lock: u32) -> Result<LockState, LockOu
         (λ l. Moves pass.old.knows pass.new.knows [] (Loose l ∷ [])
         × IsAtRest pass.old.knows.image lock l)
         (λ e. outs pass.new.knows ≡ outs pass.old.knows) }
+    ensures missed { IfErr result (λ e. Missed 0 (threads hall.now.terms + lock + 2) e.0
+        pass.old.knows pass.new.knows) }
 {
     match hall.take(pass, lock) {
         Ok(state) => Ok(state),
