@@ -56,7 +56,9 @@ fn tell<G: Gate>(gate: &G, worker: u32, t: u32, settled: &Settled) {
     }
 }
 
-// Offers each thread that the desk put as ready.
+// Offers each thread that the desk put as ready. Few blocks make one ready: those that do pay for a
+// call, and the others don't.
+#[inline(never)]
 fn offer_all<Q: Waiters>(desk: &Desk<Q>, ready: &mut Ready)
     requires known { All (λ t. t < ready.old.threads) desk.now.handed }
     ensures { HasOffered desk.now.handed ready.old ready.new }
@@ -81,7 +83,9 @@ fn conclude<G: Gate, Q: Waiters>(
     ensures offered { HasOffered desk.now.handed ready.old ready.new }
 {
     tell(gate, worker, t, &settled);
-    offer_all(desk, ready);
+    if !desk.handed().is_empty() {
+        offer_all(desk, ready);
+    }
     next(settled)
 }
 
