@@ -51,6 +51,14 @@ impl Regs {
         self.counter
     }
 
+    /// The numbers in all registers.
+    pub fn words(&self) -> &[u32; 32]
+        ensures value { result.now ≡ self.now.words }
+        ensures kept { IsRegisters self.now }
+    {
+        &self.words
+    }
+
     /// The number in a register.
     pub fn get(&self, register: Reg) -> u32
         ensures value { result ≡ get self.now register }
