@@ -16,43 +16,44 @@ use Rattle.tc_turn.specs.Replay.{Entry, Replays, replay_entry, replayed, AreRepl
 use Rattle.tc_segment.specs.declared.record.Record.{Record}
 use Rattle.tc_segment.specs.declared.record.Opening.{Opening}
 use Rattle.tc_segment.specs.View.{Opened, LockView, with_closed, entries, lock_of, replay_in, IsSoundLock, with_journal, opened_at, more_words, noted, entry_from, closed_with, with_end, Closes, fresh_state}
-use Rattle.tc_segment.specs.Kept.{regs_at, shown, shown_open, shown_journal, Fits, AllFit, OpenFits, Extends}
+use Rattle.tc_segment.specs.Packed.{regs_at, Extends}
+use Rattle.tc_segment.specs.Kept.{shown, shown_open, shown_journal, Fits, AllFit, OpenFits}
+use Rattle.tc_segment.proofs.Packing.{extends_same}
 use Rattle.tc_segment.proofs.Journals.{replayed-more, are_replayed-more}
 
 -- registers and words that were there still are
-pub record Grows (edges more : List Registers) (words longer : List ℕ) : Type 0 where
+pub record Grows (edges more : List ℕ) (words longer : List ℕ) : Type 0 where
   pub regs : Extends edges more
   pub count : length words ≤ length longer
   pub same : (from n : ℕ) → from + n ≤ length words → take n (drop from longer) ≡ take n (drop from words)
 
-pub word_more : (edges : List Registers) (words ws : List ℕ) → Grows edges edges words (words ++ ws)
+pub word_more : (edges : List ℕ) (words ws : List ℕ) → Grows edges edges words (words ++ ws)
 word_more edges words ws = record {
-  regs = record { longer = omega arith; same = λ i lt. refl };
+  regs = extends_same edges;
   count = omega (arith, length-append words ws);
   same = λ from n le. ap (take n) (drop-append-le from words ws (omega (arith, le))) ∙ take-append-le n (drop from words) ws (omega (arith, length-drop from words, le));
 }
 
-pub edges_more : (edges more : List Registers) (words : List ℕ) → Extends edges more → Grows edges more words words
+pub edges_more : (edges more : List ℕ) (words : List ℕ) → Extends edges more → Grows edges more words words
 edges_more edges more words e = record { regs = e; count = omega arith; same = λ from n le. refl }
 
 -- so nothing changes that is shown of what was there
 
-fits_one : {edges more : List Registers} {words longer : List ℕ} → Grows edges more words longer → (r : Record) → Fits edges words r → Fits more longer r
+fits_one : {edges more : List ℕ} {words longer : List ℕ} → Grows edges more words longer → (r : Record) → Fits edges words r → Fits more longer r
 fits_one grows r fits =
-    let e = grows.regs.longer in
     let w = grows.count in
     record {
-      start = (let h = fits.start in omega arith);
-      finish = (let h = fits.finish in omega arith);
+      start = grows.regs.places r.start fits.start;
+      finish = grows.regs.places r.finish fits.finish;
       order = fits.order;
       inside = (let h = fits.inside in omega arith);
     }
 
-pub fits_grown : {edges more : List Registers} {words longer : List ℕ} → Grows edges more words longer → (rs : List Record) → AllFit edges words rs → AllFit more longer rs
+pub fits_grown : {edges more : List ℕ} {words longer : List ℕ} → Grows edges more words longer → (rs : List Record) → AllFit edges words rs → AllFit more longer rs
 fits_grown grows [] fit = tt
 fits_grown grows (r ∷ rs) fit = (fits_one grows r fit.0, fits_grown grows rs fit.1)
 
-shown_one : {edges more : List Registers} {words longer : List ℕ} → Grows edges more words longer → (r : Record) → Fits edges words r → shown more longer r ≡ shown edges words r
+shown_one : {edges more : List ℕ} {words longer : List ℕ} → Grows edges more words longer → (r : Record) → Fits edges words r → shown more longer r ≡ shown edges words r
 shown_one grows r fits =
     let start = grows.regs.same r.start fits.start in
     let finish = grows.regs.same r.finish fits.finish in
@@ -61,7 +62,7 @@ shown_one grows r fits =
     let foreign = grows.same r.from (r.to - r.from) (omega arith) in
     λ i. record { block = r.block; start = start i; fuel = r.fuel; finish = finish i; foreign = foreign i }
 
-pub shown_grown : {edges more : List Registers} {words longer : List ℕ} → Grows edges more words longer → (rs : List Record) → AllFit edges words rs → map (shown more longer) rs ≡ map (shown edges words) rs
+pub shown_grown : {edges more : List ℕ} {words longer : List ℕ} → Grows edges more words longer → (rs : List Record) → AllFit edges words rs → map (shown more longer) rs ≡ map (shown edges words) rs
 shown_grown grows [] fit = refl
 shown_grown grows (r ∷ rs) fit =
     let e = shown_one grows r fit.0 in
@@ -69,13 +70,13 @@ shown_grown grows (r ∷ rs) fit =
     λ i. e i ∷ es i
 
 -- an open entry has the words that come
-open_more : (from : Mutex) (edges : List Registers) (words ws : List ℕ) (o : Option Opening) → OpenFits edges words o → option_map (shown_open from edges (words ++ ws)) o ≡ option_map (more_words ws) (option_map (shown_open from edges words) o)
+open_more : (from : Mutex) (edges : List ℕ) (words ws : List ℕ) (o : Option Opening) → OpenFits edges words o → option_map (shown_open from edges (words ++ ws)) o ≡ option_map (more_words ws) (option_map (shown_open from edges words) o)
 open_more from edges words ws None fit = refl
 open_more from edges words ws (Some o) fit =
     let e = drop-append-le o.from words ws fit.1 in
     λ i. Some (record { start = regs_at edges o.start; fuel = o.fuel; from = from; foreign = e i })
 
-pub open_fits-more : (edges : List Registers) (words ws : List ℕ) (o : Option Opening) → OpenFits edges words o → OpenFits edges (words ++ ws) o
+pub open_fits-more : (edges : List ℕ) (words ws : List ℕ) (o : Option Opening) → OpenFits edges words o → OpenFits edges (words ++ ws) o
 open_fits-more edges words ws None fit = tt
 open_fits-more edges words ws (Some o) fit = (fit.0, (let h = fit.1 in omega (arith, length-append words ws)))
 
@@ -96,7 +97,7 @@ room_is true n e = refl
 room_is false n e = absurd (cc)
 
 -- a word more
-pub noted_journal : (image : Shown) (number limit : ℕ) (old new : List Entry) (sealed : ℕ) (edges : List Registers) (words : List ℕ) (opened : Option Opening) (er wr value : ℕ)
+pub noted_journal : (image : Shown) (number limit : ℕ) (old new : List Entry) (sealed : ℕ) (edges : List ℕ) (words : List ℕ) (opened : Option Opening) (er wr value : ℕ)
     → new ≡ old → OpenFits edges words opened → is_some (shown_journal image number limit old sealed edges words opened er wr).opened ≡ true
     → shown_journal image number limit new sealed edges (words ++ value ∷ []) opened er (wr - 1) ≡ noted (value ∷ []) (shown_journal image number limit old sealed edges words opened er wr)
 noted_journal image number limit old new sealed edges words opened er wr value same fits was =
@@ -142,7 +143,7 @@ none_closed n es le none = elim (slice_get_cases es n).1 [
 ]
 
 -- an entry is opened
-pub opened_journal : (image : Shown) (number limit : ℕ) (old new : List Entry) (sealed : ℕ) (edges more : List Registers) (words : List ℕ) (er wr place from : ℕ) (start : Registers) (fuel : ℕ) (at : Mutex)
+pub opened_journal : (image : Shown) (number limit : ℕ) (old new : List Entry) (sealed : ℕ) (edges more : List ℕ) (words : List ℕ) (er wr place from : ℕ) (start : Registers) (fuel : ℕ) (at : Mutex)
     → new ≡ old → regs_at more place ≡ start → from ≡ length words → replayed image number (mutex_at_start image number) old ≡ at
     → shown_journal image number limit new sealed more words (Some (record { fuel = fuel; start = place; from = from })) (er - 1) wr ≡ opened_at at start fuel (shown_journal image number limit old sealed edges words None er wr)
 opened_journal image number limit old new sealed edges more words er wr place from start fuel at same is len lock =
@@ -169,7 +170,7 @@ sound_opened start fuel l sound none closed = record {
 }
 
 -- the entry closed
-pub closed_journal : (image : Shown) (number limit : ℕ) (old new : List Entry) (sealed : ℕ) (edges more : List Registers) (words : List ℕ) (opened : Option Opening) (er wr : ℕ) (o : Opening) (block : Block) (finish : Registers) (place to : ℕ)
+pub closed_journal : (image : Shown) (number limit : ℕ) (old new : List Entry) (sealed : ℕ) (edges more : List ℕ) (words : List ℕ) (opened : Option Opening) (er wr : ℕ) (o : Opening) (block : Block) (finish : Registers) (place to : ℕ)
     → opened ≡ Some o → Extends edges more → OpenFits edges words (Some o) → regs_at more place ≡ finish → to ≡ length words → sealed ≡ length old
     → new ≡ old ++ shown more words (record { block = block; fuel = o.fuel; start = o.start; finish = place; from = o.from; to = to }) ∷ []
     → shown_journal image number limit new sealed more words None er wr ≡ closed_with block finish (shown_journal image number limit old sealed edges words opened er wr)
@@ -211,7 +212,7 @@ sound_closed block finish l o sound is closes =
 
 -- ---- a new lock state
 
-pub fresh_view : (of image : Shown) (number limit : ℕ) (bytes words : List ℕ) (edges : List Registers) (records : List Record) → of ≡ image → bytes ≡ (mutex_at_start image number).bytes → records ≡ []
+pub fresh_view : (of image : Shown) (number limit : ℕ) (bytes words : List ℕ) (edges : List ℕ) (records : List Record) → of ≡ image → bytes ≡ (mutex_at_start image number).bytes → records ≡ []
     → record { number = number; bytes = bytes; broken = false; sections = 0; journal = shown_journal of number limit (map (shown edges words) records) 0 edges words None 0 0 } ≡ fresh_state image number limit
 fresh_view of image number limit bytes words edges records o b r = λ i. record { number = number; bytes = b i; broken = false; sections = 0; journal = shown_journal (o i) number limit (map (shown edges words) (r i)) 0 edges words None 0 0 }
 
@@ -233,18 +234,18 @@ sound_fresh image number limit known small guard most = record {
 -- ---- the entries
 
 -- the record at a place has its registers and words
-pub fits_at : (edges : List Registers) (words : List ℕ) (rs : List Record) (i : ℕ) (r : Record) → AllFit edges words rs → slice_get rs i ≡ Some r → Fits edges words r
+pub fits_at : (edges : List ℕ) (words : List ℕ) (rs : List Record) (i : ℕ) (r : Record) → AllFit edges words rs → slice_get rs i ≡ Some r → Fits edges words r
 fits_at edges words [] i r all is = absurd (cc)
 fits_at edges words (x ∷ rs) zero r all is = (let same : x ≡ r = cc in subst (λ (y : Record). Fits edges words y) same all.0)
 fits_at edges words (x ∷ rs) (suc i) r all is = fits_at edges words rs i r all.1 is
 
 -- one record more
-pub fits_end : (edges : List Registers) (words : List ℕ) (rs : List Record) (r : Record) → AllFit edges words rs → Fits edges words r → AllFit edges words (rs ++ r ∷ [])
+pub fits_end : (edges : List ℕ) (words : List ℕ) (rs : List Record) (r : Record) → AllFit edges words rs → Fits edges words r → AllFit edges words (rs ++ r ∷ [])
 fits_end edges words [] r all fits = (fits, tt)
 fits_end edges words (x ∷ rs) r all fits = (all.0, fits_end edges words rs r all.1 fits)
 
 -- a record that is stamped
-pub fits_set : (edges : List Registers) (words : List ℕ) (rs : List Record) (i : ℕ) (r : Record) → AllFit edges words rs → Fits edges words r → AllFit edges words (set rs i r)
+pub fits_set : (edges : List ℕ) (words : List ℕ) (rs : List Record) (i : ℕ) (r : Record) → AllFit edges words rs → Fits edges words r → AllFit edges words (set rs i r)
 fits_set edges words [] i r all fits = tt
 fits_set edges words (x ∷ rs) zero r all fits = (fits, all.1)
 fits_set edges words (x ∷ rs) (suc i) r all fits = (all.0, fits_set edges words rs i r all.1 fits)

@@ -1,5 +1,5 @@
 pub mod Journals
-pub mod Edges
+pub mod Packing
 pub mod Keeping
 pub mod Sealing
 pub mod Inside

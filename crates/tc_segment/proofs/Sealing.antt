@@ -1,6 +1,5 @@
 -- An entry that is sealed.
 use Rattle.std.proofs.Common.{◌≡◌, ℕ, ◌+◌, ◌-◌, ◌≤◌, Bool, true, false, ◌&&◌, ◌<◌, List, [], ◌∷◌, ◌++◌, map, set, take, length, refl, sym, ap, subst, ◌∙◌, arith, append_assoc, append-nil, ◌==◌}
-use Rattle.tc_isa.specs.Registers.{Registers}
 use Rattle.std.proofs.lemmas.List.{map-append, length-map, length-set, take-map, take_all, take_more_set}
 use Rattle.std.proofs.lemmas.Option.{slice_get-map, slice_get_past, slice_get_within}
 use Rattle.std.specs.Prelude.{Option, Some, None, option_map, nat_lt, slice_get, if◌then◌else◌}
@@ -19,12 +18,12 @@ use Rattle.tc_segment.specs.Kept.{shown, block_of, shown_open, shown_journal}
 use Rattle.tc_segment.proofs.Journals.{replayed-more}
 use Rattle.tc_segment.proofs.Keeping.{entries_are}
 
-blocks_all : (edges : List Registers) (words : List ℕ) (rs : List Record) → map block_in (map (shown edges words) rs) ≡ map block_of rs
+blocks_all : (edges : List ℕ) (words : List ℕ) (rs : List Record) → map block_in (map (shown edges words) rs) ≡ map block_of rs
 blocks_all edges words [] = refl
 blocks_all edges words (r ∷ rs) = (let e = blocks_all edges words rs in λ i. r.block ∷ e i)
 
 -- the blocks of the first so many
-pub blocks_shown : (edges : List Registers) (words : List ℕ) (n : ℕ) (rs : List Record) → map block_in (take n (map (shown edges words) rs)) ≡ map block_of (take n rs)
+pub blocks_shown : (edges : List ℕ) (words : List ℕ) (n : ℕ) (rs : List Record) → map block_in (take n (map (shown edges words) rs)) ≡ map block_of (take n rs)
 blocks_shown edges words n rs = ap (map block_in) (take-map (shown edges words) n rs) ∙ blocks_all edges words (take n rs)
 
 pub last_shown : (rs : List Record) → last_of (map block_of rs) ≡ option_map block_of (slice_get rs (length rs - 1))
@@ -87,7 +86,7 @@ run_short lock limit before b short follows =
       | false ↦ λ e. short
     ]) refl
 
-pub sealed_journal : (image : Shown) (number limit : ℕ) (old new : List Entry) (sealed : ℕ) (edges : List Registers) (words : List ℕ) (opened : Option Opening) (er wr stamp worker : ℕ) (e : Entry)
+pub sealed_journal : (image : Shown) (number limit : ℕ) (old new : List Entry) (sealed : ℕ) (edges : List ℕ) (words : List ℕ) (opened : Option Opening) (er wr stamp worker : ℕ) (e : Entry)
     → slice_get old sealed ≡ Some e → length old ≤ sealed + 1 → new ≡ set old sealed (sealed_entry stamp worker e)
     → shown_journal image number limit new (sealed + 1) edges words opened er wr ≡ sealed_as stamp worker (shown_journal image number limit old sealed edges words opened er wr)
 sealed_journal image number limit old new sealed edges words opened er wr stamp worker e is short made =

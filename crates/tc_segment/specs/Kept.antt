@@ -1,6 +1,5 @@
 -- A lock state's fields, as it is seen, and what they keep.
-use Rattle.std.specs.Prelude.{◌≡◌, ℕ, ◌+◌, ◌-◌, ◌*◌, ◌<◌, ◌≤◌, List, [], ◌∷◌, map, length, take, drop, slice_get, unwrap_or, vec_len, vec_capacity, Option, Some, None, option_map}
-use Rattle.tc_isa.specs.Registers.{Registers}
+use Rattle.std.specs.Prelude.{◌≡◌, ℕ, ◌+◌, ◌-◌, ◌*◌, ◌^◌, ◌<◌, ◌≤◌, List, [], ◌∷◌, map, length, take, drop, slice_get, vec_len, vec_capacity, Option, Some, None, option_map}
 use Rattle.tc_elf.specs.Shown.{Shown, guard_at}
 use Rattle.tc_journal.specs.Batch.{run_of}
 use Rattle.tc_journal.specs.declared.block.Block.{Block}
@@ -9,17 +8,12 @@ use Rattle.tc_turn.specs.Replay.{Entry, replayed}
 use Rattle.tc_segment.specs.declared.record.Record.{Record}
 use Rattle.tc_segment.specs.declared.record.Opening.{Opening}
 use Rattle.tc_segment.specs.declared.state.Contents.{Contents}
+use Rattle.tc_segment.specs.Packed.{IsPlace, regs_at}
+use Rattle.tc_segment.specs.declared.packed.TheConstants.{MOST_WORDS}
 use Rattle.tc_segment.specs.View.{LockView, Journal, Opened, IsSoundLock, blocks_of, sealed_block}
 
--- the registers at a place
-abbrev pub no_regs : Registers
-no_regs = record { pc = 0; words = [] }
-
-abbrev pub regs_at : List Registers → ℕ → Registers
-regs_at edges i = unwrap_or (slice_get edges i) no_regs
-
 -- an entry, whose registers and words stand at the record's places
-abbrev pub shown : List Registers → List ℕ → Record → Entry
+abbrev pub shown : List ℕ → List ℕ → Record → Entry
 shown edges words r = record { block = r.block; start = regs_at edges r.start; fuel = r.fuel; finish = regs_at edges r.finish; foreign = take (r.to - r.from) (drop r.from words) }
 
 abbrev pub block_of : Record → Block
@@ -28,11 +22,11 @@ block_of r = r.block
 abbrev pub sealed_record : ℕ → ℕ → Record → Record
 sealed_record stamp worker r = record r { block = sealed_block stamp worker r.block }
 
-abbrev pub shown_open : Mutex → List Registers → List ℕ → Opening → Opened
+abbrev pub shown_open : Mutex → List ℕ → List ℕ → Opening → Opened
 shown_open from edges words o = record { start = regs_at edges o.start; fuel = o.fuel; from = from; foreign = drop o.from words }
 
 -- of these entries the first so many are sealed, and one behind them is closed
-abbrev pub shown_journal : Shown → ℕ → ℕ → List Entry → ℕ → List Registers → List ℕ → Option Opening → ℕ → ℕ → Journal
+abbrev pub shown_journal : Shown → ℕ → ℕ → List Entry → ℕ → List ℕ → List ℕ → Option Opening → ℕ → ℕ → Journal
 shown_journal image number limit es sealed edges words opened entry_room word_room = record {
   image = image;
   limit = limit;
@@ -49,25 +43,25 @@ view_of a = record {
   bytes = a.bytes.items;
   broken = a.broken;
   sections = a.sections;
-  journal = shown_journal a.of.value a.number a.limit (map (shown a.edges.items a.words.items) a.records.items) a.sealed a.edges.items a.words.items a.opened a.entry_room a.word_room;
+  journal = shown_journal a.of.value a.number a.limit (map (shown a.edges.words a.words.items) a.records.items) a.sealed a.edges.words a.words.items a.opened a.entry_room a.word_room;
 }
 
 -- ---- what is kept
 
 -- the record's registers and words are there
-pub record Fits (edges : List Registers) (words : List ℕ) (r : Record) : Type 0 where
-  pub start : r.start < length edges
-  pub finish : r.finish < length edges
+pub record Fits (edges : List ℕ) (words : List ℕ) (r : Record) : Type 0 where
+  pub start : IsPlace edges r.start
+  pub finish : IsPlace edges r.finish
   pub order : r.from ≤ r.to
   pub inside : r.to ≤ length words
 
-abbrev pub AllFit : List Registers → List ℕ → List Record → Type 0
+abbrev pub AllFit : List ℕ → List ℕ → List Record → Type 0
 AllFit edges words [] = Unit {0}
 AllFit edges words (r ∷ rs) = Fits edges words r × AllFit edges words rs
 
-abbrev pub OpenFits : List Registers → List ℕ → Option Opening → Type 0
+abbrev pub OpenFits : List ℕ → List ℕ → Option Opening → Type 0
 OpenFits edges words None = Unit {0}
-OpenFits edges words (Some o) = (o.start < length edges) × (o.from ≤ length words)
+OpenFits edges words (Some o) = IsPlace edges o.start × (o.from ≤ length words)
 
 abbrev pub count : {X : Type 0} → Option X → ℕ
 count None = 0
@@ -76,24 +70,13 @@ count (Some x) = 1
 pub record KeptLock (a : Contents) : Type 0 where
   pub sound : IsSoundLock (view_of a)
   pub start : a.start ≡ (guard_at a.of.value a.number).start
-  pub records : AllFit a.edges.items a.words.items a.records.items
+  pub records : AllFit a.edges.words a.words.items a.records.items
   pub sealed : a.sealed ≤ length a.records.items
   pub closed : length a.records.items ≤ a.sealed + 1
-  pub opened : OpenFits a.edges.items a.words.items a.opened
+  pub opened : OpenFits a.edges.words a.words.items a.opened
   pub run : a.run ≡ run_of a.number (blocks_of (view_of a))
   pub short : a.run ≤ a.limit
   pub entry_room : vec_len a.records + a.entry_room + count a.opened ≤ vec_capacity a.records
-  pub edge_room : vec_len a.edges + 2 * a.entry_room + count a.opened ≤ vec_capacity a.edges
+  pub edge_room : MOST_WORDS * (2 * a.entry_room + count a.opened) ≤ a.edges.room
   pub word_room : vec_len a.words + a.word_room ≤ vec_capacity a.words
-
--- ---- registers that are noted
-
--- these registers stand at the place
-pub record StandsAt (edges : List Registers) (i : ℕ) (regs : Registers) : Type 0 where
-  pub inside : i < length edges
-  pub is : regs_at edges i ≡ regs
-
--- what stood at a place still does
-pub record Extends (old new : List Registers) : Type 0 where
-  pub longer : length old ≤ length new
-  pub same : (i : ℕ) → i < length old → regs_at new i ≡ regs_at old i
+  pub word_places : vec_len a.words + a.word_room < 2 ^ 32

@@ -7,11 +7,14 @@
 //! what contracts see.
 //!
 //! - `state`: a lock state with its calls. `entry`: an entry that it lends.
-//! - `law`: what a lock at rest is. `record`: how entries are kept.
+//! - `law`: what a lock at rest is. `record`: how entries are kept, `edges` and `packed`: how their
+//!   registers are.
 #![tactic(auto)]
 
+mod edges;
 pub mod entry;
 pub mod law;
+mod packed;
 mod record;
 pub mod state;
 #[cfg(test)]

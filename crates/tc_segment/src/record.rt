@@ -1,13 +1,13 @@
-//! How entries are kept: their registers stand in one vector, and their foreign words in another.
+//! How entries are kept: their registers stand in one place, and their foreign words in another.
 
-ghost use Rattle.std.specs.Prelude.{◌≡◌, ◌+◌, ◌<◌, ◌≤◌, length, map, take, vec_len, vec_capacity};
+ghost use Rattle.std.specs.Prelude.{◌≡◌, ◌+◌, ◌≤◌, length, map, take, vec_len, vec_capacity, OnOk};
 ghost use Rattle.tc_journal.specs.Batch.{last_of};
-ghost use Rattle.tc_segment.specs.Kept.{block_of, shown, sealed_record, Fits, StandsAt, Extends};
+ghost use Rattle.tc_segment.specs.Kept.{block_of, shown, sealed_record, Fits};
 ghost use Rattle.tc_segment.specs.Lent.{entry_lent};
 
+use crate::edges::Edges;
 use crate::entry::Entry;
-use std::slice::from_ref;
-use tc_isa::regs::Regs;
+use std::alloc::AllocError;
 use tc_journal::block::Block;
 
 /// An entry whose registers and foreign words stand at these places.
@@ -15,10 +15,10 @@ use tc_journal::block::Block;
 pub(crate) struct Record {
     pub(crate) block: Block,
     pub(crate) fuel: u32,
-    pub(crate) start: usize,
-    pub(crate) finish: usize,
-    pub(crate) from: usize,
-    pub(crate) to: usize,
+    pub(crate) start: u32,
+    pub(crate) finish: u32,
+    pub(crate) from: u32,
+    pub(crate) to: u32,
 }
 
 /// The entry of a block that runs, whose registers before it stand at one of these places, and whose
@@ -26,8 +26,8 @@ pub(crate) struct Record {
 #[derive(Clone, Copy)]
 pub(crate) struct Opening {
     pub(crate) fuel: u32,
-    pub(crate) start: usize,
-    pub(crate) from: usize,
+    pub(crate) start: u32,
+    pub(crate) from: u32,
 }
 
 impl Record {
@@ -40,16 +40,16 @@ impl Record {
     }
 
     /// The entry, which lends its part of all words.
-    pub(crate) fn entry<'a>(&self, edges: &[Regs], words: &'a [u32]) -> Entry<'a>
-        requires { Fits edges.now words.now self.now }
-        ensures { entry_lent result ≡ shown edges.now words.now self.now }
+    pub(crate) fn entry<'a>(&self, edges: &Edges, words: &'a [u32]) -> Entry<'a>
+        requires { Fits edges.now.words words.now self.now }
+        ensures { entry_lent result ≡ shown edges.now.words words.now self.now }
     {
         Entry {
             block: self.block,
-            start: edges[self.start],
+            start: edges.at(self.start),
             fuel: self.fuel,
-            end: edges[self.finish],
-            foreign: &words[self.from..self.to],
+            end: edges.at(self.finish),
+            foreign: &words[self.from as usize..self.to as usize],
         }
     }
 }
@@ -65,21 +65,18 @@ pub(crate) fn last_block(records: &[Record], sealed: usize) -> Option<Block>
     }
 }
 
-/// The place of these registers behind all others, or that of the last ones where those are the
-/// same, as they are between two blocks of one section.
-pub(crate) fn place_of(edges: &mut Vec<Regs>, regs: &Regs) -> usize
-    requires { vec_len edges.old < vec_capacity edges.old }
-    ensures place { StandsAt edges.new.items result regs.now }
-    ensures more { Extends edges.old.items edges.new.items }
-    ensures room { vec_len edges.new ≤ vec_len edges.old + 1 }
-    ensures capacity { vec_capacity edges.old ≤ vec_capacity edges.new }
+/// By how many records a journal grows at least. What is not written yet takes no memory of the
+/// host, and a large vector grows without a copy.
+const GROWTH: usize = 4_096;
+
+/// Makes room for two records more.
+pub(crate) fn make_room(records: &mut Vec<Record>) -> Result<(), AllocError>
+    ensures items { records.new.items ≡ records.old.items }
+    ensures room { OnOk result (vec_len records.new + 2 ≤ vec_capacity records.new) }
+    ensures capacity { vec_capacity records.old ≤ vec_capacity records.new }
 {
-    let count = edges.len();
-    if count > 0 && edges[count - 1] == *regs {
-        return count - 1;
+    if records.capacity() - records.len() >= 2 {
+        return Ok(());
     }
-    match edges.extend_from_slice(from_ref(regs)) {
-        Ok(()) => count,
-        Err(_) => unreachable!(),
-    }
+    records.reserve(GROWTH)
 }

@@ -9,8 +9,10 @@ ghost use Rattle.tc_turn.specs.Memory.{byte_from as byte_from_start, number_at};
 ghost use Rattle.tc_segment.specs.Lent.{entry_lent};
 ghost use Rattle.tc_segment.specs.View.{IsSoundLock, allows_in, number_of_guard, ClosesWith, MayFollow, MayPass, lock_of, guard_of, with_store, with_section, with_break, with_end, with_journal, opened_at, noted, closed_with, sealed_as, with_room, blocks_of, entries, fresh_state};
 
+use crate::edges::Edges;
 use crate::entry::Entry;
-use crate::record::{Opening, Record, last_block, place_of};
+use crate::packed::MOST_WORDS;
+use crate::record::{Opening, Record, last_block, make_room};
 use std::alloc::{AllocError, Global};
 use std::marker::Model;
 use std::snapshot::Snapshot;
@@ -35,7 +37,7 @@ struct Contents {
     records: Vec<Record>,
     sealed: usize,
     opened: Option<Opening>,
-    edges: Vec<Regs>,
+    edges: Edges,
     words: Vec<u32>,
     entry_room: usize,
     word_room: usize,
@@ -84,7 +86,7 @@ impl LockState {
             records: Vec::new(alloc),
             sealed: 0,
             opened: None,
-            edges: Vec::new(alloc),
+            edges: Edges::new(alloc),
             words: Vec::new(alloc),
             entry_room: 0,
             word_room: 0,
@@ -186,15 +188,20 @@ impl LockState {
         passes_to(last, kind, thread)
     }
 
-    /// Makes room for one entry and for as many foreign words.
+    /// Makes room for one entry and for as many foreign words. A place in a journal is a number of
+    /// 32 bits, so more words than that are refused like memory that is not there.
     pub fn reserve(&mut self, turns: usize) -> Result<(), AllocError>
         ensures ok { OnOk result (self.new ≡ with_journal (with_room 1 turns) self.old) }
         ensures err { OnErr result (self.new ≡ self.old) }
     {
         let contents = &mut *self.contents;
         // One more beside one that is open, with the registers before and after each.
-        contents.records.reserve(2)?;
-        contents.edges.reserve(3)?;
+        make_room(&mut contents.records)?;
+        contents.edges.reserve(3 * MOST_WORDS)?;
+        let most = u32::MAX as usize;
+        if turns > most - contents.words.len() {
+            return Err(AllocError);
+        }
         contents.words.reserve(turns)?;
         contents.entry_room = 1;
         contents.word_room = turns;
@@ -209,11 +216,11 @@ impl LockState {
         ensures { self.new ≡ with_journal (opened_at (lock_of self.old) start.now fuel) self.old }
     {
         let contents = &mut *self.contents;
-        let start = place_of(&mut contents.edges, start);
+        let start = contents.edges.place_of(start);
         contents.opened = Some(Opening {
             fuel,
             start,
-            from: contents.words.len(),
+            from: contents.words.len() as u32,
         });
         contents.entry_room -= 1;
     }
@@ -288,14 +295,14 @@ impl LockState {
         let Some(opening) = contents.opened else {
             return;
         };
-        let finish = place_of(&mut contents.edges, end);
+        let finish = contents.edges.place_of(end);
         let record = Record {
             block: *block,
             fuel: opening.fuel,
             start: opening.start,
             finish,
             from: opening.from,
-            to: contents.words.len(),
+            to: contents.words.len() as u32,
         };
         match contents.records.push(record) {
             Ok(()) => {}

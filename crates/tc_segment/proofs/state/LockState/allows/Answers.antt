@@ -11,7 +11,7 @@ returns c =
     let shows = ap view_of c.deref-contents.ensures ∙ c.self.view_is in
     let kept = subst KeptLock (sym c.deref-contents.ensures) c.self.invariant in
     let a = c.deref-contents.result.now in
-    let blocks = blocks_shown a.edges.items a.words.items a.sealed a.records.items in
+    let blocks = blocks_shown a.edges.words a.words.items a.sealed a.records.items in
     c.may_begin.ensures
     ∙ ap (λ o. may_begin a.number a.limit o a.run c.args.kind c.args.worker) (c.last_block.ensures ∙ ap (λ rs. last_of (map block_of (take a.sealed rs))) c.deref.ensures.value ∙ ap last_of (sym blocks))
     ∙ ap (λ n. may_begin a.number a.limit (last_of (blocks_of (view_of a))) n c.args.kind c.args.worker) kept.run

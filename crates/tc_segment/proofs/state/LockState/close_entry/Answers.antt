@@ -10,7 +10,9 @@ use Rattle.tc_segment.specs.declared.record.Record.{Record}
 use Rattle.tc_segment.specs.declared.record.Opening.{Opening}
 use Rattle.tc_segment.specs.declared.state.Contents.{Contents}
 use Rattle.tc_segment.specs.View.{LockView, Journal, IsSoundLock, block_in, Closes, ClosesWith, with_end, with_journal, closed_with}
-use Rattle.tc_segment.specs.Kept.{shown, shown_open, shown_journal, AllFit, OpenFits, view_of, count, KeptLock, StandsAt, Extends}
+use Rattle.tc_segment.specs.Kept.{shown, shown_open, shown_journal, AllFit, OpenFits, view_of, count, KeptLock}
+use Rattle.tc_segment.specs.Packed.{StandsAt, Extends}
+use Rattle.tc_segment.proofs.Packing.{stands_is, place_of-stands}
 use Rattle.tc_segment.proofs.Keeping.{edges_more, shown_grown, fits_grown, fits_end, none_closed, closed_journal, sound_closed}
 use Rattle.tc_segment.proofs.state.LockState.close_entry.Goals as goal
 
@@ -18,19 +20,19 @@ abbrev record_of : Block → Opening → ℕ → ℕ → Record
 record_of block o finish to = record { block = block; fuel = o.fuel; start = o.start; finish = finish; from = o.from; to = to }
 
 was_open : (a : Contents) (o : Opening) → a.opened ≡ Some o → is_some (view_of a).journal.opened ≡ true
-was_open a o is = ap (λ x. is_some (option_map (shown_open (replayed a.of.value a.number (mutex_at_start a.of.value a.number) (map (shown a.edges.items a.words.items) a.records.items)) a.edges.items a.words.items) x)) is
+was_open a o is = ap (λ x. is_some (option_map (shown_open (replayed a.of.value a.number (mutex_at_start a.of.value a.number) (map (shown a.edges.words a.words.items) a.records.items)) a.edges.words a.words.items) x)) is
 
-closed_view : (a : Contents) (more : List Registers) (records : List Record) (o : Opening) (block : Block) (finish : Registers) (place to : ℕ) → KeptLock a → a.opened ≡ Some o → Extends a.edges.items more → StandsAt more place finish
+closed_view : (a : Contents) (more : List ℕ) (records : List Record) (o : Opening) (block : Block) (finish : Registers) (place to : ℕ) → KeptLock a → a.opened ≡ Some o → Extends a.edges.words more → StandsAt more place finish
     → to ≡ length a.words.items → records ≡ a.records.items ++ record_of block o place to ∷ []
     → shown_journal a.of.value a.number a.limit (map (shown more a.words.items) records) a.sealed more a.words.items None a.entry_room a.word_room ≡ closed_with block finish (view_of a).journal
 closed_view a more records o block finish place to k is extends there len made =
-    let old = map (shown a.edges.items a.words.items) a.records.items in
+    let old = map (shown a.edges.words a.words.items) a.records.items in
     let r = record_of block o place to in
-    let none = none_closed a.sealed old (let h = k.sealed in omega (arith, length-map a.records.items (shown a.edges.items a.words.items))) (k.sound.alone (was_open a o is)) in
+    let none = none_closed a.sealed old (let h = k.sealed in omega (arith, length-map a.records.items (shown a.edges.words a.words.items))) (k.sound.alone (was_open a o is)) in
     let new = ap (map (shown more a.words.items)) made ∙ map-append (shown more a.words.items) a.records.items (r ∷ [])
-    ∙ ap (λ es. es ++ shown more a.words.items r ∷ []) (shown_grown (edges_more a.edges.items more a.words.items extends) a.records.items k.records) in
-    closed_journal a.of.value a.number a.limit old _ a.sealed a.edges.items more a.words.items a.opened a.entry_room a.word_room o block finish place to is extends
-    (subst (λ x. OpenFits a.edges.items a.words.items x) is k.opened) there.is len none new
+    ∙ ap (λ es. es ++ shown more a.words.items r ∷ []) (shown_grown (edges_more a.edges.words more a.words.items extends) a.records.items k.records) in
+    closed_journal a.of.value a.number a.limit old _ a.sealed a.edges.words more a.words.items a.opened a.entry_room a.word_room o block finish place to is extends
+    (subst (λ x. OpenFits a.edges.words a.words.items x) is k.opened) (stands_is there) len none new
 
 pub returns : goal.returns
 returns c =
@@ -55,17 +57,16 @@ invariant_of-self-2 c =
     let finish = c.args.end.now in
     let place = c.place_of-finish.ensures in
     let to : c.len.result ≡ length a.words.items = c.len.ensures ∙ a.words.ok.0 in
-    let old = map (shown a.edges.items a.words.items) a.records.items in
-    let p = shown_open (replayed a.of.value a.number (mutex_at_start a.of.value a.number) old) a.edges.items a.words.items o in
-    let was : (view_of a).journal.opened ≡ Some p = ap (option_map (shown_open (replayed a.of.value a.number (mutex_at_start a.of.value a.number) old) a.edges.items a.words.items)) c.in-Some.is in
+    let old = map (shown a.edges.words a.words.items) a.records.items in
+    let p = shown_open (replayed a.of.value a.number (mutex_at_start a.of.value a.number) old) a.edges.words a.words.items o in
+    let was : (view_of a).journal.opened ≡ Some p = ap (option_map (shown_open (replayed a.of.value a.number (mutex_at_start a.of.value a.number) old) a.edges.words a.words.items)) c.in-Some.is in
     let closes : Closes (view_of a) block finish p = subst (λ (l : LockView). ClosesWith block finish l) (sym shows) c.requires.closes p was in
     let j = closed_view a _ _ o block finish _ _ k c.in-Some.is place.more place.place to c.in-Ok.ensures.items in
-    let none = none_closed a.sealed old (let h = k.sealed in omega (arith, length-map a.records.items (shown a.edges.items a.words.items))) (k.sound.alone (was_open a o c.in-Some.is)) in
-    let len = length-map a.records.items (shown a.edges.items a.words.items) in
-    let fits : OpenFits a.edges.items a.words.items (Some o) = subst (λ x. OpenFits a.edges.items a.words.items x) c.in-Some.is k.opened in
+    let none = none_closed a.sealed old (let h = k.sealed in omega (arith, length-map a.records.items (shown a.edges.words a.words.items))) (k.sound.alone (was_open a o c.in-Some.is)) in
+    let len = length-map a.records.items (shown a.edges.words a.words.items) in
+    let fits : OpenFits a.edges.words a.words.items (Some o) = subst (λ x. OpenFits a.edges.words a.words.items x) c.in-Some.is k.opened in
     let start = fits.0 in
     let from = fits.1 in
-    let longer = place.more.longer in
     let one : count a.opened ≡ 1 = ap (λ (x : Option Opening). count x) c.in-Some.is in
     let items = c.in-Ok.ensures.items in
     let r = record_of block o c.place_of-finish.result c.len.result in
@@ -74,15 +75,16 @@ invariant_of-self-2 c =
     record {
       sound = subst (λ (l : LockView). IsSoundLock l) (λ i. record { number = a.number; bytes = a.bytes.items; broken = sym c.broken_after-broken.ensures i; sections = a.sections; journal = sym j i }) (sound_closed block finish (view_of a) p k.sound was closes);
       start = k.start;
-      records = subst (λ rs. AllFit c.place_of-finish.new.edges.items a.words.items rs) (sym items)
-          (fits_end c.place_of-finish.new.edges.items a.words.items a.records.items r (fits_grown (edges_more a.edges.items _ a.words.items place.more) a.records.items k.records)
-          (record { start = omega arith; finish = place.place.inside; order = omega (arith, to); inside = omega (arith, to) }));
+      records = subst (λ rs. AllFit c.place_of-finish.new.self.words a.words.items rs) (sym items)
+          (fits_end c.place_of-finish.new.self.words a.words.items a.records.items r (fits_grown (edges_more a.edges.words _ a.words.items place.more) a.records.items k.records)
+          (record { start = place.more.places o.start start; finish = place_of-stands place.place; order = omega (arith, to); inside = omega (arith, to) }));
       sealed = (let h = k.sealed in omega (arith, grown));
       closed = omega (arith, grown, none, len);
       opened = tt;
       run = k.run ∙ blocks;
       short = k.short;
       entry_room = (let h = k.entry_room in omega (arith, one, c.in-Ok.ensures.len, c.in-Ok.ensures.capacity));
-      edge_room = (let h = k.edge_room in let more = place.room in let cap = place.capacity in omega (arith, one));
+      edge_room = (let h = k.edge_room in let less = place.room in omega (arith, one));
       word_room = k.word_room;
+      word_places = k.word_places;
     }

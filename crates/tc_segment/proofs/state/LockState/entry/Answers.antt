@@ -13,22 +13,21 @@ entry-requires c =
     let kept = subst KeptLock (sym c.deref-contents.ensures) c.self.invariant in
     let shows = ap view_of c.deref-contents.ensures ∙ c.self.view_is in
     let a = c.deref-contents.result.now in
-    let all = entries_are a.sealed (map (shown a.edges.items a.words.items) a.records.items) (let h = kept.closed in omega (arith, length-map a.records.items (shown a.edges.items a.words.items))) in
-    let count = ap (λ (l : LockView). length (entries l.journal)) (sym shows) ∙ ap length all ∙ length-map a.records.items (shown a.edges.items a.words.items) in
+    let all = entries_are a.sealed (map (shown a.edges.words a.words.items) a.records.items) (let h = kept.closed in omega (arith, length-map a.records.items (shown a.edges.words a.words.items))) in
+    let count = ap (λ (l : LockView). length (entries l.journal)) (sym shows) ∙ ap length all ∙ length-map a.records.items (shown a.edges.words a.words.items) in
     let is = slice_get_read a.records.items _ c.args.i c.index.result.now refl (let lt = c.requires in omega (arith, count)) c.index.ensures in
-    subst (λ es. Fits es c.deref-2.result.now c.index.result.now) (sym c.deref.ensures.value)
-    (subst (λ ws. Fits a.edges.items ws c.index.result.now) (sym c.deref-2.ensures.value) (fits_at a.edges.items a.words.items a.records.items c.args.i c.index.result.now kept.records is))
+    subst (λ ws. Fits a.edges.words ws c.index.result.now) (sym c.deref.ensures.value) (fits_at a.edges.words a.words.items a.records.items c.args.i c.index.result.now kept.records is)
 
 pub returns : goal.returns
 returns c =
     let kept = subst KeptLock (sym c.deref-contents.ensures) c.self.invariant in
     let shows = ap view_of c.deref-contents.ensures ∙ c.self.view_is in
     let a = c.deref-contents.result.now in
-    let f = shown a.edges.items a.words.items in
+    let f = shown a.edges.words a.words.items in
     let all = entries_are a.sealed (map f a.records.items) (let h = kept.closed in omega (arith, length-map a.records.items f)) in
     let count = ap (λ (l : LockView). length (entries l.journal)) (sym shows) ∙ ap length all ∙ length-map a.records.items f in
     let is = slice_get_read a.records.items _ c.args.i c.index.result.now refl (let lt = c.requires in omega (arith, count)) c.index.ensures in
     ap (λ (l : LockView). slice_get (entries l.journal) c.args.i) (sym shows)
     ∙ ap (λ es. slice_get es c.args.i) all ∙ slice_get-map f a.records.items c.args.i ∙ ap (option_map f) is
-    ∙ sym (λ i. Some (shown (c.deref.ensures.value i) (c.deref-2.ensures.value i) c.index.result.now))
+    ∙ sym (λ i. Some (shown a.edges.words (c.deref.ensures.value i) c.index.result.now))
     ∙ ap Some (sym c.entry.ensures)

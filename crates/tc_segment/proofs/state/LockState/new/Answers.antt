@@ -15,7 +15,7 @@ invariant_of-result c =
     let of : c.of.result.value ≡ image = c.of.ensures in
     let start = ap (λ p. p.0) place ∙ ap (λ (x : Shown). (guard_at x c.args.lock).start) (sym of) in
     let bytes = c.in_ok-starting_bytes.ensures ∙ ap (λ p. starting_bytes image p.0 p.1) place in
-    let edges = c.new-2.result.items in
+    let edges = c.new-2.result.words in
     let words = c.new-3.result.items in
     let records = c.new.ensures.items in
     let view = fresh_view _ image c.args.lock c.args.limit _ words edges _ of bytes records in
@@ -32,4 +32,5 @@ invariant_of-result c =
       entry_room = omega arith;
       edge_room = omega arith;
       word_room = omega arith;
+      word_places = omega arith;
     })

@@ -8,12 +8,12 @@ use Rattle.tc_segment.proofs.Keeping.{word_more, shown_grown, fits_grown, noted_
 use Rattle.tc_segment.proofs.state.LockState.note_foreign.Goals as goal
 
 noted_view : (a : Contents) (words : List ℕ) (value : ℕ) → KeptLock a → is_some (view_of a).journal.opened ≡ true → words ≡ a.words.items ++ value ∷ []
-    → record { number = a.number; bytes = a.bytes.items; broken = a.broken; sections = a.sections; journal = shown_journal a.of.value a.number a.limit (map (shown a.edges.items words) a.records.items) a.sealed a.edges.items words a.opened a.entry_room (a.word_room - 1) } ≡ with_journal (noted (value ∷ [])) (view_of a)
+    → record { number = a.number; bytes = a.bytes.items; broken = a.broken; sections = a.sections; journal = shown_journal a.of.value a.number a.limit (map (shown a.edges.words words) a.records.items) a.sealed a.edges.words words a.opened a.entry_room (a.word_room - 1) } ≡ with_journal (noted (value ∷ [])) (view_of a)
 noted_view a words value k was e =
-    let old = map (shown a.edges.items a.words.items) a.records.items in
-    let j = ap (λ ws. shown_journal a.of.value a.number a.limit (map (shown a.edges.items ws) a.records.items) a.sealed a.edges.items ws a.opened a.entry_room (a.word_room - 1)) e
-    ∙ noted_journal a.of.value a.number a.limit old _ a.sealed a.edges.items a.words.items a.opened a.entry_room a.word_room value
-    (shown_grown (word_more a.edges.items a.words.items (value ∷ [])) a.records.items k.records) k.opened was in
+    let old = map (shown a.edges.words a.words.items) a.records.items in
+    let j = ap (λ ws. shown_journal a.of.value a.number a.limit (map (shown a.edges.words ws) a.records.items) a.sealed a.edges.words ws a.opened a.entry_room (a.word_room - 1)) e
+    ∙ noted_journal a.of.value a.number a.limit old _ a.sealed a.edges.words a.words.items a.opened a.entry_room a.word_room value
+    (shown_grown (word_more a.edges.words a.words.items (value ∷ [])) a.records.items k.records) k.opened was in
     λ i. record { number = a.number; bytes = a.bytes.items; broken = a.broken; sections = a.sections; journal = j i }
 
 pub returns : goal.returns
@@ -37,13 +37,14 @@ invariant_of-self c =
     record {
       sound = subst (λ (l : LockView). IsSoundLock l) (sym view) (sound_noted (c.args.value ∷ []) (view_of a) k.sound was);
       start = k.start;
-      records = subst (λ ws. AllFit a.edges.items ws a.records.items) (sym items) (fits_grown (word_more a.edges.items a.words.items (c.args.value ∷ [])) a.records.items k.records);
+      records = subst (λ ws. AllFit a.edges.words ws a.records.items) (sym items) (fits_grown (word_more a.edges.words a.words.items (c.args.value ∷ [])) a.records.items k.records);
       sealed = k.sealed;
       closed = k.closed;
-      opened = subst (λ ws. OpenFits a.edges.items ws a.opened) (sym items) (open_fits-more a.edges.items a.words.items (c.args.value ∷ []) a.opened k.opened);
+      opened = subst (λ ws. OpenFits a.edges.words ws a.opened) (sym items) (open_fits-more a.edges.words a.words.items (c.args.value ∷ []) a.opened k.opened);
       run = k.run ∙ ap (λ (l : LockView). run_of a.number (blocks_of l)) (sym view);
       short = k.short;
       entry_room = k.entry_room;
       edge_room = k.edge_room;
       word_room = omega (arith, c.in-Ok.ensures.len, c.in-Ok.ensures.capacity);
+      word_places = (let places = k.word_places in omega (arith, c.in-Ok.ensures.len));
     }

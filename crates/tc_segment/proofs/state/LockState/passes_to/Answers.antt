@@ -10,5 +10,5 @@ returns c =
     let shows = ap view_of c.deref-contents.ensures ∙ c.self.view_is in
     let a = c.deref-contents.result.now in
     c.passes_to.ensures
-    ∙ ap (λ o. passes_to o c.args.kind c.args.thread) (c.last_block-last.ensures ∙ ap (λ rs. last_of (map block_of (take a.sealed rs))) c.deref.ensures.value ∙ ap last_of (sym (blocks_shown a.edges.items a.words.items a.sealed a.records.items)))
+    ∙ ap (λ o. passes_to o c.args.kind c.args.thread) (c.last_block-last.ensures ∙ ap (λ rs. last_of (map block_of (take a.sealed rs))) c.deref.ensures.value ∙ ap last_of (sym (blocks_shown a.edges.words a.words.items a.sealed a.records.items)))
     ∙ ap (λ (l : LockView). passes_to (last_of (blocks_of l)) c.args.kind c.args.thread) shows

@@ -14,16 +14,16 @@ use Rattle.tc_segment.proofs.Sealing.{sealed_journal, sound_sealed, run-more, ru
 use Rattle.tc_segment.proofs.state.LockState.seal.Goals as goal
 
 -- the closed entry, which is that of the record behind the sealed ones
-closed_at : (a : Contents) (r : Record) → slice_get a.records.items a.sealed ≡ Some r → (view_of a).journal.closed ≡ Some (shown a.edges.items a.words.items r)
-closed_at a r is = slice_get-map (shown a.edges.items a.words.items) a.records.items a.sealed ∙ ap (option_map (shown a.edges.items a.words.items)) is
+closed_at : (a : Contents) (r : Record) → slice_get a.records.items a.sealed ≡ Some r → (view_of a).journal.closed ≡ Some (shown a.edges.words a.words.items r)
+closed_at a r is = slice_get-map (shown a.edges.words a.words.items) a.records.items a.sealed ∙ ap (option_map (shown a.edges.words a.words.items)) is
 
 sealed_view : (a : Contents) (stamp worker : ℕ) (r s : Record) → KeptLock a → slice_get a.records.items a.sealed ≡ Some r → s ≡ sealed_record stamp worker r
-    → record { number = a.number; bytes = a.bytes.items; broken = a.broken; sections = a.sections; journal = shown_journal a.of.value a.number a.limit (map (shown a.edges.items a.words.items) (set a.records.items a.sealed s)) (a.sealed + 1) a.edges.items a.words.items a.opened a.entry_room a.word_room } ≡ with_journal (sealed_as stamp worker) (view_of a)
+    → record { number = a.number; bytes = a.bytes.items; broken = a.broken; sections = a.sections; journal = shown_journal a.of.value a.number a.limit (map (shown a.edges.words a.words.items) (set a.records.items a.sealed s)) (a.sealed + 1) a.edges.words a.words.items a.opened a.entry_room a.word_room } ≡ with_journal (sealed_as stamp worker) (view_of a)
 sealed_view a stamp worker r s k is made =
-    let f = shown a.edges.items a.words.items in
+    let f = shown a.edges.words a.words.items in
     let old = map f a.records.items in
     let new = map-set f a.records.items a.sealed s ∙ ap (λ x. set old a.sealed (f x)) made in
-    let j = sealed_journal a.of.value a.number a.limit old _ a.sealed a.edges.items a.words.items a.opened a.entry_room a.word_room stamp worker (f r) (closed_at a r is)
+    let j = sealed_journal a.of.value a.number a.limit old _ a.sealed a.edges.words a.words.items a.opened a.entry_room a.word_room stamp worker (f r) (closed_at a r is)
     (let h = k.closed in omega (arith, length-map a.records.items f)) new in
     λ i. record { number = a.number; bytes = a.bytes.items; broken = a.broken; sections = a.sections; journal = j i }
 
@@ -34,7 +34,7 @@ closed_there a x lt is = slice_get-get_or a.records.items a.sealed x lt ∙ ap S
 some_closed : (a : Contents) → is_some (view_of a).journal.closed ≡ true → a.sealed < length a.records.items
 some_closed a some = elim (slice_get_cases a.records.items a.sealed).1 [
   | inl x ↦ x.1
-  | inr y ↦ absurd (let e = ap is_some (sym (slice_get-map (shown a.edges.items a.words.items) a.records.items a.sealed ∙ ap (option_map (shown a.edges.items a.words.items)) y.1)) ∙ some in cc)
+  | inr y ↦ absurd (let e = ap is_some (sym (slice_get-map (shown a.edges.words a.words.items) a.records.items a.sealed ∙ ap (option_map (shown a.edges.words a.words.items)) y.1)) ∙ some in cc)
 ]
 
 pub returns : goal.returns
@@ -58,7 +58,7 @@ invariant_of-self c =
     let worker = c.args.worker in
     let lt = some_closed a (ap (λ (l : LockView). is_some l.journal.closed) shows ∙ c.requires.closed) in
     let is = closed_there a r lt c.index_mut-record.ensures.value in
-    let e : Entry = shown a.edges.items a.words.items r in
+    let e : Entry = shown a.edges.words a.words.items r in
     let view = sealed_view a stamp worker r s k is c.stamp.ensures in
     let was : (view_of a).journal.closed ≡ Some e = closed_at a r is in
     let follows : may_follow a.number a.limit (blocks_of (view_of a)) (sealed_block stamp worker r.block) ≡ true =
@@ -72,12 +72,12 @@ invariant_of-self c =
     c.run_after-contents.ensures ∙ (λ i. run_after a.number (k.run i) (block i)) in
     let blocks : blocks_of (with_journal (sealed_as stamp worker) (view_of a)) ≡ blocks_of (view_of a) ++ sealed_block stamp worker r.block ∷ [] =
     ap (λ x. map block_in (sealed_list stamp worker (view_of a).journal.sealed x)) was ∙ map-append block_in (view_of a).journal.sealed (sealed_entry stamp worker e ∷ []) in
-    let fits = fits_at a.edges.items a.words.items a.records.items a.sealed r k.records is in
+    let fits = fits_at a.edges.words a.words.items a.records.items a.sealed r k.records is in
     let len = length-set a.records.items a.sealed s in
     record {
       sound = subst (λ (l : LockView). IsSoundLock l) (sym view) (sound_sealed stamp worker (view_of a) e k.sound was follows passes);
       start = k.start;
-      records = fits_set a.edges.items a.words.items a.records.items a.sealed s k.records (subst (λ x. Fits a.edges.items a.words.items x) (sym c.stamp.ensures) (record { start = fits.start; finish = fits.finish; order = fits.order; inside = fits.inside }));
+      records = fits_set a.edges.words a.words.items a.records.items a.sealed s k.records (subst (λ x. Fits a.edges.words a.words.items x) (sym c.stamp.ensures) (record { start = fits.start; finish = fits.finish; order = fits.order; inside = fits.inside }));
       sealed = omega (arith, lt, len);
       closed = (let h = k.closed in omega (arith, len));
       opened = k.opened;
@@ -86,4 +86,5 @@ invariant_of-self c =
       entry_room = k.entry_room;
       edge_room = k.edge_room;
       word_room = k.word_room;
+      word_places = k.word_places;
     }

@@ -1,0 +1,46 @@
+-- Registers as a journal keeps them: the program counter, a mask, and the numbers that are not 0.
+use Rattle.std.specs.Prelude.{◌≡◌, ℕ, zero, suc, ◌+◌, ◌*◌, ◌/◌, ◌%◌, ◌==◌, ◌<◌, List, [], ◌∷◌, ◌++◌, length, drop, slice_index, if◌then◌else◌}
+use Rattle.tc_isa.specs.Registers.{Registers, IsRegisters}
+
+-- from its lowest bit on, a mask has 1 where a number is not 0
+abbrev pub mask_of : List ℕ → ℕ
+mask_of [] = 0
+mask_of (x ∷ xs) = if x == 0 then 2 * mask_of xs else 2 * mask_of xs + 1
+
+abbrev pub nonzero : List ℕ → List ℕ
+nonzero [] = []
+nonzero (x ∷ xs) = if x == 0 then nonzero xs else x ∷ nonzero xs
+
+-- register 0, which is always 0, has no bit
+abbrev pub packed : Registers → List ℕ
+packed r = r.pc ∷ mask_of (drop 1 r.words) ∷ nonzero (drop 1 r.words)
+
+-- so many numbers: the next one of the list where the mask has 1, and else 0
+unfoldable pub spread : ℕ → ℕ → List ℕ → List ℕ
+spread zero mask xs = []
+spread (suc n) mask xs = if mask % 2 == 1 then slice_index xs 0 ∷ spread n (mask / 2) (drop 1 xs) else 0 ∷ spread n (mask / 2) xs
+
+-- the registers at a place
+unfoldable pub regs_at : List ℕ → ℕ → Registers
+regs_at edges i = record { pc = slice_index edges i; words = 0 ∷ spread 31 (slice_index edges (i + 1)) (drop (i + 2) edges) }
+
+-- these registers stand at the place, and other words may stand behind them
+pub record StandsAt (edges : List ℕ) (i : ℕ) (regs : Registers) : Type 0 where
+  pub inside : i < length edges
+  pub rest : List ℕ
+  pub is : drop i edges ≡ packed regs ++ rest
+  pub whole : IsRegisters regs
+
+-- registers stand there
+abbrev pub IsPlace : List ℕ → ℕ → Type 0
+IsPlace edges i = StandsAt edges i (regs_at edges i)
+
+-- what stood at a place still does
+pub record Extends (old new : List ℕ) : Type 0 where
+  pub places : (i : ℕ) → IsPlace old i → IsPlace new i
+  pub same : (i : ℕ) → IsPlace old i → regs_at new i ≡ regs_at old i
+
+-- the words of all registers that were noted, and how many more may be
+pub record Edges : Type 0 where
+  pub words : List ℕ
+  pub room : ℕ

@@ -1,0 +1,95 @@
+//! The registers before and behind blocks, one packed behind the other.
+
+ghost use Rattle.std.specs.Prelude.{◌≡◌, ◌+◌, ◌≤◌, OnOk};
+ghost use Rattle.tc_segment.specs.Packed.{IsPlace, StandsAt, Extends, regs_at};
+ghost use Rattle.tc_segment.specs.declared.packed.TheConstants.{MOST_WORDS};
+
+use crate::packed::{MOST_WORDS, pack, unpack};
+use std::alloc::{AllocError, Global};
+use std::marker::Model;
+use tc_isa::regs::Regs;
+
+/// By how many words the registers of a journal grow at least. What is not written yet takes no
+/// memory of the host, and a large vector grows without a copy.
+const GROWTH: usize = 32_768;
+
+/// Packed registers at places, and those that were noted last with their place.
+#[derive(Drop)]
+pub(crate) struct Edges {
+    words: Vec<u32>,
+    last_pc: u32,
+    last_words: [u32; 32],
+    place: u32,
+}
+
+impl Model for Edges {
+    ghost use Rattle.tc_segment.specs.Packed.{Edges};
+
+    ghost Value = { Edges };
+
+    ghost use Rattle.tc_segment.specs.Edges.{edges_view, KeptEdges};
+
+    ghost view = { λ e. edges_view e };
+
+    ghost invariant = { λ e. KeptEdges e };
+}
+
+impl Edges {
+    /// None.
+    pub(crate) fn new(alloc: Global) -> Edges {
+        Edges {
+            words: Vec::new(alloc),
+            last_pc: 0,
+            last_words: [0; 32],
+            place: 0,
+        }
+    }
+
+    /// Makes room for so many words.
+    pub(crate) fn reserve(&mut self, words: usize) -> Result<(), AllocError>
+        ensures words { self.new.words ≡ self.old.words }
+        ensures room { self.old.room ≤ self.new.room }
+        ensures ok { OnOk result (words ≤ self.new.room) }
+    {
+        let most = u32::MAX as usize;
+        if words > most - self.words.len() {
+            return Err(AllocError);
+        }
+        if words <= self.words.capacity() - self.words.len() {
+            return Ok(());
+        }
+        self.words.reserve(words.max(GROWTH))
+    }
+
+    /// The place of these registers behind all others, or that of the last ones where those are the
+    /// same, as they are between two blocks of one section.
+    pub(crate) fn place_of(&mut self, regs: &Regs) -> u32
+        requires { MOST_WORDS ≤ self.old.room }
+        ensures place { StandsAt self.new.words result regs.now }
+        ensures more { Extends self.old.words self.new.words }
+        ensures room { self.old.room ≤ self.new.room + MOST_WORDS }
+    {
+        let count = self.words.len();
+        if count > 0 && self.last_pc == regs.pc() && self.last_words == *regs.words() {
+            return self.place;
+        }
+        let mut buffer = [0; MOST_WORDS];
+        let end = pack(regs, &mut buffer);
+        match self.words.extend_from_slice(&buffer[..end]) {
+            Ok(()) => {}
+            Err(_) => unreachable!(),
+        }
+        self.last_pc = regs.pc();
+        self.last_words = *regs.words();
+        self.place = count as u32;
+        self.place
+    }
+
+    /// The registers at a place.
+    pub(crate) fn at(&self, place: u32) -> Regs
+        requires { IsPlace self.now.words place }
+        ensures { result ≡ regs_at self.now.words place }
+    {
+        unpack(&self.words, place)
+    }
+}

@@ -1,0 +1,74 @@
+//! Registers in few words: the program counter, a mask, and the numbers that are not 0.
+
+ghost use Rattle.std.specs.Prelude.{◌≡◌, ◌≤◌, take, drop, slice_index};
+ghost use Rattle.tc_isa.specs.Registers.{IsRegisters};
+ghost use Rattle.tc_segment.specs.declared.packed.TheConstants.{MOST_WORDS};
+ghost use Rattle.tc_segment.specs.Packed.{IsPlace, mask_of, packed, regs_at};
+
+use std::simd::prelude::*;
+use tc_isa::reg::Reg;
+use tc_isa::regs::Regs;
+
+/// The most words that registers take.
+pub(crate) const MOST_WORDS: usize = 33;
+
+/// Packs these registers at the front of the buffer, and tells where they end.
+pub(crate) fn pack(regs: &Regs, buffer: &mut [u32; MOST_WORDS]) -> usize
+    ensures end { result ≤ MOST_WORDS }
+    ensures packed { take result buffer.new ≡ packed regs.now }
+    ensures kept { IsRegisters regs.now }
+{
+    let words = regs.words();
+    let mask = mask_of(words);
+    buffer[0] = regs.pc();
+    buffer[1] = mask;
+    let mut end = 2;
+    let mut number = 1;
+    let mut left = mask;
+    while left != 0 {
+        let zeros = left.trailing_zeros();
+        left >>= zeros;
+        left /= 2;
+        number += zeros as usize;
+        buffer[end] = words[number];
+        end += 1;
+        number += 1;
+    }
+    end
+}
+
+/// The mask of all words but the first, which is 0.
+fn mask_of(words: &[u32; 32]) -> u32
+    requires { slice_index words.now 0 ≡ 0 }
+    ensures { result ≡ mask_of (drop 1 words.now) }
+{
+    let nonzero = u32x32::from_array(*words).simd_ne(u32x32::splat(0));
+    (nonzero.to_bitmask() / 2) as u32
+}
+
+/// The registers that stand at this place.
+pub(crate) fn unpack(words: &[u32], place: u32) -> Regs
+    requires { IsPlace words.now place }
+    ensures { result ≡ regs_at words.now place }
+{
+    let place = place as usize;
+    let mut regs = Regs::start(word_at(words, place), 0, 0);
+    let mut mask = word_at(words, place + 1);
+    let mut at = place + 2;
+    for number in 1..32 {
+        let mut value = 0;
+        if mask % 2 == 1 {
+            value = word_at(words, at);
+            at += 1;
+        }
+        mask /= 2;
+        regs.put(Reg::of(number), value);
+    }
+    regs
+}
+
+fn word_at(words: &[u32], at: usize) -> u32
+    ensures { result ≡ slice_index words.now at }
+{
+    if at < words.len() { words[at] } else { 0 }
+}
