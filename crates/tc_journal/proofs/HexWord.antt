@@ -1,5 +1,5 @@
 -- Hexadecimal digits, read back.
-use Rattle.std.proofs.Common.{◌≡◌, ℕ, zero, suc, ◌/◌, ◌%◌, ◌^◌, ◌<◌, ◌==◌, Bool, true, false, not, ◌&&◌, inl, inr, List, [], ◌∷◌, ◌++◌, slice_index, Ok, w32, refl, ap, ◌∙◌, arith}
+use Rattle.std.proofs.Common.{◌≡◌, ℕ, zero, suc, ◌+◌, ◌*◌, ◌/◌, ◌%◌, ◌^◌, ◌<◌, ◌==◌, Bool, true, false, not, ◌&&◌, inl, inr, List, [], ◌∷◌, ◌++◌, slice_index, Ok, w32, refl, ap, ◌∙◌, arith}
 use Rattle.std.specs.Fmt.{digit_glyph}
 use Rattle.std.specs.Int.{from_be_bytes}
 use Rattle.std.proofs.lemmas.Bool.{and_parts, cases_lt, eqb-true}
@@ -8,6 +8,7 @@ use Rattle.hex.specs.Hex.{IsBytes, lower_digits, encode_with, decode_pairs, deco
 use Rattle.hex.proofs.HexLemmas.{IsDigits-lower_digits, decode_pairs-encode_with}
 use Rattle.tc_journal.proofs.Words.{lacks}
 use Rattle.tc_journal.specs.Digits.{hex2, hex8}
+use Rattle.tc_journal.specs.declared.buffer.TheConstants.{PAIRS}
 
 -- the digit below n is that of the table
 abbrev agree : ℕ → Bool
@@ -26,6 +27,25 @@ agree-at (suc n) d all lt =
 -- a digit is that of the table
 pub glyph : (d : ℕ) → d < 16 → digit_glyph false d ≡ slice_index lower_digits d
 glyph d small = agree-at 16 d refl small
+
+-- the digits of the byte below n are those of the table of pairs
+abbrev are_pairs : ℕ → Bool
+are_pairs zero = true
+are_pairs (suc n) = ((slice_index PAIRS (n * 2) == digit_glyph false (n / 16)) && (slice_index PAIRS (n * 2 + 1) == digit_glyph false (n % 16))) && are_pairs n
+
+are_pairs-at : (n b : ℕ) → are_pairs n ≡ true → b < n → (slice_index PAIRS (b * 2) ≡ digit_glyph false (b / 16)) × (slice_index PAIRS (b * 2 + 1) ≡ digit_glyph false (b % 16))
+are_pairs-at zero b all lt = absurd (omega arith)
+are_pairs-at (suc n) b all lt =
+    let parts = and_parts _ (are_pairs n) all in
+    let here = and_parts _ _ parts.0 in
+    elim (cases_lt b n) as (λ w. (slice_index PAIRS (b * 2) ≡ digit_glyph false (b / 16)) × (slice_index PAIRS (b * 2 + 1) ≡ digit_glyph false (b % 16))) [
+      | inl below ↦ are_pairs-at n b parts.1 below
+      | inr top ↦ (let e : b ≡ n = omega arith in rw e (eqb-true _ _ here.0, eqb-true _ _ here.1))
+    ]
+
+-- the digits of a byte
+pub pair : (b : ℕ) → b < 256 → (slice_index PAIRS (b * 2) ≡ digit_glyph false (b / 16)) × (slice_index PAIRS (b * 2 + 1) ≡ digit_glyph false (b % 16))
+pair b small = are_pairs-at 256 b refl small
 
 -- the bytes of a word, the highest first
 abbrev pub bytes : ℕ → List ℕ

@@ -1,7 +1,7 @@
 //! A line in one array. It is written from its end to its front, so that the digits of a number,
 //! which come up from the last to the first, are written where they stay and not counted first.
 
-ghost use Rattle.std.specs.Prelude.{◌≡◌, ℕ, ◌+◌, ◌^◌, ◌<◌, ◌≤◌, ◌∷◌, ◌++◌, [], false, decimal, drop, length};
+ghost use Rattle.std.specs.Prelude.{◌≡◌, ℕ, ◌+◌, ◌/◌, ◌%◌, ◌^◌, ◌<◌, ◌≤◌, ◌∷◌, ◌++◌, [], false, decimal, drop, length};
 ghost use Rattle.std.specs.Fmt.{digit_glyph};
 ghost use Rattle.tc_journal.specs.Digits.{hex2, hex8};
 
@@ -30,14 +30,17 @@ impl Model for Buffer {
     ghost invariant = { λ b. (b.start ≤ ROOM) × ∥ IsUtf8 (drop b.start b.bytes) ∥₁ };
 }
 
-static DIGITS: [u8; 16] = *b"0123456789abcdef";
+/// The two digits of each byte, byte after byte.
+static PAIRS: [u8; 512] =
+    *b"000102030405060708090a0b0c0d0e0f101112131415161718191a1b1c1d1e1f202122232425262728292a2b2c2d2e2f303132333435363738393a3b3c3d3e3f404142434445464748494a4b4c4d4e4f505152535455565758595a5b5c5d5e5f606162636465666768696a6b6c6d6e6f707172737475767778797a7b7c7d7e7f808182838485868788898a8b8c8d8e8f909192939495969798999a9b9c9d9e9fa0a1a2a3a4a5a6a7a8a9aaabacadaeafb0b1b2b3b4b5b6b7b8b9babbbcbdbebfc0c1c2c3c4c5c6c7c8c9cacbcccdcecfd0d1d2d3d4d5d6d7d8d9dadbdcdddedfe0e1e2e3e4e5e6e7e8e9eaebecedeeeff0f1f2f3f4f5f6f7f8f9fafbfcfdfeff";
 
-/// A digit in lower case.
-fn glyph(digit: u8) -> u8
-    requires { digit < 16 }
-    ensures { result ≡ digit_glyph false digit }
+/// The two digits of a byte.
+fn digits_of(byte: u8) -> (u8, u8)
+    ensures high { result.0 ≡ digit_glyph false (byte / 16) }
+    ensures low { result.1 ≡ digit_glyph false (byte % 16) }
 {
-    DIGITS[digit as usize]
+    let from = byte as usize * 2;
+    (PAIRS[from], PAIRS[from + 1])
 }
 
 /// Writes the digits of a byte from a place on.
@@ -45,7 +48,7 @@ fn write_byte(bytes: &mut [u8], at: usize, byte: u8)
     requires { at + 2 ≤ length bytes.old }
     ensures { drop at bytes.new ≡ hex2 byte ++ drop (at + 2) bytes.old }
 {
-    let (high, low) = (glyph(byte / 16), glyph(byte % 16));
+    let (high, low) = digits_of(byte);
     bytes[at] = high;
     bytes[at + 1] = low;
 }

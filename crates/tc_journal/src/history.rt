@@ -31,6 +31,15 @@ fn lent(alloc: Global, logs: &[Vec<Block>]) -> Result<Vec<&[Block]>, AllocError>
     Ok(parts)
 }
 
+/// How many blocks logs have.
+fn count_of(logs: &[&[Block]]) -> usize {
+    let mut count: usize = 0;
+    for log in logs {
+        count = count.saturating_add(log.len());
+    }
+    count
+}
+
 /// As `merge`, of logs that stand in different places.
 pub fn merge_lent(alloc: Global, logs: &[&[Block]]) -> Result<Vec<Block>, AllocError>
     requires { HasEachStamp (flat_map (λ log. log.now) logs.now) }
@@ -38,7 +47,7 @@ pub fn merge_lent(alloc: Global, logs: &[&[Block]]) -> Result<Vec<Block>, AllocE
         IsPermutation (flat_map (λ log. log.now) logs.now) history.items) }
     ensures order { IfOk result (λ history. IsInOrder history.items) }
 {
-    let mut history = Vec::new(alloc);
+    let mut history = Vec::with_capacity(alloc, count_of(logs))?;
     for log in logs {
         history.extend_from_slice(log)?;
     }
