@@ -4,6 +4,7 @@
 //! that it has not tells nothing. So what is not found in it is fetched and decoded as ever.
 
 ghost use Rattle.std.specs.Prelude.{◌≡◌, ℕ, ◌*◌, ◌+◌, ◌≤◌, ◌^◌, true, false, IfOk, IfSome, Ok};
+ghost use Rattle.tc_isa.specs.Registers.{get};
 ghost use Rattle.tc_isa.specs.Sets.{has};
 ghost use Rattle.tc_isa.specs.declared.instr.Instr.TheVariants.{Ecall};
 ghost use Rattle.tc_elf.specs.Shown.{Shown};
@@ -53,6 +54,15 @@ impl Model for Code {
 pub struct Stretch<'a> {
     start: u32,
     slots: &'a [Option<Instr>],
+}
+
+/// What is known of the next instruction before its turn.
+#[derive(Clone, Copy)]
+pub struct Ahead<'a> {
+    /// The lock that it takes, where it is a lawful LOCK.
+    pub lock: Option<u32>,
+    /// The instruction, where it was looked for and was decoded. None says nothing.
+    pub instr: Option<&'a Instr>,
 }
 
 impl<'a> Stretch<'a> {
@@ -174,11 +184,16 @@ impl Code {
         None
     }
 
-    /// The instruction at a place, or why there is none, as it was decoded or else decoded now.
-    pub fn instruction(&self, image: &Image, pc: u32) -> Result<Instr, Fault>
-        requires { self.now ≡ image.now }
+    /// The instruction at a place, or why there is none: as it was found there already, as it was
+    /// decoded, or else decoded now.
+    pub fn instruction(&self, image: &Image, pc: u32, known: Option<&Instr>) -> Result<Instr, Fault>
+        requires code { self.now ≡ image.now }
+        requires known { IfSome known (λ instr. step.instruction_at image.now pc ≡ Ok instr.now) }
         ensures { result ≡ step.instruction_at image.now pc }
     {
+        if let Some(instr) = known {
+            return Ok(*instr);
+        }
         match self.find(pc) {
             Some(instr) => Ok(*instr),
             None => instruction_at(image, pc),
@@ -200,31 +215,63 @@ impl Code {
         None
     }
 
-    /// What `step::may_lock` answers, from the decoded instruction where there is one.
-    fn may_lock(&self, image: &Image, regs: &Regs) -> bool
-        requires { self.now ≡ image.now }
-        ensures no { result ≡ false → NeverLocks image.now regs.now }
-        ensures yes { result ≡ true → CallsLock image.now regs.now }
+    /// What is ahead of registers: the lock that `step::lock_wanted` answers, and the instruction,
+    /// where it is known or had to be looked for and was decoded.
+    pub fn ahead<'a>(
+        &'a self,
+        image: &Image,
+        held: Held,
+        regs: &Regs,
+        known: Option<&'a Instr>,
+    ) -> Ahead<'a>
+        requires code { self.now ≡ image.now }
+        requires known { IfSome known
+            (λ instr. step.instruction_at image.now regs.now.pc ≡ Ok instr.now) }
+        ensures lock { (answer : ℕ)
+            → result.lock ≡ taken_by (step.act_of image.now (has held) regs.now answer) }
+        ensures instr { IfSome result.instr
+            (λ instr. step.instruction_at image.now regs.now.pc ≡ Ok instr.now) }
     {
         if !is_numbered_lock(regs) {
-            return false;
+            return Ahead {
+                lock: None,
+                instr: known,
+            };
         }
-        match self.find(regs.pc()) {
-            Some(instr) => is_call(instr),
-            None => may_lock(image, regs),
+        let instr = known.or_else(|| self.find(regs.pc()));
+        Ahead {
+            lock: lock_by(image, held, regs, instr),
+            instr,
         }
     }
+}
 
-    /// What `step::lock_wanted` answers, from the decoded instruction where there is one.
-    #[tactic(auto, using(crate::proofs::NoLock::taken_none))]
-    pub fn lock_wanted(&self, image: &Image, held: Held, regs: &Regs) -> Option<u32>
-        requires { self.now ≡ image.now }
-        ensures { (answer : ℕ)
-            → result ≡ taken_by (step.act_of image.now (has held) regs.now answer) }
-    {
-        if !self.may_lock(image, regs) {
-            return None;
-        }
-        lock_called(image, held, regs)
+/// Whether registers with the number of LOCK are at an ECALL, by the instruction there where it is
+/// known.
+fn calls_lock(image: &Image, regs: &Regs, known: Option<&Instr>) -> bool
+    requires number { get regs.now 17 ≡ 1 }
+    requires known { IfSome known
+        (λ instr. step.instruction_at image.now regs.now.pc ≡ Ok instr.now) }
+    ensures no { result ≡ false → NeverLocks image.now regs.now }
+    ensures yes { result ≡ true → CallsLock image.now regs.now }
+{
+    match known {
+        Some(instr) => is_call(instr),
+        None => may_lock(image, regs),
     }
+}
+
+/// The lock that such registers take, where that is lawful.
+#[tactic(auto, using(crate::proofs::NoLock::taken_none))]
+fn lock_by(image: &Image, held: Held, regs: &Regs, known: Option<&Instr>) -> Option<u32>
+    requires number { get regs.now 17 ≡ 1 }
+    requires known { IfSome known
+        (λ instr. step.instruction_at image.now regs.now.pc ≡ Ok instr.now) }
+    ensures { (answer : ℕ)
+        → result ≡ taken_by (step.act_of image.now (has held) regs.now answer) }
+{
+    if !calls_lock(image, regs, known) {
+        return None;
+    }
+    lock_called(image, held, regs)
 }

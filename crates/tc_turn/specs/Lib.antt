@@ -1,3 +1,4 @@
+pub mod Ahead
 pub mod Memory
 pub mod Clear
 pub mod Turn

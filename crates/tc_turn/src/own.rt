@@ -1,6 +1,6 @@
 //! Turns that touch the thread's own memory alone, one after another.
 
-ghost use Rattle.std.specs.Prelude.{◌≡◌, ◌+◌, ◌<◌, ◌≤◌, ◌^◌, true, false, Ok, Some, None};
+ghost use Rattle.std.specs.Prelude.{◌≡◌, ◌+◌, ◌-◌, ◌<◌, ◌≤◌, ◌^◌, true, false, IfSome, Ok, Some, None};
 ghost use Rattle.tc_exec.specs.Code.{SlotsTell};
 ghost use Rattle.tc_exec.specs.Flow.{at_next};
 ghost use Rattle.tc_exec.specs.Step.{instruction_at};
@@ -16,30 +16,83 @@ use tc_exec::plain::plain_by;
 use tc_exec::touch::{Touch, finish_load, finish_store, touch_of};
 use tc_isa::instr::Instr;
 
+/// Turns that were done, and the decoded instruction behind them.
+#[derive(Clone, Copy)]
+pub struct OwnTurns<'a> {
+    /// How many turns.
+    pub count: u32,
+    /// The instruction at which they end, where it was looked for and decoded. None says nothing.
+    pub stop: Option<&'a Instr>,
+}
+
+impl<'a> OwnTurns<'a> {
+    fn none() -> OwnTurns<'a>
+        ensures count { result.count ≡ 0 }
+        ensures stop { result.stop ≡ None }
+    {
+        OwnTurns {
+            count: 0,
+            stop: None,
+        }
+    }
+}
+
 impl GuestThread {
     /// Does turns that touch registers and its own memory alone, and says how many: at most `most`,
-    /// and none that was not decoded. It loads only where `loads` says so. It is never inlined, so
-    /// that its loop has the registers of the host for itself.
-    #[inline(never)]
-    pub fn run_own(&mut self, image: &Image, code: &Code, most: u32, loads: bool) -> u32
+    /// and none that was not decoded. It loads only where `loads` says so.
+    pub fn run_own<'a>(
+        &mut self,
+        image: &Image,
+        code: &'a Code,
+        most: u32,
+        loads: bool,
+    ) -> OwnTurns<'a>
         requires { code.now ≡ image.now }
-        ensures runs { OwnRun image.now loads result self.old self.new }
-        ensures most { result ≤ most }
+        ensures runs { OwnRun image.now loads result.count self.old self.new }
+        ensures most { result.count ≤ most }
+        ensures stop { IfSome result.stop
+            (λ instr. instruction_at image.now self.new.regs.pc ≡ Ok instr.now) }
     {
         let before = self.fuel;
         let left = before - most.min(before);
         if left == before {
-            return 0;
+            return OwnTurns::none();
         }
         let Some(stretch) = code.stretch(self.regs.pc()) else {
-            return 0;
+            return OwnTurns::none();
         };
+        let stop = self.run_stretch(image, stretch, left, loads);
+        OwnTurns {
+            count: before - self.fuel,
+            stop,
+        }
+    }
+
+    /// Does such turns until so much fuel is left, or the next is none, and returns the decoded
+    /// instruction behind them. It is never inlined, so that its loop has the registers of the host
+    /// for itself.
+    #[inline(never)]
+    fn run_stretch<'a>(
+        &mut self,
+        image: &Image,
+        stretch: Stretch<'a>,
+        left: u32,
+        loads: bool,
+    ) -> Option<&'a Instr>
+        requires stretch { SlotsTell image.now stretch.start stretch.slots.now }
+        requires left { left ≤ self.old.fuel }
+        ensures runs { OwnRun image.now loads (self.old.fuel - self.new.fuel) self.old self.new }
+        ensures left { left ≤ self.new.fuel }
+        ensures fuel { self.new.fuel ≤ self.old.fuel }
+        ensures stop { IfSome result
+            (λ instr. instruction_at image.now self.new.regs.pc ≡ Ok instr.now) }
+    {
         'run: while self.fuel > left {
             if !self.own_turn(image, stretch, loads) {
                 break;
             }
         }
-        before - self.fuel
+        stretch.find(self.regs.pc())
     }
 
     /// Its next turn, where that is such a one.

@@ -46,14 +46,16 @@ fn turns_in_place_are_the_turns(rt: HostRuntime) -> Result<(), Fail> {
     let image = load(rt.alloc(), &SMALLEST)?;
     let code = Code::of(rt.alloc(), &image)?;
     let mut thread = GuestThread::start(rt.alloc(), &image, 100, 0)?;
-    let first = code.instruction(&image, thread.regs().pc());
+    let first = code.instruction(&image, thread.regs().pc(), None);
     assert!(rt; thread.load_wanted(&image, &first) == Want::Nothing);
     // ECALL touches no memory of its own.
-    assert_eq!(rt; thread.run_own(&image, &code, 9, true), 1);
+    let own = thread.run_own(&image, &code, 9, true);
+    assert_eq!(rt; own.count, 1);
+    assert!(rt; own.stop.is_some());
     assert_eq!(rt; thread.regs().pc(), 0x10058);
     assert_eq!(rt; thread.fuel(), 99);
-    assert!(rt; thread.lock_wanted(&image, &code).is_none());
-    let call = code.instruction(&image, thread.regs().pc());
+    assert!(rt; thread.ahead(&image, &code, own.stop).lock.is_none());
+    let call = code.instruction(&image, thread.regs().pc(), None);
     let want = thread.load_wanted(&image, &call);
     let last = thread.turn(&image, &call, want, 0);
     assert!(rt; last == Some(Done::Called(Call::Exit)));

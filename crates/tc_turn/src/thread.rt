@@ -1,6 +1,6 @@
 //! A guest thread.
 
-ghost use Rattle.std.specs.Prelude.{◌≡◌, ◌+◌, ◌<◌, ◌≤◌, ◌^◌, IfOk, IfSome, Some, length, unwrap_or};
+ghost use Rattle.std.specs.Prelude.{◌≡◌, ◌+◌, ◌<◌, ◌≤◌, ◌^◌, IfOk, IfSome, Ok, Some, length, unwrap_or};
 ghost use Rattle.std.specs.Option.{option_map};
 ghost use Rattle.tc_isa.specs.Sets.{has};
 ghost use Rattle.tc_exec.specs.Calls.{answered};
@@ -9,6 +9,7 @@ ghost use Rattle.tc_exec.specs.Step.{instruction_at, wants_of};
 ghost use Rattle.tc_exec.specs.Told.{IsWant};
 ghost use Rattle.tc_exec.specs.declared.outcome.Act.TheVariants.{Called};
 ghost use Rattle.tc_exec.specs.declared.outcome.Call.TheVariants.{Lock};
+ghost use Rattle.tc_turn.specs.Ahead.{IsAhead};
 ghost use Rattle.tc_turn.specs.InPlace.{thread_done, DoneFits};
 ghost use Rattle.tc_turn.specs.Memory.{number_at, own_of};
 ghost use Rattle.tc_turn.specs.Turn.{thread_of, thread_at_start, next_lock, act_with, ActFits, PutFits, thread_after, with_end, with_put};
@@ -18,7 +19,7 @@ use crate::status::Status;
 use std::alloc::{AllocError, Global};
 use std::marker::Model;
 use tc_elf::image::{Image, Region};
-use tc_exec::code::Code;
+use tc_exec::code::{Ahead, Code};
 use tc_exec::found;
 use tc_exec::in_place::come_back;
 use tc_exec::outcome::{Act, Call, Done, Put, Want};
@@ -154,15 +155,21 @@ impl GuestThread {
         found::wants(image, self.held, &self.regs, found)
     }
 
-    /// The lock of its next turn, as `next_lock` tells it, from the decoded code of its image.
+    /// What is ahead: the lock of its next turn, as `next_lock` tells it, from the decoded code of
+    /// its image, and the instruction, where it is known or had to be looked for.
     #[tactic(auto, unfolding(crate::specs::Turn::next_lock))]
-    pub fn lock_wanted(&self, image: &Image, code: &Code) -> Option<u32>
-        requires { code.now ≡ image.now }
-        ensures { result ≡ next_lock image.now (thread_of self.now) }
+    pub fn ahead<'a>(&self, image: &Image, code: &'a Code, known: Option<&'a Instr>) -> Ahead<'a>
+        requires code { code.now ≡ image.now }
+        requires known { IfSome known
+            (λ instr. instruction_at image.now self.now.regs.pc ≡ Ok instr.now) }
+        ensures { IsAhead image.now (thread_of self.now) result }
     {
         match self.fuel {
-            0 => None,
-            _ => code.lock_wanted(image, self.held, &self.regs),
+            0 => Ahead {
+                lock: None,
+                instr: None,
+            },
+            _ => code.ahead(image, self.held, &self.regs, known),
         }
     }
 

@@ -87,7 +87,7 @@ fn check_found(
     requires { code.now ≡ image.now }
 {
     let (next, done) = parts_of(regs, &act(image, held, &regs, answer));
-    let found = code.instruction(image, regs.pc());
+    let found = code.instruction(image, regs.pc(), None);
     let want = wants(image, held, &regs);
     assert_eq!(rt; found::wants(image, held, &regs, &found), want);
     let mut after = regs;
@@ -97,7 +97,7 @@ fn check_found(
     );
     assert_eq!(rt; after, next);
     let lock = lock_wanted(image, held, &regs);
-    assert_eq!(rt; code.lock_wanted(image, held, &regs), lock);
+    assert_eq!(rt; code.ahead(image, held, &regs, None).lock, lock);
     Ok(())
 }
 

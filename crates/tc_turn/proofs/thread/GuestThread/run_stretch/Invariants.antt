@@ -1,12 +1,12 @@
 use Rattle.std.proofs.Common.{◌≤◌, ◌-◌}
 use Rattle.tc_turn.specs.Own.{OwnRun}
-use Rattle.tc_turn.proofs.thread.GuestThread.run_own.Given as goal
+use Rattle.tc_turn.proofs.thread.GuestThread.run_stretch.Given as goal
 
 abbrev pub invariant-run : goal.invariant-run
 invariant-run l = record {
-  runs : OwnRun l.image l.loads (l.before - l.self.fuel) l.fn.self l.self;
+  runs : OwnRun l.image l.loads (l.fn.self.fuel - l.self.fuel) l.fn.self l.self;
   low : l.left ≤ l.self.fuel;
-  high : l.self.fuel ≤ l.before;
+  high : l.self.fuel ≤ l.fn.self.fuel;
 }
 
 abbrev pub decreases-run : goal.decreases-run
