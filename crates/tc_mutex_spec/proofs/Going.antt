@@ -1,7 +1,8 @@
 -- What a thread holds in the middle of a block, and what the block's end gives up.
 use Rattle.std.proofs.Common.{◌≡◌, ◌⊎◌, ℕ, zero, suc, ◌+◌, ◌<◌, ◌≤◌, length, Bool, true, false, not, ◌||◌, ◌&&◌, ◌==◌, refl, sym, ap, subst, ◌∙◌, arith, inl, inr}
 use Rattle.std.specs.Prelude.{Option, Some, None, IfSome, if◌then◌else◌}
-use Rattle.std.proofs.lemmas.Bool.Decides.{eqb_tells}
+use Rattle.std.proofs.lemmas.Bool.{or_right}
+use Rattle.std.proofs.lemmas.Bool.Decides.{eqb_tells, nat_tests}
 use Rattle.tc_elf.specs.Shown.{Shown}
 use Rattle.tc_isa.specs.Registers.{Registers}
 use Rattle.tc_isa.specs.declared.limits.TheConstants.{MAX_TURNS}
@@ -10,6 +11,8 @@ use Rattle.tc_exec.specs.Calls.{answered}
 use Rattle.tc_exec.specs.declared.outcome.Act.{Act}
 use Rattle.tc_exec.specs.declared.outcome.Act.TheVariants.{Next, Called, Faulted}
 use Rattle.tc_exec.specs.declared.outcome.Call.TheVariants.{Lock, Unlock, Sleep, Exit}
+use Rattle.tc_exec.specs.declared.outcome.Done.{Done}
+use Rattle.tc_exec.specs.declared.outcome.Done.TheVariants as done
 use Rattle.tc_exec.proofs.Laws.{lock_is_free}
 use Rattle.tc_journal.specs.Rule.{end_rule}
 use Rattle.tc_journal.specs.History.{IsEnd}
@@ -17,7 +20,9 @@ use Rattle.tc_journal.specs.Batch.{unlocks, ends_thread}
 use Rattle.tc_journal.specs.declared.rule.Outcome.TheVariants as outcome
 use Rattle.tc_journal.specs.declared.block.End.{End}
 use Rattle.tc_journal.specs.declared.block.End.TheVariants as end
-use Rattle.tc_turn.specs.Turn.{Thread, Mutex, taken_by, next_lock, next_act, answer_to, outcome_of, thread_after, mutex_after, given_up, ActFits}
+use Rattle.tc_turn.specs.Turn.{Thread, Mutex, taken_by, next_lock, next_act, answer_to, outcome_of, thread_after, mutex_after, given_up}
+use Rattle.tc_turn.specs.InPlace.{DoneFits, outcome_done}
+use Rattle.tc_turn.specs.Reads.{Covers}
 use Rattle.tc_turn.proofs.Turns.{next_known, taken_was}
 use Rattle.tc_mutex_spec.specs.Machine.{State, after}
 use Rattle.tc_mutex_spec.specs.Blocks.{locks_of_block, reach, Runs}
@@ -41,6 +46,9 @@ went_fits n None e small is = (elim (n == MAX_TURNS) as (λ b. (if b then Some e
   | false ↦ λ h. absurd (cc)
 ]) is
 
+pub no_cut : (n : ℕ) → n < MAX_TURNS → end_rule outcome.Went n None ≡ None
+no_cut n lt = grind (arith, nat_tests)
+
 -- the next lock is one of the image's
 pub next_small : (image : Shown) (d : Thread) → length image.guards ≤ 32 → IfSome (next_lock image d) (λ k. k < 32)
 next_small image d few = go (next_lock image d) refl
@@ -49,15 +57,16 @@ next_small image d few = go (next_lock image d) refl
     go None e = tt
     go (Some k) e = omega (arith, next_known image d k e, few)
 
--- an end names a lock below 32, where the turn before it and the next one do
-pub end_fits : (a : Option Act) (n : ℕ) (next : Option ℕ) (e : End) → IfSome a ActFits → IfSome next (λ k. k < 32) → end_rule (outcome_of a) n next ≡ Some e → IsEnd e
-end_fits None n next e fits small is = (let s : end.Spent ≡ e = cc in subst IsEnd s tt)
-end_fits (Some (Next regs put)) n next e fits small is = went_fits n next e small is
-end_fits (Some (Called (Lock lock) regs)) n next e fits small is = went_fits n next e small is
-end_fits (Some (Called (Unlock lock) regs)) n next e fits small is = (let s : end.Unlocked lock ≡ e = cc in subst IsEnd s fits)
-end_fits (Some (Called (Sleep m) regs)) n next e fits small is = (let s : end.Slept ≡ e = cc in subst IsEnd s tt)
-end_fits (Some (Called Exit regs)) n next e fits small is = (let s : end.Exit ≡ e = cc in subst IsEnd s tt)
-end_fits (Some (Faulted f)) n next e fits small is = (let s : end.Fault f ≡ e = cc in subst IsEnd s tt)
+-- an end names a lock below 32, where what was done and the next turn do
+pub end_done : (did : Option Done) (n : ℕ) (next : Option ℕ) (e : End) → IfSome did DoneFits → IfSome next (λ k. k < 32) → end_rule (outcome_done did) n next ≡ Some e → IsEnd e
+end_done None n next e fits small is = (let s : end.Spent ≡ e = cc in subst IsEnd s tt)
+end_done (Some done.Went) n next e fits small is = went_fits n next e small is
+end_done (Some (done.Stored put)) n next e fits small is = went_fits n next e small is
+end_done (Some (done.Called (Lock lock))) n next e fits small is = went_fits n next e small is
+end_done (Some (done.Called (Unlock lock))) n next e fits small is = (let s : end.Unlocked lock ≡ e = cc in subst IsEnd s fits)
+end_done (Some (done.Called (Sleep m))) n next e fits small is = (let s : end.Slept ≡ e = cc in subst IsEnd s tt)
+end_done (Some (done.Called Exit)) n next e fits small is = (let s : end.Exit ≡ e = cc in subst IsEnd s tt)
+end_done (Some (done.Faulted f)) n next e fits small is = (let s : end.Fault f ≡ e = cc in subst IsEnd s tt)
 
 both_ways : (b c : Bool) → b ≡ true → b ≡ false → c ≡ true
 both_ways b c e f = absurd (let h : true ≡ false = sym e ∙ f in cc)
@@ -71,10 +80,6 @@ breaks image t held (Some (Called (Unlock lock) regs)) k l n next e is ends h = 
 breaks image t held (Some (Called (Sleep m) regs)) k l n next e is ends h = (let s : end.Slept ≡ e = cc in both_ways (ends_thread e) _ ends (ap ends_thread (sym s)))
 breaks image t held (Some (Called Exit regs)) k l n next e is ends h = ap (λ b. (given_up b l).broken) h
 breaks image t held (Some (Faulted f)) k l n next e is ends h = ap (λ b. (given_up b l).broken) h
-
-or_right : (b c : Bool) → c ≡ true → (b || c) ≡ true
-or_right true c h = refl
-or_right false c h = h
 
 -- what a turn that ends a block leaves held, its end gives up no section of
 survives : (d : Thread) (a : Option Act) (k n : ℕ) (next : Option ℕ) (e : End) → end_rule (outcome_of a) n next ≡ Some e → (thread_after d a).held k ≡ true → (unlocks k e ≡ false) × (ends_thread e ≡ false)
@@ -136,6 +141,10 @@ next_takes image d locks k =
 pub in_block : (held : ℕ → Bool) (next : Option ℕ) (k : ℕ) → locks_of_block held next k ≡ true → (held k ≡ true) ⊎ (next ≡ Some k)
 in_block held None k h = inl h
 in_block held (Some lock) k h = elim (eqb_tells k lock) [ inl e ↦ inr (ap Some (sym e.1)) | inr e ↦ inl (sym (ap (λ b. b || held k) e.0) ∙ h) ]
+
+-- what covers the thread has all locks of its block
+pub block_inside : (image : Shown) (set : ℕ → Bool) (d : Thread) → Covers image set d → (k : ℕ) → locks_of_block d.held (next_lock image d) k ≡ true → set k ≡ true
+block_inside image set d covers k h = elim (in_block d.held (next_lock image d) k h) [ inl was ↦ covers.held k was | inr took ↦ covers.next k took ]
 
 module _ (image : Shown) (m to : State) (t n : ℕ) (e : End) (runs : Runs image m t n e to) (k : ℕ) where
   abbrev at : ℕ → State

@@ -3,14 +3,17 @@ pub mod BlocksAlike
 pub mod Folding
 pub mod Holds
 pub mod ListLaws
+pub mod OptionLaws
 pub mod MutexLaws
 pub mod ThreadLaws
 pub mod SlowTurn
 pub mod Entries
 pub mod Replaying
 pub mod Going
+pub mod Within
 pub mod BlockEnds
 pub mod EntriesAlike
 pub mod Owners
 pub mod Leaving
+pub mod Few
 pub mod Histories

@@ -1,7 +1,9 @@
 -- Lists by place: an item that is written, and a list that a loop makes.
-use Rattle.std.proofs.Common.{◌≡◌, ◌≢◌, ◌⊎◌, ℕ, zero, suc, ◌<◌, ◌≤◌, List, [], ◌∷◌, set, length, get_or, refl, sym, ap, ◌∙◌, arith, inl, inr, ⊎_elim}
-use Rattle.std.specs.Prelude.{slice_get, map, Some, None}
+use Rattle.std.proofs.Common.{◌≡◌, ◌≢◌, ◌⊎◌, ℕ, zero, suc, ◌<◌, ◌≤◌, ◌==◌, List, [], ◌∷◌, set, length, get_or, refl, sym, ap, ◌∙◌, arith, inl, inr, ⊎_elim}
+use Rattle.std.specs.Prelude.{slice_get, map, Some, None, if◌then◌else◌}
 use Rattle.std.specs.List.{range_with_len}
+use Rattle.std.proofs.lemmas.Bool.Decides.{eqb_tells}
+use Rattle.std.proofs.lemmas.List.{get_or-set_same, get_or-set_other}
 use mathlib.Core.Option.{some, some-injective, some-ne-none}
 use lib.ListN.{get_elem?}
 use Rattle.std.proofs.lemmas.List.FromFn.{length-map-range_with_len, get_or-map-range_with_len}
@@ -18,6 +20,19 @@ get-set_other (y ∷ xs) zero zero x ne = absurd (ne refl)
 get-set_other (y ∷ xs) zero (suc k) x ne = refl
 get-set_other (y ∷ xs) (suc i) zero x ne = refl
 get-set_other (y ∷ xs) (suc i) (suc k) x ne = get-set_other xs i k x (λ e. ne (ap suc e))
+
+-- the item at each place
+pub get-set : {A : Type 0} (xs : List A) (i k : ℕ) (x : A) → i < length xs → slice_get (set xs i x) k ≡ (if k == i then Some x else slice_get xs k)
+get-set xs i k x lt = elim (eqb_tells k i) [
+  | inl e ↦ ap (slice_get (set xs i x)) e.1 ∙ get-set_same xs i x lt ∙ ap (λ b. if b then Some x else slice_get xs k) (sym e.0)
+  | inr e ↦ get-set_other xs i k x e.1 ∙ ap (λ b. if b then Some x else slice_get xs k) (sym e.0)
+]
+
+pub get_or-set : {A : Type 0} (xs : List A) (i k : ℕ) (x d : A) → i < length xs → get_or (set xs i x) k d ≡ (if k == i then x else get_or xs k d)
+get_or-set xs i k x d lt = elim (eqb_tells k i) [
+  | inl e ↦ ap (λ j. get_or (set xs i x) j d) e.1 ∙ get_or-set_same xs i x d lt ∙ ap (λ b. if b then x else get_or xs k d) (sym e.0)
+  | inr e ↦ get_or-set_other xs i k x d e.1 ∙ ap (λ b. if b then x else get_or xs k d) (sym e.0)
+]
 
 pub below_or : (a b : ℕ) → (a < b) ⊎ (b ≤ a)
 below_or a b = grind arith

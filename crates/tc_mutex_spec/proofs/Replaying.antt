@@ -1,6 +1,7 @@
 -- A block's entry replays.
 use Rattle.std.proofs.Common.{◌≡◌, ℕ, zero, suc, ◌+◌, ◌-◌, ◌<◌, ◌≤◌, Bool, true, false, not, ◌&&◌, ◌||◌, ◌==◌, List, [], ◌∷◌, ◌++◌, length, refl, sym, ap, ◌∙◌, arith, add-one, inl, inr}
 use Rattle.std.specs.Prelude.{Option, Some, None, is_some, if◌then◌else◌}
+use Rattle.std.proofs.lemmas.Bool.{and_parts}
 use Rattle.std.proofs.lemmas.Bool.Decides.{eqb_tells}
 use Rattle.tc_isa.specs.Sets.{has}
 use Rattle.tc_elf.specs.Shown.{Shown}
@@ -22,6 +23,7 @@ use Rattle.tc_turn.specs.declared.status.Status.TheVariants.{Running, Exited, Fa
 use Rattle.tc_turn.specs.Turn.{Thread, Mutex, next_lock, next_act, taken_by, lock_answer, answer_to, outcome_of, thread_after, mutex_after, guard_with, given_up, when, is_running}
 use Rattle.tc_turn.specs.Replay.{bare, unowned, Tape, first_or, rest_of, is_cons, guard_number, is_own_guard, takes_word, tape_answer, tape_act, tape_takes, fits_lock, tape_ok, tape_after, tapes, tape_end, tape_of, tape_in, Replays, ended, replay_entry, word_of, words_from}
 use Rattle.tc_turn.proofs.Turns.{taken_was, next_free, next_wants}
+use Rattle.tc_turn.proofs.Words.{words_more}
 use Rattle.tc_mutex_spec.specs.Machine.{State, can_turn, after}
 use Rattle.tc_mutex_spec.specs.Blocks.{locks_of_block, reach, end_at, Runs}
 use Rattle.tc_mutex_spec.proofs.Local.{after_thread, after_mutex}
@@ -33,6 +35,12 @@ word_at image lock m t = word_of image lock (m.threads t) m.locks
 
 abbrev pub words_at : Shown → ℕ → State → ℕ → ℕ → ℕ → List ℕ
 words_at image lock m t k n = words_from image lock (λ j. (reach image m t j).threads t) (λ j. (reach image m t j).locks) k n
+
+-- the words of one turn more
+pub words_next : (image : Shown) (lock : ℕ) (m : State) (t n : ℕ) → words_at image lock m t 0 (n + 1) ≡ words_at image lock m t 0 n ++ word_at image lock (reach image m t n) t
+words_next image lock m t n =
+    ap (words_at image lock m t 0) (add-one n) ∙ words_more image lock _ _ 0 n
+    ∙ ap (λ j. words_at image lock m t 0 n ++ word_at image lock (reach image m t j) t) (let e : 0 + n ≡ n = omega arith in e)
 
 -- the tape that is where the machine is, with these foreign words left
 abbrev pub tape_at : ℕ → ℕ → State → List ℕ → Tape
@@ -205,21 +213,16 @@ before_is held (Some lock) free k =
       | inr e ↦ ap (λ b. (b || held k) && not b) e.0 ∙ (elim (held k) as (λ b. (b && true) ≡ b) [ true ↦ refl | false ↦ refl ])
     ]
 
-running_is : (s : Status) → is_running s ≡ true → s ≡ Running
+pub running_is : (s : Status) → is_running s ≡ true → s ≡ Running
 running_is Running e = refl
 running_is Exited e = absurd (cc)
 running_is (Failed f) e = absurd (cc)
 running_is SpentFuel e = absurd (cc)
 
-runs_when : (a b c : Bool) → (a && (b && c)) ≡ true → b ≡ true
-runs_when a true c e = refl
-runs_when true false c e = e
-runs_when false false c e = absurd (cc)
-
 -- a thread that takes a turn runs
 pub turn_runs : (image : Shown) (m : State) (t : ℕ) → can_turn image m t ≡ true → (m.threads t).status ≡ Running
 unfolding can_turn
-turn_runs image m t e = running_is (m.threads t).status (runs_when _ _ _ e)
+turn_runs image m t e = running_is (m.threads t).status (and_parts _ _ (and_parts _ _ e).1).0
 
 -- kind and held set tell the lock that the block took, since a LOCK takes only what is above all that is held
 pub takes_is : (b : Block) (held : ℕ → Bool) (next : Option ℕ) → ((k : ℕ) → has b.held k ≡ locks_of_block held next k) → is_section b.kind ≡ is_some next

@@ -1,5 +1,5 @@
 -- One turn of the plain program is one of the machine.
-use Rattle.std.proofs.Common.{◌≡◌, ℕ, ◌<◌, true, false, ◌==◌, List, set, length, get_or, sym, ap, ◌∙◌, arith, inl, inr}
+use Rattle.std.proofs.Common.{◌≡◌, ℕ, ◌<◌, true, false, ◌==◌, List, set, length, get_or, refl, sym, ap, ◌∙◌, arith, inl, inr}
 use Rattle.std.specs.Prelude.{slice_get, Option, Some, nat_lt, if◌then◌else◌}
 use Rattle.std.specs.Option.{option_map}
 use Rattle.std.proofs.lemmas.Bool.Decides.{nat_tests, eqb_tells}
@@ -13,7 +13,7 @@ use Rattle.tc_turn.specs.Reads.{Covers}
 use Rattle.tc_turn.proofs.Turns.{leaves, next_known, held_known}
 use Rattle.tc_mutex_spec.specs.Machine.{after}
 use Rattle.tc_mutex_spec.specs.Slow.{Plain, thread_or, mutex_or, no_mutex, thread_at, mutex_at, state_of, Suits}
-use Rattle.tc_mutex_spec.proofs.ListLaws.{get-set_same, get-set_other, below_or}
+use Rattle.tc_mutex_spec.proofs.ListLaws.{get-set, get-set_same, get-set_other, below_or}
 
 -- all locks of the image cover the turn of a thread that holds no other
 covers_known : (image : Shown) (d : Thread) → ((k : ℕ) → d.held k ≡ true → k < length image.guards) → Covers image (λ k. nat_lt k (length image.guards)) d
@@ -57,13 +57,11 @@ turned image s t x y a locks suits is =
     let x_is : d ≡ thread_of x = here image s t x y a locks is in
     let next : Option Act = next_act image d (mutex_at s.locks) in
     let thread : (k : ℕ) → thread_at (set s.threads t y) k ≡ (if k == t then thread_after d next else thread_at s.threads k) =
-    λ k. elim (eqb_tells k t) [
-      | inl e ↦ ap (thread_at (set s.threads t y)) e.1 ∙ ap thread_or (get-set_same s.threads t y is.is_thread) ∙ is.thread
-          ∙ (λ i. thread_after (sym x_is i) (is.act i))
-          ∙ sym (ap (λ b. if b then thread_after d next else thread_at s.threads k) e.0)
-      | inr e ↦ ap thread_or (get-set_other s.threads t k y e.1)
-          ∙ sym (ap (λ b. if b then thread_after d next else thread_at s.threads k) e.0)
-    ] in
+    λ k. ap thread_or (get-set s.threads t k y is.is_thread)
+    ∙ (elim (k == t) as (λ b. thread_or (if b then Some y else slice_get s.threads k) ≡ (if b then thread_after d next else thread_at s.threads k)) [
+      | true ↦ is.thread ∙ (λ i. thread_after (sym x_is i) (is.act i))
+      | false ↦ refl
+    ]) in
     let each : (k : ℕ) → slice_get locks k ≡ option_map (mutex_after image t d.held next k) (slice_get s.locks k) =
     λ k. is.each k ∙ (λ i. option_map (mutex_after image t (sym x_is i).held (is.act i) k) (slice_get s.locks k)) in
     let lock : (k : ℕ) → mutex_at locks k ≡ mutex_after image t d.held next k (mutex_at s.locks k) =

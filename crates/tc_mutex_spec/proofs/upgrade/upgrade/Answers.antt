@@ -5,7 +5,6 @@ use Rattle.std.proofs.lemmas.List.{drop_more}
 use Rattle.tc_elf.specs.Shown.{Shown}
 use Rattle.tc_journal.specs.History.{schedule_v1}
 use Rattle.tc_journal.specs.Told.{with_pc}
-use Rattle.tc_journal.specs.declared.block.Block.{Block}
 use Rattle.tc_journal.specs.declared.block.BlockV1.{BlockV1}
 use Rattle.tc_mutex_spec.specs.Blocks.{with_pcs, reach}
 use Rattle.tc_mutex_spec.specs.Machine.{State, turns, run_from}
