@@ -24,11 +24,11 @@ use Rattle.tc_context.specs.Whole.{thread_in, mutex_at, whole, set_of, journal_i
 use Rattle.tc_context.specs.Middle.{noted_when, words_of, AreOpen, HasRoom, AreReady, AreNoted}
 use Rattle.tc_context.specs.Ran.{slept_at}
 use Rattle.tc_context.proofs.LockList.{when_field, with_locks}
-use Rattle.tc_context.proofs.Moved.{map_some, identifies_when, keeps_changed, journals_changed, mutexes_same}
+use Rattle.tc_context.proofs.Moved.{identifies_when, keeps_changed, journals_changed, mutexes_same}
 use Rattle.tc_context.proofs.Partway.{keeps_all}
-use Rattle.tc_context.proofs.Staging.{some_of}
 use Rattle.tc_mutex_spec.proofs.Replaying.{IsRecord, replays, replay_is}
 use Rattle.tc_mutex_spec.proofs.Going.{block_broken}
+use Rattle.tc_mutex_spec.proofs.OptionLaws.{map_some, some_of}
 
 -- the two packages are the same part of the machine
 pub record SamePart (a b : Context) : Type 0 where
@@ -169,10 +169,7 @@ module _ (image : Shown) (old : Context) (held : ℕ) (locks : List (Option Lock
     filled k = record { start = old.guest.regs; fuel = old.guest.fuel; from = unowned (mutex_at old k); foreign = words k }
 
     words_is : (k : ℕ) → words k ≡ words_of image old k turns
-    words_is k = (λ i. words_with (begun_part.machine i))
-      where
-        words_with : State → List ℕ
-        words_with m = (entry_of image k m made).foreign
+    words_is k = ap (λ (m : State). (entry_of image k m made).foreign) begun_part.machine
 
     entry_is : (k : ℕ) → entry_of image k (whole old) made ≡ entry_from made ran.guest.regs (filled k)
     entry_is k = (let f = finish_is in let w = words_is k in λ i. record { block = made; start = old.guest.regs; fuel = old.guest.fuel; finish = sym f i; foreign = sym w i })

@@ -1,28 +1,16 @@
--- A block has no more locks than a thread may hold.
-use Rattle.std.proofs.Common.{◌≡◌, ℕ, ◌≤◌, Bool, true, false, ◌&&◌, length, filter, refl, sym, ◌∙◌, arith}
+-- The thread of a package holds no more locks than a thread may hold.
+use Rattle.std.proofs.Common.{◌≡◌, ℕ, ◌≤◌, false, length, filter, refl, sym, ◌∙◌, arith}
 use Rattle.std.specs.Prelude.{Option, Some, None}
 use Rattle.std.specs.List.{range_with_len}
+use Rattle.std.proofs.lemmas.Bool.{and_parts}
 use Rattle.tc_isa.specs.Sets.{has, locks_of}
 use Rattle.tc_isa.specs.declared.limits.TheConstants.{MAX_HELD}
 use Rattle.tc_elf.specs.Shown.{Shown}
 use Rattle.tc_journal.specs.declared.block.Block.{Block}
-use Rattle.tc_turn.specs.Turn.{Thread, next_lock, plus_lock}
-use Rattle.tc_turn.proofs.Few.{fewer, one_more, takes_below}
-use Rattle.tc_mutex_spec.specs.Blocks.{locks_of_block}
+use Rattle.tc_turn.proofs.Few.{fewer}
+pub use Rattle.tc_mutex_spec.proofs.Few.{block_few}
 use Rattle.tc_context.specs.declared.context.Context.{Context}
 use Rattle.tc_context.specs.View.{IsLeft}
-
-pub block_few : (image : Shown) (d : Thread) (held : ℕ) → ((k : ℕ) → has held k ≡ locks_of_block d.held (next_lock image d) k) → length (filter d.held (range_with_len 0 32)) ≤ MAX_HELD → length (locks_of held) ≤ MAX_HELD
-unfolding locks_of
-block_few image d held is few = by (next_lock image d) refl is
-  where
-    by : (o : Option ℕ) → next_lock image d ≡ o → ((k : ℕ) → has held k ≡ locks_of_block d.held o k) → length (filter (has held) (range_with_len 0 32)) ≤ MAX_HELD
-    by None e same = (let le = fewer (has held) d.held (λ k h. sym (same k) ∙ h) (range_with_len 0 32) in omega arith)
-    by (Some lock) e same =
-        let le = fewer (has held) (plus_lock d.held lock) (λ k h. sym (same k) ∙ h) (range_with_len 0 32) in
-        let more = one_more d.held lock 0 32 in
-        let below = takes_below image d lock e in
-        omega arith
 
 pub left_few : (image : Shown) (p : Context) (o : Option Block) → IsLeft image p o → length (filter (has p.guest.held) (range_with_len 0 32)) ≤ MAX_HELD
 unfolding locks_of
@@ -31,10 +19,6 @@ left_few image p None l =
     let none : length (filter (λ (k : ℕ). false) (range_with_len 0 32)) ≡ 0 = refl in
     omega arith
 left_few image p (Some b) l =
-    let le = fewer (has p.guest.held) (has b.held) (λ k h. left _ _ (sym (l.held k) ∙ h)) (range_with_len 0 32) in
+    let le = fewer (has p.guest.held) (has b.held) (λ k h. (and_parts _ _ (sym (l.held k) ∙ h)).0) (range_with_len 0 32) in
     let few = l.few in
     omega arith
-  where
-    left : (a b : Bool) → (a && b) ≡ true → a ≡ true
-    left true b e = refl
-    left false b e = absurd (cc)

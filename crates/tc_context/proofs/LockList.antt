@@ -1,12 +1,14 @@
 -- A package's lock states after a change of each of them.
-use Rattle.std.proofs.Common.{◌≡◌, ℕ, suc, [], ◌∷◌, arith, get_or, set, ◌<◌, Bool, true, false, not, ◌==◌, List, length, refl, sym, ap, ◌∙◌, inl, inr}
-use Rattle.std.specs.Prelude.{Option, Some, None, if◌then◌else◌}
+use Rattle.std.proofs.Common.{◌≡◌, ℕ, arith, get_or, set, ◌<◌, Bool, true, false, not, ◌==◌, List, length, refl, sym, ap, ◌∙◌, inl, inr}
+use Rattle.std.specs.Prelude.{Option, Some, None, slice_get, if◌then◌else◌}
 use Rattle.std.specs.Option.{option_map}
 use Rattle.std.proofs.lemmas.Bool.Decides.{eqb_tells}
 use Rattle.tc_segment.specs.View.{LockView}
 use Rattle.tc_context.specs.declared.context.Context.{Context}
 use Rattle.tc_context.specs.Locks.{slot_of, lock_in, when_in, Changed, at_place}
-use Rattle.tc_mutex_spec.proofs.ListLaws.{get-set_same, get-set_other}
+use Rattle.tc_mutex_spec.proofs.ListLaws.{get-set}
+use Rattle.tc_mutex_spec.proofs.OptionLaws.{option_map-id}
+use Rattle.std.proofs.lemmas.List.{ext_get_or}
 use Rattle.std.proofs.lemmas.Option.{slice_get-get_or}
 
 -- what a change leaves, it leaves where it is made in some cases alone
@@ -14,20 +16,10 @@ pub when_field : {X Y : Type 0} (g : X → Y) (b : Bool) (f : X → X) (x : X) �
 when_field g true f x e = e
 when_field g false f x e = refl
 
-pub option_map-id : {X : Type 0} (g : X → X) (o : Option X) → ((x : X) → g x ≡ x) → option_map g o ≡ o
-option_map-id g None same = refl
-option_map-id g (Some x) same = ap Some (same x)
-
-pub option_map-twice : {X : Type 0} (f g h : X → X) (o : Option X) → ((x : X) → g (f x) ≡ h x) → option_map g (option_map f o) ≡ option_map h o
-option_map-twice f g h None same = refl
-option_map-twice f g h (Some x) same = ap Some (same x)
-
 -- lists of places are the same where each place is
 pub locks_ext : (xs ys : List (Option LockView)) → length xs ≡ length ys → ((k : ℕ) → lock_in xs k ≡ lock_in ys k) → xs ≡ ys
-locks_ext [] [] e same = refl
-locks_ext [] (y ∷ ys) e same = absurd (omega (arith, e))
-locks_ext (x ∷ xs) [] e same = absurd (omega (arith, e))
-locks_ext (x ∷ xs) (y ∷ ys) e same = λ i. same 0 i ∷ locks_ext xs ys (omega (arith, e)) (λ k. same (suc k)) i
+locks_ext xs ys e same =
+    ext_get_or None xs ys e (λ k lt. sym (ap slot_of (slice_get-get_or xs k None lt)) ∙ same k ∙ ap slot_of (slice_get-get_or ys k None (omega (arith, e, lt))))
 
 -- ---- a walk over a set of locks
 
@@ -49,10 +41,8 @@ pub place_is : (items : List (Option LockView)) (n : ℕ) (o : Option LockView) 
 place_is items n o lt is = ap slot_of (slice_get-get_or items n o lt ∙ ap Some (sym is))
 
 pub put_place : (items : List (Option LockView)) (n : ℕ) (o : Option LockView) (k : ℕ) → n < length items → lock_in (set items n o) k ≡ (if k == n then o else lock_in items k)
-put_place items n o k lt = elim (eqb_tells k n) [
-  | inl e ↦ ap (λ j. lock_in (set items n o) j) e.1 ∙ ap slot_of (get-set_same items n o lt) ∙ ap (λ b. if b then o else lock_in items k) (sym e.0)
-  | inr e ↦ ap slot_of (get-set_other items n k o e.1) ∙ ap (λ b. if b then o else lock_in items k) (sym e.0)
-]
+put_place items n o k lt =
+    ap slot_of (get-set items n k o lt) ∙ (elim (k == n) as (λ b. slot_of (if b then Some o else slice_get items k) ≡ (if b then o else lock_in items k)) [ true ↦ refl | false ↦ refl ])
 
 -- the place is written, and its lock state is changed
 pub changed_place : (f : LockView → LockView) (items : List (Option LockView)) (n : ℕ) (o new : Option LockView) → n < length items → o ≡ get_or items n o → new ≡ option_map f o

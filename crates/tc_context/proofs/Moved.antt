@@ -1,8 +1,7 @@
 -- One turn of a package: what its thread and its locks are after it, and the words that its journals note.
-use Rattle.std.proofs.Common.{◌≡◌, ℕ, ◌≤◌, Bool, true, false, not, ◌||◌, ◌&&◌, ◌==◌, List, length, ◌<◌, refl, sym, ap, subst, ◌∙◌, arith, [], ◌∷◌, ◌++◌}
-use Rattle.std.specs.Prelude.{IfSome, Option, Some, None, is_some, if◌then◌else◌}
+use Rattle.std.proofs.Common.{◌≡◌, ℕ, ◌≤◌, Bool, true, false, not, ◌||◌, ◌&&◌, ◌==◌, List, length, refl, sym, ap, subst, ◌∙◌, arith, [], ◌∷◌, ◌++◌}
+use Rattle.std.specs.Prelude.{Option, Some, None, is_some, if◌then◌else◌}
 use Rattle.std.specs.Option.{option_map}
-use Rattle.tc_isa.specs.Registers.{Registers}
 use Rattle.tc_isa.specs.Sets.{has}
 use Rattle.tc_elf.specs.Shown.{Shown, guard_at}
 use Rattle.tc_elf.specs.Places.{in_guard}
@@ -14,18 +13,16 @@ use Rattle.tc_exec.specs.declared.outcome.Act.{Act}
 use Rattle.tc_exec.specs.InPlace.{done_of}
 use Rattle.tc_exec.specs.declared.outcome.Done.{Done}
 use Rattle.tc_exec.specs.declared.outcome.Act.TheVariants.{Next, Called, Faulted}
-use Rattle.tc_exec.specs.declared.outcome.Call.TheVariants.{Lock, Unlock, Sleep, Exit}
+use Rattle.tc_exec.specs.declared.outcome.Call.TheVariants.{Lock, Unlock, Exit}
 use Rattle.tc_exec.specs.declared.outcome.Put.{Put}
 use Rattle.tc_turn.specs.Memory.{put_number}
-use Rattle.tc_journal.specs.History.{IsEnd}
-use Rattle.tc_journal.specs.Rule.{end_rule}
-use Rattle.tc_journal.specs.declared.block.End.{End}
-use Rattle.tc_turn.specs.InPlace.{DoneFits, outcome_done}
 use Rattle.tc_turn.specs.Reads.{Covers}
 use Rattle.tc_turn.specs.Turn.{Thread, act_with, thread_after, mutex_after, guard_with, given_up, when, taken, released, Mutex, next_lock, answer_to}
 use Rattle.tc_turn.proofs.Turns.{act_some, act_takes, next_known}
 use Rattle.tc_turn.proofs.Words.{words_now}
-use Rattle.tc_mutex_spec.proofs.Going.{end_fits}
+pub use Rattle.tc_mutex_spec.proofs.Going.{end_done}
+pub use Rattle.tc_mutex_spec.proofs.OptionLaws.{map_some, some_map}
+use Rattle.tc_mutex_spec.proofs.OptionLaws.{option_map-twice}
 use Rattle.tc_segment.specs.View.{LockView, Journal, guard_of, with_store, with_section, with_break, with_journal, noted}
 use Rattle.tc_context.specs.Locks.{lock_in, mutex_of, mutex_or, IsLockOf, AreOf, when_in, stored_in, turned, TurnReady, StoreReady, TurnFits, StoreFits, Changed, noted_in}
 use Rattle.tc_context.specs.declared.context.Context.{Context}
@@ -34,21 +31,13 @@ use Rattle.tc_exec.specs.Step.{wants_of}
 use Rattle.tc_exec.specs.declared.outcome.Want.{Want}
 use Rattle.tc_turn.specs.Replay.{takes_word, word_of}
 use Rattle.tc_context.specs.Middle.{act_in, noted_when, IsTurn, AreOpen}
-use Rattle.tc_context.proofs.LockList.{option_map-twice, when_field}
+use Rattle.tc_context.proofs.LockList.{when_field}
 use Rattle.tc_segment.proofs.Inside.{guard_has}
 use Rattle.tc_segment.proofs.Words.{noted_nil, noted_more, more_some}
 use Rattle.tc_elf.specs.declared.image.Region.TheVariants as region
 use Rattle.tc_exec.specs.declared.outcome.Done.TheVariants as done
 
 -- ---- a change of each lock, seen as a change of what the package has
-
-pub map_some : {X Y : Type 0} (f : X → Y) (o : Option X) (l : Y) → option_map f o ≡ Some l → (x : X) × (o ≡ Some x) × (l ≡ f x)
-map_some f None l e = absurd (cc)
-map_some f (Some x) l e = (x, refl, (let same : f x ≡ l = cc in sym same))
-
-pub some_map : {X Y : Type 0} (f : X → Y) (o : Option X) → is_some (option_map f o) ≡ is_some o
-some_map f None = refl
-some_map f (Some l) = refl
 
 -- it leaves which lock it is
 abbrev pub Identifies : (ℕ → LockView → LockView) → Type 0
@@ -113,13 +102,12 @@ released_mutex t b false l = refl
 pub turned_mutex : (image : Shown) (t k : ℕ) (d : Thread) (a : Option Act) (l : LockView) → IsLockOf image k l
     → mutex_of t ((thread_after d a).held k) (turned d.held (option_map done_of a) k l) ≡ mutex_after image t d.held a k (mutex_of t (d.held k) l)
 turned_mutex image t k d None l of = broken_mutex t (d.held k) l
-turned_mutex image t k d (Some (Next regs None)) l of = refl
 turned_mutex image t k d (Some (Next regs (Some put))) l of = stored_mutex image t k (d.held k) put.region put.addr put.width put.value l of
 turned_mutex image t k d (Some (Called (Lock lock) regs)) l of = taken_mutex t (d.held k) (k == lock) l
 turned_mutex image t k d (Some (Called (Unlock lock) regs)) l of = released_mutex t (d.held k) (k == lock) l
-turned_mutex image t k d (Some (Called (Sleep n) regs)) l of = refl
 turned_mutex image t k d (Some (Called Exit regs)) l of = broken_mutex t (d.held k) l
 turned_mutex image t k d (Some (Faulted f)) l of = broken_mutex t (d.held k) l
+turned_mutex image t k d _ l of = refl
 
 abbrev IsSame : LockView → LockView → Type 0
 IsSame l x = (x.number ≡ l.number) × (x.journal ≡ l.journal)
@@ -172,20 +160,6 @@ turn_fits image d answer (Some (Next regs (Some put))) e few =
     put_fits image d.held put put.region refl (subst (λ x. IsAct image d.held d.regs x) (act_some image d answer (Next regs (Some put)) e) (act_told image d.held d.regs answer)) few
 turn_fits image d answer (Some (Called (Lock lock) regs)) e few = (let known = next_known image d lock (act_takes image d answer lock regs e) in omega (arith, known, few))
 turn_fits image d answer _ e few = tt
-
-abbrev no_registers : Registers
-no_registers = record { pc = 0; words = [] }
-
--- an end names a lock below 32, where what was done and the next turn do
-pub end_done : (did : Option Done) (n : ℕ) (next : Option ℕ) (e : End) → IfSome did DoneFits → IfSome next (λ k. k < 32) → end_rule (outcome_done did) n next ≡ Some e → IsEnd e
-end_done None n next e fits small is = end_fits None n next e fits small is
-end_done (Some done.Went) n next e fits small is = end_fits (Some (Next no_registers None)) n next e tt small is
-end_done (Some (done.Stored put)) n next e fits small is = end_fits (Some (Next no_registers (Some put))) n next e fits small is
-end_done (Some (done.Called (Lock lock))) n next e fits small is = end_fits (Some (Called (Lock lock) no_registers)) n next e fits small is
-end_done (Some (done.Called (Unlock lock))) n next e fits small is = end_fits (Some (Called (Unlock lock) no_registers)) n next e fits small is
-end_done (Some (done.Called (Sleep blocks))) n next e fits small is = end_fits (Some (Called (Sleep blocks) no_registers)) n next e tt small is
-end_done (Some (done.Called Exit)) n next e fits small is = end_fits (Some (Called Exit no_registers)) n next e tt small is
-end_done (Some (done.Faulted f)) n next e fits small is = end_fits (Some (Faulted f)) n next e tt small is
 
 -- ---- the words of a turn, noted in the journals
 

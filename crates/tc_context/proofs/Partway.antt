@@ -1,5 +1,5 @@
 -- A package in the middle of a block.
-use Rattle.std.proofs.Common.{◌≡◌, ℕ, ◌+◌, ◌-◌, ◌<◌, ◌≤◌, Bool, true, false, ◌&&◌, ◌++◌, [], length, refl, sym, ap, subst, ◌∙◌, arith, add-one, below_more, inl, inr, zero, suc}
+use Rattle.std.proofs.Common.{◌≡◌, ℕ, ◌+◌, ◌-◌, ◌<◌, ◌≤◌, Bool, true, false, ◌&&◌, ◌++◌, [], length, refl, sym, ap, subst, ◌∙◌, arith, add-one, zero, suc}
 use Rattle.std.specs.Prelude.{Option, Some, None, nat_lt, is_some, if◌then◌else◌}
 use Rattle.std.specs.Option.{option_map}
 use Rattle.std.proofs.lemmas.Bool.Decides.{nat_tests}
@@ -8,14 +8,14 @@ use Rattle.tc_elf.specs.Shown.{Shown}
 use Rattle.tc_exec.specs.InPlace.{done_of}
 use Rattle.tc_journal.specs.Rule.{end_rule}
 use Rattle.tc_journal.specs.declared.block.End.{End}
-use Rattle.tc_turn.specs.Turn.{Thread, Mutex, thread_of, is_running, next_lock, next_act, outcome_of, Guest}
+use Rattle.tc_turn.specs.Turn.{Thread, Mutex, thread_of, is_running, next_lock, outcome_of, Guest}
 use Rattle.tc_turn.specs.Reads.{Covers}
 use Rattle.tc_turn.specs.Replay.{word_of}
 use Rattle.tc_turn.proofs.Turns.{next_free, covers_on, goes_on}
 use Rattle.tc_mutex_spec.specs.Machine.{State, is_free, is_open, can_turn, after}
 use Rattle.tc_mutex_spec.specs.Locality.{Agree}
-use Rattle.tc_mutex_spec.specs.Blocks.{locks_of_block, reach, end_at, Runs}
-use Rattle.tc_mutex_spec.proofs.Local.{after_thread, after_mutex, turn_same, turn_agree, act_agree, agree_trans, agree_at, covers_at}
+use Rattle.tc_mutex_spec.specs.Blocks.{reach, Runs}
+use Rattle.tc_mutex_spec.proofs.Local.{after_thread, after_mutex, agree_trans, agree_at, covers_at}
 use Rattle.tc_mutex_spec.proofs.BlocksAlike.{covers_block, runs_same, runs_apart}
 use Rattle.tc_segment.specs.View.{LockView, Journal}
 use Rattle.tc_context.specs.Locks.{lock_in, mutex_or}
@@ -23,13 +23,16 @@ use Rattle.tc_context.specs.declared.context.Context.{Context}
 use Rattle.tc_context.specs.Whole.{thread_in, mutex_at, whole, set_of, journal_at, Keeps, CanGo, block_locks, RunsAs}
 use Rattle.tc_context.specs.Middle.{act_in, IsTurn, noted_when, words_of, AreOpen, HasRoom, AreNoted, GoesOn, AreTurns}
 use Rattle.tc_context.specs.Ran.{slept_by, slept_at}
-use Rattle.tc_mutex_spec.proofs.Going.{in_block}
-use Rattle.tc_context.proofs.LockList.{option_map-id, option_map-twice}
-use Rattle.tc_context.proofs.Moved.{map_some, when_nil, when_more, when_open}
-use Rattle.tc_turn.proofs.Words.{words_more, words_short, word_same}
+pub use Rattle.tc_mutex_spec.proofs.Going.{block_inside}
+use Rattle.tc_mutex_spec.proofs.Going.{no_cut}
+use Rattle.tc_mutex_spec.proofs.Within.{AreWithin, within_start, within_more, within_ends, IsTold, turn_told}
+use Rattle.tc_mutex_spec.proofs.Replaying.{words_next}
+use Rattle.tc_mutex_spec.proofs.OptionLaws.{map_some, option_map-id, option_map-twice}
+use Rattle.tc_context.proofs.Moved.{when_nil, when_more, when_open}
+use Rattle.tc_turn.proofs.Words.{words_short, word_same}
 use Rattle.tc_exec.specs.declared.outcome.Act.{Act}
-use Rattle.tc_exec.specs.declared.outcome.Act.TheVariants.{Next, Called, Faulted}
-use Rattle.tc_exec.specs.declared.outcome.Call.TheVariants.{Lock, Unlock, Sleep, Exit}
+use Rattle.tc_exec.specs.declared.outcome.Act.TheVariants.{Next, Called}
+use Rattle.tc_exec.specs.declared.outcome.Call.TheVariants.{Sleep}
 use Rattle.tc_exec.specs.declared.outcome.Done.{Done}
 use Rattle.tc_turn.specs.InPlace.{outcome_done}
 use Rattle.tc_turn.specs.Own.{IsOwnTurn, OwnRun}
@@ -41,8 +44,7 @@ pub record Partway (image : Shown) (block : ℕ → Bool) (old now : Context) (n
   pub keeps : Keeps old now
   pub go : CanGo image now
   pub agree : Agree old.thread (set_of old) (reach image (whole old) old.thread n) (whole now)
-  pub defined : (k : ℕ) → k < n → can_turn image (reach image (whole old) old.thread k) old.thread ≡ true
-  pub before : (k : ℕ) → k < n → end_at image (whole old) old.thread k ≡ None
+  pub within : AreWithin image (whole old) old.thread n
   pub covers : Covers image block (thread_in now)
   pub journals : AreNoted image block n old now
 
@@ -55,8 +57,7 @@ partway_start image block p go covers = record {
   keeps = record { thread = refl; set = λ k. refl; of = λ image of. of };
   go = go;
   agree = record { thread = refl; locks = λ k h. refl };
-  defined = λ k lt. absurd (omega arith);
-  before = λ k lt. absurd (omega arith);
+  within = within_start image (whole p) p.thread;
   covers = covers;
   journals = λ k. sym (option_map-id (noted_when (block k) (words_of image p k 0)) (journal_at p k) (when_nil (block k)));
 }
@@ -82,34 +83,15 @@ agree_moved image block now new turn = record {
   locks = λ k h. after_mutex image (whole now) now.thread k ∙ sym (turn.locks k h);
 }
 
--- all that a further turn gives
-record Further (image : Shown) (block : ℕ → Bool) (old now new : Context) (n : ℕ) : Type 0 where
-  pub keeps : Keeps old new
-  pub agree : Agree old.thread (set_of old) (reach image (whole old) old.thread (n + 1)) (whole new)
-  pub defined : can_turn image (reach image (whole old) old.thread n) old.thread ≡ true
-  pub acts : next_act image ((reach image (whole old) old.thread n).threads old.thread) (reach image (whole old) old.thread n).locks ≡ act_in image now
-  pub end : end_at image (whole old) old.thread n ≡ end_rule (outcome_of (act_in image now)) (n + 1) (next_lock image (thread_in new))
-
-further : (image : Shown) (block : ℕ → Bool) (old now new : Context) (n : ℕ) → Partway image block old now n → IsTurn image block now new → Further image block old now new n
+-- a further turn, as the machine tells it
+further : (image : Shown) (block : ℕ → Bool) (old now new : Context) (n : ℕ) → Partway image block old now n → IsTurn image block now new → IsTold image (whole old) old.thread n (set_of old) (whole now) (whole new)
 further image block old now new n partway turn =
     let t = old.thread in
     let set = set_of old in
-    let from = reach image (whole old) t n in
-    let here : Covers image set (thread_in now) = covers_at image (set_of now) set (thread_in now) partway.keeps.set partway.go.covers in
-    let there : Covers image set (from.threads t) = subst (λ d. Covers image set d) (sym partway.agree.thread) here in
-    let step = turn_agree image from (whole now) t set there partway.agree in
-    let moved : Agree t set (after image (whole now) t) (whole new) =
-    subst (λ u. Agree t set (after image (whole now) u) (whole new)) partway.keeps.thread
-    (agree_at now.thread t (set_of now) set _ (whole new) partway.keeps.thread partway.keeps.set (agree_moved image block now new turn)) in
-    let all : Agree t set (after image from t) (whole new) = agree_trans t set (after image from t) (after image (whole now) t) (whole new) step moved in
-    let acts : next_act image (from.threads t) from.locks ≡ act_in image now = act_agree image from (whole now) t set there partway.agree in
-    record {
-      keeps = keeps_all old now new partway.keeps turn.keeps;
-      agree = rw add-one all;
-      defined = turn_same image from (whole now) t set there partway.agree ∙ ap (can_turn image (whole now)) (sym partway.keeps.thread) ∙ goes image now partway.go;
-      acts = acts;
-      end = λ i. end_rule (outcome_of (acts i)) (n + 1) (next_lock image (all.thread i));
-    }
+    let moved = agree_at now.thread t (set_of now) set _ (whole new) partway.keeps.thread partway.keeps.set (agree_moved image block now new turn) in
+    turn_told image (whole old) t n set (whole now) (whole new) (covers_at image (set_of now) set (thread_in now) partway.keeps.set partway.go.covers)
+    (ap (can_turn image (whole now)) (sym partway.keeps.thread) ∙ goes image now partway.go) partway.agree
+    (subst (λ u. Agree t set (after image (whole now) u) (whole new)) partway.keeps.thread moved)
 
 -- the turn's words are noted
 pub noted_next : (image : Shown) (block : ℕ → Bool) (old now new : Context) (n : ℕ) → Partway image block old now n → IsTurn image block now new → AreNoted image block (n + 1) old new
@@ -125,8 +107,7 @@ noted_next image block old now new n partway turn k =
     ∙ option_map-twice (noted_when (block k) ws) (noted_when (block k) (word_of image k (here.threads t) here.locks)) (noted_when (block k) (ws ++ word_of image k (here.threads t) here.locks)) (journal_at old k)
     (when_more (block k) ws (word_of image k (here.threads t) here.locks))
     ∙ ap (λ x. option_map (noted_when (block k) x) (journal_at old k))
-    (sym (ap (λ j. words_of image old k j) (add-one n) ∙ words_more image k _ _ 0 n
-    ∙ ap (λ j. ws ++ word_of image k ((reach image (whole old) t j).threads t) (reach image (whole old) t j).locks) (let e : 0 + n ≡ n = omega arith in e)))
+    (sym (words_next image k (whole old) t n))
 
 -- the same set covers the thread after a turn that ends no block
 covers_moved : (image : Shown) (set block : ℕ → Bool) (now new : Context) → Covers image set (thread_in now) → IsTurn image block now new → next_lock image (thread_in new) ≡ None → Covers image set (thread_in new)
@@ -139,7 +120,7 @@ partway_more image block old now new n partway turn none =
     let on = goes_on (thread_in now) (act_in image now) (n + 1) (next_lock image (thread_in new)) none in
     record {
       short = (let s = partway.short in omega (arith, on.1));
-      keeps = f.keeps;
+      keeps = keeps_all old now new partway.keeps turn.keeps;
       go = record {
         guards = partway.go.guards;
         thread = rw turn.keeps.thread partway.go.thread;
@@ -148,8 +129,7 @@ partway_more image block old now new n partway turn none =
         covers = covers_at image (set_of now) (set_of new) (thread_in new) (λ k. sym (turn.keeps.set k)) (covers_moved image (set_of now) block now new partway.go.covers turn on.0);
       };
       agree = f.agree;
-      defined = below_more (λ k. can_turn image (reach image (whole old) old.thread k) old.thread ≡ true) n partway.defined f.defined;
-      before = below_more (λ k. end_at image (whole old) old.thread k ≡ None) n partway.before (f.end ∙ none);
+      within = within_more image (whole old) old.thread n partway.within f.can (f.end ∙ none);
       covers = covers_moved image block block now new partway.covers turn on.0;
       journals = noted_next image block old now new n partway turn;
     }
@@ -157,12 +137,7 @@ partway_more image block old now new n partway turn none =
 -- what isn't in the package before and after is none
 none_same : (t u : ℕ) (b c : Bool) (o p : Option LockView) → is_some o ≡ false → is_some p ≡ false → mutex_or u c p ≡ mutex_or t b o
 none_same t u b c None None e f = refl
-none_same t u b c None (Some l) e f = absurd (cc)
-none_same t u b c (Some l) p e f = absurd (cc)
-
--- the locks of a block are covered
-pub block_inside : (image : Shown) (set : ℕ → Bool) (d : Thread) → Covers image set d → (k : ℕ) → locks_of_block d.held (next_lock image d) k ≡ true → set k ≡ true
-block_inside image set d covers k h = elim (in_block d.held (next_lock image d) k h) [ inl was ↦ covers.held k was | inr took ↦ covers.next k took ]
+none_same t u b c _ _ e f = absurd (cc)
 
 module _ (image : Shown) (block : ℕ → Bool) (old now new : Context) (n : ℕ) (end : End) (partway : Partway image block old now n) (turn : IsTurn image block now new) (ends : end_rule (outcome_of (act_in image now)) (n + 1) (next_lock image (thread_in new)) ≡ Some end) where
   abbrev t : ℕ
@@ -174,25 +149,19 @@ module _ (image : Shown) (block : ℕ → Bool) (old now new : Context) (n : ℕ
   abbrev last : State
   last = reach image (whole old) t (n + 1)
 
-  f : Further image block old now new n
+  f : IsTold image (whole old) t n (set_of old) (whole now) (whole new)
   f = further image block old now new n partway turn
 
   runs : Runs image (whole old) t (n + 1) end last
-  runs = record {
-    some = omega arith;
-    defined = below_more (λ k. can_turn image (reach image (whole old) t k) t ≡ true) n partway.defined f.defined;
-    before = λ k lt. partway.before k (omega arith);
-    ends = λ k e. (let same : k ≡ n = omega arith in subst (λ j. end_at image (whole old) t j ≡ Some end) (sym same) (f.end ∙ ends));
-    last = refl;
-  }
+  runs = within_ends image (whole old) t n partway.within f.can end (f.end ∙ ends)
 
   by : (k : ℕ) → mine k ≡ false → (v : Bool) → set_of old k ≡ v → mutex_at new k ≡ mutex_at old k
   by k out true s = sym (f.agree.locks k s) ∙ (runs_apart image (whole old) last t (n + 1) end runs).locks k out
-  by k out false s = none_same t new.thread (has old.guest.held k) (has new.guest.held k) (lock_in old.locks k) (lock_in new.locks k) s (f.keeps.set k ∙ s)
+  by k out false s = none_same t new.thread (has old.guest.held k) (has new.guest.held k) (lock_in old.locks k) (lock_in new.locks k) s (turn.keeps.set k ∙ partway.keeps.set k ∙ s)
 
   pub partway_ends : CanGo image old → RunsAs image old new (n + 1) end
   partway_ends go = record {
-    keeps = f.keeps;
+    keeps = keeps_all old now new partway.keeps turn.keeps;
     block = λ m agree.
         let r = runs_same image (whole old) m last t (n + 1) end mine runs (covers_block image (thread_in old)) agree in
         let back : Agree t mine (whole new) last = record { thread = sym f.agree.thread; locks = λ k h. sym (f.agree.locks k (block_inside image (set_of old) (thread_in old) go.covers k h)) } in
@@ -235,14 +204,10 @@ abbrev pub with_guest : Context → Guest → Context
 with_guest p g = record { thread = p.thread; guest = g; locks = p.locks }
 
 sleeps_not : (a : Option Act) → outcome_of a ≡ outcome.Went → slept_by (option_map done_of a) ≡ 0
-sleeps_not None e = refl
 sleeps_not (Some (Next next None)) e = refl
 sleeps_not (Some (Next next (Some put))) e = refl
-sleeps_not (Some (Called (Lock lock) next)) e = refl
-sleeps_not (Some (Called (Unlock lock) next)) e = refl
 sleeps_not (Some (Called (Sleep blocks) next)) e = absurd (cc)
-sleeps_not (Some (Called Exit next)) e = refl
-sleeps_not (Some (Faulted f)) e = refl
+sleeps_not _ e = refl
 
 module _ (image : Shown) (block : ℕ → Bool) (loads : Bool) (quiet : loads ≡ true → (k : ℕ) → block k ≡ false) (p : Context) where
   -- no lock of the block notes a word of such a turn
@@ -291,9 +256,6 @@ module _ (image : Shown) (block : ℕ → Bool) (loads : Bool) (quiet : loads �
   pub stays : (n : ℕ) (h : Guest) → n ≤ 0 → OwnRun image loads n p.guest h → p ≡ with_guest p h
   stays zero h le run = ap (with_guest p) run
   stays (suc n) h le run = absurd (omega (arith, le))
-
-no_cut : (n : ℕ) → n < 4096 → end_rule outcome.Went n None ≡ None
-no_cut n lt = grind (arith, nat_tests)
 
 -- turns that go on leave the package in the middle of its block
 pub partway_on : (image : Shown) (block : ℕ → Bool) (old now : Context) (c n : ℕ) (last : Context) → Partway image block old now c → c + n < 4096 → GoesOn image block n now last → Partway image block old last (c + n)

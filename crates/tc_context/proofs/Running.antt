@@ -1,5 +1,5 @@
 -- What running a block makes of a package, and sealing it.
-use Rattle.std.proofs.Common.{◌≡◌, ℕ, ◌-◌, ◌<◌, ◌≤◌, Bool, true, false, not, ◌||◌, ◌&&◌, ◌==◌, List, [], ◌∷◌, ◌++◌, map, length, refl, sym, ap, subst, ◌∙◌, inl, inr, set}
+use Rattle.std.proofs.Common.{◌≡◌, ℕ, ◌-◌, ◌<◌, ◌≤◌, Bool, true, false, not, ◌||◌, ◌&&◌, ◌==◌, List, [], ◌∷◌, ◌++◌, map, length, refl, sym, ap, subst, ◌∙◌, inl, inr, set, arith}
 use Rattle.std.specs.Prelude.{Option, Some, None, is_some, set, if◌then◌else◌, IfSome, slice_get}
 use Rattle.std.specs.Option.{option_map}
 use Rattle.std.proofs.lemmas.Bool.Decides.{eqb_tells}
@@ -209,8 +209,8 @@ module _ (image : Shown) (p : PackageView) (m : MayRun image p) where
     last_is : last_of log ≡ Some b
     last_is = ap last_of logged ∙ last_more p.log b
 
-    pub ran_sound : IsSoundPackage ran
-    ran_sound = record {
+    sound_ran : IsSoundPackage ran
+    sound_ran = record {
       few = m.sound.few;
       places = (places, m.sound.places.1);
       thread = rw runs.keeps.thread m.sound.thread;
@@ -221,6 +221,19 @@ module _ (image : Shown) (p : PackageView) (m : MayRun image p) where
       log = last_is;
       alone = λ h. refl;
     }
+
+    -- the pending block is shown as the last one of the log
+    abbrev shown : PackageView
+    shown = record ran { pending = last_of log }
+
+    ran_shown : ran ≡ shown
+    ran_shown = λ i. record ran { pending = sym last_is i }
+
+    pub pending_shown : is_some (last_of log) ≡ true
+    pending_shown = ap is_some last_is
+
+    pub ran_sound : IsSoundPackage shown
+    ran_sound = subst IsSoundPackage ran_shown sound_ran
 
     -- a package that fits a worker runs a block that the batch rule allows with this worker
     fits_allows : (worker : ℕ) → fits_of p worker ≡ true → Allows new b worker
@@ -233,8 +246,8 @@ module _ (image : Shown) (p : PackageView) (m : MayRun image p) where
         ∙ (λ i. fits_in (sym x.1 i) k g.0.kind worker) ∙ ap (λ n. fits_in (lock_in p.context.locks n) n g.0.kind worker) (sym g.2)
         ∙ ap (λ o. fits_granted p.context o worker) (sym g.1) ∙ fits
 
-    pub did_run : (old : PackageView) → p ≡ old → b.pc ≡ (thread_in p.context).regs.pc → IsBlock b → slept ≡ slept_at image (whole p.context) p.context.thread (b.turns - 1) → DidRun image old ran
-    did_run old same at bounds sleeps = subst (λ v. DidRun image v ran) same (record {
+    pub did_run : (old : PackageView) → p ≡ old → b.pc ≡ (thread_in p.context).regs.pc → IsBlock b → slept ≡ slept_at image (whole p.context) p.context.thread (b.turns - 1) → DidRun image old shown
+    did_run old same at bounds sleeps = subst (λ v. DidRun image v shown) same (subst (DidRun image p) ran_shown (record {
       block = b;
       pending = refl;
       bounds = bounds;
@@ -246,7 +259,7 @@ module _ (image : Shown) (p : PackageView) (m : MayRun image p) where
       held = journals.held;
       covers = can_go.covers;
       rests = λ k l next e. (idle_at p k l m.sound m.rest e).rests (next_free image (thread_in p.context) k next);
-      sound = ran_sound;
+      sound = sound_ran;
       runs = runs;
       journals = journals;
       slept = sleeps;
@@ -257,9 +270,30 @@ module _ (image : Shown) (p : PackageView) (m : MayRun image p) where
       numbers = refl;
       turns = refl;
       room = refl;
-    })
+    }))
 
 -- ---- the seal
+
+-- the pending block is the last of the log
+pub record IsLast (p : PackageView) : Type 0 where
+  pub block : Block
+  pub pending : p.pending ≡ Some block
+  pub last : last_of p.log ≡ Some block
+  pub some : 0 < length p.log
+
+pub pending_last : (p : PackageView) → IsSoundPackage p → is_some p.pending ≡ true → IsLast p
+pending_last p sound some =
+    let b = there p.pending some in
+    let last = subst (EndsWith p.log) b.1 sound.log in
+    record { block = b.0; pending = b.1; last = last; some = not_empty p.log b.0 last }
+  where
+    there : (o : Option Block) → is_some o ≡ true → (b : Block) × (o ≡ Some b)
+    there (Some b) h = (b, refl)
+    there None h = absurd (cc)
+
+    not_empty : (log : List Block) (b : Block) → last_of log ≡ Some b → 0 < length log
+    not_empty [] b e = absurd (cc)
+    not_empty (x ∷ xs) b e = omega arith
 
 -- the entry of a lock of the pending block
 entry_was : (p : PackageView) (b : Block) (k : ℕ) (l : LockView) → IsStored p k l → p.pending ≡ Some b → has b.held k ≡ true → (e : Entry) × (l.journal.closed ≡ Some e) × (b ≡ e.block)
@@ -395,8 +429,8 @@ seal_all p b stamp worker locks sound pending places changed =
     each k None e = refl
     each k (Some l) e = ap Some (one k l (sound.stored k l e) (has b.held k) refl)
 
-pub seal_is : (p : PackageView) (b : Block) (stamp worker n : ℕ) (locks : List (Option LockView)) → p.pending ≡ Some b → n ≡ length p.log → locks ≡ sealed_all stamp worker p.context.locks
-    → record p { context = record { thread = p.context.thread; guest = p.context.guest; locks = locks }; pending = None; log = set p.log (n - 1) (sealed_block stamp worker b) } ≡ with_seal stamp worker p
-seal_is p b stamp worker n locks pending len same =
-    let log = ap (λ k. set p.log (k - 1) (sealed_block stamp worker b)) len ∙ ap (sealed_log stamp worker p.log) (sym pending) in
-    λ i. record p { context = record { thread = p.context.thread; guest = p.context.guest; locks = same i }; pending = None; log = log i }
+pub seal_is : (p : PackageView) (b : Block) (stamp worker : ℕ) (log : List Block) (locks : List (Option LockView)) → p.pending ≡ Some b → log ≡ set p.log (length p.log - 1) (sealed_block stamp worker b) → locks ≡ sealed_all stamp worker p.context.locks
+    → record p { context = record { thread = p.context.thread; guest = p.context.guest; locks = locks }; pending = None; log = log } ≡ with_seal stamp worker p
+seal_is p b stamp worker log locks pending logged same =
+    let sealed = logged ∙ ap (sealed_log stamp worker p.log) (sym pending) in
+    λ i. record p { context = record { thread = p.context.thread; guest = p.context.guest; locks = same i }; pending = None; log = sealed i }

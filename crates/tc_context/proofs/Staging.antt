@@ -2,6 +2,8 @@
 use Rattle.std.proofs.Common.{◌≡◌, ℕ, ◌<◌, ◌≤◌, Bool, true, false, not, ◌||◌, ◌&&◌, ◌==◌, List, map, length, refl, sym, ap, subst, ◌∙◌, arith, inl, inr}
 use Rattle.std.specs.Prelude.{Option, Some, None, IfSome, is_some, slice_index_or, set, if◌then◌else◌}
 use Rattle.std.specs.Option.{option_map}
+use Rattle.std.proofs.lemmas.Bool.{and_parts}
+pub use Rattle.std.proofs.lemmas.Bool.{both_ways as false_true}
 use Rattle.std.proofs.lemmas.Bool.Decides.{eqb_tells}
 use Rattle.std.proofs.lemmas.List.{length-set, get_or-set_same, get_or-set_other}
 use Rattle.tc_isa.specs.Sets.{has}
@@ -9,8 +11,6 @@ use Rattle.tc_elf.specs.Shown.{Shown}
 use Rattle.tc_journal.specs.Batch.{is_section, last_of, may_go_on, ends_section, passes_to, passes_on}
 use Rattle.tc_journal.specs.declared.block.Block.{Block}
 use Rattle.tc_journal.specs.declared.block.Kind.{Kind}
-use Rattle.tc_turn.specs.declared.status.Status.{Status}
-use Rattle.tc_turn.specs.declared.status.Status.TheVariants.{Running}
 use Rattle.tc_turn.specs.Turn.{Thread, is_running, next_lock}
 use Rattle.tc_turn.specs.Replay.{Entry}
 use Rattle.tc_turn.proofs.Turns.{next_free, next_known}
@@ -21,10 +21,12 @@ use Rattle.tc_context.specs.Locks.{lock_in, AreOf, Changed, IsPlaced, SameLocks,
 use Rattle.tc_context.specs.Whole.{thread_in, set_of}
 use Rattle.tc_context.specs.View.{PackageView, granted_lock, want_of, number_in, waiting_in, IsNumber, IsFresh, Rests, IsIdle, IsAt, IsStored, IsLeft, EndsWith, IsGranted, MayTake, IsSoundPackage, IsWanted, LastIsSealed, IsWaiting, IsRoomier, with_grant, without_lock}
 use Rattle.tc_mutex_spec.proofs.BlocksAlike.{eq_self}
+use Rattle.tc_mutex_spec.proofs.Replaying.{running_is}
+use Rattle.tc_mutex_spec.proofs.OptionLaws.{map_some, some_map, option_map-twice, then_some, else_some}
+pub use Rattle.tc_mutex_spec.proofs.OptionLaws.{some_of}
 use Rattle.tc_context.specs.declared.package.Contents.{Contents}
 use Rattle.tc_context.specs.Kept.{view_of, KeptPackage}
-use Rattle.tc_context.proofs.LockList.{option_map-twice, when_field, with_locks, put_place}
-use Rattle.tc_context.proofs.Moved.{map_some, some_map}
+use Rattle.tc_context.proofs.LockList.{when_field, with_locks, put_place}
 
 -- the contents of a box are those that the package shows
 pub record Shows (a : Contents) (v : PackageView) : Type 0 where
@@ -33,13 +35,6 @@ pub record Shows (a : Contents) (v : PackageView) : Type 0 where
 
 pub shows : {a b : Contents} {v : PackageView} → a ≡ b → view_of b ≡ v → KeptPackage b → Shows a v
 shows same is kept = record { is = ap view_of same ∙ is; kept = subst KeptPackage (sym same) kept }
-
-pub false_true : (b : Bool) → b ≡ false → b ≡ true → ⊥
-false_true b e f = (let h : false ≡ true = sym e ∙ f in cc)
-
-pub some_of : (o : Option LockView) → is_some o ≡ true → (l : LockView) × (o ≡ Some l)
-some_of None e = absurd (cc)
-some_of (Some l) e = (l, refl)
 
 -- a lock rests by its sealed entries alone
 pub rests_as : (k : ℕ) (x l : LockView) → l.journal.sealed ≡ x.journal.sealed → Rests k x → Rests k l
@@ -77,28 +72,16 @@ at_rest p k l sound rest free e =
       ended = (idle_at p k l sound rest e).rests free;
     }
 
-wanted_next : (b : Bool) (o : Option ℕ) (k : ℕ) → (if b then o else None) ≡ Some k → (b ≡ true) × (o ≡ Some k)
-wanted_next true o k e = (refl, e)
-wanted_next false o k e = absurd (cc)
-
-running : (s : Status) → is_running s ≡ true → s ≡ Running
-running Running e = refl
-running _ e = absurd (cc)
-
 pub wanted : (p : PackageView) → IsSoundPackage p → (k : ℕ) → want_of p.image p.context ≡ Some k → IsWanted p k
 wanted p sound k e =
-    let w = wanted_next (is_running p.context.guest.status) (next_lock p.image (thread_in p.context)) k e in
+    let w = then_some (is_running p.context.guest.status) (next_lock p.image (thread_in p.context)) k e in
     let known = next_known p.image (thread_in p.context) k w.1 in
-    record { runs = running p.context.guest.status w.0; free = next_free p.image (thread_in p.context) k w.1; known = known; small = omega (arith, known, sound.few) }
+    record { runs = running_is p.context.guest.status w.0; free = next_free p.image (thread_in p.context) k w.1; known = known; small = omega (arith, known, sound.few) }
 
 -- the grant of a lock that was granted
 pub grant_of : (image : Shown) (p : Context) (o : Option Grant) (k : ℕ) → MayTake image p o → granted_lock o ≡ Some k → (g : Grant) × (o ≡ Some g) × (g.lock ≡ k) × IsGranted image p g
 grant_of image p None k may e = absurd (cc)
 grant_of image p (Some g) k may e = (g, refl, (let same : g.lock ≡ k = cc in same), may)
-
-both_parts : (a b : Bool) → (a && b) ≡ true → (a ≡ true) × (b ≡ true)
-both_parts true b e = (refl, e)
-both_parts false b e = absurd (cc)
 
 -- the thread is in the middle of the section of each lock that it holds
 pub goes_on : (p : PackageView) (k : ℕ) (l : LockView) → IsSoundPackage p → p.pending ≡ None → has p.context.guest.held k ≡ true → lock_in p.context.locks k ≡ Some l → may_go_on k (last_of (blocks_of l)) p.context.thread ≡ true
@@ -107,7 +90,7 @@ goes_on p k l sound rest h e = by (last_of p.log) refl sound.left
     by : (o : Option Block) → last_of p.log ≡ o → IsLeft p.image p.context o → may_go_on k (last_of (blocks_of l)) p.context.thread ≡ true
     by None is left = absurd (false_true _ (left.held k) h)
     by (Some b) is left =
-        let parts = both_parts (has b.held k) (not (ends_section k b)) (sym (left.held k) ∙ h) in
+        let parts = and_parts (has b.held k) (not (ends_section k b)) (sym (left.held k) ∙ h) in
         let ungranted = λ (f : granted_lock p.granted ≡ Some k). (let g = grant_of p.image p.context p.granted k sound.grant f in false_true _ (next_free p.image (thread_in p.context) k (g.3.next ∙ ap Some g.2)) h) in
         ap (λ o. may_go_on k o p.context.thread) ((idle_at p k l sound rest e).last b is parts.0 ungranted)
         ∙ (λ i. parts.1 i && (left.thread i == p.context.thread)) ∙ eq_self p.context.thread
@@ -231,7 +214,7 @@ granted_sound p lock kind number sound waiting rest section passes small =
     let n = lock.number in
     let q = with_grant lock kind number p in
     let want = wanted p sound n waiting.want in
-    let next = (wanted_next (is_running p.context.guest.status) (next_lock p.image (thread_in p.context)) n waiting.want).1 in
+    let next = (then_some (is_running p.context.guest.status) (next_lock p.image (thread_in p.context)) n waiting.want).1 in
     let at = placed p n (Some lock) sound want.small in
     let here : (k : ℕ) → (k == n) ≡ true → lock_in q.context.locks k ≡ Some lock = (λ k e. at k ∙ ap (λ v. if v then Some lock else lock_in p.context.locks k) e) in
     let there : (k : ℕ) → (k == n) ≡ false → lock_in q.context.locks k ≡ lock_in p.context.locks k = (λ k ne. at k ∙ ap (λ v. if v then Some lock else lock_in p.context.locks k) ne) in
@@ -262,17 +245,6 @@ granted_sound p lock kind number sound waiting rest section passes small =
       alone = λ h. absurd (false_true _ (ap is_some waiting.pending) h);
     }
 
--- the number at each place
-pub numbered : (xs : List ℕ) (n number k : ℕ) → n < length xs → slice_index_or (set xs n number) k 0 ≡ (if k == n then number else slice_index_or xs k 0)
-numbered xs n number k lt = elim (eqb_tells k n) [
-  | inl e ↦ ap (λ j. slice_index_or (set xs n number) j 0) e.1 ∙ get_or-set_same xs n number 0 lt ∙ ap (λ b. if b then number else slice_index_or xs k 0) (sym e.0)
-  | inr e ↦ get_or-set_other xs n k number 0 e.1 ∙ ap (λ b. if b then number else slice_index_or xs k 0) (sym e.0)
-]
-
-pub left_there : (b : Bool) (o : Option LockView) (l : LockView) → (if b then None else o) ≡ Some l → o ≡ Some l
-left_there true o l e = absurd (cc)
-left_there false o l e = e
-
 pub taken_sound : (p : PackageView) (lock : ℕ) → IsSoundPackage p → p.pending ≡ None → p.granted ≡ None → has p.context.guest.held lock ≡ false → lock < 32 → IsSoundPackage (without_lock lock p)
 taken_sound p lock sound rest ungranted free small =
     let q = without_lock lock p in
@@ -285,7 +257,7 @@ taken_sound p lock sound rest ungranted free small =
         | inl f ↦ absurd (false_true _ (ap (has p.context.guest.held) f.1 ∙ free) h)
         | inr f ↦ ap is_some (at k ∙ ap (λ v. if v then None else lock_in p.context.locks k) f.0) ∙ sound.held k h
       ]);
-      stored = λ k l e. stays_stored p q.context.locks p.granted p.numbers k l ungranted rest refl (sound.stored k l (left_there (k == lock) (lock_in p.context.locks k) l (sym (at k) ∙ e)));
+      stored = λ k l e. stays_stored p q.context.locks p.granted p.numbers k l ungranted rest refl (sound.stored k l (else_some (k == lock) (lock_in p.context.locks k) l (sym (at k) ∙ e)));
       left = left_as p.image p.context q.context.locks (last_of p.log) sound.left;
       grant = subst (MayTake p.image q.context) (sym ungranted) tt;
       log = sound.log;

@@ -1,18 +1,24 @@
 -- A package's fields, as it is seen, and what they keep.
-use Rattle.std.specs.Prelude.{◌≡◌, ℕ, ◌+◌, ◌≤◌, vec_len, vec_capacity}
+use Rattle.std.specs.Prelude.{◌≡◌, ℕ, ◌+◌, ◌≤◌, Bool, List, Option, None, is_some, if◌then◌else◌, vec_len, vec_capacity}
 use Rattle.std.specs.Arc.{arc_value}
 use Rattle.tc_isa.specs.Sets.{has}
+use Rattle.tc_journal.specs.Batch.{last_of}
+use Rattle.tc_journal.specs.declared.block.Block.{Block}
 use Rattle.tc_turn.specs.Turn.{next_lock}
 use Rattle.tc_context.specs.declared.package.Contents.{Contents}
 use Rattle.tc_context.specs.Whole.{thread_in, set_of}
 use Rattle.tc_context.specs.View.{PackageView, IsSoundPackage}
+
+-- the last block of a log, where that isn't sealed yet
+abbrev pub pending_in : Bool → List Block → Option Block
+pending_in pending log = if pending then last_of log else None
 
 abbrev pub view_of : Contents → PackageView
 view_of a = record {
   image = a.of.value;
   context = a.context;
   granted = a.granted;
-  pending = a.pending;
+  pending = pending_in a.pending a.log.items;
   log = a.log.items;
   log_room = a.log_room;
   numbers = a.numbers;
@@ -25,4 +31,5 @@ pub record KeptPackage (a : Contents) : Type 0 where
   pub code : arc_value a.code ≡ a.of.value
   pub next : a.next ≡ next_lock a.of.value (thread_in a.context)
   pub present : (k : ℕ) → set_of a.context k ≡ has a.present k
+  pub pending : is_some (pending_in a.pending a.log.items) ≡ a.pending
   pub log : vec_len a.log + a.log_room ≤ vec_capacity a.log

@@ -1,12 +1,14 @@
 //! A thread with the locks that are in its package, and the blocks that it runs.
 
-ghost use Rattle.std.specs.Prelude.{◌≡◌, ℕ, ◌+◌, ◌<◌, ◌≤◌, ◌^◌, ◌==◌, true, false, is_some, length, Some, None, IfOk, IfSome, if◌then◌else◌};
+ghost use Rattle.std.specs.Prelude.{◌≡◌, ℕ, ◌+◌, ◌<◌, ◌≤◌, ◌^◌, ◌==◌, true, false, is_some, length, Ok, Some, None, IfOk, IfSome, if◌then◌else◌};
 ghost use Rattle.std.specs.Option.{option_map};
 ghost use Rattle.tc_isa.specs.Sets.{has};
 ghost use Rattle.tc_journal.specs.Batch.{is_section};
 ghost use Rattle.tc_journal.specs.History.{IsBlock, IsEnd};
 ghost use Rattle.tc_turn.specs.Reads.{Covers};
 ghost use Rattle.tc_exec.specs.InPlace.{done_of};
+ghost use Rattle.tc_exec.specs.Step.{instruction_at};
+ghost use Rattle.tc_turn.specs.Ahead.{IsAhead};
 ghost use Rattle.tc_turn.specs.InPlace.{DoneFits};
 ghost use Rattle.tc_turn.specs.Turn.{lock_answer, next_lock, thread_at_start};
 ghost use Rattle.tc_mutex_spec.specs.Blocks.{locks_of_block};
@@ -16,9 +18,10 @@ ghost use Rattle.tc_context.specs.Ran.{slept_in, slept_by as slept_of_turn};
 use crate::locks::LockSet;
 use std::alloc::{AllocError, Global};
 use tc_elf::image::Image;
-use tc_exec::code::Code;
+use tc_exec::code::{Ahead, Code};
 use tc_exec::outcome::{Call, Done, Want};
 use tc_isa::held::Held;
+use tc_isa::instr::Instr;
 use tc_isa::limits::MAX_TURNS;
 use tc_journal::block::{Block, End, Kind};
 use tc_journal::rule::end_of;
@@ -37,12 +40,13 @@ pub(crate) struct Turns {
 }
 
 /// Some turns: what the last of them did beside the registers and the thread's own memory, how many
-/// they are, and whether they touched nothing else.
+/// they are, whether they touched nothing else, and the instruction behind them, where it is known.
 #[derive(Clone, Copy)]
-struct Steps {
+struct Steps<'a> {
     done: Option<Done>,
     count: u32,
     own: bool,
+    stop: Option<&'a Instr>,
 }
 
 /// A block that ran, the number of the SLEEP with which it ended, else 0, and the lock that the
@@ -99,11 +103,11 @@ impl Context {
     }
 
     /// One turn of a block with these locks, whose entries are open, and what it did beside the
-    /// registers. `next` is the lock that the turn takes.
-    fn turn(&mut self, image: &Image, code: &Code, block: Held, next: Option<u32>) -> Option<Done>
+    /// registers.
+    fn turn(&mut self, image: &Image, code: &Code, block: Held, ahead: Ahead<'_>) -> Option<Done>
         requires code { code.now ≡ image.now }
         requires go { CanGo image.now self.old }
-        requires next { next ≡ next_lock image.now (thread_in self.old) }
+        requires ahead { IsAhead image.now (thread_in self.old) ahead }
         requires covers { Covers image.now (has block) (thread_in self.old) }
         requires opened { AreOpen (has block) self.old }
         requires room { HasRoom 1 (has block) self.old }
@@ -111,9 +115,9 @@ impl Context {
         ensures fits { IfSome result DoneFits }
         ensures turn { IsTurn image.now (has block) self.old self.new }
     {
-        match next {
+        match ahead.lock {
             Some(lock) => Some(self.lock_turn(image, block, lock)),
-            None => self.other_turn(image, code, block),
+            None => self.other_turn(image, code, block, ahead.instr),
         }
     }
 
@@ -144,10 +148,18 @@ impl Context {
     }
 
     /// A turn that takes no lock.
-    fn other_turn(&mut self, image: &Image, code: &Code, block: Held) -> Option<Done>
+    fn other_turn(
+        &mut self,
+        image: &Image,
+        code: &Code,
+        block: Held,
+        known: Option<&Instr>,
+    ) -> Option<Done>
         requires code { code.now ≡ image.now }
         requires go { CanGo image.now self.old }
         requires next { next_lock image.now (thread_in self.old) ≡ None }
+        requires known { IfSome known
+            (λ instr. instruction_at image.now self.old.guest.regs.pc ≡ Ok instr.now) }
         requires covers { Covers image.now (has block) (thread_in self.old) }
         requires opened { AreOpen (has block) self.old }
         requires room { HasRoom 1 (has block) self.old }
@@ -155,7 +167,7 @@ impl Context {
         ensures fits { IfSome result DoneFits }
         ensures turn { IsTurn image.now (has block) self.old self.new }
     {
-        let found = code.instruction(image, self.guest.regs().pc());
+        let found = code.instruction(image, self.guest.regs().pc(), known);
         let want = self.guest.load_wanted(image, &found);
         let answer = answer(self, image, want, None);
         let noting = self.noting(block);
@@ -168,18 +180,18 @@ impl Context {
 
     /// One turn, or as many as touch registers and the thread's own memory alone, but at most so
     /// many. Whether to look for such turns changes nothing but what it costs.
-    fn advance(
+    fn advance<'a>(
         &mut self,
         image: &Image,
-        code: &Code,
+        code: &'a Code,
         block: Held,
-        next: Option<u32>,
+        ahead: Ahead<'a>,
         most: u32,
         looks: bool,
-    ) -> Steps
+    ) -> Steps<'a>
         requires code { code.now ≡ image.now }
         requires go { CanGo image.now self.old }
-        requires next { next ≡ next_lock image.now (thread_in self.old) }
+        requires ahead { IsAhead image.now (thread_in self.old) ahead }
         requires covers { Covers image.now (has block) (thread_in self.old) }
         requires opened { AreOpen (has block) self.old }
         requires room { HasRoom 1 (has block) self.old }
@@ -187,23 +199,28 @@ impl Context {
         ensures turns { AreTurns image.now (has block) self.old self.new result.count result.done }
         ensures fits { IfSome result.done DoneFits }
         ensures most { result.count ≤ most }
+        ensures stop { IfSome result.stop
+            (λ instr. instruction_at image.now self.new.guest.regs.pc ≡ Ok instr.now) }
     {
         let loads = notes_nothing(block);
-        let ran = self
+        let looks = looks && may_be_own(ahead.instr, loads);
+        let own = self
             .guest
             .run_own(image, code, most_own(most, looks), loads);
-        if ran > 0 {
+        if own.count > 0 {
             return Steps {
                 done: Some(Done::Went),
-                count: ran,
+                count: own.count,
                 own: true,
+                stop: own.stop,
             };
         }
-        let done = self.turn(image, code, block, next);
+        let done = self.turn(image, code, block, ahead);
         Steps {
             done,
             count: 1,
             own: false,
+            stop: None,
         }
     }
 
@@ -223,21 +240,24 @@ impl Context {
         ensures journals { AreNoted image.now (has block) result.count self.old self.new }
         ensures next { result.next ≡ next_lock image.now (thread_in self.new) }
     {
-        let mut next = takes;
+        let mut ahead = Ahead {
+            lock: takes,
+            instr: None,
+        };
         let mut count = 0;
         // A LOCK touches more, and so does the turn at which such turns end.
         let mut looks = takes.is_none();
         'block: loop {
-            let steps = self.advance(image, code, block, next, MAX_TURNS - count, looks);
+            let steps = self.advance(image, code, block, ahead, MAX_TURNS - count, looks);
             count += steps.count;
             looks = !steps.own;
-            next = self.guest.lock_wanted(image, code);
-            if let Some(end) = end_of(outcome_by(&steps.done), count, next) {
+            ahead = self.guest.ahead(image, code, steps.stop);
+            if let Some(end) = end_of(outcome_by(&steps.done), count, ahead.lock) {
                 return Turns {
                     end,
                     count,
                     slept: slept_by(&steps.done),
-                    next,
+                    next: ahead.lock,
                 };
             }
         }
@@ -325,6 +345,16 @@ fn notes_nothing(block: Held) -> bool
     ensures { result ≡ true → (k : ℕ) → has block k ≡ false }
 {
     block == Held::none()
+}
+
+/// Whether the next turn may be one that touches the thread's own memory alone, by its instruction
+/// where that is known: a guest call is none, nor is a load that a journal notes.
+fn may_be_own(known: Option<&Instr>, loads: bool) -> bool {
+    match known {
+        Some(Instr::Ecall) => false,
+        Some(Instr::Load { .. }) => loads,
+        _ => true,
+    }
 }
 
 /// At most how many such turns to do: none where it isn't looked for them.

@@ -1,13 +1,14 @@
 //! Packages.
 
-ghost use Rattle.std.specs.Prelude.{◌≡◌, ◌<◌, ◌≤◌, ◌+◌, min, true, false, is_some, length, Some, None, IfOk, OnOk, OnErr};
+ghost use Rattle.std.specs.Prelude.{◌≡◌, ◌<◌, ◌≤◌, ◌+◌, ◌-◌, min, true, false, is_some, length, set, vec_len, vec_capacity, Some, None, IfOk, OnOk, OnErr};
 ghost use Rattle.std.specs.Arc.{arc_value};
 ghost use Rattle.tc_isa.specs.Sets.{has};
 ghost use Rattle.tc_isa.specs.declared.limits.TheConstants.{MAX_FUEL};
 ghost use Rattle.tc_journal.specs.Batch.{is_section, last_of};
+ghost use Rattle.tc_journal.specs.declared.block.Block.{Block};
 ghost use Rattle.tc_journal.specs.declared.block.End.TheVariants.{Slept};
 ghost use Rattle.tc_turn.specs.declared.status.Status.TheVariants.{Running};
-ghost use Rattle.tc_segment.specs.View.{IsAtRest};
+ghost use Rattle.tc_segment.specs.View.{IsAtRest, sealed_block};
 ghost use Rattle.tc_context.specs.declared.package.TheConstants.{MAX_NUMBER};
 ghost use Rattle.tc_context.specs.Locks.{lock_in, IsPlaced};
 ghost use Rattle.tc_context.specs.Ran.{DidRun};
@@ -29,6 +30,10 @@ use tc_journal::block::{Block, End, Kind};
 use tc_segment::state::LockState;
 use tc_turn::status::Status;
 use tc_turn::thread::GuestThread;
+
+/// By how many blocks a log grows at least. What is not written yet takes no memory of the host, and
+/// a large log grows without a copy.
+const GROWTH: usize = 4_096;
 
 /// The greatest number of a queue turn.
 pub const MAX_NUMBER: u64 = 16_777_215;
@@ -52,7 +57,8 @@ struct Contents {
     next: Option<u32>,
     present: Held,
     granted: Option<Grant>,
-    pending: Option<Block>,
+    // Whether the last block of the log isn't sealed.
+    pending: bool,
     log: Vec<Block>,
     log_room: usize,
     numbers: [u64; 32],
@@ -153,7 +159,7 @@ impl Package {
     pub fn pending(&self) -> bool
         ensures { result ≡ is_some self.now.pending }
     {
-        self.contents.pending.is_some()
+        self.contents.pending
     }
 
     /// The byte of the thread's own memory at an address, None exactly where the address is not in
@@ -217,7 +223,7 @@ impl Package {
             context,
             present: Held::none(),
             granted: None,
-            pending: None,
+            pending: false,
             log: Vec::new(alloc),
             log_room: 0,
             numbers: [0; 32],
@@ -254,7 +260,7 @@ impl Package {
         ensures refused { OnErr result (self.new.log_room ≡ self.old.log_room) }
     {
         let contents = &mut *self.contents;
-        contents.log.reserve(1)?;
+        make_room(&mut contents.log)?;
         let made = contents.context.locks.reserve(contents.present);
         contents.context.locks.bound();
         made?;
@@ -287,7 +293,7 @@ impl Package {
         }
         contents.log_room -= 1;
         contents.granted = None;
-        contents.pending = Some(*block);
+        contents.pending = true;
         contents.slept = ran.slept;
         contents.next = ran.next;
         block.end
@@ -317,18 +323,10 @@ impl Package {
         ensures { self.new ≡ with_seal stamp worker self.old }
     {
         let contents = &mut *self.contents;
-        let Some(block) = contents.pending else {
-            return;
-        };
-        contents.context.locks.seal(block.held, stamp, worker);
+        let held = seal_last(&mut contents.log, stamp, worker);
+        contents.context.locks.seal(held, stamp, worker);
         contents.context.locks.bound();
-        let last = contents.log.len() - 1;
-        contents.log[last] = Block {
-            stamp,
-            worker,
-            ..block
-        };
-        contents.pending = None;
+        contents.pending = false;
     }
 
     /// Puts a lock into the package as it is: the thread's next turn takes it. `number` is the
@@ -394,4 +392,32 @@ impl Package {
         let contents = &*self.contents;
         contents.numbers[lock as usize]
     }
+}
+
+/// Gives the last block of a log its stamp and worker, and returns its locks.
+fn seal_last(log: &mut Vec<Block>, stamp: u64, worker: u32) -> Held
+    requires { 0 < vec_len log.old }
+    ensures log { (b : Block) → last_of log.old.items ≡ Some b
+        → log.new.items ≡ set log.old.items (vec_len log.old - 1) (sealed_block stamp worker b) }
+    ensures held { (b : Block) → last_of log.old.items ≡ Some b → result ≡ b.held }
+    ensures len { vec_len log.new ≡ vec_len log.old }
+    ensures capacity { vec_capacity log.new ≡ vec_capacity log.old }
+{
+    let last = log.len() - 1;
+    let block = &mut log[last];
+    block.stamp = stamp;
+    block.worker = worker;
+    block.held
+}
+
+/// Makes room for one block in a log.
+fn make_room(log: &mut Vec<Block>) -> Result<(), AllocError>
+    ensures items { log.new.items ≡ log.old.items }
+    ensures room { OnOk result (vec_len log.new + 1 ≤ vec_capacity log.new) }
+    ensures capacity { vec_capacity log.old ≤ vec_capacity log.new }
+{
+    if log.len() < log.capacity() {
+        return Ok(());
+    }
+    log.reserve(GROWTH)
 }

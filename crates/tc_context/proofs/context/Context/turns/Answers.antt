@@ -22,14 +22,14 @@ returns-in-Some c =
     let steps = c.advance-steps.ensures in
     let new = c.advance-steps.new.self in
     let t = taken image (has c.args.block) c.args.self.now c.block.self new c.block.count c.advance-steps.result.count c.advance-steps.result.done c.block.invariant.partway steps.most steps.turns in
-    let rule = (λ i. end_rule ((t.came ∙ sym c.outcome_by.ensures) i) (sym t.count i) (sym c.lock_wanted-next.ensures i)) ∙ sym c.end_of.ensures ∙ c.in-Some.is in
+    let rule = (λ i. end_rule ((t.came ∙ sym c.outcome_by.ensures) i) (sym t.count i) (sym c.ahead-ahead.ensures.lock i)) ∙ sym c.end_of.ensures ∙ c.in-Some.is in
     record {
       runs = subst (λ n. RunsAs image c.args.self.now new n c.in-Some.end) (sym t.count) (partway_ends image (has c.args.block) c.args.self.now t.last new t.before c.in-Some.end t.partway t.turn rule c.requires.go);
       most = (let short = c.block.invariant.partway.short in let few = steps.most in omega arith);
       end = end_done c.advance-steps.result.done (t.before + 1) (next_lock image (thread_in new)) c.in-Some.end steps.fits (next_small image (thread_in new) c.requires.go.guards) (ap (λ o. end_rule o (t.before + 1) (next_lock image (thread_in new))) (sym t.came) ∙ rule);
       slept = c.slept_by.ensures ∙ t.slept ∙ partway_slept image (has c.args.block) c.args.self.now t.last new t.before t.partway t.turn ∙ ap (slept_in image c.args.self.now) (sym t.count);
       journals = subst (λ n. AreNoted image (has c.args.block) n c.args.self.now new) (sym t.count) (noted_next image (has c.args.block) c.args.self.now t.last new t.before t.partway t.turn);
-      next = c.lock_wanted-next.ensures;
+      next = c.ahead-ahead.ensures.lock;
     }
 
 pub block-preserved : goal.block-preserved
@@ -38,14 +38,14 @@ block-preserved c =
     let steps = c.advance-steps.ensures in
     let new = c.advance-steps.new.self in
     let t = taken image (has c.args.block) c.args.self.now c.block.self new c.block.count c.advance-steps.result.count c.advance-steps.result.done c.block.invariant.partway steps.most steps.turns in
-    let rule = (λ i. end_rule ((t.came ∙ sym c.outcome_by.ensures) i) (sym t.count i) (sym c.lock_wanted-next.ensures i)) ∙ sym c.end_of.ensures ∙ c.in_default.is in
+    let rule = (λ i. end_rule ((t.came ∙ sym c.outcome_by.ensures) i) (sym t.count i) (sym c.ahead-ahead.ensures.lock i)) ∙ sym c.end_of.ensures ∙ c.in_default.is in
     record {
       partway = subst (λ n. Partway image (has c.args.block) c.args.self.now new n) (sym t.count) (partway_more image (has c.args.block) c.args.self.now t.last new t.before t.partway t.turn rule);
-      next = c.lock_wanted-next.ensures;
+      ahead = c.ahead-ahead.ensures;
     }
 
 pub block-init : goal.block-init
 block-init c = record {
   partway = partway_start c.args.image.now (has c.args.block) c.args.self.now c.requires.go c.requires.covers;
-  next = c.requires.takes;
+  ahead = record { lock = c.requires.takes; instr = tt };
 }

@@ -1,6 +1,6 @@
-use Rattle.std.proofs.Common.{◌-◌, ◌≡◌}
+use Rattle.std.proofs.Common.{◌-◌}
 use Rattle.tc_isa.specs.Sets.{has}
-use Rattle.tc_turn.specs.Turn.{next_lock}
+use Rattle.tc_turn.specs.Ahead.{IsAhead}
 use Rattle.tc_context.specs.Whole.{thread_in}
 use Rattle.tc_context.proofs.Partway.{Partway}
 use Rattle.tc_context.proofs.context.Context.turns.Given as goal
@@ -8,7 +8,7 @@ use Rattle.tc_context.proofs.context.Context.turns.Given as goal
 abbrev pub invariant-block : goal.invariant-block
 invariant-block l = record {
   partway : Partway l.image (has l.block) l.fn.self l.self l.count;
-  next : l.next ≡ next_lock l.image (thread_in l.self);
+  ahead : IsAhead l.image (thread_in l.self) l.ahead;
 }
 
 abbrev pub decreases-block : goal.decreases-block

@@ -4,7 +4,8 @@ use Rattle.tc_journal.specs.Batch.{last_of, passes_to}
 use Rattle.tc_segment.specs.View.{IsAtRest, blocks_of}
 use Rattle.tc_context.specs.View.{PackageView, IsSoundPackage, IsWaiting, number_in}
 use Rattle.tc_context.specs.Kept.{view_of}
-use Rattle.tc_context.proofs.Staging.{shows, granted_sound, numbered, set_with, wanted}
+use Rattle.tc_mutex_spec.proofs.ListLaws.{get_or-set}
+use Rattle.tc_context.proofs.Staging.{shows, granted_sound, set_with, wanted}
 use Rattle.tc_context.proofs.package.Package.grant.Goals as goal
 
 pub invariant_of-self : goal.invariant_of-self
@@ -22,6 +23,7 @@ invariant_of-self c =
       code = s.kept.code;
       next = s.kept.next;
       present = set_with c.args.lock.number _ c.args.lock p.context.locks _ c.deref_mut-contents.result.now.present _ n c.put_in.ensures.locks c.plus-contents.ensures.each s.kept.present;
+      pending = s.kept.pending;
       log = s.kept.log;
     }
 
@@ -35,4 +37,4 @@ returns-clause-numbers c =
     let waiting = subst (λ v. IsWaiting v n) (sym s.is) c.requires.waiting in
     let small = (wanted p s.kept.sound n waiting.want).small in
     let full = s.kept.sound.places.1 in
-    ap (λ j. slice_index_or (set p.numbers j number) k 0) c.number.ensures.is ∙ numbered p.numbers n number k (omega (arith, small, full)) ∙ ap (λ v. if k == n then number else number_in v k) s.is
+    ap (λ j. slice_index_or (set p.numbers j number) k 0) c.number.ensures.is ∙ get_or-set p.numbers n k number 0 (omega (arith, small, full)) ∙ ap (λ v. if k == n then number else number_in v k) s.is

@@ -12,5 +12,6 @@ invariant_of-self c =
       code = s.kept.code;
       next = s.kept.next;
       present = s.kept.present;
+      pending = s.kept.pending;
       log = s.kept.log;
     }

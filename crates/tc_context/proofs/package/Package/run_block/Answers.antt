@@ -5,7 +5,7 @@ use Rattle.tc_context.specs.View.{PackageView, IsSoundPackage, IsReserved, kind_
 use Rattle.tc_context.specs.Kept.{view_of}
 use Rattle.tc_context.specs.Whole.{thread_in}
 use Rattle.tc_context.proofs.Staging.{shows}
-use Rattle.tc_context.proofs.Running.{MayRun, ready_from, can_go, kind_section, ran_sound, did_run}
+use Rattle.tc_context.proofs.Running.{MayRun, ready_from, can_go, kind_section, ran_sound, pending_shown, did_run}
 use Rattle.tc_context.proofs.package.Package.run_block.Goals as goal
 
 pub run_block-ran-requires : goal.run_block-ran-requires
@@ -37,6 +37,7 @@ invariant_of-self c =
       code = s.kept.code;
       next = e.next ∙ ap (λ x. next_lock x (thread_in ran.new.self)) (sym may.is);
       present = λ k. e.runs.keeps.set k ∙ s.kept.present k;
+      pending = pending_shown image p may ran.new.self ran.result.block c.push.new.self.items ran.result.slept c.bound.ensures.places e.runs e.journals e.thread kind c.in-Ok.ensures.items;
       log = (let h = s.kept.log in omega (arith, room, c.in-Ok.ensures.len, c.in-Ok.ensures.capacity));
     }
 

@@ -1,40 +1,64 @@
-use Rattle.std.proofs.Common.{◌∙◌, ap, sym, subst}
+use Rattle.std.proofs.Common.{◌∙◌, ◌-◌, set, refl, ap, sym, subst, arith}
+use Rattle.std.specs.Prelude.{is_some}
+use Rattle.tc_isa.specs.Sets.{has}
+use Rattle.tc_segment.specs.View.{sealed_block}
+use Rattle.tc_context.specs.Locks.{Changed, sealed_in}
 use Rattle.tc_context.specs.View.{PackageView, IsSoundPackage, Allows, with_seal}
 use Rattle.tc_context.specs.Kept.{view_of}
 use Rattle.tc_context.proofs.Staging.{shows, changed_set}
-use Rattle.tc_context.proofs.Running.{seal_closed, seal_follows, seal_passes, sealed_sound, seal_all, seal_is}
+use Rattle.tc_context.proofs.Running.{pending_last, seal_closed, seal_follows, seal_passes, sealed_sound, seal_all, seal_is}
 use Rattle.tc_context.proofs.package.Package.seal.Goals as goal
+
+pub seal_last-held-requires : goal.seal_last-held-requires
+seal_last-held-requires c =
+    let s = shows c.deref_mut-contents.ensures.value c.self.view_is c.self.invariant in
+    let some = (pending_last (view_of c.deref_mut-contents.result.now) s.kept.sound (ap (λ (v : PackageView). is_some v.pending) s.is ∙ c.requires.pending)).some in
+    let len = c.deref_mut-contents.result.now.log.ok.0 in
+    omega (arith, some, len)
 
 pub seal-requires : goal.seal-requires
 seal-requires c =
     let s = shows c.deref_mut-contents.ensures.value c.self.view_is c.self.invariant in
     let p = view_of c.deref_mut-contents.result.now in
-    let b = c.in-Some.block in
-    let allows = subst (λ (v : PackageView). Allows v.context b c.args.worker) (sym s.is) (c.requires.allows b (ap (λ (v : PackageView). v.pending) (sym s.is) ∙ c.in-Some.is)) in
+    let l = pending_last p s.kept.sound (ap (λ (v : PackageView). is_some v.pending) s.is ∙ c.requires.pending) in
+    let b = l.block in
+    let held = sym (c.seal_last-held.ensures.held b l.last) in
+    let allows = subst (λ (v : PackageView). Allows v.context b c.args.worker) (sym s.is) (c.requires.allows b (ap (λ (v : PackageView). v.pending) (sym s.is) ∙ l.pending)) in
     record {
-      closed = seal_closed p b s.kept.sound c.in-Some.is;
-      follows = seal_follows p b c.args.stamp c.args.worker s.kept.sound c.in-Some.is allows;
-      passes = seal_passes p b s.kept.sound c.in-Some.is;
+      closed = λ k state found h. seal_closed p b s.kept.sound l.pending k state found (ap (λ n. has n k) held ∙ h);
+      follows = λ k state found h. seal_follows p b c.args.stamp c.args.worker s.kept.sound l.pending allows k state found (ap (λ n. has n k) held ∙ h);
+      passes = λ k state found h. seal_passes p b s.kept.sound l.pending k state found (ap (λ n. has n k) held ∙ h);
     }
 
-pub invariant_of-self-2 : goal.invariant_of-self-2
-invariant_of-self-2 c =
+pub invariant_of-self : goal.invariant_of-self
+invariant_of-self c =
     let s = shows c.deref_mut-contents.ensures.value c.self.view_is c.self.invariant in
-    let p = view_of c.deref_mut-contents.result.now in
-    let b = c.in-Some.block in
-    let locks = seal_all p b c.args.stamp c.args.worker c.seal.new.self s.kept.sound c.in-Some.is c.bound.ensures.places c.seal.ensures in
+    let a = c.deref_mut-contents.result.now in
+    let p = view_of a in
+    let l = pending_last p s.kept.sound (ap (λ (v : PackageView). is_some v.pending) s.is ∙ c.requires.pending) in
+    let b = l.block in
+    let last = c.seal_last-held.ensures in
+    let changed = subst (λ n. Changed (sealed_in (has n) c.args.stamp c.args.worker) p.context.locks c.seal.new.self) (last.held b l.last) c.seal.ensures in
+    let locks = seal_all p b c.args.stamp c.args.worker c.seal.new.self s.kept.sound l.pending c.bound.ensures.places changed in
+    let logged = last.log b l.last ∙ ap (λ n. set p.log (n - 1) (sealed_block c.args.stamp c.args.worker b)) a.log.ok.0 in
     record {
-      sound = subst IsSoundPackage (sym (seal_is p b c.args.stamp c.args.worker c.len-last.result c.seal.new.self c.in-Some.is (c.len-last.ensures ∙ c.deref_mut-contents.result.now.log.ok.0) locks)) (sealed_sound p b c.args.stamp c.args.worker s.kept.sound c.in-Some.is);
+      sound = subst IsSoundPackage (sym (seal_is p b c.args.stamp c.args.worker _ c.seal.new.self l.pending logged locks)) (sealed_sound p b c.args.stamp c.args.worker s.kept.sound l.pending);
       code = s.kept.code;
       next = s.kept.next;
       present = λ k. changed_set _ p.context.locks c.seal.new.self c.seal.ensures k ∙ s.kept.present k;
-      log = s.kept.log;
+      pending = refl;
+      log = (let h = s.kept.log in omega (arith, last.len, last.capacity));
     }
 
 pub returns : goal.returns
 returns c =
     let s = shows c.deref_mut-contents.ensures.value c.self.view_is c.self.invariant in
-    let p = view_of c.deref_mut-contents.result.now in
-    let b = c.in-Some.block in
-    let locks = seal_all p b c.args.stamp c.args.worker c.seal.new.self s.kept.sound c.in-Some.is c.bound.ensures.places c.seal.ensures in
-    seal_is p b c.args.stamp c.args.worker c.len-last.result c.seal.new.self c.in-Some.is (c.len-last.ensures ∙ c.deref_mut-contents.result.now.log.ok.0) locks ∙ ap (with_seal c.args.stamp c.args.worker) s.is
+    let a = c.deref_mut-contents.result.now in
+    let p = view_of a in
+    let l = pending_last p s.kept.sound (ap (λ (v : PackageView). is_some v.pending) s.is ∙ c.requires.pending) in
+    let b = l.block in
+    let last = c.seal_last-held.ensures in
+    let changed = subst (λ n. Changed (sealed_in (has n) c.args.stamp c.args.worker) p.context.locks c.seal.new.self) (last.held b l.last) c.seal.ensures in
+    let locks = seal_all p b c.args.stamp c.args.worker c.seal.new.self s.kept.sound l.pending c.bound.ensures.places changed in
+    let logged = last.log b l.last ∙ ap (λ n. set p.log (n - 1) (sealed_block c.args.stamp c.args.worker b)) a.log.ok.0 in
+    seal_is p b c.args.stamp c.args.worker _ c.seal.new.self l.pending logged locks ∙ ap (with_seal c.args.stamp c.args.worker) s.is

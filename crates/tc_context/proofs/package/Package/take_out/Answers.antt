@@ -26,6 +26,7 @@ invariant_of-self c =
       code = s.kept.code;
       next = s.kept.next;
       present = set_without c.args.lock p.context.locks _ c.deref_mut-contents.result.now.present _ c.take_out.ensures.left c.less-contents.ensures.each s.kept.present;
+      pending = s.kept.pending;
       log = s.kept.log;
     }
 
