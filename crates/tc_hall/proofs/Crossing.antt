@@ -8,6 +8,7 @@ use Rattle.tc_elf.proofs.image.Image.TheSendSync as Image_moves
 use Rattle.tc_exec.proofs.code.Part.TheSendSync as Part_moves
 use Rattle.tc_journal.proofs.block.Block.TheSendSync as Block_moves
 use Rattle.tc_turn.proofs.thread.GuestThread.TheSendSync as Guest_moves
+use Rattle.tc_segment.proofs.edges.Edges.TheSendSync as Edges_moves
 use Rattle.tc_segment.proofs.record.Record.TheSendSync as Record_moves
 use Rattle.tc_segment.proofs.record.Opening.TheSendSync as Opening_moves
 use Rattle.tc_context.proofs.package.Grant.TheSendSync as Grant_moves
@@ -35,10 +36,10 @@ code_sync : IsSync Code.the_row
 code_sync = search (sendable, crosses, Part_moves.the_sync) depth 20
 
 lock_contents_send : IsSend LockContents.the_row
-lock_contents_send = search (sendable, crosses, Record_moves.the_send, Opening_moves.the_send) depth 30
+lock_contents_send = search (sendable, crosses, Edges_moves.the_send, Record_moves.the_send, Opening_moves.the_send) depth 30
 
 lock_contents_sync : IsSync LockContents.the_row
-lock_contents_sync = search (sendable, crosses, Record_moves.the_sync, Opening_moves.the_sync) depth 30
+lock_contents_sync = search (sendable, crosses, Edges_moves.the_sync, Record_moves.the_sync, Opening_moves.the_sync) depth 30
 
 lock_send : IsSend LockState.the_row
 lock_send = search (sendable, crosses, lock_contents_send) depth 20

@@ -35,4 +35,14 @@ impl Closed {
     {
         self.locks.as_slice()
     }
+
+    /// The packages and the lock states, as `packages` and `locks` lend them, each to be dropped on
+    /// its own.
+    pub fn into_parts(self) -> (Vec<Package>, Vec<LockState>)
+        ensures packages { result.0.items ≡ self.packages }
+        ensures locks { result.1.items ≡ self.locks }
+    {
+        let Closed { packages, locks } = self;
+        (packages, locks)
+    }
 }
