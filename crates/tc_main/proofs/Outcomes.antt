@@ -1,5 +1,5 @@
 -- What a run leaves is what its history leads to.
-use Rattle.std.proofs.Common.{◌≡◌, ℕ, ◌<◌, ◌++◌, List, map, length, refl, sym, ap, ◌∙◌, subst, arith}
+use Rattle.std.proofs.Common.{◌≡◌, ℕ, ◌<◌, ◌++◌, List, map, length, refl, sym, ap, ◌∙◌, subst, append_assoc, arith}
 use Rattle.std.specs.Prelude.{All}
 use Rattle.std.specs.List.{range_with_len}
 use Rattle.std.proofs.lemmas.List.{length-map}
@@ -25,7 +25,7 @@ use Rattle.tc_mutex_spec.proofs.ListLaws.{there, at_place}
 use Rattle.tc_workers.specs.declared.options.Options.{Options}
 use Rattle.tc_main.specs.Legal.{finished_in, guarded_in, results_after, IsLegalRun}
 use Rattle.tc_main.specs.Outcome.{IsOutcome}
-use Rattle.tc_main.specs.Report.{finished_of, guarded_of, first_line, guest_line, run_line, package_text, state_text, packages_text, states_text, thread_text, lock_text, threads_text, locks_text, last_line, report_text}
+use Rattle.tc_main.specs.Report.{finished_of, guarded_of, package_text, state_text, packages_text, states_text, thread_text, lock_text, threads_text, locks_text, last_line, head_text, tail_text, report_text}
 use Rattle.tc_main.specs.Summary.{demo_line, blocks_line, end_line, ends_text, packages_ends, summary_text}
 use Rattle.tc_main.proofs.Ranges.{text_by_number}
 
@@ -71,11 +71,16 @@ module _ (image : Shown) (fuel limit : ℕ) (h : List Block) (packages : List Pa
       ∙ ap (λ n. ends_text (map (finished_in last) (range_with_len 0 n))) is.all_packages
 
   -- so the report is the text over them
-  pub told : (o : Options) → report_text image o (results_after image fuel h)
-      ≡ first_line ++ guest_line (length image.entries) (length image.guards) ++ run_line o ++ history_text h ++ packages_text packages ++ states_text image states ++ last_line
+  pub told : (o : Options) → report_text image o (results_after image fuel h) ≡ head_text image o ++ history_text h ++ tail_text image packages states
   unfolding report_text
-  told o i =
-      first_line ++ guest_line (length image.entries) (length image.guards) ++ run_line o ++ history_text h ++ sym threads_told i ++ sym locks_told i ++ last_line
+  told o =
+      let front = head_text image o ++ history_text h in
+      let threads = packages_text packages in
+      let locks = states_text image states in
+      (λ i. front ++ sym threads_told i ++ sym locks_told i ++ last_line)
+      ∙ append_assoc (front ++ threads) locks last_line
+      ∙ append_assoc front threads (locks ++ last_line)
+      ∙ ap (λ tail. front ++ tail) (sym (append_assoc threads locks last_line))
 
   -- and so is the summary
   pub summed : (rounds : ℕ) → summary_text rounds (results_after image fuel h)

@@ -1,9 +1,10 @@
 -- The merged logs of a whole run are its history.
-use Rattle.std.proofs.Common.{◌≡◌, ℕ, List, map, sym, subst}
+use Rattle.std.proofs.Common.{◌≡◌, ◌++◌, ℕ, List, map, sym, ◌∙◌, subst}
 use Rattle.std.specs.Prelude.{All}
 use Rattle.std.specs.List.Sorted.{IsPermutation}
 use Rattle.tc_elf.specs.Shown.{Shown}
 use Rattle.tc_journal.specs.History.{HasEachStamp, IsInOrder}
+use Rattle.tc_journal.specs.Line.{history_text}
 use Rattle.tc_journal.specs.declared.block.Block.{Block}
 use Rattle.tc_segment.specs.View.{LockView, IsSoundLock, kept}
 use Rattle.tc_context.specs.View.{PackageView, bare}
@@ -13,8 +14,10 @@ use Rattle.tc_workers.specs.Run.{IsWholeRun}
 use Rattle.tc_workers.specs.declared.options.Options.{Options}
 use Rattle.tc_main.specs.Legal.{IsLegalRun, results_after}
 use Rattle.tc_main.specs.Outcome.{IsOutcome, logs_of}
+use Rattle.tc_main.specs.Report.{head_text, tail_text}
+use Rattle.tc_main.specs.Top.{IsReportOf}
 use Rattle.tc_main.proofs.Merging.{each_stamp, merged}
-use Rattle.tc_main.proofs.Outcomes.{outcome, legal}
+use Rattle.tc_main.proofs.Outcomes.{outcome, legal, told}
 
 module _ (image : Shown) (o : Options) (closed : ClosedView) (run : IsWholeRun image o closed) (packages : List PackageView) (states : List LockView) (all : packages ≡ closed.packages) (all_states : states ≡ closed.locks) where
   law : Lawful image o.fuel o.limit run.history (map bare packages) (map kept states)
@@ -30,5 +33,15 @@ module _ (image : Shown) (o : Options) (closed : ClosedView) (run : IsWholeRun i
     pub outcome_is : IsOutcome image o.fuel o.limit g packages states
     outcome_is = subst (λ h. IsOutcome image o.fuel o.limit h packages states) same (outcome image o run.history packages states law run.complete)
 
-    pub legal_is : All IsSoundLock states → IsLegalRun image o (results_after image o.fuel g)
-    legal_is sound = subst (λ h. IsLegalRun image o (results_after image o.fuel h)) same (legal image o run.history packages states law run.complete run.workers sound)
+    pub legal_is : All IsSoundLock closed.locks → IsLegalRun image o (results_after image o.fuel g)
+    legal_is sound =
+        let sound_states : All IsSoundLock states = subst (All IsSoundLock) (sym all_states) sound in
+        subst (λ h. IsLegalRun image o (results_after image o.fuel h)) same (legal image o run.history packages states law run.complete run.workers sound_states)
+
+    -- so a text over it, the packages and the states is the report
+    pub report_is : All IsSoundLock closed.locks → (text : List ℕ) → text ≡ head_text image o ++ history_text g ++ tail_text image packages states → IsReportOf image o text
+    report_is sound text written = record {
+      results = results_after image o.fuel g;
+      legal = legal_is sound;
+      printed = written ∙ sym (told image o.fuel o.limit g packages states outcome_is o);
+    }

@@ -120,3 +120,13 @@ packages_text packages = flat_map package_text (enumerate_from 0 packages)
 -- the lines of the locks of all states, which are numbered from 0
 abbrev pub states_text : Shown → List LockView → List ℕ
 states_text image states = flat_map (state_text image) (enumerate_from 0 states)
+
+-- ---- the parts of a report that are written on their own
+
+-- the lines before the history
+abbrev pub head_text : Shown → Options → List ℕ
+head_text image o = first_line ++ guest_line (length image.entries) (length image.guards) ++ run_line o
+
+-- the lines behind it, as the packages and states have them
+abbrev pub tail_text : Shown → List PackageView → List LockView → List ℕ
+tail_text image packages states = packages_text packages ++ states_text image states ++ last_line

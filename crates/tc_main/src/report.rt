@@ -208,8 +208,8 @@ fn push_locks(out: &mut String, image: &Image, locks: &[LockState]) -> Result<()
     Ok(())
 }
 
-/// The room for the lines that every report has, in bytes: no such lines are longer.
-const HEAD_ROOM: usize = 96;
+/// The room for the three lines before the history, in bytes: no such lines are longer.
+const HEAD_ROOM: usize = 92;
 
 /// The room for the line of a block. No line of a run is longer: a stamp has at most 7 digits, a
 /// thread 2, the turns 4, a worker 1, a pc 8, and four locks with their commas 11 bytes.
@@ -224,6 +224,9 @@ const LOCK_ROOM: usize = 80;
 /// The room for a data line.
 const DATA_ROOM: usize = 80;
 
+/// The room for the last line.
+const END_ROOM: usize = 4;
+
 /// The room for the lines of the locks, in bytes.
 fn locks_room(locks: &[LockState]) -> usize {
     let mut room: usize = 0;
@@ -234,22 +237,68 @@ fn locks_room(locks: &[LockState]) -> usize {
     room
 }
 
-/// The room for a report, in bytes. No report of a run is longer; a longer one would grow.
-fn room_for(history: &[Block], packages: &[Package], locks: &[LockState]) -> usize {
-    let blocks = history.len().saturating_mul(BLOCK_ROOM);
-    let threads = packages.len().saturating_mul(THREAD_ROOM);
-    HEAD_ROOM
-        .saturating_add(blocks)
-        .saturating_add(threads)
+/// The room for the lines behind the history, in bytes. Those of a run are no longer; longer ones
+/// would grow.
+fn tail_room(packages: &[Package], locks: &[LockState]) -> usize {
+    packages
+        .len()
+        .saturating_mul(THREAD_ROOM)
         .saturating_add(locks_room(locks))
+        .saturating_add(END_ROOM)
+}
+
+/// The room for a report that ends with this text, in bytes. No report of a run is longer; a longer
+/// one would grow.
+fn report_room(history: &[Block], tail: &str) -> usize {
+    history
+        .len()
+        .saturating_mul(BLOCK_ROOM)
+        .saturating_add(HEAD_ROOM)
+        .saturating_add(tail.len())
+}
+
+/// What a report has behind its history: the lines of the threads and the locks, and the last line.
+pub(crate) fn tail_of(
+    alloc: Global,
+    image: &Image,
+    packages: &[Package],
+    locks: &[LockState],
+) -> Result<String, AllocError>
+    requires { length locks.now ≡ length image.now.guards }
+    ensures { IfOk result (λ tail. string_bytes tail
+        ≡ text.tail_text image.now packages.now locks.now) }
+{
+    let mut tail = String::with_capacity(alloc, tail_room(packages, locks))?;
+    push_threads(&mut tail, packages)?;
+    push_locks(&mut tail, image, locks)?;
+    tail.push_str("end\n")?;
+    Ok(tail)
+}
+
+/// The report that has this text behind its history. The memory for all of it is taken at once,
+/// before any of it is written, so that no second copy is made as it grows.
+pub(crate) fn report_with(
+    alloc: Global,
+    image: &Image,
+    options: Options,
+    history: &[Block],
+    tail: &str,
+) -> Result<Vec<u8>, AllocError>
+    ensures { IfOk result (λ out. out.items
+        ≡ text.head_text image.now options ++ history_text history.now ++ tail.now) }
+{
+    let mut out = String::with_capacity(alloc, report_room(history, tail))?;
+    out.push_str("tclocks 2\n")?;
+    push_guest(&mut out, image.threads(), image.guards())?;
+    push_run(&mut out, options)?;
+    push_history(&mut out, history)?;
+    out.push_str(tail)?;
+    Ok(out.into_bytes())
 }
 
 /// The report of a run to the end of every thread: its text, line by line, over the blocks of the
 /// history and the state in which the history ends. The packages and lock states are those that the
 /// run left, of all threads and locks in order of number.
-///
-/// The memory for the whole text is taken at once, before any of it is written, so that no second
-/// copy is made as it grows.
 pub fn report(
     alloc: Global,
     image: &Image,
@@ -263,13 +312,6 @@ pub fn report(
         ≡ text.report_text image.now options
         (results_after image.now options.fuel history.now)) }
 {
-    let mut out = String::with_capacity(alloc, room_for(history, packages, locks))?;
-    out.push_str("tclocks 2\n")?;
-    push_guest(&mut out, image.threads(), image.guards())?;
-    push_run(&mut out, options)?;
-    push_history(&mut out, history)?;
-    push_threads(&mut out, packages)?;
-    push_locks(&mut out, image, locks)?;
-    out.push_str("end\n")?;
-    Ok(out.into_bytes())
+    let tail = tail_of(alloc, image, packages, locks)?;
+    report_with(alloc, image, options, history, &tail)
 }

@@ -7,8 +7,9 @@ ghost use Rattle.tc_segment.specs.View.{IsSoundLock};
 ghost use Rattle.tc_main.specs.Legal.{IsLegalRun, results_after};
 ghost use Rattle.tc_main.specs.Outcome.{IsOutcome, log_in, logs_of};
 ghost use Rattle.tc_main.specs.Top.{IsReportOf};
+ghost use Rattle.tc_workers.specs.Run.{IsWholeRun};
 
-use crate::report::report;
+use crate::report::{report_with, tail_of};
 use std::alloc::{AllocError, Global};
 use std::sync::Wait;
 use std::thread::Threads;
@@ -52,6 +53,22 @@ fn history_of(alloc: Global, packages: &[Package]) -> Result<Vec<Block>, AllocEr
     merge_lent(alloc, &logs)
 }
 
+/// Runs the guest until each thread has ended, and shows what the lock states keep.
+fn run_closed<R: Threads + Wait + Sync, G: Gate>(
+    rt: &R,
+    alloc: Global,
+    image: &Image,
+    options: Options,
+    gate: &G,
+) -> Result<Closed, AllocError>
+    ensures whole { IfOk result (λ closed. IsWholeRun image.now options closed) }
+    ensures sound { IfOk result (λ closed. All IsSoundLock closed.locks) }
+{
+    let closed = run_all(rt, alloc, image, options, gate)?;
+    keep(closed.locks());
+    Ok(closed)
+}
+
 /// What the workers left of a run to the end of every thread, and the history of it.
 #[derive(Drop)]
 pub(crate) struct WholeRun {
@@ -72,14 +89,15 @@ pub(crate) fn run_whole<R: Threads + Wait + Sync, G: Gate>(
     ensures legal { IfOk result (λ run. IsLegalRun image.now options
         (results_after image.now options.fuel run.history.items)) }
 {
-    let closed = run_all(rt, alloc, image, options, gate)?;
-    keep(closed.locks());
+    let closed = run_closed(rt, alloc, image, options, gate)?;
     let history = history_of(alloc, closed.packages())?;
     Ok(WholeRun { closed, history })
 }
 
-/// Runs the guest, and answers the report of the run. The text is made whole, of the hall that the
-/// workers left, once each of them has ended.
+/// Runs the guest, and answers the report of the run. It is made of the hall that the workers left,
+/// once each of them has ended. What threads and locks came to is written first, so that the lock
+/// states with their journals are gone before the logs are merged, and the packages with their logs
+/// before the text is made whole.
 pub fn run_report<R: Threads + Wait + Sync, G: Gate>(
     rt: &R,
     alloc: Global,
@@ -89,7 +107,11 @@ pub fn run_report<R: Threads + Wait + Sync, G: Gate>(
 ) -> Result<Vec<u8>, AllocError>
     ensures { IfOk result (λ out. IsReportOf image.now options out.items) }
 {
-    let WholeRun { closed, history } = run_whole(rt, alloc, image, options, gate)?;
-    let (packages, locks) = (closed.packages(), closed.locks());
-    report(alloc, image, options, &history, packages, locks)
+    let closed = run_closed(rt, alloc, image, options, gate)?;
+    let (packages, locks) = closed.into_parts();
+    let tail = tail_of(alloc, image, &packages, &locks)?;
+    drop(locks);
+    let history = history_of(alloc, &packages)?;
+    drop(packages);
+    report_with(alloc, image, options, &history, &tail)
 }
