@@ -1,5 +1,5 @@
 -- A package in the middle of a block.
-use Rattle.std.proofs.Common.{◌≡◌, ℕ, ◌+◌, ◌-◌, ◌<◌, ◌≤◌, Bool, true, false, ◌&&◌, ◌++◌, [], length, refl, sym, ap, subst, ◌∙◌, arith, add-one, zero, suc}
+use Rattle.std.proofs.Common.{◌≡◌, ℕ, ◌+◌, ◌-◌, ◌<◌, ◌≤◌, Bool, true, false, ◌&&◌, ◌++◌, ◌==◌, [], length, refl, sym, ap, subst, ◌∙◌, arith, add-one, zero, suc}
 use Rattle.std.specs.Prelude.{Option, Some, None, nat_lt, is_some, if◌then◌else◌}
 use Rattle.std.specs.Option.{option_map}
 use Rattle.std.proofs.lemmas.Bool.Decides.{nat_tests}
@@ -21,7 +21,7 @@ use Rattle.tc_segment.specs.View.{LockView, Journal}
 use Rattle.tc_context.specs.Locks.{lock_in, mutex_or}
 use Rattle.tc_context.specs.declared.context.Context.{Context}
 use Rattle.tc_context.specs.Whole.{thread_in, mutex_at, whole, set_of, journal_at, Keeps, CanGo, block_locks, RunsAs}
-use Rattle.tc_context.specs.Middle.{act_in, IsTurn, noted_when, words_of, AreOpen, HasRoom, AreNoted, GoesOn, AreTurns}
+use Rattle.tc_context.specs.Middle.{act_in, IsTurn, noted_when, words_of, AreOpen, HasRoom, AreNoted, GoesOn, AreOwnTurns}
 use Rattle.tc_context.specs.Ran.{slept_by, slept_at}
 pub use Rattle.tc_mutex_spec.proofs.Going.{block_inside}
 use Rattle.tc_mutex_spec.proofs.Going.{no_cut}
@@ -33,10 +33,7 @@ use Rattle.tc_turn.proofs.Words.{words_short, word_same}
 use Rattle.tc_exec.specs.declared.outcome.Act.{Act}
 use Rattle.tc_exec.specs.declared.outcome.Act.TheVariants.{Next, Called}
 use Rattle.tc_exec.specs.declared.outcome.Call.TheVariants.{Sleep}
-use Rattle.tc_exec.specs.declared.outcome.Done.{Done}
-use Rattle.tc_turn.specs.InPlace.{outcome_done}
 use Rattle.tc_turn.specs.Own.{IsOwnTurn, OwnRun}
-use Rattle.tc_exec.specs.declared.outcome.Done.TheVariants as done
 use Rattle.tc_journal.specs.declared.rule.Outcome.TheVariants as outcome
 
 pub record Partway (image : Shown) (block : ℕ → Bool) (old now : Context) (n : ℕ) : Type 0 where
@@ -203,12 +200,6 @@ room_here image block old now n opened room partway k j at h =
 abbrev pub with_guest : Context → Guest → Context
 with_guest p g = record { thread = p.thread; guest = g; locks = p.locks }
 
-sleeps_not : (a : Option Act) → outcome_of a ≡ outcome.Went → slept_by (option_map done_of a) ≡ 0
-sleeps_not (Some (Next next None)) e = refl
-sleeps_not (Some (Next next (Some put))) e = refl
-sleeps_not (Some (Called (Sleep blocks) next)) e = absurd (cc)
-sleeps_not _ e = refl
-
 module _ (image : Shown) (block : ℕ → Bool) (loads : Bool) (quiet : loads ≡ true → (k : ℕ) → block k ≡ false) (p : Context) where
   -- no lock of the block notes a word of such a turn
   unnoted : (d : Thread) (locks : ℕ → Mutex) (k : ℕ) (j : Journal) → (loads ≡ false → word_of image k d locks ≡ []) → noted_when (block k) (word_of image k d locks) j ≡ j
@@ -238,19 +229,16 @@ module _ (image : Shown) (block : ℕ → Bool) (loads : Bool) (quiet : loads �
     none,
   )
 
-  pub own_turns : (n : ℕ) (h : Guest) → 0 < n → OwnRun image loads n p.guest h → AreTurns image block p (with_guest p h) n (Some done.Went)
+  pub own_turns : (n : ℕ) (h : Guest) → 0 < n → OwnRun image loads n p.guest h → AreOwnTurns image block p (with_guest p h) n
   own_turns zero h some run = absurd (omega arith)
-  own_turns (suc n) h some run =
-      let went = run.2.went (mutex_at (with_guest p run.0)) in
-      record {
-        before = n;
-        count = sym (add-one n);
-        last = with_guest p run.0;
-        goes = all_go n p.guest run.0 run.1 run.2.none;
-        turn = own_is run.0 h run.2;
-        came = sym went;
-        slept = sym (sleeps_not (act_in image (with_guest p run.0)) went);
-      }
+  own_turns (suc n) h some run = record {
+    before = n;
+    count = sym (add-one n);
+    last = with_guest p run.0;
+    goes = all_go n p.guest run.0 run.1 run.2.none;
+    turn = own_is run.0 h run.2;
+    went = run.2.went (mutex_at (with_guest p run.0));
+  }
 
   -- no turn
   pub stays : (n : ℕ) (h : Guest) → n ≤ 0 → OwnRun image loads n p.guest h → p ≡ with_guest p h
@@ -265,18 +253,17 @@ partway_on image block old now c (suc n) last partway lt goes =
     let rule = (λ i. end_rule (goes.3 i) (c + n + 1) (goes.4 i)) ∙ no_cut (c + n + 1) (omega (arith, lt)) in
     subst (Partway image block old last) (let e : c + n + 1 ≡ c + suc n = omega arith in e) (partway_more image block old goes.0 last (c + n) mid goes.2 rule)
 
--- turns that were taken in the middle of a block: the package before the last of them, and that turn
-pub record Taken (image : Shown) (block : ℕ → Bool) (old new : Context) (n : ℕ) (did : Option Done) : Type 0 where
+-- turns of the thread's own in the middle of a block: the package before the last of them, and that turn
+pub record Taken (image : Shown) (block : ℕ → Bool) (old new : Context) (n : ℕ) : Type 0 where
   pub last : Context
   pub before : ℕ
   pub count : n ≡ before + 1
   pub partway : Partway image block old last before
   pub turn : IsTurn image block last new
-  pub came : outcome_of (act_in image last) ≡ outcome_done did
-  pub slept : slept_by did ≡ slept_by (option_map done_of (act_in image last))
+  pub went : outcome_of (act_in image last) ≡ outcome.Went
 
-pub taken : (image : Shown) (block : ℕ → Bool) (old now new : Context) (c n : ℕ) (did : Option Done) → Partway image block old now c → n ≤ 4096 - c → AreTurns image block now new n did → Taken image block old new (c + n) did
-taken image block old now new c n did partway most turns =
+pub taken : (image : Shown) (block : ℕ → Bool) (old now new : Context) (c n : ℕ) → Partway image block old now c → n ≤ 4096 - c → AreOwnTurns image block now new n → Taken image block old new (c + n)
+taken image block old now new c n partway most turns =
     let short = partway.short in
     let count = turns.count in
     record {
@@ -285,6 +272,31 @@ taken image block old now new c n did partway most turns =
       count = omega arith;
       partway = partway_on image block old now c turns.before turns.last partway (omega arith) turns.goes;
       turn = turns.turn;
-      came = sym turns.came;
-      slept = turns.slept;
+      went = turns.went;
     }
+
+-- a turn that goes on is no SLEEP
+pub sleeps_not : (a : Option Act) → outcome_of a ≡ outcome.Went → slept_by (option_map done_of a) ≡ 0
+sleeps_not (Some (Next next None)) e = refl
+sleeps_not (Some (Next next (Some put))) e = refl
+sleeps_not (Some (Called (Sleep blocks) next)) e = absurd (cc)
+sleeps_not _ e = refl
+
+-- a test of a number that is not 0
+chosen : (n : ℕ) (o : Option End) → o ≡ (if suc n == 0 then None else o)
+chosen n o = (let e : (suc n == 0) ≡ false = grind (arith, nat_tests) in ap (λ b. if b then None else o) (sym e))
+
+-- turns of the thread's own, or none, that end no block leave the package in the middle of it
+pub partway_own : (image : Shown) (block : ℕ → Bool) (old now new : Context) (c n : ℕ) (lock : Option ℕ) → Partway image block old now c → n ≤ 4096 - c → (0 < n → AreOwnTurns image block now new n) → (n ≡ 0 → new ≡ now)
+    → lock ≡ next_lock image (thread_in new) → (if n == 0 then None else end_rule outcome.Went (c + n) lock) ≡ None → Partway image block old new (c + n)
+partway_own image block old now new c zero lock partway most turns none next rule =
+    subst (λ (x : Context × ℕ). Partway image block old x.0 x.1) (let e : c ≡ c + 0 = omega arith in λ i. (sym (none refl) i, e i)) partway
+partway_own image block old now new c (suc n) lock partway most turns none next rule =
+    let t = taken image block old now new c (suc n) partway most (turns (omega arith)) in
+    subst (Partway image block old new) (sym t.count)
+    (partway_more image block old t.last new t.before t.partway t.turn ((λ i. end_rule (t.went i) (sym t.count i) (sym next i)) ∙ chosen n (end_rule outcome.Went (c + suc n) lock) ∙ rule))
+
+-- a block that ends behind turns of the thread's own has such turns
+pub own_some : (n : ℕ) (o : Option End) (e : End) → (if n == 0 then None else o) ≡ Some e → (0 < n) × (o ≡ Some e)
+own_some zero o e is = absurd (cc)
+own_some (suc n) o e is = (omega arith, chosen n o ∙ is)

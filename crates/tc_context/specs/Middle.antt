@@ -3,18 +3,14 @@ use Rattle.std.specs.Prelude.{◌≡◌, ℕ, zero, suc, ◌+◌, ◌<◌, ◌�
 use Rattle.std.specs.Option.{option_map}
 use Rattle.tc_isa.specs.Sets.{has}
 use Rattle.tc_elf.specs.Shown.{Shown}
-use Rattle.tc_exec.specs.InPlace.{done_of}
 use Rattle.tc_exec.specs.declared.outcome.Act.{Act}
-use Rattle.tc_exec.specs.declared.outcome.Done.{Done}
 use Rattle.tc_journal.specs.declared.rule.Outcome.TheVariants.{Went}
 use Rattle.tc_turn.specs.Turn.{next_act, next_lock, outcome_of, thread_after, mutex_after}
 use Rattle.tc_turn.specs.Replay.{word_of, words_from}
-use Rattle.tc_turn.specs.InPlace.{outcome_done}
 use Rattle.tc_mutex_spec.specs.Blocks.{reach}
 use Rattle.tc_segment.specs.View.{Journal, noted}
 use Rattle.tc_context.specs.declared.context.Context.{Context}
 use Rattle.tc_context.specs.Locks.{when_in}
-use Rattle.tc_context.specs.Ran.{slept_by}
 use Rattle.tc_context.specs.Whole.{thread_in, mutex_at, whole, set_of, journal_at, block_locks, Keeps}
 
 -- what the next turn does, on the package alone
@@ -63,12 +59,11 @@ abbrev pub GoesOn : Shown → (ℕ → Bool) → ℕ → Context → Context →
 GoesOn image block zero old now = old ≡ now
 GoesOn image block (suc n) old now = (mid : Context) × GoesOn image block n old mid × IsTurn image block mid now × (outcome_of (act_in image mid) ≡ Went) × (next_lock image (thread_in now) ≡ None)
 
--- so many turns, of which the last came out for the block and slept as if it had done this, and each before it goes on
-pub record AreTurns (image : Shown) (block : ℕ → Bool) (old new : Context) (n : ℕ) (done : Option Done) : Type 0 where
+-- so many turns, each of which goes on, and each but the last is followed by no LOCK
+pub record AreOwnTurns (image : Shown) (block : ℕ → Bool) (old new : Context) (n : ℕ) : Type 0 where
   pub before : ℕ
   pub count : n ≡ before + 1
   pub last : Context
   pub goes : GoesOn image block before old last
   pub turn : IsTurn image block last new
-  pub came : outcome_done done ≡ outcome_of (act_in image last)
-  pub slept : slept_by done ≡ slept_by (option_map done_of (act_in image last))
+  pub went : outcome_of (act_in image last) ≡ Went

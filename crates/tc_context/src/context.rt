@@ -5,6 +5,8 @@ ghost use Rattle.std.specs.Option.{option_map};
 ghost use Rattle.tc_isa.specs.Sets.{has};
 ghost use Rattle.tc_journal.specs.Batch.{is_section};
 ghost use Rattle.tc_journal.specs.History.{IsBlock, IsEnd};
+ghost use Rattle.tc_journal.specs.Rule.{end_rule};
+ghost use Rattle.tc_journal.specs.declared.rule.Outcome.TheVariants.{Went};
 ghost use Rattle.tc_turn.specs.Reads.{Covers};
 ghost use Rattle.tc_exec.specs.InPlace.{done_of};
 ghost use Rattle.tc_exec.specs.Step.{instruction_at};
@@ -24,7 +26,7 @@ use tc_isa::held::Held;
 use tc_isa::instr::Instr;
 use tc_isa::limits::MAX_TURNS;
 use tc_journal::block::{Block, End, Kind};
-use tc_journal::rule::end_of;
+use tc_journal::rule::{Outcome, end_of};
 use tc_turn::answer::{Surroundings, answer};
 use tc_turn::outcome::outcome_by;
 use tc_turn::thread::GuestThread;
@@ -39,14 +41,12 @@ pub(crate) struct Turns {
     next: Option<u32>,
 }
 
-/// Some turns: what the last of them did beside the registers and the thread's own memory, how many
-/// they are, whether they touched nothing else, and the instruction behind them, where it is known.
+/// Turns that touch registers and the thread's own memory alone: how many they are, and what is ahead
+/// of the thread behind them.
 #[derive(Clone, Copy)]
-struct Steps<'a> {
-    done: Option<Done>,
+struct OwnSteps<'a> {
     count: u32,
-    own: bool,
-    stop: Option<&'a Instr>,
+    ahead: Ahead<'a>,
 }
 
 /// A block that ran, the number of the SLEEP with which it ended, else 0, and the lock that the
@@ -69,7 +69,7 @@ pub struct Context {
 
 impl Context {
     ghost use Rattle.tc_context.specs.Whole.{thread_in, mutex_at, CanGo, RunsAs, Journals};
-    ghost use Rattle.tc_context.specs.Middle.{act_in, IsTurn, AreTurns, AreNoted, AreOpen, HasRoom, AreReady};
+    ghost use Rattle.tc_context.specs.Middle.{act_in, IsTurn, AreOwnTurns, AreNoted, AreOpen, HasRoom, AreReady};
 
     /// The thread of this number at its start, with no lock.
     pub(crate) fn start(
@@ -178,49 +178,37 @@ impl Context {
         done
     }
 
-    /// One turn, or as many as touch registers and the thread's own memory alone, but at most so
-    /// many. Whether to look for such turns changes nothing but what it costs.
-    fn advance<'a>(
+    /// Turns that touch registers and the thread's own memory alone, but at most so many: none where
+    /// the next one is known to be another.
+    fn own_turns<'a>(
         &mut self,
         image: &Image,
         code: &'a Code,
         block: Held,
         ahead: Ahead<'a>,
         most: u32,
-        looks: bool,
-    ) -> Steps<'a>
+    ) -> OwnSteps<'a>
         requires code { code.now ≡ image.now }
-        requires go { CanGo image.now self.old }
         requires ahead { IsAhead image.now (thread_in self.old) ahead }
-        requires covers { Covers image.now (has block) (thread_in self.old) }
-        requires opened { AreOpen (has block) self.old }
-        requires room { HasRoom 1 (has block) self.old }
-        requires most { 0 < most }
-        ensures turns { AreTurns image.now (has block) self.old self.new result.count result.done }
-        ensures fits { IfSome result.done DoneFits }
+        ensures turns { 0 < result.count
+            → AreOwnTurns image.now (has block) self.old self.new result.count }
+        ensures none { result.count ≡ 0 → self.new ≡ self.old }
         ensures most { result.count ≤ most }
-        ensures stop { IfSome result.stop
-            (λ instr. instruction_at image.now self.new.guest.regs.pc ≡ Ok instr.now) }
+        ensures ahead { IsAhead image.now (thread_in self.new) result.ahead }
     {
         let loads = notes_nothing(block);
-        let looks = looks && may_be_own(ahead.instr, loads);
-        let own = self
-            .guest
-            .run_own(image, code, most_own(most, looks), loads);
-        if own.count > 0 {
-            return Steps {
-                done: Some(Done::Went),
-                count: own.count,
-                own: true,
-                stop: own.stop,
-            };
+        if ahead.lock.is_some() || !may_be_own(ahead.instr, loads) {
+            return OwnSteps { count: 0, ahead };
         }
-        let done = self.turn(image, code, block, ahead);
-        Steps {
-            done,
-            count: 1,
-            own: false,
-            stop: None,
+        let own = self.guest.run_own(image, code, most, loads);
+        if own.count == 0 {
+            let instr = own.stop;
+            let ahead = Ahead { lock: None, instr };
+            return OwnSteps { count: 0, ahead };
+        }
+        OwnSteps {
+            count: own.count,
+            ahead: self.guest.ahead(image, code, own.stop),
         }
     }
 
@@ -245,18 +233,25 @@ impl Context {
             instr: None,
         };
         let mut count = 0;
-        // A LOCK touches more, and so does the turn at which such turns end.
-        let mut looks = takes.is_none();
         'block: loop {
-            let steps = self.advance(image, code, block, ahead, MAX_TURNS - count, looks);
-            count += steps.count;
-            looks = !steps.own;
-            ahead = self.guest.ahead(image, code, steps.stop);
-            if let Some(end) = end_of(outcome_by(&steps.done), count, ahead.lock) {
+            let own = self.own_turns(image, code, block, ahead, MAX_TURNS - count);
+            count += own.count;
+            if let Some(end) = own_end(own.count, count, own.ahead.lock) {
                 return Turns {
                     end,
                     count,
-                    slept: slept_by(&steps.done),
+                    slept: 0,
+                    next: own.ahead.lock,
+                };
+            }
+            let done = self.turn(image, code, block, own.ahead);
+            count += 1;
+            ahead = self.guest.ahead(image, code, None);
+            if let Some(end) = end_of(outcome_by(&done), count, ahead.lock) {
+                return Turns {
+                    end,
+                    count,
+                    slept: slept_by(&done),
                     next: ahead.lock,
                 };
             }
@@ -357,14 +352,15 @@ fn may_be_own(known: Option<&Instr>, loads: bool) -> bool {
     }
 }
 
-/// At most how many such turns to do: none where it isn't looked for them.
-fn most_own(most: u32, looks: bool) -> u32
-    ensures { result ≤ most }
+/// How a block ends behind so many turns of the thread's own, if it ends there: it does not where they
+/// are none.
+fn own_end(own: u32, turns: u32, next: Option<u32>) -> Option<End>
+    ensures { result ≡ (if own == 0 then None else end_rule Went turns next) }
 {
-    if looks {
-        return most;
+    if own == 0 {
+        return None;
     }
-    0
+    end_of(Outcome::Went, turns, next)
 }
 
 /// The number of a SLEEP, 0 of any other turn.

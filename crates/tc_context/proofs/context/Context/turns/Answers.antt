@@ -1,48 +1,80 @@
 use Rattle.std.proofs.Common.{◌+◌, ◌∙◌, ap, sym, subst, arith}
+use Rattle.std.specs.Prelude.{Some}
 use Rattle.tc_isa.specs.Sets.{has}
+use Rattle.tc_exec.specs.declared.outcome.Done.TheVariants.{Went}
 use Rattle.tc_journal.specs.Rule.{end_rule}
+use Rattle.tc_journal.specs.declared.rule.Outcome.TheVariants as outcome
 use Rattle.tc_turn.specs.Turn.{next_lock}
+use Rattle.tc_turn.specs.InPlace.{outcome_done}
+use Rattle.tc_turn.proofs.InPlace.{same_outcome}
 use Rattle.tc_context.specs.Whole.{thread_in, RunsAs}
-use Rattle.tc_context.specs.Middle.{AreNoted}
-use Rattle.tc_context.specs.Ran.{slept_in}
-use Rattle.tc_context.proofs.Moved.{end_done}
-use Rattle.tc_context.proofs.Partway.{Partway, partway_start, partway_more, partway_ends, partway_slept, noted_next, opened_here, room_here, taken}
-use Rattle.tc_mutex_spec.proofs.Going.{next_small}
+use Rattle.tc_context.specs.Middle.{act_in, AreNoted}
+use Rattle.tc_context.specs.Ran.{slept_in, slept_by}
+use Rattle.tc_mutex_spec.proofs.Going.{end_done, next_small}
+use Rattle.tc_context.proofs.Partway.{partway_start, partway_more, partway_own, partway_ends, partway_slept, noted_next, opened_here, room_here, taken, own_some, sleeps_not}
 use Rattle.tc_context.proofs.context.Context.turns.Goals as goal
 
-pub advance-steps-requires-clause-opened : goal.advance-steps-requires-clause-opened
-advance-steps-requires-clause-opened c = opened_here c.args.image.now (has c.args.block) c.args.self.now c.block.self c.block.count c.requires.opened c.block.invariant.partway
+pub turn-done-requires : goal.turn-done-requires
+turn-done-requires c =
+    let image = c.args.image.now in
+    let own = c.own_turns-own in
+    let mid = partway_own image (has c.args.block) c.args.self.now c.block.self own.new.self c.block.count own.result.count own.result.ahead.lock c.block.invariant.partway own.ensures.most own.ensures.turns own.ensures.none own.ensures.ahead.lock (sym c.own_end.ensures ∙ c.in_default.is) in
+    record {
+      code = c.requires.code;
+      go = mid.go;
+      ahead = own.ensures.ahead;
+      covers = mid.covers;
+      opened = opened_here image (has c.args.block) c.args.self.now own.new.self (c.block.count + own.result.count) c.requires.opened mid;
+      room = room_here image (has c.args.block) c.args.self.now own.new.self (c.block.count + own.result.count) c.requires.opened c.requires.room mid;
+    }
 
-pub advance-steps-requires-clause-room : goal.advance-steps-requires-clause-room
-advance-steps-requires-clause-room c = room_here c.args.image.now (has c.args.block) c.args.self.now c.block.self c.block.count c.requires.opened c.requires.room c.block.invariant.partway
-
+-- behind turns of the thread's own
 pub returns-in-Some : goal.returns-in-Some
 returns-in-Some c =
     let image = c.args.image.now in
-    let steps = c.advance-steps.ensures in
-    let new = c.advance-steps.new.self in
-    let t = taken image (has c.args.block) c.args.self.now c.block.self new c.block.count c.advance-steps.result.count c.advance-steps.result.done c.block.invariant.partway steps.most steps.turns in
-    let rule = (λ i. end_rule ((t.came ∙ sym c.outcome_by.ensures) i) (sym t.count i) (sym c.ahead-ahead.ensures.lock i)) ∙ sym c.end_of.ensures ∙ c.in-Some.is in
+    let own = c.own_turns-own.ensures in
+    let new = c.own_turns-own.new.self in
+    let n = c.block.count + c.own_turns-own.result.count in
+    let some = own_some c.own_turns-own.result.count (end_rule outcome.Went n c.own_turns-own.result.ahead.lock) c.in-Some.end (sym c.own_end.ensures ∙ c.in-Some.is) in
+    let t = taken image (has c.args.block) c.args.self.now c.block.self new c.block.count c.own_turns-own.result.count c.block.invariant.partway own.most (own.turns some.0) in
+    let rule = (λ i. end_rule outcome.Went n (sym own.ahead.lock i)) ∙ some.1 in
+    let ends = (λ i. end_rule (t.went i) (sym t.count i) (next_lock image (thread_in new))) ∙ rule in
     record {
-      runs = subst (λ n. RunsAs image c.args.self.now new n c.in-Some.end) (sym t.count) (partway_ends image (has c.args.block) c.args.self.now t.last new t.before c.in-Some.end t.partway t.turn rule c.requires.go);
-      most = (let short = c.block.invariant.partway.short in let few = steps.most in omega arith);
-      end = end_done c.advance-steps.result.done (t.before + 1) (next_lock image (thread_in new)) c.in-Some.end steps.fits (next_small image (thread_in new) c.requires.go.guards) (ap (λ o. end_rule o (t.before + 1) (next_lock image (thread_in new))) (sym t.came) ∙ rule);
-      slept = c.slept_by.ensures ∙ t.slept ∙ partway_slept image (has c.args.block) c.args.self.now t.last new t.before t.partway t.turn ∙ ap (slept_in image c.args.self.now) (sym t.count);
+      runs = subst (λ n. RunsAs image c.args.self.now new n c.in-Some.end) (sym t.count) (partway_ends image (has c.args.block) c.args.self.now t.last new t.before c.in-Some.end t.partway t.turn ends c.requires.go);
+      most = (let short = c.block.invariant.partway.short in let few = own.most in omega arith);
+      end = end_done (Some Went) n (next_lock image (thread_in new)) c.in-Some.end tt (next_small image (thread_in new) c.requires.go.guards) rule;
+      slept = sym (sleeps_not (act_in image t.last) t.went) ∙ partway_slept image (has c.args.block) c.args.self.now t.last new t.before t.partway t.turn ∙ ap (slept_in image c.args.self.now) (sym t.count);
       journals = subst (λ n. AreNoted image (has c.args.block) n c.args.self.now new) (sym t.count) (noted_next image (has c.args.block) c.args.self.now t.last new t.before t.partway t.turn);
+      next = own.ahead.lock;
+    }
+
+-- behind any other turn
+pub returns-in-Some-end_of : goal.returns-in-Some-end_of
+returns-in-Some-end_of c =
+    let image = c.args.image.now in
+    let own = c.own_turns-own in
+    let turn = c.turn-done in
+    let n = c.block.count + own.result.count in
+    let mid = partway_own image (has c.args.block) c.args.self.now c.block.self own.new.self c.block.count own.result.count own.result.ahead.lock c.block.invariant.partway own.ensures.most own.ensures.turns own.ensures.none own.ensures.ahead.lock (sym c.own_end.ensures ∙ c.in_default.is) in
+    let ends = sym (ap (λ o. end_rule o (n + 1) (next_lock image (thread_in turn.new.self))) (c.outcome_by.ensures ∙ ap outcome_done turn.ensures.done ∙ same_outcome (act_in image own.new.self))) ∙ ap (λ o. end_rule c.outcome_by.result (n + 1) o) (sym c.ahead-ahead.ensures.lock) ∙ sym c.end_of.ensures ∙ c.in-Some-end_of.is in
+    record {
+      runs = partway_ends image (has c.args.block) c.args.self.now own.new.self turn.new.self n c.in-Some-end_of.end mid turn.ensures.turn ends c.requires.go;
+      most = (let short = mid.short in omega arith);
+      end = end_done turn.result (n + 1) (next_lock image (thread_in turn.new.self)) c.in-Some-end_of.end turn.ensures.fits (next_small image (thread_in turn.new.self) c.requires.go.guards) (ap (λ o. end_rule o (n + 1) (next_lock image (thread_in turn.new.self))) (ap outcome_done turn.ensures.done ∙ same_outcome (act_in image own.new.self)) ∙ ends);
+      slept = c.slept_by.ensures ∙ ap slept_by turn.ensures.done ∙ partway_slept image (has c.args.block) c.args.self.now own.new.self turn.new.self n mid turn.ensures.turn;
+      journals = noted_next image (has c.args.block) c.args.self.now own.new.self turn.new.self n mid turn.ensures.turn;
       next = c.ahead-ahead.ensures.lock;
     }
 
 pub block-preserved : goal.block-preserved
 block-preserved c =
     let image = c.args.image.now in
-    let steps = c.advance-steps.ensures in
-    let new = c.advance-steps.new.self in
-    let t = taken image (has c.args.block) c.args.self.now c.block.self new c.block.count c.advance-steps.result.count c.advance-steps.result.done c.block.invariant.partway steps.most steps.turns in
-    let rule = (λ i. end_rule ((t.came ∙ sym c.outcome_by.ensures) i) (sym t.count i) (sym c.ahead-ahead.ensures.lock i)) ∙ sym c.end_of.ensures ∙ c.in_default.is in
-    record {
-      partway = subst (λ n. Partway image (has c.args.block) c.args.self.now new n) (sym t.count) (partway_more image (has c.args.block) c.args.self.now t.last new t.before t.partway t.turn rule);
-      ahead = c.ahead-ahead.ensures;
-    }
+    let own = c.own_turns-own in
+    let turn = c.turn-done in
+    let n = c.block.count + own.result.count in
+    let mid = partway_own image (has c.args.block) c.args.self.now c.block.self own.new.self c.block.count own.result.count own.result.ahead.lock c.block.invariant.partway own.ensures.most own.ensures.turns own.ensures.none own.ensures.ahead.lock (sym c.own_end.ensures ∙ c.in_default.is) in
+    let goes = sym (ap (λ o. end_rule o (n + 1) (next_lock image (thread_in turn.new.self))) (c.outcome_by.ensures ∙ ap outcome_done turn.ensures.done ∙ same_outcome (act_in image own.new.self))) ∙ ap (λ o. end_rule c.outcome_by.result (n + 1) o) (sym c.ahead-ahead.ensures.lock) ∙ sym c.end_of.ensures ∙ c.in_default-end_of.is in
+    record { partway = partway_more image (has c.args.block) c.args.self.now own.new.self turn.new.self n mid turn.ensures.turn goes; ahead = c.ahead-ahead.ensures }
 
 pub block-init : goal.block-init
 block-init c = record {
