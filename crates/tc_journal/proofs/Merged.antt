@@ -1,5 +1,5 @@
 -- Numbers that ascend, and have each number of a range as long as they are, are that range.
-use Rattle.std.proofs.Common.{◌≡◌, ℕ, zero, suc, ◌+◌, ◌<◌, ◌≤◌, ◌⊎◌, inl, inr, List, [], ◌∷◌, length, map, slice_index_or, refl, sym, ap, ◌∙◌, arith, Bor}
+use Rattle.std.proofs.Common.{◌≡◌, ℕ, zero, suc, ◌+◌, ◌<◌, ◌≤◌, ◌⊎◌, inl, inr, List, [], ◌∷◌, length, map, slice_index_or, refl, sym, ap, subst, ◌∙◌, arith, Bor}
 use Rattle.std.specs.Prelude.{Contains, Vec}
 use Rattle.std.specs.Global.{Global}
 use Rattle.std.specs.List.{flat_map, range_with_len}
@@ -7,9 +7,10 @@ use Rattle.std.specs.List.Sorted.{IsPermutation, IsNonDecreasingBy}
 use Rattle.std.proofs.lemmas.Bool.{cases_lt}
 use Rattle.std.proofs.lemmas.List.Sorted.{Contains-permutation, IsPermutation-map, length_permutation}
 use Rattle.std.proofs.lemmas.List.{length-map}
+use Rattle.std.proofs.lemmas.Simd.{map-map}
 use Rattle.std.proofs.lemmas.List.Folds.{flat_map-map}
 use Rattle.tc_journal.specs.declared.block.Block.{Block}
-use Rattle.tc_journal.specs.History.{HasEachStamp, all_blocks}
+use Rattle.tc_journal.specs.History.{HasEachStamp, IsInOrder, all_blocks}
 
 -- none is below the one before
 abbrev Ascends : ℕ → List ℕ → Type 0
@@ -71,21 +72,24 @@ same a (suc n) (x ∷ xs) low up long covers =
           ap (λ y. y ∷ xs) first ∙ ap (λ ys. a ∷ ys) (same (a + 1) n xs x up.1 (omega arith) parts.1)
     ]
 
-ascends : (low : ℕ) (bs : List Block) → IsNonDecreasingBy (λ b. b.stamp) bs → ((d : Block) → 0 < length bs → low ≤ (slice_index_or bs 0 d).stamp) → Ascends low (map (λ b. b.stamp) bs)
-ascends low [] up first = tt
-ascends low (b ∷ bs) up first = (
-  first b (omega arith),
-  ascends b.stamp bs (λ i j d h k. up (suc i) (suc j) d (omega arith) (omega arith)) (λ d some. up zero (suc zero) d (omega arith) (omega arith)),
+ascends : {X : Type 0} (n : X → ℕ) (low : ℕ) (xs : List X) → IsNonDecreasingBy n xs → ((d : X) → 0 < length xs → low ≤ n (slice_index_or xs 0 d)) → Ascends low (map n xs)
+ascends n low [] up first = tt
+ascends n low (x ∷ xs) up first = (
+  first x (omega arith),
+  ascends n (n x) xs (λ i j d h k. up (suc i) (suc j) d (omega arith) (omega arith)) (λ d some. up zero (suc zero) d (omega arith) (omega arith)),
 )
 
--- blocks in an order of their stamps that does not fall are in the order of a history
-pub in_order : (xs ys : List Block) → HasEachStamp xs → IsPermutation xs ys → IsNonDecreasingBy (λ b. b.stamp) ys → map (λ b. b.stamp) ys ≡ range_with_len 0 (length ys)
+-- blocks, where they stand, in an order of their stamps that does not fall are in the order of a history
+pub in_order : (xs : List Block) (ys : List (Bor Block)) → HasEachStamp xs → IsPermutation xs (map (λ (b : Bor Block). b.now) ys) → IsNonDecreasingBy (λ (b : Bor Block). b.now.stamp) ys → IsInOrder (map (λ (b : Bor Block). b.now) ys)
 in_order xs ys each moved up =
-    let long : length ys ≡ length xs = length_permutation xs ys moved in
-    let stamps : IsPermutation (map (λ b. b.stamp) xs) (map (λ b. b.stamp) ys) = IsPermutation-map (λ b. b.stamp) xs ys moved in
-    let covers : Covers 0 (length ys) (map (λ b. b.stamp) ys) =
+    let blocks : List Block = map (λ (b : Bor Block). b.now) ys in
+    let long : length blocks ≡ length xs = length_permutation xs blocks moved in
+    let stamps : IsPermutation (map (λ b. b.stamp) xs) (map (λ b. b.stamp) blocks) = IsPermutation-map (λ b. b.stamp) xs blocks moved in
+    let covers : Covers 0 (length blocks) (map (λ b. b.stamp) blocks) =
     λ k h small. Contains-permutation _ _ k stamps (each k (omega arith)) in
-    same 0 (length ys) (map (λ b. b.stamp) ys) 0 (ascends 0 ys up (λ d some. omega arith)) (length-map ys (λ (b : Block). b.stamp)) covers
+    let rising : Ascends 0 (map (λ b. b.stamp) blocks) =
+    subst (Ascends 0) (sym (map-map (λ (b : Block). b.stamp) (λ (b : Bor Block). b.now) ys)) (ascends (λ (b : Bor Block). b.now.stamp) 0 ys up (λ d some. omega arith)) in
+    same 0 (length blocks) (map (λ b. b.stamp) blocks) 0 rising (length-map blocks (λ (b : Block). b.stamp)) covers
 
 -- logs where they stand have the blocks of the logs
 pub same_blocks : (parts : List (Bor (List Block))) (logs : List (Vec Block Global)) → map (λ (log : Bor (List Block)). log.now) parts ≡ map (λ (log : Vec Block Global). log.items) logs → flat_map (λ (log : Bor (List Block)). log.now) parts ≡ all_blocks logs

@@ -40,6 +40,21 @@ fn count_of(logs: &[&[Block]]) -> usize {
     count
 }
 
+/// The blocks of all logs, where they stand, in the order of their stamps.
+pub fn in_order<'a>(alloc: Global, logs: &[&'a [Block]]) -> Result<Vec<&'a Block>, AllocError>
+    requires { HasEachStamp (flat_map (λ log. log.now) logs.now) }
+    ensures blocks { IfOk result (λ history.
+        IsPermutation (flat_map (λ log. log.now) logs.now) (map (λ b. b.now) history.items)) }
+    ensures order { IfOk result (λ history. IsInOrder (map (λ b. b.now) history.items)) }
+{
+    let mut history: Vec<&Block> = Vec::with_capacity(alloc, count_of(logs))?;
+    for log in logs {
+        history.extend(log.iter())?;
+    }
+    history.sort_by_key(|block| block.stamp)?;
+    Ok(history)
+}
+
 /// As `merge`, of logs that stand in different places.
 pub fn merge_lent(alloc: Global, logs: &[&[Block]]) -> Result<Vec<Block>, AllocError>
     requires { HasEachStamp (flat_map (λ log. log.now) logs.now) }
@@ -47,12 +62,10 @@ pub fn merge_lent(alloc: Global, logs: &[&[Block]]) -> Result<Vec<Block>, AllocE
         IsPermutation (flat_map (λ log. log.now) logs.now) history.items) }
     ensures order { IfOk result (λ history. IsInOrder history.items) }
 {
-    let mut history = Vec::with_capacity(alloc, count_of(logs))?;
-    for log in logs {
-        history.extend_from_slice(log)?;
-    }
-    history.sort_by_key(|block| block.stamp)?;
-    Ok(history)
+    in_order(alloc, logs)?
+        .iter()
+        .map(|block| **block)
+        .collect(alloc)
 }
 
 /// The lines of the blocks, each with its end of line.

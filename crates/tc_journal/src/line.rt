@@ -1,6 +1,6 @@
 //! The printed line of a block, in its form and in the old form.
 
-ghost use Rattle.std.specs.Prelude.{◌≡◌, ◌+◌, ◌<◌, ◌≤◌, ◌++◌, [], OnOk, length, string_bytes};
+ghost use Rattle.std.specs.Prelude.{◌≡◌, ◌+◌, ◌<◌, ◌≤◌, ◌++◌, [], OnOk, length, map, string_bytes};
 ghost use Rattle.tc_journal.specs.Line as spec;
 ghost use Rattle.tc_isa.specs.Sets.{locks_of};
 
@@ -143,6 +143,19 @@ pub fn push_block(text: &mut String, block: &Block) -> Result<(), AllocError>
 pub fn push_history(text: &mut String, history: &[Block]) -> Result<(), AllocError>
     ensures { OnOk result
         (string_bytes text.new ≡ string_bytes text.old ++ spec.history_text history.now) }
+{
+    let mut line = Buffer::new();
+    for block in history {
+        push_line(text, &mut line, &block.told())?;
+    }
+    Ok(())
+}
+
+/// As `push_history`, of blocks that stand in different places.
+pub fn push_lent(text: &mut String, history: &[&Block]) -> Result<(), AllocError>
+    ensures { OnOk result
+        (string_bytes text.new ≡ string_bytes text.old
+        ++ spec.history_text (map (λ b. b.now) history.now)) }
 {
     let mut line = Buffer::new();
     for block in history {
