@@ -304,6 +304,18 @@ impl Image {
         self.region_by(place_number(&self.places, addr, width), addr, width)
     }
 
+    /// What `region` answers. The place of the number `near` is tried first, which costs less where
+    /// it has the access; `near` may be any.
+    pub fn region_from(&self, near: usize, addr: u32, width: u32) -> Region
+        requires { 0 < width }
+        ensures { result ≡ region_of self.now addr width }
+    {
+        match place_by(&self.places, near, addr, width) {
+            Some(region) => region,
+            None => self.region(addr, width),
+        }
+    }
+
     /// What `region` answers. `near` is a number by which the place of the last access is tried
     /// first; it may be any.
     pub fn region_near(&self, near: &mut usize, addr: u32, width: u32) -> Region
