@@ -1,9 +1,7 @@
 -- A load or a store of a thread's own memory does not fault.
-use Rattle.std.proofs.Common.{◌≡◌, ℕ, ◌+◌, ◌*◌, ◌%◌, ◌^◌, ◌<◌, ◌≤◌, Bool, true, refl, sym, ap, subst, ◌∙◌, arith}
-use Rattle.std.specs.Prelude.{Option, Some, None, Ok, ◌==◌, if◌then◌else◌}
-use Rattle.std.proofs.lemmas.Bool.Decides.{nat_tests}
+use Rattle.std.proofs.Common.{◌≡◌, ℕ, ◌+◌, ◌*◌, ◌%◌, ◌^◌, ◌<◌, ◌≤◌, Bool, true, refl, ap, subst, ◌∙◌, arith}
+use Rattle.std.specs.Prelude.{Some, None, Ok}
 use Rattle.tc_isa.specs.Registers.{Registers, get}
-use Rattle.tc_isa.specs.declared.fault.Fault.{Fault}
 use Rattle.tc_isa.specs.declared.instr.LoadKind.{LoadKind}
 use Rattle.tc_isa.specs.declared.instr.LoadKind.TheVariants as load_kind
 use Rattle.tc_isa.specs.declared.instr.StoreKind.{StoreKind}

@@ -145,11 +145,11 @@ pub(crate) fn store_fault(held: Held, place: Region, addr: u32, width: Width) ->
 
 /// What a load of a kind at an address has to be answered.
 #[tactic(auto, unfolding(crate::specs::Access::load_want))]
-pub fn load_want(image: &Image, held: Held, kind: LoadKind, addr: u32) -> Want
+pub fn load_want(image: &Image, near: usize, held: Held, kind: LoadKind, addr: u32) -> Want
     ensures { result ≡ access.load_want image.now (has held) kind addr }
 {
     let width = Width::of_load(kind);
-    let region = image.region(addr, width.bytes());
+    let region = image.region_from(near, addr, width.bytes());
     match load_fault(held, region, addr, width) {
         Some(_) => Want::Nothing,
         None => Want::Load {

@@ -19,7 +19,6 @@ use std::alloc::{AllocError, Global};
 use std::marker::Model;
 use std::snapshot::Snapshot;
 use tc_elf::image::Image;
-use tc_isa::fault::Fault;
 use tc_isa::held::Held;
 use tc_isa::instr::Instr;
 use tc_isa::regs::Regs;
@@ -126,6 +125,11 @@ fn slot_in(slots: &[Option<Instr>], start: u32, pc: u32) -> Option<&Instr>
     }
 }
 
+/// Whether a place is within a part, whatever its slot says.
+fn has_place(part: &Part, pc: u32) -> bool {
+    pc >= part.start && (((pc - part.start) / 4) as usize) < part.slots.len()
+}
+
 /// The decoded words of a range.
 fn part_of(alloc: Global, image: &Image, start: u32, length: u32) -> Result<Part, AllocError>
     requires { start + length ≤ 2 ^ 32 }
@@ -184,28 +188,12 @@ impl Code {
         None
     }
 
-    /// The instruction at a place, or why there is none: as it was found there already, as it was
-    /// decoded, or else decoded now.
-    pub fn instruction(&self, image: &Image, pc: u32, known: Option<&Instr>) -> Result<Instr, Fault>
-        requires code { self.now ≡ image.now }
-        requires known { IfSome known (λ instr. step.instruction_at image.now pc ≡ Ok instr.now) }
-        ensures { result ≡ step.instruction_at image.now pc }
-    {
-        if let Some(instr) = known {
-            return Ok(*instr);
-        }
-        match self.find(pc) {
-            Some(instr) => Ok(*instr),
-            None => instruction_at(image, pc),
-        }
-    }
-
     /// The words round a place, where that was decoded.
     pub fn stretch(&self, pc: u32) -> Option<Stretch<'_>>
         ensures { IfSome result (λ s. SlotsTell self.now s.start s.slots.now) }
     {
         'parts: for part in &self.parts {
-            if slot_in(&part.slots, part.start, pc).is_some() {
+            if has_place(part, pc) {
                 return Some(Stretch {
                     start: part.start,
                     slots: &part.slots,
@@ -217,6 +205,7 @@ impl Code {
 
     /// What is ahead of registers: the lock that `step::lock_wanted` answers, and the instruction,
     /// where it is known or had to be looked for and was decoded.
+    #[inline(always)]
     pub fn ahead<'a>(
         &'a self,
         image: &Image,

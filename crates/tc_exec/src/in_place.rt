@@ -94,12 +94,20 @@ fn load(
 }
 
 #[tactic(auto, unfolding(crate::specs::Access::store))]
-fn store(image: &Image, held: Held, regs: &mut Regs, kind: StoreKind, addr: u32, value: u32) -> Done
+fn store(
+    image: &Image,
+    near: usize,
+    held: Held,
+    regs: &mut Regs,
+    kind: StoreKind,
+    addr: u32,
+    value: u32,
+) -> Done
     ensures done { result ≡ done_of (access.store image.now (has held) regs.old kind addr value) }
     ensures regs { regs.new ≡ regs_after (access.store image.now (has held) regs.old kind addr value) regs.old }
 {
     let width = Width::of_store(kind);
-    let region = image.region(addr, width.bytes());
+    let region = image.region_from(near, addr, width.bytes());
     if let Some(fault) = store_fault(held, region, addr, width) {
         return Done::Faulted(fault);
     }
@@ -158,6 +166,7 @@ fn guest_call(image: &Image, held: Held, regs: &mut Regs, answer: u32) -> Done
 #[tactic(auto, unfolding(crate::specs::Step::act_by, crate::specs::Step::wants_by))]
 pub(crate) fn go_by(
     image: &Image,
+    near: usize,
     held: Held,
     regs: &mut Regs,
     want: Want,
@@ -201,7 +210,7 @@ pub(crate) fn go_by(
         } => {
             let addr = regs.get(rs1).wrapping_add(off);
             let value = regs.get(rs2);
-            store(image, held, regs, kind, addr, value)
+            store(image, near, held, regs, kind, addr, value)
         }
         Instr::Imm { op, rd, rs1, imm } => {
             let value = value_of(op_of_imm(op), regs.get(rs1), imm);

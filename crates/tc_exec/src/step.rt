@@ -22,8 +22,10 @@ use tc_isa::regs::Regs;
 /// The word of ECALL.
 const ECALL: u32 = 0x73;
 
+/// The instruction at a place, or why there is none: `Fault::Fetch` where no executable range has
+/// its four bytes, and `Fault::Illegal` where they are no instruction.
 #[tactic(auto, unfolding(crate::specs::Step::instruction_at))]
-pub(crate) fn instruction_at(image: &Image, pc: u32) -> Result<Instr, Fault>
+pub fn instruction_at(image: &Image, pc: u32) -> Result<Instr, Fault>
     ensures { result ≡ step.instruction_at image.now pc }
 {
     let word = image.fetch(pc).ok_or(Fault::Fetch)?;
@@ -31,13 +33,13 @@ pub(crate) fn instruction_at(image: &Image, pc: u32) -> Result<Instr, Fault>
 }
 
 #[tactic(auto, unfolding(crate::specs::Step::wants_by))]
-pub(crate) fn wants_by(image: &Image, held: Held, regs: &Regs, instr: &Instr) -> Want
+pub(crate) fn wants_by(image: &Image, near: usize, held: Held, regs: &Regs, instr: &Instr) -> Want
     ensures { result ≡ step.wants_by image.now (has held) regs.now instr.now }
 {
     match *instr {
         Instr::Load { kind, rs1, off, .. } => {
             let addr = regs.get(rs1).wrapping_add(off);
-            load_want(image, held, kind, addr)
+            load_want(image, near, held, kind, addr)
         }
         _ => Want::Nothing,
     }
@@ -99,7 +101,7 @@ pub fn wants(image: &Image, held: Held, regs: &Regs) -> Want
     ensures told { IsWant image.now (has held) result }
 {
     match instruction_at(image, regs.pc()) {
-        Ok(instr) => wants_by(image, held, regs, &instr),
+        Ok(instr) => wants_by(image, 0, held, regs, &instr),
         Err(_) => Want::Nothing,
     }
 }

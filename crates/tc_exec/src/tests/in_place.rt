@@ -5,9 +5,9 @@ ghost use Rattle.std.specs.Prelude.{◌≡◌};
 use super::guards;
 use crate::code::Code;
 use crate::found;
-use crate::outcome::{Act, Done, Put};
+use crate::outcome::{Act, Done, Put, Want};
 use crate::plain::plain_by;
-use crate::step::{act, lock_wanted, wants};
+use crate::step::{act, instruction_at, lock_wanted, wants};
 use crate::touch::{Touch, finish_load, finish_store, touch_of};
 use std::alloc::Global;
 use std::process::Abort;
@@ -58,8 +58,9 @@ pub(super) fn check_in_place(
 ) -> Result<(), Fail> {
     let code = Code::of(alloc, image)?;
     let none = Code::undecoded(alloc, image);
-    check_found(rt, image, &code, held, regs, answer)?;
-    check_found(rt, image, &none, held, regs, answer)?;
+    check_ahead(rt, image, &code, held, regs)?;
+    check_ahead(rt, image, &none, held, regs)?;
+    check_found(rt, image, held, regs, answer)?;
     let (next, done) = parts_of(regs, &act(image, held, &regs, answer));
     if let Some(instr) = code.find(regs.pc()) {
         let mut ran = regs;
@@ -75,29 +76,47 @@ pub(super) fn check_in_place(
     Ok(())
 }
 
-/// Asserts that the calls by what was found tell the same.
-fn check_found(
+/// Asserts that what is ahead by the code is the lock that is wanted.
+fn check_ahead(
     rt: &impl Abort,
     image: &Image,
     code: &Code,
     held: Held,
     regs: Regs,
-    answer: u32,
 ) -> Result<(), Fail>
     requires { code.now ≡ image.now }
 {
-    let (next, done) = parts_of(regs, &act(image, held, &regs, answer));
-    let found = code.instruction(image, regs.pc(), None);
-    let want = wants(image, held, &regs);
-    assert_eq!(rt; found::wants(image, held, &regs, &found), want);
-    let mut after = regs;
-    assert_eq!(rt;
-        found::go(image, held, &mut after, &found, want, answer),
-        done
-    );
-    assert_eq!(rt; after, next);
     let lock = lock_wanted(image, held, &regs);
     assert_eq!(rt; code.ahead(image, held, &regs, None).lock, lock);
+    Ok(())
+}
+
+/// Asserts that the calls by the next instruction, where there is one, tell the same, whichever
+/// place they try first.
+fn check_found(
+    rt: &impl Abort,
+    image: &Image,
+    held: Held,
+    regs: Regs,
+    answer: u32,
+) -> Result<(), Fail> {
+    let (next, done) = parts_of(regs, &act(image, held, &regs, answer));
+    let want = wants(image, held, &regs);
+    match instruction_at(image, regs.pc()) {
+        Ok(instr) => {
+            for near in 0..4 {
+                assert_eq!(rt; found::wants(image, near, held, &regs, &instr), want);
+                let mut after = regs;
+                let did = found::go(image, near, held, &mut after, &instr, want, answer);
+                assert_eq!(rt; did, done);
+                assert_eq!(rt; after, next);
+            }
+        }
+        Err(fault) => {
+            assert_eq!(rt; want, Want::Nothing);
+            assert_eq!(rt; (next, done), (regs, Done::Faulted(fault)));
+        }
+    }
     Ok(())
 }
 

@@ -7,10 +7,10 @@ use Rattle.tc_exec.proofs.Cases.{by_told}
 use Rattle.tc_exec.proofs.DoneTold.{done_told}
 use Rattle.tc_exec.proofs.found.go.Goals as goal
 
-pub returns-in-Ok-clause-told : goal.returns-in-Ok-clause-told
-returns-in-Ok-clause-told c =
+pub returns-clause-told : goal.returns-clause-told
+returns-clause-told c =
     let image = c.args.image.now in
     let held = has c.args.held in
     let r = c.args.regs.now in
     subst (λ (d : Done). IsDone image held d) (sym c.go_by.ensures.done)
-    (done_told image held r (act_by image held r c.args.answer c.in-Ok.instr) (by_told image held r c.args.answer c.in-Ok.instr))
+    (done_told image held r (act_by image held r c.args.answer c.args.instr.now) (by_told image held r c.args.answer c.args.instr.now))

@@ -5,7 +5,7 @@ use Rattle.tc_exec.specs.declared.outcome.Want.{Want}
 use Rattle.tc_exec.proofs.Cases.{wanted_told}
 use Rattle.tc_exec.proofs.found.wants.Goals as goal
 
-pub returns-in-Ok-clause-told : goal.returns-in-Ok-clause-told
-returns-in-Ok-clause-told c =
+pub returns-clause-told : goal.returns-clause-told
+returns-clause-told c =
     let P : Want → Type 0 = IsWant c.args.image.now (has c.args.held) in
-    subst P (sym c.wants_by.ensures) (wanted_told c.args.image.now (has c.args.held) c.args.regs.now c.in-Ok.instr)
+    subst P (sym c.wants_by.ensures) (wanted_told c.args.image.now (has c.args.held) c.args.regs.now c.args.instr.now)

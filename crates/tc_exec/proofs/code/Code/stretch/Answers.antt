@@ -9,11 +9,11 @@ use Rattle.tc_exec.specs.declared.code.Part.{Part}
 use Rattle.tc_exec.proofs.Slots.{part_tells}
 use Rattle.tc_exec.proofs.code.Code.stretch.Goals as goal
 
-pub returns-then-is_some : goal.returns-then-is_some
-returns-then-is_some c =
+pub returns-then-has_place : goal.returns-then-has_place
+returns-then-has_place c =
     let image : Shown = c.args.self.now in
     let part : Part = c.part-item.result in
     let all : List Part = c.deref-part-items.result.now in
     let inv : PartsTell image all = subst (λ (ps : List Part). PartsTell image ps) (sym c.deref-part-items.ensures.value) (subst (λ (i : Shown). PartsTell i c.self.inside.parts.items) c.self.view_is c.self.invariant) in
     let got : slice_get all c.parts.part-index ≡ Some part = slice_get_read all (length all) c.parts.part-index part refl (grind (arith)) c.part-item.is in
-    subst (λ (ss : List (Option Instr)). SlotsTell image part.start ss) (sym c.deref-then-is_some.ensures.value) (part_tells image all c.parts.part-index part inv got)
+    subst (λ (ss : List (Option Instr)). SlotsTell image part.start ss) (sym c.deref.ensures.value) (part_tells image all c.parts.part-index part inv got)

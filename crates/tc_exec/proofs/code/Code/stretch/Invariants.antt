@@ -1,4 +1,3 @@
-use Rattle.std.proofs.Common.{◌≡◌}
 use Rattle.tc_exec.proofs.code.Code.stretch.Given as goal
 
 abbrev pub invariant-parts : goal.invariant-parts
