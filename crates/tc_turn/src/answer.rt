@@ -94,6 +94,7 @@ fn number<S: Surroundings>(at: &S, image: &Image, region: Region, addr: u32, wid
 }
 
 /// The answer to this load, or to the LOCK of this lock.
+#[inline(always)]
 pub fn answer<S: Surroundings>(at: &S, image: &Image, want: Want, next: Option<u32>) -> u32
     requires { IsWant image.now (S.thread at.now).held want }
     ensures { result ≡ answer_to image.now want next (S.thread at.now).own (S.locks at.now) }

@@ -20,7 +20,7 @@ pub mod law;
 pub mod memory;
 pub mod number;
 pub mod outcome;
-mod own;
+pub mod own;
 pub mod status;
 #[cfg(test)]
 mod tests;

@@ -1,4 +1,5 @@
-//! Turns that touch the thread's own memory alone, one after another.
+//! Turns that touch the thread's own memory alone, one after another: `GuestThread::run_own`, and
+//! `OwnTurns`, which says what it did.
 
 ghost use Rattle.std.specs.Prelude.{◌≡◌, ◌+◌, ◌-◌, ◌<◌, ◌≤◌, ◌^◌, true, false, IfSome, Ok, Some, None};
 ghost use Rattle.tc_exec.specs.Code.{SlotsTell};
@@ -16,12 +17,12 @@ use tc_exec::plain::plain_by;
 use tc_exec::touch::{Touch, finish_load, finish_store, touch_of};
 use tc_isa::instr::Instr;
 
-/// Turns that were done, and the decoded instruction behind them.
+/// Turns that were done, and the instruction behind them.
 #[derive(Clone, Copy)]
 pub struct OwnTurns<'a> {
     /// How many turns.
     pub count: u32,
-    /// The instruction at which they end, where it was looked for and decoded. None says nothing.
+    /// The instruction at which they end, where it is known or was decoded. None says nothing.
     pub stop: Option<&'a Instr>,
 }
 
@@ -39,15 +40,19 @@ impl<'a> OwnTurns<'a> {
 
 impl GuestThread {
     /// Does turns that touch registers and its own memory alone, and says how many: at most `most`,
-    /// and none that was not decoded. It loads only where `loads` says so.
+    /// and none outside the decoded words round the first. It loads only where `loads` says so.
+    /// `known` is the instruction of the first turn; where it is None, it is looked for.
     pub fn run_own<'a>(
         &mut self,
         image: &Image,
         code: &'a Code,
+        known: Option<&'a Instr>,
         most: u32,
         loads: bool,
     ) -> OwnTurns<'a>
-        requires { code.now ≡ image.now }
+        requires code { code.now ≡ image.now }
+        requires known { IfSome known
+            (λ instr. instruction_at image.now self.old.regs.pc ≡ Ok instr.now) }
         ensures runs { OwnRun image.now loads result.count self.old self.new }
         ensures most { result.count ≤ most }
         ensures stop { IfSome result.stop
@@ -55,31 +60,37 @@ impl GuestThread {
     {
         let before = self.fuel;
         let left = before - most.min(before);
-        if left == before {
-            return OwnTurns::none();
-        }
         let Some(stretch) = code.stretch(self.regs.pc()) else {
             return OwnTurns::none();
         };
-        let stop = self.run_stretch(image, stretch, left, loads);
+        let first = match known {
+            Some(instr) => Some(instr),
+            None => stretch.find(self.regs.pc()),
+        };
+        let Some(first) = first else {
+            return OwnTurns::none();
+        };
+        let stop = self.run_stretch(image, stretch, first, left, loads);
         OwnTurns {
             count: before - self.fuel,
             stop,
         }
     }
 
-    /// Does such turns until so much fuel is left, or the next is none, and returns the decoded
-    /// instruction behind them. It is never inlined, so that its loop has the registers of the host
-    /// for itself.
+    /// Does such turns, of which `first` has the first instruction, until so much fuel is left, or
+    /// the next is none, and returns the instruction behind them, where it was decoded. It is never
+    /// inlined, so that its loop has the registers of the host for itself.
     #[inline(never)]
     fn run_stretch<'a>(
         &mut self,
         image: &Image,
         stretch: Stretch<'a>,
+        first: &'a Instr,
         left: u32,
         loads: bool,
     ) -> Option<&'a Instr>
         requires stretch { SlotsTell image.now stretch.start stretch.slots.now }
+        requires first { instruction_at image.now self.old.regs.pc ≡ Ok first.now }
         requires left { left ≤ self.old.fuel }
         ensures runs { OwnRun image.now loads (self.old.fuel - self.new.fuel) self.old self.new }
         ensures left { left ≤ self.new.fuel }
@@ -87,26 +98,28 @@ impl GuestThread {
         ensures stop { IfSome result
             (λ instr. instruction_at image.now self.new.regs.pc ≡ Ok instr.now) }
     {
+        let mut instr = first;
         'run: while self.fuel > left {
-            if !self.own_turn(image, stretch, loads) {
-                break;
+            if !self.own_turn(image, instr, loads) {
+                return Some(instr);
             }
+            let Some(next) = stretch.find(self.regs.pc()) else {
+                return None;
+            };
+            instr = next;
         }
-        stretch.find(self.regs.pc())
+        Some(instr)
     }
 
-    /// Its next turn, where that is such a one.
-    fn own_turn(&mut self, image: &Image, stretch: Stretch<'_>, loads: bool) -> bool
-        requires stretch { SlotsTell image.now stretch.start stretch.slots.now }
+    /// Its next turn, which is of this instruction, where that is such a one.
+    fn own_turn(&mut self, image: &Image, instr: &Instr, loads: bool) -> bool
+        requires read { instruction_at image.now self.old.regs.pc ≡ Ok instr.now }
         requires fuel { 0 < self.old.fuel }
         ensures yes { result ≡ true
             → IsOwnTurn image.now loads (thread_of self.old) (thread_of self.new) }
         ensures fuel { result ≡ true → self.new.fuel + 1 ≡ self.old.fuel }
         ensures no { result ≡ false → self.new ≡ self.old }
     {
-        let Some(instr) = stretch.find(self.regs.pc()) else {
-            return false;
-        };
         if plain_by(&mut self.regs, instr) {
             self.fuel -= 1;
             return true;

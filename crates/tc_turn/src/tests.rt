@@ -46,18 +46,22 @@ fn turns_in_place_are_the_turns(rt: HostRuntime) -> Result<(), Fail> {
     let image = load(rt.alloc(), &SMALLEST)?;
     let code = Code::of(rt.alloc(), &image)?;
     let mut thread = GuestThread::start(rt.alloc(), &image, 100, 0)?;
-    let first = code.instruction(&image, thread.regs().pc(), None);
-    assert!(rt; thread.load_wanted(&image, &first) == Want::Nothing);
+    let first = code.find(thread.regs().pc()).expect(&rt, "decoded");
+    assert!(rt; thread.load_wanted(&image, first) == Want::Nothing);
+    assert_eq!(rt;
+        thread.run_own(&image, &code, Some(first), 0, true).count,
+        0
+    );
     // ECALL touches no memory of its own.
-    let own = thread.run_own(&image, &code, 9, true);
+    let own = thread.run_own(&image, &code, Some(first), 9, true);
     assert_eq!(rt; own.count, 1);
     assert!(rt; own.stop.is_some());
     assert_eq!(rt; thread.regs().pc(), 0x10058);
     assert_eq!(rt; thread.fuel(), 99);
     assert!(rt; thread.ahead(&image, &code, own.stop).lock.is_none());
-    let call = code.instruction(&image, thread.regs().pc(), None);
-    let want = thread.load_wanted(&image, &call);
-    let last = thread.turn(&image, &call, want, 0);
+    let call = code.find(thread.regs().pc()).expect(&rt, "decoded");
+    let want = thread.load_wanted(&image, call);
+    let last = thread.turn(&image, call, want, 0);
     assert!(rt; last == Some(Done::Called(Call::Exit)));
     assert!(rt; outcome_by(&last) == Outcome::Exited);
     assert!(rt; thread.status() == Status::Exited);

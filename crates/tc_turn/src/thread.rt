@@ -1,6 +1,6 @@
 //! A guest thread.
 
-ghost use Rattle.std.specs.Prelude.{◌≡◌, ◌+◌, ◌<◌, ◌≤◌, ◌^◌, IfOk, IfSome, Ok, Some, length, unwrap_or};
+ghost use Rattle.std.specs.Prelude.{◌≡◌, ℕ, ◌+◌, ◌<◌, ◌≤◌, ◌^◌, IfOk, IfSome, Ok, Err, Some, length, unwrap_or};
 ghost use Rattle.std.specs.Option.{option_map};
 ghost use Rattle.tc_isa.specs.Sets.{has};
 ghost use Rattle.tc_exec.specs.Calls.{answered};
@@ -9,6 +9,7 @@ ghost use Rattle.tc_exec.specs.Step.{instruction_at, wants_of};
 ghost use Rattle.tc_exec.specs.Told.{IsWant};
 ghost use Rattle.tc_exec.specs.declared.outcome.Act.TheVariants.{Called};
 ghost use Rattle.tc_exec.specs.declared.outcome.Call.TheVariants.{Lock};
+ghost use Rattle.tc_exec.specs.declared.outcome.Want.TheVariants.{Nothing};
 ghost use Rattle.tc_turn.specs.Ahead.{IsAhead};
 ghost use Rattle.tc_turn.specs.InPlace.{thread_done, DoneFits};
 ghost use Rattle.tc_turn.specs.Memory.{number_at, own_of};
@@ -145,19 +146,21 @@ impl GuestThread {
         }
     }
 
-    /// The load that its next instruction needs, as `wants` tells it, where this was found at the
-    /// instruction's place.
-    pub fn load_wanted(&self, image: &Image, found: &Result<Instr, Fault>) -> Want
-        requires { found.now ≡ instruction_at image.now self.now.regs.pc }
+    /// The load that its next instruction needs, as `wants` tells it, where this is that
+    /// instruction.
+    #[inline(always)]
+    pub fn load_wanted(&self, image: &Image, instr: &Instr) -> Want
+        requires { instruction_at image.now self.now.regs.pc ≡ Ok instr.now }
         ensures value { result ≡ wants_of image.now (has self.now.held) self.now.regs }
         ensures told { IsWant image.now (has self.now.held) result }
     {
-        found::wants(image, self.held, &self.regs, found)
+        found::wants(image, self.near, self.held, &self.regs, instr)
     }
 
     /// What is ahead: the lock of its next turn, as `next_lock` tells it, from the decoded code of
     /// its image, and the instruction, where it is known or had to be looked for.
     #[tactic(auto, unfolding(crate::specs::Turn::next_lock))]
+    #[inline(always)]
     pub fn ahead<'a>(&self, image: &Image, code: &'a Code, known: Option<&'a Instr>) -> Ahead<'a>
         requires code { code.now ≡ image.now }
         requires known { IfSome known
@@ -174,17 +177,12 @@ impl GuestThread {
     }
 
     /// Its next turn with the answer to its load or to its LOCK, and what it did beside the
-    /// registers, where this was found at its place and that is the load that it needs. None is
-    /// the turn in which it ends for want of fuel. It is `act` and `take_turn` at once.
+    /// registers, where this is the instruction at its place and that is the load that it needs.
+    /// None is the turn in which it ends for want of fuel. It is `act` and `take_turn` at once.
     #[tactic(auto, using(crate::proofs::InPlace::same_thread))]
-    pub fn turn(
-        &mut self,
-        image: &Image,
-        found: &Result<Instr, Fault>,
-        want: Want,
-        answer: u32,
-    ) -> Option<Done>
-        requires found { found.now ≡ instruction_at image.now self.old.regs.pc }
+    #[inline(always)]
+    pub fn turn(&mut self, image: &Image, instr: &Instr, want: Want, answer: u32) -> Option<Done>
+        requires instr { instruction_at image.now self.old.regs.pc ≡ Ok instr.now }
         requires want { want ≡ wants_of image.now (has self.old.held) self.old.regs }
         ensures done { result
             ≡ option_map done_of (act_with image.now (thread_of self.old) answer) }
@@ -199,9 +197,38 @@ impl GuestThread {
         // So each lock that an act names is below 32.
         prove!(image.guards() <= 32);
         self.fuel = left;
-        let done = found::go(image, self.held, &mut self.regs, found, want, answer);
+        let done = found::go(
+            image,
+            self.near,
+            self.held,
+            &mut self.regs,
+            instr,
+            want,
+            answer,
+        );
         self.follow(&done);
         Some(done)
+    }
+
+    /// Its next turn, as `turn` does it, where there is no instruction at its place, and this is
+    /// why. It wants no load, and no answer makes a difference.
+    #[tactic(auto, unfolding(tc_exec::specs::Step::act_of, tc_exec::specs::Step::wants_of))]
+    pub fn fault(&mut self, image: &Image, fault: Fault) -> Option<Done>
+        requires { instruction_at image.now self.old.regs.pc ≡ Err fault }
+        ensures want { wants_of image.now (has self.old.held) self.old.regs ≡ Nothing }
+        ensures done { (answer : ℕ) → result
+            ≡ option_map done_of (act_with image.now (thread_of self.old) answer) }
+        ensures thread { (answer : ℕ) → thread_of self.new
+            ≡ thread_after (thread_of self.old) (act_with image.now (thread_of self.old) answer) }
+        ensures fits { IfSome result DoneFits }
+    {
+        let Some(left) = self.fuel.checked_sub(1) else {
+            self.end(Status::SpentFuel);
+            return None;
+        };
+        self.fuel = left;
+        self.end(Status::Faulted(fault));
+        Some(Done::Faulted(fault))
     }
 
     /// Its next turn, where that is the lawful LOCK of this lock with that answer.
