@@ -7,9 +7,9 @@ use Rattle.std.specs.Int.{trailing_zeros}
 use Rattle.std.specs.List.{prefix_len}
 use Rattle.std.specs.Simd.Lanes.{mask_l}
 use Rattle.std.proofs.lemmas.Bool.Decides.{Decides-eqb}
-use Rattle.std.proofs.lemmas.List.{drop-append-le, get_or-drop, drop-drop, take_all, take_more_set}
+use Rattle.std.proofs.lemmas.List.{drop-append-le, get_or-drop, drop-drop, length-take, take-append-drop, take_all, take_more_set}
 use Rattle.tc_isa.specs.Registers.{Registers, IsRegisters, with_register}
-use Rattle.tc_segment.specs.Packed.{mask_of, nonzero, packed, spread, regs_at, StandsAt, IsPlace, Extends}
+use Rattle.tc_segment.specs.Packed.{mask_of, nonzero, packed, spread, regs_at, ArePacked, StandsAt, IsPlace, Extends}
 
 -- what was packed comes out again, whatever stands behind it
 spread_packed : (xs rest : List ℕ) → spread (length xs) (mask_of xs) (nonzero xs ++ rest) ≡ xs
@@ -52,6 +52,18 @@ stands_is {edges} {i} {r} s =
     let all = ap (λ ys. 0 ∷ ys) words ∙ sym first.0 in
     λ j. record { pc = parts.0 j; words = all j }
 
+-- words that begin with these registers
+pub packed_is : (words : List ℕ) (end : ℕ) (r : Registers) → IsRegisters r → take end words ≡ packed r → regs_at words 0 ≡ r
+packed_is words end r whole is = stands_is {edges = words} {i = 0} (record {
+  inside = (let two : 2 ≤ length (packed r) = omega arith in omega (arith, ap length is, length-take end words));
+  rest = drop end words;
+  is = sym (take-append-drop end words) ∙ ap (λ xs. xs ++ drop end words) is;
+  whole = whole;
+})
+
+pub are_packed : (words : List ℕ) (end : ℕ) (r : Registers) → IsRegisters r → end ≤ 33 → take end words ≡ packed r → ArePacked words end (regs_at words 0)
+are_packed words end r whole few is = subst (λ x. ArePacked words end x) (sym (packed_is words end r whole is)) (record { few = few; is = is; whole = whole })
+
 pub stands_more : {edges : List ℕ} {i : ℕ} {r : Registers} (more : List ℕ) → StandsAt edges i r → StandsAt (edges ++ more) i r
 stands_more {edges} {i} {r} more s = record {
   inside = (let h = s.inside in omega (arith, length-append edges more));
@@ -72,17 +84,9 @@ extends_more edges more = record {
   same = λ i there. stands_is (stands_more more there);
 }
 
-drop_all-front : (xs ys : List ℕ) → drop (length xs) (xs ++ ys) ≡ ys
-drop_all-front [] ys = refl
-drop_all-front (x ∷ xs) ys = drop_all-front xs ys
-
-pub stands_end : (edges : List ℕ) (r : Registers) → IsRegisters r → StandsAt (edges ++ packed r) (length edges) r
-stands_end edges r whole = record {
-  inside = omega (arith, length-append edges (packed r));
-  rest = [];
-  is = drop_all-front edges (packed r) ∙ sym (append-nil (packed r));
-  whole = whole;
-}
+-- these registers are the last that stand there
+pub stands_last : (edges : List ℕ) (i : ℕ) (r : Registers) → IsRegisters r → i < length edges → drop i edges ≡ packed r → StandsAt edges i r
+stands_last edges i r whole inside is = record { inside = inside; rest = []; is = is ∙ sym (append-nil (packed r)); whole = whole }
 
 -- ---- packing
 

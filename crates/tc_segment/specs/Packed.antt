@@ -1,6 +1,7 @@
 -- Registers as a journal keeps them: the program counter, a mask, and the numbers that are not 0.
-use Rattle.std.specs.Prelude.{◌≡◌, ℕ, zero, suc, ◌+◌, ◌*◌, ◌/◌, ◌%◌, ◌==◌, ◌<◌, List, [], ◌∷◌, ◌++◌, length, drop, slice_index, if◌then◌else◌}
+use Rattle.std.specs.Prelude.{◌≡◌, ℕ, zero, suc, ◌+◌, ◌*◌, ◌/◌, ◌%◌, ◌==◌, ◌<◌, ◌≤◌, List, [], ◌∷◌, ◌++◌, length, take, drop, slice_index, if◌then◌else◌}
 use Rattle.tc_isa.specs.Registers.{Registers, IsRegisters}
+use Rattle.tc_segment.specs.declared.packed.TheConstants.{MOST_WORDS}
 
 -- from its lowest bit on, a mask has 1 where a number is not 0
 abbrev pub mask_of : List ℕ → ℕ
@@ -23,6 +24,12 @@ spread (suc n) mask xs = if mask % 2 == 1 then slice_index xs 0 ∷ spread n (ma
 -- the registers at a place
 unfoldable pub regs_at : List ℕ → ℕ → Registers
 regs_at edges i = record { pc = slice_index edges i; words = 0 ∷ spread 31 (slice_index edges (i + 1)) (drop (i + 2) edges) }
+
+-- the first so many of the words are these registers
+pub record ArePacked (words : List ℕ) (end : ℕ) (r : Registers) : Type 0 where
+  pub few : end ≤ MOST_WORDS
+  pub is : take end words ≡ packed r
+  pub whole : IsRegisters r
 
 -- these registers stand at the place, and other words may stand behind them
 pub record StandsAt (edges : List ℕ) (i : ℕ) (regs : Registers) : Type 0 where

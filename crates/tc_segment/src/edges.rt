@@ -4,7 +4,7 @@ ghost use Rattle.std.specs.Prelude.{◌≡◌, ◌+◌, ◌≤◌, OnOk};
 ghost use Rattle.tc_segment.specs.Packed.{IsPlace, StandsAt, Extends, regs_at};
 ghost use Rattle.tc_segment.specs.declared.packed.TheConstants.{MOST_WORDS};
 
-use crate::packed::{MOST_WORDS, pack, unpack};
+use crate::packed::{MOST_WORDS, Packed, unpack};
 use std::alloc::{AllocError, Global};
 use std::marker::Model;
 use tc_isa::regs::Regs;
@@ -13,12 +13,10 @@ use tc_isa::regs::Regs;
 /// memory of the host, and a large vector grows without a copy.
 const GROWTH: usize = 32_768;
 
-/// Packed registers at places, and those that were noted last with their place.
+/// Packed registers at places, and the place of those that were noted last.
 #[derive(Drop)]
 pub(crate) struct Edges {
     words: Vec<u32>,
-    last_pc: u32,
-    last_words: [u32; 32],
     place: u32,
 }
 
@@ -39,8 +37,6 @@ impl Edges {
     pub(crate) fn new(alloc: Global) -> Edges {
         Edges {
             words: Vec::new(alloc),
-            last_pc: 0,
-            last_words: [0; 32],
             place: 0,
         }
     }
@@ -63,24 +59,23 @@ impl Edges {
 
     /// The place of these registers behind all others, or that of the last ones where those are the
     /// same, as they are between two blocks of one section.
-    pub(crate) fn place_of(&mut self, regs: &Regs) -> u32
+    #[inline(always)]
+    pub(crate) fn place_of(&mut self, packed: &Packed) -> u32
         requires { MOST_WORDS ≤ self.old.room }
-        ensures place { StandsAt self.new.words result regs.now }
+        ensures place { StandsAt self.new.words result packed.now }
         ensures more { Extends self.old.words self.new.words }
         ensures room { self.old.room ≤ self.new.room + MOST_WORDS }
     {
+        let words = packed.words();
         let count = self.words.len();
-        if count > 0 && self.last_pc == regs.pc() && self.last_words == *regs.words() {
+        let place = self.place as usize;
+        if place < count && self.words[place] == words[0] && &self.words[place..] == words {
             return self.place;
         }
-        let mut buffer = [0; MOST_WORDS];
-        let end = pack(regs, &mut buffer);
-        match self.words.extend_from_slice(&buffer[..end]) {
+        match self.words.extend_from_slice(words) {
             Ok(()) => {}
             Err(_) => unreachable!(),
         }
-        self.last_pc = regs.pc();
-        self.last_words = *regs.words();
         self.place = count as u32;
         self.place
     }

@@ -7,14 +7,14 @@
 //! what contracts see.
 //!
 //! - `state`: a lock state with its calls. `entry`: an entry that it lends.
-//! - `law`: what a lock at rest is. `record`: how entries are kept, `edges` and `packed`: how their
-//!   registers are.
+//! - `packed`: registers in few words, packed once for all locks of a block.
+//! - `law`: what a lock at rest is. `record`: how entries are kept, `edges`: how their registers are.
 #![tactic(auto)]
 
 mod edges;
 pub mod entry;
 pub mod law;
-mod packed;
+pub mod packed;
 mod record;
 pub mod state;
 #[cfg(test)]

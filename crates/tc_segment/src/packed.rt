@@ -1,10 +1,11 @@
 //! Registers in few words: the program counter, a mask, and the numbers that are not 0.
 
-ghost use Rattle.std.specs.Prelude.{◌≡◌, ◌≤◌, take, drop, slice_index};
-ghost use Rattle.tc_isa.specs.Registers.{IsRegisters};
+ghost use Rattle.std.specs.Prelude.{◌≡◌, ◌≤◌, length, take, drop, slice_index};
+ghost use Rattle.tc_isa.specs.Registers.{Registers, IsRegisters};
 ghost use Rattle.tc_segment.specs.declared.packed.TheConstants.{MOST_WORDS};
-ghost use Rattle.tc_segment.specs.Packed.{IsPlace, mask_of, packed, regs_at};
+ghost use Rattle.tc_segment.specs.Packed.{ArePacked, IsPlace, mask_of, packed, regs_at};
 
+use std::marker::Model;
 use std::simd::prelude::*;
 use tc_isa::reg::Reg;
 use tc_isa::regs::Regs;
@@ -12,8 +13,51 @@ use tc_isa::regs::Regs;
 /// The most words that registers take.
 pub(crate) const MOST_WORDS: usize = 33;
 
+/// Registers, packed. A value is made once and used again, since it takes the same memory for any
+/// registers.
+#[derive(Drop)]
+pub struct Packed {
+    words: [u32; MOST_WORDS],
+    end: usize,
+}
+
+impl Model for Packed {
+    ghost Value = { Registers };
+
+    ghost view = { λ p. regs_at p.words 0 };
+
+    ghost invariant = { λ p. ArePacked p.words p.end (regs_at p.words 0) };
+}
+
+impl Packed {
+    /// Registers that are all 0, to be set.
+    pub fn new() -> Packed {
+        Packed {
+            words: [0; MOST_WORDS],
+            end: 2,
+        }
+    }
+
+    /// Packs these registers in place of those that it had. Takes no memory.
+    pub fn set(&mut self, regs: &Regs)
+        ensures { self.new ≡ regs.now }
+    {
+        self.end = pack(regs, &mut self.words);
+    }
+
+    /// The words in which they are.
+    pub(crate) fn words(&self) -> &[u32]
+        ensures packed { result.now ≡ packed self.now }
+        ensures some { 2 ≤ length result.now }
+        ensures few { length result.now ≤ MOST_WORDS }
+        ensures kept { IsRegisters self.now }
+    {
+        &self.words[..self.end]
+    }
+}
+
 /// Packs these registers at the front of the buffer, and tells where they end.
-pub(crate) fn pack(regs: &Regs, buffer: &mut [u32; MOST_WORDS]) -> usize
+fn pack(regs: &Regs, buffer: &mut [u32; MOST_WORDS]) -> usize
     ensures end { result ≤ MOST_WORDS }
     ensures packed { take result buffer.new ≡ packed regs.now }
     ensures kept { IsRegisters regs.now }

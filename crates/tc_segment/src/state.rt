@@ -11,7 +11,7 @@ ghost use Rattle.tc_segment.specs.View.{IsSoundLock, allows_in, number_of_guard,
 
 use crate::edges::Edges;
 use crate::entry::Entry;
-use crate::packed::MOST_WORDS;
+use crate::packed::{MOST_WORDS, Packed};
 use crate::record::{Opening, Record, last_block, make_room};
 use std::alloc::{AllocError, Global};
 use std::marker::Model;
@@ -208,8 +208,21 @@ impl LockState {
         Ok(())
     }
 
-    /// Opens the entry of a block whose thread has these registers and this fuel before it.
+    /// Opens the entry of a block whose thread has these registers and this fuel before it. For
+    /// registers that are packed once for several locks, see `open_packed`.
     pub fn open_entry(&mut self, start: &Regs, fuel: u32)
+        requires opened { self.old.journal.opened ≡ None }
+        requires closed { self.old.journal.closed ≡ None }
+        requires room { 0 < self.old.journal.entry_room }
+        ensures { self.new ≡ with_journal (opened_at (lock_of self.old) start.now fuel) self.old }
+    {
+        let mut packed = Packed::new();
+        packed.set(start);
+        self.open_packed(&packed, fuel);
+    }
+
+    /// Like `open_entry`, of registers that are packed once for several locks.
+    pub fn open_packed(&mut self, start: &Packed, fuel: u32)
         requires opened { self.old.journal.opened ≡ None }
         requires closed { self.old.journal.closed ≡ None }
         requires room { 0 < self.old.journal.entry_room }
@@ -281,8 +294,22 @@ impl LockState {
     }
 
     /// Closes the open entry with its block and the registers after it. The lock is broken from
-    /// then on where the block ended its thread. The block's stamp and worker don't count yet.
+    /// then on where the block ended its thread. The block's stamp and worker don't count yet. For
+    /// registers that are packed once for several locks, see `close_packed`.
     pub fn close_entry(&mut self, image: &Image, block: &Block, end: &Regs)
+        requires image { self.old.journal.image ≡ image.now }
+        requires opened { is_some self.old.journal.opened ≡ true }
+        requires closes { ClosesWith block.now end.now self.old }
+        ensures { self.new
+            ≡ with_end block.now.end (with_journal (closed_with block.now end.now) self.old) }
+    {
+        let mut packed = Packed::new();
+        packed.set(end);
+        self.close_packed(image, block, &packed);
+    }
+
+    /// Like `close_entry`, of registers that are packed once for several locks.
+    pub fn close_packed(&mut self, image: &Image, block: &Block, end: &Packed)
         requires image { self.old.journal.image ≡ image.now }
         requires opened { is_some self.old.journal.opened ≡ true }
         requires closes { ClosesWith block.now end.now self.old }

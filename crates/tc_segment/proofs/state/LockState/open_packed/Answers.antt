@@ -11,7 +11,7 @@ use Rattle.tc_segment.specs.Kept.{shown, shown_journal, view_of, KeptLock}
 use Rattle.tc_segment.specs.Packed.{StandsAt, Extends}
 use Rattle.tc_segment.proofs.Packing.{stands_is, place_of-stands}
 use Rattle.tc_segment.proofs.Keeping.{edges_more, shown_grown, fits_grown, entries_are, not_open, opened_journal, sound_opened}
-use Rattle.tc_segment.proofs.state.LockState.open_entry.Goals as goal
+use Rattle.tc_segment.proofs.state.LockState.open_packed.Goals as goal
 
 opened_view : (a : Contents) (more : List ℕ) (place from fuel : ℕ) (start : Registers) → KeptLock a → (view_of a).journal.opened ≡ None → Extends a.edges.words more → StandsAt more place start → from ≡ length a.words.items
     → record { number = a.number; bytes = a.bytes.items; broken = a.broken; sections = a.sections; journal = shown_journal a.of.value a.number a.limit (map (shown more a.words.items) a.records.items) a.sealed more a.words.items (Some (record { fuel = fuel; start = place; from = from })) (a.entry_room - 1) a.word_room } ≡ with_journal (opened_at (lock_of (view_of a)) start fuel) (view_of a)

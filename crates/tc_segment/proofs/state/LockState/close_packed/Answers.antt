@@ -1,0 +1,90 @@
+use Rattle.std.proofs.Common.{◌≡◌, ℕ, true, List, [], ◌∷◌, ◌++◌, ◌+◌, map, length, sym, ap, subst, ◌∙◌, arith, length-append}
+use Rattle.std.specs.Prelude.{Option, Some, None, option_map, is_some}
+use Rattle.std.proofs.lemmas.List.{length-map, map-append}
+use Rattle.tc_isa.specs.Registers.{Registers}
+use Rattle.tc_journal.specs.Batch.{run_of}
+use Rattle.tc_journal.specs.declared.block.Block.{Block}
+use Rattle.tc_turn.specs.Turn.{mutex_at_start}
+use Rattle.tc_turn.specs.Replay.{replayed}
+use Rattle.tc_segment.specs.declared.record.Record.{Record}
+use Rattle.tc_segment.specs.declared.record.Opening.{Opening}
+use Rattle.tc_segment.specs.declared.state.Contents.{Contents}
+use Rattle.tc_segment.specs.View.{LockView, Journal, IsSoundLock, block_in, Closes, ClosesWith, with_end, with_journal, closed_with}
+use Rattle.tc_segment.specs.Kept.{shown, shown_open, shown_journal, AllFit, OpenFits, view_of, count, KeptLock}
+use Rattle.tc_segment.specs.Packed.{StandsAt, Extends}
+use Rattle.tc_segment.proofs.Packing.{stands_is, place_of-stands}
+use Rattle.tc_segment.proofs.Keeping.{edges_more, shown_grown, fits_grown, fits_end, none_closed, closed_journal, sound_closed}
+use Rattle.tc_segment.proofs.state.LockState.close_packed.Goals as goal
+
+abbrev record_of : Block → Opening → ℕ → ℕ → Record
+record_of block o finish to = record { block = block; fuel = o.fuel; start = o.start; finish = finish; from = o.from; to = to }
+
+was_open : (a : Contents) (o : Opening) → a.opened ≡ Some o → is_some (view_of a).journal.opened ≡ true
+was_open a o is = ap (λ x. is_some (option_map (shown_open (replayed a.of.value a.number (mutex_at_start a.of.value a.number) (map (shown a.edges.words a.words.items) a.records.items)) a.edges.words a.words.items) x)) is
+
+closed_view : (a : Contents) (more : List ℕ) (records : List Record) (o : Opening) (block : Block) (finish : Registers) (place to : ℕ) → KeptLock a → a.opened ≡ Some o → Extends a.edges.words more → StandsAt more place finish
+    → to ≡ length a.words.items → records ≡ a.records.items ++ record_of block o place to ∷ []
+    → shown_journal a.of.value a.number a.limit (map (shown more a.words.items) records) a.sealed more a.words.items None a.entry_room a.word_room ≡ closed_with block finish (view_of a).journal
+closed_view a more records o block finish place to k is extends there len made =
+    let old = map (shown a.edges.words a.words.items) a.records.items in
+    let r = record_of block o place to in
+    let none = none_closed a.sealed old (let h = k.sealed in omega (arith, length-map a.records.items (shown a.edges.words a.words.items))) (k.sound.alone (was_open a o is)) in
+    let new = ap (map (shown more a.words.items)) made ∙ map-append (shown more a.words.items) a.records.items (r ∷ [])
+    ∙ ap (λ es. es ++ shown more a.words.items r ∷ []) (shown_grown (edges_more a.edges.words more a.words.items extends) a.records.items k.records) in
+    closed_journal a.of.value a.number a.limit old _ a.sealed a.edges.words more a.words.items a.opened a.entry_room a.word_room o block finish place to is extends
+    (subst (λ x. OpenFits a.edges.words a.words.items x) is k.opened) (stands_is there) len none new
+
+pub returns : goal.returns
+returns c =
+    let shows = ap view_of c.deref_mut-contents.ensures.value ∙ c.self.view_is in
+    let kept = subst KeptLock (sym c.deref_mut-contents.ensures.value) c.self.invariant in
+    let a = c.deref_mut-contents.result.now in
+    let block = c.args.block.now in
+    let finish = c.args.end.now in
+    let place = c.place_of-finish.ensures in
+    let j = closed_view a _ _ c.in-Some.opening block finish _ _ kept c.in-Some.is place.more place.place (c.len.ensures ∙ a.words.ok.0) c.in-Ok.ensures.items in
+    (λ i. record { number = a.number; bytes = a.bytes.items; broken = c.broken_after-broken.ensures i; sections = a.sections; journal = j i })
+    ∙ ap (λ (l : LockView). with_end block.end (with_journal (closed_with block finish) l)) shows
+
+pub invariant_of-self-2 : goal.invariant_of-self-2
+invariant_of-self-2 c =
+    let shows = ap view_of c.deref_mut-contents.ensures.value ∙ c.self.view_is in
+    let kept = subst KeptLock (sym c.deref_mut-contents.ensures.value) c.self.invariant in
+    let a = c.deref_mut-contents.result.now in
+    let k = kept in
+    let o = c.in-Some.opening in
+    let block = c.args.block.now in
+    let finish = c.args.end.now in
+    let place = c.place_of-finish.ensures in
+    let to : c.len.result ≡ length a.words.items = c.len.ensures ∙ a.words.ok.0 in
+    let old = map (shown a.edges.words a.words.items) a.records.items in
+    let p = shown_open (replayed a.of.value a.number (mutex_at_start a.of.value a.number) old) a.edges.words a.words.items o in
+    let was : (view_of a).journal.opened ≡ Some p = ap (option_map (shown_open (replayed a.of.value a.number (mutex_at_start a.of.value a.number) old) a.edges.words a.words.items)) c.in-Some.is in
+    let closes : Closes (view_of a) block finish p = subst (λ (l : LockView). ClosesWith block finish l) (sym shows) c.requires.closes p was in
+    let j = closed_view a _ _ o block finish _ _ k c.in-Some.is place.more place.place to c.in-Ok.ensures.items in
+    let none = none_closed a.sealed old (let h = k.sealed in omega (arith, length-map a.records.items (shown a.edges.words a.words.items))) (k.sound.alone (was_open a o c.in-Some.is)) in
+    let len = length-map a.records.items (shown a.edges.words a.words.items) in
+    let fits : OpenFits a.edges.words a.words.items (Some o) = subst (λ x. OpenFits a.edges.words a.words.items x) c.in-Some.is k.opened in
+    let start = fits.0 in
+    let from = fits.1 in
+    let one : count a.opened ≡ 1 = ap (λ (x : Option Opening). count x) c.in-Some.is in
+    let items = c.in-Ok.ensures.items in
+    let r = record_of block o c.place_of-finish.result c.len.result in
+    let grown : length c.push.new.self.items ≡ length a.records.items + 1 = ap length items ∙ length-append a.records.items (r ∷ []) in
+    let blocks = ap (λ (x : Journal). run_of a.number (map block_in x.sealed)) (sym j) in
+    record {
+      sound = subst (λ (l : LockView). IsSoundLock l) (λ i. record { number = a.number; bytes = a.bytes.items; broken = sym c.broken_after-broken.ensures i; sections = a.sections; journal = sym j i }) (sound_closed block finish (view_of a) p k.sound was closes);
+      start = k.start;
+      records = subst (λ rs. AllFit c.place_of-finish.new.self.words a.words.items rs) (sym items)
+          (fits_end c.place_of-finish.new.self.words a.words.items a.records.items r (fits_grown (edges_more a.edges.words _ a.words.items place.more) a.records.items k.records)
+          (record { start = place.more.places o.start start; finish = place_of-stands place.place; order = omega (arith, to); inside = omega (arith, to) }));
+      sealed = (let h = k.sealed in omega (arith, grown));
+      closed = omega (arith, grown, none, len);
+      opened = tt;
+      run = k.run ∙ blocks;
+      short = k.short;
+      entry_room = (let h = k.entry_room in omega (arith, one, c.in-Ok.ensures.len, c.in-Ok.ensures.capacity));
+      edge_room = (let h = k.edge_room in let less = place.room in omega (arith, one));
+      word_room = k.word_room;
+      word_places = k.word_places;
+    }
