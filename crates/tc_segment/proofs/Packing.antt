@@ -1,10 +1,10 @@
 -- Registers that are packed, and noted one after another.
-use Rattle.std.proofs.Common.{◌≡◌, ℕ, zero, suc, ◌+◌, ◌*◌, ◌^◌, ◌/◌, ◌%◌, ◌<◌, ◌≤◌, Bool, true, false, ◌==◌, List, [], ◌∷◌, ◌++◌, length, get_or, take, drop, set, refl, ap, sym, subst, ◌∙◌, arith, append_assoc, append-nil, length-append, map, not, cond, w32}
+use Rattle.std.proofs.Common.{◌≡◌, ℕ, zero, suc, ◌+◌, ◌-◌, ◌*◌, ◌^◌, ◌/◌, ◌%◌, ◌<◌, ◌≤◌, min, inl, inr, Bool, true, false, ◌==◌, List, [], ◌∷◌, ◌++◌, length, get_or, take, drop, set, refl, ap, sym, subst, ◌∙◌, arith, append_assoc, append-nil, length-append, length-drop, map, not}
 use Rattle.std.specs.Prelude.{slice_index, if◌then◌else◌}
-use Rattle.std.proofs.Math.Nat.{pow-succ', div-div-eq-div-mul}
-use Rattle.std.proofs.lemmas.Simd.{trailing_mask_l}
-use Rattle.std.specs.Int.{trailing_zeros}
-use Rattle.std.specs.List.{prefix_len}
+use Rattle.std.proofs.Math.Nat.{pow-succ'}
+use Rattle.std.specs.Int.Bits.{bit_and, and_step, and_self}
+use Rattle.std.specs.Int.Count.{count_trailing_zeros, under}
+use Rattle.std.proofs.lemmas.Bool.{cases_lt}
 use Rattle.std.specs.Simd.Lanes.{mask_l}
 use Rattle.std.proofs.lemmas.Bool.Decides.{Decides-eqb}
 use Rattle.std.proofs.lemmas.List.{drop-append-le, get_or-drop, drop-drop, length-take, take-append-drop, take_all, take_more_set}
@@ -94,10 +94,6 @@ stands_last edges i r whole inside is = record { inside = inside; rest = []; is 
 abbrev pub is_kept : ℕ → Bool
 is_kept x = not (x == 0)
 
--- how many numbers stand before the first that is kept
-abbrev pub before_kept : List ℕ → ℕ
-before_kept xs = prefix_len (λ x. not (is_kept x)) xs
-
 pub mask_lanes : (xs : List ℕ) → mask_of xs ≡ mask_l (map is_kept xs)
 mask_lanes [] = refl
 mask_lanes (x ∷ xs) =
@@ -125,54 +121,96 @@ mask_less (x ∷ xs) (suc n) le =
       | false ↦ omega (arith, h, two)
     ])
 
-pub zeros_before : (xs : List ℕ) → length xs ≤ 32 → 0 < mask_of xs → trailing_zeros w32 (mask_of xs) ≡ before_kept xs
-zeros_before xs le some = ap (λ m. trailing_zeros w32 m) (mask_lanes xs) ∙ trailing_mask_l is_kept 32 xs le (subst (λ m. 0 < m) (mask_lanes xs) some)
-
-half_first : (m z : ℕ) → m / 2 ^ (z + 1) ≡ m / 2 / 2 ^ z
-half_first m z = ap (λ k. m / 2 ^ k) (let e : z + 1 ≡ suc z = omega arith in e) ∙ ap (λ k. m / k) (pow-succ' 2 z) ∙ sym (div-div-eq-div-mul m 2 (2 ^ z))
-
-pub half_last : (m z : ℕ) → m / 2 ^ z / 2 ≡ m / 2 ^ (z + 1)
-half_last m z = div-div-eq-div-mul m (2 ^ z) 2 ∙ ap (λ k. m / k) (let e = pow-succ' 2 z in let same : z + 1 ≡ suc z = omega arith in let pow = ap (λ k. 2 ^ k) same in let all : 2 ^ z * 2 ≡ 2 ^ (z + 1) = omega (arith, e, pow) in all)
-
 pub two_front : (xs : List ℕ) (a b : ℕ) → 2 ≤ length xs → take 2 (set (set xs 0 a) 1 b) ≡ a ∷ b ∷ []
 two_front [] a b le = absurd (omega arith)
 two_front (x ∷ []) a b le = absurd (omega arith)
 two_front (x ∷ y ∷ xs) a b le = refl
 
--- the first number that is kept, and those behind it
-pub record FirstKept (xs : List ℕ) (bits : ℕ) (numbers : List ℕ) (z : ℕ) : Type 0 where
-  pub there : z < length xs
-  pub mask : bits / 2 ^ (z + 1) ≡ mask_of (drop (z + 1) xs)
-  pub kept : numbers ≡ slice_index xs z ∷ nonzero (drop (z + 1) xs)
+-- the numbers where the mask has 1
+abbrev pub picked : ℕ → List ℕ → List ℕ
+picked mask [] = []
+picked mask (x ∷ xs) = if mask % 2 == 1 then x ∷ picked (mask / 2) xs else picked (mask / 2) xs
 
-kept_later : (x : ℕ) (xs : List ℕ) (z : ℕ) → FirstKept xs (mask_of xs) (nonzero xs) z → FirstKept (x ∷ xs) (2 * mask_of xs) (nonzero xs) (1 + z)
-kept_later x xs z h =
-    let half : (2 * mask_of xs) / 2 ≡ mask_of xs = omega arith in
-    let more : 1 + z + 1 ≡ suc (z + 1) = omega arith in
-    let one : 1 + z ≡ suc z = omega arith in
-    let there = h.there in
+pub picked_all : (xs : List ℕ) → picked (mask_of xs) xs ≡ nonzero xs
+picked_all [] = refl
+picked_all (x ∷ xs) =
+    let again = picked_all xs in
+    (elim (x == 0) as (λ b. picked (if b then 2 * mask_of xs else 2 * mask_of xs + 1) (x ∷ xs) ≡ (if b then nonzero xs else x ∷ nonzero xs)) [
+      | true ↦
+          let low : (2 * mask_of xs) % 2 ≡ 0 = omega arith in
+          let half : (2 * mask_of xs) / 2 ≡ mask_of xs = omega arith in
+          rw low (rw half again)
+      | false ↦
+          let low : (2 * mask_of xs + 1) % 2 ≡ 1 = omega arith in
+          let half : (2 * mask_of xs + 1) / 2 ≡ mask_of xs = omega arith in
+          rw low (rw half (λ i. x ∷ again i))
+    ])
+
+pub picked_none : (xs : List ℕ) → picked 0 xs ≡ []
+picked_none [] = refl
+picked_none (x ∷ xs) = picked_none xs
+
+-- the first of them, and those behind it
+pub record FirstPicked (k mask : ℕ) (xs : List ℕ) : Type 0 where
+  pub there : count_trailing_zeros k mask < length xs
+  pub is : picked mask xs ≡ slice_index xs (count_trailing_zeros k mask) ∷ picked (bit_and mask (mask - 1)) xs
+
+abbrev picking : ℕ → List ℕ → ℕ → ℕ → List ℕ
+picking x xs bit rest = if bit == 1 then x ∷ picked rest xs else picked rest xs
+
+first_odd : (x : ℕ) (xs : List ℕ) (k mask : ℕ) → mask % 2 ≡ 1 → FirstPicked (suc k) mask (x ∷ xs)
+unfolding count_trailing_zeros
+first_odd x xs k mask odd =
+    let zeros : count_trailing_zeros (suc k) mask ≡ 0 = ap (λ r. under r (count_trailing_zeros k (mask / 2))) odd in
+    let half : (mask - 1) / 2 ≡ mask / 2 = omega arith in
+    let low : min (mask % 2) ((mask - 1) % 2) ≡ 0 = omega arith in
+    let less : bit_and mask (mask - 1) ≡ mask / 2 * 2 + 0 = and_step mask (mask - 1) ∙ (λ i. (ap (bit_and (mask / 2)) half ∙ and_self (mask / 2)) i * 2 + low i) in
+    let bit : bit_and mask (mask - 1) % 2 ≡ 0 = omega arith in
+    let rest : bit_and mask (mask - 1) / 2 ≡ mask / 2 = omega arith in
     record {
-      there = omega (arith, there);
-      mask = ap (λ k. 2 * mask_of xs / 2 ^ k) (let e : 1 + z + 1 ≡ z + 1 + 1 = omega arith in e) ∙ half_first (2 * mask_of xs) (z + 1) ∙ ap (λ m. m / 2 ^ (z + 1)) half ∙ h.mask ∙ ap (λ k. mask_of (drop k (x ∷ xs))) (sym more);
-      kept = h.kept ∙ sym (λ i. slice_index (x ∷ xs) (one i) ∷ nonzero (drop (more i) (x ∷ xs)));
+      there = omega (arith, zeros);
+      is = ap (λ r. picking x xs r (mask / 2)) odd ∙ (λ i. slice_index (x ∷ xs) (sym zeros i) ∷ picking x xs (sym bit i) (sym rest i));
     }
 
-pub first_kept : (xs : List ℕ) → 0 < mask_of xs → FirstKept xs (mask_of xs) (nonzero xs) (before_kept xs)
-first_kept [] some = absurd (omega (arith, some))
-first_kept (x ∷ xs) some =
-    (elim (x == 0) as (λ b. 0 < (if b then 2 * mask_of xs else 2 * mask_of xs + 1) → FirstKept (x ∷ xs) (if b then 2 * mask_of xs else 2 * mask_of xs + 1) (if b then nonzero xs else x ∷ nonzero xs) (cond (not (not b)) (1 + before_kept xs) 0)) [
-      | true ↦ λ some. kept_later x xs (before_kept xs) (first_kept xs (omega (arith, some)))
-      | false ↦ λ some. record { there = omega arith; mask = omega arith; kept = refl }
-    ]) some
+first_even : (x : ℕ) (xs : List ℕ) (k mask : ℕ) → mask % 2 ≡ 0 → 0 < mask → FirstPicked k (mask / 2) xs → FirstPicked (suc k) mask (x ∷ xs)
+unfolding count_trailing_zeros
+first_even x xs k mask even some first =
+    let z = count_trailing_zeros k (mask / 2) in
+    let zeros : count_trailing_zeros (suc k) mask ≡ suc z = ap (λ r. under r z) even in
+    let half : (mask - 1) / 2 ≡ mask / 2 - 1 = omega arith in
+    let low : min (mask % 2) ((mask - 1) % 2) ≡ 0 = omega arith in
+    let less : bit_and mask (mask - 1) ≡ bit_and (mask / 2) (mask / 2 - 1) * 2 + 0 = and_step mask (mask - 1) ∙ (λ i. bit_and (mask / 2) (half i) * 2 + low i) in
+    let bit : bit_and mask (mask - 1) % 2 ≡ 0 = omega arith in
+    let rest : bit_and mask (mask - 1) / 2 ≡ bit_and (mask / 2) (mask / 2 - 1) = omega arith in
+    record {
+      there = (let there = first.there in omega (arith, zeros, there));
+      is = ap (λ r. picking x xs r (mask / 2)) even ∙ first.is ∙ (λ i. slice_index (x ∷ xs) (sym zeros i) ∷ picking x xs (sym bit i) (sym rest i));
+    }
 
--- where the mask is 0, no number is kept
-pub none_kept : (xs : List ℕ) → mask_of xs ≡ 0 → nonzero xs ≡ []
-none_kept [] none = refl
-none_kept (x ∷ xs) none =
-    (elim (x == 0) as (λ b. (if b then 2 * mask_of xs else 2 * mask_of xs + 1) ≡ 0 → (if b then nonzero xs else x ∷ nonzero xs) ≡ []) [
-      | true ↦ λ e. none_kept xs (omega (arith, e))
-      | false ↦ λ e. absurd (omega (arith, e))
-    ]) none
+pub first_picked : (xs : List ℕ) (k mask : ℕ) → 0 < mask → mask < 2 ^ length xs → length xs ≤ k → FirstPicked k mask xs
+first_picked [] k mask some less le = absurd (omega (arith, some, less))
+first_picked (x ∷ xs) zero mask some less le = absurd (omega (arith, le))
+first_picked (x ∷ xs) (suc k) mask some less le =
+    let two = pow-succ' 2 (length xs) in
+    (elim (cases_lt 0 (mask % 2)) [
+      | inl odd ↦ first_odd x xs k mask (omega arith)
+      | inr even ↦ first_even x xs k mask (omega arith) some (first_picked xs k (mask / 2) (omega arith) (omega (arith, two, less)) (omega (arith, le)))
+    ])
+
+nonzero_less : (xs : List ℕ) → length (nonzero xs) ≤ length xs
+nonzero_less [] = omega arith
+nonzero_less (x ∷ xs) =
+    let less = nonzero_less xs in
+    (elim (x == 0) as (λ b. length (if b then nonzero xs else x ∷ nonzero xs) ≤ suc (length xs)) [
+      | true ↦ omega arith
+      | false ↦ omega arith
+    ])
+
+-- where one more is to come, there is room for it
+pub next_fits : (buffer rest : List ℕ) (end value : ℕ) (r : Registers) → IsRegisters r → length buffer ≡ 33 → end ≤ 33 → take end buffer ++ value ∷ rest ≡ packed r → end < 33
+next_fits buffer rest end value r whole count le is =
+    let numbers = nonzero_less (drop 1 r.words) in
+    omega (arith, ap length is, length-append (take end buffer) (value ∷ rest), length-take end buffer, length-drop 1 r.words, whole.count)
 
 -- ---- unpacking
 

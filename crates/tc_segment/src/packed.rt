@@ -67,16 +67,12 @@ fn pack(regs: &Regs, buffer: &mut [u32; MOST_WORDS]) -> usize
     buffer[0] = regs.pc();
     buffer[1] = mask;
     let mut end = 2;
-    let mut number = 1;
     let mut left = mask;
     while left != 0 {
-        let zeros = left.trailing_zeros();
-        left >>= zeros;
-        left /= 2;
-        number += zeros as usize;
+        let number = left.trailing_zeros() as usize + 1;
+        left &= left - 1;
         buffer[end] = words[number];
         end += 1;
-        number += 1;
     }
     end
 }

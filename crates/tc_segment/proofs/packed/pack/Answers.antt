@@ -1,66 +1,68 @@
-use Rattle.std.proofs.Common.{◌≡◌, ℕ, ◌+◌, ◌/◌, ◌^◌, ◌<◌, ◌∷◌, ◌++◌, List, length, take, drop, set, sym, ap, subst, ◌∙◌, arith, append-nil, length-drop}
+use Rattle.std.proofs.Common.{◌≡◌, ℕ, ◌+◌, ◌-◌, ◌^◌, ◌<◌, ◌≤◌, ◌∷◌, ◌++◌, List, length, take, drop, set, sym, ap, subst, ◌∙◌, arith, append-nil, length-drop, length-set, w32}
 use Rattle.std.specs.Prelude.{slice_index}
 use Rattle.std.specs.Int.{trailing_zeros}
-use Rattle.std.proofs.Common.{w32}
-use Rattle.std.proofs.lemmas.List.{drop-drop, length-set, get_or-drop}
+use Rattle.std.specs.Int.Bits.{bit_and}
+use Rattle.std.proofs.lemmas.List.{length-set, get_or-drop}
+use Rattle.std.proofs.lemmas.Nat.{and_le_r}
+use Rattle.tc_isa.specs.Registers.{Registers, IsRegisters}
 use Rattle.tc_segment.specs.Packed.{mask_of, nonzero, packed}
-use Rattle.tc_segment.proofs.Packing.{zeros_before, FirstKept, first_kept, none_kept, stored, two_front, half_last}
+use Rattle.tc_segment.proofs.Packing.{mask_less, picked, picked_all, picked_none, FirstPicked, first_picked, next_fits, stored, two_front}
 use Rattle.tc_segment.proofs.packed.pack.Goals as goal
 
--- the next number that is kept, where one is
-next : (words : List ℕ) (number left : ℕ) → length words ≡ 32 → 0 < left → left ≡ mask_of (drop number words) → FirstKept (drop number words) (mask_of (drop number words)) (nonzero (drop number words)) (trailing_zeros w32 left)
-next words number left count some is =
-    let xs = drop number words in
-    let more = subst (λ m. 0 < m) is some in
-    let zeros = ap (λ m. trailing_zeros w32 m) is ∙ zeros_before xs (omega (arith, count, length-drop number words)) more in
-    subst (λ z. FirstKept xs (mask_of xs) (nonzero xs) z) (sym zeros) (first_kept xs more)
+-- the next number, where the mask has one
+next : (words : List ℕ) (regs : Registers) (left : ℕ) → words ≡ regs.words → IsRegisters regs → 0 < left → left < 2 ^ 31 → FirstPicked 32 left (drop 1 words)
+next words regs left is whole some less =
+    let count : length (drop 1 words) ≡ 31 = omega (arith, length-drop 1 words, ap length is, whole.count) in
+    first_picked (drop 1 words) 32 left some (subst (λ n. left < 2 ^ n) (sym count) less) (omega (arith, count))
 
 pub loop-left-init : goal.loop-left-init
 loop-left-init c =
     let words = c.words-words.ensures.value in
+    let xs = drop 1 c.words-words.result.now in
+    let mask = c.mask_of-mask.ensures in
+    let count : length xs ≤ 31 = omega (arith, length-drop 1 c.words-words.result.now, ap length words, c.words-words.ensures.kept.count) in
     record {
-      first = omega arith;
-      last = omega arith;
       room = omega arith;
       buffer = length-set (set c.args.buffer.now 0 c.pc.result) 1 c.mask_of-mask.result ∙ length-set c.args.buffer.now 0 c.pc.result ∙ c.told-buffer;
-      mask = c.mask_of-mask.ensures;
-      kept = ap (λ xs. xs ++ nonzero (drop 1 c.words-words.result.now)) (two_front c.args.buffer.now c.pc.result c.mask_of-mask.result (omega (arith, c.told-buffer)))
-          ∙ (λ i. c.pc.ensures.value i ∷ (c.mask_of-mask.ensures ∙ ap (λ xs. mask_of (drop 1 xs)) words) i ∷ nonzero (drop 1 (words i)));
+      mask = (let less = mask_less xs 31 count in omega (arith, less, mask));
+      kept = (λ i. two_front c.args.buffer.now c.pc.result c.mask_of-mask.result (omega (arith, c.told-buffer)) i ++ (ap (λ m. picked m xs) mask ∙ picked_all xs) i)
+          ∙ (λ i. c.pc.ensures.value i ∷ (mask ∙ ap (λ ws. mask_of (drop 1 ws)) words) i ∷ nonzero (drop 1 (words i)));
     }
 
 pub bounds-words-number : goal.bounds-words-number
 bounds-words-number c =
+    let words = c.words-words.result.now in
+    let n = next words c.args.regs.now c.loop-left.left c.words-words.ensures.value c.words-words.ensures.kept (omega (arith, c.loop-left-test.true)) c.loop-left.invariant.mask in
+    let there = n.there in
+    omega (arith, there, length-drop 1 words, ap length c.words-words.ensures.value, c.words-words.ensures.kept.count)
+
+pub bounds-buffer-end : goal.bounds-buffer-end
+bounds-buffer-end c =
     let l = c.loop-left in
     let words = c.words-words.result.now in
-    let count = ap length c.words-words.ensures.value ∙ c.words-words.ensures.kept.count in
-    let n = next words l.number l.left count (omega (arith, c.loop-left-test.true)) l.invariant.mask in
-    omega (arith, n.there, length-drop l.number words, count)
+    let n = next words c.args.regs.now l.left c.words-words.ensures.value c.words-words.ensures.kept (omega (arith, c.loop-left-test.true)) l.invariant.mask in
+    next_fits l.buffer _ l.end _ c.args.regs.now c.words-words.ensures.kept l.invariant.buffer l.invariant.room (sym (ap (λ xs. take l.end l.buffer ++ xs) n.is) ∙ l.invariant.kept)
 
 pub loop-left-preserved : goal.loop-left-preserved
 loop-left-preserved c =
     let l = c.loop-left in
     let words = c.words-words.result.now in
     let z = trailing_zeros w32 l.left in
-    let count = ap length c.words-words.ensures.value ∙ c.words-words.ensures.kept.count in
-    let n = next words l.number l.left count (omega (arith, c.loop-left-test.true)) l.invariant.mask in
-    let there = n.there in
-    let inside : l.number + z < 32 = omega (arith, there, length-drop l.number words, count) in
-    let value : slice_index (drop l.number words) z ≡ slice_index words (l.number + z) = get_or-drop l.number words z 0 in
-    let behind : drop (z + 1) (drop l.number words) ≡ drop (l.number + z + 1) words = drop-drop (z + 1) l.number words ∙ ap (λ k. drop k words) (let e : l.number + (z + 1) ≡ l.number + z + 1 = omega arith in e) in
-    let first = l.invariant.first in
-    let room = l.invariant.room in
+    let rest = bit_and l.left (l.left - 1) in
+    let n = next words c.args.regs.now l.left c.words-words.ensures.value c.words-words.ensures.kept (omega (arith, c.loop-left-test.true)) l.invariant.mask in
+    let value : slice_index (drop 1 words) z ≡ slice_index words (z + 1) = get_or-drop 1 words z 0 ∙ ap (slice_index words) (let e : 1 + z ≡ z + 1 = omega arith in e) in
+    let kept = sym (λ i. take l.end l.buffer ++ (n.is ∙ (λ j. value j ∷ picked rest (drop 1 words))) i) ∙ l.invariant.kept in
+    let fits = next_fits l.buffer _ l.end _ c.args.regs.now c.words-words.ensures.kept l.invariant.buffer l.invariant.room kept in
     record {
-      first = omega (arith, first);
-      last = omega (arith, inside);
-      room = omega (arith, room);
-      buffer = length-set l.buffer l.end (slice_index words (l.number + z)) ∙ l.invariant.buffer;
-      mask = half_last l.left z ∙ ap (λ m. m / 2 ^ (z + 1)) l.invariant.mask ∙ n.mask ∙ ap mask_of behind;
-      kept = stored l.buffer l.end (slice_index words (l.number + z)) (nonzero (drop (l.number + z + 1) words)) (packed c.args.regs.now) (omega (arith, room, inside, l.invariant.buffer))
-          (sym (λ i. take l.end l.buffer ++ (n.kept ∙ (λ j. value j ∷ nonzero (behind j))) i) ∙ l.invariant.kept);
+      room = omega (arith, fits);
+      buffer = length-set l.buffer l.end (slice_index words (z + 1)) ∙ l.invariant.buffer;
+      mask = (let less = and_le_r l.left (l.left - 1) in let h = l.invariant.mask in omega (arith, less, h));
+      kept = stored l.buffer l.end (slice_index words (z + 1)) (picked rest (drop 1 words)) (packed c.args.regs.now) (omega (arith, fits, l.invariant.buffer)) kept;
     }
 
 pub returns-clause-packed : goal.returns-clause-packed
 returns-clause-packed c =
     let l = c.loop-left in
-    let none = none_kept (drop l.number c.words-words.result.now) (sym l.invariant.mask ∙ c.loop-left-test.false) in
-    sym (append-nil (take l.end l.buffer)) ∙ ap (λ xs. take l.end l.buffer ++ xs) (sym none) ∙ l.invariant.kept
+    let xs = drop 1 c.words-words.result.now in
+    let none = ap (λ m. picked m xs) c.loop-left-test.false ∙ picked_none xs in
+    sym (append-nil (take l.end l.buffer)) ∙ (λ i. take l.end l.buffer ++ sym none i) ∙ l.invariant.kept
