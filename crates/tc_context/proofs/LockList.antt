@@ -21,6 +21,10 @@ pub locks_ext : (xs ys : List (Option LockView)) → length xs ≡ length ys →
 locks_ext xs ys e same =
     ext_get_or None xs ys e (λ k lt. sym (ap slot_of (slice_get-get_or xs k None lt)) ∙ same k ∙ ap slot_of (slice_get-get_or ys k None (omega (arith, e, lt))))
 
+-- of no lock, nothing is changed
+pub unchanged : (held : ℕ → Bool) (f : ℕ → LockView → LockView) (locks : List (Option LockView)) → ((k : ℕ) → held k ≡ false) → Changed (λ k l. when_in (held k) (f k) l) locks locks
+unchanged held f locks none k = sym (option_map-id (when_in (held k) (f k)) (lock_in locks k) (λ l. ap (λ b. when_in b (f k) l) (none k)))
+
 -- ---- a walk over a set of locks
 
 -- the changes of the places outside a set: those at which a walk over the set has been

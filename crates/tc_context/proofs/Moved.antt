@@ -31,7 +31,9 @@ use Rattle.tc_exec.specs.Step.{wants_of}
 use Rattle.tc_exec.specs.declared.outcome.Want.{Want}
 use Rattle.tc_turn.specs.Replay.{takes_word, word_of}
 use Rattle.tc_context.specs.Middle.{act_in, noted_when, IsTurn, AreOpen}
-use Rattle.tc_context.proofs.LockList.{when_field}
+use Rattle.tc_exec.specs.declared.outcome.Want.TheVariants.{Nothing}
+use Rattle.std.proofs.Math.Bool.{and-false}
+use Rattle.tc_context.proofs.LockList.{when_field, unchanged}
 use Rattle.tc_segment.proofs.Inside.{guard_has}
 use Rattle.tc_segment.proofs.Words.{noted_nil, noted_more, more_some}
 use Rattle.tc_elf.specs.declared.image.Region.TheVariants as region
@@ -186,6 +188,10 @@ noting_block false b n e h = sym e ∙ h
 
 same_lock : (noting : ℕ → Bool) (wanted : Want) (next : Option ℕ) (answer : ℕ) → Identifies (noted_in noting wanted next answer)
 same_lock noting wanted next answer k l = identifies_when (noting k && takes_word k wanted next) (with_journal (noted (answer ∷ []))) l refl refl
+
+-- where nothing is wanted, nothing is noted
+pub none_noted : (noting : ℕ → Bool) (answer : ℕ) (locks : List (Option LockView)) → Changed (noted_in noting Nothing None answer) locks locks
+none_noted noting answer locks = unchanged (λ k. noting k && false) (λ k. with_journal (noted (answer ∷ []))) locks (λ k. and-false (noting k))
 
 -- a lock whose word is noted is one of the image, and its entry is open as before
 pub noted_lock : (image : Shown) (block noting : ℕ → Bool) (old : Context) (mid : List (Option LockView)) (wanted : Want) (next : Option ℕ) (answer : ℕ) → AreOf image old.locks → AreOpen block old

@@ -1,6 +1,6 @@
 //! A thread with the locks that are in its package, and the blocks that it runs.
 
-ghost use Rattle.std.specs.Prelude.{◌≡◌, ℕ, ◌+◌, ◌<◌, ◌≤◌, ◌^◌, ◌==◌, true, false, is_some, length, Ok, Some, None, IfOk, IfSome, if◌then◌else◌};
+ghost use Rattle.std.specs.Prelude.{◌≡◌, ℕ, ◌+◌, ◌<◌, ◌≤◌, ◌^◌, ◌==◌, true, false, is_some, length, Ok, Err, Some, None, IfOk, IfSome, if◌then◌else◌};
 ghost use Rattle.std.specs.Option.{option_map};
 ghost use Rattle.tc_isa.specs.Sets.{has};
 ghost use Rattle.tc_journal.specs.Batch.{is_section};
@@ -17,16 +17,19 @@ ghost use Rattle.tc_mutex_spec.specs.Blocks.{locks_of_block};
 ghost use Rattle.tc_context.specs.Locks.{lock_in};
 ghost use Rattle.tc_context.specs.Ran.{slept_in, slept_by as slept_of_turn};
 
-use crate::locks::LockSet;
+use crate::locks::{LockSet, is_empty};
 use std::alloc::{AllocError, Global};
 use tc_elf::image::Image;
 use tc_exec::code::{Ahead, Code};
 use tc_exec::outcome::{Call, Done, Want};
+use tc_exec::step::instruction_at;
+use tc_isa::fault::Fault;
 use tc_isa::held::Held;
 use tc_isa::instr::Instr;
 use tc_isa::limits::MAX_TURNS;
 use tc_journal::block::{Block, End, Kind};
 use tc_journal::rule::{Outcome, end_of};
+use tc_segment::packed::Packed;
 use tc_turn::answer::{Surroundings, answer};
 use tc_turn::outcome::outcome_by;
 use tc_turn::thread::GuestThread;
@@ -104,7 +107,13 @@ impl Context {
 
     /// One turn of a block with these locks, whose entries are open, and what it did beside the
     /// registers.
-    fn turn(&mut self, image: &Image, code: &Code, block: Held, ahead: Ahead<'_>) -> Option<Done>
+    fn turn<'a>(
+        &mut self,
+        image: &Image,
+        code: &'a Code,
+        block: Held,
+        ahead: Ahead<'a>,
+    ) -> Option<Done>
         requires code { code.now ≡ image.now }
         requires go { CanGo image.now self.old }
         requires ahead { IsAhead image.now (thread_in self.old) ahead }
@@ -148,12 +157,12 @@ impl Context {
     }
 
     /// A turn that takes no lock.
-    fn other_turn(
+    fn other_turn<'a>(
         &mut self,
         image: &Image,
-        code: &Code,
+        code: &'a Code,
         block: Held,
-        known: Option<&Instr>,
+        known: Option<&'a Instr>,
     ) -> Option<Done>
         requires code { code.now ≡ image.now }
         requires go { CanGo image.now self.old }
@@ -167,13 +176,64 @@ impl Context {
         ensures fits { IfSome result DoneFits }
         ensures turn { IsTurn image.now (has block) self.old self.new }
     {
-        let found = code.instruction(image, self.guest.regs().pc(), known);
-        let want = self.guest.load_wanted(image, &found);
+        let pc = self.guest.regs().pc();
+        let found = match known {
+            Some(instr) => Some(instr),
+            None => code.find(pc),
+        };
+        let mut decoded = Instr::Ecall;
+        let instr = match found {
+            Some(instr) => instr,
+            None => match instruction_at(image, pc) {
+                Ok(instr) => {
+                    decoded = instr;
+                    &decoded
+                }
+                Err(fault) => return self.fault_turn(image, block, fault),
+            },
+        };
+        self.instr_turn(image, block, instr)
+    }
+
+    /// A turn that takes no lock, whose instruction is this.
+    #[inline(always)]
+    fn instr_turn(&mut self, image: &Image, block: Held, instr: &Instr) -> Option<Done>
+        requires go { CanGo image.now self.old }
+        requires next { next_lock image.now (thread_in self.old) ≡ None }
+        requires instr { instruction_at image.now self.old.guest.regs.pc ≡ Ok instr.now }
+        requires covers { Covers image.now (has block) (thread_in self.old) }
+        requires opened { AreOpen (has block) self.old }
+        requires room { HasRoom 1 (has block) self.old }
+        ensures done { result ≡ option_map done_of (act_in image.now self.old) }
+        ensures fits { IfSome result DoneFits }
+        ensures turn { IsTurn image.now (has block) self.old self.new }
+    {
+        let want = self.guest.load_wanted(image, instr);
         let answer = answer(self, image, want, None);
         let noting = self.noting(block);
         self.locks.note(noting, want, None, answer);
         let held = self.guest.held();
-        let done = self.guest.turn(image, &found, want, answer);
+        let done = self.guest.turn(image, instr, want, answer);
+        self.locks.take_turn(held, &done);
+        done
+    }
+
+    /// A turn at a place where there is no instruction.
+    #[cold]
+    #[inline(never)]
+    fn fault_turn(&mut self, image: &Image, block: Held, fault: Fault) -> Option<Done>
+        requires go { CanGo image.now self.old }
+        requires next { next_lock image.now (thread_in self.old) ≡ None }
+        requires fault { instruction_at image.now self.old.guest.regs.pc ≡ Err fault }
+        requires covers { Covers image.now (has block) (thread_in self.old) }
+        requires opened { AreOpen (has block) self.old }
+        requires room { HasRoom 1 (has block) self.old }
+        ensures done { result ≡ option_map done_of (act_in image.now self.old) }
+        ensures fits { IfSome result DoneFits }
+        ensures turn { IsTurn image.now (has block) self.old self.new }
+    {
+        let held = self.guest.held();
+        let done = self.guest.fault(image, fault);
         self.locks.take_turn(held, &done);
         done
     }
@@ -196,11 +256,12 @@ impl Context {
         ensures most { result.count ≤ most }
         ensures ahead { IsAhead image.now (thread_in self.new) result.ahead }
     {
-        let loads = notes_nothing(block);
+        // No journal notes what a block without locks loads.
+        let loads = is_empty(block);
         if ahead.lock.is_some() || !may_be_own(ahead.instr, loads) {
             return OwnSteps { count: 0, ahead };
         }
-        let own = self.guest.run_own(image, code, most, loads);
+        let own = self.guest.run_own(image, code, ahead.instr, most, loads);
         if own.count == 0 {
             let instr = own.stop;
             let ahead = Ahead { lock: None, instr };
@@ -259,13 +320,15 @@ impl Context {
     }
 
     /// Runs one block, with an entry in the journal of each of its locks. `takes` is the lock that
-    /// its first turn takes. The block has no stamp and no worker yet.
+    /// its first turn takes. The block has no stamp and no worker yet. `edge` is where registers are
+    /// packed.
     pub(crate) fn run_block(
         &mut self,
         image: &Image,
         code: &Code,
         kind: Kind,
         takes: Option<u32>,
+        edge: &mut Packed,
     ) -> Ran
         requires code { code.now ≡ image.now }
         requires go { CanGo image.now self.old }
@@ -285,8 +348,9 @@ impl Context {
         let thread = self.thread;
         prove!(held.bits() <= u32::MAX);
         prove!(thread <= u32::MAX);
+        let fuel = self.guest.fuel();
         self.locks
-            .open_entries(held, self.guest.regs(), self.guest.fuel());
+            .open_entries(held, edge, self.guest.regs(), fuel);
         let pc = self.guest.regs().pc();
         let turns = self.turns(image, code, held, takes);
         let block = Block {
@@ -300,7 +364,7 @@ impl Context {
             end: turns.end,
         };
         self.locks
-            .close_entries(image, held, &block, self.guest.regs());
+            .close_entries(image, held, &block, edge, self.guest.regs());
         Ran {
             block,
             slept: turns.slept,
@@ -333,13 +397,6 @@ impl Surroundings for Context {
             None => false,
         }
     }
-}
-
-/// Whether a block has no lock, so that no journal notes what it loads.
-fn notes_nothing(block: Held) -> bool
-    ensures { result ≡ true → (k : ℕ) → has block k ≡ false }
-{
-    block == Held::none()
 }
 
 /// Whether the next turn may be one that touches the thread's own memory alone, by its instruction

@@ -19,6 +19,7 @@ use tc_isa::held::Held;
 use tc_isa::limits::MAX_TURNS;
 use tc_isa::regs::Regs;
 use tc_journal::block::Block;
+use tc_segment::packed::Packed;
 use tc_segment::state::LockState;
 
 const PLACES: u32 = 32;
@@ -133,7 +134,7 @@ impl LockSet {
         }
     }
 
-    fn open_one(&mut self, lock: u32, held: Held, start: &Regs, fuel: u32)
+    fn open_one(&mut self, lock: u32, held: Held, start: &Packed, fuel: u32)
         requires lock { lock < 32 }
         requires opened { HeldAt lock (has held) (λ l. l.journal.opened ≡ None) self.old }
         requires closed { HeldAt lock (has held) (λ l. l.journal.closed ≡ None) self.old }
@@ -142,13 +143,12 @@ impl LockSet {
     {
         if let Some(state) = &mut self.places[lock as usize] {
             if held.has(lock) {
-                state.open_entry(start, fuel);
+                state.open_packed(start, fuel);
             }
         }
     }
 
-    /// Opens an entry in each of these locks.
-    pub fn open_entries(&mut self, held: Held, start: &Regs, fuel: u32)
+    fn open_each(&mut self, held: Held, start: &Packed, fuel: u32)
         requires opened { EachHeld (has held) (λ l. l.journal.opened ≡ None) self.old }
         requires closed { EachHeld (has held) (λ l. l.journal.closed ≡ None) self.old }
         requires room { EachHeld (has held) (λ l. 0 < l.journal.entry_room) self.old }
@@ -158,6 +158,20 @@ impl LockSet {
         while let Some(lock) = left.least() {
             self.open_one(lock, held, start, fuel);
             left = left.less(lock);
+        }
+    }
+
+    /// Opens an entry in each of these locks. The registers are packed once for all of them, in
+    /// `edge`, and not at all where there is no lock.
+    pub fn open_entries(&mut self, held: Held, edge: &mut Packed, start: &Regs, fuel: u32)
+        requires opened { EachHeld (has held) (λ l. l.journal.opened ≡ None) self.old }
+        requires closed { EachHeld (has held) (λ l. l.journal.closed ≡ None) self.old }
+        requires room { EachHeld (has held) (λ l. 0 < l.journal.entry_room) self.old }
+        ensures { Changed (opened_in (has held) start.now fuel) self.old self.new }
+    {
+        if !is_empty(held) {
+            edge.set(start);
+            self.open_each(held, edge, fuel);
         }
     }
 
@@ -175,6 +189,7 @@ impl LockSet {
     }
 
     /// As `note`, with a look at each lock.
+    #[inline(always)]
     pub(crate) fn note_each(&mut self, held: Held, want: Want, next: Option<u32>, value: u32)
         requires opened { EachHeld (has held) (λ l. is_some l.journal.opened ≡ true) self.old }
         requires room { EachHeld (has held) (λ l. 0 < l.journal.word_room) self.old }
@@ -198,7 +213,7 @@ impl LockSet {
         }
     }
 
-    fn close_one(&mut self, image: &Image, lock: u32, held: Held, block: &Block, finish: &Regs)
+    fn close_one(&mut self, image: &Image, lock: u32, held: Held, block: &Block, finish: &Packed)
         requires lock { lock < 32 }
         requires image { HeldAt lock (has held) (λ l. l.journal.image ≡ image.now) self.old }
         requires opened { HeldAt lock (has held) (λ l. is_some l.journal.opened ≡ true) self.old }
@@ -208,13 +223,12 @@ impl LockSet {
     {
         if let Some(state) = &mut self.places[lock as usize] {
             if held.has(lock) {
-                state.close_entry(image, block, finish);
+                state.close_packed(image, block, finish);
             }
         }
     }
 
-    /// Closes the entry of each of these locks.
-    pub fn close_entries(&mut self, image: &Image, held: Held, block: &Block, finish: &Regs)
+    fn close_each(&mut self, image: &Image, held: Held, block: &Block, finish: &Packed)
         requires image { EachHeld (has held) (λ l. l.journal.image ≡ image.now) self.old }
         requires opened { EachHeld (has held) (λ l. is_some l.journal.opened ≡ true) self.old }
         requires closes { EachHeld (has held) (ClosesWith block.now finish.now) self.old }
@@ -224,6 +238,26 @@ impl LockSet {
         while let Some(lock) = left.least() {
             self.close_one(image, lock, held, block, finish);
             left = left.less(lock);
+        }
+    }
+
+    /// Closes the entry of each of these locks. The registers are packed as in `open_entries`.
+    pub fn close_entries(
+        &mut self,
+        image: &Image,
+        held: Held,
+        block: &Block,
+        edge: &mut Packed,
+        finish: &Regs,
+    )
+        requires image { EachHeld (has held) (λ l. l.journal.image ≡ image.now) self.old }
+        requires opened { EachHeld (has held) (λ l. is_some l.journal.opened ≡ true) self.old }
+        requires closes { EachHeld (has held) (ClosesWith block.now finish.now) self.old }
+        ensures { Changed (closed_in (has held) block.now finish.now) self.old self.new }
+    {
+        if !is_empty(held) {
+            edge.set(finish);
+            self.close_each(image, held, block, edge);
         }
     }
 
@@ -312,6 +346,13 @@ impl LockSet {
             Region::Text | Region::Private | Region::Stack | Region::Nothing => {}
         }
     }
+}
+
+/// Whether there is no lock in a set.
+pub(crate) fn is_empty(held: Held) -> bool
+    ensures { result ≡ true → (k : ℕ) → has held k ≡ false }
+{
+    held == Held::none()
 }
 
 /// Whether the value of a turn may come from elsewhere for a lock.

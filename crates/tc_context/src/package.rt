@@ -27,6 +27,7 @@ use tc_exec::code::Code;
 use tc_isa::held::Held;
 use tc_isa::regs::Regs;
 use tc_journal::block::{Block, End, Kind};
+use tc_segment::packed::Packed;
 use tc_segment::state::LockState;
 use tc_turn::status::Status;
 use tc_turn::thread::GuestThread;
@@ -64,6 +65,8 @@ struct Contents {
     numbers: [u64; 32],
     turns: u64,
     slept: u32,
+    // Where registers are packed for the journals of a block's locks.
+    edge: Packed,
 }
 
 /// A thread's whole context.
@@ -229,6 +232,7 @@ impl Package {
             numbers: [0; 32],
             turns: 0,
             slept: 0,
+            edge: Packed::new(),
         };
         Ok(Package {
             contents: Box::new(alloc, contents)?,
@@ -284,13 +288,10 @@ impl Package {
         let contents = &mut *self.contents;
         let ran = contents
             .context
-            .run_block(image, &contents.code, kind, contents.next);
+            .run_block(image, &contents.code, kind, contents.next, &mut contents.edge);
         contents.context.locks.bound();
         let block = &ran.block;
-        match contents.log.push(*block) {
-            Ok(()) => {}
-            Err(_) => unreachable!(),
-        }
+        contents.log.push_reserved(*block);
         contents.log_room -= 1;
         contents.granted = None;
         contents.pending = true;

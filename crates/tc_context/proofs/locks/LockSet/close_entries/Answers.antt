@@ -1,11 +1,8 @@
-use Rattle.std.proofs.Common.{◌∙◌, sym}
+use Rattle.std.proofs.Common.{sym, subst}
 use Rattle.tc_isa.specs.Sets.{has}
-use Rattle.tc_context.specs.Locks.{closed_in}
-use Rattle.tc_context.proofs.LockList.{outside_here}
+use Rattle.tc_segment.specs.View.{ClosesWith}
+use Rattle.tc_context.specs.Locks.{EachHeld}
 use Rattle.tc_context.proofs.locks.LockSet.close_entries.Goals as goal
 
-pub close_one-requires-clause-closes : goal.close_one-requires-clause-closes
-close_one-requires-clause-closes c = λ l found.
-    let f = closed_in (has c.args.held) c.args.block.now c.args.finish.now in
-    c.requires.closes c.in-Some.lock l
-    (sym (outside_here (has c.loop-lock.left) f c.in-Some.lock c.args.self.now c.loop-lock.self c.in-Some.ensures.value.0 c.loop-lock.invariant) ∙ found)
+pub close_each-requires-clause-closes : goal.close_each-requires-clause-closes
+close_each-requires-clause-closes c = subst (λ r. EachHeld (has c.args.held) (ClosesWith c.args.block.now r) c.args.self.now) (sym c.set.ensures) c.requires.closes

@@ -8,8 +8,8 @@ use Rattle.tc_context.proofs.LockList.{place_is, changed_place}
 use Rattle.tc_context.proofs.locks.LockSet.close_one.Goals.{in-Some+then-has, in-Some+else-has, in_default}
 use Rattle.tc_context.proofs.locks.LockSet.close_one.Goals as goal
 
-pub close_entry-requires-clause-closes : goal.close_entry-requires-clause-closes
-close_entry-requires-clause-closes c =
+pub close_packed-requires-clause-closes : goal.close_packed-requires-clause-closes
+close_packed-requires-clause-closes c =
     c.requires.closes c.in-Some.state
     (ap (λ s. lock_in s c.args.lock) (sym c.self.view_is) ∙ place_is c.self.inside.places.items c.args.lock c.index_mut.result.now (omega (arith, c.requires.lock, c.self.invariant)) c.index_mut.ensures.value ∙ c.in-Some.is)
     (sym c.has.ensures ∙ c.if-has.true)
@@ -23,7 +23,7 @@ returns c = λ k.
     let f : LockView → LockView = closed_in (has c.args.held) c.args.block.now c.args.finish.now n in
     (elim c.match-index_mut.branch [
       | in-Some+then-has w ↦ ap (λ x. lock_in x.places.items k) w.self-inside-is
-          ∙ changed_place f items n c.index_mut.result.now _ lt c.index_mut.ensures.value (ap Some (w.close_entry.ensures ∙ sym (ap (λ v. when_in v g w.in-Some.state) (sym w.has.ensures ∙ w.if-has.true))) ∙ ap (option_map f) (sym w.in-Some.is)) k
+          ∙ changed_place f items n c.index_mut.result.now _ lt c.index_mut.ensures.value (ap Some (w.close_packed.ensures ∙ sym (ap (λ v. when_in v g w.in-Some.state) (sym w.has.ensures ∙ w.if-has.true))) ∙ ap (option_map f) (sym w.in-Some.is)) k
       | in-Some+else-has w ↦ ap (λ x. lock_in x.places.items k) w.self-inside-is
           ∙ changed_place f items n c.index_mut.result.now _ lt c.index_mut.ensures.value (ap Some (sym (ap (λ v. when_in v g w.in-Some.state) (sym w.has.ensures ∙ w.if-has.false))) ∙ ap (option_map f) (sym w.in-Some.is)) k
       | in_default w ↦ ap (λ x. lock_in x.places.items k) w.self-inside-is

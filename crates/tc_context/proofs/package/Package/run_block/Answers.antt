@@ -33,12 +33,12 @@ invariant_of-self c =
     let e = ran.ensures in
     let kind = e.kind ∙ c.next_kind-kind.ensures ∙ ap (λ (v : PackageView). kind_of v.granted v.log) (sym s.is) in
     record {
-      sound = ran_sound image p may ran.new.self ran.result.block c.push.new.self.items ran.result.slept c.bound.ensures.places e.runs e.journals e.thread kind c.in-Ok.ensures.items;
+      sound = ran_sound image p may ran.new.self ran.result.block c.push_reserved.new.self.items ran.result.slept c.bound.ensures.places e.runs e.journals e.thread kind c.push_reserved.ensures.items;
       code = s.kept.code;
       next = e.next ∙ ap (λ x. next_lock x (thread_in ran.new.self)) (sym may.is);
       present = λ k. e.runs.keeps.set k ∙ s.kept.present k;
-      pending = pending_shown image p may ran.new.self ran.result.block c.push.new.self.items ran.result.slept c.bound.ensures.places e.runs e.journals e.thread kind c.in-Ok.ensures.items;
-      log = (let h = s.kept.log in omega (arith, room, c.in-Ok.ensures.len, c.in-Ok.ensures.capacity));
+      pending = pending_shown image p may ran.new.self ran.result.block c.push_reserved.new.self.items ran.result.slept c.bound.ensures.places e.runs e.journals e.thread kind c.push_reserved.ensures.items;
+      log = (let h = s.kept.log in omega (arith, room, c.push_reserved.ensures.len, c.push_reserved.ensures.capacity));
     }
 
 pub returns-clause-ran : goal.returns-clause-ran
@@ -50,4 +50,4 @@ returns-clause-ran c =
     let ran = c.run_block-ran in
     let e = ran.ensures in
     let kind = e.kind ∙ c.next_kind-kind.ensures ∙ ap (λ (v : PackageView). kind_of v.granted v.log) (sym s.is) in
-    did_run image p may ran.new.self ran.result.block c.push.new.self.items ran.result.slept c.bound.ensures.places e.runs e.journals e.thread kind c.in-Ok.ensures.items _ s.is e.pc e.bounds e.slept
+    did_run image p may ran.new.self ran.result.block c.push_reserved.new.self.items ran.result.slept c.bound.ensures.places e.runs e.journals e.thread kind c.push_reserved.ensures.items _ s.is e.pc e.bounds e.slept

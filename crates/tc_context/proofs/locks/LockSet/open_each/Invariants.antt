@@ -1,7 +1,7 @@
 use Rattle.tc_isa.specs.Sets.{has}
 use Rattle.tc_context.specs.Locks.{Changed, opened_in}
 use Rattle.tc_context.proofs.LockList.{outside}
-use Rattle.tc_context.proofs.locks.LockSet.open_entries.Given as goal
+use Rattle.tc_context.proofs.locks.LockSet.open_each.Given as goal
 
 abbrev pub invariant-loop-lock : goal.invariant-loop-lock
 invariant-loop-lock l = Changed (outside (has l.left) (opened_in (has l.held) l.start l.fuel)) l.fn.self l.self

@@ -8,7 +8,7 @@ use Rattle.tc_context.specs.Locks.{turned, TurnReady, TurnFits, Changed}
 use Rattle.tc_context.specs.Whole.{thread_in, mutex_at, journal_in}
 use Rattle.tc_context.specs.Middle.{act_in}
 use Rattle.tc_context.proofs.Moved.{turn_ready, turn_fits, noting_block, noted_lock, turn_from}
-use Rattle.tc_context.proofs.context.Context.other_turn.Goals as goal
+use Rattle.tc_context.proofs.context.Context.instr_turn.Goals as goal
 
 pub note-requires : goal.note-requires
 note-requires c =
