@@ -1,6 +1,6 @@
 //! The text of a report.
 
-ghost use Rattle.std.specs.Prelude.{◌≡◌, ◌+◌, ◌*◌, ◌<◌, ◌≤◌, ◌++◌, IfOk, OnOk, length, string_bytes};
+ghost use Rattle.std.specs.Prelude.{◌≡◌, ◌+◌, ◌*◌, ◌<◌, ◌≤◌, ◌++◌, IfOk, OnOk, length, map, string_bytes};
 ghost use Rattle.tc_journal.specs.Digits.{hex2, hex8};
 ghost use Rattle.tc_journal.specs.Line.{history_text};
 ghost use Rattle.tc_main.specs.Legal.{results_after};
@@ -15,7 +15,7 @@ use tc_isa::reg::Reg;
 use tc_isa::regs::Regs;
 use tc_journal::block::Block;
 use tc_journal::digits::{Hex2, Hex8};
-use tc_journal::line::push_history;
+use tc_journal::line::push_lent;
 use tc_segment::state::LockState;
 use tc_turn::status::Status;
 use tc_workers::options::Options;
@@ -249,7 +249,7 @@ fn tail_room(packages: &[Package], locks: &[LockState]) -> usize {
 
 /// The room for a report that ends with this text, in bytes. No report of a run is longer; a longer
 /// one would grow.
-fn report_room(history: &[Block], tail: &str) -> usize {
+fn report_room(history: &[&Block], tail: &str) -> usize {
     history
         .len()
         .saturating_mul(BLOCK_ROOM)
@@ -281,19 +281,26 @@ pub(crate) fn report_with(
     alloc: Global,
     image: &Image,
     options: Options,
-    history: &[Block],
+    history: &[&Block],
     tail: &str,
 ) -> Result<Vec<u8>, AllocError>
-    ensures { IfOk result (λ out. out.items
-        ≡ text.head_text image.now options ++ history_text history.now ++ tail.now) }
+    ensures { IfOk result (λ out. out.items ≡ text.head_text image.now options
+        ++ history_text (map (λ b. b.now) history.now) ++ tail.now) }
 {
     let mut out = String::with_capacity(alloc, report_room(history, tail))?;
     out.push_str("tclocks 2\n")?;
     push_guest(&mut out, image.threads(), image.guards())?;
     push_run(&mut out, options)?;
-    push_history(&mut out, history)?;
+    push_lent(&mut out, history)?;
     out.push_str(tail)?;
     Ok(out.into_bytes())
+}
+
+/// Blocks, where they stand.
+fn lent(alloc: Global, history: &[Block]) -> Result<Vec<&Block>, AllocError>
+    ensures { IfOk result (λ blocks. map (λ b. b.now) blocks.items ≡ history.now) }
+{
+    history.iter().collect(alloc)
 }
 
 /// The report of a run to the end of every thread: its text, line by line, over the blocks of the
@@ -313,5 +320,6 @@ pub fn report(
         (results_after image.now options.fuel history.now)) }
 {
     let tail = tail_of(alloc, image, packages, locks)?;
-    report_with(alloc, image, options, history, &tail)
+    let blocks = lent(alloc, history)?;
+    report_with(alloc, image, options, &blocks, &tail)
 }

@@ -17,7 +17,7 @@ use tc_context::package::Package;
 use tc_elf::image::Image;
 use tc_hall::closed::Closed;
 use tc_journal::block::Block;
-use tc_journal::history::merge_lent;
+use tc_journal::history::{in_order, merge_lent};
 use tc_segment::state::LockState;
 use tc_workers::gate::Gate;
 use tc_workers::options::Options;
@@ -51,6 +51,17 @@ fn history_of(alloc: Global, packages: &[Package]) -> Result<Vec<Block>, AllocEr
 {
     let logs = logs_in(alloc, packages)?;
     merge_lent(alloc, &logs)
+}
+
+/// The blocks of all packages, where they stand, in the order of their stamps.
+fn history_in(alloc: Global, packages: &[Package]) -> Result<Vec<&Block>, AllocError>
+    requires { HasEachStamp (logs_of packages.now) }
+    ensures blocks { IfOk result (λ history.
+        IsPermutation (logs_of packages.now) (map (λ b. b.now) history.items)) }
+    ensures order { IfOk result (λ history. IsInOrder (map (λ b. b.now) history.items)) }
+{
+    let logs = logs_in(alloc, packages)?;
+    in_order(alloc, &logs)
 }
 
 /// Runs the guest until each thread has ended, and shows what the lock states keep.
@@ -96,8 +107,8 @@ pub(crate) fn run_whole<R: Threads + Wait + Sync, G: Gate>(
 
 /// Runs the guest, and answers the report of the run. It is made of the hall that the workers left,
 /// once each of them has ended. What threads and locks came to is written first, so that the lock
-/// states with their journals are gone before the logs are merged, and the packages with their logs
-/// before the text is made whole.
+/// states with their journals are gone before the blocks are put in order. The packages stay until
+/// the report is written: the blocks are read in their logs, and are not copied.
 pub fn run_report<R: Threads + Wait + Sync, G: Gate>(
     rt: &R,
     alloc: Global,
@@ -111,7 +122,6 @@ pub fn run_report<R: Threads + Wait + Sync, G: Gate>(
     let (packages, locks) = closed.into_parts();
     let tail = tail_of(alloc, image, &packages, &locks)?;
     drop(locks);
-    let history = history_of(alloc, &packages)?;
-    drop(packages);
+    let history = history_in(alloc, &packages)?;
     report_with(alloc, image, options, &history, &tail)
 }
