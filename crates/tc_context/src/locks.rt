@@ -315,6 +315,7 @@ impl LockSet {
     }
 
     /// Each lock after a turn that did this, of a thread that held these locks before it.
+    #[inline(always)]
     pub fn take_turn(&mut self, held: Held, done: &Option<Done>)
         requires fits { TurnFits done.now }
         requires ready { EachLock (TurnReady (has held) done.now) self.old }

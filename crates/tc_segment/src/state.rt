@@ -270,10 +270,7 @@ impl LockState {
         ensures { self.new ≡ with_journal (noted (value ∷ [])) self.old }
     {
         let contents = &mut *self.contents;
-        match contents.words.push(value) {
-            Ok(()) => {}
-            Err(_) => unreachable!(),
-        }
+        contents.words.push_reserved(value);
         contents.word_room -= 1;
     }
 
@@ -331,10 +328,7 @@ impl LockState {
             from: opening.from,
             to: contents.words.len() as u32,
         };
-        match contents.records.push(record) {
-            Ok(()) => {}
-            Err(_) => unreachable!(),
-        }
+        contents.records.push_reserved(record);
         contents.opened = None;
         contents.broken = broken;
     }

@@ -42,7 +42,7 @@ returns c =
     let block = c.args.block.now in
     let finish = c.args.end.now in
     let place = c.place_of-finish.ensures in
-    let j = closed_view a _ _ c.in-Some.opening block finish _ _ kept c.in-Some.is place.more place.place (c.len.ensures ∙ a.words.ok.0) c.in-Ok.ensures.items in
+    let j = closed_view a _ _ c.in-Some.opening block finish _ _ kept c.in-Some.is place.more place.place (c.len.ensures ∙ a.words.ok.0) c.push_reserved.ensures.items in
     (λ i. record { number = a.number; bytes = a.bytes.items; broken = c.broken_after-broken.ensures i; sections = a.sections; journal = j i })
     ∙ ap (λ (l : LockView). with_end block.end (with_journal (closed_with block finish) l)) shows
 
@@ -61,16 +61,16 @@ invariant_of-self-2 c =
     let p = shown_open (replayed a.of.value a.number (mutex_at_start a.of.value a.number) old) a.edges.words a.words.items o in
     let was : (view_of a).journal.opened ≡ Some p = ap (option_map (shown_open (replayed a.of.value a.number (mutex_at_start a.of.value a.number) old) a.edges.words a.words.items)) c.in-Some.is in
     let closes : Closes (view_of a) block finish p = subst (λ (l : LockView). ClosesWith block finish l) (sym shows) c.requires.closes p was in
-    let j = closed_view a _ _ o block finish _ _ k c.in-Some.is place.more place.place to c.in-Ok.ensures.items in
+    let j = closed_view a _ _ o block finish _ _ k c.in-Some.is place.more place.place to c.push_reserved.ensures.items in
     let none = none_closed a.sealed old (let h = k.sealed in omega (arith, length-map a.records.items (shown a.edges.words a.words.items))) (k.sound.alone (was_open a o c.in-Some.is)) in
     let len = length-map a.records.items (shown a.edges.words a.words.items) in
     let fits : OpenFits a.edges.words a.words.items (Some o) = subst (λ x. OpenFits a.edges.words a.words.items x) c.in-Some.is k.opened in
     let start = fits.0 in
     let from = fits.1 in
     let one : count a.opened ≡ 1 = ap (λ (x : Option Opening). count x) c.in-Some.is in
-    let items = c.in-Ok.ensures.items in
+    let items = c.push_reserved.ensures.items in
     let r = record_of block o c.place_of-finish.result c.len.result in
-    let grown : length c.push.new.self.items ≡ length a.records.items + 1 = ap length items ∙ length-append a.records.items (r ∷ []) in
+    let grown : length c.push_reserved.new.self.items ≡ length a.records.items + 1 = ap length items ∙ length-append a.records.items (r ∷ []) in
     let blocks = ap (λ (x : Journal). run_of a.number (map block_in x.sealed)) (sym j) in
     record {
       sound = subst (λ (l : LockView). IsSoundLock l) (λ i. record { number = a.number; bytes = a.bytes.items; broken = sym c.broken_after-broken.ensures i; sections = a.sections; journal = sym j i }) (sound_closed block finish (view_of a) p k.sound was closes);
@@ -83,7 +83,7 @@ invariant_of-self-2 c =
       opened = tt;
       run = k.run ∙ blocks;
       short = k.short;
-      entry_room = (let h = k.entry_room in omega (arith, one, c.in-Ok.ensures.len, c.in-Ok.ensures.capacity));
+      entry_room = (let h = k.entry_room in omega (arith, one, c.push_reserved.ensures.len, c.push_reserved.ensures.capacity));
       edge_room = (let h = k.edge_room in let less = place.room in omega (arith, one));
       word_room = k.word_room;
       word_places = k.word_places;

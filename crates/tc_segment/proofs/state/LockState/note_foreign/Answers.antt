@@ -20,7 +20,7 @@ pub returns : goal.returns
 returns c =
     let shows = ap view_of c.deref_mut-contents.ensures.value ∙ c.self.view_is in
     let kept = subst KeptLock (sym c.deref_mut-contents.ensures.value) c.self.invariant in
-    noted_view c.deref_mut-contents.result.now _ c.args.value kept (ap (λ (l : LockView). is_some l.journal.opened) shows ∙ c.requires.opened) c.in-Ok.ensures.items
+    noted_view c.deref_mut-contents.result.now _ c.args.value kept (ap (λ (l : LockView). is_some l.journal.opened) shows ∙ c.requires.opened) c.push_reserved.ensures.items
     ∙ ap (with_journal (noted (c.args.value ∷ []))) shows
 
 pub invariant_of-self : goal.invariant_of-self
@@ -29,7 +29,7 @@ invariant_of-self c =
     let kept = subst KeptLock (sym c.deref_mut-contents.ensures.value) c.self.invariant in
     let a = c.deref_mut-contents.result.now in
     let k = kept in
-    let items = c.in-Ok.ensures.items in
+    let items = c.push_reserved.ensures.items in
     let was = ap (λ (l : LockView). is_some l.journal.opened) shows ∙ c.requires.opened in
     let view = noted_view a _ c.args.value k was items in
     let room : 0 < a.word_room = subst (λ (l : LockView). 0 < l.journal.word_room) (sym shows) c.requires.room in
@@ -45,6 +45,6 @@ invariant_of-self c =
       short = k.short;
       entry_room = k.entry_room;
       edge_room = k.edge_room;
-      word_room = omega (arith, c.in-Ok.ensures.len, c.in-Ok.ensures.capacity);
-      word_places = (let places = k.word_places in omega (arith, c.in-Ok.ensures.len));
+      word_room = omega (arith, c.push_reserved.ensures.len, c.push_reserved.ensures.capacity);
+      word_places = (let places = k.word_places in omega (arith, c.push_reserved.ensures.len));
     }
