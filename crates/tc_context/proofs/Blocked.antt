@@ -1,15 +1,10 @@
 -- A whole block: from journals at rest to journals with an entry more.
 use Rattle.std.proofs.Common.{◌≡◌, ℕ, ◌≤◌, arith, Bool, true, false, ◌||◌, List, refl, sym, ap, subst, ◌∙◌}
 use Rattle.std.specs.Prelude.{Option, Some, None, is_some, if◌then◌else◌}
-use Rattle.std.specs.Option.{option_map}
-use Rattle.tc_isa.specs.Sets.{has}
+use Rattle.tc_context.proofs.Vocabulary.{option_map, has, Shown, is_section, ends_thread, Block, Thread, Mutex, next_lock, LockView, Journal, Opened, Closes, lock_of, with_end, with_journal, opened_at, noted, entry_from, closed_with, lock_in, mutex_of, mutex_or, when_in, Changed, opened_in, closed_in, Context, thread_in, mutex_at, whole, set_of, journal_in, journal_at, Keeps, CanGo, RunsAs, block_locks, entry_of, with_entry, entered, Journals, noted_when, words_of, AreOpen, HasRoom, AreReady, AreNoted}
 use Rattle.tc_isa.specs.Registers.{Registers}
-use Rattle.tc_elf.specs.Shown.{Shown}
-use Rattle.tc_journal.specs.Batch.{is_section, ends_thread}
 use Rattle.tc_journal.specs.declared.block.End.{End}
 use Rattle.tc_journal.specs.declared.block.Kind.{Kind}
-use Rattle.tc_journal.specs.declared.block.Block.{Block}
-use Rattle.tc_turn.specs.Turn.{Thread, Mutex, next_lock}
 use Rattle.tc_turn.specs.Reads.{Covers}
 use Rattle.tc_turn.specs.Replay.{Entry, Replays, replay_entry, ended, unowned}
 use Rattle.tc_mutex_spec.specs.Machine.{State}
@@ -17,11 +12,6 @@ use Rattle.tc_mutex_spec.specs.Locality.{Agree, Apart}
 use Rattle.tc_mutex_spec.specs.Blocks.{locks_of_block, reach, Runs}
 use Rattle.tc_mutex_spec.proofs.Local.{agree_at, apart_at, covers_at}
 use Rattle.tc_mutex_spec.proofs.BlocksAlike.{covers_block}
-use Rattle.tc_segment.specs.View.{LockView, Journal, Opened, Closes, lock_of, with_end, with_journal, opened_at, noted, entry_from, closed_with}
-use Rattle.tc_context.specs.Locks.{lock_in, mutex_of, mutex_or, when_in, Changed, opened_in, closed_in}
-use Rattle.tc_context.specs.declared.context.Context.{Context}
-use Rattle.tc_context.specs.Whole.{thread_in, mutex_at, whole, set_of, journal_in, journal_at, Keeps, CanGo, RunsAs, block_locks, entry_of, with_entry, entered, Journals}
-use Rattle.tc_context.specs.Middle.{noted_when, words_of, AreOpen, HasRoom, AreReady, AreNoted}
 use Rattle.tc_context.specs.Ran.{slept_at}
 use Rattle.tc_context.proofs.LockList.{when_field, with_locks}
 use Rattle.tc_context.proofs.Moved.{identifies_when, keeps_changed, journals_changed, mutexes_same}

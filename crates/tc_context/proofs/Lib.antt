@@ -1,5 +1,5 @@
+pub mod Vocabulary
 pub mod LockList
-pub mod Few
 pub mod Moved
 pub mod Partway
 pub mod Blocked

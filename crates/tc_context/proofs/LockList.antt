@@ -1,11 +1,8 @@
 -- A package's lock states after a change of each of them.
 use Rattle.std.proofs.Common.{◌≡◌, ℕ, arith, get_or, set, ◌<◌, Bool, true, false, not, ◌==◌, List, length, refl, sym, ap, ◌∙◌, inl, inr}
 use Rattle.std.specs.Prelude.{Option, Some, None, slice_get, if◌then◌else◌}
-use Rattle.std.specs.Option.{option_map}
+use Rattle.tc_context.proofs.Vocabulary.{option_map, LockView, Context, slot_of, lock_in, when_in, Changed, at_place}
 use Rattle.std.proofs.lemmas.Bool.Decides.{eqb_tells}
-use Rattle.tc_segment.specs.View.{LockView}
-use Rattle.tc_context.specs.declared.context.Context.{Context}
-use Rattle.tc_context.specs.Locks.{slot_of, lock_in, when_in, Changed, at_place}
 use Rattle.tc_mutex_spec.proofs.ListLaws.{get-set}
 use Rattle.tc_mutex_spec.proofs.OptionLaws.{option_map-id}
 use Rattle.std.proofs.lemmas.List.{ext_get_or}

@@ -1,9 +1,7 @@
 -- One turn of a package: what its thread and its locks are after it, and the words that its journals note.
 use Rattle.std.proofs.Common.{◌≡◌, ℕ, ◌≤◌, Bool, true, false, not, ◌||◌, ◌&&◌, ◌==◌, List, length, refl, sym, ap, subst, ◌∙◌, arith, [], ◌∷◌, ◌++◌}
 use Rattle.std.specs.Prelude.{Option, Some, None, is_some, if◌then◌else◌}
-use Rattle.std.specs.Option.{option_map}
-use Rattle.tc_isa.specs.Sets.{has}
-use Rattle.tc_elf.specs.Shown.{Shown, guard_at}
+use Rattle.tc_context.proofs.Vocabulary.{option_map, has, Shown, guard_at, Thread, act_with, thread_after, mutex_after, guard_with, given_up, when, taken, released, Mutex, next_lock, answer_to, LockView, Journal, guard_of, with_store, with_section, with_break, with_journal, noted, lock_in, mutex_of, mutex_or, IsLockOf, AreOf, when_in, stored_in, turned, TurnReady, StoreReady, TurnFits, StoreFits, Changed, noted_in, Context, mutex_at, journal_in, journal_at, Keeps, thread_in, set_of, act_in, noted_when, IsTurn, AreOpen}
 use Rattle.tc_elf.specs.Places.{in_guard}
 use Rattle.tc_elf.specs.declared.image.Region.{Region}
 use Rattle.tc_exec.specs.Told.{IsAct, IsPut}
@@ -17,20 +15,13 @@ use Rattle.tc_exec.specs.declared.outcome.Call.TheVariants.{Lock, Unlock, Exit}
 use Rattle.tc_exec.specs.declared.outcome.Put.{Put}
 use Rattle.tc_turn.specs.Memory.{put_number}
 use Rattle.tc_turn.specs.Reads.{Covers}
-use Rattle.tc_turn.specs.Turn.{Thread, act_with, thread_after, mutex_after, guard_with, given_up, when, taken, released, Mutex, next_lock, answer_to}
 use Rattle.tc_turn.proofs.Turns.{act_some, act_takes, next_known}
 use Rattle.tc_turn.proofs.Words.{words_now}
-pub use Rattle.tc_mutex_spec.proofs.Going.{end_done}
 pub use Rattle.tc_mutex_spec.proofs.OptionLaws.{map_some, some_map}
 use Rattle.tc_mutex_spec.proofs.OptionLaws.{option_map-twice}
-use Rattle.tc_segment.specs.View.{LockView, Journal, guard_of, with_store, with_section, with_break, with_journal, noted}
-use Rattle.tc_context.specs.Locks.{lock_in, mutex_of, mutex_or, IsLockOf, AreOf, when_in, stored_in, turned, TurnReady, StoreReady, TurnFits, StoreFits, Changed, noted_in}
-use Rattle.tc_context.specs.declared.context.Context.{Context}
-use Rattle.tc_context.specs.Whole.{mutex_at, journal_in, journal_at, Keeps, thread_in, set_of}
 use Rattle.tc_exec.specs.Step.{wants_of}
 use Rattle.tc_exec.specs.declared.outcome.Want.{Want}
 use Rattle.tc_turn.specs.Replay.{takes_word, word_of}
-use Rattle.tc_context.specs.Middle.{act_in, noted_when, IsTurn, AreOpen}
 use Rattle.tc_exec.specs.declared.outcome.Want.TheVariants.{Nothing}
 use Rattle.std.proofs.Math.Bool.{and-false}
 use Rattle.tc_context.proofs.LockList.{when_field, unchanged}

@@ -1,14 +1,11 @@
 -- A package in the middle of a block.
 use Rattle.std.proofs.Common.{◌≡◌, ℕ, ◌+◌, ◌-◌, ◌<◌, ◌≤◌, Bool, true, false, ◌&&◌, ◌++◌, ◌==◌, [], length, refl, sym, ap, subst, ◌∙◌, arith, add-one, zero, suc}
 use Rattle.std.specs.Prelude.{Option, Some, None, nat_lt, is_some, if◌then◌else◌}
-use Rattle.std.specs.Option.{option_map}
+use Rattle.tc_context.proofs.Vocabulary.{option_map, has, Shown, Thread, Mutex, thread_of, is_running, next_lock, outcome_of, Guest, LockView, Journal, lock_in, mutex_or, Context, thread_in, mutex_at, whole, set_of, journal_at, Keeps, CanGo, block_locks, RunsAs, act_in, IsTurn, noted_when, words_of, AreOpen, HasRoom, AreNoted, GoesOn, AreOwnTurns}
 use Rattle.std.proofs.lemmas.Bool.Decides.{nat_tests}
-use Rattle.tc_isa.specs.Sets.{has}
-use Rattle.tc_elf.specs.Shown.{Shown}
 use Rattle.tc_exec.specs.InPlace.{done_of}
 use Rattle.tc_journal.specs.Rule.{end_rule}
 use Rattle.tc_journal.specs.declared.block.End.{End}
-use Rattle.tc_turn.specs.Turn.{Thread, Mutex, thread_of, is_running, next_lock, outcome_of, Guest}
 use Rattle.tc_turn.specs.Reads.{Covers}
 use Rattle.tc_turn.specs.Replay.{word_of}
 use Rattle.tc_turn.proofs.Turns.{next_free, covers_on, goes_on}
@@ -17,14 +14,8 @@ use Rattle.tc_mutex_spec.specs.Locality.{Agree}
 use Rattle.tc_mutex_spec.specs.Blocks.{reach, Runs}
 use Rattle.tc_mutex_spec.proofs.Local.{after_thread, after_mutex, agree_trans, agree_at, covers_at}
 use Rattle.tc_mutex_spec.proofs.BlocksAlike.{covers_block, runs_same, runs_apart}
-use Rattle.tc_segment.specs.View.{LockView, Journal}
-use Rattle.tc_context.specs.Locks.{lock_in, mutex_or}
-use Rattle.tc_context.specs.declared.context.Context.{Context}
-use Rattle.tc_context.specs.Whole.{thread_in, mutex_at, whole, set_of, journal_at, Keeps, CanGo, block_locks, RunsAs}
-use Rattle.tc_context.specs.Middle.{act_in, IsTurn, noted_when, words_of, AreOpen, HasRoom, AreNoted, GoesOn, AreOwnTurns}
 use Rattle.tc_context.specs.Ran.{slept_by, slept_at}
-pub use Rattle.tc_mutex_spec.proofs.Going.{block_inside}
-use Rattle.tc_mutex_spec.proofs.Going.{no_cut}
+pub use Rattle.tc_mutex_spec.proofs.Going.{block_inside, no_cut}
 use Rattle.tc_mutex_spec.proofs.Within.{AreWithin, within_start, within_more, within_ends, IsTold, turn_told}
 use Rattle.tc_mutex_spec.proofs.Replaying.{words_next}
 use Rattle.tc_mutex_spec.proofs.OptionLaws.{map_some, option_map-id, option_map-twice}

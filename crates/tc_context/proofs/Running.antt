@@ -1,25 +1,15 @@
 -- What running a block makes of a package, and sealing it.
 use Rattle.std.proofs.Common.{◌≡◌, ℕ, ◌-◌, ◌<◌, ◌≤◌, Bool, true, false, not, ◌||◌, ◌&&◌, ◌==◌, List, [], ◌∷◌, ◌++◌, map, length, refl, sym, ap, subst, ◌∙◌, inl, inr, set, arith}
 use Rattle.std.specs.Prelude.{Option, Some, None, is_some, set, if◌then◌else◌, IfSome, slice_get}
-use Rattle.std.specs.Option.{option_map}
+use Rattle.tc_context.proofs.Vocabulary.{option_map, has, Shown, is_section, begins, is_lock, takes_of, last_of, may_go_on, ends_section, passes_to, Block, Thread, is_running, next_lock, LockView, Journal, block_in, blocks_of, with_journal, sealed_block, sealed_entry, sealed_list, sealed_as, Context, lock_in, AreOf, slot_of, when_in, Changed, sealed_all, sealed_in, thread_in, whole, set_of, journal_in, journal_at, CanGo, RunsAs, entry_of, with_entry, entered, Journals, IsReady, AreReady, PackageView, granted_lock, kind_of, waiting_in, IsReserved, IsPending, IsStored, IsAfter, IsLeft, IsGranted, MayTake, IsSoundPackage, Allows, fits_in, fits_granted, fits_of, WantIsGranted, IsIdle, IsAt, EndsWith, sealed_log, with_seal}
 use Rattle.std.proofs.lemmas.Bool.Decides.{eqb_tells}
-use Rattle.tc_isa.specs.Sets.{has}
-use Rattle.tc_elf.specs.Shown.{Shown}
-use Rattle.tc_journal.specs.Batch.{is_section, begins, is_lock, takes_of, last_of, allows_of, may_go_on, ends_section, passes_to, passes_on, may_follow}
-use Rattle.tc_journal.specs.declared.block.Block.{Block}
+use Rattle.tc_journal.specs.Batch.{allows_of, passes_on, may_follow}
 use Rattle.tc_turn.specs.declared.status.Status.TheVariants.{Running}
-use Rattle.tc_turn.specs.Turn.{Thread, is_running, next_lock}
 use Rattle.tc_turn.specs.Replay.{Entry}
 use Rattle.tc_turn.proofs.Turns.{next_free}
 use Rattle.tc_mutex_spec.specs.Machine.{State}
 use Rattle.tc_mutex_spec.specs.Blocks.{locks_of_block, reach, Runs}
-use Rattle.tc_segment.specs.View.{LockView, Journal, block_in, blocks_of, with_journal, sealed_block, sealed_entry, sealed_list, sealed_as}
-use Rattle.tc_context.specs.declared.context.Context.{Context}
 use Rattle.tc_context.specs.declared.package.Grant.{Grant}
-use Rattle.tc_context.specs.Locks.{lock_in, AreOf, slot_of, when_in, Changed, sealed_all, sealed_in}
-use Rattle.tc_context.specs.Whole.{thread_in, whole, set_of, journal_in, journal_at, CanGo, RunsAs, entry_of, with_entry, entered, Journals}
-use Rattle.tc_context.specs.Middle.{IsReady, AreReady}
-use Rattle.tc_context.specs.View.{PackageView, granted_lock, kind_of, waiting_in, IsReserved, IsPending, IsStored, IsAfter, IsLeft, IsGranted, MayTake, IsSoundPackage, Allows, fits_in, fits_granted, fits_of, WantIsGranted, IsIdle, IsAt, EndsWith, sealed_log, with_seal}
 use Rattle.tc_journal.proofs.Batching.{last_more}
 use Rattle.tc_mutex_spec.proofs.BlocksAlike.{eq_self}
 use Rattle.tc_context.proofs.LockList.{when_field, locks_ext}
@@ -30,8 +20,8 @@ use Rattle.tc_context.proofs.Partway.{block_inside}
 use Rattle.tc_mutex_spec.proofs.Leaving.{block_runs, block_next, block_releases, block_covered}
 use Rattle.tc_journal.specs.History.{IsBlock}
 use Rattle.tc_context.specs.Ran.{DidRun, slept_at}
-use Rattle.tc_context.proofs.Staging.{false_true, rests_as, are_of, idle_at, closed_none, grant_of, goes_on}
-use Rattle.tc_context.proofs.Few.{left_few, block_few}
+use Rattle.tc_context.proofs.Staging.{false_true, left_few, rests_as, are_of, idle_at, closed_none, grant_of, goes_on}
+use Rattle.tc_mutex_spec.proofs.Few.{block_few}
 use Rattle.tc_context.proofs.Blocked.{record_is}
 use Rattle.std.proofs.lemmas.Bool.{not-false}
 use Rattle.std.proofs.lemmas.List.{map-append, length-map, length-set}

@@ -1,31 +1,23 @@
 -- What a package keeps, through each of its calls.
-use Rattle.std.proofs.Common.{◌≡◌, ℕ, ◌<◌, ◌≤◌, Bool, true, false, not, ◌||◌, ◌&&◌, ◌==◌, List, map, length, refl, sym, ap, subst, ◌∙◌, arith, inl, inr}
+use Rattle.std.proofs.Common.{◌≡◌, ℕ, ◌<◌, ◌≤◌, Bool, true, false, not, ◌||◌, ◌&&◌, ◌==◌, List, map, filter, length, refl, sym, ap, subst, ◌∙◌, arith, inl, inr}
 use Rattle.std.specs.Prelude.{Option, Some, None, IfSome, is_some, slice_index_or, set, if◌then◌else◌}
-use Rattle.std.specs.Option.{option_map}
+use Rattle.tc_context.proofs.Vocabulary.{option_map, has, Shown, is_section, last_of, may_go_on, ends_section, passes_to, passes_on, Block, Thread, is_running, next_lock, LockView, IsAtRest, kept, block_in, blocks_of, with_journal, with_room, Context, lock_in, AreOf, Changed, IsPlaced, SameLocks, roomy_in, thread_in, set_of, PackageView, granted_lock, want_of, number_in, waiting_in, IsNumber, IsFresh, Rests, IsIdle, IsAt, IsStored, IsLeft, EndsWith, IsGranted, MayTake, IsSoundPackage, IsWanted, LastIsSealed, IsWaiting, IsRoomier, with_grant, without_lock, view_of, KeptPackage}
+use Rattle.std.specs.List.{range_with_len}
 use Rattle.std.proofs.lemmas.Bool.{and_parts}
+use Rattle.tc_isa.specs.Sets.{locks_of}
+use Rattle.tc_isa.specs.declared.limits.TheConstants.{MAX_HELD}
+use Rattle.tc_turn.proofs.Few.{fewer}
 pub use Rattle.std.proofs.lemmas.Bool.{both_ways as false_true}
 use Rattle.std.proofs.lemmas.Bool.Decides.{eqb_tells}
 use Rattle.std.proofs.lemmas.List.{length-set, get_or-set_same, get_or-set_other}
-use Rattle.tc_isa.specs.Sets.{has}
-use Rattle.tc_elf.specs.Shown.{Shown}
-use Rattle.tc_journal.specs.Batch.{is_section, last_of, may_go_on, ends_section, passes_to, passes_on}
-use Rattle.tc_journal.specs.declared.block.Block.{Block}
 use Rattle.tc_journal.specs.declared.block.Kind.{Kind}
-use Rattle.tc_turn.specs.Turn.{Thread, is_running, next_lock}
 use Rattle.tc_turn.specs.Replay.{Entry}
 use Rattle.tc_turn.proofs.Turns.{next_free, next_known}
-use Rattle.tc_segment.specs.View.{LockView, IsAtRest, kept, block_in, blocks_of, with_journal, with_room}
-use Rattle.tc_context.specs.declared.context.Context.{Context}
 use Rattle.tc_context.specs.declared.package.Grant.{Grant}
-use Rattle.tc_context.specs.Locks.{lock_in, AreOf, Changed, IsPlaced, SameLocks, roomy_in}
-use Rattle.tc_context.specs.Whole.{thread_in, set_of}
-use Rattle.tc_context.specs.View.{PackageView, granted_lock, want_of, number_in, waiting_in, IsNumber, IsFresh, Rests, IsIdle, IsAt, IsStored, IsLeft, EndsWith, IsGranted, MayTake, IsSoundPackage, IsWanted, LastIsSealed, IsWaiting, IsRoomier, with_grant, without_lock}
 use Rattle.tc_mutex_spec.proofs.BlocksAlike.{eq_self}
 use Rattle.tc_mutex_spec.proofs.Replaying.{running_is}
-use Rattle.tc_mutex_spec.proofs.OptionLaws.{map_some, some_map, option_map-twice, then_some, else_some}
-pub use Rattle.tc_mutex_spec.proofs.OptionLaws.{some_of}
+pub use Rattle.tc_mutex_spec.proofs.OptionLaws.{map_some, some_map, some_of, option_map-twice, then_some, else_some}
 use Rattle.tc_context.specs.declared.package.Contents.{Contents}
-use Rattle.tc_context.specs.Kept.{view_of, KeptPackage}
 use Rattle.tc_context.proofs.LockList.{when_field, with_locks, put_place}
 
 -- the contents of a box are those that the package shows
@@ -94,6 +86,18 @@ goes_on p k l sound rest h e = by (last_of p.log) refl sound.left
         let ungranted = λ (f : granted_lock p.granted ≡ Some k). (let g = grant_of p.image p.context p.granted k sound.grant f in false_true _ (next_free p.image (thread_in p.context) k (g.3.next ∙ ap Some g.2)) h) in
         ap (λ o. may_go_on k o p.context.thread) ((idle_at p k l sound rest e).last b is parts.0 ungranted)
         ∙ (λ i. parts.1 i && (left.thread i == p.context.thread)) ∙ eq_self p.context.thread
+
+-- the thread of a package holds no more locks than a thread may hold
+pub left_few : (image : Shown) (p : Context) (o : Option Block) → IsLeft image p o → length (filter (has p.guest.held) (range_with_len 0 32)) ≤ MAX_HELD
+unfolding locks_of
+left_few image p None l =
+    let le = fewer (has p.guest.held) (λ k. false) (λ k h. absurd (let free = l.held k in cc)) (range_with_len 0 32) in
+    let none : length (filter (λ (k : ℕ). false) (range_with_len 0 32)) ≡ 0 = refl in
+    omega arith
+left_few image p (Some b) l =
+    let le = fewer (has p.guest.held) (has b.held) (λ k h. (and_parts _ _ (sym (l.held k) ∙ h)).0) (range_with_len 0 32) in
+    let few = l.few in
+    omega arith
 
 -- ---- a package in which nothing ran
 

@@ -349,8 +349,7 @@ impl Context {
         prove!(held.bits() <= u32::MAX);
         prove!(thread <= u32::MAX);
         let fuel = self.guest.fuel();
-        self.locks
-            .open_entries(held, edge, self.guest.regs(), fuel);
+        self.locks.open_entries(held, edge, self.guest.regs(), fuel);
         let pc = self.guest.regs().pc();
         let turns = self.turns(image, code, held, takes);
         let block = Block {

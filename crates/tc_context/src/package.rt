@@ -286,9 +286,13 @@ impl Package {
     {
         let kind = self.next_kind();
         let contents = &mut *self.contents;
-        let ran = contents
-            .context
-            .run_block(image, &contents.code, kind, contents.next, &mut contents.edge);
+        let ran = contents.context.run_block(
+            image,
+            &contents.code,
+            kind,
+            contents.next,
+            &mut contents.edge,
+        );
         contents.context.locks.bound();
         let block = &ran.block;
         contents.log.push_reserved(*block);

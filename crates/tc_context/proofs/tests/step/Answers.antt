@@ -1,6 +1,5 @@
 use Rattle.std.proofs.Common.{◌∙◌, ap}
-use Rattle.tc_context.specs.Whole.{set_of}
-use Rattle.tc_context.specs.View.{PackageView}
+use Rattle.tc_context.proofs.Vocabulary.{set_of, PackageView}
 use Rattle.tc_context.proofs.Staging.{roomier_set}
 use Rattle.tc_context.proofs.Running.{seal_set}
 use Rattle.tc_context.proofs.tests.step.Goals as goal

@@ -1,13 +1,9 @@
-use Rattle.std.proofs.Common.{◌≡◌, ℕ, false, ◌&&◌, ◌==◌, ◌∙◌, refl, ap, sym, subst}
+use Rattle.std.proofs.Common.{◌≡◌, ℕ, false, ◌==◌, ◌∙◌, refl, ap, sym, subst}
 use Rattle.std.specs.Prelude.{None, if◌then◌else◌}
-use Rattle.std.specs.Option.{option_map}
-use Rattle.tc_isa.specs.Sets.{has}
+use Rattle.tc_context.proofs.Vocabulary.{option_map, has, act_with, answer_to, thread_after, turned, TurnReady, TurnFits, Changed, thread_in, mutex_at, journal_in, act_in}
 use Rattle.tc_exec.specs.InPlace.{done_of}
 use Rattle.tc_exec.specs.declared.outcome.Want.TheVariants.{Nothing}
-use Rattle.tc_turn.specs.Turn.{next_act, act_with, answer_to, thread_after}
-use Rattle.tc_context.specs.Locks.{turned, TurnReady, TurnFits, Changed}
-use Rattle.tc_context.specs.Whole.{thread_in, mutex_at, journal_in}
-use Rattle.tc_context.specs.Middle.{act_in}
+use Rattle.tc_turn.specs.Turn.{next_act}
 use Rattle.tc_context.proofs.Moved.{turn_ready, turn_fits, none_noted, turn_from}
 use Rattle.tc_context.proofs.context.Context.fault_turn.Goals as goal
 

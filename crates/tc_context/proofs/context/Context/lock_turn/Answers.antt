@@ -1,18 +1,14 @@
 use Rattle.std.proofs.Common.{◌≡◌, ◌∙◌, false, refl, ap, sym, subst, arith}
 use Rattle.std.proofs.lemmas.Bool.Decides.{nat_tests}
 use Rattle.std.specs.Prelude.{Some, if◌then◌else◌}
-use Rattle.std.specs.Option.{option_map}
-use Rattle.tc_isa.specs.Sets.{has}
+use Rattle.tc_context.proofs.Vocabulary.{option_map, has, act_with, answer_to, thread_after, turned, Changed, thread_in, mutex_at, journal_in, act_in}
 use Rattle.tc_exec.specs.InPlace.{done_of}
 use Rattle.tc_exec.specs.Calls.{answered}
 use Rattle.tc_exec.specs.declared.outcome.Act.TheVariants.{Called}
 use Rattle.tc_exec.specs.declared.outcome.Call.TheVariants.{Lock}
 use Rattle.tc_exec.specs.declared.outcome.Want.TheVariants.{Nothing}
-use Rattle.tc_turn.specs.Turn.{next_act, act_with, answer_to, thread_after}
+use Rattle.tc_turn.specs.Turn.{next_act}
 use Rattle.tc_turn.proofs.Turns.{next_wants, next_fueled, next_acts}
-use Rattle.tc_context.specs.Locks.{turned, Changed}
-use Rattle.tc_context.specs.Whole.{thread_in, mutex_at, journal_in}
-use Rattle.tc_context.specs.Middle.{act_in}
 use Rattle.tc_context.proofs.Moved.{noted_lock, turn_from}
 use Rattle.tc_context.proofs.context.Context.lock_turn.Goals as goal
 

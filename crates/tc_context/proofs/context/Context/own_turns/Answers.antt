@@ -1,8 +1,5 @@
-use Rattle.std.proofs.Common.{◌∙◌, ap, sym, subst, arith}
-use Rattle.tc_isa.specs.Sets.{has}
-use Rattle.tc_turn.specs.Turn.{next_lock}
-use Rattle.tc_context.specs.Whole.{thread_in}
-use Rattle.tc_context.proofs.Partway.{stays, own_turns}
+use Rattle.tc_context.proofs.Vocabulary.{has}
+use Rattle.tc_context.proofs.Partway.{own_turns}
 use Rattle.tc_context.proofs.context.Context.own_turns.Goals as goal
 
 pub returns-clause-turns : goal.returns-clause-turns

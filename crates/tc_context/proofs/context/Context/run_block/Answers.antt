@@ -1,11 +1,7 @@
 use Rattle.std.proofs.Common.{true, ◌≡◌, ℕ, ◌-◌, ◌<◌, ap, sym, ◌∙◌, subst, arith, rules}
 use Rattle.std.specs.Prelude.{IfSome, Some}
-use Rattle.std.specs.Option.{option_map}
-use Rattle.tc_isa.specs.Sets.{has}
-use Rattle.tc_segment.specs.View.{LockView, ClosesWith}
+use Rattle.tc_context.proofs.Vocabulary.{option_map, has, LockView, ClosesWith, lock_in, EachHeld, Changed, closed_in, thread_in, journal_in}
 use Rattle.tc_mutex_spec.specs.Blocks.{locks_of_block}
-use Rattle.tc_context.specs.Locks.{lock_in, EachHeld, Changed, closed_in}
-use Rattle.tc_context.specs.Whole.{thread_in, journal_in}
 use Rattle.tc_mutex_spec.proofs.Going.{next_small}
 use Rattle.tc_context.proofs.Partway.{runs_some}
 use Rattle.tc_context.proofs.Blocked.{begins_from, begun_go, begun_covers, begun_opened, begun_room, closes_image, closes_opened, closes, old_slept, finished_runs, finished_journals}

@@ -1,14 +1,11 @@
 use Rattle.std.proofs.Common.{◌+◌, ◌∙◌, ap, sym, subst, arith}
 use Rattle.std.specs.Prelude.{Some}
-use Rattle.tc_isa.specs.Sets.{has}
+use Rattle.tc_context.proofs.Vocabulary.{has, next_lock, thread_in, RunsAs, act_in, AreNoted}
 use Rattle.tc_exec.specs.declared.outcome.Done.TheVariants.{Went}
 use Rattle.tc_journal.specs.Rule.{end_rule}
 use Rattle.tc_journal.specs.declared.rule.Outcome.TheVariants as outcome
-use Rattle.tc_turn.specs.Turn.{next_lock}
 use Rattle.tc_turn.specs.InPlace.{outcome_done}
 use Rattle.tc_turn.proofs.InPlace.{same_outcome}
-use Rattle.tc_context.specs.Whole.{thread_in, RunsAs}
-use Rattle.tc_context.specs.Middle.{act_in, AreNoted}
 use Rattle.tc_context.specs.Ran.{slept_in, slept_by}
 use Rattle.tc_mutex_spec.proofs.Going.{end_done, next_small}
 use Rattle.tc_context.proofs.Partway.{partway_start, partway_more, partway_own, partway_ends, partway_slept, noted_next, opened_here, room_here, taken, own_some, sleeps_not}
@@ -77,7 +74,4 @@ block-preserved c =
     record { partway = partway_more image (has c.args.block) c.args.self.now own.new.self turn.new.self n mid turn.ensures.turn goes; ahead = c.ahead-ahead.ensures }
 
 pub block-init : goal.block-init
-block-init c = record {
-  partway = partway_start c.args.image.now (has c.args.block) c.args.self.now c.requires.go c.requires.covers;
-  ahead = record { lock = c.requires.takes; instr = tt };
-}
+block-init c = record { partway = partway_start c.args.image.now (has c.args.block) c.args.self.now c.requires.go c.requires.covers; ahead = record { lock = c.requires.takes; instr = tt } }

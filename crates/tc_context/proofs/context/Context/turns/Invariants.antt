@@ -1,7 +1,6 @@
 use Rattle.std.proofs.Common.{◌-◌}
-use Rattle.tc_isa.specs.Sets.{has}
+use Rattle.tc_context.proofs.Vocabulary.{has, thread_in}
 use Rattle.tc_turn.specs.Ahead.{IsAhead}
-use Rattle.tc_context.specs.Whole.{thread_in}
 use Rattle.tc_context.proofs.Partway.{Partway}
 use Rattle.tc_context.proofs.context.Context.turns.Given as goal
 

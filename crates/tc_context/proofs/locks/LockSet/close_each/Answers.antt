@@ -1,6 +1,5 @@
 use Rattle.std.proofs.Common.{◌∙◌, sym}
-use Rattle.tc_isa.specs.Sets.{has}
-use Rattle.tc_context.specs.Locks.{closed_in}
+use Rattle.tc_context.proofs.Vocabulary.{has, closed_in}
 use Rattle.tc_context.proofs.LockList.{outside_here}
 use Rattle.tc_context.proofs.locks.LockSet.close_each.Goals as goal
 

@@ -1,5 +1,4 @@
-use Rattle.tc_isa.specs.Sets.{has}
-use Rattle.tc_context.specs.Locks.{Changed, closed_in}
+use Rattle.tc_context.proofs.Vocabulary.{has, Changed, closed_in}
 use Rattle.tc_context.proofs.LockList.{outside}
 use Rattle.tc_context.proofs.locks.LockSet.close_each.Given as goal
 

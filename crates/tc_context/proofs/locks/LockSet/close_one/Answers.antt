@@ -1,9 +1,6 @@
 use Rattle.std.proofs.Common.{◌∙◌, ◌<◌, length, ap, sym, arith}
 use Rattle.std.specs.Prelude.{Some}
-use Rattle.std.specs.Option.{option_map}
-use Rattle.tc_isa.specs.Sets.{has}
-use Rattle.tc_segment.specs.View.{LockView, with_end, with_journal, closed_with}
-use Rattle.tc_context.specs.Locks.{lock_in, when_in, at_place, closed_in}
+use Rattle.tc_context.proofs.Vocabulary.{option_map, has, LockView, with_end, with_journal, closed_with, lock_in, when_in, at_place, closed_in}
 use Rattle.tc_context.proofs.LockList.{place_is, changed_place}
 use Rattle.tc_context.proofs.locks.LockSet.close_one.Goals.{in-Some+then-has, in-Some+else-has, in_default}
 use Rattle.tc_context.proofs.locks.LockSet.close_one.Goals as goal

@@ -1,5 +1,4 @@
-use Rattle.tc_isa.specs.Sets.{has}
-use Rattle.tc_context.specs.Locks.{Changed, sealed_in}
+use Rattle.tc_context.proofs.Vocabulary.{has, Changed, sealed_in}
 use Rattle.tc_context.proofs.LockList.{outside}
 use Rattle.tc_context.proofs.locks.LockSet.seal.Given as goal
 

@@ -1,8 +1,6 @@
 use Rattle.std.proofs.Common.{◌∙◌, ◌<◌, length, ap, sym, arith}
 use Rattle.std.specs.Prelude.{Some}
-use Rattle.std.specs.Option.{option_map}
-use Rattle.tc_segment.specs.View.{LockView, with_store}
-use Rattle.tc_context.specs.Locks.{lock_in, at_place}
+use Rattle.tc_context.proofs.Vocabulary.{option_map, LockView, with_store, lock_in, at_place}
 use Rattle.tc_context.proofs.LockList.{changed_place}
 use Rattle.tc_context.proofs.locks.LockSet.store.Goals.{in-Some, in_default}
 use Rattle.tc_context.proofs.locks.LockSet.store.Goals as goal

@@ -1,8 +1,7 @@
 use Rattle.std.proofs.Common.{◌∙◌, ap, refl, subst}
 use Rattle.std.specs.Prelude.{Some}
-use Rattle.tc_isa.specs.Sets.{has}
+use Rattle.tc_context.proofs.Vocabulary.{has, TurnReady}
 use Rattle.tc_exec.specs.declared.outcome.Done.TheVariants.{Called}
-use Rattle.tc_context.specs.Locks.{TurnReady}
 use Rattle.tc_context.proofs.locks.LockSet.take_turn.Goals as goal
 
 pub give_up-requires : goal.give_up-requires

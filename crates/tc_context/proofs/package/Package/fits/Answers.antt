@@ -1,9 +1,5 @@
 use Rattle.std.proofs.Common.{◌∙◌, ap, sym}
-use Rattle.std.specs.Option.{option_map}
-use Rattle.tc_journal.specs.Batch.{allows_of}
-use Rattle.tc_segment.specs.View.{blocks_of}
-use Rattle.tc_context.specs.View.{PackageView, fits_in, fits_granted, fits_of}
-use Rattle.tc_context.specs.Kept.{view_of}
+use Rattle.tc_context.proofs.Vocabulary.{option_map, allows_of, blocks_of, PackageView, fits_in, fits_granted, fits_of, view_of}
 use Rattle.tc_context.proofs.Staging.{shows}
 use Rattle.tc_context.proofs.package.Package.fits.Goals as goal
 

@@ -1,7 +1,6 @@
 use Rattle.std.proofs.Common.{subst}
 use Rattle.std.specs.Prelude.{ℕ, ◌≡◌, Some}
-use Rattle.tc_context.specs.View.{PackageView, want_of, IsWanted, LastIsSealed}
-use Rattle.tc_context.specs.Kept.{view_of}
+use Rattle.tc_context.proofs.Vocabulary.{PackageView, want_of, IsWanted, LastIsSealed, view_of}
 use Rattle.tc_context.proofs.Staging.{wanted, last_sealed}
 use Rattle.tc_context.proofs.package.Package.keeps.Goals as goal
 

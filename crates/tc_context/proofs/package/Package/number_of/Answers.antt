@@ -1,10 +1,7 @@
 use Rattle.std.proofs.Common.{ap, ◌∙◌}
 use Rattle.std.specs.Prelude.{is_some}
-use Rattle.tc_context.specs.Locks.{lock_in}
-use Rattle.tc_context.specs.View.{PackageView}
-use Rattle.tc_context.specs.Kept.{view_of}
-use Rattle.tc_mutex_spec.proofs.OptionLaws.{some_of}
-use Rattle.tc_context.proofs.Staging.{shows, place_small}
+use Rattle.tc_context.proofs.Vocabulary.{lock_in, PackageView, view_of}
+use Rattle.tc_context.proofs.Staging.{some_of, shows, place_small}
 use Rattle.tc_context.proofs.package.Package.number_of.Goals as goal
 
 pub bounds-contents-lock : goal.bounds-contents-lock

@@ -1,9 +1,5 @@
 use Rattle.std.proofs.Common.{◌∙◌, ◌<◌, ap, sym, subst, arith}
-use Rattle.tc_journal.specs.Batch.{is_section}
-use Rattle.tc_turn.specs.Turn.{next_lock}
-use Rattle.tc_context.specs.View.{PackageView, IsSoundPackage, IsReserved, kind_of}
-use Rattle.tc_context.specs.Kept.{view_of}
-use Rattle.tc_context.specs.Whole.{thread_in}
+use Rattle.tc_context.proofs.Vocabulary.{is_section, next_lock, PackageView, IsSoundPackage, IsReserved, kind_of, view_of, thread_in}
 use Rattle.tc_context.proofs.Staging.{shows}
 use Rattle.tc_context.proofs.Running.{MayRun, ready_from, can_go, kind_section, ran_sound, pending_shown, did_run}
 use Rattle.tc_context.proofs.package.Package.run_block.Goals as goal

@@ -1,10 +1,6 @@
 use Rattle.std.proofs.Common.{◌∙◌, ◌-◌, set, refl, ap, sym, subst, arith}
 use Rattle.std.specs.Prelude.{is_some}
-use Rattle.tc_isa.specs.Sets.{has}
-use Rattle.tc_segment.specs.View.{sealed_block}
-use Rattle.tc_context.specs.Locks.{Changed, sealed_in}
-use Rattle.tc_context.specs.View.{PackageView, IsSoundPackage, Allows, with_seal}
-use Rattle.tc_context.specs.Kept.{view_of}
+use Rattle.tc_context.proofs.Vocabulary.{has, sealed_block, Changed, sealed_in, PackageView, IsSoundPackage, Allows, with_seal, view_of}
 use Rattle.tc_context.proofs.Staging.{shows, changed_set}
 use Rattle.tc_context.proofs.Running.{pending_last, seal_closed, seal_follows, seal_passes, sealed_sound, seal_all, seal_is}
 use Rattle.tc_context.proofs.package.Package.seal.Goals as goal

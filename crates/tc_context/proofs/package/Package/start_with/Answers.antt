@@ -1,10 +1,7 @@
 use Rattle.std.proofs.Common.{refl, arith, ap, subst, sym, ◌∙◌, ◌==◌}
 use Rattle.std.specs.Prelude.{is_some}
 use Rattle.std.proofs.lemmas.Nat.Bits.{bit_at-zero}
-use Rattle.tc_isa.specs.Sets.{has}
-use Rattle.tc_turn.specs.Turn.{next_lock}
-use Rattle.tc_context.specs.Whole.{thread_in}
-use Rattle.tc_context.specs.Kept.{KeptPackage}
+use Rattle.tc_context.proofs.Vocabulary.{has, next_lock, thread_in, KeptPackage}
 use Rattle.tc_context.proofs.Staging.{fresh_sound}
 use Rattle.tc_context.proofs.package.Package.start_with.Goals as goal
 

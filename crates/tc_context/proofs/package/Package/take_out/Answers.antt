@@ -1,10 +1,6 @@
 use Rattle.std.proofs.Common.{◌<◌, ap, subst, sym, ◌∙◌}
 use Rattle.std.specs.Prelude.{is_some}
-use Rattle.tc_isa.specs.Sets.{has}
-use Rattle.tc_segment.specs.View.{IsAtRest}
-use Rattle.tc_context.specs.Locks.{lock_in}
-use Rattle.tc_context.specs.View.{PackageView, IsSoundPackage}
-use Rattle.tc_context.specs.Kept.{view_of}
+use Rattle.tc_context.proofs.Vocabulary.{has, IsAtRest, lock_in, PackageView, IsSoundPackage, view_of}
 use Rattle.tc_context.proofs.LockList.{with_locks}
 use Rattle.tc_context.proofs.Staging.{shows, place_small, at_rest, set_without, taken_sound}
 use Rattle.tc_context.proofs.package.Package.take_out.Goals as goal
