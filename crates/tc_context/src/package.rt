@@ -219,6 +219,7 @@ impl Package {
     {
         prove!(image.guards() <= 32);
         let context = Context::start(alloc, image, t, fuel)?;
+        let edge = Packed::of(context.guest.regs());
         let contents = Contents {
             of: Snapshot::of(image),
             code: Arc::clone(code)?,
@@ -232,7 +233,7 @@ impl Package {
             numbers: [0; 32],
             turns: 0,
             slept: 0,
-            edge: Packed::new(),
+            edge,
         };
         Ok(Package {
             contents: Box::new(alloc, contents)?,

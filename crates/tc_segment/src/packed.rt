@@ -30,12 +30,13 @@ impl Model for Packed {
 }
 
 impl Packed {
-    /// Registers that are all 0, to be set.
-    pub fn new() -> Packed {
-        Packed {
-            words: [0; MOST_WORDS],
-            end: 2,
-        }
+    /// These registers, packed.
+    pub fn of(regs: &Regs) -> Packed
+        ensures { result ≡ regs.now }
+    {
+        let mut words = [0; MOST_WORDS];
+        let end = pack(regs, &mut words);
+        Packed { words, end }
     }
 
     /// Packs these registers in place of those that it had. Takes no memory.

@@ -216,9 +216,7 @@ impl LockState {
         requires room { 0 < self.old.journal.entry_room }
         ensures { self.new ≡ with_journal (opened_at (lock_of self.old) start.now fuel) self.old }
     {
-        let mut packed = Packed::new();
-        packed.set(start);
-        self.open_packed(&packed, fuel);
+        self.open_packed(&Packed::of(start), fuel);
     }
 
     /// Like `open_entry`, of registers that are packed once for several locks.
@@ -300,9 +298,7 @@ impl LockState {
         ensures { self.new
             ≡ with_end block.now.end (with_journal (closed_with block.now end.now) self.old) }
     {
-        let mut packed = Packed::new();
-        packed.set(end);
-        self.close_packed(image, block, &packed);
+        self.close_packed(image, block, &Packed::of(end));
     }
 
     /// Like `close_entry`, of registers that are packed once for several locks.
