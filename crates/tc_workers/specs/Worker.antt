@@ -1,5 +1,5 @@
 -- What contracts see of a worker, and what holds of one at work.
-use Rattle.std.specs.Prelude.{◌≡◌, ℕ, true, false, List, [], ◌∷◌, ◌++◌, length, Option, Some, None}
+use Rattle.std.specs.Prelude.{◌≡◌, ◌≢◌, ℕ, ◌+◌, ◌<◌, true, false, List, [], ◌∷◌, ◌++◌, length, Option, Some, None}
 use mathlib.Core.Option.{some}
 use lib.ListN.{get_elem?}
 use Rattle.tc_journal.specs.declared.block.End.{End}
@@ -8,7 +8,9 @@ use Rattle.tc_hall.specs.declared.board.Knows.{Knows}
 use Rattle.tc_hall.specs.Outs.{Outs, outs, Item, Pack}
 use Rattle.tc_hall.specs.PassView.{PassView}
 use Rattle.tc_hall.specs.Rule.{threads, grants_adopted}
-use Rattle.tc_hall.specs.Steps.{IsSamePass, HasSeenAll, HasStop}
+use Rattle.tc_hall.specs.Places.{origin_code}
+use Rattle.tc_hall.specs.Steps.{IsSamePass, Missed, after_look, HasSeenAll, HasStop}
+use Rattle.tc_hall.specs.declared.place.Origin.{Origin}
 use Rattle.tc_ready.specs.ReadyView.{ReadyView}
 use Rattle.tc_combiner.specs.Packages.{HasNoOther, IsGoodFor, Runs}
 use Rattle.tc_combiner.specs.Walks.{Owns, packed}
@@ -56,6 +58,20 @@ pub record HasMisfit (v : Knows) : Type 0 where
 pub record IsClaimed (v : Knows) (q : PackageView) : Type 0 where
   pub back : MayGoBack v q
   pub misfit : fits_of q v.worker ≡ false → HasMisfit v
+
+-- a claim showed that the thread was not there
+pub record HasMissed (from : Origin) (t : ℕ) (v w : Knows) : Type 0 where
+  pub word : ℕ
+  pub missed : Missed (origin_code from) (t + 2) word v w
+
+-- the last look of a pass was at a thread that had not ended
+pub record HasSeenOneLeft (threads : ℕ) (w : Knows) : Type 0 where
+  pub before : Knows
+  pub thread : ℕ
+  pub word : ℕ
+  pub known : thread < threads
+  pub undone : word ≢ 2
+  pub seen : w ≡ after_look before thread word
 
 -- what a worker has in hand is fit to run
 abbrev pub IsFit : Knows → Option PackageView → Type 0

@@ -1,10 +1,11 @@
 //! The calls of the hall, as a worker makes them.
 
-ghost use Rattle.std.specs.Prelude.{◌≡◌, ◌<◌, [], ◌∷◌, true, MatchOption};
+ghost use Rattle.std.specs.Prelude.{◌≡◌, ◌<◌, [], ◌∷◌, true, false, MatchOption};
 ghost use Rattle.tc_hall.specs.Rule.{threads};
-ghost use Rattle.tc_hall.specs.Steps.{HasSeenAll, HasStop};
+ghost use Rattle.tc_hall.specs.Places.{origin_code};
+ghost use Rattle.tc_hall.specs.Steps.{Gets, HasSeenAll, HasStop};
 ghost use Rattle.tc_hall.specs.Outs.{outs, erase, IsOut, Pack};
-ghost use Rattle.tc_workers.specs.Worker.{HasMisfit, HasOut, IsClaimed, IsStill, MayGoBack};
+ghost use Rattle.tc_workers.specs.Worker.{HasMisfit, HasMissed, HasOut, HasSeenOneLeft, IsClaimed, IsStill, MayGoBack};
 
 use tc_context::package::Package;
 use tc_hall::hall::Hall;
@@ -19,6 +20,8 @@ pub fn claim(hall: &Hall, pass: &mut Pass, t: u32, from: Origin) -> Option<Packa
     ensures still { IsStill pass.old pass.new }
     ensures result { MatchOption result (HasOut pass.new.knows [])
         (λ q. HasOut pass.new.knows (Pack q ∷ []) × IsClaimed pass.new.knows q) }
+    ensures told { MatchOption result (HasMissed from t pass.old.knows pass.new.knows)
+        (λ q. Gets (origin_code from) t q pass.old.knows pass.new.knows) }
 {
     match hall.claim(pass, t, from) {
         Ok(package) => Some(package),
@@ -70,6 +73,7 @@ pub fn all_done(hall: &Hall, pass: &mut Pass, count: u32) -> bool
     ensures still { IsStill pass.old pass.new }
     ensures outs { outs pass.new.knows ≡ outs pass.old.knows }
     ensures done { result ≡ true → HasSeenAll count pass.new.knows }
+    ensures left { result ≡ false → HasSeenOneLeft count pass.new.knows }
 {
     for t in 0..count {
         if hall.look(pass, t) != 2 {
