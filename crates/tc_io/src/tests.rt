@@ -1,42 +1,8 @@
 use crate::all::{ReadAll, read_all, write_all};
 use crate::memory::{MemSink, MemSource};
 use crate::source::{Failed, Sink, Source};
-use crate::streams::{StdSink, StdSource};
 use crate::word::Word;
-use std::io::{self, ErrorKind, Read};
 use std::test::Fail;
-
-/// A reader whose reads all fail.
-#[derive(Drop)]
-struct Broken;
-
-impl Read for Broken {
-    fn read(&mut self, _buf: &mut [u8]) -> io::Result<usize> {
-        Err(ErrorKind::BrokenPipe.into())
-    }
-}
-
-/// A reader that fails once, and then gives this many bytes, one in each read.
-#[derive(Drop)]
-struct Flaky {
-    failed: bool,
-    left: u8,
-}
-
-impl Read for Flaky {
-    fn read(&mut self, buf: &mut [u8]) -> io::Result<usize> {
-        if !self.failed {
-            self.failed = true;
-            return Err(ErrorKind::Interrupted.into());
-        }
-        if self.left == 0 || buf.is_empty() {
-            return Ok(0);
-        }
-        self.left -= 1;
-        buf[0] = b'x';
-        Ok(1)
-    }
-}
 
 #[test]
 fn a_word_keeps_its_bytes(rt: HostRuntime) -> Result<(), Fail> {
@@ -56,6 +22,8 @@ fn reads_all_to_the_end_or_says_why(rt: HostRuntime) -> Result<(), Fail> {
         (five, 8, never, 5, Ok(five), 0),
         (five, 1, never, 5, Ok(five), 0),
         (five, 1, [6].as_slice(), 5, Ok(five), 0),
+        (five, 8, [2].as_slice(), 5, Ok(five), 0),
+        (five, 2, [4].as_slice(), 5, Ok(five), 0),
         (five, 1, [5].as_slice(), 5, Err(ReadAll::Fault), 1),
         (five, 2, [1].as_slice(), 5, Err(ReadAll::Fault), 1),
         (five, 8, never, 4, Err(ReadAll::OverLimit), 0),
@@ -127,44 +95,5 @@ fn writes_all_or_a_front(rt: HostRuntime) -> Result<(), Fail> {
     assert_eq!(rt; write_all(&mut full, b""), Ok(()));
     assert_eq!(rt; full.write(b""), Err(Failed), "call 0 is to fail");
     assert_eq!(rt; full.write(b""), Ok(0), "an empty piece fits a full buffer");
-    Ok(())
-}
-
-#[test]
-fn streams_of_std_are_passed_on(rt: HostRuntime) -> Result<(), Fail> {
-    let mut source = StdSource::new(b"guest".as_slice());
-    let read = read_all(rt.alloc(), &mut source, 5);
-    assert_eq!(rt; read.as_deref().map_err(|e| *e), Ok(b"guest".as_slice()));
-
-    let mut broken = StdSource::new(Broken);
-    let read = read_all(rt.alloc(), &mut broken, 5);
-    assert_eq!(rt; read.as_deref().map_err(|e| *e), Err(ReadAll::Fault));
-
-    let mut written = Vec::new(rt.alloc());
-    assert_eq!(rt;
-        write_all(&mut StdSink::new(&mut written), b"report"),
-        Ok(())
-    );
-    assert_eq!(rt; written.as_slice(), b"report".as_slice());
-
-    let mut four = [0; 4];
-    let mut sink = StdSink::new(four.as_mut_slice());
-    assert_eq!(rt;
-        write_all(&mut sink, b"report"),
-        Err(Failed),
-        "a write took nothing"
-    );
-    Ok(())
-}
-
-#[test]
-fn a_reader_of_std_reads_on_after_a_failed_read(rt: HostRuntime) -> Result<(), Fail> {
-    let mut flaky = StdSource::new(Flaky {
-        failed: false,
-        left: 3,
-    });
-    assert_eq!(rt; flaky.read(&mut [0; 5]), Err(Failed));
-    let read = read_all(rt.alloc(), &mut flaky, 5);
-    assert_eq!(rt; read.as_deref().map_err(|e| *e), Ok(b"xxx".as_slice()));
     Ok(())
 }
