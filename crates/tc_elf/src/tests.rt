@@ -13,7 +13,7 @@ const SMALLEST: [u32; 23] = [
 ];
 
 /// A file as a linker writes it, with two threads and a guard.
-const LINKED: [u32; 79] = [
+const LINKED: [u32; 114] = [
     // The header.
     0x464c457f, 0x00010101, 0x00000000, 0x00000000, 0x00f30002, 0x00000001, 0x00000000, 0x00000034,
     0x0000013c, 0x00000000, 0x00200034, 0x00280005, 0x00020003,
@@ -34,6 +34,17 @@ const LINKED: [u32; 79] = [
     0x00010130, 0x00000007, 0x00010134, 0x00000009, 0x00020010, 0x00000010,
     // The code and the data.
     0x05d00893, 0x00000073, 0x0000abcd,
+    // The section headers. The first is of no section.
+    0x00000000, 0x00000000, 0x00000000, 0x00000000, 0x00000000, 0x00000000, 0x00000000, 0x00000000,
+    0x00000000, 0x00000000,
+    // Of the code.
+    0x00000001, 0x00000001, 0x00000006, 0x00010130, 0x00000130, 0x00000008, 0x00000000, 0x00000000,
+    0x00000004, 0x00000000,
+    // Of the names of sections.
+    0x00000007, 0x00000003, 0x00000000, 0x00000000, 0x000001b4, 0x00000011, 0x00000000, 0x00000000,
+    0x00000001, 0x00000000,
+    // The names of sections, with zero bytes between: `.text` and `.shstrtab`.
+    0x65742e00, 0x2e007478, 0x74736873, 0x62617472, 0x00000000,
 ];
 
 /// A file of these words, but for the changed ones.
@@ -202,10 +213,10 @@ fn refuses_by_several_changes(rt: HostRuntime) -> Result<(), Fail> {
         // A segment without memory: in the code, with the flags of writable code, past the file.
         ([(37, 1), (39, 0x10010), same, same], 0),
         ([(37, 1), (43, 7), same, same], 0),
-        ([(37, 1), (38, 0x13d), same, same], 9),
+        ([(37, 1), (38, 0x1c9), same, same], 9),
         // No notes, at the file's end and past it.
-        ([(37, 4), (38, 0x13c), same, same], 0),
-        ([(37, 4), (38, 0x13d), same, same], 12),
+        ([(37, 4), (38, 0x1c8), same, same], 0),
+        ([(37, 4), (38, 0x1c9), same, same], 12),
         // The note on threads and guards twice.
         ([(37, 4), (38, 0xd4), (41, 92), same], 12),
         // Fewer bytes than a note's header are left over; just a header is a note.
