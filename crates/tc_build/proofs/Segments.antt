@@ -1,5 +1,5 @@
 -- Nothing refuses the segments of a built file, and its ranges are those that were described.
-use Rattle.std.proofs.Common.{◌≡◌, ℕ, ◌+◌, ◌^◌, ◌≤◌, Bool, true, false, if◌then◌else◌, ◌||◌, ◌&&◌, List, [], ◌∷◌, length, refl, arith, nat_lt, None, Some}
+use Rattle.std.proofs.Common.{◌≡◌, ℕ, ◌+◌, ◌*◌, ◌^◌, ◌≤◌, Bool, true, false, if◌then◌else◌, ◌||◌, ◌&&◌, List, [], ◌∷◌, length, refl, arith, nat_lt, None, Some}
 use Rattle.std.specs.Prelude.{sum_by}
 use Rattle.std.specs.List.{list_any}
 use Rattle.std.proofs.lemmas.Bool.{le-ltb}
@@ -8,6 +8,7 @@ use Rattle.tc_elf.specs.declared.refusal.Refusal.TheVariants as refused
 use Rattle.tc_elf.specs.declared.segment.Segment.{Segment}
 use Rattle.tc_elf.specs.Elf.{is_range}
 use Rattle.tc_elf.specs.Refusals.{segment_refusal, is_dynamic, is_bad_load, load_size, shares, is_on_stack, is_writable_code, any_pair}
+use Rattle.tc_build.specs.declared.build.TheConstants.{MAX_CODE_WORDS, MAX_FILL}
 use Rattle.tc_build.proofs.Headers.{whole_segment}
 
 -- none of four reasons holds
@@ -35,7 +36,7 @@ off_stack : (offset address size flags : ℕ) → address + size ≤ 0x7fffc000 
 off_stack offset address size flags low =
     not_both (is_range (whole_segment 1 offset address size flags)) _ (not_both (nat_lt address (0x7fffc000 + 0x4000)) (nat_lt 0x7fffc000 (address + size)) (le-ltb 0x7fffc000 (address + size) low))
 
-pub segments_sound : (b : List ℕ) (note code fill : ℕ) → 148 + note + code + fill ≤ length b → code ≤ 800000 → fill ≤ 65536
+pub segments_sound : (b : List ℕ) (note code fill : ℕ) → 148 + note + code + fill ≤ length b → code ≤ 4 * MAX_CODE_WORDS → fill ≤ MAX_FILL
     → segment_refusal b (whole_segment 4 148 0 note 4 ∷ whole_segment 1 (148 + note) 0x00100000 code 5 ∷ whole_segment 1 (148 + note + code) 0x00020000 fill 6 ∷ []) ≡ None
 segments_sound b note code fill whole few little =
     let one : Segment = whole_segment 4 148 0 note 4 in

@@ -10,6 +10,7 @@ use Rattle.tc_elf.specs.Elf.{segments, ranges, ranges_of}
 use Rattle.tc_elf.specs.Notes.{Layout, layout, layout_over, layout_by, header_layout, single, both, descriptors_of, descriptors_over, segment_descriptors, described_layout}
 use Rattle.tc_elf.specs.Refusals.{header_refusal, segment_refusal, layout_refusal}
 use Rattle.tc_elf.specs.Loading.{refusal, shown_of, image_of}
+use Rattle.tc_build.specs.declared.build.TheConstants.{MAX_CODE_WORDS, MAX_FILL}
 use Rattle.tc_build.specs.Build.{AreWords, word_bytes, note_words, note_length, first_entry, built, pair_words}
 use Rattle.tc_build.specs.Described.{described, described_ranges, entry_of, guard_of, StandsFor}
 use Rattle.tc_build.proofs.Reading.{length-words}
@@ -66,7 +67,7 @@ module _ (b : List ℕ) (entry : ℕ) (code : List ℕ) (entries : List (ℕ × 
       let g = length-front entry note (4 * length code) (length fill) in
       ap length is ∙ omega arith
 
-  module _ (some : 1 ≤ length entries) (threads : length entries ≤ MAX_THREADS) (locks : length guards ≤ MAX_GUARDS) (few : length code ≤ 200000) (little : length fill ≤ 65536)
+  module _ (some : 1 ≤ length entries) (threads : length entries ≤ MAX_THREADS) (locks : length guards ≤ MAX_GUARDS) (few : length code ≤ MAX_CODE_WORDS) (little : length fill ≤ MAX_FILL)
       (small_entries : All AreWords entries) (small_guards : All AreWords guards) where
     header_none : header_refusal b ≡ None
     header_none = ap header_refusal is ∙ header_sound entry note (4 * length code) (length fill) (notes ++ (words ++ fill))
@@ -142,7 +143,7 @@ pub length-built : (code : List ℕ) (entries : List (ℕ × ℕ)) (fill : List 
 length-built code entries fill guards = length-file (built code entries fill guards) (first_entry entries) code entries fill guards (parts_are code entries fill guards)
 
 pub stands : (code : List ℕ) (entries : List (ℕ × ℕ)) (fill : List ℕ) (guards : List (ℕ × ℕ))
-    → 1 ≤ length entries → length entries ≤ MAX_THREADS → length guards ≤ MAX_GUARDS → length code ≤ 200000 → length fill ≤ 65536 → All AreWords entries → All AreWords guards
+    → 1 ≤ length entries → length entries ≤ MAX_THREADS → length guards ≤ MAX_GUARDS → length code ≤ MAX_CODE_WORDS → length fill ≤ MAX_FILL → All AreWords entries → All AreWords guards
     → StandsFor (built code entries fill guards) (described code entries fill guards)
 stands code entries fill guards some threads locks few little small_entries small_guards =
     stands_by (built code entries fill guards) (first_entry entries) code entries fill guards (parts_are code entries fill guards) some threads locks few little small_entries small_guards

@@ -16,6 +16,12 @@ pub const CODE_START: u32 = 0x0010_0000;
 /// Where the data of a built guest stand in memory.
 pub const DATA_START: u32 = 0x0002_0000;
 
+/// The greatest number of words of code of a built guest.
+pub const MAX_CODE_WORDS: usize = 200_000;
+
+/// The greatest length of the data of a built guest, in bytes.
+pub const MAX_FILL: usize = 65_536;
+
 /// Writes words, the lowest byte of each first.
 fn push_words(file: &mut Vec<u8>, words: &[u32]) -> Result<(), AllocError>
     ensures written { OnOk result (spec.Writes file.old.items file.new.items words.now) }
@@ -162,8 +168,8 @@ pub fn build(
     requires some { 1 ≤ length entries.now }
     requires entries { length entries.now ≤ MAX_THREADS }
     requires guards { length guards.now ≤ MAX_GUARDS }
-    requires code { length code.now ≤ 200000 }
-    requires fill { length fill.now ≤ 65536 }
+    requires code { length code.now ≤ MAX_CODE_WORDS }
+    requires fill { length fill.now ≤ MAX_FILL }
     ensures bytes { IfOk result (λ file.
         file.items ≡ spec.built code.now entries.now fill.now guards.now) }
     ensures size { IfOk result (λ file. length file.items ≤ MAX_FILE) }

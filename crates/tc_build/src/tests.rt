@@ -5,6 +5,7 @@
 ghost use Rattle.std.specs.Prelude.{◌≤◌};
 ghost use Rattle.tc_build.specs.declared.generate.TheConstants.{MAX_ROUNDS};
 
+use crate::build::{MAX_CODE_WORDS, MAX_FILL, build};
 use crate::generate::generate;
 use std::alloc::{AllocError, Global};
 use std::test::Fail;
@@ -89,5 +90,67 @@ fn files_are_as_other_tools_write_them(rt: HostRuntime) -> Result<(), Fail> {
     assert_eq!(rt; outline(rt.alloc(), 1)?, (524, 0xe32f_c760));
     assert_eq!(rt; outline(rt.alloc(), 36)?, (6_404, 0x30f6_7568));
     assert_eq!(rt; outline(rt.alloc(), 2_000)?, (336_356, 0xd101_612f));
+    Ok(())
+}
+
+#[test]
+fn a_built_file_is_loaded_as_described(rt: HostRuntime) -> Result<(), Fail> {
+    // `addi x17,x0,93` and `ecall`, at which two threads begin.
+    let code = [0x05d0_0893, 0x0000_0073];
+    let entries = [(0x0010_0000, 7), (0x0010_0004, 0xffff_ffff)];
+    let fill = b"abcdefghijklmnopqrstuvwxy".as_slice();
+    let guards = [(0x0002_0000, 4), (0x0002_0004, 8), (0x0002_000c, 12)];
+    let file = build(rt.alloc(), &code, &entries, fill, &guards)?;
+    assert_eq!(rt; file.len(), 253);
+    let image = load(rt.alloc(), &file)?;
+    assert_eq!(rt; image.threads(), 2);
+    assert_eq!(rt; image.entry(0), (0x0010_0000, 7));
+    assert_eq!(rt; image.entry(1), (0x0010_0004, 0xffff_ffff));
+    assert_eq!(rt; image.guards(), 3);
+    assert_eq!(rt; image.guard(0), (0x0002_0000, 4));
+    assert_eq!(rt; image.guard(1), (0x0002_0004, 8));
+    assert_eq!(rt; image.guard(2), (0x0002_000c, 12));
+    assert_eq!(rt; image.ranges(), 2);
+    assert_eq!(rt; image.range(0), (0x0010_0000, 8, false, true));
+    assert_eq!(rt; image.range(1), (0x0002_0000, 25, true, false));
+    for (pc, word) in [
+        (0x0010_0000, Some(0x05d0_0893)),
+        (0x0010_0004, Some(0x0000_0073)),
+        (0x0010_0008, None),
+        (0x0002_0000, None),
+    ] {
+        assert_eq!(rt; image.fetch(pc), word, "at {pc}");
+    }
+    for (addr, byte) in [
+        (0x000f_ffff, None),
+        (0x0010_0000, Some(0x93)),
+        (0x0010_0003, Some(0x05)),
+        (0x0010_0004, Some(0x73)),
+        (0x0010_0008, None),
+        (0x0001_ffff, None),
+        (0x0002_0000, Some(b'a')),
+        (0x0002_000c, Some(b'm')),
+        (0x0002_0018, Some(b'y')),
+        (0x0002_0019, None),
+    ] {
+        assert_eq!(rt; image.byte(addr), byte, "at {addr}");
+    }
+    Ok(())
+}
+
+#[test]
+fn builds_up_to_the_limits(rt: HostRuntime) -> Result<(), Fail> {
+    let mut code = Vec::new(rt.alloc());
+    code.resize(200_000, 0x0000_0073)?;
+    assert_eq!(rt; code.len(), MAX_CODE_WORDS);
+    let mut fill = Vec::new(rt.alloc());
+    fill.resize(65_536, b'x')?;
+    assert_eq!(rt; fill.len(), MAX_FILL);
+    let file = build(rt.alloc(), &code, &[(0x001c_34fc, 0)], &fill, &[])?;
+    let image = load(rt.alloc(), &file)?;
+    assert_eq!(rt; image.ranges(), 2);
+    assert_eq!(rt; image.range(0), (0x0010_0000, 800_000, false, true));
+    assert_eq!(rt; image.range(1), (0x0002_0000, 65_536, true, false));
+    assert_eq!(rt; image.entry(0), (0x001c_34fc, 0));
     Ok(())
 }
