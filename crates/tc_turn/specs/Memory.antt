@@ -3,8 +3,7 @@ use Rattle.std.specs.Prelude.{ℕ, zero, suc, ◌+◌, ◌-◌, ◌*◌, ◌/◌
 use Rattle.std.specs.List.{list_any, range_with_len}
 use Rattle.std.specs.Option.{option_map, option_or}
 use Rattle.tc_elf.specs.Shown.{Shown, Range, Guard}
-use Rattle.tc_elf.specs.Places.{lies_in, in_writable, touches, byte_of}
-use Rattle.tc_elf.specs.declared.limits.TheConstants.{STACK_START, STACK_LENGTH}
+use Rattle.tc_elf.specs.Places.{lies_in, in_writable, touches, byte_of, stack_start, stack_length}
 
 -- the number in so many bytes from an address on, the lowest first
 abbrev pub number_at : (ℕ → ℕ) → ℕ → ℕ → ℕ
@@ -74,7 +73,7 @@ writable_byte image ranges at = if list_any (in_writable at 1) ranges then Some 
 
 -- the stack is of zeros
 abbrev pub stack_byte : ℕ → Option ℕ
-stack_byte at = if lies_in at 1 STACK_START STACK_LENGTH then Some 0 else None
+stack_byte at = if lies_in at 1 stack_start stack_length then Some 0 else None
 
 -- a thread owns the writable bytes outside the guards, and a stack
 unfoldable pub own_at_start : Shown → ℕ → Option ℕ
