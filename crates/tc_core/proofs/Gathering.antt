@@ -1,5 +1,5 @@
 -- A turn extends its thread's unfinished block, and a finished one moves into the base.
-use Rattle.std.proofs.Common.{◌≡◌, ◌≢◌, ◌⊎◌, ℕ, ◌+◌, ◌<◌, Bool, true, false, ◌==◌, refl, sym, ap, subst, ◌∙◌, arith, add-one, inl, inr}
+use Rattle.std.proofs.Common.{◌≡◌, ◌≢◌, ◌⊎◌, ℕ, ◌+◌, ◌<◌, Bool, true, false, refl, sym, ap, subst, ◌∙◌, arith, add-one, inl, inr}
 use Rattle.std.specs.Prelude.{Option, Some, None}
 use Rattle.std.proofs.lemmas.Bool.Decides.{eqb_tells}
 use Rattle.tc_isa.specs.Registers.{Registers}
@@ -14,12 +14,9 @@ use Rattle.tc_mutex_spec.specs.Machine.{State, can_turn, after}
 use Rattle.tc_mutex_spec.specs.Locality.{Agree, Apart}
 use Rattle.tc_mutex_spec.specs.Blocks.{reach, end_at}
 use Rattle.tc_mutex_spec.proofs.Local.{after_thread, act_agree, turn_apart, turn_same, turn_agree}
-use Rattle.tc_mutex_spec.proofs.BlocksAlike.{agree_within, apart_within}
+use Rattle.tc_mutex_spec.proofs.BlocksAlike.{agree_within, apart_within, eq_self}
 use Rattle.tc_core.specs.Core.{is_number}
 use Rattle.tc_core.proofs.Gathers.{is_with, Gathers}
-
-eq_self : (k : ℕ) → (k == k) ≡ true
-eq_self k = elim (eqb_tells k k) [ inl h ↦ h.0 | inr h ↦ absurd (h.1 refl) ]
 
 -- a turn ends a block alike where it is alike
 end_same : (image : Shown) (set : ℕ → Bool) (m n : State) (t k : ℕ) → Covers image set ((reach image m t k).threads t) → Agree t set (reach image m t k) (reach image n t k) → end_at image m t k ≡ end_at image n t k

@@ -75,10 +75,7 @@ impl Line {
         requires { length self.old < MAX_THREADS }
         ensures { self.new ≡ self.old ++ thread ∷ [] }
     {
-        match self.threads.push(thread) {
-            Ok(()) => {}
-            Err(_) => unreachable!(),
-        }
+        self.threads.push_reserved(thread);
     }
 
     /// The first leaves it.

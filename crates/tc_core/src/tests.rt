@@ -300,11 +300,12 @@ fn up_to_the_nest(core: &mut Core, image: &Image) -> u32
     walked(core, image, &rows)
 }
 
-#[test]
-fn a_waiter_is_shipped_with_the_lock_that_it_holds(rt: HostRuntime) -> Result<(), Fail> {
-    let image = guest(rt.alloc(), &NEST)?;
-    let mut core = Core::new(rt.alloc(), &image, 100, 3, 4)?;
-    assert_eq!(rt; up_to_the_nest(&mut core, &image), 17);
+/// Thread 2 is adopted with lock 0, waits for lock 1 with it, is adopted with that one too, and gives
+/// both back.
+fn through_the_nest(core: &mut Core, image: &Image) -> u32
+    requires { IsCoreOf image.now core.old }
+    ensures { IsCoreOf image.now core.new }
+{
     let rows = [
         row(
             commit(1, 1),
@@ -346,21 +347,26 @@ fn a_waiter_is_shipped_with_the_lock_that_it_holds(rt: HostRuntime) -> Result<()
         row(turn(0, 2), 3, [At(0), At(1), At(0)], [With(2), Free]),
         row(commit(0, 2), 1, [At(0), At(1), At(0)], [Loose(0), Free]),
     ];
-    assert_eq!(rt; walked(&mut core, &image, &rows), 14);
-    // Lock 1 was last released by the block that had both, lock 0 by the one that had it alone.
-    for (lock, held) in [(1, Held::none().plus(0).plus(1)), (0, Held::none().plus(0))] {
-        let release = match core.custody(lock) {
-            Some(custody) => custody.last,
-            None => None,
-        };
-        match release {
-            Some(release) => {
-                assert!(rt; release.held == held);
-                assert!(rt; release.end == End::Unlocked(lock));
-            }
-            None => assert!(rt; false, "lock {lock} was released"),
-        }
+    walked(core, image, &rows)
+}
+
+/// Whether the lock was last released by a block that had these locks.
+fn was_released_by(core: &Core, lock: u32, held: Held) -> bool {
+    match core.custody(lock).and_then(|custody| custody.last) {
+        Some(release) => release.held == held && release.end == End::Unlocked(lock),
+        None => false,
     }
+}
+
+#[test]
+fn a_waiter_is_shipped_with_the_lock_that_it_holds(rt: HostRuntime) -> Result<(), Fail> {
+    let image = guest(rt.alloc(), &NEST)?;
+    let mut core = Core::new(rt.alloc(), &image, 100, 3, 4)?;
+    assert_eq!(rt; up_to_the_nest(&mut core, &image), 17);
+    assert_eq!(rt; through_the_nest(&mut core, &image), 14);
+    // Lock 1 was last released by the block that had both, lock 0 by the one that had it alone.
+    assert!(rt; was_released_by(&core, 1, Held::none().plus(0).plus(1)));
+    assert!(rt; was_released_by(&core, 0, Held::none().plus(0)));
     Ok(())
 }
 
@@ -388,8 +394,8 @@ fn pass(adopted: bool, worker: u32, thread: u32, lock: u32) -> Event {
     }
 }
 
-/// Up to where thread 0 has released lock 1, while threads 1 and 2 stand in its line: 43 rows.
-fn to_the_line(core: &mut Core, image: &Image) -> u32
+/// Up to where thread 0 has entered the line of lock 1: 21 rows.
+fn to_the_entry(core: &mut Core, image: &Image) -> u32
     requires { IsCoreOf image.now core.old }
     ensures { IsCoreOf image.now core.new }
 {
@@ -419,6 +425,16 @@ fn to_the_line(core: &mut Core, image: &Image) -> u32
         (enter(1, 0, 1), 1, false),
         (enter(0, 0, 0), 1, false),
         (enter(0, 0, 1), 1, true),
+    ];
+    tried(core, image, &tries)
+}
+
+/// Up to where thread 0 has released lock 1, while threads 1 and 2 stand in its line: 22 rows.
+fn to_the_line(core: &mut Core, image: &Image) -> u32
+    requires { IsCoreOf image.now core.old }
+    ensures { IsCoreOf image.now core.new }
+{
+    let tries = [
         // In the line, and the lock is free; first in it; at another worker.
         (enter(0, 0, 1), 1, false),
         (hand_back(0, 0), 1, false),
@@ -449,8 +465,8 @@ fn to_the_line(core: &mut Core, image: &Image) -> u32
     tried(core, image, &tries)
 }
 
-/// Lock 1 goes to thread 1 and then to thread 2, thread 0 leaves lock 0 and ends: 44 rows.
-fn to_the_end(core: &mut Core, image: &Image, adopted: bool) -> u32
+/// Lock 1 goes to thread 1, and thread 0 leaves lock 0: 18 rows.
+fn to_the_leave(core: &mut Core, image: &Image, adopted: bool) -> u32
     requires { IsCoreOf image.now core.old }
     ensures { IsCoreOf image.now core.new }
 {
@@ -477,6 +493,16 @@ fn to_the_end(core: &mut Core, image: &Image, adopted: bool) -> u32
         (commit(0, 0), 1, true),
         (leave(1, 0), 1, false),
         (leave(0, 0), 1, true),
+    ];
+    tried(core, image, &tries)
+}
+
+/// Lock 1 goes on to thread 2, and thread 0 ends: 26 rows.
+fn to_the_end(core: &mut Core, image: &Image, adopted: bool) -> u32
+    requires { IsCoreOf image.now core.old }
+    ensures { IsCoreOf image.now core.new }
+{
+    let tries = [
         (claim(1, 1), 1, true),
         (turn(1, 1), 4, true),
         (commit(1, 1), 1, true),
@@ -522,12 +548,13 @@ fn each_condition_counts(rt: HostRuntime) -> Result<(), Fail> {
     words[61] = 0x00000013;
     words[62] = 0x00000013;
     let image = guest(rt.alloc(), &words)?;
-    let mut adopting = Core::new(rt.alloc(), &image, 100, 3, 4)?;
-    assert_eq!(rt; to_the_line(&mut adopting, &image), 43);
-    assert_eq!(rt; to_the_end(&mut adopting, &image, true), 44);
-    let mut granting = Core::new(rt.alloc(), &image, 100, 3, 0)?;
-    assert_eq!(rt; to_the_line(&mut granting, &image), 43);
-    assert_eq!(rt; to_the_end(&mut granting, &image, false), 44);
+    for (limit, adopted) in [(4, true), (0, false)] {
+        let mut core = Core::new(rt.alloc(), &image, 100, 3, limit)?;
+        assert_eq!(rt; to_the_entry(&mut core, &image), 21);
+        assert_eq!(rt; to_the_line(&mut core, &image), 22);
+        assert_eq!(rt; to_the_leave(&mut core, &image, adopted), 18);
+        assert_eq!(rt; to_the_end(&mut core, &image, adopted), 26);
+    }
     Ok(())
 }
 
