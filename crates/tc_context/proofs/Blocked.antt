@@ -1,11 +1,9 @@
 -- A whole block: from journals at rest to journals with an entry more.
-use Rattle.std.proofs.Common.{◌≡◌, ℕ, ◌≤◌, arith, Bool, true, false, ◌||◌, List, refl, sym, ap, subst, ◌∙◌}
-use Rattle.std.specs.Prelude.{Option, Some, None, is_some, if◌then◌else◌}
-use Rattle.tc_context.proofs.Vocabulary.{option_map, has, Shown, is_section, ends_thread, Block, Thread, Mutex, next_lock, LockView, Journal, Opened, Closes, lock_of, with_end, with_journal, opened_at, noted, entry_from, closed_with, lock_in, mutex_of, mutex_or, when_in, Changed, opened_in, closed_in, Context, thread_in, mutex_at, whole, set_of, journal_in, journal_at, Keeps, CanGo, RunsAs, block_locks, entry_of, with_entry, entered, Journals, noted_when, words_of, AreOpen, HasRoom, AreReady, AreNoted}
+use Rattle.std.proofs.Common.{◌≡◌, ℕ, ◌≤◌, arith, Bool, true, false, ◌||◌, List, refl, sym, ap, subst, ◌∙◌, Option, Some, None, is_some, if◌then◌else◌}
+use Rattle.tc_context.proofs.Vocabulary.{option_map, has, MAX_TURNS, Shown, is_section, ends_thread, Block, Thread, Mutex, next_lock, LockView, Journal, Opened, Closes, lock_of, with_end, with_journal, opened_at, noted, entry_from, closed_with, lock_in, mutex_of, mutex_or, when_in, Changed, opened_in, closed_in, Context, thread_in, mutex_at, whole, set_of, journal_in, journal_at, Keeps, CanGo, RunsAs, block_locks, entry_of, with_entry, entered, Journals, noted_when, words_of, AreReady, AreNoted, MayTurn}
 use Rattle.tc_isa.specs.Registers.{Registers}
 use Rattle.tc_journal.specs.declared.block.End.{End}
 use Rattle.tc_journal.specs.declared.block.Kind.{Kind}
-use Rattle.tc_turn.specs.Reads.{Covers}
 use Rattle.tc_turn.specs.Replay.{Entry, Replays, replay_entry, ended, unowned}
 use Rattle.tc_mutex_spec.specs.Machine.{State}
 use Rattle.tc_mutex_spec.specs.Locality.{Agree, Apart}
@@ -96,7 +94,7 @@ module _ (image : Shown) (old : Context) (held : ℕ) (locks : List (Option Lock
   abbrev pub begun : Context
   begun = with_locks old locks
 
-  pub begun_part : SamePart old begun
+  begun_part : SamePart old begun
   begun_part = same_part old (opened_in (has held) old.guest.regs old.guest.fuel) locks
       (λ k l. identifies_when (has held k) (with_journal (opened_at (lock_of l) old.guest.regs old.guest.fuel)) l refl refl) begins.opens
       (λ t k b l e. when_field (mutex_of t b) (has held k) (with_journal (opened_at (lock_of l) old.guest.regs old.guest.fuel)) l refl)
@@ -104,32 +102,31 @@ module _ (image : Shown) (old : Context) (held : ℕ) (locks : List (Option Lock
   abbrev opening : ℕ → Journal → Journal
   opening k = when_in (has held k) (opened_at (unowned (mutex_at old k)) old.guest.regs old.guest.fuel)
 
-  pub begun_journals : (k : ℕ) → journal_at begun k ≡ option_map (opening k) (journal_at old k)
+  begun_journals : (k : ℕ) → journal_at begun k ≡ option_map (opening k) (journal_at old k)
   begun_journals = journals_changed (opened_in (has held) old.guest.regs old.guest.fuel) opening old begun begins.opens
       (λ k l found. journal_when (has held k) (opened_at (unowned (mutex_at old k)) old.guest.regs old.guest.fuel) (with_journal (opened_at (lock_of l) old.guest.regs old.guest.fuel)) l
       (ap (λ o. opened_at (unowned (mutex_or old.thread (has old.guest.held k) o)) old.guest.regs old.guest.fuel l.journal) (sym found)))
 
-  pub begun_go : CanGo image begun
-  begun_go = record {
-    guards = go.guards;
-    thread = go.thread;
-    running = go.running;
-    of = begun_part.keeps.of image go.of;
-    covers = covers_at image (set_of old) (set_of begun) (thread_in old) (λ k. sym (begun_part.keeps.set k)) go.covers;
+  -- the journal of a lock of the block as it was, and as it is begun
+  begun_was : (k : ℕ) (j : Journal) → journal_at begun k ≡ Some j → has held k ≡ true → (x : Journal) × (journal_at old k ≡ Some x) × (j ≡ opened_at (unowned (mutex_at old k)) old.guest.regs old.guest.fuel x)
+  begun_was k j at h =
+      let was = map_some (opening k) (journal_at old k) j (sym (begun_journals k) ∙ at) in
+      (was.0, was.1, was.2 ∙ ap (λ v. when_in v (opened_at (unowned (mutex_at old k)) old.guest.regs old.guest.fuel) was.0) h)
+
+  -- so its turns may come
+  pub begun_may : MayTurn image (has held) MAX_TURNS begun
+  begun_may = record {
+    go = record {
+      guards = go.guards;
+      thread = go.thread;
+      running = go.running;
+      of = begun_part.keeps.of image go.of;
+      covers = covers_at image (set_of old) (set_of begun) (thread_in old) (λ k. sym (begun_part.keeps.set k)) go.covers;
+    };
+    covers = covers_at image (block_locks image old) (has held) (thread_in old) (λ k. sym (begins.is k)) (covers_block image (thread_in old));
+    opened = λ k j at h. ap (λ (i : Journal). is_some i.opened) (begun_was k j at h).2;
+    room = λ k j at h. (let w = begun_was k j at h in subst (λ n. MAX_TURNS ≤ n) (sym (ap (λ (i : Journal). i.word_room) w.2)) (ready k w.0 w.1 (sym (begins.is k) ∙ h)).words);
   }
-
-  pub begun_covers : Covers image (has held) (thread_in begun)
-  begun_covers = covers_at image (block_locks image old) (has held) (thread_in old) (λ k. sym (begins.is k)) (covers_block image (thread_in old))
-
-  pub begun_opened : AreOpen (has held) begun
-  begun_opened k j at h =
-      let was = map_some (opening k) (journal_at old k) j (sym (begun_journals k) ∙ at) in
-      ap (λ (i : Journal). is_some i.opened) was.2 ∙ ap (λ v. is_some (when_in v (opened_at (unowned (mutex_at old k)) old.guest.regs old.guest.fuel) was.0).opened) h
-
-  pub begun_room : HasRoom 4096 (has held) begun
-  begun_room k j at h =
-      let was = map_some (opening k) (journal_at old k) j (sym (begun_journals k) ∙ at) in
-      subst (λ n. 4096 ≤ n) (sym (ap (λ (i : Journal). i.word_room) was.2 ∙ ap (λ v. (when_in v (opened_at (unowned (mutex_at old k)) old.guest.regs old.guest.fuel) was.0).word_room) h)) (ready k was.0 was.1 (sym (begins.is k) ∙ h)).words
 
   module _ (ran : Context) (turns : ℕ) (kind : Kind) (pc : ℕ) (end : End) (runs : RunsAs image begun ran turns end)
       (noted_all : AreNoted image (has held) turns begun ran)
@@ -168,8 +165,8 @@ module _ (image : Shown) (old : Context) (held : ℕ) (locks : List (Option Lock
         → (j : Journal) × (journal_at old k ≡ Some j) × (l.journal ≡ noted (words k) (opened_at (unowned (mutex_at old k)) old.guest.regs old.guest.fuel j))
     was_ready k l found h =
         let a = map_some (noted_when (has held k) (words k)) (journal_at begun k) l.journal (sym (noted_all k) ∙ ap (option_map journal_in) found) in
-        let b = map_some (opening k) (journal_at old k) a.0 (sym (begun_journals k) ∙ a.1) in
-        (b.0, b.1, a.2 ∙ ap (λ v. noted_when v (words k) a.0) h ∙ ap (noted (words k)) (b.2 ∙ ap (λ v. when_in v (opened_at (unowned (mutex_at old k)) old.guest.regs old.guest.fuel) b.0) h))
+        let b = begun_was k a.0 a.1 h in
+        (b.0, b.1, a.2 ∙ ap (λ v. noted_when v (words k) a.0) h ∙ ap (noted (words k)) b.2)
 
     pub closes_image : (k : ℕ) (l : LockView) → lock_in ran.locks k ≡ Some l → has held k ≡ true → l.journal.image ≡ image
     closes_image k l found h = (old_runs.keeps.of image go.of k l found).of

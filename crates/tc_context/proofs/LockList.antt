@@ -1,11 +1,9 @@
 -- A package's lock states after a change of each of them.
-use Rattle.std.proofs.Common.{◌≡◌, ℕ, arith, get_or, set, ◌<◌, Bool, true, false, not, ◌==◌, List, length, refl, sym, ap, ◌∙◌, inl, inr}
-use Rattle.std.specs.Prelude.{Option, Some, None, slice_get, if◌then◌else◌}
+use Rattle.std.proofs.Common.{◌≡◌, ℕ, arith, get_or, set, ◌<◌, Bool, true, false, not, ◌==◌, List, length, refl, sym, ap, ◌∙◌, inl, inr, Option, Some, None, slice_get, if◌then◌else◌, ext_get_or}
 use Rattle.tc_context.proofs.Vocabulary.{option_map, LockView, Context, slot_of, lock_in, when_in, Changed, at_place}
 use Rattle.std.proofs.lemmas.Bool.Decides.{eqb_tells}
 use Rattle.tc_mutex_spec.proofs.ListLaws.{get-set}
 use Rattle.tc_mutex_spec.proofs.OptionLaws.{option_map-id}
-use Rattle.std.proofs.lemmas.List.{ext_get_or}
 use Rattle.std.proofs.lemmas.Option.{slice_get-get_or}
 
 -- what a change leaves, it leaves where it is made in some cases alone

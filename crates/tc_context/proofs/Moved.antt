@@ -1,7 +1,6 @@
 -- One turn of a package: what its thread and its locks are after it, and the words that its journals note.
-use Rattle.std.proofs.Common.{◌≡◌, ℕ, ◌≤◌, Bool, true, false, not, ◌||◌, ◌&&◌, ◌==◌, List, length, refl, sym, ap, subst, ◌∙◌, arith, [], ◌∷◌, ◌++◌}
-use Rattle.std.specs.Prelude.{Option, Some, None, is_some, if◌then◌else◌}
-use Rattle.tc_context.proofs.Vocabulary.{option_map, has, Shown, guard_at, Thread, act_with, thread_after, mutex_after, guard_with, given_up, when, taken, released, Mutex, next_lock, answer_to, LockView, Journal, guard_of, with_store, with_section, with_break, with_journal, noted, lock_in, mutex_of, mutex_or, IsLockOf, AreOf, when_in, stored_in, turned, TurnReady, StoreReady, TurnFits, StoreFits, Changed, noted_in, Context, mutex_at, journal_in, journal_at, Keeps, thread_in, set_of, act_in, noted_when, IsTurn, AreOpen}
+use Rattle.std.proofs.Common.{◌≡◌, ℕ, ◌≤◌, Bool, true, false, not, ◌||◌, ◌&&◌, ◌==◌, List, length, refl, sym, ap, subst, ◌∙◌, arith, [], ◌∷◌, ◌++◌, Option, Some, None, is_some, if◌then◌else◌, IfSome}
+use Rattle.tc_context.proofs.Vocabulary.{option_map, has, Shown, guard_at, Thread, act_with, thread_after, mutex_after, guard_with, given_up, when, taken, released, Mutex, next_lock, answer_to, LockView, Journal, guard_of, with_store, with_section, with_break, with_journal, noted, lock_in, mutex_of, mutex_or, IsLockOf, AreOf, when_in, stored_in, turned, TurnReady, StoreReady, TurnFits, StoreFits, Changed, noted_in, Context, mutex_at, journal_in, journal_at, Keeps, thread_in, set_of, act_in, noted_when, IsTurn, AreOpen, DidTurn}
 use Rattle.tc_elf.specs.Places.{in_guard}
 use Rattle.tc_elf.specs.declared.image.Region.{Region}
 use Rattle.tc_exec.specs.Told.{IsAct, IsPut}
@@ -13,12 +12,13 @@ use Rattle.tc_exec.specs.declared.outcome.Done.{Done}
 use Rattle.tc_exec.specs.declared.outcome.Act.TheVariants.{Next, Called, Faulted}
 use Rattle.tc_exec.specs.declared.outcome.Call.TheVariants.{Lock, Unlock, Exit}
 use Rattle.tc_exec.specs.declared.outcome.Put.{Put}
+use Rattle.tc_turn.specs.InPlace.{DoneFits}
 use Rattle.tc_turn.specs.Memory.{put_number}
 use Rattle.tc_turn.specs.Reads.{Covers}
+use Rattle.tc_turn.specs.Turn.{next_act}
 use Rattle.tc_turn.proofs.Turns.{act_some, act_takes, next_known}
 use Rattle.tc_turn.proofs.Words.{words_now}
-pub use Rattle.tc_mutex_spec.proofs.OptionLaws.{map_some, some_map}
-use Rattle.tc_mutex_spec.proofs.OptionLaws.{option_map-twice}
+pub use Rattle.tc_mutex_spec.proofs.OptionLaws.{map_some, some_map, option_map-twice}
 use Rattle.tc_exec.specs.Step.{wants_of}
 use Rattle.tc_exec.specs.declared.outcome.Want.{Want}
 use Rattle.tc_turn.specs.Replay.{takes_word, word_of}
@@ -216,7 +216,7 @@ module _ (image : Shown) (block noting : ℕ → Bool) (old new : Context) (mid 
       turned_mutex image old.thread k (thread_in old) (act_in image old) (note k l) (record { number = m.0 ∙ was.number; known = was.known; of = m.1 ∙ was.of })
       ∙ ap (mutex_after image old.thread held (act_in image old) k) (when_field (mutex_of old.thread (held k)) (noting k && takes_word k wanted next) (with_journal (noted (answer ∷ []))) l refl)
 
-  pub turn_from : AreOf image old.locks → wanted ≡ wants_of image held old.guest.regs → next ≡ next_lock image (thread_in old) → answer ≡ answer_to image wanted next (thread_in old).own (mutex_at old)
+  turn_from : AreOf image old.locks → wanted ≡ wants_of image held old.guest.regs → next ≡ next_lock image (thread_in old) → answer ≡ answer_to image wanted next (thread_in old).own (mutex_at old)
       → ((k : ℕ) → noting k ≡ (if old.guest.fuel == 0 then false else block k)) → Changed note old.locks mid → Changed (turned held did) mid new.locks → new.thread ≡ old.thread → thread_in new ≡ thread_after (thread_in old) (act_in image old) → IsTurn image block old new
   turn_from of w n a notes first second number thread =
       let changed : Changed change old.locks new.locks = λ k. second k ∙ ap (option_map (turned held did k)) (first k) ∙ option_map-twice (note k) (turned held did k) (change k) (lock_in old.locks k) (λ l. refl) in
@@ -227,4 +227,18 @@ module _ (image : Shown) (block noting : ℕ → Bool) (old new : Context) (mid 
         journals = journals_changed change (λ k. noted_when (block k) (word_of image k (thread_in old) (mutex_at old))) old new changed
             (λ k l e. (same_turned held did k (note k l)).1 ∙ ap (λ v. (when_in (v && takes_word k wanted next) (with_journal (noted (answer ∷ []))) l).journal) (notes k) ∙ noted_journal (old.guest.fuel == 0) (block k) (takes_word k wanted next) answer l
             ∙ ap (λ ws. noted_when (block k) ws l.journal) (words_now image (thread_in old) (mutex_at old) k wanted next answer w n a));
+      }
+
+  -- and from what it did with the answer that it got
+  pub did_turn : (n : ℕ) (d : Option Done) → AreOf image old.locks → wanted ≡ wants_of image held old.guest.regs → next ≡ next_lock image (thread_in old) → answer ≡ answer_to image wanted next (thread_in old).own (mutex_at old)
+      → ((k : ℕ) → noting k ≡ (if old.guest.fuel == 0 then false else block k)) → Changed note old.locks mid → n ≡ old.guest.held → d ≡ option_map done_of (act_with image (thread_in old) answer) → IfSome d DoneFits → Changed (turned (has n) d) mid new.locks
+      → new.thread ≡ old.thread → thread_in new ≡ thread_after (thread_in old) (act_with image (thread_in old) answer) → DidTurn image block old new d
+  unfolding next_act
+  did_turn n d of w x a notes first h e fits second number thread =
+      let act : act_with image (thread_in old) answer ≡ act_in image old = ap (act_with image (thread_in old)) (a ∙ (λ i. answer_to image (w i) (x i) (thread_in old).own (mutex_at old))) in
+      let done = e ∙ ap (option_map done_of) act in
+      record {
+        done = done;
+        fits = fits;
+        turn = turn_from of w x a notes first (subst (λ o. Changed (turned held o) mid new.locks) done (subst (λ m. Changed (turned (has m) d) mid new.locks) h second)) number (thread ∙ ap (thread_after (thread_in old)) act);
       }

@@ -1,7 +1,6 @@
 -- A package in the middle of a block.
-use Rattle.std.proofs.Common.{◌≡◌, ℕ, ◌+◌, ◌-◌, ◌<◌, ◌≤◌, Bool, true, false, ◌&&◌, ◌++◌, ◌==◌, [], length, refl, sym, ap, subst, ◌∙◌, arith, add-one, zero, suc}
-use Rattle.std.specs.Prelude.{Option, Some, None, nat_lt, is_some, if◌then◌else◌}
-use Rattle.tc_context.proofs.Vocabulary.{option_map, has, Shown, Thread, Mutex, thread_of, is_running, next_lock, outcome_of, Guest, LockView, Journal, lock_in, mutex_or, Context, thread_in, mutex_at, whole, set_of, journal_at, Keeps, CanGo, block_locks, RunsAs, act_in, IsTurn, noted_when, words_of, AreOpen, HasRoom, AreNoted, GoesOn, AreOwnTurns}
+use Rattle.std.proofs.Common.{◌≡◌, ℕ, ◌+◌, ◌-◌, ◌<◌, ◌≤◌, Bool, true, false, ◌&&◌, ◌++◌, ◌==◌, [], length, refl, sym, ap, subst, ◌∙◌, arith, add-one, zero, suc, Option, Some, None, nat_lt, is_some, if◌then◌else◌}
+use Rattle.tc_context.proofs.Vocabulary.{option_map, has, MAX_TURNS, Shown, Thread, Mutex, thread_of, is_running, next_lock, outcome_of, Guest, LockView, Journal, lock_in, mutex_or, Context, thread_in, mutex_at, whole, set_of, journal_at, Keeps, CanGo, block_locks, RunsAs, act_in, IsTurn, noted_when, words_of, AreOpen, HasRoom, AreNoted, GoesOn, AreOwnTurns, MayTurn}
 use Rattle.std.proofs.lemmas.Bool.Decides.{nat_tests}
 use Rattle.tc_exec.specs.InPlace.{done_of}
 use Rattle.tc_journal.specs.Rule.{end_rule}
@@ -28,7 +27,7 @@ use Rattle.tc_turn.specs.Own.{IsOwnTurn, OwnRun}
 use Rattle.tc_journal.specs.declared.rule.Outcome.TheVariants as outcome
 
 pub record Partway (image : Shown) (block : ℕ → Bool) (old now : Context) (n : ℕ) : Type 0 where
-  pub short : n < 4096
+  pub short : n < MAX_TURNS
   pub keeps : Keeps old now
   pub go : CanGo image now
   pub agree : Agree old.thread (set_of old) (reach image (whole old) old.thread n) (whole now)
@@ -169,13 +168,13 @@ runs_some {old = old} runs = (let some = (runs.block (whole old) (record { threa
 
 -- ---- the journals
 
-pub opened_here : (image : Shown) (block : ℕ → Bool) (old now : Context) (n : ℕ) → AreOpen block old → Partway image block old now n → AreOpen block now
+opened_here : (image : Shown) (block : ℕ → Bool) (old now : Context) (n : ℕ) → AreOpen block old → Partway image block old now n → AreOpen block now
 opened_here image block old now n opened partway k j at h =
     let was = map_some (noted_when (block k) (words_of image old k n)) (journal_at old k) j (sym (partway.journals k) ∙ at) in
     ap (λ (i : Journal). is_some i.opened) was.2 ∙ when_open (block k) (words_of image old k n) was.0 ∙ opened k was.0 was.1 h
 
 -- there is room for one word more
-pub room_here : (image : Shown) (block : ℕ → Bool) (old now : Context) (n : ℕ) → AreOpen block old → HasRoom 4096 block old → Partway image block old now n → HasRoom 1 block now
+room_here : (image : Shown) (block : ℕ → Bool) (old now : Context) (n : ℕ) → AreOpen block old → HasRoom MAX_TURNS block old → Partway image block old now n → HasRoom 1 block now
 room_here image block old now n opened room partway k j at h =
     let ws = words_of image old k n in
     let was = map_some (noted_when (block k) ws) (journal_at old k) j (sym (partway.journals k) ∙ at) in
@@ -184,6 +183,10 @@ room_here image block old now n opened room partway k j at h =
     let less : length ws ≤ n = words_short image k _ _ 0 n in
     let short = partway.short in
     omega (arith, r, big, less, short)
+
+-- so the next turn may come
+pub may_here : (image : Shown) (block : ℕ → Bool) (old now : Context) (n : ℕ) → MayTurn image block MAX_TURNS old → Partway image block old now n → MayTurn image block 1 now
+may_here image block old now n may partway = record { go = partway.go; covers = partway.covers; opened = opened_here image block old now n may.opened partway; room = room_here image block old now n may.opened may.room partway }
 
 -- ---- turns that touch the thread's own memory alone, one after another
 
@@ -231,13 +234,8 @@ module _ (image : Shown) (block : ℕ → Bool) (loads : Bool) (quiet : loads �
     went = run.2.went (mutex_at (with_guest p run.0));
   }
 
-  -- no turn
-  pub stays : (n : ℕ) (h : Guest) → n ≤ 0 → OwnRun image loads n p.guest h → p ≡ with_guest p h
-  stays zero h le run = ap (with_guest p) run
-  stays (suc n) h le run = absurd (omega (arith, le))
-
 -- turns that go on leave the package in the middle of its block
-pub partway_on : (image : Shown) (block : ℕ → Bool) (old now : Context) (c n : ℕ) (last : Context) → Partway image block old now c → c + n < 4096 → GoesOn image block n now last → Partway image block old last (c + n)
+pub partway_on : (image : Shown) (block : ℕ → Bool) (old now : Context) (c n : ℕ) (last : Context) → Partway image block old now c → c + n < MAX_TURNS → GoesOn image block n now last → Partway image block old last (c + n)
 partway_on image block old now c zero last partway lt goes = subst (λ (x : Context × ℕ). Partway image block old x.0 x.1) (let e : c ≡ c + 0 = omega arith in λ i. (goes i, e i)) partway
 partway_on image block old now c (suc n) last partway lt goes =
     let mid = partway_on image block old now c n goes.0 partway (omega (arith, lt)) goes.1 in
@@ -253,7 +251,7 @@ pub record Taken (image : Shown) (block : ℕ → Bool) (old new : Context) (n :
   pub turn : IsTurn image block last new
   pub went : outcome_of (act_in image last) ≡ outcome.Went
 
-pub taken : (image : Shown) (block : ℕ → Bool) (old now new : Context) (c n : ℕ) → Partway image block old now c → n ≤ 4096 - c → AreOwnTurns image block now new n → Taken image block old new (c + n)
+pub taken : (image : Shown) (block : ℕ → Bool) (old now new : Context) (c n : ℕ) → Partway image block old now c → n ≤ MAX_TURNS - c → AreOwnTurns image block now new n → Taken image block old new (c + n)
 taken image block old now new c n partway most turns =
     let short = partway.short in
     let count = turns.count in
@@ -278,7 +276,7 @@ chosen : (n : ℕ) (o : Option End) → o ≡ (if suc n == 0 then None else o)
 chosen n o = (let e : (suc n == 0) ≡ false = grind (arith, nat_tests) in ap (λ b. if b then None else o) (sym e))
 
 -- turns of the thread's own, or none, that end no block leave the package in the middle of it
-pub partway_own : (image : Shown) (block : ℕ → Bool) (old now new : Context) (c n : ℕ) (lock : Option ℕ) → Partway image block old now c → n ≤ 4096 - c → (0 < n → AreOwnTurns image block now new n) → (n ≡ 0 → new ≡ now)
+pub partway_own : (image : Shown) (block : ℕ → Bool) (old now new : Context) (c n : ℕ) (lock : Option ℕ) → Partway image block old now c → n ≤ MAX_TURNS - c → (0 < n → AreOwnTurns image block now new n) → (n ≡ 0 → new ≡ now)
     → lock ≡ next_lock image (thread_in new) → (if n == 0 then None else end_rule outcome.Went (c + n) lock) ≡ None → Partway image block old new (c + n)
 partway_own image block old now new c zero lock partway most turns none next rule =
     subst (λ (x : Context × ℕ). Partway image block old x.0 x.1) (let e : c ≡ c + 0 = omega arith in λ i. (sym (none refl) i, e i)) partway

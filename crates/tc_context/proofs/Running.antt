@@ -1,6 +1,5 @@
 -- What running a block makes of a package, and sealing it.
-use Rattle.std.proofs.Common.{◌≡◌, ℕ, ◌-◌, ◌<◌, ◌≤◌, Bool, true, false, not, ◌||◌, ◌&&◌, ◌==◌, List, [], ◌∷◌, ◌++◌, map, length, refl, sym, ap, subst, ◌∙◌, inl, inr, set, arith}
-use Rattle.std.specs.Prelude.{Option, Some, None, is_some, set, if◌then◌else◌, IfSome, slice_get}
+use Rattle.std.proofs.Common.{◌≡◌, ℕ, ◌-◌, ◌<◌, ◌≤◌, Bool, true, false, not, ◌||◌, ◌&&◌, ◌==◌, List, [], ◌∷◌, ◌++◌, map, length, refl, sym, ap, subst, ◌∙◌, inl, inr, set, arith, Option, Some, None, is_some, if◌then◌else◌, IfSome, slice_get, length-set}
 use Rattle.tc_context.proofs.Vocabulary.{option_map, has, Shown, is_section, begins, is_lock, takes_of, last_of, may_go_on, ends_section, passes_to, Block, Thread, is_running, next_lock, LockView, Journal, block_in, blocks_of, with_journal, sealed_block, sealed_entry, sealed_list, sealed_as, Context, lock_in, AreOf, slot_of, when_in, Changed, sealed_all, sealed_in, thread_in, whole, set_of, journal_in, journal_at, CanGo, RunsAs, entry_of, with_entry, entered, Journals, IsReady, AreReady, PackageView, granted_lock, kind_of, waiting_in, IsReserved, IsPending, IsStored, IsAfter, IsLeft, IsGranted, MayTake, IsSoundPackage, Allows, fits_in, fits_granted, fits_of, WantIsGranted, IsIdle, IsAt, EndsWith, sealed_log, with_seal}
 use Rattle.std.proofs.lemmas.Bool.Decides.{eqb_tells}
 use Rattle.tc_journal.specs.Batch.{allows_of, passes_on, may_follow}
@@ -13,10 +12,9 @@ use Rattle.tc_context.specs.declared.package.Grant.{Grant}
 use Rattle.tc_journal.proofs.Batching.{last_more}
 use Rattle.tc_mutex_spec.proofs.BlocksAlike.{eq_self}
 use Rattle.tc_context.proofs.LockList.{when_field, locks_ext}
-use Rattle.tc_context.proofs.Moved.{map_some, some_map}
+use Rattle.tc_mutex_spec.proofs.OptionLaws.{map_some, some_map, some_of}
 use Rattle.tc_mutex_spec.proofs.Replaying.{record_takes}
-use Rattle.tc_mutex_spec.proofs.Going.{block_survives, block_gives, in_block}
-use Rattle.tc_context.proofs.Partway.{block_inside}
+use Rattle.tc_mutex_spec.proofs.Going.{block_survives, block_gives, block_inside, in_block}
 use Rattle.tc_mutex_spec.proofs.Leaving.{block_runs, block_next, block_releases, block_covered}
 use Rattle.tc_journal.specs.History.{IsBlock}
 use Rattle.tc_context.specs.Ran.{DidRun, slept_at}
@@ -24,7 +22,7 @@ use Rattle.tc_context.proofs.Staging.{false_true, left_few, rests_as, are_of, id
 use Rattle.tc_mutex_spec.proofs.Few.{block_few}
 use Rattle.tc_context.proofs.Blocked.{record_is}
 use Rattle.std.proofs.lemmas.Bool.{not-false}
-use Rattle.std.proofs.lemmas.List.{map-append, length-map, length-set}
+use Rattle.std.proofs.lemmas.List.{map-append, length-map}
 use Rattle.std.proofs.lemmas.Option.{slice_get-map, slice_get_within}
 use Rattle.tc_mutex_spec.proofs.ListLaws.{get-set_same}
 
@@ -273,17 +271,10 @@ pub record IsLast (p : PackageView) : Type 0 where
 
 pub pending_last : (p : PackageView) → IsSoundPackage p → is_some p.pending ≡ true → IsLast p
 pending_last p sound some =
-    let b = there p.pending some in
+    let b = some_of p.pending some in
     let last = subst (EndsWith p.log) b.1 sound.log in
-    record { block = b.0; pending = b.1; last = last; some = not_empty p.log b.0 last }
-  where
-    there : (o : Option Block) → is_some o ≡ true → (b : Block) × (o ≡ Some b)
-    there (Some b) h = (b, refl)
-    there None h = absurd (cc)
-
-    not_empty : (log : List Block) (b : Block) → last_of log ≡ Some b → 0 < length log
-    not_empty [] b e = absurd (cc)
-    not_empty (x ∷ xs) b e = omega arith
+    let within = slice_get_within p.log (length p.log - 1) b.0 last in
+    record { block = b.0; pending = b.1; last = last; some = omega (arith, within) }
 
 -- the entry of a lock of the pending block
 entry_was : (p : PackageView) (b : Block) (k : ℕ) (l : LockView) → IsStored p k l → p.pending ≡ Some b → has b.held k ≡ true → (e : Entry) × (l.journal.closed ≡ Some e) × (b ≡ e.block)
@@ -406,7 +397,7 @@ not_sealed stamp worker l none =
     λ i. record { number = l.number; bytes = l.bytes; broken = l.broken; sections = l.sections; journal = record { image = l.journal.image; limit = l.journal.limit; sealed = sym s i; closed = none i; opened = l.journal.opened; entry_room = l.journal.entry_room; word_room = l.journal.word_room } }
 
 -- in a lock that isn't of the pending block nothing waits
-pub seal_all : (p : PackageView) (b : Block) (stamp worker : ℕ) (locks : List (Option LockView)) → IsSoundPackage p → p.pending ≡ Some b → length locks ≡ 32 → Changed (sealed_in (has b.held) stamp worker) p.context.locks locks → locks ≡ sealed_all stamp worker p.context.locks
+seal_all : (p : PackageView) (b : Block) (stamp worker : ℕ) (locks : List (Option LockView)) → IsSoundPackage p → p.pending ≡ Some b → length locks ≡ 32 → Changed (sealed_in (has b.held) stamp worker) p.context.locks locks → locks ≡ sealed_all stamp worker p.context.locks
 seal_all p b stamp worker locks sound pending places changed =
     locks_ext locks (sealed_all stamp worker p.context.locks) (places ∙ sym sound.places.0 ∙ sym (length-map p.context.locks (option_map (with_journal (sealed_as stamp worker)))))
     (λ k. changed k ∙ each k (lock_in p.context.locks k) refl ∙ sym (sealed_at stamp worker p.context.locks k))
@@ -419,8 +410,11 @@ seal_all p b stamp worker locks sound pending places changed =
     each k None e = refl
     each k (Some l) e = ap Some (one k l (sound.stored k l e) (has b.held k) refl)
 
-pub seal_is : (p : PackageView) (b : Block) (stamp worker : ℕ) (log : List Block) (locks : List (Option LockView)) → p.pending ≡ Some b → log ≡ set p.log (length p.log - 1) (sealed_block stamp worker b) → locks ≡ sealed_all stamp worker p.context.locks
+-- with its locks and its log sealed, the package is sealed
+pub seal_is : (p : PackageView) (l : IsLast p) (stamp worker held len : ℕ) (log : List Block) (locks : List (Option LockView)) → IsSoundPackage p → held ≡ l.block.held → len ≡ length p.log → length locks ≡ 32
+    → Changed (sealed_in (has held) stamp worker) p.context.locks locks → log ≡ set p.log (len - 1) (sealed_block stamp worker l.block)
     → record p { context = record { thread = p.context.thread; guest = p.context.guest; locks = locks }; pending = None; log = log } ≡ with_seal stamp worker p
-seal_is p b stamp worker log locks pending logged same =
-    let sealed = logged ∙ ap (sealed_log stamp worker p.log) (sym pending) in
+seal_is p l stamp worker held len log locks sound is count places changed logged =
+    let same = seal_all p l.block stamp worker locks sound l.pending places (subst (λ n. Changed (sealed_in (has n) stamp worker) p.context.locks locks) is changed) in
+    let sealed = logged ∙ ap (λ n. set p.log (n - 1) (sealed_block stamp worker l.block)) count ∙ ap (sealed_log stamp worker p.log) (sym l.pending) in
     λ i. record p { context = record { thread = p.context.thread; guest = p.context.guest; locks = same i }; pending = None; log = sealed i }

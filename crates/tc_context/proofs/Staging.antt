@@ -1,15 +1,12 @@
 -- What a package keeps, through each of its calls.
-use Rattle.std.proofs.Common.{◌≡◌, ℕ, ◌<◌, ◌≤◌, Bool, true, false, not, ◌||◌, ◌&&◌, ◌==◌, List, map, filter, length, refl, sym, ap, subst, ◌∙◌, arith, inl, inr}
-use Rattle.std.specs.Prelude.{Option, Some, None, IfSome, is_some, slice_index_or, set, if◌then◌else◌}
-use Rattle.tc_context.proofs.Vocabulary.{option_map, has, Shown, is_section, last_of, may_go_on, ends_section, passes_to, passes_on, Block, Thread, is_running, next_lock, LockView, IsAtRest, kept, block_in, blocks_of, with_journal, with_room, Context, lock_in, AreOf, Changed, IsPlaced, SameLocks, roomy_in, thread_in, set_of, PackageView, granted_lock, want_of, number_in, waiting_in, IsNumber, IsFresh, Rests, IsIdle, IsAt, IsStored, IsLeft, EndsWith, IsGranted, MayTake, IsSoundPackage, IsWanted, LastIsSealed, IsWaiting, IsRoomier, with_grant, without_lock, view_of, KeptPackage}
+use Rattle.std.proofs.Common.{◌≡◌, ℕ, ◌<◌, ◌≤◌, Bool, true, false, not, ◌||◌, ◌&&◌, ◌==◌, List, map, filter, length, refl, sym, ap, subst, ◌∙◌, arith, inl, inr, Option, Some, None, IfSome, is_some, slice_index_or, set, if◌then◌else◌, length-set, get_or-set_same, get_or-set_other}
+use Rattle.tc_context.proofs.Vocabulary.{option_map, has, MAX_TURNS, Shown, is_section, last_of, may_go_on, ends_section, passes_to, passes_on, Block, Thread, is_running, next_lock, LockView, IsAtRest, kept, block_in, blocks_of, with_journal, with_room, Context, lock_in, AreOf, Changed, IsPlaced, SameLocks, roomy_in, thread_in, set_of, PackageView, granted_lock, want_of, number_in, waiting_in, IsNumber, IsFresh, Rests, IsIdle, IsAt, IsStored, IsLeft, EndsWith, IsGranted, MayTake, IsSoundPackage, IsWanted, LastIsSealed, IsWaiting, IsRoomier, with_grant, without_lock, view_of, KeptPackage}
 use Rattle.std.specs.List.{range_with_len}
-use Rattle.std.proofs.lemmas.Bool.{and_parts}
 use Rattle.tc_isa.specs.Sets.{locks_of}
 use Rattle.tc_isa.specs.declared.limits.TheConstants.{MAX_HELD}
 use Rattle.tc_turn.proofs.Few.{fewer}
-pub use Rattle.std.proofs.lemmas.Bool.{both_ways as false_true}
+pub use Rattle.std.proofs.lemmas.Bool.{and_parts, both_ways as false_true}
 use Rattle.std.proofs.lemmas.Bool.Decides.{eqb_tells}
-use Rattle.std.proofs.lemmas.List.{length-set, get_or-set_same, get_or-set_other}
 use Rattle.tc_journal.specs.declared.block.Kind.{Kind}
 use Rattle.tc_turn.specs.Replay.{Entry}
 use Rattle.tc_turn.proofs.Turns.{next_free, next_known}
@@ -127,8 +124,8 @@ left_as image p locks (Some b) left = record { thread = left.thread; runs = left
 abbrev pub with_rooms : PackageView → List (Option LockView) → ℕ → ℕ → PackageView
 with_rooms p locks room turns = record p { context = with_locks p.context locks; log_room = room; turns = turns }
 
-pub same_locks : (held : ℕ → Bool) (old new : List (Option LockView)) → Changed (roomy_in held 1 4096) old new → SameLocks old new
-same_locks held old new changed k = ap (option_map kept) (changed k) ∙ option_map-twice (roomy_in held 1 4096 k) kept kept (lock_in old k) (λ l. when_field kept (held k) (with_journal (with_room 1 4096)) l refl)
+pub same_locks : (held : ℕ → Bool) (old new : List (Option LockView)) → Changed (roomy_in held 1 MAX_TURNS) old new → SameLocks old new
+same_locks held old new changed k = ap (option_map kept) (changed k) ∙ option_map-twice (roomy_in held 1 MAX_TURNS k) kept kept (lock_in old k) (λ l. when_field kept (held k) (with_journal (with_room 1 MAX_TURNS)) l refl)
 
 pub changed_set : (f : ℕ → LockView → LockView) (old new : List (Option LockView)) → Changed f old new → (k : ℕ) → is_some (lock_in new k) ≡ is_some (lock_in old k)
 changed_set f old new changed k = ap is_some (changed k) ∙ some_map (f k) (lock_in old k)

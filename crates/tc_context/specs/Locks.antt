@@ -14,6 +14,7 @@ use Rattle.tc_exec.specs.declared.outcome.Want.{Want}
 use Rattle.tc_journal.specs.declared.block.Block.{Block}
 use Rattle.tc_turn.specs.Turn.{Mutex}
 use Rattle.tc_turn.specs.Replay.{takes_word}
+use Rattle.tc_mutex_spec.specs.Slow.{no_mutex}
 use Rattle.tc_segment.specs.View.{LockView, kept, lock_of, guard_of, with_store, with_section, with_break, with_end, with_journal, opened_at, noted, closed_with, sealed_as, with_room}
 
 abbrev pub slot_of : Option (Option LockView) → Option LockView
@@ -27,9 +28,6 @@ lock_in slots k = slot_of (slice_get slots k)
 -- the lock, with its owner where the thread t holds it
 abbrev pub mutex_of : ℕ → Bool → LockView → Mutex
 mutex_of t held l = record { bytes = l.bytes; broken = l.broken; sections = l.sections; owner = if held then Some t else None }
-
-abbrev pub no_mutex : Mutex
-no_mutex = record { bytes = []; broken = false; sections = 0; owner = None }
 
 abbrev pub mutex_or : ℕ → Bool → Option LockView → Mutex
 mutex_or t held None = no_mutex

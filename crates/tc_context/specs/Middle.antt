@@ -1,17 +1,22 @@
 -- A package in the middle of a block.
-use Rattle.std.specs.Prelude.{◌≡◌, ℕ, zero, suc, ◌+◌, ◌<◌, ◌≤◌, Bool, true, List, Option, Some, None, is_some}
+use Rattle.std.specs.Prelude.{◌≡◌, ℕ, zero, suc, ◌+◌, ◌<◌, ◌≤◌, Bool, true, List, Option, Some, None, IfSome, is_some}
 use Rattle.std.specs.Option.{option_map}
 use Rattle.tc_isa.specs.Sets.{has}
+use Rattle.tc_isa.specs.declared.limits.TheConstants.{MAX_TURNS}
 use Rattle.tc_elf.specs.Shown.{Shown}
+use Rattle.tc_exec.specs.InPlace.{done_of}
 use Rattle.tc_exec.specs.declared.outcome.Act.{Act}
+use Rattle.tc_exec.specs.declared.outcome.Done.{Done}
 use Rattle.tc_journal.specs.declared.rule.Outcome.TheVariants.{Went}
+use Rattle.tc_turn.specs.InPlace.{DoneFits}
+use Rattle.tc_turn.specs.Reads.{Covers}
 use Rattle.tc_turn.specs.Turn.{next_act, next_lock, outcome_of, thread_after, mutex_after}
 use Rattle.tc_turn.specs.Replay.{word_of, words_from}
 use Rattle.tc_mutex_spec.specs.Blocks.{reach}
 use Rattle.tc_segment.specs.View.{Journal, noted}
 use Rattle.tc_context.specs.declared.context.Context.{Context}
 use Rattle.tc_context.specs.Locks.{when_in}
-use Rattle.tc_context.specs.Whole.{thread_in, mutex_at, whole, set_of, journal_at, block_locks, Keeps}
+use Rattle.tc_context.specs.Whole.{thread_in, mutex_at, whole, set_of, journal_at, block_locks, CanGo, Keeps}
 
 -- what the next turn does, on the package alone
 abbrev pub act_in : Shown → Context → Option Act
@@ -35,12 +40,25 @@ AreOpen block p = (k : ℕ) (j : Journal) → journal_at p k ≡ Some j → bloc
 abbrev pub HasRoom : ℕ → (ℕ → Bool) → Context → Type 0
 HasRoom n block p = (k : ℕ) (j : Journal) → journal_at p k ≡ Some j → block k ≡ true → n ≤ j.word_room
 
+-- what n turns of a block with these locks ask of the package
+pub record MayTurn (image : Shown) (block : ℕ → Bool) (n : ℕ) (p : Context) : Type 0 where
+  pub go : CanGo image p
+  pub covers : Covers image block (thread_in p)
+  pub opened : AreOpen block p
+  pub room : HasRoom n block p
+
+-- what the next turn did beside the registers, and what it made of the thread and the locks
+pub record DidTurn (image : Shown) (block : ℕ → Bool) (old new : Context) (did : Option Done) : Type 0 where
+  pub done : did ≡ option_map done_of (act_in image old)
+  pub fits : IfSome did DoneFits
+  pub turn : IsTurn image block old new
+
 -- a lock of the block: its journal is at rest and has room
 pub record IsReady (j : Journal) : Type 0 where
   pub opened : j.opened ≡ None
   pub closed : j.closed ≡ None
   pub entry : 0 < j.entry_room
-  pub words : 4096 ≤ j.word_room
+  pub words : MAX_TURNS ≤ j.word_room
 
 abbrev pub AreReady : Shown → Context → Type 0
 AreReady image p = (k : ℕ) (j : Journal) → journal_at p k ≡ Some j → block_locks image p k ≡ true → IsReady j

@@ -3,7 +3,7 @@ use Rattle.std.specs.Prelude.{◌≡◌, ◌≢◌, ℕ, ◌<◌, ◌≤◌, ◌
 use Rattle.std.specs.Option.{option_map}
 use Rattle.tc_isa.specs.Registers.{Registers}
 use Rattle.tc_isa.specs.Sets.{has, locks_of}
-use Rattle.tc_isa.specs.declared.limits.TheConstants.{MAX_HELD}
+use Rattle.tc_isa.specs.declared.limits.TheConstants.{MAX_HELD, MAX_TURNS}
 use Rattle.tc_elf.specs.Shown.{Shown}
 use Rattle.tc_journal.specs.Batch.{is_section, begins, last_of, allows_of, may_go_on, ends_thread, ends_section, passes_to, passes_on}
 use Rattle.tc_journal.specs.declared.block.Block.{Block}
@@ -74,7 +74,7 @@ kind_of None (b ∷ log) = On
 pub record IsReserved (p : PackageView) : Type 0 where
   pub log : 0 < p.log_room
   pub entries : (k : ℕ) (l : LockView) → lock_in p.context.locks k ≡ Some l → 0 < l.journal.entry_room
-  pub words : (k : ℕ) (l : LockView) → lock_in p.context.locks k ≡ Some l → 4096 ≤ l.journal.word_room
+  pub words : (k : ℕ) (l : LockView) → lock_in p.context.locks k ≡ Some l → MAX_TURNS ≤ l.journal.word_room
 
 -- there is such a block, the pending one or the last, and this holds of it
 abbrev pub HasBlock : (Block → Type 0) → Option Block → Type 0

@@ -1,17 +1,14 @@
 //! A thread with the locks that are in its package, and the blocks that it runs.
 
 ghost use Rattle.std.specs.Prelude.{◌≡◌, ℕ, ◌+◌, ◌<◌, ◌≤◌, ◌^◌, ◌==◌, true, false, is_some, length, Ok, Err, Some, None, IfOk, IfSome, if◌then◌else◌};
-ghost use Rattle.std.specs.Option.{option_map};
 ghost use Rattle.tc_isa.specs.Sets.{has};
+ghost use Rattle.tc_isa.specs.declared.limits.TheConstants.{MAX_TURNS};
 ghost use Rattle.tc_journal.specs.Batch.{is_section};
 ghost use Rattle.tc_journal.specs.History.{IsBlock, IsEnd};
 ghost use Rattle.tc_journal.specs.Rule.{end_rule};
 ghost use Rattle.tc_journal.specs.declared.rule.Outcome.TheVariants.{Went};
-ghost use Rattle.tc_turn.specs.Reads.{Covers};
-ghost use Rattle.tc_exec.specs.InPlace.{done_of};
 ghost use Rattle.tc_exec.specs.Step.{instruction_at};
 ghost use Rattle.tc_turn.specs.Ahead.{IsAhead};
-ghost use Rattle.tc_turn.specs.InPlace.{DoneFits};
 ghost use Rattle.tc_turn.specs.Turn.{lock_answer, next_lock, thread_at_start};
 ghost use Rattle.tc_mutex_spec.specs.Blocks.{locks_of_block};
 ghost use Rattle.tc_context.specs.Locks.{lock_in};
@@ -72,7 +69,7 @@ pub struct Context {
 
 impl Context {
     ghost use Rattle.tc_context.specs.Whole.{thread_in, mutex_at, CanGo, RunsAs, Journals};
-    ghost use Rattle.tc_context.specs.Middle.{act_in, IsTurn, AreOwnTurns, AreNoted, AreOpen, HasRoom, AreReady};
+    ghost use Rattle.tc_context.specs.Middle.{AreOwnTurns, AreNoted, AreReady, MayTurn, DidTurn};
 
     /// The thread of this number at its start, with no lock.
     pub(crate) fn start(
@@ -115,14 +112,9 @@ impl Context {
         ahead: Ahead<'a>,
     ) -> Option<Done>
         requires code { code.now ≡ image.now }
-        requires go { CanGo image.now self.old }
+        requires may { MayTurn image.now (has block) 1 self.old }
         requires ahead { IsAhead image.now (thread_in self.old) ahead }
-        requires covers { Covers image.now (has block) (thread_in self.old) }
-        requires opened { AreOpen (has block) self.old }
-        requires room { HasRoom 1 (has block) self.old }
-        ensures done { result ≡ option_map done_of (act_in image.now self.old) }
-        ensures fits { IfSome result DoneFits }
-        ensures turn { IsTurn image.now (has block) self.old self.new }
+        ensures did { DidTurn image.now (has block) self.old self.new result }
     {
         match ahead.lock {
             Some(lock) => Some(self.lock_turn(image, block, lock)),
@@ -139,14 +131,9 @@ impl Context {
 
     /// The turn that takes this lock.
     fn lock_turn(&mut self, image: &Image, block: Held, lock: u32) -> Done
-        requires go { CanGo image.now self.old }
+        requires may { MayTurn image.now (has block) 1 self.old }
         requires next { next_lock image.now (thread_in self.old) ≡ Some lock }
-        requires opened { AreOpen (has block) self.old }
-        requires room { HasRoom 1 (has block) self.old }
-        requires covers { Covers image.now (has block) (thread_in self.old) }
-        ensures done { Some result ≡ option_map done_of (act_in image.now self.old) }
-        ensures fits { DoneFits result }
-        ensures turn { IsTurn image.now (has block) self.old self.new }
+        ensures did { DidTurn image.now (has block) self.old self.new (Some result) }
     {
         let answer = self.lock_answer(lock);
         self.locks
@@ -165,16 +152,11 @@ impl Context {
         known: Option<&'a Instr>,
     ) -> Option<Done>
         requires code { code.now ≡ image.now }
-        requires go { CanGo image.now self.old }
+        requires may { MayTurn image.now (has block) 1 self.old }
         requires next { next_lock image.now (thread_in self.old) ≡ None }
         requires known { IfSome known
             (λ instr. instruction_at image.now self.old.guest.regs.pc ≡ Ok instr.now) }
-        requires covers { Covers image.now (has block) (thread_in self.old) }
-        requires opened { AreOpen (has block) self.old }
-        requires room { HasRoom 1 (has block) self.old }
-        ensures done { result ≡ option_map done_of (act_in image.now self.old) }
-        ensures fits { IfSome result DoneFits }
-        ensures turn { IsTurn image.now (has block) self.old self.new }
+        ensures did { DidTurn image.now (has block) self.old self.new result }
     {
         let pc = self.guest.regs().pc();
         let found = match known {
@@ -198,15 +180,10 @@ impl Context {
     /// A turn that takes no lock, whose instruction is this.
     #[inline(always)]
     fn instr_turn(&mut self, image: &Image, block: Held, instr: &Instr) -> Option<Done>
-        requires go { CanGo image.now self.old }
+        requires may { MayTurn image.now (has block) 1 self.old }
         requires next { next_lock image.now (thread_in self.old) ≡ None }
         requires instr { instruction_at image.now self.old.guest.regs.pc ≡ Ok instr.now }
-        requires covers { Covers image.now (has block) (thread_in self.old) }
-        requires opened { AreOpen (has block) self.old }
-        requires room { HasRoom 1 (has block) self.old }
-        ensures done { result ≡ option_map done_of (act_in image.now self.old) }
-        ensures fits { IfSome result DoneFits }
-        ensures turn { IsTurn image.now (has block) self.old self.new }
+        ensures did { DidTurn image.now (has block) self.old self.new result }
     {
         let want = self.guest.load_wanted(image, instr);
         let answer = answer(self, image, want, None);
@@ -222,15 +199,10 @@ impl Context {
     #[cold]
     #[inline(never)]
     fn fault_turn(&mut self, image: &Image, block: Held, fault: Fault) -> Option<Done>
-        requires go { CanGo image.now self.old }
+        requires may { MayTurn image.now (has block) 1 self.old }
         requires next { next_lock image.now (thread_in self.old) ≡ None }
         requires fault { instruction_at image.now self.old.guest.regs.pc ≡ Err fault }
-        requires covers { Covers image.now (has block) (thread_in self.old) }
-        requires opened { AreOpen (has block) self.old }
-        requires room { HasRoom 1 (has block) self.old }
-        ensures done { result ≡ option_map done_of (act_in image.now self.old) }
-        ensures fits { IfSome result DoneFits }
-        ensures turn { IsTurn image.now (has block) self.old self.new }
+        ensures did { DidTurn image.now (has block) self.old self.new result }
     {
         let held = self.guest.held();
         let done = self.guest.fault(image, fault);
@@ -277,13 +249,10 @@ impl Context {
     /// that the first turn takes.
     fn turns(&mut self, image: &Image, code: &Code, block: Held, takes: Option<u32>) -> Turns
         requires code { code.now ≡ image.now }
-        requires go { CanGo image.now self.old }
+        requires may { MayTurn image.now (has block) MAX_TURNS self.old }
         requires takes { takes ≡ next_lock image.now (thread_in self.old) }
-        requires covers { Covers image.now (has block) (thread_in self.old) }
-        requires opened { AreOpen (has block) self.old }
-        requires room { HasRoom 4096 (has block) self.old }
         ensures runs { RunsAs image.now self.old self.new result.count result.end }
-        ensures most { result.count ≤ 4096 }
+        ensures most { result.count ≤ MAX_TURNS }
         ensures end { IsEnd result.end }
         ensures slept { result.slept ≡ slept_in image.now self.old result.count }
         ensures journals { AreNoted image.now (has block) result.count self.old self.new }

@@ -3,6 +3,7 @@
 ghost use Rattle.std.specs.Prelude.{◌≡◌, ℕ, ◌<◌, ◌≤◌, ◌&&◌, true, false, is_some, length, set, Some, None, IfOk, OnOk, OnErr};
 ghost use Rattle.std.specs.Option.{option_map};
 ghost use Rattle.tc_isa.specs.Sets.{has};
+ghost use Rattle.tc_isa.specs.declared.limits.TheConstants.{MAX_TURNS};
 ghost use Rattle.tc_elf.specs.Places.{in_guard};
 ghost use Rattle.tc_exec.specs.Told.{IsWidth};
 ghost use Rattle.tc_turn.specs.Replay.{takes_word as takes};
@@ -292,7 +293,7 @@ impl LockSet {
     fn reserve_one(&mut self, lock: u32, held: Held) -> Result<(), AllocError>
         requires { lock < 32 }
         ensures ok { OnOk result
-            (Changed (one_place (roomy_in (has held) 1 4096) lock) self.old self.new) }
+            (Changed (one_place (roomy_in (has held) 1 MAX_TURNS) lock) self.old self.new) }
         ensures err { OnErr result (Changed (λ k l. l) self.old self.new) }
     {
         match &mut self.places[lock as usize] {
@@ -303,7 +304,7 @@ impl LockSet {
 
     /// Makes room for one entry and its words in each of these locks.
     pub fn reserve(&mut self, held: Held) -> Result<(), AllocError>
-        ensures ok { OnOk result (Changed (roomy_in (has held) 1 4096) self.old self.new) }
+        ensures ok { OnOk result (Changed (roomy_in (has held) 1 MAX_TURNS) self.old self.new) }
         ensures err { OnErr result (SameLocks self.old self.new) }
     {
         let mut left = held;

@@ -9,7 +9,6 @@ ghost use Rattle.tc_journal.specs.declared.block.Block.{Block};
 ghost use Rattle.tc_journal.specs.declared.block.End.TheVariants.{Slept};
 ghost use Rattle.tc_turn.specs.declared.status.Status.TheVariants.{Running};
 ghost use Rattle.tc_segment.specs.View.{IsAtRest, sealed_block};
-ghost use Rattle.tc_context.specs.declared.package.TheConstants.{MAX_NUMBER};
 ghost use Rattle.tc_context.specs.Locks.{lock_in, IsPlaced};
 ghost use Rattle.tc_context.specs.Ran.{DidRun};
 ghost use Rattle.tc_context.specs.View.{granted_lock, want_of, kind_of, fits_of, number_in, with_grant, with_seal, with_turns, without_lock};
@@ -380,7 +379,7 @@ impl Package {
     /// The number of the next queue turn: 1, 2, 3 and so on. It stays at 16,777,215 once it is
     /// there.
     pub fn next_number(&mut self) -> u64
-        ensures is { result ≡ min (self.old.turns + 1) MAX_NUMBER }
+        ensures is { result ≡ min (self.old.turns + 1) 16777215 }
         ensures number { IsNumber result }
         ensures rest { self.new ≡ with_turns result self.old }
     {

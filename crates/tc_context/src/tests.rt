@@ -1,4 +1,5 @@
 ghost use Rattle.std.specs.Prelude.{◌≡◌, ◌==◌, ℕ, true, false, None, OnOk, if◌then◌else◌};
+ghost use Rattle.tc_context.specs.View.{IsNumber};
 ghost use Rattle.tc_context.specs.Whole.{set_of};
 
 use crate::package::Package;
@@ -15,8 +16,8 @@ use tc_journal::block::{Block, End, Kind};
 use tc_segment::state::LockState;
 use tc_turn::status::Status;
 
-/// The words of a guest's file with one thread, at 0x00100000, and two guards of 4 bytes, at
-/// 0x00020000 and 0x00020004. The word behind them is the thread's own. The thread releases its
+/// The words of a guest's file with one thread, at 0x00100000 and with the argument 0, and two guards
+/// of 4 zero bytes, at 0x00020000 and 0x00020004, which are all of its data. The thread releases its
 /// locks in the order in which it took them:
 ///
 /// ```text
@@ -26,24 +27,36 @@ use tc_turn::status::Status;
 /// addi x10,x0,1   addi x17,x0,2   ecall   unlock 1, its 12th turn
 /// addi x17,x0,93                  ecall   exit, its 14th turn
 /// ```
-const TWO_LOCKS: [u32; 68] = [
+const TWO_LOCKS: [u32; 67] = [
     // The header.
     0x464c457f, 0x00010101, 0x00000000, 0x00000000, 0x00f30002, 0x00000001, 0x00100000, 0x00000034,
     0x00000000, 0x00000000, 0x00200034, 0x00000003, 0x00000000,
     // The headers of the note, the code and the data.
     0x00000004, 0x00000094, 0x00000000, 0x00000000, 0x00000038, 0x00000038, 0x00000004, 0x00000004,
     0x00000001, 0x000000cc, 0x00100000, 0x00100000, 0x00000038, 0x00000038, 0x00000005, 0x00000004,
-    0x00000001, 0x00000104, 0x00020000, 0x00020000, 0x0000000c, 0x0000000c, 0x00000006, 0x00000004,
+    0x00000001, 0x00000104, 0x00020000, 0x00020000, 0x00000008, 0x00000008, 0x00000006, 0x00000004,
     // The note on threads and guards.
     0x00000008, 0x00000024, 0x00000001, 0x4f4c4354, 0x00534b43, 0x00000001, 0x00000001, 0x00000002,
-    0x00100000, 0x00000007, 0x00020000, 0x00000004, 0x00020004, 0x00000004,
+    0x00100000, 0x00000000, 0x00020000, 0x00000004, 0x00020004, 0x00000004,
     // The code and the data.
     0x00000513, 0x00100893, 0x00000073, 0x00100513, 0x00100893, 0x00000073, 0x00000513, 0x00200893,
-    0x00000073, 0x00100513, 0x00200893, 0x00000073, 0x05d00893, 0x00000073, 0x44332211, 0x88776655,
-    0xccbbaa99,
+    0x00000073, 0x00100513, 0x00200893, 0x00000073, 0x05d00893, 0x00000073, 0x00000000, 0x00000000,
 ];
 
-fn image_of(alloc: Global, words: [u32; 68]) -> Result<Image, Refusal> {
+/// The same, but with the argument 7, data that is not zero, and a word behind the guards, which is
+/// the thread's own.
+fn with_own(alloc: Global) -> Result<Image, Refusal> {
+    let mut words = Vec::from_array(alloc, TWO_LOCKS)?;
+    words[33] = 12;
+    words[34] = 12;
+    words[46] = 7;
+    words[65] = 0x4433_2211;
+    words[66] = 0x8877_6655;
+    words.push(0xccbb_aa99)?;
+    image_of(alloc, &words)
+}
+
+fn image_of(alloc: Global, words: &[u32]) -> Result<Image, Refusal> {
     let mut bytes = Vec::new(alloc);
     for word in words {
         bytes.extend_from_slice(&word.to_le_bytes())?;
@@ -52,7 +65,7 @@ fn image_of(alloc: Global, words: [u32; 68]) -> Result<Image, Refusal> {
 }
 
 fn two_locks(alloc: Global) -> Result<Image, Refusal> {
-    image_of(alloc, TWO_LOCKS)
+    image_of(alloc, &TWO_LOCKS)
 }
 
 /// Runs a block of a package by worker 0, which ends so, and seals it.
@@ -85,18 +98,21 @@ fn step<R: Abort>(
     Ok(())
 }
 
-/// Grants a package the lock that it wants, with the bytes of the file and no section yet.
+/// Grants a package the lock that it wants, with the bytes of the file and no section yet, as the
+/// queue turn of this number.
 fn grant_new<R: Abort>(
     rt: &R,
     alloc: Global,
     package: &mut Package,
     image: &Image,
     lock: u32,
+    number: u64,
 ) -> Result<(), AllocError>
     requires image { «package».old.image ≡ image.now }
     requires pending { «package».old.pending ≡ None }
     requires granted { «package».old.granted ≡ None }
     requires absent { set_of «package».old.context lock ≡ false }
+    requires number { IsNumber number }
     ensures image { «package».new.image ≡ «package».old.image }
     ensures pending { OnOk result («package».new.pending ≡ None) }
     ensures locks { OnOk result ((k : ℕ) → set_of «package».new.context k ≡ (if k == lock then true else set_of «package».old.context k)) }
@@ -105,7 +121,6 @@ fn grant_new<R: Abort>(
     assert!(rt; package.want(image) == Some(lock));
     let state = LockState::new(alloc, image, lock, 4)?;
     assert!(rt; state.allows(Kind::Taken, 7) && !state.allows(Kind::Granted, 7));
-    let number = package.next_number();
     package.grant(state, Kind::Taken, number);
     assert!(rt; package.granted() == Some(lock));
     Ok(())
@@ -158,7 +173,7 @@ fn journal(alloc: Global, lock: &LockState) -> Result<Vec<(Block, u32, Vec<u32>)
 /// A package before its first block.
 #[test]
 fn a_package_starts_without_a_lock(rt: HostRuntime) -> Result<(), Fail> {
-    let image = two_locks(rt.alloc())?;
+    let image = with_own(rt.alloc())?;
     assert_eq!(rt; image.threads(), 1);
     let mut package = Package::start(rt.alloc(), &image, 0, 100)?;
     assert_eq!(rt; package.thread(), 0);
@@ -194,7 +209,7 @@ fn a_package_sleeps(rt: HostRuntime) -> Result<(), Fail> {
     let mut words = TWO_LOCKS;
     words[51] = 0x0090_0513;
     words[52] = 0x0030_0893;
-    let image = image_of(rt.alloc(), words)?;
+    let image = image_of(rt.alloc(), &words)?;
     assert_eq!(rt; image.threads(), 1);
     let mut package = Package::start(rt.alloc(), &image, 0, 100)?;
     step(&rt, &mut package, &image, 0, End::Slept)?;
@@ -212,6 +227,19 @@ fn a_package_sleeps(rt: HostRuntime) -> Result<(), Fail> {
     Ok(())
 }
 
+/// A lock that came with the greatest number of a queue turn.
+#[test]
+fn a_lock_comes_with_the_greatest_number(rt: HostRuntime) -> Result<(), Fail> {
+    let alloc = rt.alloc();
+    let image = two_locks(alloc)?;
+    assert_eq!(rt; image.threads(), 1);
+    let mut package = Package::start(alloc, &image, 0, 100)?;
+    step(&rt, &mut package, &image, 0, End::Wants(0))?;
+    grant_new(&rt, alloc, &mut package, &image, 0, 16_777_215)?;
+    assert_eq!(rt; package.number_of(0), 16_777_215);
+    Ok(())
+}
+
 /// The blocks of a package from its start to its end, and the journals of its locks.
 #[test]
 fn a_package_runs_to_its_end(rt: HostRuntime) -> Result<(), Fail> {
@@ -220,9 +248,11 @@ fn a_package_runs_to_its_end(rt: HostRuntime) -> Result<(), Fail> {
     assert_eq!(rt; image.threads(), 1);
     let mut package = Package::start(alloc, &image, 0, 100)?;
     step(&rt, &mut package, &image, 0, End::Wants(0))?;
-    grant_new(&rt, alloc, &mut package, &image, 0)?;
+    let first = package.next_number();
+    grant_new(&rt, alloc, &mut package, &image, 0, first)?;
     step(&rt, &mut package, &image, 1, End::Wants(1))?;
-    grant_new(&rt, alloc, &mut package, &image, 1)?;
+    let second = package.next_number();
+    grant_new(&rt, alloc, &mut package, &image, 1, second)?;
     step(&rt, &mut package, &image, 2, End::Unlocked(0))?;
     let zero = take_out(&rt, &mut package, 0, 1);
     step(&rt, &mut package, &image, 3, End::Unlocked(1))?;
@@ -292,7 +322,7 @@ fn check_zero<R: Abort>(rt: &R, alloc: Global, lock: &LockState) -> Result<(), A
     }
     assert_eq!(rt; lock.number(), 0);
     assert_eq!(rt; lock.limit(), 4);
-    assert_eq!(rt; lock.bytes(), [0x11, 0x22, 0x33, 0x44].as_slice());
+    assert_eq!(rt; lock.bytes(), [0, 0, 0, 0].as_slice());
     assert_eq!(rt; lock.sections(), 1);
     assert_eq!(rt; lock.run(), 0);
     assert!(rt; !lock.broken());
@@ -325,7 +355,7 @@ fn check_one<R: Abort>(rt: &R, alloc: Global, lock: &LockState) -> Result<(), Al
     assert_eq!(rt; told[1].1, 91);
     assert!(rt; told[1].2.is_empty());
     assert_eq!(rt; lock.number(), 1);
-    assert_eq!(rt; lock.bytes(), [0x55, 0x66, 0x77, 0x88].as_slice());
+    assert_eq!(rt; lock.bytes(), [0, 0, 0, 0].as_slice());
     assert_eq!(rt; lock.sections(), 1);
     assert!(rt; lock.allows(Kind::Taken, 3));
     assert!(rt; !lock.allows(Kind::Granted, 0));

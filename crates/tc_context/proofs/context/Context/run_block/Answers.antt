@@ -1,10 +1,9 @@
-use Rattle.std.proofs.Common.{true, ◌≡◌, ℕ, ◌-◌, ◌<◌, ap, sym, ◌∙◌, subst, arith, rules}
-use Rattle.std.specs.Prelude.{IfSome, Some}
+use Rattle.std.proofs.Common.{true, ◌≡◌, ℕ, ◌-◌, ◌<◌, ap, sym, ◌∙◌, subst, arith, rules, IfSome, Some}
 use Rattle.tc_context.proofs.Vocabulary.{option_map, has, LockView, ClosesWith, lock_in, EachHeld, Changed, closed_in, thread_in, journal_in}
 use Rattle.tc_mutex_spec.specs.Blocks.{locks_of_block}
 use Rattle.tc_mutex_spec.proofs.Going.{next_small}
 use Rattle.tc_context.proofs.Partway.{runs_some}
-use Rattle.tc_context.proofs.Blocked.{begins_from, begun_go, begun_covers, begun_opened, begun_room, closes_image, closes_opened, closes, old_slept, finished_runs, finished_journals}
+use Rattle.tc_context.proofs.Blocked.{begins_from, begun_may, closes_image, closes_opened, closes, old_slept, finished_runs, finished_journals}
 use Rattle.tc_context.proofs.context.Context.run_block.Goals as goal
 
 pub block_held-held-requires : goal.block_held-held-requires
@@ -25,11 +24,8 @@ turns-turns-requires c =
     let begins = begins_from image old held c.held.result c.fuel-fuel.result c.args.takes c.regs.result.now opening c.requires.takes c.held.ensures c.regs.ensures c.fuel-fuel.ensures c.block_held-held.ensures c.open_entries.ensures in
     record {
       code = c.requires.code;
-      go = begun_go image old held opening c.requires.go c.requires.ready begins;
+      may = begun_may image old held opening c.requires.go c.requires.ready begins;
       takes = c.requires.takes;
-      covers = begun_covers image old held opening c.requires.go c.requires.ready begins;
-      opened = begun_opened image old held opening c.requires.go c.requires.ready begins;
-      room = begun_room image old held opening c.requires.go c.requires.ready begins;
     }
 
 pub close_entries-requires : goal.close_entries-requires

@@ -1,5 +1,4 @@
-use Rattle.std.proofs.Common.{◌+◌, ◌∙◌, ap, sym, subst, arith}
-use Rattle.std.specs.Prelude.{Some}
+use Rattle.std.proofs.Common.{◌+◌, ◌∙◌, ap, sym, subst, arith, Some}
 use Rattle.tc_context.proofs.Vocabulary.{has, next_lock, thread_in, RunsAs, act_in, AreNoted}
 use Rattle.tc_exec.specs.declared.outcome.Done.TheVariants.{Went}
 use Rattle.tc_journal.specs.Rule.{end_rule}
@@ -8,7 +7,7 @@ use Rattle.tc_turn.specs.InPlace.{outcome_done}
 use Rattle.tc_turn.proofs.InPlace.{same_outcome}
 use Rattle.tc_context.specs.Ran.{slept_in, slept_by}
 use Rattle.tc_mutex_spec.proofs.Going.{end_done, next_small}
-use Rattle.tc_context.proofs.Partway.{partway_start, partway_more, partway_own, partway_ends, partway_slept, noted_next, opened_here, room_here, taken, own_some, sleeps_not}
+use Rattle.tc_context.proofs.Partway.{partway_start, partway_more, partway_own, partway_ends, partway_slept, noted_next, may_here, taken, own_some, sleeps_not}
 use Rattle.tc_context.proofs.context.Context.turns.Goals as goal
 
 pub turn-done-requires : goal.turn-done-requires
@@ -16,14 +15,7 @@ turn-done-requires c =
     let image = c.args.image.now in
     let own = c.own_turns-own in
     let mid = partway_own image (has c.args.block) c.args.self.now c.block.self own.new.self c.block.count own.result.count own.result.ahead.lock c.block.invariant.partway own.ensures.most own.ensures.turns own.ensures.none own.ensures.ahead.lock (sym c.own_end.ensures ∙ c.in_default.is) in
-    record {
-      code = c.requires.code;
-      go = mid.go;
-      ahead = own.ensures.ahead;
-      covers = mid.covers;
-      opened = opened_here image (has c.args.block) c.args.self.now own.new.self (c.block.count + own.result.count) c.requires.opened mid;
-      room = room_here image (has c.args.block) c.args.self.now own.new.self (c.block.count + own.result.count) c.requires.opened c.requires.room mid;
-    }
+    record { code = c.requires.code; may = may_here image (has c.args.block) c.args.self.now own.new.self (c.block.count + own.result.count) c.requires.may mid; ahead = own.ensures.ahead }
 
 -- behind turns of the thread's own
 pub returns-in-Some : goal.returns-in-Some
@@ -37,9 +29,9 @@ returns-in-Some c =
     let rule = (λ i. end_rule outcome.Went n (sym own.ahead.lock i)) ∙ some.1 in
     let ends = (λ i. end_rule (t.went i) (sym t.count i) (next_lock image (thread_in new))) ∙ rule in
     record {
-      runs = subst (λ n. RunsAs image c.args.self.now new n c.in-Some.end) (sym t.count) (partway_ends image (has c.args.block) c.args.self.now t.last new t.before c.in-Some.end t.partway t.turn ends c.requires.go);
+      runs = subst (λ n. RunsAs image c.args.self.now new n c.in-Some.end) (sym t.count) (partway_ends image (has c.args.block) c.args.self.now t.last new t.before c.in-Some.end t.partway t.turn ends c.requires.may.go);
       most = (let short = c.block.invariant.partway.short in let few = own.most in omega arith);
-      end = end_done (Some Went) n (next_lock image (thread_in new)) c.in-Some.end tt (next_small image (thread_in new) c.requires.go.guards) rule;
+      end = end_done (Some Went) n (next_lock image (thread_in new)) c.in-Some.end tt (next_small image (thread_in new) c.requires.may.go.guards) rule;
       slept = sym (sleeps_not (act_in image t.last) t.went) ∙ partway_slept image (has c.args.block) c.args.self.now t.last new t.before t.partway t.turn ∙ ap (slept_in image c.args.self.now) (sym t.count);
       journals = subst (λ n. AreNoted image (has c.args.block) n c.args.self.now new) (sym t.count) (noted_next image (has c.args.block) c.args.self.now t.last new t.before t.partway t.turn);
       next = own.ahead.lock;
@@ -53,13 +45,13 @@ returns-in-Some-end_of c =
     let turn = c.turn-done in
     let n = c.block.count + own.result.count in
     let mid = partway_own image (has c.args.block) c.args.self.now c.block.self own.new.self c.block.count own.result.count own.result.ahead.lock c.block.invariant.partway own.ensures.most own.ensures.turns own.ensures.none own.ensures.ahead.lock (sym c.own_end.ensures ∙ c.in_default.is) in
-    let ends = sym (ap (λ o. end_rule o (n + 1) (next_lock image (thread_in turn.new.self))) (c.outcome_by.ensures ∙ ap outcome_done turn.ensures.done ∙ same_outcome (act_in image own.new.self))) ∙ ap (λ o. end_rule c.outcome_by.result (n + 1) o) (sym c.ahead-ahead.ensures.lock) ∙ sym c.end_of.ensures ∙ c.in-Some-end_of.is in
+    let ends = sym (ap (λ o. end_rule o (n + 1) (next_lock image (thread_in turn.new.self))) (c.outcome_by.ensures ∙ ap outcome_done turn.ensures.did.done ∙ same_outcome (act_in image own.new.self))) ∙ ap (λ o. end_rule c.outcome_by.result (n + 1) o) (sym c.ahead-ahead.ensures.lock) ∙ sym c.end_of.ensures ∙ c.in-Some-end_of.is in
     record {
-      runs = partway_ends image (has c.args.block) c.args.self.now own.new.self turn.new.self n c.in-Some-end_of.end mid turn.ensures.turn ends c.requires.go;
+      runs = partway_ends image (has c.args.block) c.args.self.now own.new.self turn.new.self n c.in-Some-end_of.end mid turn.ensures.did.turn ends c.requires.may.go;
       most = (let short = mid.short in omega arith);
-      end = end_done turn.result (n + 1) (next_lock image (thread_in turn.new.self)) c.in-Some-end_of.end turn.ensures.fits (next_small image (thread_in turn.new.self) c.requires.go.guards) (ap (λ o. end_rule o (n + 1) (next_lock image (thread_in turn.new.self))) (ap outcome_done turn.ensures.done ∙ same_outcome (act_in image own.new.self)) ∙ ends);
-      slept = c.slept_by.ensures ∙ ap slept_by turn.ensures.done ∙ partway_slept image (has c.args.block) c.args.self.now own.new.self turn.new.self n mid turn.ensures.turn;
-      journals = noted_next image (has c.args.block) c.args.self.now own.new.self turn.new.self n mid turn.ensures.turn;
+      end = end_done turn.result (n + 1) (next_lock image (thread_in turn.new.self)) c.in-Some-end_of.end turn.ensures.did.fits (next_small image (thread_in turn.new.self) c.requires.may.go.guards) (ap (λ o. end_rule o (n + 1) (next_lock image (thread_in turn.new.self))) (ap outcome_done turn.ensures.did.done ∙ same_outcome (act_in image own.new.self)) ∙ ends);
+      slept = c.slept_by.ensures ∙ ap slept_by turn.ensures.did.done ∙ partway_slept image (has c.args.block) c.args.self.now own.new.self turn.new.self n mid turn.ensures.did.turn;
+      journals = noted_next image (has c.args.block) c.args.self.now own.new.self turn.new.self n mid turn.ensures.did.turn;
       next = c.ahead-ahead.ensures.lock;
     }
 
@@ -70,8 +62,8 @@ block-preserved c =
     let turn = c.turn-done in
     let n = c.block.count + own.result.count in
     let mid = partway_own image (has c.args.block) c.args.self.now c.block.self own.new.self c.block.count own.result.count own.result.ahead.lock c.block.invariant.partway own.ensures.most own.ensures.turns own.ensures.none own.ensures.ahead.lock (sym c.own_end.ensures ∙ c.in_default.is) in
-    let goes = sym (ap (λ o. end_rule o (n + 1) (next_lock image (thread_in turn.new.self))) (c.outcome_by.ensures ∙ ap outcome_done turn.ensures.done ∙ same_outcome (act_in image own.new.self))) ∙ ap (λ o. end_rule c.outcome_by.result (n + 1) o) (sym c.ahead-ahead.ensures.lock) ∙ sym c.end_of.ensures ∙ c.in_default-end_of.is in
-    record { partway = partway_more image (has c.args.block) c.args.self.now own.new.self turn.new.self n mid turn.ensures.turn goes; ahead = c.ahead-ahead.ensures }
+    let goes = sym (ap (λ o. end_rule o (n + 1) (next_lock image (thread_in turn.new.self))) (c.outcome_by.ensures ∙ ap outcome_done turn.ensures.did.done ∙ same_outcome (act_in image own.new.self))) ∙ ap (λ o. end_rule c.outcome_by.result (n + 1) o) (sym c.ahead-ahead.ensures.lock) ∙ sym c.end_of.ensures ∙ c.in_default-end_of.is in
+    record { partway = partway_more image (has c.args.block) c.args.self.now own.new.self turn.new.self n mid turn.ensures.did.turn goes; ahead = c.ahead-ahead.ensures }
 
 pub block-init : goal.block-init
-block-init c = record { partway = partway_start c.args.image.now (has c.args.block) c.args.self.now c.requires.go c.requires.covers; ahead = record { lock = c.requires.takes; instr = tt } }
+block-init c = record { partway = partway_start c.args.image.now (has c.args.block) c.args.self.now c.requires.may.go c.requires.may.covers; ahead = record { lock = c.requires.takes; instr = tt } }

@@ -1,5 +1,5 @@
 use Rattle.std.proofs.Common.{◌-◌}
-use Rattle.tc_context.proofs.Vocabulary.{has, thread_in}
+use Rattle.tc_context.proofs.Vocabulary.{has, MAX_TURNS, thread_in}
 use Rattle.tc_turn.specs.Ahead.{IsAhead}
 use Rattle.tc_context.proofs.Partway.{Partway}
 use Rattle.tc_context.proofs.context.Context.turns.Given as goal
@@ -11,4 +11,4 @@ invariant-block l = record {
 }
 
 abbrev pub decreases-block : goal.decreases-block
-decreases-block l = 4096 - l.count
+decreases-block l = MAX_TURNS - l.count

@@ -1,5 +1,4 @@
-use Rattle.std.proofs.Common.{◌∙◌, ◌<◌, length, ap, sym, arith}
-use Rattle.std.specs.Prelude.{Some}
+use Rattle.std.proofs.Common.{◌∙◌, ◌<◌, length, ap, sym, arith, Some}
 use Rattle.tc_context.proofs.Vocabulary.{option_map, has, LockView, with_end, with_journal, closed_with, lock_in, when_in, at_place, closed_in}
 use Rattle.tc_context.proofs.LockList.{place_is, changed_place}
 use Rattle.tc_context.proofs.locks.LockSet.close_one.Goals.{in-Some+then-has, in-Some+else-has, in_default}

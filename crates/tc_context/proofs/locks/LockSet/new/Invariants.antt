@@ -1,5 +1,4 @@
-use Rattle.std.proofs.Common.{◌≡◌, replicate}
-use Rattle.std.specs.Prelude.{None}
+use Rattle.std.proofs.Common.{◌≡◌, replicate, None}
 use Rattle.tc_context.proofs.locks.LockSet.new.Given as goal
 
 abbrev pub invariant-loop-lock : goal.invariant-loop-lock

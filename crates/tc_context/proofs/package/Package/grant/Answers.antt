@@ -1,5 +1,4 @@
-use Rattle.std.proofs.Common.{◌≡◌, ◌==◌, ◌∙◌, true, ap, sym, subst, set, arith}
-use Rattle.std.specs.Prelude.{Some, slice_index_or, if◌then◌else◌}
+use Rattle.std.proofs.Common.{◌≡◌, ◌==◌, ◌∙◌, true, ap, sym, subst, set, arith, Some, slice_index_or, if◌then◌else◌}
 use Rattle.tc_context.proofs.Vocabulary.{last_of, passes_to, IsAtRest, blocks_of, PackageView, IsSoundPackage, IsWaiting, number_in, view_of}
 use Rattle.tc_mutex_spec.proofs.ListLaws.{get_or-set}
 use Rattle.tc_context.proofs.Staging.{shows, granted_sound, set_with, wanted}

@@ -1,5 +1,4 @@
-use Rattle.std.proofs.Common.{ap, ◌∙◌}
-use Rattle.std.specs.Prelude.{is_some}
+use Rattle.std.proofs.Common.{ap, ◌∙◌, is_some}
 use Rattle.tc_context.proofs.Vocabulary.{lock_in, PackageView, view_of}
 use Rattle.tc_context.proofs.Staging.{some_of, shows, place_small}
 use Rattle.tc_context.proofs.package.Package.number_of.Goals as goal

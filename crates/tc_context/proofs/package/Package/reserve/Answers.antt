@@ -1,5 +1,4 @@
-use Rattle.std.proofs.Common.{◌≡◌, List, length, arith, ap, subst, sym, ◌∙◌}
-use Rattle.std.specs.Prelude.{is_some}
+use Rattle.std.proofs.Common.{◌≡◌, List, length, arith, ap, subst, sym, ◌∙◌, is_some}
 use Rattle.tc_context.proofs.Vocabulary.{has, Block, IsSoundPackage, view_of, pending_in}
 use Rattle.tc_context.proofs.Staging.{shows, with_rooms, same_locks, same_set, changed_set, sound_rooms}
 use Rattle.tc_context.proofs.package.Package.reserve.Goals as goal

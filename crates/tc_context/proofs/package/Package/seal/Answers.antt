@@ -1,8 +1,7 @@
-use Rattle.std.proofs.Common.{◌∙◌, ◌-◌, set, refl, ap, sym, subst, arith}
-use Rattle.std.specs.Prelude.{is_some}
-use Rattle.tc_context.proofs.Vocabulary.{has, sealed_block, Changed, sealed_in, PackageView, IsSoundPackage, Allows, with_seal, view_of}
+use Rattle.std.proofs.Common.{◌∙◌, refl, ap, sym, subst, arith, is_some}
+use Rattle.tc_context.proofs.Vocabulary.{has, PackageView, IsSoundPackage, Allows, with_seal, view_of}
 use Rattle.tc_context.proofs.Staging.{shows, changed_set}
-use Rattle.tc_context.proofs.Running.{pending_last, seal_closed, seal_follows, seal_passes, sealed_sound, seal_all, seal_is}
+use Rattle.tc_context.proofs.Running.{pending_last, seal_closed, seal_follows, seal_passes, sealed_sound, seal_is}
 use Rattle.tc_context.proofs.package.Package.seal.Goals as goal
 
 pub seal_last-held-requires : goal.seal_last-held-requires
@@ -29,16 +28,12 @@ seal-requires c =
 pub invariant_of-self : goal.invariant_of-self
 invariant_of-self c =
     let s = shows c.deref_mut-contents.ensures.value c.self.view_is c.self.invariant in
-    let a = c.deref_mut-contents.result.now in
-    let p = view_of a in
+    let p = view_of c.deref_mut-contents.result.now in
     let l = pending_last p s.kept.sound (ap (λ (v : PackageView). is_some v.pending) s.is ∙ c.requires.pending) in
-    let b = l.block in
     let last = c.seal_last-held.ensures in
-    let changed = subst (λ n. Changed (sealed_in (has n) c.args.stamp c.args.worker) p.context.locks c.seal.new.self) (last.held b l.last) c.seal.ensures in
-    let locks = seal_all p b c.args.stamp c.args.worker c.seal.new.self s.kept.sound l.pending c.bound.ensures.places changed in
-    let logged = last.log b l.last ∙ ap (λ n. set p.log (n - 1) (sealed_block c.args.stamp c.args.worker b)) a.log.ok.0 in
+    let is = seal_is p l c.args.stamp c.args.worker c.seal_last-held.result _ _ c.seal.new.self s.kept.sound (last.held l.block l.last) c.deref_mut-contents.result.now.log.ok.0 c.bound.ensures.places c.seal.ensures (last.log l.block l.last) in
     record {
-      sound = subst IsSoundPackage (sym (seal_is p b c.args.stamp c.args.worker _ c.seal.new.self l.pending logged locks)) (sealed_sound p b c.args.stamp c.args.worker s.kept.sound l.pending);
+      sound = subst IsSoundPackage (sym is) (sealed_sound p l.block c.args.stamp c.args.worker s.kept.sound l.pending);
       code = s.kept.code;
       next = s.kept.next;
       present = λ k. changed_set _ p.context.locks c.seal.new.self c.seal.ensures k ∙ s.kept.present k;
@@ -49,12 +44,8 @@ invariant_of-self c =
 pub returns : goal.returns
 returns c =
     let s = shows c.deref_mut-contents.ensures.value c.self.view_is c.self.invariant in
-    let a = c.deref_mut-contents.result.now in
-    let p = view_of a in
+    let p = view_of c.deref_mut-contents.result.now in
     let l = pending_last p s.kept.sound (ap (λ (v : PackageView). is_some v.pending) s.is ∙ c.requires.pending) in
-    let b = l.block in
     let last = c.seal_last-held.ensures in
-    let changed = subst (λ n. Changed (sealed_in (has n) c.args.stamp c.args.worker) p.context.locks c.seal.new.self) (last.held b l.last) c.seal.ensures in
-    let locks = seal_all p b c.args.stamp c.args.worker c.seal.new.self s.kept.sound l.pending c.bound.ensures.places changed in
-    let logged = last.log b l.last ∙ ap (λ n. set p.log (n - 1) (sealed_block c.args.stamp c.args.worker b)) a.log.ok.0 in
-    seal_is p b c.args.stamp c.args.worker _ c.seal.new.self l.pending logged locks ∙ ap (with_seal c.args.stamp c.args.worker) s.is
+    let is = seal_is p l c.args.stamp c.args.worker c.seal_last-held.result _ _ c.seal.new.self s.kept.sound (last.held l.block l.last) c.deref_mut-contents.result.now.log.ok.0 c.bound.ensures.places c.seal.ensures (last.log l.block l.last) in
+    is ∙ ap (with_seal c.args.stamp c.args.worker) s.is

@@ -1,5 +1,4 @@
-use Rattle.std.proofs.Common.{refl, arith, ap, subst, sym, ◌∙◌, ◌==◌}
-use Rattle.std.specs.Prelude.{is_some}
+use Rattle.std.proofs.Common.{refl, arith, ap, subst, sym, ◌∙◌, ◌==◌, is_some}
 use Rattle.std.proofs.lemmas.Nat.Bits.{bit_at-zero}
 use Rattle.tc_context.proofs.Vocabulary.{has, next_lock, thread_in, KeptPackage}
 use Rattle.tc_context.proofs.Staging.{fresh_sound}

@@ -1,5 +1,4 @@
-use Rattle.std.proofs.Common.{◌<◌, ap, subst, sym, ◌∙◌}
-use Rattle.std.specs.Prelude.{is_some}
+use Rattle.std.proofs.Common.{◌<◌, ap, subst, sym, ◌∙◌, is_some}
 use Rattle.tc_context.proofs.Vocabulary.{has, IsAtRest, lock_in, PackageView, IsSoundPackage, view_of}
 use Rattle.tc_context.proofs.LockList.{with_locks}
 use Rattle.tc_context.proofs.Staging.{shows, place_small, at_rest, set_without, taken_sound}
