@@ -4,6 +4,7 @@ use Rattle.std.proofs.lemmas.Bool.Decides.{nat_tests}
 use native.Mathlib.Decide.{ℕ_discrete}
 use mathlib.Core.Logic.{dite}
 use Rattle.tc_isa.specs.Sets.{has, without_lock, locks_of}
+use Rattle.tc_isa.specs.declared.limits.TheConstants.{MAX_HELD}
 use Rattle.std.specs.Int.{bit_at}
 use Rattle.std.proofs.lemmas.Nat.{pow_pos}
 use Rattle.std.proofs.lemmas.Nat.Bits.{bit_at-zero}
@@ -240,15 +241,15 @@ pub none_left : (P : Type 0) (Q : ℕ → Type 0) (o : Option ℕ) → MatchOpti
 none_left P Q None h n = h
 none_left P Q (Some x) h n = absurd (n x refl)
 
--- the threads in the list and the locks that are left are four at most
-pub few_at_end : (v : Knows) (n : ℕ) (b : Block) (q : PackageView) → IsSoundPackage q → MayEnd v n b q → length (locks_of b.held) ≤ 4
+-- the threads in the list and the locks that are left are MAX_HELD at most
+pub few_at_end : (v : Knows) (n : ℕ) (b : Block) (q : PackageView) → IsSoundPackage q → MayEnd v n b q → length (locks_of b.held) ≤ MAX_HELD
 few_at_end v n b q s m = (left_after q.image q b s.left m.last).few
 
-pub few_more : (rest next i n m : ℕ) → ((k : ℕ) → has next k ≡ (not (k == i) && has rest k)) → has rest i ≡ true → i < 32 → n + length (locks_of rest) ≤ 4 → m ≤ n + 1 → m + length (locks_of next) ≤ 4
+pub few_more : (rest next i n m : ℕ) → ((k : ℕ) → has next k ≡ (not (k == i) && has rest k)) → has rest i ≡ true → i < 32 → n + length (locks_of rest) ≤ MAX_HELD → m ≤ n + 1 → m + length (locks_of next) ≤ MAX_HELD
 few_more rest next i n m each waits small few more = let less = less_few rest next i each waits small in omega arith
 
 -- so it has room for one more
-pub few_enough : (rest next i n : ℕ) → ((k : ℕ) → has next k ≡ (not (k == i) && has rest k)) → has rest i ≡ true → i < 32 → n + length (locks_of rest) ≤ 4 → n < 4
+pub few_enough : (rest next i n : ℕ) → ((k : ℕ) → has next k ≡ (not (k == i) && has rest k)) → has rest i ≡ true → i < 32 → n + length (locks_of rest) ≤ MAX_HELD → n < MAX_HELD
 few_enough rest next i n each waits small few = let less = less_few rest next i each waits small in omega arith
 
 -- ---- once all locks were passed on

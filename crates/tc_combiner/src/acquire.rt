@@ -37,7 +37,7 @@ fn is_running(package: &Package) -> bool
 }
 
 /// Puts a package back, as ready or, where its thread has ended, as done.
-pub fn put_back(hall: &Hall, pass: &mut Pass, package: Package)
+pub(crate) fn put_back(hall: &Hall, pass: &mut Pass, package: Package)
     requires own { pass.old.table ≡ hall.now.table }
     requires out { IsOut (outs pass.old.knows) (Pack «package») }
     requires plain { IsPlain (threads hall.now.terms) «package» }
@@ -55,7 +55,12 @@ pub fn put_back(hall: &Hall, pass: &mut Pass, package: Package)
 }
 
 /// Puts back the package in hand and the one set aside.
-pub fn put_all_back(hall: &Hall, pass: &mut Pass, package: Package, aside: &mut Option<Package>)
+pub(crate) fn put_all_back(
+    hall: &Hall,
+    pass: &mut Pass,
+    package: Package,
+    aside: &mut Option<Package>,
+)
     requires own { pass.old.table ≡ hall.now.table }
     requires out { Owned pass.old.knows (Pack «package» ∷ packed aside.old) }
     requires plain { IsPlain (threads hall.now.terms) «package» }
@@ -141,7 +146,7 @@ fn ship<Q: Waiters>(
 }
 
 /// What `acquire` does, with what it needs of the desk.
-pub fn acquire_with<R: Wait, Q: Waiters>(
+pub(crate) fn acquire_with<R: Wait, Q: Waiters>(
     rt: &R,
     hall: &Hall,
     pass: &mut Pass,

@@ -18,7 +18,7 @@ use tc_hall::pass::Pass;
 use tc_hall::place::Place;
 use tc_segment::state::LockState;
 
-pub fn put(hall: &Hall, pass: &mut Pass, package: Package, place: Place)
+pub(crate) fn put(hall: &Hall, pass: &mut Pass, package: Package, place: Place)
     requires own { pass.old.table ≡ hall.now.table }
     requires thread { «package».context.thread < threads hall.now.terms }
     requires place { IsInRange (locks hall.now.terms) place }
@@ -33,7 +33,7 @@ pub fn put(hall: &Hall, pass: &mut Pass, package: Package, place: Place)
     hall.put(pass, package, place);
 }
 
-pub fn free(hall: &Hall, pass: &mut Pass, lock: LockState)
+pub(crate) fn free(hall: &Hall, pass: &mut Pass, lock: LockState)
     requires own { pass.old.table ≡ hall.now.table }
     requires lock { lock.number < locks hall.now.terms }
     requires out { IsOut (outs pass.old.knows) (Loose lock) }
@@ -45,7 +45,7 @@ pub fn free(hall: &Hall, pass: &mut Pass, lock: LockState)
     hall.free(pass, lock);
 }
 
-pub fn adopt(hall: &Hall, pass: &mut Pass, t: u32, lock: u32) -> Result<Package, NotWaiting>
+pub(crate) fn adopt(hall: &Hall, pass: &mut Pass, t: u32, lock: u32) -> Result<Package, NotWaiting>
     requires own { pass.old.table ≡ hall.now.table }
     requires places { (t < threads hall.now.terms) × (lock < locks hall.now.terms) }
     ensures own { IsSamePass pass.old pass.new }
@@ -66,7 +66,7 @@ pub fn adopt(hall: &Hall, pass: &mut Pass, t: u32, lock: u32) -> Result<Package,
     }
 }
 
-pub fn take(hall: &Hall, pass: &mut Pass, lock: u32) -> Result<LockState, LockOut>
+pub(crate) fn take(hall: &Hall, pass: &mut Pass, lock: u32) -> Result<LockState, LockOut>
     requires own { pass.old.table ≡ hall.now.table }
     requires lock { lock < locks hall.now.terms }
     ensures own { IsSamePass pass.old pass.new }
@@ -84,7 +84,7 @@ pub fn take(hall: &Hall, pass: &mut Pass, lock: u32) -> Result<LockState, LockOu
     }
 }
 
-pub fn stopped(hall: &Hall, pass: &mut Pass) -> bool
+pub(crate) fn stopped(hall: &Hall, pass: &mut Pass) -> bool
     requires own { pass.old.table ≡ hall.now.table }
     ensures own { IsSamePass pass.old pass.new }
     ensures outs { outs pass.new.knows ≡ outs pass.old.knows }

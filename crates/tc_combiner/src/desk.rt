@@ -2,6 +2,7 @@
 
 ghost use Rattle.std.specs.Prelude.{ℕ, ◌≡◌, ◌≢◌, ◌<◌, ◌≤◌, ◌+◌, ◌-◌, ◌^◌, ◌++◌, [], ◌∷◌, None, Some, min, length, map};
 ghost use Rattle.std.specs.Borrow.{Lends, sem};
+ghost use Rattle.tc_isa.specs.declared.limits.TheConstants.{MAX_HELD};
 ghost use Rattle.tc_context.specs.View.{PackageView, with_seal};
 ghost use Rattle.tc_hall.specs.contracts.pass.Pass.{the_row as pass_row};
 ghost use Rattle.tc_park.specs.contracts.sleepers.Sleepers.{the_row as sleepers_row};
@@ -210,7 +211,7 @@ impl<Q: Waiters> Desk<Q> {
     /// granted a lock, and an adopted package that was handed back. None where the run was stopped.
     pub fn handed(&self) -> &[u32]
         ensures threads { result.now ≡ self.now.handed }
-        ensures few { length result.now ≤ 4 }
+        ensures few { length result.now ≤ MAX_HELD }
     {
         self.ready.as_slice()
     }

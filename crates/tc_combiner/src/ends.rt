@@ -2,6 +2,7 @@
 
 ghost use Rattle.std.specs.Prelude.{ℕ, ◌≡◌, ◌≢◌, ◌<◌, ◌≤◌, ◌-◌, ◌+◌, ◌^◌, ◌++◌, ◌⊎◌, [], ◌∷◌, None, Some, true, false, min, length, map, slice_set, get_or, is_some};
 ghost use Rattle.tc_isa.specs.Sets.{has, locks_of};
+ghost use Rattle.tc_isa.specs.declared.limits.TheConstants.{MAX_HELD};
 ghost use Rattle.tc_journal.specs.Batch.{ends_thread, last_of};
 ghost use Rattle.tc_journal.specs.declared.block.End.TheVariants.{Slept};
 ghost use Rattle.tc_segment.specs.View.{LockView};
@@ -36,7 +37,13 @@ use tc_park::Sleepers;
 use tc_queue::Waiters;
 
 /// Puts the package as parked, and enters its thread among the sleepers.
-pub fn park(hall: &Hall, pass: &mut Pass, sleepers: &mut Sleepers, clock: u64, package: Package)
+pub(crate) fn park(
+    hall: &Hall,
+    pass: &mut Pass,
+    sleepers: &mut Sleepers,
+    clock: u64,
+    package: Package,
+)
     requires own { pass.old.table ≡ hall.now.table }
     requires room { threads hall.now.terms ≤ length sleepers.old }
     requires out { IsOut (outs pass.old.knows) (Pack «package») }
@@ -98,7 +105,7 @@ fn end_one<R: Wait, Q: Waiters>(
     requires ended { ends_thread block.now.end ≡ true }
     requires seat { IsSeatOf (Q.queue queue.now) (Q.seen seat.old) }
     requires made { (Q.queue queue.now).threads ≡ threads hall.now.terms }
-    requires room { length ready.old.items < 4 }
+    requires room { length ready.old.items < MAX_HELD }
     ensures own { IsSamePass pass.old pass.new }
     ensures walks { Walks pass.old.knows pass.new.knows }
     ensures seat { IsSameSeat (Q.seen seat.old) (Q.seen seat.new) }
@@ -152,7 +159,7 @@ fn end_at<R: Wait, Q: Waiters>(
     requires seats { (q : Q) (s : Q.Seat)
         → IsSeatOf (Q.queue (get_or queues.now lock q)) (Q.seen (get_or seats.old lock s))
         × ((Q.queue (get_or queues.now lock q)).threads ≡ threads hall.now.terms) }
-    requires room { length ready.old.items < 4 }
+    requires room { length ready.old.items < MAX_HELD }
     ensures own { IsSamePass pass.old pass.new }
     ensures walks { Walks pass.old.knows pass.new.knows }
     ensures count { length seats.new ≡ length seats.old }
@@ -206,7 +213,7 @@ fn end_all<R: Wait, Q: Waiters>(
     requires out { Owned pass.old.knows (Pack «package».old ∷ []) }
     requires may { MayEnd pass.old.knows (threads hall.now.terms) block.now «package».old }
     requires seats { AreSeats hall.now.terms (map Q.queue queues.now) (map Q.seen seats.old) }
-    requires few { length (locks_of block.now.held) ≤ 4 }
+    requires few { length (locks_of block.now.held) ≤ MAX_HELD }
     requires none { ready.old.items ≡ [] }
     ensures own { IsSamePass pass.old pass.new }
     ensures walks { Walks pass.old.knows pass.new.knows }
@@ -231,7 +238,7 @@ fn end_all<R: Wait, Q: Waiters>(
 }
 
 /// What `settle` does at a thread's end.
-pub fn ended_with<R: Wait, Q: Waiters>(
+pub(crate) fn ended_with<R: Wait, Q: Waiters>(
     rt: &R,
     hall: &Hall,
     pass: &mut Pass,

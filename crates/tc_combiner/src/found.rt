@@ -4,7 +4,7 @@ use tc_queue::Turn;
 
 /// Who stands behind a turn.
 #[derive(Clone, Copy)]
-pub enum Found {
+pub(crate) enum Found {
     /// Nobody: the line was left.
     Nobody,
     /// This turn.

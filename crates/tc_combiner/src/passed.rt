@@ -4,7 +4,7 @@ use tc_context::package::Package;
 
 /// What became of a released lock.
 #[derive(Drop)]
-pub enum Passed {
+pub(crate) enum Passed {
     /// It is home.
     Home,
     /// It was granted to a waiter, which is ready.

@@ -2,6 +2,7 @@
 
 ghost use Rattle.std.specs.Prelude.{ℕ, ◌≡◌, ◌<◌, ◌++◌, [], ◌∷◌, None, Some, true, false, is_some, ◌≢◌, ◌+◌, ◌≤◌, length};
 ghost use Rattle.tc_isa.specs.Sets.{has};
+ghost use Rattle.tc_isa.specs.declared.limits.TheConstants.{MAX_HELD};
 ghost use Rattle.tc_journal.specs.Batch.{last_of};
 ghost use Rattle.tc_segment.specs.View.{LockView, IsAtRest, blocks_of};
 ghost use Rattle.tc_context.specs.View.{PackageView, IsNumber, number_in};
@@ -46,7 +47,7 @@ fn grant_to(
     requires other { block.now.thread ≢ next.thread }
     requires out { Owned pass.old.knows (Pack waiter ∷ Loose state ∷ []) }
     requires released { IsReleased pass.old.knows block.now state }
-    requires room { length ready.old.items < 4 }
+    requires room { length ready.old.items < MAX_HELD }
     ensures own { IsSamePass pass.old pass.new }
     ensures walks { Walks pass.old.knows pass.new.knows }
     ensures moves { Moves pass.old.knows pass.new.knows
@@ -84,7 +85,7 @@ fn hand_on<R: Wait>(
         × ((outs pass.old.knows).context block.now.thread ≡ Some q) }
     requires out { Owned pass.old.knows (Loose state ∷ []) }
     requires released { IsReleased pass.old.knows block.now state }
-    requires room { length ready.old.items < 4 }
+    requires room { length ready.old.items < MAX_HELD }
     ensures own { IsSamePass pass.old pass.new }
     ensures walks { Walks pass.old.knows pass.new.knows }
     ensures moves { Moves pass.old.knows pass.new.knows (Loose state ∷ []) (handed result) }
@@ -104,7 +105,7 @@ fn hand_on<R: Wait>(
 }
 
 /// Takes a released lock out of its package, and grants it to the turn behind or brings it home.
-pub fn pass_on<R: Wait, Q: Waiters>(
+pub(crate) fn pass_on<R: Wait, Q: Waiters>(
     rt: &R,
     hall: &Hall,
     pass: &mut Pass,
@@ -121,7 +122,7 @@ pub fn pass_on<R: Wait, Q: Waiters>(
     requires may { MayRelease pass.old.knows (threads hall.now.terms) lock block.now «package».old }
     requires seat { IsSeatOf (Q.queue queue.now) (Q.seen seat.old) }
     requires made { (Q.queue queue.now).threads ≡ threads hall.now.terms }
-    requires room { length ready.old.items < 4 }
+    requires room { length ready.old.items < MAX_HELD }
     ensures own { IsSamePass pass.old pass.new }
     ensures walks { Walks pass.old.knows pass.new.knows }
     ensures asks { Asks (turn_of «package».old lock) (Q.seen seat.old) (Q.seen seat.new) }

@@ -1,6 +1,7 @@
 //! What `settle` does, by the end of the block, over the parts of a desk.
 
 ghost use Rattle.std.specs.Prelude.{ℕ, ◌≡◌, ◌≢◌, ◌<◌, ◌≤◌, ◌+◌, ◌++◌, [], ◌∷◌, None, Some, true, length, map};
+ghost use Rattle.tc_isa.specs.declared.limits.TheConstants.{MAX_HELD};
 ghost use Rattle.tc_context.specs.View.{PackageView};
 ghost use Rattle.tc_hall.specs.Outs.{Pack};
 ghost use Rattle.tc_hall.specs.Rule.{threads, locks};
@@ -27,7 +28,7 @@ use tc_park::Sleepers;
 use tc_queue::Waiters;
 
 /// What `acquire` does, at the lock's place in the bench.
-pub fn acquire_at<R: Wait, Q: Waiters>(
+pub(crate) fn acquire_at<R: Wait, Q: Waiters>(
     rt: &R,
     hall: &Hall,
     pass: &mut Pass,
@@ -73,7 +74,7 @@ pub fn acquire_at<R: Wait, Q: Waiters>(
 }
 
 /// What `settle` does at an unlock, at the lock's place in the bench.
-pub fn unlocked_at<R: Wait, Q: Waiters>(
+pub(crate) fn unlocked_at<R: Wait, Q: Waiters>(
     rt: &R,
     hall: &Hall,
     pass: &mut Pass,
@@ -96,7 +97,7 @@ pub fn unlocked_at<R: Wait, Q: Waiters>(
     requires runs { Runs «package» }
     requires locks { HasHeldAnd lock «package» }
     requires aside { (a : PackageView) → aside.old ≡ Some a → IsAside hall.now.terms a }
-    requires room { length ready.old.items + 1 < 4 }
+    requires room { length ready.old.items + 1 < MAX_HELD }
     ensures own { IsSamePass pass.old pass.new }
     ensures walks { Walks pass.old.knows pass.new.knows }
     ensures moves { Moves pass.old.knows pass.new.knows
@@ -128,7 +129,7 @@ pub fn unlocked_at<R: Wait, Q: Waiters>(
 }
 
 /// What `settle` does, over the parts of a desk.
-pub fn settle_with<R: Wait, Q: Waiters>(
+pub(crate) fn settle_with<R: Wait, Q: Waiters>(
     rt: &R,
     hall: &Hall,
     pass: &mut Pass,

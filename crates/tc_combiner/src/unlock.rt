@@ -1,6 +1,7 @@
 //! What `settle` does after an unlock.
 
 ghost use Rattle.std.specs.Prelude.{ℕ, ◌≡◌, ◌<◌, ◌≤◌, ◌+◌, ◌++◌, length, [], ◌∷◌, None, Some, true, false};
+ghost use Rattle.tc_isa.specs.declared.limits.TheConstants.{MAX_HELD};
 ghost use Rattle.tc_context.specs.View.{PackageView, without_lock};
 ghost use Rattle.tc_hall.specs.Rule.{threads, locks};
 ghost use Rattle.tc_hall.specs.Steps.{IsSamePass};
@@ -50,7 +51,7 @@ fn go_on(
     requires of { «package».image ≡ pass.old.knows.image }
     requires runs { Runs «package» }
     requires aside { (a : PackageView) → aside.old ≡ Some a → IsAside hall.now.terms a }
-    requires room { length ready.old.items < 4 }
+    requires room { length ready.old.items < MAX_HELD }
     ensures own { IsSamePass pass.old pass.new }
     ensures walks { Walks pass.old.knows pass.new.knows }
     ensures moves { Moves pass.old.knows pass.new.knows
@@ -85,7 +86,7 @@ fn set_aside(
     requires out { Owned pass.old.knows (Pack «package» ∷ packed aside.old) }
     requires may { IsAside hall.now.terms «package» }
     requires aside { (a : PackageView) → aside.old ≡ Some a → IsAside hall.now.terms a }
-    requires room { length ready.old.items < 4 }
+    requires room { length ready.old.items < MAX_HELD }
     ensures own { IsSamePass pass.old pass.new }
     ensures walks { Walks pass.old.knows pass.new.knows }
     ensures moves { Moves pass.old.knows pass.new.knows
@@ -104,7 +105,7 @@ fn set_aside(
 }
 
 /// What `settle` does at an unlock.
-pub fn unlocked_with<R: Wait, Q: Waiters>(
+pub(crate) fn unlocked_with<R: Wait, Q: Waiters>(
     rt: &R,
     hall: &Hall,
     pass: &mut Pass,
@@ -126,7 +127,7 @@ pub fn unlocked_with<R: Wait, Q: Waiters>(
     requires aside { (a : PackageView) → aside.old ≡ Some a → IsAside hall.now.terms a }
     requires seat { IsSeatOf (Q.queue queue.now) (Q.seen seat.old) }
     requires made { (Q.queue queue.now).threads ≡ threads hall.now.terms }
-    requires room { length ready.old.items + 1 < 4 }
+    requires room { length ready.old.items + 1 < MAX_HELD }
     ensures own { IsSamePass pass.old pass.new }
     ensures walks { Walks pass.old.knows pass.new.knows }
     ensures asks { Asks (turn_of «package» lock) (Q.seen seat.old) (Q.seen seat.new) }

@@ -22,7 +22,12 @@ use tc_queue::{Departure, Turn, Waiters};
 use tc_segment::state::LockState;
 
 /// Takes the lock once it is home. None: the run was stopped.
-pub fn take_home<R: Wait>(rt: &R, hall: &Hall, pass: &mut Pass, lock: u32) -> Option<LockState>
+pub(crate) fn take_home<R: Wait>(
+    rt: &R,
+    hall: &Hall,
+    pass: &mut Pass,
+    lock: u32,
+) -> Option<LockState>
     requires own { pass.old.table ≡ hall.now.table }
     requires place { lock < locks hall.now.terms }
     ensures own { IsSamePass pass.old pass.new }
@@ -46,7 +51,7 @@ pub fn take_home<R: Wait>(rt: &R, hall: &Hall, pass: &mut Pass, lock: u32) -> Op
 }
 
 /// Takes the waiter's package once it waits. None: the run was stopped.
-pub fn await_waiter<R: Wait>(
+pub(crate) fn await_waiter<R: Wait>(
     rt: &R,
     hall: &Hall,
     pass: &mut Pass,
@@ -92,7 +97,7 @@ fn ask<R: Wait, Q: Waiters>(rt: &R, queue: &Q, seat: &mut Q::Seat, own: Turn) ->
 }
 
 /// Finds the turn behind this one, or leaves the line. Unknown: the run was stopped.
-pub fn find_next<R: Wait, Q: Waiters>(
+pub(crate) fn find_next<R: Wait, Q: Waiters>(
     rt: &R,
     hall: &Hall,
     pass: &mut Pass,
