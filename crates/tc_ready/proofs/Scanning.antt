@@ -11,14 +11,14 @@ looks_more : (t : ℕ) (words : List ℕ) (word : ℕ) → looks_from t (words +
 looks_more t [] word = ap (λ (n : ℕ). Look n word ∷ []) (omega arith)
 looks_more t (x ∷ words) word = ap (λ (l : List Call). Look t x ∷ l) (looks_more (t + 1) words word ∙ ap (λ (n : ℕ). looks_from (t + 1) words ++ Look n word ∷ []) (omega arith))
 
-looked_more : (n : ℕ) (words : List ℕ) (word : ℕ) (v w x : Knows) → length words ≡ n → Looked words v w → x ≡ after_look w n word → Looked (words ++ word ∷ []) v x
+pub looked_more : (n : ℕ) (words : List ℕ) (word : ℕ) (v w x : Knows) → length words ≡ n → Looked words v w → x ≡ after_look w n word → Looked (words ++ word ∷ []) v x
 looked_more n words word v w x count looked look =
     let calls : w.calls ++ Look n word ∷ [] ≡ v.calls ++ looks_from 0 (words ++ word ∷ []) =
     ap (λ (u : Knows). u.calls ++ Look n word ∷ []) looked ∙ (append_assoc v.calls (looks_from 0 words) (Look n word ∷ [])
     ∙ ap (λ (l : List Call). v.calls ++ l) (sym (looks_more 0 words word ∙ ap (λ (m : ℕ). looks_from 0 words ++ Look m word ∷ []) (omega arith)))) in
     look ∙ (ap (λ (u : Knows). record u { calls = w.calls ++ Look n word ∷ [] }) looked ∙ ap (λ (l : List Call). record v { calls = l }) calls)
 
-nothing_looked : (v : Knows) → Looked [] v v
+pub nothing_looked : (v : Knows) → Looked [] v v
 nothing_looked v = ap (λ (l : List Call). record v { calls = l }) (sym (append-nil v.calls))
 
 pub scan_starts : (v : Knows) → SawNone 0 v v

@@ -1,6 +1,7 @@
 pub mod Passes
 pub mod Running
 pub mod Desks
+pub mod Searching
 pub mod Offering
 pub mod Crossing
 pub mod Hiring

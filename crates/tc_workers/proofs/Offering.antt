@@ -3,8 +3,8 @@ use Rattle.std.proofs.Common.{◌≡◌, ◌≢◌, ℕ, ◌<◌, Bool, true, fa
 use Rattle.std.proofs.lemmas.List.{map-append}
 use Rattle.std.specs.Prelude.{MatchBool}
 use Rattle.tc_ready.specs.ReadyView.{Offered, ReadyView}
-use Rattle.tc_ready.specs.Rule.{offer}
-use Rattle.tc_workers.specs.Offers.{HasOffered, thread_of}
+use Rattle.tc_ready.specs.Rule.{offer, thread_of}
+use Rattle.tc_workers.specs.Offers.{HasOffered}
 
 pub offers_none : (r : ReadyView) → HasOffered [] r r
 offers_none r = record { threads = refl; room = refl; offered = []; rest = []; parts = refl; given = sym (append-nil (map thread_of r.given)); full = λ ne. absurd (ne refl) }

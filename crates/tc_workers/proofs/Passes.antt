@@ -1,5 +1,6 @@
 -- What the calls of the hall say of a worker's pass.
-use Rattle.std.proofs.Common.{◌≡◌, ◌≢◌, ℕ, suc, ◌+◌, false, List, [], ◌∷◌, ◌++◌, length, refl, sym, ap, ◌∙◌, subst, arith, append_assoc}
+use Rattle.std.proofs.Common.{◌≡◌, ◌≢◌, ℕ, suc, ◌+◌, ◌<◌, false, List, [], ◌∷◌, ◌++◌, All, length, length-append, refl, sym, ap, ◌∙◌, subst, arith, append_assoc}
+use Rattle.std.proofs.lemmas.List.Elements.{All-push}
 use mathlib.Core.Option.{some}
 use mathlib.Core.Logic.{dite}
 use native.Mathlib.Decide.{ℕ_discrete}
@@ -16,8 +17,9 @@ use Rattle.tc_hall.specs.PassView.{PassView}
 use Rattle.tc_hall.specs.Outs.{outs, Called, Pack}
 use Rattle.tc_hall.specs.Steps.{IsSamePass, Gets, HasStop, made, seen, HasSeenAll, with_call, after_look, after_miss, after_stop, after_stopped}
 use Rattle.tc_combiner.specs.Walks.{HasSeenStop}
-use Rattle.tc_ready.specs.Scan.{OnlyLooks}
-use Rattle.tc_workers.specs.Worker.{HasOut, IsClaimed, IsStill}
+use Rattle.tc_ready.specs.Scan.{Looked, OnlyLooks}
+use Rattle.tc_ready.proofs.Scanning.{looked_more, nothing_looked}
+use Rattle.tc_workers.specs.Worker.{HasOut, IsClaimed, IsStill, SawOneLeft}
 
 -- ---- the same pass
 
@@ -104,3 +106,24 @@ pub seen_more : (n : ℕ) (v w : Knows) → HasSeenAll n v → w ≡ after_look 
 seen_more n v w h e t lt = dite (ℕ_discrete t n)
     (λ (s : t ≡ n). (length v.calls, ap (λ (x : Knows). get_elem? x.calls (length v.calls)) e ∙ (at_last v.calls (Look n 2) (length v.calls) refl ∙ ap (λ (k : ℕ). some (Look k 2)) (sym s))))
     (λ (ne : t ≢ n). let old = h t (omega arith) in (old.0, ap (λ (x : Knows). get_elem? x.calls old.0) e ∙ at_longer v.calls (Look n 2 ∷ []) old.0 (Look t 2) old.1))
+
+-- the first n threads were looked at in order, and each had ended
+pub record SawEnded (n : ℕ) (v w : Knows) : Type 0 where
+  pub words : List ℕ
+  pub count : length words ≡ n
+  pub ended : All (λ x. x ≡ 2) words
+  pub looked : Looked words v w
+
+pub ended_none : (v : Knows) → SawEnded 0 v v
+ended_none v = record { words = []; count = refl; ended = λ i d deep. absurd (omega arith); looked = nothing_looked v }
+
+pub ended_more : (n : ℕ) (v w x : Knows) → SawEnded n v w → x ≡ after_look w n 2 → SawEnded (n + 1) v x
+ended_more n v w x h look = record {
+  words = h.words ++ 2 ∷ [];
+  count = let last : List ℕ = 2 ∷ [] in let a = length-append h.words last in let b : length last ≡ 1 = refl in let c = h.count in omega arith;
+  ended = All-push (λ (z : ℕ). z ≡ 2) h.words 2 h.ended refl;
+  looked = looked_more n h.words 2 v w x h.count h.looked look;
+}
+
+pub one_left : (threads n word : ℕ) (v w x : Knows) → n < threads → SawEnded n v w → word ≢ 2 → x ≡ after_look w n word → SawOneLeft threads v x
+one_left threads n word v w x lt h other look = record { words = h.words; word = word; known = let a = h.count in omega arith; ended = h.ended; left = other; looked = looked_more n h.words word v w x h.count h.looked look }

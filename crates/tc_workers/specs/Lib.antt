@@ -1,6 +1,8 @@
 pub mod Worker
+pub mod Search
 pub mod Finished
 pub mod Settled
+pub mod GoOn
 pub mod Crew
 pub mod Run
 pub mod Scripts

@@ -1,10 +1,7 @@
 -- The threads that a worker offers.
 use Rattle.std.specs.Prelude.{◌≡◌, ◌≢◌, ℕ, List, [], ◌++◌, length, map}
-use Rattle.tc_ready.specs.declared.ends.Offer.{Offer}
+use Rattle.tc_ready.specs.Rule.{thread_of}
 use Rattle.tc_ready.specs.ReadyView.{ReadyView}
-
-abbrev pub thread_of : Offer → ℕ
-thread_of o = o.thread
 
 -- these threads were offered, in order; some of the last were not only where the room for offers is used up
 pub record HasOffered (ts : List ℕ) (r s : ReadyView) : Type 0 where

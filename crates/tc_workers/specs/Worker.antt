@@ -1,5 +1,5 @@
 -- What contracts see of a worker, and what holds of one at work.
-use Rattle.std.specs.Prelude.{◌≡◌, ◌≢◌, ℕ, ◌+◌, ◌<◌, true, false, List, [], ◌∷◌, ◌++◌, length, Option, Some, None}
+use Rattle.std.specs.Prelude.{◌≡◌, ◌≢◌, ℕ, ◌+◌, ◌<◌, true, false, List, [], ◌∷◌, ◌++◌, All, length, Option, Some, None}
 use mathlib.Core.Option.{some}
 use lib.ListN.{get_elem?}
 use Rattle.tc_journal.specs.declared.block.End.{End}
@@ -9,9 +9,10 @@ use Rattle.tc_hall.specs.Outs.{Outs, outs, Item, Pack}
 use Rattle.tc_hall.specs.PassView.{PassView}
 use Rattle.tc_hall.specs.Rule.{threads, grants_adopted}
 use Rattle.tc_hall.specs.Places.{origin_code}
-use Rattle.tc_hall.specs.Steps.{IsSamePass, Missed, after_look, HasSeenAll, HasStop}
+use Rattle.tc_hall.specs.Steps.{IsSamePass, Missed, HasSeenAll, HasStop}
 use Rattle.tc_hall.specs.declared.place.Origin.{Origin}
 use Rattle.tc_ready.specs.ReadyView.{ReadyView}
+use Rattle.tc_ready.specs.Scan.{Looked}
 use Rattle.tc_combiner.specs.Packages.{HasNoOther, IsGoodFor, Runs}
 use Rattle.tc_combiner.specs.Walks.{Owns, packed}
 use Rattle.tc_combiner.specs.View.{BenchView, DeskView, FitsBench}
@@ -22,6 +23,9 @@ use Rattle.tc_workers.specs.declared.step.Step.TheVariants.{On, AllDone, Stopped
 pub record WorkerView : Type 0 where
   pub desk : DeskView
   pub ready : ReadyView
+
+abbrev pub worker_of : DeskView → ReadyView → WorkerView
+worker_of d r = record { desk = d; ready = r }
 
 -- ---- what is out with a pass
 
@@ -64,14 +68,14 @@ pub record HasMissed (from : Origin) (t : ℕ) (v w : Knows) : Type 0 where
   pub word : ℕ
   pub missed : Missed (origin_code from) (t + 2) word v w
 
--- the last look of a pass was at a thread that had not ended
-pub record HasSeenOneLeft (threads : ℕ) (w : Knows) : Type 0 where
-  pub before : Knows
-  pub thread : ℕ
+-- the threads were looked at in order, and each had ended, up to the first that was seen not to have
+pub record SawOneLeft (threads : ℕ) (v w : Knows) : Type 0 where
+  pub words : List ℕ
   pub word : ℕ
-  pub known : thread < threads
-  pub undone : word ≢ 2
-  pub seen : w ≡ after_look before thread word
+  pub known : length words < threads
+  pub ended : All (λ x. x ≡ 2) words
+  pub left : word ≢ 2
+  pub looked : Looked (words ++ word ∷ []) v w
 
 -- what a worker has in hand is fit to run
 abbrev pub IsFit : Knows → Option PackageView → Type 0

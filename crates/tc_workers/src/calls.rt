@@ -5,7 +5,7 @@ ghost use Rattle.tc_hall.specs.Rule.{threads};
 ghost use Rattle.tc_hall.specs.Places.{origin_code};
 ghost use Rattle.tc_hall.specs.Steps.{Gets, HasSeenAll, HasStop};
 ghost use Rattle.tc_hall.specs.Outs.{outs, erase, IsOut, Pack};
-ghost use Rattle.tc_workers.specs.Worker.{HasMisfit, HasMissed, HasOut, HasSeenOneLeft, IsClaimed, IsStill, MayGoBack};
+ghost use Rattle.tc_workers.specs.Worker.{HasMisfit, HasMissed, HasOut, IsClaimed, IsStill, MayGoBack, SawOneLeft};
 
 use tc_context::package::Package;
 use tc_hall::hall::Hall;
@@ -73,7 +73,7 @@ pub fn all_done(hall: &Hall, pass: &mut Pass, count: u32) -> bool
     ensures still { IsStill pass.old pass.new }
     ensures outs { outs pass.new.knows ≡ outs pass.old.knows }
     ensures done { result ≡ true → HasSeenAll count pass.new.knows }
-    ensures left { result ≡ false → HasSeenOneLeft count pass.new.knows }
+    ensures left { result ≡ false → SawOneLeft count pass.old.knows pass.new.knows }
 {
     for t in 0..count {
         if hall.look(pass, t) != 2 {

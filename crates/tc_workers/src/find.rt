@@ -1,8 +1,11 @@
 //! How a worker with nothing in hand finds a package.
 
-ghost use Rattle.std.specs.Prelude.{◌≡◌, ◌<◌, None};
+ghost use Rattle.std.specs.Prelude.{◌≡◌, ◌<◌, Some, None, IfSome};
 ghost use Rattle.tc_hall.specs.Rule.{threads};
-ghost use Rattle.tc_workers.specs.Worker.{HasClaimed, IsAtDesk, IsStep, IsStill};
+ghost use Rattle.tc_park.specs.Order.{NoneIsDue, NoneSleeps};
+ghost use Rattle.tc_workers.specs.Search.{IsPause, IsSearch, IsTakenUp, IsTry};
+ghost use Rattle.tc_workers.specs.Worker.{HasClaimed, IsAtDesk, IsStep, IsStill, worker_of};
+ghost use Rattle.tc_workers.specs.declared.step.Step.TheVariants.{On};
 
 use crate::calls;
 use crate::gate::{Gate, Point};
@@ -29,6 +32,7 @@ fn take_up<Q: Waiters>(bench: &Bench<'_, Q>, desk: &mut Desk<Q>, package: Packag
     requires claimed { HasClaimed bench.now «package» desk.old }
     ensures still { IsStill desk.old.pass desk.new.pass }
     ensures step { IsStep bench.now desk.new result }
+    ensures taken { IsTakenUp desk.old desk.new «package» result }
 {
     if package.fits(number(desk)) {
         return Step::On(Some(package));
@@ -52,6 +56,7 @@ pub fn claim<G: Gate, Q: Waiters>(
     requires thread { t < threads bench.now.hall.terms }
     ensures still { IsStill desk.old.pass desk.new.pass }
     ensures step { IsStep bench.now desk.new result }
+    ensures tried { IsTry from t desk.old.pass.knows desk.new.pass.knows result }
 {
     match calls::claim(bench.hall, desk.pass(), t, from) {
         None => Step::On(None),
@@ -66,8 +71,10 @@ pub fn claim<G: Gate, Q: Waiters>(
 fn rest<Q: Waiters>(bench: &Bench<'_, Q>, pause: &Backoff, desk: &mut Desk<Q>) -> Step
     requires work { IsAtDesk bench.now None desk.old }
     requires free { desk.old.aside ≡ None }
+    requires sleepers { NoneSleeps desk.old.sleepers }
     ensures still { IsStill desk.old.pass desk.new.pass }
     ensures step { IsStep bench.now desk.new result }
+    ensures pause { IsPause (threads bench.now.hall.terms) desk.old desk.new result }
 {
     if calls::all_done(bench.hall, desk.pass(), bench.image.threads()) {
         return Step::AllDone;
@@ -82,6 +89,7 @@ fn idle<Q: Waiters>(bench: &Bench<'_, Q>, pause: &Backoff, desk: &mut Desk<Q>) -
     requires free { desk.old.aside ≡ None }
     ensures still { IsStill desk.old.pass desk.new.pass }
     ensures step { IsStep bench.now desk.new result }
+    ensures pause { IsPause (threads bench.now.hall.terms) desk.old desk.new result }
 {
     let now = desk.now();
     match desk.sleepers().least() {
@@ -104,8 +112,11 @@ fn seek_ready<G: Gate, Q: Waiters>(
     requires work { IsAtDesk bench.now None desk.old }
     requires free { desk.old.aside ≡ None }
     requires ready { ready.old.threads ≡ threads bench.now.hall.terms }
+    requires sleepers { NoneIsDue desk.old.now desk.old.sleepers }
     ensures still { IsStill desk.old.pass desk.new.pass }
     ensures step { IsStep bench.now desk.new result }
+    ensures search { IsSearch (threads bench.now.hall.terms)
+        (worker_of desk.old ready.old) (worker_of desk.new ready.new) result }
     ensures ready { ready.new.threads ≡ ready.old.threads }
 {
     match ready.next(bench.hall, desk.pass()) {
@@ -127,6 +138,8 @@ fn seek<G: Gate, Q: Waiters>(
     requires ready { ready.old.threads ≡ threads bench.now.hall.terms }
     ensures still { IsStill desk.old.pass desk.new.pass }
     ensures step { IsStep bench.now desk.new result }
+    ensures search { IsSearch (threads bench.now.hall.terms)
+        (worker_of desk.old ready.old) (worker_of desk.new ready.new) result }
     ensures ready { ready.new.threads ≡ ready.old.threads }
 {
     let now = desk.now();
@@ -149,6 +162,9 @@ pub fn find<G: Gate, Q: Waiters>(
     requires ready { ready.old.threads ≡ threads bench.now.hall.terms }
     ensures still { IsStill desk.old.pass desk.new.pass }
     ensures step { IsStep bench.now desk.new result }
+    ensures aside { IfSome desk.old.aside (λ q. result ≡ On (Some q)) }
+    ensures search { desk.old.aside ≡ None → IsSearch (threads bench.now.hall.terms)
+        (worker_of desk.old ready.old) (worker_of desk.new ready.new) result }
     ensures ready { ready.new.threads ≡ ready.old.threads }
 {
     match desk.back() {

@@ -1,10 +1,12 @@
 //! How a worker goes on with a package.
 
 ghost use Rattle.std.specs.Prelude.{◌≡◌, ◌<◌, true, false, Some, None, is_some, All};
-ghost use Rattle.tc_context.specs.View.{IsReserved, WantIsGranted, want_of};
+ghost use Rattle.tc_context.specs.View.{IsReserved, IsRoomier, PackageView, WantIsGranted, want_of};
 ghost use Rattle.tc_hall.specs.Rule.{threads};
 ghost use Rattle.tc_workers.specs.Worker.{HasSealed, IsAtDesk, IsStep, IsStill};
 ghost use Rattle.tc_workers.specs.Settled.{step_of};
+ghost use Rattle.tc_workers.specs.declared.step.Step.TheVariants.{Stopped};
+ghost use Rattle.tc_workers.specs.GoOn.{Acquires, GoesOn, HasRunBlock, RunsBlock};
 ghost use Rattle.tc_workers.specs.Offers.{HasOffered};
 
 use crate::calls;
@@ -104,6 +106,7 @@ fn acquire<R: Wait, G: Gate, Q: Waiters>(
     requires ready { ready.old.threads ≡ threads bench.now.hall.terms }
     ensures still { IsStill desk.old.pass desk.new.pass }
     ensures step { IsStep bench.now desk.new result }
+    ensures acquires { Acquires «package» desk.old desk.new result }
     ensures offered { HasOffered desk.new.handed ready.old ready.new }
 {
     let t = package.thread();
@@ -123,6 +126,7 @@ pub fn seal_block<Q: Waiters>(
     requires reserved { IsReserved «package».old }
     ensures still { IsStill desk.old.pass desk.new.pass }
     ensures sealed { HasSealed bench.now result «package».new desk.new }
+    ensures ran { HasRunBlock result «package».old «package».new desk.old desk.new }
 {
     package.keeps();
     let end = package.run_block(bench.image);
@@ -145,6 +149,8 @@ fn run_reserved<R: Wait, G: Gate, Q: Waiters>(
     requires ready { ready.old.threads ≡ threads bench.now.hall.terms }
     ensures still { IsStill desk.old.pass desk.new.pass }
     ensures step { IsStep bench.now desk.new result }
+    ensures runs { (p : PackageView) → IsRoomier p «package» → WantIsGranted bench.now.image p
+        → RunsBlock bench.now.image p desk.old desk.new result }
     ensures offered { HasOffered desk.new.handed ready.old ready.new }
 {
     let t = package.thread();
@@ -160,6 +166,7 @@ fn give_up<Q: Waiters>(bench: &Bench<'_, Q>, desk: &mut Desk<Q>, package: Packag
     requires work { IsAtDesk bench.now (Some «package») desk.old }
     ensures still { IsStill desk.old.pass desk.new.pass }
     ensures step { IsStep bench.now desk.new result }
+    ensures stopped { result ≡ Stopped }
 {
     calls::stop(bench.hall, desk.pass());
     leave_with(bench, desk, package)
@@ -179,6 +186,7 @@ fn run<R: Wait, G: Gate, Q: Waiters>(
     requires ready { ready.old.threads ≡ threads bench.now.hall.terms }
     ensures still { IsStill desk.old.pass desk.new.pass }
     ensures step { IsStep bench.now desk.new result }
+    ensures goes_on { GoesOn bench.now.image «package» desk.old desk.new result }
     ensures ready { ready.new.threads ≡ ready.old.threads }
 {
     match package.reserve() {
@@ -200,6 +208,7 @@ pub fn go_on<R: Wait, G: Gate, Q: Waiters>(
     requires ready { ready.old.threads ≡ threads bench.now.hall.terms }
     ensures still { IsStill desk.old.pass desk.new.pass }
     ensures step { IsStep bench.now desk.new result }
+    ensures goes_on { GoesOn bench.now.image «package» desk.old desk.new result }
     ensures ready { ready.new.threads ≡ ready.old.threads }
 {
     if wants_lock(&package, bench.image) {

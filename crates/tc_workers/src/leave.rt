@@ -6,6 +6,7 @@ ghost use Rattle.tc_hall.specs.Steps.{HasStop};
 ghost use Rattle.tc_combiner.specs.Walks.{packed};
 ghost use Rattle.tc_combiner.specs.View.{FitsBench};
 ghost use Rattle.tc_workers.specs.Worker.{HasOut, IsAtDesk, IsStep, IsStill, MayGoBack};
+ghost use Rattle.tc_workers.specs.declared.step.Step.TheVariants.{Stopped};
 
 use crate::calls;
 use crate::step::Step;
@@ -20,6 +21,7 @@ fn leave<Q: Waiters>(bench: &Bench<'_, Q>, desk: &mut Desk<Q>) -> Step
     requires stop { HasStop desk.old.pass.knows }
     ensures still { IsStill desk.old.pass desk.new.pass }
     ensures step { IsStep bench.now desk.new result }
+    ensures stopped { result ≡ Stopped }
 {
     match desk.back() {
         None => Step::Stopped,
@@ -38,6 +40,7 @@ pub fn leave_with<Q: Waiters>(bench: &Bench<'_, Q>, desk: &mut Desk<Q>, package:
     requires stop { HasStop desk.old.pass.knows }
     ensures still { IsStill desk.old.pass desk.new.pass }
     ensures step { IsStep bench.now desk.new result }
+    ensures stopped { result ≡ Stopped }
 {
     calls::put_back(bench.hall, desk.pass(), package);
     leave(bench, desk)
@@ -53,6 +56,7 @@ pub fn leave_all<Q: Waiters>(
     requires stop { HasStop desk.old.pass.knows }
     ensures still { IsStill desk.old.pass desk.new.pass }
     ensures step { IsStep bench.now desk.new result }
+    ensures stopped { result ≡ Stopped }
 {
     match hand {
         None => leave(bench, desk),

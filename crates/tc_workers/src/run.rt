@@ -28,7 +28,7 @@ use tc_ready::Ready;
 
 // The most offers that there is room for. A deque uses each of its places once, and writes all of
 // them when it is made.
-const MOST_OFFERS: u32 = 4_096;
+const MAX_OFFERS: u32 = 4_096;
 
 // For how many offers a worker gets room. It makes at most one for each section, and a section has a
 // turn at its beginning and, but for the last ones of a thread, one at its end. A thread that is not
@@ -40,7 +40,7 @@ fn room_of(threads: u32, fuel: u32) -> u32
     ensures least { 1 ≤ result }
     ensures most { result ≤ MAX_ROOM }
 {
-    (threads * (fuel / 2 + 2)).min(MOST_OFFERS)
+    (threads * (fuel / 2 + 2)).min(MAX_OFFERS)
 }
 
 // Ends a hall whose workers have all ended.

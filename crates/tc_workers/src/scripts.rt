@@ -1,6 +1,6 @@
 //! Scripts: desks that are driven by hand on one thread, in the order written, each on a worker of
 //! its own. The history of each is compared with its lines, and each lock is at home at the end, with
-//! these bytes in its guard.
+//! these bytes in its guard, and broken or not.
 
 ghost use Rattle.std.specs.Prelude.{◌≡◌, ◌<◌, None, All, IfOk, OnOk};
 ghost use Rattle.tc_workers.specs.Crew.{AreAtWork};
@@ -28,7 +28,7 @@ use tc_hall::place::Origin;
 use tc_isa::limits::{MAX_BATCH, MAX_WORKERS};
 use tc_isa::reg::Reg;
 use tc_journal::block::{Block, End};
-use tc_journal::reading::read_v1;
+use tc_journal::reading::read;
 use tc_queue::Queue;
 use tc_ready::Ready;
 
@@ -229,8 +229,8 @@ fn act<R: Abort + Wait>(
 }
 
 /// A script: a guest, with how many desks and with which batch limit it is run, what is done with
-/// which desk, the lines of its history as they were before blocks had a `pc`, and the bytes of each
-/// guard at the end.
+/// which desk, the lines of its history, the bytes of each guard at the end, and whether the locks are
+/// broken then.
 struct Script<'a> {
     code: &'a [u32],
     entries: &'a [(u32, u32)],
@@ -240,6 +240,7 @@ struct Script<'a> {
     steps: &'a [(usize, Action<'a>)],
     history: &'a str,
     bytes: &'a [[u8; 4]],
+    broken: bool,
 }
 
 /// The image of a guest, whose guards are zeros at the start.
@@ -283,10 +284,10 @@ fn check_history<R: Abort>(
     history: &[Block],
     lines: &str,
 ) -> Result<(), Fail> {
-    let told = read_v1(alloc, lines.as_bytes())?;
+    let told = read(alloc, lines.as_bytes())?;
     assert_eq!(rt; history.len(), told.len());
     for (block, told) in history.iter().zip(told.iter()) {
-        assert_eq!(rt; block.without_pc(), *told);
+        assert_eq!(rt; *block, *told);
     }
     Ok(())
 }
@@ -311,17 +312,23 @@ fn follow<R: Abort + Wait>(
     Ok(())
 }
 
-/// Takes each lock from its home, and compares the bytes of its guard.
-fn check_guards<R: Abort>(rt: &R, bench: &Bench<'_, Queue>, player: &mut Player, bytes: &[[u8; 4]])
+/// Takes each lock from its home, and compares the bytes of its guard, and whether it is broken.
+fn check_guards<R: Abort>(
+    rt: &R,
+    bench: &Bench<'_, Queue>,
+    player: &mut Player,
+    script: &Script<'_>,
+)
     requires { IsPlaying bench.now player.old.desk player.old.hand player.old.end }
 {
-    assert_eq!(rt; bench.image.guards() as usize, bytes.len());
+    assert_eq!(rt; bench.image.guards() as usize, script.bytes.len());
     let pass = player.desk.pass();
     for lock in 0..bench.image.guards() {
         let Ok(state) = bench.hall.take(pass, lock) else {
             panic!(rt; "lock {lock} is not at home")
         };
-        assert!(rt; state.bytes() == bytes[lock as usize].as_slice());
+        assert!(rt; state.bytes() == script.bytes[lock as usize].as_slice());
+        assert_eq!(rt; state.broken(), script.broken);
     }
 }
 
@@ -340,7 +347,7 @@ fn perform<R: Abort + Wait>(
     follow(rt, bench, &mut players, &mut history, script.steps)?;
     check_history(rt, alloc, &history, script.history)?;
     assert!(rt; !players.is_empty());
-    check_guards(rt, bench, &mut players[0], script.bytes);
+    check_guards(rt, bench, &mut players[0], script);
     Ok(())
 }
 
@@ -414,14 +421,15 @@ const ADOPTION: Script<'static> = Script {
         (1, Action::Ends),
     ],
     history: "\
-block 0 thread 0 turns 3 held - kind start worker 0 end wants 0
-block 1 thread 0 turns 7 held 0 kind taken worker 0 end unlocked 0
-block 2 thread 1 turns 3 held - kind start worker 1 end wants 0
-block 3 thread 1 turns 7 held 0 kind adopted worker 0 end unlocked 0
-block 4 thread 0 turns 2 held - kind on worker 0 end exit
-block 5 thread 1 turns 2 held - kind on worker 1 end exit
+block 0 thread 0 turns 3 held - kind start worker 0 pc 00100000 end wants 0
+block 1 thread 0 turns 7 held 0 kind taken worker 0 pc 0010000c end unlocked 0
+block 2 thread 1 turns 3 held - kind start worker 1 pc 00100000 end wants 0
+block 3 thread 1 turns 7 held 0 kind adopted worker 0 pc 0010000c end unlocked 0
+block 4 thread 0 turns 2 held - kind on worker 0 pc 00100028 end exit
+block 5 thread 1 turns 2 held - kind on worker 1 pc 00100028 end exit
 ",
     bytes: &[[2, 0, 0, 0]],
+    broken: false,
 };
 
 /// With batch limit 0 the waiter is granted the lock, and runs on the worker that claims it.
@@ -453,14 +461,15 @@ const NO_BATCH: Script<'static> = Script {
         (1, Action::Ends),
     ],
     history: "\
-block 0 thread 0 turns 3 held - kind start worker 0 end wants 0
-block 1 thread 0 turns 7 held 0 kind taken worker 0 end unlocked 0
-block 2 thread 1 turns 3 held - kind start worker 1 end wants 0
-block 3 thread 1 turns 7 held 0 kind granted worker 1 end unlocked 0
-block 4 thread 0 turns 2 held - kind on worker 0 end exit
-block 5 thread 1 turns 2 held - kind on worker 1 end exit
+block 0 thread 0 turns 3 held - kind start worker 0 pc 00100000 end wants 0
+block 1 thread 0 turns 7 held 0 kind taken worker 0 pc 0010000c end unlocked 0
+block 2 thread 1 turns 3 held - kind start worker 1 pc 00100000 end wants 0
+block 3 thread 1 turns 7 held 0 kind granted worker 1 pc 0010000c end unlocked 0
+block 4 thread 0 turns 2 held - kind on worker 0 pc 00100028 end exit
+block 5 thread 1 turns 2 held - kind on worker 1 pc 00100028 end exit
 ",
     bytes: &[[2, 0, 0, 0]],
+    broken: false,
 };
 
 /// With batch limit 1 every second section of a busy lock is adopted.
@@ -507,20 +516,21 @@ const SHORT_BATCH: Script<'static> = Script {
         (1, Action::Ends),
     ],
     history: "\
-block 0 thread 0 turns 3 held - kind start worker 0 end wants 0
-block 1 thread 0 turns 7 held 0 kind taken worker 0 end unlocked 0
-block 2 thread 1 turns 3 held - kind start worker 1 end wants 0
-block 3 thread 2 turns 3 held - kind start worker 1 end wants 0
-block 4 thread 3 turns 3 held - kind start worker 1 end wants 0
-block 5 thread 1 turns 7 held 0 kind adopted worker 0 end unlocked 0
-block 6 thread 0 turns 2 held - kind on worker 0 end exit
-block 7 thread 2 turns 7 held 0 kind granted worker 1 end unlocked 0
-block 8 thread 3 turns 7 held 0 kind adopted worker 1 end unlocked 0
-block 9 thread 2 turns 2 held - kind on worker 1 end exit
-block 10 thread 1 turns 2 held - kind on worker 0 end exit
-block 11 thread 3 turns 2 held - kind on worker 1 end exit
+block 0 thread 0 turns 3 held - kind start worker 0 pc 00100000 end wants 0
+block 1 thread 0 turns 7 held 0 kind taken worker 0 pc 0010000c end unlocked 0
+block 2 thread 1 turns 3 held - kind start worker 1 pc 00100000 end wants 0
+block 3 thread 2 turns 3 held - kind start worker 1 pc 00100000 end wants 0
+block 4 thread 3 turns 3 held - kind start worker 1 pc 00100000 end wants 0
+block 5 thread 1 turns 7 held 0 kind adopted worker 0 pc 0010000c end unlocked 0
+block 6 thread 0 turns 2 held - kind on worker 0 pc 00100028 end exit
+block 7 thread 2 turns 7 held 0 kind granted worker 1 pc 0010000c end unlocked 0
+block 8 thread 3 turns 7 held 0 kind adopted worker 1 pc 0010000c end unlocked 0
+block 9 thread 2 turns 2 held - kind on worker 1 pc 00100028 end exit
+block 10 thread 1 turns 2 held - kind on worker 0 pc 00100028 end exit
+block 11 thread 3 turns 2 held - kind on worker 1 pc 00100028 end exit
 ",
     bytes: &[[4, 0, 0, 0]],
+    broken: false,
 };
 
 /// A waiter is adopted, and shipped on from within its section with the lock that it holds.
@@ -570,19 +580,20 @@ const NESTED: Script<'static> = Script {
         (2, Action::Ends),
     ],
     history: "\
-block 0 thread 0 turns 2 held - kind start worker 0 end wants 1
-block 1 thread 0 turns 4 held 1 kind taken worker 0 end unlocked 1
-block 2 thread 1 turns 2 held - kind start worker 1 end wants 0
-block 3 thread 1 turns 4 held 0 kind taken worker 1 end unlocked 0
-block 4 thread 2 turns 2 held - kind start worker 2 end wants 0
-block 5 thread 2 turns 3 held 0 kind adopted worker 1 end wants 1
-block 6 thread 2 turns 4 held 0,1 kind adopted worker 0 end unlocked 1
-block 7 thread 2 turns 3 held 0 kind on worker 0 end unlocked 0
-block 8 thread 0 turns 2 held - kind on worker 0 end exit
-block 9 thread 1 turns 2 held - kind on worker 1 end exit
-block 10 thread 2 turns 2 held - kind on worker 2 end exit
+block 0 thread 0 turns 2 held - kind start worker 0 pc 00100000 end wants 1
+block 1 thread 0 turns 4 held 1 kind taken worker 0 pc 00100008 end unlocked 1
+block 2 thread 1 turns 2 held - kind start worker 1 pc 00100020 end wants 0
+block 3 thread 1 turns 4 held 0 kind taken worker 1 pc 00100028 end unlocked 0
+block 4 thread 2 turns 2 held - kind start worker 2 pc 00100040 end wants 0
+block 5 thread 2 turns 3 held 0 kind adopted worker 1 pc 00100048 end wants 1
+block 6 thread 2 turns 4 held 0,1 kind adopted worker 0 pc 00100054 end unlocked 1
+block 7 thread 2 turns 3 held 0 kind on worker 0 pc 00100064 end unlocked 0
+block 8 thread 0 turns 2 held - kind on worker 0 pc 00100018 end exit
+block 9 thread 1 turns 2 held - kind on worker 1 pc 00100038 end exit
+block 10 thread 2 turns 2 held - kind on worker 2 pc 00100070 end exit
 ",
     bytes: &[[0; 4]; 2],
+    broken: false,
 };
 
 /// A thread sleeps inside its section, and keeps the lock while others wait for it.
@@ -617,15 +628,16 @@ const SLEEP: Script<'static> = Script {
         (1, Action::Ends),
     ],
     history: "\
-block 0 thread 0 turns 3 held - kind start worker 0 end wants 0
-block 1 thread 0 turns 4 held 0 kind taken worker 0 end slept
-block 2 thread 1 turns 3 held - kind start worker 1 end wants 0
-block 3 thread 0 turns 3 held 0 kind on worker 0 end unlocked 0
-block 4 thread 1 turns 7 held 0 kind adopted worker 0 end unlocked 0
-block 5 thread 0 turns 2 held - kind on worker 0 end exit
-block 6 thread 1 turns 2 held - kind on worker 1 end exit
+block 0 thread 0 turns 3 held - kind start worker 0 pc 00100000 end wants 0
+block 1 thread 0 turns 4 held 0 kind taken worker 0 pc 0010000c end slept
+block 2 thread 1 turns 3 held - kind start worker 1 pc 00100030 end wants 0
+block 3 thread 0 turns 3 held 0 kind on worker 0 pc 0010001c end unlocked 0
+block 4 thread 1 turns 7 held 0 kind adopted worker 0 pc 0010003c end unlocked 0
+block 5 thread 0 turns 2 held - kind on worker 0 pc 00100028 end exit
+block 6 thread 1 turns 2 held - kind on worker 1 pc 00100058 end exit
 ",
     bytes: &[[1, 0, 0, 0]],
+    broken: false,
 };
 
 /// A thread ends inside two sections: the waiter of the one lock is granted it, the other goes home,
@@ -664,14 +676,15 @@ const END: Script<'static> = Script {
         (1, Action::Ends),
     ],
     history: "\
-block 0 thread 0 turns 2 held - kind start worker 0 end wants 0
-block 1 thread 0 turns 3 held 0 kind taken worker 0 end wants 1
-block 2 thread 0 turns 2 held 0,1 kind taken worker 0 end fault 1
-block 3 thread 1 turns 2 held - kind start worker 1 end wants 0
-block 4 thread 1 turns 5 held 0 kind granted worker 1 end unlocked 0
-block 5 thread 1 turns 2 held - kind on worker 1 end exit
+block 0 thread 0 turns 2 held - kind start worker 0 pc 00100000 end wants 0
+block 1 thread 0 turns 3 held 0 kind taken worker 0 pc 00100008 end wants 1
+block 2 thread 0 turns 2 held 0,1 kind taken worker 0 pc 00100014 end fault 1
+block 3 thread 1 turns 2 held - kind start worker 1 pc 0010001c end wants 0
+block 4 thread 1 turns 5 held 0 kind granted worker 1 pc 00100024 end unlocked 0
+block 5 thread 1 turns 2 held - kind on worker 1 pc 00100038 end exit
 ",
     bytes: &[[0; 4]; 2],
+    broken: true,
 };
 
 /// Three locks in one another, and a shipment at each.
@@ -736,24 +749,25 @@ const THREE_DEEP: Script<'static> = Script {
         (3, Action::Ends),
     ],
     history: "\
-block 0 thread 0 turns 2 held - kind start worker 0 end wants 2
-block 1 thread 0 turns 4 held 2 kind taken worker 0 end unlocked 2
-block 2 thread 1 turns 2 held - kind start worker 1 end wants 1
-block 3 thread 1 turns 4 held 1 kind taken worker 1 end unlocked 1
-block 4 thread 2 turns 2 held - kind start worker 2 end wants 0
-block 5 thread 2 turns 4 held 0 kind taken worker 2 end unlocked 0
-block 6 thread 3 turns 2 held - kind start worker 3 end wants 0
-block 7 thread 3 turns 3 held 0 kind adopted worker 2 end wants 1
-block 8 thread 3 turns 3 held 0,1 kind adopted worker 1 end wants 2
-block 9 thread 3 turns 4 held 0,1,2 kind adopted worker 0 end unlocked 2
-block 10 thread 3 turns 3 held 0,1 kind on worker 0 end unlocked 1
-block 11 thread 3 turns 3 held 0 kind on worker 0 end unlocked 0
-block 12 thread 0 turns 2 held - kind on worker 0 end exit
-block 13 thread 1 turns 2 held - kind on worker 1 end exit
-block 14 thread 2 turns 2 held - kind on worker 2 end exit
-block 15 thread 3 turns 2 held - kind on worker 3 end exit
+block 0 thread 0 turns 2 held - kind start worker 0 pc 00100000 end wants 2
+block 1 thread 0 turns 4 held 2 kind taken worker 0 pc 00100008 end unlocked 2
+block 2 thread 1 turns 2 held - kind start worker 1 pc 00100020 end wants 1
+block 3 thread 1 turns 4 held 1 kind taken worker 1 pc 00100028 end unlocked 1
+block 4 thread 2 turns 2 held - kind start worker 2 pc 00100040 end wants 0
+block 5 thread 2 turns 4 held 0 kind taken worker 2 pc 00100048 end unlocked 0
+block 6 thread 3 turns 2 held - kind start worker 3 pc 00100060 end wants 0
+block 7 thread 3 turns 3 held 0 kind adopted worker 2 pc 00100068 end wants 1
+block 8 thread 3 turns 3 held 0,1 kind adopted worker 1 pc 00100074 end wants 2
+block 9 thread 3 turns 4 held 0,1,2 kind adopted worker 0 pc 00100080 end unlocked 2
+block 10 thread 3 turns 3 held 0,1 kind on worker 0 pc 00100090 end unlocked 1
+block 11 thread 3 turns 3 held 0 kind on worker 0 pc 0010009c end unlocked 0
+block 12 thread 0 turns 2 held - kind on worker 0 pc 00100018 end exit
+block 13 thread 1 turns 2 held - kind on worker 1 pc 00100038 end exit
+block 14 thread 2 turns 2 held - kind on worker 2 pc 00100058 end exit
+block 15 thread 3 turns 2 held - kind on worker 3 pc 001000a8 end exit
 ",
     bytes: &[[0; 4]; 3],
+    broken: false,
 };
 
 /// A batch ends because the adopted thread still holds another lock: the next waiter is granted the
@@ -803,19 +817,20 @@ const KEPT_LOCK: Script<'static> = Script {
         (1, Action::Ends),
     ],
     history: "\
-block 0 thread 0 turns 2 held - kind start worker 0 end wants 1
-block 1 thread 0 turns 4 held 1 kind taken worker 0 end unlocked 1
-block 2 thread 1 turns 2 held - kind start worker 1 end wants 0
-block 3 thread 1 turns 3 held 0 kind taken worker 1 end wants 1
-block 4 thread 2 turns 2 held - kind start worker 1 end wants 1
-block 5 thread 1 turns 4 held 0,1 kind adopted worker 0 end unlocked 1
-block 6 thread 1 turns 3 held 0 kind on worker 0 end unlocked 0
-block 7 thread 0 turns 2 held - kind on worker 0 end exit
-block 8 thread 2 turns 4 held 1 kind granted worker 1 end unlocked 1
-block 9 thread 2 turns 2 held - kind on worker 1 end exit
-block 10 thread 1 turns 2 held - kind on worker 1 end exit
+block 0 thread 0 turns 2 held - kind start worker 0 pc 00100000 end wants 1
+block 1 thread 0 turns 4 held 1 kind taken worker 0 pc 00100008 end unlocked 1
+block 2 thread 1 turns 2 held - kind start worker 1 pc 00100020 end wants 0
+block 3 thread 1 turns 3 held 0 kind taken worker 1 pc 00100028 end wants 1
+block 4 thread 2 turns 2 held - kind start worker 1 pc 00100000 end wants 1
+block 5 thread 1 turns 4 held 0,1 kind adopted worker 0 pc 00100034 end unlocked 1
+block 6 thread 1 turns 3 held 0 kind on worker 0 pc 00100044 end unlocked 0
+block 7 thread 0 turns 2 held - kind on worker 0 pc 00100018 end exit
+block 8 thread 2 turns 4 held 1 kind granted worker 1 pc 00100008 end unlocked 1
+block 9 thread 2 turns 2 held - kind on worker 1 pc 00100018 end exit
+block 10 thread 1 turns 2 held - kind on worker 1 pc 00100050 end exit
 ",
     bytes: &[[0; 4]; 2],
+    broken: false,
 };
 
 #[test]

@@ -1,0 +1,8 @@
+use Rattle.std.proofs.Common.{ℕ, List, Option, max, ap, ◌∙◌, subst}
+use Rattle.tc_park.specs.Order.{IsLeast}
+use Rattle.tc_combiner.specs.View.{DeskView}
+use Rattle.tc_workers.specs.Search.{sleeps}
+use Rattle.tc_workers.proofs.find.idle.Goals as goal
+
+pub returns-in-Some-clause-pause : goal.returns-in-Some-clause-pause
+returns-in-Some-clause-pause g c = sleeps c.in-Some.due (subst (λ (s : List (Option ℕ)). IsLeast s c.in-Some.due) c.sleepers.ensures.value c.in-Some.ensures) (ap (λ (d : DeskView). d.now) c.advance.ensures ∙ (c.max.ensures ∙ ap (max c.in-Some.due) c.now-now.ensures)) (ap (λ (d : DeskView). d.pass) c.advance.ensures)
