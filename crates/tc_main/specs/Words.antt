@@ -2,7 +2,6 @@
 use Rattle.std.specs.Prelude.{◌≡◌, ℕ, ◌≤◌, List, [], ◌∷◌, codes, decimal}
 use Rattle.tc_build.specs.declared.generate.TheConstants.{MAX_ROUNDS}
 use Rattle.tc_workers.specs.declared.options.Options.{Options}
-use Rattle.tc_main.specs.declared.words.TheConstants.{DEMO_FUEL, DEMO_LIMIT}
 use Rattle.tc_main.specs.declared.words.Asked.{Asked}
 use Rattle.tc_main.specs.declared.words.Asked.TheVariants.{Run, Generate, Demo}
 
@@ -23,8 +22,8 @@ pub record AsksDemo (words : List (List ℕ)) (rounds : ℕ) (o : Options) : Typ
   pub some : 1 ≤ rounds
   pub most : rounds ≤ MAX_ROUNDS
   pub spelled : words ≡ codes "demo" ∷ decimal rounds ∷ decimal o.workers ∷ []
-  pub fuel : o.fuel ≡ DEMO_FUEL
-  pub limit : o.limit ≡ DEMO_LIMIT
+  pub fuel : o.fuel ≡ 65536
+  pub limit : o.limit ≡ 8
 
 -- ---- what they ask for
 
