@@ -155,22 +155,30 @@ FAULTS = {1: illegal, 3: target, 4: access, 5: access, 6: access, 7: access, 8: 
           10: bad_lock, 11: lock_order, 12: not_held}
 
 
+FORMS = {"run": ("workers", "fuel", "batch"), "gen": ("rounds",), "demo": ("rounds", "workers")}
+LIMITS = {**report.LIMITS, "rounds": (1, 2000)}
+
+
+def number(name, word):
+    """What is wrong with the word of this number, or None."""
+    least, most = LIMITS[name]
+    if not re.fullmatch(report.NUMBER, word):
+        why = ("it has a leading zero" if re.fullmatch("0[0-9]+", word)
+               else "it has too many digits" if word.isdigit() else "it is no number in digits alone")
+        return f"{name} is {word!r}: {why}"
+    if not least <= int(word) <= most:
+        return f"{name} is {word}, which is not {least} to {most}"
+    return None
+
+
 def usage(words):
     """What is wrong with the words of the program, or None."""
     if not words:
-        return "there are no words; it wants run W F B"
-    if words[0] in ("gen", "demo"):
-        return f"{words[0]} is not there yet: use run W F B"
-    if words[0] != "run":
-        return f"{words[0]!r} is no form: it wants run W F B"
-    if len(words) != 4:
-        return f"run wants three numbers, workers, fuel and batch limit, and was given {len(words) - 1}"
-    for (name, (least, most)), word in zip(report.LIMITS.items(), words[1:]):
-        if not re.fullmatch(report.NUMBER, word):
-            why = ("it has a leading zero" if re.fullmatch("0[0-9]+", word)
-                   else "it has too many digits" if word.isdigit() else "it is no number in digits alone")
-            return f"{name} is {word!r}: {why}"
-        if not least <= int(word) <= most:
-            return f"{name} is {word}, which is not {least} to {most}"
-    return None
-
+        return "there are no words; it wants run W F B, gen N or demo N W"
+    form, numbers = words[0], words[1:]
+    if form not in FORMS:
+        return f"{form!r} is no form: it wants run W F B, gen N or demo N W"
+    names = FORMS[form]
+    if len(numbers) != len(names):
+        return f"behind {form} stand {len(numbers)} words: it wants {', '.join(names)}"
+    return next(filter(None, map(number, names, numbers)), None)
