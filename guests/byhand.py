@@ -7,6 +7,7 @@ the stamp. The header's lines may be missing. What stands behind the blocks is n
 """
 import re
 
+import limits
 import report
 
 PARTS = re.compile(r"(thread|turns|worker) (\d{1,9})\b|held (-|[\d,]+)|kind (\w+)|pc ([0-9a-f]{8})\b"
@@ -52,7 +53,7 @@ class Line:
         if self.stamp is not None and int(self.stamp) != run.count:
             raise report.Wrong(f"block {run.count}, line {self.number}: its stamp is {self.stamp} (without stamps "
                                "the blocks are numbered in their order)")
-        if self.parts.get("kind", "on") not in report.KINDS:
+        if self.parts.get("kind", "on") not in limits.KINDS:
             raise report.Wrong(f"block {run.count}, line {self.number}: there is no kind {self.parts['kind']!r}")
 
 
@@ -76,8 +77,8 @@ class History:
             return True
         found = report.OPTIONS.fullmatch(text)
         if found:
-            for (name, (least, most)), word in zip(report.LIMITS.items(), found.groups()):
-                if not re.fullmatch(report.NUMBER, word) or not least <= int(word) <= most:
-                    raise report.Wrong(f"line {number}: {name} is {word}, not {least} to {most}")
+            for name, word in zip(limits.RUN, found.groups()):
+                if report.wrong_number(name, word):
+                    raise report.Wrong(f"line {number}: {report.wrong_number(name, word)}")
                 self.header[name] = int(word)
         return bool(found) or bool(report.GUEST.fullmatch(text))

@@ -2,7 +2,7 @@
 report of any size needs little memory."""
 from collections import Counter
 
-from report import SECTIONS
+from limits import SECTIONS
 
 
 class Away:

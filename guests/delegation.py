@@ -202,7 +202,4 @@ def check_alone(guest, fuel, limit, report_text):
 
 def text(run, blocks):
     """The lines of a report."""
-    yield from run.header_lines()
-    for block in blocks:
-        yield block.line(run.version)
-    yield from run.ending_lines()
+    return run.lines(blocks)

@@ -5,15 +5,13 @@ disagree. What an accepted file means is model.Guest.
 """
 import bisect
 import struct
-from typing import NamedTuple
 
+import elf32
+import limits
 import model
 import tool
 
-MOST_BYTES = 1048576
-MOST = {1: 16, 2: 32}  # threads, and guards, by the version of their note
-STACK = model.STACK
-TYPES = {1: "PT_LOAD", 2: "PT_DYNAMIC", 3: "PT_INTERP", 4: "PT_NOTE", 7: "PT_TLS"}
+STACK = limits.STACK
 
 
 class Refused(Exception):
@@ -24,45 +22,27 @@ class Refused(Exception):
         self.number = number
 
 
-class Header(NamedTuple):
-    """A program header and its place."""
-    place: int
-    type: int
-    offset: int
-    address: int
-    file_size: int
-    memory: int
-    flags: int
-
-    def __str__(self):
-        return f"program header {self.place} ({TYPES.get(self.type, hex(self.type))})"
-
-    @property
-    def range(self):
-        return range(self.address, self.address + self.memory)
-
-
 def check(file):
     """Refused where the program refuses the file."""
     check_identity(file)
     headers = read_headers(file)
     for header in headers:
-        if header.type in (2, 3, 7):
+        if header.type in (elf32.DYNAMIC, elf32.INTERP, elf32.TLS):
             raise Refused(8, "Dynamic", f"{header}: link statically, without thread-local data")
-    loads = [header for header in headers if header.type == 1]
+    loads = [header for header in headers if header.type == elf32.LOAD]
     check_loads(file, loads)
     ranges = [header for header in loads if header.memory]
     check_overlaps(ranges)
-    entries, guards = check_notes(file, [header for header in headers if header.type == 4])
+    entries, guards = check_notes(file, [header for header in headers if header.type == elf32.NOTE])
     check_entries(entries, ranges)
     check_guards(guards, ranges)
 
 
 def check_identity(file):
-    if len(file) > MOST_BYTES:
-        raise Refused(0, "TooLarge", f"the file has more than {MOST_BYTES} bytes")
-    if len(file) < 52:
-        raise Refused(1, "TooShort", f"the file has {len(file)} bytes, fewer than the 52 of a header")
+    if len(file) > limits.FILE_BYTES:
+        raise Refused(0, "TooLarge", f"the file has more than {limits.FILE_BYTES} bytes")
+    if len(file) < elf32.HEADER:
+        raise Refused(1, "TooShort", f"the file has {len(file)} bytes, fewer than the {elf32.HEADER} of a header")
     if file[:4] != b"\x7fELF":
         raise Refused(2, "BadMagic", f"it begins with {file[:4].hex(' ')}, not with 7f 45 4c 46")
     for at, name, meaning in ((4, "class", "32 bits"), (5, "data", "little endian"),
@@ -75,7 +55,7 @@ def check_identity(file):
         raise Refused(4, "NotExec", f"e_type is {kind} ({names.get(kind, 'unknown')}), not 2 (ET_EXEC)")
     if machine != 243:
         raise Refused(5, "NotRiscv", f"e_machine is {machine}, not 243 (EM_RISCV)")
-    flags = struct.unpack_from("<I", file, 36)[0]
+    flags = elf32.word(file, 36)
     names = {1: "compressed code", 2: "floats in single registers", 4: "floats in double registers",
              6: "floats in quad registers", 8: "RV32E"}
     if flags & 15:
@@ -84,23 +64,17 @@ def check_identity(file):
 
 
 def read_headers(file):
-    version, at = struct.unpack_from("<I4xI", file, 20)
-    size, count = struct.unpack_from("<2H", file, 42)
+    version, (at, size, count) = elf32.word(file, 20), elf32.headers_place(file)
     if version != 1:
         raise Refused(7, "BadHeader", f"e_version is {version}, not 1")
-    if size != 32:
-        raise Refused(7, "BadHeader", f"e_phentsize is {size}, not 32")
-    if not 1 <= count <= 16:
-        raise Refused(7, "BadHeader", f"e_phnum is {count}, not 1 to 16")
-    if at + 32 * count > len(file):
-        raise Refused(7, "BadHeader", f"the {count} program headers from {at} on end at {at + 32 * count}, "
-                      + past_end(at + 32 * count, file))
-    headers = []
-    for place in range(count):
-        kind, offset, address, _, length, memory, flags, _ = struct.unpack_from(
-            "<8I", file, at + 32 * place)
-        headers.append(Header(place, kind, offset, address, length, memory, flags))
-    return headers
+    if size != elf32.PROGRAM_HEADER:
+        raise Refused(7, "BadHeader", f"e_phentsize is {size}, not {elf32.PROGRAM_HEADER}")
+    if not 1 <= count <= limits.PROGRAM_HEADERS:
+        raise Refused(7, "BadHeader", f"e_phnum is {count}, not 1 to {limits.PROGRAM_HEADERS}")
+    if at + size * count > len(file):
+        raise Refused(7, "BadHeader", f"the {count} program headers from {at} on end at {at + size * count}, "
+                      + past_end(at + size * count, file))
+    return list(elf32.headers(file))
 
 
 def past_end(end, file):
@@ -119,8 +93,9 @@ def check_loads(file, loads):
             raise Refused(9, "BadLoad", f"{load}: p_vaddr {load.address:08x} + p_memsz {load.memory} is "
                           "past the last address ffffffff")
     total = sum(load.memory for load in loads)
-    if total > MOST_BYTES:
-        raise Refused(9, "BadLoad", f"the p_memsz of all PT_LOAD are {total} bytes together, more than {MOST_BYTES}")
+    if total > limits.FILE_BYTES:
+        raise Refused(9, "BadLoad", f"the p_memsz of all PT_LOAD are {total} bytes together, more than "
+                      f"{limits.FILE_BYTES}")
 
 
 def check_overlaps(ranges):
@@ -153,42 +128,31 @@ def check_notes(file, headers):
             raise Refused(12, "BadNote", f"{header}: p_offset {header.offset} + p_filesz {header.file_size} "
                           f"is {end}, {past_end(end, file)}")
     for header in headers:
-        for content in notes(file[header.offset:header.offset + header.file_size], header):
-            if found is not None:
+        content = header.content(file)
+        for note in elf32.notes(content):
+            if note.end > len(content):
+                raise Refused(12, "BadNote", f"{header}: the note at byte {note.at} has a name of {note.name_size} and "
+                              f"a descriptor of {note.size} bytes and ends at {note.end}; the segment has {len(content)}")
+            if note.is_threads and found is not None:
                 raise Refused(12, "BadNote", f"{header}: a second note TCLOCKS")
-            found = descriptor(content, header)
-    return found or ([(struct.unpack_from("<I", file, 24)[0], 0)], [])
-
-
-def notes(content, header):
-    """The descriptors of the notes on threads in a segment."""
-    at = 0
-    while at + 12 <= len(content):
-        name_size, size, kind = struct.unpack_from("<3I", content, at)
-        start = at + 12 + (name_size + 3) // 4 * 4
-        if start + size > len(content):
-            raise Refused(12, "BadNote", f"{header}: the note at byte {at} has a name of {name_size} and a "
-                          f"descriptor of {size} bytes and ends at {start + size}; the segment has {len(content)}")
-        if content[at + 12:at + 12 + name_size] == b"TCLOCKS\0" and kind == 1:
-            yield content[start:start + size]
-        at = start + (size + 3) // 4 * 4
+            found = descriptor(note.descriptor, header) if note.is_threads else found
+    return found or ([(elf32.entry(file), 0)], [])
 
 
 def descriptor(content, header):
     if len(content) < 12:
         raise Refused(12, "BadNote", f"{header}: the descriptor has {len(content)} bytes, fewer than 12")
-    version, threads, guards = struct.unpack_from("<3I", content)
+    version, threads, guards, pairs = elf32.described(content)
     wanted = 12 + 8 * threads + 8 * guards
-    most = MOST.get(version, 0)
+    most_threads, most_guards = limits.THREADS.get(version, 0), limits.GUARDS.get(version, 0)
     of_version = f"in a note of version {version}"
-    for wrong, why in ((not most, f"the note's version is {version}, not 1 or 2"),
-                       (not 1 <= threads <= most, f"{of_version} are {threads} threads, not 1 to {most}"),
-                       (guards > most, f"{of_version} are {guards} guards, not 0 to {most}"),
+    for wrong, why in ((not most_threads, f"the note's version is {version}, not 1 or 2"),
+                       (not 1 <= threads <= most_threads, f"{of_version} are {threads} threads, not 1 to {most_threads}"),
+                       (guards > most_guards, f"{of_version} are {guards} guards, not 0 to {most_guards}"),
                        (len(content) != wanted, f"{threads} threads and {guards} guards are {wanted} "
                         f"bytes of descriptor, and it has {len(content)}")):
         if wrong:
             raise Refused(12, "BadNote", f"{header}: {why}")
-    pairs = list(struct.iter_unpack("<2I", content[12:]))
     return pairs[:threads], pairs[threads:]
 
 
@@ -202,12 +166,13 @@ def check_entries(entries, ranges):
 
 
 def check_guards(guards, ranges):
+    least, most = limits.GUARD_BYTES
     for number, (start, length) in enumerate(guards):
         place = range(start, start + length)
         if start % 4 or length % 4:
             why = f"starts at {start:08x} and has {length} bytes: both must be multiples of 4"
-        elif not 4 <= length <= 65536:
-            why = f"has {length} bytes, not 4 to 65536"
+        elif not least <= length <= most:
+            why = f"has {length} bytes, not {least} to {most}"
         elif not any(one.flags & 2 and start in one.range and place[-1] in one.range for one in ranges):
             why = f"has {span(place)}, which isn't in one writable range ({ranges_text(ranges, 2)})"
         else:
@@ -230,7 +195,7 @@ class Symbols:
 
     def __init__(self, file):
         names = {}
-        for address, name, info in sorted(read_symbols(file), key=lambda symbol: symbol[2] < 16):
+        for address, name, info in sorted(elf32.symbols(file), key=lambda symbol: symbol[2] < 16):
             if info & 15 in (0, 1, 2) and name and not name.startswith((".", "$")):
                 names.setdefault(address, name)  # a global one where there are several
         self.addresses = sorted(names)
@@ -243,23 +208,6 @@ class Symbols:
             return ""
         start = self.addresses[place]
         return self.names[start] + (f"+{address - start:#x}" if address > start else "")
-
-
-def read_symbols(file):
-    """Address, name and st_info of each symbol that the section headers lead to; no section header
-    need be right, for the program reads none."""
-    at, size, count = struct.unpack_from("<I", file, 32)[0], *struct.unpack_from("<2H", file, 46)
-    if size != 40 or at + size * count > len(file):
-        return
-    sections = [struct.unpack_from("<10I", file, at + size * place) for place in range(count)]
-    for _, kind, _, _, offset, length, link, _, _, entry in sections:
-        if kind != 2 or entry != 16 or link >= count:
-            continue
-        names = file[sections[link][4]:sections[link][4] + sections[link][5]]
-        for place in range(offset, min(offset + length, len(file)) - 15, 16):
-            name, value, _, info, _, section = struct.unpack_from("<3I2BH", file, place)
-            if section and name < len(names):
-                yield value, names[name:].split(b"\0", 1)[0].decode("ascii", "replace"), info
 
 
 class GuestFile:
@@ -290,7 +238,7 @@ class GuestFile:
 
 def read(path):
     """A file's bytes, as far as the program reads them."""
-    return tool.read_bytes(path, MOST_BYTES + 1)
+    return tool.read_bytes(path, limits.FILE_BYTES + 1)
 
 
 def load(path):

@@ -2,6 +2,7 @@
 ordinary mutexes, and compared with its line; its kind must be one that the batch rule allows."""
 import copy
 
+import limits
 import model
 import report
 from report import Block, Wrong
@@ -98,7 +99,7 @@ class Run:
         if kind is not None and kind not in allowed:
             raise Wrong(f"block {self.count}: its kind is {kind}, and must be {' or '.join(allowed)}"
                         + (f": {self.batches[lock].why(kind, number, worker, self.stamps[number])}"
-                           if lock is not None and kind in report.SECTIONS else ""))
+                           if lock is not None and kind in limits.SECTIONS else ""))
         kind = kind or allowed[0]
         pc = thread.pc
         turns, locks, taken, end = self.machine.run_block(number)
@@ -152,26 +153,30 @@ class Run:
             taken = self.machine.next_lock(self.machine.threads[number]) is not None
             yield self.step(number, "taken" if taken else None, 0)
 
+    def header_lines(self):
+        return report.header_lines(self.version, len(self.machine.threads), len(self.machine.locks), self.workers,
+                                   self.fuel, self.limit)
+
     def ending_lines(self):
         """The report's lines behind the blocks, for threads that have ended."""
-        for number, thread in enumerate(self.machine.threads):
+        threads, locks = self.machine.threads, self.machine.locks
+        for number, thread in enumerate(threads):
             if thread.end is None:
                 raise Wrong(f"behind block {self.count - 1}: thread {number} has not ended")
-            yield f"thread {number} {thread.end} fuel {thread.fuel} pc {thread.pc:08x}"
-            for i in range(0, 32, 8):
-                yield f"x{i} " + " ".join(f"{value:08x}" for value in thread.x[i:i + 8])
-        for number, lock in enumerate(self.machine.locks):
-            yield (f"lock {number} sections {lock.sections} broken {lock.broken}"
-                   f" bytes {len(lock.bytes)}")
-            for i in range(0, len(lock.bytes), 32):
-                yield f"data {lock.addresses[i]:08x} {lock.bytes[i:i + 32].hex()}"
-        yield "end"
+        return report.ending_lines(
+            [report.ThreadEnd(thread.end, thread.fuel, thread.pc, thread.x) for thread in threads],
+            [report.LockEnd(lock.sections, lock.broken, lock.addresses.start, lock.bytes) for lock in locks])
 
-    def header_lines(self):
-        machine = self.machine
-        return [f"tclocks {self.version}",
-                f"guest threads {len(machine.threads)} guards {len(machine.locks)}",
-                f"run workers {self.workers} fuel {self.fuel} batch {self.limit}"]
+    def lines(self, blocks):
+        """A report of these blocks, to its end where each thread has ended."""
+        yield from self.header_lines()
+        for block in blocks:
+            yield block.line(self.version)
+        if self.is_over():
+            yield from self.ending_lines()
+
+    def is_over(self):
+        return all(thread.end is not None for thread in self.machine.threads)
 
 
 def shown(name, block):

@@ -4,25 +4,43 @@ guests/check compares what the program ./tclocks prints with this model, and gue
 counts turns by it. It shares no code with the program. It takes files that the program
 accepts; it refuses none itself.
 """
-import struct
+import limits
+import elf32
+import rv32im
+from rv32im import signed
 
-STACK = range(0x7FFFC000, 0x80000000)
-MOST_TURNS = 4096  # of one block
-LOADS = {0: (1, True), 1: (2, True), 2: (4, True), 4: (1, False), 5: (2, False)}
-STORES = {0: 1, 1: 2, 2: 4}
+STACK = limits.STACK
+ECALL = rv32im.WHOLE["ecall"]
+SIGNED = ("lb", "lh", "lw")  # loads that extend the sign
 COMPARISONS = {
-    0: lambda a, b: a == b,
-    1: lambda a, b: a != b,
-    4: lambda a, b: signed(a) < signed(b),
-    5: lambda a, b: signed(a) >= signed(b),
-    6: lambda a, b: a < b,
-    7: lambda a, b: a >= b,
+    "beq": lambda a, b: a == b,
+    "bne": lambda a, b: a != b,
+    "blt": lambda a, b: signed(a) < signed(b),
+    "bge": lambda a, b: signed(a) >= signed(b),
+    "bltu": lambda a, b: a < b,
+    "bgeu": lambda a, b: a >= b,
 }
-
-
-def signed(value, bits=32):
-    value &= (1 << bits) - 1
-    return value - (1 << bits) if value >> (bits - 1) else value
+OPERATIONS = {
+    "add": lambda a, b: a + b,
+    "sub": lambda a, b: a - b,
+    "sll": lambda a, b: a << (b & 31),
+    "slt": lambda a, b: int(signed(a) < signed(b)),
+    "sltu": lambda a, b: int(a % 2**32 < b % 2**32),
+    "xor": lambda a, b: a ^ b,
+    "srl": lambda a, b: a >> (b & 31),
+    "sra": lambda a, b: signed(a) >> (b & 31),
+    "or": lambda a, b: a | b,
+    "and": lambda a, b: a & b,
+    "mul": lambda a, b: a * b,
+    "mulh": lambda a, b: signed(a) * signed(b) >> 32,
+    "mulhsu": lambda a, b: signed(a) * b >> 32,
+    "mulhu": lambda a, b: a * b >> 32,
+    "div": lambda a, b: quotient(signed(a), signed(b)),
+    "divu": lambda a, b: quotient(a, b),
+    "rem": lambda a, b: remainder(signed(a), signed(b)),
+    "remu": lambda a, b: remainder(a, b),
+}
+IMMEDIATES = {"sltiu": "sltu", **{f"{name}i": name for name in ("add", "sll", "slt", "xor", "srl", "sra", "or", "and")}}
 
 
 class Fault(Exception):
@@ -37,20 +55,17 @@ class Guest:
     """What a file says: ranges (addresses, flags, bytes), entries and guards."""
 
     def __init__(self, file):
-        at, size, count = (struct.unpack_from("<I", file, 28)[0],
-                           *struct.unpack_from("<HH", file, 42))
-        self.entries = [(struct.unpack_from("<I", file, 24)[0], 0)]
-        self.guards = []
+        self.entries, self.guards = [(elf32.entry(file), 0)], []
         self.ranges = []
-        for i in range(count):
-            kind, start, address, _, length, memory, flags, _ = struct.unpack_from(
-                "<8I", file, at + i * size)
-            content = file[start:start + length]
-            if kind == 1 and memory > 0:
-                self.ranges.append((range(address, address + memory), flags,
-                                    content.ljust(memory, b"\0")))
-            elif kind == 4:
-                self.read_notes(content)
+        for header in elf32.headers(file):
+            content = header.content(file)
+            if header.type == elf32.LOAD and header.memory > 0:
+                self.ranges.append((header.range, header.flags, content.ljust(header.memory, b"\0")))
+            elif header.type == elf32.NOTE:
+                for note in elf32.notes(content):
+                    if note.is_threads:
+                        _, threads, _, pairs = elf32.described(note.descriptor)
+                        self.entries, self.guards = pairs[:threads], pairs[threads:]
 
     def word(self, pc):
         """The word at an address that code may be fetched from, or None."""
@@ -58,18 +73,6 @@ class Guest:
             if flags & 1 and pc in where and pc + 3 in where:
                 return int.from_bytes(content[pc - where.start:pc - where.start + 4], "little")
         return None
-
-    def read_notes(self, notes):
-        at = 0
-        while at + 12 <= len(notes):
-            name_size, size, kind = struct.unpack_from("<3I", notes, at)
-            name = notes[at + 12:at + 12 + name_size]
-            at += 12 + (name_size + 3) // 4 * 4
-            if name == b"TCLOCKS\0" and kind == 1:
-                _, threads, guards = struct.unpack_from("<3I", notes, at)
-                pairs = list(struct.iter_unpack("<II", notes[at + 12:at + size]))
-                self.entries, self.guards = pairs[:threads], pairs[threads:threads + guards]
-            at += (size + 3) // 4 * 4
 
 
 class Thread:
@@ -110,8 +113,8 @@ class Machine:
     def next_lock(self, thread):
         """The lock that the next instruction lawfully takes, or None."""
         wanted = thread.x[10]
-        if (thread.fuel > 0 and self.guest.word(thread.pc) == 0x73 and thread.x[17] == 1
-                and wanted < len(self.locks) and len(thread.held) < 4
+        if (thread.fuel > 0 and self.guest.word(thread.pc) == ECALL and thread.x[17] == limits.LOCK
+                and wanted < len(self.locks) and len(thread.held) < limits.HELD
                 and all(wanted > lock for lock in thread.held)):
             return wanted
         return None
@@ -155,7 +158,7 @@ class Machine:
             word = self.guest.word(thread.pc)
             if word is None:
                 raise Fault(2)
-            if word == 0x73:
+            if word == ECALL:
                 return self.call(number, thread)
             self.instruction(thread, word)
         except Fault as fault:
@@ -170,15 +173,15 @@ class Machine:
 
     def call(self, number, thread):
         call, value = thread.x[17], thread.x[10]
-        if call == 93:
+        if call == limits.EXIT:
             return self.finish(thread, "exit")
-        if call not in (1, 2, 3) or (call == 3 and value > 255):
+        if call not in limits.CALLS or (call == limits.SLEEP and value > limits.SLEPT):
             raise Fault(9)
-        if call == 3:
+        if call == limits.SLEEP:
             thread.slept, answer, end = value, 0, "slept"
-        elif value >= len(self.locks) or (call == 1 and len(thread.held) == 4):
+        elif value >= len(self.locks) or (call == limits.LOCK and len(thread.held) == limits.HELD):
             raise Fault(10)
-        elif call == 1:
+        elif call == limits.LOCK:
             answer, end = self.take(number, thread, value), None
         else:
             answer, end = self.release(thread, value), f"unlocked {value}"
@@ -205,38 +208,31 @@ class Machine:
         return 0
 
     def instruction(self, thread, word):
-        opcode, rd, kind = word & 0x7F, word >> 7 & 31, word >> 12 & 7
-        a, b = thread.x[word >> 15 & 31], thread.x[word >> 20 & 31]
-        top, immediate, after = word >> 25, signed(word >> 20, 12), thread.pc + 4
-        value = None
-        if opcode == 0x37:
-            value = word & 0xFFFFF000
-        elif opcode == 0x17:
-            value = thread.pc + (word & 0xFFFFF000)
-        elif opcode == 0x6F:
-            value, after = after, target(thread.pc + jump_offset(word))
-        elif opcode == 0x67 and kind == 0:
-            value, after = after, target((a + immediate) & ~1)
-        elif opcode == 0x63 and kind in COMPARISONS:
-            if COMPARISONS[kind](a, b):
-                after = target(thread.pc + branch_offset(word))
-        elif opcode == 0x03 and kind in LOADS:
-            value = self.load(thread, (a + immediate) % 2**32, *LOADS[kind])
-        elif opcode == 0x23 and kind in STORES:
-            offset = signed(top << 5 | rd, 12)
-            self.store(thread, (a + offset) % 2**32, STORES[kind], b)
-        elif opcode == 0x13 and (kind not in (1, 5) or top == 0 or (kind, top) == (5, 32)):
-            value = operation(kind, kind == 5 and top == 32, a, immediate)
-        elif opcode == 0x33 and (top == 0 or (top == 32 and kind in (0, 5))):
-            value = operation(kind, top == 32, a, b)
-        elif opcode == 0x33 and top == 1:
-            value = product(kind, a, b) if kind < 4 else quotient(kind, a, b)
-        elif word == 0x00100073:
-            raise Fault(8)
-        elif not (opcode == 0x0F and kind == 0):
+        what = rv32im.decode(word)
+        if what is None:
             raise Fault(1)
-        if value is not None and rd:
-            thread.x[rd] = value % 2**32
+        name, to, a, b, immediate = what
+        a, b, after, value = thread.x[a], thread.x[b], thread.pc + 4, None
+        if name in IMMEDIATES:
+            value = OPERATIONS[IMMEDIATES[name]](a, immediate)
+        elif name in OPERATIONS:
+            value = OPERATIONS[name](a, b)
+        elif name in COMPARISONS:
+            after = target(thread.pc + immediate) if COMPARISONS[name](a, b) else after
+        elif name in rv32im.WIDTHS:
+            address, width = (a + immediate) % 2**32, rv32im.WIDTHS[name]
+            if name[0] == "s":
+                self.store(thread, address, width, b)
+            else:
+                value = self.load(thread, address, width, name in SIGNED)
+        elif name in ("jal", "jalr"):
+            value, after = after, target(thread.pc + immediate if name == "jal" else (a + immediate) & ~1)
+        elif name in ("lui", "auipc"):
+            value = immediate + (thread.pc if name == "auipc" else 0)
+        elif name == "ebreak":
+            raise Fault(8)
+        if value is not None and to:
+            thread.x[to] = value % 2**32
         thread.pc = after % 2**32
 
     def run_block(self, number):
@@ -251,7 +247,7 @@ class Machine:
             wanted = None if end else self.next_lock(thread)
             if wanted is not None:
                 end = f"wants {wanted}"
-            elif end is None and turns == MOST_TURNS:
+            elif end is None and turns == limits.TURNS:
                 end = "cut"
         thread.blocks += 1
         return turns, locks, taken, end
@@ -263,49 +259,13 @@ def target(address):
     return address
 
 
-def jump_offset(word):
-    return signed(word >> 31 << 20 | (word >> 12 & 0xFF) << 12 | (word >> 20 & 1) << 11
-                  | (word >> 21 & 0x3FF) << 1, 21)
+def quotient(a, b):
+    """Rounded toward zero; of a division by zero -1."""
+    return abs(a) // abs(b) * (1 if (a < 0) == (b < 0) else -1) if b else -1
 
 
-def branch_offset(word):
-    return signed(word >> 31 << 12 | (word >> 7 & 1) << 11 | (word >> 25 & 0x3F) << 5
-                  | (word >> 8 & 0xF) << 1, 13)
-
-
-def operation(kind, other, a, b):
-    """ADD, SLL, SLT, SLTU, XOR, SRL, OR, AND by kind; SUB and SRA where other is set."""
-    if kind == 0:
-        return a - b if other else a + b
-    if kind == 1:
-        return a << (b & 31)
-    if kind == 2:
-        return int(signed(a) < signed(b))
-    if kind == 3:
-        return int(a % 2**32 < b % 2**32)
-    if kind == 4:
-        return a ^ b
-    if kind == 5:
-        return signed(a) >> (b & 31) if other else a >> (b & 31)
-    return a | b if kind == 6 else a & b
-
-
-def product(kind, a, b):
-    """MUL, MULH, MULHSU, MULHU by kind."""
-    if kind == 0:
-        return a * b
-    return (a if kind == 3 else signed(a)) * (signed(b) if kind == 1 else b) >> 32
-
-
-def quotient(kind, a, b):
-    """DIV, DIVU, REM, REMU by kind. A quotient is rounded toward zero."""
-    if kind in (4, 6):
-        a, b = signed(a), signed(b)
-    if b == 0:
-        whole = -1
-    else:
-        whole = abs(a) // abs(b) * (1 if (a < 0) == (b < 0) else -1)
-    return whole if kind < 6 else a - whole * b
+def remainder(a, b):
+    return a - quotient(a, b) * b
 
 
 def differences(facts, machine):

@@ -1,12 +1,10 @@
 """Why a thread ended where it did, and what is wrong with the words of the program, in sentences
 with the numbers that tell it."""
-import re
-
 import guestfile
+import limits
 import report
 import rv32im
 
-CALLS = {1: "LOCK", 2: "UNLOCK", 3: "SLEEP", 93: "EXIT"}
 EXTENSIONS = {0x2F: "an atomic instruction (A)", 0x07: "a floating-point load", 0x27: "a floating-point store",
               0x53: "a floating-point instruction", 0x73: "a CSR or privileged instruction",
               0x0F: "FENCE.I or another of the kind"}
@@ -26,14 +24,14 @@ def instruction(file, pc):
 
 def call_text(thread):
     """The guest call that an ECALL makes with a thread's registers."""
-    name = CALLS.get(thread.x[17], f"no guest call: x17 is {thread.x[17]}, x10")
+    name = limits.CALLS.get(thread.x[17], f"no guest call: x17 is {thread.x[17]}, x10")
     return f"{name} {thread.x[10]}"
 
 
 def start_text(file, thread):
     """Where a thread is about to go on."""
     text = instruction(file, thread.pc)
-    return text + (f" ({call_text(thread)})" if file.word(thread.pc) == 0x73 else "")
+    return text + (f" ({call_text(thread)})" if file.word(thread.pc) == rv32im.WHOLE["ecall"] else "")
 
 
 def delegation(block, batch, came, away):
@@ -89,14 +87,14 @@ def region(file, address):
     guard = file.guard_at(address)
     if guard is not None:
         return f"it is in guard {guard}, {guestfile.span(guard_span(file, guard))}"
-    if address in guestfile.STACK:
+    if address in limits.STACK:
         return "it is on the stack"
     for where, flags, _ in file.guest.ranges:
         if address in where:
             return f"it is in the {'writable' if flags & 2 else 'read-only'} range {guestfile.span(where)}"
-    below = guestfile.STACK.start - address
+    below = limits.STACK.start - address
     if 0 < below <= 65536:
-        return (f"it is {below} bytes below the stack, {guestfile.span(guestfile.STACK)}, as where the stack "
+        return (f"it is {below} bytes below the stack, {guestfile.span(limits.STACK)}, as where the stack "
                 "ran out")
     return "it is in nothing" + (", as of a null pointer" if address < 4096 else "")
 
@@ -130,7 +128,7 @@ def stop(*_):
 def bad_call(_, thread, __):
     number, value = thread.x[17], thread.x[10]
     if number == 3:
-        return f"SLEEP of x10 = {value}, which is above 255"
+        return f"SLEEP of x10 = {value}, which is above {limits.SLEPT}"
     return f"x17 is {number}, which is no guest call (1 LOCK, 2 UNLOCK, 3 SLEEP, 93 EXIT)"
 
 
@@ -155,30 +153,14 @@ FAULTS = {1: illegal, 3: target, 4: access, 5: access, 6: access, 7: access, 8: 
           10: bad_lock, 11: lock_order, 12: not_held}
 
 
-FORMS = {"run": ("workers", "fuel", "batch"), "gen": ("rounds",), "demo": ("rounds", "workers")}
-LIMITS = {**report.LIMITS, "rounds": (1, 2000)}
-
-
-def number(name, word):
-    """What is wrong with the word of this number, or None."""
-    least, most = LIMITS[name]
-    if not re.fullmatch(report.NUMBER, word):
-        why = ("it has a leading zero" if re.fullmatch("0[0-9]+", word)
-               else "it has too many digits" if word.isdigit() else "it is no number in digits alone")
-        return f"{name} is {word!r}: {why}"
-    if not least <= int(word) <= most:
-        return f"{name} is {word}, which is not {least} to {most}"
-    return None
-
-
 def usage(words):
     """What is wrong with the words of the program, or None."""
     if not words:
         return "there are no words; it wants run W F B, gen N or demo N W"
     form, numbers = words[0], words[1:]
-    if form not in FORMS:
+    if form not in limits.FORMS:
         return f"{form!r} is no form: it wants run W F B, gen N or demo N W"
-    names = FORMS[form]
+    names = limits.FORMS[form]
     if len(numbers) != len(names):
         return f"behind {form} stand {len(numbers)} words: it wants {', '.join(names)}"
-    return next(filter(None, map(number, names, numbers)), None)
+    return next(filter(None, map(report.wrong_number, names, numbers)), None)

@@ -1,4 +1,4 @@
-"""Reads the text of a report: its header, its blocks, and how threads and locks end.
+"""The text of a report: its header, its blocks, and how threads and locks end, read and written.
 
 Two forms are read: `tclocks 1`, and `tclocks 2`, in which a block line says the program counter
 at the block's start too. A text that stops early is read as far as it goes.
@@ -6,12 +6,10 @@ at the block's start too. A text that stops early is read as far as it goes.
 import re
 from typing import NamedTuple, Optional, Tuple
 
-KINDS = ("start", "on", "taken", "adopted", "granted")
-SECTIONS = KINDS[2:]  # the kinds that begin a section
-MOST_THREADS = {1: 16, 2: 32}
-MOST_GUARDS = {1: 16, 2: 32}
-LIMITS = {"workers": (1, 8), "fuel": (1, 65536), "batch": (0, 256)}
+import limits
+from limits import KINDS, SECTIONS
 
+LIMITS = limits.RUN
 NUMBER = r"(0|[1-9]\d{0,9})"
 HEX8 = r"([0-9a-f]{8})"
 GUEST = re.compile(f"guest threads {NUMBER} guards {NUMBER}")
@@ -110,6 +108,34 @@ def locks_text(held):
     return f"lock{'s' * (len(held) > 1)} {held_text(held)}"
 
 
+def wrong_number(name, word):
+    """What is wrong with a word of this number, or None."""
+    least, most = limits.NUMBERS[name]
+    if not re.fullmatch(NUMBER, word):
+        why = ("it has a leading zero" if re.fullmatch("0[0-9]+", word)
+               else "it has too many digits" if word.isdigit() else "it is no number in digits alone")
+        return f"{name} is {word!r}: {why}"
+    return None if least <= int(word) <= most else f"{name} is {word}, which is not {least} to {most}"
+
+
+def header_lines(version, threads, guards, workers, fuel, batch):
+    return [f"tclocks {version}", f"guest threads {threads} guards {guards}",
+            f"run workers {workers} fuel {fuel} batch {batch}"]
+
+
+def ending_lines(threads, locks):
+    """What stands behind the blocks, of threads (ThreadEnd) and locks (LockEnd) that have ended."""
+    for number, thread in enumerate(threads):
+        yield f"thread {number} {thread.how} fuel {thread.fuel} pc {thread.pc:08x}"
+        for i in range(0, 32, 8):
+            yield f"x{i} " + " ".join(f"{value:08x}" for value in thread.x[i:i + 8])
+    for number, lock in enumerate(locks):
+        yield f"lock {number} sections {lock.sections} broken {lock.broken} bytes {len(lock.bytes)}"
+        for i in range(0, len(lock.bytes), 32):
+            yield f"data {lock.address + i:08x} {lock.bytes[i:i + 32].hex()}"
+    yield "end"
+
+
 class Lines:
     """Numbered lines without their ends; one can be looked at before it is taken."""
 
@@ -165,8 +191,8 @@ class Report:
             raise self.lines.wrong("'guest threads N guards M'")
         threads, guards = map(int, found.groups())
         for name, value, least, most in (
-                ("threads", threads, 1, MOST_THREADS[self.version]),
-                ("guards", guards, 0, MOST_GUARDS[self.version])):
+                ("threads", threads, 1, limits.THREADS[self.version]),
+                ("guards", guards, 0, limits.GUARDS[self.version])):
             if not least <= value <= most:
                 raise self.lines.wrong(f"about {least} to {most} {name}")
         self.lines.take()
@@ -176,13 +202,11 @@ class Report:
         found = OPTIONS.fullmatch(self.lines.next or "")
         if not found:
             raise self.lines.wrong("'run workers W fuel F batch B'")
-        values = []
-        for (name, (least, most)), word in zip(LIMITS.items(), found.groups()):
-            if not re.fullmatch(NUMBER, word) or not least <= int(word) <= most:
-                raise self.lines.wrong(f"about {least} to {most} {name}")
-            values.append(int(word))
+        for name, word in zip(limits.RUN, found.groups()):
+            if wrong_number(name, word):
+                raise Wrong(f"line {self.lines.at()}: {wrong_number(name, word)}")
         self.lines.take()
-        return values
+        return map(int, found.groups())
 
     def blocks(self):
         """The blocks in their order."""
@@ -208,8 +232,8 @@ class Report:
             if value >= most:
                 raise Wrong(f"block {stamp}, line {self.lines.at()}: there is no {name} {value}, "
                             f"but {name}s 0 to {most - 1}")
-        if not 1 <= block.turns <= 4096 or (kind in SECTIONS and not block.held):
-            raise Wrong(f"block {stamp}, line {self.lines.at()}: it has 1 to 4096 turns, and a "
+        if not 1 <= block.turns <= limits.TURNS or (kind in SECTIONS and not block.held):
+            raise Wrong(f"block {stamp}, line {self.lines.at()}: it has 1 to {limits.TURNS} turns, and a "
                         "section's first block holds its lock")
         return block
 

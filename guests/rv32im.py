@@ -1,78 +1,127 @@
-"""RV32IM as text: what a word is, and which address it goes to."""
-import model
+"""RV32IM: the one table of instructions, by which a word is read, made, and told as text."""
+import functools
+from typing import NamedTuple
 
-NAMES = ("zero ra sp gp tp t0 t1 t2 s0 s1 a0 a1 a2 a3 a4 a5 a6 a7 "
-         "s2 s3 s4 s5 s6 s7 s8 s9 s10 s11 t3 t4 t5 t6").split()
-BRANCHES = {0: "beq", 1: "bne", 4: "blt", 5: "bge", 6: "bltu", 7: "bgeu"}
-LOADS = {0: "lb", 1: "lh", 2: "lw", 4: "lbu", 5: "lhu"}
-STORES = {0: "sb", 1: "sh", 2: "sw"}
-OPERATIONS = ("add", "sll", "slt", "sltu", "xor", "srl", "or", "and")
-PRODUCTS = ("mul", "mulh", "mulhsu", "mulhu", "div", "divu", "rem", "remu")
+REGISTERS = ("zero ra sp gp tp t0 t1 t2 s0 s1 a0 a1 a2 a3 a4 a5 a6 a7 "
+             "s2 s3 s4 s5 s6 s7 s8 s9 s10 s11 t3 t4 t5 t6").split()
+WHOLE = {"ecall": 0x73, "ebreak": 0x00100073}
+WIDTHS = {"lb": 1, "lh": 2, "lw": 4, "lbu": 1, "lhu": 2, "sb": 1, "sh": 2, "sw": 4}  # bytes
+
+# The form of the word, its opcode, its funct7 where that tells, and the names by funct3.
+TABLE = (
+    ("U", 0x37, None, "lui"), ("U", 0x17, None, "auipc"), ("J", 0x6F, None, "jal"),
+    ("I", 0x67, None, "jalr"), ("B", 0x63, None, "beq bne - - blt bge bltu bgeu"),
+    ("I", 0x03, None, "lb lh lw - lbu lhu"), ("S", 0x23, None, "sb sh sw"),
+    ("I", 0x13, None, "addi - slti sltiu xori - ori andi"),
+    ("shift", 0x13, 0, "- slli - - - srli"), ("shift", 0x13, 32, "- - - - - srai"),
+    ("R", 0x33, 0, "add sll slt sltu xor srl or and"), ("R", 0x33, 32, "sub - - - - sra"),
+    ("R", 0x33, 1, "mul mulh mulhsu mulhu div divu rem remu"), ("I", 0x0F, None, "fence"))
+BY_NAME = {name: (form, opcode, kind, top or 0) for form, opcode, top, names in TABLE
+           for kind, name in enumerate(names.split()) if name != "-"}
+BY_WORD = {(opcode, None if form in "UJ" else kind, top): (name, form) for form, opcode, top, names in TABLE
+           for kind, name in enumerate(names.split()) if name != "-"}
 
 
-def operation_name(kind, other):
-    return {0: "sub", 5: "sra"}[kind] if other else OPERATIONS[kind]
+class Instruction(NamedTuple):
+    """A word's name, its registers (to, a, b) by number, and its immediate value."""
+    name: str
+    to: int = 0
+    a: int = 0
+    b: int = 0
+    value: int = 0
+
+
+def signed(value, bits=32):
+    value &= (1 << bits) - 1
+    return value - (1 << bits) if value >> (bits - 1) else value
+
+
+def bits(value, high, low):
+    """The bits high down to low of a number."""
+    return value >> low & (1 << high - low + 1) - 1
+
+
+IMMEDIATES = {
+    "R": lambda word: 0,
+    "I": lambda word: signed(word >> 20, 12),
+    "shift": lambda word: bits(word, 24, 20),
+    "S": lambda word: signed(bits(word, 31, 25) << 5 | bits(word, 11, 7), 12),
+    "B": lambda word: signed(bits(word, 31, 31) << 12 | bits(word, 7, 7) << 11 | bits(word, 30, 25) << 5
+                             | bits(word, 11, 8) << 1, 13),
+    "U": lambda word: word & 0xFFFFF000,
+    "J": lambda word: signed(bits(word, 31, 31) << 20 | bits(word, 19, 12) << 12 | bits(word, 20, 20) << 11
+                             | bits(word, 30, 21) << 1, 21),
+}
+
+
+@functools.lru_cache(1 << 16)
+def decode(word):
+    """The instruction of a word, or None."""
+    for name, whole in WHOLE.items():
+        if word == whole:
+            return Instruction(name)
+    opcode, kind, top = word & 0x7F, bits(word, 14, 12), word >> 25
+    for key in ((opcode, kind, None), (opcode, kind, top), (opcode, None, None)):
+        if key in BY_WORD:
+            name, form = BY_WORD[key]
+            return Instruction(name, bits(word, 11, 7), bits(word, 19, 15), bits(word, 24, 20),
+                               IMMEDIATES[form](word))
+    return None
+
+
+def encode(name, *operands):
+    """The word of an instruction: the register that it writes, those that it reads, the immediate; of a
+    store the register that is stored, the base, the distance; of LUI and AUIPC the upper 20 bits."""
+    if name in WHOLE:
+        return WHOLE[name]
+    form, opcode, kind, top = BY_NAME[name]
+    word = opcode | kind << 12 | top << 25 if form not in "UJ" else opcode
+    if form in "UJ":
+        to, value = operands
+        word |= to << 7
+        return word | (value << 12 if form == "U" else bits(value, 20, 20) << 31 | bits(value, 10, 1) << 21
+                       | bits(value, 11, 11) << 20 | bits(value, 19, 12) << 12)
+    if form == "B":
+        a, b, value = operands
+        return (word | a << 15 | b << 20 | bits(value, 12, 12) << 31 | bits(value, 10, 5) << 25
+                | bits(value, 4, 1) << 8 | bits(value, 11, 11) << 7)
+    if form == "S":
+        b, a, value = operands
+        return word | a << 15 | b << 20 | bits(value, 11, 5) << 25 | bits(value, 4, 0) << 7
+    to, a, other = operands
+    return word | to << 7 | a << 15 | (other & 0xFFF) << 20
 
 
 def text(word, pc=0):
     """The instruction of a word at an address, or '.word' where it is none."""
-    opcode, kind, top = word & 0x7F, word >> 12 & 7, word >> 25
-    rd, a, b = (NAMES[word >> at & 31] for at in (7, 15, 20))
-    immediate = model.signed(word >> 20, 12)
-    if opcode in (0x37, 0x17):
-        return f"{'lui' if opcode == 0x37 else 'auipc'} {rd},{word >> 12:#x}"
-    if opcode == 0x6F:
-        return f"jal {rd},{(pc + model.jump_offset(word)) % 2**32:08x}"
-    if opcode == 0x67 and kind == 0:
-        return "ret" if word == 0x8067 else f"jalr {rd},{immediate}({a})"
-    if opcode == 0x63 and kind in BRANCHES:
-        return f"{BRANCHES[kind]} {a},{b},{(pc + model.branch_offset(word)) % 2**32:08x}"
-    if opcode == 0x03 and kind in LOADS:
-        return f"{LOADS[kind]} {rd},{immediate}({a})"
-    if opcode == 0x23 and kind in STORES:
-        return f"{STORES[kind]} {b},{store_offset(word)}({a})"
-    if opcode == 0x13 and (kind not in (1, 5) or top == 0 or (kind, top) == (5, 32)):
-        return immediate_text(word, kind, rd, a, immediate)
-    if opcode == 0x33 and (top == 0 or (top == 32 and kind in (0, 5))):
-        return f"{operation_name(kind, top == 32)} {rd},{a},{b}"
-    if opcode == 0x33 and top == 1:
-        return f"{PRODUCTS[kind]} {rd},{a},{b}"
-    if opcode == 0x0F and kind == 0:
-        return "fence"
-    return {0x73: "ecall", 0x00100073: "ebreak"}.get(word, f".word {word:#010x}")
-
-
-def immediate_text(word, kind, rd, a, immediate):
-    if word == 0x13:
-        return "nop"
-    if kind in (1, 5):
-        return f"{operation_name(kind, word >> 25 == 32)}i {rd},{a},{word >> 20 & 31}"
-    if kind == 0 and a == "zero":
-        return f"li {rd},{immediate}"
-    name = "sltiu" if kind == 3 else f"{OPERATIONS[kind]}i"
-    return f"{name} {rd},{a},{immediate}"
-
-
-def store_offset(word):
-    return model.signed(word >> 25 << 5 | word >> 7 & 31, 12)
+    what = decode(word)
+    if what is None:
+        return f".word {word:#010x}"
+    name, value = what.name, what.value
+    to, a, b = (REGISTERS[number] for number in what[1:4])
+    form = BY_NAME[name][0] if name in BY_NAME else ""
+    if not form or name == "fence":
+        return name
+    if word in (0x13, 0x8067):
+        return "nop" if word == 0x13 else "ret"
+    if name == "addi" and a == "zero":
+        return f"li {to},{value}"
+    return name + " " + {
+        "U": f"{to},{value >> 12:#x}", "J": f"{to},{(pc + value) % 2**32:08x}",
+        "B": f"{a},{b},{(pc + value) % 2**32:08x}", "S": f"{b},{value}({a})", "R": f"{to},{a},{b}",
+    }.get(form, f"{to},{value}({a})" if name in WIDTHS or name == "jalr" else f"{to},{a},{value}")
 
 
 def access(word, x):
     """The load or store that a word makes with these registers: 'load' or 'store', address and
     width; None for other words."""
-    opcode, kind, base = word & 0x7F, word >> 12 & 7, x[word >> 15 & 31]
-    if opcode == 0x03 and kind in LOADS:
-        return "load", (base + model.signed(word >> 20, 12)) % 2**32, model.LOADS[kind][0]
-    if opcode == 0x23 and kind in STORES:
-        return "store", (base + store_offset(word)) % 2**32, model.STORES[kind]
-    return None
+    what = decode(word)
+    if what is None or what.name not in WIDTHS:
+        return None
+    return ("load" if what.name[0] == "l" else "store", (x[what.a] + what.value) % 2**32, WIDTHS[what.name])
 
 
 def jump_target(word, pc, x):
     """Where a word jumps with these registers, if it does: the address as it is computed."""
-    opcode = word & 0x7F
-    if opcode == 0x6F:
-        return (pc + model.jump_offset(word)) % 2**32
-    if opcode == 0x67:
-        return (x[word >> 15 & 31] + model.signed(word >> 20, 12)) % 2**32 & ~1
-    return (pc + model.branch_offset(word)) % 2**32
+    what = decode(word)
+    return ((x[what.a] + what.value) & ~1 if what.name == "jalr" else pc + what.value) % 2**32

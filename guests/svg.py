@@ -4,7 +4,8 @@ can tell apart; kinds are told apart by letters and outlines too."""
 import html
 from collections import Counter
 
-from report import SECTIONS, several
+from limits import SECTIONS
+from report import several
 import timeline
 
 COLOURS = ("#0072B2", "#E69F00", "#009E73", "#CC79A7", "#56B4E9", "#D55E00", "#F0E442")

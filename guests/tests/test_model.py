@@ -12,8 +12,8 @@ class Values(unittest.TestCase):
         heading, *lines = VALUES.read_text().splitlines()
         for line in lines:
             a, b, *values = (int(value, 16) for value in line.split(","))
-            for kind, (name, value) in enumerate(zip(heading.split(",")[2:], values)):
-                said = model.product(kind, a, b) if kind < 4 else model.quotient(kind, a, b)
+            for name, value in zip(heading.split(",")[2:], values):
+                said = model.OPERATIONS[name](a, b)
                 self.assertEqual(said % 2**32, value, f"{name} of {a:08x} and {b:08x}")
 
 

@@ -194,4 +194,5 @@ def main(words):
         tool.note("draw", text.cut_note())
 
 
-tool.run("draw", main)
+if __name__ == "__main__":
+    tool.run("draw", main)

@@ -100,4 +100,5 @@ def main(words):
         tool.note("explain", f"the report stops behind line {text.lines.at() - 1}")
 
 
-tool.run("explain", main)
+if __name__ == "__main__":
+    tool.run("explain", main)

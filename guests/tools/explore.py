@@ -135,4 +135,5 @@ def main(words):
         tool.note("explore", f"the first history of each outcome is in {asked.keep}")
 
 
-tool.run("explore", main)
+if __name__ == "__main__":
+    tool.run("explore", main)

@@ -9,6 +9,7 @@ import sys
 import byhand
 import guestfile
 import legal
+import limits
 import report
 import tool
 
@@ -62,11 +63,8 @@ def follow(begin, lines):
 
 def print_report(run, blocks):
     """The whole report, or as far as it goes; what could come next goes to standard error."""
-    print_lines(run.header_lines())
-    print_lines(block.line(run.version) for block in blocks)
-    if all(thread.end is not None for thread in run.machine.threads):
-        print_lines(run.ending_lines())
-    else:
+    print_lines(run.lines(blocks))
+    if not run.is_over():
         sys.stdout.flush()
         print_lines([f"# legal so far, {run.count} blocks; what could come next:", *possible(run)], sys.stderr)
 
@@ -77,7 +75,7 @@ def main(words):
     parser.add_argument("history", metavar="HISTORY", nargs="?", default="-",
                         help="the history; standard input where it is left out")
     parser.add_argument("--on", action="store_true", help="go on to the end of every thread, all sections taken")
-    for name, (least, most) in report.LIMITS.items():
+    for name, (least, most) in limits.RUN.items():
         parser.add_argument(f"--{name}", type=tool.number(least, most), metavar="N",
                             help=f"where the history has no header ({DEFAULTS[name]})")
     asked = parser.parse_intermixed_args(words)
@@ -86,7 +84,7 @@ def main(words):
         history = byhand.History(tool.read_lines(asked.history))
     except report.Wrong as wrong:
         raise tool.Trouble(tool.WRONG, str(wrong)) from None
-    given = {name: getattr(asked, name) for name in report.LIMITS if getattr(asked, name) is not None}
+    given = {name: getattr(asked, name) for name in limits.RUN if getattr(asked, name) is not None}
     options = {**DEFAULTS, **history.header, **given}
     run, blocks = follow(lambda: legal.Run(guest, options["workers"], options["fuel"], options["batch"],
                                            options["version"]), history.blocks)
@@ -95,4 +93,5 @@ def main(words):
     print_report(run, blocks)
 
 
-tool.run("finish", main)
+if __name__ == "__main__":
+    tool.run("finish", main)

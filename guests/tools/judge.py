@@ -26,4 +26,5 @@ def main(words):
           else f"legal so far, {run.count} blocks")
 
 
-tool.run("judge", main)
+if __name__ == "__main__":
+    tool.run("judge", main)

@@ -5,14 +5,14 @@ interleaving that the seed stands for; the program's is another one each time.
 """
 import delegation
 import guestfile
-import report
+import limits
 import tool
 
 
 def main(words):
     parser = tool.words("simulate", __doc__)
     parser.add_argument("guest", metavar="GUEST", help="the guest's file")
-    for name, (least, most) in report.LIMITS.items():
+    for name, (least, most) in limits.RUN.items():
         parser.add_argument(name, metavar=name.upper(), type=tool.number(least, most),
                             help=f"{least} to {most}")
     parser.add_argument("--seed", type=tool.number(0, 10**9), default=0,
@@ -27,4 +27,5 @@ def main(words):
         print(line)
 
 
-tool.run("simulate", main)
+if __name__ == "__main__":
+    tool.run("simulate", main)

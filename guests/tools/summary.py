@@ -75,4 +75,5 @@ def main(words):
         tool.note("summary", counted.text.cut_note())
 
 
-tool.run("summary", main)
+if __name__ == "__main__":
+    tool.run("summary", main)

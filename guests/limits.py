@@ -1,0 +1,22 @@
+"""The numbers and words of docs/GUEST.md and docs/REPORT.md, each in this place alone."""
+FILE_BYTES = 1048576  # of a guest's file, and of the memory that it asks for
+PROGRAM_HEADERS = 16
+THREADS = {1: 16, 2: 32}  # the most, by the version of a note or of a report
+GUARDS = {1: 16, 2: 32}
+GUARD_BYTES = 4, 65536  # the least and the most
+STACK = range(0x7FFFC000, 0x80000000)
+
+LOCK, UNLOCK, SLEEP, EXIT = 1, 2, 3, 93  # guest calls, by x17
+CALLS = {LOCK: "LOCK", UNLOCK: "UNLOCK", SLEEP: "SLEEP", EXIT: "EXIT"}
+HELD = 4  # locks that a thread may hold
+SLEPT = 255  # blocks that a thread may sleep
+TURNS = 4096  # of one block
+
+KINDS = ("start", "on", "taken", "adopted", "granted")
+SECTIONS = KINDS[2:]  # the kinds that begin a section
+
+# The least and the most of each number that stands behind the program's words.
+RUN = {"workers": (1, 8), "fuel": (1, 65536), "batch": (0, 256)}
+NUMBERS = {**RUN, "rounds": (1, 2000)}
+FORMS = {"run": tuple(RUN), "gen": ("rounds",), "demo": ("rounds", "workers")}
+USAGE = "usage: tclocks run W F B | tclocks gen N | tclocks demo N W"

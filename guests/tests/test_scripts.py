@@ -1,0 +1,162 @@
+"""The scripts that check the program and write facts.json, as far as they need no program: their words, what
+they draw, and what they find wrong."""
+import importlib.machinery
+import importlib.util
+import json
+import random
+import shutil
+import unittest
+
+from common import BY_HAND, GUESTS, NAMES, ONE, TEMPORARY, Case, built, elf, history, run, saved
+import damage
+import elf32
+import guestfile
+import limits
+import made
+import model
+import program
+import report
+import rv32im
+
+SCRIPTS = ("check", "fuzz", "refuse", "endure", "facts")
+TOOLS = sorted(path.stem for path in (GUESTS / "tools").glob("*.py"))
+
+
+def script(name):
+    """A script as a module: its main is guarded."""
+    loader = importlib.machinery.SourceFileLoader(f"script_{name}", str(GUESTS / name))
+    module = importlib.util.module_from_spec(importlib.util.spec_from_loader(loader.name, loader))
+    loader.exec_module(module)
+    return module
+
+
+class Words(Case):
+    def test_help_has_no_effect(self):
+        before = {path: path.stat().st_mtime_ns for path in GUESTS.rglob("*")
+                  if path.is_file() and "__pycache__" not in path.parts}
+        for name in (*SCRIPTS, *TOOLS):
+            done = run(name, "--help")
+            self.assertEqual((done.returncode, done.stderr), (0, b""), name)
+            self.assertTrue(done.stdout.startswith(f"usage: guests/{name} ".encode()), name)
+        self.assertEqual({path: path.stat().st_mtime_ns for path in before}, before)
+
+    def test_wrong_words(self):
+        for name, words in (("check", ("nobody",)), ("check", ("--fast",)), ("fuzz", ("0",)), ("fuzz", ("1", "-1")),
+                            ("fuzz", ("1", "2", "3")), ("refuse", ("9",)), ("refuse", ("1", "1", "257")),
+                            ("endure", ("none",)), ("facts", ("now",))):
+            self.one_line(run(name, *words), 1)
+        self.one_line(run("refuse", "1", "1", "1", "/no/such/file"), 2)
+
+    def test_without_a_program(self):
+        """In a copy of the folder, beside which no program was built."""
+        copy = TEMPORARY / "copy" / "guests"
+        shutil.copytree(GUESTS, copy, ignore=shutil.ignore_patterns("__pycache__", "out", "tests"))
+        for name, words in (("check", ("first",)), ("fuzz", ("1",)), ("refuse", ()), ("endure", ("1",))):
+            done = run(copy / name, *words)
+            self.one_line(done, 2)
+            self.says("the program isn't built", done)
+
+
+class Parts(Case):
+    def test_guests_that_are_drawn(self):
+        """Each is a guest, and each damaged copy is one or is refused."""
+        draw = script("fuzz").Draw(7)
+        numbers = set()
+        for _ in range(60):
+            file = draw.guest()
+            guestfile.check(file)
+            for kind in damage.KINDS:
+                try:
+                    guestfile.GuestFile(kind(draw, file))
+                except guestfile.Refused as refused:
+                    numbers.add(refused.number)
+        self.assertGreater(len(numbers), 8)
+
+    def test_the_largest_guest(self):
+        file = script("endure").sleeping(32)
+        guestfile.check(file)
+        self.assertEqual(sum(header.memory for header in elf32.headers(file) if header.type == elf32.LOAD),
+                         limits.FILE_BYTES)
+
+    def test_what_refuse_calls_wrong(self):
+        refuse = script("refuse")
+        file = built(ONE, (0, 0), 1)
+        text = run("finish", saved("one.elf", file), given=BY_HAND).stdout
+        case = refuse.Case("a report", (), file, 0, None)
+        ended = refuse.Ended(0, text, b"", 9, 0, 2)
+        self.assertIsNone(refuse.wrong_in(case, ended, 2))
+        self.assertIsNone(refuse.wrong_in(case, ended._replace(status=5, written=b"", refused=1), 2))
+        for other, part in ((ended._replace(kept=3), "not given back"), (ended._replace(said=b"no"), "said"),
+                            (ended._replace(status=5), "status 5"), (ended._replace(written=text[:-1]), "written"),
+                            (ended._replace(status=5, written=b""), "status 5"),
+                            (ended._replace(kept=None), "ended")):
+            self.assertIn(part, refuse.wrong_in(case, other, 2))
+
+    def test_facts_are_computed_without_the_guest(self):
+        facts, known = script("facts"), json.loads((GUESTS / "facts.json").read_text())
+        for name in NAMES:
+            if name != "exit":
+                for key, value in getattr(facts, name)().items():
+                    self.assertEqual(value, known[name][key], (name, key))
+
+    def test_a_fact_that_does_not_hold_is_found(self):
+        check, known = script("check"), json.loads((GUESTS / "facts.json").read_text())["first"]
+        machine = script("facts").run(model.Guest((GUESTS / "first.elf").read_bytes()), random.Random(1))
+        check.check_facts(known, machine, check.AMPLE)
+        for key, value in (("x10", [5, 8]), ("sections", [7]), ("ends", ["exit", "spent"]), ("turns", [51, 50])):
+            with self.assertRaises(report.Wrong):
+                check.check_facts({**known, key: value}, machine, check.AMPLE)
+
+
+class Bytes(Case):
+    def test_the_smallest_guest_is_written_as_it_stands(self):
+        """exit.elf was written out by hand."""
+        file = (GUESTS / "exit.elf").read_bytes()
+        load, = elf32.headers(file)
+        self.assertEqual(len(file), 92)
+        self.assertEqual([rv32im.text(elf32.word(load.content(file), at)) for at in (0, 4)], ["li a7,93", "ecall"])
+
+    def test_written_files_are_read_again(self):
+        note = elf32.note([(made.CODE, 7), (made.CODE + 4, 8)], [(made.DATA, 4)])
+        file = made.elf(note, made.call(limits.EXIT, 3), b"\1\2", 8)
+        guest = guestfile.GuestFile(file).guest
+        self.assertEqual((guest.entries, guest.guards), ([(made.CODE, 7), (made.CODE + 4, 8)], [(made.DATA, 4)]))
+        self.assertEqual([(place.start, len(place), flags, content) for place, flags, content in guest.ranges],
+                         [(made.CODE, 12, 5, bytes.fromhex("130530009308d00573000000")),
+                          (made.DATA, 8, 6, bytes((1, 2, 0, 0, 0, 0, 0, 0)))])
+
+    def test_words_are_read_as_they_are_made(self):
+        """One word of each form, as the RISC-V manual and an assembler give them."""
+        for word, made_of, text in (
+                (0x00A585B3, ("add", 11, 11, 10), "add a1,a1,a0"), (0x40A585B3, ("sub", 11, 11, 10), "sub a1,a1,a0"),
+                (0xFFF30313, ("addi", 6, 6, -1), "addi t1,t1,-1"), (0x4032D293, ("srai", 5, 5, 3), "srai t0,t0,3"),
+                (0x0002A383, ("lw", 7, 5, 0), "lw t2,0(t0)"), (0x0072A023, ("sw", 7, 5, 0), "sw t2,0(t0)"),
+                (0xFC031CE3, ("bne", 6, 0, -40), "bne t1,zero,00100000"),
+                (0x000202B7, ("lui", 5, 0x20), "lui t0,0x20"), (0x0040006F, ("jal", 0, 4), "jal zero,0010002c"),
+                (0x00008067, ("jalr", 0, 1, 0), "ret"), (0x02A5C5B3, ("div", 11, 11, 10), "div a1,a1,a0"),
+                (0x00000073, ("ecall",), "ecall"), (0x00100073, ("ebreak",), "ebreak")):
+            self.assertEqual(rv32im.encode(*made_of), word, made_of)
+            self.assertEqual(rv32im.text(word, 0x00100028), text)
+        for word in (0, 0xFFFFFFFF, 0x00002067, 0x0000A0F3, 0x04000033):
+            self.assertIsNone(rv32im.decode(word))
+
+    def test_a_report_is_written_as_it_is_read(self):
+        _, text = history("philosophers", 4, 8, 1)
+        read = report.Report(text.splitlines(keepends=True))
+        lines = [block.line(2) for block in read.blocks()]
+        read.ends()
+        lines = report.header_lines(2, read.threads, read.guards, read.workers, read.fuel, read.batch) + lines
+        lines += report.ending_lines(read.thread_ends, read.lock_ends)
+        self.assertEqual("\n".join(lines) + "\n", text)
+
+    def test_guests_of_the_bench(self):
+        spec = importlib.util.spec_from_file_location("bench_guests", GUESTS.parent / "bench" / "guests.py")
+        bench = importlib.util.module_from_spec(spec)
+        spec.loader.exec_module(bench)
+        for name, make in bench.GUESTS.items():
+            file = guestfile.GuestFile(make())
+            self.assertEqual(len(file.guest.entries), 16, name)
+
+
+if __name__ == "__main__":
+    unittest.main()
