@@ -70,7 +70,7 @@ def memory():
 
 def hot_lock():
     """One lock, and a short section that adds one to a word of its guard."""
-    base = [encode("lui", 8, DATA >> 12)]
+    base = [encode("lui", 8, DATA)]
     return elf(base + for_ever(lock(0) + add_one(8) + unlock(0)), 1)
 
 
@@ -121,7 +121,7 @@ def large_image():
 def many_ranges():
     """Loads and stores in the last of 13 ranges, beside 16 guards that nobody uses."""
     ranges = twelve_ranges(12 * [4096])
-    base = [encode("lui", 8, ranges[-1][0] >> 12)]
+    base = [encode("lui", 8, ranges[-1][0])]
     return elf(base + for_ever([encode("addi", 8, 8, 0)] + 4 * add_one(8)), 16, ranges)
 
 

@@ -27,7 +27,7 @@ def elf(notes, words, data, memory):
 
 def counting(threads):
     """The file of threads that each add 1 to a word under lock 0, a hundred times."""
-    words = [encode("lui", 5, DATA >> 12), encode("addi", 6, 0, 100), *call(limits.LOCK, 0),
+    words = [encode("lui", 5, DATA), encode("addi", 6, 0, 100), *call(limits.LOCK, 0),
              encode("lw", 7, 5, 0), encode("addi", 7, 7, 1), encode("sw", 7, 5, 0), *call(limits.UNLOCK, 0),
              encode("addi", 6, 6, -1), encode("bne", 6, 0, -40), *call(limits.EXIT, 0)[1:]]
     return elf(note([(CODE, 0)] * threads, [(DATA, 4)]), words, bytes(4), 4)

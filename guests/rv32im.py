@@ -31,6 +31,16 @@ class Instruction(NamedTuple):
     value: int = 0
 
 
+# By the form of a word: its operands in their order, and where the bits of the immediate stand in the word:
+# the highest and the lowest of some bits, and the place of the lowest.
+OPERANDS = {"R": ("to", "a", "b"), "I": ("to", "a", "value"), "shift": ("to", "a", "value"), "S": ("b", "a", "value"),
+            "B": ("a", "b", "value"), "U": ("to", "value"), "J": ("to", "value")}
+REGISTER = {"to": 7, "a": 15, "b": 20}
+IMMEDIATE = {"R": (), "I": ((11, 0, 20),), "shift": ((4, 0, 20),), "S": ((11, 5, 25), (4, 0, 7)),
+             "B": ((12, 12, 31), (11, 11, 7), (10, 5, 25), (4, 1, 8)), "U": ((31, 12, 12),),
+             "J": ((20, 20, 31), (19, 12, 12), (11, 11, 20), (10, 1, 21))}
+
+
 def signed(value, bits=32):
     value &= (1 << bits) - 1
     return value - (1 << bits) if value >> (bits - 1) else value
@@ -41,55 +51,36 @@ def bits(value, high, low):
     return value >> low & (1 << high - low + 1) - 1
 
 
-IMMEDIATES = {
-    "R": lambda word: 0,
-    "I": lambda word: signed(word >> 20, 12),
-    "shift": lambda word: bits(word, 24, 20),
-    "S": lambda word: signed(bits(word, 31, 25) << 5 | bits(word, 11, 7), 12),
-    "B": lambda word: signed(bits(word, 31, 31) << 12 | bits(word, 7, 7) << 11 | bits(word, 30, 25) << 5
-                             | bits(word, 11, 8) << 1, 13),
-    "U": lambda word: word & 0xFFFFF000,
-    "J": lambda word: signed(bits(word, 31, 31) << 20 | bits(word, 19, 12) << 12 | bits(word, 20, 20) << 11
-                             | bits(word, 30, 21) << 1, 21),
-}
+def immediate(form, word):
+    """The immediate value of a word; all but shifts and upper bits have a sign."""
+    places = IMMEDIATE[form]
+    value = sum(bits(word, at + high - low, at) << low for high, low, at in places)
+    return signed(value, places[0][0] + 1) if form in "ISBJ" else value
 
 
 @functools.lru_cache(1 << 16)
 def decode(word):
     """The instruction of a word, or None."""
-    for name, whole in WHOLE.items():
-        if word == whole:
-            return Instruction(name)
+    if word in WHOLE.values():
+        return Instruction("ecall" if word == WHOLE["ecall"] else "ebreak")
     opcode, kind, top = word & 0x7F, bits(word, 14, 12), word >> 25
     for key in ((opcode, kind, None), (opcode, kind, top), (opcode, None, None)):
         if key in BY_WORD:
             name, form = BY_WORD[key]
-            return Instruction(name, bits(word, 11, 7), bits(word, 19, 15), bits(word, 24, 20),
-                               IMMEDIATES[form](word))
+            return Instruction(name, *(bits(word, at + 4, at) for at in REGISTER.values()), immediate(form, word))
     return None
 
 
 def encode(name, *operands):
-    """The word of an instruction: the register that it writes, those that it reads, the immediate; of a
-    store the register that is stored, the base, the distance; of LUI and AUIPC the upper 20 bits."""
+    """The word of an instruction, with its operands in the order of OPERANDS."""
     if name in WHOLE:
         return WHOLE[name]
     form, opcode, kind, top = BY_NAME[name]
-    word = opcode | kind << 12 | top << 25 if form not in "UJ" else opcode
-    if form in "UJ":
-        to, value = operands
-        word |= to << 7
-        return word | (value << 12 if form == "U" else bits(value, 20, 20) << 31 | bits(value, 10, 1) << 21
-                       | bits(value, 11, 11) << 20 | bits(value, 19, 12) << 12)
-    if form == "B":
-        a, b, value = operands
-        return (word | a << 15 | b << 20 | bits(value, 12, 12) << 31 | bits(value, 10, 5) << 25
-                | bits(value, 4, 1) << 8 | bits(value, 11, 11) << 7)
-    if form == "S":
-        b, a, value = operands
-        return word | a << 15 | b << 20 | bits(value, 11, 5) << 25 | bits(value, 4, 0) << 7
-    to, a, other = operands
-    return word | to << 7 | a << 15 | (other & 0xFFF) << 20
+    given = dict(zip(OPERANDS[form], operands))
+    word = opcode | (kind << 12 | top << 25 if form not in "UJ" else 0)
+    for high, low, at in IMMEDIATE[form]:
+        word |= bits(given["value"], high, low) << at
+    return word | sum(given[register] << at for register, at in REGISTER.items() if register in given)
 
 
 def text(word, pc=0):
@@ -98,18 +89,19 @@ def text(word, pc=0):
     if what is None:
         return f".word {word:#010x}"
     name, value = what.name, what.value
-    to, a, b = (REGISTERS[number] for number in what[1:4])
-    form = BY_NAME[name][0] if name in BY_NAME else ""
-    if not form or name == "fence":
+    if name in WHOLE or name == "fence":
         return name
     if word in (0x13, 0x8067):
         return "nop" if word == 0x13 else "ret"
-    if name == "addi" and a == "zero":
-        return f"li {to},{value}"
-    return name + " " + {
-        "U": f"{to},{value >> 12:#x}", "J": f"{to},{(pc + value) % 2**32:08x}",
-        "B": f"{a},{b},{(pc + value) % 2**32:08x}", "S": f"{b},{value}({a})", "R": f"{to},{a},{b}",
-    }.get(form, f"{to},{value}({a})" if name in WIDTHS or name == "jalr" else f"{to},{a},{value}")
+    form = BY_NAME[name][0]
+    shown = [REGISTERS[getattr(what, operand)] for operand in OPERANDS[form] if operand in REGISTER]
+    if form in "BJ":
+        shown.append(f"{(pc + value) % 2**32:08x}")
+    elif form != "R":
+        shown.append(f"{value >> 12:#x}" if form == "U" else str(value))
+    if name in WIDTHS or name == "jalr":
+        return f"{name} {shown[0]},{shown[2]}({shown[1]})"
+    return f"li {shown[0]},{value}" if name == "addi" and shown[1] == "zero" else f"{name} {','.join(shown)}"
 
 
 def access(word, x):

@@ -132,7 +132,7 @@ class Bytes(Case):
                 (0xFFF30313, ("addi", 6, 6, -1), "addi t1,t1,-1"), (0x4032D293, ("srai", 5, 5, 3), "srai t0,t0,3"),
                 (0x0002A383, ("lw", 7, 5, 0), "lw t2,0(t0)"), (0x0072A023, ("sw", 7, 5, 0), "sw t2,0(t0)"),
                 (0xFC031CE3, ("bne", 6, 0, -40), "bne t1,zero,00100000"),
-                (0x000202B7, ("lui", 5, 0x20), "lui t0,0x20"), (0x0040006F, ("jal", 0, 4), "jal zero,0010002c"),
+                (0x000202B7, ("lui", 5, 0x20000), "lui t0,0x20"), (0x0040006F, ("jal", 0, 4), "jal zero,0010002c"),
                 (0x00008067, ("jalr", 0, 1, 0), "ret"), (0x02A5C5B3, ("div", 11, 11, 10), "div a1,a1,a0"),
                 (0x00000073, ("ecall",), "ecall"), (0x00100073, ("ebreak",), "ebreak")):
             self.assertEqual(rv32im.encode(*made_of), word, made_of)
