@@ -1,110 +1,47 @@
-"""The command tclocks, over a folder with a toolchain and a program that are made up: what it
-builds and when, and that it passes on all that the program does."""
-import os
+"""The command tclocks, over a folder with a toolchain and a program that are made up: what it runs,
+and that it passes on all that the program does; and its words, against the program's own rules."""
 import pathlib
-import shutil
+import re
 import signal
 import subprocess
-import tempfile
 import time
 import unittest
 
-ROOT = pathlib.Path(__file__).resolve().parent.parent.parent
+from madeup import ROOT, Folder
 
-# Makes libraries for two crates and then the program, and counts how often it was asked.
-TOOLCHAIN = """#!/bin/sh
-echo asked >> "$COUNT"
-for crate in ../tc_io ../tc_isa; do
-    mkdir -p $crate/out/rlib; sleep 1.2; : > $crate/out/rlib/stamp
-done
-cp "$PROGRAM" out/tclocks
-"""
-PROGRAM = """#!/bin/sh
-case $1 in
-status) exit "$2" ;;
-cat) cat ;;
-wait) echo here; while :; do sleep 0.1; done ;;
-esac
-"""
+USAGE = b"usage: tclocks run W F B | tclocks gen N | tclocks demo N W\n"
+# Words that ask for something, and words that ask for nothing.
+FORMS = ("run 1 1 0", "run 8 65536 256", "run 4 20000 8", "gen 1", "gen 2000", "demo 1 1", "demo 2000 8")
+WRONG = ("", "run", "run 1 1", "run 1 1 0 0", "run 0 10 1", "run 9 10 1", "run 2 010 1", "run 1 0 0", "run 1 65537 0",
+         "run 1 1 257", "run +1 1 0", "run -1 1 0", "run 1 1 99999999999999999999", "stop", "gen", "gen 0", "gen 01",
+         "gen 2001", "gen 1 1", "demo 5", "demo 0 1", "demo 2001 1", "demo 5 0", "demo 5 9", "demo 5 1 1", "--help",
+         "--version", "-h", "Run 1 1 0", "run 1 1 ٣")
 
 
-class Command(unittest.TestCase):
-    @classmethod
-    def setUpClass(cls):
-        # A job in the background ignores some signals, and would hand that on.
-        for number in (signal.SIGINT, signal.SIGHUP, signal.SIGTERM):
-            if signal.getsignal(number) == signal.SIG_IGN:
-                signal.signal(number, signal.SIG_DFL)
+def words_of_tests():
+    """The lists of words that the tests of the program hold for wrong."""
+    text = (ROOT / "crates/tc_tests/src/outside.rt").read_text()
+    table = re.search(r"(?s)\[[^=]*= ?&?\[(.*?)\n\];", text).group(1)
+    lists = re.findall(r"&\[((?:b\"[^\"]*\"(?:, )?)*)\]", table)
+    return [[eval(word) for word in re.findall(r"b\"[^\"]*\"", words)] for words in lists]
+
+
+class Command(Folder):
+    """Runs of the built program."""
 
     def setUp(self):
-        self.folder = tempfile.TemporaryDirectory()
-        self.root = pathlib.Path(self.folder.name)
-        for crate in ("tc_io", "tc_isa", "tclocks"):
-            (self.root / "crates" / crate).mkdir(parents=True)
-        (self.root / "guests").mkdir()
-        (self.root / "guests" / "exit.elf").write_bytes(b"")
-        shutil.copy(ROOT / "tclocks", self.root)
-        shutil.copy(ROOT / "crates.txt", self.root)
-        self.tool("bin/rt", TOOLCHAIN)
-        self.tool("program", PROGRAM)
-        self.environment = {**os.environ, "PATH": f"{self.root / 'bin'}:{os.environ['PATH']}",
-                            "COUNT": str(self.root / "count"), "PROGRAM": str(self.root / "program")}
+        super().setUp()
+        self.build()
 
-    def tearDown(self):
-        self.folder.cleanup()
-
-    def tool(self, name, text):
-        path = self.root / name
-        path.parent.mkdir(exist_ok=True)
-        path.write_text(text)
-        path.chmod(0o755)
-
-    def begin(self, *words, shell=()):
-        return subprocess.Popen([*shell, self.root / "tclocks", *words], env=self.environment,
-                                stdin=subprocess.PIPE, stdout=subprocess.PIPE, stderr=subprocess.PIPE)
-
-    def run_command(self, *words, given=b"", shell=()):
-        started = self.begin(*words, shell=shell)
-        out, said = started.communicate(given, timeout=60)
-        return started.returncode, out, said.decode()
-
-    def left(self):
-        """What is in the program's folder."""
-        return sorted(path.name for path in (self.root / "crates" / "tclocks").rglob("*") if path.is_file())
-
-    def test_first_build_says_how_far_it_is_and_the_next_call_says_nothing(self):
-        status, out, said = self.run_command("cat", given=b"bytes\0")
-        self.assertEqual((status, out), (0, b"bytes\0"))
-        for part in ("The log is", r"proving tc_io, crate 1 of \d+, for 0:01 so far", r"tc_isa, crate 2 of \d+",
-                     "built in"):
-            self.assertRegex(said, part)
-        self.assertEqual(self.run_command("cat", given=b"more"), (0, b"more", ""))
+    def test_what_is_built_is_run_without_a_word(self):
+        self.assertEqual(self.command("cat", given=b"bytes\0"), (0, b"bytes\0", ""))
 
     def test_statuses_are_passed_on_and_three_have_a_line(self):
-        self.run_command("status", "0")
         for number in range(7):
-            status, out, said = self.run_command("status", str(number))
+            status, out, said = self.command("status", str(number))
             self.assertEqual((status, out, said.count("\n")), (number, b"", number in (2, 4, 5)))
 
-    def test_two_first_builds_at_once_are_one(self):
-        first, second = self.begin("cat"), self.begin("cat")
-        self.assertEqual([one.communicate(b"x", timeout=60)[0] for one in (first, second)], [b"x", b"x"])
-        self.assertEqual((self.root / "count").read_text(), "asked\n")
-
-    def test_interrupted_build_leaves_nothing(self):
-        for how in (signal.SIGINT, signal.SIGTERM):
-            started = self.begin("cat")
-            time.sleep(1)
-            started.send_signal(how)
-            _, said = started.communicate(timeout=20)
-            self.assertIn("the build was interrupted", said.decode())
-            self.assertNotEqual(started.returncode, 0)
-            self.assertEqual(self.left(), [])
-            self.assertEqual(subprocess.run(["pgrep", "-f", f"sh {self.root}/bin/rt"], check=False,
-                                            stdout=subprocess.PIPE).stdout, b"")
-
     def test_a_signal_ends_the_program_too(self):
-        self.run_command("status", "0")
         for how in (signal.SIGINT, signal.SIGTERM, signal.SIGHUP):
             started = self.begin("wait")
             self.assertEqual(started.stdout.readline(), b"here\n")
@@ -112,29 +49,163 @@ class Command(unittest.TestCase):
             started.send_signal(how)
             self.assertEqual(started.communicate(timeout=20), (b"", b""))
             self.assertEqual(started.returncode, -how)
-            self.assertEqual(subprocess.run(["pgrep", "-f", f"sh {self.root}/crates"], check=False,
-                                            stdout=subprocess.PIPE).stdout, b"")
+            self.assertEqual(self.running("crates"), "")
 
     def test_closed_streams_are_passed_on(self):
-        self.run_command("status", "0")
         for closed, status in (("<&-", 1), (">&-", 1), ("2>&-", 0)):
             done = subprocess.run(["sh", "-c", f'exec "$0" cat {closed}', self.root / "tclocks"], input=b"x",
                                   env=self.environment, capture_output=True, check=False)
             self.assertEqual((done.returncode, done.stdout), (status, b"x" * (not status)))
 
-    def test_failed_build_names_the_log(self):
-        self.tool("bin/rt", "#!/bin/sh\necho no; exit 1\n")
-        status, _, said = self.run_command("cat")
-        self.assertEqual(status, 126)
-        self.assertIn("build.log", said)
+    def test_a_newer_source_is_not_passed_over(self):
+        self.write("crates/tc_io/src/lib.rt", "// newer\n")
+        status, out, said = self.command("run", "1", "1", "0", given=b"x")
+        self.assertEqual((status, out), (0, b"sources: run 1 1 0\nx"))
+        self.assertRegex(said, r"^tclocks: the program is out of date: crates/tc_io/src/lib.rt is newer .*NOT PROVED.*\n$")
+
+    def test_an_old_program_runs_where_it_is_asked_for(self):
+        self.write("crates/tc_io/src/lib.rt", "// newer\n")
+        status, out, said = self.command("cat", given=b"x", TCLOCKS_PROGRAM="old")
+        self.assertEqual((status, out), (0, b"x"))
+        self.assertRegex(said, r"^tclocks: the program is out of date.*\n$")
+        status, out, said = self.command("cat", given=b"x", TCLOCKS_PROGRAM="built")
+        self.assertEqual((status, out, said.count("\n")), (127, b"", 1))
+
+    def test_a_source_of_another_crate_changes_nothing(self):
+        self.write("crates/tc_tests/src/lib.rt", "// newer\n")
+        self.assertEqual(self.command("cat", given=b"x"), (0, b"x", ""))
+
+    def test_the_sources_run_where_they_are_asked_for(self):
+        status, out, said = self.command("demo", "1", "1", TCLOCKS_PROGRAM="sources")
+        self.assertEqual((status, out, said.count("\n")), (0, b"sources: demo 1 1\n", 1))
+        self.assertEqual(self.command("cat", TCLOCKS_PROGRAM="new")[0], 126)
+
+
+class Unproved(Folder):
+    """Runs of the sources, where there is no program."""
+
+    def test_words_input_output_and_status_are_the_programs_and_one_line_is_said(self):
+        status, out, said = self.command("run", "1", "3", "0", given=b"bytes\0")
+        self.assertEqual((status, out), (0, b"sources: run 1 3 0\nbytes\0"))
+        self.assertRegex(said, r"^tclocks: the program is not built; this run is NOT PROVED .*tclocks-build.*minutes.*\n$")
+        status, out, said = self.command("run", "3", "3", "0", given=b"x")
+        self.assertEqual((status, out, said.count("\n")), (3, b"refused\n", 1))
+        self.assertEqual(self.count(), ["try", "try"])
+
+    def test_only_a_run_reads(self):
+        with subprocess.Popen(["sleep", "30"], stdout=subprocess.PIPE) as silent:
+            for words in (("demo", "1", "1"), ("gen", "1")):
+                done = subprocess.run([self.root / "tclocks", *words], stdin=silent.stdout, env=self.environment,
+                                      capture_output=True, timeout=20, check=False)
+                self.assertEqual((done.returncode, done.stdout), (0, b"sources: " + " ".join(words).encode() + b"\n"))
+            silent.kill()
+
+    def test_an_input_that_pauses_is_read_to_its_end(self):
+        done = subprocess.run(["sh", "-c", '(echo a; sleep 3; echo b) | "$0" run 1 1 0', self.root / "tclocks"],
+                              env=self.environment, capture_output=True, check=False)
+        self.assertEqual(done.stdout, b"sources: run 1 1 0\na\nb\n")
+
+    def test_streams_that_fail_have_the_programs_statuses(self):
+        for words, shell, status in (("run 1 1 0", "<&-", 2), ("run 1 1 0", "</", 2), ("run 1 1 0", ">/dev/full", 4),
+                                     ("run 1 1 0", ">&-", 4), ("demo 1 1", "<&-", 0), ("run 3 1 0", ">&-", 3),
+                                     ("stop", ">/dev/full", 1), ("stop", ">&-", 1)):
+            done = subprocess.run(["sh", "-c", f'exec "$0" {words} {shell}', self.root / "tclocks"], input=b"x",
+                                  env=self.environment, capture_output=True, check=False)
+            self.assertEqual(done.returncode, status, (words, shell, done.stderr))
+        self.assertEqual(self.left_over(), [])
+
+    def test_wrong_words_start_nothing(self):
+        for words in WRONG:
+            self.assertEqual(self.command(*words.split(" ") * (words != "")), (1, USAGE, ""), words)
+        for words in ([b"\xff", b"1", b"1", b"0"], [b"run", b"\xff", b"1", b"0"], [b"gen", b"1\n"], [b"gen", b""]):
+            self.assertEqual(self.command(*words), (1, USAGE, ""), words)
+        self.assertEqual(self.count(), [])
+
+    def test_forms_are_run(self):
+        for words in FORMS:
+            self.assertEqual(self.command(*words.split())[1][:9], b"sources: ", words)
+
+    def test_what_a_run_without_proof_can_not_do_is_said(self):
+        for words, text in (("run 7 1 0", "more than 1 MiB"), ("run 7 2 0", "longer than the minute"),
+                            ("run 7 3 0", "could not run the sources")):
+            status, out, said = self.command(*words.split(), given=b"x")
+            self.assertEqual((status, out), (126, b""))
+            self.assertIn(text, said)
+        self.assertEqual(self.left_over(), [])
+
+    def test_a_signal_ends_it_and_leaves_nothing(self):
+        for how in (signal.SIGINT, signal.SIGTERM, signal.SIGHUP):
+            started = self.begin("run", "8", "1", "0")
+            started.stdin.close()
+            time.sleep(1)
+            started.send_signal(how)
+            self.assertEqual(started.wait(timeout=20), -how)
+            started.stdout.close()
+            started.stderr.close()
+            self.assertEqual((self.left_over(), self.running("bin/rt")), ([], ""))
+
+    def test_without_the_toolchain(self):
+        (self.root / "bin/rt").unlink()
+        self.environment["PATH"] = f"{self.root / 'bin'}:/usr/bin:/bin"
+        status, out, said = self.command("run", "1", "1", "0")
+        self.assertEqual((status, out, said.count("\n")), (127, b"", 1))
+        self.assertEqual(self.command("--help"), (1, USAGE, ""))
+        self.assertEqual(self.command("run", "1", "1", "0", TCLOCKS_PROGRAM="built")[0], 127)
 
     def test_without_bash(self):
-        shell = shutil.which("dash")
-        if shell is None:
+        if not pathlib.Path("/bin/dash").exists():
             self.skipTest("there is no dash")
-        status, _, said = self.run_command("cat", shell=(shell,))
+        status, _, said = self.command("cat", shell=("/bin/dash",))
         self.assertEqual((status, said.count("\n")), (126, 1))
         self.assertIn("bash", said)
+
+
+class Rules(unittest.TestCase):
+    """The rules of words in the script are those of the program."""
+
+    def setUp(self):
+        self.script = (ROOT / "tclocks").read_text()
+
+    def test_the_usage_line_is_that_of_the_program(self):
+        line = re.search(r'let line = "(usage: [^"]*)\\n"', (ROOT / "crates/tc_main/src/answer.rt").read_text()).group(1)
+        self.assertIn(f'\nusage="{line}"\n', self.script)
+        self.assertEqual(line.encode() + b"\n", USAGE)
+
+    def test_each_form_of_the_usage_line_has_its_limits(self):
+        forms = re.findall(r'^    "([a-z]+)((?: \d+-\d+)+)"$', self.script, re.M)
+        told = [form.split()[1:] for form in re.search(r'usage="usage: (.*)"', self.script).group(1).split(" | ")]
+        self.assertEqual([[name, len(limits.split())] for name, limits in forms], [[form[0], len(form) - 1] for form in told])
+
+    def test_limits_are_those_of_the_program(self):
+        constants = {}
+        for path in ("tc_isa/src/limits.rt", "tc_elf/src/limits.rt", "tc_build/src/generate.rt"):
+            for name, value in re.findall(r"pub const (\w+): \w+ = ([\d_]+);", (ROOT / "crates" / path).read_text()):
+                constants[name] = int(value.replace("_", ""))
+        named = {name: value for name, value in constants.items() if name.startswith("MAX_")}
+        workers, fuel, batch, rounds = (named[name] for name in ("MAX_WORKERS", "MAX_FUEL", "MAX_BATCH", "MAX_ROUNDS"))
+        for form in (f"run 1-{workers} 1-{fuel} 0-{batch}", f"gen 1-{rounds}", f"demo 1-{rounds} 1-{workers}"):
+            self.assertIn(f'    "{form}"\n', self.script)
+        self.assertIn(f"\nmost={named['MAX_FILE'] + 1}\n", self.script)
+
+    def test_the_programs_own_wrong_words_are_wrong_here(self):
+        lists = words_of_tests()
+        self.assertGreater(len(lists), 30)
+        for words in lists:
+            done = subprocess.run([ROOT / "tclocks", *words], stdin=subprocess.DEVNULL, capture_output=True, check=False,
+                                  env={"PATH": "/usr/bin:/bin"})
+            self.assertEqual((done.returncode, done.stdout, done.stderr), (1, USAGE, b""), words)
+
+    def test_the_built_program_answers_so(self):
+        program = ROOT / "crates/tclocks/out/tclocks"
+        if not program.exists():
+            self.skipTest("the program is not built")
+        for words in WRONG:
+            done = subprocess.run([program, *words.split(" ") * (words != "")], stdin=subprocess.DEVNULL,
+                                  capture_output=True, check=False)
+            self.assertEqual((done.returncode, done.stdout, done.stderr), (1, USAGE, b""), words)
+        for words in FORMS:
+            done = subprocess.run([program, *words.split()], stdin=subprocess.DEVNULL, capture_output=True, check=False)
+            self.assertNotEqual(done.returncode, 1, words)
 
 
 if __name__ == "__main__":
