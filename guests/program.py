@@ -7,7 +7,9 @@ import tool
 
 GUESTS = pathlib.Path(__file__).resolve().parent
 PATH = GUESTS.parent / "crates" / "tclocks" / "out" / "tclocks"
-BUILD = "./tclocks run 1 100 0 < guests/exit.elf builds it"
+COMMAND = GUESTS.parent / "tclocks"
+BUILD = "./tclocks-build proves and builds it"
+NOT_BUILT = 127  # the command's own status
 
 
 def is_built():
@@ -15,9 +17,13 @@ def is_built():
 
 
 def need():
-    """Trouble where it isn't built."""
+    """Trouble where it isn't built, or where a source is newer than it."""
     if not is_built():
         raise tool.Trouble(tool.INPUT, f"the program isn't built; {BUILD}")
+    asked = subprocess.run([COMMAND], env={"TCLOCKS_PROGRAM": "built", **os.environ}, stdin=subprocess.DEVNULL,
+                           stdout=subprocess.DEVNULL, stderr=subprocess.PIPE, check=False)
+    if asked.returncode == NOT_BUILT:
+        raise tool.Trouble(tool.INPUT, asked.stderr.decode().strip().partition(": ")[2])
 
 
 def run(words, file):

@@ -2,8 +2,10 @@
 and that it passes on all that the program does; and its words, against the program's own rules."""
 import pathlib
 import re
+import shutil
 import signal
 import subprocess
+import sys
 import time
 import unittest
 
@@ -74,6 +76,20 @@ class Command(Folder):
     def test_a_source_of_another_crate_changes_nothing(self):
         self.write("crates/tc_tests/src/lib.rt", "// newer\n")
         self.assertEqual(self.command("cat", given=b"x"), (0, b"x", ""))
+
+    def test_a_tool_takes_no_program_that_is_out_of_date(self):
+        for name in ("program.py", "tool.py"):
+            shutil.copy(ROOT / "guests" / name, self.root / "guests")
+        asked = [sys.executable, "-B", "-c", "import program, tool; tool.run('check', lambda _: program.need())"]
+        how = {"cwd": self.root / "guests", "env": self.environment, "capture_output": True, "check": False}
+        self.assertEqual(subprocess.run(asked, **how).returncode, 0)
+        self.write("crates/low/src/lib.rt", "// newer\n")
+        done = subprocess.run(asked, **how)
+        self.assertEqual((done.returncode, done.stderr.count(b"\n")), (2, 1))
+        self.assertIn(b"guests/check: the program is out of date: crates/low/src/lib.rt is newer", done.stderr)
+        how["env"] = {**self.environment, "TCLOCKS_PROGRAM": "old"}
+        self.assertEqual(subprocess.run(asked, **how).returncode, 0)
+        self.assertNotIn("try", self.count())
 
     def test_the_sources_run_where_they_are_asked_for(self):
         status, out, said = self.command("demo", "1", "1", TCLOCKS_PROGRAM="sources")
