@@ -38,5 +38,36 @@ class Kept(Case):
         self.assertIn(lanes, (DOCS / "GUEST.md").read_text())
 
 
+def anchors(page):
+    """The anchors of a page's headings."""
+    found = []
+    for heading in re.findall(r"(?m)^#+ (.*)$", re.sub(r"(?s)```.*?```", "", page.read_text())):
+        plain = re.sub(r"[^\w\- ]", "", re.sub(r"\[(.*?)\]\(.*?\)", r"\1", heading).lower())
+        found.append(plain.replace(" ", "-"))
+    return found
+
+
+class Pages(Case):
+    def test_links_lead_somewhere(self):
+        root = DOCS.parent
+        pages = [*root.glob("*.md"), *DOCS.glob("*.md"), *GUESTS.glob("*.md"), *root.glob("bench/*.md")]
+        self.assertGreater(len(pages), 12)
+        for page in pages:
+            text = re.sub(r"(?s)```.*?```", "", page.read_text())
+            for target in re.findall(r"\]\(([^)\s]+)\)", text):
+                if "://" in target:
+                    continue
+                path, _, anchor = target.partition("#")
+                found = (page.parent / path).resolve() if path else page
+                self.assertTrue(found.exists(), f"{page.name}: {target}")
+                if anchor:
+                    self.assertIn(anchor, anchors(found), f"{page.name}: {target}")
+
+    def test_the_main_proofs_are_few(self):
+        text = (DOCS.parent / "README.md").read_text()
+        rows = text[text.index("## What is proved"):text.index("## What is neither")].count("\n| ") - 1
+        self.assertTrue(6 <= rows <= 12, rows)
+
+
 if __name__ == "__main__":
     unittest.main()
