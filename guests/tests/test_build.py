@@ -65,6 +65,16 @@ class Building(Folder):
             self.assert_clean()
         self.assertEqual(self.command("run", "1", "1", "0")[1], b"sources: run 1 1 0\n")
 
+    def test_a_reader_of_what_is_said_that_ends_ends_the_build(self):
+        subprocess.run(["sh", "-c", '"$0" 2>&1 | head -1', self.root / "tclocks-build"], check=True,
+                       env={**self.environment, "SLEEP": "5"}, stdout=subprocess.DEVNULL, timeout=60)
+        self.assert_clean()
+
+    def test_a_place_that_can_not_be_written_is_said_in_one_line(self):
+        self.write("out", "no folder")
+        status, out, said = self.build()
+        self.assertEqual((status, out, said.count("\n")), (126, b"", 1))
+
     def test_a_failed_proof_names_its_log(self):
         status, _, said = self.build(FAILING="middle")
         self.assertEqual(status, 126)
