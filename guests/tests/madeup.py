@@ -6,6 +6,7 @@ import shutil
 import signal
 import subprocess
 import tempfile
+import time
 import unittest
 
 ROOT = pathlib.Path(__file__).resolve().parent.parent.parent
@@ -107,6 +108,13 @@ class Folder(unittest.TestCase):
         """What the toolchain was asked for by the command."""
         path = self.root / "count"
         return [line.split()[0] for line in path.read_text().splitlines()] if path.exists() else []
+
+    def wait_for(self, name):
+        """Waits until a file or a folder is there."""
+        until = time.monotonic() + 50
+        while not (self.root / name).exists():
+            self.assertLess(time.monotonic(), until, name)
+            time.sleep(0.05)
 
     def left_over(self):
         """What is left of runs without proof."""

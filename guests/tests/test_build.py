@@ -3,7 +3,6 @@ import pathlib
 import re
 import signal
 import subprocess
-import time
 import unittest
 
 from madeup import ROOT, Folder
@@ -54,7 +53,7 @@ class Building(Folder):
     def test_an_interrupted_build_leaves_nothing_that_runs_and_keeps_what_was_proved(self):
         for how in (signal.SIGINT, signal.SIGTERM, signal.SIGHUP):
             started = self.begin(script="tclocks-build", SLEEP="20")
-            time.sleep(1.5)
+            self.wait_for("out/lanes/low/crates/low/out/rlib")
             self.assertNotEqual(self.running("bin/rt"), "")
             started.send_signal(how)
             _, said = started.communicate(timeout=20)
@@ -85,7 +84,7 @@ class Building(Folder):
 
     def test_sources_that_change_during_a_build_are_newer_than_the_program(self):
         started = self.begin(script="tclocks-build")
-        time.sleep(0.3)
+        self.wait_for("times")
         self.write("crates/side/src/lib.rt", "// changed\n")
         started.communicate(b"", timeout=60)
         self.assertIn("out of date", self.command("run", "1", "1", "0")[2])

@@ -154,12 +154,13 @@ class Unproved(Folder):
         for how in (signal.SIGINT, signal.SIGTERM, signal.SIGHUP):
             started = self.begin("run", "8", "1", "0")
             started.stdin.close()
-            time.sleep(1)
+            self.wait_for("count")
             started.send_signal(how)
             self.assertEqual(started.wait(timeout=20), -how)
             started.stdout.close()
             started.stderr.close()
             self.assertEqual((self.left_over(), self.running("bin/rt")), ([], ""))
+            (self.root / "count").unlink()
 
     def test_without_the_toolchain(self):
         (self.root / "bin/rt").unlink()
