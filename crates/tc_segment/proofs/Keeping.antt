@@ -15,7 +15,7 @@ use Rattle.tc_turn.specs.Turn.{Mutex, mutex_at_start}
 use Rattle.tc_turn.specs.Replay.{Entry, Replays, replay_entry, replayed, AreReplayed}
 use Rattle.tc_segment.specs.declared.record.Record.{Record}
 use Rattle.tc_segment.specs.declared.record.Opening.{Opening}
-use Rattle.tc_segment.specs.View.{Opened, LockView, with_closed, entries, lock_of, replay_in, IsSoundLock, with_journal, opened_at, more_words, noted, entry_from, closed_with, with_end, Closes, fresh_state}
+use Rattle.tc_segment.specs.View.{Opened, LockView, with_closed, entries, lock_of, replay_in, IsSoundLock, with_journal, opened_at, more_words, noted, entry_from, closed_with, with_end, Closes, fresh_state, strict_as}
 use Rattle.tc_segment.specs.Packed.{regs_at, Extends}
 use Rattle.tc_segment.specs.Kept.{shown, shown_open, shown_journal, Fits, AllFit, OpenFits}
 use Rattle.tc_segment.proofs.Packing.{extends_same}
@@ -97,13 +97,13 @@ room_is true n e = refl
 room_is false n e = absurd (cc)
 
 -- a word more
-pub noted_journal : (image : Shown) (number limit : ℕ) (old new : List Entry) (sealed : ℕ) (edges : List ℕ) (words : List ℕ) (opened : Option Opening) (er wr value : ℕ)
-    → new ≡ old → OpenFits edges words opened → is_some (shown_journal image number limit old sealed edges words opened er wr).opened ≡ true
-    → shown_journal image number limit new sealed edges (words ++ value ∷ []) opened er (wr - 1) ≡ noted (value ∷ []) (shown_journal image number limit old sealed edges words opened er wr)
-noted_journal image number limit old new sealed edges words opened er wr value same fits was =
+pub noted_journal : (image : Shown) (number limit : ℕ) (strict : Bool) (old new : List Entry) (sealed : ℕ) (edges : List ℕ) (words : List ℕ) (opened : Option Opening) (er wr value : ℕ)
+    → new ≡ old → OpenFits edges words opened → is_some (shown_journal image number limit strict old sealed edges words opened er wr).opened ≡ true
+    → shown_journal image number limit strict new sealed edges (words ++ value ∷ []) opened er (wr - 1) ≡ noted (value ∷ []) (shown_journal image number limit strict old sealed edges words opened er wr)
+noted_journal image number limit strict old new sealed edges words opened er wr value same fits was =
     let os = ap (λ es. option_map (shown_open (replayed image number (mutex_at_start image number) es) edges (words ++ value ∷ [])) opened) same ∙ open_more _ edges words (value ∷ []) opened fits in
     let room = room_is _ wr was in
-    λ i. record { image = image; limit = limit; sealed = take sealed (same i); closed = slice_get (same i) sealed; opened = os i; entry_room = er; word_room = room i }
+    λ i. record { image = image; limit = limit; strict = strict; sealed = take sealed (same i); closed = slice_get (same i) sealed; opened = os i; entry_room = er; word_room = room i }
 
 noted_from : (ws : List ℕ) (at : Mutex) (p : Option Opened) → ((o : Opened) → p ≡ Some o → o.from ≡ at) → (o : Opened) → option_map (more_words ws) p ≡ Some o → o.from ≡ at
 noted_from ws at None from o e = absurd (cc)
@@ -143,13 +143,13 @@ none_closed n es le none = elim (slice_get_cases es n).1 [
 ]
 
 -- an entry is opened
-pub opened_journal : (image : Shown) (number limit : ℕ) (old new : List Entry) (sealed : ℕ) (edges more : List ℕ) (words : List ℕ) (er wr place from : ℕ) (start : Registers) (fuel : ℕ) (at : Mutex)
+pub opened_journal : (image : Shown) (number limit : ℕ) (strict : Bool) (old new : List Entry) (sealed : ℕ) (edges more : List ℕ) (words : List ℕ) (er wr place from : ℕ) (start : Registers) (fuel : ℕ) (at : Mutex)
     → new ≡ old → regs_at more place ≡ start → from ≡ length words → replayed image number (mutex_at_start image number) old ≡ at
-    → shown_journal image number limit new sealed more words (Some (record { fuel = fuel; start = place; from = from })) (er - 1) wr ≡ opened_at at start fuel (shown_journal image number limit old sealed edges words None er wr)
-opened_journal image number limit old new sealed edges more words er wr place from start fuel at same is len lock =
+    → shown_journal image number limit strict new sealed more words (Some (record { fuel = fuel; start = place; from = from })) (er - 1) wr ≡ opened_at at start fuel (shown_journal image number limit strict old sealed edges words None er wr)
+opened_journal image number limit strict old new sealed edges more words er wr place from start fuel at same is len lock =
     let none = drop_all from words (omega (arith, len)) in
     let at_new = ap (replayed image number (mutex_at_start image number)) same ∙ lock in
-    λ i. record { image = image; limit = limit; sealed = take sealed (same i); closed = slice_get (same i) sealed; opened = Some (record { start = is i; fuel = fuel; from = at_new i; foreign = none i }); entry_room = er - 1; word_room = wr }
+    λ i. record { image = image; limit = limit; strict = strict; sealed = take sealed (same i); closed = slice_get (same i) sealed; opened = Some (record { start = is i; fuel = fuel; from = at_new i; foreign = none i }); entry_room = er - 1; word_room = wr }
 
 opened_from : (at m : Mutex) (start : Registers) (fuel : ℕ) (o : Opened) → at ≡ m → Some (record { start = start; fuel = fuel; from = at; foreign = [] }) ≡ Some o → o.from ≡ m
 opened_from at m start fuel o is e = (let same : record { start = start; fuel = fuel; from = at; foreign = [] } ≡ o = cc in ap (λ (x : Opened). x.from) (sym same) ∙ is)
@@ -170,11 +170,11 @@ sound_opened start fuel l sound none closed = record {
 }
 
 -- the entry closed
-pub closed_journal : (image : Shown) (number limit : ℕ) (old new : List Entry) (sealed : ℕ) (edges more : List ℕ) (words : List ℕ) (opened : Option Opening) (er wr : ℕ) (o : Opening) (block : Block) (finish : Registers) (place to : ℕ)
+pub closed_journal : (image : Shown) (number limit : ℕ) (strict : Bool) (old new : List Entry) (sealed : ℕ) (edges more : List ℕ) (words : List ℕ) (opened : Option Opening) (er wr : ℕ) (o : Opening) (block : Block) (finish : Registers) (place to : ℕ)
     → opened ≡ Some o → Extends edges more → OpenFits edges words (Some o) → regs_at more place ≡ finish → to ≡ length words → sealed ≡ length old
     → new ≡ old ++ shown more words (record { block = block; fuel = o.fuel; start = o.start; finish = place; from = o.from; to = to }) ∷ []
-    → shown_journal image number limit new sealed more words None er wr ≡ closed_with block finish (shown_journal image number limit old sealed edges words opened er wr)
-closed_journal image number limit old new sealed edges more words opened er wr o block finish place to is extends fits there len count made =
+    → shown_journal image number limit strict new sealed more words None er wr ≡ closed_with block finish (shown_journal image number limit strict old sealed edges words opened er wr)
+closed_journal image number limit strict old new sealed edges more words opened er wr o block finish place to is extends fits there len count made =
     let all : take (to - o.from) (drop o.from words) ≡ drop o.from words = take_all (to - o.from) (drop o.from words) (omega (arith, length-drop o.from words, len)) in
     let from = replayed image number (mutex_at_start image number) old in
     let start = extends.same o.start fits.0 in
@@ -184,7 +184,7 @@ closed_journal image number limit old new sealed edges more words opened er wr o
     let entry : Some x ≡ option_map (entry_from block finish) (option_map (shown_open from edges words) opened) =
     (λ i. Some (record { block = block; start = start i; fuel = o.fuel; finish = there i; foreign = all i })) ∙ ap (λ y. option_map (entry_from block finish) (option_map (shown_open from edges words) y)) (sym is) in
     let closed = last ∙ entry in
-    λ i. record { image = image; limit = limit; sealed = before i; closed = closed i; opened = None; entry_room = er; word_room = wr }
+    λ i. record { image = image; limit = limit; strict = strict; sealed = before i; closed = closed i; opened = None; entry_room = er; word_room = wr }
 
 pub sound_closed : (block : Block) (finish : Registers) (l : LockView) (o : Opened) → IsSoundLock l → l.journal.opened ≡ Some o → Closes l block finish o → IsSoundLock (with_end block.end (with_journal (closed_with block finish) l))
 sound_closed block finish l o sound is closes =
@@ -212,12 +212,12 @@ sound_closed block finish l o sound is closes =
 
 -- ---- a new lock state
 
-pub fresh_view : (of image : Shown) (number limit : ℕ) (bytes words : List ℕ) (edges : List ℕ) (records : List Record) → of ≡ image → bytes ≡ (mutex_at_start image number).bytes → records ≡ []
-    → record { number = number; bytes = bytes; broken = false; sections = 0; journal = shown_journal of number limit (map (shown edges words) records) 0 edges words None 0 0 } ≡ fresh_state image number limit
-fresh_view of image number limit bytes words edges records o b r = λ i. record { number = number; bytes = b i; broken = false; sections = 0; journal = shown_journal (o i) number limit (map (shown edges words) (r i)) 0 edges words None 0 0 }
+pub fresh_view : (of image : Shown) (number limit : ℕ) (strict : Bool) (bytes words : List ℕ) (edges : List ℕ) (records : List Record) → of ≡ image → bytes ≡ (mutex_at_start image number).bytes → records ≡ []
+    → record { number = number; bytes = bytes; broken = false; sections = 0; journal = shown_journal of number limit strict (map (shown edges words) records) 0 edges words None 0 0 } ≡ with_journal (strict_as strict) (fresh_state image number limit)
+fresh_view of image number limit strict bytes words edges records o b r = λ i. record { number = number; bytes = b i; broken = false; sections = 0; journal = shown_journal (o i) number limit strict (map (shown edges words) (r i)) 0 edges words None 0 0 }
 
-pub sound_fresh : (image : Shown) (number limit : ℕ) → number < length image.guards → number < 32 → IsGuard image (guard_at image number) → limit ≤ MAX_BATCH → IsSoundLock (fresh_state image number limit)
-sound_fresh image number limit known small guard most = record {
+pub sound_fresh : (image : Shown) (number limit : ℕ) (strict : Bool) → number < length image.guards → number < 32 → IsGuard image (guard_at image number) → limit ≤ MAX_BATCH → IsSoundLock (with_journal (strict_as strict) (fresh_state image number limit))
+sound_fresh image number limit strict known small guard most = record {
   known = known;
   small = small;
   guard = guard;
@@ -228,7 +228,7 @@ sound_fresh image number limit known small guard most = record {
   from = λ o e. absurd (cc);
   alone = λ h. absurd (cc);
   obeys = tt;
-  passes = tt;
+  passes = λ h. tt;
 }
 
 -- ---- the entries

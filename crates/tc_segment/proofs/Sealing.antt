@@ -13,7 +13,7 @@ use Rattle.tc_turn.specs.Replay.{Entry, Replays, replay_entry, replayed, AreRepl
 use Rattle.tc_segment.specs.declared.record.Record.{Record}
 use Rattle.tc_segment.specs.declared.record.Opening.{Opening}
 use Rattle.tc_journal.specs.Batch.{begins, unlocks, is_only, may_adopt, is_adopted, run_after, run_from, run_of, last_of, may_begin, allows_of, may_follow, ObeysAfter, Obeys, passes_on, PassesOnAfter, PassesOn}
-use Rattle.tc_segment.specs.View.{LockView, with_closed, entries, block_in, blocks_of, IsSoundLock, with_journal, sealed_block, sealed_entry, sealed_list, sealed_as}
+use Rattle.tc_segment.specs.View.{LockView, with_closed, entries, block_in, blocks_of, IsStrict, IsSoundLock, with_journal, sealed_block, sealed_entry, sealed_list, sealed_as}
 use Rattle.tc_segment.specs.Kept.{shown, block_of, shown_open, shown_journal}
 use Rattle.tc_segment.proofs.Journals.{replayed-more}
 use Rattle.tc_segment.proofs.Keeping.{entries_are}
@@ -86,10 +86,10 @@ run_short lock limit before b short follows =
       | false ↦ λ e. short
     ]) refl
 
-pub sealed_journal : (image : Shown) (number limit : ℕ) (old new : List Entry) (sealed : ℕ) (edges : List ℕ) (words : List ℕ) (opened : Option Opening) (er wr stamp worker : ℕ) (e : Entry)
+pub sealed_journal : (image : Shown) (number limit : ℕ) (strict : Bool) (old new : List Entry) (sealed : ℕ) (edges : List ℕ) (words : List ℕ) (opened : Option Opening) (er wr stamp worker : ℕ) (e : Entry)
     → slice_get old sealed ≡ Some e → length old ≤ sealed + 1 → new ≡ set old sealed (sealed_entry stamp worker e)
-    → shown_journal image number limit new (sealed + 1) edges words opened er wr ≡ sealed_as stamp worker (shown_journal image number limit old sealed edges words opened er wr)
-sealed_journal image number limit old new sealed edges words opened er wr stamp worker e is short made =
+    → shown_journal image number limit strict new (sealed + 1) edges words opened er wr ≡ sealed_as stamp worker (shown_journal image number limit strict old sealed edges words opened er wr)
+sealed_journal image number limit strict old new sealed edges words opened er wr stamp worker e is short made =
     let there : sealed < length old = slice_get_within old sealed e is in
     let s = sealed_entry stamp worker e in
     let start = mutex_at_start image number in
@@ -101,13 +101,13 @@ sealed_journal image number limit old new sealed edges words opened er wr stamp 
     let was : old ≡ take sealed old ++ e ∷ [] = sym (entries_are sealed old short) ∙ ap (with_closed (take sealed old)) is in
     let from : replayed image number start new ≡ replayed image number start old =
     ap (replayed image number start) all ∙ replayed_sealed image number stamp worker start (take sealed old) e ∙ ap (replayed image number start) (sym was) in
-    λ i. record { image = image; limit = limit; sealed = list i; closed = none i; opened = option_map (shown_open (from i) edges words) opened; entry_room = er; word_room = wr }
+    λ i. record { image = image; limit = limit; strict = strict; sealed = list i; closed = none i; opened = option_map (shown_open (from i) edges words) opened; entry_room = er; word_room = wr }
 
 stamped_passes : (lock stamp worker : ℕ) (bs : List Block) (b : Block) → passes_on lock bs b ≡ true → passes_on lock bs (sealed_block stamp worker b) ≡ true
 unfolding passes_on
 stamped_passes lock stamp worker bs b passes = passes
 
-pub sound_sealed : (stamp worker : ℕ) (l : LockView) (e : Entry) → IsSoundLock l → l.journal.closed ≡ Some e → may_follow l.number l.journal.limit (blocks_of l) (sealed_block stamp worker e.block) ≡ true → passes_on l.number (blocks_of l) e.block ≡ true → IsSoundLock (with_journal (sealed_as stamp worker) l)
+pub sound_sealed : (stamp worker : ℕ) (l : LockView) (e : Entry) → IsSoundLock l → l.journal.closed ≡ Some e → may_follow l.number l.journal.limit (blocks_of l) (sealed_block stamp worker e.block) ≡ true → (IsStrict l → passes_on l.number (blocks_of l) e.block ≡ true) → IsSoundLock (with_journal (sealed_as stamp worker) l)
 sound_sealed stamp worker l e sound is follows passes =
     let j = l.journal in
     let new : sealed_list stamp worker j.sealed j.closed ≡ j.sealed ++ sealed_entry stamp worker e ∷ [] = ap (sealed_list stamp worker j.sealed) is in
@@ -126,5 +126,5 @@ sound_sealed stamp worker l e sound is follows passes =
       from = λ o h. sound.from o h ∙ sym same;
       alone = λ h. refl;
       obeys = subst (λ bs. Obeys l.number j.limit bs) (sym (ap (map block_in) new ∙ blocks)) (obeys-more l.number j.limit [] (map block_in j.sealed) (sealed_block stamp worker e.block) sound.obeys follows);
-      passes = subst (λ bs. PassesOn l.number bs) (sym (ap (map block_in) new ∙ blocks)) (passes-more l.number [] (map block_in j.sealed) (sealed_block stamp worker e.block) sound.passes (stamped_passes l.number stamp worker (map block_in j.sealed) e.block passes));
+      passes = λ h. subst (λ bs. PassesOn l.number bs) (sym (ap (map block_in) new ∙ blocks)) (passes-more l.number [] (map block_in j.sealed) (sealed_block stamp worker e.block) (sound.passes h) (stamped_passes l.number stamp worker (map block_in j.sealed) e.block (passes h)));
     }

@@ -15,7 +15,7 @@ pub noted_nil : (j : Journal) → noted [] j ≡ j
 noted_nil j =
     let o = more_nil j.opened in
     let r = less_nil (is_some j.opened) j.word_room in
-    λ i. record { image = j.image; limit = j.limit; sealed = j.sealed; closed = j.closed; opened = o i; entry_room = j.entry_room; word_room = r i }
+    λ i. record { image = j.image; limit = j.limit; strict = j.strict; sealed = j.sealed; closed = j.closed; opened = o i; entry_room = j.entry_room; word_room = r i }
 
 more_more : (ws vs : List ℕ) (o : Option Opened) → option_map (more_words vs) (option_map (more_words ws) o) ≡ option_map (more_words (ws ++ vs)) o
 more_more ws vs None = refl
@@ -36,4 +36,4 @@ noted_more ws vs j =
     let o = more_more ws vs j.opened in
     let r = less_more (is_some j.opened) (is_some (option_map (more_words ws) j.opened)) j.word_room (length ws) (length vs) (more_some ws j.opened)
     ∙ ap (λ n. if is_some j.opened then j.word_room - n else j.word_room) (sym (length-append ws vs)) in
-    λ i. record { image = j.image; limit = j.limit; sealed = j.sealed; closed = j.closed; opened = o i; entry_room = j.entry_room; word_room = r i }
+    λ i. record { image = j.image; limit = j.limit; strict = j.strict; sealed = j.sealed; closed = j.closed; opened = o i; entry_room = j.entry_room; word_room = r i }

@@ -1,5 +1,5 @@
 -- A lock state's fields, as it is seen, and what they keep.
-use Rattle.std.specs.Prelude.{◌≡◌, ℕ, ◌+◌, ◌-◌, ◌*◌, ◌^◌, ◌<◌, ◌≤◌, List, [], ◌∷◌, map, length, take, drop, slice_get, vec_len, vec_capacity, Option, Some, None, option_map}
+use Rattle.std.specs.Prelude.{◌≡◌, ℕ, ◌+◌, ◌-◌, ◌*◌, ◌^◌, ◌<◌, ◌≤◌, Bool, List, [], ◌∷◌, map, length, take, drop, slice_get, vec_len, vec_capacity, Option, Some, None, option_map}
 use Rattle.tc_elf.specs.Shown.{Shown, guard_at}
 use Rattle.tc_journal.specs.Batch.{run_of}
 use Rattle.tc_journal.specs.declared.block.Block.{Block}
@@ -26,10 +26,11 @@ abbrev pub shown_open : Mutex → List ℕ → List ℕ → Opening → Opened
 shown_open from edges words o = record { start = regs_at edges o.start; fuel = o.fuel; from = from; foreign = drop o.from words }
 
 -- of these entries the first so many are sealed, and one behind them is closed
-abbrev pub shown_journal : Shown → ℕ → ℕ → List Entry → ℕ → List ℕ → List ℕ → Option Opening → ℕ → ℕ → Journal
-shown_journal image number limit es sealed edges words opened entry_room word_room = record {
+abbrev pub shown_journal : Shown → ℕ → ℕ → Bool → List Entry → ℕ → List ℕ → List ℕ → Option Opening → ℕ → ℕ → Journal
+shown_journal image number limit strict es sealed edges words opened entry_room word_room = record {
   image = image;
   limit = limit;
+  strict = strict;
   sealed = take sealed es;
   closed = slice_get es sealed;
   opened = option_map (shown_open (replayed image number (mutex_at_start image number) es) edges words) opened;
@@ -43,7 +44,7 @@ view_of a = record {
   bytes = a.bytes.items;
   broken = a.broken;
   sections = a.sections;
-  journal = shown_journal a.of.value a.number a.limit (map (shown a.edges.words a.words.items) a.records.items) a.sealed a.edges.words a.words.items a.opened a.entry_room a.word_room;
+  journal = shown_journal a.of.value a.number a.limit a.strict (map (shown a.edges.words a.words.items) a.records.items) a.sealed a.edges.words a.words.items a.opened a.entry_room a.word_room;
 }
 
 -- ---- what is kept

@@ -1,10 +1,10 @@
 -- A lock state, as contracts see it.
-use Rattle.std.specs.Prelude.{◌≡◌, ℕ, ◌+◌, ◌-◌, ◌^◌, ◌<◌, ◌≤◌, min, Bool, true, false, ◌||◌, List, [], ◌∷◌, ◌++◌, map, length, Option, Some, None, IfSome, option_map, is_some, if◌then◌else◌}
+use Rattle.std.specs.Prelude.{◌≡◌, ℕ, ◌+◌, ◌-◌, ◌^◌, ◌<◌, ◌≤◌, min, Bool, true, false, not, ◌||◌, List, [], ◌∷◌, ◌++◌, map, length, Option, Some, None, IfSome, option_map, is_some, if◌then◌else◌}
 use Rattle.tc_isa.specs.Registers.{Registers}
 use Rattle.tc_isa.specs.declared.limits.TheConstants.{MAX_BATCH}
 use Rattle.tc_elf.specs.Shown.{Shown, Guard, guard_at}
 use Rattle.tc_elf.specs.Kept.{IsGuard}
-use Rattle.tc_journal.specs.Batch.{Obeys, PassesOn, ends_thread, ends_section, last_of, allows_of, may_follow, passes_on}
+use Rattle.tc_journal.specs.Batch.{Obeys, PassesOn, ends_thread, ends_section, last_of, allows_of, may_follow, passes_to, passes_on}
 use Rattle.tc_journal.specs.declared.block.Block.{Block}
 use Rattle.tc_journal.specs.declared.block.End.{End}
 use Rattle.tc_journal.specs.declared.block.Kind.{Kind}
@@ -20,10 +20,12 @@ pub record Opened : Type 0 where
   pub from : Mutex
   pub foreign : List ℕ
 
--- the sealed entries, the closed one that isn't sealed yet, and the open one, with the room for one entry and for words
+-- the sealed entries, the closed one that isn't sealed yet, and the open one, with the room for one entry and for words; a
+-- strict journal takes no section that is passed on to the thread that had the lock before
 pub record Journal : Type 0 where
   pub image : Shown
   pub limit : ℕ
+  pub strict : Bool
   pub sealed : List Entry
   pub closed : Option Entry
   pub opened : Option Opened
@@ -60,6 +62,14 @@ blocks_of l = map block_in l.journal.sealed
 abbrev pub allows_in : LockView → Kind → ℕ → Bool
 allows_in l kind worker = allows_of l.number l.journal.limit (blocks_of l) kind worker
 
+abbrev pub IsStrict : LockView → Type 0
+IsStrict l = l.journal.strict ≡ true
+
+-- whether the next section may be of this kind and this thread: in a strict journal, one that is passed on goes to another
+-- thread than that of the section before it
+abbrev pub passes_in : LockView → Kind → ℕ → Bool
+passes_in l kind thread = not l.journal.strict || passes_to (last_of (blocks_of l)) kind thread
+
 -- the number in so many bytes of the guard
 abbrev pub number_of_guard : LockView → ℕ → ℕ → ℕ
 number_of_guard l addr width = guard_number l.journal.image l.number l.bytes addr width
@@ -70,7 +80,7 @@ replay_in number j = replayed j.image number (mutex_at_start j.image number) (en
 
 -- what each lock state keeps, wherever it is: it is of a guard of its image, its entries replay, and their replay is the
 -- lock as it is, or as it was when the open entry was opened; beside an open entry each is sealed; its sealed blocks obey
--- its batch limit, and each section that was passed on is of another thread than the one before it
+-- its batch limit, and where it is strict, each section that was passed on is of another thread than the one before it
 pub record IsSoundLock (l : LockView) : Type 0 where
   pub known : l.number < length l.journal.image.guards
   pub small : l.number < 32
@@ -82,7 +92,7 @@ pub record IsSoundLock (l : LockView) : Type 0 where
   pub from : (o : Opened) → l.journal.opened ≡ Some o → o.from ≡ replay_in l.number l.journal
   pub alone : is_some l.journal.opened ≡ true → l.journal.closed ≡ None
   pub obeys : Obeys l.number l.journal.limit (blocks_of l)
-  pub passes : PassesOn l.number (blocks_of l)
+  pub passes : IsStrict l → PassesOn l.number (blocks_of l)
 
 -- lock k of the image at rest: no entry is open or unsealed, and the last one, where there is one, ended a section
 pub record IsAtRest (image : Shown) (k : ℕ) (l : LockView) : Type 0 where
@@ -95,7 +105,7 @@ pub record IsAtRest (image : Shown) (k : ℕ) (l : LockView) : Type 0 where
 -- ---- at the start
 
 abbrev pub fresh_journal : Shown → ℕ → Journal
-fresh_journal image limit = record { image = image; limit = limit; sealed = []; closed = None; opened = None; entry_room = 0; word_room = 0 }
+fresh_journal image limit = record { image = image; limit = limit; strict = true; sealed = []; closed = None; opened = None; entry_room = 0; word_room = 0 }
 
 abbrev pub fresh_state : Shown → ℕ → ℕ → LockView
 fresh_state image number limit = record {
@@ -129,6 +139,9 @@ with_journal f l = record l { journal = f l.journal }
 
 abbrev pub with_room : ℕ → ℕ → Journal → Journal
 with_room entries words j = record j { entry_room = entries; word_room = words }
+
+abbrev pub strict_as : Bool → Journal → Journal
+strict_as strict j = record j { strict = strict }
 
 -- the lock state without its rooms, which tell nothing of the lock
 abbrev pub kept : LockView → LockView
@@ -183,6 +196,6 @@ sealed_as stamp worker j = record j { sealed = sealed_list stamp worker j.sealed
 abbrev pub MayFollow : ℕ → ℕ → LockView → Type 0
 MayFollow stamp worker l = (e : Entry) → l.journal.closed ≡ Some e → may_follow l.number l.journal.limit (blocks_of l) (sealed_block stamp worker e.block) ≡ true
 
--- the section that this block begins, if it was passed on, is of another thread than the one before it
+-- in a strict journal, the section that this block begins, if it was passed on, is of another thread than the one before it
 abbrev pub MayPass : LockView → Type 0
-MayPass l = (e : Entry) → l.journal.closed ≡ Some e → passes_on l.number (blocks_of l) e.block ≡ true
+MayPass l = (e : Entry) → l.journal.closed ≡ Some e → IsStrict l → passes_on l.number (blocks_of l) e.block ≡ true

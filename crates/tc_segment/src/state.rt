@@ -1,13 +1,13 @@
 //! Lock states.
 
-ghost use Rattle.std.specs.Prelude.{◌≡◌, ◌+◌, ◌^◌, ◌<◌, ◌≤◌, ◌||◌, [], ◌∷◌, true, is_some, length, slice_get, unwrap_or, OnOk, OnErr, IfOk, Some, None};
+ghost use Rattle.std.specs.Prelude.{◌≡◌, ◌+◌, ◌^◌, ◌<◌, ◌≤◌, ◌||◌, [], ◌∷◌, true, false, is_some, length, slice_get, unwrap_or, OnOk, OnErr, IfOk, Some, None};
 ghost use Rattle.tc_isa.specs.declared.limits.TheConstants.{MAX_BATCH};
 ghost use Rattle.tc_elf.specs.Places.{in_guard};
 ghost use Rattle.tc_exec.specs.Told.{IsWidth};
-ghost use Rattle.tc_journal.specs.Batch.{ends_thread, last_of, passes_to, run_of};
+ghost use Rattle.tc_journal.specs.Batch.{ends_thread, run_of};
 ghost use Rattle.tc_turn.specs.Memory.{byte_from as byte_from_start, number_at};
 ghost use Rattle.tc_segment.specs.Lent.{entry_lent};
-ghost use Rattle.tc_segment.specs.View.{IsSoundLock, allows_in, number_of_guard, ClosesWith, MayFollow, MayPass, lock_of, guard_of, with_store, with_section, with_break, with_end, with_journal, opened_at, noted, closed_with, sealed_as, with_room, blocks_of, entries, fresh_state};
+ghost use Rattle.tc_segment.specs.View.{IsSoundLock, allows_in, passes_in, number_of_guard, ClosesWith, MayFollow, MayPass, lock_of, guard_of, with_store, with_section, with_break, with_end, with_journal, opened_at, noted, closed_with, sealed_as, with_room, strict_as, blocks_of, entries, fresh_state};
 
 use crate::edges::Edges;
 use crate::entry::Entry;
@@ -31,6 +31,7 @@ struct Contents {
     start: u32,
     bytes: Vec<u8>,
     broken: bool,
+    strict: bool,
     sections: u64,
     run: u32,
     // Those of all entries, of which so many are sealed.
@@ -66,11 +67,44 @@ impl Model for LockState {
 }
 
 impl LockState {
-    /// The lock of this number as it is at the start, with a journal of no entries.
+    /// The lock of this number as it is at the start, with a journal of no entries. The journal is
+    /// strict: a section that is passed on goes to another thread than that of the section before.
     pub fn new(alloc: Global, image: &Image, lock: u32, limit: u32) -> Result<LockState, AllocError>
         requires lock { lock < length image.now.guards }
         requires limit { limit ≤ MAX_BATCH }
         ensures { IfOk result (λ l. l ≡ fresh_state image.now lock limit) }
+    {
+        LockState::at_start(alloc, image, lock, limit, true)
+    }
+
+    /// Like `new`, with a journal that is not strict: the batch rule lets a thread be passed a lock
+    /// that it released itself. No run makes such a section, but a history may tell one, so this is
+    /// for those who check histories.
+    pub fn lenient(
+        alloc: Global,
+        image: &Image,
+        lock: u32,
+        limit: u32,
+    ) -> Result<LockState, AllocError>
+        requires lock { lock < length image.now.guards }
+        requires limit { limit ≤ MAX_BATCH }
+        ensures { IfOk result
+            (λ l. l ≡ with_journal (strict_as false) (fresh_state image.now lock limit)) }
+    {
+        LockState::at_start(alloc, image, lock, limit, false)
+    }
+
+    fn at_start(
+        alloc: Global,
+        image: &Image,
+        lock: u32,
+        limit: u32,
+        strict: bool,
+    ) -> Result<LockState, AllocError>
+        requires lock { lock < length image.now.guards }
+        requires limit { limit ≤ MAX_BATCH }
+        ensures { IfOk result
+            (λ l. l ≡ with_journal (strict_as strict) (fresh_state image.now lock limit)) }
     {
         prove!(image.guards() <= 32);
         let (start, length) = image.guard(lock);
@@ -81,6 +115,7 @@ impl LockState {
             start,
             bytes: starting_bytes(alloc, image, start, length)?,
             broken: false,
+            strict,
             sections: 0,
             run: 0,
             records: Vec::new(alloc),
@@ -178,14 +213,14 @@ impl LockState {
         )
     }
 
-    /// Whether the next section may be of this kind and this thread: one that is passed on goes to
-    /// another thread than that of the section before it.
+    /// Whether the next section may be of this kind and this thread: where the journal is strict, one
+    /// that is passed on goes to another thread than that of the section before it.
     pub fn passes_to(&self, kind: Kind, thread: u32) -> bool
-        ensures { result ≡ passes_to (last_of (blocks_of self.now)) kind thread }
+        ensures { result ≡ passes_in self.now kind thread }
     {
         let contents = &*self.contents;
         let last = last_block(&contents.records, contents.sealed);
-        passes_to(last, kind, thread)
+        !contents.strict || passes_to(last, kind, thread)
     }
 
     /// Makes room for one entry and for as many foreign words. A place in a journal is a number of
@@ -210,13 +245,13 @@ impl LockState {
 
     /// Opens the entry of a block whose thread has these registers and this fuel before it. For
     /// registers that are packed once for several locks, see `open_packed`.
-    pub fn open_entry(&mut self, start: &Regs, fuel: u32)
+    pub fn open_entry(&mut self, start: Regs, fuel: u32)
         requires opened { self.old.journal.opened ≡ None }
         requires closed { self.old.journal.closed ≡ None }
         requires room { 0 < self.old.journal.entry_room }
-        ensures { self.new ≡ with_journal (opened_at (lock_of self.old) start.now fuel) self.old }
+        ensures { self.new ≡ with_journal (opened_at (lock_of self.old) start fuel) self.old }
     {
-        self.open_packed(&Packed::of(start), fuel);
+        self.open_packed(&Packed::of(&start), fuel);
     }
 
     /// Like `open_entry`, of registers that are packed once for several locks.
@@ -291,14 +326,13 @@ impl LockState {
     /// Closes the open entry with its block and the registers after it. The lock is broken from
     /// then on where the block ended its thread. The block's stamp and worker don't count yet. For
     /// registers that are packed once for several locks, see `close_packed`.
-    pub fn close_entry(&mut self, image: &Image, block: &Block, end: &Regs)
+    pub fn close_entry(&mut self, image: &Image, block: Block, end: Regs)
         requires image { self.old.journal.image ≡ image.now }
         requires opened { is_some self.old.journal.opened ≡ true }
-        requires closes { ClosesWith block.now end.now self.old }
-        ensures { self.new
-            ≡ with_end block.now.end (with_journal (closed_with block.now end.now) self.old) }
+        requires closes { ClosesWith block end self.old }
+        ensures { self.new ≡ with_end block.end (with_journal (closed_with block end) self.old) }
     {
-        self.close_packed(image, block, &Packed::of(end));
+        self.close_packed(image, &block, &Packed::of(&end));
     }
 
     /// Like `close_entry`, of registers that are packed once for several locks.

@@ -49,7 +49,7 @@ fn a_block_changes_the_guard(rt: HostRuntime) -> Result<(), Fail> {
     assert!(rt; lock.allows(Kind::Taken, 3));
     assert!(rt; lock.passes_to(Kind::Taken, 0));
     lock.reserve(2)?;
-    lock.open_entry(&Regs::start(0x100c4, 7, 0), 5);
+    lock.open_entry(Regs::start(0x100c4, 7, 0), 5);
     lock.note_foreign(0);
     lock.begin_section();
     assert_eq!(rt; lock.load(0x20006, 2), 0x4433);

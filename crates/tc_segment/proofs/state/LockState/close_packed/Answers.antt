@@ -24,14 +24,14 @@ was_open a o is = ap (λ x. is_some (option_map (shown_open (replayed a.of.value
 
 closed_view : (a : Contents) (more : List ℕ) (records : List Record) (o : Opening) (block : Block) (finish : Registers) (place to : ℕ) → KeptLock a → a.opened ≡ Some o → Extends a.edges.words more → StandsAt more place finish
     → to ≡ length a.words.items → records ≡ a.records.items ++ record_of block o place to ∷ []
-    → shown_journal a.of.value a.number a.limit (map (shown more a.words.items) records) a.sealed more a.words.items None a.entry_room a.word_room ≡ closed_with block finish (view_of a).journal
+    → shown_journal a.of.value a.number a.limit a.strict (map (shown more a.words.items) records) a.sealed more a.words.items None a.entry_room a.word_room ≡ closed_with block finish (view_of a).journal
 closed_view a more records o block finish place to k is extends there len made =
     let old = map (shown a.edges.words a.words.items) a.records.items in
     let r = record_of block o place to in
     let none = none_closed a.sealed old (let h = k.sealed in omega (arith, length-map a.records.items (shown a.edges.words a.words.items))) (k.sound.alone (was_open a o is)) in
     let new = ap (map (shown more a.words.items)) made ∙ map-append (shown more a.words.items) a.records.items (r ∷ [])
     ∙ ap (λ es. es ++ shown more a.words.items r ∷ []) (shown_grown (edges_more a.edges.words more a.words.items extends) a.records.items k.records) in
-    closed_journal a.of.value a.number a.limit old _ a.sealed a.edges.words more a.words.items a.opened a.entry_room a.word_room o block finish place to is extends
+    closed_journal a.of.value a.number a.limit a.strict old _ a.sealed a.edges.words more a.words.items a.opened a.entry_room a.word_room o block finish place to is extends
     (subst (λ x. OpenFits a.edges.words a.words.items x) is k.opened) (stands_is there) len none new
 
 pub returns : goal.returns

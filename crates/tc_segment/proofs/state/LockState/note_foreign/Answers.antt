@@ -8,11 +8,11 @@ use Rattle.tc_segment.proofs.Keeping.{word_more, shown_grown, fits_grown, noted_
 use Rattle.tc_segment.proofs.state.LockState.note_foreign.Goals as goal
 
 noted_view : (a : Contents) (words : List ℕ) (value : ℕ) → KeptLock a → is_some (view_of a).journal.opened ≡ true → words ≡ a.words.items ++ value ∷ []
-    → record { number = a.number; bytes = a.bytes.items; broken = a.broken; sections = a.sections; journal = shown_journal a.of.value a.number a.limit (map (shown a.edges.words words) a.records.items) a.sealed a.edges.words words a.opened a.entry_room (a.word_room - 1) } ≡ with_journal (noted (value ∷ [])) (view_of a)
+    → record { number = a.number; bytes = a.bytes.items; broken = a.broken; sections = a.sections; journal = shown_journal a.of.value a.number a.limit a.strict (map (shown a.edges.words words) a.records.items) a.sealed a.edges.words words a.opened a.entry_room (a.word_room - 1) } ≡ with_journal (noted (value ∷ [])) (view_of a)
 noted_view a words value k was e =
     let old = map (shown a.edges.words a.words.items) a.records.items in
-    let j = ap (λ ws. shown_journal a.of.value a.number a.limit (map (shown a.edges.words ws) a.records.items) a.sealed a.edges.words ws a.opened a.entry_room (a.word_room - 1)) e
-    ∙ noted_journal a.of.value a.number a.limit old _ a.sealed a.edges.words a.words.items a.opened a.entry_room a.word_room value
+    let j = ap (λ ws. shown_journal a.of.value a.number a.limit a.strict (map (shown a.edges.words ws) a.records.items) a.sealed a.edges.words ws a.opened a.entry_room (a.word_room - 1)) e
+    ∙ noted_journal a.of.value a.number a.limit a.strict old _ a.sealed a.edges.words a.words.items a.opened a.entry_room a.word_room value
     (shown_grown (word_more a.edges.words a.words.items (value ∷ [])) a.records.items k.records) k.opened was in
     λ i. record { number = a.number; bytes = a.bytes.items; broken = a.broken; sections = a.sections; journal = j i }
 

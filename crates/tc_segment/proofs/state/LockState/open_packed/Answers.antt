@@ -14,14 +14,14 @@ use Rattle.tc_segment.proofs.Keeping.{edges_more, shown_grown, fits_grown, entri
 use Rattle.tc_segment.proofs.state.LockState.open_packed.Goals as goal
 
 opened_view : (a : Contents) (more : List ℕ) (place from fuel : ℕ) (start : Registers) → KeptLock a → (view_of a).journal.opened ≡ None → Extends a.edges.words more → StandsAt more place start → from ≡ length a.words.items
-    → record { number = a.number; bytes = a.bytes.items; broken = a.broken; sections = a.sections; journal = shown_journal a.of.value a.number a.limit (map (shown more a.words.items) a.records.items) a.sealed more a.words.items (Some (record { fuel = fuel; start = place; from = from })) (a.entry_room - 1) a.word_room } ≡ with_journal (opened_at (lock_of (view_of a)) start fuel) (view_of a)
+    → record { number = a.number; bytes = a.bytes.items; broken = a.broken; sections = a.sections; journal = shown_journal a.of.value a.number a.limit a.strict (map (shown more a.words.items) a.records.items) a.sealed more a.words.items (Some (record { fuel = fuel; start = place; from = from })) (a.entry_room - 1) a.word_room } ≡ with_journal (opened_at (lock_of (view_of a)) start fuel) (view_of a)
 opened_view a more place from fuel start k none extends there len =
     let old = map (shown a.edges.words a.words.items) a.records.items in
     let all = entries_are a.sealed old (let h = k.closed in omega (arith, length-map a.records.items (shown a.edges.words a.words.items))) in
     let lock = ap (replayed a.of.value a.number (mutex_at_start a.of.value a.number)) (sym all) ∙ sym (k.sound.rest none) in
-    let j = opened_journal a.of.value a.number a.limit old _ a.sealed a.edges.words more a.words.items a.entry_room a.word_room place from start fuel (lock_of (view_of a))
+    let j = opened_journal a.of.value a.number a.limit a.strict old _ a.sealed a.edges.words more a.words.items a.entry_room a.word_room place from start fuel (lock_of (view_of a))
     (shown_grown (edges_more a.edges.words more a.words.items extends) a.records.items k.records) (stands_is there) len lock
-    ∙ ap (λ o. opened_at (lock_of (view_of a)) start fuel (shown_journal a.of.value a.number a.limit old a.sealed a.edges.words a.words.items o a.entry_room a.word_room)) (sym (not_open _ a.opened none)) in
+    ∙ ap (λ o. opened_at (lock_of (view_of a)) start fuel (shown_journal a.of.value a.number a.limit a.strict old a.sealed a.edges.words a.words.items o a.entry_room a.word_room)) (sym (not_open _ a.opened none)) in
     λ i. record { number = a.number; bytes = a.bytes.items; broken = a.broken; sections = a.sections; journal = j i }
 
 pub returns : goal.returns

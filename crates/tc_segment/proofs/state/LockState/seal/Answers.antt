@@ -7,7 +7,7 @@ use Rattle.tc_turn.specs.Replay.{Entry}
 use Rattle.tc_segment.specs.declared.record.Record.{Record}
 use Rattle.tc_segment.specs.declared.state.Contents.{Contents}
 use Rattle.tc_journal.specs.Batch.{run_of, run_after, may_follow, passes_on}
-use Rattle.tc_segment.specs.View.{LockView, with_journal, sealed_as, sealed_block, sealed_entry, sealed_list, IsSoundLock, block_in, blocks_of}
+use Rattle.tc_segment.specs.View.{LockView, with_journal, sealed_as, sealed_block, sealed_entry, sealed_list, IsStrict, IsSoundLock, block_in, blocks_of}
 use Rattle.tc_segment.specs.Kept.{shown, shown_journal, sealed_record, Fits, view_of, KeptLock}
 use Rattle.tc_segment.proofs.Keeping.{fits_at, fits_set}
 use Rattle.tc_segment.proofs.Sealing.{sealed_journal, sound_sealed, run-more, run_short}
@@ -18,12 +18,12 @@ closed_at : (a : Contents) (r : Record) → slice_get a.records.items a.sealed �
 closed_at a r is = slice_get-map (shown a.edges.words a.words.items) a.records.items a.sealed ∙ ap (option_map (shown a.edges.words a.words.items)) is
 
 sealed_view : (a : Contents) (stamp worker : ℕ) (r s : Record) → KeptLock a → slice_get a.records.items a.sealed ≡ Some r → s ≡ sealed_record stamp worker r
-    → record { number = a.number; bytes = a.bytes.items; broken = a.broken; sections = a.sections; journal = shown_journal a.of.value a.number a.limit (map (shown a.edges.words a.words.items) (set a.records.items a.sealed s)) (a.sealed + 1) a.edges.words a.words.items a.opened a.entry_room a.word_room } ≡ with_journal (sealed_as stamp worker) (view_of a)
+    → record { number = a.number; bytes = a.bytes.items; broken = a.broken; sections = a.sections; journal = shown_journal a.of.value a.number a.limit a.strict (map (shown a.edges.words a.words.items) (set a.records.items a.sealed s)) (a.sealed + 1) a.edges.words a.words.items a.opened a.entry_room a.word_room } ≡ with_journal (sealed_as stamp worker) (view_of a)
 sealed_view a stamp worker r s k is made =
     let f = shown a.edges.words a.words.items in
     let old = map f a.records.items in
     let new = map-set f a.records.items a.sealed s ∙ ap (λ x. set old a.sealed (f x)) made in
-    let j = sealed_journal a.of.value a.number a.limit old _ a.sealed a.edges.words a.words.items a.opened a.entry_room a.word_room stamp worker (f r) (closed_at a r is)
+    let j = sealed_journal a.of.value a.number a.limit a.strict old _ a.sealed a.edges.words a.words.items a.opened a.entry_room a.word_room stamp worker (f r) (closed_at a r is)
     (let h = k.closed in omega (arith, length-map a.records.items f)) new in
     λ i. record { number = a.number; bytes = a.bytes.items; broken = a.broken; sections = a.sections; journal = j i }
 
@@ -64,9 +64,9 @@ invariant_of-self c =
     let follows : may_follow a.number a.limit (blocks_of (view_of a)) (sealed_block stamp worker r.block) ≡ true =
     ap (λ (l : LockView). may_follow l.number l.journal.limit (blocks_of l) (sealed_block stamp worker r.block)) shows
     ∙ c.requires.follows e (ap (λ (l : LockView). l.journal.closed) (sym shows) ∙ was) in
-    let passes : passes_on a.number (blocks_of (view_of a)) r.block ≡ true =
+    let passes : IsStrict (view_of a) → passes_on a.number (blocks_of (view_of a)) r.block ≡ true = λ h.
     ap (λ (l : LockView). passes_on l.number (blocks_of l) r.block) shows
-    ∙ c.requires.passes e (ap (λ (l : LockView). l.journal.closed) (sym shows) ∙ was) in
+    ∙ c.requires.passes e (ap (λ (l : LockView). l.journal.closed) (sym shows) ∙ was) (subst (λ (l : LockView). IsStrict l) shows h) in
     let block : s.block ≡ sealed_block stamp worker r.block = ap (λ (x : Record). x.block) c.stamp.ensures in
     let run : c.run_after-contents.result ≡ run_after a.number (run_of a.number (blocks_of (view_of a))) (sealed_block stamp worker r.block) =
     c.run_after-contents.ensures ∙ (λ i. run_after a.number (k.run i) (block i)) in

@@ -5,7 +5,7 @@ use Rattle.tc_turn.specs.Memory.{starting_bytes}
 use Rattle.tc_segment.specs.View.{LockView, IsSoundLock, blocks_of}
 use Rattle.tc_segment.specs.Kept.{AllFit, KeptLock}
 use Rattle.tc_segment.proofs.Keeping.{fresh_view, sound_fresh}
-use Rattle.tc_segment.proofs.state.LockState.new.Goals as goal
+use Rattle.tc_segment.proofs.state.LockState.at_start.Goals as goal
 
 pub invariant_of-result : goal.invariant_of-result
 invariant_of-result c =
@@ -18,10 +18,10 @@ invariant_of-result c =
     let edges = c.new-2.result.words in
     let words = c.new-3.result.items in
     let records = c.new.ensures.items in
-    let view = fresh_view _ image c.args.lock c.args.limit _ words edges _ of bytes records in
+    let view = fresh_view _ image c.args.lock c.args.limit c.args.strict _ words edges _ of bytes records in
     let none = ap length records in
     subst KeptLock (sym c.in_ok-new.ensures.ok) (record {
-      sound = subst (λ (l : LockView). IsSoundLock l) (sym view) (sound_fresh image c.args.lock c.args.limit c.requires.lock (omega arith) guard.kept c.requires.limit);
+      sound = subst (λ (l : LockView). IsSoundLock l) (sym view) (sound_fresh image c.args.lock c.args.limit c.args.strict c.requires.lock (omega arith) guard.kept c.requires.limit);
       start = start;
       records = subst (λ rs. AllFit edges words rs) (sym records) tt;
       sealed = omega arith;
