@@ -1,6 +1,6 @@
 -- What running a block makes of a package, and sealing it.
 use Rattle.std.proofs.Common.{◌≡◌, ℕ, ◌-◌, ◌<◌, ◌≤◌, Bool, true, false, not, ◌||◌, ◌&&◌, ◌==◌, List, [], ◌∷◌, ◌++◌, map, length, refl, sym, ap, subst, ◌∙◌, inl, inr, set, arith, Option, Some, None, is_some, if◌then◌else◌, IfSome, slice_get, length-set}
-use Rattle.tc_context.proofs.Vocabulary.{option_map, has, Shown, is_section, begins, is_lock, takes_of, last_of, may_go_on, ends_section, passes_to, Block, Thread, is_running, next_lock, LockView, Journal, block_in, blocks_of, with_journal, sealed_block, sealed_entry, sealed_list, sealed_as, Context, lock_in, AreOf, slot_of, when_in, Changed, sealed_all, sealed_in, thread_in, whole, set_of, journal_in, journal_at, CanGo, RunsAs, entry_of, with_entry, entered, Journals, IsReady, AreReady, PackageView, granted_lock, kind_of, waiting_in, IsReserved, IsPending, IsStored, IsAfter, IsLeft, IsGranted, MayTake, IsSoundPackage, Allows, fits_in, fits_granted, fits_of, WantIsGranted, IsIdle, IsAt, EndsWith, sealed_log, with_seal}
+use Rattle.tc_context.proofs.Vocabulary.{option_map, has, Shown, is_section, begins, is_lock, takes_of, last_of, may_go_on, ends_section, passes_to, Block, Thread, is_running, next_lock, LockView, IsStrict, Journal, block_in, blocks_of, with_journal, sealed_block, sealed_entry, sealed_list, sealed_as, Context, lock_in, AreOf, slot_of, when_in, Changed, sealed_all, sealed_in, thread_in, whole, set_of, journal_in, journal_at, CanGo, RunsAs, entry_of, with_entry, entered, Journals, IsReady, AreReady, PackageView, granted_lock, kind_of, waiting_in, IsReserved, IsPending, IsStored, IsAfter, IsLeft, IsGranted, MayTake, IsSoundPackage, Allows, fits_in, fits_granted, fits_of, WantIsGranted, IsIdle, IsAt, EndsWith, sealed_log, with_seal}
 use Rattle.std.proofs.lemmas.Bool.Decides.{eqb_tells}
 use Rattle.tc_journal.specs.Batch.{allows_of, passes_on, may_follow}
 use Rattle.tc_turn.specs.declared.status.Status.TheVariants.{Running}
@@ -38,8 +38,8 @@ entered_stage : (b : Bool) (block : Block) (e : Entry) (i : Journal) → e.block
 entered_stage true block e i is o c = (refl, ap Some is)
 entered_stage false block e i is o c = (o, c)
 
-pub entered_rest : (b : Bool) (e : Entry) (i : Journal) → ((entered b e i).sealed ≡ i.sealed) × ((entered b e i).limit ≡ i.limit)
-entered_rest b e i = (when_field (λ (j : Journal). j.sealed) b (with_entry e) i refl, when_field (λ (j : Journal). j.limit) b (with_entry e) i refl)
+pub entered_rest : (b : Bool) (e : Entry) (i : Journal) → ((entered b e i).sealed ≡ i.sealed) × ((entered b e i).limit ≡ i.limit) × ((entered b e i).strict ≡ i.strict)
+entered_rest b e i = (when_field (λ (j : Journal). j.sealed) b (with_entry e) i refl, when_field (λ (j : Journal). j.limit) b (with_entry e) i refl, when_field (λ (j : Journal). j.strict) b (with_entry e) i refl)
 
 -- a lock that isn't of the block wasn't held before it
 not_before : (held : ℕ → Bool) (next : Option ℕ) (k : ℕ) → locks_of_block held next k ≡ false → held k ≡ false
@@ -154,20 +154,20 @@ module _ (image : Shown) (p : PackageView) (m : MayRun image p) where
         let x = map_some journal_in (lock_in p.context.locks k) j.0 j.1 in
         (x.0, x.1, j.2 ∙ ap (entered (has b.held k) (entry_of image k (whole p.context) b)) x.2)
 
-    sealed_was : (k : ℕ) (l x : LockView) → l.journal ≡ entered (has b.held k) (entry_of image k (whole p.context) b) x.journal → (l.journal.sealed ≡ x.journal.sealed) × (l.journal.limit ≡ x.journal.limit)
-    sealed_was k l x e = (let rest = entered_rest (has b.held k) (entry_of image k (whole p.context) b) x.journal in (ap (λ (j : Journal). j.sealed) e ∙ rest.0, ap (λ (j : Journal). j.limit) e ∙ rest.1))
+    sealed_was : (k : ℕ) (l x : LockView) → l.journal ≡ entered (has b.held k) (entry_of image k (whole p.context) b) x.journal → (l.journal.sealed ≡ x.journal.sealed) × (l.journal.limit ≡ x.journal.limit) × (l.journal.strict ≡ x.journal.strict)
+    sealed_was k l x e = (let rest = entered_rest (has b.held k) (entry_of image k (whole p.context) b) x.journal in (ap (λ (j : Journal). j.sealed) e ∙ rest.0, ap (λ (j : Journal). j.limit) e ∙ rest.1, ap (λ (j : Journal). j.strict) e ∙ rest.2))
 
     -- a lock that was passed on was so by its grant
-    passed : (k : ℕ) (x : LockView) → lock_in p.context.locks k ≡ Some x → (w : Bool) → begins k b ≡ w → passes_on k (blocks_of x) b ≡ true
+    passed : (k : ℕ) (x : LockView) → lock_in p.context.locks k ≡ Some x → IsStrict x → (w : Bool) → begins k b ≡ w → passes_on k (blocks_of x) b ≡ true
     unfolding passes_on
-    passed k x e false out = ap (λ w. if w then passes_to (last_of (blocks_of x)) b.kind b.thread else true) out
-    passed k x e true begun =
+    passed k x e strict false out = ap (λ w. if w then passes_to (last_of (blocks_of x)) b.kind b.thread else true) out
+    passed k x e strict true begun =
         let g = grant_of p.image p.context p.granted k m.sound.grant (granted_next k (begun_next k begun)) in
         ap (λ w. if w then passes_to (last_of (blocks_of x)) b.kind b.thread else true) begun
-        ∙ (λ i. passes_to (last_of (blocks_of x)) ((kind ∙ ap (λ o. kind_of o p.log) g.1) i) (thread i)) ∙ g.3.passes x (ap (lock_in p.context.locks) g.2 ∙ e)
+        ∙ (λ i. passes_to (last_of (blocks_of x)) ((kind ∙ ap (λ o. kind_of o p.log) g.1) i) (thread i)) ∙ g.3.passes x (ap (lock_in p.context.locks) g.2 ∙ e) strict
 
-    pending_at : (k : ℕ) (l x : LockView) → lock_in p.context.locks k ≡ Some x → l.journal.sealed ≡ x.journal.sealed → IsPending b k l
-    pending_at k l x e sealed = record {
+    pending_at : (k : ℕ) (l x : LockView) → lock_in p.context.locks k ≡ Some x → l.journal.sealed ≡ x.journal.sealed → l.journal.strict ≡ x.journal.strict → IsPending b k l
+    pending_at k l x e sealed same = record {
       rests = λ out. rests_as k x l sealed ((idle_at p k x m.sound m.rest e).rests (not_before (has p.context.guest.held) takes k (sym (journals.held k) ∙ out)));
       on = λ h none.
           (let held : has p.context.guest.held k ≡ true = elim (in_block (has p.context.guest.held) takes k (sym (journals.held k) ∙ h)) [
@@ -175,7 +175,7 @@ module _ (image : Shown) (p : PackageView) (m : MayRun image p) where
             | inr took ↦ absurd (false_true _ (ap (λ o. is_lock o k) (sym (record_takes image (whole p.context) b (record_is image p.context b can_go journals.held section) ∙ took)) ∙ none) (eq_self k))
           ] in
           (λ i. may_go_on k (last_of (map block_in (sealed i))) (thread i)) ∙ goes_on p k x m.sound m.rest held e);
-      passes = λ h. ap (λ y. passes_on k (map block_in y) b) sealed ∙ passed k x e (begins k b) refl;
+      passes = λ strict h. ap (λ y. passes_on k (map block_in y) b) sealed ∙ passed k x e (sym same ∙ strict) (begins k b) refl;
     }
 
     ran_stored : (k : ℕ) (l : LockView) → lock_in new.locks k ≡ Some l → IsStored ran k l
@@ -191,7 +191,7 @@ module _ (image : Shown) (p : PackageView) (m : MayRun image p) where
           turn = s.turn;
           opened = ap (λ (i : Journal). i.opened) x.2 ∙ stage.0;
           closed = ap (λ (i : Journal). option_map block_in i.closed) x.2 ∙ stage.1;
-          at = pending_at k l x.0 x.1 (sealed_was k l x.0 x.2).0;
+          at = (let same = sealed_was k l x.0 x.2 in pending_at k l x.0 x.1 same.0 same.2);
         }
 
     last_is : last_of log ≡ Some b
@@ -302,15 +302,15 @@ seal_follows p b stamp worker sound pending allows k l found h e is =
     (λ i. may_follow (s.number i) l.journal.limit (blocks_of l) (sealed_block stamp worker (closed_block p b k l s pending h e is i))) ∙ block_follows p b stamp worker sound pending allows k l found h
 
 -- its stamp and worker don't count for the section that was passed on to it
-pub block_passes : (p : PackageView) (b : Block) (stamp worker : ℕ) → IsSoundPackage p → p.pending ≡ Some b → (k : ℕ) (l : LockView) → lock_in p.context.locks k ≡ Some l → has b.held k ≡ true → passes_on k (blocks_of l) (sealed_block stamp worker b) ≡ true
+pub block_passes : (p : PackageView) (b : Block) (stamp worker : ℕ) → IsSoundPackage p → p.pending ≡ Some b → (k : ℕ) (l : LockView) → lock_in p.context.locks k ≡ Some l → IsStrict l → has b.held k ≡ true → passes_on k (blocks_of l) (sealed_block stamp worker b) ≡ true
 unfolding passes_on
-block_passes p b stamp worker sound pending k l found h = (subst (λ x. IsAt x p k l) pending (sound.stored k l found).at).passes h
+block_passes p b stamp worker sound pending k l found strict h = (subst (λ x. IsAt x p k l) pending (sound.stored k l found).at).passes strict h
 
-pub seal_passes : (p : PackageView) (b : Block) → IsSoundPackage p → p.pending ≡ Some b → (k : ℕ) (l : LockView) → lock_in p.context.locks k ≡ Some l → has b.held k ≡ true → (e : Entry) → l.journal.closed ≡ Some e → passes_on l.number (blocks_of l) e.block ≡ true
-seal_passes p b sound pending k l found h e is =
+pub seal_passes : (p : PackageView) (b : Block) → IsSoundPackage p → p.pending ≡ Some b → (k : ℕ) (l : LockView) → lock_in p.context.locks k ≡ Some l → has b.held k ≡ true → (e : Entry) → l.journal.closed ≡ Some e → IsStrict l → passes_on l.number (blocks_of l) e.block ≡ true
+seal_passes p b sound pending k l found h e is strict =
     let s = sound.stored k l found in
     let ran : IsPending b k l = subst (λ x. IsAt x p k l) pending s.at in
-    (λ i. passes_on (s.number i) (blocks_of l) (closed_block p b k l s pending h e is i)) ∙ ran.passes h
+    (λ i. passes_on (s.number i) (blocks_of l) (closed_block p b k l s pending h e is i)) ∙ ran.passes strict h
 
 slot_map : (g : LockView → LockView) (o : Option (Option LockView)) → slot_of (option_map (option_map g) o) ≡ option_map g (slot_of o)
 slot_map g None = refl
@@ -394,7 +394,7 @@ module _ (p : PackageView) (b : Block) (stamp worker : ℕ) (sound : IsSoundPack
 not_sealed : (stamp worker : ℕ) (l : LockView) → l.journal.closed ≡ None → l ≡ with_journal (sealed_as stamp worker) l
 not_sealed stamp worker l none =
     let s = ap (sealed_list stamp worker l.journal.sealed) none in
-    λ i. record { number = l.number; bytes = l.bytes; broken = l.broken; sections = l.sections; journal = record { image = l.journal.image; limit = l.journal.limit; sealed = sym s i; closed = none i; opened = l.journal.opened; entry_room = l.journal.entry_room; word_room = l.journal.word_room } }
+    λ i. record { number = l.number; bytes = l.bytes; broken = l.broken; sections = l.sections; journal = record { image = l.journal.image; limit = l.journal.limit; strict = l.journal.strict; sealed = sym s i; closed = none i; opened = l.journal.opened; entry_room = l.journal.entry_room; word_room = l.journal.word_room } }
 
 -- in a lock that isn't of the pending block nothing waits
 seal_all : (p : PackageView) (b : Block) (stamp worker : ℕ) (locks : List (Option LockView)) → IsSoundPackage p → p.pending ≡ Some b → length locks ≡ 32 → Changed (sealed_in (has b.held) stamp worker) p.context.locks locks → locks ≡ sealed_all stamp worker p.context.locks

@@ -1,6 +1,6 @@
 -- What a package keeps, through each of its calls.
 use Rattle.std.proofs.Common.{◌≡◌, ℕ, ◌<◌, ◌≤◌, Bool, true, false, not, ◌||◌, ◌&&◌, ◌==◌, List, map, filter, length, refl, sym, ap, subst, ◌∙◌, arith, inl, inr, Option, Some, None, IfSome, is_some, slice_index_or, set, if◌then◌else◌, length-set, get_or-set_same, get_or-set_other}
-use Rattle.tc_context.proofs.Vocabulary.{option_map, has, MAX_TURNS, Shown, is_section, last_of, may_go_on, ends_section, passes_to, passes_on, Block, Thread, is_running, next_lock, LockView, IsAtRest, kept, block_in, blocks_of, with_journal, with_room, Context, lock_in, AreOf, Changed, IsPlaced, SameLocks, roomy_in, thread_in, set_of, PackageView, granted_lock, want_of, number_in, waiting_in, IsNumber, IsFresh, Rests, IsIdle, IsAt, IsStored, IsLeft, EndsWith, IsGranted, MayTake, IsSoundPackage, IsWanted, LastIsSealed, IsWaiting, IsRoomier, with_grant, without_lock, view_of, KeptPackage}
+use Rattle.tc_context.proofs.Vocabulary.{option_map, has, MAX_TURNS, Shown, is_section, last_of, may_go_on, ends_section, passes_to, passes_on, Block, Thread, is_running, next_lock, LockView, IsAtRest, kept, block_in, blocks_of, with_journal, with_room, Context, lock_in, AreOf, Changed, IsPlaced, SameLocks, roomy_in, thread_in, set_of, PackageView, granted_lock, want_of, number_in, waiting_in, IsNumber, IsFresh, Rests, IsIdle, IsAt, IsStored, IsLeft, EndsWith, IsGranted, MayPassTo, MayTake, IsSoundPackage, IsWanted, LastIsSealed, IsWaiting, IsRoomier, with_grant, without_lock, view_of, KeptPackage}
 use Rattle.std.specs.List.{range_with_len}
 use Rattle.tc_isa.specs.Sets.{locks_of}
 use Rattle.tc_isa.specs.declared.limits.TheConstants.{MAX_HELD}
@@ -168,7 +168,7 @@ sound_rooms p locks room turns places same sound = record {
         turn = was.turn;
         opened = ap (λ (y : LockView). y.journal.opened) x.2 ∙ was.opened;
         closed = ap (λ (y : LockView). option_map block_in y.journal.closed) x.2 ∙ was.closed;
-        at = at p.pending k x.0 l (ap (λ (y : LockView). y.journal.sealed) x.2) was.at;
+        at = at p.pending k x.0 l (ap (λ (y : LockView). y.journal.sealed) x.2) (ap (λ (y : LockView). y.journal.strict) x.2) was.at;
       });
   left = left_as p.image p.context locks (last_of p.log) sound.left;
   grant = taking p.granted sound.grant;
@@ -182,12 +182,12 @@ sound_rooms p locks room turns places same sound = record {
       next = may.next;
       here = same_set p.context.locks locks same g.lock ∙ may.here;
       section = may.section;
-      passes = λ l e. (let x = lock_was (lock_in p.context.locks g.lock) (lock_in locks g.lock) l (same g.lock) e in ap (λ (y : LockView). passes_to (last_of (blocks_of y)) g.kind p.context.thread) x.2 ∙ may.passes x.0 x.1);
+      passes = λ l e strict. (let x = lock_was (lock_in p.context.locks g.lock) (lock_in locks g.lock) l (same g.lock) e in ap (λ (y : LockView). passes_to (last_of (blocks_of y)) g.kind p.context.thread) x.2 ∙ may.passes x.0 x.1 (ap (λ (y : LockView). y.journal.strict) (sym x.2) ∙ strict));
     }
 
-    at : (b : Option Block) (k : ℕ) (x l : LockView) → l.journal.sealed ≡ x.journal.sealed → IsAt b p k x → IsAt b (with_rooms p locks room turns) k l
-    at None k x l s idle = record { rests = λ out. rests_as k x l s (idle.rests out); last = λ b e h g. ap (λ y. last_of (map block_in y)) s ∙ idle.last b e h g }
-    at (Some b) k x l s ran = record { rests = λ out. rests_as k x l s (ran.rests out); on = λ h n. ap (λ y. may_go_on k (last_of (map block_in y)) b.thread) s ∙ ran.on h n; passes = λ h. ap (λ y. passes_on k (map block_in y) b) s ∙ ran.passes h }
+    at : (b : Option Block) (k : ℕ) (x l : LockView) → l.journal.sealed ≡ x.journal.sealed → l.journal.strict ≡ x.journal.strict → IsAt b p k x → IsAt b (with_rooms p locks room turns) k l
+    at None k x l s is idle = record { rests = λ out. rests_as k x l s (idle.rests out); last = λ b e h g. ap (λ y. last_of (map block_in y)) s ∙ idle.last b e h g }
+    at (Some b) k x l s is ran = record { rests = λ out. rests_as k x l s (ran.rests out); on = λ h n. ap (λ y. may_go_on k (last_of (map block_in y)) b.thread) s ∙ ran.on h n; passes = λ strict h. ap (λ y. passes_on k (map block_in y) b) s ∙ ran.passes (sym is ∙ strict) h }
 
 -- ---- a grant, and a lock that is taken out
 
@@ -210,7 +210,7 @@ stays_stored p locks granted numbers k l none rest number s =
       at = subst (λ o. IsAt o q k l) (sym rest) (record { rests = idle.rests; last = λ b e h g. idle.last b e h (λ f. (let no : None ≡ Some k = ap granted_lock (sym none) ∙ f in cc)) });
     }
 
-pub granted_sound : (p : PackageView) (lock : LockView) (kind : Kind) (number : ℕ) → IsSoundPackage p → IsWaiting p lock.number → IsAtRest p.image lock.number lock → is_section kind ≡ true → passes_to (last_of (blocks_of lock)) kind p.context.thread ≡ true → IsNumber number → IsSoundPackage (with_grant lock kind number p)
+pub granted_sound : (p : PackageView) (lock : LockView) (kind : Kind) (number : ℕ) → IsSoundPackage p → IsWaiting p lock.number → IsAtRest p.image lock.number lock → is_section kind ≡ true → MayPassTo lock kind p.context.thread → IsNumber number → IsSoundPackage (with_grant lock kind number p)
 granted_sound p lock kind number sound waiting rest section passes small =
     let n = lock.number in
     let q = with_grant lock kind number p in
@@ -241,7 +241,7 @@ granted_sound p lock kind number sound waiting rest section passes small =
         | inr f ↦ stays_stored p q.context.locks q.granted q.numbers k l waiting.granted waiting.pending (get_or-set_other p.numbers n k number 0 f.1) (sound.stored k l (sym (there k f.0) ∙ e))
       ];
       left = left_as p.image p.context q.context.locks (last_of p.log) sound.left;
-      grant = record { next = next; here = ap is_some (here n (eq_self n)); section = section; passes = λ l e. (let same : Some lock ≡ Some l = sym (here n (eq_self n)) ∙ e in let is : lock ≡ l = cc in subst (λ x. passes_to (last_of (blocks_of x)) kind p.context.thread ≡ true) is passes) };
+      grant = record { next = next; here = ap is_some (here n (eq_self n)); section = section; passes = λ l e. (let same : Some lock ≡ Some l = sym (here n (eq_self n)) ∙ e in let is : lock ≡ l = cc in subst (λ x. MayPassTo x kind p.context.thread) is passes) };
       log = sound.log;
       alone = λ h. absurd (false_true _ (ap is_some waiting.pending) h);
     }

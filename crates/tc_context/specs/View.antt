@@ -14,7 +14,7 @@ use Rattle.tc_turn.specs.Memory.{own_of}
 use Rattle.tc_turn.specs.Turn.{is_running, next_lock, thread_at_start}
 use Rattle.tc_turn.specs.declared.status.Status.{Status}
 use Rattle.tc_turn.specs.declared.status.Status.TheVariants.{Running}
-use Rattle.tc_segment.specs.View.{LockView, block_in, blocks_of, sealed_block}
+use Rattle.tc_segment.specs.View.{LockView, IsStrict, block_in, blocks_of, sealed_block}
 use Rattle.tc_context.specs.declared.context.Context.{Context}
 use Rattle.tc_context.specs.declared.package.Grant.{Grant}
 use Rattle.tc_context.specs.declared.package.TheConstants.{MAX_NUMBER}
@@ -125,11 +125,11 @@ pub record IsIdle (p : PackageView) (k : ℕ) (l : LockView) : Type 0 where
   pub last : (b : Block) → last_of p.log ≡ Some b → has b.held k ≡ true → granted_lock p.granted ≢ Some k → last_of (blocks_of l) ≡ Some b
 
 -- lock k of a package in which this block is pending: one that isn't of the block rests, one of it that the block didn't take
--- was in the middle of the thread's section, and one that was passed on to the block was another thread's before
+-- was in the middle of the thread's section, and a strict one that was passed on to the block was another thread's before
 pub record IsPending (b : Block) (k : ℕ) (l : LockView) : Type 0 where
   pub rests : has b.held k ≡ false → Rests k l
   pub on : has b.held k ≡ true → begins k b ≡ false → may_go_on k (last_of (blocks_of l)) b.thread ≡ true
-  pub passes : has b.held k ≡ true → passes_on k (blocks_of l) b ≡ true
+  pub passes : IsStrict l → has b.held k ≡ true → passes_on k (blocks_of l) b ≡ true
 
 abbrev pub IsAt : Option Block → PackageView → ℕ → LockView → Type 0
 IsAt None p k l = IsIdle p k l
@@ -171,12 +171,13 @@ abbrev pub EndsWith : List Block → Option Block → Type 0
 EndsWith log None = Unit {0}
 EndsWith log (Some b) = last_of log ≡ Some b
 
--- a section of this kind may be the thread's next one of the lock: it is taken, or another thread had the lock before
+-- a section of this kind may be the thread's next one of the lock: it is taken, or another thread had the lock before, or the
+-- lock isn't strict
 abbrev pub MayPassTo : LockView → Kind → ℕ → Type 0
-MayPassTo l kind t = passes_to (last_of (blocks_of l)) kind t ≡ true
+MayPassTo l kind t = IsStrict l → passes_to (last_of (blocks_of l)) kind t ≡ true
 
--- the thread is about to take the lock that was granted, which is in the package, and was another thread's where it was
--- passed on
+-- the thread is about to take the lock that was granted, which is in the package, and was another thread's where it is strict
+-- and was passed on
 pub record IsGranted (image : Shown) (p : Context) (g : Grant) : Type 0 where
   pub next : next_lock image (thread_in p) ≡ Some g.lock
   pub here : set_of p g.lock ≡ true

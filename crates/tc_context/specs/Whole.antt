@@ -71,6 +71,7 @@ abbrev pub with_entry : Entry → Journal → Journal
 with_entry e j = record {
   image = j.image;
   limit = j.limit;
+  strict = j.strict;
   sealed = j.sealed;
   closed = Some e;
   opened = None;

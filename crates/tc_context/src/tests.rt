@@ -1,4 +1,5 @@
 ghost use Rattle.std.specs.Prelude.{◌≡◌, ◌==◌, ℕ, true, false, None, OnOk, if◌then◌else◌};
+ghost use Rattle.tc_segment.specs.View.{IsAtRest};
 ghost use Rattle.tc_context.specs.View.{IsNumber};
 ghost use Rattle.tc_context.specs.Whole.{set_of};
 
@@ -98,6 +99,33 @@ fn step<R: Abort>(
     Ok(())
 }
 
+/// Grants a package the lock that it wants, in this way, as the queue turn of this number.
+fn grant_as<R: Abort>(
+    rt: &R,
+    package: &mut Package,
+    image: &Image,
+    state: LockState,
+    kind: Kind,
+    number: u64,
+)
+    requires image { «package».old.image ≡ image.now }
+    requires pending { «package».old.pending ≡ None }
+    requires granted { «package».old.granted ≡ None }
+    requires rest { IsAtRest image.now state.number state }
+    requires absent { set_of «package».old.context state.number ≡ false }
+    requires number { IsNumber number }
+    ensures image { «package».new.image ≡ «package».old.image }
+    ensures pending { «package».new.pending ≡ None }
+    ensures locks { (k : ℕ) → set_of «package».new.context k ≡ (if k == state.number then true else set_of «package».old.context k) }
+{
+    let lock = state.number();
+    assert!(rt; package.want(image) == Some(lock));
+    assert!(rt; kind.is_section());
+    assert!(rt; state.passes_to(kind, package.thread()));
+    package.grant(state, kind, number);
+    assert!(rt; package.granted() == Some(lock));
+}
+
 /// Grants a package the lock that it wants, with the bytes of the file and no section yet, as the
 /// queue turn of this number.
 fn grant_new<R: Abort>(
@@ -118,11 +146,9 @@ fn grant_new<R: Abort>(
     ensures locks { OnOk result ((k : ℕ) → set_of «package».new.context k ≡ (if k == lock then true else set_of «package».old.context k)) }
 {
     assert!(rt; lock < image.guards());
-    assert!(rt; package.want(image) == Some(lock));
     let state = LockState::new(alloc, image, lock, 4)?;
     assert!(rt; state.allows(Kind::Taken, 7) && !state.allows(Kind::Granted, 7));
-    package.grant(state, Kind::Taken, number);
-    assert!(rt; package.granted() == Some(lock));
+    grant_as(rt, package, image, state, Kind::Taken, number);
     Ok(())
 }
 
@@ -135,6 +161,7 @@ fn take_out<R: Abort>(rt: &R, package: &mut Package, lock: u32, number: u64) -> 
     ensures pending { «package».new.pending ≡ None }
     ensures granted { «package».new.granted ≡ None }
     ensures locks { (k : ℕ) → set_of «package».new.context k ≡ (if k == lock then false else set_of «package».old.context k) }
+    ensures rest { IsAtRest «package».old.image lock result }
 {
     assert!(rt; package.number_of(lock) == number);
     assert!(rt; !package.held().has(lock));
@@ -237,6 +264,46 @@ fn a_lock_comes_with_the_greatest_number(rt: HostRuntime) -> Result<(), Fail> {
     step(&rt, &mut package, &image, 0, End::Wants(0))?;
     grant_new(&rt, alloc, &mut package, &image, 0, 16_777_215)?;
     assert_eq!(rt; package.number_of(0), 16_777_215);
+    Ok(())
+}
+
+/// A thread that takes lock 0 twice, the second time by adopting itself: a lenient lock state lets it
+/// be sealed so.
+#[test]
+fn a_lenient_lock_is_passed_to_the_thread_that_released_it(rt: HostRuntime) -> Result<(), Fail> {
+    let alloc = rt.alloc();
+    let mut words = TWO_LOCKS;
+    words[54] = 0x0000_0513;
+    words[55] = 0x0020_0893;
+    words[58] = 0x0010_0893;
+    words[60] = 0x0000_0513;
+    let image = image_of(alloc, &words)?;
+    assert_eq!(rt; image.threads(), 1);
+    assert_eq!(rt; image.guards(), 2);
+    let mut package = Package::start(alloc, &image, 0, 100)?;
+    step(&rt, &mut package, &image, 0, End::Wants(0))?;
+    let state = LockState::lenient(alloc, &image, 0, 4)?;
+    grant_as(&rt, &mut package, &image, state, Kind::Taken, 1);
+    step(&rt, &mut package, &image, 1, End::Unlocked(0))?;
+    let state = take_out(&rt, &mut package, 0, 1);
+    step(&rt, &mut package, &image, 2, End::Wants(0))?;
+    assert!(rt; state.allows(Kind::Adopted, 0));
+    grant_as(&rt, &mut package, &image, state, Kind::Adopted, 2);
+    step(&rt, &mut package, &image, 3, End::Unlocked(0))?;
+    let state = take_out(&rt, &mut package, 0, 2);
+    let told = journal(alloc, &state)?;
+    assert_eq!(rt; told.len(), 2);
+    let held = Held::none().plus(0);
+    assert_eq!(rt;
+        told[0].0,
+        block(1, 4, held, Kind::Taken, 0x0010_0008, End::Unlocked(0))
+    );
+    assert_eq!(rt;
+        told[1].0,
+        block(3, 4, held, Kind::Adopted, 0x0010_0020, End::Unlocked(0))
+    );
+    assert_eq!(rt; state.run(), 1);
+    assert_eq!(rt; state.sections(), 2);
     Ok(())
 }
 
@@ -361,5 +428,8 @@ fn check_one<R: Abort>(rt: &R, alloc: Global, lock: &LockState) -> Result<(), Al
     assert!(rt; !lock.allows(Kind::Granted, 0));
     assert!(rt; lock.allows(Kind::Adopted, 0));
     assert!(rt; !lock.allows(Kind::Adopted, 1));
+    // But not to the same thread.
+    assert!(rt; !lock.passes_to(Kind::Adopted, 0));
+    assert!(rt; lock.passes_to(Kind::Adopted, 1));
     Ok(())
 }

@@ -1,5 +1,5 @@
-use Rattle.std.proofs.Common.{◌≡◌, ◌==◌, ◌∙◌, true, ap, sym, subst, set, arith, Some, slice_index_or, if◌then◌else◌}
-use Rattle.tc_context.proofs.Vocabulary.{last_of, passes_to, IsAtRest, blocks_of, PackageView, IsSoundPackage, IsWaiting, number_in, view_of}
+use Rattle.std.proofs.Common.{◌==◌, ◌∙◌, ap, sym, subst, set, arith, Some, slice_index_or, if◌then◌else◌}
+use Rattle.tc_context.proofs.Vocabulary.{IsAtRest, PackageView, IsSoundPackage, IsWaiting, MayPassTo, number_in, view_of}
 use Rattle.tc_mutex_spec.proofs.ListLaws.{get_or-set}
 use Rattle.tc_context.proofs.Staging.{shows, granted_sound, set_with, wanted}
 use Rattle.tc_context.proofs.package.Package.grant.Goals as goal
@@ -15,7 +15,7 @@ invariant_of-self c =
         granted = Some (record { lock = sym n i; kind = c.args.kind });
         numbers = set p.numbers (sym n i) c.args.number;
       }) (granted_sound p c.args.lock c.args.kind c.args.number s.kept.sound (subst (λ v. IsWaiting v c.args.lock.number) (sym s.is) c.requires.waiting)
-          (subst (λ (v : PackageView). IsAtRest v.image c.args.lock.number c.args.lock) (sym s.is) c.requires.rest) c.requires.kind (subst (λ (v : PackageView). passes_to (last_of (blocks_of c.args.lock)) c.args.kind v.context.thread ≡ true) (sym s.is) c.requires.passes) c.requires.number);
+          (subst (λ (v : PackageView). IsAtRest v.image c.args.lock.number c.args.lock) (sym s.is) c.requires.rest) c.requires.kind (subst (λ (v : PackageView). MayPassTo c.args.lock c.args.kind v.context.thread) (sym s.is) c.requires.passes) c.requires.number);
       code = s.kept.code;
       next = s.kept.next;
       present = set_with c.args.lock.number _ c.args.lock p.context.locks _ c.deref_mut-contents.result.now.present _ n c.put_in.ensures.locks c.plus-contents.ensures.each s.kept.present;
