@@ -20,9 +20,9 @@ use Rattle.tc_mutex_spec.proofs.Entries.{entries_more, entries_blocks, own_more,
 use Rattle.tc_mutex_spec.proofs.Folding.{run_from-is-turns, tells-more, tells-run}
 use Rattle.tc_mutex_spec.proofs.Holds.{holds_turns, holds_start}
 use Rattle.tc_mutex_spec.proofs.Owners.{no_owner}
-use Rattle.tc_segment.specs.View.{LockView, Journal, kept, lock_of, block_in, blocks_of, with_journal, sealed_block, sealed_list, sealed_as}
+use Rattle.tc_segment.specs.View.{LockView, IsStrict, Journal, kept, lock_of, block_in, blocks_of, with_journal, sealed_block, sealed_list, sealed_as}
 use Rattle.tc_segment.proofs.Sealing.{obeys-more, passes-more}
-use Rattle.tc_context.specs.Locks.{lock_in, mutex_or}
+use Rattle.tc_context.specs.Locks.{EachLock, lock_in, mutex_or}
 use Rattle.tc_context.specs.Whole.{thread_in, mutex_at, whole, set_of, journal_in, journal_at, block_locks, entered}
 use Rattle.tc_context.specs.View.{PackageView, kind_of, waiting_in, Allows, sealed_log, with_seal}
 use Rattle.tc_context.specs.Ran.{DidRun}
@@ -65,6 +65,25 @@ sealed_more : (v : Bool) (stamp worker : ℕ) (i j : Journal) (e : Entry) → i 
 sealed_more true stamp worker i j e is none = ap (λ (x : Journal). (sealed_as stamp worker x).sealed) is
 sealed_more false stamp worker i j e is none = ap (sealed_list stamp worker i.sealed) (none refl) ∙ ap (λ (x : Journal). x.sealed) is ∙ sym (append-nil j.sealed)
 
+-- a lock state that is in the package after the block, as it was before it
+record Before (image : Shown) (p : PackageView) (b : Block) (k : ℕ) (l : LockView) : Type 0 where
+  pub state : LockView
+  pub there : lock_in p.context.locks k ≡ Some state
+  pub journal : l.journal ≡ entered (has b.held k) (entry_of image k (whole p.context) b) state.journal
+
+was_before : (image : Shown) (p v : PackageView) (ran : DidRun image p v) (k : ℕ) (l : LockView) → lock_in v.context.locks k ≡ Some l → Before image p ran.block k l
+was_before image p v ran k l e =
+    let b = ran.block in
+    let y = map_some (entered (has b.held k) (entry_of image k (whole p.context) b)) (journal_at p.context k) l.journal (sym (ran.journals.entries k) ∙ ap (option_map journal_in) e) in
+    let z = map_some journal_in (lock_in p.context.locks k) y.0 y.1 in
+    record { state = z.0; there = z.1; journal = y.2 ∙ ap (entered (has b.held k) (entry_of image k (whole p.context) b)) z.2 }
+
+-- a block keeps strict lock states strict
+pub strict_still : (image : Shown) (p v : PackageView) → DidRun image p v → EachLock (λ k l. IsStrict l) p.context.locks → EachLock (λ k l. IsStrict l) v.context.locks
+strict_still image p v ran strict k l e =
+    let x = was_before image p v ran k l e in
+    ap (λ (j : Journal). j.strict) x.journal ∙ (entered_rest (has ran.block.held k) (entry_of image k (whole p.context) ran.block) x.state.journal).2 ∙ strict k x.state x.there
+
 module _ (image : Shown) (fuel limit : ℕ) (h : List Block) (m : State) (p v : PackageView) (was : Follows image fuel limit h m p) (ran : DidRun image p v) where
   abbrev t : ℕ
   t = p.context.thread
@@ -72,18 +91,11 @@ module _ (image : Shown) (fuel limit : ℕ) (h : List Block) (m : State) (p v : 
   abbrev b : Block
   b = ran.block
 
-  -- a lock state that is in the package after the block, as it was before it
-  record Before (k : ℕ) (l : LockView) : Type 0 where
-    pub state : LockView
-    pub there : lock_in p.context.locks k ≡ Some state
-    pub follows : StateFollows image fuel limit h m k state
-    pub journal : l.journal ≡ entered (has b.held k) (entry_of image k (whole p.context) b) state.journal
+  before : (k : ℕ) (l : LockView) → lock_in v.context.locks k ≡ Some l → Before image p b k l
+  before = was_before image p v ran
 
-  before : (k : ℕ) (l : LockView) → lock_in v.context.locks k ≡ Some l → Before k l
-  before k l e =
-      let y = map_some (entered (has b.held k) (entry_of image k (whole p.context) b)) (journal_at p.context k) l.journal (sym (ran.journals.entries k) ∙ ap (option_map journal_in) e) in
-      let z = map_some journal_in (lock_in p.context.locks k) y.0 y.1 in
-      record { state = z.0; there = z.1; follows = was.states k z.0 z.1; journal = y.2 ∙ ap (entered (has b.held k) (entry_of image k (whole p.context) b)) z.2 }
+  follows_before : (k : ℕ) (l : LockView) (x : Before image p b k l) → StateFollows image fuel limit h m k x.state
+  follows_before k l x = was.states k x.state x.there
 
   here : (k : ℕ) → block_locks image p.context k ≡ true → set_of p.context k ≡ true
   here = block_inside image (set_of p.context) (thread_in p.context) ran.covers
@@ -166,7 +178,7 @@ module _ (image : Shown) (fuel limit : ℕ) (h : List Block) (m : State) (p v : 
       lock_after k l e false out =
           let x = before k l e in
           ap (λ o. unowned (mutex_or v.context.thread (has v.context.guest.held k) o)) (sym e) ∙ ap unowned (ran.runs.others k (sym (ran.held k) ∙ out))
-          ∙ ap (λ o. unowned (mutex_or t (has p.context.guest.held k) o)) x.there ∙ x.follows.lock ∙ ap unowned (sym (grows.locks k out))
+          ∙ ap (λ o. unowned (mutex_or t (has p.context.guest.held k) o)) x.there ∙ (follows_before k l x).lock ∙ ap unowned (sym (grows.locks k out))
 
       state_after : (k : ℕ) (l : LockView) → lock_in v.context.locks k ≡ Some l → StateFollows image fuel limit (h ++ c ∷ []) to k (with_journal (sealed_as stamp worker) l)
       state_after k l e =
@@ -177,8 +189,8 @@ module _ (image : Shown) (fuel limit : ℕ) (h : List Block) (m : State) (p v : 
             number = s.number;
             lock = lock_after k l e (has b.held k) refl;
             entries = sealed_more (has b.held k) stamp worker l.journal x.state.journal (entry_of image k (whole p.context) b) x.journal (none_waits k l e)
-                ∙ (λ i. x.follows.entries i ++ with_front (has c.held k) (record (same_entry k i) { block = c }) []) ∙ sym (entries_more image k [] h (start image fuel) m c told);
-            bound = ap (λ (j : Journal). j.limit) x.journal ∙ (entered_rest (has b.held k) (entry_of image k (whole p.context) b) x.state.journal).1 ∙ x.follows.bound;
+                ∙ (λ i. (follows_before k l x).entries i ++ with_front (has c.held k) (record (same_entry k i) { block = c }) []) ∙ sym (entries_more image k [] h (start image fuel) m c told);
+            bound = ap (λ (j : Journal). j.limit) x.journal ∙ (entered_rest (has b.held k) (entry_of image k (whole p.context) b) x.state.journal).1 ∙ (follows_before k l x).bound;
           }
 
       pub follows_more : Follows image fuel limit (h ++ c ∷ []) to (with_seal stamp worker v)
@@ -193,7 +205,7 @@ module _ (image : Shown) (fuel limit : ℕ) (h : List Block) (m : State) (p v : 
   blocks_there : (k : ℕ) (l : LockView) → lock_in v.context.locks k ≡ Some l → blocks_of l ≡ of_lock h k
   blocks_there k l e =
       let x = before k l e in
-      ap (λ (j : Journal). map block_in j.sealed) x.journal ∙ ap (map block_in) (entered_rest (has b.held k) (entry_of image k (whole p.context) b) x.state.journal).0 ∙ blocks_are image fuel limit h m k x.state x.follows
+      ap (λ (j : Journal). map block_in j.sealed) x.journal ∙ ap (map block_in) (entered_rest (has b.held k) (entry_of image k (whole p.context) b) x.state.journal).0 ∙ blocks_are image fuel limit h m k x.state (follows_before k l x)
 
   -- the history obeys the batch limit with the block at its end
   obeys_still : (stamp worker : ℕ) → Allows v.context b worker → ((k : ℕ) → Obeys k limit (of_lock h k)) → (k : ℕ) → Obeys k limit (of_lock (h ++ sealed_block stamp worker b ∷ []) k)
@@ -207,20 +219,20 @@ module _ (image : Shown) (fuel limit : ℕ) (h : List Block) (m : State) (p v : 
           let l = some_of (lock_in v.context.locks k) (ran.runs.keeps.set k ∙ here k (sym (ran.held k) ∙ mine)) in
           let x = before k l.0 l.1 in
           let keeps = entered_rest (has b.held k) (entry_of image k (whole p.context) b) x.state.journal in
-          let bound : l.0.journal.limit ≡ limit = ap (λ (j : Journal). j.limit) x.journal ∙ keeps.1 ∙ x.follows.bound in
+          let bound : l.0.journal.limit ≡ limit = ap (λ (j : Journal). j.limit) x.journal ∙ keeps.1 ∙ (follows_before k l.0 x).bound in
           let blocks = blocks_there k l.0 l.1 in
           obeys-more k limit [] (of_lock h k) (sealed_block stamp worker b) (obeys k)
           ((λ i. may_follow k (sym bound i) (sym blocks i) (sealed_block stamp worker b)) ∙ block_follows v b stamp worker ran.sound ran.pending allows k l.0 l.1 mine)
 
   -- and each section that is passed on is of another thread
-  passes_still : (stamp worker : ℕ) → ((k : ℕ) → PassesOn k (of_lock h k)) → (k : ℕ) → PassesOn k (of_lock (h ++ sealed_block stamp worker b ∷ []) k)
-  passes_still stamp worker passes k = subst (PassesOn k) (sym (filter-append (λ (x : Block). has x.held k) h (sealed_block stamp worker b ∷ []))) (by (has b.held k) refl)
+  passes_still : EachLock (λ k l. IsStrict l) p.context.locks → (stamp worker : ℕ) → ((k : ℕ) → PassesOn k (of_lock h k)) → (k : ℕ) → PassesOn k (of_lock (h ++ sealed_block stamp worker b ∷ []) k)
+  passes_still strict stamp worker passes k = subst (PassesOn k) (sym (filter-append (λ (x : Block). has x.held k) h (sealed_block stamp worker b ∷ []))) (by (has b.held k) refl)
     where
       by : (w : Bool) → has b.held k ≡ w → PassesOn k (of_lock h k ++ (if w then sealed_block stamp worker b ∷ [] else []))
       by false out = subst (PassesOn k) (sym (append-nil (of_lock h k))) (passes k)
       by true mine =
           let l = some_of (lock_in v.context.locks k) (ran.runs.keeps.set k ∙ here k (sym (ran.held k) ∙ mine)) in
-          passes-more k [] (of_lock h k) (sealed_block stamp worker b) (passes k) (ap (λ bs. passes_on k bs (sealed_block stamp worker b)) (sym (blocks_there k l.0 l.1)) ∙ block_passes v b stamp worker ran.sound ran.pending k l.0 l.1 mine)
+          passes-more k [] (of_lock h k) (sealed_block stamp worker b) (passes k) (ap (λ bs. passes_on k bs (sealed_block stamp worker b)) (sym (blocks_there k l.0 l.1)) ∙ block_passes v b stamp worker ran.sound ran.pending k l.0 l.1 (strict_still image p v ran strict k l.0 l.1) mine)
 
 pub grown : (image : Shown) (fuel limit : ℕ) (h : List Block) (m : State) (p v : PackageView) → Tells image fuel h m → Follows image fuel limit h m p → (ran : DidRun image p v)
     → (stamp worker : ℕ) → (to : State) × Grows image fuel h m (sealed_block stamp worker ran.block) to × Follows image fuel limit (h ++ sealed_block stamp worker ran.block ∷ []) to (with_seal stamp worker v)
@@ -235,7 +247,7 @@ pub obeyed : (image : Shown) (fuel limit : ℕ) (h : List Block) (m : State) (p 
 obeyed image fuel limit h m p v was ran = obeys_still image fuel limit h m p v was ran
 
 pub passed_on : (image : Shown) (fuel limit : ℕ) (h : List Block) (m : State) (p v : PackageView) → Follows image fuel limit h m p → (ran : DidRun image p v)
-    → (stamp worker : ℕ) → ((k : ℕ) → PassesOn k (of_lock h k)) → (k : ℕ) → PassesOn k (of_lock (h ++ sealed_block stamp worker ran.block ∷ []) k)
+    → EachLock (λ k l. IsStrict l) p.context.locks → (stamp worker : ℕ) → ((k : ℕ) → PassesOn k (of_lock h k)) → (k : ℕ) → PassesOn k (of_lock (h ++ sealed_block stamp worker ran.block ∷ []) k)
 passed_on image fuel limit h m p v was ran = passes_still image fuel limit h m p v was ran
 
 -- ---- what isn't of the block

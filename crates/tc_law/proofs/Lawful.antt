@@ -20,19 +20,19 @@ use Rattle.tc_mutex_spec.proofs.BlockEnds.{block_falls, left_falls}
 use Rattle.tc_mutex_spec.proofs.Entries.{tells_end}
 use Rattle.tc_mutex_spec.proofs.Owners.{no_owner}
 use Rattle.tc_mutex_spec.proofs.Replaying.{turn_runs}
-use Rattle.tc_segment.specs.View.{LockView, kept, with_journal, sealed_as, sealed_block}
+use Rattle.tc_segment.specs.View.{LockView, IsStrict, kept, with_journal, sealed_as, sealed_block}
 use Rattle.tc_context.specs.Locks.{lock_in}
 use Rattle.tc_context.specs.Whole.{thread_in, set_of}
 use Rattle.tc_context.specs.View.{PackageView, Allows, Rests, bare, with_seal}
 use Rattle.tc_context.specs.Ran.{DidRun}
 use Rattle.tc_law.specs.History.{Follows, Grows}
-use Rattle.tc_law.specs.Lawful.{IsPackageAfter, IsStateAfter, blocks_left, all_left, Lawful, IsLimited, IsAmong, with_package, with_states, AreFresh}
+use Rattle.tc_law.specs.Lawful.{IsPackageAfter, IsStateAfter, blocks_left, all_left, Lawful, IsLimited, IsAmong, with_package, with_states, AreFresh, AreStrict}
 use Rattle.tc_mutex_spec.proofs.ListLaws.{there, at_place, set_at, same_list}
 use Rattle.tc_mutex_spec.proofs.Histories.{filter_has, filter_from, stamp_at, thread_at}
 use Rattle.tc_context.proofs.Moved.{map_some, some_map}
 use Rattle.tc_context.proofs.Partway.{block_inside}
 use Rattle.tc_context.proofs.Running.{sealed_at}
-use Rattle.tc_law.proofs.Following.{holds_told, blocks_are, grown, obeyed, thread_still, state_still, state_kept}
+use Rattle.tc_law.proofs.Following.{holds_told, blocks_are, strict_still, grown, obeyed, thread_still, state_still, state_kept}
 
 pub with_states-length : (slots : List (Option LockView)) (states : List LockView) → length (with_states slots states) ≡ length states
 with_states-length [] states = refl
@@ -176,6 +176,16 @@ pub appended : (image : Shown) (fuel limit : ℕ) (h : List Block) (packages : L
     → (worker : ℕ) → worker < 2 ^ 32 → Allows v.context ran.block worker
     → Lawful image fuel limit (h ++ sealed_block (length h) worker ran.block ∷ []) (with_package (with_seal (length h) worker v) packages) (with_states (with_seal (length h) worker v).context.locks states)
 appended image fuel limit h packages states p v limits law here ran worker small allows = kept_lawful image fuel limit h packages states p v limits law here ran worker small allows
+
+-- strict lock states stay strict
+pub strict_states : (image : Shown) (packages : List PackageView) (states : List LockView) (p v : PackageView) → IsAmong packages states p → DidRun image p v
+    → (stamp worker : ℕ) → AreStrict states → AreStrict (with_states (with_seal stamp worker v).context.locks states)
+strict_states image packages states p v here ran stamp worker strict k a e = ⊎_elim
+    (λ (o : (l : LockView) × (lock_in (with_seal stamp worker v).context.locks k ≡ Some l) × (kept l ≡ a)).
+    let x = map_some (with_journal (sealed_as stamp worker)) (lock_in v.context.locks k) o.0 (sym (sealed_at stamp worker v.context.locks k) ∙ o.1) in
+    subst (λ (l : LockView). IsStrict l) o.2 (ap (λ (l : LockView). l.journal.strict) x.2 ∙ strict_still image p v ran (λ j l f. strict j (kept l) (here.locks j l f)) k x.0 x.1))
+    (λ (o : (lock_in (with_seal stamp worker v).context.locks k ≡ None) × (get_elem? states k ≡ some a)). strict k a o.1)
+    (with_states-at (with_seal stamp worker v).context.locks states k a e)
 
 -- ---- the logs determine the history
 

@@ -11,7 +11,7 @@ use Rattle.tc_journal.specs.History.{IsHistory, of_lock}
 use Rattle.tc_journal.specs.declared.block.Block.{Block}
 use Rattle.tc_turn.specs.Turn.{Thread, is_running}
 use Rattle.tc_mutex_spec.specs.Blocks.{Tells, end_after}
-use Rattle.tc_segment.specs.View.{LockView, kept, fresh_state}
+use Rattle.tc_segment.specs.View.{LockView, IsStrict, kept, fresh_state}
 use Rattle.tc_context.specs.Locks.{lock_in}
 use Rattle.tc_context.specs.Whole.{thread_in}
 use Rattle.tc_context.specs.View.{PackageView, IsFresh, bare, with_seal}
@@ -78,6 +78,10 @@ abbrev pub with_states : List (Option LockView) → List LockView → List LockV
 with_states [] states = states
 with_states (o ∷ slots) [] = []
 with_states (o ∷ slots) (l ∷ states) = kept_or l o ∷ with_states slots states
+
+-- none of these lock states has a section that was passed on to its own thread
+abbrev pub AreStrict : List LockView → Type 0
+AreStrict states = (k : ℕ) (l : LockView) → StandsAt states k l → IsStrict l
 
 -- the package with its block sealed by this worker, at the end of the history
 abbrev pub sealed_after : List Block → ℕ → PackageView → PackageView
