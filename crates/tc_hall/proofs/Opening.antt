@@ -14,7 +14,7 @@ use Rattle.atomic_table.proofs.Lists.{at_longer, at_last, at_map}
 use Rattle.tc_elf.specs.Shown.{Shown}
 use Rattle.tc_turn.specs.Turn.{Thread, is_running}
 use Rattle.tc_journal.specs.declared.block.Block.{Block}
-use Rattle.tc_segment.specs.View.{LockView, kept, fresh_state}
+use Rattle.tc_segment.specs.View.{LockView, IsStrict, kept, fresh_state}
 use Rattle.tc_context.specs.View.{PackageView, IsFresh, Rests, bare, fits_granted}
 use Rattle.tc_context.specs.Whole.{thread_in}
 use Rattle.tc_law.specs.Lawful.{IsPackageAfter, Lawful, blocks_left}
@@ -126,6 +126,7 @@ module _ (k : Terms) where
             packages_fresh = λ t p e. (let r = gathered-at n whole t p e in subst (IsFresh k.image.value t k.fuel) r.1 (ready.packages t r.0).2);
             states_fresh = λ i l e. sym (tabled-at (λ i. fresh_state k.image.value i k.limit) m i l e).1;
           })));
+          strict = λ i l e. subst (λ (x : LockView). IsStrict x) (tabled-at (λ i. fresh_state k.image.value i k.limit) m i l e).1 refl;
           workers = λ i b e. absurd (some-ne-none b (sym e));
         };
         words = ap (λ (l : List ℕ). length l) zeros ∙ length-replicate (n + 2 + m) 0;

@@ -18,7 +18,7 @@ use Rattle.tc_context.specs.View.{PackageView, Allows as AllowsBlock, bare, with
 use Rattle.tc_context.specs.Ran.{DidRun}
 use Rattle.tc_law.specs.Lawful.{Lawful, IsLimited, with_states}
 use Rattle.tc_law.proofs.Following.{blocks_are}
-use Rattle.tc_law.proofs.Lawful.{appended}
+use Rattle.tc_law.proofs.Lawful.{appended, strict_states}
 use Rattle.tc_mutex_spec.proofs.ListLaws.{there}
 use Rattle.tc_mutex_spec.proofs.Histories.{stamp_at}
 use Rattle.tc_context.proofs.Moved.{some_map}
@@ -119,6 +119,7 @@ module _ (k : Terms) (s : St k) (r : KeptHall k s) (id : ℕ) (v : Knows) (q : P
           segments = with_states now.context.locks r.told.segments;
           limits = r.told.limits;
           law = law;
+          strict = strict_states v.image r.told.places r.told.segments a.before q (record { place = ap (get_elem? r.told.places) (sym a.ran.runs.keeps.thread) ∙ o.2; locks = mine }) a.ran stamp v.worker r.told.strict;
           workers = λ i c e. ⊎_elim (λ (z : get_elem? h i ≡ some c). r.told.workers i c z) (λ (z : (i ≡ length h) × (b ≡ c)). subst (λ (x : Block). x.worker < k.workers) z.1 old.worker) (snoc_at h b c i e);
         };
         words = length-set s.words 0 new ∙ r.words;

@@ -15,7 +15,7 @@ use Rattle.tc_segment.specs.View.{LockView, kept}
 use Rattle.tc_context.specs.declared.package.Grant.{Grant}
 use Rattle.tc_context.specs.Locks.{lock_in}
 use Rattle.tc_context.specs.View.{PackageView, Rests, bare, fits_of, granted_lock, want_of}
-use Rattle.tc_law.specs.Lawful.{Lawful}
+use Rattle.tc_law.specs.Lawful.{Lawful, AreStrict}
 use Rattle.tc_hall.specs.declared.board.Knows.{Knows}
 use Rattle.tc_hall.specs.declared.board.Terms.{Terms}
 use Rattle.tc_hall.specs.declared.board.Call.{Call}
@@ -189,13 +189,15 @@ pub record IsLimited (k : Terms) : Type 0 where
   pub fuel : k.fuel ≤ MAX_FUEL
   pub workers : (0 < k.workers) × (k.workers ≤ MAX_WORKERS)
 
--- the history, and each package and lock as of its last commit. No word, slot or pass occurs in it, and only a commit changes it
+-- the history, and each package and lock as of its last commit, with strict journals. No word, slot or pass occurs in it, and
+-- only a commit changes it
 pub record Told (k : Terms) : Type 0 where
   pub history : List Block
   pub places : List PackageView
   pub segments : List LockView
   pub limits : IsLimited k
   pub law : Lawful k.image.value k.fuel k.limit history places segments
+  pub strict : AreStrict segments
   pub workers : (i : ℕ) (b : Block) → get_elem? history i ≡ some b → b.worker < k.workers
 
 pub record KeptHall (k : Terms) (s : State (Option Cargo) Knows) : Type 0 where

@@ -17,7 +17,7 @@ use Rattle.tc_context.specs.Locks.{lock_in}
 use Rattle.tc_context.specs.View.{PackageView, AllowsPending, Rests, bare, fits_of, number_in, with_seal}
 use Rattle.tc_context.specs.Ran.{DidRun}
 use Rattle.tc_law.specs.History.{Follows}
-use Rattle.tc_law.specs.Lawful.{Lawful}
+use Rattle.tc_law.specs.Lawful.{Lawful, AreStrict}
 use Rattle.tc_hall.specs.declared.place.Place.{Place}
 use Rattle.tc_hall.specs.declared.place.Place.TheVariants.{Ready}
 use Rattle.tc_hall.specs.declared.board.Given.{Given}
@@ -306,6 +306,7 @@ HasAll workers v = (u : ℕ) → u < workers → (u ≡ v.worker) ⊎ ((e : ℕ)
 pub record IsEnd (k : Terms) (v : Knows) (qs : List PackageView) (ls : List LockView) : Type 0 where
   pub history : List Block
   pub law : Lawful k.image.value k.fuel k.limit history (map bare qs) (map kept ls)
+  pub strict : AreStrict ls
   pub workers : (i : ℕ) (b : Block) → get_elem? history i ≡ some b → b.worker < k.workers
   -- each block that it sealed, or that a pass joined into it sealed, is in the history at its stamp
   pub sealed : (i : ℕ) (b : Block) → get_elem? v.sealed i ≡ some b → get_elem? history b.stamp ≡ some b

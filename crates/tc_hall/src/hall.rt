@@ -197,7 +197,7 @@ impl Hall {
 
     /// Ends the hall. It answers all packages and all lock states, in order of number, which are as
     /// the history of all sealed blocks leaves them: the stamps in the logs are the numbers from 0
-    /// on, each once. It goes over the slots, and takes no memory.
+    /// on, each once. Each lock state is strict. It goes over the slots, and takes no memory.
     pub fn close(self, pass: Pass) -> Closed
         requires own { pass.table ≡ self.table }
         requires all { HasAll self.terms.workers pass.knows }

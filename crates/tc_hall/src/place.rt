@@ -4,7 +4,7 @@ ghost use Rattle.std.specs.Prelude.{◌≡◌, ◌<◌};
 ghost use Rattle.tc_hall.specs.Places.{IsInRange, code_of, origin_code};
 
 /// Where a package is put.
-#[derive(Clone, Copy)]
+#[derive(Clone, Copy, Debug, PartialEq, Eq)]
 pub enum Place {
     /// For any worker to run on.
     Ready,
@@ -30,7 +30,7 @@ impl Place {
 }
 
 /// From where a package is claimed.
-#[derive(Clone, Copy)]
+#[derive(Clone, Copy, Debug, PartialEq, Eq)]
 pub enum Origin {
     /// A thread that may run on.
     Ready,
