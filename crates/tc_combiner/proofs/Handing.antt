@@ -54,7 +54,7 @@ passes_apart : (k : Kind) (t : ℕ) (b : Block) → b.thread ≢ t → passes_to
 passes_apart k t b ne = let e : (b.thread == t) ≡ false = grind (arith, nat_tests) in ap (λ (x : Bool). not (is_passed k && x)) e ∙ no_pass (is_passed k)
 
 pub passes_other : (l : LockView) (b : Block) (k : Kind) (t : ℕ) → last_of (blocks_of l) ≡ Some b → b.thread ≢ t → MayPassTo l k t
-passes_other l b k t last ne = ap (λ (o : Option Block). passes_to o k t) last ∙ passes_apart k t b ne
+passes_other l b k t last ne strict = ap (λ (o : Option Block). passes_to o k t) last ∙ passes_apart k t b ne
 
 -- ---- the thread of the block that released a lock, and its turn
 

@@ -43,14 +43,14 @@ pub enum Call {
 }
 
 /// What `enter` answers in any order of waiters: nobody was there, or the place to link behind.
-#[derive(Clone, Copy, Drop)]
+#[derive(Clone, Copy, Debug, PartialEq, Eq, Drop)]
 pub enum Arrival<P> {
     First,
     Behind(P),
 }
 
 /// What `leave` answers in any order of waiters.
-#[derive(Clone, Copy, Drop)]
+#[derive(Clone, Copy, Debug, PartialEq, Eq, Drop)]
 pub enum Departure {
     Left,
     Followed,
