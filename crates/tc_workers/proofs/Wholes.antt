@@ -21,6 +21,7 @@ whole x o h v c of end =
     let law : Lawful x o.fuel o.limit end.history (map bare c.packages) (map kept c.locks) = subst (λ (z : Shown × ℕ × ℕ). Lawful z.0 z.1 z.2 end.history (map bare c.packages) (map kept c.locks)) (λ i. (of.image i, of.fuel i, of.limit i)) end.law in record {
       history = end.history;
       law = law;
+      strict = end.strict;
       complete = λ t lt. let l = law.all_packages in let m = length-map c.packages bare in let at = at_place c.packages t (omega arith) in
           sym (ap (λ (d : Thread). is_running d.status) (law.packages_after t (bare at.0) (at_map bare c.packages t at.0 at.1)).follows.thread) ∙ (end.ended t at.0 at.1).0;
       workers = λ i d lt. let b = end.workers i (get_or end.history i d) (at_itself end.history i d lt) in let w = of.workers in omega arith;
