@@ -18,6 +18,8 @@ use Rattle.tc_hall.specs.declared.board.Terms.{Terms}
 use Rattle.tc_hall.specs.declared.board.Cargo.{Cargo}
 use Rattle.tc_hall.specs.declared.board.Cargo.TheVariants.{Package, Lock}
 use Rattle.tc_hall.specs.Rule.{locked_in, threads, locks, IsLockHome, LiesLock, Spot, home, inside, out, KeptHall}
+use Rattle.tc_hall.specs.Order.{IsOrdered}
+use Rattle.tc_hall.proofs.Ordering.{kept_of}
 use Rattle.tc_hall.specs.Steps.{HasSeenAll, HasAll, IsFree, IsEnd, IsPackage, IsLock}
 use Rattle.tc_hall.specs.Made.{AreTaken, IsEmptied}
 use Rattle.tc_hall.proofs.Telling.{snoc_at}
@@ -51,12 +53,12 @@ pub full_emptied : (all : ℕ) (filled : List Bool) → Filled filled 0 all → 
 full_emptied all filled f = record { empty = λ t b. absurd (omega arith); full = λ t a b. f t a b }
 
 -- all is in the slots: each thread was seen done, every other pass was joined, and the last has nothing out
-module _ (k : Terms) (id : ℕ) (v : Knows) (ws : List ℕ) (xs : List (Option Cargo)) (final : Final (Seen (KeptHall k) id v) ws xs) (live : v.spent ≡ false) (seen : HasSeenAll (threads k) v) (all : HasAll k.workers v) (free : IsFree v) where
+module _ (k : Terms) (id : ℕ) (v : Knows) (ws : List ℕ) (xs : List (Option Cargo)) (final : Final (Seen (IsOrdered k) id v) ws xs) (live : v.spent ≡ false) (seen : HasSeenAll (threads k) v) (all : HasAll k.workers v) (free : IsFree v) where
   abbrev s : State (Option Cargo) Knows
   s = final.0
 
   rule : KeptHall k s
-  rule = final.1.0
+  rule = kept_of k s final.1.0
 
   record InSlot (t : ℕ) (p : PackageView) : Type 0 where
     pub context : PackageView

@@ -9,6 +9,8 @@ pub mod Sealing
 pub mod Taking
 pub mod Making
 pub mod Opening
+pub mod Ordering
+pub mod Stepping
 pub mod Ended
 pub mod Holding
 pub mod Putting
@@ -22,3 +24,4 @@ pub mod Tying
 pub mod Alike
 pub mod Through
 pub mod Committing
+pub mod Lifting

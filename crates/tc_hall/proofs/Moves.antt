@@ -170,34 +170,31 @@ module _ (k : Terms) where
             (set_here v.misfits t (not (fits_of q v.worker)) (let n = (r.passes id v at).sized live in omega (arith, n, below))) ∙ ap (λ (z : Bool). some (not z)) e;
       }
 
-  abbrev pub Claims : ℕ → ℕ → ℕ → ℕ → ℕ → Knows → List (ℕ × Option Cargo) → Type 0
-  Claims slots id t code new v c = Allows (KeptHall k) slots id (v, c) (t + 2) (λ x. either (x == code) new x) (claimed (step slots (t + 2) code new none) (v, c))
+  -- the package in the slot of a thread, as the rule has it there
+  pub record AtHome (s : St) (r : KeptHall k s) (t : ℕ) (q : PackageView) : Type 0 where
+    pub stands : PackageView
+    pub placed : get_elem? r.told.places t ≡ some stands
+    pub holder : r.placed.holder t ≡ none
+    pub home : IsHome s.words s.homes t stands
+    pub same : home.context ≡ q
+    pub thread : home.context.context.thread ≡ t
 
-  pub claims : (slots id t code new : ℕ) (v : Knows) (c : List (ℕ × Option Cargo)) → c ≡ [] → code < 512 → code ≢ 2 → new ≡ 512 + v.worker → t < threads k → v.spent ≡ false → v.hand ≡ None → Claims slots id t code new v c
-  claims slots id t code new v c empty low not_two new_is below live free = subst (Claims slots id t code new v) (sym empty) (λ s r deep at small.
-      let found : ℕ = slice_index s.words (t + 2) in
-      let place = at_place r.told.places t (omega (arith, r.told.law.all_packages)) in
-      let F : ℕ → Type 0 = λ x. (w : Knows) × (a : Act (Option Cargo)) × Valid s.homes [] a × KeptHall k (stepped s (t + 2) x id [] w a) × claimed (step slots (t + 2) code new none) (v, []) found (w, carried_after [] a) in
-      exchanged found code new F
-      (λ hit. let lies = home_of s.words s.homes s.views t place.0 (r.placed.holder t) (r.placed.each t place.0 place.1) (omega arith) in
-      let h = lies.1 in
-      let after : IsPackageAfter k.image.value k.fuel r.told.history t place.0 = r.told.law.packages_after t place.0 place.1 in
-      let thread : h.context.context.thread ≡ t = ap (λ (z : PackageView). z.context.thread) h.same ∙ after.follows.number in (
-        taken v t h.context,
-        takes t (Some (Package h.context)),
-        h.slot,
-        takes_home s r id t new v place.0 h at live free below new_is (λ e. not_two (sym hit ∙ e)) place.1 lies.0 thread,
-        (
-          (λ _ u e. subst (λ (z : ℕ × ℕ). Got z.1 z.0 (v, []) (taken v t h.context, (t, Some (Package h.context)) ∷ [])) (λ i. ((let x : t ≡ u = omega arith in x) i, hit i)) (
-            h.context,
-            after_claim v h.context,
-            gets s r id t v place.0 h at live below place.1 lies.0 thread,
-            refl,
-          )),
-          (λ miss. absurd (miss hit)),
-        ),
-      ))
-      (λ miss. (after_miss v (t + 2) found, keeps, tt, misses s (t + 2) id v at live r, ((λ hit _ _. absurd (miss hit)), (λ _. refl)))))
+  pub at_home_of : (s : St) (r : KeptHall k s) (t : ℕ) (q : PackageView) → t < threads k → slice_index s.words (t + 2) < 512 → get_elem? s.homes t ≡ some (some (Some (Package q))) → AtHome s r t q
+  at_home_of s r t q below low slot =
+      let place = at_place r.told.places t (omega (arith, r.told.law.all_packages, below)) in
+      let lies = home_of s.words s.homes s.views t place.0 (r.placed.holder t) (r.placed.each t place.0 place.1) low in
+      let law : IsPackageAfter k.image.value k.fuel r.told.history t place.0 = r.told.law.packages_after t place.0 place.1 in
+      record {
+        stands = place.0;
+        placed = place.1;
+        holder = lies.0;
+        home = lies.1;
+        same = same_in_slot (get_elem? s.homes t) lies.1.context q lies.1.slot slot;
+        thread = ap (λ (z : PackageView). z.context.thread) lies.1.same ∙ law.follows.number;
+      }
+    where
+      same_in_slot : (x : maybe.Option (maybe.Option (Option Cargo))) (a b : PackageView) → x ≡ some (some (Some (Package a))) → x ≡ some (some (Some (Package b))) → a ≡ b
+      same_in_slot x a b e f = cc (e, f)
 
   full_still : (hs : Homes) (t : ℕ) (a b : maybe.Option (Option Cargo)) → get_elem? hs t ≡ some a → ((q : PackageView) → a ≢ some (Some (Package q))) → (u : ℕ) (q : PackageView) → get_elem? hs u ≡ some (some (Some (Package q))) → get_elem? (set hs t b) u ≡ some (some (Some (Package q)))
   full_still hs t a b at none' u q e = dite (ℕ_discrete u t)
@@ -259,32 +256,20 @@ module _ (k : Terms) where
       here : {c : maybe.Option (Option Cargo)} → b ≡ c → get_elem? (set s.homes t b) t ≡ some c
       here e = set_here s.homes t b (there s.homes t a a slot).0 ∙ ap (λ (z : maybe.Option (Option Cargo)). some z) e
 
-  abbrev pub Lays : ℕ → ℕ → Knows → List (ℕ × Option Cargo) → Type 0
-  Lays slots id v c = Allows (KeptHall k) slots id (v, c) 0 (λ n. n) (laid (step slots 0 0 0 none) (v, c))
-
   -- the empty slot of a package goes back
-  pub lays : (slots id t : ℕ) (v : Knows) (p : PackageView) (c : List (ℕ × Option Cargo)) → c ≡ (t, None) ∷ [] → v.hand ≡ Some t → v.spent ≡ false → Has v t p → Lays slots id v c
-  lays slots id t v p c one hand live has = subst (Lays slots id v) (sym one) (λ s r deep at small.
+  pub lay_kept : (s : St) (r : KeptHall k s) (id t : ℕ) (v : Knows) (p : PackageView) → get_elem? s.views id ≡ some v → v.spent ≡ false → v.hand ≡ Some t → Has v t p
+      → KeptHall k (stepped s 0 (slice_index s.words 0) id ((t, None) ∷ []) (record v { hand = None }) gives)
+  lay_kept s r id t v p at live hand has =
       let w : Knows = record v { hand = None } in
       let o = is_out s r id t v p at has in
-      let kept' : KeptHall k record { words = s.words; homes = set s.homes t (some None); views = set s.views id w } =
-      slot_moves s r id t v w p none (some None) at live has (o.5 hand) no_home no_package (inr (refl, hand, refl)) refl in
-      (w, gives, tt, subst (λ (z : List ℕ). KeptHall k record { words = z; homes = set s.homes t (some None); views = set s.views id w }) (sym (set-get_or s.words 0 0)) kept', refl))
-
-  abbrev pub Reaches : ℕ → ℕ → ℕ → Knows → List (ℕ × Option Cargo) → Type 0
-  Reaches slots id t v c = Allows (KeptHall k) slots id (v, c) (t + 2) (λ n. n) (reached (step slots (t + 2) 0 0 none) (v, c))
+      subst (λ (z : List ℕ). KeptHall k record { words = z; homes = set s.homes t (some None); views = set s.views id w }) (sym (set-get_or s.words 0 0))
+      (slot_moves s r id t v w p none (some None) at live has (o.5 hand) no_home no_package (inr (refl, hand, refl)) refl)
 
   -- the pass takes the empty slot of a package that it has out
-  pub reaches : (slots id t : ℕ) (v : Knows) (p : PackageView) (c : List (ℕ × Option Cargo)) → c ≡ [] → v.hand ≡ None → v.spent ≡ false → Has v t p → Reaches slots id t v c
-  reaches slots id t v p c empty free live has = subst (Reaches slots id t v) (sym empty) (λ s r deep at small.
+  pub reach_kept : (s : St) (r : KeptHall k s) (id t : ℕ) (v : Knows) (p : PackageView) → get_elem? s.views id ≡ some v → v.spent ≡ false → v.hand ≡ None → Has v t p
+      → KeptHall k (stepped s (t + 2) (slice_index s.words (t + 2)) id [] (record v { hand = Some t }) (takes t None))
+  reach_kept s r id t v p at live free has =
       let w : Knows = record v { hand = Some t } in
       let o = is_out s r id t v p at has in
-      let slot = o.4 (λ e. clash v.hand t free e) in
-      let kept' : KeptHall k record { words = s.words; homes = set s.homes t none; views = set s.views id w } =
-      slot_moves s r id t v w p (some None) none at live has slot no_package no_home (inl (refl, free, refl)) refl in (
-        w,
-        takes t None,
-        slot,
-        subst (λ (z : List ℕ). KeptHall k record { words = z; homes = set s.homes t none; views = set s.views id w }) (sym (set-get_or s.words (t + 2) 0)) kept',
-        (λ u e. ap (λ (z : ℕ). (record v { hand = Some z }, (z, None) ∷ [])) (let x : t ≡ u = omega arith in x)),
-      ))
+      subst (λ (z : List ℕ). KeptHall k record { words = z; homes = set s.homes t none; views = set s.views id w }) (sym (set-get_or s.words (t + 2) 0))
+      (slot_moves s r id t v w p (some None) none at live has (o.4 (λ e. clash v.hand t free e)) no_package no_home (inl (refl, free, refl)) refl)

@@ -156,7 +156,7 @@ module _ (k : Terms) (s : St k) (r : KeptHall k s) (id : ℕ) (v : Knows) (q : P
   place_here : get_elem? (set r.told.places t (bare now)) t ≡ some (bare now)
   place_here = set_here r.told.places t (bare now) (let below = o.0 in omega (arith, r.told.law.all_packages, below))
 
-  did_seal : DidSeal q stamp v w
+  pub did_seal : DidSeal q stamp v w
   did_seal = record {
     block = a.ran.block;
     pending = a.ran.pending;
@@ -174,15 +174,3 @@ module _ (k : Terms) (s : St k) (r : KeptHall k s) (id : ℕ) (v : Knows) (q : P
         let blocks = blocks_are k.image.value k.fuel k.limit (h ++ b ∷ []) (end_after k.image.value k.fuel (h ++ b ∷ [])) j (kept l) (law.states_after j (kept l) there').follows in
         let f = filter_has (λ (x : Block). has x.held j) (h ++ b ∷ []) i c (ap (λ (x : List Block). get_elem? x i) (sym blocks) ∙ e) in lower f.0 c f.1);
   }
-
-abbrev pub SealsAll : Terms → ℕ → ℕ → Knows → Option PackageView → List (ℕ × Option Cargo) → Type 0
-SealsAll k slots id v o c = Allows (KeptHall k) slots id (v, c) 0 (λ n. (n + 1) % 2 ^ 64) (steps.sealed_as o (step slots 0 1 0 none) (v, c))
-
-pub seals : (k : Terms) (slots id : ℕ) (v : Knows) (q : PackageView) (c : List (ℕ × Option Cargo)) → c ≡ [] → v.spent ≡ false → Seals v q → SealsAll k slots id v (Some q) c
-seals k slots id v q c empty live a = subst (SealsAll k slots id v (Some q)) (sym empty) (λ s r deep at small. (
-  after_commit v (sealed_block (slice_index s.words 0) v.worker a.ran.block) (with_seal (slice_index s.words 0) v.worker q),
-  keeps,
-  tt,
-  seals_kept k s r id v q a live at,
-  (λ p is. (let same : q ≡ p = cc is in subst (λ z. DidSeal z (slice_index s.words 0) v (after_commit v (sealed_block (slice_index s.words 0) v.worker a.ran.block) (with_seal (slice_index s.words 0) v.worker q))) same (did_seal k s r id v q a live at), refl)),
-))

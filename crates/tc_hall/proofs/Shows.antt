@@ -343,17 +343,21 @@ pub record HadOut (vs vs' : List Knows) : Type 0 where
   pub packages : (j u : ℕ) (x : Knows) (p : PackageView) → get_elem? vs' j ≡ some x → Has x u p → (i : ℕ) × (z : Knows) × (get_elem? vs i ≡ some z) × Has z u p
   pub locks : (j e : ℕ) (x : Knows) (l : LockView) → get_elem? vs' j ≡ some x → HasLock x e l → (i : ℕ) × (z : Knows) × (get_elem? vs i ≡ some z) × HasLock z e l × (z.worker ≡ x.worker)
 
-module _ (k : Terms) (ws ws' : List ℕ) (hs : Homes) (vs vs' : List Knows) (words : (u : ℕ) → slice_index ws' (u + 2) ≡ slice_index ws (u + 2)) (had : HadOut vs vs') (o : Outline) (was : IsShown k record { words = ws; homes = hs; views = vs } o) where
-  still_thread : (u : ℕ) (p : PackageView) → u < threads k → PackageAt record { words = ws'; homes = hs; views = vs' } u p → ShowsThread o u p
-  still_thread u p b (in_slot h) = was.thread u p b (in_slot h)
+-- what lies in a slot afterwards lay there before
+abbrev pub Empties : Homes → Homes → Type 0
+Empties hs hs' = (u : ℕ) (x : Cargo) → get_elem? hs' u ≡ some (some (Some x)) → get_elem? hs u ≡ some (some (Some x))
+
+module _ (k : Terms) (ws ws' : List ℕ) (hs hs' : Homes) (vs vs' : List Knows) (words : (u : ℕ) → slice_index ws' (u + 2) ≡ slice_index ws (u + 2)) (lay : Empties hs hs') (had : HadOut vs vs') (o : Outline) (was : IsShown k record { words = ws; homes = hs; views = vs } o) where
+  still_thread : (u : ℕ) (p : PackageView) → u < threads k → PackageAt record { words = ws'; homes = hs'; views = vs' } u p → ShowsThread o u p
+  still_thread u p b (in_slot h) = was.thread u p b (in_slot (lay u (Package p) h))
   still_thread u p b (with_pass j x h has) = let z = had.packages j u x p h has in was.thread u p b (with_pass z.0 z.1 z.2 z.3)
 
-  still_lock : (i : ℕ) (l : LockView) (y : Lying) → i < locks k → LockAt k record { words = ws'; homes = hs; views = vs' } i l y → ShowsLock o i l y
-  still_lock i l y b (lock_in_slot h is) = was.lock i l y b (lock_in_slot h is)
-  still_lock i l y b (lock_in_package u p bu h has is) = was.lock i l y b (lock_in_package u p bu h has is)
+  still_lock : (i : ℕ) (l : LockView) (y : Lying) → i < locks k → LockAt k record { words = ws'; homes = hs'; views = vs' } i l y → ShowsLock o i l y
+  still_lock i l y b (lock_in_slot h is) = was.lock i l y b (lock_in_slot (lay (threads k + i) (Lock l) h) is)
+  still_lock i l y b (lock_in_package u p bu h has is) = was.lock i l y b (lock_in_package u p bu (lay u (Package p) h) has is)
   still_lock i l y b (lock_with_pass j x h has is) = let z = had.locks j i x l h has in was.lock i l y b (lock_with_pass z.0 z.1 z.2 z.3 (is ∙ ap (λ (c : ℕ). in_hand c) (sym z.4)))
 
-  pub still_shown : IsShown k record { words = ws'; homes = hs; views = vs' } o
+  pub still_shown : IsShown k record { words = ws'; homes = hs'; views = vs' } o
   still_shown = record { place = λ u b. was.place u b ∙ ap place_shown (sym (words u)); thread = still_thread; lock = still_lock }
 
 -- one view changes, but has the same out

@@ -44,7 +44,7 @@ no_lock_there : (l : LockView) (x : maybe.Option (Option LockView)) → x ≡ so
 no_lock_there l x a b = cc (a, b)
 
 -- what a list has, its filter has
-filter_finds : {A : Type 0} (f : A → Bool) (h : List A) (i : ℕ) (b : A) → get_elem? h i ≡ some b → f b ≡ true → (j : ℕ) × (get_elem? (filter f h) j ≡ some b)
+pub filter_finds : {A : Type 0} (f : A → Bool) (h : List A) (i : ℕ) (b : A) → get_elem? h i ≡ some b → f b ≡ true → (j : ℕ) × (get_elem? (filter f h) j ≡ some b)
 filter_finds f [] i b e is = absurd (some-ne-none b (sym e))
 filter_finds {A} f (c ∷ cs) zero b e is =
     let same : c ≡ b = some-injective c b e in
@@ -119,9 +119,6 @@ module _ (k : Terms) where
         apart = apart_stays s.views id v w at record { worker = worker; maker = maker; made = made'; spent = e.spent; joined = joined } live r.apart;
       }
 
-  abbrev pub TakesAll : ℕ → ℕ → Option ℕ → ℕ → Knows → List (ℕ × Option Cargo) → Type 0
-  TakesAll slots id o word v c = Allows (KeptHall k) slots id (v, c) word (λ x. either (x == 0) 1 x) (took_as o (step slots word 0 1 none) (v, c))
-
   -- the state of a lock that is home is taken
   pub take_kept : (s : St k) (r : KeptHall k s) (id i : ℕ) (v : Knows) (p : LockView) (h : IsLockHome (threads k) s.words s.homes i p) → get_elem? s.views id ≡ some v → v.spent ≡ false → v.hand ≡ None → i < locks k → slice_index s.words (threads k + 2 + i) ≡ 0
       → r.locks_placed.spot i ≡ home → get_elem? r.told.segments i ≡ some p → h.segment.number ≡ i
@@ -145,64 +142,6 @@ module _ (k : Terms) where
         held = λ _. set_here s.homes (n + i) none (omega (arith, r.slots));
       })
       (λ l' has. (refl, segment ∙ ap (λ (z : LockView). some z) (sym h.same ∙ same_lock (get_elem? w.locks i) (kept l) l' here has)))
-
-  pub takes_lock : (slots id i : ℕ) (v : Knows) (c : List (ℕ × Option Cargo)) → c ≡ [] → i < locks k → v.spent ≡ false → v.hand ≡ None → TakesAll slots id (Some i) (threads k + i + 2) v c
-  takes_lock slots id i v c empty below live free = subst (λ (z : List (ℕ × Option Cargo) × ℕ). TakesAll slots id (Some i) z.1 v z.0) (λ y. (sym empty y, (let x : threads k + 2 + i ≡ threads k + i + 2 = omega arith in x) y)) (λ s r deep at small.
-      let n : ℕ = threads k in
-      let j : ℕ = n + 2 + i in
-      let found : ℕ = slice_index s.words j in
-      let place = at_place r.told.segments i (omega (arith, r.told.law.all_states)) in
-      let F : ℕ → Type 0 = λ x. (w : Knows) × (a : Act (Option Cargo)) × Valid s.homes [] a × KeptHall k (stepped s j x id [] w a) × took_as (Some i) (step slots j 0 1 none) (v, []) found (w, carried_after [] a) in
-      exchanged found 0 1 F
-      (λ hit. let lies = lock_home_of n s.words s.homes s.views i place.0 (r.locks_placed.spot i) (r.locks_placed.each i place.0 place.1) hit in
-      let h = lies.1 in
-      let l : LockView = h.segment in
-      let after : IsStateAfter k.image.value k.fuel k.limit r.told.history i place.0 = r.told.law.states_after i place.0 place.1 in
-      let number : l.number ≡ i = ap (λ (z : LockView). z.number) h.same ∙ after.follows.number in
-      let taken : Knows = after_take v l in
-      let w : Knows = record taken { hand = Some (n + i) } in
-      let wide : length v.locks ≡ locks k = r.locks_placed.sized id v at live in
-      let here : HasLock taken i (kept l) = subst (λ (z : ℕ). get_elem? (set v.locks z (Some (kept l))) i ≡ some (Some (kept l))) (sym number) (set_here v.locks i (Some (kept l)) (omega arith)) in (
-        w,
-        takes (n + i) (Some (Lock l)),
-        h.slot,
-        take_kept s r id i v place.0 h at live free below hit lies.0 place.1 number,
-        (
-          (λ _ u slot same e. subst (λ (z : ℕ × ℕ). Took z.0 z.1 (v, []) (w, (n + i, Some (Lock l)) ∷ [])) (λ y. (sym (some_same u i same) y, (let x : n + i ≡ slot = omega arith in x) y)) (
-            l,
-            taken,
-            record {
-              now = refl;
-              has = here;
-              others = (
-                (λ u p has. has),
-                (λ e x has. set_else v.locks l.number e (Some (kept l)) (λ (z : e ≡ l.number). home_out (r.locks_placed.spot i) id lies.0 (ap r.locks_placed.spot (sym (z ∙ number)) ∙ (r.locks_placed.owned id v e x at has).0)) ∙ has),
-              );
-              rest = record {
-                number = number;
-                of = ap (λ (z : LockView). z.journal.image) h.same ∙ (after.follows.of ∙ sym ((r.passes id v at).of live));
-                opened = ap (λ (z : LockView). z.journal.opened) h.same ∙ after.opened;
-                closed = ap (λ (z : LockView). z.journal.closed) h.same ∙ after.closed;
-                ended = h.rests;
-              };
-              sealed = λ e b is held. (let f = filter_finds (λ (z : Block). has z.held i) r.told.history b.stamp b ((r.passes id v at).sealed e b is) held in
-                  let blocks = blocks_are k.image.value k.fuel k.limit r.told.history (end_after k.image.value k.fuel r.told.history) i place.0 after.follows in
-                  (f.0, ap (λ (z : LockView). get_elem? (blocks_of z) f.0) h.same ∙ (ap (λ (z : List Block). get_elem? z f.0) blocks ∙ f.1)));
-              came = lock_came v l (subst (λ (z : ℕ). HasLock taken z (kept l)) (sym number) here) (λ x has. home_out (r.locks_placed.spot l.number) id (ap r.locks_placed.spot number ∙ lies.0) (r.locks_placed.owned id v l.number x at has).0);
-              called = no_call_taken v l;
-            },
-            refl,
-          )),
-          (λ miss. absurd (miss hit)),
-        ),
-      ))
-      (λ miss. (after_miss v j found, keeps, tt, misses k s j id v at live r, ((λ hit _ _ _ _. absurd (miss hit)), (λ _. refl)))))
-    where
-      home_out : (s : Spot) (j : ℕ) → s ≡ home → s ≡ out j → ⊥
-      home_out s j a b = cc (a, b)
-
-  abbrev pub FreesAll : ℕ → ℕ → ℕ → Knows → List (ℕ × Option Cargo) → Type 0
-  FreesAll slots id word v c = Allows (KeptHall k) slots id (v, c) word (λ _. 0) (λ _. did_free (step slots word 0 0 none) (v, c) 0)
 
   -- the filled slot of a lock goes home
   pub free_kept : (s : St k) (r : KeptHall k s) (id : ℕ) (v : Knows) (l : LockView) → get_elem? s.views id ≡ some v → v.hand ≡ Some (threads k + l.number) → v.spent ≡ false → MayFree v l
@@ -228,30 +167,6 @@ module _ (k : Terms) where
         rests = may.rests;
       })
       (λ l' has. absurd (no_lock_there l' (get_elem? w.locks i) here has))
-
-  -- so the step that fills it is allowed
-  pub frees : (slots id : ℕ) (v : Knows) (l : LockView) (c : List (ℕ × Option Cargo)) → c ≡ (threads k + l.number, Some (Lock l)) ∷ [] → v.hand ≡ Some (threads k + l.number) → v.spent ≡ false → MayFree v l
-      → FreesAll slots id (threads k + l.number + 2) v c
-  frees slots id v l c one hand live may = subst (λ (z : List (ℕ × Option Cargo) × ℕ). FreesAll slots id z.1 v z.0) (λ y. (sym one y, (let x : threads k + 2 + l.number ≡ threads k + l.number + 2 = omega arith in x) y)) (λ s r deep at small. (
-    record (after_free v l) { hand = None },
-    gives,
-    tt,
-    free_kept s r id v l at hand live may,
-    (λ slot x e. let same : l ≡ x = lock_is (threads k + l.number) slot l x e in ap (freed v) same),
-  ))
-    where
-      first : List (ℕ × Option Cargo) → Option Cargo
-      first [] = None
-      first (x ∷ xs) = x.1
-
-      one_of : ℕ → LockView → List (ℕ × Option Cargo)
-      one_of t a = (t, Some (Lock a)) ∷ []
-
-      lock_is : (t u : ℕ) (a b : LockView) → one_of t a ≡ one_of u b → a ≡ b
-      lock_is t u a b e = let f : Some (Lock a) ≡ Some (Lock b) = ap first e in cc f
-
-      freed : Knows → LockView → Sat
-      freed v l = (record (after_free v l) { hand = None }, [])
 
   -- the pass takes the empty slot of a lock that it has out, or gives it back
   lock_slot_moves : (s : St k) (r : KeptHall k s) (id i : ℕ) (v w : Knows) (l : LockView) (b : maybe.Option (Option Cargo)) → get_elem? s.views id ≡ some v → v.spent ≡ false → HasLock v i l
@@ -287,27 +202,19 @@ module _ (k : Terms) where
       here : {c : maybe.Option (Option Cargo)} → b ≡ c → i < locks k → get_elem? (set s.homes (threads k + i) b) (threads k + i) ≡ some c
       here e h = set_here s.homes (threads k + i) b (omega (arith, r.slots)) ∙ ap (λ (z : maybe.Option (Option Cargo)). some z) e
 
-  abbrev pub LaysLock : ℕ → ℕ → Knows → List (ℕ × Option Cargo) → Type 0
-  LaysLock slots id v c = Allows (KeptHall k) slots id (v, c) 0 (λ n. n) (laid (step slots 0 0 0 none) (v, c))
-
-  pub lays_lock : (slots id i : ℕ) (v : Knows) (l : LockView) (c : List (ℕ × Option Cargo)) → c ≡ (threads k + i, None) ∷ [] → v.hand ≡ Some (threads k + i) → v.spent ≡ false → HasLock v i l → LaysLock slots id v c
-  lays_lock slots id i v l c one hand live has = subst (LaysLock slots id v) (sym one) (λ s r deep at small.
+  -- the empty slot of a lock goes back
+  pub lay_lock_kept : (s : St k) (r : KeptHall k s) (id i : ℕ) (v : Knows) (l : LockView) → get_elem? s.views id ≡ some v → v.spent ≡ false → v.hand ≡ Some (threads k + i) → HasLock v i l
+      → KeptHall k (stepped s 0 (slice_index s.words 0) id ((threads k + i, None) ∷ []) (record v { hand = None }) gives)
+  lay_lock_kept s r id i v l at live hand has =
       let w : Knows = record v { hand = None } in
-      let kept' : KeptHall k record { words = s.words; homes = set s.homes (threads k + i) (some None); views = set s.views id w } = lock_slot_moves s r id i v w l (some None) at live has (inr (refl, hand, refl)) refl in
-      (w, gives, tt, subst (λ (z : List ℕ). KeptHall k record { words = z; homes = set s.homes (threads k + i) (some None); views = set s.views id w }) (sym (set-get_or s.words 0 0)) kept', refl))
+      subst (λ (z : List ℕ). KeptHall k record { words = z; homes = set s.homes (threads k + i) (some None); views = set s.views id w }) (sym (set-get_or s.words 0 0))
+      (lock_slot_moves s r id i v w l (some None) at live has (inr (refl, hand, refl)) refl)
 
-  abbrev pub ReachesLock : ℕ → ℕ → ℕ → Knows → List (ℕ × Option Cargo) → Type 0
-  ReachesLock slots id word v c = Allows (KeptHall k) slots id (v, c) word (λ n. n) (reached (step slots word 0 0 none) (v, c))
-
-  pub reaches_lock : (slots id i : ℕ) (v : Knows) (l : LockView) (c : List (ℕ × Option Cargo)) → c ≡ [] → v.hand ≡ None → v.spent ≡ false → HasLock v i l → ReachesLock slots id (threads k + i + 2) v c
-  reaches_lock slots id i v l c empty free live has = subst (ReachesLock slots id (threads k + i + 2) v) (sym empty) (λ s r deep at small.
+  -- the pass takes the empty slot of a lock that it has out
+  pub reach_lock_kept : (s : St k) (r : KeptHall k s) (id i : ℕ) (v : Knows) (l : LockView) → get_elem? s.views id ≡ some v → v.spent ≡ false → v.hand ≡ None → HasLock v i l
+      → KeptHall k (stepped s (threads k + i + 2) (slice_index s.words (threads k + i + 2)) id [] (record v { hand = Some (threads k + i) }) (takes (threads k + i) None))
+  reach_lock_kept s r id i v l at live free has =
       let slot : ℕ = threads k + i in
       let w : Knows = record v { hand = Some slot } in
-      let o = is_lock_out s r id i v l at has in
-      let kept' : KeptHall k record { words = s.words; homes = set s.homes slot none; views = set s.views id w } = lock_slot_moves s r id i v w l none at live has (inl (refl, free, refl)) refl in (
-        w,
-        takes slot None,
-        o.4 (λ e. clash v.hand slot free e),
-        subst (λ (z : List ℕ). KeptHall k record { words = z; homes = set s.homes slot none; views = set s.views id w }) (sym (set-get_or s.words (slot + 2) 0)) kept',
-        (λ u e. ap (λ (z : ℕ). (record v { hand = Some z }, (z, None) ∷ [])) (let x : slot ≡ u = omega arith in x)),
-      ))
+      subst (λ (z : List ℕ). KeptHall k record { words = z; homes = set s.homes slot none; views = set s.views id w }) (sym (set-get_or s.words (slot + 2) 0))
+      (lock_slot_moves s r id i v w l none at live has (inl (refl, free, refl)) refl)

@@ -54,7 +54,7 @@ code_low m Parked r h = omega arith
 code_low m Done r h = omega arith
 code_low m (Waiting lock) r h = omega arith
 
-abbrev filled : Knows → Place → PackageView → Sat
+abbrev pub filled : Knows → Place → PackageView → Sat
 filled v place q = (record (after_put v q place) { hand = None }, [])
 
 put_true : (ws : List ℕ) (t : ℕ) (p : Place) (ls : List ℕ) (g : Option Given) → IsTrueCall ws (Put t p ls g)
@@ -89,12 +89,6 @@ fits_all q w u a e = go q.granted a e
         within (Some l) e = sym (any_worker g.lock l.journal.limit (blocks_of l) g.kind w u a) ∙ e
 
 module _ (k : Terms) where
-  abbrev pub FillsAs : Option Terms → ℕ → ℕ → ℕ → ℕ → Knows → List (ℕ × Option Cargo) → Type 0
-  FillsAs o slots id t code v c = Allows (KeptHall k) slots id (v, c) (t + 2) (λ _. code) (λ _. put_as o (step slots (t + 2) code 0 none) (v, c) code)
-
-  abbrev pub Fills : ℕ → ℕ → ℕ → ℕ → Knows → List (ℕ × Option Cargo) → Type 0
-  Fills = FillsAs (Some k)
-
   shows_stop : (s : St k) (r : KeptHall k s) (id : ℕ) (v : Knows) → get_elem? s.views id ≡ some v → HasStop v → slice_index s.words 1 ≡ 1
   shows_stop s r id v at (made i e) = (r.passes id v at).stop i e
   shows_stop s r id v at (seen i e) = (r.passes id v at).stopped i e
@@ -144,7 +138,7 @@ module _ (k : Terms) where
       }
 
   -- the package is as the history leaves it
-  as_left : (s : St k) (r : KeptHall k s) (id : ℕ) (place : Place) (v : Knows) (q : PackageView) → get_elem? s.views id ≡ some v → MayPut place v q → IsAsLeft k v q
+  pub as_left : (s : St k) (r : KeptHall k s) (id : ℕ) (place : Place) (v : Knows) (q : PackageView) → get_elem? s.views id ≡ some v → MayPut place v q → IsAsLeft k v q
   as_left s r id place v q at may =
       let t = (r.told.law.packages_after q.context.thread (bare q) (is_out k s r id q.context.thread v (bare q) at may.has).2).follows in record {
         history = r.told.history;
@@ -157,33 +151,6 @@ module _ (k : Terms) where
         };
         sealed = (r.passes id v at).sealed;
       }
-
-  -- so the step that fills it is allowed
-  pub fills : (slots id : ℕ) (place : Place) (v : Knows) (q : PackageView) (c : List (ℕ × Option Cargo)) → c ≡ (q.context.thread, Some (Package q)) ∷ [] → v.hand ≡ Some q.context.thread → v.spent ≡ false → IsInRange (locks k) place → MayPut place v q
-      → Fills slots id q.context.thread (code_of place) v c
-  fills slots id place v q c one hand live range may = subst (Fills slots id q.context.thread (code_of place) v) (sym one) (λ s r deep at small. (
-    record (after_put v q (place_of (code_of place))) { hand = None },
-    gives,
-    tt,
-    fills_kept s r id place v q at hand live range may,
-    (λ u x e. let same : q ≡ x = package_is q.context.thread u q x e in (
-      ap (filled v (place_of (code_of place))) same,
-      (λ j is. subst (λ (z : Terms × PackageView). IsAsLeft z.0 v z.1) (λ i. (terms_are k j is i, same i)) (as_left s r id place v q at may)),
-    )),
-  ))
-    where
-      terms_are : (a b : Terms) → Some a ≡ Some b → a ≡ b
-      terms_are a b e = cc e
-
-      first : List (ℕ × Option Cargo) → Option Cargo
-      first [] = None
-      first (x ∷ xs) = x.1
-
-      one_of : ℕ → PackageView → List (ℕ × Option Cargo)
-      one_of t a = (t, Some (Package a)) ∷ []
-
-      package_is : (t u : ℕ) (a b : PackageView) → one_of t a ≡ one_of u b → a ≡ b
-      package_is t u a b e = let f : Some (Package a) ≡ Some (Package b) = ap first e in cc f
 
   -- a call is told, and at most the stop becomes 1
   tells_kept : (s : St k) (r : KeptHall k s) (ws' : List ℕ) (id : ℕ) (v : Knows) (c : Call) → get_elem? s.views id ≡ some v → v.spent ≡ false → IsTrueCall ws' c
@@ -210,9 +177,6 @@ module _ (k : Terms) where
   still_stopped : (s : St k) (r : KeptHall k s) (id : ℕ) (v : Knows) (c : Call) → get_elem? s.views id ≡ some v → slice_index s.words 1 ≡ 1 → HasStopped (set s.views id (with_call v c))
   still_stopped s r id v c at e = stop_stays s.views id v (with_call v c) at (λ i h. (i, at_longer v.calls (c ∷ []) i Stop h)) (r.stop e)
 
-  abbrev pub Looks : ℕ → ℕ → ℕ → Knows → List (ℕ × Option Cargo) → Type 0
-  Looks slots id t v c = Allows (KeptHall k) slots id (v, c) (t + 2) (λ n. n) (looked (step slots (t + 2) 0 0 none) (v, c))
-
   -- a word is looked at
   pub look_kept : (s : St k) (r : KeptHall k s) (id t : ℕ) (v : Knows) → get_elem? s.views id ≡ some v → v.spent ≡ false
       → KeptHall k (stepped s (t + 2) (slice_index s.words (t + 2)) id [] (with_call v (Look t (slice_index s.words (t + 2)))) keeps)
@@ -237,18 +201,6 @@ module _ (k : Terms) where
           no_stopped : (c : Call) → c ≡ Look t found → c ≡ Stopped 1 → ⊥
           no_stopped c a b = cc (a, b)
 
-  pub looks : (slots id t : ℕ) (v : Knows) (c : List (ℕ × Option Cargo)) → c ≡ [] → v.spent ≡ false → Looks slots id t v c
-  looks slots id t v c empty live = subst (Looks slots id t v) (sym empty) (λ s r deep at small. (
-    with_call v (Look t (slice_index s.words (t + 2))),
-    keeps,
-    tt,
-    look_kept s r id t v at live,
-    (λ u e. ap (λ (z : ℕ). (with_call v (Look z (slice_index s.words (t + 2))), [])) (let x : t ≡ u = omega arith in x)),
-  ))
-
-  abbrev pub Stops : ℕ → ℕ → Knows → List (ℕ × Option Cargo) → Type 0
-  Stops slots id v c = Allows (KeptHall k) slots id (v, c) 1 (λ _. 1) (λ _. stopping (step slots 1 1 0 none) (v, c) 1)
-
   -- the stop is made
   pub stop_kept : (s : St k) (r : KeptHall k s) (id : ℕ) (v : Knows) → get_elem? s.views id ≡ some v → v.spent ≡ false → KeptHall k (stepped s 1 1 id [] (with_call v Stop) keeps)
   stop_kept s r id v at live =
@@ -259,12 +211,6 @@ module _ (k : Terms) where
     where
       no_look : (u : ℕ) (c : Call) → c ≡ Stop → c ≡ Look u 2 → ⊥
       no_look u c a b = cc (a, b)
-
-  pub stops : (slots id : ℕ) (v : Knows) (c : List (ℕ × Option Cargo)) → c ≡ [] → v.spent ≡ false → Stops slots id v c
-  stops slots id v c empty live = subst (Stops slots id v) (sym empty) (λ s r deep at small. (with_call v Stop, keeps, tt, stop_kept s r id v at live, refl))
-
-  abbrev pub Sees : ℕ → ℕ → Knows → List (ℕ × Option Cargo) → Type 0
-  Sees slots id v c = Allows (KeptHall k) slots id (v, c) 1 (λ n. n) (saw_stopped (step slots 1 0 0 none) (v, c))
 
   -- the stop word is seen
   pub see_kept : (s : St k) (r : KeptHall k s) (id : ℕ) (v : Knows) → get_elem? s.views id ≡ some v → v.spent ≡ false → KeptHall k (stepped s 1 (slice_index s.words 1) id [] (with_call v (Stopped (slice_index s.words 1))) keeps)
@@ -283,12 +229,3 @@ module _ (k : Terms) where
 
       no_stop : (n : ℕ) (c : Call) → c ≡ Stopped n → c ≡ Stop → ⊥
       no_stop n c a b = cc (a, b)
-
-  pub sees : (slots id : ℕ) (v : Knows) (c : List (ℕ × Option Cargo)) → c ≡ [] → v.spent ≡ false → Sees slots id v c
-  sees slots id v c empty live = subst (Sees slots id v) (sym empty) (λ s r deep at small. (
-    with_call v (Stopped (slice_index s.words 1)),
-    keeps,
-    tt,
-    see_kept s r id v at live,
-    (refl, (λ t e. (r.passes id v at).misfit t e)),
-  ))

@@ -343,7 +343,7 @@ ties_to_none : (k : Terms) (s : Hall) (ws' : List ℕ) (vs' : List Knows) → Ke
 ties_to_none k s ws' vs' kept words had = record {
   kept = kept;
   asks = λ c seen given. tt;
-  shows = λ c seen given enabled. record { between = seen.between; shown = still_shown k s.words ws' s.homes s.views vs' words had (outline c) seen.shown };
+  shows = λ c seen given enabled. record { between = seen.between; shown = still_shown k s.words ws' s.homes s.homes s.views vs' words (λ u x e. e) had (outline c) seen.shown };
 }
 
 pub tell_tie : TellTie

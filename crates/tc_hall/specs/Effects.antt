@@ -60,6 +60,13 @@ stopped_effect v found = record { word = 1; left = found; holds = []; knows = wi
 abbrev pub miss_effect : Knows → ℕ → ℕ → Effect
 miss_effect v word found = record { word = word; left = found; holds = []; knows = after_miss v word found; act = keeps }
 
+-- an empty slot goes into the pass's hand, and back; the word stays
+abbrev pub reach_effect : Knows → ℕ → ℕ → Effect
+reach_effect v slot found = record { word = slot + 2; left = found; holds = []; knows = record v { hand = Some slot }; act = takes slot None }
+
+abbrev pub lay_effect : Knows → ℕ → ℕ → Effect
+lay_effect v slot found = record { word = 0; left = found; holds = (slot, None) ∷ []; knows = record v { hand = None }; act = gives }
+
 -- the pass id makes another, which is the last
 abbrev pub with_new_pass : Hall → ℕ → Knows → Hall
 with_new_pass s id v = record { words = s.words; homes = s.homes; views = slice_set s.views id (dealt v) ++ fresh v ∷ [] }

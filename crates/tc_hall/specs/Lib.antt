@@ -5,6 +5,8 @@ pub mod Outs
 pub mod Steps
 pub mod Made
 pub mod Effects
+pub mod Order
 pub mod Outline
 pub mod Shown
 pub mod Ties
+pub mod Lift

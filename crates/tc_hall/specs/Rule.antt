@@ -32,7 +32,7 @@ locks k = length k.image.value.guards
 -- the pass of a worker with nothing out
 abbrev pub clean : Shown → ℕ → ℕ → ℕ → Bool → Knows
 clean image n m worker maker =
-    record { image = image; worker = worker; maker = maker; made = 0; spent = false; joined = []; packages = replicate n None; misfits = replicate n false; locks = replicate m None; hand = None; sealed = []; calls = []; missed = [] }
+    record { image = image; worker = worker; maker = maker; made = 0; spent = false; joined = []; packages = replicate n None; misfits = replicate n false; locks = replicate m None; hand = None; sealed = []; calls = []; missed = []; claimed = []; taken = [] }
 
 abbrev pub starting : Terms → Knows
 starting k = clean k.image.value (threads k) (locks k) (k.workers - 1) true

@@ -58,7 +58,7 @@ abbrev pub with_package : Knows → PackageView → Knows
 with_package v q = record v { packages = slice_set v.packages q.context.thread (Some (bare q)); locks = add_all v.locks q.context.locks }
 
 abbrev pub after_claim : Knows → PackageView → Knows
-after_claim v q = record (with_package v q) { misfits = slice_set v.misfits q.context.thread (not (fits_of q v.worker)) }
+after_claim v q = record (with_package v q) { misfits = slice_set v.misfits q.context.thread (not (fits_of q v.worker)); claimed = v.claimed ++ q ∷ [] }
 
 -- of `commit`, where the block b was sealed and the package is then q
 abbrev pub after_commit : Knows → Block → PackageView → Knows
@@ -97,7 +97,7 @@ after_put v q place =
 
 -- of `take` and `free`
 abbrev pub after_take : Knows → LockView → Knows
-after_take v l = record v { locks = slice_set v.locks l.number (Some (kept l)) }
+after_take v l = record v { locks = slice_set v.locks l.number (Some (kept l)); taken = v.taken ++ l ∷ [] }
 
 abbrev pub after_free : Knows → LockView → Knows
 after_free v l = record v { locks = slice_set v.locks l.number None; calls = v.calls ++ Free l.number ∷ [] }
@@ -127,11 +127,11 @@ abbrev pub fresh : Knows → Knows
 fresh v = clean v.image (length v.packages) (length v.locks) v.made false
 
 abbrev pub merged : Knows → Knows → Knows
-merged v w = record v { joined = v.joined ++ w.worker ∷ w.joined; sealed = v.sealed ++ w.sealed; calls = v.calls ++ w.calls; missed = v.missed ++ w.missed }
+merged v w = record v { joined = v.joined ++ w.worker ∷ w.joined; sealed = v.sealed ++ w.sealed; calls = v.calls ++ w.calls; missed = v.missed ++ w.missed; claimed = v.claimed ++ w.claimed; taken = v.taken ++ w.taken }
 
 -- a pass that was joined into another
 abbrev pub gone : Knows
-gone = record { image = record { ranges = []; entries = []; guards = [] }; worker = 0; maker = false; made = 0; spent = true; joined = []; packages = []; misfits = []; locks = []; hand = None; sealed = []; calls = []; missed = [] }
+gone = record { image = record { ranges = []; entries = []; guards = [] }; worker = 0; maker = false; made = 0; spent = true; joined = []; packages = []; misfits = []; locks = []; hand = None; sealed = []; calls = []; missed = []; claimed = []; taken = [] }
 
 -- the clauses of the calls
 

@@ -95,10 +95,14 @@ pub struct Knows {
     /// The blocks that it sealed and those of the passes that were joined into it.
     pub sealed: LinkedList<Block>,
     /// The calls of `put`, `free`, `look`, `stop` and `stopped`, in their order, and then those of
-    /// each pass that was joined.
+    /// each pass that was joined. So are the three lists below.
     pub calls: LinkedList<Call>,
     /// The compare-and-swaps that failed.
     pub missed: LinkedList<Miss>,
+    /// The packages that it took out of their slots, as they lay there.
+    pub claimed: LinkedList<Package>,
+    /// The lock states that it took out of their slots, as they lay there.
+    pub taken: LinkedList<LockState>,
 }
 
 /// What a slot of the table holds.
@@ -108,9 +112,10 @@ pub type Slot = Option<Cargo>;
 pub struct Ruled;
 
 impl TableRule<Slot, Knows, Terms> for Ruled {
-    ghost use Rattle.tc_hall.specs.Rule.{KeptHall, starting};
+    ghost use Rattle.tc_hall.specs.Rule.{starting};
+    ghost use Rattle.tc_hall.specs.Order.{IsOrdered};
 
-    ghost holds = { KeptHall };
+    ghost holds = { IsOrdered };
 
     ghost first = { starting };
 }

@@ -8,6 +8,7 @@ ghost use Rattle.tc_context.specs.View.{IsWaiting, with_seal};
 ghost use Rattle.tc_hall.specs.Places.{IsInRange, origin_code};
 ghost use Rattle.tc_hall.specs.Rule.{threads, locks};
 ghost use Rattle.tc_hall.specs.Steps.{IsSamePass, IsPackage, IsLock, is_package, is_lock, Gets, MayPut, Gave, IsAsLeft, Missed, Takes, MayFree, Freed, Seals, DidSeal, after_look, after_stop, SawStopped, merged, IsFree, HasAll, HasSeenAll, IsEnd};
+ghost use Rattle.tc_hall.specs.Order.{IsClaimable};
 ghost use Rattle.tc_hall.specs.Made.{IsHallOf, AreDealt, AreStocked};
 
 use crate::board::{Board, Cargo, Slot, Terms};
@@ -241,7 +242,7 @@ impl Hall {
     fn claim_from(&self, pass: &mut Pass, t: u32, code: u64) -> Result<Package, u64>
         requires own { pass.old.table ≡ self.now.table }
         requires thread { t < threads self.now.terms }
-        requires code { (code ≢ 2) × (code < 256 + locks self.now.terms) }
+        requires code { IsClaimable self.now.terms code }
         ensures own { IsSamePass pass.old pass.new }
         ensures result { MatchResult result
             (λ p. Gets code t p pass.old.knows pass.new.knows)

@@ -1,6 +1,7 @@
 //! What the steps of a hall are to the pure machine.
 
 ghost use Rattle.tc_hall.specs.Ties.{ClaimTie, AdoptTie, PutTie, TakeTie, FreeTie, CommitTie, TellTie, PassTie};
+ghost use Rattle.tc_hall.specs.Lift.{OpensShown, Lifts};
 
 /// In every state of a hall that meets its rule, each step keeps the rule; and what it shows is an
 /// event of the pure machine, or none. This holds of every hall, every pass, and every call.
@@ -13,4 +14,14 @@ pub fn tie()
     ensures commit { CommitTie }
     ensures tells { TellTie }
     ensures passes { PassTie }
+{}
+
+/// Whole runs. A new hall shows the first state of the pure machine; and the operations of a hall
+/// in their order, with events by which threads enter and leave the lines put in between, are one
+/// list of events of the machine, each enabled when it comes, after which the hall shows the machine.
+/// Where an operation stands in the order, its events are taken to be enabled, and what they ask of
+/// lines and grants to hold, since the words of a hall do not show these.
+pub fn lift()
+    ensures opens { OpensShown }
+    ensures lifts { Lifts }
 {}

@@ -4,9 +4,10 @@ use Rattle.tc_hall.specs.declared.board.Knows.{Knows}
 use Rattle.tc_hall.specs.declared.board.Cargo.{Cargo}
 use Rattle.tc_hall.specs.declared.board.Cargo.TheVariants.{Package}
 use Rattle.tc_hall.specs.PassView.{PassView, HallView}
-use Rattle.tc_hall.specs.Rule.{threads, locks, Has}
+use Rattle.tc_hall.specs.Rule.{threads, Has}
 use Rattle.tc_hall.specs.Steps.{Gets}
-use Rattle.tc_hall.proofs.Moves.{claims, lays}
+use Rattle.tc_hall.specs.Order.{IsClaimable}
+use Rattle.tc_hall.proofs.Stepping.{claims, lays}
 use Rattle.tc_hall.proofs.Holding.{got_slot, got_found, got_carried, got_view, got_last, got_empty}
 use Rattle.tc_hall.proofs.hall.Hall.claim_from.Goals as goal
 
@@ -15,11 +16,10 @@ compare_exchange-found-requires c =
     let seat = c.pass.inside.seat in
     let own = ap (λ (p : PassView). p.table) c.pass.view_is ∙ (c.requires.own ∙ sym (ap (λ (h : HallView). h.table) c.self.view_is)) in
     let below : c.args.t < threads c.self.inside.board.shared.key = subst (λ (h : HallView). c.args.t < threads h.terms) (sym c.self.view_is) c.requires.thread in
-    let code : c.args.code < 256 + locks c.self.inside.board.shared.key = subst (λ (h : HallView). c.args.code < 256 + locks h.terms) (sym c.self.view_is) c.requires.code.1 in
-    let low : c.args.code < 512 = (let same = c.self.invariant.3 in let most = c.self.invariant.9 in omega arith) in (
+    let can : IsClaimable c.self.inside.board.shared.key c.args.code = subst (λ (h : HallView). IsClaimable h.terms c.args.code) (sym c.self.view_is) c.requires.code in (
       own,
       omega (arith, c.self.invariant.0, c.self.invariant.1),
-      claims c.self.inside.board.shared.key _ seat.id c.args.t c.args.code _ seat.me.0 seat.me.1 c.pass.invariant.0 low c.requires.code.0 (ap (λ (k : ℕ). 512 + k) (c.from-at.ensures ∙ c.pass.invariant.2)) below c.pass.invariant.3 c.pass.invariant.1,
+      claims c.self.inside.board.shared.key _ seat.id c.args.t c.args.code _ seat.me.0 seat.me.1 c.pass.invariant.0 can (ap (λ (k : ℕ). 512 + k) (c.from-at.ensures ∙ c.pass.invariant.2)) below c.pass.invariant.3 c.pass.invariant.1,
     )
 
 pub exchange-slot-requires : goal.exchange-slot-requires

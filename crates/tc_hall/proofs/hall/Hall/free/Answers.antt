@@ -6,7 +6,7 @@ use Rattle.tc_hall.specs.declared.board.Cargo.TheVariants.{Lock}
 use Rattle.tc_hall.specs.PassView.{PassView, HallView}
 use Rattle.tc_hall.specs.Rule.{threads, locks}
 use Rattle.tc_hall.specs.Steps.{Sat, MayFree, Freed}
-use Rattle.tc_hall.proofs.Taking.{ReachesLock, reaches_lock, FreesAll, frees}
+use Rattle.tc_hall.proofs.Stepping.{ReachesLock, reaches_lock, FreesAll, frees}
 use Rattle.tc_hall.proofs.Putting.{freed}
 use Rattle.tc_hall.proofs.Holding.{put_slot, put_found, put_carried, put_view}
 use Rattle.tc_hall.proofs.hall.Hall.free.Goals as goal

@@ -1,7 +1,7 @@
 use Rattle.std.proofs.Common.{sym, ap, ◌∙◌, subst, arith}
 use Rattle.tc_hall.specs.PassView.{PassView, HallView}
 use Rattle.tc_hall.specs.Steps.{IsFree}
-use Rattle.tc_hall.proofs.Making.{joins}
+use Rattle.tc_hall.proofs.Stepping.{merges}
 use Rattle.tc_hall.proofs.hall.Hall.join.Goals as goal
 
 pub join_seat-requires : goal.join_seat-requires
@@ -11,5 +11,5 @@ join_seat-requires c =
       ap (λ (p : PassView). p.table) c.other.view_is ∙ (c.requires.own.1 ∙ sym hall),
       c.other.invariant.0,
       omega (arith, c.self.invariant.1),
-      joins c.self.inside.board.shared.key c.pass.inside.seat.id c.pass.inside.seat.me.0 c.other.inside.seat.id c.other.inside.seat.me.0 c.pass.invariant.3 c.other.invariant.3 (subst (λ (p : PassView). IsFree p.knows) (sym c.other.view_is) c.requires.free),
+      merges c.self.inside.board.shared.key c.pass.inside.seat.id c.pass.inside.seat.me.0 c.other.inside.seat.id c.other.inside.seat.me.0 c.pass.invariant.3 c.other.invariant.3 (subst (λ (p : PassView). IsFree p.knows) (sym c.other.view_is) c.requires.free),
     )

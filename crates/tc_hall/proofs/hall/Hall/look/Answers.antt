@@ -2,7 +2,7 @@ use Rattle.std.proofs.Common.{◌<◌, refl, ap, ◌∙◌, sym, subst, arith}
 use Rattle.tc_hall.specs.PassView.{PassView, HallView}
 use Rattle.tc_hall.specs.Rule.{threads}
 use Rattle.tc_hall.specs.Steps.{Sat}
-use Rattle.tc_hall.proofs.Telling.{looks}
+use Rattle.tc_hall.proofs.Stepping.{looks}
 use Rattle.tc_hall.proofs.hall.Hall.look.Goals as goal
 
 pub load-requires : goal.load-requires
@@ -10,7 +10,7 @@ load-requires c =
     let seat = c.pass.inside.seat in
     let own = ap (λ (p : PassView). p.table) c.pass.view_is ∙ (c.requires.own ∙ sym (ap (λ (h : HallView). h.table) c.self.view_is)) in
     let below : c.args.t < threads c.self.inside.board.shared.key = subst (λ (h : HallView). c.args.t < threads h.terms) (sym c.self.view_is) c.requires.thread in
-    (own, omega (arith, c.self.invariant.0, c.self.invariant.1), looks c.self.inside.board.shared.key _ seat.id c.args.t seat.me.0 seat.me.1 c.pass.invariant.0 c.pass.invariant.3)
+    (own, omega (arith, c.self.invariant.0, c.self.invariant.1), looks c.self.inside.board.shared.key _ seat.id c.args.t seat.me.0 seat.me.1 c.pass.invariant.0 below c.pass.invariant.3)
 
 pub invariant_of-pass : goal.invariant_of-pass
 invariant_of-pass c =

@@ -5,8 +5,9 @@ use Rattle.tc_hall.specs.declared.board.Terms.{Terms}
 use Rattle.tc_hall.specs.declared.board.Knows.{Knows}
 use Rattle.tc_hall.specs.Rule.{IsLimited}
 use Rattle.tc_hall.specs.Made.{AreStocked}
-use Rattle.tc_hall.proofs.Making.{deals}
-use Rattle.tc_hall.proofs.Opening.{opens, maker_first, maker_next, new_pass, new_made, last_pass, last_made, none_made}
+use Rattle.tc_hall.proofs.Stepping.{splits}
+use Rattle.tc_hall.proofs.Ordering.{opens_order}
+use Rattle.tc_hall.proofs.Opening.{maker_first, maker_next, new_pass, new_made, last_pass, last_made, none_made}
 use Rattle.tc_hall.proofs.hall.Hall.new.Goals as goal
 
 pub new-requires : goal.new-requires
@@ -19,7 +20,7 @@ new-requires c =
       fuel = c.requires.fuel.1;
       workers = c.requires.workers;
     } in
-    opens k c.as_slice.result.now c.in_ok-slots.slots.items limits (subst (λ (x : Shown). AreStocked x (length x.entries) (length x.guards) c.args.fuel c.args.limit c.in_ok-slots.slots.items) (sym image) c.in_ok-slots.ensures)
+    opens_order k c.as_slice.result.now c.in_ok-slots.slots.items limits (subst (λ (x : Shown). AreStocked x (length x.entries) (length x.guards) c.args.fuel c.args.limit c.in_ok-slots.slots.items) (sym image) c.in_ok-slots.ensures)
     (c.as_slice.ensures.value ∙ (c.in_ok-words.ensures.items_if_clones_equal (λ y e. e) ∙ (ap (λ (z : ℕ × ℕ). replicate (z.0 + 2 + z.1) 0) (λ i. (c.threads-threads.ensures.value i, c.guards-locks.ensures.value i)) ∙ ap (λ (x : Shown). replicate (length x.entries + 2 + length x.guards) 0) (sym image))))
 
 pub loop-worker-init : goal.loop-worker-init
@@ -37,7 +38,7 @@ split_seat-seat-requires c =
     let m = c.loop-worker.invariant.maker in
     let workers : c.in-Ok.made.0.shared.key.workers ≡ c.args.workers = ap (λ (k : Terms). k.workers) e.5 in
     let made : c.loop-worker.first.me.0.made ≡ c.loop-worker.worker = ap (λ (v : Knows). v.made) m.view in
-    (m.table, (let a = e.0 in let b = c.as_slice.ensures.len in let d = c.in_ok-words.ensures.len in omega arith), (let worker : c.loop-worker.first.me.0.worker ≡ c.args.workers - 1 = ap (λ (v : Knows). v.worker) m.view in deals c.in-Ok.made.0.shared.key c.loop-worker.first.id c.loop-worker.first.me.0 (ap (λ (v : Knows). v.spent) m.view) (ap (λ (v : Knows). v.maker) m.view) (omega arith)))
+    (m.table, (let a = e.0 in let b = c.as_slice.ensures.len in let d = c.in_ok-words.ensures.len in omega arith), (let worker : c.loop-worker.first.me.0.worker ≡ c.args.workers - 1 = ap (λ (v : Knows). v.worker) m.view in splits c.in-Ok.made.0.shared.key c.loop-worker.first.id c.loop-worker.first.me.0 (ap (λ (v : Knows). v.spent) m.view) (ap (λ (v : Knows). v.maker) m.view) (omega arith)))
 
 pub invariant_of-push_reserved : goal.invariant_of-push_reserved
 invariant_of-push_reserved c = let e = c.split_seat-seat.ensures in new_pass _ _ _ _ _ _ c.loop-worker.first c.loop-worker.invariant.maker c.split_seat-seat.result e.3 e.4

@@ -8,8 +8,7 @@ use Rattle.tc_hall.specs.PassView.{PassView, HallView}
 use Rattle.tc_hall.specs.Places.{IsInRange}
 use Rattle.tc_hall.specs.Rule.{threads, locks, Has}
 use Rattle.tc_hall.specs.Steps.{Sat, MayPut, Gave, IsAsLeft}
-use Rattle.tc_hall.proofs.Moves.{reaches}
-use Rattle.tc_hall.proofs.Telling.{FillsAs, Fills, fills}
+use Rattle.tc_hall.proofs.Stepping.{reaches, FillsAs, Fills, fills}
 use Rattle.tc_hall.proofs.Putting.{may_put_as, left_as, gave}
 use Rattle.tc_hall.proofs.Holding.{put_slot, put_found, put_carried, put_view}
 use Rattle.tc_hall.proofs.hall.Hall.put_as.Goals as goal

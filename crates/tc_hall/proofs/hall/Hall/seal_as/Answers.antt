@@ -4,7 +4,7 @@ use Rattle.tc_context.specs.View.{PackageView}
 use Rattle.tc_hall.specs.declared.board.Knows.{Knows}
 use Rattle.tc_hall.specs.PassView.{PassView, HallView}
 use Rattle.tc_hall.specs.Steps.{Seals, DidSeal}
-use Rattle.tc_hall.proofs.Sealing.{SealsAll, seals}
+use Rattle.tc_hall.proofs.Stepping.{SealsAll, seals}
 use Rattle.tc_hall.proofs.hall.Hall.seal_as.Goals as goal
 
 pub fetch_add-requires : goal.fetch_add-requires

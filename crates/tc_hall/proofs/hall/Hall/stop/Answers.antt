@@ -1,6 +1,6 @@
 use Rattle.std.proofs.Common.{ap, ◌∙◌, sym, arith}
 use Rattle.tc_hall.specs.PassView.{PassView, HallView}
-use Rattle.tc_hall.proofs.Telling.{stops}
+use Rattle.tc_hall.proofs.Stepping.{stops}
 use Rattle.tc_hall.proofs.hall.Hall.stop.Goals as goal
 
 pub store-requires : goal.store-requires

@@ -1,6 +1,6 @@
 use Rattle.std.proofs.Common.{ap, ◌∙◌, sym, arith}
 use Rattle.tc_hall.specs.PassView.{PassView, HallView}
-use Rattle.tc_hall.proofs.Telling.{sees}
+use Rattle.tc_hall.proofs.Stepping.{sees}
 use Rattle.tc_hall.proofs.hall.Hall.stopped.Goals as goal
 
 pub load-requires : goal.load-requires

@@ -6,7 +6,7 @@ use Rattle.tc_hall.specs.declared.board.Cargo.TheVariants.{Lock}
 use Rattle.tc_hall.specs.PassView.{PassView, HallView}
 use Rattle.tc_hall.specs.Rule.{threads, locks, HasLock}
 use Rattle.tc_hall.specs.Steps.{Takes, Took}
-use Rattle.tc_hall.proofs.Taking.{TakesAll, takes_lock, lays_lock}
+use Rattle.tc_hall.proofs.Stepping.{TakesAll, takes_lock, lays_lock}
 use Rattle.tc_hall.proofs.Holding.{got_slot, got_found, got_carried, got_view, got_last, got_empty}
 use Rattle.tc_hall.proofs.hall.Hall.take_as.Goals as goal
 

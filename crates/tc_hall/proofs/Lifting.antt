@@ -1,0 +1,233 @@
+-- A hall's order with the events of the lines is one list of events, by the tie of each step.
+use Rattle.std.proofs.Common.{◌≡◌, ◌≢◌, ◌⊎◌, ℕ, zero, suc, ◌+◌, ◌-◌, ◌<◌, Bool, true, false, ◌==◌, List, [], ◌∷◌, ◌++◌, replicate, set, sym, refl, ap, ◌∙◌, subst, ⊎_elim, arith, Option, Some, None, slice_index, if◌then◌else◌}
+use Rattle.std.specs.Prelude.{nat_lt}
+use Rattle.std.proofs.lemmas.Bool.Decides.{nat_tests}
+use Rattle.std.proofs.lemmas.List.{get_or-replicate}
+use mathlib.Core.Option.{none, some, some-injective, some-ne-none}
+use mathlib.Core.Option as maybe
+use lib.ListN.{get_elem?}
+use lib.Seq.{set-get_or}
+use Rattle.atomic_table.specs.Table.{opening}
+use Rattle.atomic_table.proofs.Lists.{at_set, at_map}
+use Rattle.tc_journal.specs.declared.block.Block.{Block}
+use Rattle.tc_turn.specs.Turn.{thread_at_start, no_thread}
+use Rattle.tc_segment.specs.View.{LockView, lock_of}
+use Rattle.tc_context.specs.View.{PackageView}
+use Rattle.tc_core.specs.Core.{Core, with_custody}
+use Rattle.tc_core.specs.Stories.{AreEnabled}
+use Rattle.tc_core.specs.Events.{effect, entered, left_by_all}
+use Rattle.tc_core.specs.declared.event.Event.{Event}
+use Rattle.tc_core.specs.declared.event.Event.TheVariants.{Claim, Commit, Enter, Adopt, Grant, Leave}
+use Rattle.tc_core.specs.declared.place.Custody.{Custody}
+use Rattle.tc_hall.specs.declared.place.Place.{Place}
+use Rattle.tc_hall.specs.declared.place.Place.TheVariants.{Ready, Waiting, Parked, Done}
+use Rattle.tc_hall.specs.declared.place.Origin.TheVariants as origin
+use Rattle.tc_hall.specs.declared.board.Knows.{Knows}
+use Rattle.tc_hall.specs.declared.board.Terms.{Terms}
+use Rattle.tc_hall.specs.declared.board.Cargo.{Cargo}
+use Rattle.tc_hall.specs.declared.board.Cargo.TheVariants.{Package, Lock}
+use Rattle.tc_hall.specs.Rule.{threads, locks, starting, locked_in, KeptHall}
+use Rattle.tc_hall.specs.Steps.{Seals, IsFree}
+use Rattle.tc_hall.specs.Made.{AreStocked}
+use Rattle.tc_hall.specs.Effects.{Hall}
+use Rattle.tc_hall.specs.Order.{Operation, claim, take, miss, commit, put, free, look, stop, stopped, reach, lay, split, join, MayFill, MayDo, after_operation, IsOpening}
+use Rattle.tc_hall.specs.Outline.{Lying, outline, lies_at}
+use Rattle.tc_hall.specs.Shown.{PackageAt, in_slot, with_pass, LockAt, lock_in_slot, lock_in_package, lock_with_pass, ShowsThread, ShowsLock, place_shown, last_end}
+use Rattle.tc_hall.specs.Ties.{limits_of, after_events, turns_by, Moment, Shows, Ties}
+use Rattle.tc_hall.specs.Lift.{IsClaimed, alone, adopted, granted, IsPut, IsOf, Beat, operation, enter, leave, events_of, hall_of, start_of, core_of, MayLift, OpensShown, IsLifted, Lifts}
+use Rattle.tc_hall.proofs.Ordering.{kept_after, kept_by}
+use Rattle.tc_hall.proofs.Tying.{claim_tie, adopt_tie, put_tie, take_tie, free_tie, tell_tie, pass_tie}
+use Rattle.tc_hall.proofs.Taking.{is_lock_out}
+use Rattle.tc_hall.proofs.Shows.{shown_code, had_same, still_shown}
+use Rattle.tc_hall.proofs.Making.{clean_free}
+use Rattle.tc_hall.proofs.Committing.{commit_tie}
+
+after_more : (k : Terms) (c : Core) (xs ys : List Event) → after_events k c (xs ++ ys) ≡ after_events k (after_events k c xs) ys
+after_more k c [] ys = refl
+after_more k c (x ∷ xs) ys = after_more k (effect k.image.value c x) xs ys
+
+enabled_more : (k : Terms) (c : Core) (xs ys : List Event) → AreEnabled k.image.value (limits_of k) c xs → AreEnabled k.image.value (limits_of k) (after_events k c xs) ys → AreEnabled k.image.value (limits_of k) c (xs ++ ys)
+enabled_more k c [] ys a b = b
+enabled_more k c (x ∷ xs) ys a b = (a.0, enabled_more k (effect k.image.value c x) xs ys a.1 b)
+
+is_same : (a b : ℕ) → (a == b) ≡ true → a ≡ b
+is_same a b e = grind (arith, nat_tests)
+
+-- a lock's line changes, and neither where it is nor anything else
+line_shown : (k : Terms) (s : Hall) (c : Core) (lock : ℕ) (x : Custody) → x.place ≡ (c.custody lock).place → Shows k s c → Shows k s (with_custody c lock x)
+line_shown k s c lock x same seen = record {
+  between = seen.between;
+  shown = record {
+    place = seen.shown.place;
+    thread = λ t p below at. (let was = seen.shown.thread t p below at in record { thread = was.thread; last = was.last });
+    lock = λ i l y below at. (let was = seen.shown.lock i l y below at in record { lock = was.lock; lies = lies i ∙ was.lies });
+  };
+}
+  where
+    lies : (i : ℕ) → (outline (with_custody c lock x)).lies i ≡ (outline c).lies i
+    lies i = by (i == lock) refl
+      where
+        by : (b : Bool) → (i == lock) ≡ b → (outline (with_custody c lock x)).lies i ≡ (outline c).lies i
+        by true e = ap (λ (z : Custody). lies_at c.course z.place) (ap (λ (z : Bool). if z then x else c.custody i) e) ∙ (ap (lies_at c.course) same ∙ ap (λ (z : ℕ). lies_at c.course (c.custody z).place) (sym (is_same i lock e)))
+        by false e = ap (λ (z : Custody). lies_at c.course z.place) (ap (λ (z : Bool). if z then x else c.custody i) e)
+
+entered_shown : (k : Terms) (s : Hall) (c : Core) (w t lock : ℕ) → Shows k s c → Shows k s (effect k.image.value c (Enter w t lock))
+unfolding effect
+entered_shown k s c w t lock seen = line_shown k s c lock (entered (c.custody lock) t) refl seen
+
+left_shown : (k : Terms) (s : Hall) (c : Core) (w lock : ℕ) → Shows k s c → Shows k s (effect k.image.value c (Leave w lock))
+unfolding effect
+left_shown k s c w lock seen = line_shown k s c lock (left_by_all (c.custody lock)) refl seen
+
+module _ (k : Terms) (s : Hall) (r : KeptHall k s) (id : ℕ) (v : Knows) (at : get_elem? s.views id ≡ some v) (live : v.spent ≡ false) (c : Core) (seen : Shows k s c) where
+  abbrev m : Moment k
+  m = record { state = s; rule = r; id = id; view = v; pass = at; live = live }
+
+  -- what a tie says of this core
+  tied : (s' : Hall) (given asked : Core → Type 0) (es : List Event) → Ties k s s' given asked es → given c → AreEnabled k.image.value (limits_of k) c es → Shows k s' (after_events k c es)
+  tied s' given asked es tie have enabled = tie.shows c seen have enabled
+
+  claimed : (t : ℕ) (q : PackageView) (es : List Event) → MayDo k s id v (claim t q) → IsClaimed k s c v t es → AreEnabled k.image.value (limits_of k) c es → Shows k (after_operation k s id v (claim t q)) (after_events k c es)
+  claimed t q es may (alone o) enabled = ⊎_elim
+      (λ (z : slice_index s.words (t + 2) ≡ 0). tied _ _ _ _ (claim_tie k m t q origin.Ready record { free = may.free; below = may.below; slot = may.slot } z) tt enabled)
+      (λ (z : slice_index s.words (t + 2) ≡ 1). tied _ _ _ _ (claim_tie k m t q origin.Parked record { free = may.free; below = may.below; slot = may.slot } z) tt enabled) o
+  claimed t q es may (adopted lock l word has loose) enabled = tied _ _ _ _ (adopt_tie k m t lock q l record { free = may.free; below = may.below; slot = may.slot } ((is_lock_out k s r id lock v l at has).0) word has).adopt loose enabled
+  claimed t q es may (granted lock l word has loose) enabled = tied _ _ _ _ (adopt_tie k m t lock q l record { free = may.free; below = may.below; slot = may.slot } ((is_lock_out k s r id lock v l at has).0) word has).grant loose enabled
+
+  -- of events that are these
+  at_these : (s' : Hall) (es these : List Event) → es ≡ these → AreEnabled k.image.value (limits_of k) c es → (AreEnabled k.image.value (limits_of k) c these → Shows k s' (after_events k c these)) → Shows k s' (after_events k c es)
+  at_these s' es these same enabled f = subst (λ (z : List Event). Shows k s' (after_events k c z)) (sym same) (f (subst (AreEnabled k.image.value (limits_of k) c) same enabled))
+
+  of_none : (s' : Hall) (es : List Event) → es ≡ [] → Shows k s' c → Shows k s' (after_events k c es)
+  of_none s' es nothing shows = subst (λ (z : List Event). Shows k s' (after_events k c z)) (sym nothing) shows
+
+  placed : (q : PackageView) (place : Place) (es : List Event) → MayFill k v q place → IsPut k c v q place es → AreEnabled k.image.value (limits_of k) c es → Shows k (after_operation k s id v (put q place)) (after_events k c es)
+  placed q Ready es may is enabled = at_these _ es _ is.1 enabled (λ e. tied _ _ _ _ ((put_tie k m q).ready record { hand = may.hand; range = may.range; may = may.may }) is.0 e)
+  placed q (Waiting lock) es may is enabled = at_these _ es _ is.1 enabled (λ e. tied _ _ _ _ ((put_tie k m q).waiting lock record { hand = may.hand; range = may.range; may = may.may }) is.0 e)
+  placed q Parked es may is enabled = at_these _ es _ is.2 enabled (λ e. tied _ _ _ _ ((put_tie k m q).parked is.1 record { hand = may.hand; range = may.range; may = may.may }) is.0 e)
+  placed q Done es may is enabled = at_these _ es _ is.1 enabled (λ e. tied _ _ _ _ ((put_tie k m q).done record { hand = may.hand; range = may.range; may = may.may }) is.0 e)
+
+  sealed : (b : Block) (q : PackageView) (es : List Event) (a : Seals v q) → a.ran.block ≡ b → es ≡ turns_by v.worker q.context.thread b.turns ++ Commit v.worker q.context.thread ∷ [] → AreEnabled k.image.value (limits_of k) c es
+      → Shows k (after_operation k s id v (commit b q)) (after_events k c es)
+  sealed b q es a is these enabled = subst
+      (λ (z : Block). es ≡ turns_by v.worker q.context.thread z.turns ++ Commit v.worker q.context.thread ∷ [] → Shows k (after_operation k s id v (commit z q)) (after_events k c es)) is
+      (λ e. at_these _ es _ e enabled (λ f. tied _ _ _ _ (commit_tie k m q a) tt f)) these
+
+  -- an empty slot goes into the pass's hand, or back, and the word stays
+  slot_moved : (slot word : ℕ) (b : maybe.Option (Option Cargo)) (w : Knows) → ((x : Cargo) → b ≢ some (Some x)) → w.packages ≡ v.packages → w.locks ≡ v.locks → w.worker ≡ v.worker
+      → Shows k record { words = set s.words word (slice_index s.words word); homes = set s.homes slot b; views = set s.views id w } c
+  slot_moved slot word b w empty packages locks' worker = record {
+    between = seen.between;
+    shown = still_shown k s.words _ s.homes _ s.views _ (λ u. ap (λ (z : List ℕ). slice_index z (u + 2)) (set-get_or s.words word 0))
+        (λ u x e. ⊎_elim (λ (z : (u ≡ slot) × (b ≡ some (Some x))). absurd (empty x z.1)) (λ (z : (u ≢ slot) × (get_elem? s.homes u ≡ some (some (Some x)))). z.1) (at_set s.homes slot u b (some (Some x)) e))
+        (had_same s.views id v w at packages locks' worker) (outline c) seen.shown;
+  }
+
+  shown_after : (o : Operation) (es : List Event) → MayDo k s id v o → IsOf k s c v o es → AreEnabled k.image.value (limits_of k) c es → Shows k (after_operation k s id v o) (after_events k c es)
+  shown_after (claim t q) es may is enabled = claimed t q es may is enabled
+  shown_after (take i l) es may is enabled = at_these _ es _ is.3 enabled (λ e. tied _ _ _ _ (take_tie k m is.0 i l record { free = may.free; below = is.1; at = is.2; lock = may.below; home = may.word; slot = may.slot }) tt e)
+  shown_after (miss word wanted) es may is enabled = of_none _ es is (tied _ _ _ _ ((tell_tie k m).missed word) tt tt)
+  shown_after (commit b q) es may is enabled = sealed b q es may.0 may.1 is enabled
+  shown_after (put q place) es may is enabled = placed q place es may is enabled
+  shown_after (free l) es may is enabled = at_these _ es _ is.1 enabled (λ e. tied _ _ _ _ (free_tie k m l may.0 may.1) is.0 e)
+  shown_after (look t) es may is enabled = of_none _ es is (tied _ _ _ _ ((tell_tie k m).look t) tt tt)
+  shown_after stop es may is enabled = of_none _ es is (tied _ _ _ _ (tell_tie k m).stop tt tt)
+  shown_after stopped es may is enabled = of_none _ es is (tied _ _ _ _ (tell_tie k m).stopped tt tt)
+  shown_after (reach slot) es may is enabled = of_none _ es is (slot_moved slot (slot + 2) none (record v { hand = Some slot }) (λ x e. some-ne-none (Some x) (sym e)) refl refl refl)
+  shown_after (lay slot) es may is enabled = of_none _ es is (slot_moved slot 0 (some None) (record v { hand = None }) (λ x e. no_cargo x (some None) refl e) refl refl refl)
+    where
+      no_cargo : (x : Cargo) (y : maybe.Option (Option Cargo)) → y ≡ some None → y ≡ some (Some x) → ⊥
+      no_cargo x y a b = cc (a, b)
+  shown_after split es may is enabled = of_none _ es is (tied _ _ _ _ ((pass_tie k m).made may.0 may.1) tt tt)
+  shown_after (join other w) es may is enabled = of_none _ es is (tied _ _ _ _ ((pass_tie k m).joined other w may.0 may.1 may.2 may.3) tt tt)
+
+-- ---- the first state
+
+no_stock : (x : maybe.Option (maybe.Option (Option Cargo))) (p : PackageView) (q : PackageView) → x ≡ some (some (Some (Package p))) → x ≡ some (some (Some (Package q))) → p ≡ q
+no_stock x p q a b = cc (a, b)
+
+lock_same : (x : maybe.Option (maybe.Option (Option Cargo))) (p q : LockView) → x ≡ some (some (Some (Lock p))) → x ≡ some (some (Some (Lock q))) → p ≡ q
+lock_same x p q a b = cc (a, b)
+
+module _ (k : Terms) (slots : List (Option Cargo)) (ready : AreStocked k.image.value (threads k) (locks k) k.fuel k.limit slots) where
+  abbrev ws : List ℕ
+  ws = replicate (threads k + 2 + locks k) 0
+
+  abbrev first : Hall
+  first = opening ws slots (starting k)
+
+  -- no pass has anything out
+  none_out : (id : ℕ) (v : Knows) → get_elem? first.views id ≡ some v → IsFree v
+  none_out zero v e = subst IsFree (some-injective (starting k) v e) (clean_free k.image.value (threads k) (locks k) (k.workers - 1) true)
+  none_out (suc id) v e = absurd (some-ne-none v (sym e))
+
+  opens_thread : (t : ℕ) (p : PackageView) → t < threads k → PackageAt first t p → ShowsThread (outline (start_of k)) t p
+  opens_thread t p below (in_slot h) =
+      let q = ready.packages t below in
+      let same : q.0 ≡ p = no_stock (get_elem? first.homes t) q.0 p (at_map some slots t (Some (Package q.0)) q.1) h in
+      let there : nat_lt t (threads k) ≡ true = grind (arith, nat_tests) in
+      subst (ShowsThread (outline (start_of k)) t) same record {
+        thread = ap (λ (z : Bool). if z then thread_at_start k.image.value k.fuel t else no_thread) there ∙ sym q.2.thread;
+        last = ap last_end (sym q.2.log);
+      }
+  opens_thread t p below (with_pass id v at has) = absurd ((none_out id v at).packages t p has)
+
+  opens_lock : (i : ℕ) (l : LockView) (y : Lying) → i < locks k → LockAt k first i l y → ShowsLock (outline (start_of k)) i l y
+  opens_lock i l y below (lock_in_slot h is) =
+      let f = ready.locks i below in
+      let same : f.0 ≡ l = lock_same (get_elem? first.homes (threads k + i)) f.0 l (at_map some slots (threads k + i) (Some (Lock f.0)) f.1) h in
+      record { lock = ap (λ (z : LockView). lock_of z) (sym f.2 ∙ same); lies = sym is }
+  opens_lock i l y below (lock_in_package t q bt h has is) =
+      let p = ready.packages t bt in
+      let same : p.0 ≡ q = no_stock (get_elem? first.homes t) p.0 q (at_map some slots t (Some (Package p.0)) p.1) h in
+      absurd (none_in (locked_in q i) l (ap (λ (z : PackageView). locked_in z i) (sym same) ∙ p.2.locks i) has)
+    where
+      none_in : (x : Option LockView) (l : LockView) → x ≡ None → x ≡ Some l → ⊥
+      none_in x l a b = cc (a, b)
+  opens_lock i l y below (lock_with_pass id v at has is) = absurd ((none_out id v at).locks i l has)
+
+  opens_shown : Shows k first (start_of k)
+  opens_shown = record {
+    between = λ t. (refl, refl);
+    shown = record {
+      place = λ t below. (let z : slice_index ws (t + 2) ≡ 0 = get_or-replicate (threads k + 2 + locks k) (t + 2) 0 0 (omega arith) in sym (ap place_shown z ∙ shown_code Ready (omega arith)));
+      thread = opens_thread;
+      lock = opens_lock;
+    };
+  }
+
+-- ---- the law
+
+pub opening_shown : OpensShown
+opening_shown k s begins = subst (λ (z : Hall). Shows k z (start_of k)) (sym begins.is) (opens_shown k begins.slots begins.stocked)
+
+module _ (k : Terms) (s : Hall) (begins : IsOpening k s) where
+  -- the rule holds of the hall after the beats
+  kept_at : (beats : List Beat) → MayLift k s beats → KeptHall k (hall_of k s beats)
+  kept_at [] may = kept_by k s begins [] tt
+  kept_at (operation m es ∷ before) may = kept_after k (hall_of k s before) (kept_at before may.3) m.pass m.knew may.0.pass may.0.live m.operation may.0.may
+  kept_at (enter w t lock ∷ before) may = kept_at before may.1
+  kept_at (leave w lock ∷ before) may = kept_at before may.1
+
+  lifted : (beats : List Beat) → MayLift k s beats → IsLifted k s beats
+  lifted [] may = record { enabled = tt; shows = opening_shown k s begins }
+  lifted (operation m es ∷ before) may =
+      let was = lifted before may.3 in
+      let h : Hall = hall_of k s before in record {
+        enabled = enabled_more k (start_of k) (events_of before) es was.enabled may.2;
+        shows = subst (Shows k (after_operation k h m.pass m.knew m.operation)) (sym (after_more k (start_of k) (events_of before) es))
+            (shown_after k h (kept_at before may.3) m.pass m.knew may.0.pass may.0.live (core_of k before) was.shows m.operation es may.0.may may.1 may.2);
+      }
+  lifted (enter w t lock ∷ before) may =
+      let was = lifted before may.1 in record {
+        enabled = enabled_more k (start_of k) (events_of before) (Enter w t lock ∷ []) was.enabled (may.0, tt);
+        shows = subst (Shows k (hall_of k s before)) (sym (after_more k (start_of k) (events_of before) (Enter w t lock ∷ []))) (entered_shown k (hall_of k s before) (core_of k before) w t lock was.shows);
+      }
+  lifted (leave w lock ∷ before) may =
+      let was = lifted before may.1 in record {
+        enabled = enabled_more k (start_of k) (events_of before) (Leave w lock ∷ []) was.enabled (may.0, tt);
+        shows = subst (Shows k (hall_of k s before)) (sym (after_more k (start_of k) (events_of before) (Leave w lock ∷ []))) (left_shown k (hall_of k s before) (core_of k before) w lock was.shows);
+      }
+
+pub lifting : Lifts
+lifting k s begins beats may = lifted k s begins beats may

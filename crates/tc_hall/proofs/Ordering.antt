@@ -1,0 +1,129 @@
+-- Each operation keeps what holds between any two steps, so it holds after every order of them.
+use Rattle.std.proofs.Common.{◌≡◌, ◌≢◌, ◌⊎◌, ℕ, ◌+◌, ◌<◌, ◌≤◌, false, List, [], ◌∷◌, sym, refl, ap, ◌∙◌, subst, ⊎_elim, inl, inr, arith, Option, Some, None, slice_index}
+use mathlib.Core.Option.{some}
+use mathlib.Core.Option as maybe
+use lib.ListN.{get_elem?}
+use Rattle.std.specs.Prelude.{replicate}
+use Rattle.atomic_table.specs.Table.{gives, stepped, opening}
+use Rattle.atomic_table.proofs.Lists.{set_else}
+use Rattle.tc_elf.specs.declared.limits.TheConstants.{MAX_GUARDS}
+use Rattle.tc_journal.specs.declared.block.Block.{Block}
+use Rattle.tc_segment.specs.View.{LockView}
+use Rattle.tc_context.specs.View.{PackageView}
+use Rattle.tc_law.specs.Lawful.{IsStateAfter}
+use Rattle.tc_mutex_spec.proofs.ListLaws.{at_place}
+use Rattle.tc_hall.specs.declared.place.Place.{Place}
+use Rattle.tc_hall.specs.declared.place.Origin.{Origin}
+use Rattle.tc_hall.specs.declared.place.Origin.TheVariants as origin
+use Rattle.tc_hall.specs.declared.board.Knows.{Knows}
+use Rattle.tc_hall.specs.declared.board.Terms.{Terms}
+use Rattle.tc_hall.specs.declared.board.Cargo.{Cargo}
+use Rattle.tc_hall.specs.declared.board.Cargo.TheVariants.{Package, Lock}
+use Rattle.tc_hall.specs.Places.{code_of, origin_code}
+use Rattle.tc_hall.specs.Rule.{threads, locks, starting, IsLimited, IsLockHome, KeptHall}
+use Rattle.tc_hall.specs.Made.{AreStocked}
+use Rattle.tc_hall.specs.Steps.{Seals, after_put}
+use Rattle.tc_hall.specs.Effects.{Hall, after, claim_effect, commit_effect, put_effect, take_effect, reach_effect, lay_effect}
+use Rattle.tc_hall.specs.Order.{Operation, claim, take, miss, commit, put, free, look, stop, stopped, reach, lay, split, join, IsClaimable, MayClaim, MayTake, MayFill, IsSlotOut, of_package, of_lock, MayDo, MayCome, Made, after_operation, hall_after, IsLegal, IsOpening, IsOrdered}
+use Rattle.tc_hall.proofs.Moves.{at_home_of, takes_home, misses, lay_kept, reach_kept}
+use Rattle.tc_hall.proofs.Telling.{place_codes, fills_kept, look_kept, stop_kept, see_kept}
+use Rattle.tc_hall.proofs.Sealing.{seals_kept}
+use Rattle.tc_hall.proofs.Taking.{lock_home_of, take_kept, free_kept, lay_lock_kept, reach_lock_kept}
+use Rattle.tc_hall.proofs.Making.{deals, joins}
+use Rattle.tc_hall.proofs.Opening.{opens}
+
+-- a thread that may be claimed is not done, and with no pass
+pub claimable_low : (k : Terms) (word : ℕ) → locks k ≤ MAX_GUARDS → IsClaimable k word → (word < 512) × (word ≢ 2)
+claimable_low k word few can = ⊎_elim (λ (z : word ≡ 0). (omega arith, (λ e. omega arith)))
+    (λ o. ⊎_elim (λ (z : word ≡ 1). (omega arith, (λ e. omega arith))) (λ (z : (i : ℕ) × (i < locks k) × (word ≡ 256 + i)). waits z.0 z.1 z.2) o) can
+  where
+    waits : (i : ℕ) → i < locks k → word ≡ 256 + i → (word < 512) × (word ≢ 2)
+    waits i below is = (omega arith, (λ e. omega arith))
+
+pub origin_claimable : (k : Terms) (from : Origin) → IsClaimable k (origin_code from)
+origin_claimable k origin.Ready = inl refl
+origin_claimable k origin.Parked = inr (inl refl)
+
+module _ (k : Terms) (s : Hall) (r : KeptHall k s) (id : ℕ) (v : Knows) (at : get_elem? s.views id ≡ some v) (live : v.spent ≡ false) where
+  claim_after : (t : ℕ) (q : PackageView) → MayClaim k s v t q → KeptHall k (after s id (claim_effect v t q))
+  claim_after t q a =
+      let can = claimable_low k (slice_index s.words (t + 2)) r.told.limits.locks a.word in
+      let h = at_home_of k s r t q a.below can.0 a.slot in
+      subst (λ (z : PackageView). KeptHall k (after s id (claim_effect v t z))) h.same
+      (takes_home k s r id t (512 + v.worker) v h.stands h.home at live a.free a.below refl can.1 h.placed h.holder h.thread)
+
+  take_after : (i : ℕ) (l : LockView) → MayTake k s v i l → KeptHall k (after s id (take_effect (threads k) v i l))
+  take_after i l a =
+      let place = at_place r.told.segments i (let b = a.below in omega (arith, r.told.law.all_states, b)) in
+      let lies = lock_home_of (threads k) s.words s.homes s.views i place.0 (r.locks_placed.spot i) (r.locks_placed.each i place.0 place.1) a.word in
+      let h : IsLockHome (threads k) s.words s.homes i place.0 = lies.1 in
+      let law : IsStateAfter k.image.value k.fuel k.limit r.told.history i place.0 = r.told.law.states_after i place.0 place.1 in
+      subst (λ (z : LockView). KeptHall k (after s id (take_effect (threads k) v i z))) (lock_is h.segment l (get_elem? s.homes (threads k + i)) h.slot a.slot)
+      (take_kept k s r id i v place.0 h at live a.free a.below a.word lies.0 place.1 (ap (λ (z : LockView). z.number) h.same ∙ law.follows.number))
+    where
+      lock_is : (a b : LockView) (x : maybe.Option (maybe.Option (Option Cargo))) → x ≡ some (some (Some (Lock a))) → x ≡ some (some (Some (Lock b))) → a ≡ b
+      lock_is a b x e f = cc (e, f)
+
+  put_after : (q : PackageView) (place : Place) → MayFill k v q place → KeptHall k (after s id (put_effect v q place))
+  put_after q place a =
+      subst (λ (z : Place). KeptHall k (stepped s (q.context.thread + 2) (code_of place) id ((q.context.thread, Some (Package q)) ∷ []) (record (after_put v q z) { hand = None }) gives)) (place_codes place)
+      (fills_kept k s r id place v q at a.hand live a.range a.may)
+
+  commit_after : (b : Block) (q : PackageView) (a : Seals v q) → a.ran.block ≡ b → KeptHall k (after s id (commit_effect v (slice_index s.words 0) b q))
+  commit_after b q a is = subst (λ (z : Block). KeptHall k (after s id (commit_effect v (slice_index s.words 0) z q))) is (seals_kept k s r id v q a live at)
+
+  reach_after : (slot : ℕ) → v.hand ≡ None → IsSlotOut k v slot → KeptHall k (after s id (reach_effect v slot (slice_index s.words (slot + 2))))
+  reach_after slot idle (of_package t p is has) = subst (λ (z : ℕ). KeptHall k (after s id (reach_effect v z (slice_index s.words (z + 2))))) (sym is) (reach_kept k s r id t v p at live idle has)
+  reach_after slot idle (of_lock i l is has) = subst (λ (z : ℕ). KeptHall k (after s id (reach_effect v z (slice_index s.words (z + 2))))) (sym is) (reach_lock_kept k s r id i v l at live idle has)
+
+  lay_after : (slot : ℕ) → v.hand ≡ Some slot → IsSlotOut k v slot → KeptHall k (after s id (lay_effect v slot (slice_index s.words 0)))
+  lay_after slot held (of_package t p is has) = subst (λ (z : ℕ). KeptHall k (after s id (lay_effect v z (slice_index s.words 0)))) (sym is) (lay_kept k s r id t v p at live (held ∙ ap (λ (z : ℕ). Some z) is) has)
+  lay_after slot held (of_lock i l is has) = subst (λ (z : ℕ). KeptHall k (after s id (lay_effect v z (slice_index s.words 0)))) (sym is) (lay_lock_kept k s r id i v l at live (held ∙ ap (λ (z : ℕ). Some z) is) has)
+
+  pub kept_after : (o : Operation) → MayDo k s id v o → KeptHall k (after_operation k s id v o)
+  kept_after (claim t q) may = claim_after t q may
+  kept_after (take i l) may = take_after i l may
+  kept_after (miss word wanted) may = misses k s word id v at live r
+  kept_after (commit b q) may = commit_after b q may.0 may.1
+  kept_after (put q place) may = put_after q place may
+  kept_after (free l) may = free_kept k s r id v l at may.0 live may.1
+  kept_after (look t) may = look_kept k s r id t v at live
+  kept_after stop may = stop_kept k s r id v at live
+  kept_after stopped may = see_kept k s r id v at live
+  kept_after (reach slot) may = reach_after slot may.0 may.1
+  kept_after (lay slot) may = lay_after slot may.0 may.1
+  kept_after split may = deals k id v live may.0 may.1 s r at
+  kept_after (join other w) may = joins k id v other w live may.1 may.3 s r at may.2 (set_else s.views id other _ may.2 ∙ may.0)
+
+module _ (k : Terms) where
+  -- what holds at the opening holds after each legal order
+  pub kept_by : (first : Hall) → IsOpening k first → (order : List Made) → IsLegal k first order → KeptHall k (hall_after k first order)
+  kept_by first begins [] legal = subst (KeptHall k) (sym begins.is) (opens k _ begins.slots begins.limits begins.stocked refl)
+  kept_by first begins (m ∷ before) legal =
+      let may : MayCome k (hall_after k first before) m = legal.0 in
+      kept_after k (hall_after k first before) (kept_by first begins before legal.1) m.pass m.knew may.pass may.live m.operation may.may
+
+  pub kept_of : (s : Hall) → IsOrdered k s → KeptHall k s
+  kept_of s d = subst (KeptHall k) (sym d.is) (kept_by d.first d.opens d.order d.legal)
+
+  -- one operation more
+  pub next : (s : Hall) (d : IsOrdered k s) (id : ℕ) (v : Knows) (o : Operation) → get_elem? s.views id ≡ some v → v.spent ≡ false → MayDo k s id v o → IsOrdered k (after_operation k s id v o)
+  next s d id v o at live may =
+      let m : Made = record { pass = id; knew = v; operation = o } in
+      record {
+        first = d.first;
+        opens = d.opens;
+        order = m ∷ d.order;
+        legal = (subst (λ (z : Hall). MayCome k z m) d.is record { pass = at; live = live; may = may }, d.legal);
+        is = ap (λ (z : Hall). after_operation k z id v o) d.is;
+      }
+
+  -- a new hall
+  pub opens_order : (ws : List ℕ) (slots : List (Option Cargo)) → IsLimited k → AreStocked k.image.value (threads k) (locks k) k.fuel k.limit slots → ws ≡ replicate (threads k + 2 + locks k) 0 → IsOrdered k (opening ws slots (starting k))
+  opens_order ws slots limits ready zeros = record {
+    first = opening ws slots (starting k);
+    opens = record { limits = limits; slots = slots; stocked = ready; is = ap (λ (l : List ℕ). opening l slots (starting k)) zeros };
+    order = [];
+    legal = tt;
+    is = refl;
+  }

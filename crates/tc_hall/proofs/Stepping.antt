@@ -1,0 +1,285 @@
+-- Each step of a pass on the table is an operation that may come there.
+use Rattle.std.proofs.Common.{◌≡◌, ◌≢◌, ℕ, ◌+◌, ◌%◌, ◌^◌, ◌<◌, ◌==◌, Bool, true, false, List, [], ◌∷◌, length, set, sym, refl, ap, ◌∙◌, subst, arith, Option, Some, None, slice_index}
+use Rattle.std.specs.Prelude.{filter}
+use mathlib.Core.Option.{none, some}
+use lib.ListN.{get_elem?}
+use prog.Atomic.{either}
+use Rattle.atomic_table.specs.Table.{step, Act, keeps, takes, gives, Valid, stepped, carried_after, Allows, Splits, Joins}
+use Rattle.atomic_table.proofs.Lists.{set_here, set_else, exchanged}
+use Rattle.tc_isa.specs.Sets.{has}
+use Rattle.tc_journal.specs.declared.block.Block.{Block}
+use Rattle.tc_mutex_spec.specs.Blocks.{end_after}
+use Rattle.tc_segment.specs.View.{LockView, kept, blocks_of, sealed_block}
+use Rattle.tc_context.specs.View.{PackageView, with_seal}
+use Rattle.tc_law.specs.Lawful.{IsPackageAfter, IsStateAfter}
+use Rattle.tc_law.proofs.Following.{blocks_are}
+use Rattle.tc_mutex_spec.proofs.ListLaws.{at_place}
+use Rattle.tc_hall.specs.declared.place.Place.{Place}
+use Rattle.tc_hall.specs.declared.board.Knows.{Knows}
+use Rattle.tc_hall.specs.declared.board.Terms.{Terms}
+use Rattle.tc_hall.specs.declared.board.Call.TheVariants.{Look, Stop, Stopped}
+use Rattle.tc_hall.specs.declared.board.Cargo.{Cargo}
+use Rattle.tc_hall.specs.declared.board.Cargo.TheVariants.{Package, Lock}
+use Rattle.tc_hall.specs.Places.{code_of, place_of, IsInRange}
+use Rattle.tc_hall.specs.Rule.{threads, locks, Has, HasLock, Spot, home, out, KeptHall}
+use Rattle.tc_hall.specs.Steps.{Sat, Gets, Got, Takes, Took, MayPut, MayFree, Seals, DidSeal, IsAsLeft, IsFree, claimed, laid, reached, took_as, put_as, did_free, looked, stopping, saw_stopped, sealed_as, after_claim, after_take, after_put, after_free, after_miss, after_commit, with_call, dealt, fresh, merged, gone}
+use Rattle.tc_hall.specs.Effects.{Hall, after, put_effect}
+use Rattle.tc_hall.specs.Order.{claim, take, miss, commit, put, free, look, stop, stopped, reach, lay, split, join, IsClaimable, of_package, of_lock, IsOrdered}
+use Rattle.tc_hall.proofs.Outs.{lock_came, no_call_taken}
+use Rattle.tc_hall.proofs.Moves.{some_same, clash, home_of, is_out, taken, gets}
+use Rattle.tc_hall.proofs.Telling.{place_codes, filled, as_left}
+use Rattle.tc_hall.proofs.Sealing.{did_seal}
+use Rattle.tc_hall.proofs.Taking.{lock_home_of, is_lock_out, filter_finds}
+use Rattle.tc_hall.proofs.Ordering.{claimable_low, kept_of, next}
+
+module _ (k : Terms) where
+  -- ---- claim, and the slot of a package
+
+  abbrev pub Claims : ℕ → ℕ → ℕ → ℕ → ℕ → Knows → List (ℕ × Option Cargo) → Type 0
+  Claims slots id t code new v c = Allows (IsOrdered k) slots id (v, c) (t + 2) (λ x. either (x == code) new x) (claimed (step slots (t + 2) code new none) (v, c))
+
+  pub claims : (slots id t code new : ℕ) (v : Knows) (c : List (ℕ × Option Cargo)) → c ≡ [] → IsClaimable k code → new ≡ 512 + v.worker → t < threads k → v.spent ≡ false → v.hand ≡ None → Claims slots id t code new v c
+  claims slots id t code new v c empty can new_is below live idle = subst (Claims slots id t code new v) (sym empty) (λ s d deep at small.
+      let r : KeptHall k s = kept_of k s d in
+      let low = (claimable_low k code r.told.limits.locks can).0 in
+      let found : ℕ = slice_index s.words (t + 2) in
+      let place = at_place r.told.places t (omega (arith, r.told.law.all_packages)) in
+      let F : ℕ → Type 0 = λ x. (w : Knows) × (a : Act (Option Cargo)) × Valid s.homes [] a × IsOrdered k (stepped s (t + 2) x id [] w a) × claimed (step slots (t + 2) code new none) (v, []) found (w, carried_after [] a) in
+      exchanged found code new F
+      (λ hit. let lies = home_of s.words s.homes s.views t place.0 (r.placed.holder t) (r.placed.each t place.0 place.1) (omega arith) in
+      let h = lies.1 in
+      let after : IsPackageAfter k.image.value k.fuel r.told.history t place.0 = r.told.law.packages_after t place.0 place.1 in
+      let thread : h.context.context.thread ≡ t = ap (λ (z : PackageView). z.context.thread) h.same ∙ after.follows.number in (
+        taken k v t h.context,
+        takes t (Some (Package h.context)),
+        h.slot,
+        subst (λ (z : ℕ). IsOrdered k (stepped s (t + 2) z id [] (taken k v t h.context) (takes t (Some (Package h.context))))) (sym new_is)
+            (next k s d id v (claim t h.context) at live record { free = idle; below = below; word = subst (IsClaimable k) (sym hit) can; slot = h.slot }),
+        (
+          (λ _ u e. subst (λ (z : ℕ × ℕ). Got z.1 z.0 (v, []) (taken k v t h.context, (t, Some (Package h.context)) ∷ [])) (λ i. ((let x : t ≡ u = omega arith in x) i, hit i)) (
+            h.context,
+            after_claim v h.context,
+            gets k s r id t v place.0 h at live below place.1 lies.0 thread,
+            refl,
+          )),
+          (λ miss. absurd (miss hit)),
+        ),
+      ))
+      (λ other. (after_miss v (t + 2) found, keeps, tt, next k s d id v (miss (t + 2) code) at live other, ((λ hit _ _. absurd (other hit)), (λ _. refl)))))
+
+  abbrev pub Lays : ℕ → ℕ → Knows → List (ℕ × Option Cargo) → Type 0
+  Lays slots id v c = Allows (IsOrdered k) slots id (v, c) 0 (λ n. n) (laid (step slots 0 0 0 none) (v, c))
+
+  -- the empty slot of a package goes back
+  pub lays : (slots id t : ℕ) (v : Knows) (p : PackageView) (c : List (ℕ × Option Cargo)) → c ≡ (t, None) ∷ [] → v.hand ≡ Some t → v.spent ≡ false → Has v t p → Lays slots id v c
+  lays slots id t v p c one hand live out' = subst (Lays slots id v) (sym one) (λ s d deep at small. (record v { hand = None }, gives, tt, next k s d id v (lay t) at live (hand, of_package t p refl out'), refl))
+
+  abbrev pub Reaches : ℕ → ℕ → ℕ → Knows → List (ℕ × Option Cargo) → Type 0
+  Reaches slots id t v c = Allows (IsOrdered k) slots id (v, c) (t + 2) (λ n. n) (reached (step slots (t + 2) 0 0 none) (v, c))
+
+  -- the pass takes the empty slot of a package that it has out
+  pub reaches : (slots id t : ℕ) (v : Knows) (p : PackageView) (c : List (ℕ × Option Cargo)) → c ≡ [] → v.hand ≡ None → v.spent ≡ false → Has v t p → Reaches slots id t v c
+  reaches slots id t v p c empty idle live out' = subst (Reaches slots id t v) (sym empty) (λ s d deep at small. (
+    record v { hand = Some t },
+    takes t None,
+    (is_out k s (kept_of k s d) id t v p at out').4 (λ e. clash v.hand t idle e),
+    next k s d id v (reach t) at live (idle, of_package t p refl out'),
+    (λ u e. ap (λ (z : ℕ). (record v { hand = Some z }, (z, None) ∷ [])) (let x : t ≡ u = omega arith in x)),
+  ))
+
+  -- ---- put
+
+  abbrev pub FillsAs : Option Terms → ℕ → ℕ → ℕ → ℕ → Knows → List (ℕ × Option Cargo) → Type 0
+  FillsAs o slots id t code v c = Allows (IsOrdered k) slots id (v, c) (t + 2) (λ _. code) (λ _. put_as o (step slots (t + 2) code 0 none) (v, c) code)
+
+  abbrev pub Fills : ℕ → ℕ → ℕ → ℕ → Knows → List (ℕ × Option Cargo) → Type 0
+  Fills = FillsAs (Some k)
+
+  -- so the step that fills it is allowed
+  pub fills : (slots id : ℕ) (place : Place) (v : Knows) (q : PackageView) (c : List (ℕ × Option Cargo)) → c ≡ (q.context.thread, Some (Package q)) ∷ [] → v.hand ≡ Some q.context.thread → v.spent ≡ false → IsInRange (locks k) place → MayPut place v q
+      → Fills slots id q.context.thread (code_of place) v c
+  fills slots id place v q c one hand live range may = subst (Fills slots id q.context.thread (code_of place) v) (sym one) (λ s d deep at small. (
+    record (after_put v q (place_of (code_of place))) { hand = None },
+    gives,
+    tt,
+    subst (λ (z : Place). IsOrdered k (stepped s (q.context.thread + 2) (code_of place) id ((q.context.thread, Some (Package q)) ∷ []) (record (after_put v q z) { hand = None }) gives)) (sym (place_codes place))
+        (next k s d id v (put q place) at live record { hand = hand; range = range; may = may }),
+    (λ u x e. let same : q ≡ x = package_is q.context.thread u q x e in (
+      ap (filled v (place_of (code_of place))) same,
+      (λ j is. subst (λ (z : Terms × PackageView). IsAsLeft z.0 v z.1) (λ i. (terms_are k j is i, same i)) (as_left k s (kept_of k s d) id place v q at may)),
+    )),
+  ))
+    where
+      terms_are : (a b : Terms) → Some a ≡ Some b → a ≡ b
+      terms_are a b e = cc e
+
+      first : List (ℕ × Option Cargo) → Option Cargo
+      first [] = None
+      first (x ∷ xs) = x.1
+
+      one_of : ℕ → PackageView → List (ℕ × Option Cargo)
+      one_of t a = (t, Some (Package a)) ∷ []
+
+      package_is : (t u : ℕ) (a b : PackageView) → one_of t a ≡ one_of u b → a ≡ b
+      package_is t u a b e = let f : Some (Package a) ≡ Some (Package b) = ap first e in cc f
+
+  -- ---- look, stop, stopped
+
+  abbrev pub Looks : ℕ → ℕ → ℕ → Knows → List (ℕ × Option Cargo) → Type 0
+  Looks slots id t v c = Allows (IsOrdered k) slots id (v, c) (t + 2) (λ n. n) (looked (step slots (t + 2) 0 0 none) (v, c))
+
+  pub looks : (slots id t : ℕ) (v : Knows) (c : List (ℕ × Option Cargo)) → c ≡ [] → t < threads k → v.spent ≡ false → Looks slots id t v c
+  looks slots id t v c empty below live = subst (Looks slots id t v) (sym empty) (λ s d deep at small. (
+    with_call v (Look t (slice_index s.words (t + 2))),
+    keeps,
+    tt,
+    next k s d id v (look t) at live below,
+    (λ u e. ap (λ (z : ℕ). (with_call v (Look z (slice_index s.words (t + 2))), [])) (let x : t ≡ u = omega arith in x)),
+  ))
+
+  abbrev pub Stops : ℕ → ℕ → Knows → List (ℕ × Option Cargo) → Type 0
+  Stops slots id v c = Allows (IsOrdered k) slots id (v, c) 1 (λ _. 1) (λ _. stopping (step slots 1 1 0 none) (v, c) 1)
+
+  pub stops : (slots id : ℕ) (v : Knows) (c : List (ℕ × Option Cargo)) → c ≡ [] → v.spent ≡ false → Stops slots id v c
+  stops slots id v c empty live = subst (Stops slots id v) (sym empty) (λ s d deep at small. (with_call v Stop, keeps, tt, next k s d id v stop at live tt, refl))
+
+  abbrev pub Sees : ℕ → ℕ → Knows → List (ℕ × Option Cargo) → Type 0
+  Sees slots id v c = Allows (IsOrdered k) slots id (v, c) 1 (λ n. n) (saw_stopped (step slots 1 0 0 none) (v, c))
+
+  pub sees : (slots id : ℕ) (v : Knows) (c : List (ℕ × Option Cargo)) → c ≡ [] → v.spent ≡ false → Sees slots id v c
+  sees slots id v c empty live = subst (Sees slots id v) (sym empty) (λ s d deep at small. (
+    with_call v (Stopped (slice_index s.words 1)),
+    keeps,
+    tt,
+    next k s d id v stopped at live tt,
+    (refl, (λ t e. ((kept_of k s d).passes id v at).misfit t e)),
+  ))
+
+  -- ---- take and free, and the slot of a lock
+
+  abbrev pub TakesAll : ℕ → ℕ → Option ℕ → ℕ → Knows → List (ℕ × Option Cargo) → Type 0
+  TakesAll slots id o word v c = Allows (IsOrdered k) slots id (v, c) word (λ x. either (x == 0) 1 x) (took_as o (step slots word 0 1 none) (v, c))
+
+  pub takes_lock : (slots id i : ℕ) (v : Knows) (c : List (ℕ × Option Cargo)) → c ≡ [] → i < locks k → v.spent ≡ false → v.hand ≡ None → TakesAll slots id (Some i) (threads k + i + 2) v c
+  takes_lock slots id i v c empty below live idle = subst (λ (z : List (ℕ × Option Cargo) × ℕ). TakesAll slots id (Some i) z.1 v z.0) (λ y. (sym empty y, (let x : threads k + 2 + i ≡ threads k + i + 2 = omega arith in x) y)) (λ s d deep at small.
+      let r : KeptHall k s = kept_of k s d in
+      let n : ℕ = threads k in
+      let j : ℕ = n + 2 + i in
+      let found : ℕ = slice_index s.words j in
+      let place = at_place r.told.segments i (omega (arith, r.told.law.all_states)) in
+      let F : ℕ → Type 0 = λ x. (w : Knows) × (a : Act (Option Cargo)) × Valid s.homes [] a × IsOrdered k (stepped s j x id [] w a) × took_as (Some i) (step slots j 0 1 none) (v, []) found (w, carried_after [] a) in
+      exchanged found 0 1 F
+      (λ hit. let lies = lock_home_of n s.words s.homes s.views i place.0 (r.locks_placed.spot i) (r.locks_placed.each i place.0 place.1) hit in
+      let h = lies.1 in
+      let l : LockView = h.segment in
+      let after : IsStateAfter k.image.value k.fuel k.limit r.told.history i place.0 = r.told.law.states_after i place.0 place.1 in
+      let number : l.number ≡ i = ap (λ (z : LockView). z.number) h.same ∙ after.follows.number in
+      let taken : Knows = after_take v l in
+      let w : Knows = record taken { hand = Some (n + i) } in
+      let wide : length v.locks ≡ locks k = r.locks_placed.sized id v at live in
+      let here : HasLock taken i (kept l) = subst (λ (z : ℕ). get_elem? (set v.locks z (Some (kept l))) i ≡ some (Some (kept l))) (sym number) (set_here v.locks i (Some (kept l)) (omega arith)) in (
+        w,
+        takes (n + i) (Some (Lock l)),
+        h.slot,
+        next k s d id v (take i l) at live record { free = idle; below = below; word = hit; slot = h.slot },
+        (
+          (λ _ u slot same e. subst (λ (z : ℕ × ℕ). Took z.0 z.1 (v, []) (w, (n + i, Some (Lock l)) ∷ [])) (λ y. (sym (some_same u i same) y, (let x : n + i ≡ slot = omega arith in x) y)) (
+            l,
+            taken,
+            record {
+              now = refl;
+              has = here;
+              others = (
+                (λ u p has. has),
+                (λ e x has. set_else v.locks l.number e (Some (kept l)) (λ (z : e ≡ l.number). home_out (r.locks_placed.spot i) id lies.0 (ap r.locks_placed.spot (sym (z ∙ number)) ∙ (r.locks_placed.owned id v e x at has).0)) ∙ has),
+              );
+              rest = record {
+                number = number;
+                of = ap (λ (z : LockView). z.journal.image) h.same ∙ (after.follows.of ∙ sym ((r.passes id v at).of live));
+                opened = ap (λ (z : LockView). z.journal.opened) h.same ∙ after.opened;
+                closed = ap (λ (z : LockView). z.journal.closed) h.same ∙ after.closed;
+                ended = h.rests;
+              };
+              sealed = λ e b is held. (let f = filter_finds (λ (z : Block). has z.held i) r.told.history b.stamp b ((r.passes id v at).sealed e b is) held in
+                  let blocks = blocks_are k.image.value k.fuel k.limit r.told.history (end_after k.image.value k.fuel r.told.history) i place.0 after.follows in
+                  (f.0, ap (λ (z : LockView). get_elem? (blocks_of z) f.0) h.same ∙ (ap (λ (z : List Block). get_elem? z f.0) blocks ∙ f.1)));
+              came = lock_came v l (subst (λ (z : ℕ). HasLock taken z (kept l)) (sym number) here) (λ x has. home_out (r.locks_placed.spot l.number) id (ap r.locks_placed.spot number ∙ lies.0) (r.locks_placed.owned id v l.number x at has).0);
+              called = no_call_taken v l;
+            },
+            refl,
+          )),
+          (λ miss. absurd (miss hit)),
+        ),
+      ))
+      (λ other. (after_miss v j found, keeps, tt, next k s d id v (miss j 0) at live other, ((λ hit _ _ _ _. absurd (other hit)), (λ _. refl)))))
+    where
+      home_out : (s : Spot) (j : ℕ) → s ≡ home → s ≡ out j → ⊥
+      home_out s j a b = cc (a, b)
+
+  abbrev pub FreesAll : ℕ → ℕ → ℕ → Knows → List (ℕ × Option Cargo) → Type 0
+  FreesAll slots id word v c = Allows (IsOrdered k) slots id (v, c) word (λ _. 0) (λ _. did_free (step slots word 0 0 none) (v, c) 0)
+
+  -- so the step that fills it is allowed
+  pub frees : (slots id : ℕ) (v : Knows) (l : LockView) (c : List (ℕ × Option Cargo)) → c ≡ (threads k + l.number, Some (Lock l)) ∷ [] → v.hand ≡ Some (threads k + l.number) → v.spent ≡ false → MayFree v l
+      → FreesAll slots id (threads k + l.number + 2) v c
+  frees slots id v l c one hand live may = subst (λ (z : List (ℕ × Option Cargo) × ℕ). FreesAll slots id z.1 v z.0) (λ y. (sym one y, (let x : threads k + 2 + l.number ≡ threads k + l.number + 2 = omega arith in x) y)) (λ s d deep at small. (
+    record (after_free v l) { hand = None },
+    gives,
+    tt,
+    next k s d id v (free l) at live (hand, may),
+    (λ slot x e. let same : l ≡ x = lock_is (threads k + l.number) slot l x e in ap (freed v) same),
+  ))
+    where
+      first : List (ℕ × Option Cargo) → Option Cargo
+      first [] = None
+      first (x ∷ xs) = x.1
+
+      one_of : ℕ → LockView → List (ℕ × Option Cargo)
+      one_of t a = (t, Some (Lock a)) ∷ []
+
+      lock_is : (t u : ℕ) (a b : LockView) → one_of t a ≡ one_of u b → a ≡ b
+      lock_is t u a b e = let f : Some (Lock a) ≡ Some (Lock b) = ap first e in cc f
+
+      freed : Knows → LockView → Sat
+      freed v l = (record (after_free v l) { hand = None }, [])
+
+  abbrev pub LaysLock : ℕ → ℕ → Knows → List (ℕ × Option Cargo) → Type 0
+  LaysLock = Lays
+
+  pub lays_lock : (slots id i : ℕ) (v : Knows) (l : LockView) (c : List (ℕ × Option Cargo)) → c ≡ (threads k + i, None) ∷ [] → v.hand ≡ Some (threads k + i) → v.spent ≡ false → HasLock v i l → Lays slots id v c
+  lays_lock slots id i v l c one hand live out' = subst (Lays slots id v) (sym one) (λ s d deep at small. (record v { hand = None }, gives, tt, next k s d id v (lay (threads k + i)) at live (hand, of_lock i l refl out'), refl))
+
+  abbrev pub ReachesLock : ℕ → ℕ → ℕ → Knows → List (ℕ × Option Cargo) → Type 0
+  ReachesLock slots id word v c = Allows (IsOrdered k) slots id (v, c) word (λ n. n) (reached (step slots word 0 0 none) (v, c))
+
+  pub reaches_lock : (slots id i : ℕ) (v : Knows) (l : LockView) (c : List (ℕ × Option Cargo)) → c ≡ [] → v.hand ≡ None → v.spent ≡ false → HasLock v i l → ReachesLock slots id (threads k + i + 2) v c
+  reaches_lock slots id i v l c empty idle live out' = subst (ReachesLock slots id (threads k + i + 2) v) (sym empty) (λ s d deep at small.
+      let slot : ℕ = threads k + i in (
+        record v { hand = Some slot },
+        takes slot None,
+        (is_lock_out k s (kept_of k s d) id i v l at out').4 (λ e. clash v.hand slot idle e),
+        next k s d id v (reach slot) at live (idle, of_lock i l refl out'),
+        (λ u e. ap (λ (z : ℕ). (record v { hand = Some z }, (z, None) ∷ [])) (let x : slot ≡ u = omega arith in x)),
+      ))
+
+  -- ---- passes that are made and joined
+
+  pub splits : (id : ℕ) (v : Knows) → v.spent ≡ false → v.maker ≡ true → v.made < v.worker → Splits (IsOrdered k) id v (dealt v) (fresh v)
+  splits id v live makes room s d at = next k s d id v split at live (makes, room)
+
+  pub merges : (id : ℕ) (v : Knows) (other : ℕ) (w : Knows) → v.spent ≡ false → w.spent ≡ false → IsFree w → Joins (IsOrdered k) id v other w (merged v w) gone
+  merges id v other w live lives clear s d at ne there' = next k s d id v (join other w) at live (sym (set_else s.views id other (merged v w) ne) ∙ there', lives, ne, clear)
+
+-- ---- commit
+
+abbrev pub SealsAll : Terms → ℕ → ℕ → Knows → Option PackageView → List (ℕ × Option Cargo) → Type 0
+SealsAll k slots id v o c = Allows (IsOrdered k) slots id (v, c) 0 (λ n. (n + 1) % 2 ^ 64) (sealed_as o (step slots 0 1 0 none) (v, c))
+
+pub seals : (k : Terms) (slots id : ℕ) (v : Knows) (q : PackageView) (c : List (ℕ × Option Cargo)) → c ≡ [] → v.spent ≡ false → Seals v q → SealsAll k slots id v (Some q) c
+seals k slots id v q c empty live a = subst (SealsAll k slots id v (Some q)) (sym empty) (λ s d deep at small. (
+  after_commit v (sealed_block (slice_index s.words 0) v.worker a.ran.block) (with_seal (slice_index s.words 0) v.worker q),
+  keeps,
+  tt,
+  next k s d id v (commit a.ran.block q) at live (a, refl),
+  (λ p is. (let same : q ≡ p = cc is in subst (λ z. DidSeal z (slice_index s.words 0) v (after_commit v (sealed_block (slice_index s.words 0) v.worker a.ran.block) (with_seal (slice_index s.words 0) v.worker q))) same (did_seal k s (kept_of k s d) id v q a live at), refl)),
+))
