@@ -9,6 +9,7 @@ pub mod Sealing
 pub mod Taking
 pub mod Making
 pub mod Opening
+pub mod Left
 pub mod Ordering
 pub mod Stepping
 pub mod Ended

@@ -22,29 +22,33 @@ use Rattle.tc_hall.specs.declared.board.Cargo.{Cargo}
 use Rattle.tc_hall.specs.declared.board.Cargo.TheVariants.{Package, Lock}
 use Rattle.tc_hall.specs.Places.{code_of, place_of, IsInRange}
 use Rattle.tc_hall.specs.Rule.{threads, locks, Has, HasLock, Spot, home, out, KeptHall}
-use Rattle.tc_hall.specs.Steps.{Sat, Gets, Got, Takes, Took, MayPut, MayFree, Seals, DidSeal, IsAsLeft, IsFree, claimed, laid, reached, took_as, put_as, did_free, looked, stopping, saw_stopped, sealed_as, after_claim, after_take, after_put, after_free, after_miss, after_commit, with_call, dealt, fresh, merged, gone}
+use Rattle.tc_hall.specs.Steps.{Sat, Gets, Got, Takes, Took, MayPut, MayFree, Seals, DidSeal, IsAsLeft, IsStateAsLeft, IsFree, claimed, laid, reached, took_as, put_as, did_free, looked, stopping, saw_stopped, sealed_as, after_claim, after_take, after_put, after_free, after_miss, after_commit, with_call, dealt, fresh, merged, gone}
 use Rattle.tc_hall.specs.Effects.{Hall, after, put_effect}
 use Rattle.tc_hall.specs.Order.{claim, take, miss, commit, put, free, look, stop, stopped, reach, lay, split, join, IsClaimable, of_package, of_lock, IsOrdered}
 use Rattle.tc_hall.proofs.Outs.{lock_came, no_call_taken}
 use Rattle.tc_hall.proofs.Moves.{some_same, clash, home_of, is_out, taken, gets}
 use Rattle.tc_hall.proofs.Telling.{place_codes, filled, as_left}
+use Rattle.tc_hall.proofs.Left.{left_home, left_state}
 use Rattle.tc_hall.proofs.Sealing.{did_seal}
 use Rattle.tc_hall.proofs.Taking.{lock_home_of, is_lock_out, filter_finds}
 use Rattle.tc_hall.proofs.Ordering.{claimable_low, kept_of, next}
 
+terms_are : (a b : Terms) → Some a ≡ Some b → a ≡ b
+terms_are a b e = cc e
+
 module _ (k : Terms) where
   -- ---- claim, and the slot of a package
 
-  abbrev pub Claims : ℕ → ℕ → ℕ → ℕ → ℕ → Knows → List (ℕ × Option Cargo) → Type 0
-  Claims slots id t code new v c = Allows (IsOrdered k) slots id (v, c) (t + 2) (λ x. either (x == code) new x) (claimed (step slots (t + 2) code new none) (v, c))
+  abbrev pub Claims : Option Terms → ℕ → ℕ → ℕ → ℕ → ℕ → Knows → List (ℕ × Option Cargo) → Type 0
+  Claims o slots id t code new v c = Allows (IsOrdered k) slots id (v, c) (t + 2) (λ x. either (x == code) new x) (claimed o (step slots (t + 2) code new none) (v, c))
 
-  pub claims : (slots id t code new : ℕ) (v : Knows) (c : List (ℕ × Option Cargo)) → c ≡ [] → IsClaimable k code → new ≡ 512 + v.worker → t < threads k → v.spent ≡ false → v.hand ≡ None → Claims slots id t code new v c
-  claims slots id t code new v c empty can new_is below live idle = subst (Claims slots id t code new v) (sym empty) (λ s d deep at small.
+  pub claims : (slots id t code new : ℕ) (v : Knows) (c : List (ℕ × Option Cargo)) → c ≡ [] → IsClaimable k code → new ≡ 512 + v.worker → t < threads k → v.spent ≡ false → v.hand ≡ None → Claims (Some k) slots id t code new v c
+  claims slots id t code new v c empty can new_is below live idle = subst (Claims (Some k) slots id t code new v) (sym empty) (λ s d deep at small.
       let r : KeptHall k s = kept_of k s d in
       let low = (claimable_low k code r.told.limits.locks can).0 in
       let found : ℕ = slice_index s.words (t + 2) in
       let place = at_place r.told.places t (omega (arith, r.told.law.all_packages)) in
-      let F : ℕ → Type 0 = λ x. (w : Knows) × (a : Act (Option Cargo)) × Valid s.homes [] a × IsOrdered k (stepped s (t + 2) x id [] w a) × claimed (step slots (t + 2) code new none) (v, []) found (w, carried_after [] a) in
+      let F : ℕ → Type 0 = λ x. (w : Knows) × (a : Act (Option Cargo)) × Valid s.homes [] a × IsOrdered k (stepped s (t + 2) x id [] w a) × claimed (Some k) (step slots (t + 2) code new none) (v, []) found (w, carried_after [] a) in
       exchanged found code new F
       (λ hit. let lies = home_of s.words s.homes s.views t place.0 (r.placed.holder t) (r.placed.each t place.0 place.1) (omega arith) in
       let h = lies.1 in
@@ -56,11 +60,12 @@ module _ (k : Terms) where
         subst (λ (z : ℕ). IsOrdered k (stepped s (t + 2) z id [] (taken k v t h.context) (takes t (Some (Package h.context))))) (sym new_is)
             (next k s d id v (claim t h.context) at live record { free = idle; below = below; word = subst (IsClaimable k) (sym hit) can; slot = h.slot }),
         (
-          (λ _ u e. subst (λ (z : ℕ × ℕ). Got z.1 z.0 (v, []) (taken k v t h.context, (t, Some (Package h.context)) ∷ [])) (λ i. ((let x : t ≡ u = omega arith in x) i, hit i)) (
+          (λ _ u e. subst (λ (z : ℕ × ℕ). Got (Some k) z.1 z.0 (v, []) (taken k v t h.context, (t, Some (Package h.context)) ∷ [])) (λ i. ((let x : t ≡ u = omega arith in x) i, hit i)) (
             h.context,
             after_claim v h.context,
             gets k s r id t v place.0 h at live below place.1 lies.0 thread,
             refl,
+            (λ j is. subst (λ (z : Terms). IsAsLeft z v h.context) (terms_are k j is) (left_home k s r id t v place.0 h at below place.1 thread)),
           )),
           (λ miss. absurd (miss hit)),
         ),
@@ -110,9 +115,6 @@ module _ (k : Terms) where
     )),
   ))
     where
-      terms_are : (a b : Terms) → Some a ≡ Some b → a ≡ b
-      terms_are a b e = cc e
-
       first : List (ℕ × Option Cargo) → Option Cargo
       first [] = None
       first (x ∷ xs) = x.1
@@ -157,17 +159,17 @@ module _ (k : Terms) where
 
   -- ---- take and free, and the slot of a lock
 
-  abbrev pub TakesAll : ℕ → ℕ → Option ℕ → ℕ → Knows → List (ℕ × Option Cargo) → Type 0
-  TakesAll slots id o word v c = Allows (IsOrdered k) slots id (v, c) word (λ x. either (x == 0) 1 x) (took_as o (step slots word 0 1 none) (v, c))
+  abbrev pub TakesAll : Option Terms → ℕ → ℕ → Option ℕ → ℕ → Knows → List (ℕ × Option Cargo) → Type 0
+  TakesAll p slots id o word v c = Allows (IsOrdered k) slots id (v, c) word (λ x. either (x == 0) 1 x) (took_as p o (step slots word 0 1 none) (v, c))
 
-  pub takes_lock : (slots id i : ℕ) (v : Knows) (c : List (ℕ × Option Cargo)) → c ≡ [] → i < locks k → v.spent ≡ false → v.hand ≡ None → TakesAll slots id (Some i) (threads k + i + 2) v c
-  takes_lock slots id i v c empty below live idle = subst (λ (z : List (ℕ × Option Cargo) × ℕ). TakesAll slots id (Some i) z.1 v z.0) (λ y. (sym empty y, (let x : threads k + 2 + i ≡ threads k + i + 2 = omega arith in x) y)) (λ s d deep at small.
+  pub takes_lock : (slots id i : ℕ) (v : Knows) (c : List (ℕ × Option Cargo)) → c ≡ [] → i < locks k → v.spent ≡ false → v.hand ≡ None → TakesAll (Some k) slots id (Some i) (threads k + i + 2) v c
+  takes_lock slots id i v c empty below live idle = subst (λ (z : List (ℕ × Option Cargo) × ℕ). TakesAll (Some k) slots id (Some i) z.1 v z.0) (λ y. (sym empty y, (let x : threads k + 2 + i ≡ threads k + i + 2 = omega arith in x) y)) (λ s d deep at small.
       let r : KeptHall k s = kept_of k s d in
       let n : ℕ = threads k in
       let j : ℕ = n + 2 + i in
       let found : ℕ = slice_index s.words j in
       let place = at_place r.told.segments i (omega (arith, r.told.law.all_states)) in
-      let F : ℕ → Type 0 = λ x. (w : Knows) × (a : Act (Option Cargo)) × Valid s.homes [] a × IsOrdered k (stepped s j x id [] w a) × took_as (Some i) (step slots j 0 1 none) (v, []) found (w, carried_after [] a) in
+      let F : ℕ → Type 0 = λ x. (w : Knows) × (a : Act (Option Cargo)) × Valid s.homes [] a × IsOrdered k (stepped s j x id [] w a) × took_as (Some k) (Some i) (step slots j 0 1 none) (v, []) found (w, carried_after [] a) in
       exchanged found 0 1 F
       (λ hit. let lies = lock_home_of n s.words s.homes s.views i place.0 (r.locks_placed.spot i) (r.locks_placed.each i place.0 place.1) hit in
       let h = lies.1 in
@@ -183,7 +185,7 @@ module _ (k : Terms) where
         h.slot,
         next k s d id v (take i l) at live record { free = idle; below = below; word = hit; slot = h.slot },
         (
-          (λ _ u slot same e. subst (λ (z : ℕ × ℕ). Took z.0 z.1 (v, []) (w, (n + i, Some (Lock l)) ∷ [])) (λ y. (sym (some_same u i same) y, (let x : n + i ≡ slot = omega arith in x) y)) (
+          (λ _ u slot same e. subst (λ (z : ℕ × ℕ). Took (Some k) z.0 z.1 (v, []) (w, (n + i, Some (Lock l)) ∷ [])) (λ y. (sym (some_same u i same) y, (let x : n + i ≡ slot = omega arith in x) y)) (
             l,
             taken,
             record {
@@ -207,6 +209,7 @@ module _ (k : Terms) where
               called = no_call_taken v l;
             },
             refl,
+            (λ m is. subst (λ (z : Terms). IsStateAsLeft z v i l) (terms_are k m is) (left_state k s r id i v place.0 h at place.1)),
           )),
           (λ miss. absurd (miss hit)),
         ),

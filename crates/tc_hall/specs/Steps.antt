@@ -16,7 +16,7 @@ use Rattle.tc_context.specs.declared.package.Grant.{Grant}
 use Rattle.tc_context.specs.Locks.{lock_in}
 use Rattle.tc_context.specs.View.{PackageView, AllowsPending, Rests, bare, fits_of, number_in, with_seal}
 use Rattle.tc_context.specs.Ran.{DidRun}
-use Rattle.tc_law.specs.History.{Follows}
+use Rattle.tc_law.specs.History.{Follows, StateFollows}
 use Rattle.tc_law.specs.Lawful.{Lawful, AreStrict}
 use Rattle.tc_hall.specs.declared.place.Place.{Place}
 use Rattle.tc_hall.specs.declared.place.Place.TheVariants.{Ready}
@@ -194,6 +194,14 @@ pub record IsAsLeft (k : Terms) (v : Knows) (q : PackageView) : Type 0 where
   pub follows : Follows k.image.value k.fuel k.limit history (end_after k.image.value k.fuel history) q
   pub sealed : (i : ℕ) (b : Block) → get_elem? v.sealed i ≡ some b → get_elem? history b.stamp ≡ some b
 
+-- the state of lock i is as such a history leaves it
+pub record IsStateAsLeft (k : Terms) (v : Knows) (i : ℕ) (l : LockView) : Type 0 where
+  pub history : List Block
+  pub tells : Tells k.image.value k.fuel history (end_after k.image.value k.fuel history)
+  pub obeys : (j : ℕ) → Obeys j k.limit (of_lock history j)
+  pub follows : StateFollows k.image.value k.fuel k.limit history (end_after k.image.value k.fuel history) i l
+  pub sealed : (j : ℕ) (b : Block) → get_elem? v.sealed j ≡ some b → get_elem? history b.stamp ≡ some b
+
 -- the state of lock i was taken out of its slot
 pub record Takes (i : ℕ) (l : LockView) (v w : Knows) : Type 0 where
   pub now : w ≡ after_take v l
@@ -241,19 +249,20 @@ pub record DidSeal (q : PackageView) (n : ℕ) (v w : Knows) : Type 0 where
 
 -- what each step on the table tells
 
--- the package of thread t was taken, and the pass has its slot in hand
-abbrev pub Got : ℕ → ℕ → Sat → Sat → Type 0
-Got word t m m' = (q : PackageView) × (w : Knows) × Gets word t q m.0 w × (m' ≡ (record w { hand = Some t }, (t, Some (Package q)) ∷ m.1))
+-- the package of thread t was taken, and the pass has its slot in hand; in a hall of these terms, where they were picked, it is
+-- as the history leaves it
+abbrev pub Got : Option Terms → ℕ → ℕ → Sat → Sat → Type 0
+Got o word t m m' = (q : PackageView) × (w : Knows) × Gets word t q m.0 w × (m' ≡ (record w { hand = Some t }, (t, Some (Package q)) ∷ m.1)) × ((k : Terms) → o ≡ Some k → IsAsLeft k m.0 q)
 
-abbrev pub claimed : At → Sat → ℕ → Sat → Type 0
-claimed st m r m' = (r ≡ st.first → (t : ℕ) → st.word ≡ t + 2 → Got st.first t m m') × (r ≢ st.first → m' ≡ (after_miss m.0 st.word r, m.1))
+abbrev pub claimed : Option Terms → At → Sat → ℕ → Sat → Type 0
+claimed o st m r m' = (r ≡ st.first → (t : ℕ) → st.word ≡ t + 2 → Got o st.first t m m') × (r ≢ st.first → m' ≡ (after_miss m.0 st.word r, m.1))
 
--- the state of lock i was taken, and the pass has the slot in hand
-abbrev pub Took : ℕ → ℕ → Sat → Sat → Type 0
-Took i slot m m' = (l : LockView) × (w : Knows) × Takes i l m.0 w × (m' ≡ (record w { hand = Some slot }, (slot, Some (Lock l)) ∷ m.1))
+-- the same of the state of lock i
+abbrev pub Took : Option Terms → ℕ → ℕ → Sat → Sat → Type 0
+Took o i slot m m' = (l : LockView) × (w : Knows) × Takes i l m.0 w × (m' ≡ (record w { hand = Some slot }, (slot, Some (Lock l)) ∷ m.1)) × ((k : Terms) → o ≡ Some k → IsStateAsLeft k m.0 i l)
 
-abbrev pub took_as : Option ℕ → At → Sat → ℕ → Sat → Type 0
-took_as o st m r m' = (r ≡ st.first → (i slot : ℕ) → o ≡ Some i → st.word ≡ slot + 2 → Took i slot m m') × (r ≢ st.first → m' ≡ (after_miss m.0 st.word r, m.1))
+abbrev pub took_as : Option Terms → Option ℕ → At → Sat → ℕ → Sat → Type 0
+took_as o of st m r m' = (r ≡ st.first → (i slot : ℕ) → of ≡ Some i → st.word ≡ slot + 2 → Took o i slot m m') × (r ≢ st.first → m' ≡ (after_miss m.0 st.word r, m.1))
 
 abbrev pub laid : At → Sat → ℕ → Sat → Type 0
 laid st m r m' = m' ≡ (record m.0 { hand = None }, rest m.1)

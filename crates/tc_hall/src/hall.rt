@@ -7,7 +7,7 @@ ghost use Rattle.tc_elf.specs.Shown.{Shown};
 ghost use Rattle.tc_context.specs.View.{IsWaiting, with_seal};
 ghost use Rattle.tc_hall.specs.Places.{IsInRange, origin_code};
 ghost use Rattle.tc_hall.specs.Rule.{threads, locks};
-ghost use Rattle.tc_hall.specs.Steps.{IsSamePass, IsPackage, IsLock, is_package, is_lock, Gets, MayPut, Gave, IsAsLeft, Missed, Takes, MayFree, Freed, Seals, DidSeal, after_look, after_stop, SawStopped, merged, IsFree, HasAll, HasSeenAll, IsEnd};
+ghost use Rattle.tc_hall.specs.Steps.{IsSamePass, IsPackage, IsLock, is_package, is_lock, Gets, MayPut, Gave, IsAsLeft, IsStateAsLeft, Missed, Takes, MayFree, Freed, Seals, DidSeal, after_look, after_stop, SawStopped, merged, IsFree, HasAll, HasSeenAll, IsEnd};
 ghost use Rattle.tc_hall.specs.Order.{IsClaimable};
 ghost use Rattle.tc_hall.specs.Made.{IsHallOf, AreDealt, AreStocked};
 
@@ -238,19 +238,21 @@ impl Hall {
         drop(self);
     }
 
-    // The package of a thread whose word is this.
-    fn claim_from(&self, pass: &mut Pass, t: u32, code: u64) -> Result<Package, u64>
+    // The package of a thread whose word is this, in a hall of J's terms.
+    fn claim_from<J: Under>(&self, pass: &mut Pass, t: u32, code: u64) -> Result<Package, u64>
         requires own { pass.old.table ≡ self.now.table }
+        requires picked { J.terms ≡ Some self.now.terms }
         requires thread { t < threads self.now.terms }
         requires code { IsClaimable self.now.terms code }
         ensures own { IsSamePass pass.old pass.new }
         ensures result { MatchResult result
             (λ p. Gets code t p pass.old.knows pass.new.knows)
             (λ e. Missed code (t + 2) e pass.old.knows pass.new.knows) }
+        ensures left { IfOk result (λ p. IsAsLeft self.now.terms pass.old.knows p) }
     {
         let at = 512 + u64::from(pass.number);
         let words = &self.board.shared;
-        let found = words.compare_exchange::<Claim>(&mut pass.seat, t as usize + 2, code, at);
+        let found = words.compare_exchange::<Claim<J>>(&mut pass.seat, t as usize + 2, code, at);
         if found != code {
             return Err(found);
         }
@@ -262,6 +264,8 @@ impl Hall {
     /// Takes the package of a ready or a parked thread, by one compare-and-swap on the thread's
     /// word, which shows the pass's worker afterwards. It refuses exactly where the word was
     /// another, and nothing changes then but that the pass has missed. It does not try again.
+    ///
+    /// The package is as it lay in its slot: the pass notes it among those that it has claimed.
     pub fn claim(&self, pass: &mut Pass, t: u32, from: Origin) -> Result<Package, NotReady>
         requires own { pass.old.table ≡ self.now.table }
         requires thread { t < threads self.now.terms }
@@ -269,8 +273,9 @@ impl Hall {
         ensures result { MatchResult result
             (λ p. Gets (origin_code from) t p pass.old.knows pass.new.knows)
             (λ e. Missed (origin_code from) (t + 2) e.0 pass.old.knows pass.new.knows) }
+        ensures left { IfOk result (λ p. IsAsLeft self.now.terms pass.old.knows p) }
     {
-        match self.claim_from(pass, t, from.code()) {
+        match self.claim_from::<Brand>(pass, t, from.code()) {
             Ok(package) => Ok(package),
             Err(word) => Err(NotReady(word)),
         }
@@ -288,9 +293,10 @@ impl Hall {
         ensures result { MatchResult result
             (λ p. Gets (256 + lock) t p pass.old.knows pass.new.knows)
             (λ e. Missed (256 + lock) (t + 2) e.0 pass.old.knows pass.new.knows) }
+        ensures left { IfOk result (λ p. IsAsLeft self.now.terms pass.old.knows p) }
         ensures waiting { IfOk result (λ p. IsWaiting p lock) }
     {
-        match self.claim_from(pass, t, 256 + u64::from(lock)) {
+        match self.claim_from::<Brand>(pass, t, 256 + u64::from(lock)) {
             Ok(package) => {
                 package.keeps();
                 Ok(package)
@@ -340,13 +346,14 @@ impl Hall {
     // Takes J's lock.
     fn take_as<J: Wanted>(&self, pass: &mut Pass, lock: u32) -> Result<LockState, LockOut>
         requires own { pass.old.table ≡ self.now.table }
-        requires picked { J.number ≡ Some lock }
+        requires picked { (J.number ≡ Some lock) × (J.terms ≡ Some self.now.terms) }
         requires lock { lock < locks self.now.terms }
         ensures own { IsSamePass pass.old pass.new }
         ensures result { MatchResult result
             (λ l. Takes lock l pass.old.knows pass.new.knows)
             (λ e. Missed 0 (threads self.now.terms + lock + 2) e.0
             pass.old.knows pass.new.knows) }
+        ensures left { IfOk result (λ l. IsStateAsLeft self.now.terms pass.old.knows lock l) }
     {
         let place = self.threads as usize + lock as usize;
         let words = &self.board.shared;
@@ -369,6 +376,7 @@ impl Hall {
             (λ l. Takes lock l pass.old.knows pass.new.knows)
             (λ e. Missed 0 (threads self.now.terms + lock + 2) e.0
             pass.old.knows pass.new.knows) }
+        ensures left { IfOk result (λ l. IsStateAsLeft self.now.terms pass.old.knows lock l) }
     {
         self.take_as::<Brand>(pass, lock)
     }
@@ -401,9 +409,8 @@ impl Hall {
         ensures own { IsSamePass pass.old pass.new }
         ensures look { pass.new.knows ≡ after_look pass.old.knows t result }
     {
-        self.board
-            .shared
-            .load::<Look>(&mut pass.seat, t as usize + 2)
+        let words = &self.board.shared;
+        words.load::<Look>(&mut pass.seat, t as usize + 2)
     }
 
     /// Tells all workers to stop, by one store of 1 on the stop word, which no call takes back.

@@ -5,10 +5,12 @@ use crate::board::{Knows, Slot};
 use atomic_table::{Join, Play, Split};
 use std::marker::{Brand, PhantomData};
 
-pub(crate) struct Claim;
+pub(crate) struct Claim<J> {
+    marker: PhantomData<J>,
+}
 
-impl Play<Slot, Knows> for Claim {
-    ghost then = { claimed };
+impl<J: Under> Play<Slot, Knows> for Claim<J> {
+    ghost then = { claimed J.terms };
 }
 
 // Gives the slot back, empty.
@@ -25,7 +27,7 @@ impl Play<Slot, Knows> for Reach {
     ghost then = { reached };
 }
 
-/// The terms of the hall in which a package is put. Each call picks them.
+/// The terms of the hall in which a package or a lock state is taken or put. Each call picks them.
 pub trait Under {
     ghost use Rattle.std.specs.Prelude.{Option};
     ghost use Rattle.tc_hall.specs.declared.board.Terms.{Terms};
@@ -93,17 +95,20 @@ impl<J: Asked> Play<Slot, Knows> for Seal<J> {
     ghost then = { sealed_as J.picked };
 }
 
-/// The lock that is taken. Each call picks it.
+/// The lock that is taken, and the terms of the hall. Each call picks them.
 pub trait Wanted {
     ghost use Rattle.std.specs.Prelude.{Option, ℕ};
+    ghost use Rattle.tc_hall.specs.declared.board.Terms.{Terms};
 
     ghost number: { Option ℕ };
+    ghost terms: { Option Terms };
 }
 
 impl Wanted for Brand {
     ghost use Rattle.std.specs.Prelude.{None};
 
     ghost number = { None };
+    ghost terms = { None };
 }
 
 pub(crate) struct Take<J> {
@@ -111,7 +116,7 @@ pub(crate) struct Take<J> {
 }
 
 impl<J: Wanted> Play<Slot, Knows> for Take<J> {
-    ghost then = { took_as J.number };
+    ghost then = { took_as J.terms J.number };
 }
 
 // Makes another pass.

@@ -5,32 +5,37 @@ use Rattle.tc_hall.specs.declared.board.Cargo.{Cargo}
 use Rattle.tc_hall.specs.declared.board.Cargo.TheVariants.{Package}
 use Rattle.tc_hall.specs.PassView.{PassView, HallView}
 use Rattle.tc_hall.specs.Rule.{threads, Has}
-use Rattle.tc_hall.specs.Steps.{Gets}
+use Rattle.tc_hall.specs.declared.board.Terms.{Terms}
+use Rattle.tc_hall.specs.Steps.{Gets, IsAsLeft}
 use Rattle.tc_hall.specs.Order.{IsClaimable}
-use Rattle.tc_hall.proofs.Stepping.{claims, lays}
+use Rattle.tc_hall.proofs.Stepping.{Claims, claims, lays}
 use Rattle.tc_hall.proofs.Holding.{got_slot, got_found, got_carried, got_view, got_last, got_empty}
 use Rattle.tc_hall.proofs.hall.Hall.claim_from.Goals as goal
 
+package_is : (a b : PackageView) (x : Option Cargo) → x ≡ Some (Package a) → x ≡ Some (Package b) → a ≡ b
+package_is a b x e f = cc (e, f)
+
 pub compare_exchange-found-requires : goal.compare_exchange-found-requires
-compare_exchange-found-requires c =
+compare_exchange-found-requires g c =
     let seat = c.pass.inside.seat in
     let own = ap (λ (p : PassView). p.table) c.pass.view_is ∙ (c.requires.own ∙ sym (ap (λ (h : HallView). h.table) c.self.view_is)) in
     let below : c.args.t < threads c.self.inside.board.shared.key = subst (λ (h : HallView). c.args.t < threads h.terms) (sym c.self.view_is) c.requires.thread in
     let can : IsClaimable c.self.inside.board.shared.key c.args.code = subst (λ (h : HallView). IsClaimable h.terms c.args.code) (sym c.self.view_is) c.requires.code in (
       own,
       omega (arith, c.self.invariant.0, c.self.invariant.1),
-      claims c.self.inside.board.shared.key _ seat.id c.args.t c.args.code _ seat.me.0 seat.me.1 c.pass.invariant.0 can (ap (λ (k : ℕ). 512 + k) (c.from-at.ensures ∙ c.pass.invariant.2)) below c.pass.invariant.3 c.pass.invariant.1,
+      subst (λ (o : Option Terms). Claims c.self.inside.board.shared.key o c.self.inside.board.shared.table_id.slots seat.id c.args.t c.args.code (512 + c.from-at.result) seat.me.0 seat.me.1) (sym (c.requires.picked ∙ ap (λ (h : HallView). Some h.terms) (sym c.self.view_is)))
+          (claims c.self.inside.board.shared.key _ seat.id c.args.t c.args.code _ seat.me.0 seat.me.1 c.pass.invariant.0 can (ap (λ (k : ℕ). 512 + k) (c.from-at.ensures ∙ c.pass.invariant.2)) below c.pass.invariant.3 c.pass.invariant.1),
     )
 
 pub exchange-slot-requires : goal.exchange-slot-requires
-exchange-slot-requires c =
+exchange-slot-requires g c =
     let own = ap (λ (p : PassView). p.table) c.pass.view_is ∙ (c.requires.own ∙ sym (ap (λ (h : HallView). h.table) c.self.view_is)) in
     let did = c.compare_exchange-found.ensures in
     let got = did.2.0 c.if-found-code.false c.args.t refl in
     (did.0 ∙ own, got_slot c.args.t (Package got.0) got.1 c.pass.inside.seat.me c.compare_exchange-found.new.seat.me got.3)
 
 pub load-requires : goal.load-requires
-load-requires c =
+load-requires g c =
     let own = ap (λ (p : PassView). p.table) c.pass.view_is ∙ (c.requires.own ∙ sym (ap (λ (h : HallView). h.table) c.self.view_is)) in
     let did = c.compare_exchange-found.ensures in
     let got = did.2.0 c.if-found-code.false c.args.t refl in
@@ -43,12 +48,12 @@ load-requires c =
     )
 
 pub package_of-requires : goal.package_of-requires
-package_of-requires c =
+package_of-requires g c =
     let got = c.compare_exchange-found.ensures.2.0 c.if-found-code.false c.args.t refl in
     (got.0, got_found c.args.t (Package got.0) got.1 c.pass.inside.seat.me c.compare_exchange-found.new.seat.me got.3 c.exchange-slot.result c.exchange-slot.ensures.2)
 
 pub invariant_of-pass-2 : goal.invariant_of-pass-2
-invariant_of-pass-2 c =
+invariant_of-pass-2 g c =
     let got = c.compare_exchange-found.ensures.2.0 c.if-found-code.false c.args.t refl in
     let free : got.1.hand ≡ None = ap (λ (z : Knows). z.hand) got.2.now ∙ c.pass.invariant.1 in
     let m = c.pass.inside.seat.me in
@@ -60,7 +65,7 @@ invariant_of-pass-2 c =
     )
 
 pub returns-clause-result : goal.returns-clause-result
-returns-clause-result c =
+returns-clause-result g c =
     let got = c.compare_exchange-found.ensures.2.0 c.if-found-code.false c.args.t refl in
     let m = c.pass.inside.seat.me in
     let free : got.1.hand ≡ None = ap (λ (z : Knows). z.hand) got.2.now ∙ c.pass.invariant.1 in
@@ -69,6 +74,13 @@ returns-clause-result c =
     let same : got.0 ≡ c.package_of.result = package_is got.0 c.package_of.result c.exchange-slot.result found c.package_of.ensures in
     subst (λ (p : PassView). Gets c.args.code c.args.t c.package_of.result p.knows c.load.new.seat.me.0) c.pass.view_is
     (subst (λ (z : PackageView × Knows). Gets c.args.code c.args.t z.0 m.0 z.1) (λ i. (same i, sym last i)) got.2)
-  where
-    package_is : (a b : PackageView) (x : Option Cargo) → x ≡ Some (Package a) → x ≡ Some (Package b) → a ≡ b
-    package_is a b x e f = cc (e, f)
+
+pub returns-clause-left : goal.returns-clause-left
+returns-clause-left g c =
+    let got = c.compare_exchange-found.ensures.2.0 c.if-found-code.false c.args.t refl in
+    let m = c.pass.inside.seat.me in
+    let key : Terms = c.self.inside.board.shared.key in
+    let found = got_found c.args.t (Package got.0) got.1 m c.compare_exchange-found.new.seat.me got.3 c.exchange-slot.result c.exchange-slot.ensures.2 in
+    let same : got.0 ≡ c.package_of.result = package_is got.0 c.package_of.result c.exchange-slot.result found c.package_of.ensures in
+    subst (λ (z : HallView × PassView). IsAsLeft z.0.terms z.1.knows c.package_of.result) (λ i. (c.self.view_is i, c.pass.view_is i))
+    (subst (λ (q : PackageView). IsAsLeft key m.0 q) same (got.4 key (c.requires.picked ∙ ap (λ (h : HallView). Some h.terms) (sym c.self.view_is))))

@@ -5,10 +5,14 @@ use Rattle.tc_hall.specs.declared.board.Cargo.{Cargo}
 use Rattle.tc_hall.specs.declared.board.Cargo.TheVariants.{Lock}
 use Rattle.tc_hall.specs.PassView.{PassView, HallView}
 use Rattle.tc_hall.specs.Rule.{threads, locks, HasLock}
-use Rattle.tc_hall.specs.Steps.{Takes, Took}
+use Rattle.tc_hall.specs.declared.board.Terms.{Terms}
+use Rattle.tc_hall.specs.Steps.{Takes, IsStateAsLeft}
 use Rattle.tc_hall.proofs.Stepping.{TakesAll, takes_lock, lays_lock}
 use Rattle.tc_hall.proofs.Holding.{got_slot, got_found, got_carried, got_view, got_last, got_empty}
 use Rattle.tc_hall.proofs.hall.Hall.take_as.Goals as goal
+
+lock_is : (a b : LockView) (x : Option Cargo) → x ≡ Some (Lock a) → x ≡ Some (Lock b) → a ≡ b
+lock_is a b x e f = cc (e, f)
 
 pub compare_exchange-found-requires : goal.compare_exchange-found-requires
 compare_exchange-found-requires g c =
@@ -20,7 +24,7 @@ compare_exchange-found-requires g c =
     let m = c.self.invariant.3 in (
       own,
       omega (arith, c.self.invariant.1),
-      subst (λ (z : Option ℕ × ℕ). TakesAll key c.self.inside.board.shared.table_id.slots seat.id z.0 (z.1 + c.args.lock + 2) seat.me.0 seat.me.1) (λ i. (sym c.requires.picked i, sym n i)) (takes_lock key _ seat.id c.args.lock seat.me.0 seat.me.1 c.pass.invariant.0 below c.pass.invariant.3 c.pass.invariant.1),
+      subst (λ (z : Option Terms × Option ℕ × ℕ). TakesAll key z.0 c.self.inside.board.shared.table_id.slots seat.id z.1 (z.2 + c.args.lock + 2) seat.me.0 seat.me.1) (λ i. (sym (c.requires.picked.1 ∙ ap (λ (h : HallView). Some h.terms) (sym c.self.view_is)) i, sym c.requires.picked.0 i, sym n i)) (takes_lock key _ seat.id c.args.lock seat.me.0 seat.me.1 c.pass.invariant.0 below c.pass.invariant.3 c.pass.invariant.1),
     )
 
 pub exchange-slot-requires : goal.exchange-slot-requires
@@ -28,7 +32,7 @@ exchange-slot-requires g c =
     let own = ap (λ (p : PassView). p.table) c.pass.view_is ∙ (c.requires.own ∙ sym (ap (λ (h : HallView). h.table) c.self.view_is)) in
     let did = c.compare_exchange-found.ensures in
     let slot : ℕ = c.self.inside.threads + c.args.lock in
-    let got : Took c.args.lock slot c.pass.inside.seat.me c.compare_exchange-found.new.seat.me = did.2.0 c.if-found-ne0.false c.args.lock slot c.requires.picked refl in
+    let got = did.2.0 c.if-found-ne0.false c.args.lock slot c.requires.picked.0 refl in
     (did.0 ∙ own, got_slot slot (Lock got.0) got.1 c.pass.inside.seat.me c.compare_exchange-found.new.seat.me got.3)
 
 pub load-requires : goal.load-requires
@@ -37,7 +41,7 @@ load-requires g c =
     let key = c.self.inside.board.shared.key in
     let did = c.compare_exchange-found.ensures in
     let slot : ℕ = c.self.inside.threads + c.args.lock in
-    let got : Took c.args.lock slot c.pass.inside.seat.me c.compare_exchange-found.new.seat.me = did.2.0 c.if-found-ne0.false c.args.lock slot c.requires.picked refl in
+    let got = did.2.0 c.if-found-ne0.false c.args.lock slot c.requires.picked.0 refl in
     let m2 = c.exchange-slot.new.seat.me in
     let at : slot ≡ threads key + c.args.lock = (let n = c.self.invariant.0 in omega arith) in
     let view = got_view slot (Lock got.0) got.1 c.pass.inside.seat.me c.compare_exchange-found.new.seat.me got.3 c.pass.invariant.0 m2 c.exchange-slot.ensures.3 in (
@@ -50,13 +54,13 @@ load-requires g c =
 pub lock_of-requires : goal.lock_of-requires
 lock_of-requires g c =
     let slot : ℕ = c.self.inside.threads + c.args.lock in
-    let got : Took c.args.lock slot c.pass.inside.seat.me c.compare_exchange-found.new.seat.me = c.compare_exchange-found.ensures.2.0 c.if-found-ne0.false c.args.lock slot c.requires.picked refl in
+    let got = c.compare_exchange-found.ensures.2.0 c.if-found-ne0.false c.args.lock slot c.requires.picked.0 refl in
     (got.0, got_found slot (Lock got.0) got.1 c.pass.inside.seat.me c.compare_exchange-found.new.seat.me got.3 c.exchange-slot.result c.exchange-slot.ensures.2)
 
 pub invariant_of-pass-2 : goal.invariant_of-pass-2
 invariant_of-pass-2 g c =
     let slot : ℕ = c.self.inside.threads + c.args.lock in
-    let got : Took c.args.lock slot c.pass.inside.seat.me c.compare_exchange-found.new.seat.me = c.compare_exchange-found.ensures.2.0 c.if-found-ne0.false c.args.lock slot c.requires.picked refl in
+    let got = c.compare_exchange-found.ensures.2.0 c.if-found-ne0.false c.args.lock slot c.requires.picked.0 refl in
     let free : got.1.hand ≡ None = ap (λ (z : Knows). z.hand) got.2.now ∙ c.pass.invariant.1 in
     let m = c.pass.inside.seat.me in
     let last = got_last slot (Lock got.0) got.1 m c.compare_exchange-found.new.seat.me got.3 c.pass.invariant.0 c.exchange-slot.new.seat.me c.exchange-slot.ensures.3 free c.load.new.seat.me c.load.ensures.2 in (
@@ -69,7 +73,7 @@ invariant_of-pass-2 g c =
 pub returns-clause-result : goal.returns-clause-result
 returns-clause-result g c =
     let slot : ℕ = c.self.inside.threads + c.args.lock in
-    let got : Took c.args.lock slot c.pass.inside.seat.me c.compare_exchange-found.new.seat.me = c.compare_exchange-found.ensures.2.0 c.if-found-ne0.false c.args.lock slot c.requires.picked refl in
+    let got = c.compare_exchange-found.ensures.2.0 c.if-found-ne0.false c.args.lock slot c.requires.picked.0 refl in
     let m = c.pass.inside.seat.me in
     let free : got.1.hand ≡ None = ap (λ (z : Knows). z.hand) got.2.now ∙ c.pass.invariant.1 in
     let last = got_last slot (Lock got.0) got.1 m c.compare_exchange-found.new.seat.me got.3 c.pass.invariant.0 c.exchange-slot.new.seat.me c.exchange-slot.ensures.3 free c.load.new.seat.me c.load.ensures.2 in
@@ -77,6 +81,14 @@ returns-clause-result g c =
     let same : got.0 ≡ c.lock_of.result = lock_is got.0 c.lock_of.result c.exchange-slot.result found c.lock_of.ensures in
     subst (λ (p : PassView). Takes c.args.lock c.lock_of.result p.knows c.load.new.seat.me.0) c.pass.view_is
     (subst (λ (z : LockView × Knows). Takes c.args.lock z.0 m.0 z.1) (λ i. (same i, sym last i)) got.2)
-  where
-    lock_is : (a b : LockView) (x : Option Cargo) → x ≡ Some (Lock a) → x ≡ Some (Lock b) → a ≡ b
-    lock_is a b x e f = cc (e, f)
+
+pub returns-clause-left : goal.returns-clause-left
+returns-clause-left g c =
+    let slot : ℕ = c.self.inside.threads + c.args.lock in
+    let got = c.compare_exchange-found.ensures.2.0 c.if-found-ne0.false c.args.lock slot c.requires.picked.0 refl in
+    let m = c.pass.inside.seat.me in
+    let key : Terms = c.self.inside.board.shared.key in
+    let found = got_found slot (Lock got.0) got.1 m c.compare_exchange-found.new.seat.me got.3 c.exchange-slot.result c.exchange-slot.ensures.2 in
+    let same : got.0 ≡ c.lock_of.result = lock_is got.0 c.lock_of.result c.exchange-slot.result found c.lock_of.ensures in
+    subst (λ (z : HallView × PassView). IsStateAsLeft z.0.terms z.1.knows c.args.lock c.lock_of.result) (λ i. (c.self.view_is i, c.pass.view_is i))
+    (subst (λ (q : LockView). IsStateAsLeft key m.0 c.args.lock q) same (got.4 key (c.requires.picked.1 ∙ ap (λ (h : HallView). Some h.terms) (sym c.self.view_is))))
