@@ -11,6 +11,7 @@ pub mod Making
 pub mod Opening
 pub mod Left
 pub mod Ordering
+pub mod Exact
 pub mod Stepping
 pub mod Ended
 pub mod Holding

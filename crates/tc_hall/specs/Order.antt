@@ -1,6 +1,6 @@
 -- The rule of the table: all operations of the passes stand in one order, each allowed where it stands, and the table is what
 -- their effects make of it from the opening.
-use Rattle.std.specs.Prelude.{◌≡◌, ◌≢◌, ◌⊎◌, ℕ, ◌+◌, ◌<◌, true, false, List, [], ◌∷◌, replicate, slice_index, Option, Some, None}
+use Rattle.std.specs.Prelude.{◌≡◌, ◌≢◌, ◌⊎◌, ℕ, ◌+◌, ◌<◌, ◌≤◌, true, false, List, [], ◌∷◌, length, replicate, slice_index, Option, Some, None}
 use mathlib.Core.Option.{some}
 use lib.ListN.{get_elem?}
 use Rattle.atomic_table.specs.Table.{opening}
@@ -12,8 +12,8 @@ use Rattle.tc_hall.specs.declared.board.Knows.{Knows}
 use Rattle.tc_hall.specs.declared.board.Terms.{Terms}
 use Rattle.tc_hall.specs.declared.board.Cargo.{Cargo}
 use Rattle.tc_hall.specs.declared.board.Cargo.TheVariants.{Package, Lock}
-use Rattle.tc_hall.specs.Places.{IsInRange}
-use Rattle.tc_hall.specs.Rule.{threads, locks, starting, Has, HasLock, IsLimited}
+use Rattle.tc_hall.specs.Places.{IsInRange, code_of}
+use Rattle.tc_hall.specs.Rule.{threads, locks, starting, Has, HasLock, IsLimited, KeptHall}
 use Rattle.tc_hall.specs.Steps.{MayPut, MayFree, Seals, IsFree}
 use Rattle.tc_hall.specs.Effects.{Hall, after, claim_effect, commit_effect, put_effect, take_effect, free_effect, look_effect, stop_effect, stopped_effect, miss_effect, reach_effect, lay_effect, with_new_pass, with_joined}
 use Rattle.tc_hall.specs.Made.{AreStocked}
@@ -137,3 +137,24 @@ pub record IsOrdered (k : Terms) (s : Hall) : Type 0 where
   pub order : List Made
   pub legal : IsLegal k first order
   pub is : s ≡ hall_after k first order
+
+-- ---- what holds after every order
+
+-- the word of a thread: the code of the place where its package was put, or the worker that it is out with
+pub data IsThreadWord (k : Terms) (word : ℕ) : Type 0 where
+  put_at : (place : Place) → IsInRange (locks k) place → word ≡ code_of place → IsThreadWord k word
+  out_with : (worker : ℕ) → worker < k.workers → word ≡ 512 + worker → IsThreadWord k word
+
+pub record AreExact (k : Terms) (words : List ℕ) : Type 0 where
+  pub count : length words ≡ threads k + 2 + locks k
+  pub of_threads : (t : ℕ) → t < threads k → IsThreadWord k (slice_index words (t + 2))
+  pub of_locks : (i : ℕ) → i < locks k → slice_index words (threads k + 2 + i) ≤ 1
+  pub of_stop : slice_index words 1 ≤ 1
+
+-- between any two operations the rules of places, words and history hold
+abbrev pub IsKept : Type 0
+IsKept = (k : Terms) (s : Hall) → IsOrdered k s → KeptHall k s
+
+-- and each word is one of those that it may be
+abbrev pub HasExactWords : Type 0
+HasExactWords = (k : Terms) (s : Hall) → IsOrdered k s → AreExact k s.words

@@ -101,6 +101,7 @@ pub trait Wanted {
     ghost use Rattle.tc_hall.specs.declared.board.Terms.{Terms};
 
     ghost number: { Option ℕ };
+
     ghost terms: { Option Terms };
 }
 
@@ -108,6 +109,7 @@ impl Wanted for Brand {
     ghost use Rattle.std.specs.Prelude.{None};
 
     ghost number = { None };
+
     ghost terms = { None };
 }
 

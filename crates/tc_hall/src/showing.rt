@@ -1,6 +1,7 @@
 //! What the steps of a hall are to the pure machine.
 
 ghost use Rattle.tc_hall.specs.Ties.{ClaimTie, AdoptTie, PutTie, TakeTie, FreeTie, CommitTie, TellTie, PassTie};
+ghost use Rattle.tc_hall.specs.Order.{IsKept, HasExactWords};
 ghost use Rattle.tc_hall.specs.Lift.{OpensShown, Lifts};
 
 /// In every state of a hall that meets its rule, each step keeps the rule; and what it shows is an
@@ -14,6 +15,13 @@ pub fn tie()
     ensures commit { CommitTie }
     ensures tells { TellTie }
     ensures passes { PassTie }
+{}
+
+/// What holds between any two operations of a hall, whatever their order: the rules of places, words
+/// and history, and of each word that it is one of those that it may be.
+pub fn order()
+    ensures kept { IsKept }
+    ensures words { HasExactWords }
 {}
 
 /// Whole runs. A new hall shows the first state of the pure machine; and the operations of a hall

@@ -1,0 +1,9 @@
+use Rattle.tc_hall.proofs.Ordering.{kept_of}
+use Rattle.tc_hall.proofs.Exact.{exact_words}
+use Rattle.tc_hall.proofs.showing.order.Goals as goal
+
+pub returns-clause-kept : goal.returns-clause-kept
+returns-clause-kept c = kept_of
+
+pub returns-clause-words : goal.returns-clause-words
+returns-clause-words c = exact_words
