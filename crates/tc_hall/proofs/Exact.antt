@@ -34,8 +34,8 @@ module _ (k : Terms) where
   }
 
   -- the word stays
-  word_stays : (ws : List ℕ) (i : ℕ) → AreExact k ws → AreExact k (set ws i (slice_index ws i))
-  word_stays ws i exact = subst (AreExact k) (sym (set-get_or ws i 0)) exact
+  word_stays : (ws : List ℕ) (i n : ℕ) → slice_index ws i ≡ n → AreExact k ws → AreExact k (set ws i n)
+  word_stays ws i n is exact = subst (AreExact k) (sym (set-get_or ws i 0) ∙ ap (λ (z : ℕ). set ws i z) is) exact
 
   exact_after : (s : Hall) (r : KeptHall k s) (id : ℕ) (v : Knows) → get_elem? s.views id ≡ some v → (o : Operation) → MayDo k s id v o → AreExact k s.words → AreExact k (after_operation k s id v o).words
   exact_after s r id v at (claim t q) may exact =
@@ -46,13 +46,13 @@ module _ (k : Terms) where
       word_set s.words (q.context.thread + 2) (code_of place) exact (λ u b e. put_at place may.range refl) (λ l b e. absurd (omega arith)) (λ e. absurd (omega arith))
   exact_after s r id v at (take i l) may exact = word_set s.words (threads k + 2 + i) 1 exact (λ u b e. absurd (omega arith)) (λ j b e. omega arith) (λ e. omega arith)
   exact_after s r id v at (free l) may exact = word_set s.words (threads k + 2 + l.number) 0 exact (λ u b e. absurd (omega arith)) (λ j b e. omega arith) (λ e. omega arith)
-  exact_after s r id v at (commit b q) may exact = word_set s.words 0 _ exact (λ u c e. absurd (omega arith)) (λ j c e. absurd (omega arith)) (λ e. absurd (omega arith))
+  exact_after s r id v at (commit stamp b q) may exact = word_set s.words 0 _ exact (λ u c e. absurd (omega arith)) (λ j c e. absurd (omega arith)) (λ e. absurd (omega arith))
   exact_after s r id v at stop may exact = word_set s.words 1 1 exact (λ u b e. absurd (omega arith)) (λ j b e. absurd (omega arith)) (λ e. omega arith)
-  exact_after s r id v at (miss word wanted) may exact = word_stays s.words word exact
-  exact_after s r id v at (look t) may exact = word_stays s.words (t + 2) exact
-  exact_after s r id v at stopped may exact = word_stays s.words 1 exact
-  exact_after s r id v at (reach slot) may exact = word_stays s.words (slot + 2) exact
-  exact_after s r id v at (lay slot) may exact = word_stays s.words 0 exact
+  exact_after s r id v at (miss word wanted found) may exact = word_stays s.words word found may.0 exact
+  exact_after s r id v at (look t found) may exact = word_stays s.words (t + 2) found may.1 exact
+  exact_after s r id v at (stopped found) may exact = word_stays s.words 1 found may exact
+  exact_after s r id v at (reach slot) may exact = word_stays s.words (slot + 2) _ refl exact
+  exact_after s r id v at (lay slot) may exact = word_stays s.words 0 _ refl exact
   exact_after s r id v at split may exact = exact
   exact_after s r id v at (join other w) may exact = exact
 

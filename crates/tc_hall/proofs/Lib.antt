@@ -12,6 +12,7 @@ pub mod Opening
 pub mod Left
 pub mod Ordering
 pub mod Exact
+pub mod Parts
 pub mod Stepping
 pub mod Ended
 pub mod Holding

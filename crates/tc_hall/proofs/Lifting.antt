@@ -29,7 +29,7 @@ use Rattle.tc_hall.specs.declared.board.Cargo.TheVariants.{Package, Lock}
 use Rattle.tc_hall.specs.Rule.{threads, locks, starting, locked_in, KeptHall}
 use Rattle.tc_hall.specs.Steps.{Seals, IsFree}
 use Rattle.tc_hall.specs.Made.{AreStocked}
-use Rattle.tc_hall.specs.Effects.{Hall}
+use Rattle.tc_hall.specs.Effects.{Hall, after, commit_effect, look_effect, stopped_effect, miss_effect}
 use Rattle.tc_hall.specs.Order.{Operation, claim, take, miss, commit, put, free, look, stop, stopped, reach, lay, split, join, MayFill, MayDo, after_operation, IsOpening}
 use Rattle.tc_hall.specs.Outline.{Lying, outline, lies_at}
 use Rattle.tc_hall.specs.Shown.{PackageAt, in_slot, with_pass, LockAt, lock_in_slot, lock_in_package, lock_with_pass, ShowsThread, ShowsLock, place_shown, last_end}
@@ -108,9 +108,9 @@ module _ (k : Terms) (s : Hall) (r : KeptHall k s) (id : ℕ) (v : Knows) (at : 
   placed q Done es may is enabled = at_these _ es _ is.1 enabled (λ e. tied _ _ _ _ ((put_tie k m q).done record { hand = may.hand; range = may.range; may = may.may }) is.0 e)
 
   sealed : (b : Block) (q : PackageView) (es : List Event) (a : Seals v q) → a.ran.block ≡ b → es ≡ turns_by v.worker q.context.thread b.turns ++ Commit v.worker q.context.thread ∷ [] → AreEnabled k.image.value (limits_of k) c es
-      → Shows k (after_operation k s id v (commit b q)) (after_events k c es)
+      → Shows k (after s id (commit_effect v (slice_index s.words 0) b q)) (after_events k c es)
   sealed b q es a is these enabled = subst
-      (λ (z : Block). es ≡ turns_by v.worker q.context.thread z.turns ++ Commit v.worker q.context.thread ∷ [] → Shows k (after_operation k s id v (commit z q)) (after_events k c es)) is
+      (λ (z : Block). es ≡ turns_by v.worker q.context.thread z.turns ++ Commit v.worker q.context.thread ∷ [] → Shows k (after s id (commit_effect v (slice_index s.words 0) z q)) (after_events k c es)) is
       (λ e. at_these _ es _ e enabled (λ f. tied _ _ _ _ (commit_tie k m q a) tt f)) these
 
   -- an empty slot goes into the pass's hand, or back, and the word stays
@@ -126,13 +126,13 @@ module _ (k : Terms) (s : Hall) (r : KeptHall k s) (id : ℕ) (v : Knows) (at : 
   shown_after : (o : Operation) (es : List Event) → MayDo k s id v o → IsOf k s c v o es → AreEnabled k.image.value (limits_of k) c es → Shows k (after_operation k s id v o) (after_events k c es)
   shown_after (claim t q) es may is enabled = claimed t q es may is enabled
   shown_after (take i l) es may is enabled = at_these _ es _ is.3 enabled (λ e. tied _ _ _ _ (take_tie k m is.0 i l record { free = may.free; below = is.1; at = is.2; lock = may.below; home = may.word; slot = may.slot }) tt e)
-  shown_after (miss word wanted) es may is enabled = of_none _ es is (tied _ _ _ _ ((tell_tie k m).missed word) tt tt)
-  shown_after (commit b q) es may is enabled = sealed b q es may.0 may.1 is enabled
+  shown_after (miss word wanted found) es may is enabled = of_none _ es is (subst (λ (z : ℕ). Shows k (after s id (miss_effect v word z)) c) may.0 (tied _ _ _ _ ((tell_tie k m).missed word) tt tt))
+  shown_after (commit stamp b q) es may is enabled = subst (λ (z : ℕ). Shows k (after s id (commit_effect v z b q)) (after_events k c es)) may.0 (sealed b q es may.1 may.2 is enabled)
   shown_after (put q place) es may is enabled = placed q place es may is enabled
   shown_after (free l) es may is enabled = at_these _ es _ is.1 enabled (λ e. tied _ _ _ _ (free_tie k m l may.0 may.1) is.0 e)
-  shown_after (look t) es may is enabled = of_none _ es is (tied _ _ _ _ ((tell_tie k m).look t) tt tt)
+  shown_after (look t found) es may is enabled = of_none _ es is (subst (λ (z : ℕ). Shows k (after s id (look_effect v t z)) c) may.1 (tied _ _ _ _ ((tell_tie k m).look t) tt tt))
   shown_after stop es may is enabled = of_none _ es is (tied _ _ _ _ (tell_tie k m).stop tt tt)
-  shown_after stopped es may is enabled = of_none _ es is (tied _ _ _ _ (tell_tie k m).stopped tt tt)
+  shown_after (stopped found) es may is enabled = of_none _ es is (subst (λ (z : ℕ). Shows k (after s id (stopped_effect v z)) c) may (tied _ _ _ _ (tell_tie k m).stopped tt tt))
   shown_after (reach slot) es may is enabled = of_none _ es is (slot_moved slot (slot + 2) none (record v { hand = Some slot }) (λ x e. some-ne-none (Some x) (sym e)) refl refl refl)
   shown_after (lay slot) es may is enabled = of_none _ es is (slot_moved slot 0 (some None) (record v { hand = None }) (λ x e. no_cargo x (some None) refl e) refl refl refl)
     where

@@ -23,7 +23,7 @@ use Rattle.tc_hall.specs.Places.{code_of, origin_code}
 use Rattle.tc_hall.specs.Rule.{threads, locks, starting, IsLimited, IsLockHome, KeptHall}
 use Rattle.tc_hall.specs.Made.{AreStocked}
 use Rattle.tc_hall.specs.Steps.{Seals, after_put}
-use Rattle.tc_hall.specs.Effects.{Hall, after, claim_effect, commit_effect, put_effect, take_effect, reach_effect, lay_effect}
+use Rattle.tc_hall.specs.Effects.{Hall, after, claim_effect, commit_effect, put_effect, take_effect, look_effect, stopped_effect, miss_effect, reach_effect, lay_effect}
 use Rattle.tc_hall.specs.Order.{Operation, claim, take, miss, commit, put, free, look, stop, stopped, reach, lay, split, join, IsClaimable, MayClaim, MayTake, MayFill, IsSlotOut, of_package, of_lock, MayDo, MayCome, Made, after_operation, hall_after, IsLegal, IsOpening, IsOrdered}
 use Rattle.tc_hall.proofs.Moves.{at_home_of, takes_home, misses, lay_kept, reach_kept}
 use Rattle.tc_hall.proofs.Telling.{place_codes, fills_kept, look_kept, stop_kept, see_kept}
@@ -83,13 +83,13 @@ module _ (k : Terms) (s : Hall) (r : KeptHall k s) (id : ℕ) (v : Knows) (at : 
   pub kept_after : (o : Operation) → MayDo k s id v o → KeptHall k (after_operation k s id v o)
   kept_after (claim t q) may = claim_after t q may
   kept_after (take i l) may = take_after i l may
-  kept_after (miss word wanted) may = misses k s word id v at live r
-  kept_after (commit b q) may = commit_after b q may.0 may.1
+  kept_after (miss word wanted found) may = subst (λ (z : ℕ). KeptHall k (after s id (miss_effect v word z))) may.0 (misses k s word id v at live r)
+  kept_after (commit stamp b q) may = subst (λ (z : ℕ). KeptHall k (after s id (commit_effect v z b q))) may.0 (commit_after b q may.1 may.2)
   kept_after (put q place) may = put_after q place may
   kept_after (free l) may = free_kept k s r id v l at may.0 live may.1
-  kept_after (look t) may = look_kept k s r id t v at live
+  kept_after (look t found) may = subst (λ (z : ℕ). KeptHall k (after s id (look_effect v t z))) may.1 (look_kept k s r id t v at live)
   kept_after stop may = stop_kept k s r id v at live
-  kept_after stopped may = see_kept k s r id v at live
+  kept_after (stopped found) may = subst (λ (z : ℕ). KeptHall k (after s id (stopped_effect v z))) may (see_kept k s r id v at live)
   kept_after (reach slot) may = reach_after slot may.0 may.1
   kept_after (lay slot) may = lay_after slot may.0 may.1
   kept_after split may = deals k id v live may.0 may.1 s r at

@@ -70,7 +70,7 @@ module _ (k : Terms) where
           (λ miss. absurd (miss hit)),
         ),
       ))
-      (λ other. (after_miss v (t + 2) found, keeps, tt, next k s d id v (miss (t + 2) code) at live other, ((λ hit _ _. absurd (other hit)), (λ _. refl)))))
+      (λ other. (after_miss v (t + 2) found, keeps, tt, next k s d id v (miss (t + 2) code found) at live (refl, other), ((λ hit _ _. absurd (other hit)), (λ _. refl)))))
 
   abbrev pub Lays : ℕ → ℕ → Knows → List (ℕ × Option Cargo) → Type 0
   Lays slots id v c = Allows (IsOrdered k) slots id (v, c) 0 (λ n. n) (laid (step slots 0 0 0 none) (v, c))
@@ -135,7 +135,7 @@ module _ (k : Terms) where
     with_call v (Look t (slice_index s.words (t + 2))),
     keeps,
     tt,
-    next k s d id v (look t) at live below,
+    next k s d id v (look t (slice_index s.words (t + 2))) at live (below, refl),
     (λ u e. ap (λ (z : ℕ). (with_call v (Look z (slice_index s.words (t + 2))), [])) (let x : t ≡ u = omega arith in x)),
   ))
 
@@ -153,7 +153,7 @@ module _ (k : Terms) where
     with_call v (Stopped (slice_index s.words 1)),
     keeps,
     tt,
-    next k s d id v stopped at live tt,
+    next k s d id v (stopped (slice_index s.words 1)) at live refl,
     (refl, (λ t e. ((kept_of k s d).passes id v at).misfit t e)),
   ))
 
@@ -214,7 +214,7 @@ module _ (k : Terms) where
           (λ miss. absurd (miss hit)),
         ),
       ))
-      (λ other. (after_miss v j found, keeps, tt, next k s d id v (miss j 0) at live other, ((λ hit _ _ _ _. absurd (other hit)), (λ _. refl)))))
+      (λ other. (after_miss v j found, keeps, tt, next k s d id v (miss j 0 found) at live (refl, other), ((λ hit _ _ _ _. absurd (other hit)), (λ _. refl)))))
     where
       home_out : (s : Spot) (j : ℕ) → s ≡ home → s ≡ out j → ⊥
       home_out s j a b = cc (a, b)
@@ -283,6 +283,6 @@ seals k slots id v q c empty live a = subst (SealsAll k slots id v (Some q)) (sy
   after_commit v (sealed_block (slice_index s.words 0) v.worker a.ran.block) (with_seal (slice_index s.words 0) v.worker q),
   keeps,
   tt,
-  next k s d id v (commit a.ran.block q) at live (a, refl),
+  next k s d id v (commit (slice_index s.words 0) a.ran.block q) at live (refl, a, refl),
   (λ p is. (let same : q ≡ p = cc is in subst (λ z. DidSeal z (slice_index s.words 0) v (after_commit v (sealed_block (slice_index s.words 0) v.worker a.ran.block) (with_seal (slice_index s.words 0) v.worker q))) same (did_seal k s (kept_of k s d) id v q a live at), refl)),
 ))

@@ -35,15 +35,15 @@ IsPut k c v q Done es = AreInside k q c × (es ≡ Finish v.worker q.context.thr
 -- the operation of a pass that knows v is these events
 abbrev pub IsOf : Terms → Hall → Core → Knows → Operation → List Event → Type 0
 IsOf k s c v (claim t q) es = IsClaimed k s c v t es
-IsOf k s c v (commit b q) es = es ≡ turns_by v.worker q.context.thread b.turns ++ Commit v.worker q.context.thread ∷ []
+IsOf k s c v (commit stamp b q) es = es ≡ turns_by v.worker q.context.thread b.turns ++ Commit v.worker q.context.thread ∷ []
 IsOf k s c v (put q place) es = IsPut k c v q place es
 -- a lock is taken for a thread that is at the pass's worker
 IsOf k s c v (take i l) es = (t : ℕ) × (t < threads k) × (slice_index s.words (t + 2) ≡ 512 + v.worker) × (es ≡ Take v.worker t i ∷ [])
 IsOf k s c v (free l) es = IsLooseIn l.number c × (es ≡ Free v.worker l.number ∷ [])
-IsOf k s c v (miss word wanted) es = es ≡ []
-IsOf k s c v (look t) es = es ≡ []
+IsOf k s c v (miss word wanted found) es = es ≡ []
+IsOf k s c v (look t found) es = es ≡ []
 IsOf k s c v stop es = es ≡ []
-IsOf k s c v stopped es = es ≡ []
+IsOf k s c v (stopped found) es = es ≡ []
 IsOf k s c v (reach slot) es = es ≡ []
 IsOf k s c v (lay slot) es = es ≡ []
 IsOf k s c v split es = es ≡ []

@@ -1,20 +1,23 @@
 -- The rule of the table: all operations of the passes stand in one order, each allowed where it stands, and the table is what
 -- their effects make of it from the opening.
-use Rattle.std.specs.Prelude.{◌≡◌, ◌≢◌, ◌⊎◌, ℕ, ◌+◌, ◌<◌, ◌≤◌, true, false, List, [], ◌∷◌, length, replicate, slice_index, Option, Some, None}
+use Rattle.std.specs.Prelude.{◌≡◌, ◌≢◌, ◌⊎◌, ℕ, ◌+◌, ◌<◌, ◌≤◌, ◌==◌, true, false, if◌then◌else◌, List, [], ◌∷◌, ◌++◌, length, replicate, slice_index, Option, Some, None}
 use mathlib.Core.Option.{some}
 use lib.ListN.{get_elem?}
 use Rattle.atomic_table.specs.Table.{opening}
 use Rattle.tc_journal.specs.declared.block.Block.{Block}
-use Rattle.tc_segment.specs.View.{LockView}
+use Rattle.tc_segment.specs.View.{LockView, sealed_block}
 use Rattle.tc_context.specs.View.{PackageView}
 use Rattle.tc_hall.specs.declared.place.Place.{Place}
 use Rattle.tc_hall.specs.declared.board.Knows.{Knows}
 use Rattle.tc_hall.specs.declared.board.Terms.{Terms}
+use Rattle.tc_hall.specs.declared.board.Miss.{Miss}
+use Rattle.tc_hall.specs.declared.board.Call.{Call}
+use Rattle.tc_hall.specs.declared.board.Call.TheVariants.{Free, Look, Stop, Stopped}
 use Rattle.tc_hall.specs.declared.board.Cargo.{Cargo}
 use Rattle.tc_hall.specs.declared.board.Cargo.TheVariants.{Package, Lock}
 use Rattle.tc_hall.specs.Places.{IsInRange, code_of}
 use Rattle.tc_hall.specs.Rule.{threads, locks, starting, Has, HasLock, IsLimited, KeptHall}
-use Rattle.tc_hall.specs.Steps.{MayPut, MayFree, Seals, IsFree}
+use Rattle.tc_hall.specs.Steps.{MayPut, MayFree, Seals, IsFree, put_call}
 use Rattle.tc_hall.specs.Effects.{Hall, after, claim_effect, commit_effect, put_effect, take_effect, free_effect, look_effect, stop_effect, stopped_effect, miss_effect, reach_effect, lay_effect, with_new_pass, with_joined}
 use Rattle.tc_hall.specs.Made.{AreStocked}
 
@@ -24,15 +27,16 @@ pub data Operation : Type 0 where
   claim : ℕ → PackageView → Operation
   -- the state of a lock is taken
   take : ℕ → LockView → Operation
-  -- a compare-and-swap on a word finds another than it asks for
-  miss : ℕ → ℕ → Operation
-  -- the pending block of a package is sealed
-  commit : Block → PackageView → Operation
+  -- a compare-and-swap on a word asks for one number and finds another
+  miss : ℕ → ℕ → ℕ → Operation
+  -- the pending block of a package is sealed, with this stamp
+  commit : ℕ → Block → PackageView → Operation
   put : PackageView → Place → Operation
   free : LockView → Operation
-  look : ℕ → Operation
+  -- the word of a thread, and the stop word, are found to be this
+  look : ℕ → ℕ → Operation
+  stopped : ℕ → Operation
   stop : Operation
-  stopped : Operation
   -- an empty slot is taken in hand, and laid back
   reach : ℕ → Operation
   lay : ℕ → Operation
@@ -44,13 +48,13 @@ pub data Operation : Type 0 where
 abbrev pub after_operation : Terms → Hall → ℕ → Knows → Operation → Hall
 after_operation k s id v (claim t q) = after s id (claim_effect v t q)
 after_operation k s id v (take i l) = after s id (take_effect (threads k) v i l)
-after_operation k s id v (miss word wanted) = after s id (miss_effect v word (slice_index s.words word))
-after_operation k s id v (commit b q) = after s id (commit_effect v (slice_index s.words 0) b q)
+after_operation k s id v (miss word wanted found) = after s id (miss_effect v word found)
+after_operation k s id v (commit stamp b q) = after s id (commit_effect v stamp b q)
 after_operation k s id v (put q place) = after s id (put_effect v q place)
 after_operation k s id v (free l) = after s id (free_effect (threads k) v l)
-after_operation k s id v (look t) = after s id (look_effect v t (slice_index s.words (t + 2)))
+after_operation k s id v (look t found) = after s id (look_effect v t found)
 after_operation k s id v stop = after s id (stop_effect v)
-after_operation k s id v stopped = after s id (stopped_effect v (slice_index s.words 1))
+after_operation k s id v (stopped found) = after s id (stopped_effect v found)
 after_operation k s id v (reach slot) = after s id (reach_effect v slot (slice_index s.words (slot + 2)))
 after_operation k s id v (lay slot) = after s id (lay_effect v slot (slice_index s.words 0))
 after_operation k s id v split = with_new_pass s id v
@@ -87,13 +91,13 @@ pub record MayFill (k : Terms) (v : Knows) (q : PackageView) (place : Place) : T
 abbrev pub MayDo : Terms → Hall → ℕ → Knows → Operation → Type 0
 MayDo k s id v (claim t q) = MayClaim k s v t q
 MayDo k s id v (take i l) = MayTake k s v i l
-MayDo k s id v (miss word wanted) = slice_index s.words word ≢ wanted
-MayDo k s id v (commit b q) = (a : Seals v q) × (a.ran.block ≡ b)
+MayDo k s id v (miss word wanted found) = (slice_index s.words word ≡ found) × (found ≢ wanted)
+MayDo k s id v (commit stamp b q) = (slice_index s.words 0 ≡ stamp) × (a : Seals v q) × (a.ran.block ≡ b)
 MayDo k s id v (put q place) = MayFill k v q place
 MayDo k s id v (free l) = (v.hand ≡ Some (threads k + l.number)) × MayFree v l
-MayDo k s id v (look t) = t < threads k
+MayDo k s id v (look t found) = (t < threads k) × (slice_index s.words (t + 2) ≡ found)
 MayDo k s id v stop = Unit {0}
-MayDo k s id v stopped = Unit {0}
+MayDo k s id v (stopped found) = slice_index s.words 1 ≡ found
 MayDo k s id v (reach slot) = (v.hand ≡ None) × IsSlotOut k v slot
 MayDo k s id v (lay slot) = (v.hand ≡ Some slot) × IsSlotOut k v slot
 MayDo k s id v split = (v.maker ≡ true) × (v.made < v.worker)
@@ -138,6 +142,53 @@ pub record IsOrdered (k : Terms) (s : Hall) : Type 0 where
   pub legal : IsLegal k first order
   pub is : s ≡ hall_after k first order
 
+-- ---- each pass's part of the order
+
+-- what a pass notes of its operations and of those of the passes that were joined into it
+pub record Notes : Type 0 where
+  pub calls : List Call
+  pub sealed : List Block
+  pub missed : List Miss
+  pub claimed : List PackageView
+  pub taken : List LockView
+
+abbrev pub no_notes : Notes
+no_notes = record { calls = []; sealed = []; missed = []; claimed = []; taken = [] }
+
+abbrev pub with_noted : Notes → Call → Notes
+with_noted n c = record n { calls = n.calls ++ c ∷ [] }
+
+abbrev pub both_notes : Notes → Notes → Notes
+both_notes n o = record { calls = n.calls ++ o.calls; sealed = n.sealed ++ o.sealed; missed = n.missed ++ o.missed; claimed = n.claimed ++ o.claimed; taken = n.taken ++ o.taken }
+
+-- the notes of the pass id after its operation, where all passes had these
+abbrev pub noted : (ℕ → Notes) → ℕ → Knows → Operation → Notes
+noted all id v (claim t q) = record (all id) { claimed = (all id).claimed ++ q ∷ [] }
+noted all id v (take i l) = record (all id) { taken = (all id).taken ++ l ∷ [] }
+noted all id v (miss word wanted found) = record (all id) { missed = (all id).missed ++ record { word = word; found = found } ∷ [] }
+noted all id v (commit stamp b q) = record (all id) { sealed = (all id).sealed ++ sealed_block stamp v.worker b ∷ [] }
+noted all id v (put q place) = with_noted (all id) (put_call q place)
+noted all id v (free l) = with_noted (all id) (Free l.number)
+noted all id v (look t found) = with_noted (all id) (Look t found)
+noted all id v (stopped found) = with_noted (all id) (Stopped found)
+noted all id v stop = with_noted (all id) Stop
+noted all id v (reach slot) = all id
+noted all id v (lay slot) = all id
+noted all id v split = all id
+noted all id v (join other w) = both_notes (all id) (all other)
+
+abbrev pub notes_of : List Made → ℕ → Notes
+notes_of [] id = no_notes
+notes_of (m ∷ before) id = if m.pass == id then noted (notes_of before) m.pass m.knew m.operation else notes_of before id
+
+-- the lists of the pass are these notes
+pub record HasNoted (v : Knows) (n : Notes) : Type 0 where
+  pub calls : v.calls ≡ n.calls
+  pub sealed : v.sealed ≡ n.sealed
+  pub missed : v.missed ≡ n.missed
+  pub claimed : v.claimed ≡ n.claimed
+  pub taken : v.taken ≡ n.taken
+
 -- ---- what holds after every order
 
 -- the word of a thread: the code of the place where its package was put, or the worker that it is out with
@@ -154,6 +205,10 @@ pub record AreExact (k : Terms) (words : List ℕ) : Type 0 where
 -- between any two operations the rules of places, words and history hold
 abbrev pub IsKept : Type 0
 IsKept = (k : Terms) (s : Hall) → IsOrdered k s → KeptHall k s
+
+-- each live pass has in its lists its own operations in their order, and no others
+abbrev pub HasParts : Type 0
+HasParts = (k : Terms) (s : Hall) (d : IsOrdered k s) (id : ℕ) (v : Knows) → get_elem? s.views id ≡ some v → v.spent ≡ false → HasNoted v (notes_of d.order id)
 
 -- and each word is one of those that it may be
 abbrev pub HasExactWords : Type 0

@@ -1,7 +1,7 @@
 //! What the steps of a hall are to the pure machine.
 
 ghost use Rattle.tc_hall.specs.Ties.{ClaimTie, AdoptTie, PutTie, TakeTie, FreeTie, CommitTie, TellTie, PassTie};
-ghost use Rattle.tc_hall.specs.Order.{IsKept, HasExactWords};
+ghost use Rattle.tc_hall.specs.Order.{IsKept, HasParts, HasExactWords};
 ghost use Rattle.tc_hall.specs.Lift.{OpensShown, Lifts};
 
 /// In every state of a hall that meets its rule, each step keeps the rule; and what it shows is an
@@ -18,9 +18,11 @@ pub fn tie()
 {}
 
 /// What holds between any two operations of a hall, whatever their order: the rules of places, words
-/// and history, and of each word that it is one of those that it may be.
+/// and history; of each live pass that its lists are its operations in their order, with those of the
+/// passes that were joined into it, and no others; of each word that it is one of those that it may be.
 pub fn order()
     ensures kept { IsKept }
+    ensures parts { HasParts }
     ensures words { HasExactWords }
 {}
 
