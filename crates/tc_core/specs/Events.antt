@@ -50,11 +50,11 @@ may_take None t c = true
 may_take (Some lock) t c = is_between c t && is_granted (c.custody lock).place t
 
 -- the thread is in the line of the lock that its next turn takes, and the lock was not granted to it: the first of a line
--- has been granted the lock where that is not free, and no other has
+-- has been granted the lock where that is neither free nor left, and no other has
 abbrev pub has_entered : Option ℕ → ℕ → Core → Bool
 has_entered None t c = false
 has_entered (Some lock) t c =
-    is_in_line (c.custody lock).line t && (is_free_lock (c.custody lock).place || not (is_first (c.custody lock).line t))
+    is_in_line (c.custody lock).line t && (is_free_lock (c.custody lock).place || (c.custody lock).left || not (is_first (c.custody lock).line t))
 
 -- the worker may give the thread back as one that goes on
 abbrev pub may_go_back : Shown → Limits → Core → ℕ → ℕ → Bool

@@ -204,7 +204,7 @@ impl Core {
             Some(lock) => {
                 let custody = self.custodies.at(lock);
                 custody.line.has(thread)
-                    && (custody.place.is_free() || !custody.line.is_first(thread))
+                    && (custody.place.is_free() || custody.left || !custody.line.is_first(thread))
             }
         }
     }

@@ -497,7 +497,7 @@ fn to_the_leave(core: &mut Core, image: &Image, adopted: bool) -> u32
     tried(core, image, &tries)
 }
 
-/// Lock 1 goes on to thread 2, and thread 0 ends: 26 rows.
+/// Lock 1 goes on to thread 2, and thread 0 ends: 27 rows.
 fn to_the_end(core: &mut Core, image: &Image, adopted: bool) -> u32
     requires { IsCoreOf image.now core.old }
     ensures { IsCoreOf image.now core.new }
@@ -509,6 +509,8 @@ fn to_the_end(core: &mut Core, image: &Image, adopted: bool) -> u32
         (turn(1, 1), 4, true),
         (commit(1, 1), 1, true),
         (enter(1, 1, 0), 1, true),
+        // The first in the line of a lock that was left and is not home: it was not granted.
+        (hand_back(1, 1), 1, false),
         // Left already, and the line has one again; at another worker.
         (leave(0, 0), 1, false),
         (set_free(1, 0), 1, false),
@@ -553,7 +555,7 @@ fn each_condition_counts(rt: HostRuntime) -> Result<(), Fail> {
         assert_eq!(rt; to_the_entry(&mut core, &image), 21);
         assert_eq!(rt; to_the_line(&mut core, &image), 22);
         assert_eq!(rt; to_the_leave(&mut core, &image, adopted), 18);
-        assert_eq!(rt; to_the_end(&mut core, &image, adopted), 26);
+        assert_eq!(rt; to_the_end(&mut core, &image, adopted), 27);
     }
     Ok(())
 }
