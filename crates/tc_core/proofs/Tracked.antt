@@ -36,16 +36,16 @@ use Rattle.tc_core.proofs.Erasure.{MayTurn, may_turn, take_facts, turn_is, sound
 use Rattle.tc_core.proofs.Parts.{no_end}
 
 -- the locks of a block are those that are with its thread, and what it leaves of them is what the thread holds
-record Tracks (c : Core) : Type 0 where
-  with : (t k : ℕ) → has (c.course t).held k ≡ is_number (with_of (c.custody k).place) t
-  kept : (t k : ℕ) → has (held_past (c.course t).held (c.course t).ended) k ≡ (c.machine.threads t).held k
+pub record Tracks (c : Core) : Type 0 where
+  pub with : (t k : ℕ) → has (c.course t).held k ≡ is_number (with_of (c.custody k).place) t
+  pub kept : (t k : ℕ) → has (held_past (c.course t).held (c.course t).ended) k ≡ (c.machine.threads t).held k
 
 -- ---- sets of locks
 
 none_has : (k : ℕ) → has 0 k ≡ false
 none_has k = ap (λ n. n == 1) (bit_at-zero k)
 
-with_has : (n lock k : ℕ) → has (with_lock n lock) k ≡ ((k == lock) || has n k)
+pub with_has : (n lock k : ℕ) → has (with_lock n lock) k ≡ ((k == lock) || has n k)
 with_has n lock k = elim (eqb_tells k lock) [
   | inl e ↦ rw (e.0, e.1) (ap (λ b. b == 1) (let one : bit_at (bit_or n (2 ^ lock)) lock ≡ 1 = omega (arith, bit_at_or n (2 ^ lock) lock, bit_at-pow_same lock, bit_at-lt n lock) in one))
   | inr e ↦ rw (e.0) (ap (λ b. b == 1) (let same : bit_at (bit_or n (2 ^ lock)) k ≡ bit_at n k = omega (arith, bit_at_or n (2 ^ lock) k, bit_at-pow_other lock k e.1) in same))
@@ -213,7 +213,7 @@ tracked_quiet c d quiet tr = record {
   kept = λ t k. (λ i. has (held_past (quiet.held t i) (quiet.ended t i)) k) ∙ tr.kept t k ∙ ap (λ (m : State). (m.threads t).held k) (sym quiet.machine);
 }
 
-tracked_after : (image : Shown) (limits : Limits) (c : Core) (e : Event) → is_enabled image limits c e ≡ true → IsSoundCore c → Tracks c → Tracks (effect image c e)
+pub tracked_after : (image : Shown) (limits : Limits) (c : Core) (e : Event) → is_enabled image limits c e ≡ true → IsSoundCore c → Tracks c → Tracks (effect image c e)
 tracked_after image limits c (Turn w t) on sound tr = subst (λ x. Tracks x) (sym (turn_is image c w t)) (tracked_turn image c t (may_turn image limits c w t on) tr)
 tracked_after image limits c (Commit w t) on sound tr = tracked_commit image c w t sound tr
 tracked_after image limits c e on sound tr = tracked_quiet c (effect image c e) (quiet_event image limits c e on refl) tr
@@ -227,7 +227,7 @@ not_held : (b : Bool) → (b ≡ true → ⊥) → false ≡ b
 not_held true f = absurd (f refl)
 not_held false f = refl
 
-first_tracked : (image : Shown) (fuel : ℕ) → Tracks (first_core image fuel)
+pub first_tracked : (image : Shown) (fuel : ℕ) → Tracks (first_core image fuel)
 first_tracked image fuel = record { with = λ t k. none_has k; kept = λ t k. none_has k ∙ not_held _ (started_none image fuel t k) }
 
 pub is_tracked : (s : Story) → IsTracked (last_core s)

@@ -94,6 +94,18 @@ impl Core {
         self.custodies.find(lock)
     }
 
+    /// The address of a thread's next instruction; 0 where there is no such thread.
+    pub fn pc(&self, image: &Image, thread: u32) -> u32
+        requires { IsCoreOf image.now self.now }
+        ensures { result ≡ ((core_of self.now).machine.threads thread).regs.pc }
+    {
+        if thread < image.threads() {
+            self.slow.regs(thread).pc()
+        } else {
+            0
+        }
+    }
+
     // ---- whether an event may come
 
     #[tactic(auto, unfolding(crate::specs::Events::is_enabled))]

@@ -1,0 +1,12 @@
+pub mod Leads
+pub mod Front
+pub mod Turns
+pub mod Custodies
+pub mod Committed
+pub mod Back
+pub mod Sections
+pub mod Openings
+pub mod Realized
+pub mod Counted
+pub mod Adopters
+pub mod Writing

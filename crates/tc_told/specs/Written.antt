@@ -1,0 +1,100 @@
+-- The history that events of the pure machine write: each Commit writes one block, as the core has it.
+use Rattle.std.specs.Prelude.{◌≡◌, ℕ, ◌<◌, ◌==◌, if◌then◌else◌, List, [], ◌∷◌, ◌++◌, length, All, Option, Some, None}
+use Rattle.std.specs.Option.{option_map}
+use Rattle.tc_elf.specs.Shown.{Shown}
+use Rattle.tc_journal.specs.Batch.{Obeys, PassesOn, last_of}
+use Rattle.tc_journal.specs.History.{IsHistory, of_lock}
+use Rattle.tc_journal.specs.declared.block.Block.{Block}
+use Rattle.tc_journal.specs.declared.block.Kind.TheVariants as kind
+use Rattle.tc_mutex_spec.specs.Machine.{State, start}
+use Rattle.tc_mutex_spec.specs.Blocks.{Tells}
+use Rattle.tc_core.specs.declared.event.Event.{Event}
+use Rattle.tc_core.specs.declared.event.Event.TheVariants.{Commit, Take, Adopt, Grant}
+use Rattle.tc_core.specs.declared.place.Course.{Course}
+use Rattle.tc_core.specs.Core.{Core, Limits, first_core}
+use Rattle.tc_core.specs.Events.{effect}
+use Rattle.tc_core.specs.Stories.{AreEnabled}
+pub use Rattle.tc_told.specs.declared.writer.Beginning.{Beginning}
+
+-- ---- what events write
+
+-- the core; what is known of each thread's next block before its first turn; and what was written so far
+pub record Written : Type 0 where
+  pub core : Core
+  pub next : ℕ → Beginning
+  pub history : List Block
+
+abbrev pub first_written : Shown → ℕ → Written
+first_written image fuel = record {
+  core = first_core image fuel;
+  next = λ t. record { kind = kind.Start; pc = ((start image fuel).threads t).regs.pc };
+  history = [];
+}
+
+-- what an event says of a thread's next block: with a lock that is given, how it begins; after a Commit, that it goes on, from
+-- where the thread stands
+abbrev pub said_by : Written → Event → Option (ℕ × Beginning)
+said_by s (Take w t lock) = Some (t, record (s.next t) { kind = kind.Taken })
+said_by s (Adopt w t lock) = Some (t, record (s.next t) { kind = kind.Adopted })
+said_by s (Grant w t lock) = Some (t, record (s.next t) { kind = kind.Granted })
+said_by s (Commit w t) = Some (t, record { kind = kind.On; pc = (s.core.machine.threads t).regs.pc })
+said_by s _ = None
+
+abbrev pub with_said : (ℕ → Beginning) → Option (ℕ × Beginning) → ℕ → Beginning
+with_said next None = next
+with_said next (Some said) = λ k. if k == said.0 then said.1 else next k
+
+-- the block of t at w, once it has ended
+abbrev pub block_at : ℕ → ℕ → ℕ → Beginning → Course → Option Block
+block_at stamp w t a x =
+    option_map
+    (λ end. record { stamp = stamp; thread = t; turns = x.turns; held = x.held; kind = a.kind; worker = w; pc = a.pc; end = end })
+    x.ended
+
+-- the block that an event writes
+abbrev pub block_by : Written → Event → Option Block
+block_by s (Commit w t) = block_at (length s.history) w t (s.next t) (s.core.course t)
+block_by s _ = None
+
+abbrev pub with_block : List Block → Option Block → List Block
+with_block h None = h
+with_block h (Some b) = h ++ b ∷ []
+
+abbrev pub write : Shown → Written → Event → Written
+write image s e = record {
+  core = effect image s.core e;
+  next = with_said s.next (said_by s e);
+  history = with_block s.history (block_by s e);
+}
+
+abbrev pub write_all : Shown → Written → List Event → Written
+write_all image s [] = s
+write_all image s (e ∷ es) = write_all image (write image s e) es
+
+-- the history that a list of events writes from the start
+abbrev pub history_of : Shown → ℕ → List Event → List Block
+history_of image fuel events = (write_all image (first_written image fuel) events).history
+
+-- ---- which histories are written
+
+-- the history is written by events of the machine, each of them enabled when it comes
+pub record IsWritten (image : Shown) (limits : Limits) (fuel : ℕ) (h : List Block) : Type 0 where
+  pub events : List Event
+  pub enabled : AreEnabled image limits (first_core image fuel) events
+  pub writes : history_of image fuel events ≡ h
+
+-- the history tells a run under ordinary mutexes, each block is of a worker that there is, and the blocks of each lock obey
+-- the batch limit and pass its sections on to other threads
+pub record KeepsRules (image : Shown) (limits : Limits) (fuel : ℕ) (h : List Block) : Type 0 where
+  pub last : State
+  pub history : IsHistory h
+  pub tells : Tells image fuel h last
+  pub workers : All (λ (b : Block). b.worker < limits.workers) h
+  pub obeys : (k : ℕ) → k < length image.guards → Obeys k limits.batch (of_lock h k)
+  pub passes : (k : ℕ) → k < length image.guards → PassesOn k (of_lock h k)
+
+-- the last block that had lock k is of this worker
+pub record IsOfLast (k w : ℕ) (h : List Block) : Type 0 where
+  pub block : Block
+  pub last : last_of (of_lock h k) ≡ Some block
+  pub worker : block.worker ≡ w
