@@ -12,9 +12,11 @@
 //! - `build`, `generate`: files of guests, of tc_build. `options`, `gate`: with what a guest is run,
 //!   and whom its workers tell how far they are, of tc_workers.
 //! - `status`: how the program ends. `top`: the top call.
+//! - `delegation`: what the history of a legal run is to the pure machine of tc_core.
 #![tactic(auto)]
 
 mod answer;
+pub mod delegation;
 mod demo;
 pub mod report;
 mod run;
