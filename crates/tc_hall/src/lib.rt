@@ -10,15 +10,16 @@
 //! order of their stamps, a history that tells a run of the machine of ordinary mutexes and obeys
 //! the batch limit. `close` answers the packages and lock states as that history leaves them.
 //!
-//! - `specs/Rule.antt`: what holds between any two steps. `specs/Steps.antt`: what each call says
-//!   of its pass. `specs/Effects.antt`: the effect of each kind of step on the table.
+//! - `specs/Order.antt`: the rule of the table, one order of all operations. `specs/Rule.antt`: what
+//!   holds between any two of them. `specs/Steps.antt`: what each call says of its pass.
+//!   `specs/Effects.antt`: the effect of each kind of operation on the table.
 //!   `specs/Outline.antt`, `specs/Shown.antt` and `specs/Ties.antt`: what a step is to the pure
-//!   machine of tc_core. `specs/Made.antt`: what `new` makes. `specs/Places.antt`: the words of the places.
+//!   machine of tc_core, and `specs/Lift.antt` what a whole order is. `specs/Made.antt`: what `new` makes. `specs/Places.antt`: the words of the places.
 //!   `specs/PassView.antt`: passes and halls as contracts see them.
 //! - `hall`: halls and their calls. `pass`: a worker's right to step. `place`: where packages are
 //!   put and from where they are claimed. `closed`: what a hall had at its end.
-//! - `showing`: `tie`, which states that each step keeps the rule and is an event of the pure machine
-//!   or none. `board`: the table, and what a pass knows. `plays`: what each kind of step on it tells.
+//! - `showing`: `order`, which states what holds after every order of operations; `tie`, which states
+//!   that each operation is an event of the pure machine or none, and `lift`, that whole orders are. `board`: the table, and what a pass knows. `plays`: what each kind of step on it tells.
 #![tactic(auto)]
 
 pub mod board;
