@@ -17,10 +17,10 @@ use Rattle.tc_mutex_spec.specs.Machine.{State, start}
 use Rattle.tc_mutex_spec.specs.Blocks.{IsComplete, end_after}
 use Rattle.tc_mutex_spec.specs.Entries.{HasJournal, entries_by}
 use Rattle.tc_mutex_spec.proofs.Entries.{entries_blocks}
-use Rattle.tc_segment.specs.View.{LockView, IsSoundLock, block_in, blocks_of, kept, lock_of, with_closed}
+use Rattle.tc_segment.specs.View.{LockView, IsSoundLock, IsStrict, block_in, blocks_of, kept, lock_of, with_closed}
 use Rattle.tc_context.specs.Whole.{thread_in}
 use Rattle.tc_context.specs.View.{PackageView, bare}
-use Rattle.tc_law.specs.Lawful.{IsStateAfter, Lawful}
+use Rattle.tc_law.specs.Lawful.{IsStateAfter, Lawful, AreStrict}
 use Rattle.tc_mutex_spec.proofs.ListLaws.{there, at_place}
 use Rattle.tc_workers.specs.declared.options.Options.{Options}
 use Rattle.tc_main.specs.Legal.{finished_in, guarded_in, results_after, IsLegalRun}
@@ -89,7 +89,7 @@ module _ (image : Shown) (fuel limit : ℕ) (h : List Block) (packages : List Pa
   summed rounds i = demo_line rounds ++ blocks_line h ++ sym ends_told i ++ sym locks_told i ++ last_line
 
 -- a lock state that is sound, after the history
-module _ (image : Shown) (fuel limit : ℕ) (h : List Block) (k : ℕ) (l : LockView) (after : IsStateAfter image fuel limit h k (kept l)) (sound : IsSoundLock l) where
+module _ (image : Shown) (fuel limit : ℕ) (h : List Block) (k : ℕ) (l : LockView) (after : IsStateAfter image fuel limit h k (kept l)) (sound : IsSoundLock l) (strict : IsStrict l) where
   number : l.number ≡ k
   number = after.follows.number
 
@@ -103,7 +103,7 @@ module _ (image : Shown) (fuel limit : ℕ) (h : List Block) (k : ℕ) (l : Lock
   all_entries = ap (with_closed l.journal.sealed) after.closed ∙ after.follows.entries
 
   pub passes_on : PassesOn k (of_lock h k)
-  passes_on = subst (λ (x : ℕ × List Block). PassesOn x.0 x.1) (λ i. (number i, blocks_are i)) sound.passes
+  passes_on = subst (λ (x : ℕ × List Block). PassesOn x.0 x.1) (λ i. (number i, blocks_are i)) (sound.passes strict)
 
   pub has_journal : HasJournal image fuel h (end_after image fuel h) k
   has_journal = record {
@@ -114,18 +114,19 @@ module _ (image : Shown) (fuel limit : ℕ) (h : List Block) (k : ℕ) (l : Lock
 
 -- the history of an outcome whose lock states are sound is that of a legal run
 module _ (image : Shown) (o : Options) (h : List Block) (packages : List PackageView) (states : List LockView) (law : Lawful image o.fuel o.limit h (map bare packages) (map kept states))
-    (complete : IsComplete image (end_after image o.fuel h)) (workers : All (λ (b : Block). b.worker < o.workers) h) (all_sound : All IsSoundLock states) where
+    (complete : IsComplete image (end_after image o.fuel h)) (workers : All (λ (b : Block). b.worker < o.workers) h) (all_sound : All IsSoundLock states) (all_strict : AreStrict states) where
   record IsSoundState (k : ℕ) : Type 0 where
     pub state : LockView
     pub after : IsStateAfter image o.fuel o.limit h k (kept state)
     pub sound : IsSoundLock state
+    pub strict : IsStrict state
 
   state_of : (k : ℕ) → k < length image.guards → IsSoundState k
   state_of k lt =
       let count : length states ≡ length image.guards = sym (length-map states kept) ∙ law.all_states in
       let here = at_place states k (omega (arith, count)) in
       let place = there states k here.0 here.0 here.1 in
-      record { state = here.0; after = law.states_after k (kept here.0) (at_map kept states k here.0 here.1); sound = subst IsSoundLock place.1 (all_sound k here.0 place.0) }
+      record { state = here.0; after = law.states_after k (kept here.0) (at_map kept states k here.0 here.1); sound = subst IsSoundLock place.1 (all_sound k here.0 place.0); strict = all_strict k here.0 here.1 }
 
   pub legal : IsLegalRun image o (results_after image o.fuel h)
   legal = record {
@@ -135,8 +136,8 @@ module _ (image : Shown) (o : Options) (h : List Block) (packages : List Package
     complete = complete;
     workers = workers;
     obeys = λ k lt. law.obeys k;
-    passes = λ k lt. let s = state_of k lt in passes_on image o.fuel o.limit h k s.state s.after s.sound;
-    journals = λ k lt. let s = state_of k lt in has_journal image o.fuel o.limit h k s.state s.after s.sound;
+    passes = λ k lt. let s = state_of k lt in passes_on image o.fuel o.limit h k s.state s.after s.sound s.strict;
+    journals = λ k lt. let s = state_of k lt in has_journal image o.fuel o.limit h k s.state s.after s.sound s.strict;
     threads = refl;
     locks = refl;
   }

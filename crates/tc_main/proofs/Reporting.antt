@@ -8,7 +8,7 @@ use Rattle.tc_journal.specs.Line.{history_text}
 use Rattle.tc_journal.specs.declared.block.Block.{Block}
 use Rattle.tc_segment.specs.View.{LockView, IsSoundLock, kept}
 use Rattle.tc_context.specs.View.{PackageView, bare}
-use Rattle.tc_law.specs.Lawful.{Lawful}
+use Rattle.tc_law.specs.Lawful.{Lawful, AreStrict}
 use Rattle.tc_hall.specs.PassView.{ClosedView}
 use Rattle.tc_workers.specs.Run.{IsWholeRun}
 use Rattle.tc_workers.specs.declared.options.Options.{Options}
@@ -36,7 +36,8 @@ module _ (image : Shown) (o : Options) (closed : ClosedView) (run : IsWholeRun i
     pub legal_is : All IsSoundLock closed.locks → IsLegalRun image o (results_after image o.fuel g)
     legal_is sound =
         let sound_states : All IsSoundLock states = subst (All IsSoundLock) (sym all_states) sound in
-        subst (λ h. IsLegalRun image o (results_after image o.fuel h)) same (legal image o run.history packages states law run.complete run.workers sound_states)
+        let strict : AreStrict states = subst AreStrict (sym all_states) run.strict in
+        subst (λ h. IsLegalRun image o (results_after image o.fuel h)) same (legal image o run.history packages states law run.complete run.workers sound_states strict)
 
     -- so a text over it, the packages and the states is the report
     pub report_is : All IsSoundLock closed.locks → (text : List ℕ) → text ≡ head_text image o ++ history_text g ++ tail_text image packages states → IsReportOf image o text
