@@ -89,10 +89,10 @@ module _ (k : Terms) (s : Hall) (r : KeptHall k s) (id : ℕ) (v : Knows) (at : 
 
   claimed : (t : ℕ) (q : PackageView) (es : List Event) → MayDo k s id v (claim t q) → IsClaimed k s c v t es → AreEnabled k.image.value (limits_of k) c es → Shows k (after_operation k s id v (claim t q)) (after_events k c es)
   claimed t q es may (alone o) enabled = ⊎_elim
-      (λ (z : slice_index s.words (t + 2) ≡ 0). tied _ _ _ _ (claim_tie k m t q origin.Ready record { free = may.free; below = may.below; slot = may.slot } z) tt enabled)
-      (λ (z : slice_index s.words (t + 2) ≡ 1). tied _ _ _ _ (claim_tie k m t q origin.Parked record { free = may.free; below = may.below; slot = may.slot } z) tt enabled) o
-  claimed t q es may (adopted lock l word has loose) enabled = tied _ _ _ _ (adopt_tie k m t lock q l record { free = may.free; below = may.below; slot = may.slot } ((is_lock_out k s r id lock v l at has).0) word has).adopt loose enabled
-  claimed t q es may (granted lock l word has loose) enabled = tied _ _ _ _ (adopt_tie k m t lock q l record { free = may.free; below = may.below; slot = may.slot } ((is_lock_out k s r id lock v l at has).0) word has).grant loose enabled
+      (λ (z : slice_index s.words (t + 2) ≡ 0). tied _ _ _ _ (claim_tie k m t q origin.Ready may z) tt enabled)
+      (λ (z : slice_index s.words (t + 2) ≡ 1). tied _ _ _ _ (claim_tie k m t q origin.Parked may z) tt enabled) o
+  claimed t q es may (adopted lock l word has loose) enabled = tied _ _ _ _ (adopt_tie k m t lock q l may ((is_lock_out k s r id lock v l at has).0) word has).adopt loose enabled
+  claimed t q es may (granted lock l word has loose) enabled = tied _ _ _ _ (adopt_tie k m t lock q l may ((is_lock_out k s r id lock v l at has).0) word has).grant loose enabled
 
   -- of events that are these
   at_these : (s' : Hall) (es these : List Event) → es ≡ these → AreEnabled k.image.value (limits_of k) c es → (AreEnabled k.image.value (limits_of k) c these → Shows k s' (after_events k c these)) → Shows k s' (after_events k c es)
@@ -102,10 +102,10 @@ module _ (k : Terms) (s : Hall) (r : KeptHall k s) (id : ℕ) (v : Knows) (at : 
   of_none s' es nothing shows = subst (λ (z : List Event). Shows k s' (after_events k c z)) (sym nothing) shows
 
   placed : (q : PackageView) (place : Place) (es : List Event) → MayFill k v q place → IsPut k c v q place es → AreEnabled k.image.value (limits_of k) c es → Shows k (after_operation k s id v (put q place)) (after_events k c es)
-  placed q Ready es may is enabled = at_these _ es _ is.1 enabled (λ e. tied _ _ _ _ ((put_tie k m q).ready record { hand = may.hand; range = may.range; may = may.may }) is.0 e)
-  placed q (Waiting lock) es may is enabled = at_these _ es _ is.1 enabled (λ e. tied _ _ _ _ ((put_tie k m q).waiting lock record { hand = may.hand; range = may.range; may = may.may }) is.0 e)
-  placed q Parked es may is enabled = at_these _ es _ is.2 enabled (λ e. tied _ _ _ _ ((put_tie k m q).parked is.1 record { hand = may.hand; range = may.range; may = may.may }) is.0 e)
-  placed q Done es may is enabled = at_these _ es _ is.1 enabled (λ e. tied _ _ _ _ ((put_tie k m q).done record { hand = may.hand; range = may.range; may = may.may }) is.0 e)
+  placed q Ready es may is enabled = at_these _ es _ is.1 enabled (λ e. tied _ _ _ _ ((put_tie k m q).ready may) is.0 e)
+  placed q (Waiting lock) es may is enabled = at_these _ es _ is.1 enabled (λ e. tied _ _ _ _ ((put_tie k m q).waiting lock may) is.0 e)
+  placed q Parked es may is enabled = at_these _ es _ is.2 enabled (λ e. tied _ _ _ _ ((put_tie k m q).parked is.1 may) is.0 e)
+  placed q Done es may is enabled = at_these _ es _ is.1 enabled (λ e. tied _ _ _ _ ((put_tie k m q).done may) is.0 e)
 
   sealed : (b : Block) (q : PackageView) (es : List Event) (a : Seals v q) → a.ran.block ≡ b → es ≡ turns_by v.worker q.context.thread b.turns ++ Commit v.worker q.context.thread ∷ [] → AreEnabled k.image.value (limits_of k) c es
       → Shows k (after s id (commit_effect v (slice_index s.words 0) b q)) (after_events k c es)
@@ -125,7 +125,7 @@ module _ (k : Terms) (s : Hall) (r : KeptHall k s) (id : ℕ) (v : Knows) (at : 
 
   shown_after : (o : Operation) (es : List Event) → MayDo k s id v o → IsOf k s c v o es → AreEnabled k.image.value (limits_of k) c es → Shows k (after_operation k s id v o) (after_events k c es)
   shown_after (claim t q) es may is enabled = claimed t q es may is enabled
-  shown_after (take i l) es may is enabled = at_these _ es _ is.3 enabled (λ e. tied _ _ _ _ (take_tie k m is.0 i l record { free = may.free; below = is.1; at = is.2; lock = may.below; home = may.word; slot = may.slot }) tt e)
+  shown_after (take i l) es may is enabled = at_these _ es _ is.3 enabled (λ e. tied _ _ _ _ (take_tie k m is.0 i l is.1 is.2 may) tt e)
   shown_after (miss word wanted found) es may is enabled = of_none _ es is (subst (λ (z : ℕ). Shows k (after s id (miss_effect v word z)) c) may.0 (tied _ _ _ _ ((tell_tie k m).missed word) tt tt))
   shown_after (commit stamp b q) es may is enabled = subst (λ (z : ℕ). Shows k (after s id (commit_effect v z b q)) (after_events k c es)) may.0 (sealed b q es may.1 may.2 is enabled)
   shown_after (put q place) es may is enabled = placed q place es may is enabled

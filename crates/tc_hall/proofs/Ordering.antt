@@ -28,7 +28,7 @@ use Rattle.tc_hall.specs.Order.{Operation, claim, take, miss, commit, put, free,
 use Rattle.tc_hall.proofs.Moves.{at_home_of, takes_home, misses, lay_kept, reach_kept}
 use Rattle.tc_hall.proofs.Telling.{place_codes, fills_kept, look_kept, stop_kept, see_kept}
 use Rattle.tc_hall.proofs.Sealing.{seals_kept}
-use Rattle.tc_hall.proofs.Taking.{lock_home_of, take_kept, free_kept, lay_lock_kept, reach_lock_kept}
+use Rattle.tc_hall.proofs.Taking.{lock_at_home, take_kept, free_kept, lay_lock_kept, reach_lock_kept}
 use Rattle.tc_hall.proofs.Making.{deals, joins}
 use Rattle.tc_hall.proofs.Opening.{opens}
 
@@ -45,26 +45,20 @@ origin_claimable k origin.Ready = inl refl
 origin_claimable k origin.Parked = inr (inl refl)
 
 module _ (k : Terms) (s : Hall) (r : KeptHall k s) (id : ℕ) (v : Knows) (at : get_elem? s.views id ≡ some v) (live : v.spent ≡ false) where
-  claim_after : (t : ℕ) (q : PackageView) → MayClaim k s v t q → KeptHall k (after s id (claim_effect v t q))
+  pub claim_after : (t : ℕ) (q : PackageView) → MayClaim k s v t q → KeptHall k (after s id (claim_effect v t q))
   claim_after t q a =
       let can = claimable_low k (slice_index s.words (t + 2)) r.told.limits.locks a.word in
       let h = at_home_of k s r t q a.below can.0 a.slot in
       subst (λ (z : PackageView). KeptHall k (after s id (claim_effect v t z))) h.same
       (takes_home k s r id t (512 + v.worker) v h.stands h.home at live a.free a.below refl can.1 h.placed h.holder h.thread)
 
-  take_after : (i : ℕ) (l : LockView) → MayTake k s v i l → KeptHall k (after s id (take_effect (threads k) v i l))
+  pub take_after : (i : ℕ) (l : LockView) → MayTake k s v i l → KeptHall k (after s id (take_effect (threads k) v i l))
   take_after i l a =
-      let place = at_place r.told.segments i (let b = a.below in omega (arith, r.told.law.all_states, b)) in
-      let lies = lock_home_of (threads k) s.words s.homes s.views i place.0 (r.locks_placed.spot i) (r.locks_placed.each i place.0 place.1) a.word in
-      let h : IsLockHome (threads k) s.words s.homes i place.0 = lies.1 in
-      let law : IsStateAfter k.image.value k.fuel k.limit r.told.history i place.0 = r.told.law.states_after i place.0 place.1 in
-      subst (λ (z : LockView). KeptHall k (after s id (take_effect (threads k) v i z))) (lock_is h.segment l (get_elem? s.homes (threads k + i)) h.slot a.slot)
-      (take_kept k s r id i v place.0 h at live a.free a.below a.word lies.0 place.1 (ap (λ (z : LockView). z.number) h.same ∙ law.follows.number))
-    where
-      lock_is : (a b : LockView) (x : maybe.Option (maybe.Option (Option Cargo))) → x ≡ some (some (Some (Lock a))) → x ≡ some (some (Some (Lock b))) → a ≡ b
-      lock_is a b x e f = cc (e, f)
+      let h = lock_at_home k s r i l a.below a.word a.slot in
+      subst (λ (z : LockView). KeptHall k (after s id (take_effect (threads k) v i z))) h.same
+      (take_kept k s r id i v h.stands h.lies at live a.free a.below a.word h.spot h.placed h.number)
 
-  put_after : (q : PackageView) (place : Place) → MayFill k v q place → KeptHall k (after s id (put_effect v q place))
+  pub put_after : (q : PackageView) (place : Place) → MayFill k v q place → KeptHall k (after s id (put_effect v q place))
   put_after q place a =
       subst (λ (z : Place). KeptHall k (stepped s (q.context.thread + 2) (code_of place) id ((q.context.thread, Some (Package q)) ∷ []) (record (after_put v q z) { hand = None }) gives)) (place_codes place)
       (fills_kept k s r id place v q at a.hand live a.range a.may)

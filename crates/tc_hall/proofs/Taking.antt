@@ -85,6 +85,32 @@ module _ (k : Terms) where
         (λ e. lies.held (ap (λ (z : Knows). z.hand) (sym same) ∙ e)),
       )
 
+  -- the state in the slot of a lock that is home, as the rule has it there
+  pub record LockAtHome (s : St k) (r : KeptHall k s) (i : ℕ) (l : LockView) : Type 0 where
+    pub stands : LockView
+    pub placed : get_elem? r.told.segments i ≡ some stands
+    pub spot : r.locks_placed.spot i ≡ home
+    pub lies : IsLockHome (threads k) s.words s.homes i stands
+    pub same : lies.segment ≡ l
+    pub number : lies.segment.number ≡ i
+
+  pub lock_at_home : (s : St k) (r : KeptHall k s) (i : ℕ) (l : LockView) → i < locks k → slice_index s.words (threads k + 2 + i) ≡ 0 → get_elem? s.homes (threads k + i) ≡ some (some (Some (Lock l))) → LockAtHome s r i l
+  lock_at_home s r i l below word slot =
+      let place = at_place r.told.segments i (omega (arith, r.told.law.all_states, below)) in
+      let at_home = lock_home_of (threads k) s.words s.homes s.views i place.0 (r.locks_placed.spot i) (r.locks_placed.each i place.0 place.1) word in
+      let law : IsStateAfter k.image.value k.fuel k.limit r.told.history i place.0 = r.told.law.states_after i place.0 place.1 in
+      record {
+        stands = place.0;
+        placed = place.1;
+        spot = at_home.0;
+        lies = at_home.1;
+        same = same_in_slot (get_elem? s.homes (threads k + i)) at_home.1.segment l at_home.1.slot slot;
+        number = ap (λ (z : LockView). z.number) at_home.1.same ∙ law.follows.number;
+      }
+    where
+      same_in_slot : (x : maybe.Option (maybe.Option (Option Cargo))) (a b : LockView) → x ≡ some (some (Some (Lock a))) → x ≡ some (some (Some (Lock b))) → a ≡ b
+      same_in_slot x a b e f = cc (e, f)
+
   -- one word of a lock, its slot and the pass's view of it change
   lock_step : (s : St k) (r : KeptHall k s) (id i word : ℕ) (v w : Knows) (a : maybe.Option (Option Cargo)) (to : Spot) → get_elem? s.views id ≡ some v → v.spent ≡ false → i < locks k
       → (r.locks_placed.spot i ≡ home) ⊎ (r.locks_placed.spot i ≡ out id)

@@ -36,13 +36,15 @@ use Rattle.tc_hall.specs.Steps.{Gets, after_claim, after_put, after_take, after_
 use Rattle.tc_hall.specs.Effects.{Hall, after, claim_effect, put_effect, take_effect}
 use Rattle.tc_hall.specs.Outline.{outline, in_hand, packed, at_home, lies_with, lies_at}
 use Rattle.tc_hall.specs.Shown.{IsShown, with_pass, lock_in_slot, lock_with_pass, place_shown, as_place, last_end}
-use Rattle.tc_hall.specs.Ties.{may_come, at_worker, loose_at, Moment, Shows, Claims, ClaimTie, IsLooseIn, CanPass, AdoptTie, Puts, AreInside, PutTie, TakeTie, FreeTie, TiesToNone, TellTie, PassTie}
+use Rattle.tc_hall.specs.Ties.{may_come, at_worker, loose_at, Moment, Shows, ClaimTie, IsLooseIn, CanPass, AdoptTie, AreInside, PutTie, TakeTie, FreeTie, TiesToNone, TellTie, PassTie}
 use Rattle.tc_hall.proofs.Shows.{shown_at, shown_code, shown_origin, origin_low, origin_open, lies_put, lies_low, same_hand, same_package, claim_shown, put_shown, take_shown, free_shown, HadOut, had_same, had_more, had_less, still_shown}
 use Rattle.tc_hall.proofs.Outlines.{both, at_self, loose_self, with_lies, else_lies, home_free, Arrives, arrives, arrives_then, arrives_with, is_moved, custody_here, custody_else, all_come, others_come}
-use Rattle.tc_hall.proofs.Moves.{home_of, gets, takes_home, is_out, misses}
+use Rattle.tc_hall.specs.Order.{MayClaim, MayTake, MayFill}
+use Rattle.tc_hall.proofs.Moves.{AtHome, at_home_of, gets, is_out, misses}
+use Rattle.tc_hall.proofs.Ordering.{claim_after, take_after, put_after}
 use Rattle.tc_hall.proofs.Making.{deals, joins, clean_free, gone_free}
 use Rattle.tc_hall.proofs.Telling.{place_codes, code_low, fills_kept, look_kept, stop_kept, see_kept}
-use Rattle.tc_hall.proofs.Taking.{lock_home_of, is_lock_out, take_kept, free_kept}
+use Rattle.tc_hall.proofs.Taking.{lock_at_home, is_lock_out, free_kept}
 
 some_or_none : (o : Option LockView) → ((l : LockView) × (o ≡ Some l)) ⊎ (o ≡ None)
 some_or_none (Some l) = inl (l, refl)
@@ -96,40 +98,15 @@ module _ (k : Terms) (m : Moment k) where
 
   -- ---- claim and adopt
 
-  module _ (t : ℕ) (q : PackageView) (a : Claims k m t q) (low : slice_index m.state.words (t + 2) < 512) where
-    record AtHome : Type 0 where
-      pub stands : PackageView
-      pub placed : get_elem? m.rule.told.places t ≡ some stands
-      pub holder : m.rule.placed.holder t ≡ none
-      pub home : IsHome m.state.words m.state.homes t stands
-      pub same : home.context ≡ q
-      pub thread : home.context.context.thread ≡ t
-
-    at_its_home : AtHome
-    at_its_home =
-        let place = at_place m.rule.told.places t (let b = a.below in omega (arith, m.rule.told.law.all_packages, b)) in
-        let lies = home_of m.state.words m.state.homes m.state.views t place.0 (m.rule.placed.holder t) (m.rule.placed.each t place.0 place.1) low in
-        let law : IsPackageAfter k.image.value k.fuel m.rule.told.history t place.0 = m.rule.told.law.packages_after t place.0 place.1 in
-        record {
-          stands = place.0;
-          placed = place.1;
-          holder = lies.0;
-          home = lies.1;
-          same = same_package (get_elem? m.state.homes t) lies.1.context q lies.1.slot a.slot;
-          thread = ap (λ (z : PackageView). z.context.thread) lies.1.same ∙ law.follows.number;
-        }
+  module _ (t : ℕ) (q : PackageView) (a : MayClaim k m.state m.view t q) (low : slice_index m.state.words (t + 2) < 512) where
+    at_its_home : AtHome k m.state m.rule t q
+    at_its_home = at_home_of k m.state m.rule t q a.below low a.slot
 
     got : Gets (slice_index m.state.words (t + 2)) t q m.view (after_claim m.view q)
     got =
         let h = at_its_home in
         subst (λ (z : PackageView). Gets (slice_index m.state.words (t + 2)) t z m.view (after_claim m.view z)) h.same
         (gets k m.state m.rule m.id t m.view h.stands h.home m.pass m.live a.below h.placed h.holder h.thread)
-
-    claim_kept : slice_index m.state.words (t + 2) ≢ 2 → KeptHall k (after m.state m.id (claim_effect m.view t q))
-    claim_kept not_two =
-        let h = at_its_home in
-        subst (λ (z : PackageView). KeptHall k (after m.state m.id (claim_effect m.view t z))) h.same
-        (takes_home k m.state m.rule m.id t (512 + m.view.worker) m.view h.stands h.home m.pass m.live a.free a.below refl not_two h.placed h.holder h.thread)
 
     claim_shows : (c c' : Core) → IsShown k m.state (outline c) → Arrives c c' t (At m.view.worker)
         → ((i : ℕ) → (outline c).lies i ≡ packed t → (outline c').lies i ≡ in_hand m.view.worker) × ((i : ℕ) → (outline c).lies i ≢ packed t → (outline c').lies i ≡ (outline c).lies i)
@@ -148,7 +125,7 @@ unfolding is_enabled effect
 claim_tie k m t q from a word =
     let low : slice_index m.state.words (t + 2) < 512 = subst (λ (z : ℕ). z < 512) (sym word) (origin_low from) in
     record {
-      kept = claim_kept k m t q a low (λ e. origin_open from (sym word ∙ e));
+      kept = claim_after k m.state m.rule m.id m.view m.pass m.live t q a;
       asks = λ c seen given. both (nat_lt m.view.worker k.workers) _ (worker_is k m)
           (both (nat_lt t (threads k)) _ (let b = a.below in grind (arith, nat_tests)) (ap is_claimable (seen.shown.place t a.below ∙ ap place_shown word) ∙ shown_origin from));
       shows = λ c seen given enabled. let c' : Core = with_place c t (At m.view.worker) in let arrive = arrives c t (At m.view.worker) in record {
@@ -158,7 +135,7 @@ claim_tie k m t q from a word =
     }
 
 -- the step of `adopt`, whatever the events make of the core
-adopt_shows : (k : Terms) (m : Moment k) (t lock : ℕ) (q : PackageView) (l : LockView) → Claims k m t q → (low : slice_index m.state.words (t + 2) < 512) → lock < locks k → HasLock m.view lock l → (c c' : Core) → Shows k m.state c → IsLooseIn lock c
+adopt_shows : (k : Terms) (m : Moment k) (t lock : ℕ) (q : PackageView) (l : LockView) → MayClaim k m.state m.view t q → (low : slice_index m.state.words (t + 2) < 512) → lock < locks k → HasLock m.view lock l → (c c' : Core) → Shows k m.state c → IsLooseIn lock c
     → Arrives c c' t (At m.view.worker) → (c'.custody lock).place ≡ Granted t → ((i : ℕ) → i ≢ lock → (c'.custody i).place ≡ (c.custody i).place) → Shows k (after m.state m.id (claim_effect m.view t q)) c'
 adopt_shows k m t lock q l a low below has c c' seen loose arrive granted same = record {
   between = arrive.between seen.between;
@@ -179,7 +156,7 @@ unfolding effect
 adopt_tie k m t lock q l a below word has =
     let fits : 256 + lock < 512 = (let b = m.rule.told.limits.locks in omega (arith, b, below)) in
     let low : slice_index m.state.words (t + 2) < 512 = subst (λ (z : ℕ). z < 512) (sym word) fits in
-    let kept = claim_kept k m t q a low (λ e. omega (arith, word, e)) in
+    let kept = claim_after k m.state m.rule m.id m.view m.pass m.live t q a in
     let asks = adopt_asks k m t lock l a.below below word fits has in
     record {
       adopt = record {
@@ -208,7 +185,7 @@ adopt_tie k m t lock q l a below word has =
 
 -- ---- put
 
-module _ (k : Terms) (m : Moment k) (place : Place) (q : PackageView) (a : Puts k m place q) where
+module _ (k : Terms) (m : Moment k) (place : Place) (q : PackageView) (a : MayFill k m.view q place) where
   abbrev t : ℕ
   t = q.context.thread
 
@@ -218,11 +195,6 @@ module _ (k : Terms) (m : Moment k) (place : Place) (q : PackageView) (a : Puts 
 
   put_low : code_of place < 512
   put_low = code_low (locks k) place a.range m.rule.told.limits.locks
-
-  put_kept : KeptHall k (after m.state m.id (put_effect m.view q place))
-  put_kept =
-      subst (λ (z : Place). KeptHall k (stepped m.state (q.context.thread + 2) (code_of place) m.id ((q.context.thread, Some (Package q)) ∷ []) (record (after_put m.view q z) { hand = None }) gives)) (place_codes place)
-      (fills_kept k m.state m.rule m.id place m.view q m.pass a.hand m.live a.range a.may)
 
   none_else : (j i : ℕ) (x : Knows) (l : LockView) → j ≢ m.id → get_elem? m.state.views j ≡ some x → HasLock x i l → locked_in q i ≡ None
   none_else j i x l ne at' has = ⊎_elim
@@ -259,22 +231,22 @@ pub put_tie : PutTie
 unfolding is_enabled effect
 put_tie k m q = record {
   ready = λ a. record {
-    kept = put_kept k m Ready q a;
+    kept = put_after k m.state m.rule m.id m.view m.pass m.live q Ready a;
     asks = λ c seen inside. (at_its_worker k m Ready q a c seen, it_runs k m Ready q a c true seen (a.may.order.runs (λ e. omega arith)));
     shows = λ c seen inside enabled. put_shows k m Ready q a c seen inside;
   };
   waiting = λ lock a. record {
-    kept = put_kept k m (Waiting lock) q a;
+    kept = put_after k m.state m.rule m.id m.view m.pass m.live q (Waiting lock) a;
     asks = λ c seen inside. (at_its_worker k m (Waiting lock) q a c seen, (let b = a.range in let e : nat_lt lock (locks k) ≡ true = grind (arith, nat_tests) in e));
     shows = λ c seen inside enabled. put_shows k m (Waiting lock) q a c seen inside;
   };
   parked = λ slept a. record {
-    kept = put_kept k m Parked q a;
+    kept = put_after k m.state m.rule m.id m.view m.pass m.live q Parked a;
     asks = λ c seen inside. (at_its_worker k m Parked q a c seen, it_runs k m Parked q a c true seen (a.may.order.runs (λ e. omega arith)), ap is_slept (its_last k m Parked q a c seen ∙ slept));
     shows = λ c seen inside enabled. put_shows k m Parked q a c seen inside;
   };
   done = λ a. record {
-    kept = put_kept k m Done q a;
+    kept = put_after k m.state m.rule m.id m.view m.pass m.live q Done a;
     asks = λ c seen inside. finishes c (at_its_worker k m Done q a c seen) (it_runs k m Done q a c false seen (a.may.order.ended refl).0) (seen.between q.context.thread).0;
     shows = λ c seen inside enabled. put_shows k m Done q a c seen inside;
   };
@@ -288,30 +260,25 @@ put_tie k m q = record {
 -- `take` for a thread that is at the worker is Take
 pub take_tie : TakeTie
 unfolding effect
-take_tie k m t i l a =
-    let place' = at_place m.rule.told.segments i (let b = a.lock in omega (arith, m.rule.told.law.all_states, b)) in
-    let lies = lock_home_of (threads k) m.state.words m.state.homes m.state.views i place'.0 (m.rule.locks_placed.spot i) (m.rule.locks_placed.each i place'.0 place'.1) a.home in
-    let h : IsLockHome (threads k) m.state.words m.state.homes i place'.0 = lies.1 in
-    let law : IsStateAfter k.image.value k.fuel k.limit m.rule.told.history i place'.0 = m.rule.told.law.states_after i place'.0 place'.1 in
-    let same : h.segment ≡ l = lock_is h.segment l (get_elem? m.state.homes (threads k + i)) h.slot a.slot in
-    let its : h.segment.number ≡ i = ap (λ (z : LockView). z.number) h.same ∙ law.follows.number in
-    let number : l.number ≡ i = ap (λ (z : LockView). z.number) (sym same) ∙ its in
-    let has : HasLock (after_take m.view l) i (kept l) = subst (λ (z : ℕ). get_elem? (set m.view.locks z (Some (kept l))) i ≡ some (Some (kept l))) (sym number) (set_here m.view.locks i (Some (kept l)) (let b = a.lock in let c = m.rule.locks_placed.sized m.id m.view m.pass m.live in omega arith)) in
+take_tie k m t i l below_thread at_worker' a =
+    let h = lock_at_home k m.state m.rule i l a.below a.word a.slot in
+    let number : l.number ≡ i = ap (λ (z : LockView). z.number) (sym h.same) ∙ h.number in
+    let has : HasLock (after_take m.view l) i (kept l) = subst (λ (z : ℕ). get_elem? (set m.view.locks z (Some (kept l))) i ≡ some (Some (kept l))) (sym number) (set_here m.view.locks i (Some (kept l)) (let b = a.below in let c = m.rule.locks_placed.sized m.id m.view m.pass m.live in omega arith)) in
     record {
-      kept = subst (λ (z : LockView). KeptHall k (after m.state m.id (take_effect (threads k) m.view i z))) same (take_kept k m.state m.rule m.id i m.view place'.0 h m.pass m.live a.free a.lock a.home lies.0 place'.1 its);
+      kept = take_after k m.state m.rule m.id m.view m.pass m.live i l a;
       asks = λ c seen given. (
-        at_it k m c t a.below (out_at k m c seen.shown t a.below a.at),
-        (let b = a.lock in let e : nat_lt i (locks k) ≡ true = grind (arith, nat_tests) in e),
-        ap is_free_lock (home_free c.course (c.custody i).place (seen.shown.lock i l at_home a.lock (lock_in_slot a.slot refl)).lies),
+        at_it k m c t below_thread (out_at k m c seen.shown t below_thread at_worker'),
+        (let b = a.below in let e : nat_lt i (locks k) ≡ true = grind (arith, nat_tests) in e),
+        ap is_free_lock (home_free c.course (c.custody i).place (seen.shown.lock i l at_home a.below (lock_in_slot a.slot refl)).lies),
       );
       shows = λ c seen given enabled.
           let x = taken_by (c.custody i) t in
           let c' : Core = with_custody c i x in
           record {
             between = seen.between;
-            shown = take_shown k m.state m.id m.view m.pass (outline c) (outline c') seen.shown i l a.lock number a.slot has
+            shown = take_shown k m.state m.id m.view m.pass (outline c) (outline c') seen.shown i l a.below number a.slot has
                 (record { thread = λ u. refl; last = λ u. refl; lock = λ j. refl }) (λ u. refl)
-                (ap (λ (z : Custody). lies_at c.course z.place) (custody_here c i i x refl) ∙ ap (λ (z : ThreadPlace). lies_with z t) (out_at k m c seen.shown t a.below a.at))
+                (ap (λ (z : Custody). lies_at c.course z.place) (custody_here c i i x refl) ∙ ap (λ (z : ThreadPlace). lies_with z t) (out_at k m c seen.shown t below_thread at_worker'))
                 (λ j ne. ap (λ (z : Custody). lies_at c.course z.place) (custody_else c i j x ne));
           };
     }

@@ -24,6 +24,7 @@ use Rattle.tc_hall.specs.Places.{origin_code, IsInRange}
 use Rattle.tc_hall.specs.Rule.{threads, locks, HasLock, KeptHall, locked_in}
 use Rattle.tc_hall.specs.Steps.{MayPut, MayFree, Seals, IsFree}
 use Rattle.tc_hall.specs.Effects.{Hall, after, claim_effect, commit_effect, put_effect, take_effect, free_effect, look_effect, stop_effect, stopped_effect, miss_effect, with_new_pass, with_joined}
+use Rattle.tc_hall.specs.Order.{MayClaim, MayTake, MayFill}
 use Rattle.tc_hall.specs.Outline.{outline, IsBetween}
 use Rattle.tc_hall.specs.Shown.{IsShown, last_end}
 
@@ -74,13 +75,8 @@ TiesToNone k s s' = Ties k s s' Always Always []
 
 -- ---- claim: Claim
 
-pub record Claims (k : Terms) (m : Moment k) (t : ℕ) (q : PackageView) : Type 0 where
-  pub free : m.view.hand ≡ None
-  pub below : t < threads k
-  pub slot : get_elem? m.state.homes t ≡ some (some (Some (Package q)))
-
 abbrev pub ClaimTie : Type 0
-ClaimTie = (k : Terms) (m : Moment k) (t : ℕ) (q : PackageView) (from : Origin) → Claims k m t q → slice_index m.state.words (t + 2) ≡ origin_code from
+ClaimTie = (k : Terms) (m : Moment k) (t : ℕ) (q : PackageView) (from : Origin) → MayClaim k m.state m.view t q → slice_index m.state.words (t + 2) ≡ origin_code from
     → Ties k m.state (after m.state m.id (claim_effect m.view t q)) Always (λ c. may_come k c (Claim m.view.worker t) ≡ true) (Claim m.view.worker t ∷ [])
 
 -- ---- adopt: Adopt, or Grant and Claim
@@ -98,15 +94,9 @@ pub record AdoptTies (k : Terms) (m : Moment k) (t lock : ℕ) (q : PackageView)
   pub grant : Ties k m.state (after m.state m.id (claim_effect m.view t q)) (IsLooseIn lock) (CanPass k m.view.worker t lock) (Grant m.view.worker t lock ∷ Claim m.view.worker t ∷ [])
 
 abbrev pub AdoptTie : Type 0
-AdoptTie = (k : Terms) (m : Moment k) (t lock : ℕ) (q : PackageView) (l : LockView) → Claims k m t q → lock < locks k → slice_index m.state.words (t + 2) ≡ 256 + lock → HasLock m.view lock l → AdoptTies k m t lock q
+AdoptTie = (k : Terms) (m : Moment k) (t lock : ℕ) (q : PackageView) (l : LockView) → MayClaim k m.state m.view t q → lock < locks k → slice_index m.state.words (t + 2) ≡ 256 + lock → HasLock m.view lock l → AdoptTies k m t lock q
 
 -- ---- put: HandBack, Ship, Park, Finish
-
--- the pass holds the thread's slot, and may put the package there
-pub record Puts (k : Terms) (m : Moment k) (place : Place) (q : PackageView) : Type 0 where
-  pub hand : m.view.hand ≡ Some q.context.thread
-  pub range : IsInRange (locks k) place
-  pub may : MayPut place m.view q
 
 -- the lock is with the thread, or granted to it
 abbrev pub is_with : LockPlace → ℕ → Bool
@@ -120,7 +110,7 @@ abbrev pub AreInside : Terms → PackageView → Core → Type 0
 AreInside k q c = (i : ℕ) → i < locks k → is_with (c.custody i).place q.context.thread ≡ is_some (locked_in q i)
 
 abbrev pub PutsTo : (k : Terms) → Moment k → Place → PackageView → (Core → Type 0) → Event → Type 0
-PutsTo k m place q asked event = Puts k m place q → Ties k m.state (after m.state m.id (put_effect m.view q place)) (AreInside k q) asked (event ∷ [])
+PutsTo k m place q asked event = MayFill k m.view q place → Ties k m.state (after m.state m.id (put_effect m.view q place)) (AreInside k q) asked (event ∷ [])
 
 pub record PutTies (k : Terms) (m : Moment k) (q : PackageView) : Type 0 where
   pub ready : PutsTo k m Ready q (λ c. (at_worker k c m.view.worker q.context.thread ≡ true) × (runs c q.context.thread ≡ true)) (HandBack m.view.worker q.context.thread)
@@ -135,16 +125,8 @@ PutTie = (k : Terms) (m : Moment k) (q : PackageView) → PutTies k m q
 
 -- ---- take: Take, of a thread that is at the worker
 
-pub record TakesFor (k : Terms) (m : Moment k) (t i : ℕ) (l : LockView) : Type 0 where
-  pub free : m.view.hand ≡ None
-  pub below : t < threads k
-  pub at : slice_index m.state.words (t + 2) ≡ 512 + m.view.worker
-  pub lock : i < locks k
-  pub home : slice_index m.state.words (threads k + 2 + i) ≡ 0
-  pub slot : get_elem? m.state.homes (threads k + i) ≡ some (some (Some (Lock l)))
-
 abbrev pub TakeTie : Type 0
-TakeTie = (k : Terms) (m : Moment k) (t i : ℕ) (l : LockView) → TakesFor k m t i l
+TakeTie = (k : Terms) (m : Moment k) (t i : ℕ) (l : LockView) → t < threads k → slice_index m.state.words (t + 2) ≡ 512 + m.view.worker → MayTake k m.state m.view i l
     → Ties k m.state (after m.state m.id (take_effect (threads k) m.view i l)) Always
     (λ c. (at_worker k c m.view.worker t ≡ true) × (is_lock k.image.value i ≡ true) × (is_free_lock (c.custody i).place ≡ true)) (Take m.view.worker t i ∷ [])
 
