@@ -6,7 +6,7 @@ use Rattle.tc_isa.specs.Faults.{fault_number}
 use Rattle.tc_isa.specs.Sets.{locks_of}
 use Rattle.tc_isa.specs.declared.fault.Fault.{Fault as GuestFault}
 use Rattle.tc_isa.specs.declared.fault.Fault.TheVariants as fault
-use Rattle.tc_journal.specs.declared.block.Told.{Told}
+use Rattle.tc_journal.specs.Told.{Told}
 use Rattle.tc_journal.specs.declared.block.Kind.{Kind}
 use Rattle.tc_journal.specs.declared.block.Kind.TheVariants.{Start, On, Taken, Adopted, Granted}
 use Rattle.tc_journal.specs.declared.block.End.{End}

@@ -1,13 +1,24 @@
 -- A text is read line by line.
-use Rattle.std.proofs.Common.{◌≡◌, ℕ, ◌+◌, ◌<◌, List, [], ◌∷◌, ◌++◌, Some, length, length-append, drop, refl, sym, ap, subst, ◌∙◌, append_assoc, append-nil, arith}
+use Rattle.std.proofs.Common.{◌≡◌, ℕ, ◌+◌, ◌<◌, Bool, true, false, Option, Some, None, List, [], ◌∷◌, ◌++◌, length, length-append, drop, refl, sym, ap, subst, ◌∙◌, append_assoc, append-nil, arith}
 use Rattle.std.proofs.lemmas.List.Concat.{flat_map-append}
 use Rattle.std.proofs.Math.Seq.{drop-append_seam}
 use Rattle.tc_journal.specs.declared.block.Block.{Block}
-use Rattle.tc_journal.specs.declared.block.Told.{Told}
-use Rattle.tc_journal.specs.Told.{told}
+use Rattle.std.specs.Prelude.{is_some}
+use Rattle.tc_journal.specs.declared.block.BlockV1.{BlockV1}
+use Rattle.tc_journal.specs.Told.{Told, block_of, pc_or_0, told, told_if, with_pc}
 use Rattle.tc_journal.specs.History.{IsTold, IsToldFrom, IsBlock, IsHistory}
 use Rattle.tc_journal.specs.Line.{told_text, told_line, lines_text}
 use Rattle.tc_journal.specs.Reading.{BeginsWith, IsTextOf, Reads}
+
+-- the block of what a line tells, told again in the line's form
+again : (form : Bool) (b : BlockV1) (pc : Option ℕ) → is_some pc ≡ form → told_if form (with_pc b (pc_or_0 pc)) ≡ record { block = b; pc = pc }
+again true b None some = absurd (let no : false ≡ true = some in cc)
+again true b (Some n) some = refl
+again false b None some = refl
+again false b (Some n) some = absurd (let no : true ≡ false = some in cc)
+
+pub told_again : (form : Bool) (t : Told) → is_some t.pc ≡ form → told_if form (block_of t) ≡ t
+told_again form t some = again form t.block t.pc some
 
 -- one block more
 pub lines_text_push : {B : Type 0} (told_of : B → Told) (h : List B) (b : B) → lines_text told_of (h ++ b ∷ []) ≡ lines_text told_of h ++ told_line (told_of b)
@@ -67,21 +78,21 @@ pub behind_line : (rest : List ℕ) (line : List ℕ) (more : List ℕ) → rest
 behind_line rest line more e = ap (drop (length line)) e ∙ drop-append_seam line more
 
 -- the line of a block is read
-pub read_on : {B : Type 0} (told_of : B → Told) (text rest : List ℕ) (blocks h : List B) (left : List ℕ) (b : B) → Reads told_of text h left → IsAhead told_of blocks rest h left → BeginsWith rest (length blocks) (told_of b)
-    → ((x : B) → BeginsWith rest (length blocks) (told_of x) → Some b ≡ Some x) → IsAhead told_of (blocks ++ b ∷ []) (drop (length (told_line (told_of b))) rest) h left
+pub read_on : {B : Type 0} (told_of : B → Told) (text rest : List ℕ) (blocks h : List B) (left : List ℕ) (b : B) → Reads told_of text h left → IsAhead told_of blocks rest h left → (begins : BeginsWith rest (length blocks) (told_of b))
+    → ((x : B) → BeginsWith rest (length blocks) (told_of x) → b ≡ x) → IsAhead told_of (blocks ++ b ∷ []) begins.more h left
 read_on {B = B} told_of text rest blocks h left b r a begins every = onward a.todo a.whole a.text where
-  onward : (todo : List B) → h ≡ blocks ++ todo → rest ≡ lines_text told_of todo ++ left → IsAhead told_of (blocks ++ b ∷ []) (drop (length (told_line (told_of b))) rest) h left
+  onward : (todo : List B) → h ≡ blocks ++ todo → rest ≡ lines_text told_of todo ++ left → IsAhead told_of (blocks ++ b ∷ []) begins.more h left
   onward [] whole text =
       let all : h ≡ blocks = whole ∙ append-nil blocks in
       let same : length blocks ≡ length h = ap length (sym all) in
       absurd (r.stops b (subst (λ n. BeginsWith left n (told_of b)) same (subst (λ t. BeginsWith t (length blocks) (told_of b)) text begins)))
   onward (x ∷ todo) whole text =
-      let equal : Some b ≡ Some x = every x (next_begins told_of blocks rest h left x todo r.history whole text) in
-      let same : x ≡ b = cc in
+      let same : x ≡ b = sym (every x (next_begins told_of blocks rest h left x todo r.history whole text)) in
       record {
         todo = todo;
         whole = whole ∙ ap (λ y. blocks ++ y ∷ todo) same ∙ sym (append_assoc blocks (b ∷ []) todo);
-        text = behind_line rest (told_line (told_of b)) (lines_text told_of todo ++ left) (text ∙ append_assoc (told_line (told_of x)) (lines_text told_of todo) left ∙ ap (λ y. told_line (told_of y) ++ (lines_text told_of todo ++ left)) same);
+        text = sym (behind_line rest (told_line (told_of b)) begins.more begins.line)
+            ∙ behind_line rest (told_line (told_of b)) (lines_text told_of todo ++ left) (text ∙ append_assoc (told_line (told_of x)) (lines_text told_of todo) left ∙ ap (λ y. told_line (told_of y) ++ (lines_text told_of todo ++ left)) same);
       }
 
 -- no line stands in no text
@@ -97,9 +108,7 @@ reads_history told_of text h t = record {
 }
 
 -- what was read and what is left are the whole text still
-pub lines_on : {B : Type 0} (told_of : B → Told) (text rest : List ℕ) (blocks : List B) (b : B) (stamp : ℕ) → text ≡ lines_text told_of blocks ++ rest → BeginsWith rest stamp (told_of b) → text ≡ lines_text told_of (blocks ++ b ∷ []) ++ drop (length (told_line (told_of b))) rest
-lines_on told_of text rest blocks b stamp lines begins =
-    let more : drop (length (told_line (told_of b))) rest ≡ begins.more = behind_line rest (told_line (told_of b)) begins.more begins.line in
-    lines ∙ ap (λ t. lines_text told_of blocks ++ t) (begins.line ∙ ap (λ t. told_line (told_of b) ++ t) (sym more))
-    ∙ sym (append_assoc (lines_text told_of blocks) (told_line (told_of b)) (drop (length (told_line (told_of b))) rest))
-    ∙ ap (λ t. t ++ drop (length (told_line (told_of b))) rest) (sym (lines_text_push told_of blocks b))
+pub lines_on : {B : Type 0} (told_of : B → Told) (text rest more : List ℕ) (blocks : List B) (b : B) → text ≡ lines_text told_of blocks ++ rest → rest ≡ told_line (told_of b) ++ more → text ≡ lines_text told_of (blocks ++ b ∷ []) ++ more
+lines_on told_of text rest more blocks b lines line =
+    lines ∙ ap (λ t. lines_text told_of blocks ++ t) line ∙ sym (append_assoc (lines_text told_of blocks) (told_line (told_of b)) more)
+    ∙ ap (λ t. t ++ more) (sym (lines_text_push told_of blocks b))

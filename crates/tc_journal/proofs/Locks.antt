@@ -1,46 +1,80 @@
--- The list of the locks of a set, from either of its ends.
-use Rattle.std.proofs.Common.{◌≡◌, ℕ, ◌<◌, ◌≤◌, ◌==◌, not, ◌&&◌, true, false, List, [], ◌∷◌, ◌++◌, length, refl, ap, ◌∙◌, append_assoc, append-nil, arith}
+-- The list of the locks of a set, written from its greatest down.
+use Rattle.std.proofs.Common.{◌≡◌, ℕ, zero, suc, ◌+◌, ◌*◌, ◌<◌, ◌≤◌, Bool, true, false, cond, List, [], ◌∷◌, ◌++◌, length, filter, refl, sym, ap, ◌∙◌, append_assoc, append-nil, arith}
 use Rattle.std.specs.Prelude.{codes, decimal}
-use Rattle.std.specs.List.{flat_map}
-use Rattle.std.proofs.lemmas.Bool.Decides.{nat_tests}
-use Rattle.std.proofs.lemmas.List.Concat.{flat_map-append}
-use Rattle.tc_isa.specs.Sets.{has, locks_of, IsLeast, IsGreatest}
+use Rattle.std.specs.List.{flat_map, range_with_len}
+use Rattle.tc_isa.specs.Sets.{has, locks_of, IsGreatest}
 use Rattle.tc_journal.specs.Line.{comma_text, numbers_text}
-use Rattle.tc_journal.proofs.Ranges.{IsWithout, first_of, last_of, length-passing}
 
-without : (set left lock : ℕ) → has set lock ≡ true → ((other : ℕ) → has left other ≡ (not (other == lock) && has set other)) → IsWithout (has set) (has left) lock
-without set left lock had each = record {
-  had = had;
-  gone = (let same : (lock == lock) ≡ true = grind (arith, nat_tests) in each lock ∙ ap (λ b. not b && has set lock) same);
-  others = λ i ne. (let other : (i == lock) ≡ false = grind (arith, nat_tests) in each i ∙ ap (λ b. not b && has set i) other);
-}
+none_from : (p : ℕ → Bool) (a n : ℕ) → ((i : ℕ) → a ≤ i → p i ≡ false) → filter p (range_with_len a n) ≡ []
+none_from p a zero none = refl
+none_from p a (suc n) none =
+    let rest : List ℕ = filter p (range_with_len (a + 1) n) in
+    ap (λ b. cond b (a ∷ rest) rest) (none a (omega arith)) ∙ none_from p (a + 1) n (λ i le. none i (omega arith))
+
+fails_above : (p : ℕ → Bool) (last i : ℕ) → ((k : ℕ) → p k ≡ true → k ≤ last) → last < i → p i ≡ false
+fails_above p last i most above = elim (p i) as (λ b. p i ≡ b → b ≡ false) [ true ↦ λ e. absurd (omega (arith, most i e)) | false ↦ λ e. refl ] refl
+
+-- the locks of a set from this one on are written in front of an old line
+pub record Written (set lock : ℕ) (line old : List ℕ) : Type 0 where
+  pub first : ℕ
+  pub others : List ℕ
+  pub count : ℕ
+  pub sum : lock + count ≡ 32
+  pub are : filter (has set) (range_with_len lock count) ≡ first ∷ others
+  pub text : line ≡ numbers_text (first ∷ others) ++ old
+  pub room : length line + 3 * lock ≤ 98 + length old
+
+-- the greatest
+pub begun : (set lock count : ℕ) (line old : List ℕ) → IsGreatest set lock → lock + suc count ≡ 32 → line ≡ decimal lock ++ old → length line ≤ 2 + length old → Written set lock line old
+begun set lock count line old is sum text short =
+    let p : ℕ → Bool = has set in
+    let rest : List ℕ = filter p (range_with_len (lock + 1) count) in
+    record {
+      first = lock;
+      others = [];
+      count = suc count;
+      sum = sum;
+      are = ap (λ b. cond b (lock ∷ rest) rest) is.0 ∙ ap (λ ks. lock ∷ ks) (none_from p (lock + 1) count (λ i le. fails_above p lock i is.1 (omega arith)));
+      text = text ∙ ap (λ t. t ++ old) (sym (append-nil (decimal lock)));
+      room = omega arith;
+    }
+
+-- the one below, where the set has it
+pub one_more : (set k lock : ℕ) (line new old : List ℕ) → Written set lock line old → k + 1 ≡ lock → has set k ≡ true → new ≡ decimal k ++ (codes "," ++ line) → length new ≤ 3 + length line → Written set k new old
+unfolding comma_text
+one_more set k lock line new old w e had text short =
+    let rest : List ℕ = filter (has set) (range_with_len (k + 1) w.count) in
+    record {
+      first = k;
+      others = w.first ∷ w.others;
+      count = suc w.count;
+      sum = omega (arith, w.sum);
+      are = ap (λ b. cond b (k ∷ rest) rest) had ∙ ap (λ a. k ∷ filter (has set) (range_with_len a w.count)) e ∙ ap (λ ks. k ∷ ks) w.are;
+      text = text ∙ ap (λ t. decimal k ++ (codes "," ++ t)) w.text ∙ sym (append_assoc (decimal k) (flat_map comma_text (w.first ∷ w.others)) old);
+      room = omega (arith, w.room);
+    }
+
+-- and where it has not
+pub one_less : (set k lock : ℕ) (line old : List ℕ) → Written set lock line old → k + 1 ≡ lock → has set k ≡ false → Written set k line old
+one_less set k lock line old w e none =
+    let rest : List ℕ = filter (has set) (range_with_len (k + 1) w.count) in
+    record {
+      first = w.first;
+      others = w.others;
+      count = suc w.count;
+      sum = omega (arith, w.sum);
+      are = ap (λ b. cond b (k ∷ rest) rest) none ∙ ap (λ a. filter (has set) (range_with_len a w.count)) e ∙ w.are;
+      text = w.text;
+      room = omega (arith, w.room);
+    }
+
+pub all_written : (set lock : ℕ) (line old : List ℕ) → Written set lock line old → lock ≡ 0 → line ≡ numbers_text (locks_of set) ++ old
+unfolding locks_of
+all_written set lock line old w none =
+    let whole : filter (has set) (range_with_len 0 32) ≡ w.first ∷ w.others =
+    ap (λ n. filter (has set) (range_with_len 0 n)) (let all : 32 ≡ w.count = omega (arith, w.sum) in all) ∙ ap (λ a. filter (has set) (range_with_len a w.count)) (sym none) ∙ w.are in
+    w.text ∙ ap (λ ns. numbers_text ns ++ old) (sym whole)
 
 pub locks_of-none : locks_of 0 ≡ []
 unfolding locks_of
 locks_of-none = refl
-
-pub length-locks_of : (set : ℕ) → length (locks_of set) ≤ 32
-unfolding locks_of
-length-locks_of set = length-passing (has set) 0 32
-
-pub locks_of-least : (set left lock : ℕ) → IsLeast set lock → lock < 32 → ((other : ℕ) → has left other ≡ (not (other == lock) && has set other)) → locks_of set ≡ lock ∷ locks_of left
-unfolding locks_of
-locks_of-least set left lock is small each = first_of (has set) (has left) lock 0 32 (without set left lock is.0 each) is.1 (omega arith) (omega arith)
-
-pub locks_of-greatest : (set left lock : ℕ) → IsGreatest set lock → lock < 32 → ((other : ℕ) → has left other ≡ (not (other == lock) && has set other)) → locks_of set ≡ locks_of left ++ lock ∷ []
-unfolding locks_of
-locks_of-greatest set left lock is small each = last_of (has set) (has left) lock 0 32 (without set left lock is.0 each) is.1 (omega arith) (omega arith)
-
--- the locks of a set after commas, before a text: the last of them may go to the text
-pub last_to_text : (set left lock : ℕ) (text : List ℕ) → locks_of set ≡ locks_of left ++ lock ∷ [] → flat_map comma_text (locks_of set) ++ text ≡ flat_map comma_text (locks_of left) ++ (codes "," ++ (decimal lock ++ text))
-unfolding comma_text
-last_to_text set left lock text is =
-    ap (λ ns. flat_map comma_text ns ++ text) is
-    ∙ ap (λ t. t ++ text) (flat_map-append comma_text (locks_of left) (lock ∷ []))
-    ∙ append_assoc (flat_map comma_text (locks_of left)) (comma_text lock ++ []) text
-    ∙ ap (λ t. flat_map comma_text (locks_of left) ++ (t ++ text)) (append-nil (comma_text lock))
-
--- and the first one stands before them with no comma
-pub first_before_text : (set left lock : ℕ) (text : List ℕ) → locks_of set ≡ lock ∷ locks_of left → numbers_text (locks_of set) ++ text ≡ decimal lock ++ (flat_map comma_text (locks_of left) ++ text)
-first_before_text set left lock text is =
-    ap (λ ns. numbers_text ns ++ text) is ∙ append_assoc (decimal lock) (flat_map comma_text (locks_of left)) text

@@ -4,9 +4,8 @@ use Rattle.std.specs.List.{flat_map}
 use Rattle.tc_isa.specs.Faults.{fault_number}
 use Rattle.tc_isa.specs.Sets.{locks_of}
 use Rattle.tc_journal.specs.Digits.{hex8}
-use Rattle.tc_journal.specs.Told.{told}
+use Rattle.tc_journal.specs.Told.{Told, told}
 use Rattle.tc_journal.specs.declared.block.Block.{Block}
-use Rattle.tc_journal.specs.declared.block.Told.{Told}
 use Rattle.tc_journal.specs.declared.block.Kind.{Kind}
 use Rattle.tc_journal.specs.declared.block.Kind.TheVariants.{Start, On, Taken, Adopted, Granted}
 use Rattle.tc_journal.specs.declared.block.End.{End}

@@ -1,6 +1,6 @@
 -- What is read of a text that may be that of a history.
 use Rattle.std.specs.Prelude.{◌≡◌, ◌≢◌, ℕ, ◌+◌, List, [], ◌++◌, length}
-use Rattle.tc_journal.specs.declared.block.Told.{Told}
+use Rattle.tc_journal.specs.Told.{Told}
 use Rattle.tc_journal.specs.History.{IsTold, IsToldFrom}
 use Rattle.tc_journal.specs.Line.{told_line, lines_text}
 

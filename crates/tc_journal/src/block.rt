@@ -1,7 +1,7 @@
 //! What a block of a history is.
 
 ghost use Rattle.std.specs.Prelude.{◌≡◌};
-ghost use Rattle.tc_journal.specs.Told.{with_pc, without_pc};
+ghost use Rattle.tc_journal.specs.Told.{with_pc};
 
 use tc_isa::fault::Fault;
 use tc_isa::held::Held;
@@ -71,63 +71,20 @@ pub struct BlockV1 {
     pub end: End,
 }
 
-/// What a line tells of a block: no `pc`, where the line has the old form.
-#[derive(Clone, Copy, Debug, PartialEq, Eq)]
-pub struct Told {
-    pub block: BlockV1,
-    pub pc: Option<u32>,
-}
-
 impl BlockV1 {
     /// The same block with its `pc`.
     pub fn with_pc(self, pc: u32) -> Block
         ensures { result ≡ with_pc self pc }
     {
-        let BlockV1 {
-            stamp,
-            thread,
-            turns,
-            held,
-            kind,
-            worker,
-            end,
-        } = self;
         Block {
-            stamp,
-            thread,
-            turns,
-            held,
-            kind,
-            worker,
+            stamp: self.stamp,
+            thread: self.thread,
+            turns: self.turns,
+            held: self.held,
+            kind: self.kind,
+            worker: self.worker,
             pc,
-            end,
-        }
-    }
-}
-
-impl Block {
-    /// The same block without its `pc`.
-    pub fn without_pc(self) -> BlockV1
-        ensures { result ≡ without_pc self }
-    {
-        let Block {
-            stamp,
-            thread,
-            turns,
-            held,
-            kind,
-            worker,
-            pc: _,
-            end,
-        } = self;
-        BlockV1 {
-            stamp,
-            thread,
-            turns,
-            held,
-            kind,
-            worker,
-            end,
+            end: self.end,
         }
     }
 }

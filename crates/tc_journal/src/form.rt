@@ -1,60 +1,70 @@
-//! The two forms of a block's line, by what they tell of it.
+//! The two forms of a block's line: with the block's pc, and the old one without.
 
-ghost use Rattle.std.specs.Prelude.{◌≡◌, Some, IfSome};
-ghost use Rattle.tc_journal.specs.declared.block.Told.{Told as ToldValue};
+ghost use Rattle.std.specs.Prelude.{◌≡◌, is_some};
+ghost use Rattle.tc_journal.specs.Told.{told_if, block_of};
 
-use crate::block::{Block, BlockV1, Told};
+use crate::block::{Block, BlockV1};
 
 /// A block whose line has one of the forms.
-pub trait Form: Copy {
-    ghost use Rattle.tc_journal.specs.declared.block.Told.{Told};
+pub(crate) trait Form: Drop {
+    ghost use Rattle.std.specs.Prelude.{Bool};
+    ghost use Rattle.tc_journal.specs.Told.{Told};
 
     // What the block's line tells.
     ghost told: { Self → Told };
 
-    /// What the block's line tells.
-    fn told(&self) -> Told
-        ensures { result ≡ told self.now };
+    // Whether it tells a pc.
+    ghost has_pc: { Bool };
 
-    /// The block of which a line tells this, where the line has this form.
-    fn of_told(line: Told) -> Option<Self>
-        ensures every { (b : Self) → line ≡ told b → result ≡ Some b }
-        ensures only { IfSome result (λ b. line ≡ told b) };
+    /// Whether the lines of such blocks tell a pc.
+    fn has_pc() -> bool
+        ensures value { result ≡ has_pc }
+        ensures each { (b : Self) → is_some (told b).pc ≡ has_pc };
+
+    /// The block of which a line of this form tells the same.
+    fn of(block: Block) -> Self
+        ensures same { told result ≡ told_if has_pc block }
+        ensures only { (b : Self) → block_of (told b) ≡ block → result ≡ b };
 }
 
 impl Form for Block {
+    ghost use Rattle.std.specs.Prelude.{true};
     ghost use Rattle.tc_journal.specs.Told as spec;
 
     ghost told = { spec.told };
 
-    fn told(&self) -> Told {
-        Told {
-            block: self.without_pc(),
-            pc: Some(self.pc),
-        }
+    ghost has_pc = { true };
+
+    fn has_pc() -> bool {
+        true
     }
 
-    fn of_told(line: Told) -> Option<Block> {
-        Some(line.block.with_pc(line.pc?))
+    fn of(block: Block) -> Block {
+        block
     }
 }
 
 impl Form for BlockV1 {
+    ghost use Rattle.std.specs.Prelude.{false};
     ghost use Rattle.tc_journal.specs.Told as spec;
 
     ghost told = { spec.told_v1 };
 
-    fn told(&self) -> Told {
-        Told {
-            block: *self,
-            pc: None,
-        }
+    ghost has_pc = { false };
+
+    fn has_pc() -> bool {
+        false
     }
 
-    fn of_told(line: Told) -> Option<BlockV1> {
-        match line.pc {
-            None => Some(line.block),
-            Some(_) => None,
+    fn of(block: Block) -> BlockV1 {
+        BlockV1 {
+            stamp: block.stamp,
+            thread: block.thread,
+            turns: block.turns,
+            held: block.held,
+            kind: block.kind,
+            worker: block.worker,
+            end: block.end,
         }
     }
 }

@@ -7,7 +7,7 @@ ghost use Rattle.tc_journal.specs.History.{all_blocks, HasEachStamp, IsInOrder};
 ghost use Rattle.tc_journal.specs.Line as spec;
 
 use crate::block::Block;
-use crate::line::push_history;
+use crate::line::push_lent;
 use std::alloc::{AllocError, Global};
 
 /// The blocks of all logs, in the order of their stamps.
@@ -72,7 +72,8 @@ pub fn merge_lent(alloc: Global, logs: &[&[Block]]) -> Result<Vec<Block>, AllocE
 pub fn text(alloc: Global, history: &[Block]) -> Result<Vec<u8>, AllocError>
     ensures { IfOk result (λ bytes. bytes.items ≡ spec.history_text history.now) }
 {
+    let blocks: Vec<&Block> = history.iter().collect(alloc)?;
     let mut lines = String::new(alloc);
-    push_history(&mut lines, history)?;
+    push_lent(&mut lines, &blocks)?;
     Ok(lines.into_bytes())
 }

@@ -8,8 +8,7 @@
 //! form. `specs/Batch.antt` says which sections of a lock may follow one another, and `batch` tests
 //! it.
 //!
-//! - `block`: what a block is, and what a line tells of it; `form`: the line's form, and the old
-//!   one, which has no pc.
+//! - `block`: what a block is, and one without its pc; `form`: the two forms of a block's line.
 //! - `batch`: which section of a lock may follow its last block; `law`: what that rule says.
 //! - `rule`: by which rule it ends.
 //! - `line`: its printed line, written in one array (`buffer`); `digits`: words and bytes as

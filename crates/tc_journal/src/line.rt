@@ -2,11 +2,11 @@
 
 ghost use Rattle.std.specs.Prelude.{◌≡◌, ◌+◌, ◌<◌, ◌≤◌, ◌++◌, [], OnOk, length, map, string_bytes};
 ghost use Rattle.tc_journal.specs.Line as spec;
+ghost use Rattle.tc_journal.specs.Told.{without_pc};
 ghost use Rattle.tc_isa.specs.Sets.{locks_of};
 
-use crate::block::{Block, BlockV1, End, Kind, Told};
+use crate::block::{Block, End, Kind};
 use crate::buffer::{Buffer, ROOM};
-use crate::form::Form;
 use std::alloc::AllocError;
 use tc_isa::held::Held;
 
@@ -16,16 +16,18 @@ fn put_held(line: &mut Buffer, held: Held)
     ensures value { line.new ≡ spec.numbers_text (locks_of held) ++ line.old }
     ensures len { length line.new ≤ 100 + length line.old }
 {
-    let Some(least) = held.least() else {
+    let Some(greatest) = held.greatest() else {
         return line.put_str("-");
     };
-    let mut left = held.less(least);
-    while let Some(lock) = left.greatest() {
-        line.put_number(u64::from(lock));
-        line.put_str(",");
-        left = left.less(lock);
+    line.put_number(u64::from(greatest));
+    let mut lock = greatest;
+    while lock > 0 {
+        lock -= 1;
+        if held.has(lock) {
+            line.put_str(",");
+            line.put_number(u64::from(lock));
+        }
     }
-    line.put_number(u64::from(least));
 }
 
 /// Puts a kind in front.
@@ -81,77 +83,30 @@ fn put_pc(line: &mut Buffer, pc: Option<u32>)
     }
 }
 
-/// Puts the line that tells this in front.
-fn put_told(line: &mut Buffer, told: &Told)
+/// Puts the line of a block in front, with this pc, or with none in the old form.
+pub(crate) fn put_line(line: &mut Buffer, block: &Block, pc: Option<u32>)
     requires { line.old ≡ [] }
-    ensures { line.new ≡ spec.told_line told.now }
+    ensures { line.new ≡ spec.told_line (record { block = without_pc block.now; pc = pc }) }
 {
-    let BlockV1 {
-        stamp,
-        thread,
-        turns,
-        held,
-        kind,
-        worker,
-        end,
-    } = told.block;
     line.put_str("\n");
-    put_end(line, end);
+    put_end(line, block.end);
     line.put_str(" end ");
-    put_pc(line, told.pc);
-    line.put_number(u64::from(worker));
+    put_pc(line, pc);
+    line.put_number(u64::from(block.worker));
     line.put_str(" worker ");
-    put_kind(line, kind);
+    put_kind(line, block.kind);
     line.put_str(" kind ");
-    put_held(line, held);
+    put_held(line, block.held);
     line.put_str(" held ");
-    line.put_number(u64::from(turns));
+    line.put_number(u64::from(block.turns));
     line.put_str(" turns ");
-    line.put_number(u64::from(thread));
+    line.put_number(u64::from(block.thread));
     line.put_str(" thread ");
-    line.put_number(stamp);
+    line.put_number(block.stamp);
     line.put_str("block ");
 }
 
-/// Writes the line that tells this at the end of a text.
-fn push_line(text: &mut String, line: &mut Buffer, told: &Told) -> Result<(), AllocError>
-    ensures { OnOk result
-        (string_bytes text.new ≡ string_bytes text.old ++ spec.told_line told.now) }
-{
-    line.clear();
-    put_told(line, told);
-    text.push_str(line.as_str())
-}
-
-/// Writes the line that tells this at the end of a text.
-pub(crate) fn push_told(text: &mut String, told: &Told) -> Result<(), AllocError>
-    ensures { OnOk result
-        (string_bytes text.new ≡ string_bytes text.old ++ spec.told_line told.now) }
-{
-    push_line(text, &mut Buffer::new(), told)
-}
-
-/// Writes the line of a block at the end of a text. Where memory is refused, nothing is written.
-pub fn push_block(text: &mut String, block: &Block) -> Result<(), AllocError>
-    ensures { OnOk result
-        (string_bytes text.new ≡ string_bytes text.old ++ spec.block_line block.now) }
-{
-    push_told(text, &block.told())
-}
-
-/// Writes the lines of a history at the end of a text.
-pub fn push_history(text: &mut String, history: &[Block]) -> Result<(), AllocError>
-    ensures { OnOk result
-        (string_bytes text.new ≡ string_bytes text.old ++ spec.history_text history.now) }
-{
-    let mut line = Buffer::new();
-    for block in history {
-        push_line(text, &mut line, &block.told())?;
-    }
-    Ok(())
-}
-
-/// As `push_history`, of blocks that stand in different places.
+/// Writes the lines of a history at the end of a text, of blocks that stand in different places.
 pub fn push_lent(text: &mut String, history: &[&Block]) -> Result<(), AllocError>
     ensures { OnOk result
         (string_bytes text.new ≡ string_bytes text.old
@@ -159,7 +114,9 @@ pub fn push_lent(text: &mut String, history: &[&Block]) -> Result<(), AllocError
 {
     let mut line = Buffer::new();
     for block in history {
-        push_line(text, &mut line, &block.told())?;
+        line.clear();
+        put_line(&mut line, block, Some(block.pc));
+        text.push_str(line.as_str())?;
     }
     Ok(())
 }

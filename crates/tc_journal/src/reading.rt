@@ -1,7 +1,6 @@
 //! Histories read back from their text.
 
-ghost use Rattle.std.specs.Prelude.{◌≡◌, ℕ, ◌++◌, ◌⊎◌, List, Some, IfOk, IfSome, IsErrOf, MatchBool, MatchResult, ◌≤◌, drop, length, string_bytes};
-ghost use Rattle.tc_journal.specs.Line as spec;
+ghost use Rattle.std.specs.Prelude.{◌≡◌, ℕ, ◌⊎◌, List, IfOk, IfSome, IsErrOf, MatchOption, MatchResult};
 ghost use Rattle.tc_journal.specs.Reading.{BeginsWith, IsTextOf, IsFirstWrong};
 ghost use Rattle.tc_journal.specs.Told.{told, told_v1};
 ghost use Rattle.tc_journal.specs.declared.block.Block.{Block as BlockValue};
@@ -9,9 +8,10 @@ ghost use Rattle.tc_journal.specs.declared.block.BlockV1.{BlockV1 as BlockV1Valu
 ghost use Rattle.tc_journal.specs.declared.reading.BadText.TheVariants.{OutOfMemory};
 
 use crate::block::{Block, BlockV1};
+use crate::buffer::Buffer;
 use crate::form::Form;
-use crate::line::push_told;
-use crate::spelling::told_at_front;
+use crate::line::put_line;
+use crate::spelling::block_at_front;
 use std::alloc::{AllocError, Global};
 
 /// Why a text was not read.
@@ -32,41 +32,23 @@ impl From<AllocError> for BadText {
     }
 }
 
-fn is_front(front: &[u8], text: &[u8]) -> bool
-    ensures { MatchBool result ((more : List ℕ) × (text.now ≡ front.now ++ more))
-        ((more : List ℕ) → text.now ≡ front.now ++ more → ⊥) }
+/// The block of a history with this stamp whose line stands at the front of a text, and what is
+/// behind that line.
+fn first_block<B: Form>(text: &[u8], stamp: u64) -> Option<(B, &[u8])>
+    ensures some { IfSome result
+        (λ r. (begins : BeginsWith text.now stamp (B.told r.0)) × (begins.more ≡ r.1.now)) }
+    ensures every { (b : B) → BeginsWith text.now stamp (B.told b)
+        → MatchOption result ⊥ (λ r. r.0 ≡ b) }
 {
-    text.starts_with(front)
-}
-
-fn text_from(text: &[u8], start: usize) -> &[u8]
-    requires { start ≤ length text.now }
-    ensures { result.now ≡ drop start text.now }
-{
-    &text[start..]
-}
-
-/// The block of a history with this stamp whose line stands at the front of a text. That line is
-/// then left in the buffer.
-fn first_block<B: Form>(line: &mut String, text: &[u8], stamp: u64) -> Result<Option<B>, AllocError>
-    ensures some { IfOk result (λ o. IfSome o (λ b. BeginsWith text.now stamp (B.told b)
-        × (string_bytes line.new ≡ spec.told_line (B.told b)))) }
-    ensures every { IfOk result
-        (λ o. (b : B) → BeginsWith text.now stamp (B.told b) → o ≡ Some b) }
-{
-    let Some(told) = told_at_front(text) else {
-        return Ok(None);
-    };
-    if told.block.stamp != stamp {
-        return Ok(None);
+    let has_pc = B::has_pc();
+    let block = block_at_front(text, has_pc)?;
+    if block.stamp != stamp {
+        return None;
     }
-    line.clear();
-    push_told(line, &told)?;
-    if is_front(line.as_bytes(), text) {
-        Ok(B::of_told(told))
-    } else {
-        Ok(None)
-    }
+    let mut line = Buffer::new();
+    put_line(&mut line, &block, has_pc.then_some(block.pc));
+    let behind = text.strip_prefix(line.as_str().as_bytes())?;
+    Some((B::of(block), behind))
 }
 
 /// The blocks of a text whose lines have the form of such blocks.
@@ -79,17 +61,16 @@ fn read_lines<B: Form>(alloc: Global, bytes: &[u8]) -> Result<Vec<B>, BadText>
         → IsErrOf result (BadText.Line n) ⊎ IsErrOf result BadText.OutOfMemory }
 {
     let mut blocks = Vec::new(alloc);
-    let mut line = String::new(alloc);
     let mut rest = bytes;
     while !rest.is_empty() {
         let stamp = blocks.len() as u64;
-        let Some(block) = first_block(&mut line, rest, stamp)? else {
+        let Some((block, behind)) = first_block(rest, stamp) else {
             return Err(BadText::Line(stamp + 1));
         };
         if blocks.push(block).is_err() {
             return Err(BadText::OutOfMemory);
         }
-        rest = text_from(rest, line.len());
+        rest = behind;
     }
     Ok(blocks)
 }

@@ -3,18 +3,18 @@
 //! The functions here are sure to find the block of a line that a block has. Of any other line
 //! they may make a block too: `reading` prints the block again, and compares.
 
-ghost use Rattle.std.specs.Prelude.{◌≡◌, ◌==◌, ℕ, ◌^◌, ◌<◌, ◌≤◌, ◌++◌, List, Option, Some, IfSome, MatchBool, codes, decimal, length, position};
+ghost use Rattle.std.specs.Prelude.{◌≡◌, ◌==◌, ℕ, ◌^◌, ◌<◌, ◌≤◌, ◌++◌, is_some, List, Option, Some, IfSome, MatchBool, codes, decimal, length, position};
 ghost use Rattle.tc_isa.specs.Sets.{locks_of};
 ghost use Rattle.tc_isa.specs.declared.limits.TheConstants.{MAX_TURNS};
 ghost use Rattle.tc_journal.specs.Digits.{hex8};
 ghost use Rattle.tc_journal.specs.History.{IsTold, IsEnd};
 ghost use Rattle.tc_journal.specs.Line as spec;
 ghost use Rattle.tc_journal.specs.Spelling.{before, behind, value_of, rest_of, end_word, end_number, from_pc};
-ghost use Rattle.tc_journal.specs.declared.block.Told.{Told as ToldValue};
+ghost use Rattle.tc_journal.specs.Told.{Told, block_of, pc_or_0, told_if};
 ghost use Rattle.tc_journal.specs.declared.block.Kind.{Kind as KindValue};
 ghost use Rattle.tc_journal.specs.declared.block.End.{End as EndValue};
 
-use crate::block::{BlockV1, End, Kind, Told};
+use crate::block::{Block, End, Kind};
 use hex::FromHex;
 use std::str::from_utf8;
 use tc_isa::fault::Fault;
@@ -143,29 +143,26 @@ fn hex_word(word: &[u8]) -> Option<u32>
     Some(u32::from_be_bytes(bytes))
 }
 
-/// The pc at the front of the part of a line behind its worker, where one is told there, and what
+/// The pc at the front of the part of a line behind its worker, where one is told, else 0; and what
 /// follows it.
-fn pc_and_rest(text: &[u8]) -> (Option<Option<u32>>, &[u8])
-    ensures every { (pc : Option ℕ) (more : List ℕ) → IfSome pc (λ n. n < 2 ^ 32)
-        → text.now ≡ from_pc pc (codes "end " ++ more)
-        → (result.0 ≡ Some pc) × (result.1.now ≡ codes "end " ++ more) }
-    ensures bound { IfSome result.0 (λ pc. IfSome pc (λ n. n < 2 ^ 32)) }
+fn pc_and_rest(text: &[u8], has_pc: bool) -> (Option<u32>, &[u8])
+    ensures { (pc : Option ℕ) (more : List ℕ) → is_some pc ≡ has_pc
+        → IfSome pc (λ n. n < 2 ^ 32) → text.now ≡ from_pc pc more
+        → (result.0 ≡ Some (pc_or_0 pc)) × (result.1.now ≡ more) }
 {
-    if !text.starts_with(b"pc ") {
-        return (Some(None), text);
+    if !has_pc {
+        return (Some(0), text);
     }
     let (word, rest) = field(text);
-    match hex_word(word) {
-        None => (None, rest),
-        Some(pc) => (Some(Some(pc)), rest),
-    }
+    (hex_word(word), rest)
 }
 
-/// What the line at the front of a text tells.
-pub(crate) fn told_at_front(text: &[u8]) -> Option<Told>
-    ensures every { (t : ToldValue) (more : List ℕ)
-        → IsTold t → text.now ≡ spec.told_line t ++ more → result ≡ Some t }
-    ensures valid { IfSome result (λ t. IsTold t) }
+/// A block whose line may stand at the front of a text, with a pc or in the old form.
+pub(crate) fn block_at_front(text: &[u8], has_pc: bool) -> Option<Block>
+    ensures every { (t : Told) (more : List ℕ)
+        → IsTold t → is_some t.pc ≡ has_pc → text.now ≡ spec.told_line t ++ more
+        → result ≡ Some (block_of t) }
+    ensures valid { IfSome result (λ b. IsTold (told_if has_pc b)) }
 {
     let (stamp, rest) = field(text);
     let (thread, rest) = field(rest);
@@ -173,18 +170,18 @@ pub(crate) fn told_at_front(text: &[u8]) -> Option<Told>
     let (locks, rest) = field(rest);
     let (kind_word, rest) = field(rest);
     let (worker, rest) = field(rest);
-    let (pc, rest) = pc_and_rest(rest);
+    let (pc, rest) = pc_and_rest(rest, has_pc);
     let (_, rest) = split_at_byte(rest, b' ');
     let (end_text, _) = split_at_byte(rest, b'\n');
     let (end_word, end_number) = split_at_byte(end_text, b' ');
-    let block = BlockV1 {
+    Some(Block {
         stamp: number(stamp)?,
         thread: small_number(thread)?,
         turns: number_of_turns(turns)?,
         held: held(locks)?,
         kind: kind(kind_word)?,
         worker: small_number(worker)?,
+        pc: pc?,
         end: end(end_word, end_number)?,
-    };
-    Some(Told { block, pc: pc? })
+    })
 }

@@ -1,28 +1,25 @@
-use Rattle.std.proofs.Common.{◌≡◌, ◌^◌, ◌<◌, ◌∙◌, ◌++◌, List, ℕ, Option, Some, None, IfSome, arith, drop, slice_index, refl, sym, ap}
-use Rattle.std.specs.Prelude.{codes}
-use Rattle.std.proofs.lemmas.Bool.Decides.{Decides-eqb}
-use Rattle.std.proofs.lemmas.Slice.Eq.{starts_is}
+use Rattle.std.proofs.Common.{◌≡◌, ◌^◌, ◌<◌, ◌∙◌, true, false, List, ℕ, Option, Some, None, IfSome, refl, ap}
+use Rattle.std.specs.Prelude.{is_some}
 use Rattle.tc_journal.specs.Digits.{hex8}
 use Rattle.tc_journal.specs.Spelling.{from_pc, value_of, rest_of}
+use Rattle.tc_journal.specs.Told.{pc_or_0}
 use Rattle.tc_journal.proofs.Fields.{pc_field}
 use Rattle.tc_journal.proofs.spelling.pc_and_rest.Goals as goal
 
--- a text that begins with the name of a pc tells one, and what follows it
-placed : (pc : Option ℕ) (more text : List ℕ) → text ≡ codes "pc " ++ drop 3 text → text ≡ from_pc pc (codes "end " ++ more) → IfSome pc (λ n. n < 2 ^ 32)
-    → (n : ℕ) × (pc ≡ Some n) × (n < 2 ^ 32) × (value_of text ≡ hex8 n) × (rest_of text ≡ codes "end " ++ more)
-placed None more text is e small = absurd (omega (arith, ap (λ l. slice_index l 0) is, ap (λ l. slice_index l 0) e))
-placed (Some n) more text is e small =
-    let field = pc_field n (codes "end " ++ more) in
-    (n, refl, small, ap value_of e ∙ field.0, ap rest_of e ∙ field.1)
+none : (pc : Option ℕ) (more text : List ℕ) → is_some pc ≡ false → text ≡ from_pc pc more → ◌≡◌ {A = Option ℕ} (Some 0) (Some (pc_or_0 pc)) × (text ≡ more)
+none None more text some e = (refl, e)
+none (Some n) more text some e = absurd (let no : true ≡ false = some in cc)
 
-pub returns-in-None-clause-every : goal.returns-in-None-clause-every
-returns-in-None-clause-every c = λ pc more small e.
-    let front = starts_is Decides-eqb c.args.text.now (codes "pc ") c.starts_with.result c.starts_with.ensures.value in
-    let p = placed pc more c.args.text.now (front.0 c.if-not-starts_with.false) e small in
-    absurd (let none : None ≡ Some p.0 = sym c.in-None.is ∙ c.hex_word.ensures p.0 p.2 (c.field.ensures.value ∙ p.3) in cc)
+found : (pc : Option ℕ) (more text : List ℕ) {r : Option ℕ} {rest : List ℕ} → is_some pc ≡ true → IfSome pc (λ n. n < 2 ^ 32) → text ≡ from_pc pc more
+    → ((n : ℕ) → n < 2 ^ 32 → value_of text ≡ hex8 n → r ≡ Some n) → rest ≡ rest_of text → (r ≡ Some (pc_or_0 pc)) × (rest ≡ more)
+found None more text some small e read behind = absurd (let no : false ≡ true = some in cc)
+found (Some n) more text some small e read behind =
+    let f = pc_field n more in
+    (read n small (ap value_of e ∙ f.0), behind ∙ ap rest_of e ∙ f.1)
 
-pub returns-in-Some-clause-every : goal.returns-in-Some-clause-every
-returns-in-Some-clause-every c = λ pc more small e.
-    let front = starts_is Decides-eqb c.args.text.now (codes "pc ") c.starts_with.result c.starts_with.ensures.value in
-    let p = placed pc more c.args.text.now (front.0 c.if-not-starts_with.false) e small in
-    (ap Some (sym c.in-Some.is ∙ c.hex_word.ensures p.0 p.2 (c.field.ensures.value ∙ p.3) ∙ sym p.1), c.field.ensures.rest ∙ p.4)
+pub returns-then-not-has_pc : goal.returns-then-not-has_pc
+returns-then-not-has_pc c = λ pc more some small e. none pc more c.args.text.now (some ∙ c.if-not-has_pc.true) e
+
+pub returns : goal.returns
+returns c = λ pc more some small e.
+    found pc more c.args.text.now (some ∙ c.if-not-has_pc.false) small e (λ n low word. c.hex_word.ensures n low (c.field.ensures.value ∙ word)) c.field.ensures.rest

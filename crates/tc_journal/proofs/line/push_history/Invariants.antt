@@ -1,7 +1,0 @@
-use Rattle.std.proofs.Common.{◌≡◌, ◌++◌, take}
-use Rattle.std.specs.Prelude.{string_bytes}
-use Rattle.tc_journal.specs.Line.{history_text}
-use Rattle.tc_journal.proofs.line.push_history.Given as goal
-
-abbrev pub invariant-loop-block : goal.invariant-loop-block
-invariant-loop-block l = string_bytes l.text ≡ string_bytes l.fn.text ++ history_text (take l.block-index l.history)
