@@ -25,6 +25,10 @@ impl Model for Held {
 }
 
 impl Held {
+    /// How many places a held set has: one for each number of a lock that may be in it. How many
+    /// guards a guest's file may have is a limit of its own.
+    pub const PLACES: u32 = 32;
+
     /// The set of no lock.
     pub fn none() -> Held
         ensures { result ≡ 0 }
@@ -43,7 +47,7 @@ impl Held {
     pub fn has(self, lock: u32) -> bool
         ensures { result ≡ has self lock }
     {
-        lock < 32 && self.locks >> lock & 1 == 1
+        lock < Held::PLACES && self.locks >> lock & 1 == 1
     }
 
     /// The set with a lock, which may be in it already.
@@ -83,7 +87,7 @@ impl Held {
         if self.locks == 0 {
             None
         } else {
-            Some(31 - self.locks.leading_zeros())
+            Some(Held::PLACES - 1 - self.locks.leading_zeros())
         }
     }
 

@@ -130,7 +130,7 @@ impl GuestThread {
             return None;
         }
         // So each lock that an act names is below 32.
-        prove!(image.guards() <= 32);
+        prove!(image.guards() <= Held::PLACES);
         Some(act(image, self.held, &self.regs, answer))
     }
 
@@ -195,7 +195,7 @@ impl GuestThread {
             return None;
         };
         // So each lock that an act names is below 32.
-        prove!(image.guards() <= 32);
+        prove!(image.guards() <= Held::PLACES);
         self.fuel = left;
         let done = found::go(
             image,
