@@ -3,6 +3,7 @@
 -- the batch limit says how many of those may stand in a row: how long the streak may be.
 use Rattle.std.specs.Prelude.{◌≡◌, ℕ, zero, suc, ◌+◌, ◌-◌, length, slice_get, Bool, true, false, not, ◌&&◌, ◌||◌, ◌==◌, nat_lt, nat_le, if◌then◌else◌, List, [], ◌∷◌, ◌++◌, Option, Some, None}
 use Rattle.tc_isa.specs.Sets.{has, with_lock}
+use Rattle.tc_isa.specs.declared.held.TheConstants.Held.{PLACES}
 use Rattle.tc_journal.specs.declared.block.Block.{Block}
 use Rattle.tc_journal.specs.declared.block.End.{End}
 use Rattle.tc_journal.specs.declared.block.End.TheVariants.{Wants, Unlocked, Slept, Cut, Exit, Fault, Spent}
@@ -41,7 +42,7 @@ top_below (suc n) held = if held n then Some n else top_below n held
 
 -- the lock that the block's first turn took: the greatest of its held set, since a LOCK takes only a lock above all that are held
 abbrev pub takes_of : Block → Option ℕ
-takes_of b = if is_section b.kind then top_below 32 (has b.held) else None
+takes_of b = if is_section b.kind then top_below PLACES (has b.held) else None
 
 abbrev pub is_lock : Option ℕ → ℕ → Bool
 is_lock None lock = false

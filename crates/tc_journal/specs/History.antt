@@ -4,23 +4,24 @@ use Rattle.std.specs.Global.{Global}
 use Rattle.std.specs.List.{flat_map, range_with_len}
 use Rattle.tc_isa.specs.Sets.{has}
 use Rattle.tc_isa.specs.declared.limits.TheConstants.{MAX_TURNS}
+use Rattle.tc_isa.specs.declared.held.TheConstants.Held.{PLACES}
 use Rattle.tc_journal.specs.Told.{Told, told}
 use Rattle.tc_journal.specs.declared.block.Block.{Block}
 use Rattle.tc_journal.specs.declared.block.BlockV1.{BlockV1}
 use Rattle.tc_journal.specs.declared.block.End.{End}
 use Rattle.tc_journal.specs.declared.block.End.TheVariants.{Wants, Unlocked, Slept, Cut, Exit, Fault, Spent}
 
--- a lock that an end names is a lock
+-- a lock that an end names is one that a held set has a place for
 abbrev pub IsEnd : End → Type 0
-IsEnd (Wants lock) = lock < 32
-IsEnd (Unlocked lock) = lock < 32
+IsEnd (Wants lock) = lock < PLACES
+IsEnd (Unlocked lock) = lock < PLACES
 IsEnd Slept = Unit {0}
 IsEnd Cut = Unit {0}
 IsEnd Exit = Unit {0}
 IsEnd (Fault fault) = Unit {0}
 IsEnd Spent = Unit {0}
 
--- what may be told of a block in a history: it has 1 to MAX_TURNS turns, its locks are below 32, and its other numbers
+-- what may be told of a block in a history: it has 1 to MAX_TURNS turns, its locks have places in a held set, and its other numbers
 -- are of their types
 pub record IsTold (t : Told) : Type 0 where
   pub stamp : t.block.stamp < 2 ^ 64

@@ -31,7 +31,7 @@ impl End {
     }
 
     /// Whether a block with this end released the lock.
-    pub fn unlocks(self, lock: u32) -> bool
+    pub(crate) fn unlocks(self, lock: u32) -> bool
         ensures { result ≡ batch.unlocks lock self }
     {
         match self {
@@ -75,9 +75,9 @@ impl Block {
 fn is_only(held: Held, lock: u32) -> bool
     ensures { result ≡ batch.is_only held lock }
 {
-    // So no lock from 32 on is in it.
+    // So it has no lock past its places.
     prove!(held.bits() <= u32::MAX);
-    lock < 32 && held == Held::none().plus(lock)
+    lock < Held::PLACES && held == Held::none().plus(lock)
 }
 
 /// Whether the worker of this last block of the lock is to go on with a waiter: the block released

@@ -6,6 +6,7 @@
 ghost use Rattle.std.specs.Prelude.{◌≡◌, ◌==◌, ℕ, ◌^◌, ◌<◌, ◌≤◌, ◌++◌, is_some, List, Option, Some, IfSome, MatchBool, codes, decimal, length, position};
 ghost use Rattle.tc_isa.specs.Sets.{locks_of};
 ghost use Rattle.tc_isa.specs.declared.limits.TheConstants.{MAX_TURNS};
+ghost use Rattle.tc_isa.specs.declared.held.TheConstants.Held.{PLACES};
 ghost use Rattle.tc_journal.specs.Digits.{hex8};
 ghost use Rattle.tc_journal.specs.History.{IsTold, IsEnd};
 ghost use Rattle.tc_journal.specs.Line as spec;
@@ -73,10 +74,10 @@ fn number_of_turns(word: &[u8]) -> Option<u32>
 }
 
 fn lock(word: &[u8]) -> Option<u32>
-    ensures value { (n : ℕ) → n < 32 → word.now ≡ decimal n → result ≡ Some n }
-    ensures bound { IfSome result (λ lock. lock < 32) }
+    ensures value { (n : ℕ) → n < PLACES → word.now ≡ decimal n → result ≡ Some n }
+    ensures bound { IfSome result (λ lock. lock < PLACES) }
 {
-    small_number(word).filter(|lock| *lock < 32)
+    small_number(word).filter(|lock| *lock < Held::PLACES)
 }
 
 /// Whether a list of locks is empty.

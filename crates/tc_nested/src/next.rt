@@ -2,6 +2,7 @@
 
 ghost use Rattle.std.specs.Prelude.{◌≡◌, ◌<◌, ◌↔◌, true, false, MatchOption, IfSome};
 ghost use Rattle.tc_isa.specs.Sets.{IsLeast};
+ghost use Rattle.tc_isa.specs.declared.held.TheConstants.Held.{PLACES};
 ghost use Rattle.tc_journal.specs.Batch as batch;
 ghost use Rattle.tc_nested.specs.Release.{Releases};
 
@@ -44,7 +45,7 @@ pub fn plan(block: &Block, lock: u32, run: u32, limit: u32, waiting: bool) -> Ne
 /// none is left.
 pub fn first_release(held: Held) -> Option<u32>
     ensures value { MatchOption result (held ≡ 0) (λ lock. IsLeast held lock) }
-    ensures bound { IfSome result (λ lock. lock < 32) }
+    ensures bound { IfSome result (λ lock. lock < PLACES) }
 {
     held.least()
 }

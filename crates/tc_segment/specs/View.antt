@@ -2,6 +2,7 @@
 use Rattle.std.specs.Prelude.{◌≡◌, ℕ, ◌+◌, ◌-◌, ◌^◌, ◌<◌, ◌≤◌, min, Bool, true, false, not, ◌||◌, List, [], ◌∷◌, ◌++◌, map, length, Option, Some, None, IfSome, option_map, is_some, if◌then◌else◌}
 use Rattle.tc_isa.specs.Registers.{Registers}
 use Rattle.tc_isa.specs.declared.limits.TheConstants.{MAX_BATCH}
+use Rattle.tc_isa.specs.declared.held.TheConstants.Held.{PLACES}
 use Rattle.tc_elf.specs.Shown.{Shown, Guard, guard_at}
 use Rattle.tc_elf.specs.Kept.{IsGuard}
 use Rattle.tc_journal.specs.Batch.{Obeys, PassesOn, ends_thread, ends_section, last_of, allows_of, may_follow, passes_to, passes_on}
@@ -83,7 +84,7 @@ replay_in number j = replayed j.image number (mutex_at_start j.image number) (en
 -- its batch limit, and where it is strict, each section that was passed on is of another thread than the one before it
 pub record IsSoundLock (l : LockView) : Type 0 where
   pub known : l.number < length l.journal.image.guards
-  pub small : l.number < 32
+  pub small : l.number < PLACES
   pub guard : IsGuard l.journal.image (guard_of l)
   pub bytes : length l.bytes ≡ (guard_of l).length
   pub limit : l.journal.limit ≤ MAX_BATCH

@@ -2,6 +2,7 @@
 
 ghost use Rattle.std.specs.Prelude.{◌≡◌, ◌+◌, ◌^◌, ◌<◌, ◌≤◌, ◌||◌, [], ◌∷◌, true, false, is_some, length, slice_get, unwrap_or, OnOk, OnErr, IfOk, Some, None};
 ghost use Rattle.tc_isa.specs.declared.limits.TheConstants.{MAX_BATCH};
+ghost use Rattle.tc_isa.specs.declared.held.TheConstants.Held.{PLACES};
 ghost use Rattle.tc_elf.specs.Places.{in_guard};
 ghost use Rattle.tc_exec.specs.Told.{IsWidth};
 ghost use Rattle.tc_journal.specs.Batch.{ends_thread, run_of};
@@ -141,7 +142,7 @@ impl LockState {
     /// The number of the lock.
     pub fn number(&self) -> u32
         ensures is { result ≡ self.now.number }
-        ensures small { result < 32 }
+        ensures small { result < PLACES }
     {
         self.contents.number
     }
