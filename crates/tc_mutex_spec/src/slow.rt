@@ -94,7 +94,7 @@ impl Slow {
     /// Whether the thread's turn is defined: it is a thread, has not ended, and does not take a lock
     /// that has an owner.
     #[tactic(auto, unfolding(crate::specs::Machine::can_turn))]
-    pub fn can_turn(&self, image: &Image, t: u32) -> bool
+    pub(crate) fn can_turn(&self, image: &Image, t: u32) -> bool
         requires { Suits image.now self.now }
         ensures { result ≡ can_turn image.now (state_of self.now) t }
     {
