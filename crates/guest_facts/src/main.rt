@@ -23,8 +23,7 @@ use std::rt::Files;
 use std::str::from_utf8;
 use std::sync::Wait;
 use std::thread::Threads;
-use tc_io::memory::{MemSink, MemSource};
-use tc_io::word::Word;
+use tc_io::{MemSink, MemSource, Word};
 use tc_main::gate::Open;
 use tc_main::top::tclocks;
 

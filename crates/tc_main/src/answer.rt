@@ -17,9 +17,7 @@ use tc_build::generate::generate;
 use tc_elf::limits::MAX_FILE as MAX_BYTES;
 use tc_elf::load::load;
 use tc_elf::refusal::Refusal;
-use tc_io::all::{ReadAll, read_all};
-use tc_io::source::Source;
-use tc_io::word::Word;
+use tc_io::{ReadAll, Source, Word, read_all};
 use tc_workers::gate::Gate;
 use tc_workers::options::Options;
 

@@ -14,9 +14,7 @@ use crate::status::Status;
 use std::alloc::Global;
 use std::sync::Wait;
 use std::thread::Threads;
-use tc_io::all::write_all;
-use tc_io::source::{Sink, Source};
-use tc_io::word::Word;
+use tc_io::{Sink, Source, Word, write_all};
 use tc_workers::gate::Gate;
 
 /// Writes a text, and says how the program ends.

@@ -7,7 +7,7 @@ ghost use Rattle.tc_workers.specs.declared.options.Options.{Options as Chosen};
 use std::alloc::{AllocError, Global};
 use std::str::from_utf8;
 use tc_build::generate::MAX_ROUNDS;
-use tc_io::word::Word;
+use tc_io::Word;
 use tc_isa::limits::{MAX_BATCH, MAX_FUEL, MAX_WORKERS};
 use tc_workers::options::Options;
 
