@@ -31,17 +31,19 @@ use Rattle.tc_main.proofs.Ranges.{text_by_number}
 
 -- where the law holds and each thread has ended, the packages and lock states are the outcome
 pub outcome : (image : Shown) (o : Options) (h : List Block) (packages : List PackageView) (states : List LockView) → Lawful image o.fuel o.limit h (map bare packages) (map kept states)
-    → IsComplete image (end_after image o.fuel h) → IsOutcome image o.fuel o.limit h packages states
+    → IsComplete image (end_after image o.fuel h) → IsOutcome image o.fuel h packages states
 outcome image o h packages states law complete = record {
   all_packages = sym (length-map packages bare) ∙ law.all_packages;
   all_states = sym (length-map states kept) ∙ law.all_states;
   packages_after = λ t p e. law.packages_after t (bare p) (at_map bare packages t p e);
-  states_after = λ k l e. law.states_after k (kept l) (at_map kept states k l e);
+  states_after = λ k l e.
+      let after = law.states_after k (kept l) (at_map kept states k l e) in
+      subst (λ n. IsStateAfter image o.fuel n h k (kept l)) (sym after.follows.bound) after;
   complete = complete;
 }
 
 -- the outcome is told as the machine has it
-module _ (image : Shown) (fuel limit : ℕ) (h : List Block) (packages : List PackageView) (states : List LockView) (is : IsOutcome image fuel limit h packages states) where
+module _ (image : Shown) (fuel : ℕ) (h : List Block) (packages : List PackageView) (states : List LockView) (is : IsOutcome image fuel h packages states) where
   abbrev last : State
   last = end_after image fuel h
 

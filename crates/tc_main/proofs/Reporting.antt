@@ -30,8 +30,8 @@ module _ (image : Shown) (o : Options) (closed : ClosedView) (run : IsWholeRun i
     same : run.history ≡ g
     same = sym (merged image o.fuel o.limit run.history packages (map kept states) law g blocks order)
 
-    pub outcome_is : IsOutcome image o.fuel o.limit g packages states
-    outcome_is = subst (λ h. IsOutcome image o.fuel o.limit h packages states) same (outcome image o run.history packages states law run.complete)
+    pub outcome_is : IsOutcome image o.fuel g packages states
+    outcome_is = subst (λ h. IsOutcome image o.fuel h packages states) same (outcome image o run.history packages states law run.complete)
 
     pub legal_is : All IsSoundLock closed.locks → IsLegalRun image o (results_after image o.fuel g)
     legal_is sound =
@@ -44,5 +44,5 @@ module _ (image : Shown) (o : Options) (closed : ClosedView) (run : IsWholeRun i
     report_is sound text written = record {
       results = results_after image o.fuel g;
       legal = legal_is sound;
-      printed = written ∙ sym (told image o.fuel o.limit g packages states outcome_is o);
+      printed = written ∙ sym (told image o.fuel g packages states outcome_is o);
     }

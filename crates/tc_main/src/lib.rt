@@ -22,6 +22,8 @@ pub mod report;
 mod run;
 pub mod status;
 pub mod summary;
+#[cfg(test)]
+mod tests;
 pub mod top;
 pub mod words;
 

@@ -314,7 +314,7 @@ pub fn report(
     packages: &[Package],
     locks: &[LockState],
 ) -> Result<Vec<u8>, AllocError>
-    requires { IsOutcome image.now options.fuel options.limit history.now packages.now locks.now }
+    requires { IsOutcome image.now options.fuel history.now packages.now locks.now }
     ensures { IfOk result (λ out. out.items
         ≡ text.report_text image.now options
         (results_after image.now options.fuel history.now)) }

@@ -95,7 +95,7 @@ pub(crate) fn run_whole<R: Threads + Wait + Sync, G: Gate>(
     options: Options,
     gate: &G,
 ) -> Result<WholeRun, AllocError>
-    ensures outcome { IfOk result (λ run. IsOutcome image.now options.fuel options.limit
+    ensures outcome { IfOk result (λ run. IsOutcome image.now options.fuel
         run.history.items run.closed.packages run.closed.locks) }
     ensures legal { IfOk result (λ run. IsLegalRun image.now options
         (results_after image.now options.fuel run.history.items)) }

@@ -93,8 +93,7 @@ pub fn summary(
     packages: &[Package],
     locks: &[LockState],
 ) -> Result<Vec<u8>, AllocError>
-    requires { (limit : ℕ)
-        × IsOutcome (generated rounds) DEMO_FUEL limit history.now packages.now locks.now }
+    requires { IsOutcome (generated rounds) DEMO_FUEL history.now packages.now locks.now }
     ensures { IfOk result (λ out. out.items ≡ text.summary_text rounds
         (results_after (generated rounds) DEMO_FUEL history.now)) }
 {

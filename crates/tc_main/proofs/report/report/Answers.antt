@@ -12,5 +12,5 @@ returns c =
     let same : map (λ (b : Bor Block). b.now) c.deref.result.now ≡ c.args.history.now =
     ap (map (λ (b : Bor Block). b.now)) c.deref.ensures.value ∙ c.in_ok-blocks.ensures in
     let tail : c.deref-2.result.now ≡ tail_text image c.args.packages.now c.args.locks.now = c.deref-2.ensures ∙ c.in_ok-tail.ensures in
-    let whole = told image c.args.options.fuel c.args.options.limit c.args.history.now c.args.packages.now c.args.locks.now c.requires c.args.options in
+    let whole = told image c.args.options.fuel c.args.history.now c.args.packages.now c.args.locks.now c.requires c.args.options in
     IfOk-weaker c.report_with.result _ _ (λ out written. written ∙ (λ i. head_text image c.args.options ++ history_text (same i) ++ tail i) ∙ sym whole) c.report_with.ensures

@@ -10,7 +10,7 @@ history_of-requires g c = stamps c.args.image.now c.args.options c.in_ok-closed.
 
 pub returns-clause-outcome : goal.returns-clause-outcome
 returns-clause-outcome g c =
-    let of : List PackageView → Type 0 = λ packages. IsOutcome c.args.image.now c.args.options.fuel c.args.options.limit c.in_ok-history.history.items packages c.in_ok-closed.closed.locks in
+    let of : List PackageView → Type 0 = λ packages. IsOutcome c.args.image.now c.args.options.fuel c.in_ok-history.history.items packages c.in_ok-closed.closed.locks in
     subst of c.packages.ensures
     (outcome_is c.args.image.now c.args.options c.in_ok-closed.closed c.in_ok-closed.ensures.whole
     c.packages.result.now c.in_ok-closed.closed.locks c.packages.ensures refl

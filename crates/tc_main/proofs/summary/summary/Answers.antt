@@ -7,7 +7,7 @@ use Rattle.tc_main.proofs.Outcomes.{summed}
 use Rattle.tc_main.proofs.summary.summary.Goals as goal
 
 pub push_guards-requires : goal.push_guards-requires
-push_guards-requires c = omega (arith, c.requires.1.all_states)
+push_guards-requires c = omega (arith, c.requires.all_states)
 
 pub returns : goal.returns
 returns c =
@@ -15,4 +15,4 @@ returns c =
     let locks = c.in_ok-push_guards.ensures c.args.rounds in
     let written : c.into_bytes.result.items ≡ demo_line c.args.rounds ++ blocks_line c.args.history.now ++ packages_ends c.args.packages.now ++ states_text image c.args.locks.now ++ last_line =
     search (rules, append_assoc, locks) in
-    written ∙ sym (summed image DEMO_FUEL c.requires.0 c.args.history.now c.args.packages.now c.args.locks.now c.requires.1 c.args.rounds)
+    written ∙ sym (summed image DEMO_FUEL c.args.history.now c.args.packages.now c.args.locks.now c.requires c.args.rounds)
