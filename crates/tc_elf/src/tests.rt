@@ -104,6 +104,13 @@ fn loads_a_linked_file(rt: HostRuntime) -> Result<(), Fail> {
     ] {
         assert_eq!(rt; image.byte(addr), byte, "at {addr}");
     }
+    for addr in 0x20004..0x20020 {
+        assert_eq!(rt;
+            image.byte(addr),
+            Some(0),
+            "behind the file's bytes, at {addr}"
+        );
+    }
     assert!(rt; image.bytes(0x20000, 2) == Some([0xcd, 0xab].as_slice()));
     assert!(rt; image.bytes(0x2001f, 2).is_none());
     Ok(())

@@ -36,7 +36,18 @@ fn one(alloc: Global) -> Result<Image, Refusal> {
     load(alloc, &bytes[..bytes.len().min(MAX_FILE)])
 }
 
-/// What two passes see on a new hall, where the first of them has thread 0 and lock 0 out.
+/// Looks at the words of both threads, and at the one for a stop, which is 0.
+fn look_around<R: Abort>(rt: &R, hall: &Hall, pass: &mut Pass, words: [u64; 2])
+    requires own { pass.old.table ≡ hall.now.table }
+    requires threads { threads hall.now.terms ≡ 2 }
+    ensures own { pass.new.table ≡ pass.old.table }
+{
+    assert_eq!(rt; [hall.look(pass, 0), hall.look(pass, 1)], words);
+    assert!(rt; !hall.stopped(pass));
+}
+
+/// What two passes see on a new hall, where the first of them has thread 0 and lock 0 out. What is
+/// refused changes no word.
 fn see_words<R: Abort>(rt: &R, hall: &Hall, zero: &mut Pass, other: &mut Pass)
     requires own { (zero.old.table ≡ hall.now.table) × (other.old.table ≡ hall.now.table) }
     requires threads { threads hall.now.terms ≡ 2 }
@@ -44,29 +55,34 @@ fn see_words<R: Abort>(rt: &R, hall: &Hall, zero: &mut Pass, other: &mut Pass)
 {
     assert_eq!(rt; zero.worker(), 0);
     assert_eq!(rt; other.worker(), 1);
+    look_around(rt, hall, other, [0, 0]);
     let Ok(package) = hall.claim(zero, 0, Origin::Ready) else {
         panic!(rt; "thread 0 is ready")
     };
+    look_around(rt, hall, other, [512, 0]);
     assert_eq!(rt; package.thread(), 0);
     match hall.claim(other, 0, Origin::Ready) {
         Ok(_) => panic!(rt; "thread 0 is out"),
         Err(word) => assert_eq!(rt; word, NotReady(512)),
     }
+    look_around(rt, hall, other, [512, 0]);
     match hall.adopt(other, 1, 0) {
         Ok(_) => panic!(rt; "thread 1 does not wait"),
         Err(word) => assert_eq!(rt; word, NotWaiting(0)),
     }
+    look_around(rt, hall, other, [512, 0]);
     let Ok(lock) = hall.take(zero, 0) else {
         panic!(rt; "lock 0 is home")
     };
     assert_eq!(rt; lock.number(), 0);
-    match hall.take(other, 0) {
-        Ok(_) => panic!(rt; "lock 0 is out"),
-        Err(word) => assert_eq!(rt; word, LockOut(1)),
+    look_around(rt, hall, other, [512, 0]);
+    for _ in 0..2 {
+        match hall.take(other, 0) {
+            Ok(_) => panic!(rt; "lock 0 is out"),
+            Err(word) => assert_eq!(rt; word, LockOut(1)),
+        }
+        look_around(rt, hall, other, [512, 0]);
     }
-    assert_eq!(rt; hall.look(other, 0), 512);
-    assert_eq!(rt; hall.look(other, 1), 0);
-    assert!(rt; !hall.stopped(other));
     hall.stop(zero);
     assert!(rt; hall.stopped(other));
 }

@@ -3,6 +3,7 @@ ghost use Rattle.std.specs.Prelude.{◌≡◌};
 use crate::slow::{Slow, SlowStatus};
 use crate::upgrade::upgrade;
 use std::alloc::Global;
+use std::process::Abort;
 use std::test::Fail;
 use tc_elf::image::Image;
 use tc_elf::limits::MAX_FILE;
@@ -10,7 +11,8 @@ use tc_elf::load::load;
 use tc_elf::refusal::Refusal;
 use tc_isa::held::Held;
 use tc_isa::reg::Reg;
-use tc_journal::block::{BlockV1, End, Kind};
+use tc_journal::block::{Block, BlockV1, End, Kind};
+use tc_journal::reading::read_v1;
 
 /// A guest's file of one segment at the address 0x00010054: `addi x17,x0,93` and `ecall`.
 const SMALLEST: [u8; 92] = [
@@ -158,6 +160,36 @@ fn old_block(thread: u32, turns: u32) -> BlockV1
         worker: 0,
         end: End::Exit,
     }
+}
+
+/// The block of an old text of one line, with its pc after a run of the smallest guest.
+fn upgraded<R: Abort>(rt: &R, alloc: Global, line: &str) -> Result<Option<Block>, Fail> {
+    let old = read_v1(alloc, line.as_bytes())?;
+    assert_eq!(rt; old.len(), 1);
+    assert!(rt; old[0].turns >= 1);
+    let image = load(alloc, &SMALLEST)?;
+    let new = upgrade(alloc, &image, 100, &[old[0]])?;
+    Ok(new.and_then(|blocks| blocks.first().copied()))
+}
+
+/// An old text is read, and its block gets the pc; where the run is undefined, there is none.
+#[test]
+fn an_old_text_gets_its_pcs(rt: HostRuntime) -> Result<(), Fail> {
+    let line = "block 0 thread 0 turns 2 held - kind start worker 0 end exit\n";
+    let want = Block {
+        stamp: 0,
+        thread: 0,
+        turns: 2,
+        held: Held::none(),
+        kind: Kind::Start,
+        worker: 0,
+        pc: 0x0001_0054,
+        end: End::Exit,
+    };
+    assert!(rt; upgraded(&rt, rt.alloc(), line)? == Some(want));
+    let line = "block 0 thread 0 turns 3 held - kind start worker 0 end exit\n";
+    assert!(rt; upgraded(&rt, rt.alloc(), line)?.is_none());
+    Ok(())
 }
 
 /// An old history gets the pc of each block where its run is defined: the thread exits with its

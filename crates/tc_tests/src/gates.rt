@@ -206,6 +206,13 @@ fn a_thread_that_waits_is_adopted(rt: HostRuntime) -> Result<(), Fail> {
     assert_eq!(rt; ran.status, Status::Done);
     assert_eq!(rt; ran.blocks(), 402);
     assert!(rt; gate.held_in_time());
+    for thread in 0..2 {
+        let line = format!(in alloc; "thread {thread} exit fuel 896 pc 00100038")?;
+        assert!(rt; ran.has_line(&line), "{line}");
+        assert_eq!(rt; ran.turns_of(alloc, thread)?, 1104);
+    }
+    let end = "lock 0 sections 200 broken 0 bytes 4\ndata 00020000 c8000000\nend\n";
+    assert!(rt; ran.text().ends_with(end));
     let mut sections = ran.text().lines().filter(|line| line.contains(" held 0 "));
     let second = sections.nth(1).unwrap_or("");
     assert!(rt; second.contains(" kind adopted "), "{second}");

@@ -128,3 +128,19 @@ pub(crate) fn counting<R: Abort>(
     let entries = vec![in alloc; (0u32, 0u32); threads]?;
     built(rt, alloc, &code, &entries, 1)
 }
+
+/// A guest of two threads that sleep for a block in each of 2,200 sections under one lock. Before
+/// the sections stand addi x6,x0,1100 and slli x6,x6,1, and behind each addi x6,x6,-1 with
+/// bne x6,x0,-40.
+pub(crate) fn napping<R: Abort>(rt: &R, alloc: Global) -> Result<Vec<u8>, AllocError> {
+    let pieces: [&[u32]; 6] = [
+        &[0x44c0_0313, 0x0013_1313],
+        &LOCK_0,
+        &[0x0010_0513, 0x0030_0893, ECALL],
+        &UNLOCK_0,
+        &[0xfff3_0313, 0xfc03_1ce3],
+        &EXIT,
+    ];
+    let code = joined(alloc, &pieces)?;
+    built(rt, alloc, &code, &[(0, 0), (0, 0)], 1)
+}

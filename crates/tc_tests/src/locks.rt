@@ -3,7 +3,7 @@
 
 use crate::cases::{Case, LONE, check_built};
 use crate::guests::{
-    ADD, DATA, EXIT, LOCK_0, LOCK_1, LOCK_2, LOCK_3, LOCK_4, UNLOCK_0, UNLOCK_1, counting,
+    ADD, DATA, EXIT, LOCK_0, LOCK_1, LOCK_2, LOCK_3, LOCK_4, UNLOCK_0, UNLOCK_1, counting, napping,
 };
 use crate::ran::{CALM, Outside, run, run_with};
 use std::test::Fail;
@@ -214,7 +214,38 @@ fn threads_count_under_one_lock(rt: HostRuntime) -> Result<(), Fail> {
         for thread in 0..threads {
             let line = format!(in rt.alloc(); "thread {thread} exit fuel 896 pc 00100038")?;
             assert!(rt; ran.has_line(&line), "{line}");
+            assert_eq!(rt; ran.turns_of(rt.alloc(), thread)?, 1104);
         }
+    }
+    Ok(())
+}
+
+/// Two threads that sleep inside each section run on one worker, with a batch limit of 0: each
+/// section but the first is granted to the thread that waits, which the worker offers to itself.
+/// These are more offers than its deque takes in a whole run, and the run goes on without them.
+#[test]
+fn a_worker_offers_more_than_its_deque_takes(rt: HostRuntime) -> Result<(), Fail> {
+    let file = napping(&rt, rt.alloc())?;
+    let words = [b"run".as_slice(), b"1", b"65536", b"0"];
+    let outside = Outside {
+        room: 2_097_152,
+        ..CALM
+    };
+    let ran = run_with(&rt, rt.alloc(), &words, &file, &outside)?;
+    assert_eq!(rt; ran.status, Status::Done);
+    let mut sections = ran
+        .text()
+        .lines()
+        .filter(|line| line.contains(" kind granted "));
+    assert!(rt; sections.nth(4096).is_some());
+    assert!(rt; ran.has_line("lock 0 sections 4400 broken 0 bytes 4"));
+    for thread in 0..2 {
+        let end = format!(in rt.alloc(); "thread {thread} exit ")?;
+        assert!(rt;
+            ran.text()
+                .lines()
+                .any(|line| line.starts_with(end.as_str()))
+        );
     }
     Ok(())
 }

@@ -61,6 +61,19 @@ impl Ran {
         Ok(text)
     }
 
+    /// How many turns the printed blocks of a thread have together.
+    pub(crate) fn turns_of(&self, alloc: Global, thread: usize) -> Result<u64, AllocError> {
+        let name = format!(in alloc; " thread {thread} turns ")?;
+        let mut turns: u64 = 0;
+        for line in self.text().lines() {
+            if let Some((_, back)) = line.split_once(name.as_str()) {
+                let count = back.split_once(" ").map_or("", |(count, _)| count);
+                turns = turns.saturating_add(count.parse::<u64>().unwrap_or(0));
+            }
+        }
+        Ok(turns)
+    }
+
     /// How many of the text's lines are of blocks.
     pub(crate) fn blocks(&self) -> usize {
         let lines = self.text().lines();

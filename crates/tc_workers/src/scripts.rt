@@ -1,6 +1,6 @@
 //! Scripts: desks that are driven by hand on one thread, in the order written, each on a worker of
 //! its own. The history of each is compared with its lines, and each lock is at home at the end, with
-//! these bytes in its guard, and broken or not.
+//! these bytes in its guard, and broken or not, or is with a thread.
 
 ghost use Rattle.std.specs.Prelude.{◌≡◌, ◌<◌, None, All, IfOk, OnOk};
 ghost use Rattle.tc_workers.specs.Crew.{AreAtWork};
@@ -229,8 +229,9 @@ fn act<R: Abort + Wait>(
 }
 
 /// A script: a guest, with how many desks and with which batch limit it is run, what is done with
-/// which desk, the lines of its history, the bytes of each guard at the end, and whether the locks are
-/// broken then.
+/// which desk, the lines of its history, the bytes of each guard at the end, where its lock is at home
+/// then, and whether the locks at home are broken.
+#[derive(Clone, Copy)]
 struct Script<'a> {
     code: &'a [u32],
     entries: &'a [(u32, u32)],
@@ -239,7 +240,7 @@ struct Script<'a> {
     limit: u32,
     steps: &'a [(usize, Action<'a>)],
     history: &'a str,
-    bytes: &'a [[u8; 4]],
+    bytes: &'a [Option<[u8; 4]>],
     broken: bool,
 }
 
@@ -312,7 +313,7 @@ fn follow<R: Abort + Wait>(
     Ok(())
 }
 
-/// Takes each lock from its home, and compares the bytes of its guard, and whether it is broken.
+/// Takes each lock that is at home, and compares the bytes of its guard, and whether it is broken.
 fn check_guards<R: Abort>(
     rt: &R,
     bench: &Bench<'_, Queue>,
@@ -324,11 +325,14 @@ fn check_guards<R: Abort>(
     assert_eq!(rt; bench.image.guards() as usize, script.bytes.len());
     let pass = player.desk.pass();
     for lock in 0..bench.image.guards() {
-        let Ok(state) = bench.hall.take(pass, lock) else {
-            panic!(rt; "lock {lock} is not at home")
-        };
-        assert!(rt; state.bytes() == script.bytes[lock as usize].as_slice());
-        assert_eq!(rt; state.broken(), script.broken);
+        match (bench.hall.take(pass, lock), script.bytes[lock as usize]) {
+            (Ok(state), Some(bytes)) => {
+                assert!(rt; state.bytes() == bytes.as_slice());
+                assert_eq!(rt; state.broken(), script.broken);
+            }
+            (Err(_), None) => {}
+            (_, bytes) => panic!(rt; "lock {lock}: {bytes:?}"),
+        }
     }
 }
 
@@ -428,7 +432,7 @@ block 3 thread 1 turns 7 held 0 kind adopted worker 0 pc 0010000c end unlocked 0
 block 4 thread 0 turns 2 held - kind on worker 0 pc 00100028 end exit
 block 5 thread 1 turns 2 held - kind on worker 1 pc 00100028 end exit
 ",
-    bytes: &[[2, 0, 0, 0]],
+    bytes: &[Some([2, 0, 0, 0])],
     broken: false,
 };
 
@@ -468,7 +472,7 @@ block 3 thread 1 turns 7 held 0 kind granted worker 1 pc 0010000c end unlocked 0
 block 4 thread 0 turns 2 held - kind on worker 0 pc 00100028 end exit
 block 5 thread 1 turns 2 held - kind on worker 1 pc 00100028 end exit
 ",
-    bytes: &[[2, 0, 0, 0]],
+    bytes: &[Some([2, 0, 0, 0])],
     broken: false,
 };
 
@@ -529,7 +533,7 @@ block 9 thread 2 turns 2 held - kind on worker 1 pc 00100028 end exit
 block 10 thread 1 turns 2 held - kind on worker 0 pc 00100028 end exit
 block 11 thread 3 turns 2 held - kind on worker 1 pc 00100028 end exit
 ",
-    bytes: &[[4, 0, 0, 0]],
+    bytes: &[Some([4, 0, 0, 0])],
     broken: false,
 };
 
@@ -592,7 +596,7 @@ block 8 thread 0 turns 2 held - kind on worker 0 pc 00100018 end exit
 block 9 thread 1 turns 2 held - kind on worker 1 pc 00100038 end exit
 block 10 thread 2 turns 2 held - kind on worker 2 pc 00100070 end exit
 ",
-    bytes: &[[0; 4]; 2],
+    bytes: &[Some([0; 4]); 2],
     broken: false,
 };
 
@@ -636,7 +640,7 @@ block 4 thread 1 turns 7 held 0 kind adopted worker 0 pc 0010003c end unlocked 0
 block 5 thread 0 turns 2 held - kind on worker 0 pc 00100028 end exit
 block 6 thread 1 turns 2 held - kind on worker 1 pc 00100058 end exit
 ",
-    bytes: &[[1, 0, 0, 0]],
+    bytes: &[Some([1, 0, 0, 0])],
     broken: false,
 };
 
@@ -665,8 +669,8 @@ const END: Script<'static> = Script {
         (1, Action::Run),
         (1, Action::Ships),
         (0, Action::Ends),
-        (0, Action::Tells(&[1])),
         (0, Action::Looks(0, 2)),
+        (0, Action::Tells(&[1])),
         (0, Action::Looks(1, 0)),
         (1, Action::Claim(1)),
         (1, Action::Run),
@@ -683,8 +687,34 @@ block 3 thread 1 turns 2 held - kind start worker 1 pc 0010001c end wants 0
 block 4 thread 1 turns 5 held 0 kind granted worker 1 pc 00100024 end unlocked 0
 block 5 thread 1 turns 2 held - kind on worker 1 pc 00100038 end exit
 ",
-    bytes: &[[0; 4]; 2],
+    bytes: &[Some([0; 4]); 2],
     broken: true,
+};
+
+/// The same up to that end: lock 1 is at home and broken, and lock 0 is with its waiter.
+const AT_END: Script<'static> = Script {
+    steps: &[
+        (0, Action::Claim(0)),
+        (0, Action::Run),
+        (0, Action::GoesOn(0)),
+        (0, Action::Run),
+        (0, Action::GoesOn(0)),
+        (0, Action::Run),
+        (1, Action::Claim(1)),
+        (1, Action::Run),
+        (1, Action::Ships),
+        (0, Action::Ends),
+        (0, Action::Looks(0, 2)),
+        (0, Action::Looks(1, 0)),
+    ],
+    history: "\
+block 0 thread 0 turns 2 held - kind start worker 0 pc 00100000 end wants 0
+block 1 thread 0 turns 3 held 0 kind taken worker 0 pc 00100008 end wants 1
+block 2 thread 0 turns 2 held 0,1 kind taken worker 0 pc 00100014 end fault 1
+block 3 thread 1 turns 2 held - kind start worker 1 pc 0010001c end wants 0
+",
+    bytes: &[None, Some([0; 4])],
+    ..END
 };
 
 /// Three locks in one another, and a shipment at each.
@@ -766,7 +796,7 @@ block 13 thread 1 turns 2 held - kind on worker 1 pc 00100038 end exit
 block 14 thread 2 turns 2 held - kind on worker 2 pc 00100058 end exit
 block 15 thread 3 turns 2 held - kind on worker 3 pc 001000a8 end exit
 ",
-    bytes: &[[0; 4]; 3],
+    bytes: &[Some([0; 4]); 3],
     broken: false,
 };
 
@@ -829,7 +859,7 @@ block 8 thread 2 turns 4 held 1 kind granted worker 1 pc 00100008 end unlocked 1
 block 9 thread 2 turns 2 held - kind on worker 1 pc 00100018 end exit
 block 10 thread 1 turns 2 held - kind on worker 1 pc 00100050 end exit
 ",
-    bytes: &[[0; 4]; 2],
+    bytes: &[Some([0; 4]); 2],
     broken: false,
 };
 
@@ -860,6 +890,7 @@ fn a_sleeper_keeps_its_lock(rt: HostRuntime) -> Result<(), Fail> {
 
 #[test]
 fn an_end_inside_two_sections_passes_the_locks_on(rt: HostRuntime) -> Result<(), Fail> {
+    play(&rt, rt.alloc(), &AT_END)?;
     play(&rt, rt.alloc(), &END)
 }
 
