@@ -233,7 +233,7 @@ impl Context {
         if ahead.lock.is_some() || !may_be_own(ahead.instr, loads) {
             return OwnSteps { count: 0, ahead };
         }
-        let own = self.guest.run_own(image, code, ahead.instr, most, loads);
+        let own = self.guest.run_own(image, code, most, loads);
         if own.count == 0 {
             let instr = own.stop;
             let ahead = Ahead { lock: None, instr };

@@ -6,4 +6,4 @@ pub mod NoLock
 mod DoneTold
 mod Slots
 mod Loaded
-mod Touches
+pub mod Touches

@@ -84,6 +84,10 @@ want_at held place addr width = nothing_or (load_fault held place addr width) (w
 unfoldable pub load_want : Shown → (ℕ → Bool) → LoadKind → ℕ → Want
 load_want image held kind addr = want_at held (region_of image addr (load_width kind)) addr (load_width kind)
 
+-- the fault of a load
+abbrev pub fault_of_load : Shown → (ℕ → Bool) → LoadKind → ℕ → Option Fault
+fault_of_load image held kind addr = load_fault held (region_of image addr (load_width kind)) addr (load_width kind)
+
 abbrev pub load_from : (ℕ → Bool) → Registers → ℕ → LoadKind → ℕ → Region → ℕ → Act
 load_from held r answer kind rd place addr =
     faulted_or (load_fault held place addr (load_width kind)) (set r rd (extended kind answer))

@@ -1,5 +1,5 @@
 -- Decoded code, beside the image that it is of.
-use Rattle.std.specs.Prelude.{◌≡◌, ℕ, ◌+◌, List, [], ◌∷◌, Option, Some, None, Ok}
+use Rattle.std.specs.Prelude.{◌≡◌, ℕ, ◌+◌, ◌*◌, ◌^◌, ◌≤◌, All, List, [], ◌∷◌, length, Option, Some, None, Ok}
 use Rattle.tc_isa.specs.declared.instr.Instr.{Instr}
 use Rattle.tc_elf.specs.Shown.{Shown}
 use Rattle.tc_exec.specs.Step.{instruction_at}
@@ -15,6 +15,10 @@ abbrev pub SlotsTell : Shown → ℕ → List (Option Instr) → Type 0
 SlotsTell image pc [] = Unit {0}
 SlotsTell image pc (slot ∷ slots) = SlotTells image pc slot × SlotsTell image (pc + 4) slots
 
+-- a part's slots tell the truth, and end within the address space
+pub record IsTelling (image : Shown) (p : Part) : Type 0 where
+  pub tells : SlotsTell image p.start p.slots.items
+  pub fits : p.start + 4 * length p.slots.items ≤ 2 ^ 32
+
 abbrev pub PartsTell : Shown → List Part → Type 0
-PartsTell image [] = Unit {0}
-PartsTell image (p ∷ ps) = SlotsTell image p.start p.slots.items × PartsTell image ps
+PartsTell image parts = All (IsTelling image) parts

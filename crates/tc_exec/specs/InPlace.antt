@@ -32,3 +32,10 @@ IsDone image held (done.Called (Unlock lock)) = IsUnlock image held lock
 IsDone image held (done.Called (Sleep blocks)) = blocks ≤ MAX_SLEEP
 IsDone image held (done.Called Exit) = Unit {0}
 IsDone image held (done.Faulted f) = Unit {0}
+
+-- the act that did this, and left these registers
+abbrev pub act_from : Done → Registers → Act
+act_from done.Went r = Next r None
+act_from (done.Stored put) r = Next r (Some put)
+act_from (done.Called call) r = Called call r
+act_from (done.Faulted f) r = Faulted f

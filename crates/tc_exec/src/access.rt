@@ -1,12 +1,14 @@
 //! Loads and stores.
 
-ghost use Rattle.std.specs.Prelude.{◌≡◌, ◌<◌, ◌==◌, ◌%◌, ◌^◌, ◌*◌};
+ghost use Rattle.std.specs.Prelude.{◌≡◌, ◌<◌, ◌==◌, ◌%◌, ◌^◌, ◌*◌, None};
 ghost use Rattle.tc_isa.specs.Sets.{has};
 ghost use Rattle.tc_exec.specs.Access as access;
 ghost use Rattle.tc_exec.specs.Access.{width_bytes};
+ghost use Rattle.tc_exec.specs.Flow as flow;
+ghost use Rattle.tc_exec.specs.InPlace.{done_of, regs_after};
+ghost use Rattle.tc_exec.specs.declared.outcome.Act.TheVariants.{Next};
 
-use crate::flow::{at_next, set};
-use crate::outcome::{Act, Put, Want};
+use crate::outcome::{Done, Put, Want};
 use tc_elf::image::{Image, Region};
 use tc_isa::fault::Fault;
 use tc_isa::held::Held;
@@ -89,7 +91,7 @@ pub(crate) fn low_bytes(kind: StoreKind, value: u32) -> u32
     }
 }
 
-pub(crate) fn extended(kind: LoadKind, number: u32) -> u32
+fn extended(kind: LoadKind, number: u32) -> u32
     ensures { result ≡ access.extended kind number }
 {
     match kind {
@@ -121,7 +123,7 @@ fn misaligned_or(addr: u32, width: Width, other: Option<Fault>) -> Option<Fault>
     }
 }
 
-pub(crate) fn load_fault(held: Held, place: Region, addr: u32, width: Width) -> Option<Fault>
+fn load_fault(held: Held, place: Region, addr: u32, width: Width) -> Option<Fault>
     ensures { result ≡ access.load_fault (has held) place addr (width_bytes width) }
 {
     let fault = match place {
@@ -132,7 +134,7 @@ pub(crate) fn load_fault(held: Held, place: Region, addr: u32, width: Width) -> 
     misaligned_or(addr, width, fault)
 }
 
-pub(crate) fn store_fault(held: Held, place: Region, addr: u32, width: Width) -> Option<Fault>
+fn store_fault(held: Held, place: Region, addr: u32, width: Width) -> Option<Fault>
     ensures { result ≡ access.store_fault (has held) place addr (width_bytes width) }
 {
     let fault = match place {
@@ -143,9 +145,9 @@ pub(crate) fn store_fault(held: Held, place: Region, addr: u32, width: Width) ->
     misaligned_or(addr, width, fault)
 }
 
-/// What a load of a kind at an address has to be answered.
+/// What a load of a kind at an address has to be answered. `near` is as in `Image::region_from`.
 #[tactic(auto, unfolding(crate::specs::Access::load_want))]
-pub fn load_want(image: &Image, near: usize, held: Held, kind: LoadKind, addr: u32) -> Want
+pub(crate) fn load_want(image: &Image, near: usize, held: Held, kind: LoadKind, addr: u32) -> Want
     ensures { result ≡ access.load_want image.now (has held) kind addr }
 {
     let width = Width::of_load(kind);
@@ -160,45 +162,82 @@ pub fn load_want(image: &Image, near: usize, held: Held, kind: LoadKind, addr: u
     }
 }
 
-/// A load into a register, where `answer` is the loaded number.
-#[tactic(auto, unfolding(crate::specs::Access::load))]
-pub fn load(
+/// The fault of a load that wants this, where it has one. What is wanted does not fault.
+#[tactic(auto, using(crate::proofs::Loaded::wanted))]
+pub(crate) fn fault_of_load(
     image: &Image,
     held: Held,
-    regs: &Regs,
-    answer: u32,
+    want: Want,
     kind: LoadKind,
-    rd: Reg,
     addr: u32,
-) -> Act
-    ensures { result ≡ access.load image.now (has held) regs.now answer kind rd addr }
+) -> Option<Fault>
+    requires { want ≡ access.load_want image.now (has held) kind addr }
+    ensures { result ≡ access.fault_of_load image.now (has held) kind addr }
 {
+    if let Want::Load { .. } = want {
+        return None;
+    }
     let width = Width::of_load(kind);
     let region = image.region(addr, width.bytes());
-    match load_fault(held, region, addr, width) {
-        Some(fault) => Act::Faulted(fault),
-        None => set(regs, rd, extended(kind, answer)),
+    load_fault(held, region, addr, width)
+}
+
+/// Finishes a load, of which `number` is the loaded number.
+pub fn finish_load(regs: &mut Regs, kind: LoadKind, rd: Reg, number: u32)
+    ensures { Next regs.new None ≡ flow.set regs.old rd (access.extended kind number) }
+{
+    regs.put(rd, extended(kind, number));
+    regs.step();
+}
+
+/// Finishes a load that is answered, or faults.
+pub(crate) fn load(
+    fault: Option<Fault>,
+    regs: &mut Regs,
+    kind: LoadKind,
+    rd: Reg,
+    answer: u32,
+) -> Done
+    ensures done { result
+        ≡ done_of (flow.faulted_or fault (flow.set regs.old rd (access.extended kind answer))) }
+    ensures regs { regs.new ≡ regs_after
+        (flow.faulted_or fault (flow.set regs.old rd (access.extended kind answer))) regs.old }
+{
+    match fault {
+        Some(fault) => Done::Faulted(fault),
+        None => {
+            finish_load(regs, kind, rd, answer);
+            Done::Went
+        }
     }
 }
 
-/// A store of the low bits of a value.
+/// Does a store of the low bytes of a value, and tells what goes to memory.
 #[tactic(auto, unfolding(crate::specs::Access::store))]
-pub fn store(image: &Image, held: Held, regs: &Regs, kind: StoreKind, addr: u32, value: u32) -> Act
-    ensures { result ≡ access.store image.now (has held) regs.now kind addr value }
+pub(crate) fn store(
+    image: &Image,
+    near: usize,
+    held: Held,
+    regs: &mut Regs,
+    kind: StoreKind,
+    addr: u32,
+    value: u32,
+) -> Done
+    ensures done { result
+        ≡ done_of (access.store image.now (has held) regs.old kind addr value) }
+    ensures regs { regs.new
+        ≡ regs_after (access.store image.now (has held) regs.old kind addr value) regs.old }
 {
     let width = Width::of_store(kind);
-    let region = image.region(addr, width.bytes());
+    let region = image.region_from(near, addr, width.bytes());
     if let Some(fault) = store_fault(held, region, addr, width) {
-        return Act::Faulted(fault);
+        return Done::Faulted(fault);
     }
-    let put = Put {
+    regs.step();
+    Done::Stored(Put {
         region,
         addr,
         width: width.bytes(),
         value: low_bytes(kind, value),
-    };
-    Act::Next {
-        regs: at_next(*regs),
-        put: Some(put),
-    }
+    })
 }

@@ -3,17 +3,17 @@
 //! The table is sound and not complete: a place that it has is the instruction there, and a place
 //! that it has not tells nothing. So what is not found in it is fetched and decoded as ever.
 
-ghost use Rattle.std.specs.Prelude.{◌≡◌, ℕ, ◌*◌, ◌+◌, ◌≤◌, ◌^◌, true, false, IfOk, IfSome, Ok};
+ghost use Rattle.std.specs.Prelude.{◌≡◌, ℕ, ◌*◌, ◌+◌, ◌<◌, ◌≤◌, ◌^◌, true, false, IfOk, IfSome, Ok, length};
 ghost use Rattle.tc_isa.specs.Registers.{get};
 ghost use Rattle.tc_isa.specs.Sets.{has};
 ghost use Rattle.tc_isa.specs.declared.instr.Instr.TheVariants.{Ecall};
 ghost use Rattle.tc_elf.specs.Shown.{Shown};
-ghost use Rattle.tc_exec.specs.Code.{SlotTells, SlotsTell, PartsTell};
+ghost use Rattle.tc_exec.specs.Code.{SlotTells, SlotsTell, PartsTell, IsTelling};
 ghost use Rattle.tc_exec.specs.Statements.{NeverLocks, CallsLock};
 ghost use Rattle.tc_exec.specs.Step as step;
 ghost use Rattle.tc_exec.specs.Told.{taken_by};
 
-use crate::calls::is_numbered_lock;
+use crate::guest_calls::is_numbered_lock;
 use crate::step::{instruction_at, lock_called, may_lock};
 use std::alloc::{AllocError, Global};
 use std::marker::Model;
@@ -65,12 +65,31 @@ pub struct Ahead<'a> {
 }
 
 impl<'a> Stretch<'a> {
-    /// The instruction at a place, where the stretch has it. None says nothing.
-    pub fn find(&self, pc: u32) -> Option<&'a Instr>
-        ensures { (image : Shown) → SlotsTell image self.now.start self.now.slots.now
-            → IfSome result (λ instr. step.instruction_at image pc ≡ Ok instr.now) }
+    /// The number of a place's slot. A number that no slot has says that there is none.
+    pub fn slot(&self, pc: u32) -> usize
+        ensures { result < length self.now.slots.now → self.now.start + 4 * result ≡ pc }
     {
-        slot_in(self.slots, self.start, pc)
+        if pc < self.start || (pc - self.start) % 4 != 0 {
+            return self.slots.len();
+        }
+        ((pc - self.start) / 4) as usize
+    }
+
+    /// The instruction in a slot. None says nothing.
+
+    pub fn find(&self, slot: usize) -> Option<&'a Instr>
+        ensures tells { (image : Shown) → SlotsTell image self.now.start self.now.slots.now
+            → IfSome result (λ instr.
+            step.instruction_at image (self.now.start + 4 * slot) ≡ Ok instr.now) }
+        ensures known { IfSome result (λ instr. slot < length self.now.slots.now) }
+    {
+        if slot >= self.slots.len() {
+            return None;
+        }
+        match &self.slots[slot] {
+            Some(instr) => Some(instr),
+            None => None,
+        }
     }
 }
 
@@ -99,30 +118,14 @@ fn slots_from(
     count: u32,
 ) -> Result<Vec<Option<Instr>>, AllocError>
     requires { start + 4 * count ≤ 2 ^ 32 }
-    ensures { IfOk result (λ v. SlotsTell image.now start v.items) }
+    ensures tells { IfOk result (λ v. SlotsTell image.now start v.items) }
+    ensures count { IfOk result (λ v. length v.items ≡ count) }
 {
     let mut slots = Vec::with_capacity(alloc, count as usize)?;
     'words: for i in 0..count {
         slots.push(slot_at(image, start + 4 * i))?;
     }
     Ok(slots)
-}
-
-/// The slot of a place, where there is one.
-fn slot_in(slots: &[Option<Instr>], start: u32, pc: u32) -> Option<&Instr>
-    ensures { (image : Shown) → SlotsTell image start slots.now → IfSome result (λ i. step.instruction_at image pc ≡ Ok i.now) }
-{
-    if pc < start || (pc - start) % 4 != 0 {
-        return None;
-    }
-    let at = ((pc - start) / 4) as usize;
-    if at >= slots.len() {
-        return None;
-    }
-    match &slots[at] {
-        Some(instr) => Some(instr),
-        None => None,
-    }
 }
 
 /// Whether a place is within a part, whatever its slot says.
@@ -133,14 +136,14 @@ fn has_place(part: &Part, pc: u32) -> bool {
 /// The decoded words of a range.
 fn part_of(alloc: Global, image: &Image, start: u32, length: u32) -> Result<Part, AllocError>
     requires { start + length ≤ 2 ^ 32 }
-    ensures { IfOk result (λ p. SlotsTell image.now p.start p.slots.items) }
+    ensures { IfOk result (IsTelling image.now) }
 {
     let slots = slots_from(alloc, image, start, length / 4)?;
     Ok(Part { start, slots })
 }
 
 /// The decoded words of the executable ranges.
-#[tactic(auto, using(crate::proofs::Slots::part_more))]
+
 fn parts_of(alloc: Global, image: &Image) -> Result<Vec<Part>, AllocError>
     ensures { IfOk result (λ v. PartsTell image.now v.items) }
 {
@@ -180,17 +183,14 @@ impl Code {
     pub fn find(&self, pc: u32) -> Option<&Instr>
         ensures { IfSome result (λ instr. step.instruction_at self.now pc ≡ Ok instr.now) }
     {
-        'parts: for part in &self.parts {
-            if let Some(instr) = slot_in(&part.slots, part.start, pc) {
-                return Some(instr);
-            }
-        }
-        None
+        let stretch = self.stretch(pc)?;
+        stretch.find(stretch.slot(pc))
     }
 
     /// The words round a place, where that was decoded.
     pub fn stretch(&self, pc: u32) -> Option<Stretch<'_>>
-        ensures { IfSome result (λ s. SlotsTell self.now s.start s.slots.now) }
+        ensures tells { IfSome result (λ s. SlotsTell self.now s.start s.slots.now) }
+        ensures fits { IfSome result (λ s. s.start + 4 * length s.slots.now ≤ 2 ^ 32) }
     {
         'parts: for part in &self.parts {
             if has_place(part, pc) {

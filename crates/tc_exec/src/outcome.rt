@@ -1,5 +1,8 @@
 //! What an instruction loads, and what it does.
 
+ghost use Rattle.std.specs.Prelude.{◌≡◌};
+ghost use Rattle.tc_exec.specs.InPlace.{act_from};
+
 use tc_elf::image::Region;
 use tc_isa::fault::Fault;
 use tc_isa::regs::Regs;
@@ -62,4 +65,21 @@ pub enum Done {
     Called(Call),
     /// The thread ends, with its registers as they were.
     Faulted(Fault),
+}
+
+impl Done {
+    /// The act that did this, and left these registers.
+    pub(crate) fn act(self, regs: Regs) -> Act
+        ensures { result ≡ act_from self regs }
+    {
+        match self {
+            Done::Went => Act::Next { regs, put: None },
+            Done::Stored(put) => Act::Next {
+                regs,
+                put: Some(put),
+            },
+            Done::Called(call) => Act::Called { call, regs },
+            Done::Faulted(fault) => Act::Faulted(fault),
+        }
+    }
 }

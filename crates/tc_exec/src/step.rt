@@ -2,15 +2,15 @@
 
 ghost use Rattle.std.specs.Prelude.{◌≡◌, ℕ, true, false};
 ghost use Rattle.tc_isa.specs.Sets.{has};
+ghost use Rattle.tc_exec.specs.InPlace.{done_of, regs_after};
 ghost use Rattle.tc_exec.specs.Step as step;
 ghost use Rattle.tc_exec.specs.Statements.{NeverLocks, CallsLock};
 ghost use Rattle.tc_exec.specs.Told.{IsWant, IsAct, taken_by};
 
-use crate::access::{load, load_want, store};
-use crate::arithmetic::{op_of_imm, value_of};
-use crate::calls::{guest_call, is_numbered_lock, lock_fault};
-use crate::flow::{at_next, branch, jump, set};
-use crate::outcome::{Act, Want};
+use crate::access::{fault_of_load, load, load_want, store};
+use crate::execute::{Effect, execute};
+use crate::guest_calls::{guest_call, is_numbered_lock, lock_fault};
+use crate::outcome::{Act, Done, Want};
 use tc_elf::image::Image;
 use tc_isa::decode::{decode, rows_decide};
 use tc_isa::fault::Fault;
@@ -45,51 +45,31 @@ pub(crate) fn wants_by(image: &Image, near: usize, held: Held, regs: &Regs, inst
     }
 }
 
-#[tactic(auto, unfolding(crate::specs::Step::act_by))]
-fn act_by(image: &Image, held: Held, regs: &Regs, answer: u32, instr: Instr) -> Act
-    ensures { result ≡ step.act_by image.now (has held) regs.now answer instr }
+/// Does an instruction that wants this.
+#[tactic(auto, unfolding(crate::specs::Access::load))]
+pub(crate) fn go_by(
+    image: &Image,
+    near: usize,
+    held: Held,
+    regs: &mut Regs,
+    instr: &Instr,
+    want: Want,
+    answer: u32,
+) -> Done
+    requires { want ≡ step.wants_by image.now (has held) regs.old instr.now }
+    ensures done { result ≡ done_of (step.act_by image.now (has held) regs.old answer instr.now) }
+    ensures regs { regs.new
+        ≡ regs_after (step.act_by image.now (has held) regs.old answer instr.now) regs.old }
 {
-    match instr {
-        Instr::Lui { rd, imm } => set(regs, rd, imm),
-        Instr::Auipc { rd, imm } => set(regs, rd, regs.pc().wrapping_add(imm)),
-        Instr::Jal { rd, off } => jump(regs, rd, regs.pc().wrapping_add(off)),
-        Instr::Jalr { rd, rs1, off } => {
-            let target = regs.get(rs1).wrapping_add(off);
-            jump(regs, rd, target - target % 2)
+    match execute(regs, instr) {
+        Effect::Went | Effect::Jumped => Done::Went,
+        Effect::Load { kind, rd, addr } => {
+            let fault = fault_of_load(image, held, want, kind, addr);
+            load(fault, regs, kind, rd, answer)
         }
-        Instr::Branch {
-            cond,
-            rs1,
-            rs2,
-            off,
-        } => branch(regs, cond, rs1, rs2, off),
-        Instr::Load { kind, rd, rs1, off } => {
-            let addr = regs.get(rs1).wrapping_add(off);
-            load(image, held, regs, answer, kind, rd, addr)
-        }
-        Instr::Store {
-            kind,
-            rs1,
-            rs2,
-            off,
-        } => {
-            let addr = regs.get(rs1).wrapping_add(off);
-            store(image, held, regs, kind, addr, regs.get(rs2))
-        }
-        Instr::Imm { op, rd, rs1, imm } => {
-            let value = value_of(op_of_imm(op), regs.get(rs1), imm);
-            set(regs, rd, value)
-        }
-        Instr::Op { op, rd, rs1, rs2 } => {
-            let value = value_of(op, regs.get(rs1), regs.get(rs2));
-            set(regs, rd, value)
-        }
-        Instr::Fence { .. } => Act::Next {
-            regs: at_next(*regs),
-            put: None,
-        },
-        Instr::Ecall => guest_call(image, held, regs, answer),
-        Instr::Ebreak => Act::Faulted(Fault::Break),
+        Effect::Store { kind, addr, value } => store(image, near, held, regs, kind, addr, value),
+        Effect::Call => guest_call(image, held, regs, answer),
+        Effect::Fault(fault) => Done::Faulted(fault),
     }
 }
 
@@ -116,7 +96,12 @@ pub fn act(image: &Image, held: Held, regs: &Regs, answer: u32) -> Act
     ensures told { IsAct image.now (has held) regs.now result }
 {
     match instruction_at(image, regs.pc()) {
-        Ok(instr) => act_by(image, held, regs, answer, instr),
+        Ok(instr) => {
+            let want = wants_by(image, 0, held, regs, &instr);
+            let mut after = *regs;
+            let done = go_by(image, 0, held, &mut after, &instr, want, answer);
+            done.act(after)
+        }
         Err(fault) => Act::Faulted(fault),
     }
 }

@@ -1,30 +1,17 @@
 //! Loads and stores of a thread's own memory, which do not fault.
 
-ghost use Rattle.std.specs.Prelude.{◌≡◌, ◌%◌, true, Ok, IfSome};
-ghost use Rattle.tc_elf.specs.Places.{region_of};
-ghost use Rattle.tc_exec.specs.Access.{width_bytes};
-ghost use Rattle.tc_exec.specs.Flow as flow;
-ghost use Rattle.tc_exec.specs.Step as step;
-ghost use Rattle.tc_exec.specs.Touch.{is_own, loaded, IsTouch};
+ghost use Rattle.std.specs.Prelude.{◌≡◌, ◌+◌, ◌*◌, ◌%◌, ◌^◌, ◌≤◌, true, IfSome};
+ghost use Rattle.tc_exec.specs.Access.{load_width, store_width, width_bytes};
+ghost use Rattle.tc_exec.specs.Touch.{IsOwn};
 
-use crate::access::{Width, extended, low_bytes};
+use crate::access::{Width, low_bytes};
 use tc_elf::image::{Image, Region};
-use tc_isa::instr::Instr;
-use tc_isa::regs::Regs;
+use tc_isa::instr::{LoadKind, StoreKind};
 
-/// A load or a store of a thread's own memory.
-#[derive(Clone, Copy)]
-pub enum Touch {
-    /// A load of `width` bytes at `addr`.
-    Load { addr: u32, width: u32 },
-    /// A store of the low `width` bytes of `value`, which has no bit above them, at `addr`.
-    Store { addr: u32, width: u32, value: u32 },
-}
-
-/// Whether an access is aligned and its place is the thread's own.
+/// Whether an access is aligned and its place is the thread's own. `near` is as in
+/// `Image::region_near`.
 fn lies_own(image: &Image, near: &mut usize, addr: u32, width: Width) -> bool
-    ensures own { result ≡ true → is_own (region_of image.now addr (width_bytes width)) ≡ true }
-    ensures aligned { result ≡ true → addr % width_bytes width ≡ 0 }
+    ensures { result ≡ true → IsOwn image.now addr (width_bytes width) }
 {
     if !width.divides(addr) {
         return false;
@@ -35,64 +22,42 @@ fn lies_own(image: &Image, near: &mut usize, addr: u32, width: Width) -> bool
     }
 }
 
-/// What an instruction touches, where that is the thread's own memory and it does not fault. Loads
-/// are looked for only where `loads` says so. `near` is as in `Image::region_near`.
-pub fn touch_of(
+/// How many bytes a load takes, where they are the thread's own and it does not fault. `near` is as
+/// in `Image::region_near`.
+#[tactic(auto, using(crate::proofs::Touches::load_ends))]
+pub fn own_load(image: &Image, near: &mut usize, kind: LoadKind, addr: u32) -> Option<u32>
+    ensures width { IfSome result (λ width. width ≡ load_width kind) }
+    ensures own { IfSome result (IsOwn image.now addr) }
+    ensures fits { IfSome result (λ width. addr + width ≤ 2 ^ 32) }
+    ensures small { IfSome result (λ width. width ≤ 4) }
+{
+    let width = Width::of_load(kind);
+    if lies_own(image, near, addr, width) {
+        Some(width.bytes())
+    } else {
+        None
+    }
+}
+
+/// How many bytes a store of a value writes, and the number that they are, where their place is the
+/// thread's own and it does not fault. `near` is as in `Image::region_near`.
+#[tactic(auto, using(crate::proofs::Touches::store_ends))]
+pub fn own_store(
     image: &Image,
     near: &mut usize,
-    regs: &Regs,
-    instr: &Instr,
-    loads: bool,
-) -> Option<Touch>
-    requires { step.instruction_at image.now regs.now.pc ≡ Ok instr.now }
-    ensures { IfSome result (IsTouch image.now loads regs.now instr.now) }
+    kind: StoreKind,
+    addr: u32,
+    value: u32,
+) -> Option<(u32, u32)>
+    ensures width { IfSome result (λ put. put.0 ≡ store_width kind) }
+    ensures number { IfSome result (λ put. put.1 ≡ value % 2 ^ (8 * store_width kind)) }
+    ensures own { IfSome result (λ put. IsOwn image.now addr put.0) }
+    ensures fits { IfSome result (λ put. addr + put.0 ≤ 2 ^ 32) }
 {
-    match *instr {
-        Instr::Load { kind, rs1, off, .. } => {
-            if !loads {
-                return None;
-            }
-            let addr = regs.get(rs1).wrapping_add(off);
-            let width = Width::of_load(kind);
-            if !lies_own(image, near, addr, width) {
-                return None;
-            }
-            let width = width.bytes();
-            Some(Touch::Load { addr, width })
-        }
-        Instr::Store {
-            kind,
-            rs1,
-            rs2,
-            off,
-        } => {
-            let addr = regs.get(rs1).wrapping_add(off);
-            let width = Width::of_store(kind);
-            if !lies_own(image, near, addr, width) {
-                return None;
-            }
-            let width = width.bytes();
-            let value = low_bytes(kind, regs.get(rs2));
-            Some(Touch::Store { addr, width, value })
-        }
-        _ => None,
+    let width = Width::of_store(kind);
+    if lies_own(image, near, addr, width) {
+        Some((width.bytes(), low_bytes(kind, value)))
+    } else {
+        None
     }
-}
-
-/// Finishes a load, of which `number` is the loaded number.
-pub fn finish_load(regs: &mut Regs, instr: &Instr, number: u32)
-    ensures { regs.new ≡ loaded instr.now number regs.old }
-{
-    if let Instr::Load { kind, rd, .. } = *instr {
-        regs.put(rd, extended(kind, number));
-        finish_store(regs);
-    }
-}
-
-/// Finishes a store: the thread goes on behind it.
-pub fn finish_store(regs: &mut Regs)
-    ensures { regs.new ≡ flow.at_next regs.old }
-{
-    let pc = regs.pc();
-    regs.go(pc.wrapping_add(4));
 }

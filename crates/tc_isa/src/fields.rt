@@ -3,12 +3,12 @@
 
 ghost use Rattle.std.specs.Prelude.{◌≡◌, ℕ, ◌+◌, ◌-◌, ◌*◌, ◌^◌, ◌<◌, ◌≤◌};
 ghost use Rattle.tc_isa.specs.Rows.{bits};
-ghost use Rattle.tc_isa.specs.Reading.{IsSplit, IsWithin, word_of, fields_of, signed};
+ghost use Rattle.tc_isa.specs.Reading.{IsSplit, fields_of, signed};
 
 use crate::reg::Reg;
 
 /// Bits `high` to `low` of a word, both among them, as the number that they write.
-pub fn bits(word: u32, high: u32, low: u32) -> u32
+pub(crate) fn bits(word: u32, high: u32, low: u32) -> u32
     requires low { low ≤ high }
     requires high { high < 32 }
     ensures value { result ≡ bits high low word }
@@ -18,7 +18,7 @@ pub fn bits(word: u32, high: u32, low: u32) -> u32
 }
 
 /// The bits `high` with a field of `width` bits after them, lower than they.
-pub fn then(high: u32, width: u32, field: u32) -> u32
+pub(crate) fn then(high: u32, width: u32, field: u32) -> u32
     requires width { width < 32 }
     requires field { field < 2 ^ width }
     requires fits { high * 2 ^ width + field < 2 ^ 32 }
@@ -28,7 +28,7 @@ pub fn then(high: u32, width: u32, field: u32) -> u32
 }
 
 /// A number of `width` bits, extended from its highest bit to 32 bits in two's complement.
-pub fn sign_extended(width: u32, number: u32) -> u32
+pub(crate) fn sign_extended(width: u32, number: u32) -> u32
     requires low { 1 ≤ width }
     requires high { width < 32 }
     requires number { number < 2 ^ width }
@@ -43,25 +43,25 @@ pub fn sign_extended(width: u32, number: u32) -> u32
 
 /// The six fields of a word as they stand in the R form. The other forms put their immediates into
 /// the same places.
-#[derive(Clone, Copy, Debug, PartialEq, Eq)]
-pub struct Fields {
+#[derive(Clone, Copy)]
+pub(crate) struct Fields {
     /// Bits 31 to 25.
-    pub funct7: u32,
+    pub(crate) funct7: u32,
     /// Bits 24 to 20.
-    pub rs2: Reg,
+    pub(crate) rs2: Reg,
     /// Bits 19 to 15.
-    pub rs1: Reg,
+    pub(crate) rs1: Reg,
     /// Bits 14 to 12.
-    pub funct3: u32,
+    pub(crate) funct3: u32,
     /// Bits 11 to 7.
-    pub rd: Reg,
+    pub(crate) rd: Reg,
     /// Bits 6 to 0.
-    pub opcode: u32,
+    pub(crate) opcode: u32,
 }
 
 impl Fields {
     /// The fields of a word.
-    pub fn of(word: u32) -> Fields
+    pub(crate) fn of(word: u32) -> Fields
         ensures value { result ≡ fields_of word }
         ensures split { IsSplit word result }
     {
@@ -73,17 +73,5 @@ impl Fields {
             rd: Reg::of(bits(word, 11, 7)),
             opcode: bits(word, 6, 0),
         }
-    }
-
-    /// The word that has these fields.
-    pub fn word(&self) -> u32
-        requires { IsWithin self.now }
-        ensures { result ≡ word_of self.now }
-    {
-        let word = then(self.funct7, 5, self.rs2.number());
-        let word = then(word, 5, self.rs1.number());
-        let word = then(word, 3, self.funct3);
-        let word = then(word, 5, self.rd.number());
-        then(word, 7, self.opcode)
     }
 }

@@ -1,6 +1,6 @@
 //! The registers of a guest thread.
 
-ghost use Rattle.std.specs.Prelude.{◌≡◌, ◌%◌, slice_index, length};
+ghost use Rattle.std.specs.Prelude.{◌≡◌, ◌+◌, ◌%◌, ◌^◌, slice_index, length};
 ghost use Rattle.tc_isa.specs.Registers.{Registers, started, get, with_register, IsRegisters};
 
 use crate::reg::Reg;
@@ -92,6 +92,14 @@ impl Regs {
         ensures { self.new ≡ record self.old { pc = pc } }
     {
         self.counter = pc;
+    }
+
+    /// Goes on to the next word of code, four bytes behind this one. Behind the greatest address
+    /// comes 0.
+    pub fn step(&mut self)
+        ensures { self.new ≡ record self.old { pc = (self.old.pc + 4) % 2 ^ 32 } }
+    {
+        self.counter = self.counter.wrapping_add(4);
     }
 
     /// These registers with another program counter.

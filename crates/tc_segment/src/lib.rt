@@ -8,12 +8,12 @@
 //!
 //! - `state`: a lock state with its calls. `entry`: an entry that it lends.
 //! - `packed`: registers in few words, packed once for all locks of a block.
-//! - `law`: what a lock at rest is. `record`: how entries are kept, `edges`: how their registers are.
+//! - `at_rest`: what a lock at rest is. `record`: how entries are kept, `edges`: how their registers are.
 #![tactic(auto)]
 
+pub mod at_rest;
 mod edges;
 pub mod entry;
-pub mod law;
 pub mod packed;
 mod record;
 pub mod state;

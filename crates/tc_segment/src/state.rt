@@ -1,12 +1,11 @@
 //! Lock states.
 
-ghost use Rattle.std.specs.Prelude.{◌≡◌, ◌+◌, ◌^◌, ◌<◌, ◌≤◌, ◌||◌, [], ◌∷◌, true, false, is_some, length, slice_get, unwrap_or, OnOk, OnErr, IfOk, Some, None};
+ghost use Rattle.std.specs.Prelude.{◌≡◌, ◌+◌, ◌^◌, ◌<◌, ◌≤◌, ◌||◌, [], ◌∷◌, true, false, is_some, length, slice_get, OnOk, OnErr, IfOk, Some, None};
 ghost use Rattle.tc_isa.specs.declared.limits.TheConstants.{MAX_BATCH};
 ghost use Rattle.tc_isa.specs.declared.held.TheConstants.Held.{PLACES};
 ghost use Rattle.tc_elf.specs.Places.{in_guard};
 ghost use Rattle.tc_exec.specs.Told.{IsWidth};
 ghost use Rattle.tc_journal.specs.Batch.{ends_thread, run_of};
-ghost use Rattle.tc_turn.specs.Memory.{byte_from as byte_from_start, number_at};
 ghost use Rattle.tc_segment.specs.Lent.{entry_lent};
 ghost use Rattle.tc_segment.specs.View.{IsSoundLock, allows_in, passes_in, number_of_guard, ClosesWith, MayFollow, MayPass, lock_of, guard_of, with_store, with_section, with_break, with_end, with_journal, opened_at, noted, closed_with, sealed_as, with_room, strict_as, blocks_of, entries, fresh_state};
 
@@ -21,7 +20,8 @@ use tc_elf::image::Image;
 use tc_isa::regs::Regs;
 use tc_journal::batch::{may_begin, passes_to, run_after};
 use tc_journal::block::{Block, End, Kind};
-use tc_turn::memory::{byte_from, put_number, starting_bytes};
+use tc_turn::memory::{put_number, starting_bytes};
+use tc_turn::number::number_from;
 
 /// What a lock state has, in one piece of memory.
 #[derive(Drop)]
@@ -278,7 +278,7 @@ impl LockState {
         requires inside { in_guard addr width (guard_of self.now) ≡ true }
         ensures { result ≡ number_of_guard self.now addr width }
     {
-        number_in(self.contents.start, &self.contents.bytes, addr, width)
+        number_from(self.contents.start, &self.contents.bytes, addr, width)
     }
 
     /// Writes the low bytes of a value, 1, 2 or 4, into the guard, the lowest first.
@@ -384,30 +384,4 @@ fn broken_after(broken: bool, end: End) -> bool
     ensures { result ≡ (ends_thread end || broken) }
 {
     end.ends_thread() || broken
-}
-
-fn byte_or_zero(start: u32, bytes: &[u8], addr: u32) -> u8
-    ensures { result ≡ unwrap_or (byte_from_start start bytes.now addr) 0 }
-{
-    byte_from(start, bytes, addr).unwrap_or(0)
-}
-
-/// The little-endian number of 1, 2 or 4 bytes at an address, of those that stand from `start` on.
-fn number_in(start: u32, bytes: &[u8], addr: u32, width: u32) -> u32
-    requires width { IsWidth width }
-    requires end { addr + width ≤ 2 ^ 32 }
-    ensures { result
-        ≡ number_at (λ at. unwrap_or (byte_from_start start bytes.now at) 0) addr width }
-{
-    let first = byte_or_zero(start, bytes, addr) as u32;
-    if width == 1 {
-        return first;
-    }
-    let second = byte_or_zero(start, bytes, addr + 1) as u32;
-    if width == 2 {
-        return first + 256 * second;
-    }
-    let third = byte_or_zero(start, bytes, addr + 2) as u32;
-    let fourth = byte_or_zero(start, bytes, addr + 3) as u32;
-    first + 256 * second + 65_536 * third + 16_777_216 * fourth
 }

@@ -6,3 +6,4 @@ pub mod Reads
 pub mod Replay
 pub mod InPlace
 pub mod Own
+pub mod Way

@@ -1,7 +1,11 @@
 -- Turns that touch the thread's own memory alone.
-use Rattle.std.specs.Prelude.{◌≡◌, ℕ, ◌-◌, zero, suc, Bool, false, [], None, unwrap_or}
-use Rattle.tc_isa.specs.Registers.{Registers}
+use Rattle.std.specs.Prelude.{◌≡◌, ℕ, ◌-◌, ◌*◌, ◌%◌, ◌^◌, zero, suc, Bool, false, [], None, unwrap_or}
+use Rattle.tc_isa.specs.Registers.{with_register}
+use Rattle.tc_isa.specs.declared.instr.LoadKind.{LoadKind}
+use Rattle.tc_isa.specs.declared.instr.StoreKind.{StoreKind}
 use Rattle.tc_elf.specs.Shown.{Shown}
+use Rattle.tc_exec.specs.Access.{load_width, store_width, extended}
+use Rattle.tc_exec.specs.Flow.{at_next}
 use Rattle.tc_journal.specs.declared.rule.Outcome.TheVariants.{Went}
 use Rattle.tc_turn.specs.Turn.{Thread, Mutex, Guest, thread_of, next_lock, next_act, outcome_of, thread_after, mutex_after}
 use Rattle.tc_turn.specs.Memory.{number_at, with_number}
@@ -11,10 +15,21 @@ use Rattle.tc_turn.specs.Replay.{word_of}
 abbrev pub own_number : Thread → ℕ → ℕ → ℕ
 own_number d addr width = number_at (λ at. unwrap_or (d.own at) 0) addr width
 
--- the thread after a turn that left these registers and stored so many bytes of a value in its own memory
-abbrev pub stored : Registers → ℕ → ℕ → ℕ → Thread → Thread
-stored r addr width value d =
-    record { regs = r; own = with_number d.own addr width value; fuel = d.fuel - 1; status = d.status; held = d.held }
+-- the thread at the next word, after it loaded from its own memory into a register
+abbrev pub loaded : LoadKind → ℕ → ℕ → Thread → Thread
+loaded kind rd addr d =
+    let number = own_number d addr (load_width kind) in
+    record { regs = at_next (with_register d.regs rd (extended kind number)); own = d.own; fuel = d.fuel; status = d.status; held = d.held }
+
+-- after it stored the low bytes of a value in its own memory
+abbrev pub stored : StoreKind → ℕ → ℕ → Thread → Thread
+stored kind addr value d =
+    let width = store_width kind in
+    record { regs = at_next d.regs; own = with_number d.own addr width (value % 2 ^ (8 * width)); fuel = d.fuel; status = d.status; held = d.held }
+
+-- with one unit of fuel less
+abbrev pub spent : Thread → Thread
+spent d = record { regs = d.regs; own = d.own; fuel = d.fuel - 1; status = d.status; held = d.held }
 
 -- the next turn goes on and leads to the same whatever the locks are; it takes and releases none, changes none, and gives
 -- their journals no word, unless it may load

@@ -8,20 +8,24 @@
 //!
 //! - `status`: whether and how a thread has ended. `outcome`: how a turn came out for its block.
 //! - `number`: numbers in bytes. `memory`: a thread's own memory, with `clear`, its table of the
-//!   addresses that need no search. `thread`: a thread, which does what an act says. `own`: its
+//!   addresses that need no search. `thread`: a thread, which does what an act says. `own_turns`: its
 //!   turns that touch its own memory alone.
 //! - `answer`: the answer that a turn finds in its surroundings.
-//! - `law`: what a turn reads and what it leaves alone.
+//! - `turn_laws`: what a turn reads and what it leaves alone.
 #![tactic(auto)]
 
 pub mod answer;
 mod clear;
-pub mod law;
 pub mod memory;
 pub mod number;
 pub mod outcome;
-pub mod own;
+pub mod own_turns;
 pub mod status;
 #[cfg(test)]
 mod tests;
 pub mod thread;
+pub mod turn_laws;
+
+pub use crate::answer::Surroundings;
+pub use crate::status::Status;
+pub use crate::thread::GuestThread;

@@ -8,8 +8,8 @@ ghost use Rattle.tc_turn.specs.Clear.{part_at, part_byte, part_has, part_meets, 
 ghost use Rattle.tc_turn.specs.Memory.{byte_from, number_at, part_with, with_number, own_of, own_at_start, starting_bytes, writable_byte, part_of, byte_in};
 
 use crate::clear::{Clear, clear_places, part_by, place_number};
-use crate::number::{Bytes, bytewise, number_from};
-pub use crate::number::{byte_from, put_number};
+pub use crate::number::put_number;
+use crate::number::{Bytes, byte_from, bytewise, number_from};
 use std::alloc::{AllocError, Global};
 use std::marker::Model;
 use tc_elf::image::Image;
@@ -162,7 +162,7 @@ impl Gap {
 /// addresses to bytes. Beside them stands the table of the addresses that one part alone has, with
 /// the place of the last store in it, which is tried first.
 #[derive(Drop)]
-pub struct Memory {
+pub(crate) struct Memory {
     parts: Vec<Part>,
     guards: Vec<Gap>,
     places: Vec<Clear>,
@@ -280,7 +280,7 @@ fn gaps(alloc: Global, image: &Image) -> Result<Vec<Gap>, AllocError>
 impl Memory {
     /// The memory of a thread at its start: the bytes of the writable ranges are as the file says,
     /// those of the stack are 0.
-    pub fn start(alloc: Global, image: &Image) -> Result<Memory, AllocError>
+    pub(crate) fn start(alloc: Global, image: &Image) -> Result<Memory, AllocError>
         ensures { IfOk result (λ memory. own_of memory ≡ own_at_start image.now) }
     {
         let mut parts = writable_parts(alloc, image)?;
@@ -299,7 +299,7 @@ impl Memory {
     }
 
     /// The byte at an address, None exactly where the address is not in this memory.
-    pub fn byte(&self, addr: u32) -> Option<u8>
+    pub(crate) fn byte(&self, addr: u32) -> Option<u8>
         ensures { result ≡ own_of self.now addr }
     {
         if any_gap(&self.guards, addr) {
@@ -310,7 +310,7 @@ impl Memory {
 
     /// The number in so many bytes from an address on. A byte that is not in this memory counts as
     /// 0.
-    pub fn number(&self, addr: u32, width: u32) -> u32
+    pub(crate) fn number(&self, addr: u32, width: u32) -> u32
         requires fits { addr + width ≤ 2 ^ 32 }
         requires small { width ≤ 4 }
         ensures { result ≡ number_at (λ at. unwrap_or (own_of self.now at) 0) addr width }
@@ -340,7 +340,7 @@ impl Memory {
 
     /// Writes the low `width` bytes of a value, the lowest first, to the addresses from `addr` on.
     /// What is not in this memory is not written.
-    pub fn put(&mut self, addr: u32, width: u32, value: u32)
+    pub(crate) fn put(&mut self, addr: u32, width: u32, value: u32)
         requires { addr + width ≤ 2 ^ 32 }
         ensures { own_of self.new ≡ with_number (own_of self.old) addr width value }
     {

@@ -10,7 +10,7 @@ ghost use Rattle.tc_turn.specs.Memory.{byte_from, put_byte, put_number, number_a
 use byteorder::{ByteOrder, LittleEndian};
 
 /// A byte at each address.
-pub trait Bytes {
+pub(crate) trait Bytes {
     ghost use Rattle.std.specs.Prelude.{ℕ};
 
     // The byte by its address.
@@ -40,7 +40,7 @@ impl Bytes for Standing<'_> {
 }
 
 /// The byte at an address of the bytes that stand from `start` on.
-pub fn byte_from(start: u32, bytes: &[u8], addr: u32) -> Option<u8>
+pub(crate) fn byte_from(start: u32, bytes: &[u8], addr: u32) -> Option<u8>
     ensures { result ≡ byte_from start bytes.now addr }
 {
     if addr < start {
@@ -50,7 +50,7 @@ pub fn byte_from(start: u32, bytes: &[u8], addr: u32) -> Option<u8>
 }
 
 /// The number in so many bytes from an address on, each asked for alone.
-pub fn bytewise<B: Bytes>(bytes: &B, addr: u32, width: u32) -> u32
+pub(crate) fn bytewise<B: Bytes>(bytes: &B, addr: u32, width: u32) -> u32
     requires fits { addr + width ≤ 2 ^ 32 }
     requires small { width ≤ 4 }
     ensures value { result ≡ number_at (B.bytes bytes.now) addr width }

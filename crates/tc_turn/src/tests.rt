@@ -48,12 +48,9 @@ fn turns_in_place_are_the_turns(rt: HostRuntime) -> Result<(), Fail> {
     let mut thread = GuestThread::start(rt.alloc(), &image, 100, 0)?;
     let first = code.find(thread.regs().pc()).expect(&rt, "decoded");
     assert!(rt; thread.load_wanted(&image, first) == Want::Nothing);
-    assert_eq!(rt;
-        thread.run_own(&image, &code, Some(first), 0, true).count,
-        0
-    );
+    assert_eq!(rt; thread.run_own(&image, &code, 0, true).count, 0);
     // ECALL touches no memory of its own.
-    let own = thread.run_own(&image, &code, Some(first), 9, true);
+    let own = thread.run_own(&image, &code, 9, true);
     assert_eq!(rt; own.count, 1);
     assert!(rt; own.stop.is_some());
     assert_eq!(rt; thread.regs().pc(), 0x10058);

@@ -21,8 +21,8 @@ use std::alloc::{AllocError, Global};
 use std::marker::Model;
 use tc_elf::image::{Image, Region};
 use tc_exec::code::{Ahead, Code};
-use tc_exec::found;
-use tc_exec::in_place::come_back;
+use tc_exec::guest_calls::come_back;
+use tc_exec::known;
 use tc_exec::outcome::{Act, Call, Done, Put, Want};
 use tc_exec::step::{act, lock_wanted, wants};
 use tc_isa::fault::Fault;
@@ -154,7 +154,7 @@ impl GuestThread {
         ensures value { result ≡ wants_of image.now (has self.now.held) self.now.regs }
         ensures told { IsWant image.now (has self.now.held) result }
     {
-        found::wants(image, self.near, self.held, &self.regs, instr)
+        known::wants(image, self.near, self.held, &self.regs, instr)
     }
 
     /// What is ahead: the lock of its next turn, as `next_lock` tells it, from the decoded code of
@@ -197,7 +197,7 @@ impl GuestThread {
         // So each lock that an act names is below 32.
         prove!(image.guards() <= Held::PLACES);
         self.fuel = left;
-        let done = found::go(
+        let done = known::go(
             image,
             self.near,
             self.held,

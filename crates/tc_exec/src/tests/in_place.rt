@@ -3,18 +3,18 @@
 ghost use Rattle.std.specs.Prelude.{◌≡◌};
 
 use super::guards;
+use crate::access::finish_load;
 use crate::code::Code;
-use crate::found;
+use crate::execute::{Effect, execute};
+use crate::known;
 use crate::outcome::{Act, Done, Put, Want};
-use crate::plain::plain_by;
 use crate::step::{act, instruction_at, lock_wanted, wants};
-use crate::touch::{Touch, finish_load, finish_store, touch_of};
+use crate::touch::{own_load, own_store};
 use std::alloc::Global;
 use std::process::Abort;
 use std::test::Fail;
 use tc_elf::image::Image;
 use tc_isa::held::Held;
-use tc_isa::instr::Instr;
 use tc_isa::reg::Reg;
 use tc_isa::regs::Regs;
 
@@ -60,16 +60,18 @@ pub(super) fn check_in_place(
     let none = Code::undecoded(alloc, image);
     check_ahead(rt, image, &code, held, regs)?;
     check_ahead(rt, image, &none, held, regs)?;
-    check_found(rt, image, held, regs, answer)?;
+    check_known(rt, image, held, regs, answer)?;
     let (next, done) = parts_of(regs, &act(image, held, &regs, answer));
     if let Some(instr) = code.find(regs.pc()) {
         let mut ran = regs;
-        match plain_by(&mut ran, instr) {
-            false => assert_eq!(rt; ran, regs),
-            true => assert_eq!(rt; (ran, Done::Went), (next, done)),
+        let effect = execute(&mut ran, instr);
+        if let Effect::Went | Effect::Jumped = effect {
+            assert_eq!(rt; (ran, Done::Went), (next, done));
+        } else {
+            assert_eq!(rt; ran, regs);
         }
-        if let Some(touch) = touch_of(image, &mut 0, &regs, instr, true) {
-            assert_eq!(rt; touched(image, regs, instr, touch, answer), (next, done));
+        if let Some(did) = touched(image, &mut ran, effect, answer) {
+            assert_eq!(rt; (ran, did), (next, done));
         }
     }
     assert!(rt; none.stretch(regs.pc()).is_none());
@@ -93,7 +95,7 @@ fn check_ahead(
 
 /// Asserts that the calls by the next instruction, where there is one, tell the same, whichever
 /// place they try first.
-fn check_found(
+fn check_known(
     rt: &impl Abort,
     image: &Image,
     held: Held,
@@ -105,9 +107,9 @@ fn check_found(
     match instruction_at(image, regs.pc()) {
         Ok(instr) => {
             for near in 0..4 {
-                assert_eq!(rt; found::wants(image, near, held, &regs, &instr), want);
+                assert_eq!(rt; known::wants(image, near, held, &regs, &instr), want);
                 let mut after = regs;
-                let did = found::go(image, near, held, &mut after, &instr, want, answer);
+                let did = known::go(image, near, held, &mut after, &instr, want, answer);
                 assert_eq!(rt; did, done);
                 assert_eq!(rt; after, next);
             }
@@ -120,27 +122,26 @@ fn check_found(
     Ok(())
 }
 
-/// The registers after a touch, and what it does beside them.
-fn touched(image: &Image, before: Regs, instr: &Instr, touch: Touch, answer: u32) -> (Regs, Done) {
-    let mut regs = before;
-    match touch {
-        Touch::Load { .. } => {
-            finish_load(&mut regs, instr, answer);
-            (regs, Done::Went)
+/// What a load or a store of own memory does, where that is what is left to do.
+fn touched(image: &Image, regs: &mut Regs, effect: Effect, answer: u32) -> Option<Done> {
+    match effect {
+        Effect::Load { kind, rd, addr } => {
+            own_load(image, &mut 0, kind, addr)?;
+            finish_load(regs, kind, rd, answer);
+            Some(Done::Went)
         }
-        Touch::Store { addr, width, value } => {
-            finish_store(&mut regs);
+        Effect::Store { kind, addr, value } => {
+            let (width, value) = own_store(image, &mut 0, kind, addr, value)?;
+            regs.step();
             let region = image.region(addr, width);
-            (
-                regs,
-                Done::Stored(Put {
-                    region,
-                    addr,
-                    width,
-                    value,
-                }),
-            )
+            Some(Done::Stored(Put {
+                region,
+                addr,
+                width,
+                value,
+            }))
         }
+        _ => None,
     }
 }
 

@@ -1,6 +1,5 @@
-use Rattle.std.proofs.Common.{◌≡◌, ◌≤◌, ◌-◌}
-use Rattle.std.specs.Prelude.{Ok}
-use Rattle.tc_exec.specs.Step.{instruction_at}
+use Rattle.std.proofs.Common.{◌≡◌, ◌≤◌, ◌<◌, ◌+◌, ◌*◌, ◌-◌}
+use Rattle.std.specs.Prelude.{length}
 use Rattle.tc_turn.specs.Own.{OwnRun}
 use Rattle.tc_turn.proofs.thread.GuestThread.run_stretch.Given as goal
 
@@ -9,7 +8,7 @@ invariant-run l = record {
   runs : OwnRun l.image l.loads (l.fn.self.fuel - l.self.fuel) l.fn.self l.self;
   low : l.left ≤ l.self.fuel;
   high : l.self.fuel ≤ l.fn.self.fuel;
-  next : instruction_at l.image l.self.regs.pc ≡ Ok l.instr;
+  slot : l.slot < length l.stretch.slots.now → l.stretch.start + 4 * l.slot ≡ l.self.regs.pc;
 }
 
 abbrev pub decreases-run : goal.decreases-run

@@ -1,0 +1,189 @@
+//! Turns that touch the thread's own memory alone, one after another: `GuestThread::run_own`, and
+//! `OwnTurns`, which says what it did.
+
+ghost use Rattle.std.specs.Prelude.{◌≡◌, ◌+◌, ◌-◌, ◌*◌, ◌%◌, ◌<◌, ◌≤◌, ◌^◌, true, false, length, IfSome, Ok};
+ghost use Rattle.tc_exec.specs.Access.{load_width, store_width};
+ghost use Rattle.tc_exec.specs.Code.{SlotsTell};
+ghost use Rattle.tc_exec.specs.Step.{instruction_at};
+ghost use Rattle.tc_exec.specs.Touch.{IsOwn};
+ghost use Rattle.tc_turn.specs.Own.{IsOwnTurn, OwnRun, loaded, stored, spent};
+ghost use Rattle.tc_turn.specs.Way.{is_gone, on_or_not};
+ghost use Rattle.tc_turn.specs.Turn.{thread_of};
+ghost use Rattle.tc_turn.specs.declared.own_turns.Way.TheVariants as TheWay;
+
+use crate::thread::GuestThread;
+use tc_elf::image::Image;
+use tc_exec::access::finish_load;
+use tc_exec::code::{Code, Stretch};
+use tc_exec::execute::{Effect, execute};
+use tc_exec::touch::{own_load, own_store};
+use tc_isa::instr::{Instr, LoadKind, StoreKind};
+use tc_isa::reg::Reg;
+
+/// Which way a thread went in a turn.
+#[derive(Clone, Copy)]
+enum Way {
+    /// It did no turn.
+    Stays,
+    /// It went on to the next word.
+    Next,
+    /// It went elsewhere.
+    Jumps,
+}
+
+impl Way {
+    fn on(went: bool) -> Way
+        ensures { result ≡ on_or_not went }
+    {
+        if went { Way::Next } else { Way::Stays }
+    }
+}
+
+/// Turns that were done, and the instruction behind them.
+#[derive(Clone, Copy)]
+pub struct OwnTurns<'a> {
+    /// How many turns.
+    pub count: u32,
+    /// The instruction at which they end, where it is known or was decoded. None says nothing.
+    pub stop: Option<&'a Instr>,
+}
+
+impl GuestThread {
+    /// Does turns that touch registers and its own memory alone, and says how many: at most `most`,
+    /// and none outside the decoded words round the first. It loads only where `loads` says so.
+    pub fn run_own<'a>(
+        &mut self,
+        image: &Image,
+        code: &'a Code,
+        most: u32,
+        loads: bool,
+    ) -> OwnTurns<'a>
+        requires { code.now ≡ image.now }
+        ensures runs { OwnRun image.now loads result.count self.old self.new }
+        ensures most { result.count ≤ most }
+        ensures stop { IfSome result.stop
+            (λ instr. instruction_at image.now self.new.regs.pc ≡ Ok instr.now) }
+    {
+        let before = self.fuel;
+        let left = before - most.min(before);
+        let Some(stretch) = code.stretch(self.regs.pc()) else {
+            return OwnTurns {
+                count: 0,
+                stop: None,
+            };
+        };
+        let stop = self.run_stretch(image, stretch, left, loads);
+        OwnTurns {
+            count: before - self.fuel,
+            stop,
+        }
+    }
+
+    /// Does such turns until so much fuel is left, or the next is none, and returns the instruction
+    /// behind them, where it was decoded. It is never inlined, so that its loop has the registers of
+    /// the host for itself.
+    #[inline(never)]
+    fn run_stretch<'a>(
+        &mut self,
+        image: &Image,
+        stretch: Stretch<'a>,
+        left: u32,
+        loads: bool,
+    ) -> Option<&'a Instr>
+        requires tells { SlotsTell image.now stretch.start stretch.slots.now }
+        requires fits { stretch.start + 4 * length stretch.slots.now ≤ 2 ^ 32 }
+        requires left { left ≤ self.old.fuel }
+        ensures runs { OwnRun image.now loads (self.old.fuel - self.new.fuel) self.old self.new }
+        ensures left { left ≤ self.new.fuel }
+        ensures fuel { self.new.fuel ≤ self.old.fuel }
+        ensures stop { IfSome result
+            (λ instr. instruction_at image.now self.new.regs.pc ≡ Ok instr.now) }
+    {
+        let mut slot = stretch.slot(self.regs.pc());
+        'run: while self.fuel > left {
+            let instr = stretch.find(slot)?;
+            match self.own_turn(image, instr, loads) {
+                Way::Stays => return Some(instr),
+                Way::Next => slot += 1,
+                Way::Jumps => slot = stretch.slot(self.regs.pc()),
+            }
+        }
+        stretch.find(slot)
+    }
+
+    /// Its next turn, which is of this instruction, where that is such a one, and which way it
+    /// went.
+    fn own_turn(&mut self, image: &Image, instr: &Instr, loads: bool) -> Way
+        requires read { instruction_at image.now self.old.regs.pc ≡ Ok instr.now }
+        requires fuel { 0 < self.old.fuel }
+        ensures turn { is_gone result ≡ true
+            → IsOwnTurn image.now loads (thread_of self.old) (thread_of self.new) }
+        ensures fuel { is_gone result ≡ true → self.new.fuel + 1 ≡ self.old.fuel }
+        ensures next { result ≡ TheWay.Next
+            → self.new.regs.pc ≡ (self.old.regs.pc + 4) % 2 ^ 32 }
+        ensures stays { result ≡ TheWay.Stays → self.new ≡ self.old }
+    {
+        let way = self.own_step(image, instr, loads);
+        match way {
+            Way::Stays => {}
+            Way::Next | Way::Jumps => self.fuel -= 1,
+        }
+        way
+    }
+
+    /// What such a turn does beside the fuel.
+    fn own_step(&mut self, image: &Image, instr: &Instr, loads: bool) -> Way
+        requires read { instruction_at image.now self.old.regs.pc ≡ Ok instr.now }
+        requires fuel { 0 < self.old.fuel }
+        ensures turn { is_gone result ≡ true
+            → IsOwnTurn image.now loads (thread_of self.old) (spent (thread_of self.new)) }
+        ensures fuel { self.new.fuel ≡ self.old.fuel }
+        ensures next { result ≡ TheWay.Next
+            → self.new.regs.pc ≡ (self.old.regs.pc + 4) % 2 ^ 32 }
+        ensures stays { result ≡ TheWay.Stays → self.new ≡ self.old }
+    {
+        match execute(&mut self.regs, instr) {
+            Effect::Went => Way::Next,
+            Effect::Jumped => Way::Jumps,
+            Effect::Load { kind, rd, addr } => Way::on(self.load(image, kind, rd, addr, loads)),
+            Effect::Store { kind, addr, value } => Way::on(self.store(image, kind, addr, value)),
+            Effect::Call | Effect::Fault(_) => Way::Stays,
+        }
+    }
+
+    /// Loads into a register and goes on, where it may load, the bytes are its own, and the load does
+    /// not fault.
+    fn load(&mut self, image: &Image, kind: LoadKind, rd: Reg, addr: u32, loads: bool) -> bool
+        ensures loads { result ≡ true → loads ≡ true }
+        ensures own { result ≡ true → IsOwn image.now addr (load_width kind) }
+        ensures yes { result ≡ true
+            → thread_of self.new ≡ loaded kind rd addr (thread_of self.old) }
+        ensures no { result ≡ false → self.new ≡ self.old }
+    {
+        if !loads {
+            return false;
+        }
+        let Some(width) = own_load(image, &mut self.near, kind, addr) else {
+            return false;
+        };
+        let number = self.own.number(addr, width);
+        finish_load(&mut self.regs, kind, rd, number);
+        true
+    }
+
+    /// Stores the low bytes of a value and goes on, where the bytes are its own, and
+    /// the store does not fault.
+    fn store(&mut self, image: &Image, kind: StoreKind, addr: u32, value: u32) -> bool
+        ensures own { result ≡ true → IsOwn image.now addr (store_width kind) }
+        ensures yes { result ≡ true
+            → thread_of self.new ≡ stored kind addr value (thread_of self.old) }
+        ensures no { result ≡ false → self.new ≡ self.old }
+    {
+        let Some((width, number)) = own_store(image, &mut self.near, kind, addr, value) else {
+            return false;
+        };
+        self.own.put(addr, width, number);
+        self.regs.step();
+        true
+    }
+}
