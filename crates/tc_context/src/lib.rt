@@ -19,3 +19,5 @@ pub mod locks;
 pub mod package;
 #[cfg(test)]
 mod tests;
+
+pub use crate::package::Package;

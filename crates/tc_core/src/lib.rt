@@ -27,3 +27,6 @@ pub mod place;
 #[cfg(test)]
 mod tests;
 pub mod theorem;
+
+pub use crate::event::Event;
+pub use crate::machine::Core;

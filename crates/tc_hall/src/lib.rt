@@ -31,3 +31,9 @@ mod plays;
 pub mod showing;
 #[cfg(test)]
 mod tests;
+
+pub use crate::closed::Closed;
+pub use crate::hall::{Hall, LockOut, NotReady, NotWaiting};
+pub use crate::pass::Pass;
+pub use crate::place::{Origin, Place};
+pub use crate::showing::{lift, order, tie};

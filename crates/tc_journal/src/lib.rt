@@ -30,3 +30,8 @@ pub mod rule;
 mod spelling;
 #[cfg(test)]
 mod tests;
+
+pub use crate::block::{Block, BlockV1, End, Kind};
+pub use crate::history::{merge, text};
+pub use crate::reading::{BadText, read, read_v1};
+pub use crate::rule::Outcome;

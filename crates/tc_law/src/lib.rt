@@ -13,3 +13,5 @@
 #![tactic(auto)]
 
 pub mod law;
+
+pub use crate::law::{follow, keep};

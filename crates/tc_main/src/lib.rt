@@ -27,5 +27,7 @@ mod tests;
 pub mod top;
 pub mod words;
 
+pub use crate::status::Status;
+pub use crate::top::tclocks;
 pub use tc_build::{build, generate};
 pub use tc_workers::{gate, options};

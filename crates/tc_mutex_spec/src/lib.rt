@@ -18,3 +18,5 @@ pub mod slow;
 #[cfg(test)]
 mod tests;
 pub mod upgrade;
+
+pub use crate::slow::Slow;

@@ -19,3 +19,6 @@ mod record;
 pub mod state;
 #[cfg(test)]
 mod tests;
+
+pub use crate::entry::Entry;
+pub use crate::state::LockState;

@@ -59,12 +59,15 @@ pub did_write : (image : Shown) (old v : WriterView) (e : Event) (enabled : Bool
 did_write image old v e enabled core said block next history same on did said_is block_is begins wrote =
     let s = stepped image v.core core e enabled on did in
     subst (λ o. DidWrite image o e enabled (record { core = core; next = next; history = history })) same
-    (subst (λ b. DidWrite image v e b (record { core = core; next = next; history = history })) (sym on)
-    (s.0, λ i. record {
-      core = s.1 i;
-      next = λ t. (begins t ∙ ap (λ o. with_said (beginning_at v.next) o t) said_is) i;
-      history = (wrote ∙ ap (with_block v.history) block_is) i;
-    }, s.2))
+    (subst (λ b. DidWrite image v e b (record { core = core; next = next; history = history })) (sym on) (
+      s.0,
+      λ i. record {
+        core = s.1 i;
+        next = λ t. (begins t ∙ ap (λ o. with_said (beginning_at v.next) o t) said_is) i;
+        history = (wrote ∙ ap (with_block v.history) block_is) i;
+      },
+      s.2,
+    ))
 
 -- and at the start
 pub starts : (image : Shown) (fuel : ℕ) (core : CoreView) (next : List Beginning) (history : List Block) → core_of core ≡ first_core image fuel

@@ -19,3 +19,5 @@ pub mod realization;
 #[cfg(test)]
 mod tests;
 pub mod writer;
+
+pub use crate::writer::Writer;

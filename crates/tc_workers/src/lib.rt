@@ -34,4 +34,6 @@ mod tests;
 mod work;
 mod worker;
 
+pub use gate::{Gate, Open, Point};
+pub use options::Options;
 pub use run::{run_all, run_with};
