@@ -1,10 +1,9 @@
 -- What contracts see of a desk, and when it fits a bench.
-use Rattle.std.specs.Prelude.{◌≡◌, ◌≢◌, ℕ, ◌<◌, ◌≤◌, List, [], length, get_or, Option, Some}
+use Rattle.std.specs.Prelude.{◌≡◌, ℕ, ◌<◌, ◌≤◌, List, [], length, get_or, Option, Some}
 use Rattle.tc_elf.specs.Shown.{Shown}
 use Rattle.tc_context.specs.View.{PackageView}
 use Rattle.tc_hall.specs.declared.board.Terms.{Terms}
 use Rattle.tc_hall.specs.Rule.{threads, locks}
-use Rattle.tc_hall.specs.Steps.{IsSamePass}
 use Rattle.tc_hall.specs.PassView.{HallView, PassView}
 use Rattle.tc_queue.specs.View.{QueueView}
 use Rattle.tc_queue.specs.Lines.{SeatView, IsSeatOf}
@@ -47,11 +46,3 @@ pub record FitsBench (bench : BenchView) (d : DeskView) : Type 0 where
 -- a seat that no desk has, where a list is read past its end
 abbrev pub no_seat : SeatView
 no_seat = record { table = record { words = 0; slots = 0; views_name = 0; atom = 0; block = 0; offset = 0; slot_names = [] }; threads = 0; calls = [] }
-
--- the desk is the same but for its pass, this seat and the package that is set aside
-pub record IsSameDesk (i : ℕ) (d e : DeskView) : Type 0 where
-  pub own : IsSamePass d.pass e.pass
-  pub count : length e.seats ≡ length d.seats
-  pub others : (j : ℕ) (s : SeatView) → j ≢ i → get_or e.seats j s ≡ get_or d.seats j s
-  pub sleepers : e.sleepers ≡ d.sleepers
-  pub now : e.now ≡ d.now

@@ -1,6 +1,7 @@
 -- The lock states that a package has, as it and the machine see them.
 use Rattle.std.specs.Prelude.{◌≡◌, ℕ, ◌<◌, Bool, true, false, ◌==◌, ◌&&◌, if◌then◌else◌, List, [], ◌∷◌, map, slice_get, length, Option, Some, None, is_some, option_map}
 use Rattle.tc_isa.specs.Registers.{Registers}
+use Rattle.tc_isa.specs.declared.held.TheConstants.Held.{PLACES}
 use Rattle.tc_elf.specs.Shown.{Shown}
 use Rattle.tc_elf.specs.Places.{in_guard}
 use Rattle.tc_elf.specs.declared.image.Region.{Region}
@@ -112,16 +113,16 @@ TurnReady held (Some (Called (Sleep blocks))) k l = Unit {0}
 TurnReady held (Some (Called Exit)) k l = held k ≡ true → is_open_lock l ≡ true
 TurnReady held (Some (Faulted f)) k l = held k ≡ true → is_open_lock l ≡ true
 
--- what a turn stores in a guard, or takes, is of a lock below 32, and a store has a lawful width
+-- what a turn stores in a guard, or takes, is of a lock that a held set has a place for, and a store has a lawful width
 abbrev pub StoreFits : Region → ℕ → Type 0
-StoreFits (region.Guard lock) width = (lock < 32) × IsWidth width
+StoreFits (region.Guard lock) width = (lock < PLACES) × IsWidth width
 StoreFits _ width = Unit {0}
 
 abbrev pub TurnFits : Option Done → Type 0
 TurnFits None = Unit {0}
 TurnFits (Some Went) = Unit {0}
 TurnFits (Some (Stored put)) = StoreFits put.region put.width
-TurnFits (Some (Called (Lock lock))) = lock < 32
+TurnFits (Some (Called (Lock lock))) = lock < PLACES
 TurnFits (Some (Called (Unlock lock))) = Unit {0}
 TurnFits (Some (Called (Sleep blocks))) = Unit {0}
 TurnFits (Some (Called Exit)) = Unit {0}

@@ -4,6 +4,7 @@ use Rattle.std.specs.Option.{option_map}
 use Rattle.tc_isa.specs.Registers.{Registers}
 use Rattle.tc_isa.specs.Sets.{has, locks_of}
 use Rattle.tc_isa.specs.declared.limits.TheConstants.{MAX_HELD, MAX_TURNS}
+use Rattle.tc_isa.specs.declared.held.TheConstants.Held.{PLACES}
 use Rattle.tc_elf.specs.Shown.{Shown}
 use Rattle.tc_journal.specs.Batch.{is_section, begins, last_of, allows_of, may_go_on, ends_thread, ends_section, passes_to, passes_on}
 use Rattle.tc_journal.specs.declared.block.Block.{Block}
@@ -103,7 +104,7 @@ pub record IsFresh (image : Shown) (t fuel : ℕ) (p : PackageView) : Type 0 whe
   pub pending : p.pending ≡ None
   pub log : p.log ≡ []
   pub log_room : p.log_room ≡ 0
-  pub numbers : p.numbers ≡ replicate 32 0
+  pub numbers : p.numbers ≡ replicate PLACES 0
   pub turns : p.turns ≡ 0
   pub slept : p.slept ≡ 0
 
@@ -191,7 +192,7 @@ MayTake image p (Some g) = IsGranted image p g
 -- what each package keeps, wherever it is
 pub record IsSoundPackage (p : PackageView) : Type 0 where
   pub few : length p.image.guards ≤ 32
-  pub places : (length p.context.locks ≡ 32) × (length p.numbers ≡ 32)
+  pub places : (length p.context.locks ≡ PLACES) × (length p.numbers ≡ PLACES)
   pub thread : p.context.thread < length p.image.entries
   pub held : (k : ℕ) → has p.context.guest.held k ≡ true → set_of p.context k ≡ true
   pub stored : (k : ℕ) (l : LockView) → lock_in p.context.locks k ≡ Some l → IsStored p k l
@@ -205,7 +206,7 @@ pub record IsWanted (p : PackageView) (k : ℕ) : Type 0 where
   pub runs : p.context.guest.status ≡ Running
   pub free : has p.context.guest.held k ≡ false
   pub known : k < length p.image.guards
-  pub small : k < 32
+  pub small : k < PLACES
 
 -- so is the lock that it wants, where it wants one
 abbrev pub WantIsLawful : PackageView → Type 0

@@ -3,6 +3,7 @@
 ghost use Rattle.std.specs.Prelude.{◌≡◌, ℕ, ◌+◌, ◌<◌, ◌≤◌, ◌^◌, ◌==◌, true, false, is_some, length, Ok, Err, Some, None, IfOk, IfSome, if◌then◌else◌};
 ghost use Rattle.tc_isa.specs.Sets.{has};
 ghost use Rattle.tc_isa.specs.declared.limits.TheConstants.{MAX_TURNS};
+ghost use Rattle.tc_isa.specs.declared.held.TheConstants.Held.{PLACES};
 ghost use Rattle.tc_journal.specs.Batch.{is_section};
 ghost use Rattle.tc_journal.specs.History.{IsBlock, IsEnd};
 ghost use Rattle.tc_journal.specs.Rule.{end_rule};
@@ -82,7 +83,7 @@ impl Context {
         ensures thread { IfOk result (λ c. thread_in c ≡ thread_at_start image.now fuel t) }
         ensures number { IfOk result (λ c. c.thread ≡ t) }
         ensures locks { IfOk result (λ c. (k : ℕ) → lock_in c.locks k ≡ None) }
-        ensures places { IfOk result (λ c. length c.locks ≡ 32) }
+        ensures places { IfOk result (λ c. length c.locks ≡ PLACES) }
     {
         Ok(Context {
             thread: t,
@@ -400,7 +401,7 @@ fn slept_by(done: &Option<Done>) -> u32
 
 /// The locks of a block whose thread holds these and takes this one in its first turn.
 fn block_held(held: Held, takes: Option<u32>) -> Held
-    requires { IfSome takes (λ lock. lock < 32) }
+    requires { IfSome takes (λ lock. lock < PLACES) }
     ensures { (k : ℕ) → has result k ≡ locks_of_block (has held) takes k }
 {
     match takes {

@@ -4,6 +4,7 @@ ghost use Rattle.std.specs.Prelude.{◌≡◌, ℕ, ◌<◌, ◌≤◌, ◌&&◌
 ghost use Rattle.std.specs.Option.{option_map};
 ghost use Rattle.tc_isa.specs.Sets.{has};
 ghost use Rattle.tc_isa.specs.declared.limits.TheConstants.{MAX_TURNS};
+ghost use Rattle.tc_isa.specs.declared.held.TheConstants.Held.{PLACES};
 ghost use Rattle.tc_elf.specs.Places.{in_guard};
 ghost use Rattle.tc_exec.specs.Told.{IsWidth};
 ghost use Rattle.tc_turn.specs.Replay.{takes_word as takes};
@@ -23,8 +24,6 @@ use tc_journal::block::Block;
 use tc_segment::packed::Packed;
 use tc_segment::state::LockState;
 
-const PLACES: u32 = 32;
-
 /// Lock states, each at the place of its number.
 #[derive(Drop)]
 pub struct LockSet {
@@ -33,23 +32,24 @@ pub struct LockSet {
 
 impl Model for LockSet {
     ghost use Rattle.std.specs.Prelude.{◌≡◌, List, Option, length};
+    ghost use Rattle.tc_isa.specs.declared.held.TheConstants.Held.{PLACES};
     ghost use Rattle.tc_segment.specs.View.{LockView};
 
     ghost Value = { List (Option LockView) };
 
     ghost view = { λ a. a.places.items };
 
-    ghost invariant = { λ a. length a.places.items ≡ 32 };
+    ghost invariant = { λ a. length a.places.items ≡ PLACES };
 }
 
 impl LockSet {
     /// No lock state, with room for all.
     pub fn new(alloc: Global) -> Result<LockSet, AllocError>
         ensures none { IfOk result (λ s. (k : ℕ) → lock_in s k ≡ None) }
-        ensures places { IfOk result (λ s. length s ≡ 32) }
+        ensures places { IfOk result (λ s. length s ≡ PLACES) }
     {
-        let mut places = Vec::with_capacity(alloc, 32)?;
-        for lock in 0..PLACES {
+        let mut places = Vec::with_capacity(alloc, Held::PLACES as usize)?;
+        for lock in 0..Held::PLACES {
             places.push(None)?;
         }
         Ok(LockSet { places })
@@ -57,8 +57,8 @@ impl LockSet {
 
     /// There is none past the last place. A law: it does nothing when it is called.
     pub fn bound(&self)
-        ensures past { (k : ℕ) → 32 ≤ k → lock_in self.now k ≡ None }
-        ensures places { length self.now ≡ 32 }
+        ensures past { (k : ℕ) → PLACES ≤ k → lock_in self.now k ≡ None }
+        ensures places { length self.now ≡ PLACES }
     {
         let _ = &self.places;
     }
@@ -81,7 +81,7 @@ impl LockSet {
 
     /// Takes out the lock state of that number.
     pub fn take_out(&mut self, lock: u32) -> Option<LockState>
-        requires { lock < 32 }
+        requires { lock < PLACES }
         ensures taken { result ≡ lock_in self.old lock }
         ensures is { self.new ≡ set self.old lock None }
         ensures left { IsPlaced lock None self.old self.new }
@@ -90,7 +90,7 @@ impl LockSet {
     }
 
     fn store(&mut self, lock: u32, addr: u32, width: u32, value: u32)
-        requires lock { lock < 32 }
+        requires lock { lock < PLACES }
         requires width { IsWidth width }
         requires inside { HoldsAt lock (λ l. in_guard addr width (guard_of l) ≡ true) self.old }
         requires opened { HoldsAt lock (λ l. is_some l.journal.opened ≡ true) self.old }
@@ -102,7 +102,7 @@ impl LockSet {
     }
 
     pub(crate) fn begin(&mut self, lock: u32)
-        requires lock { lock < 32 }
+        requires lock { lock < PLACES }
         requires ready { HoldsAt lock (λ l. is_some l.journal.opened ≡ true) self.old }
         ensures { Changed (at_place lock with_section) self.old self.new }
     {
@@ -112,7 +112,7 @@ impl LockSet {
     }
 
     fn break_one(&mut self, lock: u32, held: Held)
-        requires lock { lock < 32 }
+        requires lock { lock < PLACES }
         requires ready { HeldAt lock (has held) (λ l. is_some l.journal.opened ≡ true) self.old }
         ensures { Changed (at_place lock (broken_in (has held) lock)) self.old self.new }
     {
@@ -136,7 +136,7 @@ impl LockSet {
     }
 
     fn open_one(&mut self, lock: u32, held: Held, start: &Packed, fuel: u32)
-        requires lock { lock < 32 }
+        requires lock { lock < PLACES }
         requires opened { HeldAt lock (has held) (λ l. l.journal.opened ≡ None) self.old }
         requires closed { HeldAt lock (has held) (λ l. l.journal.closed ≡ None) self.old }
         requires room { HeldAt lock (has held) (λ l. 0 < l.journal.entry_room) self.old }
@@ -164,7 +164,7 @@ impl LockSet {
 
     /// Opens an entry in each of these locks. The registers are packed once for all of them, in
     /// `edge`, and not at all where there is no lock.
-    pub fn open_entries(&mut self, held: Held, edge: &mut Packed, start: &Regs, fuel: u32)
+    pub(crate) fn open_entries(&mut self, held: Held, edge: &mut Packed, start: &Regs, fuel: u32)
         requires opened { EachHeld (has held) (λ l. l.journal.opened ≡ None) self.old }
         requires closed { EachHeld (has held) (λ l. l.journal.closed ≡ None) self.old }
         requires room { EachHeld (has held) (λ l. 0 < l.journal.entry_room) self.old }
@@ -177,7 +177,7 @@ impl LockSet {
     }
 
     fn note_one(&mut self, lock: u32, held: Held, want: Want, next: Option<u32>, value: u32)
-        requires lock { lock < 32 }
+        requires lock { lock < PLACES }
         requires opened { HeldAt lock (has held) (λ l. is_some l.journal.opened ≡ true) self.old }
         requires room { HeldAt lock (has held) (λ l. 0 < l.journal.word_room) self.old }
         ensures { Changed (one_place (noted_in (has held) want next value) lock) self.old self.new }
@@ -204,7 +204,7 @@ impl LockSet {
     }
 
     /// Notes the value in the entry of each of these locks for which it comes from elsewhere.
-    pub fn note(&mut self, held: Held, want: Want, next: Option<u32>, value: u32)
+    pub(crate) fn note(&mut self, held: Held, want: Want, next: Option<u32>, value: u32)
         requires opened { EachHeld (has held) (λ l. is_some l.journal.opened ≡ true) self.old }
         requires room { EachHeld (has held) (λ l. 0 < l.journal.word_room) self.old }
         ensures { Changed (noted_in (has held) want next value) self.old self.new }
@@ -215,7 +215,7 @@ impl LockSet {
     }
 
     fn close_one(&mut self, image: &Image, lock: u32, held: Held, block: &Block, finish: &Packed)
-        requires lock { lock < 32 }
+        requires lock { lock < PLACES }
         requires image { HeldAt lock (has held) (λ l. l.journal.image ≡ image.now) self.old }
         requires opened { HeldAt lock (has held) (λ l. is_some l.journal.opened ≡ true) self.old }
         requires closes { HeldAt lock (has held) (ClosesWith block.now finish.now) self.old }
@@ -243,7 +243,7 @@ impl LockSet {
     }
 
     /// Closes the entry of each of these locks. The registers are packed as in `open_entries`.
-    pub fn close_entries(
+    pub(crate) fn close_entries(
         &mut self,
         image: &Image,
         held: Held,
@@ -263,7 +263,7 @@ impl LockSet {
     }
 
     fn seal_one(&mut self, lock: u32, held: Held, stamp: u64, worker: u32)
-        requires lock { lock < 32 }
+        requires lock { lock < PLACES }
         requires closed { HeldAt lock (has held) (λ l. is_some l.journal.closed ≡ true) self.old }
         requires follows { HeldAt lock (has held) (MayFollow stamp worker) self.old }
         requires passes { HeldAt lock (has held) MayPass self.old }
@@ -277,7 +277,7 @@ impl LockSet {
     }
 
     /// Gives the last entry of each of these locks its stamp and worker.
-    pub fn seal(&mut self, held: Held, stamp: u64, worker: u32)
+    pub(crate) fn seal(&mut self, held: Held, stamp: u64, worker: u32)
         requires closed { EachHeld (has held) (λ l. is_some l.journal.closed ≡ true) self.old }
         requires follows { EachHeld (has held) (MayFollow stamp worker) self.old }
         requires passes { EachHeld (has held) MayPass self.old }
@@ -291,7 +291,7 @@ impl LockSet {
     }
 
     fn reserve_one(&mut self, lock: u32, held: Held) -> Result<(), AllocError>
-        requires { lock < 32 }
+        requires { lock < PLACES }
         ensures ok { OnOk result
             (Changed (one_place (roomy_in (has held) 1 MAX_TURNS) lock) self.old self.new) }
         ensures err { OnErr result (Changed (λ k l. l) self.old self.new) }
@@ -317,7 +317,7 @@ impl LockSet {
 
     /// Each lock after a turn that did this, of a thread that held these locks before it.
     #[inline(always)]
-    pub fn take_turn(&mut self, held: Held, done: &Option<Done>)
+    pub(crate) fn take_turn(&mut self, held: Held, done: &Option<Done>)
         requires fits { TurnFits done.now }
         requires ready { EachLock (TurnReady (has held) done.now) self.old }
         ensures { Changed (turned (has held) done.now) self.old self.new }

@@ -61,7 +61,7 @@ struct Contents {
     pending: bool,
     log: Vec<Block>,
     log_room: usize,
-    numbers: [u64; 32],
+    numbers: [u64; Held::PLACES as usize],
     turns: u64,
     slept: u32,
     // Where registers are packed for the journals of a block's locks.
@@ -229,7 +229,7 @@ impl Package {
             pending: false,
             log: Vec::new(alloc),
             log_room: 0,
-            numbers: [0; 32],
+            numbers: [0; Held::PLACES as usize],
             turns: 0,
             slept: 0,
             edge,

@@ -21,7 +21,7 @@ mod custodies;
 pub mod event;
 #[cfg(test)]
 mod guests;
-pub mod line;
+mod line;
 pub mod machine;
 pub mod place;
 #[cfg(test)]

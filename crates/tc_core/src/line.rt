@@ -28,7 +28,7 @@ impl Model for Line {
 
 impl Line {
     /// A line of nobody.
-    pub fn new(alloc: Global) -> Result<Line, AllocError>
+    pub(crate) fn new(alloc: Global) -> Result<Line, AllocError>
         ensures { IfOk result (λ a. a ≡ []) }
     {
         Ok(Line {
@@ -37,14 +37,14 @@ impl Line {
     }
 
     /// Whether the thread is in it.
-    pub fn has(&self, thread: u32) -> bool
+    pub(crate) fn has(&self, thread: u32) -> bool
         ensures { result ≡ line.is_in_line self.now thread }
     {
         self.threads.iter().any(|member| *member == thread)
     }
 
     /// Whether the thread is the first.
-    pub fn is_first(&self, thread: u32) -> bool
+    pub(crate) fn is_first(&self, thread: u32) -> bool
         ensures { result ≡ line.is_first self.now thread }
     {
         match self.threads.as_slice() {
@@ -54,7 +54,7 @@ impl Line {
     }
 
     /// Whether the thread is the second.
-    pub fn is_second(&self, thread: u32) -> bool
+    pub(crate) fn is_second(&self, thread: u32) -> bool
         ensures { result ≡ line.is_second self.now thread }
     {
         match self.threads.as_slice() {
@@ -64,14 +64,14 @@ impl Line {
     }
 
     /// Whether it has one member.
-    pub fn is_single(&self) -> bool
+    pub(crate) fn is_single(&self) -> bool
         ensures { result ≡ line.is_single self.now }
     {
         self.threads.len() == 1
     }
 
     /// The thread enters it as the last.
-    pub fn enter(&mut self, thread: u32)
+    pub(crate) fn enter(&mut self, thread: u32)
         requires { length self.old < MAX_THREADS }
         ensures { self.new ≡ self.old ++ thread ∷ [] }
     {
@@ -79,7 +79,7 @@ impl Line {
     }
 
     /// The first leaves it.
-    pub fn pass(&mut self)
+    pub(crate) fn pass(&mut self)
         ensures { self.new ≡ line.rest_of self.old }
     {
         if !self.threads.is_empty() {
@@ -88,7 +88,7 @@ impl Line {
     }
 
     /// All leave it.
-    pub fn clear(&mut self)
+    pub(crate) fn clear(&mut self)
         ensures { self.new ≡ [] }
     {
         self.threads.clear();

@@ -88,7 +88,7 @@ impl Core {
     }
 
     /// Where a lock is, and who is to get it; None exactly where there is no such lock.
-    pub fn custody(&self, lock: u32) -> Option<&Custody>
+    pub(crate) fn custody(&self, lock: u32) -> Option<&Custody>
         ensures { option_map (λ x. x.now) result ≡ slice_get self.now.custodies lock }
     {
         self.custodies.find(lock)

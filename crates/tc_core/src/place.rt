@@ -2,6 +2,7 @@
 
 ghost use Rattle.std.specs.Prelude.{◌≡◌, ◌+◌, ◌<◌, ◌++◌, ◌∷◌, [], true, false, None, IfOk, IfSome, length};
 ghost use Rattle.tc_isa.specs.declared.limits.TheConstants.{MAX_TURNS};
+ghost use Rattle.tc_isa.specs.declared.held.TheConstants.Held.{PLACES};
 ghost use Rattle.tc_elf.specs.declared.limits.TheConstants.{MAX_THREADS};
 ghost use Rattle.tc_journal.specs.History.{IsEnd};
 ghost use Rattle.tc_core.specs.Core as core;
@@ -30,7 +31,7 @@ pub enum ThreadPlace {
 
 impl ThreadPlace {
     /// Whether it is at the worker.
-    pub fn is_at(self, worker: u32) -> bool
+    pub(crate) fn is_at(self, worker: u32) -> bool
         ensures { result ≡ core.is_at self worker }
     {
         match self {
@@ -40,14 +41,14 @@ impl ThreadPlace {
     }
 
     /// Whether a worker may claim it.
-    pub fn is_claimable(self) -> bool
+    pub(crate) fn is_claimable(self) -> bool
         ensures { result ≡ core.is_claimable self }
     {
         matches!(self, ThreadPlace::Ready | ThreadPlace::Parked)
     }
 
     /// Whether it waits for the lock.
-    pub fn is_waiting(self, lock: u32) -> bool
+    pub(crate) fn is_waiting(self, lock: u32) -> bool
         ensures { result ≡ core.is_waiting self lock }
     {
         match self {
@@ -72,14 +73,14 @@ pub enum LockPlace {
 
 impl LockPlace {
     /// Whether nobody has it.
-    pub fn is_free(self) -> bool
+    pub(crate) fn is_free(self) -> bool
         ensures { result ≡ core.is_free_lock self }
     {
         matches!(self, LockPlace::Free)
     }
 
     /// Whether it was granted to the thread.
-    pub fn is_granted(self, thread: u32) -> bool
+    pub(crate) fn is_granted(self, thread: u32) -> bool
         ensures { result ≡ core.is_granted self thread }
     {
         match self {
@@ -89,7 +90,7 @@ impl LockPlace {
     }
 
     /// Whether it is loose at the worker.
-    pub fn is_loose(self, worker: u32) -> bool
+    pub(crate) fn is_loose(self, worker: u32) -> bool
         ensures { result ≡ core.is_loose self worker }
     {
         match self {
@@ -99,7 +100,7 @@ impl LockPlace {
     }
 
     /// Whether it is with the thread.
-    pub fn is_with(self, thread: u32) -> bool
+    pub(crate) fn is_with(self, thread: u32) -> bool
         ensures { result ≡ core.is_number (core.with_of self) thread }
     {
         match self {
@@ -125,7 +126,7 @@ pub struct Course {
 
 impl Course {
     /// A thread at the start.
-    pub fn new() -> Course
+    pub(crate) fn new() -> Course
         ensures { result ≡ core.first_course }
     {
         Course {
@@ -138,16 +139,16 @@ impl Course {
     }
 
     /// The thread at another place.
-    pub fn to(&self, place: ThreadPlace) -> Course
+    pub(crate) fn to(&self, place: ThreadPlace) -> Course
         ensures { result ≡ record self.now { place = place } }
     {
         Course { place, ..*self }
     }
 
     /// The thread after a turn that took this lock, or none, and ended its block so, or went on.
-    pub fn after_turn(&self, taken: Option<u32>, ended: Option<End>) -> Course
+    pub(crate) fn after_turn(&self, taken: Option<u32>, ended: Option<End>) -> Course
         requires turns { self.now.turns < MAX_TURNS }
-        requires taken { IfSome taken (λ lock. lock < 32) }
+        requires taken { IfSome taken (λ lock. lock < PLACES) }
         ensures { result ≡ events.course_on self.now taken ended }
     {
         let held = match taken {
@@ -163,7 +164,7 @@ impl Course {
     }
 
     /// The thread after its block.
-    pub fn after_block(&self) -> Course
+    pub(crate) fn after_block(&self) -> Course
         requires { IfSome self.now.ended IsEnd }
         ensures { result ≡ events.course_past self.now }
     {
@@ -182,14 +183,14 @@ impl Course {
     }
 
     /// Whether its last committed block ended with a SLEEP.
-    pub fn has_slept(&self) -> bool
+    pub(crate) fn has_slept(&self) -> bool
         ensures { result ≡ core.is_slept self.now.last }
     {
         matches!(self.last, Some(End::Slept))
     }
 
     /// What its block is to the locks that it released.
-    pub fn release(&self) -> Option<Release>
+    pub(crate) fn release(&self) -> Option<Release>
         ensures { result ≡ events.release_of self.now }
     {
         let held = self.held;
@@ -206,7 +207,7 @@ pub struct Release {
 
 impl Release {
     /// The block, as far as the batch rule looks at it.
-    pub fn block(self) -> Block
+    pub(crate) fn block(self) -> Block
         ensures { result ≡ events.released_by self }
     {
         Block {
@@ -237,7 +238,7 @@ pub struct Custody {
 
 impl Custody {
     /// A lock at the start.
-    pub fn new(alloc: Global) -> Result<Custody, AllocError>
+    pub(crate) fn new(alloc: Global) -> Result<Custody, AllocError>
         ensures { IfOk result (λ x. x ≡ core.first_custody) }
     {
         Ok(Custody {
@@ -250,7 +251,7 @@ impl Custody {
     }
 
     /// The thread enters the line.
-    pub fn enter(&mut self, thread: u32)
+    pub(crate) fn enter(&mut self, thread: u32)
         requires { length self.old.line < MAX_THREADS }
         ensures { self.new ≡ events.entered self.old thread }
     {
@@ -258,7 +259,7 @@ impl Custody {
     }
 
     /// The lock is granted to the first of the line, as Taken.
-    pub fn grant(&mut self, thread: u32)
+    pub(crate) fn grant(&mut self, thread: u32)
         ensures { self.new ≡ events.taken_by self.old thread }
     {
         self.place = LockPlace::Granted(thread);
@@ -266,7 +267,7 @@ impl Custody {
     }
 
     /// The first of the line leaves it, and the lock is granted to the next.
-    pub fn pass(&mut self, thread: u32, run: u32)
+    pub(crate) fn pass(&mut self, thread: u32, run: u32)
         ensures { self.new ≡ events.passed_to self.old thread run }
     {
         self.line.pass();
@@ -275,7 +276,7 @@ impl Custody {
     }
 
     /// The last of the line leaves it.
-    pub fn leave(&mut self)
+    pub(crate) fn leave(&mut self)
         ensures { self.new ≡ events.left_by_all self.old }
     {
         self.line.clear();
@@ -283,7 +284,7 @@ impl Custody {
     }
 
     /// The lock goes home.
-    pub fn free(&mut self)
+    pub(crate) fn free(&mut self)
         ensures { self.new ≡ events.freed self.old }
     {
         self.place = LockPlace::Free;
@@ -291,14 +292,14 @@ impl Custody {
     }
 
     /// The thread takes the lock.
-    pub fn take(&mut self, thread: u32)
+    pub(crate) fn take(&mut self, thread: u32)
         ensures { self.new ≡ record self.old { place = core.With thread } }
     {
         self.place = LockPlace::With(thread);
     }
 
     /// The lock after a block of the thread at the worker, which still holds it or released it so.
-    pub fn release(&mut self, worker: u32, thread: u32, held: bool, release: &Option<Release>)
+    pub(crate) fn release(&mut self, worker: u32, thread: u32, held: bool, release: &Option<Release>)
         ensures { self.new ≡ events.custody_past worker thread held release.now self.old }
     {
         if self.place.is_with(thread) && !held {

@@ -25,7 +25,7 @@ pub mod summary;
 #[cfg(test)]
 mod tests;
 pub mod top;
-pub mod words;
+mod words;
 
 pub use crate::status::Status;
 pub use crate::top::tclocks;

@@ -109,7 +109,7 @@ pub(crate) fn run_whole<R: Threads + Wait + Sync, G: Gate>(
 /// once each of them has ended. What threads and locks came to is written first, so that the lock
 /// states with their journals are gone before the blocks are put in order. The packages stay until
 /// the report is written: the blocks are read in their logs, and are not copied.
-pub fn run_report<R: Threads + Wait + Sync, G: Gate>(
+pub(crate) fn run_report<R: Threads + Wait + Sync, G: Gate>(
     rt: &R,
     alloc: Global,
     image: &Image,
