@@ -4,6 +4,7 @@ use Rattle.atomic_table.specs.Table.{State, Act, keeps, takes, gives, stepped}
 use Rattle.tc_journal.specs.declared.block.Block.{Block}
 use Rattle.tc_segment.specs.View.{LockView, sealed_block}
 use Rattle.tc_context.specs.View.{PackageView, with_seal}
+use Rattle.tc_hall.specs.declared.place.TheConstants.{OUT}
 use Rattle.tc_hall.specs.declared.place.Place.{Place}
 use Rattle.tc_hall.specs.declared.board.Knows.{Knows}
 use Rattle.tc_hall.specs.declared.board.Call.TheVariants.{Look, Stop, Stopped}
@@ -29,7 +30,7 @@ after s id e = stepped s e.word e.left id e.holds e.knows e.act
 
 -- `claim` and `adopt` of the thread t, whose package is q
 abbrev pub claim_effect : Knows → ℕ → PackageView → Effect
-claim_effect v t q = record { word = t + 2; left = 512 + v.worker; holds = []; knows = record (after_claim v q) { hand = Some t }; act = takes t (Some (Package q)) }
+claim_effect v t q = record { word = t + 2; left = OUT + v.worker; holds = []; knows = record (after_claim v q) { hand = Some t }; act = takes t (Some (Package q)) }
 
 -- `commit` of the package q with this pending block, at the stamp that was found
 abbrev pub commit_effect : Knows → ℕ → Block → PackageView → Effect

@@ -7,6 +7,7 @@ use Rattle.atomic_table.specs.Table.{opening}
 use Rattle.tc_journal.specs.declared.block.Block.{Block}
 use Rattle.tc_segment.specs.View.{LockView, sealed_block}
 use Rattle.tc_context.specs.View.{PackageView}
+use Rattle.tc_hall.specs.declared.place.TheConstants.{READY, PARKED, WAITING, OUT}
 use Rattle.tc_hall.specs.declared.place.Place.{Place}
 use Rattle.tc_hall.specs.declared.board.Knows.{Knows}
 use Rattle.tc_hall.specs.declared.board.Terms.{Terms}
@@ -62,7 +63,7 @@ after_operation k s id v (join other w) = with_joined s id v other w
 
 -- a thread whose word is this is ready, is parked, or waits for a lock
 abbrev pub IsClaimable : Terms → ℕ → Type 0
-IsClaimable k word = (word ≡ 0) ⊎ ((word ≡ 1) ⊎ ((i : ℕ) × (i < locks k) × (word ≡ 256 + i)))
+IsClaimable k word = (word ≡ READY) ⊎ ((word ≡ PARKED) ⊎ ((i : ℕ) × (i < locks k) × (word ≡ WAITING + i)))
 
 pub record MayClaim (k : Terms) (s : Hall) (v : Knows) (t : ℕ) (q : PackageView) : Type 0 where
   pub free : v.hand ≡ None
@@ -194,7 +195,7 @@ pub record HasNoted (v : Knows) (n : Notes) : Type 0 where
 -- the word of a thread: the code of the place where its package was put, or the worker that it is out with
 pub data IsThreadWord (k : Terms) (word : ℕ) : Type 0 where
   put_at : (place : Place) → IsInRange (locks k) place → word ≡ code_of place → IsThreadWord k word
-  out_with : (worker : ℕ) → worker < k.workers → word ≡ 512 + worker → IsThreadWord k word
+  out_with : (worker : ℕ) → worker < k.workers → word ≡ OUT + worker → IsThreadWord k word
 
 pub record AreExact (k : Terms) (words : List ℕ) : Type 0 where
   pub count : length words ≡ threads k + 2 + locks k

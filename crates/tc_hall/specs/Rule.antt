@@ -16,9 +16,9 @@ use Rattle.tc_context.specs.declared.package.Grant.{Grant}
 use Rattle.tc_context.specs.Locks.{lock_in}
 use Rattle.tc_context.specs.View.{PackageView, Rests, bare, fits_of, granted_lock, want_of}
 use Rattle.tc_law.specs.Lawful.{Lawful, AreStrict}
+use Rattle.tc_hall.specs.declared.place.TheConstants.{READY, DONE, WAITING, OUT}
 use Rattle.tc_hall.specs.declared.board.Knows.{Knows}
 use Rattle.tc_hall.specs.declared.board.Terms.{Terms}
-use Rattle.tc_hall.specs.declared.board.Call.{Call}
 use Rattle.tc_hall.specs.declared.board.Call.TheVariants.{Look, Stop, Stopped}
 use Rattle.tc_hall.specs.declared.board.Cargo.{Cargo}
 use Rattle.tc_hall.specs.declared.board.Cargo.TheVariants.{Package, Lock}
@@ -65,11 +65,11 @@ grants_adopted (Some g) = is_adopted g.kind
 
 -- a package may lie in its slot so while its thread's word is this
 pub record IsInOrder (word : ℕ) (q : PackageView) : Type 0 where
-  pub ended : word ≡ 2 → (is_running q.context.guest.status ≡ false) × ((i : ℕ) → locked_in q i ≡ None)
-  pub runs : word ≢ 2 → is_running q.context.guest.status ≡ true
+  pub ended : word ≡ DONE → (is_running q.context.guest.status ≡ false) × ((i : ℕ) → locked_in q i ≡ None)
+  pub runs : word ≢ DONE → is_running q.context.guest.status ≡ true
   pub own : (i : ℕ) (l : LockView) → locked_in q i ≡ Some l → IsOwn q i
-  pub waits : (i : ℕ) → word ≡ 256 + i → want_of q.image q.context ≡ Some i
-  pub ready : (g : Grant) → q.granted ≡ Some g → word ≡ 0
+  pub waits : (i : ℕ) → word ≡ WAITING + i → want_of q.image q.context ≡ Some i
+  pub ready : (g : Grant) → q.granted ≡ Some g → word ≡ READY
 
 -- its grant is Adopted only after a stop, and another fits every worker
 pub record FitsAll (word : ℕ) (q : PackageView) : Type 0 where
@@ -81,7 +81,7 @@ pub record IsHome (ws : List ℕ) (hs : Homes) (t : ℕ) (p : PackageView) : Typ
   pub context : PackageView
   pub slot : get_elem? hs t ≡ some (some (Some (Package context)))
   pub same : bare context ≡ p
-  pub word : slice_index ws (t + 2) < 512
+  pub word : slice_index ws (t + 2) < OUT
   pub order : IsInOrder (slice_index ws (t + 2)) context
   pub fits : FitsAll (slice_index ws 1) context
 
@@ -90,7 +90,7 @@ pub record IsPackageOut (ws : List ℕ) (hs : Homes) (vs : List Knows) (t : ℕ)
   pub view : Knows
   pub pass : get_elem? vs id ≡ some view
   pub has : Has view t p
-  pub word : slice_index ws (t + 2) ≡ 512 + view.worker
+  pub word : slice_index ws (t + 2) ≡ OUT + view.worker
   pub slot : view.hand ≢ Some t → get_elem? hs t ≡ some (some None)
   pub held : view.hand ≡ Some t → get_elem? hs t ≡ some none
 
@@ -149,17 +149,13 @@ pub record AreLocksPlaced (n m : ℕ) (segments : List LockView) (ws : List ℕ)
   pub owned : (id : ℕ) (v : Knows) (i : ℕ) (l : LockView) → get_elem? vs id ≡ some v → HasLock v i l → (spot i ≡ out id) × (get_elem? segments i ≡ some l)
   pub packed : (t : ℕ) (q : PackageView) (i : ℕ) (l : LockView) → t < n → get_elem? hs t ≡ some (some (Some (Package q))) → locked_in q i ≡ Some l → (spot i ≡ inside t) × (get_elem? segments i ≡ some (kept l))
 
--- the call shows that a stop was made
-abbrev pub IsStop : Call → Type 0
-IsStop c = c ≡ Stop
-
 -- what a pass says of the history and of the words holds
 pub record IsPass (image : Shown) (workers : ℕ) (h : List Block) (ws : List ℕ) (v : Knows) : Type 0 where
   pub of : v.spent ≡ false → v.image ≡ image
   pub worker : v.worker < workers
   pub joined : (i w : ℕ) → get_elem? v.joined i ≡ some w → w < workers
   pub sealed : (i : ℕ) (b : Block) → get_elem? v.sealed i ≡ some b → get_elem? h b.stamp ≡ some b
-  pub done : (i t : ℕ) → get_elem? v.calls i ≡ some (Look t 2) → slice_index ws (t + 2) ≡ 2
+  pub done : (i t : ℕ) → get_elem? v.calls i ≡ some (Look t DONE) → slice_index ws (t + 2) ≡ DONE
   pub stop : (i : ℕ) → get_elem? v.calls i ≡ some Stop → slice_index ws 1 ≡ 1
   pub stopped : (i : ℕ) → get_elem? v.calls i ≡ some (Stopped 1) → slice_index ws 1 ≡ 1
   pub misfit : (t : ℕ) → get_elem? v.misfits t ≡ some true → slice_index ws 1 ≡ 1

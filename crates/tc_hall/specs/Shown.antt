@@ -14,6 +14,7 @@ use Rattle.tc_core.specs.declared.place.ThreadPlace.TheVariants.{Ready, Waiting,
 use Rattle.tc_hall.specs.declared.board.Knows.{Knows}
 use Rattle.tc_hall.specs.declared.board.Terms.{Terms}
 use Rattle.tc_hall.specs.declared.board.Cargo.TheVariants.{Package, Lock}
+use Rattle.tc_hall.specs.declared.place.TheConstants.{OUT}
 use Rattle.tc_hall.specs.declared.place.Place.{Place}
 use Rattle.tc_hall.specs.declared.place.Place.TheVariants as put
 use Rattle.tc_hall.specs.Places.{place_of}
@@ -30,7 +31,7 @@ as_place (put.Waiting lock) = Waiting lock
 
 -- the place that a thread's word shows
 unfoldable pub place_shown : ℕ → ThreadPlace
-place_shown word = if nat_lt word 512 then as_place (place_of word) else At (word - 512)
+place_shown word = if nat_lt word OUT then as_place (place_of word) else At (word - OUT)
 
 -- how the last block of a log ended
 abbrev pub last_end : List Block → Option End

@@ -18,8 +18,8 @@ use Rattle.tc_context.specs.View.{PackageView, AllowsPending, Rests, bare, fits_
 use Rattle.tc_context.specs.Ran.{DidRun}
 use Rattle.tc_law.specs.History.{Follows, StateFollows}
 use Rattle.tc_law.specs.Lawful.{Lawful, AreStrict}
+use Rattle.tc_hall.specs.declared.place.TheConstants.{DONE}
 use Rattle.tc_hall.specs.declared.place.Place.{Place}
-use Rattle.tc_hall.specs.declared.place.Place.TheVariants.{Ready}
 use Rattle.tc_hall.specs.declared.board.Given.{Given}
 use Rattle.tc_hall.specs.declared.board.Terms.{Terms}
 use Rattle.tc_hall.specs.declared.board.Knows.{Knows}
@@ -174,9 +174,6 @@ pub record MayPut (place : Place) (v : Knows) (q : PackageView) : Type 0 where
   pub stop : grants_adopted q.granted ≡ true → HasStop v
   pub fits : grants_adopted q.granted ≡ false → fits_of q v.worker ≡ true
 
-abbrev pub MayPutReady : Knows → PackageView → Type 0
-MayPutReady = MayPut Ready
-
 -- the package was put at the place
 pub record Gave (place : Place) (q : PackageView) (v w : Knows) : Type 0 where
   pub now : w ≡ after_put v q place
@@ -305,7 +302,7 @@ pub record IsFree (v : Knows) : Type 0 where
 
 -- the pass has seen each thread at 2
 abbrev pub HasSeenAll : ℕ → Knows → Type 0
-HasSeenAll n v = (t : ℕ) → t < n → (i : ℕ) × (get_elem? v.calls i ≡ some (Look t 2))
+HasSeenAll n v = (t : ℕ) → t < n → (i : ℕ) × (get_elem? v.calls i ≡ some (Look t DONE))
 
 -- each worker is the pass's own or was joined
 abbrev pub HasAll : ℕ → Knows → Type 0

@@ -17,6 +17,7 @@ use Rattle.tc_core.specs.declared.place.LockPlace.TheVariants as place
 use Rattle.tc_hall.specs.declared.board.Knows.{Knows}
 use Rattle.tc_hall.specs.declared.board.Terms.{Terms}
 use Rattle.tc_hall.specs.declared.board.Cargo.TheVariants.{Package, Lock}
+use Rattle.tc_hall.specs.declared.place.TheConstants.{WAITING, OUT}
 use Rattle.tc_hall.specs.declared.place.Place.{Place}
 use Rattle.tc_hall.specs.declared.place.Place.TheVariants.{Ready, Waiting, Parked, Done}
 use Rattle.tc_hall.specs.declared.place.Origin.{Origin}
@@ -94,7 +95,7 @@ pub record AdoptTies (k : Terms) (m : Moment k) (t lock : ℕ) (q : PackageView)
   pub grant : Ties k m.state (after m.state m.id (claim_effect m.view t q)) (IsLooseIn lock) (CanPass k m.view.worker t lock) (Grant m.view.worker t lock ∷ Claim m.view.worker t ∷ [])
 
 abbrev pub AdoptTie : Type 0
-AdoptTie = (k : Terms) (m : Moment k) (t lock : ℕ) (q : PackageView) (l : LockView) → MayClaim k m.state m.view t q → lock < locks k → slice_index m.state.words (t + 2) ≡ 256 + lock → HasLock m.view lock l → AdoptTies k m t lock q
+AdoptTie = (k : Terms) (m : Moment k) (t lock : ℕ) (q : PackageView) (l : LockView) → MayClaim k m.state m.view t q → lock < locks k → slice_index m.state.words (t + 2) ≡ WAITING + lock → HasLock m.view lock l → AdoptTies k m t lock q
 
 -- ---- put: HandBack, Ship, Park, Finish
 
@@ -126,7 +127,7 @@ PutTie = (k : Terms) (m : Moment k) (q : PackageView) → PutTies k m q
 -- ---- take: Take, of a thread that is at the worker
 
 abbrev pub TakeTie : Type 0
-TakeTie = (k : Terms) (m : Moment k) (t i : ℕ) (l : LockView) → t < threads k → slice_index m.state.words (t + 2) ≡ 512 + m.view.worker → MayTake k m.state m.view i l
+TakeTie = (k : Terms) (m : Moment k) (t i : ℕ) (l : LockView) → t < threads k → slice_index m.state.words (t + 2) ≡ OUT + m.view.worker → MayTake k m.state m.view i l
     → Ties k m.state (after m.state m.id (take_effect (threads k) m.view i l)) Always
     (λ c. (at_worker k c m.view.worker t ≡ true) × (is_lock k.image.value i ≡ true) × (is_free_lock (c.custody i).place ≡ true)) (Take m.view.worker t i ∷ [])
 

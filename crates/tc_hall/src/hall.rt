@@ -5,6 +5,7 @@ ghost use Rattle.tc_isa.specs.declared.limits.TheConstants.{MAX_FUEL, MAX_WORKER
 ghost use Rattle.tc_elf.specs.declared.limits.TheConstants.{MAX_THREADS, MAX_GUARDS};
 ghost use Rattle.tc_elf.specs.Shown.{Shown};
 ghost use Rattle.tc_context.specs.View.{IsWaiting, with_seal};
+ghost use Rattle.tc_hall.specs.declared.place.TheConstants.{WAITING};
 ghost use Rattle.tc_hall.specs.Places.{IsInRange, origin_code};
 ghost use Rattle.tc_hall.specs.Rule.{threads, locks};
 ghost use Rattle.tc_hall.specs.Steps.{IsSamePass, IsPackage, IsLock, is_package, is_lock, Gets, MayPut, Gave, IsAsLeft, IsStateAsLeft, Missed, Takes, MayFree, Freed, Seals, DidSeal, after_look, after_stop, SawStopped, merged, IsFree, HasAll, HasSeenAll, IsEnd};
@@ -14,7 +15,7 @@ ghost use Rattle.tc_hall.specs.Made.{IsHallOf, AreDealt, AreStocked};
 use crate::board::{Board, Cargo, Slot, Terms};
 use crate::closed::Closed;
 use crate::pass::Pass;
-use crate::place::{Origin, Place};
+use crate::place::{OUT, Origin, Place, WAITING};
 use crate::plays::{
     Asked, Claim, Deal, Fill, Free, Lay, Look, Merge, Reach, Seal, Stop, Stopped, Take, Under,
     Wanted,
@@ -250,7 +251,7 @@ impl Hall {
             (λ e. Missed code (t + 2) e pass.old.knows pass.new.knows) }
         ensures left { IfOk result (λ p. IsAsLeft self.now.terms pass.old.knows p) }
     {
-        let at = 512 + u64::from(pass.number);
+        let at = OUT + u64::from(pass.number);
         let words = &self.board.shared;
         let found = words.compare_exchange::<Claim<J>>(&mut pass.seat, t as usize + 2, code, at);
         if found != code {
@@ -291,12 +292,12 @@ impl Hall {
         requires lock { lock < locks self.now.terms }
         ensures own { IsSamePass pass.old pass.new }
         ensures result { MatchResult result
-            (λ p. Gets (256 + lock) t p pass.old.knows pass.new.knows)
-            (λ e. Missed (256 + lock) (t + 2) e.0 pass.old.knows pass.new.knows) }
+            (λ p. Gets (WAITING + lock) t p pass.old.knows pass.new.knows)
+            (λ e. Missed (WAITING + lock) (t + 2) e.0 pass.old.knows pass.new.knows) }
         ensures left { IfOk result (λ p. IsAsLeft self.now.terms pass.old.knows p) }
         ensures waiting { IfOk result (λ p. IsWaiting p lock) }
     {
-        match self.claim_from::<Brand>(pass, t, 256 + u64::from(lock)) {
+        match self.claim_from::<Brand>(pass, t, WAITING + u64::from(lock)) {
             Ok(package) => {
                 package.keeps();
                 Ok(package)
@@ -400,8 +401,8 @@ impl Hall {
         words.store::<Free>(&mut pass.seat, place + 2, 0);
     }
 
-    /// The word of a thread, by one load: 0 for ready, 1 for parked, 2 for done, 256 and the lock's
-    /// number for waiting, 512 and the worker's number for out. The pass's list keeps what was
+    /// The word of a thread, by one load: [`READY`](crate::place::READY), `PARKED`, `DONE`, `WAITING`
+    /// and the lock's number, or `OUT` and the worker's number. The pass's list keeps what was
     /// seen.
     pub fn look(&self, pass: &mut Pass, t: u32) -> u64
         requires own { pass.old.table ≡ self.now.table }

@@ -3,6 +3,21 @@
 ghost use Rattle.std.specs.Prelude.{◌≡◌, ◌<◌};
 ghost use Rattle.tc_hall.specs.Places.{IsInRange, code_of, origin_code};
 
+/// The word of a thread that is ready.
+pub const READY: u64 = 0;
+
+/// The word of a thread that is parked.
+pub const PARKED: u64 = 1;
+
+/// The word of a thread that has ended.
+pub const DONE: u64 = 2;
+
+/// The word of a thread that waits for lock 0; that of lock L is L more.
+pub const WAITING: u64 = 256;
+
+/// The word of a thread that is out with worker 0; that of worker W is W more.
+pub const OUT: u64 = 512;
+
 /// Where a package is put.
 #[derive(Clone, Copy, Debug, PartialEq, Eq)]
 pub enum Place {
@@ -21,10 +36,10 @@ impl Place {
         ensures { result ≡ code_of self }
     {
         match self {
-            Place::Ready => 0,
-            Place::Parked => 1,
-            Place::Done => 2,
-            Place::Waiting(lock) => 256 + u64::from(lock),
+            Place::Ready => READY,
+            Place::Parked => PARKED,
+            Place::Done => DONE,
+            Place::Waiting(lock) => WAITING + u64::from(lock),
         }
     }
 }
@@ -43,8 +58,8 @@ impl Origin {
         ensures { result ≡ origin_code self }
     {
         match self {
-            Origin::Ready => 0,
-            Origin::Parked => 1,
+            Origin::Ready => READY,
+            Origin::Parked => PARKED,
         }
     }
 }
