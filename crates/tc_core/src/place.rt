@@ -299,7 +299,13 @@ impl Custody {
     }
 
     /// The lock after a block of the thread at the worker, which still holds it or released it so.
-    pub(crate) fn release(&mut self, worker: u32, thread: u32, held: bool, release: &Option<Release>)
+    pub(crate) fn release(
+        &mut self,
+        worker: u32,
+        thread: u32,
+        held: bool,
+        release: &Option<Release>,
+    )
         ensures { self.new ≡ events.custody_past worker thread held release.now self.old }
     {
         if self.place.is_with(thread) && !held {
