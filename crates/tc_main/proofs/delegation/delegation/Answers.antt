@@ -1,8 +1,8 @@
 use Rattle.tc_told.proofs.Realized.{is_written}
 use Rattle.tc_main.proofs.delegation.delegation.Goals as goal
 
-pub returns-clause-written : goal.returns-clause-written
-returns-clause-written c = λ image o results legal.
+pub returns : goal.returns
+returns c = λ image o results legal.
     is_written image (record { workers = o.workers; batch = o.limit }) o.fuel results.history (record {
       last = legal.last;
       history = legal.history;
