@@ -1,13 +1,12 @@
 -- After each order of operations every word is one of those that it may be.
-use Rattle.std.proofs.Common.{◌≡◌, ◌≢◌, ℕ, ◌+◌, ◌<◌, ◌≤◌, false, List, [], ◌∷◌, length, replicate, set, sym, refl, ap, ◌∙◌, subst, arith, slice_index, length-set, get_or-set_other, get_or-set_same}
+use Rattle.std.proofs.Common.{◌≡◌, ◌≢◌, ℕ, ◌+◌, ◌<◌, ◌≤◌, List, [], ◌∷◌, length, replicate, set, sym, refl, ap, ◌∙◌, subst, arith, slice_index, length-set, get_or-set_other, get_or-set_same}
 use Rattle.std.proofs.lemmas.List.{get_or-replicate}
 use mathlib.Core.Logic.{dite}
 use mathlib.Core.Option.{some}
 use native.Mathlib.Decide.{ℕ_discrete}
 use lib.ListN.{get_elem?, length-replicate}
 use lib.Seq.{set-get_or}
-use Rattle.tc_context.specs.View.{PackageView, bare}
-use Rattle.tc_hall.specs.declared.place.Place.{Place}
+use Rattle.tc_context.specs.View.{bare}
 use Rattle.tc_hall.specs.declared.place.Place.TheVariants.{Ready}
 use Rattle.tc_hall.specs.declared.board.Knows.{Knows}
 use Rattle.tc_hall.specs.declared.board.Terms.{Terms}

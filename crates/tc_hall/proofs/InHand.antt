@@ -9,7 +9,7 @@ use Rattle.tc_journal.specs.declared.block.Block.{Block}
 use Rattle.tc_turn.specs.Turn.{is_running}
 use Rattle.tc_segment.specs.View.{LockView, IsAtRest, kept}
 use Rattle.tc_context.specs.declared.package.Grant.{Grant}
-use Rattle.tc_context.specs.Locks.{lock_in, IsPlaced, SameLocks}
+use Rattle.tc_context.specs.Locks.{lock_in, IsPlaced}
 use Rattle.tc_context.specs.Whole.{set_of}
 use Rattle.tc_context.specs.View.{PackageView, IsRoomier, Allows, Rests, bare, fits_of, fits_granted, granted_lock, want_of, with_seal}
 use Rattle.tc_context.specs.Ran.{DidRun}

@@ -1,5 +1,5 @@
 -- A hall's order with the events of the lines is one list of events, by the tie of each step.
-use Rattle.std.proofs.Common.{◌≡◌, ◌≢◌, ◌⊎◌, ℕ, zero, suc, ◌+◌, ◌-◌, ◌<◌, Bool, true, false, ◌==◌, List, [], ◌∷◌, ◌++◌, replicate, set, sym, refl, ap, ◌∙◌, subst, ⊎_elim, arith, Option, Some, None, slice_index, if◌then◌else◌}
+use Rattle.std.proofs.Common.{◌≡◌, ◌≢◌, ℕ, zero, suc, ◌+◌, ◌-◌, ◌<◌, Bool, true, false, ◌==◌, List, [], ◌∷◌, ◌++◌, replicate, set, sym, refl, ap, ◌∙◌, subst, ⊎_elim, arith, Option, Some, None, slice_index, if◌then◌else◌}
 use Rattle.std.specs.Prelude.{nat_lt}
 use Rattle.std.proofs.lemmas.Bool.Decides.{nat_tests}
 use Rattle.std.proofs.lemmas.List.{get_or-replicate}
@@ -17,7 +17,7 @@ use Rattle.tc_core.specs.Core.{Core, with_custody}
 use Rattle.tc_core.specs.Stories.{AreEnabled}
 use Rattle.tc_core.specs.Events.{effect, entered, left_by_all}
 use Rattle.tc_core.specs.declared.event.Event.{Event}
-use Rattle.tc_core.specs.declared.event.Event.TheVariants.{Claim, Commit, Enter, Adopt, Grant, Leave}
+use Rattle.tc_core.specs.declared.event.Event.TheVariants.{Commit, Enter, Leave}
 use Rattle.tc_core.specs.declared.place.Custody.{Custody}
 use Rattle.tc_hall.specs.declared.place.Place.{Place}
 use Rattle.tc_hall.specs.declared.place.Place.TheVariants.{Ready, Waiting, Parked, Done}

@@ -1,6 +1,5 @@
 -- Each step of a pass on the table is an operation that may come there.
-use Rattle.std.proofs.Common.{◌≡◌, ◌≢◌, ℕ, ◌+◌, ◌%◌, ◌^◌, ◌<◌, ◌==◌, Bool, true, false, List, [], ◌∷◌, length, set, sym, refl, ap, ◌∙◌, subst, arith, Option, Some, None, slice_index}
-use Rattle.std.specs.Prelude.{filter}
+use Rattle.std.proofs.Common.{◌≡◌, ℕ, ◌+◌, ◌%◌, ◌^◌, ◌<◌, ◌==◌, true, false, List, [], ◌∷◌, length, set, sym, refl, ap, ◌∙◌, subst, arith, Option, Some, None, slice_index}
 use mathlib.Core.Option.{none, some}
 use lib.ListN.{get_elem?}
 use prog.Atomic.{either}
@@ -22,8 +21,7 @@ use Rattle.tc_hall.specs.declared.board.Cargo.{Cargo}
 use Rattle.tc_hall.specs.declared.board.Cargo.TheVariants.{Package, Lock}
 use Rattle.tc_hall.specs.Places.{code_of, place_of, IsInRange}
 use Rattle.tc_hall.specs.Rule.{threads, locks, Has, HasLock, Spot, home, out, KeptHall}
-use Rattle.tc_hall.specs.Steps.{Sat, Gets, Got, Takes, Took, MayPut, MayFree, Seals, DidSeal, IsAsLeft, IsStateAsLeft, IsFree, claimed, laid, reached, took_as, put_as, did_free, looked, stopping, saw_stopped, sealed_as, after_claim, after_take, after_put, after_free, after_miss, after_commit, with_call, dealt, fresh, merged, gone}
-use Rattle.tc_hall.specs.Effects.{Hall, after, put_effect}
+use Rattle.tc_hall.specs.Steps.{Sat, Got, Took, MayPut, MayFree, Seals, DidSeal, IsAsLeft, IsStateAsLeft, IsFree, claimed, laid, reached, took_as, put_as, did_free, looked, stopping, saw_stopped, sealed_as, after_claim, after_take, after_put, after_free, after_miss, after_commit, with_call, dealt, fresh, merged, gone}
 use Rattle.tc_hall.specs.Order.{claim, take, miss, commit, put, free, look, stop, stopped, reach, lay, split, join, IsClaimable, of_package, of_lock, IsOrdered}
 use Rattle.tc_hall.proofs.Outs.{lock_came, no_call_taken}
 use Rattle.tc_hall.proofs.Moves.{some_same, clash, home_of, is_out, taken, gets}

@@ -1,18 +1,15 @@
 -- Each step on a lock keeps the rule.
-use Rattle.std.proofs.Common.{◌≡◌, ◌≢◌, ◌⊎◌, ℕ, zero, suc, ◌+◌, ◌<◌, ◌==◌, Bool, true, false, List, [], ◌∷◌, length, set, sym, refl, ap, ◌∙◌, subst, ⊎_elim, inl, inr, arith, Option, Some, None, slice_index, length-set, get_or-set_other, get_or-set_same}
+use Rattle.std.proofs.Common.{◌≡◌, ◌≢◌, ◌⊎◌, ℕ, zero, suc, ◌+◌, ◌<◌, Bool, true, false, List, [], ◌∷◌, length, set, sym, refl, ap, ◌∙◌, subst, ⊎_elim, inl, inr, arith, Option, Some, None, slice_index, length-set, get_or-set_other, get_or-set_same}
 use mathlib.Core.Option.{none, some, some-injective, some-ne-none}
 use mathlib.Core.Option as maybe
 use lib.ListN.{get_elem?}
 use lib.Seq.{set-get_or}
-use prog.Atomic.{either}
-use Rattle.atomic_table.specs.Table.{step, Act, keeps, takes, gives, Valid, stepped, carried_after, Allows}
-use Rattle.atomic_table.proofs.Lists.{set_here, set_else, at_longer, exchanged}
+use Rattle.atomic_table.specs.Table.{takes, gives, stepped}
+use Rattle.atomic_table.proofs.Lists.{set_here, set_else, at_longer}
 use Rattle.tc_isa.specs.Sets.{has}
 use Rattle.tc_journal.specs.declared.block.Block.{Block}
-use Rattle.tc_mutex_spec.specs.Blocks.{end_after}
-use Rattle.tc_segment.specs.View.{LockView, kept, blocks_of}
+use Rattle.tc_segment.specs.View.{LockView, kept}
 use Rattle.tc_law.specs.Lawful.{IsStateAfter}
-use Rattle.tc_law.proofs.Following.{blocks_are}
 use Rattle.tc_mutex_spec.proofs.ListLaws.{there, at_place}
 use Rattle.tc_hall.specs.declared.board.Knows.{Knows}
 use Rattle.tc_hall.specs.declared.board.Terms.{Terms}
@@ -21,16 +18,14 @@ use Rattle.tc_hall.specs.declared.board.Call.TheVariants.{Free, Look, Stop, Stop
 use Rattle.tc_hall.specs.declared.board.Cargo.{Cargo}
 use Rattle.tc_hall.specs.declared.board.Cargo.TheVariants.{Lock}
 use Rattle.tc_hall.specs.Rule.{threads, locks, Homes, HasLock, Spot, home, inside, out, IsLockHome, IsLockOut, LiesLock, KeptHall}
-use Rattle.tc_hall.specs.Steps.{laid, reached, did_free, took_as, Took, MayFree, after_take, after_free}
-use Rattle.tc_hall.proofs.Outs.{lock_came, no_call_taken}
+use Rattle.tc_hall.specs.Steps.{MayFree, after_take, after_free}
 use Rattle.tc_hall.proofs.Placing.{stays}
 use Rattle.tc_hall.proofs.Packing.{IsElseLock, lock_moves}
 use Rattle.tc_hall.proofs.Ranks.{apart_stays, stop_stays, IsTrueCall, pass_kept, passes_stay, done_still, stops_still, stops_back}
 use Rattle.std.specs.List.{filter}
 use Rattle.std.proofs.Common.{if◌then◌else◌}
-use Rattle.tc_hall.specs.Steps.{Sat, after_miss}
 use Rattle.tc_hall.proofs.Telling.{snoc_at}
-use Rattle.tc_hall.proofs.Moves.{St, misses, some_same, clash, same_place, lock_out_of}
+use Rattle.tc_hall.proofs.Moves.{St, some_same, clash, same_place, lock_out_of}
 
 pub lock_home_of : (n : ℕ) (ws : List ℕ) (hs : Homes) (vs : List Knows) (i : ℕ) (l : LockView) (s : Spot) → LiesLock n ws hs vs i l s → slice_index ws (n + 2 + i) ≡ 0 → (s ≡ home) × IsLockHome n ws hs i l
 lock_home_of n ws hs vs i l home o e = (refl, o)

@@ -4,7 +4,7 @@ use mathlib.Core.Option.{none, some, some-injective, some-ne-none}
 use mathlib.Core.Option as maybe
 use lib.ListN.{get_elem?}
 use lib.Seq.{set-get_or}
-use Rattle.atomic_table.specs.Table.{step, keeps, gives, stepped, Allows}
+use Rattle.atomic_table.specs.Table.{keeps, gives, stepped}
 use Rattle.atomic_table.proofs.Lists.{set_here, set_else, at_longer, at_last}
 use Rattle.tc_elf.specs.declared.limits.TheConstants.{MAX_GUARDS}
 use Rattle.tc_journal.proofs.Batching.{any_worker}
@@ -23,7 +23,7 @@ use Rattle.tc_hall.specs.declared.board.Cargo.{Cargo}
 use Rattle.tc_hall.specs.declared.board.Cargo.TheVariants.{Package}
 use Rattle.tc_hall.specs.Places.{code_of, place_of}
 use Rattle.tc_hall.specs.Rule.{grants_adopted, threads, locks, IsInOrder, KeptHall}
-use Rattle.tc_hall.specs.Steps.{Sat, IsAsLeft, put_as, looked, stopping, saw_stopped, after_put, with_call, numbers, given_of, MayPut, HasStop, made, seen}
+use Rattle.tc_hall.specs.Steps.{Sat, IsAsLeft, after_put, with_call, numbers, given_of, MayPut, HasStop, made, seen}
 use Rattle.tc_hall.proofs.Placing.{moves, stays}
 use Rattle.tc_hall.proofs.Packing.{puts_locks, locks_stay}
 use Rattle.tc_hall.proofs.Ranks.{apart_stays, stop_stays, IsTrueCall, pass_kept, passes_stay, done_still, stops_still, stops_back}

@@ -1,18 +1,15 @@
 -- Each step keeps the rule, and ties to its events.
-use Rattle.std.proofs.Common.{◌≡◌, ◌≢◌, ◌⊎◌, ℕ, ◌+◌, ◌<◌, ◌==◌, Bool, true, false, List, [], ◌∷◌, length, set, sym, refl, ap, ◌∙◌, subst, ⊎_elim, inl, inr, arith, Option, Some, None, slice_index, get_or-set_other}
+use Rattle.std.proofs.Common.{◌≡◌, ◌≢◌, ◌⊎◌, ℕ, ◌+◌, ◌<◌, ◌==◌, Bool, true, false, List, length, set, sym, refl, ap, ◌∙◌, subst, ⊎_elim, inl, inr, arith, Option, Some, None, slice_index, get_or-set_other}
 use Rattle.std.specs.Prelude.{nat_lt, is_some, not}
 use Rattle.std.proofs.lemmas.Bool.Decides.{nat_tests}
 use mathlib.Core.Option.{none, some, some-injective}
 use lib.ListN.{get_elem?}
 use lib.Seq.{set-get_or}
-use Rattle.atomic_table.specs.Table.{gives, stepped}
 use Rattle.atomic_table.proofs.Lists.{set_here, set_else}
 use Rattle.tc_turn.specs.Turn.{Thread, is_running}
 use Rattle.tc_segment.specs.View.{LockView, kept}
-use Rattle.tc_law.specs.Lawful.{IsPackageAfter, IsStateAfter}
 use Rattle.tc_context.specs.Whole.{thread_in}
 use Rattle.tc_context.specs.View.{PackageView, bare}
-use Rattle.tc_mutex_spec.proofs.ListLaws.{at_place}
 use Rattle.tc_mutex_spec.proofs.BlocksAlike.{eq_self}
 use Rattle.tc_core.specs.declared.place.Custody.{Custody}
 use Rattle.tc_core.specs.Core.{Core, is_claimable, is_waiting, is_loose, is_slept, is_free_lock, with_place, with_custody}
@@ -27,23 +24,23 @@ use Rattle.tc_hall.specs.declared.board.Knows.{Knows}
 use Rattle.tc_hall.specs.declared.board.Terms.{Terms}
 use Rattle.tc_hall.specs.declared.board.Call.TheVariants.{Look, Stop, Stopped}
 use Rattle.tc_hall.specs.declared.board.Cargo.{Cargo}
-use Rattle.tc_hall.specs.declared.board.Cargo.TheVariants.{Package, Lock}
+use Rattle.tc_hall.specs.declared.board.Cargo.TheVariants.{Lock}
 use Rattle.tc_hall.specs.declared.place.Place.{Place}
 use Rattle.tc_hall.specs.declared.place.Place.TheVariants.{Ready, Waiting, Parked, Done}
 use Rattle.tc_hall.specs.Places.{code_of}
-use Rattle.tc_hall.specs.Rule.{threads, locks, HasLock, IsHome, Spot, out, IsLockHome, KeptHall, locked_in}
-use Rattle.tc_hall.specs.Steps.{Gets, after_claim, after_put, after_take, after_miss, with_call, dealt, fresh, merged, gone}
-use Rattle.tc_hall.specs.Effects.{Hall, after, claim_effect, put_effect, take_effect}
+use Rattle.tc_hall.specs.Rule.{threads, locks, HasLock, Spot, out, KeptHall, locked_in}
+use Rattle.tc_hall.specs.Steps.{Gets, after_claim, after_take, after_miss, with_call, dealt, fresh, merged, gone}
+use Rattle.tc_hall.specs.Effects.{Hall, after, claim_effect, put_effect}
 use Rattle.tc_hall.specs.Outline.{outline, in_hand, packed, at_home, lies_with, lies_at}
 use Rattle.tc_hall.specs.Shown.{IsShown, with_pass, lock_in_slot, lock_with_pass, place_shown, as_place, last_end}
 use Rattle.tc_hall.specs.Ties.{may_come, at_worker, loose_at, Moment, Shows, ClaimTie, IsLooseIn, CanPass, AdoptTie, AreInside, PutTie, TakeTie, FreeTie, TiesToNone, TellTie, PassTie}
-use Rattle.tc_hall.proofs.Shows.{shown_at, shown_code, shown_origin, origin_low, origin_open, lies_put, lies_low, same_hand, same_package, claim_shown, put_shown, take_shown, free_shown, HadOut, had_same, had_more, had_less, still_shown}
+use Rattle.tc_hall.proofs.Shows.{shown_at, shown_code, shown_origin, origin_low, lies_put, lies_low, same_hand, claim_shown, put_shown, take_shown, free_shown, HadOut, had_same, had_more, had_less, still_shown}
 use Rattle.tc_hall.proofs.Outlines.{both, at_self, loose_self, with_lies, else_lies, home_free, Arrives, arrives, arrives_then, arrives_with, is_moved, custody_here, custody_else, all_come, others_come}
-use Rattle.tc_hall.specs.Order.{MayClaim, MayTake, MayFill}
+use Rattle.tc_hall.specs.Order.{MayClaim, MayFill}
 use Rattle.tc_hall.proofs.Moves.{AtHome, at_home_of, gets, is_out, misses}
 use Rattle.tc_hall.proofs.Ordering.{claim_after, take_after, put_after}
 use Rattle.tc_hall.proofs.Making.{deals, joins, clean_free, gone_free}
-use Rattle.tc_hall.proofs.Telling.{place_codes, code_low, fills_kept, look_kept, stop_kept, see_kept}
+use Rattle.tc_hall.proofs.Telling.{code_low, look_kept, stop_kept, see_kept}
 use Rattle.tc_hall.proofs.Taking.{lock_at_home, is_lock_out, free_kept}
 
 some_or_none : (o : Option LockView) → ((l : LockView) × (o ≡ Some l)) ⊎ (o ≡ None)

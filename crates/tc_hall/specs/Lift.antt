@@ -13,7 +13,7 @@ use Rattle.tc_hall.specs.declared.place.Place.{Place}
 use Rattle.tc_hall.specs.declared.place.Place.TheVariants.{Ready, Waiting, Parked, Done}
 use Rattle.tc_hall.specs.declared.board.Knows.{Knows}
 use Rattle.tc_hall.specs.declared.board.Terms.{Terms}
-use Rattle.tc_hall.specs.Rule.{threads, locks, HasLock}
+use Rattle.tc_hall.specs.Rule.{threads, HasLock}
 use Rattle.tc_hall.specs.Effects.{Hall}
 use Rattle.tc_hall.specs.Order.{Operation, claim, take, miss, commit, put, free, look, stop, stopped, reach, lay, split, join, Made, MayCome, after_operation, IsOpening}
 use Rattle.tc_hall.specs.Shown.{last_end}

@@ -21,9 +21,9 @@ use Rattle.tc_hall.specs.declared.place.TheConstants.{WAITING, OUT}
 use Rattle.tc_hall.specs.declared.place.Place.{Place}
 use Rattle.tc_hall.specs.declared.place.Place.TheVariants.{Ready, Waiting, Parked, Done}
 use Rattle.tc_hall.specs.declared.place.Origin.{Origin}
-use Rattle.tc_hall.specs.Places.{origin_code, IsInRange}
+use Rattle.tc_hall.specs.Places.{origin_code}
 use Rattle.tc_hall.specs.Rule.{threads, locks, HasLock, KeptHall, locked_in}
-use Rattle.tc_hall.specs.Steps.{MayPut, MayFree, Seals, IsFree}
+use Rattle.tc_hall.specs.Steps.{MayFree, Seals, IsFree}
 use Rattle.tc_hall.specs.Effects.{Hall, after, claim_effect, commit_effect, put_effect, take_effect, free_effect, look_effect, stop_effect, stopped_effect, miss_effect, with_new_pass, with_joined}
 use Rattle.tc_hall.specs.Order.{MayClaim, MayTake, MayFill}
 use Rattle.tc_hall.specs.Outline.{outline, IsBetween}
