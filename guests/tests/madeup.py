@@ -23,6 +23,10 @@ lib)
         [ ! -d ../$low/src ] || [ -f ../$low/out/rlib/stamp ] || { echo "$low is missing"; exit 1; }
     done
     [ "$crate" != "$FAILING" ] || { echo "no proof of $crate"; exit 1; }
+    # Those of MEET wait for one another.
+    case " $MEET " in
+    *" $crate "*) for other in $MEET; do until grep -q "begun $other" "$TIMES"; do sleep 0.1; done; done ;;
+    esac
     mkdir -p out/rlib; sleep "$SLEEP"; cat src/* > out/rlib/stamp
     echo "ended $crate" >> "$TIMES" ;;
 run)
@@ -82,7 +86,7 @@ class Folder(unittest.TestCase):
             (self.root / name).chmod(0o755)
         (self.root / "tmp").mkdir()
         self.environment = {**os.environ, "PATH": f"{self.root / 'bin'}:{os.environ['PATH']}", "SLEEP": "0.5",
-                            "COUNT": str(self.root / "count"), "TIMES": str(self.root / "times"), "FAILING": "",
+                            "COUNT": str(self.root / "count"), "TIMES": str(self.root / "times"), "FAILING": "", "MEET": "",
                             "PROGRAM": str(self.root / "program"), "TMPDIR": str(self.root / "tmp")}
         self.environment.pop("TCLOCKS_PROGRAM", None)
 
