@@ -1,5 +1,5 @@
-use crate::memory::{Memory, byte_from, put_number, starting_bytes};
-use crate::number::number_from;
+use crate::memory::{Memory, put_number, starting_bytes};
+use crate::number::{byte_from, number_from};
 use crate::outcome::{outcome_by, outcome_of};
 use crate::status::Status;
 use crate::thread::GuestThread;
