@@ -1,10 +1,18 @@
 -- A desk that is driven by hand, from what its worker has in hand.
-use Rattle.std.proofs.Common.{◌≡◌, ℕ, List, length, Option, Some, None, refl, sym, subst}
+use Rattle.std.proofs.Common.{◌≡◌, ℕ, true, false, not, ◌&&◌, List, length, Option, Some, None, is_some, refl, sym, ap, ◌∙◌, subst}
+use Rattle.tc_isa.specs.Sets.{has}
+use Rattle.tc_journal.specs.Batch.{ends_section, ends_thread}
+use Rattle.tc_journal.specs.declared.block.Block.{Block}
 use Rattle.tc_journal.specs.declared.block.End.{End}
-use Rattle.tc_context.specs.View.{PackageView}
+use Rattle.tc_journal.specs.declared.block.End.TheVariants.{Wants}
+use Rattle.tc_context.specs.View.{PackageView, IsAfter, IsSoundPackage, want_of}
 use Rattle.tc_hall.specs.Outs.{outs}
 use Rattle.tc_hall.specs.PassView.{PassView}
+use Rattle.tc_combiner.specs.declared.settled.Settled.{Settled}
+use Rattle.tc_combiner.specs.Packages.{Runs}
+use Rattle.tc_combiner.specs.Settling.{DidAcquire, HasAcquired, HasSettled, IsAfterBlock, MayAcquire}
 use Rattle.tc_combiner.specs.View.{BenchView, DeskView, FitsBench}
+use Rattle.tc_combiner.proofs.Settling.{after_of, wants_ends, wants_lock}
 use Rattle.tc_workers.specs.declared.step.Step.{Step}
 use Rattle.tc_workers.specs.declared.step.Step.TheVariants.{On}
 use Rattle.tc_workers.specs.Worker.{HasSealed, IsAtDesk, IsStep, IsStill}
@@ -44,3 +52,32 @@ woken b d m hand end sleepers now p e f is same =
 -- the pass made calls, and has out what it had
 pub looked_on : (b : BenchView) (d : DeskView) (q : PassView) (hand : Option PackageView) (end : Option End) → IsPlaying b d hand end → end ≡ None → IsStill d.pass q → outs q.knows ≡ outs d.pass.knows → IsPlaying b (with_pass d q) hand end
 looked_on b d q hand end p e s same = let r : hand ≡ hand = refl in playing b (with_pass d q) hand hand end (at_still b hand d q (at_desk b d hand hand end p e r) s same) e r
+
+-- a package whose last block wanted a lock may acquire it
+pub may_acquire : (b : BenchView) (i : ℕ) (q : PackageView) (d : DeskView) → IsSoundPackage q → HasSealed b (Wants i) q d → MayAcquire b.image q
+may_acquire b i q d sound sealed =
+    let x : Block = sealed.may.0 in
+    let m : IsAfterBlock b.image d.pass.knows.worker (Wants i) x q = sealed.may.1 in
+    let after : IsAfter q.image q.context x = after_of b.image d.pass.knows.worker (Wants i) x q sound m in
+    let runs : Runs q = after.runs ∙ ap not (ap ends_thread m.end_is) in
+    record {
+      of = m.of;
+      settled = m.settled;
+      granted = m.granted;
+      locks = λ j l e. let has_it : has x.held j ≡ true = sym (m.locks j) ∙ ap is_some e in
+          let goes_on : ends_section j x ≡ false = wants_ends j i x m.end_is in
+          after.held j ∙ (λ t. has_it t && not (goes_on t));
+      wants = ap is_some (wants_lock b.image d.pass.knows.worker i x q sound m runs);
+    }
+
+same_lock : (i j : ℕ) (o : Option ℕ) → o ≡ Some i → o ≡ Some j → j ≡ i
+same_lock i j o e f = cc
+
+-- to acquire it settles that block
+pub acquire_settles : (b : BenchView) (i : ℕ) (q : PackageView) (d e : DeskView) (s : Settled) → IsSoundPackage q → HasSealed b (Wants i) q d → HasAcquired q d e s → HasSettled (Wants i) q d e s
+acquire_settles b i q d e s sound sealed did =
+    let x : Block = sealed.may.0 in
+    let m : IsAfterBlock b.image d.pass.knows.worker (Wants i) x q = sealed.may.1 in
+    let after : IsAfter q.image q.context x = after_of b.image d.pass.knows.worker (Wants i) x q sound m in
+    let wants = wants_lock b.image d.pass.knows.worker i x q sound m (after.runs ∙ ap not (ap ends_thread m.end_is)) in
+    (x, m.last, subst (λ (j : ℕ). DidAcquire j q d e s) (same_lock i did.0 (want_of q.image q.context) wants did.1) did.2)

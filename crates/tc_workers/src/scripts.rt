@@ -5,6 +5,8 @@
 ghost use Rattle.std.specs.Prelude.{◌≡◌, ◌<◌, None, All, IfOk, OnOk};
 ghost use Rattle.tc_workers.specs.Crew.{AreAtWork};
 ghost use Rattle.tc_workers.specs.Scripts.{IsPlaying};
+ghost use Rattle.tc_workers.specs.Settled.{step_of};
+ghost use Rattle.tc_workers.specs.Worker.{HasSealed, IsStep};
 
 use crate::crew::hire;
 use crate::find::claim;
@@ -49,6 +51,10 @@ enum Action<'a> {
     Parks(u64),
     /// Settles it: its thread has ended.
     Ends,
+    /// Acquires the lock that the package in hand wants: it goes on, of this thread.
+    Takes(u32),
+    /// Acquires it: the package is shipped.
+    Queues,
     /// Gives back the package that was set aside, of this thread.
     Back(u32),
     /// Reads the clock.
@@ -75,9 +81,9 @@ struct Player {
 /// Whether the answer is that of the action.
 fn is_as(settled: &Settled, action: Action<'_>) -> bool {
     match (settled, action) {
-        (Settled::GoesOn(package), Action::GoesOn(t)) => package.thread() == t,
+        (Settled::GoesOn(package), Action::GoesOn(t) | Action::Takes(t)) => package.thread() == t,
         (Settled::Adopted(package), Action::Adopts(t)) => package.thread() == t,
-        (Settled::Shipped, Action::Ships) => true,
+        (Settled::Shipped, Action::Ships | Action::Queues) => true,
         (Settled::Parked, Action::Parks(_)) => true,
         (Settled::Ended, Action::Ends) => true,
         _ => false,
@@ -125,6 +131,42 @@ fn run_block<R: Abort>(rt: &R, bench: &Bench<'_, Queue>, player: &mut Player) ->
     block
 }
 
+/// Takes the package in hand, with the end of its last block, which is to be settled.
+fn in_hand<R: Abort>(rt: &R, bench: &Bench<'_, Queue>, player: &mut Player) -> (Package, End)
+    requires { IsPlaying bench.now player.old.desk player.old.hand player.old.end }
+    ensures sealed { HasSealed bench.now result.1 result.0 player.new.desk }
+    ensures settled { player.new.end ≡ None }
+{
+    let _ = bench;
+    let Some(package) = player.hand.take() else {
+        panic!(rt; "no package is in hand")
+    };
+    let Some(end) = player.end.take() else {
+        panic!(rt; "no block was run")
+    };
+    (package, end)
+}
+
+/// Goes on with what comes of an answer, which is that of the action.
+fn go_on_as<R: Abort>(
+    rt: &R,
+    bench: &Bench<'_, Queue>,
+    player: &mut Player,
+    settled: Settled,
+    action: Action<'_>,
+)
+    requires step { IsStep bench.now player.old.desk (step_of settled) }
+    requires settled { player.old.end ≡ None }
+    ensures { IsPlaying bench.now player.new.desk player.new.hand player.new.end }
+{
+    let _ = bench;
+    assert!(rt; is_as(&settled, action));
+    match next(settled) {
+        Step::On(hand) => player.hand = hand,
+        _ => panic!(rt; "nobody stopped the run"),
+    }
+}
+
 /// Settles the package in hand, and goes on with what comes.
 fn settle_as<R: Abort + Wait>(
     rt: &R,
@@ -135,18 +177,30 @@ fn settle_as<R: Abort + Wait>(
     requires { IsPlaying bench.now player.old.desk player.old.hand player.old.end }
     ensures { IsPlaying bench.now player.new.desk player.new.hand player.new.end }
 {
-    let Some(package) = player.hand.take() else {
-        panic!(rt; "no package is in hand")
-    };
-    let Some(end) = player.end.take() else {
-        panic!(rt; "no block was run")
-    };
+    let (package, end) = in_hand(rt, bench, player);
     let settled = player.desk.settle(rt, bench, package, end);
-    assert!(rt; is_as(&settled, action));
-    match next(settled) {
-        Step::On(hand) => player.hand = hand,
-        _ => panic!(rt; "nobody stopped the run"),
-    }
+    go_on_as(rt, bench, player, settled, action);
+}
+
+/// Acquires the lock that the package in hand wants since its last block, and goes on with what
+/// comes.
+fn acquire_as<R: Abort + Wait>(
+    rt: &R,
+    bench: &Bench<'_, Queue>,
+    player: &mut Player,
+    action: Action<'_>,
+)
+    requires { IsPlaying bench.now player.old.desk player.old.hand player.old.end }
+    ensures { IsPlaying bench.now player.new.desk player.new.hand player.new.end }
+{
+    let (package, end) = in_hand(rt, bench, player);
+    let End::Wants(lock) = end else {
+        panic!(rt; "no lock is wanted")
+    };
+    assert_eq!(rt; package.want(bench.image), Some(lock));
+    package.keeps();
+    let settled = player.desk.acquire(rt, bench, package);
+    go_on_as(rt, bench, player, settled, action);
 }
 
 /// Wakes a sleeper at a turn, to which the clock is moved, and claims it.
@@ -223,6 +277,7 @@ fn act<R: Abort + Wait>(
         }
         Action::Reads(register, value) => assert!(rt; reads(&player.hand, register, value)),
         Action::Now(turn) => assert_eq!(rt; player.desk.now(), turn),
+        Action::Takes(_) | Action::Queues => acquire_as(rt, bench, player, action),
         _ => settle_as(rt, bench, player, action),
     }
     Ok(())
@@ -434,6 +489,31 @@ block 5 thread 1 turns 2 held - kind on worker 1 pc 00100028 end exit
 ",
     bytes: &[Some([2, 0, 0, 0])],
     broken: false,
+};
+
+/// The same, where each desk is asked to acquire the lock, and not to settle the block that wants it.
+const ACQUIRED: Script<'static> = Script {
+    steps: &[
+        (0, Action::Claim(0)),
+        (0, Action::Run),
+        (0, Action::Takes(0)),
+        (0, Action::Tells(&[])),
+        (0, Action::Run),
+        (1, Action::Claim(1)),
+        (1, Action::Run),
+        (1, Action::Queues),
+        (1, Action::Tells(&[])),
+        (1, Action::Looks(1, 256)),
+        (0, Action::Adopts(1)),
+        (0, Action::Run),
+        (0, Action::GoesOn(0)),
+        (0, Action::Run),
+        (0, Action::Ends),
+        (1, Action::Claim(1)),
+        (1, Action::Run),
+        (1, Action::Ends),
+    ],
+    ..ADOPTION
 };
 
 /// With batch limit 0 the waiter is granted the lock, and runs on the worker that claims it.
@@ -866,6 +946,11 @@ block 10 thread 1 turns 2 held - kind on worker 1 pc 00100050 end exit
 #[test]
 fn a_holder_runs_the_section_of_a_waiter(rt: HostRuntime) -> Result<(), Fail> {
     play(&rt, rt.alloc(), &ADOPTION)
+}
+
+#[test]
+fn a_desk_acquires_a_lock_or_ships(rt: HostRuntime) -> Result<(), Fail> {
+    play(&rt, rt.alloc(), &ACQUIRED)
 }
 
 #[test]

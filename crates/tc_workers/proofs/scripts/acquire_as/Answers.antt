@@ -1,0 +1,24 @@
+use Rattle.std.proofs.Common.{subst}
+use Rattle.tc_journal.specs.declared.block.End.{End}
+use Rattle.tc_journal.specs.declared.block.End.TheVariants.{Wants}
+use Rattle.tc_workers.specs.Worker.{HasSealed}
+use Rattle.tc_workers.proofs.Desks.{after_settle}
+use Rattle.tc_workers.proofs.Playing.{acquire_settles, may_acquire}
+use Rattle.tc_workers.proofs.scripts.acquire_as.Goals as goal
+
+pub acquire-settled-requires-clause-may : goal.acquire-settled-requires-clause-may
+acquire-settled-requires-clause-may g c κs within =
+    let q = c.in_hand-package.result.0 in
+    let d = c.in_hand-package.new.player.desk in
+    may_acquire c.args.bench.now c.in-Wants.lock q d c.keeps.ensures.sound (subst (λ (x : End). HasSealed c.args.bench.now x q d) c.in-Wants.is c.in_hand-package.ensures.sealed)
+
+pub go_on_as-requires-clause-step : goal.go_on_as-requires-clause-step
+go_on_as-requires-clause-step g c =
+    let b = c.args.bench.now in
+    let q = c.in_hand-package.result.0 in
+    let d = c.in_hand-package.new.player.desk in
+    let e = c.acquire-settled.new.self in
+    let s = c.acquire-settled.result in
+    let done = c.acquire-settled.ensures in
+    let sealed : HasSealed b (Wants c.in-Wants.lock) q d = subst (λ (x : End). HasSealed b x q d) c.in-Wants.is c.in_hand-package.ensures.sealed in
+    after_settle b (Wants c.in-Wants.lock) q d e s sealed done.works done.fits done.moves (acquire_settles b c.in-Wants.lock q d e s c.keeps.ensures.sound sealed done.acquired)
