@@ -1,6 +1,7 @@
 """Timelines as SVG: one file, without a script. Each part has a title, which browsers show under
-the pointer. The seven colours of locks are those of Okabe and Ito, which colour-blind readers
-can tell apart; kinds are told apart by letters and outlines too."""
+the pointer. The seven colours of locks are those of Okabe and Ito, and the eight of workers are of
+Paul Tol's muted ones: colour-blind readers can tell each seven or eight apart. Kinds are told apart
+by letters and outlines too, locks and workers by numbers, and the boxes of workers are round."""
 import html
 from collections import Counter
 
@@ -10,19 +11,23 @@ import timeline
 
 COLOURS = ("#0072B2", "#E69F00", "#009E73", "#CC79A7", "#56B4E9", "#D55E00", "#F0E442")
 WHITE_LETTERS = (0, 2, 5)
+WORKERS = ("#332288", "#DDCC77", "#117733", "#88CCEE", "#882255", "#44AA99", "#CC6677", "#999933")
+WHITE_WORKERS = (0, 2, 4)
 PLAIN = "#CFCFCF"  # a block without a lock
+NOBODY = "#888"  # a lock that no worker has
 LETTERS = {"start": "s", "on": "", "taken": "T", "adopted": "A", "granted": "G"}
-UNIT, HEIGHT, LANE, MARGIN, STRIP = 14, 18, 26, 80, 80
-COLUMNS = 500  # of an overview
+UNIT, HEIGHT, LANE, STRIP, NARROWEST = 14, 18, 26, 80, 860
 
 STYLE = """text{font:11px 'DejaVu Sans',Verdana,sans-serif}
 .l{font-size:10px;text-anchor:middle;font-weight:bold}.n{font-size:8px}
 .d{paint-order:stroke;stroke:#fff;stroke-width:2}
 .k{stroke:#fff;stroke-width:.5}.o{fill:none}
 .adopted{stroke:#000;stroke-width:2.2}.granted{stroke:#000;stroke-width:1.5;stroke-dasharray:3 2}
-.taken,.on,.start{stroke:#777;stroke-width:.6}
+.taken,.on,.start,.w{stroke:#777;stroke-width:.6}
 .asleep{stroke-width:4;stroke-dasharray:2 3}.shipped{stroke-width:4;stroke-dasharray:9 3}
-.waiting{stroke:#777;stroke-width:1.2}.holds{stroke-width:1.6}.axis{fill:#555;font-size:9px}.h{font-size:14px;font-weight:bold}"""
+.waiting{stroke-width:1.6}.wants{stroke-width:1.2;stroke-dasharray:1 3}.holds{stroke-width:1.6}
+.has{stroke-width:6}.nobody{stroke-width:2;stroke-dasharray:4 3}.c{stroke:#fff;stroke-width:1}
+.axis{fill:#555;font-size:9px}.h{font-size:14px;font-weight:bold}.g{font-weight:bold}"""
 
 PATTERNS = {1: '<path d="M0 6L6 0" stroke="#fff" stroke-width="1.6"/>',
             2: '<circle cx="3" cy="3" r="1.5" fill="#fff"/>',
@@ -56,6 +61,10 @@ def titled(title, parts):
     return f"<g><title>{html.escape(title)}</title>{''.join(parts)}</g>"
 
 
+def stroke(kind, colour, x, y, width):
+    return f'<path class="{kind}" stroke="{colour}" d="M{x:g} {y:g}h{width:g}"/>'
+
+
 def block_parts(x, y, block, letter, away):
     """A block's box: a stripe for each lock, the innermost on top, with an outline by kind."""
     count = max(1, len(block.held))
@@ -78,15 +87,44 @@ def away_mark(x, y):
     return f'<path d="M{x:g} {y - 1:g}l-5 -6h10z"/>'
 
 
+def worker_parts(x, y, worker, moved=False):
+    """A lock's box: round, in the colour of the worker that has the lock."""
+    yield (f'<rect class="w" rx="5" x="{x + .5:g}" y="{y}" width="{UNIT - 1}" height="{HEIGHT}" '
+           f'fill="{WORKERS[worker]}"/>')
+    yield label(x + UNIT / 2, y + 13, f"{worker}", "l", "#fff" if worker in WHITE_WORKERS else "")
+    if moved:
+        yield moved_mark(x, y)
+
+
+def moved_mark(x, y):
+    return f'<path d="M{x:g} {y - 4:g}v-4h8v-2l5 4l-5 4v-2z"/>'
+
+
+def chip(x, y, lock):
+    """The number of the lock that a thread wants, on its line."""
+    text = f"{lock}"
+    colour = ' fill="#fff"' if lock in WHITE_LETTERS else ""
+    return (f'<circle class="c" cx="{x:g}" cy="{y:g}" r="6" fill="{fill(lock)}"/>'
+            f'<text class="l n"{colour} x="{x:g}" y="{y + 3:g}">{text}</text>')
+
+
 def gap_parts(x, y, width, gap):
     middle = y + HEIGHT / 2
-    if gap.state == timeline.WAITING:
-        yield f'<path class="waiting" d="M{x:g} {middle:g}h{width:g}"/>'
+    if gap.state in (timeline.WAITING, timeline.WANTS) and not gap.held:
+        yield stroke(gap.state, fill(gap.wanted), x, middle, width)
     for i, lock in enumerate(gap.held):
-        at = middle + 5 * i - 2.5 * (len(gap.held) - 1)
-        yield f'<path class="{gap.state}" stroke="{fill(lock)}" d="M{x:g} {at:g}h{width:g}"/>'
+        yield stroke("holds" if gap.state == timeline.WANTS else gap.state, fill(lock), x,
+                     middle + 5 * i - 2.5 * (len(gap.held) - 1), width)
     if gap.state == timeline.ASLEEP:
         yield label(x + width / 2, y + 6, "z", "l")
+    elif gap.state != timeline.HOLDS:
+        yield chip(x + UNIT / 2, middle, gap.wanted)
+
+
+def stay_parts(x, y, width, stay):
+    if stay.worker is None:
+        return [stroke("nobody", NOBODY, x, y + HEIGHT / 2, width)]
+    return [stroke("has", WORKERS[stay.worker], x, y + HEIGHT / 2, width)]
 
 
 class Picture:
@@ -102,20 +140,27 @@ class Picture:
         self.height += height
 
     def text(self, line):
-        self.add(label(10, self.height + 12, line), 16)
+        """A sentence, in as many lines as it needs."""
+        most, row = int((self.width - 20) / 6), ""
+        for word in line.split(" "):
+            if row and len(row) + len(word) >= most:
+                self.add(label(10, self.height + 12, row), 16)
+                row = ""
+            row += " " * bool(row) + word
+        self.add(label(10, self.height + 12, row), 16)
 
     def svg(self, locks):
-        return (f'<svg xmlns="http://www.w3.org/2000/svg" width="{self.width}" height="{self.height + 10:g}" '
-                f'viewBox="0 0 {self.width} {self.height + 10:g}" role="img">\n'
+        return (f'<svg xmlns="http://www.w3.org/2000/svg" width="{self.width:g}" height="{self.height + 10:g}" '
+                f'viewBox="0 0 {self.width:g} {self.height + 10:g}" role="img">\n'
                 f"<title>{html.escape(self.title)}</title>\n<style>{STYLE}</style>\n"
                 f"<defs>{''.join(patterns(locks))}</defs>\n"
                 f'<rect width="100%" height="100%" fill="#fff"/>\n' + "\n".join(self.parts) + "\n</svg>\n")
 
 
-def colour_items(locks):
+def colour_items(names):
     yield box(0, 0, UNIT, HEIGHT, PLAIN, "on"), "no lock held (s: the thread's start)"
-    for lock in range(locks):
-        yield box(0, 0, UNIT, HEIGHT, fill(lock)), f"lock {lock}"
+    for lock in range(len(names.locks)):
+        yield box(0, 0, UNIT, HEIGHT, fill(lock)), names.lock(lock)
 
 
 def mark_items():
@@ -125,127 +170,111 @@ def mark_items():
         yield (f'<rect class="{kind}" x="1" y="1" width="{UNIT - 2}" height="{HEIGHT - 2}" fill="#fff"/>'
                + label(UNIT / 2, 13, LETTERS[kind], "l"), text)
     yield away_mark(7, 15), "away from the thread's own worker"
-    yield (f'<path class="asleep" stroke="{fill(0)}" d="M0 9h24"/>' + label(12, 6, "z", "l"),
-           "asleep with locks held")
-    yield f'<path class="shipped" stroke="{fill(0)}" d="M0 9h24"/>', "shipped with locks held (nested)"
-    yield f'<path class="holds" stroke="{fill(0)}" d="M0 9h24"/>', "holds locks between two blocks"
-    yield '<path class="waiting" d="M0 9h24"/>', "waits for a lock"
 
 
-def legend(picture, items):
+def line_items():
+    blue = fill(0)
+    yield stroke("waiting", blue, 0, 9, 24) + chip(7, 9, 0), "waits for a lock, here lock 0"
+    yield stroke("wants", blue, 0, 9, 24) + chip(7, 9, 0), "wants a lock, and finds it free"
+    yield stroke("asleep", blue, 0, 9, 24) + label(12, 6, "z", "l"), "asleep with locks held"
+    yield stroke("shipped", blue, 0, 9, 24), "shipped with locks held (nested)"
+    yield stroke("holds", blue, 0, 9, 24), "holds locks between two blocks"
+
+
+def worker_items(workers):
+    """What the lanes of locks have."""
+    for worker in range(workers):
+        yield "".join(worker_parts(0, 0, worker)), f"worker {worker} has the lock"
+    yield moved_mark(0, 14), "another worker had it before"
+    yield stroke("has", WORKERS[0], 0, 9, 24), "between two blocks"
+    yield stroke("nobody", NOBODY, 0, 9, 24), "in a package that no worker has"
+    yield "", "nothing: the lock is free"
+
+
+def legend(picture, items, head=""):
     """What colours, letters and marks mean."""
     x, y = 10, picture.height
+    if head:
+        picture.add(label(10, y + 13, head, "g"))
+        x += 14 + 6.6 * len(head)
     for part, text in items:
         wide = 46 + 5.8 * len(text)
-        if x + wide > picture.width:
+        if x + wide > picture.width and x > 10:
             x, y = 10, y + 24
         picture.add(f'<g transform="translate({x:g} {y:g})">{part}{label(30, 13, text)}</g>')
         x += wide
-    picture.add("", y + 34 - picture.height)
+    picture.add("", y + 26 - picture.height)
 
 
-def strip(picture, line, first, last):
-    """The lanes of some stamps, threads above workers."""
-    text, top = line.text, picture.height + 18
-    marks, gaps = line.part(first, last)
-    workers_top = top + LANE * text.threads + 6
-    for stamp in range(first, last + 1):
-        if stamp % 10 == 0:
-            picture.add(label(MARGIN + UNIT * (stamp - first), top - 10, str(stamp), "axis"))
-    for number in range(text.threads):
-        picture.add(label(10, top + LANE * number + 13, f"thread {number}"))
-    for number in range(text.workers):
-        picture.add(label(10, workers_top + LANE * number + 13, f"worker {number}"))
-    for gap in gaps:
-        x, width = MARGIN + UNIT * (gap.first - first), UNIT * (gap.last - gap.first + 1)
-        picture.add(titled(gap.sentence(), gap_parts(x, top + LANE * gap.thread, width, gap)))
-    for mark in marks:
-        block = mark.block
-        x = MARGIN + UNIT * (block.stamp - first)
-        y, below = top + LANE * block.thread, workers_top + LANE * block.worker
-        parts = list(block_parts(x, y, block, LETTERS[block.kind], mark.away))
+class Strip:
+    """The lanes of some stamps: threads above workers above locks."""
+
+    def __init__(self, picture, line, names, margin, first, last):
+        self.picture, self.margin, self.first, self.last = picture, margin, first, last
+        threads, workers, locks = line.text.threads, line.text.workers, line.text.guards
+        self.threads = picture.height + 22
+        self.workers = self.threads + LANE * threads + 6
+        self.locks = self.workers + LANE * workers + 6
+        self.height = self.locks + LANE * locks + 12 - picture.height
+        self.heads([names.thread(number) for number in range(threads)], self.threads)
+        self.heads([f"worker {number}" for number in range(workers)], self.workers)
+        self.heads([names.lock(number) for number in range(locks)], self.locks)
+
+    def heads(self, texts, top):
+        for number, text in enumerate(texts):
+            self.picture.add(label(10, top + LANE * number + 13, text))
+
+    def x(self, stamp):
+        return self.margin + UNIT * (stamp - self.first)
+
+    def draw(self, line):
+        for stamp in range(self.first, self.last + 1):
+            if stamp % 10 == 0:
+                self.picture.add(label(self.x(stamp), self.threads - 12, str(stamp), "axis"))
+        marks, gaps = line.part(self.first, self.last)
+        for gap in gaps:
+            parts = gap_parts(*self.place(gap, self.threads + LANE * gap.thread), gap)
+            self.picture.add(titled(gap.sentence(), parts))
+        for stay in line.stays(self.first, self.last):
+            parts = stay_parts(*self.place(stay, self.locks + LANE * stay.lock), stay)
+            self.picture.add(titled(stay.sentence(), parts))
+        for mark in marks:
+            self.picture.add(titled(mark.sentence(), self.mark_parts(mark)))
+        self.picture.add("", self.height)
+
+    def place(self, span, y):
+        return self.x(span.first), y, UNIT * (span.last - span.first + 1)
+
+    def mark_parts(self, mark):
+        block, x = mark.block, self.x(mark.block.stamp)
+        y = self.threads + LANE * block.thread
+        yield from block_parts(x, y, block, LETTERS[block.kind], mark.away)
         if block.ends_thread:
-            parts.append(label(x + UNIT + 3, y + 13, block.end))
-        parts += block_parts(x, below, block, f"{block.thread}", mark.away)
-        picture.add(titled(mark.sentence(), parts))
-    picture.add("", workers_top + LANE * text.workers + 12 - picture.height)
+            yield label(x + UNIT + 3, y + 13, block.end)
+        yield from block_parts(x, self.workers + LANE * block.worker, block, f"{block.thread}", mark.away)
+        for lock in block.held:
+            yield from worker_parts(x, self.locks + LANE * lock, block.worker, lock in mark.moved)
 
 
-def detailed(line, first, last, title):
+def margin(line, names):
+    """How wide the names of lanes are."""
+    text = line.text
+    heads = [names.thread(number) for number in range(text.threads)] + [names.lock(number) for number in range(text.guards)]
+    return max(80, 20 + 6.7 * max(map(len, heads)))
+
+
+def detailed(line, first, last, names, title):
     """All blocks of some stamps, in strips."""
-    longest = min(STRIP, last - first + 1)
-    picture = Picture(max(MARGIN + UNIT * longest + 60, 860), title)
-    legend(picture, [*colour_items(line.text.guards), *mark_items()])
+    longest, left = min(STRIP, last - first + 1), margin(line, names)
+    picture = Picture(max(left + UNIT * longest + 60, NARROWEST), title)
+    legend(picture, [*colour_items(names), *mark_items()])
+    legend(picture, line_items(), "Lines:")
+    if line.text.guards:
+        legend(picture, worker_items(line.text.workers), "In the lanes of locks:")
+    picture.add("", 6)
     for start in range(first, last + 1, STRIP):
-        strip(picture, line, start, min(start + STRIP - 1, last))
+        Strip(picture, line, names, left, start, min(start + STRIP - 1, last)).draw(line)
     return picture
-
-
-def overview(line, first, last, title):
-    """Columns that stand for several blocks each."""
-    each = -(-(last - first + 1) // COLUMNS)
-    columns = [line.marks[start:min(start + each, last + 1)] for start in range(first, last + 1, each)]
-    found = [shares(marks) for marks in columns]
-    picture = Picture(MARGIN + 2 * COLUMNS + 60, title)
-    picture.text(f"{last - first + 1} blocks are too many to draw each: a column stands for {each} blocks, and the "
-                 "height of a bar for how many of them its lane has,")
-    picture.text("compared with the highest bar of all threads, of all workers, of all kinds. Its colour is that of "
-                 f"the innermost lock. --blocks {first}-{first + 399} draws some in full.")
-    picture.add("", 8)
-    legend(picture, colour_items(line.text.guards))
-    lanes = ([("thread", number) for number in range(line.text.threads)]
-             + [("worker", number) for number in range(line.text.workers)]
-             + [("kind", kind) for kind in SECTIONS] + [("away", "")])
-    tops = {lane: picture.height + LANE * i for i, lane in enumerate(lanes)}
-    for lane, top in tops.items():
-        picture.add(label(10, top + 13, str(lane[1]) if lane[0] == "kind" else " ".join(map(str, lane))))
-    highest = Counter()
-    for share in found:
-        for lane, counts in share.items():
-            highest[lane[0]] = max(highest[lane[0]], sum(counts.values()))
-    for column, (marks, share) in enumerate(zip(columns, found)):
-        for lane, counts in share.items():
-            picture.add(titled(bar_title(marks, lane, counts), bar_parts(
-                MARGIN + 2 * column, tops[lane] + HEIGHT, counts, HEIGHT / highest[lane[0]])))
-    picture.add("", LANE * len(lanes) + 10)
-    return picture
-
-
-def shares(marks):
-    """For each lane how many blocks each lock has in it; -1 stands for no lock."""
-    blocks = [(mark.block, mark.block.held[-1] if mark.block.held else -1) for mark in marks]
-    counts = Counter(("thread", block.thread, lock) for block, lock in blocks)
-    counts.update(("worker", block.worker, lock) for block, lock in blocks)
-    counts.update(("kind", block.kind, lock) for block, lock in blocks if block.kind in SECTIONS)
-    counts.update(("away", "", lock) for mark, (_, lock) in zip(marks, blocks) if mark.away)
-    found = {}
-    for (group, which, lock), count in counts.items():
-        found.setdefault((group, which), {})[lock] = count
-    return found
-
-
-def bar_parts(x, bottom, counts, scale):
-    for lock, count in sorted(counts.items()):
-        high = scale * count
-        bottom -= high
-        yield (f'<rect x="{x}" y="{bottom:.1f}" width="2" height="{high:.1f}" '
-               f'fill="{fill(lock) if lock >= 0 else PLAIN}"/>')
-
-
-def bar_title(marks, lane, counts):
-    said = ", ".join(f"{count} " + (f"with lock {lock}" if lock >= 0 else "without a lock")
-                     for lock, count in sorted(counts.items()))
-    name = " ".join(map(str, lane)).strip()
-    return f"blocks {marks[0].block.stamp} to {marks[-1].block.stamp}: {name}: {said}"
-
-
-def draw(line, first, last, title, most):
-    """The SVG of some stamps of a timeline."""
-    make = detailed if last - first < most else overview
-    picture = make(line, first, last, title)
-    for sentence in sentences(line, first, last):
-        picture.text(sentence)
-    return picture.svg(line.text.guards)
 
 
 def sentences(line, first, last):
@@ -259,3 +288,8 @@ def sentences(line, first, last):
     yield (f"{several(states[timeline.ASLEEP], 'sleep')} with locks held, "
            f"{several(states[timeline.SHIPPED], 'shipment')} with locks held, "
            f"{several(states[timeline.WAITING], 'wait')} without one.")
+    moves = Counter(lock for mark in marks for lock in mark.moved)
+    sections = Counter(mark.block.begun for mark in marks if mark.block.begun is not None)
+    if sections:
+        yield "Moves of locks to another worker: " + ", ".join(
+            f"lock {lock} {moves[lock]} in {several(sections[lock], 'section')}" for lock in sorted(sections)) + "."

@@ -15,12 +15,16 @@ MARCH   ?= rv32im
 TARGET   = -march=$(MARCH) -mabi=ilp32 -mcmodel=medlow -mstrict-align
 CFLAGS  ?= -O2
 LIBS    ?= -lgcc
-COMPILE  = $(TARGET) -std=gnu11 -Wall -Wextra -Werror -g0 -ffreestanding \
+# DEBUG=-g leaves debug data in the file, by which guests/explain names lines of the source. The
+# code is the same.
+DEBUG   ?= -g0
+STRIP_-g0 := -Wl,--strip-debug
+COMPILE  = $(TARGET) -std=gnu11 -Wall -Wextra -Werror $(DEBUG) -ffreestanding \
            -fno-pic -fno-common -fno-asynchronous-unwind-tables \
            -fno-stack-protector -ffunction-sections -fdata-sections -I$(KIT)
 # max-page-size: ranges are not rounded to pages, so the file can be small.
 LINK    := -static -nostdlib -Wl,--gc-sections -Wl,-z,max-page-size=4 \
-           -Wl,--build-id=none -Wl,--strip-debug -Wl,--fatal-warnings \
+           -Wl,--build-id=none $(STRIP_$(DEBUG)) -Wl,--fatal-warnings \
            -T $(KIT)tclocks.ld
 
 %.elf: %.c $(KIT)tclocks.h $(KIT)tclocks.ld $(KIT)runtime.c

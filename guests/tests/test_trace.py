@@ -74,7 +74,7 @@ class Trace(Case):
 
     def test_some_blocks(self):
         _, text = history("philosophers", 4, 8, 1)
-        complete, _ = self.check(saved("traced.txt", text), "--blocks", "40-99")
+        complete, _ = self.check(saved("traced.txt", text), "--from", "40", "--to", "99")
         self.assertTrue(all(40 <= event["ts"] and event["ts"] + event["dur"] <= 100 for event in complete))
         self.assertEqual(sum(event["pid"] == 2 for event in complete), 60)
 

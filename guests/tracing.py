@@ -1,0 +1,86 @@
+"""One block turn by turn: each instruction with the registers that it reads and sets, and the memory
+that it loads or stores, by a copy of the model."""
+import copy
+
+import reasons
+import rv32im
+
+NO_RESULT = (0x63, 0x23, 0x0F)  # opcodes of branches, stores and fences
+TWO_SOURCES, ONE_SOURCE = (0x63, 0x23, 0x33), (0x67, 0x03, 0x13)
+
+
+def sources(word):
+    """The numbers of the registers that a word reads."""
+    opcode, first, second = word & 0x7F, word >> 15 & 31, word >> 20 & 31
+    if word == 0x73:
+        return [17, 10]
+    numbers = [first, second] if opcode in TWO_SOURCES else [first] if opcode in ONE_SOURCE else []
+    return [number for number in dict.fromkeys(numbers) if number]
+
+
+def result(word):
+    """The number of the register that a word sets, or 0."""
+    if word == 0x73:
+        return 10
+    return 0 if word & 0x7F in NO_RESULT else word >> 7 & 31
+
+
+def values(numbers, x):
+    return " ".join(f"{rv32im.NAMES[number]}={x[number]:08x}" for number in numbers)
+
+
+def where(file, address):
+    """What an address of memory is, in few words."""
+    guard = file.guard_at(address)
+    name = file.name(address)
+    inside = f" of lock {guard}" if guard is not None else " of the stack" if address in reasons.guestfile.STACK else ""
+    return f"{address:08x}" + (f" <{name}>" if name else "") + inside
+
+
+def memory(file, word, x):
+    """What a word loads or stores with these registers, or ''."""
+    access = rv32im.access(word, x)
+    if access is None:
+        return ""
+    kind, address, width = access
+    bytes_text = f"{width} byte{'s' * (width > 1)}"
+    if kind == "load":
+        return f"loads {bytes_text} at {where(file, address)}"
+    value = x[word >> 20 & 31] & ((1 << 8 * width) - 1)
+    return f"stores {value:0{2 * width}x} at {where(file, address)}"
+
+
+def turn_text(file, word, pc, before, thread):
+    """What one turn did: the registers read, what was loaded or stored, and the register set."""
+    parts = [values(sources(word), before), memory(file, word, before)]
+    if thread.end is None or thread.end == "exit":
+        number = result(word)
+        if number:
+            parts.append(f"-> {values([number], thread.x)}")
+        if word & 0x7F == 0x63:
+            parts.append("-> goes on behind it" if thread.pc == pc + 4 else "-> branches")
+    return "  ".join(part for part in parts if part)
+
+
+def trace(run, file, lines, number):
+    """The lines of a thread's next block; the run stays as it is."""
+    guest = run.machine.guest
+    machine = copy.deepcopy(run.machine, {id(guest): guest})
+    thread, shown, end, turn = machine.threads[number], "", None, 0
+    yield "    registers that aren't 0: " + values([i for i, value in enumerate(thread.x) if value], thread.x)
+    while end is None:
+        pc, word, before = thread.pc, guest.word(thread.pc), list(thread.x)
+        said = lines.text(pc)
+        if said and said != shown:
+            yield f"    {said}"
+        shown = said
+        text = reasons.start_text(file, thread)
+        spent = thread.fuel == 0
+        end, turn = machine.turn(number), turn + 1
+        if spent or word is None:
+            yield f"    {turn:4}  " + ("the thread ends, its fuel is spent" if spent else text)
+        else:
+            yield f"    {turn:4}  {text:<48}  {turn_text(file, word, pc, before, thread)}".rstrip()
+        wanted = None if end else machine.next_lock(thread)
+        if wanted is not None or turn == 4096:
+            return
