@@ -2,7 +2,7 @@
 own, and the locks in its package; and where the bytes of a lock come from."""
 from collections import Counter
 
-import model
+import limits
 import report
 import rv32im
 
@@ -11,8 +11,8 @@ class Context:
     """A context between two blocks, as a worker would take it."""
 
     def __init__(self, machine, thread, held):
-        self.registers = [rv32im.NAMES[number] for number, value in enumerate(thread.x) if value]
-        self.stack = model.STACK.stop - thread.x[2] if thread.x[2] in model.STACK else 0
+        self.registers = [rv32im.REGISTERS[number] for number, value in enumerate(thread.x) if value]
+        self.stack = limits.STACK.stop - thread.x[2] if thread.x[2] in limits.STACK else 0
         self.data = changed(machine, thread)
         self.held = held
         self.guarded = sum(len(machine.locks[lock].bytes) for lock in held)

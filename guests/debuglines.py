@@ -7,14 +7,15 @@ import bisect
 import os
 import pathlib
 import stat
-import struct
 from typing import NamedTuple, Optional
 
+import elf32
 import guestfile
 
 KIT = pathlib.Path(__file__).resolve().parent / "kit"
 MOST_SOURCE = 1048576  # bytes of a source that are read
-PATH, DIRECTORY = 1, 2  # content types of version 5
+PATH = 1  # the content type of a name, in version 5
+COMPRESSED = 0x800  # the flag of a section
 SIZES = {0x0B: 1, 0x05: 2, 0x06: 4, 0x07: 8, 0x1E: 16}  # forms of fixed size: data1 to data16
 
 
@@ -32,23 +33,6 @@ class Place(NamedTuple):
     def __str__(self):
         inner = f" ({self.inner[0]}:{self.inner[1]})" if self.inner else ""
         return f"{self.file}:{self.line}{inner}"
-
-
-def sections(file):
-    """The sections of a file that have bytes, by their names; none where the headers are wrong."""
-    at, size, count, names = struct.unpack_from("<I10x3H", file, 32)
-    if size != 40 or names >= count or at + size * count > len(file):
-        return {}
-    headers = [struct.unpack_from("<10I", file, at + size * place) for place in range(count)]
-    texts = file[headers[names][4]:headers[names][4] + headers[names][5]]
-    return {text_at(texts, header[0]): file[header[4]:header[4] + header[5]]
-            for header in headers if header[1] not in (0, 8) and not header[2] & 0x800}
-
-
-def text_at(content, place):
-    if place >= len(content):
-        return ""
-    return content[place:].split(b"\0", 1)[0].decode("utf-8", "replace")
 
 
 class Bytes:
@@ -133,7 +117,7 @@ class Unit:
         if form == 0x08:
             return head.text()
         if form in (0x0E, 0x1F):
-            return text_at(self.strings[form], head.number(4))
+            return elf32.text_at(self.strings[form], head.number(4))
         if form in SIZES:
             return head.number(SIZES[form])
         if form == 0x0F:
@@ -197,8 +181,8 @@ class Unit:
 
 
 def units(file):
-    """The line programs of a file; those of another form are left out."""
-    found = sections(file)
+    """The line programs of a file."""
+    found = {section.name: section.content(file) for section in elf32.sections(file) if not section.flags & COMPRESSED}
     lines = Bytes(found.get(".debug_line", b""))
     strings = {0x0E: found.get(".debug_str", b""), 0x1F: found.get(".debug_line_str", b"")}
     while lines.at < len(lines.content):
@@ -245,7 +229,7 @@ class Lines:
         try:
             for unit in units(file):
                 found += places(unit)
-        except (Damaged, struct.error):
+        except Damaged:
             self.damaged = True
         # Of several rows of one address the last one is of the instruction, and an end is of none.
         self.places = dict(sorted(((address, place) for address, place in found

@@ -79,21 +79,48 @@ def described(descriptor):
     return (*struct.unpack_from("<3I", descriptor), list(struct.iter_unpack("<2I", pairs)))
 
 
-def symbols(file):
-    """Address, name and st_info of each symbol that the section headers lead to; no section header
-    need be right, for the program reads none."""
-    at, size, count = word(file, 32), *struct.unpack_from("<2H", file, 46)
+class Section(NamedTuple):
+    """A section header, with its name; 0 and 8 are the kinds without bytes in the file."""
+    name: str
+    kind: int
+    flags: int
+    offset: int
+    size: int
+    link: int
+    each: int
+
+    def content(self, file):
+        return b"" if self.kind in (0, 8) else file[self.offset:self.offset + self.size]
+
+
+def text_at(content, place):
+    """The text at a place of a table of texts."""
+    return content[place:].split(b"\0", 1)[0].decode("ascii", "replace") if place < len(content) else ""
+
+
+def sections(file):
+    """The sections, where the section headers are those of a file of 32 bits; none of them need be right, for
+    the program reads none."""
+    at, size, count, names = word(file, 32), *struct.unpack_from("<3H", file, 46)
     if size != 40 or at + size * count > len(file):
-        return
-    sections = [struct.unpack_from("<10I", file, at + size * place) for place in range(count)]
-    for _, kind, _, _, offset, length, link, _, _, each in sections:
-        if kind != 2 or each != 16 or link >= count:
+        return []
+    headers = [struct.unpack_from("<10I", file, at + size * place) for place in range(count)]
+    texts = file[headers[names][4]:headers[names][4] + headers[names][5]] if names < count else b""
+    return [Section(text_at(texts, name), kind, flags, offset, length, link, each)
+            for name, kind, flags, _, offset, length, link, _, _, each in headers]
+
+
+def symbols(file):
+    """Address, name and st_info of each symbol that the section headers lead to."""
+    found = sections(file)
+    for section in found:
+        if section.kind != 2 or section.each != 16 or section.link >= len(found):
             continue
-        names = file[sections[link][4]:sections[link][4] + sections[link][5]]
-        for place in range(offset, min(offset + length, len(file)) - 15, 16):
-            name, value, _, info, _, section = struct.unpack_from("<3I2BH", file, place)
-            if section and name < len(names):
-                yield value, names[name:].split(b"\0", 1)[0].decode("ascii", "replace"), info
+        names = found[section.link].content(file)
+        for place in range(section.offset, min(section.offset + section.size, len(file)) - 15, 16):
+            name, value, _, info, _, inside = struct.unpack_from("<3I2BH", file, place)
+            if inside and name < len(names):
+                yield value, text_at(names, name), info
 
 
 def note(entries, guards, version=None):

@@ -6,6 +6,7 @@ import pathlib
 import struct
 
 import legal
+import limits
 import reasons
 import report
 import svg
@@ -114,7 +115,7 @@ def played(guest, line, first, last):
 def row(mark, start, note):
     block = mark.block
     release = -1 if mark.release is None else mark.release.stamp
-    return [block.stamp, block.thread, block.worker, block.turns, report.KINDS.index(block.kind), block.held,
+    return [block.stamp, block.thread, block.worker, block.turns, limits.KINDS.index(block.kind), block.held,
             block.pc, block.end, release, start, note]
 
 

@@ -56,19 +56,17 @@ class Gap(NamedTuple):
 
 
 class Stay(NamedTuple):
-    """The stamps between two blocks in which a lock is in a thread's package, and the worker that has
-    the package; None where no worker has it."""
+    """The stamps between two blocks in which a lock isn't at home, the worker that has it or None, and
+    where it is there."""
     lock: int
     first: int
     last: int
-    thread: int
     worker: Optional[int]
     what: str
 
     def sentence(self):
         has = "no worker has it" if self.worker is None else f"worker {self.worker} has it"
-        return (f"lock {self.lock}, blocks {self.first} to {self.last}: {has}, in the package of thread "
-                f"{self.thread}, {self.what}")
+        return f"lock {self.lock}, blocks {self.first} to {self.last}: {has}, {self.what}"
 
 
 def wanted_by(block):
@@ -94,7 +92,7 @@ class Timeline:
         passed_on = block.kind in ("adopted", "granted")
         release = self.released[block.begun] if passed_on else None
         if release is not None:
-            self.add_handing(release, block)
+            self.add_handing(release, before, block)
         moved = tuple(lock for lock in block.held if self.workers[lock] not in (None, block.worker))
         for lock in block.held:
             self.workers[lock] = block.worker
@@ -119,12 +117,17 @@ class Timeline:
         self.gaps.append(Gap(block.thread, before.stamp + 1, block.stamp - 1, state, kept,
                              -1 if wanted is None else wanted, worker))
 
-    def add_handing(self, release, block):
-        """Of an adopted or granted section: where its lock is from the release on."""
+    def add_handing(self, release, came, block):
+        """Of an adopted or granted section: where its lock is from the release on. A waiter that came to
+        its LOCK behind the releasing block came before the release was done."""
+        if came is not None and came.stamp > release.stamp:
+            self.handings.append(Stay(block.begun, release.stamp + 1, came.stamp, release.worker,
+                                      f"which releases it to thread {block.thread}"))
+            release = came
         if release.stamp + 1 < block.stamp:
             worker = block.worker if block.kind == "adopted" else None
-            self.handings.append(Stay(block.begun, release.stamp + 1, block.stamp - 1, block.thread, worker,
-                                      f"to which block {release.stamp} handed it"))
+            self.handings.append(Stay(block.begun, release.stamp + 1, block.stamp - 1, worker,
+                                      f"in the package of thread {block.thread}, to which it was handed"))
 
     def close(self):
         """Adds what threads want at the end of a report that was cut."""
@@ -141,7 +144,7 @@ class Timeline:
         """Where locks are between two blocks of some stamps."""
         for gap in cut(self.gaps, first, last):
             for lock in gap.held:
-                yield Stay(lock, gap.first, gap.last, gap.thread, gap.worker, gap.what())
+                yield Stay(lock, gap.first, gap.last, gap.worker, f"in the package of thread {gap.thread}, {gap.what()}")
         yield from cut(self.handings, first, last)
 
 
@@ -151,15 +154,19 @@ def cut(spans, first, last):
             for span in spans if span.first <= last and span.last >= first]
 
 
+def of(text):
+    """The timeline of a report that is about to be read."""
+    line = Timeline(text)
+    for block in text.blocks():
+        line.add(block)
+    text.ends()
+    line.close()
+    return line
+
+
 def read(path):
     """The timeline of a report in a file."""
     try:
-        text = report.Report(tool.read_lines(path))
-        line = Timeline(text)
-        for block in text.blocks():
-            line.add(block)
-        text.ends()
+        return of(report.Report(tool.read_lines(path)))
     except report.Wrong as wrong:
         raise tool.Trouble(tool.WRONG, str(wrong)) from None
-    line.close()
-    return line

@@ -2,38 +2,49 @@
 that it loads or stores, by a copy of the model."""
 import copy
 
+import limits
 import reasons
+import report
 import rv32im
 
-NO_RESULT = (0x63, 0x23, 0x0F)  # opcodes of branches, stores and fences
-TWO_SOURCES, ONE_SOURCE = (0x63, 0x23, 0x33), (0x67, 0x03, 0x13)
+ECALL = rv32im.WHOLE["ecall"]
 
 
 def sources(word):
-    """The numbers of the registers that a word reads."""
-    opcode, first, second = word & 0x7F, word >> 15 & 31, word >> 20 & 31
-    if word == 0x73:
+    """The numbers of the registers that a word reads, but for x0."""
+    if word == ECALL:
         return [17, 10]
-    numbers = [first, second] if opcode in TWO_SOURCES else [first] if opcode in ONE_SOURCE else []
+    what = rv32im.decode(word)
+    if what is None or what.name in rv32im.WHOLE or what.name == "fence":
+        return []
+    numbers = [getattr(what, name) for name in rv32im.OPERANDS[rv32im.BY_NAME[what.name][0]] if name in ("a", "b")]
     return [number for number in dict.fromkeys(numbers) if number]
 
 
 def result(word):
     """The number of the register that a word sets, or 0."""
-    if word == 0x73:
+    if word == ECALL:
         return 10
-    return 0 if word & 0x7F in NO_RESULT else word >> 7 & 31
+    what = rv32im.decode(word)
+    if what is None or what.name in rv32im.WHOLE or what.name == "fence":
+        return 0
+    return what.to if "to" in rv32im.OPERANDS[rv32im.BY_NAME[what.name][0]] else 0
+
+
+def is_branch(word):
+    what = rv32im.decode(word)
+    return what is not None and what.name not in rv32im.WHOLE and rv32im.BY_NAME[what.name][0] == "B"
 
 
 def values(numbers, x):
-    return " ".join(f"{rv32im.NAMES[number]}={x[number]:08x}" for number in numbers)
+    return " ".join(f"{rv32im.REGISTERS[number]}={x[number]:08x}" for number in numbers)
 
 
 def where(file, address):
     """What an address of memory is, in few words."""
     guard = file.guard_at(address)
     name = file.name(address)
-    inside = f" of lock {guard}" if guard is not None else " of the stack" if address in reasons.guestfile.STACK else ""
+    inside = f" of lock {guard}" if guard is not None else " of the stack" if address in limits.STACK else ""
     return f"{address:08x}" + (f" <{name}>" if name else "") + inside
 
 
@@ -43,10 +54,9 @@ def memory(file, word, x):
     if access is None:
         return ""
     kind, address, width = access
-    bytes_text = f"{width} byte{'s' * (width > 1)}"
     if kind == "load":
-        return f"loads {bytes_text} at {where(file, address)}"
-    value = x[word >> 20 & 31] & ((1 << 8 * width) - 1)
+        return f"loads {report.several(width, 'byte')} at {where(file, address)}"
+    value = x[rv32im.decode(word).b] & ((1 << 8 * width) - 1)
     return f"stores {value:0{2 * width}x} at {where(file, address)}"
 
 
@@ -57,7 +67,7 @@ def turn_text(file, word, pc, before, thread):
         number = result(word)
         if number:
             parts.append(f"-> {values([number], thread.x)}")
-        if word & 0x7F == 0x63:
+        if is_branch(word):
             parts.append("-> goes on behind it" if thread.pc == pc + 4 else "-> branches")
     return "  ".join(part for part in parts if part)
 
@@ -82,5 +92,5 @@ def trace(run, file, lines, number):
         else:
             yield f"    {turn:4}  {text:<48}  {turn_text(file, word, pc, before, thread)}".rstrip()
         wanted = None if end else machine.next_lock(thread)
-        if wanted is not None or turn == 4096:
+        if wanted is not None or turn == limits.TURNS:
             return

@@ -167,7 +167,7 @@ def events(line, called, first, last):
                "dur": gap.last - gap.first + 1}
     for stay in line.stays(first, last):
         name = "no worker" if stay.worker is None else f"worker {stay.worker}"
-        yield {"ph": "X", "name": f"{name}, thread {stay.thread} {stay.what}", "cat": "kept", **lane(LOCKS, stay.lock),
+        yield {"ph": "X", "name": f"{name}, {stay.what}", "cat": "kept", **lane(LOCKS, stay.lock),
                "ts": stay.first, "dur": stay.last - stay.first + 1}
 
 

@@ -178,7 +178,8 @@ def words_of(parser):
 def main(words):
     asked = words_of(tool.words("explain", __doc__)).parse_args(words)
     if asked.report is None:
-        of_report = [name for name in ("thread", "lock", "block", "trace", "contexts") if getattr(asked, name) not in (None, False)]
+        of_report = ["contexts"] * asked.contexts + [name for name in ("thread", "lock", "block", "trace")
+                                                     if getattr(asked, name) is not None]
         if of_report:
             raise tool.Trouble(tool.WORDS, f"--{of_report[0]} is of a report, and there is none; guests/explain GUEST REPORT")
         explain_file(asked.guest) if asked.words is None else print(words_text(asked.words))
