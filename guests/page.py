@@ -130,6 +130,15 @@ def nearest(marks, threads):
     return found
 
 
+def broken_by(marks, locks):
+    """Of each lock the stamp of the block that broke it, or -1: whose thread ended with it."""
+    found = [-1] * locks
+    for mark in marks:
+        for lock in mark.block.held if mark.block.ends_thread else ():
+            found[lock] = mark.block.stamp if found[lock] < 0 else found[lock]
+    return found
+
+
 def data(line, called, first, last, title, guest):
     """What the page's script reads."""
     player = played(guest, line, first, last) if guest else None
@@ -145,7 +154,8 @@ def data(line, called, first, last, title, guest):
             "lockColours": [(svg.COLOURS[lock % 7], lock % 7 in svg.WHITE_LETTERS) for lock in range(line.text.guards)],
             "workerColours": [(colour, place in svg.WHITE_WORKERS) for place, colour in enumerate(svg.WORKERS)],
             "blocks": rows, "before": nearest(reversed(line.marks[:first]), threads),
-            "behind": nearest(line.marks[last + 1:], threads), "starts": texts.texts(),
+            "behind": nearest(line.marks[last + 1:], threads),
+            "broken": broken_by(line.marks, line.text.guards), "starts": texts.texts(),
             **(player.data() if player else {"registers": None, "words": None, "changes": []})}
 
 

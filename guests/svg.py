@@ -10,7 +10,7 @@ from report import several
 import timeline
 
 COLOURS = ("#0072B2", "#E69F00", "#009E73", "#CC79A7", "#56B4E9", "#D55E00", "#F0E442")
-WHITE_LETTERS = (0, 2, 5)
+WHITE_LETTERS = (0,)  # the colours on which white is read better than black
 WORKERS = ("#332288", "#DDCC77", "#117733", "#88CCEE", "#882255", "#44AA99", "#CC6677", "#999933")
 WHITE_WORKERS = (0, 2, 4)
 PLAIN = "#CFCFCF"  # a block without a lock
@@ -102,10 +102,9 @@ def moved_mark(x, y):
 
 def chip(x, y, lock):
     """The number of the lock that a thread wants, on its line."""
-    text = f"{lock}"
-    colour = ' fill="#fff"' if lock in WHITE_LETTERS else ""
+    kind = "l n" + " d" * (lock >= len(COLOURS))
     return (f'<circle class="c" cx="{x:g}" cy="{y:g}" r="6" fill="{fill(lock)}"/>'
-            f'<text class="l n"{colour} x="{x:g}" y="{y + 3:g}">{text}</text>')
+            + label(x, y + 3, f"{lock}", kind, "#fff" if lock in WHITE_LETTERS else ""))
 
 
 def gap_parts(x, y, width, gap):

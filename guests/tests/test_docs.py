@@ -19,7 +19,7 @@ class Kept(Case):
 
     def test_pictures_are_made_of_them(self):
         subprocess.run([PICTURES / "make", TEMPORARY], check=True, stderr=subprocess.DEVNULL)
-        for name in KEPT:
+        for name in (*KEPT, "overview"):
             self.assertEqual((PICTURES / f"{name}.svg").read_bytes(), (TEMPORARY / f"{name}.svg").read_bytes(), name)
 
     def test_lines_of_the_delegated_history(self):
@@ -34,6 +34,11 @@ class Kept(Case):
     def test_tables_and_lanes(self):
         summary = run("summary", PICTURES / "philosophers.txt").stdout.decode()
         self.assertIn(summary, (GUESTS / "README.md").read_text())
+        for words, page in ((("--trace", "108"), GUESTS / "README.md"), (("--block", "108", "--contexts"), GUESTS / "README.md"),
+                            (("--block", "108", "--contexts"), DOCS / "TEACHING.md")):
+            said = run("explain", elf("counter"), PICTURES / "counter.txt", *words).stdout.decode().splitlines()
+            for line in said[2:4]:
+                self.assertIn(f"\n{line}\n", page.read_text())
         lanes = run("draw", PICTURES / "first.txt", "--text").stdout.decode().split("\n\n")[1]
         self.assertIn(lanes, (DOCS / "GUEST.md").read_text())
 

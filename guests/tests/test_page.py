@@ -76,6 +76,12 @@ class Data(Case):
         rows = data_of(made(BY_HAND, None))["blocks"]
         self.assertEqual([row[8] for row in rows], [-1, -1, -1, 1, -1, -1])
 
+    def test_broken_locks(self):
+        """Thread 0 of 5 turns ends as spent in its section, block 1."""
+        text = "".join(BY_HAND.splitlines(keepends=True)[:5]).replace("turns 7", "turns 3").replace("unlocked 0", "spent")
+        self.assertEqual(data_of(made(text, None))["broken"], [1])
+        self.assertEqual(data_of(made(BY_HAND, None))["broken"], [-1])
+
     def test_without_a_guest(self):
         for text in (BY_HAND, BY_HAND_V1):
             data = data_of(made(text, None))
