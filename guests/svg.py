@@ -13,6 +13,7 @@ COLOURS = ("#0072B2", "#E69F00", "#009E73", "#CC79A7", "#56B4E9", "#D55E00", "#F
 WHITE_LETTERS = (0,)  # the colours on which white is read better than black
 WORKERS = ("#332288", "#DDCC77", "#117733", "#88CCEE", "#882255", "#44AA99", "#CC6677", "#999933")
 WHITE_WORKERS = (0, 2, 4)
+YELLOW, THIN = 6, (timeline.WAITING, timeline.HOLDS)
 PLAIN = "#CFCFCF"  # a block without a lock
 NOBODY = "#888"  # a lock that no worker has
 LETTERS = {"start": "s", "on": "", "taken": "T", "adopted": "A", "granted": "G"}
@@ -26,7 +27,7 @@ STYLE = """text{font:11px 'DejaVu Sans',Verdana,sans-serif}
 .taken,.on,.start,.w{stroke:#777;stroke-width:.6}
 .asleep{stroke-width:4;stroke-dasharray:2 3}.shipped{stroke-width:4;stroke-dasharray:9 3}
 .waiting{stroke-width:1.6}.wants{stroke-width:1.2;stroke-dasharray:1 3}.holds{stroke-width:1.6}
-.has{stroke-width:6}.nobody{stroke-width:2;stroke-dasharray:4 3}.c{stroke:#fff;stroke-width:1}
+.has{stroke-width:6}.nobody{stroke-width:2;stroke-dasharray:4 3}.c{stroke:#555;stroke-width:.6}.e{stroke-width:3}
 .axis{fill:#555;font-size:9px}.h{font-size:14px;font-weight:bold}.g{font-weight:bold}"""
 
 PATTERNS = {1: '<path d="M0 6L6 0" stroke="#fff" stroke-width="1.6"/>',
@@ -63,6 +64,12 @@ def titled(title, parts):
 
 def stroke(kind, colour, x, y, width):
     return f'<path class="{kind}" stroke="{colour}" d="M{x:g} {y:g}h{width:g}"/>'
+
+
+def lock_stroke(kind, lock, x, y, width):
+    """A line in a lock's colour; a yellow one has an edge, for it is hard to see on white."""
+    edge = stroke("e", "#777", x, y, width) if lock % len(COLOURS) == YELLOW and kind in THIN else ""
+    return edge + stroke(kind, fill(lock), x, y, width)
 
 
 def block_parts(x, y, block, letter, away):
@@ -110,10 +117,10 @@ def chip(x, y, lock):
 def gap_parts(x, y, width, gap):
     middle = y + HEIGHT / 2
     if gap.state in (timeline.WAITING, timeline.WANTS) and not gap.held:
-        yield stroke(gap.state, fill(gap.wanted), x, middle, width)
+        yield lock_stroke(gap.state, gap.wanted, x, middle, width)
     for i, lock in enumerate(gap.held):
-        yield stroke("holds" if gap.state == timeline.WANTS else gap.state, fill(lock), x,
-                     middle + 5 * i - 2.5 * (len(gap.held) - 1), width)
+        yield lock_stroke("holds" if gap.state == timeline.WANTS else gap.state, lock, x,
+                          middle + 5 * i - 2.5 * (len(gap.held) - 1), width)
     if gap.state == timeline.ASLEEP:
         yield label(x + width / 2, y + 6, "z", "l")
     elif gap.state != timeline.HOLDS:
