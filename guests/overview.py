@@ -119,7 +119,8 @@ class Overview:
         for y, value in ((top, highest), (bottom, 0)):
             self.picture.add(f'<path stroke="#aaa" stroke-width=".6" d="M{self.left - 4:g} {y:g}'
                              f'H{self.x(self.columns.count):g}"/>')
-            self.picture.add(f'<text class="axis" text-anchor="end" x="{self.left - 8:g}" y="{y + 3:g}">{value:g}{unit}</text>')
+            self.picture.add(f'<text class="axis" text-anchor="end" x="{self.left - 8:g}" y="{y + 3:g}">'
+                             f'{value:g}{unit}</text>')
 
     def stamps(self):
         """The stamps below a panel."""

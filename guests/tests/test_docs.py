@@ -34,8 +34,9 @@ class Kept(Case):
     def test_tables_and_lanes(self):
         summary = run("summary", PICTURES / "philosophers.txt").stdout.decode()
         self.assertIn(summary, (GUESTS / "README.md").read_text())
-        for words, page in ((("--trace", "108"), GUESTS / "README.md"), (("--block", "108", "--contexts"), GUESTS / "README.md"),
-                            (("--block", "108", "--contexts"), DOCS / "TEACHING.md")):
+        contexts = ("--block", "108", "--contexts")
+        for words, page in ((("--trace", "108"), GUESTS / "README.md"), (contexts, GUESTS / "README.md"),
+                            (contexts, DOCS / "TEACHING.md")):
             said = run("explain", elf("counter"), PICTURES / "counter.txt", *words).stdout.decode().splitlines()
             for line in said[2:4]:
                 self.assertIn(f"\n{line}\n", page.read_text())

@@ -64,7 +64,8 @@ class Traces(Case):
     def test_each_block_has_as_many_lines_as_turns(self):
         for name in ("philosophers", "broken", "faults"):
             file, blocks = guestfile.load(elf(name)), history(name, 2, 2, 1, fuel=60)
-            run_, lines = legal.begin(file.guest, report.Report(blocks[1].splitlines(keepends=True))), debuglines.load(elf(name), file)
+            run_ = legal.begin(file.guest, report.Report(blocks[1].splitlines(keepends=True)))
+            lines = debuglines.load(elf(name), file)
             for block in blocks[0][:25]:
                 said = list(tracing.trace(run_, file, lines, block.thread))
                 self.assertEqual(len(said), block.turns + 1, (name, block))

@@ -164,7 +164,8 @@ def words_of(parser):
     parser.add_argument("guest", metavar="GUEST", help="the guest's file")
     parser.add_argument("report", metavar="REPORT", nargs="?", help="a report; - is standard input")
     parser.add_argument("--thread", metavar="N", type=tool.number(0, 31), help="the blocks of this thread")
-    parser.add_argument("--lock", metavar="N", type=tool.number(0, 31), help="the blocks that hold this lock or end before its LOCK")
+    parser.add_argument("--lock", metavar="N", type=tool.number(0, 31),
+                        help="the blocks that hold this lock or end before its LOCK")
     parser.add_argument("--block", metavar="A[-B]", type=stamps, help="this block, or these")
     parser.add_argument("--trace", metavar="BLOCK", type=tool.number(0, 10**9),
                         help="this block's instructions with their registers; alone, of this block only")
