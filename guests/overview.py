@@ -45,7 +45,7 @@ class Columns:
             self.add_block(mark)
         for gap in gaps:
             self.add_gap(gap)
-        for stay in line.stays(first, last):
+        for stay in timeline.cut(line.handings, first, last):
             if stay.worker is not None:
                 self.spread(self.has, stay, (stay.lock, stay.worker))
 
@@ -65,11 +65,12 @@ class Columns:
             self.spread(self.waits, gap, gap.wanted)
         if shown is not None:
             self.spread(self.threads, gap, (gap.thread, shown))
+        for lock in gap.held if gap.worker is not None else ():
+            self.spread(self.has, gap, (lock, gap.worker))
 
     def spread(self, counters, span, what):
         """Adds a span's stamps to the columns in which they lie."""
-        start = span.first - self.first
-        stop = span.last - self.first + 1
+        start, stop = span.first - self.first, span.last - self.first + 1
         while start < stop:
             column = self.column(start)
             end = min(stop, column * self.each + self.size(column))
