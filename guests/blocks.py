@@ -1,0 +1,213 @@
+"""A thread that runs whole blocks, from a state that is a value: what its blocks come to depends on its
+own state and on the words of locks that it reads, and on nothing else. Which words these are is kept.
+"""
+import model
+import steps
+from model import Fault
+from steps import CALL, MASK
+
+PAGE = 6  # a page of a thread's memory has 2^6 bytes
+EXIT, SPENT, FAULT = 1, 2, 16  # how a thread ended; fault F is FAULT + F
+ENDS = {EXIT: "exit", SPENT: "spent"}
+
+
+class Places:
+    """What the addresses of a guest are."""
+
+    def __init__(self, guest):
+        self.guest, self.found, self.first = guest, {}, {}
+        self.guards = [range(start, start + length) for start, length in guest.guards]
+
+    def at(self, address, width):
+        """The fault of an access (4 for one that lies in nothing) or None; what it lies in, which is a
+        lock's number, the content of a range that can't be written, or None for memory of the thread's
+        own; and the place in it."""
+        key = address << 3 | width
+        place = self.found.get(key)
+        if place is None:
+            place = self.found[key] = self.look(address, width)
+        return place
+
+    def look(self, address, width):
+        if address % width:
+            return 6, None, None
+        if address in model.STACK:
+            return None, None, None
+        for number, guard in enumerate(self.guards):
+            if address in guard:
+                return None, number, address - guard.start
+        for where, flags, content in self.guest.ranges:
+            if address in where and address + width - 1 in where:
+                return (None, None, None) if flags & 2 else (None, content, address - where.start)
+        return 4, None, None
+
+    def page(self, number):
+        """The first content of a page of a thread's own memory."""
+        page = self.first.get(number)
+        if page is None:
+            start, stop = number << PAGE, number + 1 << PAGE
+            page = bytearray(1 << PAGE)
+            for where, flags, content in self.guest.ranges:
+                low, high = max(where.start, start), min(where.stop, stop)
+                if flags & 2 and low < high:
+                    page[low - start:high - start] = content[low - where.start:high - where.start]
+            page = self.first[number] = bytes(page)
+        return page
+
+
+class Held:
+    """A lock that a running thread has or had: whether it has it, whether it was broken, its bytes, and
+    what happened since: whether the thread took it, whether its end broke it, which words were read
+    before they were written, in this order, and which were written."""
+
+    __slots__ = ("held", "broken", "bytes", "took", "breaks", "read", "written")
+
+    def __init__(self, broken, content, took):
+        self.held, self.broken, self.bytes = 1, broken, bytearray(content)
+        self.took, self.breaks, self.read, self.written = took, 0, {}, set()
+
+    def see(self, at, width, store):
+        word = at >> 2
+        if word not in self.written and not (store and width == 4):
+            self.read[word] = None
+        if store:
+            self.written.add(word)
+
+
+class Away(Exception):
+    """Another thread has the lock that the next block takes."""
+
+
+class Guest:
+    """A guest's code and places, for the threads that run it."""
+
+    def __init__(self, guest):
+        self.code, self.places, self.locks = steps.Code(guest), Places(guest), len(guest.guards)
+
+
+class Running:
+    """A thread with what it changes: registers, program counter, fuel, the pages of its memory that
+    were written, and the locks that it has or had. `look` answers of a lock whether it is held, whether
+    it is broken, and its bytes."""
+
+    def __init__(self, guest, x, pc, fuel, pages=(), held=(), look=None):
+        self.guest, self.x, self.pc, self.fuel, self.look = guest, x, pc, fuel, look
+        self.pages, self.end = dict(pages), None
+        self.locks = {lock: Held(*look(lock)[1:], 0) for lock in held}
+
+    def held(self):
+        return [lock for lock, state in self.locks.items() if state.held]
+
+    def wants(self):
+        """The lock that the next instruction lawfully takes, or None."""
+        x = self.x
+        if self.fuel and x[17] == 1 and self.guest.code.at(self.pc) is CALL:
+            wanted, held = x[10], self.held()
+            if wanted < self.guest.locks and len(held) < 4 and all(wanted > lock for lock in held):
+                return wanted
+        return None
+
+    def place(self, address, width, fault, store=False):
+        """The bytes at an address, where it begins there, and its page or lock, or None."""
+        wrong, inside, at = self.guest.places.at(address, width)
+        if wrong is not None:
+            raise Fault(fault if wrong == 4 else wrong)
+        if at is None:
+            number = address >> PAGE
+            return self.pages.get(number) or self.guest.places.page(number), address & (1 << PAGE) - 1, number
+        if inside.__class__ is bytes:
+            return inside, at, None
+        state = self.locks.get(inside)
+        if state is None or not state.held:
+            raise Fault(7)
+        state.see(at, width, store)
+        return state.bytes, at, state
+
+    def writable(self, address, width):
+        """The bytes at an address for a store, and where it begins there."""
+        content, at, owner = self.place(address, width, 5, True)
+        if owner is None:
+            raise Fault(5)
+        if content.__class__ is bytes:
+            content = self.pages[owner] = bytearray(content)
+        return content, at
+
+    def block(self):
+        """Runs one block. Answers whether it released a lock; Away where it can't take its lock."""
+        x, pc, fuel, known, at = self.x, self.pc, self.fuel, self.guest.code.steps, self.guest.code.at
+        step = known.get(pc) or at(pc)
+        try:
+            for _ in range(model.MOST_TURNS):
+                if fuel == 0:
+                    return self.finish(SPENT)
+                fuel -= 1
+                if step is CALL:
+                    self.pc, self.fuel = pc, fuel
+                    released = self.call()
+                    if released is not None:
+                        return released
+                    pc = self.pc
+                else:
+                    pc = step(x, self)
+                step = known.get(pc) or at(pc)
+                if step is CALL:
+                    self.pc, self.fuel = pc, fuel
+                    if self.wants() is not None:
+                        return False
+        except Fault as fault:
+            return self.finish(FAULT + fault.args[0])
+        self.pc, self.fuel = pc, fuel
+        return False
+
+    def call(self):
+        """A guest call. Answers whether it released a lock; None where the block goes on."""
+        call, value, answer, released = self.x[17], self.x[10], 0, False
+        if call == 93:
+            return self.finish(EXIT)
+        if call not in (1, 2, 3) or (call == 3 and value > 255):
+            raise Fault(9)
+        if call < 3:
+            held = self.held()
+            if value >= self.guest.locks or (call == 1 and len(held) == 4):
+                raise Fault(10)
+            if call == 1:
+                if any(value <= lock for lock in held):
+                    raise Fault(11)
+                answer, released = self.take(value), None
+            elif value not in held:
+                raise Fault(12)
+            else:
+                self.locks[value].held, released = 0, True
+        self.x[10] = answer
+        self.pc = self.pc + 4 & MASK
+        return released
+
+    def take(self, lock):
+        held, broken, content = self.look(lock)
+        self.locks[lock] = Held(broken, content, 1)
+        if held:
+            raise Away
+        return broken
+
+    def finish(self, end):
+        for state in self.locks.values():
+            if state.held:
+                state.held, state.breaks = 0, 1
+        self.end = end
+        return True
+
+    def go_on(self):
+        """Runs blocks that take no lock as long as there are some. Answers how many."""
+        count = 0
+        while self.end is None and self.wants() is None:
+            self.block()
+            count += 1
+        return count
+
+    def section(self):
+        """Runs blocks up to one that releases a lock, and then those that take none. Answers how many."""
+        count, released = 0, False
+        while not released:
+            released = self.block()
+            count += 1
+        return count + self.go_on()

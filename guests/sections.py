@@ -1,0 +1,285 @@
+"""States of a guest as bytes, and what follows on them by whole sections.
+
+A state is the names of its parts, one for each thread and one for each lock; a part's name is a digest
+of its content. So equal parts have one name, a step copies names alone, and what a section comes to is
+computed once for all states in which its thread's part and the words of locks that it reads are the
+same. docs/EXPLORE.md says which interleavings these steps stand for, and why that is all of them.
+"""
+import hashlib
+import struct
+
+import blocks
+import model
+import rules
+
+MOST_THREADS = 32
+NAME = 8  # bytes of a part's name
+RUNNING = 0  # how a thread is that has not ended
+THREAD = struct.Struct("<BBI")  # how it is or ended, how many locks it holds, x10
+REST = struct.Struct("<34I")  # x0 to x31, pc, fuel
+LOCK = struct.Struct("<IBB")  # its sections, whether it is held, whether it is broken
+HELD, FLAGS = 4, (4, 6)  # where the two flags are
+PAGE_BYTES = 1 << blocks.PAGE
+
+
+class Collision(Exception):
+    """Two parts have one digest."""
+
+
+class Change:
+    """What a section does to a lock."""
+
+    __slots__ = ("sections", "start", "stop", "held", "breaks", "took", "words", "after")
+
+    def __init__(self, sections, lock, state):
+        self.sections, self.after = sections, {}
+        self.start, self.stop = sections.span(lock)
+        self.held, self.breaks, self.took = state.held, state.breaks, state.took
+        self.words = [(LOCK.size + 4 * word, bytes(state.bytes[4 * word:4 * word + 4])) for word in sorted(state.written)]
+
+    def of(self, name):
+        """The name of the lock's part behind it."""
+        content = bytearray(self.sections.contents[name])
+        count, _, broken = LOCK.unpack_from(content)
+        LOCK.pack_into(content, 0, count + self.took, self.held, broken | self.breaks)
+        for at, word in self.words:
+            content[at:at + 4] = word
+        after = self.after[name] = self.sections.part(bytes(content))
+        return after
+
+
+class Result:
+    """What a section comes to: its thread's part, changes of locks, how many blocks it has."""
+
+    __slots__ = ("thread", "changes", "count")
+
+    def __init__(self, thread, changes, count):
+        self.thread, self.changes, self.count = thread, changes, count
+
+
+class Node:
+    """What of the locks a section depends on, behind what the nodes above it look at, and what follows:
+    by the bytes there a result, or another node where it depends on more, or () where a lock that it
+    takes is held. `lock` is where the lock's name stands, if it is one lock alone, and `by_name` has
+    the same by that name."""
+
+    __slots__ = ("above", "places", "after", "lock", "by_name")
+
+    def __init__(self, above, places):
+        self.above, self.after, self.by_name = above, {}, {}
+        self.places = merged(places)
+        locks = {place[:2] for place in places}
+        self.lock = slice(*locks.pop()) if len(locks) == 1 else None
+
+
+def split(span):
+    """The places of a span, flags and words."""
+    start, stop, low, high, _ = span
+    while low < high:
+        size = 2 if low == HELD else 4
+        yield start, stop, low, low + size
+        low += size
+
+
+def merged(places):
+    """Places of locks as few spans: start and stop of the lock's name, of the bytes, and whether the
+    lock is one to take. The locks stand in their first order."""
+    spans = []
+    for lock in dict.fromkeys(place[:2] for place in places):
+        for low, high in sorted(place[2:] for place in places if place[:2] == lock):
+            if spans and spans[-1][:2] == [*lock] and spans[-1][3] == low:
+                spans[-1][3] = high
+            else:
+                spans.append([*lock, low, high, low == HELD])
+    return [tuple(span) for span in spans]
+
+
+class Sections:
+    """A guest's parts, and what its threads' sections come to."""
+
+    def __init__(self, guest, fuel):
+        self.machine = model.Machine(guest, fuel)
+        self.threads, self.locks = len(guest.entries), len(guest.guards)
+        self.guest = blocks.Guest(guest)
+        self.contents, self.nodes, self.fresh = {}, {}, []
+        self.rounds = {}  # of a thread's part: how many sections its thread had when it was first met
+
+    def span(self, lock):
+        start = NAME * (self.threads + lock)
+        return start, start + NAME
+
+    def part(self, content):
+        """The name of the part with this content."""
+        name = hashlib.blake2b(content, digest_size=NAME).digest()
+        self.keep(name, content)
+        return name
+
+    def keep(self, name, content):
+        known = self.contents.setdefault(name, content)
+        if known is content:
+            self.fresh.append((name, content))
+        elif known != content:
+            raise Collision(f"two parts have the digest {name.hex()}")
+
+    def thread(self, run, rounds):
+        """The name of a running thread's part. Of one that has ended it has how, and x10."""
+        if run.end is not None:
+            content = THREAD.pack(run.end, 0, run.x[10])
+        else:
+            held = sorted(run.held())
+            parts = [THREAD.pack(RUNNING, len(held), run.x[10]), REST.pack(*run.x, run.pc, run.fuel), bytes(held)]
+            for number in sorted(run.pages):
+                page = bytes(run.pages[number])
+                if page != self.guest.places.page(number):
+                    parts += (number.to_bytes(4, "little"), page)
+            content = b"".join(parts)
+        name = self.part(content)
+        self.rounds.setdefault(name, rounds)
+        return name
+
+    def running(self, content, state):
+        """The thread with a part's content in a state; None where it has ended."""
+        how, held, _ = THREAD.unpack_from(content)
+        if how != RUNNING:
+            return None
+        *x, pc, fuel = REST.unpack_from(content, THREAD.size)
+        at = THREAD.size + REST.size + held
+        pages = {}
+        for start in range(at, len(content), 4 + PAGE_BYTES):
+            pages[int.from_bytes(content[start:start + 4], "little")] = content[start + 4:start + 4 + PAGE_BYTES]
+
+        def look(lock):
+            start, stop = self.span(lock)
+            content = self.contents[state[start:stop]]
+            return content[HELD], content[HELD + 1], content[LOCK.size:]
+        return blocks.Running(self.guest, list(x), pc, fuel, pages, content[at - held:at], look)
+
+    def first(self):
+        """The state in which each thread has come to its first LOCK or to its end, and how many blocks
+        these are."""
+        names, count = [], 0
+        for thread in self.machine.threads:
+            run = blocks.Running(self.guest, thread.x[:], thread.pc, thread.fuel)
+            count += run.go_on()
+            names.append(self.thread(run, 0))
+        for lock in self.machine.locks:
+            names.append(self.part(LOCK.pack(0, 0, 0) + bytes(lock.bytes)))
+        return b"".join(names), count
+
+    def follow(self, name, state, node):
+        """What the next section comes to of a thread with a part in a state, kept below a node; () where
+        it has ended or can't take a lock."""
+        run = self.running(self.contents[name], state)
+        if run is None:
+            self.nodes[name] = ()
+            return ()
+        try:
+            count = run.section()
+        except blocks.Away:
+            count = None
+        known, above = set(), node
+        while above is not None:
+            known.update(place for span in above.places for place in split(span))
+            above = above.above
+        places = [place for place in self.seen(run) if place not in known]
+        if node is None or places:
+            node = self.hang(name, state, node, Node(node, places))
+        if count is None:
+            return ()
+        changes = tuple(Change(self, *held) for held in run.locks.items())
+        return self.hang(name, state, node, Result(self.thread(run, self.rounds[name] + 1), changes, count))
+
+    def hang(self, name, state, node, found):
+        if node is None:
+            self.nodes[name] = found
+        else:
+            node.after[self.key(node, state)] = found
+            if node.lock:
+                node.by_name[state[node.lock]] = found
+        return found
+
+    def seen(self, run):
+        """The places of locks that a section depends on: flags of those that it took, words of bytes."""
+        for lock, held in run.locks.items():
+            span = self.span(lock)
+            if held.took:
+                yield (*span, *FLAGS)
+            for word in held.read:
+                at = LOCK.size + 4 * word
+                yield (*span, at, at + 4)
+
+    def key(self, node, state):
+        """The bytes of a node's places; None where one is a lock to take that is held."""
+        key, contents = [], self.contents
+        for start, stop, low, high, takes in node.places:
+            content = contents[state[start:stop]]
+            if takes and content[HELD]:
+                return None
+            key.append(content[low:high])
+        return b"".join(key)
+
+    def below(self, node, state):
+        """What follows at a node in a state; None where that is not known yet."""
+        if node.lock:
+            name = state[node.lock]
+            found = node.by_name.get(name)
+            if found is not None:
+                return found
+        key = self.key(node, state)
+        found = () if key is None else node.after.get(key)
+        if node.lock and found is not None:
+            node.by_name[name] = found
+        return found
+
+    def result(self, state, number):
+        """What the next section of a thread comes to; () where it has ended or can't take a lock."""
+        name = state[NAME * number:NAME * number + NAME]
+        node, found = None, self.nodes.get(name)
+        while found.__class__ is Node:
+            node = found
+            found = node.by_name.get(state[node.lock]) if node.lock else None
+            if found is None:
+                found = self.below(node, state)
+        return self.follow(name, state, node) if found is None else found
+
+    def successors(self, state):
+        """What the next section of each thread that can have one comes to: the thread's number, the
+        state, and how many blocks it has."""
+        for number in range(self.threads):
+            found = self.result(state, number)
+            if found:
+                yield number, self.behind(state, NAME * number, found), found.count
+
+    @staticmethod
+    def behind(state, place, found):
+        """The state behind a section of the thread whose name stands at a place."""
+        changes = found.changes
+        if len(changes) == 1:
+            change, = changes
+            start, stop = change.start, change.stop
+            before = state[start:stop]
+            return b"".join((state[:place], found.thread, state[place + NAME:start],
+                             change.after.get(before) or change.of(before), state[stop:]))
+        new = bytearray(state)
+        new[place:place + NAME] = found.thread
+        for change in changes:
+            before = state[change.start:change.stop]
+            new[change.start:change.stop] = change.after.get(before) or change.of(before)
+        return bytes(new)
+
+    def names(self, state):
+        """The names of the threads' parts, and of the locks' parts."""
+        names = [state[at:at + NAME] for at in range(0, len(state), NAME)]
+        return names[:self.threads], names[self.threads:]
+
+    def has_ended(self, state, thread):
+        return self.contents[state[NAME * thread:NAME * thread + NAME]][0] != RUNNING
+
+    def end(self, state):
+        """How the guest ended in a state in which every thread has."""
+        threads, locks = ([self.contents[name] for name in names] for names in self.names(state))
+        hows = [THREAD.unpack_from(content) for content in threads]
+        flags = [(*LOCK.unpack_from(content), content[LOCK.size:]) for content in locks]
+        return rules.End(
+            tuple((blocks.ENDS.get(how) or f"fault {how - blocks.FAULT}", x10) for how, _, x10 in hows),
+            tuple((broken, count, content) for count, _, broken, content in flags))
