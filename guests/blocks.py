@@ -1,7 +1,7 @@
 """A thread that runs whole blocks, from a state that is a value: what its blocks come to depends on its
 own state and on the words of locks that it reads, and on nothing else. Which words these are is kept.
 """
-import model
+import limits
 import steps
 from model import Fault
 from steps import CALL, MASK
@@ -31,7 +31,7 @@ class Places:
     def look(self, address, width):
         if address % width:
             return 6, None, None
-        if address in model.STACK:
+        if address in limits.STACK:
             return None, None, None
         for number, guard in enumerate(self.guards):
             if address in guard:
@@ -81,8 +81,8 @@ class Away(Exception):
 class Guest:
     """A guest's code and places, for the threads that run it."""
 
-    def __init__(self, guest):
-        self.code, self.places, self.locks = steps.Code(guest), Places(guest), len(guest.guards)
+    def __init__(self, guest, known=None):
+        self.code, self.places, self.locks = steps.Code(guest, known), Places(guest), len(guest.guards)
 
 
 class Running:
@@ -101,9 +101,9 @@ class Running:
     def wants(self):
         """The lock that the next instruction lawfully takes, or None."""
         x = self.x
-        if self.fuel and x[17] == 1 and self.guest.code.at(self.pc) is CALL:
+        if self.fuel and x[17] == limits.LOCK and self.guest.code.at(self.pc) is CALL:
             wanted, held = x[10], self.held()
-            if wanted < self.guest.locks and len(held) < 4 and all(wanted > lock for lock in held):
+            if wanted < self.guest.locks and len(held) < limits.HELD and all(wanted > lock for lock in held):
                 return wanted
         return None
 
@@ -137,7 +137,7 @@ class Running:
         x, pc, fuel, known, at = self.x, self.pc, self.fuel, self.guest.code.steps, self.guest.code.at
         step = known.get(pc) or at(pc)
         try:
-            for _ in range(model.MOST_TURNS):
+            for _ in range(limits.TURNS):
                 if fuel == 0:
                     return self.finish(SPENT)
                 fuel -= 1
@@ -162,15 +162,15 @@ class Running:
     def call(self):
         """A guest call. Answers whether it released a lock; None where the block goes on."""
         call, value, answer, released = self.x[17], self.x[10], 0, False
-        if call == 93:
+        if call == limits.EXIT:
             return self.finish(EXIT)
-        if call not in (1, 2, 3) or (call == 3 and value > 255):
+        if call not in limits.CALLS or (call == limits.SLEEP and value > limits.SLEPT):
             raise Fault(9)
-        if call < 3:
+        if call != limits.SLEEP:
             held = self.held()
-            if value >= self.guest.locks or (call == 1 and len(held) == 4):
+            if value >= self.guest.locks or (call == limits.LOCK and len(held) == limits.HELD):
                 raise Fault(10)
-            if call == 1:
+            if call == limits.LOCK:
                 if any(value <= lock for lock in held):
                     raise Fault(11)
                 answer, released = self.take(value), None

@@ -12,6 +12,7 @@ import zlib
 from array import array
 from typing import NamedTuple, Tuple
 
+import live
 import rules
 import sections
 
@@ -41,8 +42,8 @@ class Walk(NamedTuple):
 class Share:
     """The part of the states that falls to one process."""
 
-    def __init__(self, guest, fuel, number, shares, asked):
-        self.sections = sections.Sections(guest, fuel)
+    def __init__(self, guest, fuel, number, shares, asked, whole):
+        self.sections = sections.Sections(guest, fuel, whole)
         self.number, self.shares = number, shares
         self.seen, self.whence, self.waiting = set(), array("Q"), {}  # waiting: blocks: state: whence
         self.ends = []  # state, place in whence, blocks
@@ -172,7 +173,7 @@ def serve(pipe, *words):
             answer = getattr(share, name)(*given)
         except EOFError:
             return
-        except (MemoryError, sections.Collision) as trouble:
+        except (MemoryError, sections.Collision, live.Elsewhere) as trouble:
             answer = trouble
         pipe.send(answer)
 
@@ -180,13 +181,13 @@ def serve(pipe, *words):
 class Shares:
     """The shares of a search: one in this process, or several in processes of their own."""
 
-    def __init__(self, guest, fuel, asked, shares):
+    def __init__(self, guest, fuel, asked, shares, whole=False):
         self.pipes, self.alone = [], None
         if shares == 1:
-            self.alone = Share(guest, fuel, 0, 1, asked)
+            self.alone = Share(guest, fuel, 0, 1, asked, whole)
         for number in range(shares if shares > 1 else 0):
             here, there = multiprocessing.Pipe()
-            multiprocessing.Process(target=serve, args=(there, guest, fuel, number, shares, asked), daemon=True).start()
+            multiprocessing.Process(target=serve, args=(there, guest, fuel, number, shares, asked, whole), daemon=True).start()
             there.close()
             self.pipes.append(here)
         self.count = shares
@@ -230,11 +231,18 @@ class Search:
 
     def __init__(self, guest, fuel, asked=(), most=10**6, processes=1, until_answered=False):
         self.asked, self.until_answered = list(asked), until_answered
-        self.shares = Shares(guest, fuel, self.asked, 1)
+        try:
+            self.search(guest, fuel, most, processes, False)
+        except live.Elsewhere:
+            self.search(guest, fuel, most, processes, True)
+
+    def search(self, guest, fuel, most, processes, whole):
+        """Searches in this process, and where that takes long in several."""
+        self.shares = Shares(guest, fuel, self.asked, 1, whole)
         self.rules = self.shares.alone.asked
         self.run(min(most, ALONE) if processes > 1 else most)
         if not self.whole and not self.done() and self.states < most:
-            self.shares = Shares(guest, fuel, self.asked, processes)
+            self.shares = Shares(guest, fuel, self.asked, processes, whole)
             self.run(most)
         self.walks = [] if self.whole or self.done() else self.walk()
 

@@ -9,10 +9,12 @@ import hashlib
 import struct
 
 import blocks
+import limits
+import live
 import model
 import rules
 
-MOST_THREADS = 32
+MOST_THREADS = max(limits.THREADS.values())
 NAME = 8  # bytes of a part's name
 RUNNING = 0  # how a thread is that has not ended
 THREAD = struct.Struct("<BBI")  # how it is or ended, how many locks it holds, x10
@@ -95,12 +97,14 @@ def merged(places):
 
 
 class Sections:
-    """A guest's parts, and what its threads' sections come to."""
+    """A guest's parts, and what its threads' sections come to. Unless `whole`, registers that code doesn't
+    read again are 0 in the parts of threads; live.Elsewhere where it can't be known which these are."""
 
-    def __init__(self, guest, fuel):
+    def __init__(self, guest, fuel, whole=False):
+        self.live = None if whole else live.Live(guest)
         self.machine = model.Machine(guest, fuel)
         self.threads, self.locks = len(guest.entries), len(guest.guards)
-        self.guest = blocks.Guest(guest)
+        self.guest = blocks.Guest(guest, self.live)
         self.contents, self.nodes, self.fresh = {}, {}, []
         self.rounds = {}  # of a thread's part: how many sections its thread had when it was first met
 
@@ -126,8 +130,9 @@ class Sections:
         if run.end is not None:
             content = THREAD.pack(run.end, 0, run.x[10])
         else:
-            held = sorted(run.held())
-            parts = [THREAD.pack(RUNNING, len(held), run.x[10]), REST.pack(*run.x, run.pc, run.fuel), bytes(held)]
+            held, read = sorted(run.held()), self.live.at(run.pc) if self.live else live.ALL
+            x = [value if read >> number & 1 else 0 for number, value in enumerate(run.x)]
+            parts = [THREAD.pack(RUNNING, len(held), x[10]), REST.pack(*x, run.pc, run.fuel), bytes(held)]
             for number in sorted(run.pages):
                 page = bytes(run.pages[number])
                 if page != self.guest.places.page(number):

@@ -3,32 +3,58 @@ answer the next program counter, or raise Fault and change nothing.
 
 They do what model.py does, only faster; guests/tests compares the two block by block.
 """
+import live
 import model
+import rv32im
 from model import Fault
 
 MASK = 0xFFFFFFFF
 CALL = object()  # in the place of the step of an ECALL
-COMPARED = {
-    0: lambda a, b: a == b,
-    1: lambda a, b: a != b,
-    4: lambda a, b: (a ^ 0x80000000) < (b ^ 0x80000000),
-    5: lambda a, b: (a ^ 0x80000000) >= (b ^ 0x80000000),
-    6: lambda a, b: a < b,
-    7: lambda a, b: a >= b,
-}
 
 
 class Code:
-    """The steps of a guest's instructions by their addresses."""
+    """The steps of a guest's instructions by their addresses. With a Live, a return must go where that
+    one takes for granted that it goes."""
 
-    def __init__(self, guest):
-        self.guest, self.steps = guest, {}
+    def __init__(self, guest, known=None):
+        self.guest, self.known, self.steps = guest, known, {}
 
     def at(self, pc):
         step = self.steps.get(pc)
         if step is None:
             word = self.guest.word(pc)
-            step = self.steps[pc] = raising(2) if word is None else decoded(word, pc)
+            step = self.steps[pc] = raising(2) if word is None else self.decoded(rv32im.decode(word), pc)
+        return step
+
+    def decoded(self, what, pc):
+        """The step of an instruction at an address."""
+        if what is None:
+            return raising(1)
+        name, to, a, b, value = what
+        after = pc + 4 & MASK
+        if name in ("lui", "auipc"):
+            return constant(to, value + (pc if name == "auipc" else 0) & MASK, after)
+        if name == "jal":
+            return raising(3) if value % 4 else constant(to, after, pc + value & MASK)
+        if name == "jalr":
+            jump = indirect(to, a, value, after)
+            return self.returning(jump) if self.known and live.is_return(what) else jump
+        if name in model.COMPARISONS:
+            return branch(model.COMPARISONS[name], a, b, pc + value & MASK, after)
+        if name in rv32im.WIDTHS:
+            width = rv32im.WIDTHS[name]
+            return store(a, b, value, width, after) if name[0] == "s" else load(to, a, value, width, name in model.SIGNED, after)
+        if name in model.IMMEDIATES:
+            return with_immediate(to, a, value, model.OPERATIONS[model.IMMEDIATES[name]], after)
+        if name in model.OPERATIONS:
+            return with_registers(to, a, b, model.OPERATIONS[name], after)
+        return {"ecall": CALL, "ebreak": raising(8), "fence": constant(0, 0, after)}[name]
+
+    def returning(self, jump):
+        def step(x, run):
+            to = jump(x, run)
+            self.known.expect(to)
+            return to
         return step
 
 
@@ -38,72 +64,40 @@ def raising(number):
     return step
 
 
-def decoded(word, pc):
-    """The step of a word at an address."""
-    opcode, rd, kind, top = word & 0x7F, word >> 7 & 31, word >> 12 & 7, word >> 25
-    a, b, after = word >> 15 & 31, word >> 20 & 31, pc + 4 & MASK
-    immediate = model.signed(word >> 20, 12)
-    if word == 0x73:
-        return CALL
-    if opcode in (0x37, 0x17):
-        return constant(rd, (word & 0xFFFFF000) + (pc if opcode == 0x17 else 0) & MASK, after)
-    if opcode == 0x6F:
-        to = pc + model.jump_offset(word) & MASK
-        return raising(3) if to % 4 else constant(rd, after, to)
-    if opcode == 0x67 and kind == 0:
-        return indirect(rd, a, immediate, after)
-    if opcode == 0x63 and kind in COMPARED:
-        return branch(COMPARED[kind], a, b, pc + model.branch_offset(word) & MASK, after)
-    if opcode == 0x03 and kind in model.LOADS:
-        return load(rd, a, immediate, *model.LOADS[kind], after)
-    if opcode == 0x23 and kind in model.STORES:
-        return store(a, b, model.signed(top << 5 | rd, 12), model.STORES[kind], after)
-    if opcode == 0x13 and (kind not in (1, 5) or top == 0 or (kind, top) == (5, 32)):
-        return with_immediate(rd, a, kind, kind == 5 and top == 32, immediate, after)
-    if opcode == 0x33 and (top == 0 or (top == 32 and kind in (0, 5))):
-        return with_registers(rd, a, b, lambda p, q: model.operation(kind, top == 32, p, q), after)
-    if opcode == 0x33 and top == 1:
-        unit = model.product if kind < 4 else model.quotient
-        return with_registers(rd, a, b, lambda p, q: unit(kind, p, q), after)
-    if opcode == 0x0F and kind == 0:
-        return constant(0, 0, after)
-    return raising(8 if word == 0x00100073 else 1)
-
-
-def constant(rd, value, after):
+def constant(to, value, after):
     def step(x, run):
-        if rd:
-            x[rd] = value
+        if to:
+            x[to] = value
         return after
     return step
 
 
-def indirect(rd, a, immediate, after):
+def indirect(to, a, value, after):
     def step(x, run):
-        to = x[a] + immediate & 0xFFFFFFFE
-        if to & 2:
+        target = x[a] + value & MASK - 1
+        if target & 2:
             raise Fault(3)
-        if rd:
-            x[rd] = after
-        return to
+        if to:
+            x[to] = after
+        return target
     return step
 
 
-def branch(compared, a, b, to, after):
+def branch(compared, a, b, target, after):
     def step(x, run):
         if compared(x[a], x[b]):
-            if to % 4:
+            if target % 4:
                 raise Fault(3)
-            return to
+            return target
         return after
     return step
 
 
-def load(rd, a, offset, width, extend, after):
+def load(to, a, offset, width, extend, after):
     def step(x, run):
         content, at, _ = run.place(x[a] + offset & MASK, width, 4)
-        if rd:
-            x[rd] = int.from_bytes(content[at:at + width], "little", signed=extend) & MASK
+        if to:
+            x[to] = int.from_bytes(content[at:at + width], "little", signed=extend) & MASK
         return after
     return step
 
@@ -118,19 +112,17 @@ def store(a, b, offset, width, after):
     return step
 
 
-def with_immediate(rd, a, kind, other, immediate, after):
-    if kind == 0:
-        def step(x, run):
-            if rd:
-                x[rd] = x[a] + immediate & MASK
-            return after
-        return step
-    return with_registers(rd, a, 0, lambda p, _: model.operation(kind, other, p, immediate), after)
-
-
-def with_registers(rd, a, b, operation, after):
+def with_immediate(to, a, value, operation, after):
     def step(x, run):
-        if rd:
-            x[rd] = operation(x[a], x[b]) & MASK
+        if to:
+            x[to] = operation(x[a], value) & MASK
+        return after
+    return step
+
+
+def with_registers(to, a, b, operation, after):
+    def step(x, run):
+        if to:
+            x[to] = operation(x[a], x[b]) & MASK
         return after
     return step
