@@ -4,7 +4,7 @@ own state and on the words of locks that it reads, and on nothing else. Which wo
 import limits
 import steps
 from model import Fault
-from steps import CALL, MASK
+from steps import CALL, MASK, number
 
 PAGE = 6  # a page of a thread's memory has 2^6 bytes
 EXIT, SPENT, FAULT = 1, 2, 16  # how a thread ended; fault F is FAULT + F
@@ -57,21 +57,41 @@ class Places:
 
 class Held:
     """A lock that a running thread has or had: whether it has it, whether it was broken, its bytes, and
-    what happened since: whether the thread took it, whether its end broke it, which words were read
-    before they were written, in this order, and which were written."""
+    what happened since: whether the thread took it, whether its end broke it, which of the words that it
+    found were looked at, in this order, which words were written, and which of these are sums of a word
+    that it found and a number."""
 
-    __slots__ = ("held", "broken", "bytes", "took", "breaks", "read", "written")
+    __slots__ = ("held", "broken", "bytes", "took", "breaks", "read", "written", "sums")
 
     def __init__(self, broken, content, took):
         self.held, self.broken, self.bytes = 1, broken, bytearray(content)
-        self.took, self.breaks, self.read, self.written = took, 0, {}, set()
+        self.took, self.breaks, self.read, self.written, self.sums = took, 0, {}, set(), {}
 
-    def see(self, at, width, store):
+    def load(self, at, width, extend):
         word = at >> 2
-        if word not in self.written and not (store and width == 4):
+        if width == 4 and word not in self.read and (word in self.sums or word not in self.written):
+            return self.sums.get(word) or steps.Sum(self, word, int.from_bytes(self.bytes[at:at + 4], "little"), 0)
+        self.look(word)
+        return int.from_bytes(self.bytes[at:at + width], "little", signed=extend) & MASK
+
+    def look(self, word):
+        """Notes that what comes depends on what a word is."""
+        if word in self.sums:
+            self.sums.pop(word).look()
+        elif word not in self.written:
             self.read[word] = None
-        if store:
-            self.written.add(word)
+
+    def store(self, at, width, value):
+        word = at >> 2
+        if value.__class__ is not int and (width < 4 or value.lock is not self):
+            value = value.look()
+        if width < 4:
+            self.look(word)
+        self.sums.pop(word, None)
+        if value.__class__ is not int:
+            self.sums[word], value = value, value.value()
+        self.written.add(word)
+        self.bytes[at:at + width] = (value & (1 << 8 * width) - 1).to_bytes(width, "little")
 
 
 class Away(Exception):
@@ -91,7 +111,7 @@ class Running:
     it is broken, and its bytes."""
 
     def __init__(self, guest, x, pc, fuel, pages=(), held=(), look=None):
-        self.guest, self.x, self.pc, self.fuel, self.look = guest, x, pc, fuel, look
+        self.guest, self.x, self.pc, self.fuel, self.look = guest, x[:], pc, fuel, look
         self.pages, self.end = dict(pages), None
         self.locks = {lock: Held(*look(lock)[1:], 0) for lock in held}
 
@@ -100,37 +120,48 @@ class Running:
 
     def wants(self):
         """The lock that the next instruction lawfully takes, or None."""
-        x = self.x
-        if self.fuel and x[17] == limits.LOCK and self.guest.code.at(self.pc) is CALL:
-            wanted, held = x[10], self.held()
+        if self.fuel and self.guest.code.at(self.pc) is CALL and number(self.x, 17) == limits.LOCK:
+            wanted, held = number(self.x, 10), self.held()
             if wanted < self.guest.locks and len(held) < limits.HELD and all(wanted > lock for lock in held):
                 return wanted
         return None
 
-    def place(self, address, width, fault, store=False):
-        """The bytes at an address, where it begins there, and its page or lock, or None."""
+    def inside(self, address, width, fault):
+        """What an address lies in, and where: a lock that is held, bytes that can't be written, or None for
+        memory of the thread's own."""
         wrong, inside, at = self.guest.places.at(address, width)
         if wrong is not None:
             raise Fault(fault if wrong == 4 else wrong)
-        if at is None:
-            number = address >> PAGE
-            return self.pages.get(number) or self.guest.places.page(number), address & (1 << PAGE) - 1, number
-        if inside.__class__ is bytes:
-            return inside, at, None
-        state = self.locks.get(inside)
-        if state is None or not state.held:
-            raise Fault(7)
-        state.see(at, width, store)
-        return state.bytes, at, state
+        if inside.__class__ is int:
+            inside = self.locks.get(inside)
+            if inside is None or not inside.held:
+                raise Fault(7)
+        return inside, at
 
-    def writable(self, address, width):
-        """The bytes at an address for a store, and where it begins there."""
-        content, at, owner = self.place(address, width, 5, True)
-        if owner is None:
+    def page(self, address):
+        number = address >> PAGE
+        return self.pages.get(number) or self.guest.places.page(number), address & (1 << PAGE) - 1
+
+    def load(self, address, width, extend):
+        content, at = self.inside(address, width, 4)
+        if content.__class__ is Held:
+            return content.load(at, width, extend)
+        if content is None:
+            content, at = self.page(address)
+        return int.from_bytes(content[at:at + width], "little", signed=extend) & MASK
+
+    def store(self, address, width, value):
+        content, at = self.inside(address, width, 5)
+        if content.__class__ is Held:
+            return content.store(at, width, value)
+        if content is not None:
             raise Fault(5)
+        if value.__class__ is not int:
+            value = value.look()
+        content, at = self.page(address)
         if content.__class__ is bytes:
-            content = self.pages[owner] = bytearray(content)
-        return content, at
+            content = self.pages[address >> PAGE] = bytearray(content)
+        content[at:at + width] = (value & (1 << 8 * width) - 1).to_bytes(width, "little")
 
     def block(self):
         """Runs one block. Answers whether it released a lock; Away where it can't take its lock."""
@@ -161,7 +192,7 @@ class Running:
 
     def call(self):
         """A guest call. Answers whether it released a lock; None where the block goes on."""
-        call, value, answer, released = self.x[17], self.x[10], 0, False
+        call, value, answer, released = number(self.x, 17), number(self.x, 10), 0, False
         if call == limits.EXIT:
             return self.finish(EXIT)
         if call not in limits.CALLS or (call == limits.SLEEP and value > limits.SLEPT):

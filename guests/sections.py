@@ -22,6 +22,7 @@ REST = struct.Struct("<34I")  # x0 to x31, pc, fuel
 LOCK = struct.Struct("<IBB")  # its sections, whether it is held, whether it is broken
 HELD, FLAGS = 4, (4, 6)  # where the two flags are
 PAGE_BYTES = 1 << blocks.PAGE
+KEPT = 50000  # so many lock parts a change is kept for
 
 
 class Collision(Exception):
@@ -31,23 +32,36 @@ class Collision(Exception):
 class Change:
     """What a section does to a lock."""
 
-    __slots__ = ("sections", "start", "stop", "held", "breaks", "took", "words", "after")
+    __slots__ = ("sections", "start", "stop", "held", "breaks", "took", "words", "sums", "after")
 
     def __init__(self, sections, lock, state):
         self.sections, self.after = sections, {}
         self.start, self.stop = sections.span(lock)
         self.held, self.breaks, self.took = state.held, state.breaks, state.took
-        self.words = [(LOCK.size + 4 * word, bytes(state.bytes[4 * word:4 * word + 4])) for word in sorted(state.written)]
+        self.words = [(place(word), bytes(state.bytes[4 * word:4 * word + 4]))
+                      for word in sorted(state.written - set(state.sums))]
+        self.sums = [(place(word), place(value.word), value.added) for word, value in state.sums.items()]
 
     def of(self, name):
         """The name of the lock's part behind it."""
         content = bytearray(self.sections.contents[name])
         count, _, broken = LOCK.unpack_from(content)
         LOCK.pack_into(content, 0, count + self.took, self.held, broken | self.breaks)
+        found = self.sections.contents[name]
         for at, word in self.words:
             content[at:at + 4] = word
+        for at, start, added in self.sums:
+            value = int.from_bytes(found[start:start + 4], "little") + added & blocks.MASK
+            content[at:at + 4] = value.to_bytes(4, "little")
+        if len(self.after) > KEPT:
+            self.after.clear()
         after = self.after[name] = self.sections.part(bytes(content))
         return after
+
+
+def place(word):
+    """Where a word of a lock's bytes stands in its part."""
+    return LOCK.size + 4 * word
 
 
 class Result:
@@ -61,26 +75,13 @@ class Result:
 
 class Node:
     """What of the locks a section depends on, behind what the nodes above it look at, and what follows:
-    by the bytes there a result, or another node where it depends on more, or () where a lock that it
-    takes is held. `lock` is where the lock's name stands, if it is one lock alone, and `by_name` has
-    the same by that name."""
+    by the bytes there a result, or another node where it depends on more."""
 
-    __slots__ = ("above", "places", "after", "lock", "by_name")
+    __slots__ = ("known", "places", "after")
 
     def __init__(self, above, places):
-        self.above, self.after, self.by_name = above, {}, {}
-        self.places = merged(places)
-        locks = {place[:2] for place in places}
-        self.lock = slice(*locks.pop()) if len(locks) == 1 else None
-
-
-def split(span):
-    """The places of a span, flags and words."""
-    start, stop, low, high, _ = span
-    while low < high:
-        size = 2 if low == HELD else 4
-        yield start, stop, low, low + size
-        low += size
+        self.known = frozenset(places) | (above.known if above else frozenset())
+        self.places, self.after = merged(places), {}
 
 
 def merged(places):
@@ -105,7 +106,7 @@ class Sections:
         self.machine = model.Machine(guest, fuel)
         self.threads, self.locks = len(guest.entries), len(guest.guards)
         self.guest = blocks.Guest(guest, self.live)
-        self.contents, self.nodes, self.fresh = {}, {}, []
+        self.contents, self.starts, self.nodes, self.fresh = {}, {}, {}, []
         self.rounds = {}  # of a thread's part: how many sections its thread had when it was first met
 
     def span(self, lock):
@@ -128,10 +129,10 @@ class Sections:
     def thread(self, run, rounds):
         """The name of a running thread's part. Of one that has ended it has how, and x10."""
         if run.end is not None:
-            content = THREAD.pack(run.end, 0, run.x[10])
+            content = THREAD.pack(run.end, 0, blocks.number(run.x, 10))
         else:
             held, read = sorted(run.held()), self.live.at(run.pc) if self.live else live.ALL
-            x = [value if read >> number & 1 else 0 for number, value in enumerate(run.x)]
+            x = [blocks.number(run.x, register) if read >> register & 1 else 0 for register in range(32)]
             parts = [THREAD.pack(RUNNING, len(held), x[10]), REST.pack(*x, run.pc, run.fuel), bytes(held)]
             for number in sorted(run.pages):
                 page = bytes(run.pages[number])
@@ -142,29 +143,39 @@ class Sections:
         self.rounds.setdefault(name, rounds)
         return name
 
-    def running(self, content, state):
-        """The thread with a part's content in a state; None where it has ended."""
+    def running(self, name, state):
+        """The thread of a part in a state; None where it has ended."""
+        start = self.starts.get(name)
+        if start is None:
+            start = self.starts[name] = self.start(self.contents[name])
+        if not start:
+            return None
+
+        def look(lock):
+            low, high = self.span(lock)
+            content = self.contents[state[low:high]]
+            return content[HELD], content[HELD + 1], content[LOCK.size:]
+        return blocks.Running(self.guest, *start, look)
+
+    @staticmethod
+    def start(content):
+        """The registers, program counter, fuel, pages and locks of a thread's part; () where it has ended."""
         how, held, _ = THREAD.unpack_from(content)
         if how != RUNNING:
-            return None
+            return ()
         *x, pc, fuel = REST.unpack_from(content, THREAD.size)
         at = THREAD.size + REST.size + held
         pages = {}
         for start in range(at, len(content), 4 + PAGE_BYTES):
             pages[int.from_bytes(content[start:start + 4], "little")] = content[start + 4:start + 4 + PAGE_BYTES]
-
-        def look(lock):
-            start, stop = self.span(lock)
-            content = self.contents[state[start:stop]]
-            return content[HELD], content[HELD + 1], content[LOCK.size:]
-        return blocks.Running(self.guest, list(x), pc, fuel, pages, content[at - held:at], look)
+        return x, pc, fuel, pages, content[at - held:at]
 
     def first(self):
         """The state in which each thread has come to its first LOCK or to its end, and how many blocks
         these are."""
         names, count = [], 0
         for thread in self.machine.threads:
-            run = blocks.Running(self.guest, thread.x[:], thread.pc, thread.fuel)
+            run = blocks.Running(self.guest, thread.x, thread.pc, thread.fuel)
             count += run.go_on()
             names.append(self.thread(run, 0))
         for lock in self.machine.locks:
@@ -174,33 +185,29 @@ class Sections:
     def follow(self, name, state, node):
         """What the next section comes to of a thread with a part in a state, kept below a node; () where
         it has ended or can't take a lock."""
-        run = self.running(self.contents[name], state)
+        run = self.running(name, state)
         if run is None:
             self.nodes[name] = ()
             return ()
         try:
             count = run.section()
+            thread = self.thread(run, self.rounds[name] + 1)
         except blocks.Away:
             count = None
-        known, above = set(), node
-        while above is not None:
-            known.update(place for span in above.places for place in split(span))
-            above = above.above
-        places = [place for place in self.seen(run) if place not in known]
+        known = node.known if node else ()
+        places = [seen for seen in self.seen(run) if seen not in known]
         if node is None or places:
             node = self.hang(name, state, node, Node(node, places))
         if count is None:
             return ()
         changes = tuple(Change(self, *held) for held in run.locks.items())
-        return self.hang(name, state, node, Result(self.thread(run, self.rounds[name] + 1), changes, count))
+        return self.hang(name, state, node, Result(thread, changes, count))
 
     def hang(self, name, state, node, found):
         if node is None:
             self.nodes[name] = found
         else:
             node.after[self.key(node, state)] = found
-            if node.lock:
-                node.by_name[state[node.lock]] = found
         return found
 
     def seen(self, run):
@@ -210,8 +217,7 @@ class Sections:
             if held.took:
                 yield (*span, *FLAGS)
             for word in held.read:
-                at = LOCK.size + 4 * word
-                yield (*span, at, at + 4)
+                yield (*span, place(word), place(word) + 4)
 
     def key(self, node, state):
         """The bytes of a node's places; None where one is a lock to take that is held."""
@@ -223,28 +229,13 @@ class Sections:
             key.append(content[low:high])
         return b"".join(key)
 
-    def below(self, node, state):
-        """What follows at a node in a state; None where that is not known yet."""
-        if node.lock:
-            name = state[node.lock]
-            found = node.by_name.get(name)
-            if found is not None:
-                return found
-        key = self.key(node, state)
-        found = () if key is None else node.after.get(key)
-        if node.lock and found is not None:
-            node.by_name[name] = found
-        return found
-
     def result(self, state, number):
         """What the next section of a thread comes to; () where it has ended or can't take a lock."""
         name = state[NAME * number:NAME * number + NAME]
         node, found = None, self.nodes.get(name)
         while found.__class__ is Node:
-            node = found
-            found = node.by_name.get(state[node.lock]) if node.lock else None
-            if found is None:
-                found = self.below(node, state)
+            node, key = found, self.key(found, state)
+            found = () if key is None else node.after.get(key)
         return self.follow(name, state, node) if found is None else found
 
     def successors(self, state):

@@ -12,6 +12,35 @@ MASK = 0xFFFFFFFF
 CALL = object()  # in the place of the step of an ECALL
 
 
+class Sum:
+    """A word of a lock as a section found it, with a number that was added to it; what the word is was not
+    looked at so far."""
+
+    __slots__ = ("lock", "word", "found", "added")
+
+    def __init__(self, lock, word, found, added):
+        self.lock, self.word, self.found, self.added = lock, word, found, added
+
+    def plus(self, number):
+        return Sum(self.lock, self.word, self.found, self.added + number & MASK)
+
+    def look(self):
+        """The number itself: what comes of the section depends on the word from here on."""
+        self.lock.read[self.word] = None
+        return self.value()
+
+    def value(self):
+        return self.found + self.added & MASK
+
+
+def number(x, register):
+    """A register as a number."""
+    value = x[register]
+    if value.__class__ is not int:
+        value = x[register] = value.look()
+    return value
+
+
 class Code:
     """The steps of a guest's instructions by their addresses. With a Live, a return must go where that
     one takes for granted that it goes."""
@@ -44,6 +73,10 @@ class Code:
         if name in rv32im.WIDTHS:
             width = rv32im.WIDTHS[name]
             return store(a, b, value, width, after) if name[0] == "s" else load(to, a, value, width, name in model.SIGNED, after)
+        if name in ("add", "sub"):
+            return sum_of(to, a, b, 1 if name == "add" else -1, after)
+        if name == "addi":
+            return added(to, a, value, after)
         if name in model.IMMEDIATES:
             return with_immediate(to, a, value, model.OPERATIONS[model.IMMEDIATES[name]], after)
         if name in model.OPERATIONS:
@@ -74,7 +107,7 @@ def constant(to, value, after):
 
 def indirect(to, a, value, after):
     def step(x, run):
-        target = x[a] + value & MASK - 1
+        target = number(x, a) + value & MASK - 1
         if target & 2:
             raise Fault(3)
         if to:
@@ -85,7 +118,7 @@ def indirect(to, a, value, after):
 
 def branch(compared, a, b, target, after):
     def step(x, run):
-        if compared(x[a], x[b]):
+        if compared(number(x, a), number(x, b)):
             if target % 4:
                 raise Fault(3)
             return target
@@ -95,19 +128,40 @@ def branch(compared, a, b, target, after):
 
 def load(to, a, offset, width, extend, after):
     def step(x, run):
-        content, at, _ = run.place(x[a] + offset & MASK, width, 4)
+        value = run.load(number(x, a) + offset & MASK, width, extend)
         if to:
-            x[to] = int.from_bytes(content[at:at + width], "little", signed=extend) & MASK
+            x[to] = value
         return after
     return step
 
 
 def store(a, b, offset, width, after):
-    mask = (1 << 8 * width) - 1
-
     def step(x, run):
-        content, at = run.writable(x[a] + offset & MASK, width)
-        content[at:at + width] = (x[b] & mask).to_bytes(width, "little")
+        run.store(number(x, a) + offset & MASK, width, x[b])
+        return after
+    return step
+
+
+def added(to, a, value, after):
+    def step(x, run):
+        if to:
+            before = x[a]
+            x[to] = before + value & MASK if before.__class__ is int else before.plus(value)
+        return after
+    return step
+
+
+def sum_of(to, a, b, sign, after):
+    """x[to] = x[a] + sign * x[b]."""
+    def step(x, run):
+        first, second = x[a], x[b]
+        if first.__class__ is int and second.__class__ is not int and sign == 1:
+            first, second = second, first
+        if second.__class__ is not int:
+            second = number(x, b)
+            first = number(x, a)
+        if to:
+            x[to] = first + sign * second & MASK if first.__class__ is int else first.plus(sign * second)
         return after
     return step
 
@@ -115,7 +169,7 @@ def store(a, b, offset, width, after):
 def with_immediate(to, a, value, operation, after):
     def step(x, run):
         if to:
-            x[to] = operation(x[a], value) & MASK
+            x[to] = operation(number(x, a), value) & MASK
         return after
     return step
 
@@ -123,6 +177,6 @@ def with_immediate(to, a, value, operation, after):
 def with_registers(to, a, b, operation, after):
     def step(x, run):
         if to:
-            x[to] = operation(x[a], x[b]) & MASK
+            x[to] = operation(number(x, a), number(x, b)) & MASK
         return after
     return step
