@@ -229,8 +229,8 @@ class Search:
     was, `walks` has some ways to the end, by chance, from where the search stopped.
     """
 
-    def __init__(self, guest, fuel, asked=(), most=10**6, processes=1, until_answered=False):
-        self.asked, self.until_answered = list(asked), until_answered
+    def __init__(self, guest, fuel, asked=(), most=10**6, processes=1, until_answered=False, walks=WALKS):
+        self.asked, self.until_answered, self.many = list(asked), until_answered, walks
         try:
             self.search(guest, fuel, most, processes, False)
         except live.Elsewhere:
@@ -274,7 +274,7 @@ class Search:
                 [some for other in numbers for some in found[other][2][number]]] for number in numbers])
 
     def walk(self):
-        many = -(-WALKS // self.shares.count)
+        many = -(-self.many // self.shares.count)
         words = [[seed, many] for seed in range(self.shares.count)]
         return [walk for walks in self.shares.all("walked", *words) for walk in walks]
 

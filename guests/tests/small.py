@@ -4,51 +4,67 @@ import copy
 import random
 
 import common
+import limits
 import made
 import model
 import rules
+from rv32im import encode
 
-EXIT = list(made.call(93, 0)[1:])
-MOVE, LOOP, EBREAK = 0x00040513, 0x0000006F, 0x00100073  # addi x10,x8,0; jal x0,0; ebreak
+BASE, NOTED, VALUE, OTHER, STACK = 5, 8, 7, 9, 2  # registers
+EXIT = made.call(limits.EXIT, 0)[1:]
+ANSWER = [encode("addi", 10, NOTED, 0)]  # the exit code is what the thread noted
 
 
 def load(lock):
-    return [4 * lock << 20 | 5 << 15 | 2 << 12 | 7 << 7 | 0x03]  # lw x7,4*lock(x5)
+    return [encode("lw", VALUE, BASE, 4 * lock)]
 
 
-def store(lock, register=7):
-    return [register << 20 | 5 << 15 | 2 << 12 | 4 * lock << 7 | 0x23]  # sw register,4*lock(x5)
+def store(lock, register=VALUE):
+    return [encode("sw", register, BASE, 4 * lock)]
 
 
 def twice(chance, lock):
-    """x7 = 2 * word + k: what comes of two of these depends on their order."""
-    return load(lock) + [0x007383B3, chance.randrange(1, 4) << 20 | 0x38393] + store(lock)
+    """The word becomes 2 * word + k: what comes of two of these depends on their order."""
+    return load(lock) + [encode("add", VALUE, VALUE, VALUE), encode("addi", VALUE, VALUE, chance.randrange(1, 4))] + store(lock)
+
+
+def add(chance, lock):
+    """A number is added to the word, and what it was is not looked at."""
+    return load(lock) + [encode("addi", VALUE, VALUE, chance.randrange(-2, 3))] + store(lock)
 
 
 def note(chance, lock):
-    """x8 = 3 * x8 + word, of the thread's own."""
-    return load(lock) + [0x008404B3, 0x00848433, 0x00740433]
+    """What the thread notes becomes 3 times that and the word."""
+    return load(lock) + [encode("add", OTHER, NOTED, NOTED), encode("add", NOTED, OTHER, NOTED),
+                         encode("add", NOTED, NOTED, VALUE)]
 
 
 def choose(chance, lock):
     """Where the word is odd it becomes 0, and some more turns are had."""
-    return load(lock) + [0x0013F393, 0x00038663, *store(lock, 0), 0x00000013]
+    return load(lock) + [encode("andi", VALUE, VALUE, 1), encode("beq", VALUE, 0, 12), *store(lock, 0), encode("addi", 0, 0, 0)]
 
 
 def keep(chance, lock):
     """The word goes to the stack and to memory of the thread's own, and comes back."""
-    return load(lock) + [0xFE712E23, 0x0E72A023, 0xFFC12483, 0x009404B3, 0x00940433]
+    return load(lock) + [encode("sw", VALUE, STACK, -4), encode("sw", VALUE, BASE, 224), encode("lw", OTHER, STACK, -4),
+                         encode("sub", NOTED, NOTED, OTHER)]
+
+
+def narrow(chance, lock):
+    """A byte of the word is written, and a half of it read."""
+    return [encode("sb", NOTED, BASE, 4 * lock + 1), encode("lh", VALUE, BASE, 4 * lock), encode("xor", NOTED, NOTED, VALUE)]
 
 
 def flag(chance, lock):
-    return [0x00A40433]  # add x8,x8,x10, which has the broken flag right after a LOCK
+    """The answer of the LOCK before, where nothing stands between, is noted."""
+    return [encode("add", NOTED, NOTED, 10)]
 
 
 def sleep(chance, lock):
     return made.call(3, chance.randrange(3))
 
 
-WORK = (twice, twice, note, choose, keep, flag, sleep)
+WORK = (twice, add, note, choose, keep, narrow, flag, sleep)
 
 
 def work(chance, lock):
@@ -88,16 +104,16 @@ def end(chance, locks):
     held = made.call(1, chance.randrange(locks)) if chance.random() < 0.6 else []
     kind = chance.randrange(9)
     if kind == 0:
-        return held + work(chance, 0) + [EBREAK]
+        return held + work(chance, 0) + [encode("ebreak")]
     if kind == 1:
-        return held + [LOOP]
+        return held + [encode("jal", 0, 0)]
     if kind == 2:
-        return held + load(locks - 1) + [MOVE] + EXIT  # fault 7 but with the last lock
+        return held + load(locks - 1) + ANSWER + EXIT  # fault 7 but with the last lock
     if kind == 3:
-        return held + made.call(1, 0) + [MOVE] + EXIT  # fault 11 where a lock is held
+        return held + made.call(1, 0) + ANSWER + EXIT  # fault 11 where a lock is held
     if kind == 4:
-        return held + [MOVE] + EXIT
-    return [MOVE] + EXIT
+        return held + ANSWER + EXIT
+    return ANSWER + EXIT
 
 
 def guest(seed):
@@ -107,7 +123,7 @@ def guest(seed):
     words, entries = [], []
     for thread in range(threads):
         entries.append((made.CODE + 4 * len(words), chance.randrange(9)))
-        words += [0x000202B7, 0x00050413]  # lui x5,0x20; addi x8,x10,0
+        words += [encode("lui", BASE, made.DATA), encode("addi", NOTED, 10, 0)]
         for _ in range(chance.randrange(1, 3 if threads > 2 else 4)):
             words += section(chance, locks)
         words += end(chance, locks)

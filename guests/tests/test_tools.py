@@ -103,13 +103,13 @@ class Tables(Case):
                                 ("draw", [path, "--trace"]),
                                 ("explain", [elf(name), path]), ("explain", [elf(name)]), ("judge", [elf(name), path]),
                                 ("finish", [elf(name), path]),
-                                ("explore", [elf(name), "2", "--model", "--fuel", "600"])):
+                                ("explore", [elf(name), "--runs", "2", "--model", "--fuel", "600"])):
                 done = run(tool, *words)
                 self.assertEqual((done.returncode, done.stderr), (0, b""), (tool, words))
 
     def test_explore_keeps_a_history_of_each_outcome(self):
         folder = TEMPORARY / "kept"
-        done = run("explore", elf("buffer"), "6", "--model", "--keep", str(folder))
+        done = run("explore", elf("buffer"), "--runs", "6", "--model", "--keep", str(folder))
         self.assertEqual(done.returncode, 0)
         for path in folder.iterdir():
             self.says("a legal run", run("judge", elf("buffer"), str(path)))

@@ -47,7 +47,7 @@ class WrongUses(Case):
         path = saved("sleepers.txt", text)
         uses = {"summary": [path], "draw": [path], "explain": [elf("sleepers"), path],
                 "finish": [elf("sleepers"), path], "judge": [elf("sleepers"), path],
-                "simulate": [elf("sleepers"), "1", "20000", "0"], "explore": [elf("first"), "2", "--model"]}
+                "simulate": [elf("sleepers"), "1", "20000", "0"], "explore": [elf("first"), "--runs", "2", "--model"]}
         for tool, words in uses.items():
             with open("/dev/full", "wb") as full:
                 self.one_line(run(tool, *words, stdout=full), 4)
