@@ -187,7 +187,8 @@ class Shares:
             self.alone = Share(guest, fuel, 0, 1, asked, whole)
         for number in range(shares if shares > 1 else 0):
             here, there = multiprocessing.Pipe()
-            multiprocessing.Process(target=serve, args=(there, guest, fuel, number, shares, asked, whole), daemon=True).start()
+            words = there, guest, fuel, number, shares, asked, whole
+            multiprocessing.Process(target=serve, args=words, daemon=True).start()
             there.close()
             self.pipes.append(here)
         self.count = shares
@@ -234,6 +235,7 @@ class Search:
         try:
             self.search(guest, fuel, most, processes, False)
         except live.Elsewhere:
+            self.shares.close()
             self.search(guest, fuel, most, processes, True)
 
     def search(self, guest, fuel, most, processes, whole):
@@ -242,6 +244,7 @@ class Search:
         self.rules = self.shares.alone.asked
         self.run(min(most, ALONE) if processes > 1 else most)
         if not self.whole and not self.done() and self.states < most:
+            self.shares = None  # its memory goes before others have copies of it
             self.shares = Shares(guest, fuel, self.asked, processes, whole)
             self.run(most)
         self.walks = [] if self.whole or self.done() else self.walk()

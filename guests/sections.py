@@ -20,7 +20,7 @@ RUNNING = 0  # how a thread is that has not ended
 THREAD = struct.Struct("<BBI")  # how it is or ended, how many locks it holds, x10
 REST = struct.Struct("<34I")  # x0 to x31, pc, fuel
 LOCK = struct.Struct("<IBB")  # its sections, whether it is held, whether it is broken
-HELD, FLAGS = 4, (4, 6)  # where the two flags are
+FLAGS = 4, 6  # where the two flags are
 PAGE_BYTES = 1 << blocks.PAGE
 KEPT = 50000  # so many lock parts a change is kept for
 
@@ -75,7 +75,8 @@ class Result:
 
 class Node:
     """What of the locks a section depends on, behind what the nodes above it look at, and what follows:
-    by the bytes there a result, or another node where it depends on more."""
+    by the bytes there a result, another node where it depends on more, or () where a lock is held that
+    it takes."""
 
     __slots__ = ("known", "places", "after")
 
@@ -85,16 +86,13 @@ class Node:
 
 
 def merged(places):
-    """Places of locks as few spans: start and stop of the lock's name, of the bytes, and whether the
-    lock is one to take. The locks stand in their first order."""
+    """Places of locks as few spans: start and stop of the lock's name, and of the bytes."""
     spans = []
-    for lock in dict.fromkeys(place[:2] for place in places):
-        for low, high in sorted(place[2:] for place in places if place[:2] == lock):
-            if spans and spans[-1][:2] == [*lock] and spans[-1][3] == low:
-                spans[-1][3] = high
-            else:
-                spans.append([*lock, low, high, low == HELD])
-    return [tuple(span) for span in spans]
+    for start, stop, low, high in sorted(places):
+        if spans and spans[-1][:2] == (start, stop) and spans[-1][3] == low:
+            low = spans.pop()[2]
+        spans.append((start, stop, low, high))
+    return spans
 
 
 class Sections:
@@ -154,7 +152,7 @@ class Sections:
         def look(lock):
             low, high = self.span(lock)
             content = self.contents[state[low:high]]
-            return content[HELD], content[HELD + 1], content[LOCK.size:]
+            return (*content[slice(*FLAGS)], content[LOCK.size:])
         return blocks.Running(self.guest, *start, look)
 
     @staticmethod
@@ -199,7 +197,7 @@ class Sections:
         if node is None or places:
             node = self.hang(name, state, node, Node(node, places))
         if count is None:
-            return ()
+            return self.hang(name, state, node, ())
         changes = tuple(Change(self, *held) for held in run.locks.items())
         return self.hang(name, state, node, Result(thread, changes, count))
 
@@ -220,22 +218,17 @@ class Sections:
                 yield (*span, place(word), place(word) + 4)
 
     def key(self, node, state):
-        """The bytes of a node's places; None where one is a lock to take that is held."""
-        key, contents = [], self.contents
-        for start, stop, low, high, takes in node.places:
-            content = contents[state[start:stop]]
-            if takes and content[HELD]:
-                return None
-            key.append(content[low:high])
-        return b"".join(key)
+        """The bytes of a node's places."""
+        contents = self.contents
+        return b"".join([contents[state[start:stop]][low:high] for start, stop, low, high in node.places])
 
     def result(self, state, number):
         """What the next section of a thread comes to; () where it has ended or can't take a lock."""
         name = state[NAME * number:NAME * number + NAME]
         node, found = None, self.nodes.get(name)
         while found.__class__ is Node:
-            node, key = found, self.key(found, state)
-            found = () if key is None else node.after.get(key)
+            node = found
+            found = node.after.get(self.key(node, state))
         return self.follow(name, state, node) if found is None else found
 
     def successors(self, state):

@@ -72,7 +72,9 @@ class Code:
             return branch(model.COMPARISONS[name], a, b, pc + value & MASK, after)
         if name in rv32im.WIDTHS:
             width = rv32im.WIDTHS[name]
-            return store(a, b, value, width, after) if name[0] == "s" else load(to, a, value, width, name in model.SIGNED, after)
+            if name[0] == "s":
+                return store(a, b, value, width, after)
+            return load(to, a, value, width, name in model.SIGNED, after)
         if name in ("add", "sub"):
             return sum_of(to, a, b, 1 if name == "add" else -1, after)
         if name == "addi":

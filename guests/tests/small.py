@@ -94,8 +94,15 @@ def hand_over_hand(chance, locks):
     return code + made.call(2, locks - 1)
 
 
+def sometimes(chance, locks):
+    """The last lock is taken only where the first one's word is odd."""
+    inner = made.call(1, locks - 1) + work(chance, locks - 1) + made.call(2, locks - 1)
+    return made.call(1, 0) + work(chance, 0) + load(0) + [
+        encode("andi", VALUE, VALUE, 1), encode("beq", VALUE, 0, 4 + 4 * len(inner)), *inner, *made.call(2, 0)]
+
+
 def section(chance, locks):
-    kinds = [single, single] + [nested, nested] * (locks > 1) + [hand_over_hand] * (locks > 2)
+    kinds = [single] + [nested, nested, sometimes] * (locks > 1) + [hand_over_hand, hand_over_hand] * (locks > 2)
     return chance.choice(kinds)(chance, locks)
 
 
@@ -119,12 +126,12 @@ def end(chance, locks):
 def guest(seed):
     """The file of a guest, and its fuel."""
     chance = random.Random(seed)
-    threads, locks = chance.choice(((2, 1), (2, 2), (2, 3), (3, 1), (3, 2), (3, 3)))
+    threads, locks = chance.choice(((2, 1), (2, 2), (2, 3), (3, 1), (3, 2), (3, 3), (2, 3), (3, 3)))
     words, entries = [], []
     for thread in range(threads):
         entries.append((made.CODE + 4 * len(words), chance.randrange(9)))
         words += [encode("lui", BASE, made.DATA), encode("addi", NOTED, 10, 0)]
-        for _ in range(chance.randrange(1, 3 if threads > 2 else 4)):
+        for _ in range(chance.choice((1, 1, 2) if threads == 2 else (1,))):
             words += section(chance, locks)
         words += end(chance, locks)
     guards = [(made.DATA + 4 * lock, 4) for lock in range(locks)]

@@ -168,7 +168,7 @@ def order(threads):
     return shown + (f" .. ({len(threads) - SHOWN} more)" if len(threads) > SHOWN else "")
 
 
-def seen_text(found, most):
+def seen_text(found):
     """How much of a guest's interleavings was seen."""
     if found.whole:
         return several(found.states, "state")
@@ -180,8 +180,7 @@ def show_all(guest, found, asked):
     """Prints the outcomes of a search."""
     ends = found.ends()
     outcomes = several(len(ends), "outcome")
-    print(f"every interleaving: {outcomes}, {seen_text(found, asked.states)}" if found.whole else
-          f"{seen_text(found, asked.states)}: {outcomes}")
+    print(f"every interleaving: {outcomes}, {seen_text(found)}" if found.whole else f"{seen_text(found)}: {outcomes}")
 
     def tell(place):
         way = ends[place][1]()
@@ -202,7 +201,7 @@ def show_answer(guest, found, asked, rule, words):
     if found.whole:
         print(f"# {rule}: in no interleaving ({several(found.states, 'state')})")
         return False
-    print(f"# {rule}: not found; {seen_text(found, asked.states)}")
+    print(f"# {rule}: not found; {seen_text(found)}")
     return None
 
 
@@ -213,6 +212,8 @@ def search_all(guest, asked):
         found = search.Search(guest, asked.fuel, dict.fromkeys(questions), asked.states, asked.processes, not asked.all)
     except rules.WrongRule as wrong:
         raise tool.Trouble(tool.WORDS, f"the rule is wrong: {wrong}") from None
+    except sections.Collision as trouble:
+        raise tool.Trouble(UNDECIDED, f"{trouble}; nothing is known") from None
     reached = [show_answer(guest, found, asked, rule, "reachable") for rule in asked.reach]
     broken = [show_answer(guest, found, asked, rule, "broken") for rule in asked.never]
     if asked.all:
@@ -228,8 +229,8 @@ def samples(guest, asked):
     built = (ROOT / "crates/tclocks/out/tclocks").exists()
     if not built and not asked.model:
         tool.note("explore", "the program isn't built, so the model alone makes runs")
-    runs = asked.runs or 32
-    sources = [("model", by_model(asked.guest, guest, asked.fuel, runs, asked.seed or 1))]
+    runs, seed = asked.runs or 32, 1 if asked.seed is None else asked.seed
+    sources = [("model", by_model(asked.guest, guest, asked.fuel, runs, seed))]
     if built and not asked.model:
         sources.insert(0, ("program", by_program(asked.guest, asked.fuel, runs)))
     outcomes = collect(sources)
@@ -253,7 +254,8 @@ def parsed(words):
     parser.add_argument("--processes", metavar="N", type=tool.number(1, 64), default=os.cpu_count() or 1,
                         help="search by N processes (one for each processor)")
     parser.add_argument("--runs", metavar="N", type=tool.number(1, 100000), help="samples: how many by each (32)")
-    parser.add_argument("--seed", metavar="N", type=tool.number(0, 10**9), help="samples: of the first interleaving (1)")
+    parser.add_argument("--seed", metavar="N", type=tool.number(0, 10**9),
+                        help="samples: of the first interleaving (1)")
     parser.add_argument("--model", action="store_true", help="samples: by the model alone")
     parser.add_argument("--fuel", metavar="N", type=tool.number(1, 65536), default=20000, help="(20000)")
     parser.add_argument("--keep", metavar="FOLDER", help="write a history of each outcome into it")
