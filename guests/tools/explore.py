@@ -9,21 +9,19 @@ Else it looks at samples: N runs by the program, with several numbers of workers
 it is built, and N by model.py, in interleavings that are drawn from seeds.
 """
 import os
-import pathlib
-import subprocess
 import sys
 from collections import Counter
 
 import delegation
 import guestfile
 import legal
+import program
 import report
 import rules
 import sections
 import search
 import tool
 
-ROOT = pathlib.Path(__file__).resolve().parent.parent.parent
 OPTIONS = [(workers, batch) for batch in (8, 0, 1, 256) for workers in (1, 2, 4, 8)]
 UNDECIDED = 6  # the status where a search stopped before it had an answer
 BATCH = 8  # of the histories that a search prints: any is right where each section is taken
@@ -67,14 +65,14 @@ def cells(guest, end):
 
 def by_program(path, fuel, runs):
     """Reports of the built program with their commands."""
+    file = guestfile.read(path)
     for i in range(runs):
         workers, batch = OPTIONS[i % len(OPTIONS)]
-        words = ["run", str(workers), str(fuel), str(batch)]
-        with open(path, "rb") as file:
-            done = subprocess.run([ROOT / "tclocks", *words], stdin=file, stdout=subprocess.PIPE, check=False)
-        if done.returncode:
-            raise tool.Trouble(tool.WRONG, f"./tclocks {' '.join(words)} ended with status {done.returncode}")
-        yield done.stdout.decode("ascii").splitlines(), f"./tclocks {' '.join(words)} < {path}"
+        words = f"run {workers} {fuel} {batch}"
+        status, text = program.run(words.split(), file)
+        if status:
+            raise tool.Trouble(tool.WRONG, f"./tclocks {words} ended with status {status}")
+        yield text.splitlines(), f"./tclocks {words} < {path}"
 
 
 def by_model(path, guest, fuel, runs, seed):
@@ -224,14 +222,22 @@ def search_all(guest, asked):
         raise tool.Trouble(UNDECIDED, "not all interleavings were seen; --states allows more")
 
 
+def is_built():
+    """Whether the program is there to make runs; if not, it says so."""
+    try:
+        program.need()
+    except tool.Trouble as trouble:
+        tool.note("explore", f"{trouble}; so the model alone makes runs")
+        return False
+    return True
+
+
 def samples(guest, asked):
     """Looks at some runs."""
-    built = (ROOT / "crates/tclocks/out/tclocks").exists()
-    if not built and not asked.model:
-        tool.note("explore", "the program isn't built, so the model alone makes runs")
+    built = not asked.model and is_built()
     runs, seed = asked.runs or 32, 1 if asked.seed is None else asked.seed
     sources = [("model", by_model(asked.guest, guest, asked.fuel, runs, seed))]
-    if built and not asked.model:
+    if built:
         sources.insert(0, ("program", by_program(asked.guest, asked.fuel, runs)))
     outcomes = collect(sources)
     print(f"samples, {' and '.join(f'{runs} runs by the {name}' for name, _ in sources)}: "
