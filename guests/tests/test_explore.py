@@ -1,5 +1,7 @@
 """The search of every interleaving: that it misses no end and makes none up, what it answers to rules, and
 how it is used wrongly."""
+import contextlib
+import io
 import random
 import sys
 import unittest
@@ -14,6 +16,7 @@ import made
 import model
 import rules
 import search
+import tool
 from rv32im import encode
 
 sys.path.insert(0, str(GUESTS / "tools"))
@@ -124,6 +127,20 @@ class Use(Case):
         self.says("samples, 20 runs by the model: 1 outcome seen; there may be others", done)
         self.says("word 0 73", done)
 
+    def test_runs_beside_all(self):
+        done = run("explore", elf("stale"), "--all", "--runs", "3", "--model")
+        self.assertEqual((done.returncode, done.stderr), (0, b""))
+        self.says("\n\nsamples, 3 runs by the model: 1 outcome seen\n", done)
+
+    def test_a_run_that_the_search_has_not(self):
+        guest = guestfile.load(elf("stale")).guest
+        found = search.Search(guest, 20000)
+        found.ends = lambda: []
+        asked, _ = explore.parsed([elf("stale"), "--all", "--runs", "1", "--model"])
+        with contextlib.redirect_stdout(io.StringIO()), self.assertRaises(tool.Trouble) as trouble:
+            explore.compare(guest, found, asked)
+        self.assertEqual(trouble.exception.status, 3)
+
     def test_reach(self):
         done = run("explore", elf("stale"), "--reach", "lock 0 word 0 < 73")
         self.assertEqual((done.returncode, done.stderr), (0, b""))
@@ -189,7 +206,7 @@ class Use(Case):
                       ["--never", "lock 0 words 0"], ["--never", "(faults"], ["--never", "faults)"], ["--reach"],
                       ["--reach", "1 < 2 < 3"], ["--reach", "0x"], ["--reach", "thread 0"], ["--reach", "nobody"],
                       ["--reach", "(" * 5000], ["--reach", "9" * 5000], ["--all", "--states", "0"],
-                      ["--all", "--processes", "0"], ["--all", "--runs", "5"], ["--all", "--seed", "5"], ["--never", "faults", "--model"],
+                      ["--all", "--processes", "0"], ["--reach", "faults", "--runs", "5"], ["--all", "--seed", "5"], ["--never", "faults", "--model"],
                       ["--reach", "faults", "--keep", "folder"], ["32"], ["--runs", "0"]):
             with self.subTest(words=[word[:40] for word in words]):
                 self.one_line(run("explore", elf("first"), *words), 1)

@@ -216,10 +216,22 @@ def search_all(guest, asked):
     broken = [show_answer(guest, found, asked, rule, "broken") for rule in asked.never]
     if asked.all:
         show_all(guest, found, asked)
+    if asked.runs:
+        compare(guest, found, asked)
     if True in broken:
         raise tool.Trouble(tool.WRONG, f"never {asked.never[broken.index(True)]}: broken")
     if None in reached + broken:
         raise tool.Trouble(UNDECIDED, "not all interleavings were seen; --states allows more")
+
+
+def compare(guest, found, asked):
+    """Makes runs too: where every interleaving was seen, each must come to an outcome that is there."""
+    names, outcomes = sampled(guest, asked)
+    print(f"\n{names}: {several(len(outcomes), 'outcome')} seen")
+    known = {end for end, _ in found.ends()}
+    for end, outcome in outcomes:
+        if found.whole and end not in known:
+            raise tool.Trouble(tool.WRONG, f"the search has not the outcome of {outcome.command}")
 
 
 def is_built():
@@ -232,16 +244,20 @@ def is_built():
     return True
 
 
-def samples(guest, asked):
-    """Looks at some runs."""
+def sampled(guest, asked):
+    """Looks at some runs: how many of whom, and their outcomes."""
     built = not asked.model and is_built()
     runs, seed = asked.runs or 32, 1 if asked.seed is None else asked.seed
     sources = [("model", by_model(asked.guest, guest, asked.fuel, runs, seed))]
     if built:
         sources.insert(0, ("program", by_program(asked.guest, asked.fuel, runs)))
-    outcomes = collect(sources)
-    print(f"samples, {' and '.join(f'{runs} runs by the {name}' for name, _ in sources)}: "
-          f"{several(len(outcomes), 'outcome')} seen; there may be others (--all looks at every interleaving)")
+    return f"samples, {' and '.join(f'{runs} runs by the {name}' for name, _ in sources)}", collect(sources)
+
+
+def samples(guest, asked):
+    """Prints the outcomes of some runs."""
+    names, outcomes = sampled(guest, asked)
+    print(f"{names}: {several(len(outcomes), 'outcome')} seen; there may be others (--all looks at every interleaving)")
     show(guest, [end for end, _ in outcomes], asked.most, lambda place: outcomes[place][1].seen())
     if asked.keep:
         keep(asked.keep, (outcome.lines for _, outcome in outcomes))
@@ -269,8 +285,8 @@ def parsed(words):
                         help="show at most N outcomes (10)")
     asked = parser.parse_args(words)
     searches = asked.all or asked.reach or asked.never
-    if searches and (asked.model or asked.runs or asked.seed is not None):
-        parser.error("--runs, --seed and --model are of samples, and not of --all, --reach and --never")
+    if searches and not (asked.all and asked.runs) and (asked.model or asked.runs or asked.seed is not None):
+        parser.error("--runs, --seed and --model are of samples, and go with no search but --all --runs")
     if asked.keep and searches and not asked.all:
         parser.error("--keep goes with --all or samples: --reach and --never print their history")
     return asked, searches
