@@ -1,5 +1,18 @@
 """Counts of a report: by lock, by thread and by worker. Blocks are counted one by one, so that a
-report of any size needs little memory."""
+report of any size needs little memory.
+
+Of a lock, with its sections in their order:
+  longest  the most adopted sections in a row
+  changes  how many sections, from the second on, have another worker than the lock's block before
+  home     how many sections, from the second on, have another home worker than the section before:
+           the home worker is that of the thread's block before, or the section's own where there is none.
+           So often the lock would have moved, had each section run where its thread came from
+  waiting  the blocks of all threads that stand between a thread's LOCK, which ended its block before,
+           and its section
+  fairness of this waiting over the threads (Jain's index of their mean waits): 1 where each waited as
+           long as the others, 1/N where one of N threads waited alone
+Of a thread, moves: how many of its blocks have another worker than its block before.
+"""
 from collections import Counter
 
 from limits import SECTIONS
@@ -19,23 +32,69 @@ class Away:
         return bool(block.held) and own is not None and own != block.worker
 
 
+class Waits:
+    """The waits of some sections: their sum and the longest."""
+
+    def __init__(self):
+        self.sections = self.sum = self.longest = 0
+
+    def add(self, wait):
+        self.sections += 1
+        self.sum += wait
+        self.longest = max(self.longest, wait)
+
+
 class LockCounts:
     def __init__(self):
         self.kinds, self.turns, self.away = Counter(), 0, 0
-        self.row = self.longest = 0
+        self.row = self.longest = self.changes = self.home = 0
+        self.worker = self.home_worker = None  # of the lock's block before, of its section before
+        self.waits = {}  # by thread
 
-    def begin(self, kind, away):
-        """A section of the lock begins."""
-        self.kinds[kind] += 1
+    def add(self, block):
+        """Counts a block that holds the lock."""
+        self.turns += block.turns
+        self.worker = block.worker
+
+    def begin(self, block, before, away):
+        """A section of the lock begins with this block, and its thread's block before is given."""
+        home = block.worker if before is None else before.worker
+        if self.worker is not None:
+            self.changes += block.worker != self.worker
+            self.home += home != self.home_worker
+        self.home_worker = home
+        self.kinds[block.kind] += 1
         self.away += away
-        self.row = self.row + 1 if kind == "adopted" else 0
+        self.row = self.row + 1 if block.kind == "adopted" else 0
         self.longest = max(self.longest, self.row)
+        self.waits.setdefault(block.thread, Waits()).add(wait(block, before))
+
+    @property
+    def sections(self):
+        return sum(self.kinds.values())
+
+    @property
+    def waiting(self):
+        return sum(waits.sum for waits in self.waits.values())
+
+    @property
+    def longest_wait(self):
+        return max((waits.longest for waits in self.waits.values()), default=0)
+
+    @property
+    def fairness(self):
+        """None where no thread took the lock."""
+        means = [waits.sum / waits.sections for waits in self.waits.values()]
+        if not any(means):
+            return 1.0 if means else None
+        return round(sum(means) ** 2 / (len(means) * sum(mean * mean for mean in means)), 3)
 
 
 class ThreadCounts:
     def __init__(self):
         self.blocks = self.turns = self.held = self.moves = self.away = self.sleeps = 0
-        self.worker, self.end = None, None
+        self.waits = Waits()
+        self.before, self.end = None, None
 
     def add(self, block, away):
         self.blocks += 1
@@ -43,8 +102,10 @@ class ThreadCounts:
         self.held += block.turns if block.held else 0
         self.away += away
         self.sleeps += block.end == "slept"
-        self.moves += self.worker not in (None, block.worker)
-        self.worker = block.worker
+        self.moves += self.before is not None and self.before.worker != block.worker
+        if block.begun is not None:
+            self.waits.add(wait(block, self.before))
+        self.before = block
         self.end = block.end if block.ends_thread else None
 
 
@@ -56,6 +117,11 @@ class WorkerCounts:
         self.blocks += 1
         self.turns += block.turns
         self.away += away
+
+
+def wait(block, before):
+    """How many blocks stand between a section and its thread's block before, which came to the LOCK."""
+    return 0 if before is None else block.stamp - before.stamp - 1
 
 
 class Counts:
@@ -71,10 +137,10 @@ class Counts:
     def add(self, block):
         """Counts a block. Answers whether it ran away from its thread's own worker."""
         away = self.away.is_away(block)
-        for lock in block.held:
-            self.locks[lock].turns += block.turns
         if block.begun is not None:
-            self.locks[block.begun].begin(block.kind, away)
+            self.locks[block.begun].begin(block, self.threads[block.thread].before, away)
+        for lock in block.held:
+            self.locks[lock].add(block)
         self.threads[block.thread].add(block, away)
         self.workers[block.worker].add(block, away)
         return away
@@ -88,16 +154,16 @@ class Counts:
 
     def lock_row(self, number, lock):
         ends = self.text.lock_ends
-        return {"lock": number, "sections": sum(lock.kinds.values()),
-                **{kind: lock.kinds[kind] for kind in SECTIONS}, "away": lock.away,
-                "longest adopted row": lock.longest, "turns held": lock.turns,
-                "broken": ends[number].broken if number < len(ends) else None}
+        return {"lock": number, "sections": lock.sections, **{kind: lock.kinds[kind] for kind in SECTIONS},
+                "longest": lock.longest, "changes": lock.changes, "home": lock.home, "away": lock.away,
+                "waiting": lock.waiting, "longest_wait": lock.longest_wait, "fairness": lock.fairness,
+                "turns": lock.turns, "broken": ends[number].broken if number < len(ends) else None}
 
     def thread_row(self, number, thread):
         ends = self.text.thread_ends
         end = ends[number] if number < len(ends) else None
-        return {"thread": number, "blocks": thread.blocks, "turns": thread.turns,
-                "turns with a lock": thread.held, "moves": thread.moves, "away": thread.away,
-                "sleeps": thread.sleeps, "end": thread.end,
-                "fuel left": end.fuel if end else None,
+        return {"thread": number, "blocks": thread.blocks, "turns": thread.turns, "moves": thread.moves,
+                "turns_held": thread.held, "away": thread.away, "sleeps": thread.sleeps,
+                "waiting": thread.waits.sum, "longest_wait": thread.waits.longest, "end": thread.end,
+                "fuel_left": end.fuel if end else None,
                 "x10": end.x[10] if end and len(end.x) == 32 else None}

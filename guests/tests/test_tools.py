@@ -67,13 +67,37 @@ class Tables(Case):
         guest = saved("one.elf", built(ONE, (0, 0), 1))
         text = run("finish", guest, given=BY_HAND).stdout
         counts = json.loads(run("summary", "-", "--json", given=text).stdout)
-        self.assertEqual(counts["by lock"], [{
-            "lock": 0, "sections": 2, "taken": 1, "adopted": 1, "granted": 0, "away": 1,
-            "longest adopted row": 1, "turns held": 14, "broken": 0}])
-        self.assertEqual([(row["blocks"], row["turns"], row["moves"], row["end"]) for row in counts["by thread"]],
+        self.assertEqual(counts["by_lock"], [{
+            "lock": 0, "sections": 2, "taken": 1, "adopted": 1, "granted": 0, "longest": 1, "changes": 0, "home": 1,
+            "away": 1, "waiting": 0, "longest_wait": 0, "fairness": 1.0, "turns": 14, "broken": 0}])
+        self.assertEqual([(row["blocks"], row["turns"], row["moves"], row["end"]) for row in counts["by_thread"]],
                          [(3, 12, 0, "exit"), (3, 12, 2, "exit")])
-        self.assertEqual([(row["blocks"], row["turns"]) for row in counts["by worker"]], [(4, 19), (2, 5)])
-        self.says("lock,0,adopted,1", run("summary", "-", "--csv", given=text))
+        self.assertEqual([(row["blocks"], row["turns"]) for row in counts["by_worker"]], [(4, 19), (2, 5)])
+        self.assertEqual({name: counts[name] for name in ("workers", "fuel", "batch")},
+                         {"workers": 2, "fuel": 100, "batch": 4})
+        self.says("\n2,100,4,lock,0,adopted,1\n", run("summary", "-", "--csv", given=text))
+
+    def test_waiting_and_moves_on_paper(self):
+        """Three threads come to their LOCK, and the sections stand 0, 2, 1: thread 1 waits three blocks,
+        thread 2 one. The lock moves from worker 0 to 1 and back to 0; at home it would be so too, but that
+        worker 2 ran thread 1 to its LOCK: 0, 1, 2."""
+        lines = """run workers 3 fuel 100 batch 4
+            thread 0 worker 0
+            thread 1 worker 2
+            thread 2 worker 1
+            thread 0 worker 0
+            thread 2 kind taken worker 1
+            thread 1 kind taken worker 0
+            thread 0 worker 0
+            thread 1 worker 2
+            thread 2 worker 1"""
+        text = run("finish", saved("three.elf", built(ONE, (0, 0, 0), 1)), given=lines).stdout
+        counts = json.loads(run("summary", "-", "--json", given=text).stdout)
+        lock = counts["by_lock"][0]
+        self.assertEqual([lock[name] for name in ("sections", "taken", "changes", "home", "waiting", "longest_wait")],
+                         [3, 3, 2, 2, 2 + 3 + 1, 3])
+        self.assertEqual(lock["fairness"], round((2 + 3 + 1)**2 / (3 * (4 + 9 + 1)), 3))
+        self.assertEqual([(row["waiting"], row["longest_wait"]) for row in counts["by_thread"]], [(2, 2), (3, 3), (1, 1)])
 
     def test_draw(self):
         for name in ("counter", "philosophers"):

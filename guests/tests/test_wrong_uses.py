@@ -107,7 +107,7 @@ class Large(Case):
         both = [subprocess.Popen([GUESTS / tool, str(path), *words], stdout=subprocess.PIPE, stderr=subprocess.DEVNULL)
                 for tool, words in (("summary", ["--json"]), ("draw", []))]
         summary, picture = (tool.communicate()[0] for tool in both)
-        self.assertEqual(json.loads(summary)["by lock"][15]["adopted"], 1_040_000)
+        self.assertEqual(json.loads(summary)["by_lock"][15]["adopted"], 1_040_000)
         self.assertIn(b"too many to draw each", picture)
         self.assertLess(len(picture), 20_000_000)
         path.unlink()

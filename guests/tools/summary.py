@@ -1,14 +1,26 @@
 """Counts what a report says: by lock, by thread and by worker.
 
-  away    blocks of a section (of a lock: its sections' first blocks) that ran with another worker
-          than the thread's last block without a lock
-  moves   how often a thread's next block had another worker than the one before
+  sections   of a lock, and how many of them were taken, adopted, granted
+  longest    the most adopted sections in a row
+  changes    how many sections, from the second on, ran with another worker than the lock's block before:
+             so often the lock moved
+  home       how many sections, from the second on, have another home worker than the section before; the
+             home worker is that of the thread's block before. So often the lock would have moved, had each
+             section run where its thread came from
+  away       blocks of a section (of a lock: its sections' first blocks) that ran with another worker
+             than the thread's last block without a lock
+  waiting    how many blocks stand between a thread's LOCK and its section, in sum, and the longest wait
+  fairness   of the waiting for a lock: 1 where each thread waited as long as the others, 1/N where one of
+             N threads waited alone (Jain's index of the threads' mean waits)
+  turns      of a lock: turns in which it was held
+  moves      how often a thread's next block had another worker than the one before
 """
 import csv
 import json
 import sys
 
 import counts
+import limits
 import report
 import tool
 
@@ -37,7 +49,8 @@ def print_text(counted):
     for _, rows in counted.tables():
         if not rows:
             continue
-        cells = [list(rows[0])] + [[shown(value) for value in row.values()] for row in rows]
+        names = [name.replace("_", " ") for name in rows[0]]
+        cells = [names] + [[shown(value) for value in row.values()] for row in rows]
         widths = [max(map(len, column)) for column in zip(*cells)]
         print()
         for line in cells:
@@ -45,21 +58,23 @@ def print_text(counted):
 
 
 def print_json(counted):
-    text = counted.text
-    print(json.dumps({"workers": text.workers, "fuel": text.fuel, "batch": text.batch,
-                      "whole": text.whole,
-                      **{f"by {name}": rows for name, rows in counted.tables()}}, indent=1))
+    print(json.dumps({**parameters(counted.text), "whole": counted.text.whole,
+                      **{f"by_{name}": rows for name, rows in counted.tables()}}, indent=1))
+
+
+def parameters(text):
+    return {name: getattr(text, name) for name in limits.RUN}
 
 
 def print_csv(counted):
-    """One value a line, so that the three tables are one."""
-    writer = csv.writer(sys.stdout, lineterminator="\n")
-    writer.writerow(["of", "number", "name", "value"])
+    """One value a line, with the parameters of the run, so that the tables of all runs are one."""
+    writer, run = csv.writer(sys.stdout, lineterminator="\n"), parameters(counted.text)
+    writer.writerow([*run, "of", "number", "name", "value"])
     for name, rows in counted.tables():
         for row in rows:
             for key, value in row.items():
                 if key != name:
-                    writer.writerow([name, row[name], key, "" if value is None else value])
+                    writer.writerow([*run.values(), name, row[name], key, "" if value is None else value])
 
 
 def main(words):
