@@ -2,7 +2,7 @@
 report of any size needs little memory.
 
 Of a lock, with its sections in their order:
-  longest  the most adopted sections in a row
+  rows     how many rows of adopted sections there are, and longest, the most that stand in one
   changes  how many sections, from the second on, have another worker than the lock's block before
   home     how many sections, from the second on, have another home worker than the section before:
            the home worker is that of the thread's block before, or the section's own where there is none.
@@ -47,7 +47,7 @@ class Waits:
 class LockCounts:
     def __init__(self):
         self.kinds, self.turns, self.away = Counter(), 0, 0
-        self.row = self.longest = self.changes = self.home = 0
+        self.row = self.rows = self.longest = self.changes = self.home = 0
         self.worker = self.home_worker = None  # of the lock's block before, of its section before
         self.waits = {}  # by thread
 
@@ -66,6 +66,7 @@ class LockCounts:
         self.kinds[block.kind] += 1
         self.away += away
         self.row = self.row + 1 if block.kind == "adopted" else 0
+        self.rows += self.row == 1
         self.longest = max(self.longest, self.row)
         self.waits.setdefault(block.thread, Waits()).add(wait(block, before))
 
