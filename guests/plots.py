@@ -200,5 +200,5 @@ def lane(owners, worker, y, unit):
         if owner == worker:
             stretches.append(f"M{LEFT + start * unit:.1f} {y:g}h{count * unit:.2f}v{LANE - 1}h-{count * unit:.2f}z")
         start += count
-    said = f"worker {worker}: {owners.count(worker)} of these sections, in {len(stretches)} stretches"
+    said = f"worker {worker}: {owners.count(worker)} of these sections, in {len(stretches)} stretch{'es' * (len(stretches) != 1)}"
     return titled(said, [f'<path style="fill:{COLOURS[worker % 7]}" d="{"".join(stretches)}"/>'])

@@ -30,3 +30,8 @@ def run(words, file):
     """What the program answers to words and a file's bytes: its status and its text."""
     done = subprocess.run([PATH, *map(str, words)], input=file, stdout=subprocess.PIPE, check=False)
     return done.returncode, done.stdout.decode("ascii", "replace")
+
+
+def pass_on(words, file):
+    """Lets the program write to standard output itself, and answers its status."""
+    return subprocess.run([PATH, *map(str, words)], input=file, check=False).returncode

@@ -89,7 +89,7 @@ class Sweep(Case):
         path = TEMPORARY / "paper.svg"
         run("sweep", saved("one.elf", built(ONE, (0, 0), 1)), "--workers", "1", "--batch", "0", "--runs", "1", "--model",
             "--strips", str(path))
-        self.assertIn("worker 0: 2 of these sections, in 1 stretches", path.read_text())
+        self.assertIn("worker 0: 2 of these sections, in 1 stretch<", path.read_text())
 
 
 class WrongUses(Case):

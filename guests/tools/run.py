@@ -1,0 +1,53 @@
+"""Runs a guest, by the program where it is built and else by the model, and prints its report.
+
+Output and status are those of ./tclocks run W F B < GUEST. Which of the two ran is said on standard error.
+With one worker both print the same; with several the program does what the host's scheduler makes of it, and
+the model takes the interleaving of its seed. A seed asks for the model.
+"""
+import delegation
+import guestfile
+import limits
+import program
+import tool
+
+
+ENDS = {tool.WRONG: "the file is refused; guests/explain GUEST says why", tool.OUTPUT: "standard output can't be written",
+        tool.MEMORY: "memory was refused"}
+
+
+def by_program(file, words):
+    tool.note("run", "by the program")
+    status = program.pass_on(words, file)
+    if status:
+        raise tool.Trouble(status, ENDS.get(status, f"the program ended with status {status}"))
+
+
+def by_model(file, asked):
+    try:
+        guest = guestfile.GuestFile(file).guest
+    except guestfile.Refused as refused:
+        print(str(refused).split(":")[0])
+        raise tool.Trouble(tool.WRONG, ENDS[tool.WRONG]) from None
+    tool.note("run", "by the model" + ("" if asked.workers == 1 else f", in the interleaving of seed {asked.seed or 0}")
+              + (", since the program isn't built" if asked.seed is None else ""))
+    run, blocks = delegation.delegated(guest, asked.fuel, asked.workers, asked.batch, asked.seed or 0)
+    for line in run.lines(blocks):
+        print(line)
+
+
+def main(words):
+    parser = tool.words("run", __doc__)
+    parser.add_argument("guest", metavar="GUEST", help="the guest's file")
+    for name, (least, most) in limits.RUN.items():
+        parser.add_argument(name, metavar=name.upper(), type=tool.number(least, most), help=f"{least} to {most}")
+    parser.add_argument("--seed", type=tool.number(0, 10**9), metavar="N", help="the model, in this interleaving (0)")
+    asked = parser.parse_args(words)
+    file = guestfile.read(asked.guest)
+    if program.is_built() and asked.seed is None:
+        by_program(file, ("run", asked.workers, asked.fuel, asked.batch))
+    else:
+        by_model(file, asked)
+
+
+if __name__ == "__main__":
+    tool.run("run", main)
