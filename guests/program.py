@@ -16,14 +16,20 @@ def is_built():
     return os.access(PATH, os.X_OK)
 
 
-def need():
-    """Trouble where it isn't built, or where a source is newer than it."""
+def missing():
+    """Why there is no program to run: it isn't built, or a source is newer than it. None where there is one."""
     if not is_built():
-        raise tool.Trouble(tool.INPUT, f"the program isn't built; {BUILD}")
+        return f"the program isn't built; {BUILD}"
     asked = subprocess.run([COMMAND], env={"TCLOCKS_PROGRAM": "built", **os.environ}, stdin=subprocess.DEVNULL,
                            stdout=subprocess.DEVNULL, stderr=subprocess.PIPE, check=False)
-    if asked.returncode == NOT_BUILT:
-        raise tool.Trouble(tool.INPUT, asked.stderr.decode().strip().partition(": ")[2])
+    return asked.stderr.decode().strip().partition(": ")[2] if asked.returncode == NOT_BUILT else None
+
+
+def need():
+    """Trouble where there is none."""
+    why = missing()
+    if why:
+        raise tool.Trouble(tool.INPUT, why)
 
 
 def run(words, file):

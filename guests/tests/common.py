@@ -3,6 +3,7 @@ from docs, from facts.json and from guests whose runs are known on paper."""
 import json
 import pathlib
 import re
+import shutil
 import subprocess
 import sys
 import tempfile
@@ -66,6 +67,17 @@ def run(tool, *words, given=b"", **more):
     how = {"input": given} if "stdin" not in more else {}
     return subprocess.run([GUESTS / tool, *words], stdout=more.pop("stdout", subprocess.PIPE), stderr=subprocess.PIPE,
                           check=False, timeout=120, **how, **more)
+
+
+def with_program(name, text):
+    """The tools beside a program that is made up and, by the command, not out of date."""
+    root = TEMPORARY / name
+    shutil.copytree(GUESTS, root / "guests", ignore=shutil.ignore_patterns("__pycache__", "out", "tests"))
+    for path, script in ((root / "crates" / "tclocks" / "out" / "tclocks", text), (root / "tclocks", "#!/bin/sh\nexit 1\n")):
+        path.parent.mkdir(parents=True, exist_ok=True)
+        path.write_text(script)
+        path.chmod(0o755)
+    return root / "guests"
 
 
 def history(name, workers, batch, seed, fuel=20000, version=2):

@@ -6,7 +6,7 @@ import shutil
 import subprocess
 import unittest
 
-from common import GUESTS, TEMPORARY, Case, elf, run, saved
+from common import GUESTS, TEMPORARY, Case, elf, run, saved, with_program
 import guestfile
 import model
 
@@ -14,17 +14,6 @@ ROOT = GUESTS.parent
 COURSE, ANSWERS = GUESTS / "course", ROOT / "docs" / "answers"
 PAGES = (ROOT / "docs" / "TEACHING.md", ANSWERS / "README.md")
 BUILT = [COURSE / f"{name}.elf" for name in ("hot", "pair", "queue")] + [ANSWERS / f"{name}.elf" for name in ("pair", "queue")]
-
-
-def with_program(name, text):
-    """The tools beside a program that is made up."""
-    root = TEMPORARY / name
-    shutil.copytree(GUESTS, root / "guests", ignore=shutil.ignore_patterns("__pycache__", "out", "tests"))
-    folder = root / "crates" / "tclocks" / "out"
-    folder.mkdir(parents=True)
-    (folder / "tclocks").write_text(text)
-    (folder / "tclocks").chmod(0o755)
-    return root / "guests"
 
 
 class Run(Case):

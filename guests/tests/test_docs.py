@@ -1,5 +1,6 @@
 """What the pages show of runs of the program: the reports that are kept beside the pictures are legal,
 and pictures, excerpts and tables are those of these reports."""
+import csv
 import re
 import subprocess
 import unittest
@@ -19,8 +20,17 @@ class Kept(Case):
 
     def test_pictures_are_made_of_them(self):
         subprocess.run([PICTURES / "make", TEMPORARY], check=True, stderr=subprocess.DEVNULL)
-        for name in (*KEPT, "overview"):
+        for name in (*KEPT, "overview", "stays", "sweep"):
             self.assertEqual((PICTURES / f"{name}.svg").read_bytes(), (TEMPORARY / f"{name}.svg").read_bytes(), name)
+
+    def test_table_of_data_that_stays(self):
+        """Its numbers are those of the command that the page gives."""
+        page = (DOCS / "TEACHING.md").read_text()
+        command = re.search("^guests/(sweep guests/course/hot.elf .*) --strips my.svg$", page, re.M)[1].split()
+        rows = list(csv.DictReader(run(command[0], GUESTS.parent / command[1], *command[2:]).stdout.decode().splitlines()))
+        lines = [f"| {row['batch']} | {int(row['taken']):,} | {int(row['adopted']):,} | {int(row['granted']):,} | "
+                 f"{int(row['changes']):,} times | {int(row['away']):,} |" for row in rows]
+        self.assertIn("\n".join(lines), page)
 
     def test_lines_of_the_delegated_history(self):
         page = (DOCS / "TEACHING.md").read_text()

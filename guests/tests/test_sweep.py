@@ -2,11 +2,10 @@
 import csv
 import json
 import re
-import shutil
 import unittest
 import xml.etree.ElementTree
 
-from common import BY_HAND, GUESTS, ONE, TEMPORARY, Case, built, elf, run, saved
+from common import BY_HAND, GUESTS, ONE, TEMPORARY, Case, built, elf, run, saved, with_program
 
 
 def table(done):
@@ -50,15 +49,10 @@ class Sweep(Case):
 
     def test_by_the_program(self):
         """One that is made up, in the place of the built one."""
-        root = TEMPORARY / "with-program"
-        shutil.copytree(GUESTS, root / "guests", ignore=shutil.ignore_patterns("__pycache__", "out", "tests"))
-        folder = root / "crates" / "tclocks" / "out"
-        folder.mkdir(parents=True)
-        (folder / "tclocks").write_text(f'#!/bin/sh\n[ "$1" = run ] || exit 1\nshift\n'
-                                        f'exec {root}/guests/simulate - "$@" --seed 5\n')
-        (folder / "tclocks").chmod(0o755)
+        tools = with_program("sweeping", f'#!/bin/sh\n[ "$1" = run ] || exit 1\nshift\n'
+                                         f'exec {GUESTS}/simulate - "$@" --seed 5\n')
         words = ("--workers", "2", "--batch", "8", "--runs", "2", "--fuel", "900")
-        by_program = run(root / "guests" / "sweep", elf("counter"), *words, "--plot", str(TEMPORARY / "seconds.svg"))
+        by_program = run(tools / "sweep", elf("counter"), *words, "--plot", str(TEMPORARY / "seconds.svg"))
         self.assertEqual(by_program.stderr, b"")
         by_model = table(run("sweep", elf("counter"), *words, "--model", "--seed", "5"))
         for row in table(by_program):
@@ -66,8 +60,7 @@ class Sweep(Case):
             self.assertGreater(float(row["seconds"]), 0)
             self.assertEqual({**row, "by": "model", "seed": "5", "seconds": "", "run": "1"}, by_model[0])
         self.assertIn("Seconds", (TEMPORARY / "seconds.svg").read_text())
-        (folder / "tclocks").write_text("#!/bin/sh\nexit 5\n")
-        self.one_line(run(root / "guests" / "sweep", elf("counter")), 3)
+        self.one_line(run(with_program("failing", "#!/bin/sh\nexit 5\n") / "sweep", elf("counter")), 3)
 
     def test_pictures(self):
         plot, strips = TEMPORARY / "plot.svg", TEMPORARY / "strips.svg"

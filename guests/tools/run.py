@@ -22,14 +22,14 @@ def by_program(file, words):
         raise tool.Trouble(status, ENDS.get(status, f"the program ended with status {status}"))
 
 
-def by_model(file, asked):
+def by_model(file, asked, why):
     try:
         guest = guestfile.GuestFile(file).guest
     except guestfile.Refused as refused:
         print(str(refused).split(":")[0])
         raise tool.Trouble(tool.WRONG, ENDS[tool.WRONG]) from None
     tool.note("run", "by the model" + ("" if asked.workers == 1 else f", in the interleaving of seed {asked.seed or 0}")
-              + (", since the program isn't built" if asked.seed is None else ""))
+              + (f": {why}" if why else ""))
     run, blocks = delegation.delegated(guest, asked.fuel, asked.workers, asked.batch, asked.seed or 0)
     for line in run.lines(blocks):
         print(line)
@@ -43,10 +43,11 @@ def main(words):
     parser.add_argument("--seed", type=tool.number(0, 10**9), metavar="N", help="the model, in this interleaving (0)")
     asked = parser.parse_args(words)
     file = guestfile.read(asked.guest)
-    if program.is_built() and asked.seed is None:
-        by_program(file, ("run", asked.workers, asked.fuel, asked.batch))
+    why = program.missing() if asked.seed is None else None
+    if why or asked.seed is not None:
+        by_model(file, asked, why)
     else:
-        by_model(file, asked)
+        by_program(file, ("run", asked.workers, asked.fuel, asked.batch))
 
 
 if __name__ == "__main__":

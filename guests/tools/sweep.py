@@ -125,8 +125,7 @@ def results(file, settings):
         yield from pool.imap(by_model, [(file, setting) for setting in settings])
 
 
-def settings_of(asked):
-    by = "model" if asked.model or not program.is_built() else "program"
+def settings_of(asked, by):
     for number, (workers, batch, run) in enumerate(itertools.product(asked.workers, asked.batch,
                                                                      range(1, asked.runs + 1))):
         yield Setting(by, workers, batch, asked.fuel, run, asked.seed + number if by == "model" else "")
@@ -179,9 +178,10 @@ def main(words):
     locks = len(guestfile.load(asked.guest).guest.guards)
     if asked.strips and (asked.lock or 0) >= locks:
         raise tool.Trouble(tool.WORDS, f"--strips: {asked.guest} has no lock {asked.lock or 0}")
-    settings = list(settings_of(asked))
-    if settings[0].by == "model" and not asked.model:
-        tool.note("sweep", "the program isn't built, so the model makes the runs")
+    why = None if asked.model else program.missing()
+    if why:
+        tool.note("sweep", f"by the model: {why}")
+    settings = list(settings_of(asked, "model" if asked.model or why else "program"))
     table = csv.writer(sys.stdout, lineterminator="\n")
     table.writerow(["guest", *Setting._fields, "lock", *NUMBERS, "blocks", "turns", "seconds"])
     done = []
