@@ -32,8 +32,13 @@ class Words(argparse.ArgumentParser):
         raise Trouble(WORDS, f"{message}; {usage}")
 
 
+def called(tool):
+    """A tool's name from the top: guests/ but for one that stands elsewhere."""
+    return tool if "/" in tool else f"guests/{tool}"
+
+
 def words(tool, description):
-    return Words(prog=f"guests/{tool}", description=description, allow_abbrev=False,
+    return Words(prog=called(tool), description=description, allow_abbrev=False,
                  formatter_class=argparse.RawDescriptionHelpFormatter)
 
 
@@ -90,7 +95,7 @@ def write_file(path, text):
 def note(name, text):
     """One line on standard error."""
     if sys.stderr is not None:
-        sys.stderr.write(f"guests/{name}: {text}\n")
+        sys.stderr.write(f"{called(name)}: {text}\n")
 
 
 def flush():

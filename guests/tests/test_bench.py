@@ -24,6 +24,15 @@ class Bench(Case):
         for path in folder.iterdir():
             self.assertEqual(len(guestfile.load(str(path)).guest.entries), 16)
 
+    def test_words(self):
+        done = bench("--help")
+        self.assertEqual((done.returncode, done.stderr), (0, b""))
+        self.says("usage: bench/run", done)
+        for words in (("nobody",), ("-w", "9"), ("-w", "1,"), ("-b", "257"), ("-f", "0"), ("-r", "0"), ("-x",)):
+            done = bench(*words)
+            self.one_line(done, 1)
+            self.assertTrue(done.stderr.startswith(b"bench/run: "))
+
     def test_a_folder_that_can_not_be_made(self):
         file = TEMPORARY / "file"
         file.write_bytes(b"")
