@@ -241,9 +241,14 @@ def read(path):
     return tool.read_bytes(path, limits.FILE_BYTES + 1)
 
 
-def load(path):
-    """The guest of a file; Trouble where it can't be read or is refused."""
+def accepted(file, path):
+    """The guest of a file's bytes; Trouble where they are refused."""
     try:
-        return GuestFile(read(path))
+        return GuestFile(file)
     except Refused as refused:
         raise tool.Trouble(tool.WRONG, f"{path}: {refused}") from None
+
+
+def load(path):
+    """The guest of a file; Trouble where it can't be read or is refused."""
+    return accepted(read(path), path)

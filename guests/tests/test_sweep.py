@@ -30,6 +30,11 @@ class Sweep(Case):
                              ("philosophers.elf", "model", "all", ""))
             self.assertEqual(int(row["blocks"]), text.count(b"\nblock "))
 
+    def test_standard_input(self):
+        words = ("--workers", "1", "--batch", "0", "--runs", "1", "--model")
+        done = run("sweep", "-", *words, given=(GUESTS / "first.elf").read_bytes())
+        self.assertEqual(done.stdout.replace(b"\n-,", b"\nfirst.elf,"), run("sweep", elf("first"), *words).stdout)
+
     def test_a_line_for_each_lock(self):
         rows = table(run("sweep", elf("philosophers"), "--workers", "2", "--batch", "1", "--runs", "1", "--model", "--locks"))
         self.assertEqual([(row["lock"], row["sections"]) for row in rows],

@@ -3,7 +3,7 @@ import json
 import re
 import unittest
 
-from common import BY_HAND, GUESTS, NAMES, ONE, TEMPORARY, Case, built, elf, history, run, saved
+from common import BY_HAND, EXIT, GUESTS, NAMES, ONE, TEMPORARY, Case, built, call, elf, history, run, saved
 import guestfile
 
 
@@ -76,6 +76,16 @@ class Tables(Case):
         self.assertEqual({name: counts[name] for name in ("workers", "fuel", "batch")},
                          {"workers": 2, "fuel": 100, "batch": 4})
         self.says("\n2,100,4,lock,0,adopted,1\n", run("summary", "-", "--csv", given=text))
+
+    def test_one_worker_moves_nothing(self):
+        """Two locks, held together, by one thread: five blocks of 2, 3, 4, 3 and 2 turns."""
+        code = (*call(1, 0), *call(1, 1), *call(2, 0), *call(2, 1), *EXIT)
+        text = run("simulate", saved("paper.elf", built(code, (0,), 2)), "1", "100", "4").stdout
+        counts = json.loads(run("summary", "-", "--json", given=text).stdout)
+        for lock in counts["by_lock"]:
+            self.assertEqual([lock[name] for name in ("sections", "taken", "adopted", "granted", "longest", "changes", "home")],
+                             [1, 1, 0, 0, 0, 0, 0])
+        self.assertEqual([counts["by_thread"][0][name] for name in ("blocks", "turns", "moves")], [5, 14, 0])
 
     def test_waiting_and_moves_on_paper(self):
         """Three threads come to their LOCK, and the sections stand 0, 2, 1: thread 1 waits three blocks,

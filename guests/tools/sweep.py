@@ -175,7 +175,8 @@ def asked_of(words):
 
 def main(words):
     asked = asked_of(words)
-    locks = len(guestfile.load(asked.guest).guest.guards)
+    file = guestfile.read(asked.guest)
+    locks = len(guestfile.accepted(file, asked.guest).guest.guards)
     if asked.strips and (asked.lock or 0) >= locks:
         raise tool.Trouble(tool.WORDS, f"--strips: {asked.guest} has no lock {asked.lock or 0}")
     why = None if asked.model else program.missing()
@@ -185,7 +186,7 @@ def main(words):
     table = csv.writer(sys.stdout, lineterminator="\n")
     table.writerow(["guest", *Setting._fields, "lock", *NUMBERS, "blocks", "turns", "seconds"])
     done = []
-    for result in results(guestfile.read(asked.guest), settings):
+    for result in results(file, settings):
         table.writerows(lines(os.path.basename(asked.guest), result, asked.locks))
         done.append(result)
     sys.stdout.flush()
