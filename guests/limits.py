@@ -18,5 +18,7 @@ SECTIONS = KINDS[2:]  # the kinds that begin a section
 # The least and the most of each number that stands behind the program's words.
 RUN = {"workers": (1, 8), "fuel": (1, 65536), "batch": (0, 256)}
 NUMBERS = {**RUN, "rounds": (1, 2000)}
-FORMS = {"run": tuple(RUN), "gen": ("rounds",), "demo": ("rounds", "workers")}
-USAGE = "usage: tclocks run W F B | tclocks gen N | tclocks demo N W"
+# The forms of the words: the letter and the name of each number.
+FORMS = {"run": {"W": "workers", "F": "fuel", "B": "batch"}, "gen": {"N": "rounds"}, "demo": {"N": "rounds", "W": "workers"}}
+SHAPES = [" ".join((form, *letters)) for form, letters in FORMS.items()]
+USAGE = "usage: " + " | ".join(f"tclocks {shape}" for shape in SHAPES)

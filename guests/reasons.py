@@ -155,12 +155,13 @@ FAULTS = {1: illegal, 3: target, 4: access, 5: access, 6: access, 7: access, 8: 
 
 def usage(words):
     """What is wrong with the words of the program, or None."""
+    wanted = f"it wants {', '.join(limits.SHAPES[:-1])} or {limits.SHAPES[-1]}"
     if not words:
-        return "there are no words; it wants run W F B, gen N or demo N W"
+        return f"there are no words; {wanted}"
     form, numbers = words[0], words[1:]
     if form not in limits.FORMS:
-        return f"{form!r} is no form: it wants run W F B, gen N or demo N W"
-    names = limits.FORMS[form]
+        return f"{form!r} is no form: {wanted}"
+    names = limits.FORMS[form].values()
     if len(numbers) != len(names):
         return f"behind {form} stand {len(numbers)} words: it wants {', '.join(names)}"
     return next(filter(None, map(report.wrong_number, names, numbers)), None)

@@ -47,6 +47,10 @@ class Words(Case):
             self.one_line(run(name, *words), 1)
         self.one_line(run("refuse", "1", "1", "1", "/no/such/file"), 2)
 
+    def test_the_usage_line_is_the_program_s(self):
+        """As the command, which is held to the program, has it."""
+        self.assertIn(f'usage="{limits.USAGE}"', (GUESTS.parent / "tclocks").read_text())
+
     def test_without_a_program(self):
         """In a copy of the folder, beside which no program was built."""
         copy = TEMPORARY / "copy" / "guests"
