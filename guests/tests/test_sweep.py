@@ -5,7 +5,7 @@ import re
 import unittest
 import xml.etree.ElementTree
 
-from common import BY_HAND, GUESTS, ONE, TEMPORARY, Case, built, elf, run, saved, with_program
+from common import BY_HAND, GUESTS, NAMES, ONE, TEMPORARY, Case, built, elf, run, saved, with_program
 
 
 def table(done):
@@ -66,6 +66,13 @@ class Sweep(Case):
             self.assertEqual({**row, "by": "model", "seed": "5", "seconds": "", "run": "1"}, by_model[0])
         self.assertIn("Seconds", (TEMPORARY / "seconds.svg").read_text())
         self.one_line(run(with_program("failing", "#!/bin/sh\nexit 5\n") / "sweep", elf("counter")), 3)
+
+    def test_each_guest(self):
+        for name in NAMES:
+            words = [] if name == "exit" else ["--strips", str(TEMPORARY / f"{name}.svg")]
+            done = run("sweep", elf(name), "--workers", "3", "--batch", "2", "--runs", "1", "--fuel", "600", "--model",
+                       "--plot", str(TEMPORARY / f"{name}-plot.svg"), *words)
+            self.assertEqual((done.returncode, done.stderr, len(table(done))), (0, b"", 1), name)
 
     def test_pictures(self):
         plot, strips = TEMPORARY / "plot.svg", TEMPORARY / "strips.svg"
