@@ -1,0 +1,11 @@
+pub mod Lists
+pub mod Steady
+pub mod Turns
+pub mod Past
+pub mod Ran
+pub mod Sound
+pub mod Stepping
+pub mod Opening
+pub mod Kept
+pub mod Calling
+pub mod Marks

@@ -1,0 +1,159 @@
+-- What contracts see of a queue that knows nodes and of its seats.
+use Rattle.std.specs.Prelude.{◌≡◌, ◌≢◌, ◌⊎◌, ℕ, ◌%◌, ◌≤◌, Bool, false, true, is_some, MatchBool, List, [], ◌∷◌, ◌++◌, Option, Some, None}
+use mathlib.Core.Option.{some}
+use lib.ListN.{get_elem?}
+use Rattle.atomic_table.specs.Seated.{TableId}
+use Rattle.atomic_table.specs.declared.shared.Seat.{Seat}
+use Rattle.tc_queue.specs.declared.turn.Turn.{Turn}
+use Rattle.tc_queue.specs.declared.turn.Departure.{Departure}
+use Rattle.tc_queue.specs.declared.turn.Departure.TheVariants.{Followed}
+use Rattle.tc_nodes.specs.declared.cells.Placed.{Placed}
+use Rattle.tc_nodes.specs.declared.call.Call.{Call}
+use Rattle.tc_nodes.specs.declared.call.Call.TheVariants.{Take, Read, Next, Stay, Leave, Back}
+use Rattle.tc_nodes.specs.declared.board.Stand.{Stand}
+use Rattle.tc_nodes.specs.declared.board.Terms.{Terms}
+use Rattle.tc_nodes.specs.declared.board.Known.{Known}
+use Rattle.tc_nodes.specs.Steps.{Sitting, IsLineFor, IsFound, Holds, with_hand, did_read, did_next, did_leave}
+use Rattle.tc_nodes.specs.Order.{next_to, takes_in, stand_after, pick_of, answer_to_leave, stand_left}
+
+pub record NodeQueueView : Type 0 where
+  pub table : TableId
+  pub threads : ℕ
+  pub bound : ℕ
+
+pub record NodeSeatView : Type 0 where
+  pub table : TableId
+  pub id : ℕ
+  pub threads : ℕ
+  pub bound : ℕ
+  pub node : ℕ
+  pub calls : List Call
+
+abbrev pub queue_view : TableId → ℕ → ℕ → NodeQueueView
+queue_view table threads bound = record { table = table; threads = threads; bound = bound }
+
+abbrev pub seat_view : TableId → ℕ → ℕ → Known → NodeSeatView
+seat_view table id node v = record { table = table; id = id; threads = v.threads; bound = v.bound; node = node; calls = v.calls }
+
+abbrev pub IsSeatOf : NodeQueueView → NodeSeatView → Type 0
+IsSeatOf q s = (s.table ≡ q.table) × (s.threads ≡ q.threads)
+
+abbrev pub with_calls : List Call → NodeSeatView → NodeSeatView
+with_calls cs s = record s { calls = s.calls ++ cs }
+
+-- a seat of this queue and node that has made no step
+pub record IsNewSeat (q : NodeQueueView) (number : ℕ) (s : NodeSeatView) : Type 0 where
+  pub table : s.table ≡ q.table
+  pub threads : s.threads ≡ q.threads
+  pub bound : s.bound ≡ q.bound
+  pub node : s.node ≡ number
+  pub calls : s.calls ≡ []
+
+-- seat w is on node w modulo the number of nodes
+abbrev pub AreNewSeats : NodeQueueView → ℕ → List NodeSeatView → Type 0
+AreNewSeats q nodes seats = (w : ℕ) (s : NodeSeatView) → get_elem? seats w ≡ some s → IsNewSeat q (w % nodes) s
+
+-- the line was found out
+abbrev pub AreMisses : List Call → Type 0
+AreMisses [] = Unit {0}
+AreMisses (c ∷ cs) = (c ≡ Take false) × AreMisses cs
+
+-- the line was found out so often, and then taken
+pub record AreTries (calls : List Call) : Type 0 where
+  pub misses : List Call
+  pub missed : AreMisses misses
+  pub list : calls ≡ misses ++ Take true ∷ []
+
+-- cells were read in order, with this line in hand at first and that one afterwards; the last one was empty
+abbrev pub AreReads : Stand → List Call → Stand → Type 0
+AreReads h [] g = ⊥
+AreReads h (c ∷ cs) g = ((c ≡ Read (next_to h.read) None false) × (cs ≡ []) × (g ≡ h)) ⊎ ((p : Placed) × (c ≡ Read (next_to h.read) (Some p) (takes_in (Some p) h)) × AreReads (stand_after (Some p) h) cs g)
+
+-- what `next` of u for this node did: it took the line, read cells up to an empty one, and put the line back with this answer
+pub record DidNext (u : Turn) (node : ℕ) (answer : Option Turn) (s t : NodeSeatView) : Type 0 where
+  pub tries : List Call
+  pub found : Stand
+  pub reads : List Call
+  pub stand : Stand
+  pub tried : AreTries tries
+  pub did_read : AreReads found reads stand
+  pub own : IsLineFor s.threads s.bound stand.line
+  pub answered : answer ≡ pick_of node stand
+  pub list : t ≡ with_calls (tries ++ (reads ++ Next u node answer ∷ [])) s
+
+-- what `leave` of u did: it took the line; where somebody waited it put it back; else it tried the exchange, which found this
+-- count, and then put the line back
+pub data DidLeaveBy (u : Turn) (answer : Departure) (tries : List Call) (s t : NodeSeatView) : Type 0 where
+  Stayed : answer ≡ Followed → t ≡ with_calls (tries ++ Stay u ∷ []) s → DidLeaveBy u answer tries s t
+  Exchanged : (found : ℕ) (stand : Stand) → stand.line.waiting ≡ [] → answer ≡ answer_to_leave found stand → t ≡ with_calls (tries ++ Leave u answer ∷ Back ∷ []) s → DidLeaveBy u answer tries s t
+
+pub record DidLeave (u : Turn) (answer : Departure) (s t : NodeSeatView) : Type 0 where
+  pub tries : List Call
+  pub tried : AreTries tries
+  pub did : DidLeaveBy u answer tries s t
+
+-- a table of these terms is one of a queue
+pub record IsTableFor (threads bound : ℕ) (k : Terms) (table : TableId) : Type 0 where
+  pub of_threads : threads ≡ k.threads
+  pub of_bound : bound ≡ k.bound
+  pub words : table.words ≡ 66
+  pub slots : table.slots ≡ 1
+  pub few : threads ≤ 64
+  pub bounded : bound ≤ 256
+
+-- ---- inside a call
+
+-- the place of one seat, before and after some steps
+abbrev pub IsSamePlace : Seat Stand Known → Seat Stand Known → Type 0
+IsSamePlace p q = (q.table_id ≡ p.table_id) × (q.id ≡ p.id)
+
+-- what is in the seat's slot was changed so
+abbrev pub Becomes : (Stand → Stand) → Sitting → Sitting → Type 0
+Becomes change m m' = (h : Stand) → m.1 ≡ (0, h) ∷ [] → m'.1 ≡ (0, change h) ∷ []
+
+-- the answer says whether somebody waits in the line that the seat has out
+abbrev pub TellsWaiting : Bool → Sitting → Type 0
+TellsWaiting some_one m = (h : Stand) → Holds h m → MatchBool some_one (h.line.waiting ≢ []) (h.line.waiting ≡ [])
+
+-- the line was put back without the turn that this node picks
+abbrev pub DidReturn : Turn → ℕ → Sitting → Sitting → Type 0
+DidReturn u node m m' = (h : Stand) → Holds h m → m' ≡ (did_next u node h m.0, [])
+
+abbrev pub with_all : List Call → Known → Known
+with_all cs v = record v { calls = v.calls ++ cs }
+
+-- the line was taken
+pub record IsTaken (m m' : Sitting) : Type 0 where
+  pub tries : List Call
+  pub tried : AreTries tries
+  pub stand : Stand
+  pub line : IsLineFor m.0.threads m.0.bound stand.line
+  pub now : m' ≡ (with_hand (Some stand) (with_all tries m.0), (0, stand) ∷ [])
+
+-- the next cell was read
+pub record DidRead (some_one : Bool) (m m' : Sitting) : Type 0 where
+  pub stand : Stand
+  pub was : Holds stand m
+  pub found : Option Placed
+  pub answer : some_one ≡ is_some found
+  pub in_range : IsFound m.0.threads found
+  pub now : m' ≡ (did_read found stand m.0, (0, stand_after found stand) ∷ [])
+
+-- cells were read up to an empty one
+pub record IsFilled (m m' : Sitting) : Type 0 where
+  pub found : Stand
+  pub was : Holds found m
+  pub reads : List Call
+  pub stand : Stand
+  pub did_read : AreReads found reads stand
+  pub line : IsLineFor m.0.threads m.0.bound stand.line
+  pub now : m' ≡ (with_hand (Some stand) (with_all reads m.0), (0, stand) ∷ [])
+
+-- the exchange of `leave` of u
+pub record DidExchange (u : Turn) (answer : Departure) (m m' : Sitting) : Type 0 where
+  pub stand : Stand
+  pub was : Holds stand m
+  pub none_waits : stand.line.waiting ≡ []
+  pub found : ℕ
+  pub answered : answer ≡ answer_to_leave found stand
+  pub now : m' ≡ (did_leave u answer stand m.0, (0, stand_left answer stand) ∷ [])

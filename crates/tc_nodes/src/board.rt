@@ -1,0 +1,144 @@
+//! The words that the threads share, and the line, as a table under a rule; and what each kind of
+//! step on it tells. Word 0 counts who entered, word 1 is 1 where the line is out, and word j + 2
+//! is cell j. The one slot is for the line.
+
+ghost use Rattle.tc_nodes.specs.Steps.{Enters, Leaves, Links, PutsBack, Reads, Returns, Stays, Takes};
+
+use crate::call::Call;
+use crate::line::Line;
+use atomic_table::{Play, Seat, Split, Table, TableRule};
+use std::alloc::Global;
+use std::collections::LinkedList;
+use std::marker::{Brand, PhantomData};
+
+/// The line, and how many cells were read since nobody was there.
+#[derive(Drop)]
+pub struct Stand {
+    pub line: Line,
+    pub read: u64,
+}
+
+/// For what a queue is made.
+#[derive(Drop)]
+pub struct Terms {
+    pub threads: u32,
+    pub bound: u32,
+}
+
+/// What is known of a seat: for what its queue was made, the steps that it made, and the line,
+/// where it has it out. No value of it is made.
+pub struct Known {
+    pub threads: u32,
+    pub bound: u32,
+    pub calls: LinkedList<Call>,
+    pub hand: Option<Stand>,
+}
+
+/// The rule of the words and the line.
+pub struct Ordered;
+
+impl TableRule<Stand, Known, Terms> for Ordered {
+    ghost use Rattle.tc_nodes.specs.Order.{IsOrdered, first_known};
+
+    ghost holds = { IsOrdered };
+
+    ghost first = { first_known };
+}
+
+pub(crate) type Board = Table<Stand, Known, Terms, Ordered, Global>;
+
+pub(crate) type Place = Seat<Stand, Known>;
+
+/// What a call names. Each call picks it.
+pub trait Named {
+    ghost use Rattle.std.specs.Prelude.{ℕ};
+    ghost use Rattle.tc_queue.specs.declared.turn.Turn.{Turn};
+
+    ghost own: { Turn };
+
+    ghost place: { ℕ };
+
+    ghost node: { ℕ };
+}
+
+impl Named for Brand {
+    ghost use Rattle.tc_queue.specs.Words.{no_turn};
+
+    ghost own = { no_turn };
+
+    ghost place = { 0 };
+
+    ghost node = { 0 };
+}
+
+pub(crate) struct Enter<J> {
+    marker: PhantomData<J>,
+}
+
+impl<J: Named> Play<Stand, Known> for Enter<J> {
+    ghost then = { Enters J.own };
+}
+
+pub(crate) struct Link<J> {
+    marker: PhantomData<J>,
+}
+
+impl<J: Named> Play<Stand, Known> for Link<J> {
+    ghost then = { Links J.place J.own J.node };
+}
+
+pub(crate) struct Take;
+
+impl Play<Stand, Known> for Take {
+    ghost then = { Takes };
+}
+
+pub(crate) struct Read;
+
+impl Play<Stand, Known> for Read {
+    ghost then = { Reads };
+}
+
+// Puts the line back, from which a turn was picked.
+pub(crate) struct Return<J> {
+    marker: PhantomData<J>,
+}
+
+impl<J: Named> Play<Stand, Known> for Return<J> {
+    ghost then = { Returns J.own J.node };
+}
+
+// Puts the line back, in which somebody waits.
+pub(crate) struct Stay<J> {
+    marker: PhantomData<J>,
+}
+
+impl<J: Named> Play<Stand, Known> for Stay<J> {
+    ghost then = { Stays J.own };
+}
+
+pub(crate) struct Leave<J> {
+    marker: PhantomData<J>,
+}
+
+impl<J: Named> Play<Stand, Known> for Leave<J> {
+    ghost then = { Leaves J.own };
+}
+
+// Puts the line back, as it is.
+pub(crate) struct PutBack;
+
+impl Play<Stand, Known> for PutBack {
+    ghost then = { PutsBack };
+}
+
+/// Makes one seat more.
+pub(crate) struct Beside;
+
+impl Split<Known> for Beside {
+    ghost use Rattle.tc_nodes.specs.Order.{known_beside};
+
+    ghost left = { λ v. v };
+
+    ghost right = { known_beside };
+}

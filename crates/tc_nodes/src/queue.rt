@@ -1,0 +1,385 @@
+//! The queue of the waiters of one lock, which knows on which node each of them waits, and its
+//! seats.
+
+ghost use Rattle.std.specs.Prelude.{◌≡◌, ◌≤◌, ℕ, All, length, IfOk, [], ◌∷◌, Some, true, false};
+ghost use Rattle.tc_queue.specs.declared.turn.Turn.{Turn};
+ghost use Rattle.tc_queue.specs.declared.turn.Departure.TheVariants.{Left};
+ghost use Rattle.tc_queue.specs.Words.{IsTurn};
+ghost use Rattle.tc_nodes.specs.declared.board.Stand.{Stand as Standing};
+ghost use Rattle.tc_nodes.specs.declared.call.Call.TheVariants.{Enter, Link};
+ghost use Rattle.tc_nodes.specs.Cells.{IsPlaced};
+ghost use Rattle.tc_nodes.specs.Order.{MayLink, answer_to_enter, enter_call, link_call, next_to, pick_of, stand_after, stand_left, without_pick};
+ghost use Rattle.tc_nodes.specs.Steps.{HasLine, HasNoWaiter, HasOwnLine, HasSlot, HasWaiter, Holds, Took, did_put_back, did_stay, missed};
+ghost use Rattle.tc_nodes.specs.View.{AreNewSeats, Becomes, DidExchange, DidLeave, DidNext, DidRead, DidReturn, IsFilled, IsSamePlace, IsSeatOf, IsTaken, TellsWaiting, with_calls};
+
+use crate::board;
+use crate::board::{Beside, Board, Named, Place, PutBack, Stand, Take, Terms};
+use crate::call::Entered;
+use crate::cells::Placed;
+use crate::line::Line;
+use atomic_table::{Refused, Table};
+use crossbeam_utils::Backoff;
+use std::alloc::{AllocError, Global};
+use std::marker::{Brand, Model};
+use std::sync::Wait;
+use tc_queue::{Departure, Turn};
+
+// The count, the word of the line, and the cells.
+const WORDS: usize = 66;
+
+/// The waiters of one lock, each on a node.
+#[derive(Drop)]
+pub struct NodeQueue {
+    board: Board,
+    threads: u32,
+    bound: u32,
+}
+
+impl Model for NodeQueue {
+    ghost use Rattle.tc_nodes.specs.View.{NodeQueueView, IsTableFor, queue_view};
+
+    ghost Value = { NodeQueueView };
+
+    ghost view = { λ q. queue_view q.board.shared.table_id q.threads q.bound };
+
+    ghost invariant = { λ q. IsTableFor q.threads q.bound q.board.shared.key q.board.shared.table_id };
+}
+
+/// What a caller makes its calls with. A seat belongs to one queue and one node, and has the list
+/// of the steps that were made with it.
+#[derive(Drop)]
+pub struct NodeSeat {
+    place: Place,
+    node: u32,
+}
+
+impl Model for NodeSeat {
+    ghost use Rattle.std.specs.Prelude.{◌≡◌, ◌<◌, [], None};
+    ghost use Rattle.tc_nodes.specs.View.{NodeSeatView, seat_view};
+
+    ghost Value = { NodeSeatView };
+
+    ghost view = { λ s. seat_view s.place.table_id s.place.id s.node s.place.me.0 };
+
+    ghost invariant = { λ s. (s.place.me.1 ≡ []) × (s.place.me.0.hand ≡ None) × (s.node < 8) };
+}
+
+impl NodeQueue {
+    /// A queue for so many threads with nobody in it, and its seats, of which each is on the node
+    /// of its number modulo the number of nodes. Once a waiter's turn is in the line, no more turns
+    /// that came after it are picked before it than the bound says.
+    pub fn new(
+        alloc: Global,
+        threads: u32,
+        seats: u32,
+        nodes: u32,
+        bound: u32,
+    ) -> Result<(NodeQueue, Vec<NodeSeat>), AllocError>
+        requires threads { (1 ≤ threads) × (threads ≤ 64) }
+        requires seats { (1 ≤ seats) × (seats ≤ 8) }
+        requires nodes { (1 ≤ nodes) × (nodes ≤ seats) }
+        requires bound { bound ≤ 256 }
+        ensures queue { IfOk result (λ made. (made.0.threads ≡ threads) × (made.0.bound ≡ bound)) }
+        ensures count { IfOk result (λ made. length made.1.items ≡ seats) }
+        ensures own { IfOk result (λ made. All (IsSeatOf made.0) made.1.items) }
+        ensures seats { IfOk result (λ made. AreNewSeats made.0 nodes made.1.items) }
+    {
+        let mut made = Vec::with_capacity(alloc, seats as usize)?;
+        let words = Vec::from_elem(alloc, 0u64, WORDS)?;
+        let mut slots = Vec::with_capacity(alloc, 1)?;
+        let line = Line::new(alloc, threads, bound)?;
+        slots.push_reserved(Stand { line, read: 0 });
+        let terms = Terms { threads, bound };
+        let (board, mut first) = match Table::new(alloc, words.as_slice(), slots, &terms) {
+            Ok(made) => made,
+            Err(Refused { slots: _ }) => return Err(AllocError),
+        };
+        for seated in 0..seats - 1 {
+            let place = board.shared.split_seat::<Beside>(&mut first);
+            made.push_reserved(NodeSeat {
+                place,
+                node: seated % nodes,
+            });
+        }
+        made.push_reserved(NodeSeat {
+            place: first,
+            node: (seats - 1) % nodes,
+        });
+        let queue = NodeQueue {
+            board,
+            threads,
+            bound,
+        };
+        Ok((queue, made))
+    }
+
+    /// Counts one more who entered. Nobody was there exactly where the count was 0; else the place
+    /// is what the count was.
+    pub fn enter(&self, seat: &mut NodeSeat, turn: Turn) -> Entered
+        requires seat { IsSeatOf self.now seat.old }
+        requires turn { IsTurn self.now.threads turn }
+        ensures call { seat.new ≡ with_calls (Enter turn result ∷ []) seat.old }
+        ensures step { (found : ℕ) × (result ≡ answer_to_enter found) }
+    {
+        match self.add_one::<Brand>(seat, &turn) {
+            0 => Entered::First,
+            found => Entered::Behind(found),
+        }
+    }
+
+    fn add_one<J: Named>(&self, seat: &mut NodeSeat, turn: &Turn) -> u64
+        requires seat { IsSeatOf self.now seat.old }
+        requires turn { IsTurn self.now.threads turn.now }
+        requires picked { turn.now ≡ J.own }
+        ensures call { seat.new ≡ with_calls (enter_call turn.now result ∷ []) seat.old }
+    {
+        let _ = turn;
+        self.board
+            .shared
+            .fetch_add::<board::Enter<J>>(&mut seat.place, 0, 1)
+    }
+
+    /// Puts the turn into the cell of its place, with the seat's node.
+    pub fn link(&self, seat: &mut NodeSeat, place: u64, own: Turn)
+        requires seat { IsSeatOf self.now seat.old }
+        requires turn { IsTurn self.now.threads own }
+        requires entered { MayLink seat.old.calls own place }
+        ensures call { seat.new ≡ with_calls (Link place own seat.old.node ∷ []) seat.old }
+    {
+        let placed = Placed {
+            turn: own,
+            node: seat.node,
+        };
+        self.store_cell::<Brand>(seat, place, &placed);
+    }
+
+    fn store_cell<J: Named>(&self, seat: &mut NodeSeat, place: u64, placed: &Placed)
+        requires seat { IsSeatOf self.now seat.old }
+        requires placed { IsPlaced self.now.threads placed.now }
+        requires entered { MayLink seat.old.calls placed.now.turn place }
+        requires picked { (placed.now.turn ≡ J.own) × (placed.now.node ≡ J.node) }
+        requires place { place ≡ J.place }
+        ensures call { seat.new ≡ with_calls (link_call place placed.now ∷ []) seat.old }
+    {
+        let cell = (place % 64) as usize + 2;
+        self.board
+            .shared
+            .store::<board::Link<J>>(&mut seat.place, cell, placed.to_word());
+    }
+
+    /// The turn that comes after this one, of those that are linked: the oldest, where it was
+    /// passed over as often as may be, else the oldest of the seat's node, else the oldest. It waits
+    /// while another seat has the line.
+    pub fn next<R: Wait>(&self, rt: &R, seat: &mut NodeSeat, own: Turn) -> Option<Turn>
+        requires seat { IsSeatOf self.now seat.old }
+        requires turn { IsTurn self.now.threads own }
+        ensures next { DidNext own seat.old.node result seat.old seat.new }
+        ensures turn { (u : Turn) → result ≡ Some u → IsTurn self.now.threads u }
+    {
+        self.take(rt, &mut seat.place);
+        self.fill(rt, &mut seat.place);
+        self.give::<Brand>(&mut seat.place, &own, seat.node)
+    }
+
+    /// Leaves, where nobody waits in the line and everyone who entered was read but the first. It
+    /// waits while another seat has the line.
+    pub fn leave<R: Wait>(&self, rt: &R, seat: &mut NodeSeat, own: Turn) -> Departure
+        requires seat { IsSeatOf self.now seat.old }
+        requires turn { IsTurn self.now.threads own }
+        ensures { DidLeave own result seat.old seat.new }
+    {
+        self.take(rt, &mut seat.place);
+        if self.has_waiter(&mut seat.place) {
+            self.stay::<Brand>(&mut seat.place, &own);
+            return Departure::Followed;
+        }
+        let answer = self.exchange::<Brand>(&mut seat.place, &own);
+        self.put_back(&mut seat.place);
+        answer
+    }
+
+    // Takes the line, where it is home.
+    fn try_take(&self, place: &mut Place) -> bool
+        requires own { place.old.table_id ≡ self.now.table }
+        requires free { place.old.me.1 ≡ [] }
+        ensures own { IsSamePlace place.old place.new }
+        ensures took { result ≡ true → Took place.old.me place.new.me }
+        ensures missed { result ≡ false → place.new.me ≡ (missed place.old.me.0, []) }
+    {
+        self.board.shared.compare_exchange::<Take>(place, 1, 0, 1) == 0
+    }
+
+    // Takes the line, with as many tries as it takes.
+    fn take<R: Wait>(&self, rt: &R, place: &mut Place)
+        requires own { place.old.table_id ≡ self.now.table }
+        requires free { place.old.me.1 ≡ [] }
+        ensures own { IsSamePlace place.old place.new }
+        ensures taken { IsTaken place.old.me place.new.me }
+    {
+        let pause = Backoff::new();
+        for _ in rt.forever() {
+            if self.try_take(place) {
+                return;
+            }
+            pause.snooze();
+        }
+    }
+
+    // The number of the cell that is to be read next.
+    fn next_cell(&self, place: &mut Place) -> u64
+        requires own { place.old.table_id ≡ self.now.table }
+        requires holds { HasLine place.old.me }
+        ensures own { IsSamePlace place.old place.new }
+        ensures same { place.new.me ≡ place.old.me }
+        ensures number { (h : Standing) → Holds h place.old.me → result ≡ next_to h.read }
+    {
+        let stand = place.slot_mut(&self.board.shared, 0);
+        stand.read.wrapping_add(1)
+    }
+
+    // Puts what was found in a cell into the line.
+    fn put_in(&self, place: &mut Place, found: Placed)
+        requires own { place.old.table_id ≡ self.now.table }
+        requires slot { HasSlot place.old.me }
+        ensures own { IsSamePlace place.old place.new }
+        ensures view { place.new.me.0 ≡ place.old.me.0 }
+        ensures slot { Becomes (stand_after (Some found)) place.old.me place.new.me }
+    {
+        let stand = place.slot_mut(&self.board.shared, 0);
+        stand.read = stand.read.wrapping_add(1);
+        stand.line.arrive(found.turn, found.node);
+    }
+
+    // Reads the next cell, and says whether something was there.
+    fn read_cell(&self, place: &mut Place) -> bool
+        requires own { place.old.table_id ≡ self.now.table }
+        requires holds { HasLine place.old.me }
+        ensures own { IsSamePlace place.old place.new }
+        ensures read { DidRead result place.old.me place.new.me }
+    {
+        let cell = self.next_cell(place) % 64;
+        let word = self
+            .board
+            .shared
+            .swap::<board::Read>(place, cell as usize + 2, 0);
+        match Placed::from_word(word) {
+            None => false,
+            Some(found) => {
+                self.put_in(place, found);
+                true
+            }
+        }
+    }
+
+    // Reads cells up to an empty one.
+    fn fill<R: Wait>(&self, rt: &R, place: &mut Place)
+        requires own { place.old.table_id ≡ self.now.table }
+        requires holds { HasOwnLine place.old.me }
+        ensures own { IsSamePlace place.old place.new }
+        ensures filled { IsFilled place.old.me place.new.me }
+    {
+        for _ in rt.forever() {
+            if !self.read_cell(place) {
+                return;
+            }
+        }
+    }
+
+    // Picks from the line in hand.
+    fn pick(&self, place: &mut Place, node: u32) -> Option<Turn>
+        requires own { place.old.table_id ≡ self.now.table }
+        requires holds { HasLine place.old.me }
+        ensures own { IsSamePlace place.old place.new }
+        ensures view { place.new.me.0 ≡ place.old.me.0 }
+        ensures answer { (h : Standing) → Holds h place.old.me → result ≡ pick_of node h }
+        ensures slot { Becomes (without_pick node) place.old.me place.new.me }
+    {
+        let stand = place.slot_mut(&self.board.shared, 0);
+        stand.line.pick(node)
+    }
+
+    // Picks from the line, and puts it back.
+    fn give<J: Named>(&self, place: &mut Place, own: &Turn, node: u32) -> Option<Turn>
+        requires own { place.old.table_id ≡ self.now.table }
+        requires turn { IsTurn self.now.threads own.now }
+        requires holds { HasLine place.old.me }
+        requires picked { (own.now ≡ J.own) × (node ≡ J.node) }
+        ensures own { IsSamePlace place.old place.new }
+        ensures answer { (h : Standing) → Holds h place.old.me → result ≡ pick_of node h }
+        ensures now { DidReturn own.now node place.old.me place.new.me }
+    {
+        let _ = own;
+        let answer = self.pick(place, node);
+        self.board.shared.store::<board::Return<J>>(place, 1, 0);
+        answer
+    }
+
+    // Whether somebody waits in the line in hand.
+    fn has_waiter(&self, place: &mut Place) -> bool
+        requires own { place.old.table_id ≡ self.now.table }
+        requires holds { HasLine place.old.me }
+        ensures own { IsSamePlace place.old place.new }
+        ensures same { place.new.me ≡ place.old.me }
+        ensures answer { TellsWaiting result place.old.me }
+    {
+        let stand = place.slot_mut(&self.board.shared, 0);
+        !stand.line.is_empty()
+    }
+
+    // Puts the line back, in which somebody waits.
+    fn stay<J: Named>(&self, place: &mut Place, own: &Turn)
+        requires own { place.old.table_id ≡ self.now.table }
+        requires turn { IsTurn self.now.threads own.now }
+        requires holds { HasWaiter place.old.me }
+        requires picked { own.now ≡ J.own }
+        ensures own { IsSamePlace place.old place.new }
+        ensures now { place.new.me ≡ (did_stay own.now place.old.me.0, []) }
+    {
+        let _ = own;
+        self.board.shared.store::<board::Stay<J>>(place, 1, 0);
+    }
+
+    // No cell was read since nobody was there.
+    fn forget_cells(&self, place: &mut Place)
+        requires own { place.old.table_id ≡ self.now.table }
+        requires slot { HasSlot place.old.me }
+        ensures own { IsSamePlace place.old place.new }
+        ensures view { place.new.me.0 ≡ place.old.me.0 }
+        ensures slot { Becomes (stand_left Left) place.old.me place.new.me }
+    {
+        let stand = place.slot_mut(&self.board.shared, 0);
+        stand.read = 0;
+    }
+
+    // Sets the count to 0, where everyone who entered was read but the first.
+    fn exchange<J: Named>(&self, place: &mut Place, own: &Turn) -> Departure
+        requires own { place.old.table_id ≡ self.now.table }
+        requires turn { IsTurn self.now.threads own.now }
+        requires holds { HasNoWaiter place.old.me }
+        requires picked { own.now ≡ J.own }
+        ensures own { IsSamePlace place.old place.new }
+        ensures exchanged { DidExchange own.now result place.old.me place.new.me }
+    {
+        let _ = own;
+        let old = self.next_cell(place);
+        let found = self
+            .board
+            .shared
+            .compare_exchange::<board::Leave<J>>(place, 0, old, 0);
+        if found != old {
+            return Departure::Followed;
+        }
+        self.forget_cells(place);
+        Departure::Left
+    }
+
+    // Puts the line back as it is.
+    fn put_back(&self, place: &mut Place)
+        requires own { place.old.table_id ≡ self.now.table }
+        requires holds { HasLine place.old.me }
+        ensures own { IsSamePlace place.old place.new }
+        ensures now { place.new.me ≡ (did_put_back place.old.me.0, []) }
+    {
+        self.board.shared.store::<PutBack>(place, 1, 0);
+    }
+}
