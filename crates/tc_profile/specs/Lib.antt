@@ -1,0 +1,4 @@
+pub mod Profile
+pub mod Tally
+pub mod Stands
+pub mod Text
