@@ -46,6 +46,20 @@ fn look_around<R: Abort>(rt: &R, hall: &Hall, pass: &mut Pass, words: [u64; 2])
     assert!(rt; !hall.stopped(pass));
 }
 
+/// A pass misses lock 0, which is out while thread 0 is.
+fn miss_lock<R: Abort>(rt: &R, hall: &Hall, pass: &mut Pass)
+    requires own { pass.old.table ≡ hall.now.table }
+    requires threads { threads hall.now.terms ≡ 2 }
+    requires locks { locks hall.now.terms ≡ 1 }
+    ensures own { pass.new.table ≡ pass.old.table }
+{
+    match hall.take(pass, 0) {
+        Ok(_) => panic!(rt; "lock 0 is out"),
+        Err(word) => assert_eq!(rt; word, LockOut(1)),
+    }
+    look_around(rt, hall, pass, [512, 0]);
+}
+
 /// What two passes see on a new hall, where the first of them has thread 0 and lock 0 out. What is
 /// refused changes no word.
 fn see_words<R: Abort>(rt: &R, hall: &Hall, zero: &mut Pass, other: &mut Pass)
@@ -76,13 +90,8 @@ fn see_words<R: Abort>(rt: &R, hall: &Hall, zero: &mut Pass, other: &mut Pass)
     };
     assert_eq!(rt; lock.number(), 0);
     look_around(rt, hall, other, [512, 0]);
-    for _ in 0..2 {
-        match hall.take(other, 0) {
-            Ok(_) => panic!(rt; "lock 0 is out"),
-            Err(word) => assert_eq!(rt; word, LockOut(1)),
-        }
-        look_around(rt, hall, other, [512, 0]);
-    }
+    miss_lock(rt, hall, other);
+    miss_lock(rt, hall, other);
     hall.stop(zero);
     assert!(rt; hall.stopped(other));
 }
