@@ -1,5 +1,7 @@
 //! `report` of the hall that a whole run leaves, and the numbers of the statuses.
 
+ghost use Rattle.std.specs.Prelude.{◌≤◌, length};
+
 use crate::report::report;
 use crate::run::{WholeRun, run_whole};
 use crate::status::Status;
@@ -72,7 +74,11 @@ fn report_of<R: Threads + Wait + Sync>(
     code: &[u32],
     guards: &[(u32, u32)],
     limit: u32,
-) -> Result<Vec<u8>, Fail> {
+) -> Result<Vec<u8>, Fail>
+    requires code { length code.now ≤ 12 }
+    requires guards { length guards.now ≤ 1 }
+    requires limit { limit ≤ 256 }
+{
     let file = build(alloc, code, &[(0x0010_0000, 0)], &[0; 4], guards)?;
     let image = load(alloc, &file)?;
     let options = Options {
