@@ -2,24 +2,42 @@
 use Rattle.std.proofs.Common.{◌≡◌, ◌≢◌, ℕ, ◌==◌, cond, List, [], ◌∷◌, ◌++◌, Bool, true, false, is_some, append_assoc, append-nil, refl, sym, ap, ◌∙◌, subst, inl, inr, Option, Some, None}
 use mathlib.Core.Option.{none}
 use Rattle.atomic_table.specs.Seated.{TableId}
+use Rattle.atomic_table.specs.declared.shared.Seat.{Seat}
 use Rattle.atomic_table.specs.Table.{step, Allows}
 use Rattle.tc_queue.specs.declared.turn.Turn.{Turn}
 use Rattle.tc_queue.specs.declared.turn.Departure.{Departure}
-use Rattle.tc_queue.specs.declared.turn.Departure.TheVariants.{Followed}
 use Rattle.tc_queue.specs.Words.{IsTurn}
 use Rattle.tc_nodes.specs.declared.line.Waiter.{Waiter}
 use Rattle.tc_nodes.specs.declared.board.Terms.{Terms}
 use Rattle.tc_nodes.specs.Line.{first_of, or_else, picked}
 use Rattle.tc_nodes.specs.declared.cells.Placed.{Placed}
 use Rattle.tc_nodes.specs.declared.call.Call.{Call}
-use Rattle.tc_nodes.specs.declared.call.Call.TheVariants.{Take, Read, Next, Stay, Leave, Back}
+use Rattle.tc_nodes.specs.declared.call.Call.TheVariants.{Take, Read, Next, Leave, Back}
 use Rattle.tc_nodes.specs.declared.board.Stand.{Stand}
 use Rattle.tc_nodes.specs.declared.board.Known.{Known}
 use Rattle.tc_nodes.specs.Order.{next_to, takes_in, stand_after, pick_of, without_pick, answer_to_leave, stand_left, IsOrdered}
-use Rattle.tc_nodes.specs.Steps.{Sitting, AreTurns, IsLineFor, IsFound, Holds, Took, with_call, with_hand, took, missed, did_read, did_next, did_stay, did_leave, did_put_back, Returns, Stays, PutsBack}
-use Rattle.tc_nodes.specs.View.{NodeSeatView, seat_view, AreMisses, AreReads, with_all, IsTaken, DidRead, IsFilled, DidNext, DidExchange, DidLeave, Stayed, Exchanged}
+use Rattle.tc_nodes.specs.Steps.{Sitting, AreTurns, IsLineFor, IsFound, Holds, Took, with_call, with_hand, took, missed, did_read, did_next, did_leave, did_put_back, Returns, Stays, PutsBack}
+use Rattle.tc_nodes.specs.View.{NodeQueueView, NodeSeatView, seat_view, IsSamePlace, AreMisses, AreReads, with_all, IsTaken, DidRead, IsFilled, DidNext, DidExchange, DidLeave, Exchanged}
 use Rattle.tc_nodes.proofs.Sound.{line_read}
 use Rattle.tc_nodes.proofs.Stepping.{returns_line, stays_line, puts_back}
+
+-- ---- the place of a seat, and the turn that a call picks
+
+pub still_same : (p q r : Seat Stand Known) → IsSamePlace p q → IsSamePlace q r → IsSamePlace p r
+still_same p q r a b = (b.0 ∙ a.0, b.1 ∙ a.1)
+
+-- what a call did is said of the seat
+pub of_seat : (Did : NodeSeatView → NodeSeatView → Type 0) (s : NodeSeatView) (p q : Seat Stand Known) (number : ℕ) → seat_view p.table_id p.id number p.me.0 ≡ s → IsSamePlace p q
+    → Did (seat_view p.table_id p.id number p.me.0) (seat_view p.table_id p.id number q.me.0) → Did s (seat_view q.table_id q.id number q.me.0)
+of_seat Did s p q number is same told =
+    subst (λ (z : NodeSeatView). Did z (seat_view q.table_id q.id number q.me.0)) is
+    (subst (λ (z : TableId × ℕ). Did (seat_view p.table_id p.id number p.me.0) (seat_view z.0 z.1 number q.me.0)) (λ i. (sym same.0 i, sym same.1 i)) told)
+
+-- a turn of the queue is one of its table
+pub turn_picked : (inside now : NodeQueueView) (k : Terms) (u own : Turn) → inside ≡ now → inside.threads ≡ k.threads → u ≡ own → IsTurn now.threads u → IsTurn k.threads own
+turn_picked inside now k u own is same picks turn = subst (IsTurn k.threads) picks (subst (λ (n : ℕ). IsTurn n u) (sym (ap (λ (q : NodeQueueView). q.threads) is) ∙ same) turn)
+
+-- ---- taking the line
 
 one_miss : (cs : List Call) → AreMisses cs → AreMisses (cs ++ Take false ∷ [])
 one_miss [] are = (refl, tt)
@@ -213,18 +231,6 @@ exchanged m m1 m2 h u answer found is none_waits answered now view slot = record
 
 pub holds_exchanged : (u : Turn) (answer : Departure) (m m1 : Sitting) → (d : DidExchange u answer m m1) → Holds (stand_left answer d.stand) m1
 holds_exchanged u answer m m1 d = record { slot = ap (λ (z : Sitting). z.1) d.now; hand = ap (λ (z : Sitting). z.0.hand) d.now }
-
-pub holds_taken : (m m1 : Sitting) → (t : IsTaken m m1) → Holds t.stand m1
-holds_taken m m1 t = record { slot = ap (λ (z : Sitting). z.1) t.now; hand = ap (λ (z : Sitting). z.0.hand) t.now }
-
-pub stay_told : (table : TableId) (id number : ℕ) (m m1 m2 : Sitting) (u : Turn) (t : IsTaken m m1) → m2 ≡ (did_stay u m1.0, []) → DidLeave u Followed (seat_view table id number m.0) (seat_view table id number m2.0)
-stay_told table id number m m1 m2 u t now =
-    let v2 : m2.0 ≡ with_hand None (with_all (Stay u ∷ []) (with_all t.tries m.0)) = ap (λ (z : Sitting). z.0) now ∙ ap (λ (z : Sitting). did_stay u z.0) t.now in
-    record {
-      tries = t.tries;
-      tried = t.tried;
-      did = Stayed refl (ap (λ (v : Known). seat_view table id number v) v2 ∙ (λ i. record { table = table; id = id; threads = m.0.threads; bound = m.0.bound; node = number; calls = append_assoc m.0.calls t.tries (Stay u ∷ []) i }));
-    }
 
 pub leave_told : (table : TableId) (id number : ℕ) (m m1 m2 m3 : Sitting) (u : Turn) (answer : Departure) (t : IsTaken m m1) (d : DidExchange u answer m1 m2) → m3 ≡ (did_put_back m2.0, []) → DidLeave u answer (seat_view table id number m.0) (seat_view table id number m3.0)
 leave_told table id number m m1 m2 m3 u answer t d now =

@@ -133,26 +133,22 @@ may_link (Stay w ∷ cs) u place may = past_other (Stay w) (line.Leave w Followe
 may_link (Leave w d ∷ cs) u place may = past_other (Leave w d) (line.Leave w d) cs u place (no_leave w d u place) may (may_link cs u place)
 may_link (Back ∷ cs) u place may = later Back cs u place (may_link cs u place may)
 
+-- a list that was made longer by one has that one at its end
+at_its_end : {C : Type 0} (before after : List C) (c : C) → after ≡ before ++ c ∷ [] → (i : ℕ) × (get_elem? after i ≡ some c) × ((j : ℕ) (d : C) → i < j → get_elem? after j ≢ some d)
+at_its_end {C} before after c e = subst (λ (l : List C). (i : ℕ) × (get_elem? l i ≡ some c) × ((j : ℕ) (d : C) → i < j → get_elem? l j ≢ some d)) (sym e) (
+  length before,
+  at_last before c (length before) refl,
+  λ j d low is.
+      let r = in_range (before ++ c ∷ []) j d is in
+      let n = length-append before (c ∷ []) in
+      let one : length (c ∷ []) ≡ 1 = refl in
+      absurd (omega arith),
+)
+
 -- what was just answered may be linked
 pub just_entered : (before after : List line.LineCall) (u : Turn) (place : ℕ) → after ≡ before ++ line.Enter u (line.Behind place) ∷ [] → MayLinkTo after u place
-just_entered before after u place e = subst (λ (l : List line.LineCall). MayLinkTo l u place) (sym e) (
-  length before,
-  at_last before (line.Enter u (line.Behind place)) (length before) refl,
-  (λ j other low is. (
-      let r = in_range (before ++ line.Enter u (line.Behind place) ∷ []) j (line.Link other u) is in
-      let n = length-append before (line.Enter u (line.Behind place) ∷ []) in
-      let one : length (line.Enter u (line.Behind place) ∷ []) ≡ 1 = refl in
-      absurd (omega arith))),
-)
+just_entered before after u place e = let at = at_its_end before after (line.Enter u (line.Behind place)) e in (at.0, at.1, λ j other low. at.2 j (line.Link other u) low)
 
 -- the same in the seat's own list
 pub just_placed : (before after : List Call) (u : Turn) (place : ℕ) → after ≡ before ++ Enter u (Behind place) ∷ [] → MayLink after u place
-just_placed before after u place e = subst (λ (l : List Call). MayLink l u place) (sym e) (
-  length before,
-  at_last before (Enter u (Behind place)) (length before) refl,
-  (λ j other node low is. (
-      let r = in_range (before ++ Enter u (Behind place) ∷ []) j (Link other u node) is in
-      let n = length-append before (Enter u (Behind place) ∷ []) in
-      let one : length (Enter u (Behind place) ∷ []) ≡ 1 = refl in
-      absurd (omega arith))),
-)
+just_placed before after u place e = let at = at_its_end before after (Enter u (Behind place)) e in (at.0, at.1, λ j other node low. at.2 j (Link other u node) low)

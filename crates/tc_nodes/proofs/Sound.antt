@@ -1,5 +1,5 @@
 -- What is so after a legal order of steps, and the packing of cells.
-use Rattle.std.proofs.Common.{◌≡◌, ℕ, ◌+◌, ◌/◌, ◌%◌, ◌≤◌, ◌==◌, Bool, true, false, cond, List, [], ◌∷◌, ◌++◌, sym, refl, ap, ◌∙◌, subst, arith, rules, Option, Some, None}
+use Rattle.std.proofs.Common.{◌≡◌, ℕ, ◌+◌, ◌/◌, ◌%◌, ◌≤◌, ◌==◌, Bool, true, false, cond, List, [], ◌∷◌, ◌++◌, sym, refl, ap, ◌∙◌, subst, arith, Option, Some, None}
 use Rattle.tc_queue.specs.declared.turn.Turn.{Turn}
 use Rattle.tc_queue.specs.declared.turn.Departure.TheVariants.{Left, Followed}
 use Rattle.tc_queue.specs.Words.{IsTurn, turn_word, turn_at}

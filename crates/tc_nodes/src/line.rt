@@ -1,7 +1,6 @@
 //! A line of waiting turns, each with the node on which it waits.
 
-ghost use Rattle.std.specs.Prelude.{◌≡◌, ◌≢◌, ◌<◌, ◌≤◌, ◌++◌, ◌∷◌, [], IfOk, MatchBool, length, true, false, vec_capacity};
-ghost use Rattle.tc_queue.specs.declared.turn.Turn.{Turn};
+ghost use Rattle.std.specs.Prelude.{◌≡◌, ◌≢◌, ◌≤◌, [], IfOk, MatchBool, vec_capacity};
 ghost use Rattle.tc_nodes.specs.Line.{IsLetIn, IsRefused, IsSteady, LineView, arrived, has_turn, line_after, line_without, picked, with_waiting};
 
 use std::alloc::{AllocError, Global};

@@ -1,6 +1,6 @@
 //! A line over a whole list of arrivals and picks.
 
-ghost use Rattle.std.specs.Prelude.{◌≡◌, ◌<◌, ◌≤◌, IfOk, length};
+ghost use Rattle.std.specs.Prelude.{◌≡◌, ◌≤◌, IfOk, length};
 ghost use Rattle.tc_nodes.specs.Picks.{HaveComeOnce, IsBounded, IsOnce, arriving, picks};
 
 use crate::line::Line;

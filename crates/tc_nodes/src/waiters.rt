@@ -1,6 +1,5 @@
 //! The queue that knows nodes, as an order of waiters.
 
-ghost use Rattle.std.specs.Prelude.{◌≡◌, ℕ, Some};
 ghost use Rattle.tc_nodes.specs.Lines.{queue_as, seat_as};
 
 use crate::call::Entered;

@@ -1,16 +1,14 @@
-use Rattle.std.proofs.Common.{◌≡◌, ◌∙◌, sym, ap, subst, arith, ℕ, [], ◌∷◌}
-use Rattle.tc_queue.specs.Words.{IsTurn}
+use Rattle.std.proofs.Common.{◌∙◌, sym, ap, arith, ℕ, [], ◌∷◌}
 use Rattle.tc_nodes.specs.Order.{without_pick}
 use Rattle.tc_nodes.specs.View.{NodeQueueView}
-use Rattle.tc_nodes.proofs.Calling.{returns_from}
+use Rattle.tc_nodes.proofs.Calling.{returns_from, turn_picked}
 use Rattle.tc_nodes.proofs.queue.NodeQueue.give.Goals as goal
 
 pub store-requires : goal.store-requires
 store-requires g c =
     let key = c.self.inside.board.shared.key in
     let h = c.requires.holds in
-    let threads : c.args.self.now.threads ≡ key.threads = sym (ap (λ (q : NodeQueueView). q.threads) c.self.view_is) ∙ c.self.invariant.of_threads in
-    let turn : IsTurn key.threads g.J.Named.own = subst (IsTurn key.threads) c.requires.picked.0 (subst (λ (n : ℕ). IsTurn n c.args.own.now) threads c.requires.turn) in (
+    let turn = turn_picked _ c.args.self.now key c.args.own.now g.J.Named.own c.self.view_is c.self.invariant.of_threads c.requires.picked.0 c.requires.turn in (
       c.pick-answer.ensures.own.0 ∙ (c.requires.own ∙ sym (ap (λ (q : NodeQueueView). q.table) c.self.view_is)),
       omega (arith, c.self.invariant.words),
       returns_from key _ c.pick-answer.new.place.id c.args.place.now.me c.pick-answer.new.place.me h.0 g.J.Named.own g.J.Named.node h.1 c.pick-answer.ensures.view

@@ -1,9 +1,8 @@
 use Rattle.std.proofs.Common.{◌≡◌, ◌∙◌, sym, ap, subst, ℕ}
-use Rattle.atomic_table.specs.Seated.{TableId}
 use Rattle.tc_queue.specs.Words.{IsTurn}
 use Rattle.tc_nodes.specs.Steps.{Sitting}
-use Rattle.tc_nodes.specs.View.{NodeSeatView, seat_view, DidNext}
-use Rattle.tc_nodes.proofs.Calling.{holds_filled, next_told, picked_turn}
+use Rattle.tc_nodes.specs.View.{NodeSeatView, DidNext}
+use Rattle.tc_nodes.proofs.Calling.{still_same, of_seat, holds_filled, next_told, picked_turn}
 use Rattle.tc_nodes.proofs.queue.NodeQueue.next.Goals as goal
 
 pub invariant_of-seat : goal.invariant_of-seat
@@ -19,10 +18,8 @@ returns-clause-next g c =
     let now = c.give.ensures.now f.stand holds in
     let place = c.seat.inside.place in
     let told = next_told place.table_id place.id c.seat.inside.node place.me c.take.new.place.me c.fill.new.place.me c.give.new.place.me c.args.own c.seat.inside.node c.give.result c.take.ensures.taken f (c.give.ensures.answer f.stand holds) now in
-    let table : place.table_id ≡ c.give.new.place.table_id = sym (c.give.ensures.own.0 ∙ (c.fill.ensures.own.0 ∙ c.take.ensures.own.0)) in
-    let id : place.id ≡ c.give.new.place.id = sym (c.give.ensures.own.1 ∙ (c.fill.ensures.own.1 ∙ c.take.ensures.own.1)) in
-    subst (λ (s : NodeSeatView). DidNext c.args.own s.node c.give.result s (seat_view c.give.new.place.table_id c.give.new.place.id c.seat.inside.node c.give.new.place.me.0)) c.seat.view_is
-    (subst (λ (z : TableId × ℕ). DidNext c.args.own c.seat.inside.node c.give.result (seat_view place.table_id place.id c.seat.inside.node place.me.0) (seat_view z.0 z.1 c.seat.inside.node c.give.new.place.me.0)) (λ i. (table i, id i)) told)
+    let same = still_same place c.fill.new.place c.give.new.place (still_same place c.take.new.place c.fill.new.place c.take.ensures.own c.fill.ensures.own) c.give.ensures.own in
+    of_seat (λ s t. DidNext c.args.own s.node c.give.result s t) c.args.seat.now place c.give.new.place c.seat.inside.node c.seat.view_is same told
 
 pub returns-clause-turn : goal.returns-clause-turn
 returns-clause-turn g c u e =

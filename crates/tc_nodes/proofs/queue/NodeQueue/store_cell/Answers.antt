@@ -1,9 +1,9 @@
-use Rattle.std.proofs.Common.{◌≡◌, ◌∙◌, ◌+◌, ◌%◌, ◌<◌, sym, ap, subst, arith, ℕ}
+use Rattle.std.proofs.Common.{◌∙◌, ◌+◌, ◌%◌, ◌<◌, sym, ap, subst, arith, ℕ}
 use Rattle.tc_queue.specs.declared.turn.Turn.{Turn}
-use Rattle.tc_queue.specs.Words.{IsTurn}
 use Rattle.tc_nodes.specs.Cells.{cell_word}
 use Rattle.tc_nodes.specs.Order.{MayLink}
 use Rattle.tc_nodes.specs.View.{NodeQueueView, NodeSeatView}
+use Rattle.tc_nodes.proofs.Calling.{turn_picked}
 use Rattle.tc_nodes.proofs.Stepping.{links_turn}
 use Rattle.tc_nodes.proofs.queue.NodeQueue.store_cell.Goals as goal
 
@@ -11,8 +11,7 @@ pub store-requires : goal.store-requires
 store-requires g c =
     let key = c.self.inside.board.shared.key in
     let p = c.requires.picked in
-    let threads : c.args.self.now.threads ≡ key.threads = sym (ap (λ (q : NodeQueueView). q.threads) c.self.view_is) ∙ c.self.invariant.of_threads in
-    let turn : IsTurn key.threads g.J.Named.own = subst (IsTurn key.threads) p.0 (subst (λ (n : ℕ). IsTurn n c.args.placed.now.turn) threads c.requires.placed.turn) in
+    let turn = turn_picked _ c.args.self.now key c.args.placed.now.turn g.J.Named.own c.self.view_is c.self.invariant.of_threads p.0 c.requires.placed.turn in
     let node : g.J.Named.node < 8 = subst (λ (n : ℕ). n < 8) p.1 c.requires.placed.node in
     let may : MayLink c.seat.inside.place.me.0.calls g.J.Named.own g.J.Named.place =
     subst (λ (z : Turn × ℕ). MayLink c.seat.inside.place.me.0.calls z.0 z.1) (λ i. (p.0 i, c.requires.place i)) (subst (λ (s : NodeSeatView). MayLink s.calls c.args.placed.now.turn c.args.place) (sym c.seat.view_is) c.requires.entered) in (

@@ -14,5 +14,4 @@ returns-in-Behind-clause-call c = adds_line c.args.seat.now c.enter.new.seat (En
 
 pub returns-in-Behind-clause-may : goal.returns-in-Behind-clause-may
 returns-in-Behind-clause-may c =
-    let e = adds_line c.args.seat.now c.enter.new.seat (Enter c.args.turn c.enter.result ∷ []) (line.Enter c.args.turn (line.Behind c.in-Behind.place)) c.enter.ensures.call (ap (λ (a : Entered). line.Enter c.args.turn (entered_as a) ∷ []) c.in-Behind.is) in
-    just_entered (seat_as c.args.seat.now).calls (seat_as c.enter.new.seat).calls c.args.turn c.in-Behind.place (ap (λ (s : line.SeatView). s.calls) e)
+    just_entered (seat_as c.args.seat.now).calls (seat_as c.enter.new.seat).calls c.args.turn c.in-Behind.place (ap (λ (s : line.SeatView). s.calls) (returns-in-Behind-clause-call c))
