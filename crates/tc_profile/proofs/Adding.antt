@@ -1,5 +1,5 @@
 -- A block is added to the numbers of its locks, one after another.
-use Rattle.std.proofs.Common.{◌≡◌, ◌≢◌, ℕ, zero, suc, ◌+◌, ◌^◌, ◌<◌, ◌≤◌, ◌&&◌, nat_lt, Bool, true, false, List, [], ◌∷◌, set, length, refl, sym, ap, ◌∙◌, arith, inl, inr}
+use Rattle.std.proofs.Common.{◌≡◌, ◌≢◌, ℕ, ◌+◌, ◌^◌, ◌<◌, ◌≤◌, ◌&&◌, nat_lt, Bool, true, false, List, set, length, refl, sym, ap, ◌∙◌, arith, inl, inr}
 use Rattle.std.specs.Prelude.{Option, Some, None, option_map, slice_get, if◌then◌else◌}
 use Rattle.std.proofs.lemmas.Bool.Decides.{eqb_tells, nat_tests}
 use Rattle.std.proofs.lemmas.Option.{slice_get_within}
@@ -27,9 +27,6 @@ map_alike f g (Some c) same = ap Some (same c)
 
 below_next : (k n : ℕ) → k ≢ n → nat_lt k n ≡ nat_lt k (n + 1)
 below_next k n ne = grind (arith, nat_tests, ne)
-
-pub none_added : (b : Block) (home : ℕ) (old : List LockTally) → AddedBelow 0 b home old old
-none_added b home old k = sym (map_same (added_below 0 k b home) (slice_get old k) (λ c. let e : nat_lt k 0 ≡ false = grind (arith, nat_tests) in ap (λ v. if v && has b.held k then lock_after k b home c else c) e))
 
 module _ (n : ℕ) (b : Block) (home : ℕ) (old now : List LockTally) (so_far : AddedBelow n b home old now) where
   other : (k : ℕ) → k ≢ n → slice_get now k ≡ option_map (added_below (n + 1) k b home) (slice_get old k)
