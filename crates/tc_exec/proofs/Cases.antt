@@ -124,7 +124,7 @@ unlock_opens image held lock e = record { known = grind (arith, nat_tests); is_h
 sleep_opens : (blocks : ℕ) → sleep_fault blocks ≡ None → blocks ≤ MAX_SLEEP
 sleep_opens blocks e = grind (arith, nat_tests)
 
-call_told : (image : Shown) (held : ℕ → Bool) (r : Registers) (answer : ℕ) → IsAct image held r (guest_call image held r answer)
+pub call_told : (image : Shown) (held : ℕ → Bool) (r : Registers) (answer : ℕ) → IsAct image held r (guest_call image held r answer)
 unfolding guest_call
 call_told image held r answer =
     let x = get r 10 in

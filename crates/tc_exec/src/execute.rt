@@ -4,7 +4,9 @@
 //! need more than the registers, so they are told, with what they need of the registers.
 
 ghost use Rattle.std.specs.Prelude.{◌≡◌, ℕ, ◌+◌, ◌%◌, ◌^◌, Bool, None, true, false};
+ghost use Rattle.tc_isa.specs.Registers.{get};
 ghost use Rattle.tc_elf.specs.Shown.{Shown};
+ghost use Rattle.tc_exec.specs.Arithmetic.{plus};
 ghost use Rattle.tc_exec.specs.Effects.{act_after, want_after, is_done};
 ghost use Rattle.tc_exec.specs.Flow as flow;
 ghost use Rattle.tc_exec.specs.Step as step;
@@ -73,6 +75,19 @@ fn jump(regs: &mut Regs, rd: Reg, target: u32) -> Effect
     Effect::Jumped
 }
 
+/// Goes by a distance from the program counter, as `jump` does.
+fn jump_by(regs: &mut Regs, rd: Reg, off: u32) -> Effect
+    ensures act { (image : Shown) (held : ℕ → Bool) (answer : ℕ)
+        → flow.jump regs.old rd (plus regs.old.pc off)
+        ≡ act_after image held regs.new answer result }
+    ensures want { (image : Shown) (held : ℕ → Bool) → want_after image held result ≡ Nothing }
+    ensures jumped { result ≡ TheEffect.Went → ⊥ }
+    ensures kept { is_done result ≡ false → regs.new ≡ regs.old }
+{
+    let target = regs.pc().wrapping_add(off);
+    jump(regs, rd, target)
+}
+
 /// Goes by a distance, where two registers meet a condition.
 fn branch(regs: &mut Regs, cond: Cond, rs1: Reg, rs2: Reg, off: u32) -> Effect
     ensures act { (image : Shown) (held : ℕ → Bool) (answer : ℕ)
@@ -85,8 +100,25 @@ fn branch(regs: &mut Regs, cond: Cond, rs1: Reg, rs2: Reg, off: u32) -> Effect
         regs.step();
         return Effect::Went;
     }
-    let target = regs.pc().wrapping_add(off);
-    jump(regs, Reg::of(0), target)
+    jump_by(regs, Reg::of(0), off)
+}
+
+/// A load from the address that a register and a distance give.
+fn load(regs: &Regs, kind: LoadKind, rd: Reg, rs1: Reg, off: u32) -> Effect
+    ensures { result ≡ TheEffect.Load kind rd (plus (get regs.now rs1) off) }
+{
+    let addr = regs.get(rs1).wrapping_add(off);
+    Effect::Load { kind, rd, addr }
+}
+
+/// A store of another register to such an address.
+fn store(regs: &Regs, kind: StoreKind, rs1: Reg, rs2: Reg, off: u32) -> Effect
+    ensures { result
+        ≡ TheEffect.Store kind (plus (get regs.now rs1) off) (get regs.now rs2) }
+{
+    let addr = regs.get(rs1).wrapping_add(off);
+    let value = regs.get(rs2);
+    Effect::Store { kind, addr, value }
 }
 
 /// Does an instruction to the registers, and tells what it does beside them. It stands in the loop
@@ -108,10 +140,7 @@ pub fn execute(regs: &mut Regs, instr: &Instr) -> Effect
             let value = regs.pc().wrapping_add(imm);
             set(regs, rd, value)
         }
-        Instr::Jal { rd, off } => {
-            let target = regs.pc().wrapping_add(off);
-            jump(regs, rd, target)
-        }
+        Instr::Jal { rd, off } => jump_by(regs, rd, off),
         Instr::Jalr { rd, rs1, off } => {
             let target = regs.get(rs1).wrapping_add(off);
             jump(regs, rd, target - target % 2)
@@ -122,20 +151,13 @@ pub fn execute(regs: &mut Regs, instr: &Instr) -> Effect
             rs2,
             off,
         } => branch(regs, cond, rs1, rs2, off),
-        Instr::Load { kind, rd, rs1, off } => {
-            let addr = regs.get(rs1).wrapping_add(off);
-            Effect::Load { kind, rd, addr }
-        }
+        Instr::Load { kind, rd, rs1, off } => load(regs, kind, rd, rs1, off),
         Instr::Store {
             kind,
             rs1,
             rs2,
             off,
-        } => {
-            let addr = regs.get(rs1).wrapping_add(off);
-            let value = regs.get(rs2);
-            Effect::Store { kind, addr, value }
-        }
+        } => store(regs, kind, rs1, rs2, off),
         Instr::Imm { op, rd, rs1, imm } => {
             let value = value_of(op_of_imm(op), regs.get(rs1), imm);
             set(regs, rd, value)

@@ -6,8 +6,10 @@ ghost use Rattle.tc_exec.specs.InPlace.{IsDone, done_of, regs_after};
 ghost use Rattle.tc_exec.specs.Step as step;
 ghost use Rattle.tc_exec.specs.Told.{IsWant};
 
+use crate::access::{fault_of_load, load, load_want, store};
+use crate::execute::{Effect, execute};
+use crate::guest_calls::guest_call;
 use crate::outcome::{Done, Want};
-use crate::step::{go_by, wants_by};
 use tc_elf::image::Image;
 use tc_isa::held::Held;
 use tc_isa::instr::Instr;
@@ -15,19 +17,25 @@ use tc_isa::regs::Regs;
 
 /// What `step::wants` answers, where this is the next instruction. `near` is as in
 /// `Image::region_from`: it changes nothing but what the call costs.
-#[tactic(auto, unfolding(crate::specs::Step::wants_of))]
+#[tactic(auto, unfolding(crate::specs::Step::wants_of, crate::specs::Step::wants_by))]
 pub fn wants(image: &Image, near: usize, held: Held, regs: &Regs, instr: &Instr) -> Want
     requires { step.instruction_at image.now regs.now.pc ≡ Ok instr.now }
     ensures value { result ≡ step.wants_of image.now (has held) regs.now }
     ensures told { IsWant image.now (has held) result }
 {
-    wants_by(image, near, held, regs, instr)
+    match *instr {
+        Instr::Load { kind, rs1, off, .. } => {
+            let addr = regs.get(rs1).wrapping_add(off);
+            load_want(image, near, held, kind, addr)
+        }
+        _ => Want::Nothing,
+    }
 }
 
 /// Does the next instruction to the registers, and says what it did beside them, where this is the
 /// instruction, and that is what it wants. `near` is as in `wants`. `answer` is as in `step::act`,
 /// which tells the same of registers that it leaves alone; this costs much less.
-#[tactic(auto, unfolding(crate::specs::Step::act_of, crate::specs::Step::wants_of))]
+#[tactic(auto, unfolding(crate::specs::Step::act_of, crate::specs::Step::wants_of, crate::specs::Access::load))]
 pub fn go(
     image: &Image,
     near: usize,
@@ -43,5 +51,14 @@ pub fn go(
     ensures regs { regs.new ≡ regs_after (step.act_of image.now (has held) regs.old answer) regs.old }
     ensures told { IsDone image.now (has held) result }
 {
-    go_by(image, near, held, regs, instr, want, answer)
+    match execute(regs, instr) {
+        Effect::Went | Effect::Jumped => Done::Went,
+        Effect::Load { kind, rd, addr } => {
+            let fault = fault_of_load(image, held, want, kind, addr);
+            load(fault, regs, kind, rd, answer)
+        }
+        Effect::Store { kind, addr, value } => store(image, near, held, regs, kind, addr, value),
+        Effect::Call => guest_call(image, held, regs, answer),
+        Effect::Fault(fault) => Done::Faulted(fault),
+    }
 }

@@ -2,15 +2,13 @@
 
 ghost use Rattle.std.specs.Prelude.{◌≡◌, ℕ, true, false};
 ghost use Rattle.tc_isa.specs.Sets.{has};
-ghost use Rattle.tc_exec.specs.InPlace.{done_of, regs_after};
 ghost use Rattle.tc_exec.specs.Step as step;
 ghost use Rattle.tc_exec.specs.Statements.{NeverLocks, CallsLock};
 ghost use Rattle.tc_exec.specs.Told.{IsWant, IsAct, taken_by};
 
-use crate::access::{fault_of_load, load, load_want, store};
-use crate::execute::{Effect, execute};
-use crate::guest_calls::{guest_call, is_numbered_lock, lock_fault};
-use crate::outcome::{Act, Done, Want};
+use crate::guest_calls::{is_numbered_lock, lock_fault};
+use crate::known;
+use crate::outcome::{Act, Want};
 use tc_elf::image::Image;
 use tc_isa::decode::{decode, rows_decide};
 use tc_isa::fault::Fault;
@@ -32,47 +30,6 @@ pub fn instruction_at(image: &Image, pc: u32) -> Result<Instr, Fault>
     decode(word).ok_or(Fault::Illegal)
 }
 
-#[tactic(auto, unfolding(crate::specs::Step::wants_by))]
-pub(crate) fn wants_by(image: &Image, near: usize, held: Held, regs: &Regs, instr: &Instr) -> Want
-    ensures { result ≡ step.wants_by image.now (has held) regs.now instr.now }
-{
-    match *instr {
-        Instr::Load { kind, rs1, off, .. } => {
-            let addr = regs.get(rs1).wrapping_add(off);
-            load_want(image, near, held, kind, addr)
-        }
-        _ => Want::Nothing,
-    }
-}
-
-/// Does an instruction that wants this.
-#[tactic(auto, unfolding(crate::specs::Access::load))]
-pub(crate) fn go_by(
-    image: &Image,
-    near: usize,
-    held: Held,
-    regs: &mut Regs,
-    instr: &Instr,
-    want: Want,
-    answer: u32,
-) -> Done
-    requires { want ≡ step.wants_by image.now (has held) regs.old instr.now }
-    ensures done { result ≡ done_of (step.act_by image.now (has held) regs.old answer instr.now) }
-    ensures regs { regs.new
-        ≡ regs_after (step.act_by image.now (has held) regs.old answer instr.now) regs.old }
-{
-    match execute(regs, instr) {
-        Effect::Went | Effect::Jumped => Done::Went,
-        Effect::Load { kind, rd, addr } => {
-            let fault = fault_of_load(image, held, want, kind, addr);
-            load(fault, regs, kind, rd, answer)
-        }
-        Effect::Store { kind, addr, value } => store(image, near, held, regs, kind, addr, value),
-        Effect::Call => guest_call(image, held, regs, answer),
-        Effect::Fault(fault) => Done::Faulted(fault),
-    }
-}
-
 /// The load that the next instruction needs. It is `Want::Nothing` also where the instruction
 /// faults, so that what is wanted may always be read.
 #[tactic(auto, unfolding(crate::specs::Step::wants_of))]
@@ -81,7 +38,7 @@ pub fn wants(image: &Image, held: Held, regs: &Regs) -> Want
     ensures told { IsWant image.now (has held) result }
 {
     match instruction_at(image, regs.pc()) {
-        Ok(instr) => wants_by(image, 0, held, regs, &instr),
+        Ok(instr) => known::wants(image, 0, held, regs, &instr),
         Err(_) => Want::Nothing,
     }
 }
@@ -97,9 +54,9 @@ pub fn act(image: &Image, held: Held, regs: &Regs, answer: u32) -> Act
 {
     match instruction_at(image, regs.pc()) {
         Ok(instr) => {
-            let want = wants_by(image, 0, held, regs, &instr);
+            let want = known::wants(image, 0, held, regs, &instr);
             let mut after = *regs;
-            let done = go_by(image, 0, held, &mut after, &instr, want, answer);
+            let done = known::go(image, 0, held, &mut after, &instr, want, answer);
             done.act(after)
         }
         Err(fault) => Act::Faulted(fault),

@@ -1,8 +1,8 @@
 -- The list of the locks of a set, written from its greatest down.
 use Rattle.std.proofs.Common.{◌≡◌, ℕ, zero, suc, ◌+◌, ◌*◌, ◌<◌, ◌≤◌, Bool, true, false, cond, List, [], ◌∷◌, ◌++◌, length, filter, refl, sym, ap, ◌∙◌, append_assoc, append-nil, arith}
-use Rattle.std.specs.Prelude.{codes, decimal}
+use Rattle.std.specs.Prelude.{Option, Some, None, MatchOption, unwrap_or, codes, decimal}
 use Rattle.std.specs.List.{flat_map, range_with_len}
-use Rattle.tc_isa.specs.Sets.{has, locks_of, IsGreatest}
+use Rattle.tc_isa.specs.Sets.{has, locks_of, IsGreatest, IsLeast}
 use Rattle.tc_journal.specs.Line.{comma_text, numbers_text}
 
 none_from : (p : ℕ → Bool) (a n : ℕ) → ((i : ℕ) → a ≤ i → p i ≡ false) → filter p (range_with_len a n) ≡ []
@@ -68,11 +68,32 @@ one_less set k lock line old w e none =
       room = omega (arith, w.room);
     }
 
-pub all_written : (set lock : ℕ) (line old : List ℕ) → Written set lock line old → lock ≡ 0 → line ≡ numbers_text (locks_of set) ++ old
+-- what comes before them is not in the set
+fails_below : (p : ℕ → Bool) (first i : ℕ) → ((k : ℕ) → p k ≡ true → first ≤ k) → i < first → p i ≡ false
+fails_below p first i least below = elim (p i) as (λ b. p i ≡ b → b ≡ false) [ true ↦ λ e. absurd (omega (arith, least i e)) | false ↦ λ e. refl ] refl
+
+pub none_below : (set lock : ℕ) (least : Option ℕ) → MatchOption least (set ≡ 0) (λ l. IsLeast set l) → lock ≤ unwrap_or least 0 → (k : ℕ) → k < lock → has set k ≡ false
+none_below set lock None is low k below = absurd (omega arith)
+none_below set lock (Some l) is low k below = fails_below (has set) l k is.1 (omega arith)
+
+none_before : (p : ℕ → Bool) (a m n total : ℕ) → m + n ≡ total → ((i : ℕ) → i < a + m → p i ≡ false) → filter p (range_with_len a total) ≡ filter p (range_with_len (a + m) n)
+none_before p a zero n total e none =
+    let from : a ≡ a + 0 = omega arith in
+    let all : total ≡ n = omega (arith, e) in
+    λ i. filter p (range_with_len (from i) (all i))
+none_before p a (suc m) n zero e none = absurd (omega (arith, e))
+none_before p a (suc m) n (suc left) e none =
+    let rest : List ℕ = filter p (range_with_len (a + 1) left) in
+    let from : a + 1 + m ≡ a + suc m = omega arith in
+    ap (λ b. cond b (a ∷ rest) rest) (none a (omega arith)) ∙ none_before p (a + 1) m n left (omega (arith, e)) (λ i low. none i (omega arith))
+    ∙ ap (λ k. filter p (range_with_len k n)) from
+
+pub all_written : (set lock : ℕ) (line old : List ℕ) → Written set lock line old → ((k : ℕ) → k < lock → has set k ≡ false) → line ≡ numbers_text (locks_of set) ++ old
 unfolding locks_of
 all_written set lock line old w none =
+    let from : 0 + lock ≡ lock = omega arith in
     let whole : filter (has set) (range_with_len 0 32) ≡ w.first ∷ w.others =
-    ap (λ n. filter (has set) (range_with_len 0 n)) (let all : 32 ≡ w.count = omega (arith, w.sum) in all) ∙ ap (λ a. filter (has set) (range_with_len a w.count)) (sym none) ∙ w.are in
+    none_before (has set) 0 lock w.count 32 w.sum (λ k low. none k (omega arith)) ∙ ap (λ a. filter (has set) (range_with_len a w.count)) from ∙ w.are in
     w.text ∙ ap (λ ns. numbers_text ns ++ old) (sym whole)
 
 pub locks_of-none : locks_of 0 ≡ []

@@ -19,9 +19,10 @@ fn put_held(line: &mut Buffer, held: Held)
     let Some(greatest) = held.greatest() else {
         return line.put_str("-");
     };
+    let least = held.least().unwrap_or(0);
     line.put_number(u64::from(greatest));
     let mut lock = greatest;
-    while lock > 0 {
+    while lock > least {
         lock -= 1;
         if held.has(lock) {
             line.put_str(",");

@@ -1,5 +1,5 @@
 -- Turns that touch the thread's own memory alone.
-use Rattle.std.proofs.Common.{◌≡◌, ℕ, ◌<◌, ◌==◌, Bool, true, false, [], refl, ap, subst, ◌∙◌, arith}
+use Rattle.std.proofs.Common.{◌≡◌, ℕ, suc, ◌-◌, ◌<◌, ◌==◌, Bool, true, false, [], refl, ap, subst, ◌∙◌, arith}
 use Rattle.std.specs.Prelude.{if◌then◌else◌, Option, Some, None, Ok}
 use Rattle.std.proofs.lemmas.Bool.Decides.{nat_tests}
 use Rattle.tc_isa.specs.Registers.{Registers, with_register}
@@ -20,11 +20,11 @@ use Rattle.tc_exec.specs.declared.outcome.Put.{Put}
 use Rattle.tc_exec.specs.declared.outcome.Want.{Want}
 use Rattle.tc_exec.specs.declared.outcome.Want.TheVariants as want
 use Rattle.tc_exec.proofs.Touches.{own_want, own_load, own_store}
-use Rattle.tc_turn.specs.Own.{IsOwnTurn, own_number, loaded, stored, spent}
+use Rattle.tc_turn.specs.Own.{IsOwnTurn, OwnRun, own_number, fuelled, loaded, stored, spent}
 use Rattle.tc_turn.specs.Replay.{word_of}
 use Rattle.tc_turn.specs.Way.{is_gone, on_or_not}
 use Rattle.tc_turn.specs.declared.own_turns.Way.{Way}
-use Rattle.tc_turn.specs.Turn.{Thread, Mutex, taken_by, next_lock, next_act, answer_of, answer_to, guard_with, guard_after, thread_after, mutex_after, outcome_of}
+use Rattle.tc_turn.specs.Turn.{Thread, Mutex, Guest, thread_of, taken_by, next_lock, next_act, answer_of, answer_to, guard_with, guard_after, thread_after, mutex_after, outcome_of}
 
 -- ---- what is stored in the thread's own memory leaves the locks alone
 
@@ -132,3 +132,12 @@ load_turn image loads d kind rd addr i fuel at acts wants may own =
 pub went_on : (way : Way) (b : Bool) → way ≡ on_or_not b → is_gone way ≡ true → b ≡ true
 went_on way true e gone = refl
 went_on way false e gone = absurd (cc)
+
+-- ---- one turn more
+
+pub run_more : (image : Shown) (loads : Bool) (n f : ℕ) (g mid last : Guest) → n < f → OwnRun image loads n g (record mid { fuel = f - n })
+    → ((fuel : ℕ) → 0 < fuel → IsOwnTurn image loads (fuelled fuel (thread_of mid)) (spent (fuelled fuel (thread_of last))))
+    → OwnRun image loads (suc n) g (record last { fuel = f - suc n })
+run_more image loads n f g mid last low run turn =
+    let less : f - n - 1 ≡ f - suc n = omega arith in
+    (record mid { fuel = f - n }, run, subst (λ left. IsOwnTurn image loads (fuelled (f - n) (thread_of mid)) (fuelled left (thread_of last))) less (turn (f - n) (omega arith)))

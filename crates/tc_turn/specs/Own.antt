@@ -27,9 +27,13 @@ stored kind addr value d =
     let width = store_width kind in
     record { regs = at_next d.regs; own = with_number d.own addr width (value % 2 ^ (8 * width)); fuel = d.fuel; status = d.status; held = d.held }
 
+-- with so much fuel
+abbrev pub fuelled : ℕ → Thread → Thread
+fuelled n d = record { regs = d.regs; own = d.own; fuel = n; status = d.status; held = d.held }
+
 -- with one unit of fuel less
 abbrev pub spent : Thread → Thread
-spent d = record { regs = d.regs; own = d.own; fuel = d.fuel - 1; status = d.status; held = d.held }
+spent d = fuelled (d.fuel - 1) d
 
 -- the next turn goes on and leads to the same whatever the locks are; it takes and releases none, changes none, and gives
 -- their journals no word, unless it may load

@@ -9,7 +9,7 @@ ghost use Rattle.tc_turn.specs.Memory.{byte_from, number_at, part_with, with_num
 
 use crate::clear::{Clear, clear_places, part_by, place_number};
 pub use crate::number::put_number;
-use crate::number::{Bytes, byte_from, bytewise, number_from};
+use crate::number::{Bytes, are_there, byte_from, bytewise, number_within, put_within};
 use std::alloc::{AllocError, Global};
 use std::marker::Model;
 use tc_elf::image::Image;
@@ -87,8 +87,7 @@ impl Part {
     pub(crate) fn has(&self, start: u32, length: u32) -> bool
         ensures { result ≡ part_has start length self.now }
     {
-        start >= self.start
-            && start as u64 + length as u64 <= self.start as u64 + self.bytes.len() as u64
+        are_there(self.start, &self.bytes, start, length)
     }
 
     /// Whether it has one of these addresses.
@@ -105,12 +104,15 @@ impl Part {
         byte_from(self.start, &self.bytes, addr)
     }
 
+    /// The number in so many bytes, of which it has all.
+    #[inline(always)]
     fn number(&self, addr: u32, width: u32) -> u32
+        requires there { part_has addr width self.now ≡ true }
         requires fits { addr + width ≤ 2 ^ 32 }
         requires small { width ≤ 4 }
         ensures { result ≡ number_at (λ at. unwrap_or (part_byte self.now at) 0) addr width }
     {
-        number_from(self.start, &self.bytes, addr, width)
+        number_within(self.start, &self.bytes, addr, width)
     }
 
     fn put(&mut self, addr: u32, width: u32, value: u32)
@@ -118,6 +120,16 @@ impl Part {
         ensures { self.new ≡ part_with addr width value self.old }
     {
         put_number(self.start, &mut self.bytes, addr, width, value);
+    }
+
+    /// The same where it has all of the addresses.
+    #[inline(always)]
+    fn put_within(&mut self, addr: u32, width: u32, value: u32)
+        requires there { part_has addr width self.old ≡ true }
+        requires fits { addr + width ≤ 2 ^ 32 }
+        ensures { self.new ≡ part_with addr width value self.old }
+    {
+        put_within(self.start, &mut self.bytes, addr, width, value);
     }
 }
 
@@ -208,9 +220,10 @@ fn any_gap(guards: &[Gap], addr: u32) -> bool
     guards.iter().any(|g| g.meets(addr, 1))
 }
 
-/// The number in so many bytes of a part.
+/// The number in so many bytes of a part that has them all.
 fn number_in_part(parts: &[Part], part: usize, addr: u32, width: u32) -> u32
     requires known { part < length parts.now }
+    requires there { part_has addr width (part_at parts.now part) ≡ true }
     requires fits { addr + width ≤ 2 ^ 32 }
     requires small { width ≤ 4 }
     ensures { result ≡ number_at (λ at. unwrap_or (part_byte (part_at parts.now part) at) 0) addr width }
@@ -234,7 +247,7 @@ fn put_in_part(parts: &mut [Part], part: usize, addr: u32, width: u32, value: u3
     requires alone { (guards : List Guard) × IsAlone parts.old guards part addr width }
     ensures { parts.new ≡ map (part_with addr width value) parts.old }
 {
-    parts[part].put(addr, width, value);
+    parts[part].put_within(addr, width, value);
 }
 
 fn zeros(alloc: Global, length: u32) -> Result<Vec<u8>, AllocError>
@@ -310,14 +323,25 @@ impl Memory {
 
     /// The number in so many bytes from an address on. A byte that is not in this memory counts as
     /// 0.
+    #[inline(always)]
     pub(crate) fn number(&self, addr: u32, width: u32) -> u32
         requires fits { addr + width ≤ 2 ^ 32 }
         requires small { width ≤ 4 }
         ensures { result ≡ number_at (λ at. unwrap_or (own_of self.now at) 0) addr width }
     {
-        if let Some(number) = self.number_by(self.last, addr, width) {
-            return number;
+        match self.number_by(self.last, addr, width) {
+            Some(number) => number,
+            None => self.searched_number(addr, width),
         }
+    }
+
+    /// The same, where the place is looked for.
+    #[inline(never)]
+    fn searched_number(&self, addr: u32, width: u32) -> u32
+        requires fits { addr + width ≤ 2 ^ 32 }
+        requires small { width ≤ 4 }
+        ensures { result ≡ number_at (λ at. unwrap_or (own_of self.now at) 0) addr width }
+    {
         let place = place_number(&self.places, addr, width);
         match self.number_by(place, addr, width) {
             Some(number) => number,
@@ -326,6 +350,7 @@ impl Memory {
     }
 
     /// The same where the place of this number in the table has all the bytes.
+    #[inline(always)]
     fn number_by(&self, place: usize, addr: u32, width: u32) -> Option<u32>
         requires fits { addr + width ≤ 2 ^ 32 }
         requires small { width ≤ 4 }
@@ -340,13 +365,22 @@ impl Memory {
 
     /// Writes the low `width` bytes of a value, the lowest first, to the addresses from `addr` on.
     /// What is not in this memory is not written.
+    #[inline(always)]
     pub(crate) fn put(&mut self, addr: u32, width: u32, value: u32)
         requires { addr + width ≤ 2 ^ 32 }
         ensures { own_of self.new ≡ with_number (own_of self.old) addr width value }
     {
-        if self.put_by(self.last, addr, width, value) {
-            return;
+        if !self.put_by(self.last, addr, width, value) {
+            self.searched_put(addr, width, value);
         }
+    }
+
+    /// The same, where the place is looked for.
+    #[inline(never)]
+    fn searched_put(&mut self, addr: u32, width: u32, value: u32)
+        requires { addr + width ≤ 2 ^ 32 }
+        ensures { own_of self.new ≡ with_number (own_of self.old) addr width value }
+    {
         self.last = place_number(&self.places, addr, width);
         if !self.put_by(self.last, addr, width, value) {
             self.put_all(addr, width, value);
@@ -354,6 +388,7 @@ impl Memory {
     }
 
     /// The same where the place of this number in the table has all the addresses.
+    #[inline(always)]
     fn put_by(&mut self, place: usize, addr: u32, width: u32, value: u32) -> bool
         requires { addr + width ≤ 2 ^ 32 }
         ensures yes { result ≡ true

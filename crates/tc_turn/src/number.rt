@@ -3,8 +3,9 @@
 //! A number whose bytes all stand in one list is read and written at once. What else is asked for is
 //! taken byte by byte.
 
-ghost use Rattle.std.specs.Prelude.{◌≡◌, ℕ, ◌+◌, ◌≤◌, ◌<◌, ◌^◌, true, false, length, drop, unwrap_or, IfSome};
+ghost use Rattle.std.specs.Prelude.{◌≡◌, ℕ, ◌+◌, ◌≤◌, ◌<◌, ◌^◌, true, length, drop, unwrap_or, IfSome};
 ghost use Rattle.byteorder.specs.Endian.{little_number};
+ghost use Rattle.tc_elf.specs.Places.{lies_in};
 ghost use Rattle.tc_turn.specs.Memory.{byte_from, put_byte, put_number, number_at};
 
 use byteorder::{ByteOrder, LittleEndian};
@@ -66,19 +67,11 @@ pub(crate) fn bytewise<B: Bytes>(bytes: &B, addr: u32, width: u32) -> u32
     low + 256 * bytewise(bytes, addr + 1, width - 1)
 }
 
-/// Where the bytes of an access begin among so many that stand from `start` on, if all of them are
-/// there.
-fn place_of(start: u32, count: usize, addr: u32, width: u32) -> Option<usize>
-    ensures { IfSome result (λ at. (start + at ≡ addr) × (at + width ≤ count)) }
+/// Whether all bytes of an access are among those that stand from `start` on.
+pub(crate) fn are_there(start: u32, bytes: &[u8], addr: u32, width: u32) -> bool
+    ensures { result ≡ lies_in addr width start (length bytes.now) }
 {
-    if addr < start {
-        return None;
-    }
-    let at = (addr - start) as usize;
-    if count < width as usize || at > count - width as usize {
-        return None;
-    }
-    Some(at)
+    addr >= start && addr as u64 + width as u64 <= start as u64 + bytes.len() as u64
 }
 
 /// The number of 1, 2 or 4 bytes from a place on.
@@ -103,12 +96,26 @@ pub fn number_from(start: u32, bytes: &[u8], addr: u32, width: u32) -> u32
     ensures { result
         ≡ number_at (λ at. unwrap_or (byte_from start bytes.now at) 0) addr width }
 {
-    if let Some(at) = place_of(start, bytes.len(), addr, width) {
-        if let Some(number) = whole(bytes, at, width) {
-            return number;
-        }
+    if are_there(start, bytes, addr, width) {
+        number_within(start, bytes, addr, width)
+    } else {
+        bytewise(&Standing { start, bytes }, addr, width)
     }
-    bytewise(&Standing { start, bytes }, addr, width)
+}
+
+/// The same where all of these bytes are there.
+#[inline(always)]
+pub(crate) fn number_within(start: u32, bytes: &[u8], addr: u32, width: u32) -> u32
+    requires there { lies_in addr width start (length bytes.now) ≡ true }
+    requires fits { addr + width ≤ 2 ^ 32 }
+    requires small { width ≤ 4 }
+    ensures { result
+        ≡ number_at (λ at. unwrap_or (byte_from start bytes.now at) 0) addr width }
+{
+    match whole(bytes, (addr - start) as usize, width) {
+        Some(number) => number,
+        None => bytewise(&Standing { start, bytes }, addr, width),
+    }
 }
 
 fn put_byte(start: u32, bytes: &mut [u8], addr: u32, value: u8)
@@ -163,9 +170,24 @@ pub fn put_number(start: u32, bytes: &mut [u8], addr: u32, width: u32, value: u3
     requires { addr + width ≤ 2 ^ 32 }
     ensures { bytes.new ≡ put_number start bytes.old addr width value }
 {
-    match (width, place_of(start, bytes.len(), addr, width)) {
-        (4, Some(at)) => put_word(bytes, at, value),
-        (2, Some(at)) => put_half(bytes, at, value),
+    if are_there(start, bytes, addr, width) {
+        put_within(start, bytes, addr, width, value);
+    } else {
+        put_bytewise(start, bytes, addr, width, value);
+    }
+}
+
+/// The same where all of these addresses are there.
+#[inline(always)]
+pub(crate) fn put_within(start: u32, bytes: &mut [u8], addr: u32, width: u32, value: u32)
+    requires there { lies_in addr width start (length bytes.old) ≡ true }
+    requires fits { addr + width ≤ 2 ^ 32 }
+    ensures { bytes.new ≡ put_number start bytes.old addr width value }
+{
+    let at = (addr - start) as usize;
+    match width {
+        4 => put_word(bytes, at, value),
+        2 => put_half(bytes, at, value),
         _ => put_bytewise(start, bytes, addr, width, value),
     }
 }

@@ -1,12 +1,12 @@
 //! Turns that touch the thread's own memory alone, one after another: `GuestThread::run_own`, and
 //! `OwnTurns`, which says what it did.
 
-ghost use Rattle.std.specs.Prelude.{◌≡◌, ◌+◌, ◌-◌, ◌*◌, ◌%◌, ◌<◌, ◌≤◌, ◌^◌, true, false, length, IfSome, Ok};
+ghost use Rattle.std.specs.Prelude.{◌≡◌, ℕ, ◌+◌, ◌-◌, ◌*◌, ◌%◌, ◌<◌, ◌≤◌, ◌^◌, true, false, length, IfSome, Ok};
 ghost use Rattle.tc_exec.specs.Access.{load_width, store_width};
 ghost use Rattle.tc_exec.specs.Code.{SlotsTell};
 ghost use Rattle.tc_exec.specs.Step.{instruction_at};
 ghost use Rattle.tc_exec.specs.Touch.{IsOwn};
-ghost use Rattle.tc_turn.specs.Own.{IsOwnTurn, OwnRun, loaded, stored, spent};
+ghost use Rattle.tc_turn.specs.Own.{IsOwnTurn, OwnRun, fuelled, loaded, stored, spent};
 ghost use Rattle.tc_turn.specs.Way.{is_gone, on_or_not};
 ghost use Rattle.tc_turn.specs.Turn.{thread_of};
 ghost use Rattle.tc_turn.specs.declared.own_turns.Way.TheVariants as TheWay;
@@ -64,79 +64,55 @@ impl GuestThread {
         ensures stop { IfSome result.stop
             (λ instr. instruction_at image.now self.new.regs.pc ≡ Ok instr.now) }
     {
-        let before = self.fuel;
-        let left = before - most.min(before);
         let Some(stretch) = code.stretch(self.regs.pc()) else {
             return OwnTurns {
                 count: 0,
                 stop: None,
             };
         };
-        let stop = self.run_stretch(image, stretch, left, loads);
+        let count = self.run_stretch(image, stretch, most.min(self.fuel), loads);
+        self.fuel -= count;
         OwnTurns {
-            count: before - self.fuel,
-            stop,
+            count,
+            stop: stretch.find(stretch.slot(self.regs.pc())),
         }
     }
 
-    /// Does such turns until so much fuel is left, or the next is none, and returns the instruction
-    /// behind them, where it was decoded. It is never inlined, so that its loop has the registers of
-    /// the host for itself.
+    /// Does at most so many such turns, all but what they take of the fuel, and returns how many. It
+    /// is never inlined, so that its loop has the registers of the host for itself.
     #[inline(never)]
-    fn run_stretch<'a>(
-        &mut self,
-        image: &Image,
-        stretch: Stretch<'a>,
-        left: u32,
-        loads: bool,
-    ) -> Option<&'a Instr>
+    fn run_stretch(&mut self, image: &Image, stretch: Stretch<'_>, most: u32, loads: bool) -> u32
         requires tells { SlotsTell image.now stretch.start stretch.slots.now }
         requires fits { stretch.start + 4 * length stretch.slots.now ≤ 2 ^ 32 }
-        requires left { left ≤ self.old.fuel }
-        ensures runs { OwnRun image.now loads (self.old.fuel - self.new.fuel) self.old self.new }
-        ensures left { left ≤ self.new.fuel }
-        ensures fuel { self.new.fuel ≤ self.old.fuel }
-        ensures stop { IfSome result
-            (λ instr. instruction_at image.now self.new.regs.pc ≡ Ok instr.now) }
+        requires fuel { most ≤ self.old.fuel }
+        ensures runs { OwnRun image.now loads result self.old
+            (record self.new { fuel = self.old.fuel - result }) }
+        ensures fuel { self.new.fuel ≡ self.old.fuel }
+        ensures most { result ≤ most }
     {
+        let mut count = 0;
         let mut slot = stretch.slot(self.regs.pc());
-        'run: while self.fuel > left {
-            let instr = stretch.find(slot)?;
-            match self.own_turn(image, instr, loads) {
-                Way::Stays => return Some(instr),
+        'run: while count < most {
+            let Some(instr) = stretch.find(slot) else {
+                break;
+            };
+            match self.own_step(image, instr, loads) {
+                Way::Stays => break,
                 Way::Next => slot += 1,
                 Way::Jumps => slot = stretch.slot(self.regs.pc()),
             }
+            count += 1;
         }
-        stretch.find(slot)
+        count
     }
 
-    /// Its next turn, which is of this instruction, where that is such a one, and which way it
-    /// went.
-    fn own_turn(&mut self, image: &Image, instr: &Instr, loads: bool) -> Way
-        requires read { instruction_at image.now self.old.regs.pc ≡ Ok instr.now }
-        requires fuel { 0 < self.old.fuel }
-        ensures turn { is_gone result ≡ true
-            → IsOwnTurn image.now loads (thread_of self.old) (thread_of self.new) }
-        ensures fuel { is_gone result ≡ true → self.new.fuel + 1 ≡ self.old.fuel }
-        ensures next { result ≡ TheWay.Next
-            → self.new.regs.pc ≡ (self.old.regs.pc + 4) % 2 ^ 32 }
-        ensures stays { result ≡ TheWay.Stays → self.new ≡ self.old }
-    {
-        let way = self.own_step(image, instr, loads);
-        match way {
-            Way::Stays => {}
-            Way::Next | Way::Jumps => self.fuel -= 1,
-        }
-        way
-    }
-
-    /// What such a turn does beside the fuel.
+    /// What its next turn, which is of this instruction, does beside the fuel, where that is such a
+    /// turn, and which way it went: whatever fuel it has.
     fn own_step(&mut self, image: &Image, instr: &Instr, loads: bool) -> Way
-        requires read { instruction_at image.now self.old.regs.pc ≡ Ok instr.now }
-        requires fuel { 0 < self.old.fuel }
-        ensures turn { is_gone result ≡ true
-            → IsOwnTurn image.now loads (thread_of self.old) (spent (thread_of self.new)) }
+        requires { instruction_at image.now self.old.regs.pc ≡ Ok instr.now }
+        ensures turn { (fuel : ℕ) → 0 < fuel → is_gone result ≡ true
+            → IsOwnTurn image.now loads (fuelled fuel (thread_of self.old))
+            (spent (fuelled fuel (thread_of self.new))) }
         ensures fuel { self.new.fuel ≡ self.old.fuel }
         ensures next { result ≡ TheWay.Next
             → self.new.regs.pc ≡ (self.old.regs.pc + 4) % 2 ^ 32 }

@@ -1,16 +1,19 @@
 use Rattle.std.proofs.Common.{subst, sym}
 use Rattle.tc_isa.specs.Sets.{has}
 use Rattle.tc_exec.specs.InPlace.{IsDone}
-use Rattle.tc_exec.specs.Step.{act_by}
 use Rattle.tc_exec.specs.declared.outcome.Done.{Done}
-use Rattle.tc_exec.proofs.Cases.{by_told}
+use Rattle.tc_exec.proofs.Cases.{store_told, call_told}
 use Rattle.tc_exec.proofs.DoneTold.{done_told}
 use Rattle.tc_exec.proofs.known.go.Goals as goal
 
-pub returns-clause-told : goal.returns-clause-told
-returns-clause-told c =
+pub returns-in-Store-clause-told : goal.returns-in-Store-clause-told
+returns-in-Store-clause-told c =
     let image = c.args.image.now in
     let held = has c.args.held in
-    let r = c.args.regs.now in
-    subst (λ (d : Done). IsDone image held d) (sym c.go_by.ensures.done)
-    (done_told image held r (act_by image held r c.args.answer c.args.instr.now) (by_told image held r c.args.answer c.args.instr.now))
+    subst (λ (d : Done). IsDone image held d) (sym c.store.ensures.done) (done_told image held _ _ (store_told image held _ _ _ _))
+
+pub returns-in-Call-clause-told : goal.returns-in-Call-clause-told
+returns-in-Call-clause-told c =
+    let image = c.args.image.now in
+    let held = has c.args.held in
+    subst (λ (d : Done). IsDone image held d) (sym c.guest_call.ensures.done) (done_told image held _ _ (call_told image held c.execute.new.regs c.args.answer))

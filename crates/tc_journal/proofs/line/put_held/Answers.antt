@@ -2,7 +2,7 @@ use Rattle.std.proofs.Common.{rules, ◌≡◌, ◌-◌, ap, ◌∙◌, arith}
 use Rattle.std.specs.Prelude.{codes}
 use Rattle.tc_isa.specs.Sets.{locks_of}
 use Rattle.tc_journal.specs.Line.{numbers_text}
-use Rattle.tc_journal.proofs.Locks.{begun, one_more, one_less, all_written, locks_of-none}
+use Rattle.tc_journal.proofs.Locks.{begun, one_more, one_less, none_below, all_written, locks_of-none}
 use Rattle.tc_journal.proofs.line.put_held.Goals as goal
 
 pub returns-in_default-clause-value : goal.returns-in_default-clause-value
@@ -24,4 +24,6 @@ pub loop-lock-preserved : goal.loop-lock-preserved
 loop-lock-preserved c = one_less c.args.held (c.loop-lock.lock - 1) c.loop-lock.lock _ _ c.loop-lock.invariant (omega (arith, c.loop-lock-test.true)) (cc)
 
 pub returns-clause-value : goal.returns-clause-value
-returns-clause-value c = all_written c.args.held c.loop-lock.lock _ _ c.loop-lock.invariant (omega (arith, c.loop-lock-test.false))
+returns-clause-value c =
+    all_written c.args.held c.loop-lock.lock _ _ c.loop-lock.invariant
+    (none_below c.args.held c.loop-lock.lock c.least.result c.least.ensures.value (omega (arith, c.loop-lock-test.false, c.unwrap_or-least.ensures)))

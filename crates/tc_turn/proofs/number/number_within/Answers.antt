@@ -1,0 +1,11 @@
+use Rattle.std.proofs.Common.{◌∙◌, ◌+◌, ◌-◌, ◌≡◌, ◌≤◌, arith}
+use Rattle.std.proofs.lemmas.Bool.{and_parts}
+use Rattle.std.proofs.lemmas.Bool.Decides.{nat_tests}
+use Rattle.tc_turn.proofs.ClearLaws.{number_there}
+use Rattle.tc_turn.proofs.number.number_within.Goals as goal
+
+pub returns-in-Some : goal.returns-in-Some
+returns-in-Some c =
+    let low : c.args.start ≤ c.args.addr = (let there = c.requires.there in grind (arith, nat_tests, and_parts)) in
+    c.in-Some.ensures
+    ∙ number_there c.args.start c.args.bytes.now (c.args.addr - c.args.start) 0 c.args.addr c.args.width (omega (arith, low))
