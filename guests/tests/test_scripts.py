@@ -1,7 +1,9 @@
 """The scripts that check the program and write facts.json, as far as they need no program: their words, what
 they draw, and what they find wrong."""
+import contextlib
 import importlib.machinery
 import importlib.util
+import io
 import json
 import random
 import shutil
@@ -110,6 +112,30 @@ class Parts(Case):
         for key, value in (("x10", [5, 8]), ("sections", [7]), ("ends", ["exit", "spent"]), ("turns", [51, 50])):
             with self.assertRaises(report.Wrong):
                 check.check_facts({**known, key: value}, machine, check.AMPLE)
+
+
+    def test_runs_of_several_workers_and_with_adopted_sections_are_counted(self):
+        check = script("check")
+        alone = BY_HAND.replace(" worker 1 ", " worker 0 ")
+        shown = check.Shown()
+        shown.add(alone.replace("kind adopted", "kind taken"))
+        self.assertEqual(shown.missing(), "one worker alone ran in each of 1 run")
+        shown.add(BY_HAND.replace("kind adopted", "kind granted"))
+        self.assertEqual(shown.missing(), "no section was adopted in 2 runs")
+        shown.add(BY_HAND)
+        self.assertIsNone(shown.missing())
+        shown.add(alone + alone)
+        self.assertEqual(str(shown), "4 runs, 2 by two workers or more, 2 with adopted sections (3 of them)")
+
+    def test_a_contended_guest_must_show_delegation(self):
+        check, known = script("check"), json.loads((GUESTS / "facts.json").read_text())
+        text = history("counter", 1, 8, None)[1]
+        check.check_run = lambda file, known, *options: text
+        with contextlib.redirect_stdout(io.StringIO()) as said:
+            passed = [check.check(name, known[name]) for name in ("counter", "first")]
+        self.assertEqual(passed, [False, True])
+        self.assertEqual(said.getvalue(), "counter: FAILED: one worker alone ran in each of 123 runs\n"
+                         "first: passed, 23 runs, 0 by two workers or more, 0 with adopted sections (0 of them)\n")
 
 
 class Bytes(Case):

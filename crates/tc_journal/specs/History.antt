@@ -1,7 +1,7 @@
 -- Histories: which lists of blocks they are, and what they are looked at for.
-use Rattle.std.specs.Prelude.{◌≡◌, ℕ, ◌+◌, ◌^◌, ◌<◌, ◌≤◌, ◌==◌, List, [], ◌∷◌, length, map, filter, Contains, IfSome, Vec}
+use Rattle.std.specs.Prelude.{◌≡◌, ℕ, ◌+◌, ◌^◌, ◌<◌, ◌≤◌, ◌==◌, List, [], ◌∷◌, length, map, filter, Contains, IfSome, Vec, slice_set}
 use Rattle.std.specs.Global.{Global}
-use Rattle.std.specs.List.{flat_map, range_with_len}
+use Rattle.std.specs.List.{flat_map, fold, range_with_len}
 use Rattle.tc_isa.specs.Sets.{has}
 use Rattle.tc_isa.specs.declared.limits.TheConstants.{MAX_TURNS}
 use Rattle.tc_isa.specs.declared.held.TheConstants.Held.{PLACES}
@@ -76,3 +76,7 @@ all_blocks logs = flat_map (λ log. log.items) logs
 -- each number below the number of blocks is the stamp of one of them, so each is that of just one
 abbrev pub HasEachStamp : List Block → Type 0
 HasEachStamp blocks = (stamp : ℕ) → stamp < length blocks → Contains (map (λ b. b.stamp) blocks) stamp
+
+-- a history in which these blocks were put, one after the other, each at the place of its stamp
+abbrev pub placed : List Block → List Block → List Block
+placed history blocks = fold (λ h b. slice_set h b.stamp b) history blocks

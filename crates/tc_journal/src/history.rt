@@ -1,9 +1,9 @@
 //! Histories put together and printed.
 
-ghost use Rattle.std.specs.Prelude.{◌≡◌, IfOk, map};
+ghost use Rattle.std.specs.Prelude.{◌≡◌, ◌<◌, All, IfOk, length, map};
 ghost use Rattle.std.specs.List.{flat_map};
 ghost use Rattle.std.specs.List.Sorted.{IsPermutation};
-ghost use Rattle.tc_journal.specs.History.{all_blocks, HasEachStamp, IsInOrder};
+ghost use Rattle.tc_journal.specs.History.{all_blocks, HasEachStamp, IsInOrder, placed};
 ghost use Rattle.tc_journal.specs.Line as spec;
 
 use crate::block::Block;
@@ -40,6 +40,28 @@ fn count_of(logs: &[&[Block]]) -> usize {
     count
 }
 
+/// The blocks of all logs, where they stand, log after log.
+fn one_by_one<'a>(alloc: Global, logs: &[&'a [Block]]) -> Result<Vec<&'a Block>, AllocError>
+    ensures { IfOk result (λ blocks.
+        map (λ b. b.now) blocks.items ≡ flat_map (λ log. log.now) logs.now) }
+{
+    let mut blocks: Vec<&Block> = Vec::with_capacity(alloc, count_of(logs))?;
+    for log in logs {
+        blocks.extend(log.iter())?;
+    }
+    Ok(blocks)
+}
+
+/// Puts each block of the log at the place of its stamp.
+fn place<'a>(history: &mut [&'a Block], log: &'a [Block])
+    requires { All (λ b. b.stamp < length history.old) log.now }
+    ensures { map (λ b. b.now) history.new ≡ placed (map (λ b. b.now) history.old) log.now }
+{
+    for block in log {
+        history[block.stamp as usize] = block;
+    }
+}
+
 /// The blocks of all logs, where they stand, in the order of their stamps.
 pub fn in_order<'a>(alloc: Global, logs: &[&'a [Block]]) -> Result<Vec<&'a Block>, AllocError>
     requires { HasEachStamp (flat_map (λ log. log.now) logs.now) }
@@ -47,11 +69,10 @@ pub fn in_order<'a>(alloc: Global, logs: &[&'a [Block]]) -> Result<Vec<&'a Block
         IsPermutation (flat_map (λ log. log.now) logs.now) (map (λ b. b.now) history.items)) }
     ensures order { IfOk result (λ history. IsInOrder (map (λ b. b.now) history.items)) }
 {
-    let mut history: Vec<&Block> = Vec::with_capacity(alloc, count_of(logs))?;
+    let mut history = one_by_one(alloc, logs)?;
     for log in logs {
-        history.extend(log.iter())?;
+        place(&mut history, log);
     }
-    history.sort_by_key(|block| block.stamp)?;
     Ok(history)
 }
 
