@@ -1,4 +1,4 @@
-use Rattle.std.proofs.Common.{◌≡◌, ℕ, suc, true, ◌+◌, ◌-◌, ap, subst, ◌∙◌, arith}
+use Rattle.std.proofs.Common.{◌≡◌, suc, true, ◌+◌, ◌-◌, ap, subst, ◌∙◌, arith}
 use Rattle.tc_turn.specs.Own.{OwnRun}
 use Rattle.tc_turn.specs.Turn.{Guest}
 use Rattle.tc_turn.specs.Way.{is_gone}
@@ -17,7 +17,7 @@ run-preserved c =
     let more : suc c.run.count ≡ c.run.count + 1 = omega arith in
     record {
       runs = subst (λ n. OwnRun image c.args.loads n first (record c.own_step.new.self { fuel = first.fuel - n })) more
-      (run_more image c.args.loads c.run.count first.fuel first c.run.self c.own_step.new.self (omega (arith, c.run-test.true, c.requires.fuel)) now.runs (λ fuel some. turn.turn fuel some gone));
+          (run_more image c.args.loads c.run.count first.fuel first c.run.self c.own_step.new.self (omega (arith, c.run-test.true, c.requires.fuel)) now.runs (λ fuel some. turn.turn fuel some gone));
       fuel = turn.fuel ∙ now.fuel;
       most = omega (arith, c.run-test.true);
       slot = elim c.match-own_step.branch [
