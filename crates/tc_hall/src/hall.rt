@@ -124,7 +124,8 @@ fn stock(alloc: Global, image: &Image, fuel: u32, limit: u32) -> Result<Vec<Slot
         slots.push_reserved(Some(Cargo::Package(package)));
     }
     for i in 0..locks {
-        slots.push_reserved(Some(Cargo::Lock(LockState::new(alloc, image, i, limit)?)));
+        let lock = LockState::new(alloc, image, i, limit)?;
+        slots.push_reserved(Some(Cargo::Lock(lock)));
     }
     Ok(slots)
 }
