@@ -1,6 +1,5 @@
 -- A package whose block is sealed, and what is out then.
-use Rattle.std.proofs.Common.{◌≡◌, ◌≢◌, ⊎_elim, ℕ, zero, suc, ◌==◌, Bool, true, false, if◌then◌else◌, List, [], ◌∷◌, get_or, refl, sym, ap, ◌∙◌, subst, Option, Some, None, is_some}
-use Rattle.std.proofs.lemmas.Bool.Decides.{eqb_tells}
+use Rattle.std.proofs.Common.{◌≡◌, ℕ, zero, suc, ◌==◌, Bool, true, false, if◌then◌else◌, List, [], ◌∷◌, get_or, refl, sym, ap, ◌∙◌, subst, Option, Some, None, is_some}
 use mathlib.Core.Option.{some, some-injective, some-ne-none}
 use lib.ListN.{get_elem?}
 use Rattle.tc_elf.specs.Shown.{Shown}
@@ -9,7 +8,7 @@ use Rattle.tc_context.specs.Ran.{DidRun}
 use Rattle.tc_context.specs.View.{PackageView, bare, with_seal}
 use Rattle.tc_hall.specs.declared.board.Knows.{Knows}
 use Rattle.tc_hall.specs.Outs.{Outs, Pack, IsOut, outs, erase, keep, unless}
-use Rattle.tc_hall.specs.Rule.{Has, HasLock, locked_in}
+use Rattle.tc_hall.specs.Rule.{Has, locked_in}
 use Rattle.tc_hall.specs.Steps.{DidSeal, Seals}
 use Rattle.tc_hall.proofs.Outs.{is_there, same_outs}
 use Rattle.tc_combiner.specs.Settling.{MayCommit}
