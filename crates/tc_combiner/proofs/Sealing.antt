@@ -1,6 +1,5 @@
 -- A package whose block is sealed, and what is out then.
-use Rattle.std.proofs.Common.{◌≡◌, ◌≢◌, ⊎_elim, ℕ, zero, suc, ◌==◌, Bool, true, false, if◌then◌else◌, List, [], ◌∷◌, get_or, refl, sym, ap, ◌∙◌, subst, Option, Some, None, is_some}
-use Rattle.std.proofs.lemmas.Bool.Decides.{eqb_tells}
+use Rattle.std.proofs.Common.{◌≡◌, ℕ, zero, suc, ◌==◌, Bool, true, false, if◌then◌else◌, List, [], ◌∷◌, get_or, refl, sym, ap, ◌∙◌, subst, Option, Some, None, is_some}
 use mathlib.Core.Option.{some, some-injective, some-ne-none}
 use lib.ListN.{get_elem?}
 use Rattle.tc_elf.specs.Shown.{Shown}
@@ -9,7 +8,7 @@ use Rattle.tc_context.specs.Ran.{DidRun}
 use Rattle.tc_context.specs.View.{PackageView, bare, with_seal}
 use Rattle.tc_hall.specs.declared.board.Knows.{Knows}
 use Rattle.tc_hall.specs.Outs.{Outs, Pack, IsOut, outs, erase, keep, unless}
-use Rattle.tc_hall.specs.Rule.{Has, HasLock, locked_in}
+use Rattle.tc_hall.specs.Rule.{Has, locked_in}
 use Rattle.tc_hall.specs.Steps.{DidSeal, Seals}
 use Rattle.tc_hall.proofs.Outs.{is_there, same_outs}
 use Rattle.tc_combiner.specs.Settling.{MayCommit}
@@ -24,19 +23,6 @@ pub found : {A : Type 0} (xs : List A) (i : ℕ) (a d : A) → get_elem? xs i �
 found [] i a d e = absurd (some-ne-none a (sym e))
 found (x ∷ xs) zero a d e = some-injective x a e
 found (x ∷ xs) (suc i) a d e = found xs i a d e
-
-kept_there : (xs : List (Option LockView)) (o : Option LockView) (i : ℕ) (l : LockView) → ((k : LockView) → o ≡ Some k → get_elem? xs i ≡ some (Some (kept k))) → keep o ≡ Some l → get_or xs i None ≡ Some l
-kept_there xs None i l has e = absurd (none_some None l refl e)
-kept_there xs (Some k) i l has e = found xs i (Some (kept k)) None (has k refl) ∙ e
-
-is_out : (v : Knows) (q : PackageView) → Has v q.context.thread (bare q) → ((i : ℕ) (l : LockView) → locked_in q i ≡ Some l → HasLock v i (kept l)) → IsOut (outs v) (Pack q)
-is_out v q here locks = record {
-  contexts = λ u c e. ⊎_elim
-      (λ (z : ((u == q.context.thread) ≡ true) × (u ≡ q.context.thread)). ap (λ (x : ℕ). get_or v.packages x None) z.1 ∙ (found v.packages q.context.thread (Some (bare q)) None here ∙ (sym (ap (λ (b : Bool). if b then Some (bare q) else None) z.0) ∙ e)))
-      (λ (z : ((u == q.context.thread) ≡ false) × (u ≢ q.context.thread)). absurd (none_some None c refl (sym (ap (λ (b : Bool). if b then Some (bare q) else None) z.0) ∙ e)))
-      (eqb_tells u q.context.thread);
-  locks = λ i l e. kept_there v.locks (locked_in q i) i l (locks i) e;
-}
 
 -- the hall may seal it
 pub may_seal : (d : DeskView) (q : PackageView) → MayCommit d q → Seals d.pass.knows q
@@ -72,4 +58,4 @@ same_place o p n t s = same_outs (erase o (Pack n)) (erase o (Pack p))
     (λ i. unless_both (keep (locked_in n i)) (keep (locked_in p i)) (o.lock i) (some_kept (locked_in n i) ∙ (s i ∙ sym (some_kept (locked_in p i)))))
 
 pub sealed_moves : (image : Shown) (v w : Knows) (p n : PackageView) (stamp : ℕ) → DidRun image p n → DidSeal n stamp v w → Moves v w (Pack p ∷ []) (Pack (with_seal stamp v.worker n) ∷ [])
-sealed_moves image v w p n stamp ran did = λ b zs out. (is_out w (with_seal stamp v.worker n) did.has did.locks, subst (λ (o : Outs). Owns b o zs) (sym (did.rest ∙ same_place (outs v) p n ran.runs.keeps.thread ran.runs.keeps.set)) out.1)
+sealed_moves image v w p n stamp ran did = λ b zs out. (did.out, subst (λ (o : Outs). Owns b o zs) (sym (did.rest ∙ same_place (outs v) p n ran.runs.keeps.thread ran.runs.keeps.set)) out.1)

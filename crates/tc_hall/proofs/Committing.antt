@@ -1,9 +1,9 @@
 -- `commit` of a block ties to its turns and their Commit.
-use Rattle.std.proofs.Common.{◌≡◌, ◌≢◌, ◌⊎◌, ℕ, zero, suc, ◌+◌, ◌-◌, ◌%◌, ◌<◌, ◌&&◌, Bool, true, false, List, [], ◌∷◌, ◌++◌, length, set, sym, refl, ap, ◌∙◌, subst, ⊎_elim, inl, inr, arith, Option, Some, None, slice_index, length-append, get_or-set_other}
+use Rattle.std.proofs.Common.{◌≡◌, ◌≢◌, ℕ, zero, suc, ◌+◌, ◌-◌, ◌%◌, ◌<◌, ◌&&◌, Bool, true, false, List, [], ◌∷◌, ◌++◌, length, set, sym, refl, ap, ◌∙◌, subst, ⊎_elim, arith, Option, Some, None, slice_index, length-append, get_or-set_other}
 use Rattle.std.specs.Prelude.{if◌then◌else◌, is_some}
 use Rattle.std.specs.Option.{option_map}
 use mathlib.Core.Logic.{dite}
-use mathlib.Core.Option.{none, some, some-injective}
+use mathlib.Core.Option.{some, some-injective}
 use native.Mathlib.Decide.{ℕ_discrete}
 use lib.ListN.{get_elem?}
 use Rattle.atomic_table.proofs.Lists.{at_set, set_here, set_else}
@@ -32,22 +32,22 @@ use Rattle.tc_core.specs.declared.event.Event.TheVariants.{Commit}
 use Rattle.tc_core.specs.declared.place.ThreadPlace.TheVariants.{At}
 use Rattle.tc_hall.specs.declared.board.Knows.{Knows}
 use Rattle.tc_hall.specs.declared.board.Terms.{Terms}
-use Rattle.tc_hall.specs.declared.board.Cargo.{Cargo}
 use Rattle.tc_hall.specs.declared.board.Cargo.TheVariants.{Package}
 use Rattle.tc_hall.specs.Rule.{threads, locks, Has, HasLock, locked_in}
-use Rattle.tc_hall.specs.Steps.{Seals, after_commit}
+use Rattle.tc_hall.specs.Steps.{Seals, after_seal}
 use Rattle.tc_hall.specs.Effects.{Hall, after, commit_effect}
 use Rattle.tc_hall.specs.Outline.{Outline, Lying, at_home, in_hand, packed, outline}
 use Rattle.tc_hall.specs.Shown.{IsShown, PackageAt, in_slot, with_pass, LockAt, lock_in_slot, lock_in_package, lock_with_pass, ShowsThread, ShowsLock, place_shown, last_end}
-use Rattle.tc_hall.specs.Ties.{limits_of, after_events, Moment, Shows, turns_by, RunsThrough, CommitTie}
+use Rattle.tc_hall.specs.Ties.{machine_limits, after_events, Moment, Shows, turns_by, RunsThrough, CommitTie}
 use Rattle.tc_hall.proofs.Shows.{home_hand, hand_packed}
 use Rattle.tc_hall.proofs.Outlines.{true_or_false}
 use Rattle.tc_hall.proofs.Alike.{IsUnownedSame, reach_same, end_same}
 use Rattle.tc_hall.proofs.Through.{ended_by, partway, IsCommitted, committed}
 use Rattle.tc_hall.proofs.Tying.{out_at, at_it, apart}
 use Rattle.tc_hall.proofs.LockLists.{add_all-has, add_all-else}
-use Rattle.tc_hall.proofs.Moves.{is_out, same_context}
+use Rattle.tc_hall.proofs.Moves.{is_out}
 use Rattle.tc_hall.proofs.Sealing.{seals_kept}
+use Rattle.tc_hall.proofs.Cases.{apart as never_both, some_or_none, same_some, same_at, not_taken, not_empty, none_of}
 use Rattle.tc_hall.proofs.Taking.{is_lock_out}
 use Rattle.tc_context.proofs.Moved.{map_some}
 
@@ -149,12 +149,9 @@ module _ (image : Shown) (before after' : PackageView) (ran : DidRun image befor
         ∙ (sym (ap unowned (ran.runs.others i out)) ∙ lock_here after'.context.thread (has after'.context.guest.held i) (lock_in after'.context.locks i) l e))))
         (true_or_false (block_locks image before.context i));
     outside = λ i e. ⊎_elim
-        (λ (is : block_locks image before.context i ≡ true). absurd (gone (set_of before.context i) (inside_set i is) (sym (ran.runs.keeps.set i) ∙ ap is_some e)))
+        (λ (is : block_locks image before.context i ≡ true). absurd (never_both (set_of before.context i) (sym (ran.runs.keeps.set i) ∙ ap is_some e) (inside_set i is)))
         (λ (out : block_locks image before.context i ≡ false). untouched i out) (true_or_false (block_locks image before.context i));
   }
-    where
-      gone : (b : Bool) → b ≡ true → b ≡ false → ⊥
-      gone b e f = cc (e, f)
 
 -- ---- what the hall shows after it
 
@@ -167,19 +164,12 @@ pub record IsAfterBlock (o o' : Outline) (t : ℕ) (q : PackageView) : Type 0 wh
   pub outside : (i : ℕ) → locked_in q i ≡ None → o'.lock i ≡ o.lock i
   pub lies : (i : ℕ) → o'.lies i ≡ o.lies i
 
-some_or_none : (o : Option LockView) → ((l : LockView) × (o ≡ Some l)) ⊎ (o ≡ None)
-some_or_none (Some l) = inl (l, refl)
-some_or_none None = inr refl
-
-same_state : (x : mathlib.Core.Option.Option (Option LockView)) (a b : LockView) → x ≡ some (Some a) → x ≡ some (Some b) → a ≡ b
-same_state x a b e f = cc (e, f)
-
 module _ (k : Terms) (m : Moment k) (q : PackageView) (b : Block) (new : ℕ) (o o' : Outline) (was : IsShown k m.state o) (now : IsAfterBlock o o' q.context.thread q)
     (below : q.context.thread < threads k) (no_slot : (p : PackageView) → get_elem? m.state.homes q.context.thread ≢ some (some (Some (Package p))))
     (mine : (i : ℕ) (l : LockView) → locked_in q i ≡ Some l → (x : LockView) × HasLock m.view i x) (apart' : (j i : ℕ) (x : Knows) (l l' : LockView) → j ≢ m.id → get_elem? m.state.views j ≡ some x → HasLock x i l → HasLock m.view i l' → ⊥)
     (others' : (j u : ℕ) (x : Knows) (p : PackageView) → j ≢ m.id → get_elem? m.state.views j ≡ some x → Has x u p → u ≢ q.context.thread) where
   abbrev w : Knows
-  w = after_commit m.view b q
+  w = after_seal m.view b q
 
   abbrev s' : Hall
   s' = record { words = set m.state.words 0 new; homes = m.state.homes; views = set m.state.views m.id w }
@@ -194,7 +184,7 @@ module _ (k : Terms) (m : Moment k) (q : PackageView) (b : Block) (new : ℕ) (o
   commit_thread u p bu (in_slot h) = thread_else u p (λ is. no_slot p (ap (get_elem? m.state.homes) (sym is) ∙ h)) (was.thread u p bu (in_slot h))
   commit_thread u p bu (with_pass j x h has') = ⊎_elim
       (λ (z : (j ≡ m.id) × (w ≡ x)). let mine' : Has w u p = ap (λ (y : Knows). get_elem? y.packages u) z.1 ∙ has' in dite (ℕ_discrete u q.context.thread)
-      (λ (is : u ≡ q.context.thread). let same : bare q ≡ p = same_context (get_elem? w.packages q.context.thread) (bare q) p (set_here m.view.packages q.context.thread (Some (bare q)) (let c = m.rule.placed.sized m.id m.view m.pass m.live in omega arith)) (ap (get_elem? w.packages) (sym is) ∙ mine') in
+      (λ (is : u ≡ q.context.thread). let same : bare q ≡ p = same_at (get_elem? w.packages q.context.thread) (bare q) p (set_here m.view.packages q.context.thread (Some (bare q)) (let c = m.rule.placed.sized m.id m.view m.pass m.live in omega arith)) (ap (get_elem? w.packages) (sym is) ∙ mine') in
       subst (λ (y : ℕ). ShowsThread o' y p) (sym is) (subst (ShowsThread o' q.context.thread) same record { thread = now.mine.thread; last = now.mine.last }))
       (λ (ne : u ≢ q.context.thread). thread_else u p ne (was.thread u p bu (with_pass m.id m.view m.pass (sym (set_else m.view.packages q.context.thread u (Some (bare q)) ne) ∙ mine')))))
       (λ (z : (j ≢ m.id) × (get_elem? m.state.views j ≡ some x)). thread_else u p (others' j u x p z.0 z.1 has') (was.thread u p bu (with_pass j x z.1 has'))) (at_set m.state.views m.id j w x h)
@@ -204,9 +194,7 @@ module _ (k : Terms) (m : Moment k) (q : PackageView) (b : Block) (new : ℕ) (o
 
   -- a lock of the package is in the pass's hand
   not_mine : (i : ℕ) → i < locks k → ((z : ℕ) → o.lies i ≡ in_hand z → ⊥) → locked_in q i ≡ None
-  not_mine i bi never = ⊎_elim
-      (λ (c : (l : LockView) × (locked_in q i ≡ Some l)). let x = mine i c.0 c.1 in absurd (never m.view.worker (was.lock i x.0 (in_hand m.view.worker) bi (lock_with_pass m.id m.view m.pass x.1 refl)).lies))
-      (λ (c : locked_in q i ≡ None). c) (some_or_none (locked_in q i))
+  not_mine i bi never = none_of (locked_in q i) (λ l e. let x = mine i l e in never m.view.worker (was.lock i x.0 (in_hand m.view.worker) bi (lock_with_pass m.id m.view m.pass x.1 refl)).lies)
 
   commit_lock : (i : ℕ) (l : LockView) (y : Lying) → i < locks k → LockAt k s' i l y → ShowsLock o' i l y
   commit_lock i l y bi (lock_in_slot h is) = let old = was.lock i l at_home bi (lock_in_slot h refl) in lock_else i l at_home y (not_mine i bi (λ z e. home_hand (o.lies i) z old.lies e)) old (sym is)
@@ -214,12 +202,12 @@ module _ (k : Terms) (m : Moment k) (q : PackageView) (b : Block) (new : ℕ) (o
   commit_lock i l y bi (lock_with_pass j x h has' is) = ⊎_elim
       (λ (z : (j ≡ m.id) × (w ≡ x)). let mine' : HasLock w i l = ap (λ (y : Knows). get_elem? y.locks i) z.1 ∙ has' in
       let worker : in_hand m.view.worker ≡ y = ap (λ (y : Knows). in_hand y.worker) z.1 ∙ sym is in ⊎_elim
-      (λ (c : (n : LockView) × (locked_in q i ≡ Some n)). let same : kept c.0 ≡ l = same_state (get_elem? w.locks i) (kept c.0) l (add_all-has m.view.locks q.context.locks i c.0 (omega (arith, wide)) c.1) mine' in
+      (λ (c : (n : LockView) × (locked_in q i ≡ Some n)). let same : kept c.0 ≡ l = same_at (get_elem? w.locks i) (kept c.0) l (add_all-has m.view.locks q.context.locks i c.0 (omega (arith, wide)) c.1) mine' in
       let old = mine i c.0 c.1 in
       record { lock = now.inside i c.0 c.1 ∙ ap lock_of same; lies = now.lies i ∙ ((was.lock i old.0 (in_hand m.view.worker) bi (lock_with_pass m.id m.view m.pass old.1 refl)).lies ∙ worker) })
       (λ (c : locked_in q i ≡ None). lock_else i l (in_hand m.view.worker) y c (was.lock i l (in_hand m.view.worker) bi (lock_with_pass m.id m.view m.pass (sym (add_all-else m.view.locks q.context.locks i c) ∙ mine') refl)) worker)
       (some_or_none (locked_in q i)))
-      (λ (z : (j ≢ m.id) × (get_elem? m.state.views j ≡ some x)). let empty : locked_in q i ≡ None = ⊎_elim (λ (c : (n : LockView) × (locked_in q i ≡ Some n)). let old = mine i c.0 c.1 in absurd (apart' j i x l old.0 z.0 z.1 has' old.1)) (λ (c : locked_in q i ≡ None). c) (some_or_none (locked_in q i)) in
+      (λ (z : (j ≢ m.id) × (get_elem? m.state.views j ≡ some x)). let empty : locked_in q i ≡ None = none_of (locked_in q i) (λ n e. let old = mine i n e in apart' j i x l old.0 z.0 z.1 has' old.1) in
       lock_else i l (in_hand x.worker) y empty (was.lock i l (in_hand x.worker) bi (lock_with_pass j x z.1 has' refl)) (sym is)) (at_set m.state.views m.id j w x h)
 
   pub commit_shown : IsShown k s' o'
@@ -234,9 +222,6 @@ module _ (k : Terms) (m : Moment k) (q : PackageView) (b : Block) (new : ℕ) (o
 none_map : {X Y : Type 0} (f : X → Y) (o : Option X) → option_map f o ≡ None → o ≡ None
 none_map f None e = refl
 none_map f (Some x) e = absurd cc
-
-same_block : (o : Option Block) (a b : Block) → o ≡ Some a → o ≡ Some b → a ≡ b
-same_block o a b e f = cc (e, f)
 
 set_last : (xs : List Block) (x y : Block) → set (xs ++ x ∷ []) (length xs) y ≡ xs ++ y ∷ []
 set_last [] x y = refl
@@ -257,7 +242,7 @@ module _ (k : Terms) (m : Moment k) (q : PackageView) (a : Seals m.view q) where
   ran' = subst (λ (z : Shown). DidRun z a.before q) ((m.rule.passes m.id m.view m.pass).of m.live) a.ran
 
   block_is : ran'.block ≡ a.ran.block
-  block_is = same_block q.pending ran'.block a.ran.block ran'.pending a.ran.pending
+  block_is = same_some q.pending a.ran.block ran'.block a.ran.pending ran'.pending
 
   thread_is : q.context.thread ≡ a.before.context.thread
   thread_is = ran'.runs.keeps.thread
@@ -268,16 +253,8 @@ module _ (k : Terms) (m : Moment k) (q : PackageView) (a : Seals m.view q) where
   no_slot : (p : PackageView) → get_elem? m.state.homes q.context.thread ≢ some (some (Some (Package p)))
   no_slot p e =
       let o = is_out k m.state m.rule m.id q.context.thread m.view (bare a.before) m.pass a.has in
-      by m.view.hand (λ (is : m.view.hand ≡ Some q.context.thread). in_hand_none (get_elem? m.state.homes q.context.thread) p (o.5 is) e) (λ (ne : m.view.hand ≢ Some q.context.thread). none_there (get_elem? m.state.homes q.context.thread) p (o.4 ne) e)
-    where
-      in_hand_none : (x : mathlib.Core.Option.Option (mathlib.Core.Option.Option (Option Cargo))) (p : PackageView) → x ≡ some none → x ≡ some (some (Some (Package p))) → ⊥
-      in_hand_none x p e f = cc (e, f)
-
-      none_there : (x : mathlib.Core.Option.Option (mathlib.Core.Option.Option (Option Cargo))) (p : PackageView) → x ≡ some (some None) → x ≡ some (some (Some (Package p))) → ⊥
-      none_there x p e f = cc (e, f)
-
-      by : (o : Option ℕ) → (o ≡ Some q.context.thread → ⊥) → (o ≢ Some q.context.thread → ⊥) → ⊥
-      by o hold fresh = fresh hold
+      let free : m.view.hand ≢ Some q.context.thread = λ is. not_taken (get_elem? m.state.homes q.context.thread) (Package p) (o.5 is) e in
+      not_empty (get_elem? m.state.homes q.context.thread) (Package p) (o.4 free) e
 
   -- a lock of the sealed package was in the package before
   came : (stamp i : ℕ) (l : LockView) → locked_in (with_seal stamp m.view.worker q) i ≡ Some l → (x : LockView) × (lock_in q.context.locks i ≡ Some x) × (l ≡ with_journal (sealed_as stamp m.view.worker) x)
@@ -340,14 +317,14 @@ module _ (k : Terms) (m : Moment k) (q : PackageView) (a : Seals m.view q) where
         lies = done.lies;
       }
 
-    shows_after : (stamp : ℕ) → AreEnabled k.image.value (limits_of k) c (turns_by m.view.worker a.before.context.thread ran'.block.turns ++ Commit m.view.worker a.before.context.thread ∷ [])
+    shows_after : (stamp : ℕ) → AreEnabled k.image.value (machine_limits k) c (turns_by m.view.worker a.before.context.thread ran'.block.turns ++ Commit m.view.worker a.before.context.thread ∷ [])
         → Shows k (after m.state m.id (commit_effect m.view stamp a.ran.block q)) (after_events k c (turns_by m.view.worker a.before.context.thread ran'.block.turns ++ Commit m.view.worker a.before.context.thread ∷ []))
     shows_after stamp enabled =
         let t = a.before.context.thread in
         let n = ran'.block.turns in
         let w = m.view.worker in
         let c' = after_events k c (turns_by w t n ++ Commit w t ∷ []) in
-        let done = committed k.image.value (limits_of k) c t w n ran'.block.end seen.between its_place makes.ends enabled in
+        let done = committed k.image.value (machine_limits k) c t w n ran'.block.end seen.between its_place makes.ends enabled in
         record {
           between = done.between;
           shown = commit_shown k m (with_seal stamp w q) (sealed_block stamp w a.ran.block) ((stamp + 1) % 18446744073709551616) (outline c) (outline c') seen.shown (after_block stamp c' done)
@@ -360,7 +337,7 @@ commit_tie k m q a = record {
   kept = seals_kept k m.state m.rule m.id m.view q a m.live m.pass;
   asks = λ c seen given. subst (λ (z : ℕ × Block). RunsThrough k m.view.worker z.0 z.1.turns z.1.end c) (λ i. (sym (thread_is k m q a) i, block_is k m q a i)) (runs_here k m q a c seen);
   shows = λ c seen given.
-      subst (λ (z : ℕ × Block). AreEnabled k.image.value (limits_of k) c (turns_by m.view.worker z.0 z.1.turns ++ Commit m.view.worker z.0 ∷ [])
+      subst (λ (z : ℕ × Block). AreEnabled k.image.value (machine_limits k) c (turns_by m.view.worker z.0 z.1.turns ++ Commit m.view.worker z.0 ∷ [])
       → Shows k (after m.state m.id (commit_effect m.view (slice_index m.state.words 0) a.ran.block q)) (after_events k c (turns_by m.view.worker z.0 z.1.turns ++ Commit m.view.worker z.0 ∷ [])))
       (λ i. (sym (thread_is k m q a) i, block_is k m q a i)) (shows_after k m q a c seen (slice_index m.state.words 0));
 }

@@ -15,3 +15,7 @@ popped P before after o p all e is =
       all (length after) p (ap (λ (l : List PassView). get_elem? l (length after)) same ∙ at_last after p (length after) refl),
       λ i q h. all i q (ap (λ (l : List PassView). get_elem? l i) same ∙ at_longer after (p ∷ []) i q h),
     )
+
+-- the last of them, and the one before it
+pub last_two : (P : PassView → Type 0) (all rest least : List PassView) (o u : Option PassView) (p q : PassView) → AreAll P all → all ≡ rest ++ option_to_list o → o ≡ Some p → rest ≡ least ++ option_to_list u → u ≡ Some q → P q × P p
+last_two P all rest least o u p q each e is f is' = let a = popped P all rest o p each e is in ((popped P rest least u q a.1 f is').0, a.0)

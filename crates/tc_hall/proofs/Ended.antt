@@ -24,6 +24,7 @@ use Rattle.tc_hall.specs.Steps.{HasSeenAll, HasAll, IsFree, IsEnd, IsPackage, Is
 use Rattle.tc_hall.specs.Made.{AreTaken, IsEmptied}
 use Rattle.tc_hall.proofs.Telling.{snoc_at}
 use Rattle.tc_hall.proofs.Moves.{home_of}
+use Rattle.tc_hall.proofs.Cases.{clash, same_package}
 
 -- two lists of one length, each of whose places agree
 same_list : {A : Type 0} (xs ys : List A) → length xs ≡ length ys → ((t : ℕ) (a : A) → get_elem? xs t ≡ some a → get_elem? ys t ≡ some a) → xs ≡ ys
@@ -80,14 +81,8 @@ module _ (k : Terms) (id : ℕ) (v : Knows) (ws : List ℕ) (xs : List (Option C
   lock_home i l e (inside t) o =
       let p = at_place rule.told.places t (let b = o.below in omega (arith, rule.told.law.all_packages)) in
       let h = in_slot t p.0 p.1 in
-      let same : h.context ≡ o.context = package_is h.context o.context (get_elem? s.homes t) h.home o.slot in
-      absurd (no_lock o.segment (locked_in o.context i) (ap (λ (z : PackageView). locked_in z i) (sym same) ∙ h.ended.1 i) o.has)
-    where
-      package_is : (q r : PackageView) (x : maybe.Option (maybe.Option (Option Cargo))) → x ≡ some (some (Some (Package q))) → x ≡ some (some (Some (Package r))) → q ≡ r
-      package_is q r x a b = cc (a, b)
-
-      no_lock : (l : LockView) (o : Option LockView) → o ≡ None → o ≡ Some l → ⊥
-      no_lock l o a b = cc (a, b)
+      let same : h.context ≡ o.context = same_package (get_elem? s.homes t) h.context o.context h.home o.slot in
+      absurd (clash (locked_in o.context i) o.segment (ap (λ (z : PackageView). locked_in z i) (sym same) ∙ h.ended.1 i) o.has)
   lock_home i l e (out j) o = absurd (by o.view.spent refl)
     where
       nothing : (xs : List (Option LockView)) → xs ≡ [] → get_elem? xs i ≡ some (Some l) → ⊥

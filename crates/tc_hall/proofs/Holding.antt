@@ -5,7 +5,7 @@ use Rattle.tc_hall.specs.declared.board.Knows.{Knows}
 use Rattle.tc_hall.specs.declared.board.Cargo.{Cargo}
 use Rattle.tc_hall.specs.Steps.{Sat}
 
-abbrev first_value : List (ℕ × Option Cargo) → Option Cargo
+abbrev pub first_value : List (ℕ × Option Cargo) → Option Cargo
 first_value [] = None
 first_value (x ∷ xs) = x.1
 

@@ -15,6 +15,7 @@ use Rattle.tc_context.specs.View.{PackageView, IsRoomier, Allows, Rests, bare, f
 use Rattle.tc_context.specs.Ran.{DidRun}
 use Rattle.tc_context.proofs.Staging.{roomier_set}
 use Rattle.tc_context.proofs.Running.{seal_set}
+use Rattle.tc_mutex_spec.proofs.BlocksAlike.{eq_self}
 use mathlib.Core.Option.{some}
 use lib.ListN.{get_elem?}
 use Rattle.atomic_table.proofs.Lists.{at_longer, at_last}
@@ -24,30 +25,32 @@ use Rattle.tc_hall.specs.declared.board.Knows.{Knows}
 use Rattle.tc_hall.specs.declared.place.Place.{Place}
 use Rattle.tc_hall.specs.declared.place.Place.TheVariants.{Ready}
 use Rattle.tc_hall.specs.Places.{code_of}
-use Rattle.tc_hall.specs.Rule.{Has, HasLock, IsInOrder, grants_adopted, locked_in}
-use Rattle.tc_hall.specs.Outs.{Outs, outs, nothing, keep, unless, erase, Pack, Loose, IsOut}
+use Rattle.tc_hall.specs.Rule.{Has, IsInOrder, grants_adopted, locked_in}
+use Rattle.tc_hall.specs.Outs.{Outs, outs, nothing, keep, unless, erase, Pack, Loose, IsOut, Item, part}
 use Rattle.tc_hall.specs.Steps.{Gets, Seals, DidSeal, MayPut, Gave, Takes, MayFree, Freed, IsNew, IsFree, HasAll, HasSeenAll, after_look, after_miss, merged}
-use Rattle.tc_hall.proofs.Outs.{same_outs, found, is_there, package_out, lock_is_out}
+use Rattle.tc_hall.proofs.Outs.{same_outs, found, is_there, has_out, loose_out}
+use Rattle.tc_hall.proofs.Cases.{apart, clash}
 
-none_some : {A : Type 0} (o : Option A) (a : A) → o ≡ None → o ≡ Some a → ⊥
-none_some o a e f = cc (e, f)
+-- what is out besides is out
+still_out : (o : Outs) (x y : Item) → IsOut (erase o x) y → IsOut o y
+still_out o x y out = record { contexts = λ u c e. past ((part x).context u) (o.context u) c (out.contexts u c e); locks = λ i l e. past ((part x).lock i) (o.lock i) l (out.locks i l e) }
+  where
+    past : {A : Type 0} (a x : Option A) (c : A) → unless a x ≡ Some c → x ≡ Some c
+    past None x c e = e
+    past (Some a) x c e = absurd (clash None c refl e)
 
-apart : (b : Bool) → b ≡ false → b ≡ true → ⊥
-apart b e f = cc (e, f)
+-- a lock and a package without it: each is out besides the other
+beside : (o : Outs) (l : LockView) (q : PackageView) → locked_in q l.number ≡ None → (IsOut o (Pack q) → IsOut (erase o (Loose l)) (Pack q)) × (IsOut o (Loose l) → IsOut (erase o (Pack q)) (Loose l))
+beside o l q free = (
+  (λ out. record { contexts = out.contexts; locks = λ i m e. past (if i == l.number then Some (kept l) else None) (keep (locked_in q i)) (o.lock i) m (parts i) e (out.locks i m e) }),
+  (λ out. record { contexts = λ u c e. absurd (clash None c refl e); locks = λ i m e. past (keep (locked_in q i)) (if i == l.number then Some (kept l) else None) (o.lock i) m (⊎_elim (λ e. inr e) (λ e. inl e) (parts i)) e (out.locks i m e) }),
+)
+  where
+    parts : (i : ℕ) → ((if i == l.number then Some (kept l) else None) ≡ None) ⊎ (keep (locked_in q i) ≡ None)
+    parts i = ⊎_elim (λ h. inr (ap keep (ap (locked_in q) h.1 ∙ free))) (λ h. inl (ap (λ (b : Bool). if b then Some (kept l) else None) h.0)) (eqb_tells i l.number)
 
-same_true : (n : ℕ) → (n == n) ≡ true
-same_true n = ⊎_elim (λ h. h.0) (λ h. absurd (h.1 refl)) (eqb_tells n n)
-
--- ---- what is out, as the pass's lists have it
-
-pub has_out : (v : Knows) (q : PackageView) → IsOut (outs v) (Pack q) → Has v q.context.thread (bare q)
-has_out v q out = is_there v.packages q.context.thread (bare q) (out.contexts q.context.thread (bare q) (ap (λ (b : Bool). if b then Some (bare q) else None) (same_true q.context.thread)))
-
-pub lock_out : (v : Knows) (q : PackageView) → IsOut (outs v) (Pack q) → (i : ℕ) (l : LockView) → locked_in q i ≡ Some l → HasLock v i (kept l)
-lock_out v q out i l e = is_there v.locks i (kept l) (out.locks i (kept l) (ap keep e))
-
-loose_out : (v : Knows) (l : LockView) → IsOut (outs v) (Loose l) → HasLock v l.number (kept l)
-loose_out v l out = is_there v.locks l.number (kept l) (out.locks l.number (kept l) (ap (λ (b : Bool). if b then Some (kept l) else None) (same_true l.number)))
+    past : (a b x : Option LockView) (m : LockView) → (a ≡ None) ⊎ (b ≡ None) → b ≡ Some m → x ≡ Some m → unless a x ≡ Some m
+    past a b x m none is there = ⊎_elim (λ (e : a ≡ None). ap (λ (z : Option LockView). unless z x) e ∙ there) (λ (e : b ≡ None). absurd (clash b m e is)) none
 
 pub record IsInHand (v : Knows) (q : PackageView) : Type 0 where
   pub out : IsOut (outs v) (Pack q)
@@ -69,7 +72,7 @@ none_in word q order held granted k = by_lock (lock_in q.context.locks k) (λ l 
   where
     by_lock : (o : Option LockView) → ((l : LockView) → o ≡ Some l → (has q.context.guest.held k ≡ true) ⊎ (granted_lock q.granted ≡ Some k)) → is_some o ≡ false
     by_lock None own = refl
-    by_lock (Some l) own = absurd (⊎_elim (λ (h : has q.context.guest.held k ≡ true). apart (has q.context.guest.held k) (ap (λ n. has n k) held ∙ ap (λ n. n == 1) (bit_at-zero k)) h) (λ (h : granted_lock q.granted ≡ Some k). none_some (granted_lock q.granted) k granted h) (own l refl))
+    by_lock (Some l) own = absurd (⊎_elim (λ (h : has q.context.guest.held k ≡ true). apart (has q.context.guest.held k) (ap (λ n. has n k) held ∙ ap (λ n. n == 1) (bit_at-zero k)) h) (λ (h : granted_lock q.granted ≡ Some k). clash (granted_lock q.granted) k granted h) (own l refl))
 
 -- ---- a block
 
@@ -110,7 +113,7 @@ sealed_set image q p u r n w same ran is k = ap (λ (z : PackageView). set_of z.
 
 pub sealed : (image : Shown) (q p u r : PackageView) (n : ℕ) (v w : Knows) → IsInHand v q → IsRoomier q p → DidRun image p u → DidSeal u n v w → r ≡ with_seal n v.worker u → IsInHand w r
 sealed image q p u r n v w hand same ran did is = subst (IsInHand w) (sym is) record {
-  out = package_out w (with_seal n v.worker u) did.has did.locks;
+  out = did.out;
   only = did.rest ∙ (erase_as (outs v) u q (ran.runs.keeps.thread ∙ ap (λ (z : PackageView). z.context.thread) same.rest) (λ k. ran.runs.keeps.set k ∙ roomier_set q p k same) ∙ hand.only);
   image = ran.image_is ∙ (ap (λ (z : PackageView). z.image) same.rest ∙ (hand.image ∙ sym (ap (λ (z : Knows). z.image) did.now)));
   settled = refl;
@@ -152,15 +155,15 @@ without o l q u with_it free out = (
   record {
     contexts = λ x c e. out.contexts x c (same_part q u with_it.same x ∙ e);
     locks = λ i m e. ⊎_elim
-        (λ h. let gone : locked_in q i ≡ None = ap (locked_in q) h.1 ∙ free in absurd (none_some (keep (locked_in q i)) m (ap keep gone) e))
+        (λ h. let gone : locked_in q i ≡ None = ap (locked_in q) h.1 ∙ free in absurd (clash (keep (locked_in q i)) m (ap keep gone) e))
         (λ h. out.locks i m (ap keep (with_it.locks i ∙ ap (λ (b : Bool). if b then Some l else locked_in q i) h.0) ∙ e))
         (eqb_tells i l.number);
   },
   record {
-    contexts = λ x c e. absurd (none_some None c refl e);
+    contexts = λ x c e. absurd (clash None c refl e);
     locks = λ i m e. ⊎_elim
         (λ h. out.locks i m (ap keep (with_it.locks i ∙ ap (λ (b : Bool). if b then Some l else locked_in q i) h.0) ∙ (ap (λ (b : Bool). if b then Some (kept l) else None) (sym h.0) ∙ e)))
-        (λ h. absurd (none_some None m refl (ap (λ (b : Bool). if b then Some (kept l) else None) (sym h.0) ∙ e)))
+        (λ h. absurd (clash None m refl (ap (λ (b : Bool). if b then Some (kept l) else None) (sym h.0) ∙ e)))
         (eqb_tells i l.number);
   },
 )
@@ -174,7 +177,7 @@ taken_out k l q u number same here placed = (
         (λ h. sym (placed i ∙ ap (λ (b : Bool). if b then None else lock_in u.context.locks i) (ap (λ (n : ℕ). i == n) (sym number) ∙ h.0)) ∙ ap (λ (b : Bool). if b then Some l else locked_in q i) (sym h.0))
         (eqb_tells i l.number);
   },
-  ap (lock_in q.context.locks) number ∙ (placed k ∙ ap (λ (b : Bool). if b then None else lock_in u.context.locks k) (same_true k)),
+  ap (lock_in q.context.locks) number ∙ (placed k ∙ ap (λ (b : Bool). if b then None else lock_in u.context.locks k) (eq_self k)),
 )
 
 -- as `grant` says it
@@ -208,7 +211,7 @@ none_left l q u number out one k = ⊎_elim
 -- lock l is taken and granted to q, which is then u
 pub takes : (i : ℕ) (l : LockView) (q u : PackageView) (v w : Knows) → IsInHand v q → Takes i l v w → IsWith l q u → IsInHand w u
 takes i l q u v w hand took with_it = record {
-  out = with_out (outs w) l q u with_it (package_out w q (took.others.0 q.context.thread (bare q) (has_out v q hand.out)) (λ k m e. took.others.1 k (kept m) (lock_out v q hand.out k m e))) took.came.out;
+  out = with_out (outs w) l q u with_it (still_out (outs w) (Loose l) (Pack q) (subst (λ (o : Outs). IsOut o (Pack q)) (sym took.came.before) hand.out)) took.came.out;
   only = erase_with (outs w) l q u with_it ∙ (ap (λ (o : Outs). erase o (Pack q)) took.came.before ∙ hand.only);
   image = ap (λ (z : PackageView). z.image) with_it.same ∙ (hand.image ∙ sym (ap (λ (z : Knows). z.image) took.now));
   settled = ap (λ (z : PackageView). z.pending) with_it.same ∙ hand.settled;
@@ -223,8 +226,7 @@ may_free image k l q u v hand out rest = record {
 pub frees : (l : LockView) (q u : PackageView) (v w : Knows) → IsInHand v u → IsWith l q u × (locked_in q l.number ≡ None) → Freed l v w → IsInHand w q
 frees l q u v w hand out did =
     let was = (without (outs v) l q u out.0 out.1 hand.out).0 in record {
-      out = package_out w q (did.others q.context.thread (bare q) (has_out v q was))
-          (λ i m e. did.others_locks i (kept m) (λ same. none_some (locked_in q i) m (ap (locked_in q) same ∙ out.1) e) (lock_out v q was i m e));
+      out = subst (λ (o : Outs). IsOut o (Pack q)) (sym did.rest) ((beside (outs v) l q out.1).0 was);
       only = ap (λ (o : Outs). erase o (Pack q)) did.rest ∙ (sym (erase_with (outs v) l q u out.0) ∙ hand.only);
       image = sym (ap (λ (z : PackageView). z.image) out.0.same) ∙ (hand.image ∙ sym (ap (λ (z : Knows). z.image) did.now));
       settled = sym (ap (λ (z : PackageView). z.pending) out.0.same) ∙ hand.settled;
@@ -241,7 +243,8 @@ swap o l q = same_outs (erase (erase o (Loose l)) (Pack q)) (erase (erase o (Pac
 -- the lock l came out of u, which is then q and is put; the package p came in, and is r with the lock
 pub passes : (word t : ℕ) (l : LockView) (q u p r : PackageView) (v w x : Knows) → IsInHand v u → IsWith l q u × (locked_in q l.number ≡ None) → Gave Ready q v w → Gets word t p w x → IsWith l p r → IsInHand x r
 passes word t l q u p r v w x hand out gave got with_it = record {
-  out = with_out (outs x) l p r with_it got.came.out (lock_is_out x l (got.others.1 l.number (kept l) (gave.others_locks l.number (kept l) out.1 (loose_out v l (without (outs v) l q u out.0 out.1 hand.out).1))));
+  out = with_out (outs x) l p r with_it got.came.out (still_out (outs x) (Pack p) (Loose l)
+      (subst (λ (o : Outs). IsOut o (Loose l)) (sym (got.came.before ∙ gave.rest)) ((beside (outs v) l q out.1).1 (without (outs v) l q u out.0 out.1 hand.out).1)));
   only = erase_with (outs x) l p r with_it
       ∙ (swap (outs x) l p
       ∙ (ap (λ (o : Outs). erase o (Loose l)) (got.came.before ∙ gave.rest)
@@ -267,7 +270,7 @@ may_put place v q out none granted ended runs waits =
         runs = runs;
         own = λ i l e. absurd (no_lock i l e);
         waits = waits;
-        ready = λ g e. absurd (none_some q.granted g granted e);
+        ready = λ g e. absurd (clash q.granted g granted e);
       };
       stop = λ e. absurd (apart (grants_adopted q.granted) (ap grants_adopted granted) e);
       fits = λ _. ap (λ (o : Option Grant). fits_granted q.context o v.worker) granted;
@@ -285,8 +288,8 @@ new_out image n m worker v is = ap outs is.now ∙ same_outs _ nothing (λ u. no
 
 pub is_free : (v : Knows) → outs v ≡ nothing → IsFree v
 is_free v free = record {
-  packages = λ t p has. none_some ((outs v).context t) p (ap (λ (o : Outs). o.context t) free) (found v.packages t (Some p) None has);
-  locks = λ i l has. none_some ((outs v).lock i) l (ap (λ (o : Outs). o.lock i) free) (found v.locks i (Some l) None has);
+  packages = λ t p has. clash ((outs v).context t) p (ap (λ (o : Outs). o.context t) free) (found v.packages t (Some p) None has);
+  locks = λ i l has. clash ((outs v).lock i) l (ap (λ (o : Outs). o.lock i) free) (found v.locks i (Some l) None has);
 }
 
 -- two workers, of which the first takes in the second and then sees both threads at 2

@@ -33,20 +33,21 @@ use Rattle.tc_hall.specs.Effects.{Hall, after, commit_effect, look_effect, stopp
 use Rattle.tc_hall.specs.Order.{Operation, claim, take, miss, commit, put, free, look, stop, stopped, reach, lay, split, join, MayFill, MayDo, after_operation, IsOpening}
 use Rattle.tc_hall.specs.Outline.{Lying, outline, lies_at}
 use Rattle.tc_hall.specs.Shown.{PackageAt, in_slot, with_pass, LockAt, lock_in_slot, lock_in_package, lock_with_pass, ShowsThread, ShowsLock, place_shown, last_end}
-use Rattle.tc_hall.specs.Ties.{limits_of, after_events, turns_by, Moment, Shows, Ties}
-use Rattle.tc_hall.specs.Lift.{IsClaimed, alone, adopted, granted, IsPut, IsOf, Beat, operation, enter, leave, events_of, hall_of, start_of, core_of, MayLift, OpensShown, IsLifted, Lifts}
+use Rattle.tc_hall.specs.Ties.{machine_limits, after_events, turns_by, Moment, Shows}
+use Rattle.tc_hall.specs.Lift.{IsClaimed, alone, adopted, granted, IsPut, IsOf, Beat, operation, enter, leave, events_of, hall_of, start_of, core_after, MayLift, OpensShown, IsLifted, Lifts}
 use Rattle.tc_hall.proofs.Ordering.{kept_after, kept_by}
 use Rattle.tc_hall.proofs.Tying.{claim_tie, adopt_tie, put_tie, take_tie, free_tie, tell_tie, pass_tie}
 use Rattle.tc_hall.proofs.Taking.{is_lock_out}
 use Rattle.tc_hall.proofs.Shows.{shown_code, had_same, still_shown}
 use Rattle.tc_hall.proofs.Making.{clean_free}
+use Rattle.tc_hall.proofs.Cases.{clash, clash_at, same_package, same_lock}
 use Rattle.tc_hall.proofs.Committing.{commit_tie}
 
 after_more : (k : Terms) (c : Core) (xs ys : List Event) → after_events k c (xs ++ ys) ≡ after_events k (after_events k c xs) ys
 after_more k c [] ys = refl
 after_more k c (x ∷ xs) ys = after_more k (effect k.image.value c x) xs ys
 
-enabled_more : (k : Terms) (c : Core) (xs ys : List Event) → AreEnabled k.image.value (limits_of k) c xs → AreEnabled k.image.value (limits_of k) (after_events k c xs) ys → AreEnabled k.image.value (limits_of k) c (xs ++ ys)
+enabled_more : (k : Terms) (c : Core) (xs ys : List Event) → AreEnabled k.image.value (machine_limits k) c xs → AreEnabled k.image.value (machine_limits k) (after_events k c xs) ys → AreEnabled k.image.value (machine_limits k) c (xs ++ ys)
 enabled_more k c [] ys a b = b
 enabled_more k c (x ∷ xs) ys a b = (a.0, enabled_more k (effect k.image.value c x) xs ys a.1 b)
 
@@ -83,35 +84,31 @@ module _ (k : Terms) (s : Hall) (r : KeptHall k s) (id : ℕ) (v : Knows) (at : 
   abbrev m : Moment k
   m = record { state = s; rule = r; id = id; view = v; pass = at; live = live }
 
-  -- what a tie says of this core
-  tied : (s' : Hall) (given asked : Core → Type 0) (es : List Event) → Ties k s s' given asked es → given c → AreEnabled k.image.value (limits_of k) c es → Shows k s' (after_events k c es)
-  tied s' given asked es tie have enabled = tie.shows c seen have enabled
-
-  claimed : (t : ℕ) (q : PackageView) (es : List Event) → MayDo k s id v (claim t q) → IsClaimed k s c v t es → AreEnabled k.image.value (limits_of k) c es → Shows k (after_operation k s id v (claim t q)) (after_events k c es)
+  claimed : (t : ℕ) (q : PackageView) (es : List Event) → MayDo k s id v (claim t q) → IsClaimed k s c v t es → AreEnabled k.image.value (machine_limits k) c es → Shows k (after_operation k s id v (claim t q)) (after_events k c es)
   claimed t q es may (alone o) enabled = ⊎_elim
-      (λ (z : slice_index s.words (t + 2) ≡ 0). tied _ _ _ _ (claim_tie k m t q origin.Ready may z) tt enabled)
-      (λ (z : slice_index s.words (t + 2) ≡ 1). tied _ _ _ _ (claim_tie k m t q origin.Parked may z) tt enabled) o
-  claimed t q es may (adopted lock l word has loose) enabled = tied _ _ _ _ (adopt_tie k m t lock q l may ((is_lock_out k s r id lock v l at has).0) word has).adopt loose enabled
-  claimed t q es may (granted lock l word has loose) enabled = tied _ _ _ _ (adopt_tie k m t lock q l may ((is_lock_out k s r id lock v l at has).0) word has).grant loose enabled
+      (λ (z : slice_index s.words (t + 2) ≡ 0). (claim_tie k m t q origin.Ready may z).shows c seen tt enabled)
+      (λ (z : slice_index s.words (t + 2) ≡ 1). (claim_tie k m t q origin.Parked may z).shows c seen tt enabled) o
+  claimed t q es may (adopted lock l word has loose) enabled = (adopt_tie k m t lock q l may ((is_lock_out k s r id lock v l at has).0) word has).adopt.shows c seen loose enabled
+  claimed t q es may (granted lock l word has loose) enabled = (adopt_tie k m t lock q l may ((is_lock_out k s r id lock v l at has).0) word has).grant.shows c seen loose enabled
 
   -- of events that are these
-  at_these : (s' : Hall) (es these : List Event) → es ≡ these → AreEnabled k.image.value (limits_of k) c es → (AreEnabled k.image.value (limits_of k) c these → Shows k s' (after_events k c these)) → Shows k s' (after_events k c es)
-  at_these s' es these same enabled f = subst (λ (z : List Event). Shows k s' (after_events k c z)) (sym same) (f (subst (AreEnabled k.image.value (limits_of k) c) same enabled))
+  at_these : (s' : Hall) (es these : List Event) → es ≡ these → AreEnabled k.image.value (machine_limits k) c es → (AreEnabled k.image.value (machine_limits k) c these → Shows k s' (after_events k c these)) → Shows k s' (after_events k c es)
+  at_these s' es these same enabled f = subst (λ (z : List Event). Shows k s' (after_events k c z)) (sym same) (f (subst (AreEnabled k.image.value (machine_limits k) c) same enabled))
 
   of_none : (s' : Hall) (es : List Event) → es ≡ [] → Shows k s' c → Shows k s' (after_events k c es)
   of_none s' es nothing shows = subst (λ (z : List Event). Shows k s' (after_events k c z)) (sym nothing) shows
 
-  placed : (q : PackageView) (place : Place) (es : List Event) → MayFill k v q place → IsPut k c v q place es → AreEnabled k.image.value (limits_of k) c es → Shows k (after_operation k s id v (put q place)) (after_events k c es)
-  placed q Ready es may is enabled = at_these _ es _ is.1 enabled (λ e. tied _ _ _ _ ((put_tie k m q).ready may) is.0 e)
-  placed q (Waiting lock) es may is enabled = at_these _ es _ is.1 enabled (λ e. tied _ _ _ _ ((put_tie k m q).waiting lock may) is.0 e)
-  placed q Parked es may is enabled = at_these _ es _ is.2 enabled (λ e. tied _ _ _ _ ((put_tie k m q).parked is.1 may) is.0 e)
-  placed q Done es may is enabled = at_these _ es _ is.1 enabled (λ e. tied _ _ _ _ ((put_tie k m q).done may) is.0 e)
+  placed : (q : PackageView) (place : Place) (es : List Event) → MayFill k v q place → IsPut k c v q place es → AreEnabled k.image.value (machine_limits k) c es → Shows k (after_operation k s id v (put q place)) (after_events k c es)
+  placed q Ready es may is enabled = at_these _ es _ is.1 enabled (λ e. ((put_tie k m q).ready may).shows c seen is.0 e)
+  placed q (Waiting lock) es may is enabled = at_these _ es _ is.1 enabled (λ e. ((put_tie k m q).waiting lock may).shows c seen is.0 e)
+  placed q Parked es may is enabled = at_these _ es _ is.2 enabled (λ e. ((put_tie k m q).parked is.1 may).shows c seen is.0 e)
+  placed q Done es may is enabled = at_these _ es _ is.1 enabled (λ e. ((put_tie k m q).done may).shows c seen is.0 e)
 
-  sealed : (b : Block) (q : PackageView) (es : List Event) (a : Seals v q) → a.ran.block ≡ b → es ≡ turns_by v.worker q.context.thread b.turns ++ Commit v.worker q.context.thread ∷ [] → AreEnabled k.image.value (limits_of k) c es
+  sealed : (b : Block) (q : PackageView) (es : List Event) (a : Seals v q) → a.ran.block ≡ b → es ≡ turns_by v.worker q.context.thread b.turns ++ Commit v.worker q.context.thread ∷ [] → AreEnabled k.image.value (machine_limits k) c es
       → Shows k (after s id (commit_effect v (slice_index s.words 0) b q)) (after_events k c es)
   sealed b q es a is these enabled = subst
       (λ (z : Block). es ≡ turns_by v.worker q.context.thread z.turns ++ Commit v.worker q.context.thread ∷ [] → Shows k (after s id (commit_effect v (slice_index s.words 0) z q)) (after_events k c es)) is
-      (λ e. at_these _ es _ e enabled (λ f. tied _ _ _ _ (commit_tie k m q a) tt f)) these
+      (λ e. at_these _ es _ e enabled (λ f. (commit_tie k m q a).shows c seen tt f)) these
 
   -- an empty slot goes into the pass's hand, or back, and the word stays
   slot_moved : (slot word : ℕ) (b : maybe.Option (Option Cargo)) (w : Knows) → ((x : Cargo) → b ≢ some (Some x)) → w.packages ≡ v.packages → w.locks ≡ v.locks → w.worker ≡ v.worker
@@ -123,31 +120,22 @@ module _ (k : Terms) (s : Hall) (r : KeptHall k s) (id : ℕ) (v : Knows) (at : 
         (had_same s.views id v w at packages locks' worker) (outline c) seen.shown;
   }
 
-  shown_after : (o : Operation) (es : List Event) → MayDo k s id v o → IsOf k s c v o es → AreEnabled k.image.value (limits_of k) c es → Shows k (after_operation k s id v o) (after_events k c es)
+  shown_after : (o : Operation) (es : List Event) → MayDo k s id v o → IsOf k s c v o es → AreEnabled k.image.value (machine_limits k) c es → Shows k (after_operation k s id v o) (after_events k c es)
   shown_after (claim t q) es may is enabled = claimed t q es may is enabled
-  shown_after (take i l) es may is enabled = at_these _ es _ is.3 enabled (λ e. tied _ _ _ _ (take_tie k m is.0 i l is.1 is.2 may) tt e)
-  shown_after (miss word wanted found) es may is enabled = of_none _ es is (subst (λ (z : ℕ). Shows k (after s id (miss_effect v word z)) c) may.0 (tied _ _ _ _ ((tell_tie k m).missed word) tt tt))
+  shown_after (take i l) es may is enabled = at_these _ es _ is.3 enabled (λ e. (take_tie k m is.0 i l is.1 is.2 may).shows c seen tt e)
+  shown_after (miss word wanted found) es may is enabled = of_none _ es is (subst (λ (z : ℕ). Shows k (after s id (miss_effect v word z)) c) may.0 (((tell_tie k m).missed word).shows c seen tt tt))
   shown_after (commit stamp b q) es may is enabled = subst (λ (z : ℕ). Shows k (after s id (commit_effect v z b q)) (after_events k c es)) may.0 (sealed b q es may.1 may.2 is enabled)
   shown_after (put q place) es may is enabled = placed q place es may is enabled
-  shown_after (free l) es may is enabled = at_these _ es _ is.1 enabled (λ e. tied _ _ _ _ (free_tie k m l may.0 may.1) is.0 e)
-  shown_after (look t found) es may is enabled = of_none _ es is (subst (λ (z : ℕ). Shows k (after s id (look_effect v t z)) c) may.1 (tied _ _ _ _ ((tell_tie k m).look t) tt tt))
-  shown_after stop es may is enabled = of_none _ es is (tied _ _ _ _ (tell_tie k m).stop tt tt)
-  shown_after (stopped found) es may is enabled = of_none _ es is (subst (λ (z : ℕ). Shows k (after s id (stopped_effect v z)) c) may (tied _ _ _ _ (tell_tie k m).stopped tt tt))
+  shown_after (free l) es may is enabled = at_these _ es _ is.1 enabled (λ e. (free_tie k m l may.0 may.1).shows c seen is.0 e)
+  shown_after (look t found) es may is enabled = of_none _ es is (subst (λ (z : ℕ). Shows k (after s id (look_effect v t z)) c) may.1 (((tell_tie k m).look t).shows c seen tt tt))
+  shown_after stop es may is enabled = of_none _ es is ((tell_tie k m).stop.shows c seen tt tt)
+  shown_after (stopped found) es may is enabled = of_none _ es is (subst (λ (z : ℕ). Shows k (after s id (stopped_effect v z)) c) may ((tell_tie k m).stopped.shows c seen tt tt))
   shown_after (reach slot) es may is enabled = of_none _ es is (slot_moved slot (slot + 2) none (record v { hand = Some slot }) (λ x e. some-ne-none (Some x) (sym e)) refl refl refl)
-  shown_after (lay slot) es may is enabled = of_none _ es is (slot_moved slot 0 (some None) (record v { hand = None }) (λ x e. no_cargo x (some None) refl e) refl refl refl)
-    where
-      no_cargo : (x : Cargo) (y : maybe.Option (Option Cargo)) → y ≡ some None → y ≡ some (Some x) → ⊥
-      no_cargo x y a b = cc (a, b)
-  shown_after split es may is enabled = of_none _ es is (tied _ _ _ _ ((pass_tie k m).made may.0 may.1) tt tt)
-  shown_after (join other w) es may is enabled = of_none _ es is (tied _ _ _ _ ((pass_tie k m).joined other w may.0 may.1 may.2 may.3) tt tt)
+  shown_after (lay slot) es may is enabled = of_none _ es is (slot_moved slot 0 (some None) (record v { hand = None }) (λ x e. clash_at (some None) x refl e) refl refl refl)
+  shown_after split es may is enabled = of_none _ es is (((pass_tie k m).made may.0 may.1).shows c seen tt tt)
+  shown_after (join other w) es may is enabled = of_none _ es is (((pass_tie k m).joined other w may.0 may.1 may.2 may.3).shows c seen tt tt)
 
 -- ---- the first state
-
-no_stock : (x : maybe.Option (maybe.Option (Option Cargo))) (p : PackageView) (q : PackageView) → x ≡ some (some (Some (Package p))) → x ≡ some (some (Some (Package q))) → p ≡ q
-no_stock x p q a b = cc (a, b)
-
-lock_same : (x : maybe.Option (maybe.Option (Option Cargo))) (p q : LockView) → x ≡ some (some (Some (Lock p))) → x ≡ some (some (Some (Lock q))) → p ≡ q
-lock_same x p q a b = cc (a, b)
 
 module _ (k : Terms) (slots : List (Option Cargo)) (ready : AreStocked k.image.value (threads k) (locks k) k.fuel k.limit slots) where
   abbrev ws : List ℕ
@@ -164,7 +152,7 @@ module _ (k : Terms) (slots : List (Option Cargo)) (ready : AreStocked k.image.v
   opens_thread : (t : ℕ) (p : PackageView) → t < threads k → PackageAt first t p → ShowsThread (outline (start_of k)) t p
   opens_thread t p below (in_slot h) =
       let q = ready.packages t below in
-      let same : q.0 ≡ p = no_stock (get_elem? first.homes t) q.0 p (at_map some slots t (Some (Package q.0)) q.1) h in
+      let same : q.0 ≡ p = same_package (get_elem? first.homes t) q.0 p (at_map some slots t (Some (Package q.0)) q.1) h in
       let there : nat_lt t (threads k) ≡ true = grind (arith, nat_tests) in
       subst (ShowsThread (outline (start_of k)) t) same record {
         thread = ap (λ (z : Bool). if z then thread_at_start k.image.value k.fuel t else no_thread) there ∙ sym q.2.thread;
@@ -175,15 +163,12 @@ module _ (k : Terms) (slots : List (Option Cargo)) (ready : AreStocked k.image.v
   opens_lock : (i : ℕ) (l : LockView) (y : Lying) → i < locks k → LockAt k first i l y → ShowsLock (outline (start_of k)) i l y
   opens_lock i l y below (lock_in_slot h is) =
       let f = ready.locks i below in
-      let same : f.0 ≡ l = lock_same (get_elem? first.homes (threads k + i)) f.0 l (at_map some slots (threads k + i) (Some (Lock f.0)) f.1) h in
+      let same : f.0 ≡ l = same_lock (get_elem? first.homes (threads k + i)) f.0 l (at_map some slots (threads k + i) (Some (Lock f.0)) f.1) h in
       record { lock = ap (λ (z : LockView). lock_of z) (sym f.2 ∙ same); lies = sym is }
   opens_lock i l y below (lock_in_package t q bt h has is) =
       let p = ready.packages t bt in
-      let same : p.0 ≡ q = no_stock (get_elem? first.homes t) p.0 q (at_map some slots t (Some (Package p.0)) p.1) h in
-      absurd (none_in (locked_in q i) l (ap (λ (z : PackageView). locked_in z i) (sym same) ∙ p.2.locks i) has)
-    where
-      none_in : (x : Option LockView) (l : LockView) → x ≡ None → x ≡ Some l → ⊥
-      none_in x l a b = cc (a, b)
+      let same : p.0 ≡ q = same_package (get_elem? first.homes t) p.0 q (at_map some slots t (Some (Package p.0)) p.1) h in
+      absurd (clash (locked_in q i) l (ap (λ (z : PackageView). locked_in z i) (sym same) ∙ p.2.locks i) has)
   opens_lock i l y below (lock_with_pass id v at has is) = absurd ((none_out id v at).locks i l has)
 
   opens_shown : Shows k first (start_of k)
@@ -216,17 +201,17 @@ module _ (k : Terms) (s : Hall) (begins : IsOpening k s) where
       let h : Hall = hall_of k s before in record {
         enabled = enabled_more k (start_of k) (events_of before) es was.enabled may.2;
         shows = subst (Shows k (after_operation k h m.pass m.knew m.operation)) (sym (after_more k (start_of k) (events_of before) es))
-            (shown_after k h (kept_at before may.3) m.pass m.knew may.0.pass may.0.live (core_of k before) was.shows m.operation es may.0.may may.1 may.2);
+            (shown_after k h (kept_at before may.3) m.pass m.knew may.0.pass may.0.live (core_after k before) was.shows m.operation es may.0.may may.1 may.2);
       }
   lifted (enter w t lock ∷ before) may =
       let was = lifted before may.1 in record {
         enabled = enabled_more k (start_of k) (events_of before) (Enter w t lock ∷ []) was.enabled (may.0, tt);
-        shows = subst (Shows k (hall_of k s before)) (sym (after_more k (start_of k) (events_of before) (Enter w t lock ∷ []))) (entered_shown k (hall_of k s before) (core_of k before) w t lock was.shows);
+        shows = subst (Shows k (hall_of k s before)) (sym (after_more k (start_of k) (events_of before) (Enter w t lock ∷ []))) (entered_shown k (hall_of k s before) (core_after k before) w t lock was.shows);
       }
   lifted (leave w lock ∷ before) may =
       let was = lifted before may.1 in record {
         enabled = enabled_more k (start_of k) (events_of before) (Leave w lock ∷ []) was.enabled (may.0, tt);
-        shows = subst (Shows k (hall_of k s before)) (sym (after_more k (start_of k) (events_of before) (Leave w lock ∷ []))) (left_shown k (hall_of k s before) (core_of k before) w lock was.shows);
+        shows = subst (Shows k (hall_of k s before)) (sym (after_more k (start_of k) (events_of before) (Leave w lock ∷ []))) (left_shown k (hall_of k s before) (core_after k before) w lock was.shows);
       }
 
 pub lifting : Lifts

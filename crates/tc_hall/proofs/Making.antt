@@ -15,13 +15,14 @@ use Rattle.tc_mutex_spec.proofs.ListLaws.{there}
 use Rattle.tc_hall.specs.declared.board.Knows.{Knows}
 use Rattle.tc_hall.specs.declared.board.Terms.{Terms}
 use Rattle.tc_hall.specs.declared.board.Call.{Call}
-use Rattle.tc_hall.specs.declared.board.Call.TheVariants.{Look, Stop, Stopped}
+use Rattle.tc_hall.specs.declared.board.Call.TheVariants.{Look, Stop, Stopped, Put, Free}
 use Rattle.tc_hall.specs.Rule.{threads, locks, Homes, Lies, ArePlaced, Spot, home, inside, out, LiesLock, AreLocksPlaced, IsPass, HasStopped, AreApart, KeptHall, clean}
 use Rattle.tc_hall.specs.Steps.{dealt, fresh, merged, gone, IsFree}
 use Rattle.tc_hall.proofs.Telling.{snoc_at}
 use Rattle.tc_hall.proofs.Placing.{stays}
 use Rattle.tc_hall.proofs.Packing.{locks_stay}
-use Rattle.tc_hall.proofs.Ranks.{pass_kept, pass_same, passes_stay, stop_stays}
+use Rattle.tc_hall.proofs.Cases.{apart}
+use Rattle.tc_hall.proofs.Ranks.{pass_kept, pass_same, passes_stay, stop_stays, IsTrueCall}
 
 none_there : {A : Type 0} (n t : ℕ) (p : A) → ¬ (get_elem? (replicate n None) t ≡ some (Some p))
 none_there zero t p e = some-ne-none (Some p) (sym e)
@@ -52,9 +53,6 @@ clean_pass image its workers h ws n m worker maker same below long = record {
   misfit = λ t e. absurd (no_misfit n t e);
   sized = λ live. length-replicate n false ∙ long;
 }
-
-apart_bools : (b : Bool) → b ≡ false → b ≡ true → ⊥
-apart_bools b e f = cc (e, f)
 
 module _ (n m : ℕ) (places : List PackageView) (segments : List LockView) (ws : List ℕ) (hs : Homes) (vs : List Knows) (pl : ArePlaced n places ws hs vs) (lp : AreLocksPlaced n m segments ws hs vs) where
   lies_more : (w : Knows) (t : ℕ) (p : PackageView) (o : maybe.Option ℕ) → Lies ws hs vs t p o → Lies ws hs (vs ++ w ∷ []) t p o
@@ -103,7 +101,7 @@ module _ (n m : ℕ) (places : List PackageView) (segments : List LockView) (ws 
     less = record {
       holder = pl.holder;
       each = λ t p e. lies_less t p (pl.holder t) (pl.each t p e);
-      sized = λ i x e live. ⊎_elim (λ (o : (i ≡ j) × (gone ≡ x)). absurd (apart_bools x.spent live (ap (λ (z : Knows). z.spent) (sym o.1)))) (λ (o : (i ≢ j) × (get_elem? vs i ≡ some x)). pl.sized i x o.1 live) (at_set vs j i gone x e);
+      sized = λ i x e live. ⊎_elim (λ (o : (i ≡ j) × (gone ≡ x)). absurd (apart x.spent live (ap (λ (z : Knows). z.spent) (sym o.1)))) (λ (o : (i ≢ j) × (get_elem? vs i ≡ some x)). pl.sized i x o.1 live) (at_set vs j i gone x e);
       owned = λ i x t p e has. ⊎_elim (λ (o : (i ≡ j) × (gone ≡ x)). absurd (gone_free.packages t p (ap (λ (z : Knows). get_elem? z.packages t) o.1 ∙ has))) (λ (o : (i ≢ j) × (get_elem? vs i ≡ some x)). pl.owned i x t p o.1 has) (at_set vs j i gone x e);
     }
 
@@ -111,7 +109,7 @@ module _ (n m : ℕ) (places : List PackageView) (segments : List LockView) (ws 
     locks_less = record {
       spot = lp.spot;
       each = λ i l e. lock_less i l (lp.spot i) (lp.each i l e);
-      sized = λ i x e live. ⊎_elim (λ (o : (i ≡ j) × (gone ≡ x)). absurd (apart_bools x.spent live (ap (λ (z : Knows). z.spent) (sym o.1)))) (λ (o : (i ≢ j) × (get_elem? vs i ≡ some x)). lp.sized i x o.1 live) (at_set vs j i gone x e);
+      sized = λ i x e live. ⊎_elim (λ (o : (i ≡ j) × (gone ≡ x)). absurd (apart x.spent live (ap (λ (z : Knows). z.spent) (sym o.1)))) (λ (o : (i ≢ j) × (get_elem? vs i ≡ some x)). lp.sized i x o.1 live) (at_set vs j i gone x e);
       owned = λ a x i l e has. ⊎_elim (λ (o : (a ≡ j) × (gone ≡ x)). absurd (gone_free.locks i l (ap (λ (z : Knows). get_elem? z.locks i) o.1 ∙ has))) (λ (o : (a ≢ j) × (get_elem? vs a ≡ some x)). lp.owned a x i l o.1 has) (at_set vs j a gone x e);
       packed = lp.packed;
     }
@@ -170,17 +168,17 @@ module _ (vs : List Knows) (id : ℕ) (v : Knows) (n m : ℕ) (at : get_elem? vs
         (λ (p : Old i x). ⊎_elim (λ (q : Old j y). let b = a.maker i j p.old q.old p.there q.there (sym p.maker ∙ mx) (sym q.spent ∙ ly) ne in let w = q.worker in let m = p.made in omega arith)
         (λ (q : (j ≡ length (set vs id left)) × (right ≡ y)). let is : i ≡ id = a.sole i id p.old v p.there at (sym p.maker ∙ mx) makes in
         let x_is : left ≡ x = the_maker i x is ex in let w : v.made ≡ y.worker = ap (λ (z : Knows). z.worker) q.1 in let m : v.made + 1 ≡ x.made = ap (λ (z : Knows). z.made) x_is in omega arith) (old_or_new j y ey))
-        (λ (p : (i ≡ length (set vs id left)) × (right ≡ x)). absurd (apart_bools x.maker (ap (λ (z : Knows). z.maker) (sym p.1)) mx)) (old_or_new i x ex);
+        (λ (p : (i ≡ length (set vs id left)) × (right ≡ x)). absurd (apart x.maker (ap (λ (z : Knows). z.maker) (sym p.1)) mx)) (old_or_new i x ex);
     fresh = λ i j e u x y ex mx ey h. ⊎_elim
         (λ (p : Old i x). ⊎_elim (λ (q : Old j y). let b = a.fresh i j e u p.old q.old p.there (sym p.maker ∙ mx) q.there (ap (λ (l : List ℕ). get_elem? l e) (sym q.joined) ∙ h) in let m = p.made in omega arith)
         (λ (q : (j ≡ length (set vs id left)) × (right ≡ y)). absurd (some-ne-none u (sym (ap (λ (z : Knows). get_elem? z.joined e) q.1 ∙ h)))) (old_or_new j y ey))
-        (λ (p : (i ≡ length (set vs id left)) × (right ≡ x)). absurd (apart_bools x.maker (ap (λ (z : Knows). z.maker) (sym p.1)) mx)) (old_or_new i x ex);
+        (λ (p : (i ≡ length (set vs id left)) × (right ≡ x)). absurd (apart x.maker (ap (λ (z : Knows). z.maker) (sym p.1)) mx)) (old_or_new i x ex);
     sole = λ i j x y ex ey mx my. ⊎_elim
         (λ (p : Old i x). ⊎_elim (λ (q : Old j y). a.sole i j p.old q.old p.there q.there (sym p.maker ∙ mx) (sym q.maker ∙ my))
-        (λ (q : (j ≡ length (set vs id left)) × (right ≡ y)). absurd (apart_bools y.maker (ap (λ (z : Knows). z.maker) (sym q.1)) my)) (old_or_new j y ey))
-        (λ (p : (i ≡ length (set vs id left)) × (right ≡ x)). absurd (apart_bools x.maker (ap (λ (z : Knows). z.maker) (sym p.1)) mx)) (old_or_new i x ex);
+        (λ (q : (j ≡ length (set vs id left)) × (right ≡ y)). absurd (apart y.maker (ap (λ (z : Knows). z.maker) (sym q.1)) my)) (old_or_new j y ey))
+        (λ (p : (i ≡ length (set vs id left)) × (right ≡ x)). absurd (apart x.maker (ap (λ (z : Knows). z.maker) (sym p.1)) mx)) (old_or_new i x ex);
     spent = λ i x e s. ⊎_elim (λ (p : Old i x). p.locks ∙ a.spent i p.old p.there (sym p.spent ∙ s))
-        (λ (p : (i ≡ length (set vs id left)) × (right ≡ x)). absurd (apart_bools x.spent (ap (λ (z : Knows). z.spent) (sym p.1)) s)) (old_or_new i x e);
+        (λ (p : (i ≡ length (set vs id left)) × (right ≡ x)). absurd (apart x.spent (ap (λ (z : Knows). z.spent) (sym p.1)) s)) (old_or_new i x e);
   }
     where
       the_maker : (i : ℕ) (x : Knows) → i ≡ id → get_elem? (set vs id left ++ right ∷ []) i ≡ some x → left ≡ x
@@ -238,10 +236,10 @@ module _ (vs : List Knows) (id other : ℕ) (v w : Knows) (at : get_elem? vs id 
       in_second (suc f) u h = inr (inr (f, h))
 
   not_gone : (x : Knows) → gone ≡ x → x.spent ≡ false → ⊥
-  not_gone x e l = apart_bools x.spent l (ap (λ (z : Knows). z.spent) (sym e))
+  not_gone x e l = apart x.spent l (ap (λ (z : Knows). z.spent) (sym e))
 
   no_maker : (x : Knows) → gone ≡ x → x.maker ≡ true → ⊥
-  no_maker x e m = apart_bools x.maker (ap (λ (z : Knows). z.maker) (sym e)) m
+  no_maker x e m = apart x.maker (ap (λ (z : Knows). z.maker) (sym e)) m
 
   pub apart_joins : AreApart after
   apart_joins = record {
@@ -328,11 +326,7 @@ module _ (k : Terms) where
       (pass_kept k.image.value k.workers h h s.words s.words (λ b e. e) (λ u e. e) (λ e. e) v both' old (refl, refl, refl, refl)
       (λ i u e. ⊎_elim (λ o. inl o) (λ (o : (f : ℕ) × (get_elem? (w.worker ∷ w.joined) f ≡ some u)). inr (joined_below o.0 u theirs o.1)) (either_at v.joined (w.worker ∷ w.joined) i u e))
       (λ i b e. ⊎_elim (λ o. inl o) (λ (o : (f : ℕ) × (get_elem? w.sealed f ≡ some b)). inr (theirs.sealed o.0 b o.1)) (either_at v.sealed w.sealed i b e))
-      (λ i c e. ⊎_elim (λ o. inl o) (λ (o : (f : ℕ) × (get_elem? w.calls f ≡ some c)). inr record {
-        look = λ t is. theirs.done o.0 t (o.1 ∙ ap (λ (z : Call). some z) is);
-        stop = λ is. theirs.stop o.0 (o.1 ∙ ap (λ (z : Call). some z) is);
-        stopped = λ is. theirs.stopped o.0 (o.1 ∙ ap (λ (z : Call). some z) is);
-      }) (either_at v.calls w.calls i c e))
+      (λ i c e. ⊎_elim (λ o. inl o) (λ (o : (f : ℕ) × (get_elem? w.calls f ≡ some c)). inr (told_true o.0 c theirs o.1)) (either_at v.calls w.calls i c e))
       (λ t e. inl e)) in
       record {
         told = r.told;
@@ -342,7 +336,7 @@ module _ (k : Terms) where
         placed = less n (locks k) r.told.places r.told.segments s.words s.homes vs' one two w other free there';
         locks_placed = locks_less n (locks k) r.told.places r.told.segments s.words s.homes vs' one two w other free there';
         passes = passes_stay k.image.value k.workers h h s.words s.words (λ b e. e) (λ u e. e) (λ e. e) vs' other gone all record {
-          of = λ live. absurd (apart_bools true live refl);
+          of = λ live. absurd (apart true live refl);
           worker = r.told.limits.workers.0;
           joined = λ i w e. absurd (some-ne-none w (sym e));
           sealed = λ i b e. absurd (some-ne-none b (sym e));
@@ -350,7 +344,7 @@ module _ (k : Terms) where
           stop = λ i e. absurd (some-ne-none Stop (sym e));
           stopped = λ i e. absurd (some-ne-none (Stopped 1) (sym e));
           misfit = λ t e. absurd (some-ne-none true (sym e));
-          sized = λ live. absurd (apart_bools true live refl);
+          sized = λ live. absurd (apart true live refl);
         };
         stop = λ e. stop_joins s.views id other v w at its live lives ne r.apart (r.stop e);
         apart = apart_joins s.views id other v w at its live lives ne r.apart;
@@ -359,3 +353,10 @@ module _ (k : Terms) where
       joined_below : (f u : ℕ) → IsPass k.image.value k.workers r.told.history s.words w → get_elem? (w.worker ∷ w.joined) f ≡ some u → u < k.workers
       joined_below zero u p e = subst (λ (z : ℕ). z < k.workers) (some-injective w.worker u e) p.worker
       joined_below (suc f) u p e = p.joined f u e
+
+      told_true : (f : ℕ) (c : Call) → IsPass k.image.value k.workers r.told.history s.words w → get_elem? w.calls f ≡ some c → IsTrueCall s.words c
+      told_true f (Put t place numbers given) p e = tt
+      told_true f (Free i) p e = tt
+      told_true f (Look t found) p e = λ is. p.done f t (e ∙ ap (λ (z : ℕ). some (Look t z)) is)
+      told_true f Stop p e = p.stop f e
+      told_true f (Stopped found) p e = λ is. p.stopped f (e ∙ ap (λ (z : ℕ). some (Stopped z)) is)

@@ -8,38 +8,25 @@ use lib.ListN.{get_elem?}
 use lib.Seq.{set-get_or}
 use Rattle.atomic_table.specs.Table.{State, keeps, takes, gives, stepped}
 use Rattle.atomic_table.proofs.Lists.{at_set, set_here, set_else}
-use Rattle.tc_journal.specs.declared.block.Block.{Block}
 use Rattle.tc_segment.specs.View.{LockView, kept}
 use Rattle.tc_context.specs.View.{PackageView, bare, fits_of}
 use Rattle.tc_law.specs.Lawful.{IsPackageAfter}
 use Rattle.tc_mutex_spec.proofs.ListLaws.{there, at_place}
-use Rattle.tc_mutex_spec.proofs.Histories.{filter_has}
 use Rattle.tc_hall.specs.declared.board.Knows.{Knows}
 use Rattle.tc_hall.specs.declared.board.Terms.{Terms}
 use Rattle.tc_hall.specs.declared.board.Cargo.{Cargo}
 use Rattle.tc_hall.specs.declared.board.Cargo.TheVariants.{Package}
-use Rattle.tc_hall.specs.Rule.{locked_in, threads, locks, Homes, Has, HasLock, IsHome, IsPackageOut, Lies, Spot, inside, out, IsLockOut, LiesLock, KeptHall}
+use Rattle.tc_hall.specs.Rule.{locked_in, threads, locks, Homes, Has, HasLock, IsHome, IsPackageOut, Lies, KeptHall}
 use Rattle.tc_hall.specs.Steps.{Gets, after_claim, after_miss}
 use Rattle.tc_hall.proofs.Placing.{moves, stays}
+use Rattle.tc_hall.proofs.Cases.{clash, same_some, clash_at, same_at, same_package, out_inside}
 use Rattle.tc_hall.proofs.Packing.{claims_locks, locks_stay}
-use Rattle.tc_hall.proofs.LockLists.{add_all-has, add_all-else}
+use Rattle.tc_hall.proofs.LockLists.{add_all-has}
 use Rattle.tc_hall.proofs.Outs.{package_came, no_call_claimed}
 use Rattle.tc_hall.proofs.Ranks.{apart_stays, stop_stays, pass_kept, pass_same, passes_stay, done_still, stops_still, stops_back, misfit_stop}
 
 pub some_same : (u t : ℕ) → Some t ≡ Some u → u ≡ t
 some_same u t e = cc e
-
-pub clash : (o : Option ℕ) (k : ℕ) → o ≡ None → o ≡ Some k → ⊥
-clash o k a b = cc (a, b)
-
-pub same_place : (o : Option ℕ) (a b : ℕ) → o ≡ Some a → o ≡ Some b → b ≡ a
-same_place o a b e f = cc (e, f)
-
-pub same_context : (x : maybe.Option (Option PackageView)) (a b : PackageView) → x ≡ some (Some a) → x ≡ some (Some b) → a ≡ b
-same_context x a b e f = cc (e, f)
-
-pub none_some : (p : PackageView) (x : maybe.Option (Option PackageView)) → x ≡ some None → x ≡ some (Some p) → ⊥
-none_some p x a b = cc (a, b)
 
 pub home_of : (ws : List ℕ) (hs : Homes) (vs : List Knows) (t : ℕ) (p : PackageView) (o : maybe.Option ℕ) → Lies ws hs vs t p o → slice_index ws (t + 2) < 512 → (o ≡ none) × IsHome ws hs t p
 home_of ws hs vs t p none l h = (refl, l)
@@ -48,16 +35,6 @@ home_of ws hs vs t p (some id) l h = let w = l.word in absurd (omega arith)
 pub out_of : (ws : List ℕ) (hs : Homes) (vs : List Knows) (t id : ℕ) (p : PackageView) (o : maybe.Option ℕ) → Lies ws hs vs t p o → o ≡ some id → IsPackageOut ws hs vs t p id
 out_of ws hs vs t id p none l e = absurd (some-ne-none id (sym e))
 out_of ws hs vs t id p (some j) l e = subst (IsPackageOut ws hs vs t p) (some-injective j id e) l
-
-pub lock_out_of : (n : ℕ) (ws : List ℕ) (hs : Homes) (vs : List Knows) (i : ℕ) (l : LockView) (id : ℕ) (s : Spot) → s ≡ out id → LiesLock n ws hs vs i l s → IsLockOut n ws hs vs i l id
-lock_out_of n ws hs vs i l id s e lies = subst (LiesLock n ws hs vs i l) e lies
-
-pub out_inside : (j t : ℕ) (s : Spot) → s ≡ out j → s ≡ inside t → ⊥
-out_inside j t s a b = cc (a, b)
-
-some_or_none : (o : Option LockView) → ((l : LockView) × (o ≡ Some l)) ⊎ (o ≡ None)
-some_or_none (Some l) = inl (l, refl)
-some_or_none None = inr refl
 
 module _ (k : Terms) where
   abbrev pub St : Type 0
@@ -124,7 +101,7 @@ module _ (k : Terms) where
               slot = λ out. absurd (out refl);
               held = λ _. set_here s.homes t none (omega (arith, r.slots));
             })
-            (λ p' has. (refl, place ∙ ap (λ (z : PackageView). some z) (sym h.same ∙ same_context (get_elem? w.packages t) (bare q) p' here has)));
+            (λ p' has. (refl, place ∙ ap (λ (z : PackageView). some z) (sym h.same ∙ same_at (get_elem? w.packages t) (bare q) p' here has)));
         locks_placed = claims_locks (threads k) (locks k) r.told.segments s.words ws' s.homes s.views id v w q r.locks_placed r.told.law.all_states at live refl refl
             (λ i. get_or-set_other s.words (t + 2) (threads k + 2 + i) new 0 (λ e. omega arith)) t below h.slot free refl;
         passes = passes_stay k.image.value k.workers r.told.history r.told.history s.words ws' (λ b e. e) done stops s.views id w r.passes
@@ -146,21 +123,11 @@ module _ (k : Terms) where
       (let p = r.locks_placed.packed t q i l below h.slot e in let b = (there r.told.segments i (kept l) (kept l) p.1).0 in omega (arith, wide, r.told.law.all_states)) e in
       record {
         now = refl;
-        has = subst (λ (z : ℕ). Has (after_claim v q) z (bare q)) thread has_it;
-        locks = has_locks;
-        others = (
-          (λ u p' has. set_else v.packages q.context.thread u (Some (bare q)) (λ (e : u ≡ q.context.thread). some-ne-none id (sym (r.placed.owned id v u p' at has).0 ∙ (ap r.placed.holder (e ∙ thread) ∙ is_home))) ∙ has),
-          (λ i l has. ⊎_elim
-              (λ (o : (z : LockView) × (locked_in q i ≡ Some z)). absurd (out_inside id t (r.locks_placed.spot i) (r.locks_placed.owned id v i l at has).0 (r.locks_placed.packed t q i o.0 below h.slot o.1).0))
-              (λ (o : locked_in q i ≡ None). add_all-else v.locks q.context.locks i o ∙ has) (some_or_none (locked_in q i))),
-        );
         thread = thread;
         of = ap (λ (z : PackageView). z.image) h.same ∙ (after.follows.of ∙ sym ((r.passes id v at).of live));
         settled = ap (λ (z : PackageView). z.pending) h.same ∙ after.settled;
         order = h.order;
         fits = h.fits.fits;
-        sealed = λ i b e is. let f = filter_has t r.told.history b.stamp b ((r.passes id v at).sealed i b e) is in
-            (f.0, ap (λ (z : PackageView). get_elem? z.log f.0) h.same ∙ (ap (λ (l : List Block). get_elem? l f.0) after.follows.log ∙ f.1));
         came = package_came v q has_it has_locks
             (λ p' has. some-ne-none id (sym (r.placed.owned id v q.context.thread p' at has).0 ∙ (ap r.placed.holder thread ∙ is_home)))
             (λ i l e l' has. out_inside id t (r.locks_placed.spot i) (r.locks_placed.owned id v i l' at has).0 (r.locks_placed.packed t q i l below h.slot e).0);
@@ -188,12 +155,9 @@ module _ (k : Terms) where
         placed = place.1;
         holder = lies.0;
         home = lies.1;
-        same = same_in_slot (get_elem? s.homes t) lies.1.context q lies.1.slot slot;
+        same = same_package (get_elem? s.homes t) lies.1.context q lies.1.slot slot;
         thread = ap (λ (z : PackageView). z.context.thread) lies.1.same ∙ law.follows.number;
       }
-    where
-      same_in_slot : (x : maybe.Option (maybe.Option (Option Cargo))) (a b : PackageView) → x ≡ some (some (Some (Package a))) → x ≡ some (some (Some (Package b))) → a ≡ b
-      same_in_slot x a b e f = cc (e, f)
 
   full_still : (hs : Homes) (t : ℕ) (a b : maybe.Option (Option Cargo)) → get_elem? hs t ≡ some a → ((q : PackageView) → a ≢ some (Some (Package q))) → (u : ℕ) (q : PackageView) → get_elem? hs u ≡ some (some (Some (Package q))) → get_elem? (set hs t b) u ≡ some (some (Some (Package q)))
   full_still hs t a b at none' u q e = dite (ℕ_discrete u t)
@@ -204,10 +168,7 @@ module _ (k : Terms) where
   full_back hs t b none' u q e = ⊎_elim (λ (o : (u ≡ t) × (b ≡ some (Some (Package q)))). absurd (none' q o.1)) (λ (o : (u ≢ t) × (get_elem? hs u ≡ some (some (Some (Package q))))). o.1) (at_set hs t u b (some (Some (Package q))) e)
 
   no_package : (q : PackageView) → some None ≢ some (Some (Package q))
-  no_package q e = empty None refl (some-injective None (Some (Package q)) e)
-    where
-      empty : (o : Option Cargo) → o ≡ None → o ≡ Some (Package q) → ⊥
-      empty o a b = cc (a, b)
+  no_package q e = clash_at (some None) (Package q) refl e
 
   no_home : (q : PackageView) → none ≢ some (Some (Package q))
   no_home q e = some-ne-none (Some (Package q)) (sym e)
@@ -236,7 +197,7 @@ module _ (k : Terms) where
               slot = λ free. ⊎_elim (λ (z : (w.hand ≡ Some t) × (v.hand ≡ None) × (b ≡ none)). absurd (free z.0)) (λ (z : (w.hand ≡ None) × (v.hand ≡ Some t) × (b ≡ some None)). here z.2) hands;
               held = λ e. ⊎_elim (λ (z : (w.hand ≡ Some t) × (v.hand ≡ None) × (b ≡ none)). here z.2) (λ (z : (w.hand ≡ None) × (v.hand ≡ Some t) × (b ≡ some None)). absurd (clash w.hand t z.0 e)) hands;
             })
-            (λ p' has'. (refl, o.2 ∙ ap (λ (z : PackageView). some z) (same_context (get_elem? v.packages t) p p' has (sym (ap (λ (z : Knows). get_elem? z.packages t) same) ∙ has'))));
+            (λ p' has'. (refl, o.2 ∙ ap (λ (z : PackageView). some z) (same_at (get_elem? v.packages t) p p' has (sym (ap (λ (z : Knows). get_elem? z.packages t) same) ∙ has'))));
         locks_placed = locks_stay (threads k) (locks k) r.told.segments s.words s.words s.homes (set s.homes t b) s.views id v w at (λ i. refl) (λ i. set_else s.homes t (threads k + i) b (λ e. omega arith))
             (λ u q _ e. full_still s.homes t a b slot full u q e) (λ u q _ e. full_back s.homes t b full' u q e) (ap (λ (z : Knows). z.locks) same) (ap (λ (z : Knows). z.spent) same)
             (λ i e. absurd (to (threads k + i) (λ e. omega arith) e)) (λ i e. absurd (back (threads k + i) (λ e. omega arith) e)) r.locks_placed;
@@ -247,10 +208,10 @@ module _ (k : Terms) where
       }
     where
       to : (u : ℕ) → u ≢ t → v.hand ≡ Some u → ⊥
-      to u ne e = ⊎_elim (λ (z : (w.hand ≡ Some t) × (v.hand ≡ None) × (b ≡ none)). clash v.hand u z.1 e) (λ (z : (w.hand ≡ None) × (v.hand ≡ Some t) × (b ≡ some None)). ne (same_place v.hand t u z.1 e)) hands
+      to u ne e = ⊎_elim (λ (z : (w.hand ≡ Some t) × (v.hand ≡ None) × (b ≡ none)). clash v.hand u z.1 e) (λ (z : (w.hand ≡ None) × (v.hand ≡ Some t) × (b ≡ some None)). ne (same_some v.hand t u z.1 e)) hands
 
       back : (u : ℕ) → u ≢ t → w.hand ≡ Some u → ⊥
-      back u ne e = ⊎_elim (λ (z : (w.hand ≡ Some t) × (v.hand ≡ None) × (b ≡ none)). ne (same_place w.hand t u z.0 e)) (λ (z : (w.hand ≡ None) × (v.hand ≡ Some t) × (b ≡ some None)). clash w.hand u z.0 e) hands
+      back u ne e = ⊎_elim (λ (z : (w.hand ≡ Some t) × (v.hand ≡ None) × (b ≡ none)). ne (same_some w.hand t u z.0 e)) (λ (z : (w.hand ≡ None) × (v.hand ≡ Some t) × (b ≡ some None)). clash w.hand u z.0 e) hands
 
       here : {c : maybe.Option (Option Cargo)} → b ≡ c → get_elem? (set s.homes t b) t ≡ some c
       here e = set_here s.homes t b (there s.homes t a a slot).0 ∙ ap (λ (z : maybe.Option (Option Cargo)). some z) e

@@ -1,10 +1,9 @@
 -- How a hall opens, and how its passes are dealt.
-use Rattle.std.proofs.Common.{◌≡◌, ◌≢◌, ℕ, zero, suc, ◌+◌, ◌-◌, ◌*◌, ◌<◌, ◌≤◌, Bool, true, false, List, [], ◌∷◌, ◌++◌, length, map, replicate, sym, refl, ap, ◌∙◌, subst, ⊎_elim, arith, Option, Some, None, slice_index, length-append}
+use Rattle.std.proofs.Common.{◌≡◌, ◌≢◌, ℕ, zero, suc, ◌+◌, ◌-◌, ◌*◌, ◌<◌, ◌≤◌, true, false, List, [], ◌∷◌, ◌++◌, length, map, replicate, sym, refl, ap, ◌∙◌, subst, ⊎_elim, arith, Option, Some, None, slice_index, length-append}
 use Rattle.std.specs.List.{fold}
 use Rattle.std.proofs.lemmas.List.{get_or-replicate, map-append}
 use mathlib.Core.Logic.{dite}
 use mathlib.Core.Option.{none, some, some-injective, some-ne-none}
-use mathlib.Core.Option as maybe
 use native.Mathlib.Decide.{ℕ_discrete}
 use lib.ListN.{get_elem?, length-map, length-replicate}
 use Rattle.atomic_table.specs.Table.{opening}
@@ -23,12 +22,13 @@ use Rattle.tc_hall.specs.declared.board.Knows.{Knows}
 use Rattle.tc_hall.specs.declared.board.Terms.{Terms}
 use Rattle.tc_hall.specs.declared.board.Cargo.{Cargo}
 use Rattle.tc_hall.specs.declared.board.Cargo.TheVariants.{Package, Lock}
-use Rattle.tc_hall.specs.Rule.{grants_adopted, locked_in, threads, locks, home, IsPass, IsLimited, KeptHall, clean, starting as first_view}
+use Rattle.tc_hall.specs.Rule.{grants_adopted, locked_in, threads, locks, home, IsPass, IsInLimits, KeptHall, clean, starting as first_view}
 use Rattle.tc_hall.specs.Steps.{dealt, fresh, IsNew}
 use Rattle.tc_hall.specs.Made.{AreStocked, AreDealt, IsMaker}
 use Rattle.tc_hall.specs.PassView.{PassView}
 use Rattle.tc_hall.proofs.Telling.{snoc_at}
 use Rattle.tc_hall.proofs.Making.{clean_free, clean_pass}
+use Rattle.tc_hall.proofs.Cases.{apart, clash, same_package}
 
 module _ {A : Type 0} where
   -- the list of a function's values below n
@@ -104,7 +104,7 @@ module _ (k : Terms) where
   first_is zero v e = (refl, some-injective (first_view k) v e)
   first_is (suc id) v e = absurd (some-ne-none v (sym e))
 
-  pub opens : (ws : List ℕ) (slots : List (Option Cargo)) → IsLimited k → AreStocked k.image.value (threads k) (locks k) k.fuel k.limit slots → ws ≡ replicate (threads k + 2 + locks k) 0 → KeptHall k (opening ws slots (first_view k))
+  pub opens : (ws : List ℕ) (slots : List (Option Cargo)) → IsInLimits k → AreStocked k.image.value (threads k) (locks k) k.fuel k.limit slots → ws ≡ replicate (threads k + 2 + locks k) 0 → KeptHall k (opening ws slots (first_view k))
   opens ws slots limits ready zeros =
       let n : ℕ = threads k in
       let m : ℕ = locks k in
@@ -145,12 +145,12 @@ module _ (k : Terms) where
                 order = record {
                   ended = λ z. absurd (omega arith);
                   runs = λ _. ap (λ (z : Thread). is_running z.status) q.2.thread;
-                  own = λ i l z. absurd (no_lock l (locked_in q.0 i) (q.2.locks i) z);
+                  own = λ i l z. absurd (clash (locked_in q.0 i) l (q.2.locks i) z);
                   waits = λ i z. absurd (omega arith);
                   ready = λ g z. word;
                 };
                 fits = let none' : q.0.granted ≡ None = q.2.granted in
-                    record { stop = λ z. absurd (apart_bools (grants_adopted q.0.granted) (ap grants_adopted none') z); fits = λ _ u. ap (λ o. fits_granted q.0.context o u) none' };
+                    record { stop = λ z. absurd (apart (grants_adopted q.0.granted) (ap grants_adopted none') z); fits = λ _ u. ap (λ o. fits_granted q.0.context o u) none' };
               };
           sized = λ id v e live. ap (λ (z : Knows). length z.packages) (sym (first_is id v e).1) ∙ length-replicate n None;
           owned = λ id v t p e has. absurd ((clean_free k.image.value n m (k.workers - 1) true).packages t p (ap (λ (z : Knows). get_elem? z.packages t) (first_is id v e).1 ∙ has));
@@ -168,8 +168,8 @@ module _ (k : Terms) where
           sized = λ id v e live. ap (λ (z : Knows). length z.locks) (sym (first_is id v e).1) ∙ length-replicate m None;
           owned = λ id v i l e has. absurd ((clean_free k.image.value n m (k.workers - 1) true).locks i l (ap (λ (z : Knows). get_elem? z.locks i) (first_is id v e).1 ∙ has));
           packed = λ t q i l b e has. let r = ready.packages t b in
-              let same : q ≡ r.0 = package_is q r.0 (get_elem? (map some slots) t) e (at_map some slots t (Some (Package r.0)) r.1) in
-              absurd (no_lock l (locked_in q i) (ap (λ (x : PackageView). locked_in x i) same ∙ r.2.locks i) has);
+              let same : q ≡ r.0 = same_package (get_elem? (map some slots) t) q r.0 e (at_map some slots t (Some (Package r.0)) r.1) in
+              absurd (clash (locked_in q i) l (ap (λ (x : PackageView). locked_in x i) same ∙ r.2.locks i) has);
         };
         passes = λ id v e. let some' = limits.workers.0 in subst (IsPass k.image.value k.workers [] ws) (first_is id v e).1 (clean_pass k.image.value k.image.value k.workers [] ws n m (k.workers - 1) true refl (omega arith) refl);
         stop = λ e. let z = zero_at 1 (omega arith) in absurd (omega arith);
@@ -179,18 +179,9 @@ module _ (k : Terms) where
           maker = λ i j v w ev ew mv lw ne. absurd (ne ((first_is i v ev).0 ∙ sym (first_is j w ew).0));
           fresh = λ i j e u v w ev mv ew h. absurd (some-ne-none u (sym (ap (λ (z : Knows). get_elem? z.joined e) (first_is j w ew).1 ∙ h)));
           sole = λ i j v w ev ew mv mw. (first_is i v ev).0 ∙ sym (first_is j w ew).0;
-          spent = λ i v e s. absurd (apart_bools v.spent (ap (λ (z : Knows). z.spent) (sym (first_is i v e).1)) s);
+          spent = λ i v e s. absurd (apart v.spent (ap (λ (z : Knows). z.spent) (sym (first_is i v e).1)) s);
         };
       }
-    where
-      no_lock : (l : LockView) (o : Option LockView) → o ≡ None → o ≡ Some l → ⊥
-      no_lock l o a b = cc (a, b)
-
-      package_is : (q r : PackageView) (x : maybe.Option (maybe.Option (Option Cargo))) → x ≡ some (some (Some (Package q))) → x ≡ some (some (Some (Package r))) → q ≡ r
-      package_is q r x a b = cc (a, b)
-
-      apart_bools : (b : Bool) → b ≡ false → b ≡ true → ⊥
-      apart_bools b e f = cc (e, f)
 
 pub none_stocked : (image : Shown) (fuel limit : ℕ) (xs : List (Option Cargo)) → xs ≡ [] → AreStocked image 0 0 fuel limit xs
 none_stocked image fuel limit xs e = record { count = ap (λ (l : List (Option Cargo)). length l) e; packages = λ t h. absurd (omega arith); locks = λ t h. absurd (omega arith) }

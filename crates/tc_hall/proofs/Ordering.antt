@@ -17,7 +17,7 @@ use Rattle.tc_hall.specs.declared.board.Terms.{Terms}
 use Rattle.tc_hall.specs.declared.board.Cargo.{Cargo}
 use Rattle.tc_hall.specs.declared.board.Cargo.TheVariants.{Package}
 use Rattle.tc_hall.specs.Places.{code_of, origin_code}
-use Rattle.tc_hall.specs.Rule.{threads, locks, starting, IsLimited, KeptHall}
+use Rattle.tc_hall.specs.Rule.{threads, locks, starting, IsInLimits, KeptHall}
 use Rattle.tc_hall.specs.Made.{AreStocked}
 use Rattle.tc_hall.specs.Steps.{Seals, after_put}
 use Rattle.tc_hall.specs.Effects.{Hall, after, claim_effect, commit_effect, put_effect, take_effect, look_effect, stopped_effect, miss_effect, reach_effect, lay_effect}
@@ -110,7 +110,7 @@ module _ (k : Terms) where
       }
 
   -- a new hall
-  pub opens_order : (ws : List ℕ) (slots : List (Option Cargo)) → IsLimited k → AreStocked k.image.value (threads k) (locks k) k.fuel k.limit slots → ws ≡ replicate (threads k + 2 + locks k) 0 → IsOrdered k (opening ws slots (starting k))
+  pub opens_order : (ws : List ℕ) (slots : List (Option Cargo)) → IsInLimits k → AreStocked k.image.value (threads k) (locks k) k.fuel k.limit slots → ws ≡ replicate (threads k + 2 + locks k) 0 → IsOrdered k (opening ws slots (starting k))
   opens_order ws slots limits ready zeros = record {
     first = opening ws slots (starting k);
     opens = record { limits = limits; slots = slots; stocked = ready; is = ap (λ (l : List ℕ). opening l slots (starting k)) zeros };

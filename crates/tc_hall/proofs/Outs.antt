@@ -1,5 +1,5 @@
 -- How the effects on the view change what is out.
-use Rattle.std.proofs.Common.{◌≡◌, ℕ, zero, suc, ◌==◌, if◌then◌else◌, List, [], ◌∷◌, set, get_or, Option, Some, None, refl, sym, ap, ◌∙◌, ⊎_elim, get_or-set_other}
+use Rattle.std.proofs.Common.{◌≡◌, ℕ, zero, suc, ◌==◌, if◌then◌else◌, List, [], ◌∷◌, set, get_or, Option, Some, None, refl, sym, ap, ◌∙◌, ⊎_elim, get_or-set_other, Bool}
 use Rattle.std.proofs.lemmas.List.{append-nil}
 use Rattle.std.specs.Option.{option_map}
 use Rattle.std.proofs.lemmas.Bool.Decides.{eqb_tells}
@@ -10,11 +10,13 @@ use Rattle.tc_segment.specs.View.{LockView, kept, with_journal, sealed_as}
 use Rattle.tc_context.specs.Locks.{lock_in}
 use Rattle.tc_context.specs.View.{PackageView, bare, with_seal}
 use Rattle.tc_context.proofs.Running.{sealed_at}
+use Rattle.tc_mutex_spec.proofs.BlocksAlike.{eq_self}
 use Rattle.tc_hall.specs.declared.board.Knows.{Knows}
 use Rattle.tc_hall.specs.declared.place.Place.{Place}
 use Rattle.tc_hall.specs.Outs.{Outs, outs, erase, keep, unless, Pack, Loose, IsOut, CameOut, Called}
 use Rattle.tc_hall.specs.Rule.{Has, HasLock, locked_in}
-use Rattle.tc_hall.specs.Steps.{add_all, remove_all, after_claim, after_commit, after_put, after_take, after_free}
+use Rattle.tc_hall.specs.Steps.{add_all, remove_all, after_claim, after_seal, after_put, after_take, after_free}
+use Rattle.tc_hall.proofs.Cases.{clash, none_of}
 
 -- two functions that agree everywhere are the same outs
 pub same_outs : (o p : Outs) → ((u : ℕ) → o.context u ≡ p.context u) → ((i : ℕ) → o.lock i ≡ p.lock i) → o ≡ p
@@ -66,11 +68,7 @@ is_there (x ∷ xs) zero a e = ap some e
 is_there (x ∷ xs) (suc i) a e = is_there xs i a e
 
 none_there : {A : Type 0} (xs : List (Option A)) (i : ℕ) → ((a : A) → get_elem? xs i ≡ some (Some a) → ⊥) → get_or xs i None ≡ None
-none_there {A} xs i never = by_cases (get_or xs i None) (λ a e. never a (is_there xs i a e))
-  where
-    by_cases : (o : Option A) → ((a : A) → o ≡ Some a → ⊥) → o ≡ None
-    by_cases None f = refl
-    by_cases (Some a) f = absurd (f a refl)
+none_there xs i never = none_of (get_or xs i None) (λ a e. never a (is_there xs i a e))
 
 -- a place that was filled, where nothing was before
 filled : {A : Type 0} (xs : List (Option A)) (t u : ℕ) (a b : A) → get_or xs t None ≡ None → unless (if u == t then Some b else None) (get_or (set xs t (Some a)) u None) ≡ get_or xs u None
@@ -118,7 +116,18 @@ package_came v q has has_locks new new_locks = record {
       (λ i. added v.locks q.context.locks i (λ l e. none_there v.locks i (new_locks i l e)));
 }
 
-pub lock_is_out : (v : Knows) (l : LockView) → HasLock v l.number (kept l) → IsOut (outs v) (Loose l)
+-- ---- what is out, as the pass's lists have it
+
+pub has_out : (v : Knows) (q : PackageView) → IsOut (outs v) (Pack q) → Has v q.context.thread (bare q)
+has_out v q out = is_there v.packages q.context.thread (bare q) (out.contexts q.context.thread (bare q) (ap (λ (b : Bool). if b then Some (bare q) else None) (eq_self q.context.thread)))
+
+pub lock_out : (v : Knows) (q : PackageView) → IsOut (outs v) (Pack q) → (i : ℕ) (l : LockView) → locked_in q i ≡ Some l → HasLock v i (kept l)
+lock_out v q out i l e = is_there v.locks i (kept l) (out.locks i (kept l) (ap keep e))
+
+pub loose_out : (v : Knows) (l : LockView) → IsOut (outs v) (Loose l) → HasLock v l.number (kept l)
+loose_out v l out = is_there v.locks l.number (kept l) (out.locks l.number (kept l) (ap (λ (b : Bool). if b then Some (kept l) else None) (eq_self l.number)))
+
+lock_is_out : (v : Knows) (l : LockView) → HasLock v l.number (kept l) → IsOut (outs v) (Loose l)
 lock_is_out v l has = record {
   contexts = λ u c e. absurd (none_some c e);
   locks = λ i k e. fills v.locks l.number i (kept l) k has e;
@@ -131,14 +140,11 @@ lock_came v l has new = record {
       (λ i. filled v.locks l.number i (kept l) (kept l) (none_there v.locks l.number new));
 }
 
-clash : (o : Option LockView) (l : LockView) → o ≡ None → o ≡ Some l → ⊥
-clash o l a b = cc (a, b)
-
 -- the package was sealed where it is, and its locks with it
-pub seal_outs : (v : Knows) (b : Block) (n : ℕ) (q : PackageView) → erase (outs (after_commit v b (with_seal n v.worker q))) (Pack (with_seal n v.worker q)) ≡ erase (outs v) (Pack q)
+pub seal_outs : (v : Knows) (b : Block) (n : ℕ) (q : PackageView) → erase (outs (after_seal v b (with_seal n v.worker q))) (Pack (with_seal n v.worker q)) ≡ erase (outs v) (Pack q)
 seal_outs v b n q =
     let now : PackageView = with_seal n v.worker q in
-    same_outs (erase (outs (after_commit v b now)) (Pack now)) (erase (outs v) (Pack q))
+    same_outs (erase (outs (after_seal v b now)) (Pack now)) (erase (outs v) (Pack q))
     (λ u. again v.packages q.context.thread u (bare now) (bare q))
     (λ i. locks v.locks now.context.locks i (lock_in q.context.locks i) (with_journal (sealed_as n v.worker)) (sealed_at n v.worker q.context.locks i))
   where

@@ -1,5 +1,5 @@
 -- Where the locks are after a step of one pass.
-use Rattle.std.proofs.Common.{◌≡◌, ◌≢◌, ◌⊎◌, ℕ, ◌+◌, ◌<◌, false, List, length, set, sym, refl, ap, ◌∙◌, subst, ⊎_elim, inl, inr, arith, Option, Some, None, slice_index}
+use Rattle.std.proofs.Common.{◌≡◌, ◌≢◌, ◌⊎◌, ℕ, ◌+◌, ◌<◌, false, List, length, set, sym, refl, ap, ◌∙◌, subst, ⊎_elim, arith, Option, Some, None, slice_index}
 use mathlib.Core.Logic.{dite}
 use mathlib.Core.Option.{none, some, some-injective, some-ne-none}
 use mathlib.Core.Option as maybe
@@ -18,28 +18,16 @@ use Rattle.tc_hall.specs.Rule.{Homes, HasLock, locked_in, Spot, home, inside, ou
 use Rattle.tc_hall.specs.Steps.{add_all, remove_all}
 use Rattle.tc_hall.proofs.LockLists.{add_all-length, add_all-has, add_all-else, remove_all-length, remove_all-at, remove_all-else, with_states-has, with_states-else}
 use Rattle.tc_hall.proofs.Placing.{put, put_here, put_else}
-
-some_of : (o : Option LockView) → ((l : LockView) × (o ≡ Some l)) ⊎ (o ≡ None)
-some_of (Some l) = inl (l, refl)
-some_of None = inr refl
+use Rattle.tc_hall.proofs.Cases.{clash, same_some, same_at, same_package, not_taken, out_inside, same_out}
 
 abbrev pub spot_or : ℕ → Spot → Option LockView → Spot
 spot_or id s None = s
 spot_or id s (Some l) = out id
 
 far : (o : Option ℕ) (a b : ℕ) → o ≡ Some a → o ≡ Some b → a ≢ b → ⊥
-far o a b e f ne = ne (same o a b e f)
-  where
-    same : (o : Option ℕ) (a b : ℕ) → o ≡ Some a → o ≡ Some b → a ≡ b
-    same o a b e f = cc (e, f)
+far o a b e f ne = ne (same_some o b a f e)
 
-apart : (o : Option LockView) (l : LockView) → o ≡ None → o ≡ Some l → ⊥
-apart o l a b = cc (a, b)
-
-inside_of : (n : ℕ) (ws : List ℕ) (hs : Homes) (vs : List Knows) (i : ℕ) (l : LockView) (t : ℕ) (s : Spot) → s ≡ inside t → LiesLock n ws hs vs i l s → IsInside n ws hs i l t
-inside_of n ws hs vs i l t s e lies = subst (LiesLock n ws hs vs i l) e lies
-
-out_of : (n : ℕ) (ws : List ℕ) (hs : Homes) (vs : List Knows) (i : ℕ) (l : LockView) (id : ℕ) (s : Spot) → s ≡ out id → LiesLock n ws hs vs i l s → IsLockOut n ws hs vs i l id
+pub out_of : (n : ℕ) (ws : List ℕ) (hs : Homes) (vs : List Knows) (i : ℕ) (l : LockView) (id : ℕ) (s : Spot) → s ≡ out id → LiesLock n ws hs vs i l s → IsLockOut n ws hs vs i l id
 out_of n ws hs vs i l id s e lies = subst (LiesLock n ws hs vs i l) e lies
 
 module _ (n m : ℕ) (segments : List LockView) (ws ws' : List ℕ) (hs : Homes) (vs : List Knows) (id : ℕ) (v w : Knows) (q : PackageView)
@@ -80,7 +68,7 @@ module _ (n m : ℕ) (segments : List LockView) (ws ws' : List ℕ) (hs : Homes)
     lies_claimed : (i : ℕ) (l : LockView) → get_elem? segments i ≡ some l → (o : Option LockView) → locked_in q i ≡ o → (s : Spot) → lp.spot i ≡ s → LiesLock n ws hs vs i l s → LiesLock n ws' (set hs t none) (set vs id w) i l (spot_or id s o)
     lies_claimed i l e (Some k) is s spot lies =
         let p = lp.packed t q i k below slot is in
-        let o : IsInside n ws hs i l t = inside_of n ws hs vs i l t s (sym spot ∙ p.0) lies in record {
+        let o : IsInside n ws hs i l t = subst (LiesLock n ws hs vs i l) (sym spot ∙ p.0) lies in record {
           view = w;
           pass = set_here vs id w in_range;
           has = has_new i k (let b = (there segments i l l e).0 in omega arith) is ∙ ap (λ (z : LockView). some (Some z)) (some-injective (kept k) l (sym p.1 ∙ e));
@@ -90,15 +78,9 @@ module _ (n m : ℕ) (segments : List LockView) (ws ws' : List ℕ) (hs : Homes)
         }
     lies_claimed i l e None is home spot o = record { segment = o.segment; slot = set_else hs t (n + i) none (λ z. omega arith) ∙ o.slot; same = o.same; word = words i ∙ o.word; rests = o.rests }
     lies_claimed i l e None is (inside u) spot o = dite (ℕ_discrete u t)
-        (λ (z : u ≡ t). absurd (apart (locked_in q i) o.segment is (packs (get_elem? hs t) q o.context slot (ap (get_elem? hs) (sym z) ∙ o.slot) i o.segment o.has)))
+        (λ (z : u ≡ t). absurd (clash (locked_in q i) o.segment is (ap (λ (x : PackageView). locked_in x i) (same_package (get_elem? hs t) q o.context slot (ap (get_elem? hs) (sym z) ∙ o.slot)) ∙ o.has)))
         (λ (ne : u ≢ t). record { below = o.below; context = o.context; slot = set_else hs t u none ne ∙ o.slot; segment = o.segment; has = o.has; same = o.same; word = words i ∙ o.word; empty = set_else hs t (n + i) none (λ z. omega arith) ∙ o.empty })
-      where
-        packs : (x : maybe.Option (maybe.Option (Option Cargo))) (q r : PackageView) → x ≡ some (some (Some (Package q))) → x ≡ some (some (Some (Package r))) → (i : ℕ) (l : LockView) → locked_in r i ≡ Some l → locked_in q i ≡ Some l
-        packs x q r a b i l e = let same : q ≡ r = cc (a, b) in ap (λ (z : PackageView). locked_in z i) same ∙ e
     lies_claimed i l e None is (out j) spot o = still_out (set hs t none) i l j is (set_else hs t (n + i) none (λ z. omega arith)) (λ h. absurd (clash v.hand (n + i) free h)) (λ h. absurd (far w.hand t (n + i) hand_is h (omega arith))) o
-      where
-        clash : (o : Option ℕ) (k : ℕ) → o ≡ None → o ≡ Some k → ⊥
-        clash o k a b = cc (a, b)
 
     spot_kept : (i : ℕ) → (o : Option LockView) → locked_in q i ≡ o → lp.spot i ≢ inside t → spot_or id (lp.spot i) o ≡ lp.spot i
     spot_kept i None is ne = refl
@@ -109,10 +91,7 @@ module _ (n m : ℕ) (segments : List LockView) (ws ws' : List ℕ) (hs : Homes)
     owned_claimed i l has (Some k) is =
         let p = lp.packed t q i k below slot is in
         let new = has_new i k (let b = (there segments i (kept k) (kept k) p.1).0 in omega arith) is in
-        (refl, p.1 ∙ ap (λ (z : LockView). some z) (same (get_elem? w.locks i) (kept k) l new has))
-      where
-        same : (x : maybe.Option (Option LockView)) (a b : LockView) → x ≡ some (Some a) → x ≡ some (Some b) → a ≡ b
-        same x a b e f = cc (e, f)
+        (refl, p.1 ∙ ap (λ (z : LockView). some z) (same_at (get_elem? w.locks i) (kept k) l new has))
 
     pub claims_locks : AreLocksPlaced n m segments ws' (set hs t none) (set vs id w)
     claims_locks = record {
@@ -121,7 +100,7 @@ module _ (n m : ℕ) (segments : List LockView) (ws ws' : List ℕ) (hs : Homes)
       sized = sized';
       owned = λ j x i l e has. ⊎_elim
           (λ (o : (j ≡ id) × (w ≡ x)). let r = owned_claimed i l (ap (λ (z : Knows). get_elem? z.locks i) o.1 ∙ has) (locked_in q i) refl in (r.0 ∙ ap (λ (z : ℕ). out z) (sym o.0), r.1))
-          (λ (o : (j ≢ id) × (get_elem? vs j ≡ some x)). let r = lp.owned j x i l o.1 has in (spot_kept i (locked_in q i) refl (λ z. out_in j t (lp.spot i) r.0 z) ∙ r.0, r.1))
+          (λ (o : (j ≢ id) × (get_elem? vs j ≡ some x)). let r = lp.owned j x i l o.1 has in (spot_kept i (locked_in q i) refl (λ z. out_inside j t (lp.spot i) r.0 z) ∙ r.0, r.1))
           (at_set vs id j w x e);
       packed = λ u r i l b e has. ⊎_elim
           (λ (o : (u ≡ t) × (none ≡ some (Some (Package r)))). absurd (some-ne-none (Some (Package r)) (sym o.1)))
@@ -129,9 +108,6 @@ module _ (n m : ℕ) (segments : List LockView) (ws ws' : List ℕ) (hs : Homes)
           (at_set hs t u none (some (Some (Package r))) e);
     }
       where
-        out_in : (j t : ℕ) (s : Spot) → s ≡ out j → s ≡ inside t → ⊥
-        out_in j t s a b = cc (a, b)
-
         in_in : (u t : ℕ) (s : Spot) → s ≡ inside u → s ≡ inside t → u ≡ t
         in_in u t s a b = cc (a, b)
 
@@ -174,10 +150,7 @@ module _ (n m : ℕ) (segments : List LockView) (ws ws' : List ℕ) (hs : Homes)
         let r = mine i k is in
         let b = (there segments i (kept r.0) (kept r.0) r.2).0 in
         let new = has_new i k (omega arith) is in
-        (r.1, with_states-has q.context.locks segments i k b is ∙ ap (λ (z : LockView). some z) (same (get_elem? w.locks i) (kept k) l new has))
-      where
-        same : (x : maybe.Option (Option LockView)) (a b : LockView) → x ≡ some (Some a) → x ≡ some (Some b) → a ≡ b
-        same x a b e f = cc (e, f)
+        (r.1, with_states-has q.context.locks segments i k b is ∙ ap (λ (z : LockView). some z) (same_at (get_elem? w.locks i) (kept k) l new has))
 
     pub seals_locks : AreLocksPlaced n m (with_states q.context.locks segments) ws' hs (set vs id w)
     seals_locks = record {
@@ -186,16 +159,10 @@ module _ (n m : ℕ) (segments : List LockView) (ws ws' : List ℕ) (hs : Homes)
       sized = sized';
       owned = λ j x i l e has. ⊎_elim
           (λ (o : (j ≡ id) × (w ≡ x)). let r = owned_sealed i l (ap (λ (z : Knows). get_elem? z.locks i) o.1 ∙ has) (locked_in q i) refl in (r.0 ∙ ap (λ (z : ℕ). out z) (sym o.0), r.1))
-          (λ (o : (j ≢ id) × (get_elem? vs j ≡ some x)). let r = lp.owned j x i l o.1 has in (r.0, with_states-else q.context.locks segments i (unmoved i (locked_in q i) refl (λ z. o.0 (out_out j id (lp.spot i) r.0 z))) ∙ r.1))
+          (λ (o : (j ≢ id) × (get_elem? vs j ≡ some x)). let r = lp.owned j x i l o.1 has in (r.0, with_states-else q.context.locks segments i (unmoved i (locked_in q i) refl (λ z. o.0 (same_out (lp.spot i) j id r.0 z))) ∙ r.1))
           (at_set vs id j w x e);
-      packed = λ u r i l b e has. let p = lp.packed u r i l b e has in (p.0, with_states-else q.context.locks segments i (unmoved i (locked_in q i) refl (λ z. out_in id u (lp.spot i) z p.0)) ∙ p.1);
+      packed = λ u r i l b e has. let p = lp.packed u r i l b e has in (p.0, with_states-else q.context.locks segments i (unmoved i (locked_in q i) refl (λ z. out_inside id u (lp.spot i) z p.0)) ∙ p.1);
     }
-      where
-        out_in : (j t : ℕ) (s : Spot) → s ≡ out j → s ≡ inside t → ⊥
-        out_in j t s a b = cc (a, b)
-
-        out_out : (j t : ℕ) (s : Spot) → s ≡ out j → s ≡ out t → j ≡ t
-        out_out j t s a b = cc (a, b)
 
 abbrev spot_in : ℕ → Spot → Option LockView → Spot
 spot_in t s None = s
@@ -233,16 +200,13 @@ module _ (n m : ℕ) (segments : List LockView) (ws ws' : List ℕ) (hs : Homes)
   lies_put i l e None is (inside u) spot o = record {
     below = o.below;
     context = o.context;
-    slot = far_home u (λ z. taken (get_elem? hs t) held (Package o.context) (ap (get_elem? hs) (sym z) ∙ o.slot)) ∙ o.slot;
+    slot = far_home u (λ z. not_taken (get_elem? hs t) (Package o.context) held (ap (get_elem? hs) (sym z) ∙ o.slot)) ∙ o.slot;
     segment = o.segment;
     has = o.has;
     same = o.same;
     word = words i ∙ o.word;
     empty = far_home (n + i) (λ z. omega arith) ∙ o.empty;
   }
-    where
-      taken : (x : maybe.Option (maybe.Option (Option Cargo))) → x ≡ some none → (c : Cargo) → x ≡ some (some (Some c)) → ⊥
-      taken x a c b = cc (a, b)
   lies_put i l e None is (out j) spot o = dite (ℕ_discrete j id)
       (λ (z : j ≡ id). let same : v ≡ o.view = some-injective v o.view (sym at ∙ (ap (get_elem? vs) (sym z) ∙ o.pass)) in record {
         view = w;
@@ -253,16 +217,13 @@ module _ (n m : ℕ) (segments : List LockView) (ws ws' : List ℕ) (hs : Homes)
         held = λ h. absurd (clash w.hand (n + i) hand_is h);
       })
       (λ (ne : j ≢ id). record { view = o.view; pass = set_else vs id j w ne ∙ o.pass; has = o.has; word = words i ∙ o.word; empty = λ h. far_home (n + i) (λ z. omega arith) ∙ o.empty h; held = λ h. far_home (n + i) (λ z. omega arith) ∙ o.held h })
-    where
-      clash : (o : Option ℕ) (k : ℕ) → o ≡ None → o ≡ Some k → ⊥
-      clash o k a b = cc (a, b)
 
   spot_same : (i : ℕ) (o : Option LockView) → locked_in q i ≡ o → lp.spot i ≢ out id → spot_in t (lp.spot i) o ≡ lp.spot i
   spot_same i None is ne = refl
   spot_same i (Some k) is ne = absurd (ne (lp.owned id v i (kept k) at (had i k is)).0)
 
   packed_put : (i : ℕ) (l : LockView) → locked_in q i ≡ Some l → (o : Option LockView) → locked_in q i ≡ o → (spot_in t (lp.spot i) o ≡ inside t) × (get_elem? segments i ≡ some (kept l))
-  packed_put i l e None is = absurd (apart (locked_in q i) l is e)
+  packed_put i l e None is = absurd (clash (locked_in q i) l is e)
   packed_put i l e (Some k) is = (refl, (lp.owned id v i (kept l) at (had i l e)).1)
 
   pub puts_locks : AreLocksPlaced n m segments ws' (set hs t (some (Some (Package q)))) (set vs id w)
@@ -275,23 +236,14 @@ module _ (n m : ℕ) (segments : List LockView) (ws ws' : List ℕ) (hs : Homes)
     owned = λ j x i l e has. ⊎_elim
         (λ (o : (j ≡ id) × (w ≡ x)). let kept' = remove_all-at v.locks q.context.locks i l (ap (λ (z : List (Option LockView)). get_elem? z i) (sym now ∙ ap (λ (z : Knows). z.locks) o.1) ∙ has) in
         let r = lp.owned id v i l at kept'.1 in (ap (spot_in t (lp.spot i)) kept'.0 ∙ (r.0 ∙ ap (λ (z : ℕ). out z) (sym o.0)), r.1))
-        (λ (o : (j ≢ id) × (get_elem? vs j ≡ some x)). let r = lp.owned j x i l o.1 has in (spot_same i (locked_in q i) refl (λ z. o.0 (out_out j id (lp.spot i) r.0 z)) ∙ r.0, r.1))
+        (λ (o : (j ≢ id) × (get_elem? vs j ≡ some x)). let r = lp.owned j x i l o.1 has in (spot_same i (locked_in q i) refl (λ z. o.0 (same_out (lp.spot i) j id r.0 z)) ∙ r.0, r.1))
         (at_set vs id j w x e);
     packed = λ u r i l b e has. ⊎_elim
-        (λ (o : (u ≡ t) × (some (Some (Package q)) ≡ some (Some (Package r)))). let same : q ≡ r = package_of q r (some (some (Some (Package q)))) refl (ap (λ (z : maybe.Option (Option Cargo)). some z) o.1) in
+        (λ (o : (u ≡ t) × (some (Some (Package q)) ≡ some (Some (Package r)))). let same : q ≡ r = same_package (some (some (Some (Package q)))) q r refl (ap (λ (z : maybe.Option (Option Cargo)). some z) o.1) in
         let p = packed_put i l (ap (λ (z : PackageView). locked_in z i) same ∙ has) (locked_in q i) refl in (p.0 ∙ ap (λ (z : ℕ). inside z) (sym o.0), p.1))
-        (λ (o : (u ≢ t) × (get_elem? hs u ≡ some (some (Some (Package r))))). let p = lp.packed u r i l b o.1 has in (spot_same i (locked_in q i) refl (λ z. out_in id u (lp.spot i) z p.0) ∙ p.0, p.1))
+        (λ (o : (u ≢ t) × (get_elem? hs u ≡ some (some (Some (Package r))))). let p = lp.packed u r i l b o.1 has in (spot_same i (locked_in q i) refl (λ z. out_inside id u (lp.spot i) z p.0) ∙ p.0, p.1))
         (at_set hs t u (some (Some (Package q))) (some (Some (Package r))) e);
   }
-    where
-      out_in : (j t : ℕ) (s : Spot) → s ≡ out j → s ≡ inside t → ⊥
-      out_in j t s a b = cc (a, b)
-
-      out_out : (j t : ℕ) (s : Spot) → s ≡ out j → s ≡ out t → j ≡ t
-      out_out j t s a b = cc (a, b)
-
-      package_of : (q r : PackageView) (x : maybe.Option (maybe.Option (Option Cargo))) → x ≡ some (some (Some (Package q))) → x ≡ some (some (Some (Package r))) → q ≡ r
-      package_of q r x a b = cc (a, b)
 
 -- the view w is v but for lock i, and for what says nothing of locks
 pub record IsElseLock (n i : ℕ) (v w : Knows) : Type 0 where

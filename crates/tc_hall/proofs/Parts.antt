@@ -12,8 +12,9 @@ use Rattle.tc_hall.specs.declared.board.Call.TheVariants.{Free, Look, Stop, Stop
 use Rattle.tc_hall.specs.Rule.{starting}
 use Rattle.tc_hall.specs.Steps.{dealt, fresh, merged, gone, put_call}
 use Rattle.tc_hall.specs.Effects.{Hall}
-use Rattle.tc_hall.specs.Order.{Operation, claim, take, miss, commit, put, free, look, stop, stopped, reach, lay, split, join, MayDo, Made, after_operation, hall_after, IsLegal, IsOpening, Notes, no_notes, noted, notes_of, HasNoted, HasParts}
+use Rattle.tc_hall.specs.Order.{Operation, claim, take, miss, commit, put, free, look, stop, stopped, reach, lay, split, join, MayDo, Made, after_operation, hall_after, IsLegal, IsOpening, Notes, no_notes, noted, notes_of, HasNoted, HasOwnNotes}
 use Rattle.tc_hall.proofs.Telling.{snoc_at}
+use Rattle.tc_hall.proofs.Cases.{apart}
 
 same_by : (a b : ℕ) → a ≡ b → (a == b) ≡ true
 same_by a b e = grind (arith, nat_tests)
@@ -100,7 +101,7 @@ module _ (k : Terms) (s : Hall) (before : List Made) (id : ℕ) (v : Knows) (at 
   -- another pass ends in this one
   joined_in : (other : ℕ) (w : Knows) → get_elem? s.views other ≡ some w → w.spent ≡ false → Goal (join other w)
   joined_in other w there' lives j x e l = ⊎_elim
-      (λ (z : (j ≡ other) × (gone ≡ x)). absurd (apart_live x (ap (λ (y : Knows). y.spent) (sym z.1)) l))
+      (λ (z : (j ≡ other) × (gone ≡ x)). absurd (apart x.spent l (ap (λ (y : Knows). y.spent) (sym z.1))))
       (λ (z : (j ≢ other) × (get_elem? (set s.views id (merged v w)) j ≡ some x)). replaced (join other w) (merged v w) (let theirs = all other w there' lives in record {
         calls = λ i. mine.calls i ++ theirs.calls i;
         sealed = λ i. mine.sealed i ++ theirs.sealed i;
@@ -109,9 +110,6 @@ module _ (k : Terms) (s : Hall) (before : List Made) (id : ℕ) (v : Knows) (at 
         taken = λ i. mine.taken i ++ theirs.taken i;
       }) j x z.1 l)
       (at_set (set s.views id (merged v w)) other j gone x e)
-    where
-      apart_live : (x : Knows) → x.spent ≡ true → x.spent ≡ false → ⊥
-      apart_live x a b = cc (a, b)
 
   part_after : (o : Operation) → MayDo k s id v o → Goal o
   part_after (claim t q) may = replaced (claim t q) _ record { calls = mine.calls; sealed = mine.sealed; missed = mine.missed; claimed = ap (λ z. z ++ q ∷ []) mine.claimed; taken = mine.taken }
@@ -139,5 +137,5 @@ module _ (k : Terms) where
       part_after k (hall_after k first before) before m.pass m.knew legal.0.pass legal.0.live (parts_by first begins before legal.1)
       (none_yet k first before legal.1 (length (hall_after k first before).views) (omega arith)) m.operation legal.0.may id v at live
 
-pub parts : HasParts
+pub parts : HasOwnNotes
 parts k s d id v at live = parts_by k d.first d.opens d.order d.legal id v (subst (λ (z : Hall). get_elem? z.views id ≡ some v) d.is at) live

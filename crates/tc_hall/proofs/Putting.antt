@@ -1,7 +1,6 @@
 -- What `put` and `free` ask and say, seen past the slot that the pass holds in between.
 use Rattle.std.proofs.Common.{◌≡◌, ℕ, [], ◌∷◌, Option, Some, None, refl, sym, ap, ◌∙◌, subst}
 use lib.ListN.{get_elem?}
-use Rattle.atomic_table.proofs.Lists.{set_else}
 use Rattle.tc_segment.specs.View.{LockView}
 use Rattle.tc_context.specs.View.{PackageView}
 use Rattle.tc_hall.specs.declared.place.Place.{Place}
@@ -10,9 +9,7 @@ use Rattle.tc_hall.specs.declared.board.Terms.{Terms}
 use Rattle.tc_hall.specs.Places.{code_of, place_of}
 use Rattle.tc_hall.specs.declared.board.Call.TheVariants.{Free}
 use Rattle.tc_hall.specs.Outs.{outs, Called}
-use Rattle.tc_hall.specs.Rule.{Has, HasLock}
 use Rattle.tc_hall.specs.Steps.{MayPut, HasStop, made, seen, Gave, IsAsLeft, after_put, put_call, Freed, after_free}
-use Rattle.tc_hall.proofs.LockLists.{remove_all-else}
 use Rattle.tc_hall.proofs.Outs.{put_outs, free_outs}
 use Rattle.tc_hall.proofs.Telling.{place_codes}
 
@@ -31,8 +28,6 @@ gave place code q v v2 w t held free is did =
     let now : w ≡ after_put v q place = did ∙ (ap (λ (z : Knows × Place). record (after_put z.0 q z.1) { hand = None }) (λ i. (held i, (ap place_of is ∙ place_codes place) i)) ∙ ap (λ (z : Option ℕ). record (after_put v q place) { hand = z }) (sym free)) in
     record {
       now = now;
-      others = λ u p ne has. subst (λ (z : Knows). Has z u p) (sym now) (set_else v.packages q.context.thread u None ne ∙ has);
-      others_locks = λ i l e has. subst (λ (z : Knows). HasLock z i l) (sym now) (remove_all-else v.locks q.context.locks i e ∙ has);
       rest = ap outs now ∙ put_outs v q place;
       called = subst (Called (put_call q place ∷ []) v) (sym now) record { image = refl; worker = refl; sealed = refl; joined = refl; calls = refl };
     }
@@ -42,8 +37,6 @@ freed l v v2 w slot held free did =
     let now : w ≡ after_free v l = did ∙ (ap (λ (z : Knows). record (after_free z l) { hand = None }) held ∙ ap (λ (z : Option ℕ). record (after_free v l) { hand = z }) (sym free)) in
     record {
       now = now;
-      others = λ u p has. subst (λ (z : Knows). Has z u p) (sym now) has;
-      others_locks = λ i k ne has. subst (λ (z : Knows). HasLock z i k) (sym now) (set_else v.locks l.number i None ne ∙ has);
       rest = ap outs now ∙ free_outs v l;
       called = subst (Called (Free l.number ∷ []) v) (sym now) record { image = refl; worker = refl; sealed = refl; joined = refl; calls = refl };
     }

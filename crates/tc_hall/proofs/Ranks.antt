@@ -11,8 +11,9 @@ use Rattle.tc_context.specs.View.{PackageView, fits_of}
 use Rattle.tc_mutex_spec.proofs.ListLaws.{there}
 use Rattle.tc_hall.specs.declared.board.Knows.{Knows}
 use Rattle.tc_hall.specs.declared.board.Call.{Call}
-use Rattle.tc_hall.specs.declared.board.Call.TheVariants.{Look, Stop, Stopped}
+use Rattle.tc_hall.specs.declared.board.Call.TheVariants.{Look, Stop, Stopped, Put, Free}
 use Rattle.tc_hall.specs.Rule.{grants_adopted, IsPass, HasStopped, AreApart, FitsAll}
+use Rattle.tc_hall.proofs.Cases.{apart}
 
 pub record IsSameRank (v w : Knows) : Type 0 where
   pub worker : w.worker ≡ v.worker
@@ -41,9 +42,6 @@ module _ (vs : List Knows) (id : ℕ) (v w : Knows) (at : get_elem? vs id ≡ so
     sole = λ i j x y ex ey mx my. let p = old_of rank i x ex in let q = old_of rank j y ey in a.sole i j p.0 q.0 p.1 q.1 (sym p.2.maker ∙ mx) (sym q.2.maker ∙ my);
     spent = λ i x e s. ⊎_elim (λ (o : (i ≡ id) × (w ≡ x)). absurd (apart w.spent (rank.spent ∙ live) (ap (λ (z : Knows). z.spent) o.1 ∙ s))) (λ (o : (i ≢ id) × (get_elem? vs i ≡ some x)). a.spent i x o.1 s) (at_set vs id i w x e);
   }
-    where
-      apart : (b : Bool) → b ≡ false → b ≡ true → ⊥
-      apart b e f = cc (e, f)
 
   pub stop_stays : ((i : ℕ) → get_elem? v.calls i ≡ some Stop → (j : ℕ) × (get_elem? w.calls j ≡ some Stop)) → HasStopped vs → HasStopped (set vs id w)
   stop_stays grows h = dite (ℕ_discrete h.id id)
@@ -53,10 +51,12 @@ module _ (vs : List Knows) (id : ℕ) (v w : Knows) (at : get_elem? vs id ≡ so
       (λ (ne : h.id ≢ id). record { id = h.id; view = h.view; pass = set_else vs id h.id w ne ∙ h.pass; place = h.place; call = h.call })
 
 -- what a call says of the words holds
-pub record IsTrueCall (ws : List ℕ) (c : Call) : Type 0 where
-  pub look : (t : ℕ) → c ≡ Look t 2 → slice_index ws (t + 2) ≡ 2
-  pub stop : c ≡ Stop → slice_index ws 1 ≡ 1
-  pub stopped : c ≡ Stopped 1 → slice_index ws 1 ≡ 1
+abbrev pub IsTrueCall : List ℕ → Call → Type 0
+IsTrueCall ws (Put t place numbers given) = Unit {0}
+IsTrueCall ws (Free i) = Unit {0}
+IsTrueCall ws (Look t found) = found ≡ 2 → slice_index ws (t + 2) ≡ 2
+IsTrueCall ws Stop = slice_index ws 1 ≡ 1
+IsTrueCall ws (Stopped found) = found ≡ 1 → slice_index ws 1 ≡ 1
 
 -- the pass of the same worker, in the same hall, which says of as many threads whether their packages fitted
 abbrev pub IsSameSeat : Knows → Knows → Type 0
@@ -75,9 +75,9 @@ module _ (image : Shown) (workers : ℕ) (h h' : List Block) (ws ws' : List ℕ)
     worker = subst (λ (z : ℕ). z < workers) (sym worker.0) old.worker;
     joined = λ i u e. ⊎_elim (λ o. old.joined i u o) (λ o. o) (joined i u e);
     sealed = λ i b e. ⊎_elim (λ o. grows b (old.sealed i b o)) (λ o. o) (sealed i b e);
-    done = λ i t e. ⊎_elim (λ o. done t (old.done i t o)) (λ (o : IsTrueCall ws' (Look t 2)). o.look t refl) (calls i (Look t 2) e);
-    stop = λ i e. ⊎_elim (λ o. stops (old.stop i o)) (λ (o : IsTrueCall ws' Stop). o.stop refl) (calls i Stop e);
-    stopped = λ i e. ⊎_elim (λ o. stops (old.stopped i o)) (λ (o : IsTrueCall ws' (Stopped 1)). o.stopped refl) (calls i (Stopped 1) e);
+    done = λ i t e. ⊎_elim (λ o. done t (old.done i t o)) (λ (o : IsTrueCall ws' (Look t 2)). o refl) (calls i (Look t 2) e);
+    stop = λ i e. ⊎_elim (λ o. stops (old.stop i o)) (λ (o : IsTrueCall ws' Stop). o) (calls i Stop e);
+    stopped = λ i e. ⊎_elim (λ o. stops (old.stopped i o)) (λ (o : IsTrueCall ws' (Stopped 1)). o refl) (calls i (Stopped 1) e);
     misfit = λ t e. ⊎_elim (λ o. stops (old.misfit t o)) (λ o. o) (misfits t e);
     sized = λ live. worker.3 ∙ old.sized (sym worker.1 ∙ live);
   }
@@ -110,10 +110,6 @@ stops_back ws j new ne e = sym (get_or-set_other ws j 1 new 0 (λ z. ne (sym z))
 pub misfit_stop : (word : ℕ) (q : PackageView) (w : ℕ) → FitsAll word q → not (fits_of q w) ≡ true → word ≡ 1
 misfit_stop word q w f e = by (grants_adopted q.granted) refl
   where
-    clash : (b : Bool) → not b ≡ true → b ≡ true → ⊥
-    clash true e f = absurd cc
-    clash false e f = absurd cc
-
     by : (b : Bool) → grants_adopted q.granted ≡ b → word ≡ 1
     by true is = f.stop is
-    by false is = absurd (clash (fits_of q w) e (f.fits is w))
+    by false is = absurd (apart (not (fits_of q w)) (ap not (f.fits is w)) e)

@@ -1,7 +1,6 @@
 -- `commit` keeps the rule.
 use Rattle.std.proofs.Common.{◌≡◌, ◌≢◌, ◌⊎◌, ℕ, zero, suc, ◌+◌, ◌*◌, ◌%◌, ◌^◌, ◌<◌, ◌≤◌, ◌==◌, Bool, true, false, List, [], ◌∷◌, ◌++◌, length, set, sym, refl, ap, ◌∙◌, subst, ⊎_elim, inl, inr, arith, Some, None, is_some, slice_index, length-set, length-append, get_or-set_other, get_or-set_same, if◌then◌else◌}
 use Rattle.std.specs.Prelude.{filter}
-use Rattle.std.specs.Option.{option_map}
 use Rattle.std.proofs.lemmas.Nat.{mul-le}
 use mathlib.Core.Option.{none, some, some-injective, some-ne-none}
 use lib.ListN.{get_elem?}
@@ -27,14 +26,15 @@ use Rattle.tc_context.proofs.Running.{sealed_at}
 use Rattle.tc_hall.specs.declared.board.Knows.{Knows}
 use Rattle.tc_hall.specs.declared.board.Terms.{Terms}
 use Rattle.tc_hall.specs.Rule.{locked_in, threads, locks, IsPass, KeptHall}
-use Rattle.tc_hall.specs.Steps.{after_commit, Seals, DidSeal}
-use Rattle.tc_hall.proofs.Outs.{seal_outs}
+use Rattle.tc_hall.specs.Steps.{after_seal, Seals, DidSeal}
+use Rattle.tc_hall.proofs.Outs.{seal_outs, package_out}
 use Rattle.tc_hall.proofs.Placing.{moves}
 use Rattle.tc_hall.proofs.Packing.{seals_locks}
-use Rattle.tc_hall.proofs.LockLists.{add_all-has, add_all-else, with_states-has}
+use Rattle.tc_hall.proofs.LockLists.{add_all-has, with_states-has}
 use Rattle.tc_hall.proofs.Ranks.{apart_stays, stop_stays, pass_kept, passes_stay, stops_still, stops_back}
 use Rattle.tc_hall.proofs.Telling.{snoc_at}
-use Rattle.tc_hall.proofs.Moves.{St, is_out, same_context}
+use Rattle.tc_hall.proofs.Moves.{St, is_out}
+use Rattle.tc_hall.proofs.Cases.{same_at}
 
 -- a lock of the sealed package was in the package before its block
 came : (image : Shown) (p q : PackageView) (n w : ℕ) → DidRun image p q → (i : ℕ) (l : LockView) → locked_in (with_seal n w q) i ≡ Some l → (o : LockView) × (locked_in p i ≡ Some o)
@@ -80,7 +80,7 @@ module _ (k : Terms) (s : St k) (r : KeptHall k s) (id : ℕ) (v : Knows) (q : P
   o = is_out k s r id t v (bare a.before) at a.has
 
   abbrev w : Knows
-  w = after_commit v b now
+  w = after_seal v b now
 
   old : IsPass k.image.value k.workers h s.words v
   old = r.passes id v at
@@ -134,7 +134,7 @@ module _ (k : Terms) (s : St k) (r : KeptHall k s) (id : ℕ) (v : Knows) (q : P
               slot = o.4;
               held = o.5;
             })
-            (λ p' has'. (refl, place ∙ ap (λ (z : PackageView). some z) (same_context (get_elem? w.packages t) (bare now) p' here has')));
+            (λ p' has'. (refl, place ∙ ap (λ (z : PackageView). some z) (same_at (get_elem? w.packages t) (bare now) p' here has')));
         locks_placed = seals_locks (threads k) (locks k) r.told.segments s.words (set s.words 0 new) s.homes s.views id v w now r.locks_placed r.told.law.all_states at live refl refl
             (λ i. get_or-set_other s.words 0 (threads k + 2 + i) new 0 (λ e. omega arith)) a.before came_here a.locks refl;
         passes = passes_stay k.image.value k.workers h (h ++ b ∷ []) s.words (set s.words 0 new) grows done stops s.views id w r.passes
@@ -159,11 +159,9 @@ module _ (k : Terms) (s : St k) (r : KeptHall k s) (id : ℕ) (v : Knows) (q : P
     block = a.ran.block;
     pending = a.ran.pending;
     now = refl;
-    has = set_here v.packages t (Some (bare now)) (let below = o.0 in omega (arith, r.placed.sized id v at live, below));
-    locks = λ i l e. (let was = came_here i l e in let p = mine i was.0 was.1 in
-        add_all-has v.locks now.context.locks i l (let z = (there r.told.segments i (kept was.0) (kept was.0) p).0 in omega (arith, r.locks_placed.sized id v at live, r.told.law.all_states, z)) e);
-    others = λ u p ne has. set_else v.packages t u (Some (bare now)) ne ∙ has;
-    others_locks = λ i l e has. add_all-else v.locks now.context.locks i (sealed_at stamp v.worker q.context.locks i ∙ ap (option_map (with_journal (sealed_as stamp v.worker))) e) ∙ has;
+    out = package_out w now (set_here v.packages t (Some (bare now)) (let below = o.0 in omega (arith, r.placed.sized id v at live, below)))
+        (λ i l e. (let was = came_here i l e in let p = mine i was.0 was.1 in
+        add_all-has v.locks now.context.locks i l (let z = (there r.told.segments i (kept was.0) (kept was.0) p).0 in omega (arith, r.locks_placed.sized id v at live, r.told.law.all_states, z)) e));
     rest = seal_outs v (sealed_block stamp v.worker a.ran.block) stamp q;
     after_own = λ i c e. (let z = there h c.stamp c c (old.sealed i c e) in let clock = r.clock in omega (arith, clock, z.0));
     after_log = λ i c e. (let f = filter_has (λ (x : Block). x.thread == t) (h ++ b ∷ []) i c (ap (λ (x : List Block). get_elem? x i) (sym (law.packages_after t (bare now) place_here).follows.log) ∙ e) in lower f.0 c f.1);

@@ -29,7 +29,7 @@ use Rattle.tc_hall.specs.Outline.{Outline, Lying, at_home, in_hand, packed, lies
 use Rattle.tc_hall.specs.Shown.{IsShown, PackageAt, in_slot, with_pass, LockAt, lock_in_slot, lock_in_package, lock_with_pass, ShowsThread, ShowsLock, place_shown, as_place}
 use Rattle.tc_hall.proofs.LockLists.{add_all-else, remove_all-at}
 use Rattle.tc_hall.proofs.Telling.{place_codes}
-use Rattle.tc_hall.proofs.Moves.{same_context}
+use Rattle.tc_hall.proofs.Cases.{some_or_none, same_at, same_package, none_of, clash, same_some}
 
 -- ---- the places that words show
 
@@ -109,16 +109,6 @@ shows_thread o o' a t p h = record { thread = a.thread t ∙ h.thread; last = a.
 shows_lock : (o o' : Outline) → IsAlike o o' → (i : ℕ) (l : LockView) (y : Lying) → o'.lies i ≡ y → o.lock i ≡ lock_of l → ShowsLock o' i l y
 shows_lock o o' a i l y lies h = record { lock = a.lock i ∙ h; lies = lies }
 
-some_or_none : (o : Option LockView) → ((l : LockView) × (o ≡ Some l)) ⊎ (o ≡ None)
-some_or_none (Some l) = inl (l, refl)
-some_or_none None = inr refl
-
-same_lock : (x : maybe.Option (Option LockView)) (a b : LockView) → x ≡ some (Some a) → x ≡ some (Some b) → a ≡ b
-same_lock x a b e f = cc (e, f)
-
-pub same_package : (x : maybe.Option (maybe.Option (Option Cargo))) (a b : PackageView) → x ≡ some (some (Some (Package a))) → x ≡ some (some (Some (Package b))) → a ≡ b
-same_package x a b e f = cc (e, f)
-
 -- a slot that was emptied has nothing, and the others have what they had
 emptied : (hs : Homes) (t u : ℕ) (c : Cargo) → get_elem? (set hs t none) u ≡ some (some (Some c)) → (u ≢ t) × (get_elem? hs u ≡ some (some (Some c)))
 emptied hs t u c h = ⊎_elim
@@ -148,7 +138,7 @@ module _ (k : Terms) (s : Hall) (id : ℕ) (v : Knows) (at : get_elem? s.views i
     claim_thread u p b (in_slot h) = was.thread u p b (in_slot (emptied s.homes t u (Package p) h).1)
     claim_thread u p b (with_pass j x h has') = ⊎_elim
         (λ (z : (j ≡ id) × (w ≡ x)). let mine : Has w u p = ap (λ (y : Knows). get_elem? y.packages u) z.1 ∙ has' in dite (ℕ_discrete u t)
-        (λ (is : u ≡ t). let same : bare q ≡ p = same_context (get_elem? w.packages t) (bare q) p has (ap (get_elem? w.packages) (sym is) ∙ mine) in
+        (λ (is : u ≡ t). let same : bare q ≡ p = same_at (get_elem? w.packages t) (bare q) p has (ap (get_elem? w.packages) (sym is) ∙ mine) in
         let old = was.thread t q below (in_slot slot) in
         subst (λ (z : ℕ). ShowsThread o z p) (sym is) (subst (ShowsThread o t) same record { thread = old.thread; last = old.last }))
         (λ (ne : u ≢ t). was.thread u p b (with_pass id v at (sym (set_else v.packages q.context.thread u (Some (bare q)) (λ y. ne (y ∙ thread))) ∙ mine))))
@@ -166,7 +156,7 @@ module _ (k : Terms) (s : Hall) (id : ℕ) (v : Knows) (at : get_elem? s.views i
         (λ (z : (j ≡ id) × (w ≡ x)). let mine : HasLock w i l = ap (λ (y : Knows). get_elem? y.locks i) z.1 ∙ has' in
         let worker : in_hand v.worker ≡ y = ap (λ (y : Knows). in_hand y.worker) z.1 ∙ sym is in ⊎_elim
         (λ (c : (m : LockView) × (locked_in q i ≡ Some m)). let old = was.lock i c.0 (packed t) b (lock_in_package t q below slot c.1 refl) in
-        let same : kept c.0 ≡ l = same_lock (get_elem? w.locks i) (kept c.0) l (has_locks i c.0 c.1) mine in
+        let same : kept c.0 ≡ l = same_at (get_elem? w.locks i) (kept c.0) l (has_locks i c.0 c.1) mine in
         shows_lock o o' moved.alike i l y (comes i old.lies ∙ worker) (old.lock ∙ ap lock_of same))
         (λ (c : locked_in q i ≡ None). let old = was.lock i l (in_hand v.worker) b (lock_with_pass id v at (sym (add_all-else v.locks q.context.locks i c) ∙ mine) refl) in
         shows_lock o o' moved.alike i l y (stays i (hand_packed (o.lies i) v.worker t old.lies) ∙ (old.lies ∙ worker)) old.lock)
@@ -202,18 +192,13 @@ module _ (k : Terms) (s : Hall) (id : ℕ) (v : Knows) (at : get_elem? s.views i
         (λ (z : (u ≢ q.context.thread) × (get_elem? s.homes u ≡ some (some (Some (Package p))))). was.thread u p b (in_slot z.1)) (at_set s.homes q.context.thread u (some (Some (Package q))) (some (Some (Package p))) h)
     put_thread u p b (with_pass j x h has') = ⊎_elim
         (λ (z : (j ≡ id) × (put_view ≡ x)). let mine : Has put_view u p = ap (λ (y : Knows). get_elem? y.packages u) z.1 ∙ has' in ⊎_elim
-        (λ (c : (u ≡ q.context.thread) × (None ≡ Some p)). absurd (none_package p c.1))
+        (λ (c : (u ≡ q.context.thread) × (None ≡ Some p)). absurd (clash None p refl c.1))
         (λ (c : (u ≢ q.context.thread) × (get_elem? v.packages u ≡ some (Some p))). was.thread u p b (with_pass id v at c.1)) (at_set v.packages q.context.thread u None (Some p) mine))
         (λ (z : (j ≢ id) × (get_elem? s.views j ≡ some x)). was.thread u p b (with_pass j x z.1 has')) (at_set s.views id j put_view x h)
-      where
-        none_package : (p : PackageView) → None ≡ Some p → ⊥
-        none_package p e = cc e
 
     -- a lock that lies elsewhere than in the hand is none of the package
     not_inside : (i : ℕ) → i < locks k → ((w : ℕ) → o.lies i ≡ in_hand w → ⊥) → locked_in q i ≡ None
-    not_inside i b never = ⊎_elim
-        (λ (c : (m : LockView) × (locked_in q i ≡ Some m)). absurd (never v.worker (was.lock i (kept c.0) (in_hand v.worker) b (lock_with_pass id v at (has_locks i c.0 c.1) refl)).lies))
-        (λ (c : locked_in q i ≡ None). c) (some_or_none (locked_in q i))
+    not_inside i b never = none_of (locked_in q i) (λ m e. never v.worker (was.lock i (kept m) (in_hand v.worker) b (lock_with_pass id v at (has_locks i m e) refl)).lies)
 
     put_lock : (i : ℕ) (l : LockView) (y : Lying) → i < locks k → LockAt k put_hall i l y → ShowsLock o' i l y
     put_lock i l y b (lock_in_slot h is) =
@@ -266,7 +251,7 @@ module _ (k : Terms) (s : Hall) (id : ℕ) (v : Knows) (at : get_elem? s.views i
     take_lock e m y b (lock_with_pass j x h has' is) = ⊎_elim
         (λ (z : (j ≡ id) × (take_view ≡ x)). let mine : HasLock take_view e m = ap (λ (y : Knows). get_elem? y.locks e) z.1 ∙ has' in
         let worker : in_hand v.worker ≡ y = ap (λ (y : Knows). in_hand y.worker) z.1 ∙ sym is in dite (ℕ_discrete e i)
-        (λ (same : e ≡ i). let lock : kept l ≡ m = same_lock (get_elem? take_view.locks i) (kept l) m has (ap (get_elem? take_view.locks) (sym same) ∙ mine) in
+        (λ (same : e ≡ i). let lock : kept l ≡ m = same_at (get_elem? take_view.locks i) (kept l) m has (ap (get_elem? take_view.locks) (sym same) ∙ mine) in
         subst (λ (x : ℕ). ShowsLock o' x m y) (sym same) (shows_lock o o' alike i m y (here ∙ worker) ((was.lock i l at_home below_lock (lock_in_slot slot refl)).lock ∙ ap lock_of lock)))
         (λ (ne : e ≢ i). take_else e m (in_hand v.worker) y ne (was.lock e m (in_hand v.worker) b (lock_with_pass id v at (sym (set_else v.locks l.number e (Some (kept l)) (λ x. ne (x ∙ number))) ∙ mine) refl)) worker))
         (λ (z : (j ≢ id) × (get_elem? s.views j ≡ some x)). let old = was.lock e m (in_hand x.worker) b (lock_with_pass j x z.1 has' refl) in
@@ -290,11 +275,8 @@ module _ (k : Terms) (s : Hall) (id : ℕ) (v : Knows) (at : get_elem? s.views i
 
     free_slot : (u : ℕ) (c : Cargo) → get_elem? free_hall.homes u ≡ some (some (Some c)) → ((u ≡ threads k + l.number) × (Lock l ≡ c)) ⊎ ((u ≢ threads k + l.number) × (get_elem? s.homes u ≡ some (some (Some c))))
     free_slot u c h = ⊎_elim
-        (λ (z : (u ≡ threads k + l.number) × (some (Some (Lock l)) ≡ some (Some c))). inl (z.0, same_cargo (Lock l) c (some-injective (Some (Lock l)) (Some c) z.1)))
+        (λ (z : (u ≡ threads k + l.number) × (some (Some (Lock l)) ≡ some (Some c))). inl (z.0, same_some (Some c) c (Lock l) refl (sym (some-injective (Some (Lock l)) (Some c) z.1))))
         (λ (z : (u ≢ threads k + l.number) × (get_elem? s.homes u ≡ some (some (Some c)))). inr z) (at_set s.homes (threads k + l.number) u (some (Some (Lock l))) (some (Some c)) h)
-      where
-        same_cargo : (a b : Cargo) → Some a ≡ Some b → a ≡ b
-        same_cargo a b e = cc e
 
     free_thread : (u : ℕ) (p : PackageView) → u < threads k → PackageAt free_hall u p → ShowsThread o u p
     free_thread u p b (in_slot h) = ⊎_elim
@@ -324,12 +306,9 @@ module _ (k : Terms) (s : Hall) (id : ℕ) (v : Knows) (at : get_elem? s.views i
         free_else e m (packed u) y (λ c. hand_packed (o.lies e) v.worker u (ap o.lies c ∙ hand_now) old.lies) old (sym is)) (free_slot u (Package p) h)
     free_lock e m y b (lock_with_pass j x h has' is) = ⊎_elim
         (λ (z : (j ≡ id) × (free_view ≡ x)). let mine : HasLock free_view e m = ap (λ (y : Knows). get_elem? y.locks e) z.1 ∙ has' in ⊎_elim
-        (λ (c : (e ≡ l.number) × (None ≡ Some m)). absurd (none_lock m c.1))
+        (λ (c : (e ≡ l.number) × (None ≡ Some m)). absurd (clash None m refl c.1))
         (λ (c : (e ≢ l.number) × (get_elem? v.locks e ≡ some (Some m))). free_else e m (in_hand v.worker) y c.0 (was.lock e m (in_hand v.worker) b (lock_with_pass id v at c.1 refl)) (ap (λ (y : Knows). in_hand y.worker) z.1 ∙ sym is)) (at_set v.locks l.number e None (Some m) mine))
         (λ (z : (j ≢ id) × (get_elem? s.views j ≡ some x)). free_else e m (in_hand x.worker) y (λ c. apart j x m z.0 z.1 (ap (get_elem? x.locks) (sym c) ∙ has')) (was.lock e m (in_hand x.worker) b (lock_with_pass j x z.1 has' refl)) (sym is)) (at_set s.views id j free_view x h)
-      where
-        none_lock : (m : LockView) → None ≡ Some m → ⊥
-        none_lock m e = cc e
 
     pub free_shown : IsShown k free_hall o'
     free_shown = record {

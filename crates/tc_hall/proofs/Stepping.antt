@@ -6,12 +6,9 @@ use prog.Atomic.{either}
 use Rattle.atomic_table.specs.Table.{step, Act, keeps, takes, gives, Valid, stepped, carried_after, Allows, Splits, Joins}
 use Rattle.atomic_table.proofs.Lists.{set_here, set_else, exchanged}
 use Rattle.tc_isa.specs.Sets.{has}
-use Rattle.tc_journal.specs.declared.block.Block.{Block}
-use Rattle.tc_mutex_spec.specs.Blocks.{end_after}
-use Rattle.tc_segment.specs.View.{LockView, kept, blocks_of, sealed_block}
+use Rattle.tc_segment.specs.View.{LockView, kept, sealed_block}
 use Rattle.tc_context.specs.View.{PackageView, with_seal}
 use Rattle.tc_law.specs.Lawful.{IsPackageAfter, IsStateAfter}
-use Rattle.tc_law.proofs.Following.{blocks_are}
 use Rattle.tc_mutex_spec.proofs.ListLaws.{at_place}
 use Rattle.tc_hall.specs.declared.place.Place.{Place}
 use Rattle.tc_hall.specs.declared.board.Knows.{Knows}
@@ -20,16 +17,19 @@ use Rattle.tc_hall.specs.declared.board.Call.TheVariants.{Look, Stop, Stopped}
 use Rattle.tc_hall.specs.declared.board.Cargo.{Cargo}
 use Rattle.tc_hall.specs.declared.board.Cargo.TheVariants.{Package, Lock}
 use Rattle.tc_hall.specs.Places.{code_of, place_of, IsInRange}
-use Rattle.tc_hall.specs.Rule.{threads, locks, Has, HasLock, Spot, home, out, KeptHall}
-use Rattle.tc_hall.specs.Steps.{Sat, Got, Took, MayPut, MayFree, Seals, DidSeal, IsAsLeft, IsStateAsLeft, IsFree, claimed, laid, reached, took_as, put_as, did_free, looked, stopping, saw_stopped, sealed_as, after_claim, after_take, after_put, after_free, after_miss, after_commit, with_call, dealt, fresh, merged, gone}
-use Rattle.tc_hall.specs.Order.{claim, take, miss, commit, put, free, look, stop, stopped, reach, lay, split, join, IsClaimable, of_package, of_lock, IsOrdered}
+use Rattle.tc_hall.specs.Rule.{threads, locks, HasLock, KeptHall}
+use Rattle.tc_hall.specs.Steps.{Sat, Got, Took, MayPut, MayFree, Seals, DidSeal, IsAsLeft, IsStateAsLeft, IsFree, claimed, laid, reached, took_as, put_as, did_free, looked, stopping, saw_stopped, sealed_as, after_claim, after_take, after_put, after_free, after_miss, after_seal, with_call, dealt, fresh, merged, gone}
+use Rattle.tc_hall.specs.Order.{claim, take, miss, commit, put, free, look, stop, stopped, reach, lay, split, join, IsClaimable, of_package, of_lock, IsOrdered, IsSlotOut}
+use Rattle.tc_hall.specs.Effects.{Hall}
 use Rattle.tc_hall.proofs.Outs.{lock_came, no_call_taken}
-use Rattle.tc_hall.proofs.Moves.{some_same, clash, home_of, is_out, taken, gets}
+use Rattle.tc_hall.proofs.Moves.{some_same, home_of, is_out, taken, gets}
+use Rattle.tc_hall.proofs.Cases.{clash, home_out}
 use Rattle.tc_hall.proofs.Telling.{place_codes, filled, as_left}
 use Rattle.tc_hall.proofs.Left.{left_home, left_state}
 use Rattle.tc_hall.proofs.Sealing.{did_seal}
-use Rattle.tc_hall.proofs.Taking.{lock_home_of, is_lock_out, filter_finds}
+use Rattle.tc_hall.proofs.Taking.{lock_home_of, is_lock_out}
 use Rattle.tc_hall.proofs.Ordering.{claimable_low, kept_of, next}
+use Rattle.tc_hall.proofs.Holding.{first_value}
 
 terms_are : (a b : Terms) → Some a ≡ Some b → a ≡ b
 terms_are a b e = cc e
@@ -73,21 +73,25 @@ module _ (k : Terms) where
   abbrev pub Lays : ℕ → ℕ → Knows → List (ℕ × Option Cargo) → Type 0
   Lays slots id v c = Allows (IsOrdered k) slots id (v, c) 0 (λ n. n) (laid (step slots 0 0 0 none) (v, c))
 
-  -- the empty slot of a package goes back
-  pub lays : (slots id t : ℕ) (v : Knows) (p : PackageView) (c : List (ℕ × Option Cargo)) → c ≡ (t, None) ∷ [] → v.hand ≡ Some t → v.spent ≡ false → Has v t p → Lays slots id v c
-  lays slots id t v p c one hand live out' = subst (Lays slots id v) (sym one) (λ s d deep at small. (record v { hand = None }, gives, tt, next k s d id v (lay t) at live (hand, of_package t p refl out'), refl))
+  -- an empty slot of what the pass has out goes back
+  pub lays : (slots id slot : ℕ) (v : Knows) (c : List (ℕ × Option Cargo)) → c ≡ (slot, None) ∷ [] → v.hand ≡ Some slot → v.spent ≡ false → IsSlotOut k v slot → Lays slots id v c
+  lays slots id slot v c one hand live out' = subst (Lays slots id v) (sym one) (λ s d deep at small. (record v { hand = None }, gives, tt, next k s d id v (lay slot) at live (hand, out'), refl))
 
   abbrev pub Reaches : ℕ → ℕ → ℕ → Knows → List (ℕ × Option Cargo) → Type 0
-  Reaches slots id t v c = Allows (IsOrdered k) slots id (v, c) (t + 2) (λ n. n) (reached (step slots (t + 2) 0 0 none) (v, c))
+  Reaches slots id slot v c = Allows (IsOrdered k) slots id (v, c) (slot + 2) (λ n. n) (reached (step slots (slot + 2) 0 0 none) (v, c))
 
-  -- the pass takes the empty slot of a package that it has out
-  pub reaches : (slots id t : ℕ) (v : Knows) (p : PackageView) (c : List (ℕ × Option Cargo)) → c ≡ [] → v.hand ≡ None → v.spent ≡ false → Has v t p → Reaches slots id t v c
-  reaches slots id t v p c empty idle live out' = subst (Reaches slots id t v) (sym empty) (λ s d deep at small. (
-    record v { hand = Some t },
-    takes t None,
-    (is_out k s (kept_of k s d) id t v p at out').4 (λ e. clash v.hand t idle e),
-    next k s d id v (reach t) at live (idle, of_package t p refl out'),
-    (λ u e. ap (λ (z : ℕ). (record v { hand = Some z }, (z, None) ∷ [])) (let x : t ≡ u = omega arith in x)),
+  slot_empty : (s : Hall) (r : KeptHall k s) (id : ℕ) (v : Knows) (slot : ℕ) → get_elem? s.views id ≡ some v → v.hand ≡ None → IsSlotOut k v slot → get_elem? s.homes slot ≡ some (some None)
+  slot_empty s r id v slot at idle (of_package t p is has) = ap (get_elem? s.homes) is ∙ (is_out k s r id t v p at has).4 (λ e. clash v.hand t idle e)
+  slot_empty s r id v slot at idle (of_lock i l is has) = ap (get_elem? s.homes) is ∙ (is_lock_out k s r id i v l at has).4 (λ e. clash v.hand (threads k + i) idle e)
+
+  -- the pass takes an empty slot of what it has out
+  pub reaches : (slots id slot : ℕ) (v : Knows) (c : List (ℕ × Option Cargo)) → c ≡ [] → v.hand ≡ None → v.spent ≡ false → IsSlotOut k v slot → Reaches slots id slot v c
+  reaches slots id slot v c empty idle live out' = subst (Reaches slots id slot v) (sym empty) (λ s d deep at small. (
+    record v { hand = Some slot },
+    takes slot None,
+    slot_empty s (kept_of k s d) id v slot at idle out',
+    next k s d id v (reach slot) at live (idle, out'),
+    (λ u e. ap (λ (z : ℕ). (record v { hand = Some z }, (z, None) ∷ [])) (let x : slot ≡ u = omega arith in x)),
   ))
 
   -- ---- put
@@ -107,21 +111,12 @@ module _ (k : Terms) where
     tt,
     subst (λ (z : Place). IsOrdered k (stepped s (q.context.thread + 2) (code_of place) id ((q.context.thread, Some (Package q)) ∷ []) (record (after_put v q z) { hand = None }) gives)) (sym (place_codes place))
         (next k s d id v (put q place) at live record { hand = hand; range = range; may = may }),
-    (λ u x e. let same : q ≡ x = package_is q.context.thread u q x e in (
-      ap (filled v (place_of (code_of place))) same,
-      (λ j is. subst (λ (z : Terms × PackageView). IsAsLeft z.0 v z.1) (λ i. (terms_are k j is i, same i)) (as_left k s (kept_of k s d) id place v q at may)),
-    )),
+    (λ u x e. let cargo : Some (Package q) ≡ Some (Package x) = ap first_value e in
+        let same : q ≡ x = cc cargo in (
+          ap (filled v (place_of (code_of place))) same,
+          (λ j is. subst (λ (z : Terms × PackageView). IsAsLeft z.0 v z.1) (λ i. (terms_are k j is i, same i)) (as_left k s (kept_of k s d) id place v q at may)),
+        )),
   ))
-    where
-      first : List (ℕ × Option Cargo) → Option Cargo
-      first [] = None
-      first (x ∷ xs) = x.1
-
-      one_of : ℕ → PackageView → List (ℕ × Option Cargo)
-      one_of t a = (t, Some (Package a)) ∷ []
-
-      package_is : (t u : ℕ) (a b : PackageView) → one_of t a ≡ one_of u b → a ≡ b
-      package_is t u a b e = let f : Some (Package a) ≡ Some (Package b) = ap first e in cc f
 
   -- ---- look, stop, stopped
 
@@ -188,11 +183,6 @@ module _ (k : Terms) where
             taken,
             record {
               now = refl;
-              has = here;
-              others = (
-                (λ u p has. has),
-                (λ e x has. set_else v.locks l.number e (Some (kept l)) (λ (z : e ≡ l.number). home_out (r.locks_placed.spot i) id lies.0 (ap r.locks_placed.spot (sym (z ∙ number)) ∙ (r.locks_placed.owned id v e x at has).0)) ∙ has),
-              );
               rest = record {
                 number = number;
                 of = ap (λ (z : LockView). z.journal.image) h.same ∙ (after.follows.of ∙ sym ((r.passes id v at).of live));
@@ -200,9 +190,6 @@ module _ (k : Terms) where
                 closed = ap (λ (z : LockView). z.journal.closed) h.same ∙ after.closed;
                 ended = h.rests;
               };
-              sealed = λ e b is held. (let f = filter_finds (λ (z : Block). has z.held i) r.told.history b.stamp b ((r.passes id v at).sealed e b is) held in
-                  let blocks = blocks_are k.image.value k.fuel k.limit r.told.history (end_after k.image.value k.fuel r.told.history) i place.0 after.follows in
-                  (f.0, ap (λ (z : LockView). get_elem? (blocks_of z) f.0) h.same ∙ (ap (λ (z : List Block). get_elem? z f.0) blocks ∙ f.1)));
               came = lock_came v l (subst (λ (z : ℕ). HasLock taken z (kept l)) (sym number) here) (λ x has. home_out (r.locks_placed.spot l.number) id (ap r.locks_placed.spot number ∙ lies.0) (r.locks_placed.owned id v l.number x at has).0);
               called = no_call_taken v l;
             },
@@ -213,9 +200,6 @@ module _ (k : Terms) where
         ),
       ))
       (λ other. (after_miss v j found, keeps, tt, next k s d id v (miss j 0 found) at live (refl, other), ((λ hit _ _ _ _. absurd (other hit)), (λ _. refl)))))
-    where
-      home_out : (s : Spot) (j : ℕ) → s ≡ home → s ≡ out j → ⊥
-      home_out s j a b = cc (a, b)
 
   abbrev pub FreesAll : ℕ → ℕ → ℕ → Knows → List (ℕ × Option Cargo) → Type 0
   FreesAll slots id word v c = Allows (IsOrdered k) slots id (v, c) word (λ _. 0) (λ _. did_free (step slots word 0 0 none) (v, c) 0)
@@ -228,40 +212,11 @@ module _ (k : Terms) where
     gives,
     tt,
     next k s d id v (free l) at live (hand, may),
-    (λ slot x e. let same : l ≡ x = lock_is (threads k + l.number) slot l x e in ap (freed v) same),
+    (λ slot x e. let cargo : Some (Lock l) ≡ Some (Lock x) = ap first_value e in let same : l ≡ x = cc cargo in ap (freed v) same),
   ))
     where
-      first : List (ℕ × Option Cargo) → Option Cargo
-      first [] = None
-      first (x ∷ xs) = x.1
-
-      one_of : ℕ → LockView → List (ℕ × Option Cargo)
-      one_of t a = (t, Some (Lock a)) ∷ []
-
-      lock_is : (t u : ℕ) (a b : LockView) → one_of t a ≡ one_of u b → a ≡ b
-      lock_is t u a b e = let f : Some (Lock a) ≡ Some (Lock b) = ap first e in cc f
-
       freed : Knows → LockView → Sat
       freed v l = (record (after_free v l) { hand = None }, [])
-
-  abbrev pub LaysLock : ℕ → ℕ → Knows → List (ℕ × Option Cargo) → Type 0
-  LaysLock = Lays
-
-  pub lays_lock : (slots id i : ℕ) (v : Knows) (l : LockView) (c : List (ℕ × Option Cargo)) → c ≡ (threads k + i, None) ∷ [] → v.hand ≡ Some (threads k + i) → v.spent ≡ false → HasLock v i l → Lays slots id v c
-  lays_lock slots id i v l c one hand live out' = subst (Lays slots id v) (sym one) (λ s d deep at small. (record v { hand = None }, gives, tt, next k s d id v (lay (threads k + i)) at live (hand, of_lock i l refl out'), refl))
-
-  abbrev pub ReachesLock : ℕ → ℕ → ℕ → Knows → List (ℕ × Option Cargo) → Type 0
-  ReachesLock slots id word v c = Allows (IsOrdered k) slots id (v, c) word (λ n. n) (reached (step slots word 0 0 none) (v, c))
-
-  pub reaches_lock : (slots id i : ℕ) (v : Knows) (l : LockView) (c : List (ℕ × Option Cargo)) → c ≡ [] → v.hand ≡ None → v.spent ≡ false → HasLock v i l → ReachesLock slots id (threads k + i + 2) v c
-  reaches_lock slots id i v l c empty idle live out' = subst (ReachesLock slots id (threads k + i + 2) v) (sym empty) (λ s d deep at small.
-      let slot : ℕ = threads k + i in (
-        record v { hand = Some slot },
-        takes slot None,
-        (is_lock_out k s (kept_of k s d) id i v l at out').4 (λ e. clash v.hand slot idle e),
-        next k s d id v (reach slot) at live (idle, of_lock i l refl out'),
-        (λ u e. ap (λ (z : ℕ). (record v { hand = Some z }, (z, None) ∷ [])) (let x : slot ≡ u = omega arith in x)),
-      ))
 
   -- ---- passes that are made and joined
 
@@ -278,9 +233,9 @@ SealsAll k slots id v o c = Allows (IsOrdered k) slots id (v, c) 0 (λ n. (n + 1
 
 pub seals : (k : Terms) (slots id : ℕ) (v : Knows) (q : PackageView) (c : List (ℕ × Option Cargo)) → c ≡ [] → v.spent ≡ false → Seals v q → SealsAll k slots id v (Some q) c
 seals k slots id v q c empty live a = subst (SealsAll k slots id v (Some q)) (sym empty) (λ s d deep at small. (
-  after_commit v (sealed_block (slice_index s.words 0) v.worker a.ran.block) (with_seal (slice_index s.words 0) v.worker q),
+  after_seal v (sealed_block (slice_index s.words 0) v.worker a.ran.block) (with_seal (slice_index s.words 0) v.worker q),
   keeps,
   tt,
   next k s d id v (commit (slice_index s.words 0) a.ran.block q) at live (refl, a, refl),
-  (λ p is. (let same : q ≡ p = cc is in subst (λ z. DidSeal z (slice_index s.words 0) v (after_commit v (sealed_block (slice_index s.words 0) v.worker a.ran.block) (with_seal (slice_index s.words 0) v.worker q))) same (did_seal k s (kept_of k s d) id v q a live at), refl)),
+  (λ p is. (let same : q ≡ p = cc is in subst (λ z. DidSeal z (slice_index s.words 0) v (after_seal v (sealed_block (slice_index s.words 0) v.worker a.ran.block) (with_seal (slice_index s.words 0) v.worker q))) same (did_seal k s (kept_of k s d) id v q a live at), refl)),
 ))

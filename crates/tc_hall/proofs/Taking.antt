@@ -14,29 +14,24 @@ use Rattle.tc_mutex_spec.proofs.ListLaws.{there, at_place}
 use Rattle.tc_hall.specs.declared.board.Knows.{Knows}
 use Rattle.tc_hall.specs.declared.board.Terms.{Terms}
 use Rattle.tc_hall.specs.declared.board.Call.{Call}
-use Rattle.tc_hall.specs.declared.board.Call.TheVariants.{Free, Look, Stop, Stopped}
+use Rattle.tc_hall.specs.declared.board.Call.TheVariants.{Free, Stop}
 use Rattle.tc_hall.specs.declared.board.Cargo.{Cargo}
 use Rattle.tc_hall.specs.declared.board.Cargo.TheVariants.{Lock}
 use Rattle.tc_hall.specs.Rule.{threads, locks, Homes, HasLock, Spot, home, inside, out, IsLockHome, IsLockOut, LiesLock, KeptHall}
 use Rattle.tc_hall.specs.Steps.{MayFree, after_take, after_free}
 use Rattle.tc_hall.proofs.Placing.{stays}
-use Rattle.tc_hall.proofs.Packing.{IsElseLock, lock_moves}
+use Rattle.tc_hall.proofs.Packing.{IsElseLock, lock_moves, out_of}
 use Rattle.tc_hall.proofs.Ranks.{apart_stays, stop_stays, IsTrueCall, pass_kept, passes_stay, done_still, stops_still, stops_back}
 use Rattle.std.specs.List.{filter}
 use Rattle.std.proofs.Common.{if◌then◌else◌}
 use Rattle.tc_hall.proofs.Telling.{snoc_at}
-use Rattle.tc_hall.proofs.Moves.{St, some_same, clash, same_place, lock_out_of}
+use Rattle.tc_hall.proofs.Moves.{St, some_same}
+use Rattle.tc_hall.proofs.Cases.{clash, same_some, clash_at, same_at, same_lock}
 
 pub lock_home_of : (n : ℕ) (ws : List ℕ) (hs : Homes) (vs : List Knows) (i : ℕ) (l : LockView) (s : Spot) → LiesLock n ws hs vs i l s → slice_index ws (n + 2 + i) ≡ 0 → (s ≡ home) × IsLockHome n ws hs i l
 lock_home_of n ws hs vs i l home o e = (refl, o)
 lock_home_of n ws hs vs i l (inside t) o e = let w = o.word in absurd (omega arith)
 lock_home_of n ws hs vs i l (out j) o e = let w = o.word in absurd (omega arith)
-
-same_lock : (x : maybe.Option (Option LockView)) (a b : LockView) → x ≡ some (Some a) → x ≡ some (Some b) → a ≡ b
-same_lock x a b e f = cc (e, f)
-
-no_lock_there : (l : LockView) (x : maybe.Option (Option LockView)) → x ≡ some None → x ≡ some (Some l) → ⊥
-no_lock_there l x a b = cc (a, b)
 
 -- what a list has, its filter has
 pub filter_finds : {A : Type 0} (f : A → Bool) (h : List A) (i : ℕ) (b : A) → get_elem? h i ≡ some b → f b ≡ true → (j : ℕ) × (get_elem? (filter f h) j ≡ some b)
@@ -51,18 +46,6 @@ filter_finds {A} f (c ∷ cs) (suc i) b e is = let r = filter_finds f cs i b e i
     more true c l j b e = (suc j, e)
     more false c l j b e = (j, e)
 
-free_true : (ws : List ℕ) (i : ℕ) → IsTrueCall ws (Free i)
-free_true ws i = record { look = λ u e. absurd (no_look u (Free i) refl e); stop = λ e. absurd (no_stop (Free i) refl e); stopped = λ e. absurd (no_stopped (Free i) refl e) }
-  where
-    no_look : (u : ℕ) (c : Call) → c ≡ Free i → c ≡ Look u 2 → ⊥
-    no_look u c a b = cc (a, b)
-
-    no_stop : (c : Call) → c ≡ Free i → c ≡ Stop → ⊥
-    no_stop c a b = cc (a, b)
-
-    no_stopped : (c : Call) → c ≡ Free i → c ≡ Stopped 1 → ⊥
-    no_stopped c a b = cc (a, b)
-
 module _ (k : Terms) where
   -- where a lock that a pass has out lies
   pub is_lock_out : (s : St k) (r : KeptHall k s) (id i : ℕ) (v : Knows) (l : LockView) → get_elem? s.views id ≡ some v → HasLock v i l
@@ -70,7 +53,7 @@ module _ (k : Terms) where
       × (v.hand ≢ Some (threads k + i) → get_elem? s.homes (threads k + i) ≡ some (some None)) × (v.hand ≡ Some (threads k + i) → get_elem? s.homes (threads k + i) ≡ some none)
   is_lock_out s r id i v l at has =
       let o = r.locks_placed.owned id v i l at has in
-      let lies : IsLockOut (threads k) s.words s.homes s.views i l id = lock_out_of (threads k) s.words s.homes s.views i l id (r.locks_placed.spot i) o.0 (r.locks_placed.each i l o.1) in
+      let lies : IsLockOut (threads k) s.words s.homes s.views i l id = out_of (threads k) s.words s.homes s.views i l id (r.locks_placed.spot i) o.0 (r.locks_placed.each i l o.1) in
       let same : v ≡ lies.view = some-injective v lies.view (sym at ∙ lies.pass) in (
         (let b = (there r.told.segments i l l o.1).0 in omega (arith, r.told.law.all_states)),
         o.0,
@@ -99,12 +82,9 @@ module _ (k : Terms) where
         placed = place.1;
         spot = at_home.0;
         lies = at_home.1;
-        same = same_in_slot (get_elem? s.homes (threads k + i)) at_home.1.segment l at_home.1.slot slot;
+        same = same_lock (get_elem? s.homes (threads k + i)) at_home.1.segment l at_home.1.slot slot;
         number = ap (λ (z : LockView). z.number) at_home.1.same ∙ law.follows.number;
       }
-    where
-      same_in_slot : (x : maybe.Option (maybe.Option (Option Cargo))) (a b : LockView) → x ≡ some (some (Some (Lock a))) → x ≡ some (some (Some (Lock b))) → a ≡ b
-      same_in_slot x a b e f = cc (e, f)
 
   -- one word of a lock, its slot and the pass's view of it change
   lock_step : (s : St k) (r : KeptHall k s) (id i word : ℕ) (v w : Knows) (a : maybe.Option (Option Cargo)) (to : Spot) → get_elem? s.views id ≡ some v → v.spent ≡ false → i < locks k
@@ -162,7 +142,7 @@ module _ (k : Terms) where
         empty = λ out. absurd (out refl);
         held = λ _. set_here s.homes (n + i) none (omega (arith, r.slots));
       })
-      (λ l' has. (refl, segment ∙ ap (λ (z : LockView). some z) (sym h.same ∙ same_lock (get_elem? w.locks i) (kept l) l' here has)))
+      (λ l' has. (refl, segment ∙ ap (λ (z : LockView). some z) (sym h.same ∙ same_at (get_elem? w.locks i) (kept l) l' here has)))
 
   -- the filled slot of a lock goes home
   pub free_kept : (s : St k) (r : KeptHall k s) (id : ℕ) (v : Knows) (l : LockView) → get_elem? s.views id ≡ some v → v.hand ≡ Some (threads k + l.number) → v.spent ≡ false → MayFree v l
@@ -175,11 +155,11 @@ module _ (k : Terms) where
       let wide : length v.locks ≡ locks k = r.locks_placed.sized id v at live in
       let here : get_elem? w.locks i ≡ some None = set_here v.locks i None (let z = o.0 in omega arith) in
       lock_step s r id i 0 v w (some (Some (Lock l))) home at live o.0 (inr o.1)
-      record { spent = refl; long = length-set v.locks i None; out = λ e ne. set_else v.locks i e None ne; hand = λ e ne h. absurd (ne (let z = same_place v.hand (n + i) (n + e) hand h in omega arith)); hand_back = λ e ne h. absurd (clash None (n + e) refl h) }
+      record { spent = refl; long = length-set v.locks i None; out = λ e ne. set_else v.locks i e None ne; hand = λ e ne h. absurd (ne (let z = same_some v.hand (n + i) (n + e) hand h in omega arith)); hand_back = λ e ne h. absurd (clash None (n + e) refl h) }
       refl refl refl refl refl refl refl refl
-      (λ e c h. ⊎_elim (λ z. inl z) (λ (z : (e ≡ length v.calls) × (Free i ≡ c)). inr (subst (IsTrueCall (set s.words (n + 2 + i) 0)) z.1 (free_true (set s.words (n + 2 + i) 0) i))) (snoc_at v.calls (Free i) c e h))
+      (λ e c h. ⊎_elim (λ z. inl z) (λ (z : (e ≡ length v.calls) × (Free i ≡ c)). inr (subst (IsTrueCall (set s.words (n + 2 + i) 0)) z.1 tt)) (snoc_at v.calls (Free i) c e h))
       (λ e h. (e, at_longer v.calls (Free i ∷ []) e Stop h))
-      (λ u b h. let z = same_place v.hand (n + i) u hand h in omega arith) (λ u b h. clash None u refl h) (λ h. let z = o.3 in omega arith)
+      (λ u b h. let z = same_some v.hand (n + i) u hand h in omega arith) (λ u b h. clash None u refl h) (λ h. let z = o.3 in omega arith)
       (λ l' e. record {
         segment = l;
         slot = set_here s.homes (n + i) (some (Some (Lock l))) (let z = o.0 in omega (arith, r.slots));
@@ -187,7 +167,7 @@ module _ (k : Terms) where
         word = get_or-set_same s.words (n + 2 + i) 0 0 (let z = o.0 in omega (arith, r.words));
         rests = may.rests;
       })
-      (λ l' has. absurd (no_lock_there l' (get_elem? w.locks i) here has))
+      (λ l' has. absurd (clash_at (get_elem? w.locks i) l' here has))
 
   -- the pass takes the empty slot of a lock that it has out, or gives it back
   lock_slot_moves : (s : St k) (r : KeptHall k s) (id i : ℕ) (v w : Knows) (l : LockView) (b : maybe.Option (Option Cargo)) → get_elem? s.views id ≡ some v → v.spent ≡ false → HasLock v i l
@@ -212,13 +192,13 @@ module _ (k : Terms) where
         empty = λ free. ⊎_elim (λ (z : (w.hand ≡ Some (n + i)) × (v.hand ≡ None) × (b ≡ none)). absurd (free z.0)) (λ (z : (w.hand ≡ None) × (v.hand ≡ Some (n + i)) × (b ≡ some None)). here z.2 o.0) hands;
         held = λ e. ⊎_elim (λ (z : (w.hand ≡ Some (n + i)) × (v.hand ≡ None) × (b ≡ none)). here z.2 o.0) (λ (z : (w.hand ≡ None) × (v.hand ≡ Some (n + i)) × (b ≡ some None)). absurd (clash w.hand (n + i) z.0 e)) hands;
       })
-      (λ l' has'. (refl, o.2 ∙ ap (λ (z : LockView). some z) (same_lock (get_elem? v.locks i) l l' has (sym (ap (λ (z : Knows). get_elem? z.locks i) same) ∙ has')))))
+      (λ l' has'. (refl, o.2 ∙ ap (λ (z : LockView). some z) (same_at (get_elem? v.locks i) l l' has (sym (ap (λ (z : Knows). get_elem? z.locks i) same) ∙ has')))))
     where
       to : (u : ℕ) → u ≢ threads k + i → v.hand ≡ Some u → ⊥
-      to u ne e = ⊎_elim (λ (z : (w.hand ≡ Some (threads k + i)) × (v.hand ≡ None) × (b ≡ none)). clash v.hand u z.1 e) (λ (z : (w.hand ≡ None) × (v.hand ≡ Some (threads k + i)) × (b ≡ some None)). ne (same_place v.hand (threads k + i) u z.1 e)) hands
+      to u ne e = ⊎_elim (λ (z : (w.hand ≡ Some (threads k + i)) × (v.hand ≡ None) × (b ≡ none)). clash v.hand u z.1 e) (λ (z : (w.hand ≡ None) × (v.hand ≡ Some (threads k + i)) × (b ≡ some None)). ne (same_some v.hand (threads k + i) u z.1 e)) hands
 
       back : (u : ℕ) → u ≢ threads k + i → w.hand ≡ Some u → ⊥
-      back u ne e = ⊎_elim (λ (z : (w.hand ≡ Some (threads k + i)) × (v.hand ≡ None) × (b ≡ none)). ne (same_place w.hand (threads k + i) u z.0 e)) (λ (z : (w.hand ≡ None) × (v.hand ≡ Some (threads k + i)) × (b ≡ some None)). clash w.hand u z.0 e) hands
+      back u ne e = ⊎_elim (λ (z : (w.hand ≡ Some (threads k + i)) × (v.hand ≡ None) × (b ≡ none)). ne (same_some w.hand (threads k + i) u z.0 e)) (λ (z : (w.hand ≡ None) × (v.hand ≡ Some (threads k + i)) × (b ≡ some None)). clash w.hand u z.0 e) hands
 
       here : {c : maybe.Option (Option Cargo)} → b ≡ c → i < locks k → get_elem? (set s.homes (threads k + i) b) (threads k + i) ≡ some c
       here e h = set_here s.homes (threads k + i) b (omega (arith, r.slots)) ∙ ap (λ (z : maybe.Option (Option Cargo)). some z) e

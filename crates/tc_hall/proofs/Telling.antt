@@ -13,7 +13,6 @@ use Rattle.tc_context.specs.declared.package.Grant.{Grant}
 use Rattle.tc_context.specs.Locks.{lock_in}
 use Rattle.tc_context.specs.View.{PackageView, bare, fits_of, fits_granted, fits_in}
 use Rattle.tc_mutex_spec.proofs.ListLaws.{there}
-use Rattle.tc_hall.specs.declared.board.Given.{Given}
 use Rattle.tc_hall.specs.declared.place.Place.{Place}
 use Rattle.tc_hall.specs.declared.board.Knows.{Knows}
 use Rattle.tc_hall.specs.declared.board.Terms.{Terms}
@@ -32,7 +31,8 @@ use Rattle.std.proofs.Common.{◌-◌, if◌then◌else◌}
 use Rattle.tc_hall.specs.declared.place.Place.TheVariants.{Ready, Parked, Done, Waiting}
 use Rattle.tc_hall.specs.Places.{IsInRange}
 use Rattle.tc_hall.specs.Rule.{HasStopped}
-use Rattle.tc_hall.proofs.Moves.{St, is_out, clash, same_place, none_some}
+use Rattle.tc_hall.proofs.Moves.{St, is_out}
+use Rattle.tc_hall.proofs.Cases.{clash, same_some, clash_at}
 
 pub place_codes : (p : Place) → place_of (code_of p) ≡ p
 unfolding place_of
@@ -56,18 +56,6 @@ code_low m (Waiting lock) r h = omega arith
 
 abbrev pub filled : Knows → Place → PackageView → Sat
 filled v place q = (record (after_put v q place) { hand = None }, [])
-
-put_true : (ws : List ℕ) (t : ℕ) (p : Place) (ls : List ℕ) (g : Option Given) → IsTrueCall ws (Put t p ls g)
-put_true ws t p ls g = record { look = λ u e. absurd (no_look u (Put t p ls g) refl e); stop = λ e. absurd (no_stop (Put t p ls g) refl e); stopped = λ e. absurd (no_stopped (Put t p ls g) refl e) }
-  where
-    no_look : (u : ℕ) (c : Call) → c ≡ Put t p ls g → c ≡ Look u 2 → ⊥
-    no_look u c a b = cc (a, b)
-
-    no_stop : (c : Call) → c ≡ Put t p ls g → c ≡ Stop → ⊥
-    no_stop c a b = cc (a, b)
-
-    no_stopped : (c : Call) → c ≡ Put t p ls g → c ≡ Stopped 1 → ⊥
-    no_stopped c a b = cc (a, b)
 
 -- what is at a place of a list with one more at the end
 pub snoc_at : {A : Type 0} (l : List A) (a b : A) (i : ℕ) → get_elem? (l ++ a ∷ []) i ≡ some b → (get_elem? l i ≡ some b) ⊎ ((i ≡ length l) × (a ≡ b))
@@ -117,7 +105,7 @@ module _ (k : Terms) where
         clock = get_or-set_other s.words (t + 2) 0 code 0 (λ e. omega arith) ∙ r.clock;
         placed = moves s.words ws' s.homes (set s.homes t full) s.views id v w at stops (threads k) r.told.places r.told.places t none r.placed (inr o.1)
             (λ u ne. get_or-set_other s.words (t + 2) (u + 2) code 0 (λ e. ne (omega arith))) (λ u ne. set_else s.homes t u full ne) (λ u ne. refl) r.told.law.all_packages
-            record { worker = refl; spent = refl; long = length-set v.packages t None; out = λ u ne. set_else v.packages t u None ne; hand = λ u _ ne e. absurd (ne (same_place v.hand t u hand e)); hand_back = λ u _ ne e. absurd (clash None u refl e) }
+            record { worker = refl; spent = refl; long = length-set v.packages t None; out = λ u ne. set_else v.packages t u None ne; hand = λ u _ ne e. absurd (ne (same_some v.hand t u hand e)); hand_back = λ u _ ne e. absurd (clash None u refl e) }
             (λ p' e. let word : slice_index ws' (t + 2) ≡ code = get_or-set_same s.words (t + 2) code 0 (omega (arith, r.words)) in record {
               context = q;
               slot = set_here s.homes t full (omega (arith, r.slots));
@@ -126,12 +114,12 @@ module _ (k : Terms) where
               order = subst (λ (z : ℕ). IsInOrder z q) (sym word) may.order;
               fits = record { stop = λ a. stops (shows_stop s r id v at (may.stop a)); fits = λ a u. fits_all q v.worker u a (may.fits a) };
             })
-            (λ p' has'. absurd (none_some p' (get_elem? w.packages t) here has'));
+            (λ p' has'. absurd (clash_at (get_elem? w.packages t) p' here has'));
         locks_placed = puts_locks (threads k) (locks k) r.told.segments s.words ws' s.homes s.views id v w q t r.locks_placed r.told.law.all_states at live refl refl
             (λ i. get_or-set_other s.words (t + 2) (threads k + 2 + i) code 0 (λ e. omega arith)) below (o.5 hand) hand refl may.locks;
         passes = passes_stay k.image.value k.workers r.told.history r.told.history s.words ws' (λ b e. e) done stops s.views id w r.passes
             (pass_kept k.image.value k.workers r.told.history r.told.history s.words ws' (λ b e. e) done stops v w old (refl, refl, refl, refl) (λ i u e. inl e) (λ i b e. inl e)
-            (λ i c e. ⊎_elim (λ z. inl z) (λ (z : (i ≡ length v.calls) × (Put t (place_of code) (numbers q.context.locks) (given_of q) ≡ c)). inr (subst (IsTrueCall ws') z.1 (put_true ws' t (place_of code) (numbers q.context.locks) (given_of q)))) (snoc_at v.calls (Put t (place_of code) (numbers q.context.locks) (given_of q)) c i e))
+            (λ i c e. ⊎_elim (λ z. inl z) (λ (z : (i ≡ length v.calls) × (Put t (place_of code) (numbers q.context.locks) (given_of q) ≡ c)). inr (subst (IsTrueCall ws') z.1 tt)) (snoc_at v.calls (Put t (place_of code) (numbers q.context.locks) (given_of q)) c i e))
             (λ u e. inl e));
         stop = λ e. stop_stays s.views id v w at (λ i h. (i, at_longer v.calls (Put t (place_of code) (numbers q.context.locks) (given_of q) ∷ []) i Stop h)) (r.stop (stops_back s.words (t + 2) code (λ e. omega arith) e));
         apart = apart_stays s.views id v w at record { worker = refl; maker = refl; made = refl; spent = refl; joined = refl } live r.apart;
@@ -183,49 +171,20 @@ module _ (k : Terms) where
   look_kept s r id t v at live =
       let found : ℕ = slice_index s.words (t + 2) in
       subst (λ (z : List ℕ). KeptHall k record { words = z; homes = s.homes; views = set s.views id (with_call v (Look t found)) }) (sym (set-get_or s.words (t + 2) 0))
-      (tells_kept s r s.words id v (Look t found) at live (look_true s.words t found refl) (λ j ne. refl) (λ e. e) refl (still_stopped s r id v (Look t found) at))
-    where
-      look_true : (ws : List ℕ) (t found : ℕ) → found ≡ slice_index ws (t + 2) → IsTrueCall ws (Look t found)
-      look_true ws t found is = record {
-        look = λ u e. let f : (t ≡ u) × (found ≡ 2) = look_is t found u 2 (Look t found) refl e in ap (λ (z : ℕ). slice_index ws (z + 2)) (sym f.0) ∙ (sym is ∙ f.1);
-        stop = λ e. absurd (no_stop (Look t found) refl e);
-        stopped = λ e. absurd (no_stopped (Look t found) refl e);
-      }
-        where
-          look_is : (a b c d : ℕ) (x : Call) → x ≡ Look a b → x ≡ Look c d → (a ≡ c) × (b ≡ d)
-          look_is a b c d x e f = (cc (e, f), cc (e, f))
-
-          no_stop : (c : Call) → c ≡ Look t found → c ≡ Stop → ⊥
-          no_stop c a b = cc (a, b)
-
-          no_stopped : (c : Call) → c ≡ Look t found → c ≡ Stopped 1 → ⊥
-          no_stopped c a b = cc (a, b)
+      (tells_kept s r s.words id v (Look t found) at live (λ is. is) (λ j ne. refl) (λ e. e) refl (still_stopped s r id v (Look t found) at))
 
   -- the stop is made
   pub stop_kept : (s : St k) (r : KeptHall k s) (id : ℕ) (v : Knows) → get_elem? s.views id ≡ some v → v.spent ≡ false → KeptHall k (stepped s 1 1 id [] (with_call v Stop) keeps)
   stop_kept s r id v at live =
       let one : slice_index (set s.words 1 1) 1 ≡ 1 = get_or-set_same s.words 1 1 0 (omega (arith, r.words)) in
-      tells_kept s r (set s.words 1 1) id v Stop at live record { look = λ u e. absurd (no_look u Stop refl e); stop = λ _. one; stopped = λ _. one }
+      tells_kept s r (set s.words 1 1) id v Stop at live one
       (λ j ne. get_or-set_other s.words 1 j 1 0 ne) (λ _. one) (length-set s.words 1 1)
       (λ _. record { id = id; view = with_call v Stop; pass = set_here s.views id (with_call v Stop) (there s.views id v v at).0; place = length v.calls; call = at_last v.calls Stop (length v.calls) refl })
-    where
-      no_look : (u : ℕ) (c : Call) → c ≡ Stop → c ≡ Look u 2 → ⊥
-      no_look u c a b = cc (a, b)
 
   -- the stop word is seen
   pub see_kept : (s : St k) (r : KeptHall k s) (id : ℕ) (v : Knows) → get_elem? s.views id ≡ some v → v.spent ≡ false → KeptHall k (stepped s 1 (slice_index s.words 1) id [] (with_call v (Stopped (slice_index s.words 1))) keeps)
   see_kept s r id v at live =
       let found : ℕ = slice_index s.words 1 in
       subst (λ (z : List ℕ). KeptHall k record { words = z; homes = s.homes; views = set s.views id (with_call v (Stopped found)) }) (sym (set-get_or s.words 1 0))
-      (tells_kept s r s.words id v (Stopped found) at live
-      record { look = λ u e. absurd (no_look u found (Stopped found) refl e); stop = λ e. absurd (no_stop found (Stopped found) refl e); stopped = λ e. one found (Stopped found) refl e }
+      (tells_kept s r s.words id v (Stopped found) at live (λ is. is)
       (λ j ne. refl) (λ e. e) refl (still_stopped s r id v (Stopped found) at))
-    where
-      one : (n : ℕ) (c : Call) → c ≡ Stopped n → c ≡ Stopped 1 → n ≡ 1
-      one n c a b = cc (a, b)
-
-      no_look : (u n : ℕ) (c : Call) → c ≡ Stopped n → c ≡ Look u 2 → ⊥
-      no_look u n c a b = cc (a, b)
-
-      no_stop : (n : ℕ) (c : Call) → c ≡ Stopped n → c ≡ Stop → ⊥
-      no_stop n c a b = cc (a, b)

@@ -1,8 +1,8 @@
 -- Each step keeps the rule, and ties to its events.
-use Rattle.std.proofs.Common.{◌≡◌, ◌≢◌, ◌⊎◌, ℕ, ◌+◌, ◌<◌, ◌==◌, Bool, true, false, List, length, set, sym, refl, ap, ◌∙◌, subst, ⊎_elim, inl, inr, arith, Option, Some, None, slice_index, get_or-set_other}
+use Rattle.std.proofs.Common.{◌≡◌, ◌≢◌, ℕ, ◌+◌, ◌<◌, ◌==◌, Bool, true, false, List, length, set, sym, refl, ap, ◌∙◌, subst, arith, Some, None, slice_index, get_or-set_other}
 use Rattle.std.specs.Prelude.{nat_lt, is_some, not}
 use Rattle.std.proofs.lemmas.Bool.Decides.{nat_tests}
-use mathlib.Core.Option.{none, some, some-injective}
+use mathlib.Core.Option.{some}
 use lib.ListN.{get_elem?}
 use lib.Seq.{set-get_or}
 use Rattle.atomic_table.proofs.Lists.{set_here, set_else}
@@ -23,35 +23,25 @@ use Rattle.tc_core.specs.declared.place.LockPlace.TheVariants.{Granted, Loose}
 use Rattle.tc_hall.specs.declared.board.Knows.{Knows}
 use Rattle.tc_hall.specs.declared.board.Terms.{Terms}
 use Rattle.tc_hall.specs.declared.board.Call.TheVariants.{Look, Stop, Stopped}
-use Rattle.tc_hall.specs.declared.board.Cargo.{Cargo}
-use Rattle.tc_hall.specs.declared.board.Cargo.TheVariants.{Lock}
 use Rattle.tc_hall.specs.declared.place.Place.{Place}
 use Rattle.tc_hall.specs.declared.place.Place.TheVariants.{Ready, Waiting, Parked, Done}
 use Rattle.tc_hall.specs.Places.{code_of}
-use Rattle.tc_hall.specs.Rule.{threads, locks, HasLock, Spot, out, KeptHall, locked_in}
+use Rattle.tc_hall.specs.Rule.{threads, locks, HasLock, KeptHall, locked_in, Has}
 use Rattle.tc_hall.specs.Steps.{Gets, after_claim, after_take, after_miss, with_call, dealt, fresh, merged, gone}
 use Rattle.tc_hall.specs.Effects.{Hall, after, claim_effect, put_effect}
 use Rattle.tc_hall.specs.Outline.{outline, in_hand, packed, at_home, lies_with, lies_at}
 use Rattle.tc_hall.specs.Shown.{IsShown, with_pass, lock_in_slot, lock_with_pass, place_shown, as_place, last_end}
-use Rattle.tc_hall.specs.Ties.{may_come, at_worker, loose_at, Moment, Shows, ClaimTie, IsLooseIn, CanPass, AdoptTie, AreInside, PutTie, TakeTie, FreeTie, TiesToNone, TellTie, PassTie}
+use Rattle.tc_hall.specs.Ties.{may_come, at_worker, loose_at, Moment, Shows, ClaimTie, IsLooseIn, CanPass, AdoptTie, AreInside, PutTie, TakeTie, FreeTie, TellTie, PassTie, Tied, silent}
 use Rattle.tc_hall.proofs.Shows.{shown_at, shown_code, shown_origin, origin_low, lies_put, lies_low, same_hand, claim_shown, put_shown, take_shown, free_shown, HadOut, had_same, had_more, had_less, still_shown}
 use Rattle.tc_hall.proofs.Outlines.{both, at_self, loose_self, with_lies, else_lies, home_free, Arrives, arrives, arrives_then, arrives_with, is_moved, custody_here, custody_else, all_come, others_come}
 use Rattle.tc_hall.specs.Order.{MayClaim, MayFill}
 use Rattle.tc_hall.proofs.Moves.{AtHome, at_home_of, gets, is_out, misses}
 use Rattle.tc_hall.proofs.Ordering.{claim_after, take_after, put_after}
+use Rattle.tc_hall.proofs.Outs.{has_out, lock_out}
+use Rattle.tc_hall.proofs.Cases.{same_out, none_of}
 use Rattle.tc_hall.proofs.Making.{deals, joins, clean_free, gone_free}
 use Rattle.tc_hall.proofs.Telling.{code_low, look_kept, stop_kept, see_kept}
 use Rattle.tc_hall.proofs.Taking.{lock_at_home, is_lock_out, free_kept}
-
-some_or_none : (o : Option LockView) → ((l : LockView) × (o ≡ Some l)) ⊎ (o ≡ None)
-some_or_none (Some l) = inl (l, refl)
-some_or_none None = inr refl
-
-same_out : (s : Spot) (a b : ℕ) → s ≡ out a → s ≡ out b → a ≡ b
-same_out s a b e f = cc (e, f)
-
-lock_is : (a b : LockView) (x : mathlib.Core.Option.Option (mathlib.Core.Option.Option (Option Cargo))) → x ≡ some (some (Some (Lock a))) → x ≡ some (some (Some (Lock b))) → a ≡ b
-lock_is a b x e f = cc (e, f)
 
 module _ (k : Terms) (m : Moment k) where
   abbrev s : Hall
@@ -110,7 +100,7 @@ module _ (k : Terms) (m : Moment k) where
         → IsShown k (after m.state m.id (claim_effect m.view t q)) (outline c')
     claim_shows c c' o arrive lies =
         let g = got in
-        claim_shown k m.state m.id m.view m.pass (outline c) (outline c') o t q a.below g.thread a.slot (let b = a.below in omega (arith, m.rule.words, b)) g.has g.locks
+        claim_shown k m.state m.id m.view m.pass (outline c) (outline c') o t q a.below g.thread a.slot (let b = a.below in omega (arith, m.rule.words, b)) (subst (λ (z : ℕ). Has (after_claim m.view q) z (bare q)) g.thread (has_out (after_claim m.view q) q g.came.out)) (lock_out (after_claim m.view q) q g.came.out)
         (is_moved c c' t (At m.view.worker) arrive) lies.0 lies.1
 
     rests : (c : Core) → IsShown k m.state (outline c) → lies_with (c.course t).place t ≡ packed t
@@ -194,9 +184,7 @@ module _ (k : Terms) (m : Moment k) (place : Place) (q : PackageView) (a : MayFi
   put_low = code_low (locks k) place a.range m.rule.told.limits.locks
 
   none_else : (j i : ℕ) (x : Knows) (l : LockView) → j ≢ m.id → get_elem? m.state.views j ≡ some x → HasLock x i l → locked_in q i ≡ None
-  none_else j i x l ne at' has = ⊎_elim
-      (λ (z : (n : LockView) × (locked_in q i ≡ Some n)). absurd (apart k m j i x l (kept z.0) ne at' has (a.may.locks i z.0 z.1)))
-      (λ (z : locked_in q i ≡ None). z) (some_or_none (locked_in q i))
+  none_else j i x l ne at' has = none_of (locked_in q i) (λ n e. apart k m j i x l (kept n) ne at' has (a.may.locks i n e))
 
   put_shows : (c : Core) → Shows k m.state c → AreInside k q c → Shows k (after m.state m.id (put_effect m.view q place)) (with_place c q.context.thread (as_place place))
   put_shows c seen inside =
@@ -303,7 +291,7 @@ free_tie k m l hand may =
 -- ---- steps with no event
 
 -- the rule is kept, no word of a thread changes, and no view has more out
-ties_to_none : (k : Terms) (s : Hall) (ws' : List ℕ) (vs' : List Knows) → KeptHall k record { words = ws'; homes = s.homes; views = vs' } → ((u : ℕ) → slice_index ws' (u + 2) ≡ slice_index s.words (u + 2)) → HadOut s.views vs' → TiesToNone k s record { words = ws'; homes = s.homes; views = vs' }
+ties_to_none : (k : Terms) (s : Hall) (ws' : List ℕ) (vs' : List Knows) → KeptHall k record { words = ws'; homes = s.homes; views = vs' } → ((u : ℕ) → slice_index ws' (u + 2) ≡ slice_index s.words (u + 2)) → HadOut s.views vs' → Tied k s (silent record { words = ws'; homes = s.homes; views = vs' })
 ties_to_none k s ws' vs' kept words had = record {
   kept = kept;
   asks = λ c seen given. tt;

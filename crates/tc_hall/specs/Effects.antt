@@ -11,7 +11,7 @@ use Rattle.tc_hall.specs.declared.board.Call.TheVariants.{Look, Stop, Stopped}
 use Rattle.tc_hall.specs.declared.board.Cargo.{Cargo}
 use Rattle.tc_hall.specs.declared.board.Cargo.TheVariants.{Package, Lock}
 use Rattle.tc_hall.specs.Places.{code_of}
-use Rattle.tc_hall.specs.Steps.{after_claim, after_commit, after_put, after_take, after_free, after_miss, with_call, dealt, fresh, merged, gone}
+use Rattle.tc_hall.specs.Steps.{after_claim, after_seal, after_put, after_take, after_free, after_miss, with_call, dealt, fresh, merged, gone}
 
 abbrev pub Hall : Type 0
 Hall = State (Option Cargo) Knows
@@ -35,7 +35,7 @@ claim_effect v t q = record { word = t + 2; left = OUT + v.worker; holds = []; k
 -- `commit` of the package q with this pending block, at the stamp that was found
 abbrev pub commit_effect : Knows → ℕ → Block → PackageView → Effect
 commit_effect v stamp b q =
-    record { word = 0; left = (stamp + 1) % 18446744073709551616; holds = []; knows = after_commit v (sealed_block stamp v.worker b) (with_seal stamp v.worker q); act = keeps }
+    record { word = 0; left = (stamp + 1) % 18446744073709551616; holds = []; knows = after_seal v (sealed_block stamp v.worker b) (with_seal stamp v.worker q); act = keeps }
 
 abbrev pub put_effect : Knows → PackageView → Place → Effect
 put_effect v q place = record { word = q.context.thread + 2; left = code_of place; holds = (q.context.thread, Some (Package q)) ∷ []; knows = record (after_put v q place) { hand = None }; act = gives }

@@ -17,7 +17,7 @@ use Rattle.tc_hall.specs.Rule.{threads, HasLock}
 use Rattle.tc_hall.specs.Effects.{Hall}
 use Rattle.tc_hall.specs.Order.{Operation, claim, take, miss, commit, put, free, look, stop, stopped, reach, lay, split, join, Made, MayCome, after_operation, IsOpening}
 use Rattle.tc_hall.specs.Shown.{last_end}
-use Rattle.tc_hall.specs.Ties.{limits_of, may_come, after_events, turns_by, IsLooseIn, AreInside, Shows}
+use Rattle.tc_hall.specs.Ties.{machine_limits, may_come, after_events, turns_by, IsLooseIn, AreInside, Shows}
 
 -- a package is claimed where it is ready or parked: Claim; or, by a pass that has the lock for which it waits, where that is
 -- loose: Adopt, or Grant and Claim
@@ -74,17 +74,17 @@ hall_of k s (leave w lock ∷ before) = hall_of k s before
 abbrev pub start_of : Terms → Core
 start_of k = first_core k.image.value k.fuel
 
-abbrev pub core_of : Terms → List Beat → Core
-core_of k beats = after_events k (start_of k) (events_of beats)
+abbrev pub core_after : Terms → List Beat → Core
+core_after k beats = after_events k (start_of k) (events_of beats)
 
 abbrev pub MayLift : Terms → Hall → List Beat → Type 0
 MayLift k s [] = Unit {0}
 -- the operation may come in the hall, is these events, and they are enabled
 MayLift k s (operation m es ∷ before) =
-    MayCome k (hall_of k s before) m × IsOf k (hall_of k s before) (core_of k before) m.knew m.operation es
-    × AreEnabled k.image.value (limits_of k) (core_of k before) es × MayLift k s before
-MayLift k s (enter w t lock ∷ before) = (may_come k (core_of k before) (Enter w t lock) ≡ true) × MayLift k s before
-MayLift k s (leave w lock ∷ before) = (may_come k (core_of k before) (Leave w lock) ≡ true) × MayLift k s before
+    MayCome k (hall_of k s before) m × IsOf k (hall_of k s before) (core_after k before) m.knew m.operation es
+    × AreEnabled k.image.value (machine_limits k) (core_after k before) es × MayLift k s before
+MayLift k s (enter w t lock ∷ before) = (may_come k (core_after k before) (Enter w t lock) ≡ true) × MayLift k s before
+MayLift k s (leave w lock ∷ before) = (may_come k (core_after k before) (Leave w lock) ≡ true) × MayLift k s before
 
 -- ---- the law
 
@@ -94,8 +94,8 @@ OpensShown = (k : Terms) (s : Hall) → IsOpening k s → Shows k s (start_of k)
 
 -- all events are enabled, each when it comes, and after them the hall shows the core
 pub record IsLifted (k : Terms) (s : Hall) (beats : List Beat) : Type 0 where
-  pub enabled : AreEnabled k.image.value (limits_of k) (start_of k) (events_of beats)
-  pub shows : Shows k (hall_of k s beats) (core_of k beats)
+  pub enabled : AreEnabled k.image.value (machine_limits k) (start_of k) (events_of beats)
+  pub shows : Shows k (hall_of k s beats) (core_after k beats)
 
 abbrev pub Lifts : Type 0
 Lifts = (k : Terms) (s : Hall) → IsOpening k s → (beats : List Beat) → MayLift k s beats → IsLifted k s beats

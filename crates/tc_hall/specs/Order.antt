@@ -17,7 +17,7 @@ use Rattle.tc_hall.specs.declared.board.Call.TheVariants.{Free, Look, Stop, Stop
 use Rattle.tc_hall.specs.declared.board.Cargo.{Cargo}
 use Rattle.tc_hall.specs.declared.board.Cargo.TheVariants.{Package, Lock}
 use Rattle.tc_hall.specs.Places.{IsInRange, code_of}
-use Rattle.tc_hall.specs.Rule.{threads, locks, starting, Has, HasLock, IsLimited, KeptHall}
+use Rattle.tc_hall.specs.Rule.{threads, locks, starting, Has, HasLock, IsInLimits, KeptHall}
 use Rattle.tc_hall.specs.Steps.{MayPut, MayFree, Seals, IsFree, put_call}
 use Rattle.tc_hall.specs.Effects.{Hall, after, claim_effect, commit_effect, put_effect, take_effect, free_effect, look_effect, stop_effect, stopped_effect, miss_effect, reach_effect, lay_effect, with_new_pass, with_joined}
 use Rattle.tc_hall.specs.Made.{AreStocked}
@@ -129,7 +129,7 @@ IsLegal k s (m ∷ before) = MayCome k (hall_after k s before) m × IsLegal k s 
 -- a new hall: each thread is ready with its package at its start, each lock is home and fresh, the clock and the stop word are
 -- 0, and one pass has nothing out
 pub record IsOpening (k : Terms) (s : Hall) : Type 0 where
-  pub limits : IsLimited k
+  pub limits : IsInLimits k
   pub slots : List (Option Cargo)
   pub stocked : AreStocked k.image.value (threads k) (locks k) k.fuel k.limit slots
   pub is : s ≡ opening (replicate (threads k + 2 + locks k) 0) slots (starting k)
@@ -208,8 +208,8 @@ abbrev pub IsKept : Type 0
 IsKept = (k : Terms) (s : Hall) → IsOrdered k s → KeptHall k s
 
 -- each live pass has in its lists its own operations in their order, and no others
-abbrev pub HasParts : Type 0
-HasParts = (k : Terms) (s : Hall) (d : IsOrdered k s) (id : ℕ) (v : Knows) → get_elem? s.views id ≡ some v → v.spent ≡ false → HasNoted v (notes_of d.order id)
+abbrev pub HasOwnNotes : Type 0
+HasOwnNotes = (k : Terms) (s : Hall) (d : IsOrdered k s) (id : ℕ) (v : Knows) → get_elem? s.views id ≡ some v → v.spent ≡ false → HasNoted v (notes_of d.order id)
 
 -- and each word is one of those that it may be
 abbrev pub HasExactWords : Type 0

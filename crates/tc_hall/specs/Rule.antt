@@ -51,10 +51,6 @@ HasLock v i l = get_elem? v.locks i ≡ some (Some l)
 abbrev pub locked_in : PackageView → ℕ → Option LockView
 locked_in q i = lock_in q.context.locks i
 
--- the block ran with lock i
-abbrev pub ran_with : Block → ℕ → Bool
-ran_with b i = has b.held i
-
 -- the lock i is held or granted
 abbrev pub IsOwn : PackageView → ℕ → Type 0
 IsOwn q i = (has q.context.guest.held i ≡ true) ⊎ (granted_lock q.granted ≡ Some i)
@@ -179,7 +175,7 @@ pub record AreApart (vs : List Knows) : Type 0 where
   pub spent : (i : ℕ) (v : Knows) → get_elem? vs i ≡ some v → v.spent ≡ true → v.locks ≡ []
 
 -- the limits of a hall
-pub record IsLimited (k : Terms) : Type 0 where
+pub record IsInLimits (k : Terms) : Type 0 where
   pub threads : threads k ≤ MAX_THREADS
   pub locks : locks k ≤ MAX_GUARDS
   pub fuel : k.fuel ≤ MAX_FUEL
@@ -191,7 +187,7 @@ pub record Told (k : Terms) : Type 0 where
   pub history : List Block
   pub places : List PackageView
   pub segments : List LockView
-  pub limits : IsLimited k
+  pub limits : IsInLimits k
   pub law : Lawful k.image.value k.fuel k.limit history places segments
   pub strict : AreStrict segments
   pub workers : (i : ℕ) (b : Block) → get_elem? history i ≡ some b → b.worker < k.workers

@@ -28,8 +28,8 @@ use Rattle.tc_hall.specs.declared.board.Call.TheVariants.{Put, Free, Look, Stop,
 use Rattle.tc_hall.specs.declared.board.Cargo.{Cargo}
 use Rattle.tc_hall.specs.declared.board.Cargo.TheVariants.{Package, Lock}
 use Rattle.tc_hall.specs.Places.{code_of, place_of}
-use Rattle.tc_hall.specs.Rule.{Has, HasLock, IsInOrder, grants_adopted, locked_in, ran_with, clean}
-use Rattle.tc_hall.specs.Outs.{outs, erase, Pack, Loose, CameOut, Called}
+use Rattle.tc_hall.specs.Rule.{Has, HasLock, IsInOrder, grants_adopted, locked_in, clean}
+use Rattle.tc_hall.specs.Outs.{outs, erase, Pack, Loose, IsOut, CameOut, Called}
 use Rattle.tc_hall.specs.PassView.{PassView}
 
 abbrev pub At : Type 0
@@ -54,15 +54,15 @@ add_all (x ∷ xs) [] = x ∷ xs
 add_all (x ∷ xs) (o ∷ slots) = or_kept x o ∷ add_all xs slots
 
 -- with the package q and all its locks
-abbrev pub with_package : Knows → PackageView → Knows
-with_package v q = record v { packages = slice_set v.packages q.context.thread (Some (bare q)); locks = add_all v.locks q.context.locks }
+abbrev pub with_package_out : Knows → PackageView → Knows
+with_package_out v q = record v { packages = slice_set v.packages q.context.thread (Some (bare q)); locks = add_all v.locks q.context.locks }
 
 abbrev pub after_claim : Knows → PackageView → Knows
-after_claim v q = record (with_package v q) { misfits = slice_set v.misfits q.context.thread (not (fits_of q v.worker)); claimed = v.claimed ++ q ∷ [] }
+after_claim v q = record (with_package_out v q) { misfits = slice_set v.misfits q.context.thread (not (fits_of q v.worker)); claimed = v.claimed ++ q ∷ [] }
 
 -- of `commit`, where the block b was sealed and the package is then q
-abbrev pub after_commit : Knows → Block → PackageView → Knows
-after_commit v b q = record (with_package v q) { sealed = v.sealed ++ b ∷ [] }
+abbrev pub after_seal : Knows → Block → PackageView → Knows
+after_seal v b q = record (with_package_out v q) { sealed = v.sealed ++ b ∷ [] }
 
 -- of `put`
 
@@ -135,23 +135,14 @@ gone = record { image = record { ranges = []; entries = []; guards = [] }; worke
 
 -- the clauses of the calls
 
--- what was out is out as it was
-abbrev pub StaysOut : Knows → Knows → Type 0
-StaysOut v w = ((u : ℕ) (p : PackageView) → Has v u p → Has w u p) × ((i : ℕ) (l : LockView) → HasLock v i l → HasLock w i l)
-
 -- the package q of thread t was taken out of its slot, where its thread's word was this
 pub record Gets (word t : ℕ) (q : PackageView) (v w : Knows) : Type 0 where
   pub now : w ≡ after_claim v q
-  pub has : Has w t (bare q)
-  pub locks : (i : ℕ) (l : LockView) → locked_in q i ≡ Some l → HasLock w i (kept l)
-  pub others : StaysOut v w
   pub thread : q.context.thread ≡ t
   pub of : q.image ≡ v.image
   pub settled : q.pending ≡ None
   pub order : IsInOrder word q
   pub fits : grants_adopted q.granted ≡ false → (worker : ℕ) → fits_of q worker ≡ true
-  -- its log has each block of its thread that the pass has sealed
-  pub sealed : (i : ℕ) (b : Block) → get_elem? v.sealed i ≡ some b → b.thread ≡ t → (j : ℕ) × (get_elem? q.log j ≡ some b)
   -- a package that does not fit the worker is noted as such
   pub misfit : fits_of q v.worker ≡ false → get_elem? w.misfits t ≡ some true
   pub came : CameOut (Pack q) v w
@@ -177,8 +168,6 @@ pub record MayPut (place : Place) (v : Knows) (q : PackageView) : Type 0 where
 -- the package was put at the place
 pub record Gave (place : Place) (q : PackageView) (v w : Knows) : Type 0 where
   pub now : w ≡ after_put v q place
-  pub others : (u : ℕ) (p : PackageView) → u ≢ q.context.thread → Has v u p → Has w u p
-  pub others_locks : (i : ℕ) (l : LockView) → locked_in q i ≡ None → HasLock v i l → HasLock w i l
   pub rest : outs w ≡ erase (outs v) (Pack q)
   pub called : Called (put_call q place ∷ []) v w
 
@@ -202,11 +191,7 @@ pub record IsStateAsLeft (k : Terms) (v : Knows) (i : ℕ) (l : LockView) : Type
 -- the state of lock i was taken out of its slot
 pub record Takes (i : ℕ) (l : LockView) (v w : Knows) : Type 0 where
   pub now : w ≡ after_take v l
-  pub has : HasLock w i (kept l)
-  pub others : StaysOut v w
   pub rest : IsAtRest v.image i l
-  -- it has each block of the lock that the pass has sealed
-  pub sealed : (e : ℕ) (b : Block) → get_elem? v.sealed e ≡ some b → ran_with b i ≡ true → (j : ℕ) × (get_elem? (blocks_of l) j ≡ some b)
   pub came : CameOut (Loose l) v w
   pub called : Called [] v w
 
@@ -216,8 +201,6 @@ pub record MayFree (v : Knows) (l : LockView) : Type 0 where
 
 pub record Freed (l : LockView) (v w : Knows) : Type 0 where
   pub now : w ≡ after_free v l
-  pub others : (u : ℕ) (p : PackageView) → Has v u p → Has w u p
-  pub others_locks : (i : ℕ) (k : LockView) → i ≢ l.number → HasLock v i k → HasLock w i k
   pub rest : outs w ≡ erase (outs v) (Loose l)
   pub called : Called (Free l.number ∷ []) v w
 
@@ -233,11 +216,9 @@ pub record Seals (v : Knows) (q : PackageView) : Type 0 where
 pub record DidSeal (q : PackageView) (n : ℕ) (v w : Knows) : Type 0 where
   pub block : Block
   pub pending : q.pending ≡ Some block
-  pub now : w ≡ after_commit v (sealed_block n v.worker block) (with_seal n v.worker q)
-  pub has : Has w q.context.thread (bare (with_seal n v.worker q))
-  pub locks : (i : ℕ) (l : LockView) → locked_in (with_seal n v.worker q) i ≡ Some l → HasLock w i (kept l)
-  pub others : (u : ℕ) (p : PackageView) → u ≢ q.context.thread → Has v u p → Has w u p
-  pub others_locks : (i : ℕ) (l : LockView) → locked_in q i ≡ None → HasLock v i l → HasLock w i l
+  pub now : w ≡ after_seal v (sealed_block n v.worker block) (with_seal n v.worker q)
+  -- it is out as it is then, and nothing else that is out changed
+  pub out : IsOut (outs w) (Pack (with_seal n v.worker q))
   pub rest : erase (outs w) (Pack (with_seal n v.worker q)) ≡ erase (outs v) (Pack q)
   pub after_own : (i : ℕ) (b : Block) → get_elem? v.sealed i ≡ some b → b.stamp < n
   -- each other block in its log and in its locks has a lower stamp
@@ -322,11 +303,11 @@ pub record IsEnd (k : Terms) (v : Knows) (qs : List PackageView) (ls : List Lock
 abbrev pub IsPackage : Option Cargo → Type 0
 IsPackage x = (q : PackageView) × (x ≡ Some (Package q))
 
-abbrev pub is_package : Option Cargo → PackageView → Type 0
-is_package x q = x ≡ Some (Package q)
+abbrev pub HoldsPackage : Option Cargo → PackageView → Type 0
+HoldsPackage x q = x ≡ Some (Package q)
 
-abbrev pub is_lock : Option Cargo → LockView → Type 0
-is_lock x l = x ≡ Some (Lock l)
+abbrev pub HoldsLock : Option Cargo → LockView → Type 0
+HoldsLock x l = x ≡ Some (Lock l)
 
 abbrev pub IsLock : Option Cargo → Type 0
 IsLock x = (l : LockView) × (x ≡ Some (Lock l))

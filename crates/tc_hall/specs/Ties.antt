@@ -16,7 +16,6 @@ use Rattle.tc_core.specs.declared.event.Event.TheVariants.{Claim, Turn, Commit, 
 use Rattle.tc_core.specs.declared.place.LockPlace.TheVariants as place
 use Rattle.tc_hall.specs.declared.board.Knows.{Knows}
 use Rattle.tc_hall.specs.declared.board.Terms.{Terms}
-use Rattle.tc_hall.specs.declared.board.Cargo.TheVariants.{Package, Lock}
 use Rattle.tc_hall.specs.declared.place.TheConstants.{WAITING, OUT}
 use Rattle.tc_hall.specs.declared.place.Place.{Place}
 use Rattle.tc_hall.specs.declared.place.Place.TheVariants.{Ready, Waiting, Parked, Done}
@@ -30,21 +29,21 @@ use Rattle.tc_hall.specs.Outline.{outline, IsBetween}
 use Rattle.tc_hall.specs.Shown.{IsShown, last_end}
 
 -- the pure machine of the hall's guest
-abbrev pub limits_of : Terms → Limits
-limits_of k = record { workers = k.workers; batch = k.limit }
+abbrev pub machine_limits : Terms → Limits
+machine_limits k = record { workers = k.workers; batch = k.limit }
 
 abbrev pub may_come : Terms → Core → Event → Bool
-may_come k c e = is_enabled k.image.value (limits_of k) c e
+may_come k c e = is_enabled k.image.value (machine_limits k) c e
 
 abbrev pub after_events : Terms → Core → List Event → Core
 after_events k c events = after_all k.image.value c events
 
 -- the worker has the thread; the lock
 abbrev pub at_worker : Terms → Core → ℕ → ℕ → Bool
-at_worker k c w t = has_thread k.image.value (limits_of k) c w t
+at_worker k c w t = has_thread k.image.value (machine_limits k) c w t
 
 abbrev pub loose_at : Terms → Core → ℕ → ℕ → Bool
-loose_at k c w lock = has_lock k.image.value (limits_of k) c w lock
+loose_at k c w lock = has_lock k.image.value (machine_limits k) c w lock
 
 -- a state of the hall that meets the rule, and a live pass in it
 pub record Moment (k : Terms) : Type 0 where
@@ -60,25 +59,38 @@ pub record Shows (k : Terms) (s : Hall) (c : Core) : Type 0 where
   pub between : IsBetween c
   pub shown : IsShown k s (outline c)
 
--- a step from s to s' ties to the events: it keeps the rule; and for each core that s shows, of which this is given, what the
--- events ask of places, of threads and of the ends of blocks holds, and if they may come, s' shows the core after them
-pub record Ties (k : Terms) (s s' : Hall) (given asked : Core → Type 0) (events : List Event) : Type 0 where
-  pub kept : KeptHall k s'
-  pub asks : (c : Core) → Shows k s c → given c → asked c
-  pub shows : (c : Core) → Shows k s c → given c → AreEnabled k.image.value (limits_of k) c events → Shows k s' (after_events k c events)
+-- a row: the hall after a step, what is given of the core, what the events ask of its places, of its threads and of the ends of
+-- its blocks, and the events
+pub record Row : Type 1 where
+  pub hall : Hall
+  pub given : Core → Type 0
+  pub asked : Core → Type 0
+  pub events : List Event
+
+-- the step from s keeps the rule; and for each core that s shows, of which this is given, what the events ask holds, and if
+-- they may come, the hall shows the core after them
+pub record Tied (k : Terms) (s : Hall) (row : Row) : Type 0 where
+  pub kept : KeptHall k row.hall
+  pub asks : (c : Core) → Shows k s c → row.given c → row.asked c
+  pub shows : (c : Core) → Shows k s c → row.given c → AreEnabled k.image.value (machine_limits k) c row.events → Shows k row.hall (after_events k c row.events)
 
 abbrev pub Always : Core → Type 0
 Always c = Unit {0}
 
--- the pass's step with no event
-abbrev pub TiesToNone : (k : Terms) → Hall → Hall → Type 0
-TiesToNone k s s' = Ties k s s' Always Always []
+-- the step with no event
+abbrev pub silent : Hall → Row
+silent s' = record { hall = s'; given = Always; asked = Always; events = [] }
 
 -- ---- claim: Claim
 
 abbrev pub ClaimTie : Type 0
 ClaimTie = (k : Terms) (m : Moment k) (t : ℕ) (q : PackageView) (from : Origin) → MayClaim k m.state m.view t q → slice_index m.state.words (t + 2) ≡ origin_code from
-    → Ties k m.state (after m.state m.id (claim_effect m.view t q)) Always (λ c. may_come k c (Claim m.view.worker t) ≡ true) (Claim m.view.worker t ∷ [])
+    → Tied k m.state record {
+      hall = after m.state m.id (claim_effect m.view t q);
+      given = Always;
+      asked = λ c. may_come k c (Claim m.view.worker t) ≡ true;
+      events = Claim m.view.worker t ∷ [];
+    }
 
 -- ---- adopt: Adopt, or Grant and Claim
 
@@ -90,9 +102,17 @@ IsLooseIn lock c = (u : ℕ) × (is_loose (c.custody lock).place u ≡ true)
 abbrev pub CanPass : Terms → ℕ → ℕ → ℕ → Core → Type 0
 CanPass k w t lock c = (loose_at k c w lock ≡ true) × (is_thread k.image.value t ≡ true) × (is_waiting (c.course t).place lock ≡ true)
 
+abbrev pub adopt_row : (k : Terms) → Moment k → ℕ → ℕ → PackageView → List Event → Row
+adopt_row k m t lock q events = record {
+  hall = after m.state m.id (claim_effect m.view t q);
+  given = IsLooseIn lock;
+  asked = CanPass k m.view.worker t lock;
+  events = events;
+}
+
 pub record AdoptTies (k : Terms) (m : Moment k) (t lock : ℕ) (q : PackageView) : Type 0 where
-  pub adopt : Ties k m.state (after m.state m.id (claim_effect m.view t q)) (IsLooseIn lock) (CanPass k m.view.worker t lock) (Adopt m.view.worker t lock ∷ [])
-  pub grant : Ties k m.state (after m.state m.id (claim_effect m.view t q)) (IsLooseIn lock) (CanPass k m.view.worker t lock) (Grant m.view.worker t lock ∷ Claim m.view.worker t ∷ [])
+  pub adopt : Tied k m.state (adopt_row k m t lock q (Adopt m.view.worker t lock ∷ []))
+  pub grant : Tied k m.state (adopt_row k m t lock q (Grant m.view.worker t lock ∷ Claim m.view.worker t ∷ []))
 
 abbrev pub AdoptTie : Type 0
 AdoptTie = (k : Terms) (m : Moment k) (t lock : ℕ) (q : PackageView) (l : LockView) → MayClaim k m.state m.view t q → lock < locks k → slice_index m.state.words (t + 2) ≡ WAITING + lock → HasLock m.view lock l → AdoptTies k m t lock q
@@ -111,7 +131,13 @@ abbrev pub AreInside : Terms → PackageView → Core → Type 0
 AreInside k q c = (i : ℕ) → i < locks k → is_with (c.custody i).place q.context.thread ≡ is_some (locked_in q i)
 
 abbrev pub PutsTo : (k : Terms) → Moment k → Place → PackageView → (Core → Type 0) → Event → Type 0
-PutsTo k m place q asked event = MayFill k m.view q place → Ties k m.state (after m.state m.id (put_effect m.view q place)) (AreInside k q) asked (event ∷ [])
+PutsTo k m place q asked event = MayFill k m.view q place
+    → Tied k m.state record {
+      hall = after m.state m.id (put_effect m.view q place);
+      given = AreInside k q;
+      asked = asked;
+      events = event ∷ [];
+    }
 
 pub record PutTies (k : Terms) (m : Moment k) (q : PackageView) : Type 0 where
   pub ready : PutsTo k m Ready q (λ c. (at_worker k c m.view.worker q.context.thread ≡ true) × (runs c q.context.thread ≡ true)) (HandBack m.view.worker q.context.thread)
@@ -128,14 +154,23 @@ PutTie = (k : Terms) (m : Moment k) (q : PackageView) → PutTies k m q
 
 abbrev pub TakeTie : Type 0
 TakeTie = (k : Terms) (m : Moment k) (t i : ℕ) (l : LockView) → t < threads k → slice_index m.state.words (t + 2) ≡ OUT + m.view.worker → MayTake k m.state m.view i l
-    → Ties k m.state (after m.state m.id (take_effect (threads k) m.view i l)) Always
-    (λ c. (at_worker k c m.view.worker t ≡ true) × (is_lock k.image.value i ≡ true) × (is_free_lock (c.custody i).place ≡ true)) (Take m.view.worker t i ∷ [])
+    → Tied k m.state record {
+      hall = after m.state m.id (take_effect (threads k) m.view i l);
+      given = Always;
+      asked = λ c. (at_worker k c m.view.worker t ≡ true) × (is_lock k.image.value i ≡ true) × (is_free_lock (c.custody i).place ≡ true);
+      events = Take m.view.worker t i ∷ [];
+    }
 
 -- ---- free: Free
 
 abbrev pub FreeTie : Type 0
 FreeTie = (k : Terms) (m : Moment k) (l : LockView) → m.view.hand ≡ Some (threads k + l.number) → MayFree m.view l
-    → Ties k m.state (after m.state m.id (free_effect (threads k) m.view l)) (IsLooseIn l.number) (λ c. loose_at k c m.view.worker l.number ≡ true) (Free m.view.worker l.number ∷ [])
+    → Tied k m.state record {
+      hall = after m.state m.id (free_effect (threads k) m.view l);
+      given = IsLooseIn l.number;
+      asked = λ c. loose_at k c m.view.worker l.number ≡ true;
+      events = Free m.view.worker l.number ∷ [];
+    }
 
 -- ---- commit of a block: its turns, and then Commit
 
@@ -151,26 +186,29 @@ pub record RunsThrough (k : Terms) (w t n : ℕ) (end : End) (c : Core) : Type 0
 
 abbrev pub CommitTie : Type 0
 CommitTie = (k : Terms) (m : Moment k) (q : PackageView) (a : Seals m.view q)
-    → Ties k m.state (after m.state m.id (commit_effect m.view (slice_index m.state.words 0) a.ran.block q)) Always
-    (RunsThrough k m.view.worker q.context.thread a.ran.block.turns a.ran.block.end)
-    (turns_by m.view.worker q.context.thread a.ran.block.turns ++ Commit m.view.worker q.context.thread ∷ [])
+    → Tied k m.state record {
+      hall = after m.state m.id (commit_effect m.view (slice_index m.state.words 0) a.ran.block q);
+      given = Always;
+      asked = RunsThrough k m.view.worker q.context.thread a.ran.block.turns a.ran.block.end;
+      events = turns_by m.view.worker q.context.thread a.ran.block.turns ++ Commit m.view.worker q.context.thread ∷ [];
+    }
 
 -- ---- steps with no event
 
 pub record TellTies (k : Terms) (m : Moment k) : Type 0 where
-  pub look : (t : ℕ) → TiesToNone k m.state (after m.state m.id (look_effect m.view t (slice_index m.state.words (t + 2))))
-  pub stop : TiesToNone k m.state (after m.state m.id (stop_effect m.view))
-  pub stopped : TiesToNone k m.state (after m.state m.id (stopped_effect m.view (slice_index m.state.words 1)))
+  pub look : (t : ℕ) → Tied k m.state (silent (after m.state m.id (look_effect m.view t (slice_index m.state.words (t + 2)))))
+  pub stop : Tied k m.state (silent (after m.state m.id (stop_effect m.view)))
+  pub stopped : Tied k m.state (silent (after m.state m.id (stopped_effect m.view (slice_index m.state.words 1))))
   -- a compare-and-swap that fails
-  pub missed : (word : ℕ) → TiesToNone k m.state (after m.state m.id (miss_effect m.view word (slice_index m.state.words word)))
+  pub missed : (word : ℕ) → Tied k m.state (silent (after m.state m.id (miss_effect m.view word (slice_index m.state.words word))))
 
 abbrev pub TellTie : Type 0
 TellTie = (k : Terms) (m : Moment k) → TellTies k m
 
 -- the pass makes another; it takes in another, which has nothing out
 pub record PassTies (k : Terms) (m : Moment k) : Type 0 where
-  pub made : m.view.maker ≡ true → m.view.made < m.view.worker → TiesToNone k m.state (with_new_pass m.state m.id m.view)
-  pub joined : (other : ℕ) (w : Knows) → get_elem? m.state.views other ≡ some w → w.spent ≡ false → other ≢ m.id → IsFree w → TiesToNone k m.state (with_joined m.state m.id m.view other w)
+  pub made : m.view.maker ≡ true → m.view.made < m.view.worker → Tied k m.state (silent (with_new_pass m.state m.id m.view))
+  pub joined : (other : ℕ) (w : Knows) → get_elem? m.state.views other ≡ some w → w.spent ≡ false → other ≢ m.id → IsFree w → Tied k m.state (silent (with_joined m.state m.id m.view other w))
 
 abbrev pub PassTie : Type 0
 PassTie = (k : Terms) (m : Moment k) → PassTies k m

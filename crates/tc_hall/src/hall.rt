@@ -8,7 +8,7 @@ ghost use Rattle.tc_context.specs.View.{IsWaiting, with_seal};
 ghost use Rattle.tc_hall.specs.declared.place.TheConstants.{WAITING};
 ghost use Rattle.tc_hall.specs.Places.{IsInRange, origin_code};
 ghost use Rattle.tc_hall.specs.Rule.{threads, locks};
-ghost use Rattle.tc_hall.specs.Steps.{IsSamePass, IsPackage, IsLock, is_package, is_lock, Gets, MayPut, Gave, IsAsLeft, IsStateAsLeft, Missed, Takes, MayFree, Freed, Seals, DidSeal, after_look, after_stop, SawStopped, merged, IsFree, HasAll, HasSeenAll, IsEnd};
+ghost use Rattle.tc_hall.specs.Steps.{IsSamePass, IsPackage, IsLock, HoldsPackage, HoldsLock, Gets, MayPut, Gave, IsAsLeft, IsStateAsLeft, Missed, Takes, MayFree, Freed, Seals, DidSeal, after_look, after_stop, SawStopped, merged, IsFree, HasAll, HasSeenAll, IsEnd};
 ghost use Rattle.tc_hall.specs.Order.{IsClaimable};
 ghost use Rattle.tc_hall.specs.Made.{IsHallOf, AreDealt, AreStocked};
 
@@ -87,7 +87,7 @@ impl Model for Hall {
 // The package that lay in a slot.
 fn package_of(slot: Slot) -> Package
     requires { IsPackage slot }
-    ensures { is_package slot result }
+    ensures { HoldsPackage slot result }
 {
     match slot {
         Some(Cargo::Package(package)) => package,
@@ -99,7 +99,7 @@ fn package_of(slot: Slot) -> Package
 // The lock state that lay in a slot.
 fn lock_of(slot: Slot) -> LockState
     requires { IsLock slot }
-    ensures { is_lock slot result }
+    ensures { HoldsLock slot result }
 {
     match slot {
         Some(Cargo::Lock(lock)) => lock,
@@ -124,7 +124,8 @@ fn stock(alloc: Global, image: &Image, fuel: u32, limit: u32) -> Result<Vec<Slot
         slots.push_reserved(Some(Cargo::Package(package)));
     }
     for i in 0..locks {
-        slots.push_reserved(Some(Cargo::Lock(LockState::new(alloc, image, i, limit)?)));
+        let lock = LockState::new(alloc, image, i, limit)?;
+        slots.push_reserved(Some(Cargo::Lock(lock)));
     }
     Ok(slots)
 }

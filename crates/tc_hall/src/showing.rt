@@ -1,7 +1,7 @@
 //! What the steps of a hall are to the pure machine.
 
 ghost use Rattle.tc_hall.specs.Ties.{ClaimTie, AdoptTie, PutTie, TakeTie, FreeTie, CommitTie, TellTie, PassTie};
-ghost use Rattle.tc_hall.specs.Order.{IsKept, HasParts, HasExactWords};
+ghost use Rattle.tc_hall.specs.Order.{IsKept, HasOwnNotes, HasExactWords};
 ghost use Rattle.tc_hall.specs.Lift.{OpensShown, Lifts};
 
 /// In every state of a hall that meets its rule, each step keeps the rule; and what it shows is an
@@ -22,7 +22,7 @@ pub fn tie()
 /// passes that were joined into it, and no others; of each word that it is one of those that it may be.
 pub fn order()
     ensures kept { IsKept }
-    ensures parts { HasParts }
+    ensures parts { HasOwnNotes }
     ensures words { HasExactWords }
 {}
 

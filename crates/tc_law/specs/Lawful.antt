@@ -14,7 +14,7 @@ use Rattle.tc_mutex_spec.specs.Blocks.{Tells, end_after}
 use Rattle.tc_segment.specs.View.{LockView, IsStrict, kept, fresh_state}
 use Rattle.tc_context.specs.Locks.{lock_in}
 use Rattle.tc_context.specs.Whole.{thread_in}
-use Rattle.tc_context.specs.View.{PackageView, IsFresh, bare, with_seal}
+use Rattle.tc_context.specs.View.{PackageView, IsFresh, bare}
 use Rattle.tc_law.specs.History.{ThreadFollows, StateFollows}
 
 -- the thing of this number
@@ -51,10 +51,6 @@ pub record Lawful (image : Shown) (fuel limit : ℕ) (h : List Block) (packages 
   pub states_after : (k : ℕ) (l : LockView) → StandsAt states k l → IsStateAfter image fuel limit h k l
   pub bound : length h + all_left packages ≤ length image.entries * (fuel + 1)
 
--- who owns lock k in the history's end
-abbrev pub owner_after : Shown → ℕ → List Block → ℕ → Option ℕ
-owner_after image fuel h k = ((end_after image fuel h).locks k).owner
-
 -- the limits under which a history stays short
 pub record IsLimited (image : Shown) (fuel : ℕ) : Type 0 where
   pub threads : length image.entries ≤ MAX_THREADS
@@ -82,10 +78,6 @@ with_states (o ∷ slots) (l ∷ states) = kept_or l o ∷ with_states slots sta
 -- none of these lock states has a section that was passed on to its own thread
 abbrev pub AreStrict : List LockView → Type 0
 AreStrict states = (k : ℕ) (l : LockView) → StandsAt states k l → IsStrict l
-
--- the package with its block sealed by this worker, at the end of the history
-abbrev pub sealed_after : List Block → ℕ → PackageView → PackageView
-sealed_after h worker p = with_seal (length h) worker p
 
 -- at the start
 pub record AreFresh (image : Shown) (fuel limit : ℕ) (packages : List PackageView) (states : List LockView) : Type 0 where

@@ -13,7 +13,8 @@ ghost use Rattle.tc_context.specs.Locks.{EachLock};
 ghost use Rattle.tc_context.specs.View.{PackageView, Allows, Rests, held_in, locks_in, with_seal};
 ghost use Rattle.tc_context.specs.Ran.{DidRun, block_sealed};
 ghost use Rattle.tc_law.specs.History.{Follows, Grows};
-ghost use Rattle.tc_law.specs.Lawful.{Lawful, IsLimited, StandsAt, IsAmong, AreFresh, AreStrict, owner_after, with_package, with_states, sealed_after};
+ghost use Rattle.tc_law.specs.Lawful.{IsLimited, StandsAt, IsAmong, AreFresh, AreStrict, with_states};
+ghost use Rattle.tc_law.specs.Account.{Account, IsLawful, with_block, owner_in};
 
 /// A package p that a history leaves runs a block and is v. Whatever stamp and worker it is sealed
 /// with, the history with the block at its end tells a run again, nothing but the block's thread
@@ -52,36 +53,26 @@ pub fn follow()
 /// wraps; nobody owns a lock whose last sealed block ended a section of it; and a thread owns the
 /// locks that it holds. A law: it does nothing when it is called.
 pub fn keep()
-    ensures begin { (image : Shown) (fuel limit : ℕ) (packages : List PackageView)
-        → (states : List LockView)
-        → AreFresh image fuel limit packages states → Lawful image fuel limit [] packages states }
-    ensures append { (image : Shown) (fuel limit : ℕ) (h : List Block)
-        → (packages : List PackageView) (states : List LockView) (p v : PackageView)
-        → IsLimited image fuel → Lawful image fuel limit h packages states
-        → IsAmong packages states p → (ran : DidRun image p v)
+    ensures begin { (a : Account)
+        → AreFresh a.image a.fuel a.limit a.packages a.states
+        → IsLawful (record a { history = [] }) }
+    ensures append { (a : Account) (p v : PackageView)
+        → IsLimited a.image a.fuel → IsLawful a → IsAmong a.packages a.states p
+        → (ran : DidRun a.image p v)
         → (worker : ℕ) → worker < 2 ^ 32 → Allows v.context ran.block worker
-        → Lawful image fuel limit (h ++ block_sealed ran (length h) worker ∷ [])
-        (with_package (sealed_after h worker v) packages)
-        (with_states (locks_in (sealed_after h worker v)) states) }
-    ensures strict { (image : Shown) (packages : List PackageView) (states : List LockView)
-        → (p v : PackageView) → IsAmong packages states p → DidRun image p v
-        → (stamp worker : ℕ) → AreStrict states
-        → AreStrict (with_states (locks_in (with_seal stamp worker v)) states) }
-    ensures one { (image : Shown) (fuel limit : ℕ) (g h : List Block)
-        → (packages : List PackageView) (states others : List LockView)
-        → Lawful image fuel limit g packages states
-        → Lawful image fuel limit h packages others → g ≡ h }
-    ensures short { (image : Shown) (fuel limit : ℕ) (h : List Block)
-        → (packages : List PackageView) (states : List LockView) → IsLimited image fuel
-        → Lawful image fuel limit h packages states → length h < 2 ^ 32 }
-    ensures free { (image : Shown) (fuel limit : ℕ) (h : List Block)
-        → (packages : List PackageView) (states : List LockView)
-        → Lawful image fuel limit h packages states
-        → (k : ℕ) (l : LockView) → StandsAt states k l → Rests k l
-        → owner_after image fuel h k ≡ None }
-    ensures held { (image : Shown) (fuel limit : ℕ) (h : List Block)
-        → (packages : List PackageView) (states : List LockView)
-        → Lawful image fuel limit h packages states
-        → (t : ℕ) (p : PackageView) → StandsAt packages t p
-        → (k : ℕ) → has (held_in p) k ≡ true → owner_after image fuel h k ≡ Some t }
+        → IsLawful (with_block a ran.block v worker) }
+    ensures strict { (a : Account) (p v : PackageView)
+        → IsAmong a.packages a.states p → DidRun a.image p v
+        → (stamp worker : ℕ) → AreStrict a.states
+        → AreStrict (with_states (locks_in (with_seal stamp worker v)) a.states) }
+    ensures one { (a : Account) (h : List Block) (others : List LockView)
+        → IsLawful a → IsLawful (record a { history = h; states = others })
+        → a.history ≡ h }
+    ensures short { (a : Account)
+        → IsLimited a.image a.fuel → IsLawful a → length a.history < 2 ^ 32 }
+    ensures free { (a : Account) → IsLawful a
+        → (k : ℕ) (l : LockView) → StandsAt a.states k l → Rests k l → owner_in a k ≡ None }
+    ensures held { (a : Account) → IsLawful a
+        → (t : ℕ) (p : PackageView) → StandsAt a.packages t p
+        → (k : ℕ) → has (held_in p) k ≡ true → owner_in a k ≡ Some t }
 {}

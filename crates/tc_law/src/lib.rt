@@ -8,7 +8,8 @@
 //! function is a law.
 //!
 //! - `specs/History.antt`: one thread and one lock state beside a history, and a block at its end.
-//!   `specs/Lawful.antt`: the law over a history, all packages and all lock states.
+//!   `specs/Lawful.antt`: the law over a history, all packages and all lock states, and
+//!   `specs/Account.antt` these as one thing.
 //! - `law`: what a block keeps of one package, and of all.
 #![tactic(auto)]
 

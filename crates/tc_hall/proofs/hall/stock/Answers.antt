@@ -24,7 +24,7 @@ push_reserved-requires-in-loop-i c = let n = c.loop-i.slots.ok.0 in let r = c.lo
 
 pub loop-i-preserved : goal.loop-i-preserved
 loop-i-preserved c = record {
-  stocked = lock_stocked c.args.image.now c.threads-threads.result c.loop-i.i c.args.fuel c.args.limit c.loop-i.slots.items c.push_reserved-in-loop-i.new.self.items c.in_ok-new.field-0 c.loop-i.invariant.stocked c.in_ok-new.ensures c.push_reserved-in-loop-i.ensures.items;
+  stocked = lock_stocked c.args.image.now c.threads-threads.result c.loop-i.i c.args.fuel c.args.limit c.loop-i.slots.items c.push_reserved-in-loop-i.new.self.items c.in_ok-lock.lock c.loop-i.invariant.stocked c.in_ok-lock.ensures c.push_reserved-in-loop-i.ensures.items;
   room = let m = c.loop-i.invariant.room in let e = c.push_reserved-in-loop-i.ensures.capacity in omega arith;
 }
 

@@ -1,19 +1,16 @@
 use Rattle.std.proofs.Common.{◌≡◌, ◌+◌, ◌<◌, ℕ, Option, Some, None, refl, sym, ap, ◌∙◌, subst, arith}
 use Rattle.tc_context.specs.View.{PackageView, bare}
 use Rattle.tc_hall.specs.declared.board.Knows.{Knows}
-use Rattle.tc_hall.specs.declared.board.Cargo.{Cargo}
 use Rattle.tc_hall.specs.declared.board.Cargo.TheVariants.{Package}
 use Rattle.tc_hall.specs.PassView.{PassView, HallView}
 use Rattle.tc_hall.specs.Rule.{threads, Has}
 use Rattle.tc_hall.specs.declared.board.Terms.{Terms}
 use Rattle.tc_hall.specs.Steps.{Gets, IsAsLeft}
-use Rattle.tc_hall.specs.Order.{IsClaimable}
+use Rattle.tc_hall.specs.Order.{IsClaimable, of_package}
 use Rattle.tc_hall.proofs.Stepping.{Claims, claims, lays}
+use Rattle.tc_hall.proofs.Outs.{has_out}
 use Rattle.tc_hall.proofs.Holding.{got_slot, got_found, got_carried, got_view, got_last, got_empty}
 use Rattle.tc_hall.proofs.hall.Hall.claim_from.Goals as goal
-
-package_is : (a b : PackageView) (x : Option Cargo) → x ≡ Some (Package a) → x ≡ Some (Package b) → a ≡ b
-package_is a b x e f = cc (e, f)
 
 pub compare_exchange-found-requires : goal.compare_exchange-found-requires
 compare_exchange-found-requires g c =
@@ -43,8 +40,8 @@ load-requires g c =
     let view = got_view c.args.t (Package got.0) got.1 c.pass.inside.seat.me c.compare_exchange-found.new.seat.me got.3 c.pass.invariant.0 m2 c.exchange-slot.ensures.3 in (
       c.exchange-slot.ensures.0 ∙ (did.0 ∙ own),
       omega (arith, c.self.invariant.1),
-      lays c.self.inside.board.shared.key _ _ c.args.t m2.0 (bare got.0) m2.1 (got_carried c.args.t (Package got.0) got.1 c.pass.inside.seat.me c.compare_exchange-found.new.seat.me got.3 c.pass.invariant.0 m2 c.exchange-slot.ensures.3)
-          (ap (λ (z : Knows). z.hand) view) (ap (λ (z : Knows). z.spent) view ∙ (ap (λ (z : Knows). z.spent) got.2.now ∙ c.pass.invariant.3)) (subst (λ (z : Knows). Has z c.args.t (bare got.0)) (sym view) got.2.has),
+      lays c.self.inside.board.shared.key _ _ c.args.t m2.0 m2.1 (got_carried c.args.t (Package got.0) got.1 c.pass.inside.seat.me c.compare_exchange-found.new.seat.me got.3 c.pass.invariant.0 m2 c.exchange-slot.ensures.3)
+          (ap (λ (z : Knows). z.hand) view) (ap (λ (z : Knows). z.spent) view ∙ (ap (λ (z : Knows). z.spent) got.2.now ∙ c.pass.invariant.3)) (of_package c.args.t (bare got.0) refl (subst (λ (z : Knows × ℕ). Has z.0 z.1 (bare got.0)) (λ i. (sym view i, got.2.thread i)) (has_out got.1 got.0 got.2.came.out))),
     )
 
 pub package_of-requires : goal.package_of-requires
@@ -71,7 +68,7 @@ returns-clause-result g c =
     let free : got.1.hand ≡ None = ap (λ (z : Knows). z.hand) got.2.now ∙ c.pass.invariant.1 in
     let last = got_last c.args.t (Package got.0) got.1 m c.compare_exchange-found.new.seat.me got.3 c.pass.invariant.0 c.exchange-slot.new.seat.me c.exchange-slot.ensures.3 free c.load.new.seat.me c.load.ensures.2 in
     let found = got_found c.args.t (Package got.0) got.1 m c.compare_exchange-found.new.seat.me got.3 c.exchange-slot.result c.exchange-slot.ensures.2 in
-    let same : got.0 ≡ c.package_of.result = package_is got.0 c.package_of.result c.exchange-slot.result found c.package_of.ensures in
+    let same : got.0 ≡ c.package_of.result = cc (found, c.package_of.ensures) in
     subst (λ (p : PassView). Gets c.args.code c.args.t c.package_of.result p.knows c.load.new.seat.me.0) c.pass.view_is
     (subst (λ (z : PackageView × Knows). Gets c.args.code c.args.t z.0 m.0 z.1) (λ i. (same i, sym last i)) got.2)
 
@@ -81,6 +78,6 @@ returns-clause-left g c =
     let m = c.pass.inside.seat.me in
     let key : Terms = c.self.inside.board.shared.key in
     let found = got_found c.args.t (Package got.0) got.1 m c.compare_exchange-found.new.seat.me got.3 c.exchange-slot.result c.exchange-slot.ensures.2 in
-    let same : got.0 ≡ c.package_of.result = package_is got.0 c.package_of.result c.exchange-slot.result found c.package_of.ensures in
+    let same : got.0 ≡ c.package_of.result = cc (found, c.package_of.ensures) in
     subst (λ (z : HallView × PassView). IsAsLeft z.0.terms z.1.knows c.package_of.result) (λ i. (c.self.view_is i, c.pass.view_is i))
     (subst (λ (q : PackageView). IsAsLeft key m.0 q) same (got.4 key (c.requires.picked ∙ ap (λ (h : HallView). Some h.terms) (sym c.self.view_is))))

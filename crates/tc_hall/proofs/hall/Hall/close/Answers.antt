@@ -4,6 +4,8 @@ use mathlib.Core.Option.{some}
 use lib.ListN.{get_elem?}
 use Rattle.tc_segment.specs.View.{LockView}
 use Rattle.tc_context.specs.View.{PackageView}
+use Rattle.tc_hall.specs.declared.board.Terms.{Terms}
+use Rattle.tc_hall.specs.declared.board.Knows.{Knows}
 use Rattle.tc_hall.specs.declared.board.Cargo.{Cargo}
 use Rattle.tc_hall.specs.declared.board.Cargo.TheVariants.{Package, Lock}
 use Rattle.tc_hall.specs.PassView.{PassView, HallView}
@@ -12,6 +14,10 @@ use Rattle.tc_hall.specs.Steps.{HasSeenAll, HasAll, IsFree, IsEnd}
 use Rattle.tc_hall.specs.Made.{AreTaken, IsEmptied}
 use Rattle.tc_hall.proofs.Ended.{taken_none, taken_more, emptied_more, full_emptied, some_package, some_lock, ends}
 use Rattle.tc_hall.proofs.hall.Hall.close.Goals as goal
+
+-- what the call asks of the last pass
+abbrev Asked : Terms → Knows → Type 0
+Asked k v = HasSeenAll (threads k) v × HasAll k.workers v × IsFree v
 
 pub loop-t-init : goal.loop-t-init
 loop-t-init c =
@@ -29,10 +35,8 @@ pub package_of-requires : goal.package_of-requires
 package_of-requires c =
     let key = c.self.inside.board.shared.key in
     let v = c.pass.inside.seat.me.0 in
-    let seen : HasSeenAll (threads key) v = subst (λ (p : PassView). HasSeenAll (threads key) p.knows) (sym c.pass.view_is) (subst (λ (h : HallView). HasSeenAll (threads h.terms) c.args.pass.knows) (sym c.self.view_is) c.requires.done) in
-    let all : HasAll key.workers v = subst (λ (p : PassView). HasAll key.workers p.knows) (sym c.pass.view_is) (subst (λ (h : HallView). HasAll h.terms.workers c.args.pass.knows) (sym c.self.view_is) c.requires.all) in
-    let free : IsFree v = subst (λ (p : PassView). IsFree p.knows) (sym c.pass.view_is) c.requires.free in
-    some_package key c.pass.inside.seat.id v _ _ c.close_with-closed.ensures.values.2 c.pass.invariant.3 seen all free c.loop-t.t c.take.result (let m = c.self.invariant.0 in omega arith)
+    let asked : Asked key v = subst (λ (z : HallView × PassView). Asked z.0.terms z.1.knows) (λ i. (sym c.self.view_is i, sym c.pass.view_is i)) (c.requires.done, c.requires.all, c.requires.free) in
+    some_package key c.pass.inside.seat.id v _ _ c.close_with-closed.ensures.values.2 c.pass.invariant.3 asked.0 asked.1 asked.2 c.loop-t.t c.take.result (let m = c.self.invariant.0 in omega arith)
     (ap (λ (l : List (Option Cargo)). get_elem? l c.loop-t.t) (sym c.loop-t.invariant.same) ∙ c.take.ensures.value)
 
 pub push_reserved-requires : goal.push_reserved-requires
@@ -76,11 +80,9 @@ pub lock_of-requires : goal.lock_of-requires
 lock_of-requires c =
     let key = c.self.inside.board.shared.key in
     let v = c.pass.inside.seat.me.0 in
-    let seen : HasSeenAll (threads key) v = subst (λ (p : PassView). HasSeenAll (threads key) p.knows) (sym c.pass.view_is) (subst (λ (h : HallView). HasSeenAll (threads h.terms) c.args.pass.knows) (sym c.self.view_is) c.requires.done) in
-    let all : HasAll key.workers v = subst (λ (p : PassView). HasAll key.workers p.knows) (sym c.pass.view_is) (subst (λ (h : HallView). HasAll h.terms.workers c.args.pass.knows) (sym c.self.view_is) c.requires.all) in
-    let free : IsFree v = subst (λ (p : PassView). IsFree p.knows) (sym c.pass.view_is) c.requires.free in
+    let asked : Asked key v = subst (λ (z : HallView × PassView). Asked z.0.terms z.1.knows) (λ i. (sym c.self.view_is i, sym c.pass.view_is i)) (c.requires.done, c.requires.all, c.requires.free) in
     let at = ap (λ (l : List (Option Cargo)). get_elem? l (c.self.inside.threads + c.loop-i.i)) (sym c.loop-t.invariant.same ∙ sym c.loop-i.invariant.same) ∙ c.take-in-loop-i.ensures.value in
-    some_lock key c.pass.inside.seat.id v _ _ c.close_with-closed.ensures.values.2 c.pass.invariant.3 seen all free c.loop-i.i c.take-in-loop-i.result (let m = c.self.invariant.3 in omega arith)
+    some_lock key c.pass.inside.seat.id v _ _ c.close_with-closed.ensures.values.2 c.pass.invariant.3 asked.0 asked.1 asked.2 c.loop-i.i c.take-in-loop-i.result (let m = c.self.invariant.3 in omega arith)
     (subst (λ (z : ℕ). get_elem? (slots_items c.close_with-closed.result.slots) (z + c.loop-i.i) ≡ some c.take-in-loop-i.result) c.self.invariant.0 at)
 
 pub push_reserved-requires-in-loop-i : goal.push_reserved-requires-in-loop-i
@@ -114,12 +116,10 @@ pub returns : goal.returns
 returns c =
     let key = c.self.inside.board.shared.key in
     let v = c.pass.inside.seat.me.0 in
-    let seen : HasSeenAll (threads key) v = subst (λ (p : PassView). HasSeenAll (threads key) p.knows) (sym c.pass.view_is) (subst (λ (h : HallView). HasSeenAll (threads h.terms) c.args.pass.knows) (sym c.self.view_is) c.requires.done) in
-    let all : HasAll key.workers v = subst (λ (p : PassView). HasAll key.workers p.knows) (sym c.pass.view_is) (subst (λ (h : HallView). HasAll h.terms.workers c.args.pass.knows) (sym c.self.view_is) c.requires.all) in
-    let free : IsFree v = subst (λ (p : PassView). IsFree p.knows) (sym c.pass.view_is) c.requires.free in
+    let asked : Asked key v = subst (λ (z : HallView × PassView). Asked z.0.terms z.1.knows) (λ i. (sym c.self.view_is i, sym c.pass.view_is i)) (c.requires.done, c.requires.all, c.requires.free) in
     let n : c.loop-t.t ≡ threads key = (let b = c.loop-t.auto.t-end in let z = c.loop-t-test.false in let m = c.self.invariant.0 in omega arith) in
     let m : c.loop-i.i ≡ locks key = (let b = c.loop-i.auto.i-end in let z = c.loop-i-test.false in let m = c.self.invariant.3 in omega arith) in
     let taken = subst (λ (z : ℕ). AreTaken (λ (q : PackageView). Package q) 0 z (slots_items c.close_with-closed.result.slots) c.loop-t.packages.items) n c.loop-t.invariant.taken in
     let taken_locks = subst (λ (z : ℕ × ℕ × List (Option Cargo)). AreTaken (λ (q : LockView). Lock q) z.0 z.1 z.2 c.loop-i.lock_states.items) (λ i. (c.self.invariant.0 i, m i, c.loop-t.invariant.same i)) c.loop-i.invariant.taken in
     subst (λ (z : HallView × PassView). IsEnd z.0.terms z.1.knows c.loop-t.packages.items c.loop-i.lock_states.items) (λ i. (c.self.view_is i, c.pass.view_is i))
-    (ends key c.pass.inside.seat.id v _ _ c.close_with-closed.ensures.values.2 c.pass.invariant.3 seen all free c.loop-t.packages.items c.loop-i.lock_states.items taken taken_locks)
+    (ends key c.pass.inside.seat.id v _ _ c.close_with-closed.ensures.values.2 c.pass.invariant.3 asked.0 asked.1 asked.2 c.loop-t.packages.items c.loop-i.lock_states.items taken taken_locks)

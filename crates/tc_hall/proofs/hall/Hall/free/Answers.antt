@@ -1,12 +1,13 @@
-use Rattle.std.proofs.Common.{◌≡◌, ◌<◌, ◌+◌, ℕ, [], ◌∷◌, Option, Some, None, refl, sym, ap, ◌∙◌, subst, arith}
+use Rattle.std.proofs.Common.{◌≡◌, ◌<◌, ◌+◌, ℕ, [], ◌∷◌, Some, refl, sym, ap, ◌∙◌, subst, arith}
 use Rattle.tc_segment.specs.View.{kept}
 use Rattle.tc_hall.specs.declared.board.Knows.{Knows}
-use Rattle.tc_hall.specs.declared.board.Cargo.{Cargo}
 use Rattle.tc_hall.specs.declared.board.Cargo.TheVariants.{Lock}
 use Rattle.tc_hall.specs.PassView.{PassView, HallView}
 use Rattle.tc_hall.specs.Rule.{threads, locks}
 use Rattle.tc_hall.specs.Steps.{Sat, MayFree, Freed}
-use Rattle.tc_hall.proofs.Stepping.{ReachesLock, reaches_lock, FreesAll, frees}
+use Rattle.tc_hall.specs.Order.{of_lock}
+use Rattle.tc_hall.proofs.Cases.{clash}
+use Rattle.tc_hall.proofs.Stepping.{FreesAll, frees, reaches}
 use Rattle.tc_hall.proofs.Putting.{freed}
 use Rattle.tc_hall.proofs.Holding.{put_slot, put_found, put_carried, put_view}
 use Rattle.tc_hall.proofs.hall.Hall.free.Goals as goal
@@ -22,7 +23,7 @@ load-requires c =
     let at : threads key + l.number ≡ c.self.inside.threads + c.number.result = (let n = c.self.invariant.0 in let e = c.number.ensures in omega arith) in (
       own,
       omega (arith, c.self.invariant.1, c.self.invariant.3, c.number.ensures),
-      subst (λ (z : ℕ). ReachesLock key c.self.inside.board.shared.table_id.slots seat.id (z + 2) seat.me.0 seat.me.1) at (reaches_lock key _ seat.id l.number seat.me.0 (kept l) seat.me.1 c.pass.invariant.0 c.pass.invariant.1 c.pass.invariant.3 may.has),
+      reaches key _ seat.id (c.self.inside.threads + c.number.result) seat.me.0 seat.me.1 c.pass.invariant.0 c.pass.invariant.1 c.pass.invariant.3 (of_lock l.number (kept l) (sym at) may.has),
     )
 
 pub exchange-requires : goal.exchange-requires
@@ -36,10 +37,7 @@ pub unreachable-requires : goal.unreachable-requires
 unreachable-requires c =
     let slot : ℕ = c.self.inside.threads + c.number.result in
     let none = put_found slot (Lock c.args.lock) c.pass.inside.seat.me c.load.new.seat.me c.pass.invariant.0 (c.load.ensures.2 slot refl) c.exchange.result c.exchange.ensures.2 in
-    apart c.in-Some.field-0 c.exchange.result none c.in-Some.is
-  where
-    apart : (p : Cargo) (x : Option Cargo) → x ≡ None → x ≡ Some p → ⊥
-    apart p x a b = cc (a, b)
+    clash c.exchange.result c.in-Some.field-0 none c.in-Some.is
 
 pub store-requires : goal.store-requires
 store-requires c =

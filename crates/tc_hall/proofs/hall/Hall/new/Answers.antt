@@ -3,7 +3,7 @@ use Rattle.tc_elf.specs.declared.limits.TheConstants.{MAX_THREADS, MAX_GUARDS}
 use Rattle.tc_elf.specs.Shown.{Shown}
 use Rattle.tc_hall.specs.declared.board.Terms.{Terms}
 use Rattle.tc_hall.specs.declared.board.Knows.{Knows}
-use Rattle.tc_hall.specs.Rule.{IsLimited}
+use Rattle.tc_hall.specs.Rule.{IsInLimits}
 use Rattle.tc_hall.specs.Made.{AreStocked}
 use Rattle.tc_hall.proofs.Stepping.{splits}
 use Rattle.tc_hall.proofs.Ordering.{opens_order}
@@ -14,7 +14,7 @@ pub new-requires : goal.new-requires
 new-requires c =
     let k : Terms = record { image = c.of.result; fuel = c.args.fuel; workers = c.args.workers; limit = c.args.limit } in
     let image = c.of.ensures in
-    let limits : IsLimited k = record {
+    let limits : IsInLimits k = record {
       threads = subst (λ (x : Shown). length x.entries ≤ MAX_THREADS) (sym image) (omega (arith, c.threads-threads.ensures.bound));
       locks = subst (λ (x : Shown). length x.guards ≤ MAX_GUARDS) (sym image) (omega (arith, c.guards-locks.ensures.bound));
       fuel = c.requires.fuel.1;

@@ -1,13 +1,14 @@
-use Rattle.std.proofs.Common.{◌≡◌, ◌<◌, ℕ, [], ◌∷◌, Option, Some, None, refl, sym, ap, ◌∙◌, subst, arith}
+use Rattle.std.proofs.Common.{◌≡◌, ◌<◌, ℕ, [], ◌∷◌, Option, Some, refl, sym, ap, ◌∙◌, subst, arith}
 use Rattle.tc_context.specs.View.{bare}
 use Rattle.tc_hall.specs.declared.board.Knows.{Knows}
 use Rattle.tc_hall.specs.declared.board.Terms.{Terms}
-use Rattle.tc_hall.specs.declared.board.Cargo.{Cargo}
 use Rattle.tc_hall.specs.declared.board.Cargo.TheVariants.{Package}
 use Rattle.tc_hall.specs.PassView.{PassView, HallView}
 use Rattle.tc_hall.specs.Places.{IsInRange}
-use Rattle.tc_hall.specs.Rule.{threads, locks, Has}
+use Rattle.tc_hall.specs.Rule.{threads, locks}
 use Rattle.tc_hall.specs.Steps.{Sat, MayPut, Gave, IsAsLeft}
+use Rattle.tc_hall.specs.Order.{of_package}
+use Rattle.tc_hall.proofs.Cases.{clash}
 use Rattle.tc_hall.proofs.Stepping.{reaches, FillsAs, Fills, fills}
 use Rattle.tc_hall.proofs.Putting.{may_put_as, left_as, gave}
 use Rattle.tc_hall.proofs.Holding.{put_slot, put_found, put_carried, put_view}
@@ -22,7 +23,7 @@ load-requires g c =
     let t : c.thread-t.result ≡ c.args.«package».context.thread = c.thread-t.ensures in (
       own,
       omega (arith, c.self.invariant.0, c.self.invariant.1),
-      reaches c.self.inside.board.shared.key _ seat.id c.thread-t.result seat.me.0 (bare c.args.«package») seat.me.1 c.pass.invariant.0 c.pass.invariant.1 c.pass.invariant.3 (subst (λ (z : ℕ). Has seat.me.0 z (bare c.args.«package»)) (sym t) may.has),
+      reaches c.self.inside.board.shared.key _ seat.id c.thread-t.result seat.me.0 seat.me.1 c.pass.invariant.0 c.pass.invariant.1 c.pass.invariant.3 (of_package c.args.«package».context.thread (bare c.args.«package») t may.has),
     )
 
 pub exchange-requires : goal.exchange-requires
@@ -34,10 +35,7 @@ exchange-requires g c =
 pub unreachable-requires : goal.unreachable-requires
 unreachable-requires g c =
     let none = put_found c.thread-t.result (Package c.args.«package») c.pass.inside.seat.me c.load.new.seat.me c.pass.invariant.0 (c.load.ensures.2 c.thread-t.result refl) c.exchange.result c.exchange.ensures.2 in
-    apart c.in-Some.field-0 c.exchange.result none c.in-Some.is
-  where
-    apart : (p : Cargo) (x : Option Cargo) → x ≡ None → x ≡ Some p → ⊥
-    apart p x a b = cc (a, b)
+    clash c.exchange.result c.in-Some.field-0 none c.in-Some.is
 
 pub store-requires : goal.store-requires
 store-requires g c =

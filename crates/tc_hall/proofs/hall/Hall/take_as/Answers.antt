@@ -1,18 +1,16 @@
-use Rattle.std.proofs.Common.{◌≡◌, ◌+◌, ◌<◌, ℕ, [], ◌∷◌, Option, Some, None, refl, sym, ap, ◌∙◌, subst, arith}
+use Rattle.std.proofs.Common.{◌≡◌, ◌+◌, ◌<◌, ℕ, Option, Some, None, refl, sym, ap, ◌∙◌, subst, arith}
 use Rattle.tc_segment.specs.View.{LockView, kept}
 use Rattle.tc_hall.specs.declared.board.Knows.{Knows}
-use Rattle.tc_hall.specs.declared.board.Cargo.{Cargo}
 use Rattle.tc_hall.specs.declared.board.Cargo.TheVariants.{Lock}
 use Rattle.tc_hall.specs.PassView.{PassView, HallView}
 use Rattle.tc_hall.specs.Rule.{threads, locks, HasLock}
 use Rattle.tc_hall.specs.declared.board.Terms.{Terms}
 use Rattle.tc_hall.specs.Steps.{Takes, IsStateAsLeft}
-use Rattle.tc_hall.proofs.Stepping.{TakesAll, takes_lock, lays_lock}
+use Rattle.tc_hall.specs.Order.{of_lock}
+use Rattle.tc_hall.proofs.Stepping.{TakesAll, takes_lock, lays}
+use Rattle.tc_hall.proofs.Outs.{loose_out}
 use Rattle.tc_hall.proofs.Holding.{got_slot, got_found, got_carried, got_view, got_last, got_empty}
 use Rattle.tc_hall.proofs.hall.Hall.take_as.Goals as goal
-
-lock_is : (a b : LockView) (x : Option Cargo) → x ≡ Some (Lock a) → x ≡ Some (Lock b) → a ≡ b
-lock_is a b x e f = cc (e, f)
 
 pub compare_exchange-found-requires : goal.compare_exchange-found-requires
 compare_exchange-found-requires g c =
@@ -47,8 +45,9 @@ load-requires g c =
     let view = got_view slot (Lock got.0) got.1 c.pass.inside.seat.me c.compare_exchange-found.new.seat.me got.3 c.pass.invariant.0 m2 c.exchange-slot.ensures.3 in (
       c.exchange-slot.ensures.0 ∙ (did.0 ∙ own),
       omega (arith, c.self.invariant.1),
-      lays_lock key _ _ c.args.lock m2.0 (kept got.0) m2.1 (got_carried slot (Lock got.0) got.1 c.pass.inside.seat.me c.compare_exchange-found.new.seat.me got.3 c.pass.invariant.0 m2 c.exchange-slot.ensures.3 ∙ ap (λ (z : ℕ). (z, None) ∷ []) at)
-          (ap (λ (z : Knows). z.hand) view ∙ ap (λ (z : ℕ). Some z) at) (ap (λ (z : Knows). z.spent) view ∙ (ap (λ (z : Knows). z.spent) got.2.now ∙ c.pass.invariant.3)) (subst (λ (z : Knows). HasLock z c.args.lock (kept got.0)) (sym view) got.2.has),
+      lays key _ _ slot m2.0 m2.1 (got_carried slot (Lock got.0) got.1 c.pass.inside.seat.me c.compare_exchange-found.new.seat.me got.3 c.pass.invariant.0 m2 c.exchange-slot.ensures.3)
+          (ap (λ (z : Knows). z.hand) view) (ap (λ (z : Knows). z.spent) view ∙ (ap (λ (z : Knows). z.spent) got.2.now ∙ c.pass.invariant.3))
+          (of_lock c.args.lock (kept got.0) at (subst (λ (z : Knows × ℕ). HasLock z.0 z.1 (kept got.0)) (λ i. (sym view i, got.2.rest.number i)) (loose_out got.1 got.0 got.2.came.out))),
     )
 
 pub lock_of-requires : goal.lock_of-requires
@@ -78,7 +77,7 @@ returns-clause-result g c =
     let free : got.1.hand ≡ None = ap (λ (z : Knows). z.hand) got.2.now ∙ c.pass.invariant.1 in
     let last = got_last slot (Lock got.0) got.1 m c.compare_exchange-found.new.seat.me got.3 c.pass.invariant.0 c.exchange-slot.new.seat.me c.exchange-slot.ensures.3 free c.load.new.seat.me c.load.ensures.2 in
     let found = got_found slot (Lock got.0) got.1 m c.compare_exchange-found.new.seat.me got.3 c.exchange-slot.result c.exchange-slot.ensures.2 in
-    let same : got.0 ≡ c.lock_of.result = lock_is got.0 c.lock_of.result c.exchange-slot.result found c.lock_of.ensures in
+    let same : got.0 ≡ c.lock_of.result = cc (found, c.lock_of.ensures) in
     subst (λ (p : PassView). Takes c.args.lock c.lock_of.result p.knows c.load.new.seat.me.0) c.pass.view_is
     (subst (λ (z : LockView × Knows). Takes c.args.lock z.0 m.0 z.1) (λ i. (same i, sym last i)) got.2)
 
@@ -89,6 +88,6 @@ returns-clause-left g c =
     let m = c.pass.inside.seat.me in
     let key : Terms = c.self.inside.board.shared.key in
     let found = got_found slot (Lock got.0) got.1 m c.compare_exchange-found.new.seat.me got.3 c.exchange-slot.result c.exchange-slot.ensures.2 in
-    let same : got.0 ≡ c.lock_of.result = lock_is got.0 c.lock_of.result c.exchange-slot.result found c.lock_of.ensures in
+    let same : got.0 ≡ c.lock_of.result = cc (found, c.lock_of.ensures) in
     subst (λ (z : HallView × PassView). IsStateAsLeft z.0.terms z.1.knows c.args.lock c.lock_of.result) (λ i. (c.self.view_is i, c.pass.view_is i))
     (subst (λ (q : LockView). IsStateAsLeft key m.0 c.args.lock q) same (got.4 key (c.requires.picked.1 ∙ ap (λ (h : HallView). Some h.terms) (sym c.self.view_is))))
