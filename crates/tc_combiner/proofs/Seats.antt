@@ -9,7 +9,7 @@ use Rattle.tc_hall.specs.declared.board.Terms.{Terms}
 use Rattle.tc_hall.specs.Rule.{locks, threads}
 use Rattle.tc_queue.specs.View.{QueueView}
 use Rattle.tc_combiner.specs.View.{AreSeats, no_seat}
-use Rattle.tc_combiner.specs.Ends.{AreSameSeats, IsSameSeat, seat_at}
+use Rattle.tc_combiner.specs.Ends.{AreSameSeats, AtSeat, IsSameSeat, seat_at}
 use Rattle.tc_queue.specs.Lines.{SeatView, IsSeatOf}
 
 module _ {A B : Type 0} where
@@ -90,3 +90,14 @@ module _ {S Z : Type 0} where
   -- the seats as they were written back
   pub written_back : (seen : S → SeatView) (v : Vec S Z) (xs ts : List S) → xs ≡ v.items → AreSameSeats (map seen xs) (map seen ts) → (with_items v ts).items ≡ ts
   written_back seen v xs ts e same = with_items_is v ts (sym (map_length seen ts) ∙ (same.count ∙ (map_length seen xs ∙ (ap length e ∙ sym v.ok.0))))
+
+module _ {S : Type 0} where
+  -- what was done at one seat
+  pub at_seat : (seen : S → SeatView) (P : SeatView → SeatView → Type 0) (ss : List S) (i : ℕ) (s t : S) → i < length ss → s ≡ get_or ss i s → IsSameSeat (seen (get_or ss i s)) (seen t) → P (seen (get_or ss i s)) (seen t) → AtSeat i (map seen ss) (map seen (set ss i t)) P
+  at_seat seen P ss i s t deep is same h =
+      let before : seat_at (map seen ss) i ≡ seen (get_or ss i s) = seat_before seen ss i s no_seat deep is ∙ ap seen is in
+      let after : seat_at (map seen (set ss i t)) i ≡ seen t = seat_after seen ss i t no_seat deep in record {
+        same = seats_set seen ss i s t deep is same;
+        others = λ j ne. other_seats seen ss i j t no_seat ne;
+        here = subst₂ P (sym before) (sym after) h;
+      }

@@ -70,24 +70,6 @@ ready_in (Look t x ∷ cs) = ready_in cs
 ready_in (Stop ∷ cs) = ready_in cs
 ready_in (Stopped x ∷ cs) = ready_in cs
 
--- calls were added, and the list got the threads that they put as ready, in order, each of them one of so many
-pub record Readied (threads : ℕ) (old new : List ℕ) (v w : Knows) : Type 0 where
-  pub calls : List Call
-  pub added : w.calls ≡ v.calls ++ calls
-  pub told : new ≡ old ++ ready_in calls
-  pub known : All (λ t. t < threads) (ready_in calls)
-
--- calls were added that put no thread as ready
-abbrev pub ReadiesNone : Knows → Knows → Type 0
-ReadiesNone v w = (threads : ℕ) (ts : List ℕ) → Readied threads ts ts v w
-
--- the pass made calls, and has out what it had
-pub record Stays (p q : PassView) : Type 0 where
-  pub own : IsSamePass p q
-  pub walks : Walks p.knows q.knows
-  pub none : ReadiesNone p.knows q.knows
-  pub outs : outs q.knows ≡ outs p.knows
-
 -- these calls are questions of this turn alone
 abbrev pub AreAsked : Turn → List LineCall → Type 0
 AreAsked u [] = Unit {0}
@@ -98,8 +80,8 @@ AreAsked u (Leave x a ∷ cs) = (x ≡ u) × AreAsked u cs
 
 -- the seat asked for this turn, and did nothing else
 pub record Asks (u : Turn) (s t : SeatView) : Type 0 where
-  pub table : t.table ≡ s.table
   pub threads : t.threads ≡ s.threads
+  pub table : t.table ≡ s.table
   pub lines : List LineCall
   pub calls : t.calls ≡ s.calls ++ lines
   pub asked : AreAsked u lines

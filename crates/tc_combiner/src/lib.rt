@@ -29,6 +29,7 @@ mod calls;
 mod desk;
 mod ends;
 mod found;
+mod hands;
 mod passed;
 mod ready;
 mod release;
