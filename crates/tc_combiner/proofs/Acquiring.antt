@@ -25,7 +25,7 @@ use Rattle.tc_combiner.specs.Answers.{AcquiredAs, Acquires, DidFirst, FirstAs, M
 use Rattle.tc_combiner.specs.Acts.{Acts, IsAtHall, MayGive, saw}
 use Rattle.tc_combiner.proofs.Acting.{adds_then, acts_then, acts_by, owned_by}
 use Rattle.tc_combiner.proofs.Owning.{counted_then, counted_owned, granted_with, takes_in}
-use Rattle.tc_combiner.proofs.Answering.{back_answers, keeps_answers, takes_none, wider}
+use Rattle.tc_combiner.proofs.Answering.{keeps_answers, takes_none, wider}
 use Rattle.tc_combiner.proofs.Packages.{no_other, taken_good, ungranted_fits, ungranted_plain}
 
 -- ---- packages that are put back

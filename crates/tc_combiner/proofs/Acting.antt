@@ -1,16 +1,18 @@
 -- Calls of a pass, one after another, with each call that counts.
-use Rattle.std.proofs.Common.{◌≡◌, ◌≢◌, ◌==◌, ◌<◌, ◌≤◌, ◌+◌, ℕ, Bool, true, false, cond, arith, All, List, [], ◌∷◌, ◌++◌, length, filter, refl, sym, ap, ◌∙◌, subst, append_assoc, append-nil}
+use Rattle.std.proofs.Common.{◌≡◌, ◌≢◌, ◌==◌, ◌<◌, ◌≤◌, ◌+◌, ℕ, Bool, true, false, cond, arith, All, List, [], ◌∷◌, ◌++◌, length, length-append, filter, refl, sym, ap, ◌∙◌, subst, subst₂, append_assoc, append-nil}
 use Rattle.std.proofs.lemmas.Bool.Decides.{nat_tests}
 use Rattle.std.proofs.lemmas.List.Elements.{filter-append, All-append, All-nil}
 use Rattle.tc_elf.specs.Shown.{Shown}
 use Rattle.tc_context.specs.View.{PackageView}
+use Rattle.tc_segment.specs.View.{LockView}
 use Rattle.tc_hall.specs.declared.board.Knows.{Knows}
+use Rattle.tc_hall.specs.declared.board.Miss.{Miss}
 use Rattle.tc_hall.specs.declared.board.Terms.{Terms}
 use Rattle.tc_hall.specs.declared.board.Call.{Call}
 use Rattle.tc_hall.specs.declared.board.Call.TheVariants.{Put, Free, Look, Stop, Stopped}
 use Rattle.tc_hall.specs.declared.place.Place.TheVariants.{Ready, Parked, Done, Waiting}
 use Rattle.tc_hall.specs.Outs.{Called, Item, outs}
-use Rattle.tc_hall.specs.Steps.{IsSamePass, SawStopped, after_miss, after_stopped}
+use Rattle.tc_hall.specs.Steps.{IsSamePass, SawStopped, after_claim, after_miss, after_stopped, after_take}
 use Rattle.tc_combiner.proofs.Owning.{moves_none}
 use Rattle.tc_hall.specs.Rule.{threads}
 use Rattle.tc_isa.specs.declared.limits.TheConstants.{MAX_HELD}
@@ -18,7 +20,7 @@ use Rattle.tc_hall.specs.PassView.{HallView, PassView}
 use Rattle.tc_combiner.specs.declared.hands.Hands.{Hands}
 use Rattle.tc_combiner.specs.Packages.{IsWaiter}
 use Rattle.tc_combiner.specs.Walks.{HaveNoStop, Moves, Owned, Owns, ready_in}
-use Rattle.tc_combiner.specs.Acts.{counts, Adds, Acts, Acted, MayAct, saw, saw_if}
+use Rattle.tc_combiner.specs.Acts.{LooksEachTime, Tried, counts, Adds, Acts, Acted, MayAct, saw, saw_if}
 use Rattle.tc_combiner.proofs.Walking.{no_stops, told_then}
 
 pub adds_then : (ds es : List Call) (v w x : Knows) → Adds ds v w → Adds es w x → Adds (ds ++ es) v x
@@ -78,6 +80,49 @@ acts_looked b p q own s = record {
   };
   moves = moves_none p.knows q.knows (ap outs s.now);
 }
+
+-- ---- steps that were refused, and calls
+
+tried_none : (v w : Knows) → w.missed ≡ v.missed → w.calls ≡ v.calls → Tried 0 0 v w
+tried_none v w m c = record { misses = []; missed = m ∙ sym (append-nil v.missed); each = refl; calls = []; added = c ∙ sym (append-nil v.calls); all = refl }
+
+pub tried_taken : (v w : Knows) (l : LockView) → w ≡ after_take v l → Tried 0 0 v w
+tried_taken v w l e = tried_none v w (ap (λ (x : Knows). x.missed) e) (ap (λ (x : Knows). x.calls) e)
+
+pub tried_claimed : (v w : Knows) (q : PackageView) → w ≡ after_claim v q → Tried 0 0 v w
+tried_claimed v w q e = tried_none v w (ap (λ (x : Knows). x.missed) e) (ap (λ (x : Knows). x.calls) e)
+
+pub tried_missed : (v w : Knows) (word found : ℕ) → w ≡ after_miss v word found → Tried 1 0 v w
+tried_missed v w word found e = record { misses = record { word = word; found = found } ∷ []; missed = ap (λ (x : Knows). x.missed) e; each = refl; calls = []; added = ap (λ (x : Knows). x.calls) e ∙ sym (append-nil v.calls); all = refl }
+
+pub tried_looked : (v w : Knows) (word : ℕ) → w ≡ after_stopped v word → Tried 0 1 v w
+tried_looked v w word e = record { misses = []; missed = ap (λ (x : Knows). x.missed) e ∙ sym (append-nil v.missed); each = refl; calls = Stopped word ∷ []; added = ap (λ (x : Knows). x.calls) e; all = refl }
+
+tried_then : (a b c d : ℕ) (v w x : Knows) → Tried a b v w → Tried c d w x → Tried (a + c) (b + d) v x
+tried_then a b c d v w x h k = record {
+  misses = h.misses ++ k.misses;
+  missed = k.missed ∙ (ap (λ (l : List Miss). l ++ k.misses) h.missed ∙ append_assoc v.missed h.misses k.misses);
+  each = length-append h.misses k.misses ∙ (ap (λ (n : ℕ). n + length k.misses) h.each ∙ ap (λ (n : ℕ). a + n) k.each);
+  calls = h.calls ++ k.calls;
+  added = k.added ∙ (ap (λ (l : List Call). l ++ k.calls) h.added ∙ append_assoc v.calls h.calls k.calls);
+  all = length-append h.calls k.calls ∙ (ap (λ (n : ℕ). n + length k.calls) h.all ∙ ap (λ (n : ℕ). b + n) k.all);
+}
+
+pub tried_still : (v : Knows) → Tried 0 0 v v
+tried_still v = tried_none v v refl refl
+
+pub looks_none : (v : Knows) → LooksEachTime v v
+looks_none v = (0, tried_still v)
+
+pub looks_more : (v w x y : Knows) → LooksEachTime v w → Tried 1 0 w x → Tried 0 1 x y → LooksEachTime v y
+looks_more v w x y h m l = let t = tried_then (h.0 + 1) (h.0 + 0) 0 1 v x y (tried_then h.0 h.0 1 0 v w x h.1 m) l in
+    (h.0 + 1, subst₂ (λ (a b : ℕ). Tried a b v y) (let e : (h.0 + 1) + 0 ≡ h.0 + 1 = omega arith in e) (let e : (h.0 + 0) + 1 ≡ h.0 + 1 = omega arith in e) t)
+
+pub looked_once : (n : ℕ) (v w x : Knows) → Tried 0 n v w → Tried 0 1 w x → Tried 0 (n + 1) v x
+looked_once n v w x h l = tried_then 0 n 0 1 v w x h l
+
+pub looks_last : (v w x : Knows) → LooksEachTime v w → Tried 0 0 w x → LooksEachTime v x
+looks_last v w x h t = (h.0, subst₂ (λ (a b : ℕ). Tried a b v x) (let e : h.0 + 0 ≡ h.0 = omega arith in e) (let e : h.0 + 0 ≡ h.0 = omega arith in e) (tried_then h.0 h.0 0 0 v w x h.1 t))
 
 pub looked : (b : Bool) (p q r : PassView) → b ≡ false → Acts [] [] [] p q → Acts (saw_if b) [] [] q r → Acts [] [] [] p r
 looked b p q r e a s = acts_then [] [] [] [] [] p q r a (subst (λ (x : Bool). Acts (saw_if x) [] [] q r) e s)

@@ -21,25 +21,24 @@ use Rattle.tc_segment.specs.View.{LockView}
 use Rattle.tc_context.specs.View.{PackageView, IsSoundPackage, bare}
 use Rattle.tc_hall.specs.declared.board.Knows.{Knows}
 use Rattle.tc_hall.specs.declared.board.Call.{Call}
-use Rattle.tc_hall.specs.declared.board.Call.TheVariants.{Free, Stopped}
+use Rattle.tc_hall.specs.declared.board.Call.TheVariants.{Free}
 use Rattle.tc_hall.specs.declared.board.Terms.{Terms}
-use Rattle.tc_hall.specs.declared.place.Place.TheVariants.{Ready, Done}
+use Rattle.tc_hall.specs.declared.place.Place.TheVariants.{Done}
 use Rattle.tc_hall.specs.Outs.{Pack}
-use Rattle.tc_hall.specs.PassView.{HallView, PassView}
+use Rattle.tc_hall.specs.PassView.{HallView}
 use Rattle.tc_hall.specs.Rule.{IsInOrder, locked_in, locks, threads}
 use Rattle.tc_hall.specs.Steps.{put_call}
 use Rattle.tc_queue.specs.declared.turn.Turn.{Turn}
 use Rattle.tc_queue.specs.View.{QueueView}
 use Rattle.tc_queue.specs.Lines.{SeatView, IsSeatOf}
 use Rattle.tc_combiner.specs.declared.hands.Hands.{Hands}
-use Rattle.tc_combiner.specs.declared.passed.Passed.{Passed}
-use Rattle.tc_combiner.specs.declared.passed.Passed.TheVariants.{Home, Granted as Was_granted, Adopted as Was_adopted, Stopped as Passed_stopped}
+use Rattle.tc_combiner.specs.declared.passed.Passed.TheVariants.{Home, Granted as Was_granted, Stopped as Passed_stopped}
 use Rattle.tc_combiner.specs.declared.settled.Settled.TheVariants.{Ended, Stopped as Was_stopped}
 use Rattle.tc_combiner.specs.Packages.{IsPlain}
 use Rattle.tc_combiner.specs.Walks.{Asks, packed, ready_in}
 use Rattle.tc_combiner.specs.Acts.{Acts, IsAtHall, MayAct, MayGive}
 use Rattle.tc_combiner.specs.Answers.{PutAllBack, back}
-use Rattle.tc_combiner.specs.Release.{FollowedAs, MayRelease, turn_of}
+use Rattle.tc_combiner.specs.Release.{MayRelease, turn_of}
 use Rattle.tc_combiner.specs.Ends.{AreSameSeats, DidLeave, DidLeaveAll, Ending, Ends, IsEmptied, LeftAs, LeftInOrder, MayEnd, OneLeft, SeatsLeft, seat_at}
 use Rattle.tc_combiner.specs.View.{AreSeats, no_seat}
 use Rattle.tc_combiner.proofs.Acting.{acted_none, acted_then, owned_by}

@@ -1,5 +1,5 @@
 -- A desk that fits a bench still fits it after its calls.
-use Rattle.std.proofs.Common.{◌≡◌, ◌≢◌, ◌<◌, ◌≤◌, ℕ, List, length, get_or, refl, sym, ap, ◌∙◌, subst, subst₂, ◌∷◌, arith, Option, Some}
+use Rattle.std.proofs.Common.{◌≡◌, ◌<◌, ◌≤◌, ℕ, List, length, get_or, sym, ap, ◌∙◌, subst, subst₂, ◌∷◌, arith, Option, Some}
 use Rattle.tc_elf.specs.Shown.{Shown}
 use Rattle.tc_context.specs.View.{PackageView, IsSoundPackage, WantIsLawful, want_of}
 use Rattle.tc_hall.specs.Outs.{Pack}
@@ -72,4 +72,3 @@ at_bench b d q h f e n hand = record {
   out = subst₂ (λ (p : PassView) (a : Option PackageView). Owned p.knows (Pack q ∷ packed a)) (sym e) (sym n) hand;
   aside = λ a x. f.aside a (sym n ∙ x);
 }
-

@@ -3,10 +3,9 @@ use Rattle.std.proofs.Common.{◌≡◌, ◌≢◌, ◌<◌, ◌≤◌, ℕ, Boo
 use Rattle.std.proofs.lemmas.Bool.Decides.{nat_tests}
 use Rattle.tc_isa.specs.Sets.{has}
 use Rattle.tc_elf.specs.Shown.{Shown}
-use Rattle.tc_journal.specs.Batch.{last_of, run_of, ends_section, allows_of, may_adopt, is_passed, passes_to}
+use Rattle.tc_journal.specs.Batch.{last_of, run_of, ends_section, may_adopt, is_passed, passes_to}
 use Rattle.tc_journal.specs.declared.block.Block.{Block}
 use Rattle.tc_journal.specs.declared.block.Kind.{Kind}
-use Rattle.tc_journal.specs.declared.block.Kind.TheVariants.{Adopted, Granted}
 use Rattle.tc_segment.specs.View.{LockView, IsAtRest, blocks_of}
 use Rattle.tc_context.specs.View.{PackageView, IsAt, IsSoundPackage, IsLeft, IsNumber, MayPassTo, Rests, bare, granted_lock}
 use Rattle.tc_hall.specs.declared.board.Knows.{Knows}
@@ -22,7 +21,7 @@ use Rattle.tc_queue.specs.Words.{IsTurn}
 use Rattle.tc_combiner.specs.declared.passed.Passed.{Passed}
 use Rattle.tc_combiner.specs.declared.passed.Passed.TheVariants.{Home, Granted as Was_granted, Adopted as Was_adopted, Stopped as Was_stopped}
 use Rattle.tc_hall.specs.Outs.{Outs, outs, erase, unless, Item, Pack, Loose}
-use Rattle.tc_combiner.specs.Packages.{DidTakeOut, IsWaiter}
+use Rattle.tc_combiner.specs.Packages.{DidTakeOut}
 use Rattle.tc_combiner.specs.Walks.{Moves, Owned, Owns, ready_in}
 use Rattle.tc_combiner.specs.Release.{FollowedAs, IsReleased, MayRelease, adopts}
 use Rattle.tc_combiner.proofs.Owning.{comes_out, taken_with, swap, rotate}

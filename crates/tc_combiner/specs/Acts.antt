@@ -4,6 +4,7 @@ use Rattle.tc_isa.specs.declared.limits.TheConstants.{MAX_HELD}
 use Rattle.tc_segment.specs.View.{LockView}
 use Rattle.tc_context.specs.View.{PackageView, Rests, fits_of}
 use Rattle.tc_hall.specs.declared.board.Knows.{Knows}
+use Rattle.tc_hall.specs.declared.board.Miss.{Miss}
 use Rattle.tc_hall.specs.declared.board.Terms.{Terms}
 use Rattle.tc_hall.specs.declared.board.Call.{Call}
 use Rattle.tc_hall.specs.declared.board.Call.TheVariants.{Put, Free, Look, Stop, Stopped}
@@ -13,11 +14,12 @@ use Rattle.tc_hall.specs.PassView.{HallView, PassView}
 use Rattle.tc_hall.specs.Places.{IsInRange, code_of}
 use Rattle.tc_hall.specs.Rule.{threads, locks, IsInOrder, grants_adopted}
 use Rattle.tc_hall.specs.Steps.{IsSamePass}
+use Rattle.tc_queue.specs.Lines.{SeatView}
 use Rattle.tc_combiner.specs.declared.hands.Hands.{Hands}
 use Rattle.tc_combiner.specs.declared.found.Found.{Found}
 use Rattle.tc_combiner.specs.declared.found.Found.TheVariants.{Nobody, Next as Next_is, Unknown}
 use Rattle.tc_combiner.specs.Packages.{IsAside}
-use Rattle.tc_combiner.specs.Walks.{HaveNoStop, Moves, Owned, ready_in}
+use Rattle.tc_combiner.specs.Walks.{Asked, HaveNoStop, Moves, Owned, ready_in}
 
 -- any call but a look at STOP that saw no stop
 abbrev pub counts : Call → Bool
@@ -57,6 +59,27 @@ abbrev pub saw_at_unknown : Found → List Call
 saw_at_unknown Nobody = []
 saw_at_unknown (Next_is u) = []
 saw_at_unknown Unknown = saw
+
+-- so many steps of the pass were refused, and it made so many calls
+pub record Tried (refused made : ℕ) (v w : Knows) : Type 0 where
+  pub misses : List Miss
+  pub missed : w.missed ≡ v.missed ++ misses
+  pub each : length misses ≡ refused
+  pub calls : List Call
+  pub added : w.calls ≡ v.calls ++ calls
+  pub all : length calls ≡ made
+
+-- one call was made after each step that was refused
+abbrev pub LooksEachTime : Knows → Knows → Type 0
+LooksEachTime v w = (n : ℕ) × Tried n n v w
+
+-- after the first question each that was not answered was followed by one call
+abbrev pub LooksAfterFirst : SeatView → SeatView → Knows → Knows → Type 0
+LooksAfterFirst s t v w = (n m : ℕ) × Asked n s t × Tried 0 m v w × (m ≤ n) × (n ≤ m + 1)
+
+-- so it was before each look
+abbrev pub LooksBetween : SeatView → SeatView → Knows → Knows → Type 0
+LooksBetween s t v w = (m : ℕ) × Asked (m + 1) s t × Tried 0 m v w
 
 -- the package may be put at the place
 pub record MayGive (k : Terms) (v : Knows) (to : Place) (q : PackageView) : Type 0 where

@@ -8,7 +8,7 @@ ghost use Rattle.tc_hall.specs.Steps.{put_call};
 ghost use Rattle.tc_hall.specs.declared.board.Call.TheVariants.{Free};
 ghost use Rattle.tc_hall.specs.Outs.{Pack, Loose};
 ghost use Rattle.tc_combiner.specs.Packages.{IsWaiter};
-ghost use Rattle.tc_combiner.specs.Acts.{Acts, MayBringHome, MayGive, saw_if};
+ghost use Rattle.tc_combiner.specs.Acts.{Acts, MayBringHome, MayGive, Tried, saw_if};
 
 use tc_context::package::Package;
 use tc_hall::hall::{Hall, LockOut, NotWaiting};
@@ -35,9 +35,11 @@ pub(crate) fn free(hall: &Hall, pass: &mut Pass, lock: LockState)
 pub(crate) fn adopt(hall: &Hall, pass: &mut Pass, t: u32, lock: u32) -> Result<Package, NotWaiting>
     requires own { pass.old.table ≡ hall.now.table }
     requires places { (t < threads hall.now.terms) × (lock < locks hall.now.terms) }
-    ensures { MatchResult result
+    ensures acts { MatchResult result
         (λ q. Acts [] [] (Pack q ∷ []) pass.old pass.new × IsWaiter t lock pass.old.knows.image q)
         (λ e. Acts [] [] [] pass.old pass.new) }
+    ensures tried { MatchResult result (λ q. Tried 0 0 pass.old.knows pass.new.knows)
+        (λ e. Tried 1 0 pass.old.knows pass.new.knows) }
 {
     match hall.adopt(pass, t, lock) {
         Ok(waiter) => {
@@ -51,9 +53,11 @@ pub(crate) fn adopt(hall: &Hall, pass: &mut Pass, t: u32, lock: u32) -> Result<P
 pub(crate) fn take(hall: &Hall, pass: &mut Pass, lock: u32) -> Result<LockState, LockOut>
     requires own { pass.old.table ≡ hall.now.table }
     requires lock { lock < locks hall.now.terms }
-    ensures { MatchResult result
+    ensures acts { MatchResult result
         (λ l. Acts [] [] (Loose l ∷ []) pass.old pass.new × IsAtRest pass.old.knows.image lock l)
         (λ e. Acts [] [] [] pass.old pass.new) }
+    ensures tried { MatchResult result (λ l. Tried 0 0 pass.old.knows pass.new.knows)
+        (λ e. Tried 1 0 pass.old.knows pass.new.knows) }
 {
     match hall.take(pass, lock) {
         Ok(state) => Ok(state),
@@ -63,7 +67,8 @@ pub(crate) fn take(hall: &Hall, pass: &mut Pass, lock: u32) -> Result<LockState,
 
 pub(crate) fn stopped(hall: &Hall, pass: &mut Pass) -> bool
     requires { pass.old.table ≡ hall.now.table }
-    ensures { Acts (saw_if result) [] [] pass.old pass.new }
+    ensures acts { Acts (saw_if result) [] [] pass.old pass.new }
+    ensures tried { Tried 0 1 pass.old.knows pass.new.knows }
 {
     hall.stopped(pass)
 }

@@ -1,14 +1,15 @@
 //! The three waits of a desk. Each looks at STOP in each turn.
 
-ghost use Rattle.std.specs.Prelude.{ℕ, ◌≡◌, ◌<◌, [], ◌∷◌, None, Some};
+ghost use Rattle.std.specs.Prelude.{ℕ, ◌≡◌, ◌<◌, ◌≤◌, [], ◌∷◌, None, Some};
 ghost use Rattle.tc_segment.specs.View.{LockView, IsAtRest};
 ghost use Rattle.tc_context.specs.View.{PackageView};
 ghost use Rattle.tc_hall.specs.Rule.{threads, locks};
 ghost use Rattle.tc_queue.specs.Lines.{IsSeatOf};
 ghost use Rattle.tc_queue.specs.Words.{IsTurn};
 ghost use Rattle.tc_combiner.specs.Packages.{IsWaiter};
-ghost use Rattle.tc_combiner.specs.Walks.{Asks, AskedAs, loose, packed};
-ghost use Rattle.tc_combiner.specs.Acts.{Acts, saw_at_none, saw_at_unknown};
+ghost use Rattle.tc_combiner.specs.Walks.{Asked, Asks, AskedAs, loose, packed};
+ghost use Rattle.tc_combiner.specs.declared.found.Found.TheVariants.{Unknown};
+ghost use Rattle.tc_combiner.specs.Acts.{Acts, LooksAfterFirst, LooksEachTime, saw_at_none, saw_at_unknown};
 
 use crate::calls;
 use crate::found::Found;
@@ -30,6 +31,7 @@ pub(crate) fn take_home<R: Wait>(
     requires own { pass.old.table ≡ hall.now.table }
     requires place { lock < locks hall.now.terms }
     ensures acts { Acts (saw_at_none result) [] (loose result) pass.old pass.new }
+    ensures looks { LooksEachTime pass.old.knows pass.new.knows }
     ensures lock { (l : LockView) → result ≡ Some l → IsAtRest pass.old.knows.image lock l }
 {
     let pause = Backoff::new();
@@ -56,6 +58,7 @@ pub(crate) fn await_waiter<R: Wait>(
     requires own { pass.old.table ≡ hall.now.table }
     requires place { (t < threads hall.now.terms) × (lock < locks hall.now.terms) }
     ensures acts { Acts (saw_at_none result) [] (packed result) pass.old pass.new }
+    ensures looks { LooksEachTime pass.old.knows pass.new.knows }
     ensures waiter { (q : PackageView) → result ≡ Some q → IsWaiter t lock pass.old.knows.image q }
 {
     let pause = Backoff::new();
@@ -77,6 +80,8 @@ fn ask<R: Wait, Q: Waiters>(rt: &R, queue: &Q, seat: &mut Q::Seat, own: Turn) ->
     requires turn { IsTurn (Q.queue queue.now).threads own }
     ensures asks { Asks own (Q.seen seat.old) (Q.seen seat.new) }
     ensures found { AskedAs own (Q.seen seat.old) (Q.seen seat.new) result }
+    ensures once { (n : ℕ) × Asked n (Q.seen seat.old) (Q.seen seat.new) × (n ≤ 1)
+        × (result ≡ Unknown → n ≡ 1) }
 {
     if let Some(next) = queue.next(rt, seat, own) {
         return Found::Next(next);
@@ -102,6 +107,8 @@ pub(crate) fn find_next<R: Wait, Q: Waiters>(
     ensures acts { Acts (saw_at_unknown result) [] [] pass.old pass.new }
     ensures asks { Asks own (Q.seen seat.old) (Q.seen seat.new) }
     ensures found { AskedAs own (Q.seen seat.old) (Q.seen seat.new) result }
+    ensures looks { LooksAfterFirst (Q.seen seat.old) (Q.seen seat.new)
+        pass.old.knows pass.new.knows }
 {
     match ask(rt, queue, seat, own) {
         Found::Unknown => {}

@@ -20,7 +20,7 @@ use Rattle.tc_combiner.specs.View.{BenchView, DeskView, FitsBench}
 use Rattle.tc_combiner.specs.Walks.{Moves, Owns, packed}
 use Rattle.tc_combiner.proofs.Answering.{good_after}
 use Rattle.tc_combiner.proofs.Packages.{plain_good}
-use Rattle.tc_combiner.proofs.Telling.{end_stopped, stop_seen, unlock_stopped}
+use Rattle.tc_combiner.proofs.Telling.{acquire_seen, end_seen, unlock_seen}
 use Rattle.tc_workers.specs.Finished.{IsFinished}
 use Rattle.tc_workers.specs.Settled.{IsAnswer, step_of}
 use Rattle.tc_workers.specs.Worker.{HasClaimed, HasLeft, HasOut, HasSealed, IsAtDesk, IsClaimed, IsFit, IsStep, IsStill, MayGoBack, nothing}
@@ -202,7 +202,7 @@ acquired i q d e (Adopted p) h = absurd h.acquired
 acquired i q d e Shipped h = tt
 acquired i q d e Parked h = tt
 acquired i q d e Ended h = tt
-acquired i q d e Was_stopped h = (stop_seen h.calls d.pass.knows e.pass.knows h.adds (record { front = []; back = _; is = h.acquired.1.0 }), h.acquired.1.1)
+acquired i q d e Was_stopped h = (acquire_seen i q d e h, h.acquired.1.1)
 
 unlocked : (i : ℕ) (q : PackageView) (x : Block) (d e : DeskView) (s : Settled) → DidUnlock i q x d e s → IsAnswer d.pass.knows e s
 unlocked i q x d e (GoesOn p) h = good_after h.calls d.pass.knows e.pass.knows p h.adds h.unlocked.4.0
@@ -210,7 +210,7 @@ unlocked i q x d e (Adopted p) h = good_after h.calls d.pass.knows e.pass.knows 
 unlocked i q x d e Shipped h = tt
 unlocked i q x d e Parked h = tt
 unlocked i q x d e Ended h = tt
-unlocked i q x d e Was_stopped h = (stop_seen h.calls d.pass.knows e.pass.knows h.adds (unlock_stopped _ _ i q x _ _ _ _ h.calls h.unlocked), h.unlocked.3)
+unlocked i q x d e Was_stopped h = (unlock_seen i q x d e h, h.unlocked.3)
 
 ended : (q : PackageView) (x : Block) (d e : DeskView) (s : Settled) → DidEnd q x d e s → IsAnswer d.pass.knows e s
 ended q x d e (GoesOn p) h = absurd h.ended
@@ -218,7 +218,7 @@ ended q x d e (Adopted p) h = absurd h.ended
 ended q x d e Shipped h = tt
 ended q x d e Parked h = tt
 ended q x d e Ended h = tt
-ended q x d e Was_stopped h = (stop_seen h.calls d.pass.knows e.pass.knows h.adds (end_stopped _ q x _ _ _ _ h.calls h.ended), h.ended.5)
+ended q x d e Was_stopped h = (end_seen q x d e h, h.ended.5)
 
 slept : (q : PackageView) (x : Block) (d e : DeskView) (s : Settled) → SettledAs Slept q x d e s → IsAnswer d.pass.knows e s
 slept q x d e (GoesOn p) h = absurd h

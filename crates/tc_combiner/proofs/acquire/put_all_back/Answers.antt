@@ -1,4 +1,4 @@
-use Rattle.std.proofs.Common.{sym, ◌∙◌, refl}
+use Rattle.std.proofs.Common.{sym, ◌∙◌}
 use Rattle.tc_combiner.proofs.Acquiring.{puts_both}
 use Rattle.tc_combiner.proofs.acquire.put_all_back.Goals as goal
 

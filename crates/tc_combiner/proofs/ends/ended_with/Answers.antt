@@ -1,4 +1,4 @@
-use Rattle.std.proofs.Common.{map, refl, ◌∙◌, sym, subst, arith, Bool}
+use Rattle.std.proofs.Common.{map, refl, ◌∙◌, subst, arith, Bool}
 use Rattle.tc_hall.specs.Outs.{Pack}
 use Rattle.tc_combiner.specs.Walks.{packed}
 use Rattle.tc_combiner.specs.Ends.{DidLeaveAll}

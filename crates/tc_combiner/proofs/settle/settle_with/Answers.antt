@@ -1,6 +1,5 @@
 use Rattle.std.proofs.Common.{ℕ, List, [], ◌∷◌, refl, sym, ap, ◌∙◌, subst, map, arith, length, length-set, Option}
 use Rattle.tc_journal.specs.declared.block.End.{End}
-use Rattle.tc_journal.specs.declared.block.End.TheVariants.{Cut, Slept}
 use Rattle.tc_hall.specs.Outs.{Pack}
 use Rattle.tc_hall.specs.Rule.{threads}
 use Rattle.tc_combiner.specs.declared.settled.Settled.TheVariants.{GoesOn, Parked}

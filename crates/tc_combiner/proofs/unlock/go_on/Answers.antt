@@ -1,4 +1,4 @@
-use Rattle.std.proofs.Common.{ℕ, [], ◌∷◌, ◌++◌, refl, sym, ap, ◌∙◌}
+use Rattle.std.proofs.Common.{ℕ, [], ◌∷◌, ◌++◌, refl, ap, ◌∙◌}
 use Rattle.tc_hall.specs.Outs.{Pack}
 use Rattle.tc_combiner.specs.Walks.{packed}
 use Rattle.tc_combiner.specs.Packages.{HoldsNone}

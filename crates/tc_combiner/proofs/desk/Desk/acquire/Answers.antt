@@ -1,14 +1,13 @@
-use Rattle.std.proofs.Common.{◌≡◌, [], ◌∷◌, ◌++◌, List, map, refl, sym, ap, ◌∙◌, subst, subst₂, Option}
+use Rattle.std.proofs.Common.{◌≡◌, [], ◌∷◌, ◌++◌, List, map, refl, sym, ap, ◌∙◌, subst}
 use Rattle.tc_elf.specs.Shown.{Shown}
-use Rattle.tc_context.specs.View.{PackageView, want_of}
+use Rattle.tc_context.specs.View.{want_of}
 use Rattle.tc_hall.specs.declared.board.Call.{Call}
 use Rattle.tc_hall.specs.Outs.{Pack}
-use Rattle.tc_hall.specs.PassView.{PassView}
 use Rattle.tc_hall.specs.Rule.{threads}
-use Rattle.tc_combiner.specs.Walks.{Moves, Owned, packed}
-use Rattle.tc_combiner.specs.Acts.{Adds, IsAtHall}
+use Rattle.tc_combiner.specs.Walks.{Moves, packed}
+use Rattle.tc_combiner.specs.Acts.{Adds}
 use Rattle.tc_combiner.specs.Answers.{HasReadied, carried}
-use Rattle.tc_combiner.specs.Settling.{DidAcquire, HasSettled, Keeps, MaySettle, Works}
+use Rattle.tc_combiner.specs.Settling.{DidAcquire, Keeps, Works}
 use Rattle.tc_combiner.specs.View.{BenchView, DeskView, FitsBench, desk_of}
 use Rattle.tc_combiner.proofs.Fitting.{at_bench, fits_after, may_want}
 use Rattle.tc_combiner.proofs.Seats.{written_back}
@@ -60,6 +59,6 @@ returns-clause-acquired g c =
       c.in-Some.lock,
       ap (λ (x : Shown). want_of x c.args.«package».context) of ∙ (sym c.want.ensures ∙ c.in-Some.is),
       subst (λ ys. DidAcquire c.in-Some.lock c.args.«package» c.args.self.now (desk_of c.acquire_at.new.hands.pass (map g.Q.Waiters.seen ys) c.self.inside.sleepers c.self.inside.clock c.acquire_at.new.hands.aside c.acquire_at.new.hands.ready.items) c.acquire_at.result) (sym (written_back g.Q.Waiters.seen c.self.inside.seats c.as_mut_slice.result.now c.acquire_at.new.seats c.as_mut_slice.ensures.value c.acquire_at.ensures.same))
-      (subst (λ (d : DeskView). DidAcquire c.in-Some.lock c.args.«package» d (desk_of c.acquire_at.new.hands.pass (map g.Q.Waiters.seen c.acquire_at.new.seats) c.self.inside.sleepers c.self.inside.clock c.acquire_at.new.hands.aside c.acquire_at.new.hands.ready.items) c.acquire_at.result) is
-      (did_acquire c.bench.inside.hall.now.terms c.args.«package» (map g.Q.Waiters.seen c.as_mut_slice.result.now) (map g.Q.Waiters.seen c.acquire_at.new.seats) c.self.inside.sleepers c.self.inside.clock c.self.inside.hands.ready.items _ c.acquire_at.new.hands (ap (λ (d : DeskView). d.pass.knows.image) c.self.view_is ∙ (fits.image ∙ sym fits.hall)) c.in-Some.lock c.acquire_at.result c.acquire_at.ensures)),
+          (subst (λ (d : DeskView). DidAcquire c.in-Some.lock c.args.«package» d (desk_of c.acquire_at.new.hands.pass (map g.Q.Waiters.seen c.acquire_at.new.seats) c.self.inside.sleepers c.self.inside.clock c.acquire_at.new.hands.aside c.acquire_at.new.hands.ready.items) c.acquire_at.result) is
+          (did_acquire c.bench.inside.hall.now.terms c.args.«package» (map g.Q.Waiters.seen c.as_mut_slice.result.now) (map g.Q.Waiters.seen c.acquire_at.new.seats) c.self.inside.sleepers c.self.inside.clock c.self.inside.hands.ready.items _ c.acquire_at.new.hands (ap (λ (d : DeskView). d.pass.knows.image) c.self.view_is ∙ (fits.image ∙ sym fits.hall)) c.in-Some.lock c.acquire_at.result c.acquire_at.ensures)),
     )

@@ -1,18 +1,16 @@
-use Rattle.std.proofs.Common.{◌≡◌, [], ◌∷◌, ◌++◌, List, map, refl, sym, ap, ◌∙◌, subst, subst₂, Option}
+use Rattle.std.proofs.Common.{◌≡◌, [], ◌∷◌, ◌++◌, List, map, sym, ap, ◌∙◌, subst}
 use Rattle.tc_elf.specs.Shown.{Shown}
-use Rattle.tc_context.specs.View.{PackageView, want_of}
 use Rattle.tc_hall.specs.declared.board.Call.{Call}
 use Rattle.tc_hall.specs.Outs.{Pack}
-use Rattle.tc_hall.specs.PassView.{PassView}
 use Rattle.tc_hall.specs.Rule.{threads}
-use Rattle.tc_combiner.specs.Walks.{Moves, Owned, packed}
-use Rattle.tc_combiner.specs.Acts.{Adds, IsAtHall}
+use Rattle.tc_combiner.specs.Walks.{Moves, packed}
+use Rattle.tc_combiner.specs.Acts.{Adds}
 use Rattle.tc_combiner.specs.Answers.{HasReadied, carried}
-use Rattle.tc_combiner.specs.Settling.{DidAcquire, HasSettled, Keeps, MaySettle, Works}
+use Rattle.tc_combiner.specs.Settling.{HasSettled, Keeps, MaySettle, Works}
 use Rattle.tc_combiner.specs.View.{BenchView, DeskView, FitsBench, desk_of}
-use Rattle.tc_combiner.proofs.Fitting.{at_bench, fits_after, may_want}
+use Rattle.tc_combiner.proofs.Fitting.{at_bench, fits_after}
 use Rattle.tc_combiner.proofs.Seats.{written_back}
-use Rattle.tc_combiner.proofs.Settling.{did_acquire, keeps_of, works_of}
+use Rattle.tc_combiner.proofs.Settling.{works_of}
 use Rattle.tc_combiner.proofs.desk.Desk.settle.Goals as goal
 
 pub settle_with-requires-clause-hands : goal.settle_with-requires-clause-hands
