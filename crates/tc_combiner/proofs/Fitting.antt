@@ -1,17 +1,21 @@
 -- A desk that fits a bench still fits it after its calls.
-use Rattle.std.proofs.Common.{◌≡◌, ◌≢◌, ◌<◌, ◌≤◌, ℕ, List, length, get_or, refl, sym, ap, ◌∙◌, subst, arith, Option, Some}
+use Rattle.std.proofs.Common.{◌≡◌, ◌<◌, ◌≤◌, ℕ, List, length, get_or, sym, ap, ◌∙◌, subst, subst₂, ◌∷◌, arith, Option, Some}
 use Rattle.tc_elf.specs.Shown.{Shown}
-use Rattle.tc_context.specs.View.{PackageView, WantIsLawful, want_of}
+use Rattle.tc_context.specs.View.{PackageView, IsSoundPackage, WantIsLawful, want_of}
+use Rattle.tc_hall.specs.Outs.{Pack}
+use Rattle.tc_combiner.specs.declared.hands.Hands.{Hands}
+use Rattle.tc_combiner.specs.Walks.{Owned, packed}
+use Rattle.tc_combiner.specs.Acts.{IsAtHall}
+use Rattle.tc_combiner.specs.Answers.{MayAsk}
+use Rattle.tc_combiner.specs.Settling.{IsInHand, MayAcquire}
 use Rattle.tc_hall.specs.PassView.{PassView}
 use Rattle.tc_hall.specs.Rule.{locks, threads}
 use Rattle.tc_hall.specs.Steps.{IsSamePass}
 use Rattle.tc_queue.specs.Lines.{SeatView, IsSeatOf}
-use Rattle.tc_combiner.specs.declared.settled.Settled.{Settled}
 use Rattle.tc_combiner.specs.Packages.{IsAside}
-use Rattle.tc_combiner.specs.Answers.{AcquiredAs}
 use Rattle.tc_combiner.specs.Ends.{AreSameSeats, seat_at}
 use Rattle.tc_combiner.specs.View.{AreSeats, BenchView, DeskView, FitsBench, desk_of, no_seat}
-use Rattle.tc_combiner.specs.Settling.{DidAcquire}
+use Rattle.tc_combiner.proofs.Packages.{wants_runs}
 use Rattle.tc_combiner.proofs.Seats.{any_default}
 
 -- the seats are still of their queues
@@ -39,12 +43,32 @@ fits_after b pass pass' ss ts sl sl' now now' a a' hs hs' h own image same room 
   aside = aside;
 }
 
-pub did_acquire : (i : ℕ) (q : PackageView) (d : DeskView) (pass pass' : PassView) (ss ts : List SeatView) (sl : List (Option ℕ)) (now : ℕ) (a a' : Option PackageView) (hs hs' : List ℕ) (r : Settled) → desk_of pass ss sl now a hs ≡ d → ((j : ℕ) → j ≢ i → seat_at ts j ≡ seat_at ss j)
-    → AcquiredAs i q pass.knows pass'.knows (seat_at ss i) (seat_at ts i) a a' r → DidAcquire i q d (desk_of pass' ts sl now a' hs') r
-did_acquire i q d pass pass' ss ts sl now a a' hs hs' r e others acquired = subst (λ (z : DeskView). DidAcquire i q z (desk_of pass' ts sl now a' hs') r) e (record { same = record { others = others; sleepers = refl }; acquired = acquired })
-
 -- the lock that it wants is one of the hall
 pub want_known : (b : BenchView) (d : DeskView) (q : PackageView) (i : ℕ) (o : Option ℕ) → FitsBench b d → q.image ≡ b.image → WantIsLawful q → o ≡ want_of b.image q.context → o ≡ Some i → i < locks b.hall.terms
 want_known b d q i o h of law is e =
     let want : want_of q.image q.context ≡ Some i = ap (λ (x : Shown). want_of x q.context) of ∙ (sym is ∙ e) in
     subst (λ (x : Shown). i < length x.guards) (of ∙ sym h.hall) (law i want).known
+
+pub may_want : (b : BenchView) (d : DeskView) (q : PackageView) (i : ℕ) (o : Option ℕ) → FitsBench b d → q.image ≡ b.image → {image : Shown} → MayAcquire image q → IsSoundPackage q → WantIsLawful q → o ≡ want_of b.image q.context → o ≡ Some i → MayAsk b.hall.terms i q
+may_want b d q i o h of m sound law is e =
+    let want : want_of q.image q.context ≡ Some i = ap (λ (x : Shown). want_of x q.context) of ∙ (sym is ∙ e) in record {
+      lock = want_known b d q i o h of law is e;
+      of = of ∙ sym h.hall;
+      plain = record {
+        thread = subst (λ (x : Shown). q.context.thread < length x.entries) (of ∙ sym h.hall) sound.thread;
+        settled = m.settled;
+        granted = m.granted;
+        locks = m.locks;
+        ended = λ r. let t = wants_runs q i want in let n : ⊥ = cc in absurd n;
+      };
+      want = want;
+    }
+
+-- the desk's hands at the bench
+pub at_bench : (b : BenchView) (d : DeskView) (q : PackageView) (h : Hands) → FitsBench b d → h.pass ≡ d.pass → h.aside ≡ d.aside → IsInHand d q → IsAtHall b.hall (Pack q ∷ packed h.aside) h
+at_bench b d q h f e n hand = record {
+  own = ap (λ (p : PassView). p.table) e ∙ f.own;
+  image = ap (λ (p : PassView). p.knows.image) e ∙ (f.image ∙ sym f.hall);
+  out = subst₂ (λ (p : PassView) (a : Option PackageView). Owned p.knows (Pack q ∷ packed a)) (sym e) (sym n) hand;
+  aside = λ a x. f.aside a (sym n ∙ x);
+}

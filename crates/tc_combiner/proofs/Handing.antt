@@ -1,28 +1,29 @@
 -- What became of a released lock: from its parts, after some more calls, and before.
-use Rattle.std.proofs.Common.{◌≡◌, ◌≢◌, ◌<◌, ℕ, Bool, true, false, not, ◌&&◌, ◌==◌, if◌then◌else◌, List, [], ◌∷◌, ◌++◌, refl, sym, ap, ◌∙◌, subst, arith, Option, Some, None}
+use Rattle.std.proofs.Common.{◌≡◌, ◌≢◌, ◌<◌, ◌≤◌, ℕ, Bool, true, false, not, ◌&&◌, ◌==◌, if◌then◌else◌, List, [], ◌∷◌, ◌++◌, length, refl, sym, ap, ◌∙◌, subst, arith, Option, Some, None}
 use Rattle.std.proofs.lemmas.Bool.Decides.{nat_tests}
 use Rattle.tc_isa.specs.Sets.{has}
 use Rattle.tc_elf.specs.Shown.{Shown}
-use Rattle.tc_journal.specs.Batch.{last_of, run_of, ends_section, allows_of, may_adopt, is_passed, passes_to}
+use Rattle.tc_journal.specs.Batch.{last_of, run_of, ends_section, may_adopt, is_passed, passes_to}
 use Rattle.tc_journal.specs.declared.block.Block.{Block}
 use Rattle.tc_journal.specs.declared.block.Kind.{Kind}
-use Rattle.tc_journal.specs.declared.block.Kind.TheVariants.{Adopted, Granted}
 use Rattle.tc_segment.specs.View.{LockView, IsAtRest, blocks_of}
 use Rattle.tc_context.specs.View.{PackageView, IsAt, IsSoundPackage, IsLeft, IsNumber, MayPassTo, Rests, bare, granted_lock}
 use Rattle.tc_hall.specs.declared.board.Knows.{Knows}
+use Rattle.tc_hall.specs.declared.board.Call.{Call}
+use Rattle.tc_hall.specs.declared.board.Call.TheVariants.{Free, Stopped}
+use Rattle.tc_hall.specs.declared.place.Place.TheVariants.{Ready}
+use Rattle.tc_hall.specs.Steps.{put_call}
 use Rattle.tc_hall.specs.Rule.{locked_in}
 use Rattle.tc_nested.specs.Release.{Releases}
-use Rattle.tc_nested.proofs.Allowing.{adopted, granted}
 use Rattle.tc_queue.specs.declared.turn.Turn.{Turn}
-use Rattle.tc_queue.specs.Lines.{SeatView, Next}
+use Rattle.tc_queue.specs.Lines.{SeatView}
 use Rattle.tc_queue.specs.Words.{IsTurn}
 use Rattle.tc_combiner.specs.declared.passed.Passed.{Passed}
 use Rattle.tc_combiner.specs.declared.passed.Passed.TheVariants.{Home, Granted as Was_granted, Adopted as Was_adopted, Stopped as Was_stopped}
 use Rattle.tc_hall.specs.Outs.{Outs, outs, erase, unless, Item, Pack, Loose}
-use Rattle.tc_combiner.specs.Packages.{DidTakeOut, IsWaiter}
-use Rattle.tc_combiner.specs.Walks.{Walks, Shows, Moves, Owned, Owns}
-use Rattle.tc_combiner.specs.Release.{HandedAs, FollowedAs, IsReleased, MayRelease, adopts}
-use Rattle.tc_combiner.proofs.Walking.{seen_sooner}
+use Rattle.tc_combiner.specs.Packages.{DidTakeOut}
+use Rattle.tc_combiner.specs.Walks.{Moves, Owned, Owns, ready_in}
+use Rattle.tc_combiner.specs.Release.{FollowedAs, IsReleased, MayRelease, adopts}
 use Rattle.tc_combiner.proofs.Owning.{comes_out, taken_with, swap, rotate}
 
 -- ---- what the batch rule says
@@ -33,18 +34,9 @@ adopts_is b l lock run limit x e f g h = subst (λ (z : ℕ). may_adopt b l.numb
 pub adopts_was : (b : Block) (l : LockView) (lock run limit : ℕ) → lock ≡ l.number → run ≡ run_of l.number (blocks_of l) → limit ≡ l.journal.limit → adopts l b ≡ true → may_adopt b lock run limit ≡ true
 adopts_was b l lock run limit e f g h = subst (λ (z : ℕ). may_adopt b lock run z ≡ true) (sym g) (subst (λ (z : ℕ). may_adopt b lock z l.journal.limit ≡ true) (sym f) (subst (λ (z : ℕ). may_adopt b z (run_of l.number (blocks_of l)) l.journal.limit ≡ true) (sym e) h))
 
-pub same_waiter : (v w : Knows) (t i : ℕ) (q : PackageView) → v.image ≡ w.image → IsWaiter t i v.image q → IsWaiter t i w.image q
-same_waiter v w t i q e h = subst (λ (x : Shown). IsWaiter t i x q) e h
-
 pub not_true : (x : Bool) → (x ≡ true → ⊥) → x ≡ false
 not_true true h = absurd (h refl)
 not_true false h = refl
-
-pub adopted_allowed : (v : Knows) (b : Block) (l : LockView) → IsReleased v b l → adopts l b ≡ true → allows_of l.number l.journal.limit (blocks_of l) Adopted v.worker ≡ true
-adopted_allowed v b l h a = subst (λ (w : ℕ). allows_of l.number l.journal.limit (blocks_of l) Adopted w ≡ true) h.worker (adopted l.number l.journal.limit (blocks_of l) b h.last a)
-
-pub granted_allowed : (v : Knows) (b : Block) (l : LockView) → IsReleased v b l → adopts l b ≡ false → allows_of l.number l.journal.limit (blocks_of l) Granted v.worker ≡ true
-granted_allowed v b l h a = granted l.number l.journal.limit (blocks_of l) b v.worker h.last h.released a
 
 no_pass : (x : Bool) → not (x && false) ≡ true
 no_pass true = refl
@@ -107,29 +99,6 @@ is_released v w n i b l q s h image worker was rest =
 pub still_rests : (image : Shown) (i : ℕ) (l : LockView) → IsAtRest image i l → Rests l.number l
 still_rests image i l h = subst (λ (k : ℕ). Rests k l) (sym h.number) h.ended
 
-pub still_released : (v w : Knows) (b : Block) (l : LockView) → Walks v w → IsReleased v b l → IsReleased w b l
-still_released v w b l k h = record {
-  rest = subst (λ (x : Shown). IsAtRest x l.number l) (sym k.told.image) h.rest;
-  last = h.last;
-  released = h.released;
-  worker = h.worker ∙ sym k.told.worker;
-}
-
--- ---- what became of it, over more calls
-
-pub handed_sooner : (l : LockView) (b : Block) (u : Turn) (v w x : Knows) (r : Passed) → Walks v w → HandedAs l b u w x r → HandedAs l b u v x r
-handed_sooner l b u v w x Home k h = h
-handed_sooner l b u v w x Was_granted k h = (h.0, h.1, h.2, seen_sooner v w x _ k h.3)
-handed_sooner l b u v w x (Was_adopted q) k h = h
-handed_sooner l b u v w x Was_stopped k h = (seen_sooner v w x _ k h.0, seen_sooner v w x _ k h.1)
-
--- a waiter comes out beside the lock
-pub comes_beside : (v w : Knows) (x : Item) (y : Item) → Moves v w [] (y ∷ []) → Moves v w (x ∷ []) (y ∷ x ∷ [])
-comes_beside v w x y m b zs o = m b (x ∷ zs) o
-
-pub goes_home : (v w x : Knows) (l : Item) → Moves v w [] [] → Moves w x (l ∷ []) [] → Moves v x (l ∷ []) []
-goes_home v w x l m n b zs o = n b zs (m b (l ∷ zs) o)
-
 -- the lock came out of its package, and then went on
 pub took_out : (v w x : Knows) (i : ℕ) (l : LockView) (p q : PackageView) (ys : List Item) → DidTakeOut i l p q → outs w ≡ outs v → Moves w x (Loose l ∷ []) ys → Moves v x (Pack p ∷ []) (Pack q ∷ ys)
 took_out v w x i l p q ys d e m b zs o =
@@ -143,8 +112,13 @@ lock_owned v w i l p q d e o =
     let moved : Owns o.0 (outs w) (Loose l ∷ Pack q ∷ []) = subst (λ (a : Outs). Owns o.0 a (Loose l ∷ Pack q ∷ [])) (sym e) apart in
     (erase (outs w) (Loose l), (moved.0, refl))
 
-pub followed : (l : LockView) (b : Block) (own : Turn) (u : Turn) (s t : SeatView) (v w : Knows) (r : Passed) → Shows s.calls t.calls (Next own (Some u)) → HandedAs l b u v w r → FollowedAs l b own s t v w r
-followed l b own u s t v w Home k h = absurd h
-followed l b own u s t v w Was_granted k h = (u, k, h)
-followed l b own u s t v w (Was_adopted q) k h = (u, k, h)
-followed l b own u s t v w Was_stopped k h = h
+-- ---- one thread at most was put as ready
+
+pub few_in : (cs ds : List Call) → cs ≡ ds → length (ready_in ds) ≤ 1 → length (ready_in cs) ≤ 1
+few_in cs ds e h = subst (λ (c : List Call). length (ready_in c) ≤ 1) (sym e) h
+
+pub few_followed : (image : Shown) (l : LockView) (b : Block) (own : Turn) (s t : SeatView) (cs : List Call) (r : Passed) → FollowedAs image l b own s t cs r → length (ready_in cs) ≤ 1
+few_followed image l b own s t cs Home h = few_in cs (Free l.number ∷ []) h.1 (omega arith)
+few_followed image l b own s t cs Was_granted h = few_in cs (put_call h.2.0 Ready ∷ []) h.2.3 (omega arith)
+few_followed image l b own s t cs (Was_adopted q) h = few_in cs [] h.2.3 (omega arith)
+few_followed image l b own s t cs Was_stopped h = few_in cs (Stopped 1 ∷ Free l.number ∷ []) h (omega arith)

@@ -1,8 +1,11 @@
 pub mod Owning
-pub mod Readying
 pub mod Walking
+pub mod Acting
+pub mod Answering
 pub mod Packages
 pub mod Handing
+pub mod PassedOn
+pub mod Acquiring
 pub mod Unlocking
 pub mod Seats
 pub mod Ending
@@ -10,3 +13,4 @@ pub mod Settling
 pub mod Fitting
 pub mod Ties
 pub mod Sealing
+pub mod Telling

@@ -9,7 +9,7 @@ use Rattle.tc_context.specs.View.{PackageView, bare, with_turns}
 use Rattle.tc_hall.specs.Rule.{locked_in}
 use Rattle.tc_combiner.specs.Packages.{DidGrant, DidTakeOut}
 use Rattle.tc_hall.specs.Outs.{Outs, outs, Item, Pack, Loose, keep, part, unless, minus, Within, IsOut, erase}
-use Rattle.tc_combiner.specs.Walks.{Moves, Owned, packed, Owns}
+use Rattle.tc_combiner.specs.Walks.{Moves, Owned, Owns}
 
 module _ {A : Type 0} where
   -- a, or else d
@@ -198,17 +198,8 @@ taken_with i l p q d = record {
 pub counted : (v : Knows) (p : PackageView) (n : ℕ) → Moves v v (Pack p ∷ []) (Pack (with_turns n p) ∷ [])
 counted v p n b zs o = (record { contexts = o.0.contexts; locks = o.0.locks }, o.1)
 
-pub moves_then : (v w x : Knows) (xs ys zs : List Item) → Moves v w xs ys → Moves w x ys zs → Moves v x xs zs
-moves_then v w x xs ys zs a c b us o = c b us (a b us o)
-
-pub moves_same : (v w : Knows) (xs : List Item) → outs w ≡ outs v → Moves v w xs xs
-moves_same v w xs e b zs h = subst (λ (o : Outs). Owns b o (xs ++ zs)) (sym e) h
-
 pub takes_in : (v w : Knows) (l : LockView) (p q : PackageView) → Moves v w [] (Loose l ∷ []) → IsWith l p q → Moves v w (Pack p ∷ []) (Pack q ∷ [])
 takes_in v w l p q m h b zs o = goes_in w l p q h b zs (swap b (outs w) (Loose l) (Pack p) zs (m b (Pack p ∷ zs) o))
-
-pub framed : (v w : Knows) (xs : List Item) → Moves v w [] [] → Moves v w xs xs
-framed v w xs m b zs o = m b (xs ++ zs) o
 
 pub counted_then : (v w : Knows) (p q : PackageView) (n : ℕ) (xs ys : List Item) → q ≡ with_turns n p → Moves v w (Pack q ∷ xs) ys → Moves v w (Pack p ∷ xs) ys
 counted_then v w p q n xs ys e m b zs o = subst (λ (z : PackageView). Owns b (outs v) (Pack z ∷ (xs ++ zs)) → Owns b (outs w) (ys ++ zs)) e (m b zs) (counted v p n b (xs ++ zs) o)
@@ -216,27 +207,8 @@ counted_then v w p q n xs ys e m b zs o = subst (λ (z : PackageView). Owns b (o
 pub counted_owned : (v : Knows) (p q : PackageView) (n : ℕ) (xs : List Item) → q ≡ with_turns n p → Owned v (Pack p ∷ xs) → Owned v (Pack q ∷ xs)
 counted_owned v p q n xs e o = subst (λ (z : PackageView). Owned v (Pack z ∷ xs)) (sym e) (o.0, (record { contexts = o.1.0.contexts; locks = o.1.0.locks }, o.1.1))
 
-pub one_gone : (v w : Knows) (x : Item) (xs : List Item) → Moves v w (x ∷ []) [] → Moves v w (x ∷ xs) xs
-one_gone v w x xs m b zs o = m b (xs ++ zs) o
-
-pub both_gone : (v w x : Knows) (p q : PackageView) (a : Option PackageView) → a ≡ Some q → Moves v w (Pack p ∷ []) [] → Moves w x (Pack q ∷ []) [] → Moves v x (Pack p ∷ packed a) []
-both_gone v w x p q a e m n = subst (λ (o : Option PackageView). Moves v x (Pack p ∷ packed o) []) (sym e) (λ b zs o. n b zs (m b (Pack q ∷ zs) o))
-
 pub owned_changed : (v w : Knows) (x y : Item) (xs : List Item) → Moves v w (x ∷ []) (y ∷ []) → Owned v (x ∷ xs) → Owned w (y ∷ xs)
 owned_changed v w x y xs m o = (o.0, m o.0 xs o.1)
-
--- the first was changed, and then all of them
-pub changed_then : (v w z : Knows) (x y : Item) (xs ys : List Item) → Moves v w (x ∷ []) (y ∷ []) → Moves w z (y ∷ xs) ys → Moves v z (x ∷ xs) ys
-changed_then v w z x y xs ys m n b zs o = n b zs (m b (xs ++ zs) o)
-
-pub stopped_moves : (v w z : Knows) (x y : Item) (xs : List Item) (a : Option PackageView) → a ≡ None → Moves v w (x ∷ []) (y ∷ []) → Moves w z (y ∷ xs) [] → Moves v z (x ∷ xs) (packed a)
-stopped_moves v w z x y xs a e m n = subst (λ (o : Option PackageView). Moves v z (x ∷ xs) (packed o)) (sym e) (changed_then v w z x y xs [] m n)
-
-pub ended_moves : (v w z : Knows) (x y : Item) (xs : List Item) → Moves v w (x ∷ []) (y ∷ []) → outs z ≡ erase (outs w) y → Moves v z (x ∷ xs) xs
-ended_moves v w z x y xs m e b zs o = subst (λ (a : Outs). Owns b a (xs ++ zs)) (sym e) (m b (xs ++ zs) o).1
-
-pub one_changed : (v w : Knows) (x y : Item) (xs : List Item) → Moves v w (x ∷ []) (y ∷ []) → Moves v w (x ∷ xs) (y ∷ xs)
-one_changed v w x y xs m b zs o = m b (xs ++ zs) o
 
 pub granted_moves : (v : Knows) (l : LockView) (k : Kind) (n : ℕ) (p q : PackageView) → DidGrant l k n p q → locked_in p l.number ≡ None → Moves v v (Pack p ∷ Loose l ∷ []) (Pack q ∷ [])
 granted_moves v l k n p q d free = goes_in v l p q (granted_with l k n p q d free)
@@ -248,57 +220,3 @@ owned_then v w xs ys o m = (o.0, m o.0 [] o.1)
 pub rotate : (b o : Outs) (x : Item) (ys zs : List Item) → Owns b o (ys ++ (x ∷ zs)) → Owns b o (x ∷ (ys ++ zs))
 rotate b o x [] zs h = h
 rotate b o x (y ∷ ys) zs h = swap b o y x (ys ++ zs) (h.0, rotate b (erase o y) x ys zs h.1)
-
--- no item of these has a package of thread u
-abbrev pub NoneAt : ℕ → List Item → Type 0
-NoneAt u [] = Unit {0}
-NoneAt u (x ∷ xs) = ((part x).context u ≡ None) × NoneAt u xs
-
-base_at : (u : ℕ) (b o : Outs) (xs : List Item) → Owns b o xs → NoneAt u xs → o.context u ≡ b.context u
-base_at u b o [] h n = ap (λ (z : Outs). z.context u) h
-base_at u b o (x ∷ xs) h n = sym (unless_free ((part x).context u) (o.context u) n.0) ∙ base_at u b (erase o x) xs h.1 n.1
-
-base_out : (u : ℕ) (c : PackageView) (b o : Outs) (xs : List Item) → Owns b o xs → b.context u ≡ Some c → o.context u ≡ Some c
-base_out u c b o [] h e = ap (λ (z : Outs). z.context u) h ∙ e
-base_out u c b o (x ∷ xs) h e = (unless_some ((part x).context u) (o.context u) c (base_out u c b (erase o x) xs h.1 e)).1
-
-add_none : (b o : Outs) (xs : List Item) → Owns b o xs → Owns b o (xs ++ [])
-add_none b o [] h = h
-add_none b o (x ∷ xs) h = (h.0, add_none b (erase o x) xs h.1)
-
-drop_none : (b o : Outs) (xs : List Item) → Owns b o (xs ++ []) → Owns b o xs
-drop_none b o [] h = h
-drop_none b o (x ∷ xs) h = (h.0, drop_none b (erase o x) xs h.1)
-
--- beside what was in hand, what was out stays out as it was
-pub stays_out : (v w : Knows) (xs ys : List Item) (u : ℕ) (c : PackageView) → Moves v w xs ys → Owned v xs → NoneAt u xs → (outs v).context u ≡ Some c → (outs w).context u ≡ Some c
-stays_out v w xs ys u c m o n e =
-    let after : Owns o.0 (outs w) (ys ++ []) = m o.0 [] (add_none o.0 (outs v) xs o.1) in
-    base_out u c o.0 (outs w) ys (drop_none o.0 (outs w) ys after) (sym (base_at u o.0 (outs v) xs o.1 n) ∙ e)
-
--- of all else nothing is out afterwards
-pub nothing_else : (v w : Knows) (xs ys : List Item) (u : ℕ) (c : PackageView) → Moves v w xs ys → Owned v xs → NoneAt u ys → (outs w).context u ≡ Some c → (outs v).context u ≡ Some c
-nothing_else v w xs ys u c m o n e =
-    let after : Owns o.0 (outs w) (ys ++ []) = m o.0 [] (add_none o.0 (outs v) xs o.1) in
-    base_out u c o.0 (outs v) xs o.1 (sym (base_at u o.0 (outs w) ys (drop_none o.0 (outs w) ys after) n) ∙ e)
-
--- two packages of two threads, the second without locks, are out apart
-pub both_owned : (v : Knows) (q a : PackageView) → IsOut (outs v) (Pack q) → IsOut (outs v) (Pack a) → ((i : ℕ) → locked_in a i ≡ None) → a.context.thread ≢ q.context.thread → Owned v (Pack q ∷ Pack a ∷ [])
-both_owned v q a out beside free ne = (
-  erase (erase (outs v) (Pack q)) (Pack a),
-  (
-    out,
-    (
-      record {
-        contexts = λ u c e. elim (u == a.context.thread) as (λ (b : Bool). (u == a.context.thread) ≡ b → (if b then Some (bare a) else None) ≡ Some c → (erase (outs v) (Pack q)).context u ≡ Some c) [
-          | true ↦ λ r f. let s : u ≡ a.context.thread = grind (arith, nat_tests) in
-              let t : (u == q.context.thread) ≡ false = (let k : u ≢ q.context.thread = (λ z. ne (sym s ∙ z)) in grind (arith, nat_tests)) in
-              ap (λ (z : Bool). unless (if z then Some (bare q) else None) ((outs v).context u)) t ∙ beside.contexts u c e
-          | false ↦ λ r f. let n : ⊥ = cc in absurd n
-        ] refl e;
-        locks = λ i l e. let n : ⊥ = (let k : keep (locked_in a i) ≡ None = ap keep (free i) in cc) in absurd n;
-      },
-      refl,
-    ),
-  ),
-)

@@ -1,5 +1,5 @@
 -- Packages that were granted a lock, and packages that are put.
-use Rattle.std.proofs.Common.{◌≡◌, ◌≢◌, inl, inr, ⊎_elim, ℕ, ◌+◌, true, false, List, refl, sym, ap, ◌∙◌, subst, arith, Option, Some, None, IfSome}
+use Rattle.std.proofs.Common.{◌≡◌, ◌≢◌, inl, inr, ⊎_elim, ℕ, ◌+◌, Bool, true, false, if◌then◌else◌, List, refl, sym, ap, ◌∙◌, subst, arith, Option, Some, None, IfSome}
 use native.Mathlib.Decide.{ℕ_discrete}
 use mathlib.Core.Logic.{dite}
 use Rattle.tc_isa.specs.Sets.{has}
@@ -8,19 +8,16 @@ use Rattle.tc_journal.specs.Batch.{last_of, run_of, ends_section, allows_of, may
 use Rattle.tc_journal.specs.declared.block.Block.{Block}
 use Rattle.tc_journal.specs.declared.block.Kind.{Kind}
 use Rattle.tc_journal.specs.declared.block.Kind.TheVariants.{Taken}
-use Rattle.tc_turn.specs.Turn.{is_running}
+use Rattle.tc_turn.specs.Turn.{is_running, next_lock}
+use Rattle.tc_context.specs.Whole.{thread_in}
 use Rattle.tc_segment.specs.View.{LockView, blocks_of}
 use Rattle.tc_context.specs.declared.package.Grant.{Grant}
 use Rattle.tc_context.specs.View.{PackageView, IsWaiting, WantIsLawful, fits_of, fits_granted, fits_in, granted_lock}
 use Rattle.tc_hall.specs.declared.board.Knows.{Knows}
-use Rattle.tc_hall.specs.declared.place.Place.TheVariants.{Ready}
 use Rattle.tc_hall.specs.Rule.{IsInOrder, locked_in, grants_adopted}
-use Rattle.tc_hall.specs.Steps.{put_call, Gets}
+use Rattle.tc_hall.specs.Steps.{Gets}
 use Rattle.tc_combiner.specs.Packages.{DidGrant, DidTake, HasNoOther, HasOnlyHeld, IsGood, IsGoodFor, IsPlain, IsWaiter, Runs, Wants}
-use Rattle.tc_combiner.specs.Walks.{Walks, Shows, HasSeenStop}
-use Rattle.tc_combiner.specs.Answers.{WasStopped, place_back}
 use Rattle.tc_combiner.proofs.Owning.{place_here, place_other}
-use Rattle.tc_combiner.proofs.Walking.{seen_later, seen_sooner}
 
 pub taken_passes : (o : Option Block) (t : ℕ) → passes_to o Taken t ≡ true
 taken_passes None t = refl
@@ -68,6 +65,13 @@ pub taken_good : (i : ℕ) (l : LockView) (n m w : ℕ) (image : Shown) (p q : P
 taken_good i l n m w image p q d of h r = granted_good l Taken n w image p q d.grant of h.settled r h.locks
     (taken_allowed l.number l.journal.limit w (blocks_of l) (subst (λ (k : ℕ). IfSome (last_of (blocks_of l)) (λ b. ends_section k b ≡ true)) (sym d.rest.number) d.rest.ended))
 
+-- a thread that wants a lock runs
+pub wants_runs : (q : PackageView) (i : ℕ) → Wants q i → Runs q
+wants_runs q i w = elim (is_running q.context.guest.status) as (λ (b : Bool). is_running q.context.guest.status ≡ b → b ≡ true) [
+  | true ↦ λ e. refl
+  | false ↦ λ e. let f : Some i ≡ None = sym w ∙ ap (λ (x : Bool). if x then next_lock q.image (thread_in q.context) else None) e in let n : ⊥ = cc in absurd n
+] refl
+
 pub none_is : (o : Option LockView) → ((l : LockView) → o ≡ Some l → ⊥) → o ≡ None
 none_is None h = refl
 none_is (Some l) h = absurd (h l refl)
@@ -78,15 +82,6 @@ not_held p i h free = none_is (locked_in p i) (λ l e. let y = h i l e in let n 
 
 pub waits_for : (n i : ℕ) (p : PackageView) → IsPlain n p → WantIsLawful p → Wants p i → IsWaiting p i
 waits_for n i p h law want = record { pending = h.settled; granted = h.granted; want = want; absent = not_held p i h.locks (law i want).free }
-
-pub was_stopped : (v w x : Knows) (p q : PackageView) (a b : Option PackageView) → Walks v w → HasSeenStop v w → Walks w x → Shows w.calls x.calls (put_call p (place_back p)) → p ≡ q
-    → ((c : PackageView) → a ≡ Some c → Shows w.calls x.calls (put_call c Ready)) → b ≡ None → WasStopped v x q a b
-was_stopped v w x p q a b k s j put e others gone = record {
-  seen = seen_later v w x _ s j;
-  put = subst (λ (c : PackageView). Shows v.calls x.calls (put_call c (place_back c))) e (seen_sooner v w x (put_call p (place_back p)) k put);
-  aside_put = λ c f. seen_sooner v w x (put_call c Ready) k (others c f);
-  aside_gone = gone;
-}
 
 pub waiter_good : (l : LockView) (k : Kind) (t n w : ℕ) (image : Shown) (p q : PackageView) → IsWaiter t l.number image p → DidGrant l k n p q → allows_of l.number l.journal.limit (blocks_of l) k w ≡ true → IsGood q image w
 waiter_good l k t n w image p q h d a = granted_good l k n w image p q d h.of h.waits.pending h.runs (only_held p h.locks h.waits.granted) a

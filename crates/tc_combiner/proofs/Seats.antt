@@ -9,7 +9,7 @@ use Rattle.tc_hall.specs.declared.board.Terms.{Terms}
 use Rattle.tc_hall.specs.Rule.{locks, threads}
 use Rattle.tc_queue.specs.View.{QueueView}
 use Rattle.tc_combiner.specs.View.{AreSeats, no_seat}
-use Rattle.tc_combiner.specs.Ends.{AreSameSeats, IsSameSeat, seat_at}
+use Rattle.tc_combiner.specs.Ends.{AreSameSeats, AtSeat, IsSameSeat, seat_at}
 use Rattle.tc_queue.specs.Lines.{SeatView, IsSeatOf}
 
 module _ {A B : Type 0} where
@@ -32,12 +32,6 @@ any_default [] i d e h = absurd (let n : ⊥ = omega arith in n)
 any_default (x ∷ xs) zero d e h = refl
 any_default (x ∷ xs) (suc i) d e h = any_default xs i d e (omega arith)
 
-module _ {S X : Type 0} where
-  pub seat_of : (seen : S → SeatView) (queue : X → QueueView) (ss : List S) (qs : List X) (i : ℕ) (s : S) (x : X) (ds : List SeatView) → map seen ss ≡ ds → s ≡ get_or ss i s → IsSeatOf (get_or (map queue qs) i (queue x)) (get_or ds i (seen s)) → IsSeatOf (queue (get_or qs i x)) (seen s)
-  seat_of seen queue ss qs i s x ds e is h =
-      let at : get_or ds i (seen s) ≡ seen s = ap (λ (l : List SeatView). get_or l i (seen s)) (sym e) ∙ (map_at seen ss i s ∙ ap seen (sym is)) in
-      subst (λ (z : SeatView). IsSeatOf (queue (get_or qs i x)) z) at (subst (λ (q : QueueView). IsSeatOf q (get_or ds i (seen s))) (map_at queue qs i x) h)
-
 module _ {S : Type 0} where
   -- the seat at a place, as the desk shows it
   pub seat_before : (seen : S → SeatView) (ss : List S) (i : ℕ) (s : S) (d : SeatView) → i < length ss → s ≡ get_or ss i s → get_or (map seen ss) i d ≡ seen s
@@ -51,20 +45,6 @@ module _ {S : Type 0} where
 
   pub seats_count : (seen : S → SeatView) (ss : List S) (i : ℕ) (t : S) → length (map seen (set ss i t)) ≡ length (map seen ss)
   seats_count seen ss i t = ap length (map_set seen ss i t) ∙ length-set (map seen ss) i (seen t)
-
-module _ {S X : Type 0} where
-  -- one of the seats of a desk that has asked since
-  pub seat_one : (seen : S → SeatView) (queue : X → QueueView) (k : Terms) (qs : List X) (ss ts : List S) (i : ℕ) (x : X) (s : S) → length ss ≡ locks k → AreSeats k (map queue qs) (map seen ss) → AreSameSeats (map seen ss) (map seen ts) → i < locks k
-      → IsSeatOf (queue (get_or qs i x)) (seen (get_or ts i s)) × ((queue (get_or qs i x)).threads ≡ threads k)
-  seat_one seen queue k qs ss ts i x s count of same low =
-      let q = queue x in
-      let is : get_or (map queue qs) i q ≡ queue (get_or qs i x) = map_at queue qs i x in
-      let old : IsSeatOf (get_or (map queue qs) i q) (seat_at (map seen ss) i) = of.each i q no_seat low in
-      let more = same.each i in
-      let deep : i < length (map seen ts) = let a = map_length seen ss in let b = same.count in omega arith in
-      let now : seat_at (map seen ts) i ≡ seen (get_or ts i s) = any_default (map seen ts) i no_seat (seen s) deep ∙ map_at seen ts i s in
-      let seat : IsSeatOf (get_or (map queue qs) i q) (seat_at (map seen ts) i) = (more.0 ∙ old.0, more.1 ∙ old.1) in
-      (subst₂ (λ (a : QueueView) (b : SeatView). IsSeatOf a b) is now seat, ap (λ (a : QueueView). a.threads) (sym is) ∙ of.made i q low)
 
 module _ {S X : Type 0} where
   -- the seat and the queue at one place
@@ -90,3 +70,14 @@ module _ {S Z : Type 0} where
   -- the seats as they were written back
   pub written_back : (seen : S → SeatView) (v : Vec S Z) (xs ts : List S) → xs ≡ v.items → AreSameSeats (map seen xs) (map seen ts) → (with_items v ts).items ≡ ts
   written_back seen v xs ts e same = with_items_is v ts (sym (map_length seen ts) ∙ (same.count ∙ (map_length seen xs ∙ (ap length e ∙ sym v.ok.0))))
+
+module _ {S : Type 0} where
+  -- what was done at one seat
+  pub at_seat : (seen : S → SeatView) (P : SeatView → SeatView → Type 0) (ss : List S) (i : ℕ) (s t : S) → i < length ss → s ≡ get_or ss i s → IsSameSeat (seen (get_or ss i s)) (seen t) → P (seen (get_or ss i s)) (seen t) → AtSeat i (map seen ss) (map seen (set ss i t)) P
+  at_seat seen P ss i s t deep is same h =
+      let before : seat_at (map seen ss) i ≡ seen (get_or ss i s) = seat_before seen ss i s no_seat deep is ∙ ap seen is in
+      let after : seat_at (map seen (set ss i t)) i ≡ seen t = seat_after seen ss i t no_seat deep in record {
+        same = seats_set seen ss i s t deep is same;
+        others = λ j ne. other_seats seen ss i j t no_seat ne;
+        here = subst₂ P (sym before) (sym after) h;
+      }

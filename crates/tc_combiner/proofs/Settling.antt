@@ -1,7 +1,8 @@
 -- What the end of a package's last block says of the package.
-use Rattle.std.proofs.Common.{◌≡◌, ◌≢◌, ◌<◌, ℕ, Bool, true, false, not, ◌&&◌, ◌||◌, ◌==◌, if◌then◌else◌, List, [], ◌∷◌, length, refl, sym, ap, ◌∙◌, subst, arith, Option, Some, None, is_some}
+use Rattle.std.proofs.Common.{◌≡◌, ◌≢◌, ◌<◌, ◌≤◌, ◌+◌, ℕ, Bool, true, false, not, ◌&&◌, ◌||◌, ◌==◌, if◌then◌else◌, List, [], ◌∷◌, length, refl, sym, ap, ◌∙◌, subst, arith, Option, Some, None, is_some}
 use Rattle.std.proofs.lemmas.Bool.Decides.{nat_tests}
 use Rattle.tc_isa.specs.Sets.{has}
+use Rattle.tc_isa.specs.declared.limits.TheConstants.{MAX_HELD}
 use Rattle.tc_elf.specs.Shown.{Shown}
 use Rattle.tc_journal.specs.Batch.{last_of, ends_thread, ends_section}
 use Rattle.tc_journal.specs.declared.block.Block.{Block}
@@ -14,10 +15,21 @@ use Rattle.tc_context.specs.View.{PackageView, IsSoundPackage, IsAfter, HasBlock
 use Rattle.tc_hall.specs.declared.board.Knows.{Knows}
 use Rattle.tc_hall.specs.declared.board.Terms.{Terms}
 use Rattle.tc_hall.specs.Rule.{locked_in, locks, threads}
-use Rattle.tc_combiner.specs.Packages.{HasHeldAnd, HasOnlyHeld, IsPlain, Runs, Wants as Wants_lock}
-use Rattle.tc_combiner.specs.Release.{MayRelease}
-use Rattle.tc_combiner.specs.Ends.{MayEnd}
-use Rattle.tc_combiner.specs.Settling.{IsAfterBlock, MaySettle}
+use Rattle.tc_hall.specs.declared.board.Call.{Call}
+use Rattle.tc_hall.specs.Outs.{Item}
+use Rattle.tc_hall.specs.PassView.{HallView, PassView}
+use Rattle.tc_queue.specs.Lines.{SeatView}
+use Rattle.tc_combiner.specs.declared.hands.Hands.{Hands}
+use Rattle.tc_combiner.specs.declared.settled.Settled.{Settled}
+use Rattle.tc_combiner.specs.Packages.{HasHeldAnd, HasOnlyHeld, IsPlain, MayGoOn, Runs, Wants as Wants_lock}
+use Rattle.tc_combiner.specs.Walks.{Owned}
+use Rattle.tc_combiner.specs.Acts.{IsAtHall, MayAct}
+use Rattle.tc_combiner.specs.Answers.{AcquiredAs, Acquires, Answers, HasReadied, MayAsk, MayPark}
+use Rattle.tc_combiner.specs.View.{desk_of}
+use Rattle.tc_combiner.specs.Release.{MayRelease, MayUnlock, UnlockedAs, Unlocks}
+use Rattle.tc_combiner.specs.Ends.{AreSameSeats, AtSeat, EndedAs, Ends, MayEnd, seat_at}
+use Rattle.tc_combiner.specs.Settling.{DidAcquire, DidEnd, DidUnlock, IsAfterBlock, Keeps, MaySettle, Works}
+use Rattle.tc_combiner.proofs.Answering.{walks_of}
 use Rattle.tc_combiner.proofs.Handing.{left_after}
 use Rattle.tc_combiner.proofs.Ending.{known_in}
 
@@ -29,8 +41,8 @@ same_block : (a b : Block) → Some a ≡ Some b → a ≡ b
 same_block a b e = cc
 
 -- the package's last block is the one that the caller knows of
-pub by_last : (image : Shown) (worker : ℕ) (end : End) (b : Block) (q : PackageView) → MaySettle image worker end q → last_of q.log ≡ Some b → IsAfterBlock image worker end b q
-by_last image worker end b q m e = subst (λ (x : Block). IsAfterBlock image worker end x q) (same_block m.0 b (sym m.1.last ∙ e)) m.1
+pub after_last : (image : Shown) (worker : ℕ) (end this : End) (b : Block) (q : PackageView) → end ≡ this → MaySettle image worker end q → last_of q.log ≡ Some b → IsAfterBlock image worker this b q
+after_last image worker end this b q is m e = subst (λ (x : End). IsAfterBlock image worker x b q) is (subst (λ (x : Block). IsAfterBlock image worker end x q) (same_block m.0 b (sym m.1.last ∙ e)) m.1)
 
 pub some_block : (bs : List Block) (b : Block) → last_of bs ≡ Some b → 0 < length bs
 some_block [] b e = let n : ⊥ = cc in absurd n
@@ -40,10 +52,10 @@ pub after_of : (image : Shown) (worker : ℕ) (end : End) (b : Block) (q : Packa
 after_of image worker end b q s m = left_after q.image q b s.left m.last
 
 module _ (k : Terms) (worker : ℕ) (end : End) (b : Block) (q : PackageView) (s : IsSoundPackage q) (m : IsAfterBlock k.image.value worker end b q) where
-  pub thread_known : q.context.thread < threads k
+  thread_known : q.context.thread < threads k
   thread_known = subst (λ (x : Shown). q.context.thread < length x.entries) m.of s.thread
 
-  pub runs_on : ends_thread end ≡ false → Runs q
+  runs_on : ends_thread end ≡ false → Runs q
   runs_on e = (after_of k.image.value worker end b q s m).runs ∙ ap not (ap ends_thread m.end_is ∙ e)
 
   held_is : (i : ℕ) → ends_section i b ≡ false → has q.context.guest.held i ≡ has b.held i
@@ -52,10 +64,10 @@ module _ (k : Terms) (worker : ℕ) (end : End) (b : Block) (q : PackageView) (s
   in_block : (i : ℕ) (l : LockView) → locked_in q i ≡ Some l → has b.held i ≡ true
   in_block i l e = sym (m.locks i) ∙ ap is_some e
 
-  pub only_held_on : ((i : ℕ) → ends_section i b ≡ false) → HasOnlyHeld q
+  only_held_on : ((i : ℕ) → ends_section i b ≡ false) → HasOnlyHeld q
   only_held_on never i l e = held_is i (never i) ∙ in_block i l e
 
-  pub plain_on : ((i : ℕ) → ends_section i b ≡ false) → ends_thread end ≡ false → IsPlain (threads k) q
+  plain_on : ((i : ℕ) → ends_section i b ≡ false) → ends_thread end ≡ false → IsPlain (threads k) q
   plain_on never e = record {
     thread = thread_known;
     settled = m.settled;
@@ -64,13 +76,13 @@ module _ (k : Terms) (worker : ℕ) (end : End) (b : Block) (q : PackageView) (s
     ended = λ f. let r = runs_on e in let n : ⊥ = cc in absurd n;
   }
 
-  pub held_and : (i : ℕ) → ((j : ℕ) → j ≢ i → ends_section j b ≡ false) → HasHeldAnd i q
+  held_and : (i : ℕ) → ((j : ℕ) → j ≢ i → ends_section j b ≡ false) → HasHeldAnd i q
   held_and i never j l e ne = held_is j (never j ne) ∙ in_block j l e
 
-  pub lock_in_range : (i : ℕ) → has b.held i ≡ true → i < locks k
+  lock_in_range : (i : ℕ) → has b.held i ≡ true → i < locks k
   lock_in_range i e = subst (λ (x : Shown). i < length x.guards) m.of (known_in q i (locked_in q i) s refl (m.locks i ∙ e))
 
-  pub may_release : (v : Knows) (i : ℕ) → v.image ≡ k.image.value → v.worker ≡ worker → has b.held i ≡ true → ends_section i b ≡ true → MayRelease v (threads k) i b q
+  may_release : (v : Knows) (i : ℕ) → v.image ≡ k.image.value → v.worker ≡ worker → has b.held i ≡ true → ends_section i b ≡ true → MayRelease v (threads k) i b q
   may_release v i image is e r = record {
     of = m.of ∙ sym image;
     thread = thread_known;
@@ -119,3 +131,93 @@ slept_block image worker b q m = subst (λ (o : Option Block). HasBlock (λ b. b
 
 pub wanted_known : (k : Terms) (worker i : ℕ) (b : Block) (q : PackageView) → IsSoundPackage q → WantIsLawful q → IsAfterBlock k.image.value worker (Wants i) b q → i < locks k
 wanted_known k worker i b q s law m = subst (λ (x : Shown). i < length x.guards) m.of (law i (wants_lock k.image.value worker i b q s m (runs_on k worker (Wants i) b q s m refl))).known
+
+-- ---- what may be done with the package, by the end of its last block
+
+module _ (k : Terms) (worker : ℕ) (b : Block) (q : PackageView) (s : IsSoundPackage q) where
+  pub may_ask : (i : ℕ) → WantIsLawful q → IsAfterBlock k.image.value worker (Wants i) b q → MayAsk k i q
+  may_ask i law m = record {
+    lock = wanted_known k worker i b q s law m;
+    of = m.of;
+    plain = plain_on k worker (Wants i) b q s m (λ j. wants_ends j i b m.end_is) refl;
+    want = wants_lock k.image.value worker i b q s m (runs_on k worker (Wants i) b q s m refl);
+  }
+
+  pub may_unlock : (v : Knows) (i : ℕ) → v.image ≡ k.image.value → v.worker ≡ worker → IsAfterBlock k.image.value worker (Unlocked i) b q → MayUnlock k v i b q
+  may_unlock v i image is m =
+      let has = (after_of k.image.value worker (Unlocked i) b q s m).released i m.end_is in record {
+        lock = lock_in_range k worker (Unlocked i) b q s m i has;
+        release = may_release k worker (Unlocked i) b q s m v i image is has (unlocked_ends i b m.end_is);
+        runs = runs_on k worker (Unlocked i) b q s m refl;
+        locks_in = held_and k worker (Unlocked i) b q s m i (λ j ne. unlocked_other i j b m.end_is ne);
+      }
+
+  pub may_park : IsAfterBlock k.image.value worker Slept b q → MayPark k q
+  may_park m = record {
+    plain = plain_on k worker Slept b q s m (λ i. slept_ends i b m.end_is) refl;
+    runs = runs_on k worker Slept b q s m refl;
+    slept = slept_block k.image.value worker b q m;
+  }
+
+  pub may_continue : IsAfterBlock k.image.value worker Cut b q → MayGoOn k q
+  may_continue m = record { of = m.of; plain = plain_on k worker Cut b q s m (λ i. cut_ends i b m.end_is) refl; runs = runs_on k worker Cut b q s m refl }
+
+-- ---- what was done with it, in the words of a desk
+
+pub keeps_of : (k : Terms) (cs : List Call) (q : PackageView) (ss ts : List SeatView) (sl sm : List (Option ℕ)) (h g : Hands) (r : Settled) → h.ready.items ≡ [] → Answers k cs q h g r → AreSameSeats ss ts → length sm ≡ length sl → Keeps k q ss ts sl sm h.pass h.aside g r
+keeps_of k cs q ss ts sl sm h g r none a same room = record {
+  calls = cs;
+  acts = a.acts;
+  readied = subst (λ (hs : List ℕ). HasReadied (threads k) r hs g.ready.items cs) none a.readied;
+  aside = a.aside;
+  seats = same;
+  room = room;
+}
+
+module _ (k : Terms) (q : PackageView) (ss ts : List SeatView) (sl : List (Option ℕ)) (now : ℕ) (hs : List ℕ) (h g : Hands) (image : h.pass.knows.image ≡ k.image.value) where
+  pub did_acquire : (i : ℕ) (r : Settled) → AtSeat i ss ts (λ s t. Acquires k i q s t h g r) → DidAcquire i q (desk_of h.pass ss sl now h.aside hs) (desk_of g.pass ts sl now g.aside g.ready.items) r
+  did_acquire i r a = record {
+    same = record { others = a.others; sleepers = refl };
+    calls = a.here.calls;
+    adds = a.here.answers.acts.adds;
+    acquired = subst (λ (x : Shown). AcquiredAs x h.pass.knows.worker i q (seat_at ss i) (seat_at ts i) h.aside g.aside a.here.calls r) (sym image) a.here.acquired;
+  }
+
+  pub did_unlock : (i : ℕ) (b : Block) (r : Settled) → AtSeat i ss ts (λ s t. Unlocks k i b q s t h g r) → DidUnlock i q b (desk_of h.pass ss sl now h.aside hs) (desk_of g.pass ts sl now g.aside g.ready.items) r
+  did_unlock i b r a = record {
+    same = record { others = a.others; sleepers = refl };
+    asks = a.here.asks;
+    calls = a.here.calls;
+    adds = a.here.answers.acts.adds;
+    unlocked = subst (λ (x : Shown). UnlockedAs x h.pass.knows.worker i q b (seat_at ss i) (seat_at ts i) h.aside g.aside a.here.calls r) (sym image) a.here.unlocked;
+  }
+
+  pub did_end : (b : Block) (r : Settled) → Ends k b q ss ts h g r → DidEnd q b (desk_of h.pass ss sl now h.aside hs) (desk_of g.pass ts sl now g.aside g.ready.items) r
+  did_end b r a = record {
+    sleepers = refl;
+    seats = a.seats;
+    calls = a.calls;
+    adds = a.answers.acts.adds;
+    ended = subst (λ (x : Shown). EndedAs x q b ss ts h.aside g.aside a.calls r) (sym image) a.ended;
+  }
+
+pub works_of : (k : Terms) (q : PackageView) (ss ts : List SeatView) (sl sm : List (Option ℕ)) (p : PassView) (a : Option PackageView) (g : Hands) (r : Settled) (now : ℕ) (hs : List ℕ) → Keeps k q ss ts sl sm p a g r → Works (desk_of p ss sl now a hs) (desk_of g.pass ts sm now g.aside g.ready.items)
+works_of k q ss ts sl sm p a g r now hs h = record { own = h.acts.own; walks = walks_of h.calls p.knows g.pass.knows h.acts.adds; now = refl; room = h.room }
+
+-- hands whose list is empty may begin
+pub at_begin : (hall : HallView) (xs : List Item) (h g : Hands) → IsAtHall hall xs h → g.pass ≡ h.pass → g.aside ≡ h.aside → IsAtHall hall xs g
+at_begin hall xs h g m p a = record {
+  own = ap (λ (x : PassView). x.table) p ∙ m.own;
+  image = ap (λ (x : PassView). x.knows.image) p ∙ m.image;
+  out = subst (λ (x : PassView). Owned x.knows xs) (sym p) m.out;
+  aside = λ c e. m.aside c (sym a ∙ e);
+}
+
+pub may_begin : (hall : HallView) (xs : List Item) (n : ℕ) (h g : Hands) → IsAtHall hall xs h → g.pass ≡ h.pass → g.aside ≡ h.aside → g.ready.items ≡ [] → n ≤ MAX_HELD → MayAct hall xs n g
+may_begin hall xs n h g m p a none few = let b = at_begin hall xs h g m p a in record {
+  own = b.own;
+  image = b.image;
+  out = b.out;
+  room = subst (λ (l : List ℕ). length l + n ≤ MAX_HELD) (sym none) (let room : 0 + n ≤ MAX_HELD = omega arith in room);
+  aside = b.aside;
+}

@@ -1,37 +1,43 @@
 -- What an unlock comes to, from its parts.
-use Rattle.std.proofs.Common.{◌≡◌, ◌≢◌, ◌<◌, inl, inr, ⊎_elim, ℕ, Bool, true, false, not, ◌&&◌, ◌==◌, List, [], ◌∷◌, ◌++◌, refl, sym, ap, ◌∙◌, subst, arith, Option, Some, None}
+use Rattle.std.proofs.Common.{◌≡◌, ◌≢◌, ◌<◌, ◌≤◌, ◌+◌, ◌⊎◌, inl, inr, ℕ, Bool, true, false, not, ◌&&◌, ◌==◌, List, [], ◌∷◌, ◌++◌, length, refl, sym, ap, ◌∙◌, subst, subst₂, arith, Option, Some, None, is_some, length-append}
 use Rattle.std.proofs.lemmas.Bool.Decides.{nat_tests}
+use Rattle.std.proofs.lemmas.List.Elements.{All-cons, All-nil}
 use native.Mathlib.Decide.{ℕ_discrete}
 use mathlib.Core.Logic.{dite}
 use Rattle.std.proofs.lemmas.Nat.Bits.{bit_at-zero, bit_at_or, bit_at-pow_other}
 use Rattle.std.specs.Int.{bit_at}
 use Rattle.std.specs.Prelude.{◌^◌, bit_or}
 use Rattle.tc_isa.specs.Sets.{has, with_lock}
+use Rattle.tc_isa.specs.declared.limits.TheConstants.{MAX_HELD}
 use Rattle.tc_journal.specs.Batch.{last_of, may_adopt, is_only, unlocks, ends_section}
 use Rattle.tc_elf.specs.Shown.{Shown}
 use Rattle.tc_journal.specs.declared.block.Block.{Block}
-use Rattle.tc_journal.specs.declared.block.Kind.{Kind}
-use Rattle.tc_journal.specs.declared.block.Kind.TheVariants.{Adopted, Granted}
 use Rattle.tc_segment.specs.View.{LockView}
 use Rattle.tc_turn.specs.Turn.{is_running}
 use Rattle.tc_context.specs.View.{PackageView, IsSoundPackage, without_lock}
+use Rattle.tc_hall.specs.declared.board.Call.{Call}
 use Rattle.tc_hall.specs.declared.board.Knows.{Knows}
 use Rattle.tc_hall.specs.declared.board.Terms.{Terms}
+use Rattle.tc_hall.specs.declared.place.Place.TheVariants.{Ready}
+use Rattle.tc_hall.specs.PassView.{HallView}
 use Rattle.tc_hall.specs.Rule.{locked_in, threads}
-use Rattle.tc_queue.specs.declared.turn.Turn.{Turn}
+use Rattle.tc_hall.specs.Steps.{put_call}
 use Rattle.tc_queue.specs.Lines.{SeatView}
+use Rattle.tc_combiner.specs.declared.hands.Hands.{Hands}
 use Rattle.tc_combiner.specs.declared.passed.Passed.{Passed}
 use Rattle.tc_combiner.specs.declared.passed.Passed.TheVariants.{Home, Granted as Was_granted, Adopted as Was_adopted, Stopped as Was_stopped}
 use Rattle.tc_combiner.specs.declared.settled.Settled.{Settled}
 use Rattle.tc_combiner.specs.declared.settled.Settled.TheVariants.{GoesOn, Adopted as Did_adopt, Shipped, Parked as Did_park, Ended, Stopped as Did_stop}
-use Rattle.tc_hall.specs.Outs.{Outs, outs, erase, Item}
-use Rattle.tc_combiner.specs.Packages.{DidTakeOut, HasHeldAnd, HasNone, HasOnlyHeld, HoldsNone, IsAside, IsPlain, Runs}
-use Rattle.tc_combiner.specs.Walks.{Walks, Moves, Owned, Owns}
-use Rattle.tc_combiner.specs.Answers.{WentOn, SetAside}
-use Rattle.tc_combiner.specs.Release.{HandedAs, FollowedAs, IsHanded, MayRelease, PassedAs, UnlockedAs}
-use Rattle.tc_combiner.proofs.Walking.{seen_later, seen_sooner, same_good}
-use Rattle.tc_combiner.proofs.Packages.{not_held}
-use Rattle.tc_combiner.proofs.Handing.{left_after}
+use Rattle.tc_hall.specs.Outs.{Outs, outs, erase, IsOut, Item, Pack}
+use Rattle.tc_combiner.specs.Packages.{DidTakeOut, HasHeldAnd, HasNone, HasOnlyHeld, HoldsNone, IsAside, IsGood, IsPlain, MayGoOn, Runs}
+use Rattle.tc_combiner.specs.Walks.{Moves, Owned, Owns, packed, ready_in}
+use Rattle.tc_combiner.specs.Acts.{Acted, Acts, IsAtHall, MayAct, MayGive}
+use Rattle.tc_combiner.specs.Answers.{Goes, PutAllBack, PutsAside, SetAside, TakesDown, WentOn, back}
+use Rattle.tc_combiner.specs.Release.{DidPass, MayRelease, MayUnlock, PassedAs, UnlockedAs, Unlocks, adopts, handed, turn_of}
+use Rattle.tc_combiner.proofs.Acting.{adds_then}
+use Rattle.tc_combiner.proofs.Answering.{at_hall, back_answers, keeps_answers, takes_none, takes_then, then_answers, then_at, wider}
+use Rattle.tc_combiner.proofs.Packages.{good_order, no_other, not_held, ungranted_fits, ungranted_plain}
+use Rattle.tc_combiner.proofs.Handing.{few_followed, left_after}
 use Rattle.tc_combiner.proofs.Owning.{swap, rotate, place_here, place_other}
 
 left_only_held : (i : ℕ) (l : LockView) (q p : PackageView) → DidTakeOut i l q p → HasHeldAnd i q → HasOnlyHeld p
@@ -92,59 +98,25 @@ alone_holds q b i run limit s e r a j =
 none_in : (p : PackageView) → HasOnlyHeld p → HoldsNone p → HasNone p
 none_in p h n j = not_held p j h (n j)
 
--- the package behind which a waiter was adopted may be set aside
-pub may_aside : (v w : Knows) (k : Terms) (i : ℕ) (b : Block) (l : LockView) (q p : PackageView) (s t : SeatView) (r : PackageView) → IsSoundPackage q → MayRelease v (threads k) i b q → v.image ≡ k.image.value → DidTakeOut i l q p → Runs q → HasHeldAnd i q
-    → PassedAs i q b s t v w (Was_adopted r) → IsAside k p
-may_aside v w k i b l q p s t r sound m image d runs h passed =
-    let plain = left_plain v (threads k) i b l q p d m runs h in
-    let number = (sound.stored i passed.0 passed.1).number in
-    let holds : HoldsNone q = alone_holds q b passed.0.number _ _ sound m.last (subst (λ (j : ℕ). ends_section j b ≡ true) (sym number) m.released.1) passed.2.2.1 in
+-- the package without the lock may go on, and be set aside where a waiter was adopted behind it
+pub may_go_on : (v : Knows) (k : Terms) (i : ℕ) (b : Block) (l : LockView) (q p : PackageView) → MayUnlock k v i b q → v.image ≡ k.image.value → DidTakeOut i l q p → MayGoOn k p
+may_go_on v k i b l q p m image d = record {
+  of = left_of i l q p d ∙ (m.release.of ∙ image);
+  plain = left_plain v (threads k) i b l q p d m.release m.runs m.locks_in;
+  runs = left_runs i l q p d m.runs;
+}
+
+pub may_aside : (v : Knows) (k : Terms) (i : ℕ) (b : Block) (l : LockView) (q p : PackageView) → IsSoundPackage q → MayUnlock k v i b q → v.image ≡ k.image.value → DidTakeOut i l q p → adopts l b ≡ true → IsAside k p
+may_aside v k i b l q p sound m image d a =
+    let g = may_go_on v k i b l q p m image d in
+    let number = (sound.stored i l d.was).number in
+    let holds : HoldsNone q = alone_holds q b l.number _ _ sound m.release.last (subst (λ (j : ℕ). ends_section j b ≡ true) (sym number) m.release.released.1) a in
     record {
-      plain = plain;
-      of = left_of i l q p d ∙ (m.of ∙ image);
-      runs = left_runs i l q p d runs;
-      free = none_in p plain.locks (λ j. ap (λ (c : PackageView). has c.context.guest.held j) d.is ∙ holds j);
+      plain = g.plain;
+      of = g.of;
+      runs = g.runs;
+      free = none_in p g.plain.locks (λ j. ap (λ (c : PackageView). has c.context.guest.held j) d.is ∙ holds j);
     }
-
-same_handed : (w x : Knows) (k : Kind) (l : LockView) (u : Turn) (q : PackageView) → Walks w x → IsHanded k l u w.image q → IsHanded k l u x.image q
-same_handed w x k l u q h = subst (λ (i : Shown). IsHanded k l u i q) (sym h.told.image)
-
-handed_later : (l : LockView) (b : Block) (u : Turn) (v w x : Knows) (r : Passed) → Walks w x → HandedAs l b u v w r → HandedAs l b u v x r
-handed_later l b u v w x Home k h = h
-handed_later l b u v w x Was_granted k h = (h.0, same_handed w x Granted l u h.0 k h.1, h.2, seen_later v w x _ h.3 k)
-handed_later l b u v w x (Was_adopted q) k h = (same_handed w x Adopted l u q k h.0, h.1, same_good w x q k h.2)
-handed_later l b u v w x Was_stopped k h = (seen_later v w x _ h.0 k, seen_later v w x _ h.1 k)
-
-followed_later : (l : LockView) (b : Block) (own : Turn) (s t : SeatView) (v w x : Knows) (r : Passed) → Walks w x → FollowedAs l b own s t v w r → FollowedAs l b own s t v x r
-followed_later l b own s t v w x Home k h = (h.0, seen_later v w x _ h.1 k)
-followed_later l b own s t v w x Was_granted k h = (h.0, h.1, handed_later l b h.0 v w x Was_granted k h.2)
-followed_later l b own s t v w x (Was_adopted q) k h = (h.0, h.1, handed_later l b h.0 v w x (Was_adopted q) k h.2)
-followed_later l b own s t v w x Was_stopped k h = (seen_later v w x _ h.0 k, seen_later v w x _ h.1 k)
-
-pub passed_later : (i : ℕ) (q : PackageView) (b : Block) (s t : SeatView) (v w x : Knows) (r : Passed) → Walks w x → PassedAs i q b s t v w r → PassedAs i q b s t v x r
-passed_later i q b s t v w x r k h = (h.0, h.1, followed_later h.0 b _ s t v w x r k h.2)
-
-went_sooner : (q : PackageView) (v w x : Knows) (a c : Option PackageView) (r : PackageView) → Walks v w → WentOn q w x a c (GoesOn r) → WentOn q v x a c (GoesOn r)
-went_sooner q v w x a c r k h = (h.0, ⊎_elim (λ y. inl y) (λ y. inr (y.0, y.1, y.2, seen_sooner v w x _ k y.3)) h.1)
-
-pub goes_home : (i : ℕ) (q : PackageView) (b : Block) (s t : SeatView) (v w x : Knows) (a c : Option PackageView) (r : Settled) → Walks v w → Walks w x → PassedAs i q b s t v w Home → WentOn (without_lock i q) w x a c r → UnlockedAs i q b s t v x a c r
-goes_home i q b s t v w x a c (GoesOn r) k j h g = (inl (passed_later i q b s t v w x Home j h), went_sooner (without_lock i q) v w x a c r k g)
-goes_home i q b s t v w x a c (Did_adopt r) k j h g = absurd g
-goes_home i q b s t v w x a c Shipped k j h g = absurd g
-goes_home i q b s t v w x a c Did_park k j h g = absurd g
-goes_home i q b s t v w x a c Ended k j h g = absurd g
-goes_home i q b s t v w x a c Did_stop k j h g = absurd g
-
-pub goes_granted : (i : ℕ) (q : PackageView) (b : Block) (s t : SeatView) (v w x : Knows) (a c : Option PackageView) (r : Settled) → Walks v w → Walks w x → PassedAs i q b s t v w Was_granted → WentOn (without_lock i q) w x a c r → UnlockedAs i q b s t v x a c r
-goes_granted i q b s t v w x a c (GoesOn r) k j h g = (inr (passed_later i q b s t v w x Was_granted j h), went_sooner (without_lock i q) v w x a c r k g)
-goes_granted i q b s t v w x a c (Did_adopt r) k j h g = absurd g
-goes_granted i q b s t v w x a c Shipped k j h g = absurd g
-goes_granted i q b s t v w x a c Did_park k j h g = absurd g
-goes_granted i q b s t v w x a c Ended k j h g = absurd g
-goes_granted i q b s t v w x a c Did_stop k j h g = absurd g
-
-pub aside_sooner : (q : PackageView) (v w x : Knows) (a c : Option PackageView) → Walks v w → SetAside q w x a c → SetAside q v x a c
-aside_sooner q v w x a c k h = record { first = h.first; later = λ d e. let y = h.later d e in (y.0, seen_sooner v w x _ k y.1) }
 
 -- the first of these comes last
 unrotate : (b o : Outs) (x : Item) (ys zs : List Item) → Owns b o (x ∷ (ys ++ zs)) → Owns b o (ys ++ (x ∷ zs))
@@ -166,8 +138,161 @@ add_nil : (b o : Outs) (xs : List Item) → Owns b o xs → Owns b o (xs ++ [])
 add_nil b o [] h = h
 add_nil b o (x ∷ xs) h = (h.0, add_nil b (erase o x) xs h.1)
 
+-- the first of these, where the rest counts as what is out besides
+pub alone : (v : Knows) (x : Item) (xs : List Item) → Owned v (x ∷ xs) → Owned v (x ∷ [])
+alone v x xs o = (erase (outs v) x, (o.1.0, refl))
+
 pub adopts_owned : (v w : Knows) (q p r : Item) (os : List Item) → Moves v w (q ∷ []) (p ∷ r ∷ []) → Owned v (q ∷ os) → Owned w (p ∷ os)
 adopts_owned v w q p r os m o =
     let one : Owns o.0 (outs w) (p ∷ r ∷ (os ++ [])) = m o.0 (os ++ []) (add_nil o.0 (outs v) (q ∷ os) o.1) in
     let two = beneath o.0 (erase (outs w) p) r os (unrotate o.0 (erase (outs w) p) r os [] one.1) in
     (two.0, (one.0, two.1))
+
+-- ---- what an unlock comes to
+
+went_unlocks : (image : Shown) (worker i : ℕ) (q : PackageView) (b : Block) (s t : SeatView) (a c : Option PackageView) (ds es : List Call) (r : Settled) → PassedAs image i q b s t ds Home ⊎ PassedAs image i q b s t ds Was_granted → WentOn image worker (without_lock i q) a c es r → UnlockedAs image worker i q b s t a c (ds ++ es) r
+went_unlocks image worker i q b s t a c ds es (GoesOn r) k g = (ds, es, refl, k, g)
+went_unlocks image worker i q b s t a c ds es (Did_adopt r) k g = absurd g
+went_unlocks image worker i q b s t a c ds es Shipped k g = absurd g
+went_unlocks image worker i q b s t a c ds es Did_park k g = absurd g
+went_unlocks image worker i q b s t a c ds es Ended k g = absurd g
+went_unlocks image worker i q b s t a c ds es Did_stop k g = absurd g
+
+module _ (hall : HallView) (i : ℕ) (b : Block) (q p : PackageView) (s t : SeatView) (h m : Hands) (hands : MayAct hall (Pack q ∷ packed h.aside) 2 h) where
+  room_after : (r : Passed) → DidPass hall.terms i b q p s t h m r → length m.ready.items + 1 ≤ MAX_HELD
+  room_after r d =
+      let few = few_followed hall.terms.image.value d.state b (turn_of q i) s t d.calls r d.became in
+      let all : length m.ready.items ≡ length h.ready.items + length (ready_in d.calls) = ap (λ (l : List ℕ). length l) d.acted.told ∙ length-append h.ready.items (ready_in d.calls) in
+      let room = hands.room in omega arith
+
+  pub at_then : (r : Passed) → handed r ≡ [] → DidPass hall.terms i b q p s t h m r → IsAtHall hall (Pack p ∷ packed m.aside) m
+  at_then r e d = then_at hall d.calls q p h m (at_hall hall (Pack q ∷ packed h.aside) 2 h hands) (subst (λ (xs : List Item). Acted hall.terms d.calls (Pack q ∷ []) (Pack p ∷ xs) h m) e d.acted) d.aside
+
+  pub may_then : (r : Passed) → handed r ≡ [] → DidPass hall.terms i b q p s t h m r → MayAct hall (Pack p ∷ packed m.aside) 1 m
+  may_then r e d = let a = at_then r e d in record { own = a.own; image = a.image; out = a.out; room = room_after r d; aside = a.aside }
+
+  pub may_adopted : (x : PackageView) → DidPass hall.terms i b q p s t h m (Was_adopted x) → MayAct hall (Pack p ∷ packed m.aside) 1 m
+  may_adopted x d = record {
+    own = d.acted.acts.own.0 ∙ hands.own;
+    image = d.acted.acts.adds.told.image ∙ hands.image;
+    out = subst (λ (o : Option PackageView). Owned m.pass.knows (Pack p ∷ packed o)) (sym d.aside) (adopts_owned h.pass.knows m.pass.knows (Pack q) (Pack p) (Pack x) (packed h.aside) d.acted.acts.moves hands.out);
+    room = room_after (Was_adopted x) d;
+    aside = λ a e. hands.aside a (sym d.aside ∙ e);
+  }
+
+  -- the lock went home or was granted, and the package goes on
+  goes : (g : Hands) (o : Passed) (r : Settled) → handed o ≡ [] → (d : DidPass hall.terms i b q p s t h m o) → PassedAs hall.terms.image.value i q b s t d.calls Home ⊎ PassedAs hall.terms.image.value i q b s t d.calls Was_granted → Goes hall.terms p m g r → Unlocks hall.terms i b q s t h g r
+  goes g o r e d k f = record {
+    calls = d.calls ++ f.calls;
+    answers = then_answers hall.terms d.calls f.calls q p h m g r (subst (λ (xs : List Item). Acted hall.terms d.calls (Pack q ∷ []) (Pack p ∷ xs) h m) e d.acted) d.aside f.answers;
+    asks = d.asks;
+    unlocked = went_unlocks hall.terms.image.value h.pass.knows.worker i q b s t h.aside g.aside d.calls f.calls r k
+        (subst (λ (n : ℕ). WentOn hall.terms.image.value n (without_lock i q) h.aside g.aside f.calls r) d.acted.acts.adds.told.worker
+        (subst (λ (y : PackageView). WentOn hall.terms.image.value m.pass.knows.worker y h.aside g.aside f.calls r) d.taken.is
+        (subst (λ (a : Option PackageView). WentOn hall.terms.image.value m.pass.knows.worker p a g.aside f.calls r) d.aside f.went)));
+  }
+
+  pub goes_home : (g : Hands) (r : Settled) → DidPass hall.terms i b q p s t h m Home → Goes hall.terms p m g r → Unlocks hall.terms i b q s t h g r
+  goes_home g r d f = goes g Home r refl d (inl (d.state, d.taken.was, d.became)) f
+
+  pub goes_granted : (g : Hands) (r : Settled) → DidPass hall.terms i b q p s t h m Was_granted → Goes hall.terms p m g r → Unlocks hall.terms i b q s t h g r
+  goes_granted g r d f = goes g Was_granted r refl d (inr (d.state, d.taken.was, d.became)) f
+
+  pub goes_adopted : (g : Hands) (x : PackageView) → b.worker ≡ h.pass.knows.worker → DidPass hall.terms i b q p s t h m (Was_adopted x) → PutsAside hall.terms p m g → Unlocks hall.terms i b q s t h g (Did_adopt x)
+  goes_adopted g x same d f =
+      let c : Acts f.calls (Pack p ∷ packed h.aside) (packed g.aside) m.pass g.pass = subst (λ (o : Option PackageView). Acts f.calls (Pack p ∷ packed o) (packed g.aside) m.pass g.pass) d.aside f.acted.acts in record {
+        calls = d.calls ++ f.calls;
+        answers = record {
+          acts = record {
+            own = (c.own.0 ∙ d.acted.acts.own.0, c.own.1 ∙ d.acted.acts.own.1);
+            adds = adds_then d.calls f.calls h.pass.knows m.pass.knows g.pass.knows d.acted.acts.adds c.adds;
+            moves = adopts_waiter h.pass.knows m.pass.knows g.pass.knows (Pack q) (Pack p) (Pack x) (packed h.aside) (packed g.aside) d.acted.acts.moves c.moves;
+          };
+          readied = takes_then (threads hall.terms) h.ready.items m.ready.items g.ready.items d.calls f.calls (d.acted.told, d.acted.known) (f.acted.told, f.acted.known);
+          aside = f.aside;
+        };
+        asks = d.asks;
+        unlocked = (
+          d.calls,
+          f.calls,
+          refl,
+          (d.state, d.taken.was, d.became),
+          subst (λ (y : PackageView). SetAside y h.aside g.aside f.calls) d.taken.is (subst (λ (a : Option PackageView). SetAside p a g.aside f.calls) d.aside f.set),
+          subst (λ (n : ℕ). IsGood x hall.terms.image.value n) same d.became.2.2,
+        );
+      }
+
+  pub goes_stopped : (g : Hands) → DidPass hall.terms i b q p s t h m Was_stopped → PutAllBack p m g → Unlocks hall.terms i b q s t h g Did_stop
+  goes_stopped g d a = record {
+    calls = d.calls ++ back p m.aside;
+    answers = then_answers hall.terms d.calls (back p m.aside) q p h m g Did_stop d.acted d.aside (back_answers hall.terms p m g a);
+    asks = d.asks;
+    unlocked = (
+      d.calls,
+      ap (λ (o : Option PackageView). d.calls ++ back p o) d.aside ∙ ap (λ (y : PackageView). d.calls ++ back y h.aside) d.taken.is,
+      (d.state, d.taken.was, d.became),
+      a.aside,
+    );
+  }
+
+-- ---- a package that goes on, or is set aside
+
+pub going_good : (k : Terms) (w : ℕ) (q : PackageView) → MayGoOn k q → IsGood q k.image.value w
+going_good k w q m = record { of = m.of; settled = m.plain.settled; runs = m.runs; locks = no_other q m.plain.locks; fits = ungranted_fits q w m.plain.granted }
+
+pub may_ready : (k : Terms) (v : Knows) (q : PackageView) → MayGoOn k q → IsOut (outs v) (Pack q) → MayGive k v Ready q
+may_ready k v q m out = record {
+  thread = m.plain.thread;
+  place = tt;
+  out = out;
+  order = good_order q k.image.value v.worker (going_good k v.worker q m);
+  plain = ungranted_plain q m.plain.granted;
+  fits = ungranted_fits q v.worker m.plain.granted;
+}
+
+module _ (hall : HallView) (q : PackageView) (h g : Hands) (hands : MayAct hall (Pack q ∷ packed h.aside) 1 h) where
+  pub goes_same : MayGoOn hall.terms q → Acts [] (Pack q ∷ packed h.aside) (Pack q ∷ packed h.aside) h.pass g.pass → g.ready.items ≡ h.ready.items → g.aside ≡ h.aside → (HoldsNone q → h.aside ≡ None) → Goes hall.terms q h g (GoesOn q)
+  goes_same m a e f none = record {
+    calls = [];
+    answers = keeps_answers hall [] q h g (GoesOn q) (at_hall hall (Pack q ∷ packed h.aside) 1 h hands) (subst (λ (o : Option PackageView). Acts [] (Pack q ∷ packed h.aside) (Pack q ∷ packed o) h.pass g.pass) (sym f) a) (takes_none (threads hall.terms) h.ready.items g.ready.items [] e refl) f;
+    went = (going_good hall.terms h.pass.knows.worker q m, inl (refl, f, none, refl));
+  }
+
+  takes_one : MayGoOn hall.terms q → g.ready.items ≡ h.ready.items ++ q.context.thread ∷ [] → TakesDown (threads hall.terms) h.ready.items g.ready.items (put_call q Ready ∷ [])
+  takes_one m e = (e, All-cons (λ n. n < threads hall.terms) q.context.thread [] m.plain.thread (All-nil (λ n. n < threads hall.terms)))
+
+  pub goes_other : (o : PackageView) → MayGoOn hall.terms q → h.aside ≡ Some o → g.aside ≡ None → HoldsNone q → Acts (put_call q Ready ∷ []) (Pack q ∷ []) [] h.pass g.pass → g.ready.items ≡ h.ready.items ++ q.context.thread ∷ [] → Goes hall.terms q h g (GoesOn o)
+  goes_other o m is gone none a e =
+      let other = hands.aside o is in record {
+        calls = put_call q Ready ∷ [];
+        answers = record {
+          acts = subst₂ (λ (x y : Option PackageView). Acts (put_call q Ready ∷ []) (Pack q ∷ packed x) (Pack o ∷ packed y) h.pass g.pass) (sym is) (sym gone) (record { own = a.own; adds = a.adds; moves = λ b zs w. a.moves b (Pack o ∷ zs) w });
+          readied = takes_one m e;
+          aside = λ b f. let n : ⊥ = cc in absurd n;
+        };
+        went = (going_good hall.terms h.pass.knows.worker o (record { of = other.of; plain = other.plain; runs = other.runs }), inr (is, none, gone, refl));
+      }
+
+  sets_later : (a c : Option PackageView) → is_some a ≡ true → c ≡ a → SetAside q a c (put_call q Ready ∷ [])
+  sets_later None c e f = let n : ⊥ = cc in absurd n
+  sets_later (Some x) c e f = (f, refl)
+
+  sets_first : (a c : Option PackageView) → a ≡ None → c ≡ Some q → SetAside q a c []
+  sets_first None c e f = (f, refl)
+  sets_first (Some x) c e f = let n : ⊥ = cc in absurd n
+
+  pub sets_behind : IsAside hall.terms q → is_some h.aside ≡ true → g.aside ≡ h.aside → Acts (put_call q Ready ∷ []) (Pack q ∷ []) [] h.pass g.pass → g.ready.items ≡ h.ready.items ++ q.context.thread ∷ [] → PutsAside hall.terms q h g
+  sets_behind i some f a e = let t = takes_one (record { of = i.of; plain = i.plain; runs = i.runs }) e in record {
+    calls = put_call q Ready ∷ [];
+    acted = record { acts = wider (put_call q Ready ∷ []) q h g f a; told = t.0; known = t.1 };
+    set = sets_later h.aside g.aside some f;
+    aside = λ b x. hands.aside b (sym f ∙ x);
+  }
+
+  pub sets_alone : IsAside hall.terms q → h.aside ≡ None → g.aside ≡ Some q → Acts [] (Pack q ∷ []) (Pack q ∷ []) h.pass g.pass → g.ready.items ≡ h.ready.items → PutsAside hall.terms q h g
+  sets_alone i none f a e = let t = takes_none (threads hall.terms) h.ready.items g.ready.items [] e refl in record {
+    calls = [];
+    acted = record { acts = subst₂ (λ (x y : Option PackageView). Acts [] (Pack q ∷ packed x) (packed y) h.pass g.pass) (sym none) (sym f) a; told = t.0; known = t.1 };
+    set = sets_first h.aside g.aside none f;
+    aside = λ b x. let y : Some q ≡ Some b = sym f ∙ x in let z : q ≡ b = cc in subst (λ (c : PackageView). IsAside hall.terms c) z i;
+  }

@@ -1,20 +1,28 @@
--- What a desk's calls answer, and what the pass and the seat then show.
-use Rattle.std.specs.Prelude.{◌⊎◌, ◌≡◌, ℕ, ◌+◌, min, if◌then◌else◌, List, [], ◌∷◌, Option, Some, None}
+-- What a desk's calls answer, with each call of the pass that was made.
+use Rattle.std.specs.Prelude.{◌⊎◌, ◌≡◌, ◌<◌, ℕ, ◌+◌, min, if◌then◌else◌, All, List, [], ◌∷◌, ◌++◌, Option, Some, None}
+use Rattle.tc_elf.specs.Shown.{Shown}
 use Rattle.tc_turn.specs.Turn.{is_running}
 use Rattle.tc_segment.specs.View.{LockView}
-use Rattle.tc_context.specs.View.{PackageView, with_turns}
+use Rattle.tc_journal.specs.Batch.{last_of}
+use Rattle.tc_journal.specs.declared.block.End.TheVariants.{Slept}
+use Rattle.tc_context.specs.View.{PackageView, HasBlock, with_turns}
 use Rattle.tc_context.specs.declared.package.TheConstants.{MAX_NUMBER}
-use Rattle.tc_hall.specs.declared.board.Knows.{Knows}
+use Rattle.tc_hall.specs.declared.board.Call.{Call}
+use Rattle.tc_hall.specs.declared.board.Call.TheVariants.{Stopped}
+use Rattle.tc_hall.specs.declared.board.Terms.{Terms}
 use Rattle.tc_hall.specs.declared.place.Place.{Place}
-use Rattle.tc_hall.specs.declared.place.Place.TheVariants.{Ready, Waiting, Done}
+use Rattle.tc_hall.specs.declared.place.Place.TheVariants.{Ready, Waiting, Parked, Done}
+use Rattle.tc_hall.specs.Outs.{Item, Pack}
+use Rattle.tc_hall.specs.Rule.{locks, threads}
+use Rattle.tc_hall.specs.Steps.{put_call}
 use Rattle.tc_queue.specs.declared.turn.Turn.{Turn}
 use Rattle.tc_queue.specs.Lines.{SeatView, Enter, Link, First, Behind, with_line}
-use Rattle.tc_hall.specs.Steps.{put_call}
+use Rattle.tc_combiner.specs.declared.hands.Hands.{Hands}
 use Rattle.tc_combiner.specs.declared.settled.Settled.{Settled}
 use Rattle.tc_combiner.specs.declared.settled.Settled.TheVariants.{GoesOn, Adopted, Shipped, Parked as Did_park, Ended, Stopped as Was_stopped}
-use Rattle.tc_hall.specs.Outs.{Item, Pack}
-use Rattle.tc_combiner.specs.Packages.{DidTake, HoldsNone, IsGoodFor}
-use Rattle.tc_combiner.specs.Walks.{Shows, HasSeenStop, Readied}
+use Rattle.tc_combiner.specs.Packages.{DidTake, HoldsNone, IsAside, IsGood, IsPlain, Runs, Wants}
+use Rattle.tc_combiner.specs.Walks.{packed, ready_in}
+use Rattle.tc_combiner.specs.Acts.{Acted, Acts}
 
 abbrev pub carried : Settled → List Item
 carried (GoesOn q) = Pack q ∷ []
@@ -24,45 +32,79 @@ carried Did_park = []
 carried Ended = []
 carried Was_stopped = []
 
--- the list got the threads that were put as ready, in order; it is empty where the run was stopped
-abbrev pub HasReadied : ℕ → Settled → List ℕ → List ℕ → Knows → Knows → Type 0
-HasReadied threads (GoesOn q) old new v w = Readied threads old new v w
-HasReadied threads (Adopted q) old new v w = Readied threads old new v w
-HasReadied threads Shipped old new v w = Readied threads old new v w
-HasReadied threads Did_park old new v w = Readied threads old new v w
-HasReadied threads Ended old new v w = Readied threads old new v w
-HasReadied threads Was_stopped old new v w = new ≡ []
+-- the list got the threads that these calls put as ready, in order, each of them one of so many
+abbrev pub TakesDown : ℕ → List ℕ → List ℕ → List Call → Type 0
+TakesDown threads old new cs = (new ≡ old ++ ready_in cs) × All (λ t. t < threads) (ready_in cs)
+
+-- so it did; it is empty where the run was stopped
+abbrev pub HasReadied : ℕ → Settled → List ℕ → List ℕ → List Call → Type 0
+HasReadied threads (GoesOn q) old new cs = TakesDown threads old new cs
+HasReadied threads (Adopted q) old new cs = TakesDown threads old new cs
+HasReadied threads Shipped old new cs = TakesDown threads old new cs
+HasReadied threads Did_park old new cs = TakesDown threads old new cs
+HasReadied threads Ended old new cs = TakesDown threads old new cs
+HasReadied threads Was_stopped old new cs = new ≡ []
+
+-- the hands had the package q and made these calls, with this answer
+pub record Answers (k : Terms) (cs : List Call) (q : PackageView) (h g : Hands) (r : Settled) : Type 0 where
+  pub acts : Acts cs (Pack q ∷ packed h.aside) (carried r ++ packed g.aside) h.pass g.pass
+  pub readied : HasReadied (threads k) r h.ready.items g.ready.items cs
+  pub aside : (a : PackageView) → g.aside ≡ Some a → IsAside k a
+
+-- ---- packages that are put back
 
 abbrev pub place_back : PackageView → Place
 place_back q = if is_running q.context.guest.status then Ready else Done
 
--- the run was stopped, and all packages were put back
-pub record WasStopped (v w : Knows) (q : PackageView) (aside after : Option PackageView) : Type 0 where
-  pub seen : HasSeenStop v w
-  pub put : Shows v.calls w.calls (put_call q (place_back q))
-  pub aside_put : (a : PackageView) → aside ≡ Some a → Shows v.calls w.calls (put_call a Ready)
-  pub aside_gone : after ≡ None
+-- the calls that put back the one set aside, and before it this package
+abbrev pub back_aside : Option PackageView → List Call
+back_aside None = []
+back_aside (Some a) = put_call a Ready ∷ []
 
--- the lock was home: the turn stood first in its line, and the lock was granted as Taken under the turn's number
-pub record DidTakeLock (i : ℕ) (u : Turn) (q r : PackageView) (s t : SeatView) : Type 0 where
-  pub line : t ≡ with_line s (Enter u First)
-  pub state : LockView
-  pub grant : DidTake i state u.number q r
+abbrev pub back : PackageView → Option PackageView → List Call
+back q a = put_call q (place_back q) ∷ back_aside a
 
--- the turn stood behind another: the package was put as waiting with all its locks, and linked
-pub record DidShip (i : ℕ) (u : Turn) (q : PackageView) (v w : Knows) (s t : SeatView) : Type 0 where
-  pub mark : ℕ
-  pub line : t ≡ with_line (with_line s (Enter u (Behind mark))) (Link mark u)
-  pub put : Shows v.calls w.calls (put_call q (Waiting i))
+-- the package q and the one set aside were put back
+pub record PutAllBack (q : PackageView) (h g : Hands) : Type 0 where
+  pub acts : Acts (back q h.aside) (Pack q ∷ packed h.aside) [] h.pass g.pass
+  pub aside : g.aside ≡ None
+  pub ready : g.ready.items ≡ []
 
--- what became of the package q, which entered the line of lock i with the turn u; a and b: what was and is set aside
-abbrev pub EnteredAs : ℕ → Turn → PackageView → Knows → Knows → SeatView → SeatView → Option PackageView → Option PackageView → Settled → Type 0
-EnteredAs i u q v w s t a b (GoesOn r) = (b ≡ a) × DidTakeLock i u q r s t × IsGoodFor w r
-EnteredAs i u q v w s t a b (Adopted r) = ⊥
-EnteredAs i u q v w s t a b Shipped = (b ≡ a) × DidShip i u q v w s t
-EnteredAs i u q v w s t a b Did_park = ⊥
-EnteredAs i u q v w s t a b Ended = ⊥
-EnteredAs i u q v w s t a b Was_stopped = WasStopped v w q a b
+-- ---- a package that wants a lock
+
+-- the package q may ask for lock i
+pub record MayAsk (k : Terms) (i : ℕ) (q : PackageView) : Type 0 where
+  pub lock : i < locks k
+  pub of : q.image ≡ k.image.value
+  pub plain : IsPlain (threads k) q
+  pub want : Wants q i
+
+-- lock i was taken from its home for the package q, which is r then, or the run was stopped; a and b: what was and is set aside
+abbrev pub FirstAs : Shown → ℕ → ℕ → ℕ → PackageView → Option PackageView → Option PackageView → List Call → Option PackageView → Type 0
+FirstAs image worker i n q a b cs (Some r) = (cs ≡ []) × (b ≡ a) × ((l : LockView) × DidTake i l n q r) × IsGood r image worker
+FirstAs image worker i n q a b cs None = (cs ≡ Stopped 1 ∷ back q a) × (b ≡ None)
+
+-- where the run was stopped no thread is told as ready
+abbrev pub KeepsReady : Option PackageView → List ℕ → List ℕ → Type 0
+KeepsReady (Some r) old new = new ≡ old
+KeepsReady None old new = new ≡ []
+
+-- so it was done for the turn that stands first in its line
+pub record DidFirst (k : Terms) (i n : ℕ) (q : PackageView) (h g : Hands) (r : Option PackageView) : Type 0 where
+  pub calls : List Call
+  pub acts : Acts calls (Pack q ∷ packed h.aside) (packed r ++ packed g.aside) h.pass g.pass
+  pub ready : KeepsReady r h.ready.items g.ready.items
+  pub became : FirstAs k.image.value h.pass.knows.worker i n q h.aside g.aside calls r
+
+-- the package q entered the line of lock i with the turn u, with these calls and no others: it stood first, and the lock was
+-- granted as Taken under the turn's number; or it stood behind another, was put as waiting with all its locks, and linked
+abbrev pub EnteredAs : Shown → ℕ → ℕ → Turn → PackageView → SeatView → SeatView → Option PackageView → Option PackageView → List Call → Settled → Type 0
+EnteredAs image worker i u q s t a b cs (GoesOn r) = (t ≡ with_line s (Enter u First)) × FirstAs image worker i u.number q a b cs (Some r)
+EnteredAs image worker i u q s t a b cs (Adopted r) = ⊥
+EnteredAs image worker i u q s t a b cs Shipped = (mark : ℕ) × (t ≡ with_line (with_line s (Enter u (Behind mark))) (Link mark u)) × (cs ≡ put_call q (Waiting i) ∷ []) × (b ≡ a)
+EnteredAs image worker i u q s t a b cs Did_park = ⊥
+EnteredAs image worker i u q s t a b cs Ended = ⊥
+EnteredAs image worker i u q s t a b cs Was_stopped = (t ≡ with_line s (Enter u First)) × FirstAs image worker i u.number q a b cs None
 
 -- the package with its next number counted, and the turn of that number
 abbrev pub counted : PackageView → PackageView
@@ -72,28 +114,49 @@ abbrev pub next_turn : PackageView → Turn
 next_turn q = record { thread = q.context.thread; number = min (q.turns + 1) MAX_NUMBER }
 
 -- what became of the package q, which wants lock i
-abbrev pub AcquiredAs : ℕ → PackageView → Knows → Knows → SeatView → SeatView → Option PackageView → Option PackageView → Settled → Type 0
-AcquiredAs i q v w s t a b r = EnteredAs i (next_turn q) (counted q) v w s t a b r
+abbrev pub AcquiredAs : Shown → ℕ → ℕ → PackageView → SeatView → SeatView → Option PackageView → Option PackageView → List Call → Settled → Type 0
+AcquiredAs image worker i q s t a b cs r = EnteredAs image worker i (next_turn q) (counted q) s t a b cs r
 
--- the same where the turn of this number stands first
-abbrev pub FirstAs : ℕ → PackageView → ℕ → Knows → Knows → Option PackageView → Option PackageView → Settled → Type 0
-FirstAs i q n v w a b (GoesOn r) = (b ≡ a) × ((l : LockView) × DidTake i l n q r) × IsGoodFor w r
-FirstAs i q n v w a b (Adopted r) = ⊥
-FirstAs i q n v w a b Shipped = ⊥
-FirstAs i q n v w a b Did_park = ⊥
-FirstAs i q n v w a b Ended = ⊥
-FirstAs i q n v w a b Was_stopped = WasStopped v w q a b
+-- what was done for it
+pub record Acquires (k : Terms) (i : ℕ) (q : PackageView) (s t : SeatView) (h g : Hands) (r : Settled) : Type 0 where
+  pub calls : List Call
+  pub answers : Answers k calls q h g r
+  pub acquired : AcquiredAs k.image.value h.pass.knows.worker i q s t h.aside g.aside calls r
 
--- the package q goes on, or it was adopted, holds no lock, was handed back as ready, and the one that was set aside goes on
-abbrev pub WentOn : PackageView → Knows → Knows → Option PackageView → Option PackageView → Settled → Type 0
-WentOn q v w a b (GoesOn r) = IsGoodFor w r × (((r ≡ q) × (b ≡ a) × (HoldsNone q → a ≡ None)) ⊎ ((a ≡ Some r) × HoldsNone q × (b ≡ None) × Shows v.calls w.calls (put_call q Ready)))
-WentOn q v w a b (Adopted r) = ⊥
-WentOn q v w a b Shipped = ⊥
-WentOn q v w a b Did_park = ⊥
-WentOn q v w a b Ended = ⊥
-WentOn q v w a b Was_stopped = ⊥
+-- ---- a package that sleeps
+
+pub record MayPark (k : Terms) (q : PackageView) : Type 0 where
+  pub plain : IsPlain (threads k) q
+  pub runs : Runs q
+  pub slept : HasBlock (λ b. b.end ≡ Slept) (last_of q.log)
+
+pub record Parks (k : Terms) (q : PackageView) (h g : Hands) : Type 0 where
+  pub answers : Answers k (put_call q Parked ∷ []) q h g Did_park
+  pub aside : g.aside ≡ h.aside
+
+-- ---- a package that goes on, or is set aside
+
+-- the package q goes on; or it was adopted, holds no lock, was handed back as ready, and the one that was set aside goes on
+abbrev pub WentOn : Shown → ℕ → PackageView → Option PackageView → Option PackageView → List Call → Settled → Type 0
+WentOn image worker q a b cs (GoesOn r) = IsGood r image worker × (((r ≡ q) × (b ≡ a) × (HoldsNone q → a ≡ None) × (cs ≡ [])) ⊎ ((a ≡ Some r) × HoldsNone q × (b ≡ None) × (cs ≡ put_call q Ready ∷ [])))
+WentOn image worker q a b cs (Adopted r) = ⊥
+WentOn image worker q a b cs Shipped = ⊥
+WentOn image worker q a b cs Did_park = ⊥
+WentOn image worker q a b cs Ended = ⊥
+WentOn image worker q a b cs Was_stopped = ⊥
+
+pub record Goes (k : Terms) (q : PackageView) (h g : Hands) (r : Settled) : Type 0 where
+  pub calls : List Call
+  pub answers : Answers k calls q h g r
+  pub went : WentOn k.image.value h.pass.knows.worker q h.aside g.aside calls r
 
 -- the package q is set aside, or it was handed back as ready where one is set aside already
-pub record SetAside (q : PackageView) (v w : Knows) (a b : Option PackageView) : Type 0 where
-  pub first : a ≡ None → b ≡ Some q
-  pub later : (c : PackageView) → a ≡ Some c → (b ≡ a) × Shows v.calls w.calls (put_call q Ready)
+abbrev pub SetAside : PackageView → Option PackageView → Option PackageView → List Call → Type 0
+SetAside q None b cs = (b ≡ Some q) × (cs ≡ [])
+SetAside q (Some a) b cs = (b ≡ Some a) × (cs ≡ put_call q Ready ∷ [])
+
+pub record PutsAside (k : Terms) (q : PackageView) (h g : Hands) : Type 0 where
+  pub calls : List Call
+  pub acted : Acted k calls (Pack q ∷ packed h.aside) (packed g.aside) h g
+  pub set : SetAside q h.aside g.aside calls
+  pub aside : (a : PackageView) → g.aside ≡ Some a → IsAside k a

@@ -1,22 +1,31 @@
--- How the locks of a thread that has ended are passed on.
-use Rattle.std.specs.Prelude.{◌≡◌, ◌⊎◌, ℕ, ◌<◌, Bool, true, false, List, get_or, length, Option, Some, None, is_some}
-use Rattle.tc_isa.specs.Sets.{has}
+-- How the locks of a thread that has ended are passed on, with each call of the pass that is made.
+use Rattle.std.specs.Prelude.{◌≡◌, ◌≢◌, ◌⊎◌, ℕ, ◌+◌, ◌<◌, ◌≤◌, Bool, true, false, List, [], ◌∷◌, ◌++◌, get_or, length, Option, Some, None, is_some}
+use Rattle.tc_isa.specs.Sets.{has, locks_of}
+use Rattle.tc_isa.specs.declared.limits.TheConstants.{MAX_HELD}
+use Rattle.tc_elf.specs.Shown.{Shown}
 use Rattle.tc_journal.specs.Batch.{ends_thread, last_of}
 use Rattle.tc_journal.specs.declared.block.Block.{Block}
+use Rattle.tc_segment.specs.View.{LockView}
 use Rattle.tc_context.specs.View.{PackageView, bare}
 use Rattle.tc_hall.specs.declared.board.Knows.{Knows}
+use Rattle.tc_hall.specs.declared.board.Terms.{Terms}
+use Rattle.tc_hall.specs.declared.board.Call.{Call}
 use Rattle.tc_hall.specs.declared.board.Call.TheVariants.{Free}
 use Rattle.tc_hall.specs.declared.place.Place.TheVariants.{Done}
+use Rattle.tc_hall.specs.Outs.{Pack}
 use Rattle.tc_hall.specs.Rule.{locked_in}
-use Rattle.tc_queue.specs.Lines.{SeatView}
 use Rattle.tc_hall.specs.Steps.{put_call}
-use Rattle.tc_combiner.specs.declared.passed.Passed.TheVariants.{Home, Granted as Was_granted}
+use Rattle.tc_queue.specs.declared.turn.Turn.{Turn}
+use Rattle.tc_queue.specs.Lines.{SeatView}
+use Rattle.tc_combiner.specs.declared.hands.Hands.{Hands}
+use Rattle.tc_combiner.specs.declared.passed.Passed.TheVariants.{Home, Granted as Was_granted, Stopped as Passed_stopped}
 use Rattle.tc_combiner.specs.declared.settled.Settled.{Settled}
 use Rattle.tc_combiner.specs.declared.settled.Settled.TheVariants.{GoesOn, Adopted, Shipped, Parked as Did_park, Ended as Has_ended, Stopped as Was_stopped}
-use Rattle.tc_combiner.specs.Packages.{HasNone}
-use Rattle.tc_combiner.specs.Walks.{HasSeenStop, Shows, Walks}
-use Rattle.tc_combiner.specs.Answers.{WasStopped}
-use Rattle.tc_combiner.specs.Release.{PassedAs}
+use Rattle.tc_combiner.specs.Packages.{DidTakeOut, HasNone}
+use Rattle.tc_combiner.specs.Walks.{Asks}
+use Rattle.tc_combiner.specs.Acts.{Acted}
+use Rattle.tc_combiner.specs.Answers.{Answers, back}
+use Rattle.tc_combiner.specs.Release.{FollowedAs, turn_of}
 use Rattle.tc_combiner.specs.View.{no_seat}
 
 abbrev pub seat_at : List SeatView → ℕ → SeatView
@@ -30,6 +39,12 @@ pub record AreSameSeats (ss ts : List SeatView) : Type 0 where
   pub count : length ts ≡ length ss
   pub each : (j : ℕ) → IsSameSeat (seat_at ss j) (seat_at ts j)
 
+-- the seat i is of this, before and after, and the other seats are as they were
+pub record AtSeat (i : ℕ) (ss ts : List SeatView) (P : SeatView → SeatView → Type 0) : Type 0 where
+  pub same : AreSameSeats ss ts
+  pub others : (j : ℕ) → j ≢ i → seat_at ts j ≡ seat_at ss j
+  pub here : P (seat_at ss i) (seat_at ts i)
+
 -- the thread of package q has ended with the block b, a block of this pass, and the locks in it are those of that block
 pub record MayEnd (v : Knows) (threads : ℕ) (b : Block) (q : PackageView) : Type 0 where
   pub of : q.image ≡ v.image
@@ -41,22 +56,26 @@ pub record MayEnd (v : Knows) (threads : ℕ) (b : Block) (q : PackageView) : Ty
   pub worker : b.worker ≡ v.worker
   pub locks : (i : ℕ) → is_some (locked_in q i) ≡ has b.held i
 
--- lock j of package q, which its block b released, went home or was granted
-abbrev pub WasPassed : ℕ → PackageView → Block → SeatView → SeatView → Knows → Knows → Type 0
-WasPassed j q b s t v w = PassedAs j q b s t v w Home ⊎ PassedAs j q b s t v w Was_granted
+-- ---- one lock
 
--- so it was, and before it each lesser lock of the block
-pub record WasPassedInOrder (j : ℕ) (q : PackageView) (b : Block) (ss ts : List SeatView) (v w : Knows) : Type 0 where
-  pub before : Knows
-  pub after : Knows
-  pub first : Walks v before
-  pub passed : WasPassed j q b (seat_at ss j) (seat_at ts j) before after
-  pub then : Walks after w
-  pub lesser : (i : ℕ) → i < j → has b.held i ≡ true → WasPassed i q b (seat_at ss i) (seat_at ts i) v before
+-- the lock l of an ended thread, whose turn there is own; was, is: whether the run was stopped before, and is now
+abbrev pub LeftAs : Shown → LockView → Block → Turn → SeatView → SeatView → List Call → Bool → Bool → Type 0
+LeftAs image l b own s t cs false false = FollowedAs image l b own s t cs Home ⊎ FollowedAs image l b own s t cs Was_granted
+LeftAs image l b own s t cs false true = FollowedAs image l b own s t cs Passed_stopped
+LeftAs image l b own s t cs true false = ⊥
+LeftAs image l b own s t cs true true = (t ≡ s) × (cs ≡ Free l.number ∷ [])
 
--- it went home or was granted, or was brought home where the run was stopped
-abbrev pub WasPassedOrFreed : ℕ → PackageView → Block → List SeatView → List SeatView → Knows → Knows → Type 0
-WasPassedOrFreed j q b ss ts v w = WasPassed j q b (seat_at ss j) (seat_at ts j) v w ⊎ Shows v.calls w.calls (Free j)
+-- what was done with lock i of the package q, whose thread ended with the block b; q is p then
+pub record DidLeave (k : Terms) (i : ℕ) (b : Block) (q p : PackageView) (s t : SeatView) (h g : Hands) (was is : Bool) : Type 0 where
+  pub calls : List Call
+  pub acted : Acted k calls (Pack q ∷ []) (Pack p ∷ []) h g
+  pub aside : g.aside ≡ h.aside
+  pub state : LockView
+  pub taken : DidTakeOut i state q p
+  pub asks : Asks (turn_of q i) s t
+  pub became : LeftAs k.image.value state b (turn_of q i) s t calls was is
+
+-- ---- all of its locks
 
 -- package p is q without its locks
 pub record IsEmptied (q p : PackageView) : Type 0 where
@@ -64,27 +83,67 @@ pub record IsEmptied (q p : PackageView) : Type 0 where
   pub granted : p.granted ≡ q.granted
   pub free : HasNone p
 
--- what became of a package q whose thread ended with the block b: each of its locks was passed on, the least first, and it
--- was put as Done
-abbrev pub EndedAs : PackageView → Block → List SeatView → List SeatView → Knows → Knows → Option PackageView → Option PackageView → Settled → Type 0
-EndedAs q b ss ts v w a c (GoesOn r) = ⊥
-EndedAs q b ss ts v w a c (Adopted r) = ⊥
-EndedAs q b ss ts v w a c Shipped = ⊥
-EndedAs q b ss ts v w a c Did_park = ⊥
-EndedAs q b ss ts v w a c Has_ended =
-    (c ≡ a) × ((j : ℕ) → has b.held j ≡ true → WasPassedInOrder j q b ss ts v w) × ((p : PackageView) × IsEmptied q p × Shows v.calls w.calls (put_call p Done))
-EndedAs q b ss ts v w a c Was_stopped = ((j : ℕ) → has b.held j ≡ true → WasPassedOrFreed j q b ss ts v w) × ((p : PackageView) × IsEmptied q p × WasStopped v w p a c)
+-- lock i of the package q, whose thread ended with the block b; was: whether the run was stopped before
+pub record OneLeft (image : Shown) (b : Block) (q : PackageView) (i : ℕ) (s t : SeatView) (was : Bool) : Type 0 where
+  pub state : LockView
+  pub here : locked_in q i ≡ Some state
+  pub calls : List Call
+  pub stopped : Bool
+  pub became : LeftAs image state b (turn_of q i) s t calls was stopped
 
--- package q is p now: its locks in rest wait, the others were passed on, or brought home where the run was stopped
-pub record Ending (stopped : Bool) (b : Block) (q p : PackageView) (rest : ℕ) (ss ts : List SeatView) (v w : Knows) : Type 0 where
+-- so each of these locks, in this order, with these calls and no others
+abbrev pub LeftInOrder : Shown → Block → PackageView → List SeatView → List SeatView → List ℕ → List Call → Bool → Bool → Type 0
+LeftInOrder image b q ss ts [] cs was end = (cs ≡ []) × (end ≡ was)
+LeftInOrder image b q ss ts (i ∷ is) cs was end = (x : OneLeft image b q i (seat_at ss i) (seat_at ts i) was) × (es : List Call) × (cs ≡ x.calls ++ es) × LeftInOrder image b q ss ts is es x.stopped end
+
+-- the seats of the locks of the block b asked for their turns of the package q alone, and each other seat is as it was
+pub record SeatsLeft (b : Block) (q : PackageView) (ss ts : List SeatView) : Type 0 where
+  pub count : length ts ≡ length ss
+  pub others : (j : ℕ) → has b.held j ≡ false → seat_at ts j ≡ seat_at ss j
+  pub asks : (j : ℕ) → has b.held j ≡ true → Asks (turn_of q j) (seat_at ss j) (seat_at ts j)
+
+-- what was done with all locks of the package q, whose thread ended with the block b; q is p then
+pub record DidLeaveAll (k : Terms) (b : Block) (q p : PackageView) (ss ts : List SeatView) (h g : Hands) (end : Bool) : Type 0 where
+  pub calls : List Call
+  pub acted : Acted k calls (Pack q ∷ []) (Pack p ∷ []) h g
+  pub aside : g.aside ≡ h.aside
+  pub emptied : IsEmptied q p
+  pub seats : SeatsLeft b q ss ts
+  pub order : LeftInOrder k.image.value b q ss ts (locks_of b.held) calls false end
+
+-- what became of a package q whose thread ended with the block b, with these calls and no others: each of its locks was passed
+-- on, the least first, and then it was put as Done
+abbrev pub EndedAs : Shown → PackageView → Block → List SeatView → List SeatView → Option PackageView → Option PackageView → List Call → Settled → Type 0
+EndedAs image q b ss ts a c cs (GoesOn r) = ⊥
+EndedAs image q b ss ts a c cs (Adopted r) = ⊥
+EndedAs image q b ss ts a c cs Shipped = ⊥
+EndedAs image q b ss ts a c cs Did_park = ⊥
+EndedAs image q b ss ts a c cs Has_ended = (p : PackageView) × (ds : List Call) × (cs ≡ ds ++ put_call p Done ∷ []) × IsEmptied q p × LeftInOrder image b q ss ts (locks_of b.held) ds false false × (c ≡ a)
+EndedAs image q b ss ts a c cs Was_stopped = (p : PackageView) × (ds : List Call) × (cs ≡ ds ++ back p a) × IsEmptied q p × LeftInOrder image b q ss ts (locks_of b.held) ds false true × (c ≡ None)
+
+-- what was done at the thread's end
+pub record Ends (k : Terms) (b : Block) (q : PackageView) (ss ts : List SeatView) (h g : Hands) (r : Settled) : Type 0 where
+  pub calls : List Call
+  pub answers : Answers k calls q h g r
+  pub seats : SeatsLeft b q ss ts
+  pub ended : EndedAs k.image.value q b ss ts h.aside g.aside calls r
+
+-- ---- in between
+
+-- the locks in rest wait, the others were passed on, or brought home where the run was stopped
+pub record Ending (k : Terms) (b : Block) (q p : PackageView) (rest : ℕ) (ss ts : List SeatView) (h g : Hands) (now : Bool) : Type 0 where
+  pub calls : List Call
+  pub acted : Acted k calls (Pack q ∷ []) (Pack p ∷ []) h g
+  pub aside : g.aside ≡ h.aside
+  pub room : length g.ready.items + length (locks_of rest) ≤ MAX_HELD
   pub same : bare p ≡ bare q
   pub granted : p.granted ≡ q.granted
   pub numbers : p.numbers ≡ q.numbers
   pub within : (j : ℕ) → has rest j ≡ true → has b.held j ≡ true
   pub left : (j : ℕ) → has rest j ≡ true → locked_in p j ≡ locked_in q j
-  pub seats : (j : ℕ) → has rest j ≡ true → seat_at ts j ≡ seat_at ss j
   pub gone : (j : ℕ) → has rest j ≡ false → locked_in p j ≡ None
-  pub below : (j : ℕ) → has b.held j ≡ true → has rest j ≡ false → (i : ℕ) → has rest i ≡ true → j < i
-  pub each : stopped ≡ false → (j : ℕ) → has b.held j ≡ true → has rest j ≡ false → WasPassedInOrder j q b ss ts v w
-  pub home : (j : ℕ) → has b.held j ≡ true → has rest j ≡ false → WasPassedOrFreed j q b ss ts v w
-  pub seen : stopped ≡ true → HasSeenStop v w
+  pub count : length ts ≡ length ss
+  pub others : (j : ℕ) → has b.held j ≡ false → seat_at ts j ≡ seat_at ss j
+  pub wait : (j : ℕ) → has rest j ≡ true → seat_at ts j ≡ seat_at ss j
+  pub asks : (j : ℕ) → has b.held j ≡ true → has rest j ≡ false → Asks (turn_of q j) (seat_at ss j) (seat_at ts j)
+  pub order : (us : List SeatView) (es : List Call) (end : Bool) → ((j : ℕ) → has rest j ≡ false → seat_at us j ≡ seat_at ts j) → LeftInOrder k.image.value b q ss us (locks_of rest) es now end → LeftInOrder k.image.value b q ss us (locks_of b.held) (calls ++ es) false end

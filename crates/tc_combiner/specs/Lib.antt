@@ -1,5 +1,6 @@
 pub mod Packages
 pub mod Walks
+pub mod Acts
 pub mod Answers
 pub mod Release
 pub mod View

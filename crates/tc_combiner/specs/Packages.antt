@@ -55,7 +55,13 @@ pub record IsPlain (threads : ℕ) (q : PackageView) : Type 0 where
   pub locks : HasOnlyHeld q
   pub ended : is_running q.context.guest.status ≡ false → HasNone q
 
--- one that may be set aside, in a hall made with these terms
+-- one that may go on, in a hall made with these terms
+pub record MayGoOn (k : Terms) (q : PackageView) : Type 0 where
+  pub of : q.image ≡ k.image.value
+  pub plain : IsPlain (threads k) q
+  pub runs : Runs q
+
+-- one that may be set aside there
 pub record IsAside (k : Terms) (a : PackageView) : Type 0 where
   pub plain : IsPlain (threads k) a
   pub of : a.image ≡ k.image.value
@@ -64,8 +70,8 @@ pub record IsAside (k : Terms) (a : PackageView) : Type 0 where
 
 -- a package of thread t that waits for lock i
 pub record IsWaiter (t i : ℕ) (image : Shown) (q : PackageView) : Type 0 where
-  pub thread : q.context.thread ≡ t
   pub of : q.image ≡ image
+  pub thread : q.context.thread ≡ t
   pub waits : IsWaiting q i
   pub runs : Runs q
   pub locks : HasNoOther q

@@ -1,5 +1,5 @@
 -- What `settle` asks of a package, and what becomes of it by the end of its last block.
-use Rattle.std.specs.Prelude.{◌≡◌, ◌≢◌, ℕ, ◌+◌, ◌-◌, ◌^◌, min, true, [], ◌∷◌, length, slice_set, Some, None, is_some}
+use Rattle.std.specs.Prelude.{◌≡◌, ◌≢◌, ℕ, ◌+◌, ◌-◌, ◌^◌, min, true, List, [], ◌∷◌, ◌++◌, length, slice_set, Option, Some, None, is_some}
 use Rattle.tc_isa.specs.Sets.{has}
 use Rattle.tc_elf.specs.Shown.{Shown}
 use Rattle.tc_journal.specs.Batch.{last_of}
@@ -9,16 +9,21 @@ use Rattle.tc_journal.specs.declared.block.End.TheVariants.{Wants, Unlocked, Sle
 use Rattle.tc_context.specs.Ran.{DidRun}
 use Rattle.tc_context.specs.View.{PackageView, AllowsPending, want_of}
 use Rattle.tc_hall.specs.declared.place.Place.TheVariants.{Parked}
+use Rattle.tc_hall.specs.declared.board.Call.{Call}
 use Rattle.tc_hall.specs.declared.board.Terms.{Terms}
 use Rattle.tc_hall.specs.Rule.{locked_in, threads}
 use Rattle.tc_hall.specs.Steps.{put_call, IsSamePass}
 use Rattle.tc_combiner.specs.declared.settled.Settled.{Settled}
 use Rattle.tc_combiner.specs.declared.settled.Settled.TheVariants.{GoesOn, Adopted, Shipped, Parked as Did_park, Ended, Stopped}
-use Rattle.tc_combiner.specs.Packages.{HasOnlyHeld, IsGoodFor}
-use Rattle.tc_combiner.specs.Walks.{Moves, Owned, Shows, Walks, packed, Asks}
-use Rattle.tc_combiner.specs.Answers.{AcquiredAs, HasReadied}
+use Rattle.tc_combiner.specs.Packages.{HasOnlyHeld, IsAside, IsGoodFor}
+use Rattle.tc_combiner.specs.Walks.{Moves, Owned, Walks, packed, Asks}
+use Rattle.tc_combiner.specs.Acts.{Acts, Adds}
+use Rattle.tc_combiner.specs.declared.hands.Hands.{Hands}
+use Rattle.tc_hall.specs.PassView.{PassView}
+use Rattle.tc_queue.specs.Lines.{SeatView}
+use Rattle.tc_combiner.specs.Answers.{AcquiredAs, HasReadied, carried}
 use Rattle.tc_combiner.specs.Release.{UnlockedAs, turn_of}
-use Rattle.tc_combiner.specs.Ends.{EndedAs, seat_at}
+use Rattle.tc_combiner.specs.Ends.{AreSameSeats, EndedAs, SeatsLeft, seat_at}
 use Rattle.tc_combiner.specs.View.{DeskView}
 use Rattle.tc_hall.specs.Outs.{Pack}
 
@@ -36,7 +41,17 @@ pub record Works (d e : DeskView) : Type 0 where
 
 -- the desk tells the threads that it put as ready in the call, in order; none where the run was stopped
 abbrev pub TellsReady : Terms → Settled → DeskView → DeskView → Type 0
-TellsReady k r d e = HasReadied (threads k) r [] e.handed d.pass.knows e.pass.knows
+TellsReady k r d e = (cs : List Call) × Adds cs d.pass.knows e.pass.knows × HasReadied (threads k) r [] e.handed cs
+
+-- what the calls of a desk that had the package q keep, and what they tell; p, a: its pass and what was set aside; g: its hands
+-- now
+pub record Keeps (k : Terms) (q : PackageView) (ss ts : List SeatView) (sl sm : List (Option ℕ)) (p : PassView) (a : Option PackageView) (g : Hands) (r : Settled) : Type 0 where
+  pub calls : List Call
+  pub acts : Acts calls (Pack q ∷ packed a) (carried r ++ packed g.aside) p g.pass
+  pub readied : HasReadied (threads k) r [] g.ready.items calls
+  pub aside : (c : PackageView) → g.aside ≡ Some c → IsAside k c
+  pub seats : AreSameSeats ss ts
+  pub room : length sm ≡ length sl
 
 -- a block made the package of one that the desk has in hand, and the batch rule allows it the desk's worker
 pub record MayCommit (d : DeskView) (q : PackageView) : Type 0 where
@@ -76,28 +91,35 @@ pub record IsSameBut (i : ℕ) (d e : DeskView) : Type 0 where
   pub others : (j : ℕ) → j ≢ i → seat_at e.seats j ≡ seat_at d.seats j
   pub sleepers : e.sleepers ≡ d.sleepers
 
--- what became of the package q, which wants lock i
+-- what became of the package q, which wants lock i: with these calls of the pass and no others, as in the records below
 pub record DidAcquire (i : ℕ) (q : PackageView) (d e : DeskView) (r : Settled) : Type 0 where
   pub same : IsSameBut i d e
-  pub acquired : AcquiredAs i q d.pass.knows e.pass.knows (seat_at d.seats i) (seat_at e.seats i) d.aside e.aside r
+  pub calls : List Call
+  pub adds : Adds calls d.pass.knows e.pass.knows
+  pub acquired : AcquiredAs d.pass.knows.image d.pass.knows.worker i q (seat_at d.seats i) (seat_at e.seats i) d.aside e.aside calls r
 
 -- of one whose block b unlocked lock i: the seat has asked for its turn alone
 pub record DidUnlock (i : ℕ) (q : PackageView) (b : Block) (d e : DeskView) (r : Settled) : Type 0 where
   pub same : IsSameBut i d e
   pub asks : Asks (turn_of q i) (seat_at d.seats i) (seat_at e.seats i)
-  pub unlocked : UnlockedAs i q b (seat_at d.seats i) (seat_at e.seats i) d.pass.knows e.pass.knows d.aside e.aside r
+  pub calls : List Call
+  pub adds : Adds calls d.pass.knows e.pass.knows
+  pub unlocked : UnlockedAs d.pass.knows.image d.pass.knows.worker i q b (seat_at d.seats i) (seat_at e.seats i) d.aside e.aside calls r
 
 -- of one that sleeps: it was put as Parked, and its thread is due so many blocks from now
 pub record DidPark (q : PackageView) (d e : DeskView) : Type 0 where
   pub seats : e.seats ≡ d.seats
   pub aside : e.aside ≡ d.aside
-  pub put : Shows d.pass.knows.calls e.pass.knows.calls (put_call q Parked)
+  pub adds : Adds (put_call q Parked ∷ []) d.pass.knows e.pass.knows
   pub sleeper : e.sleepers ≡ slice_set d.sleepers q.context.thread (Some (min (d.now + q.slept) (2 ^ 64 - 1)))
 
--- of one whose thread ended with the block b
+-- of one whose thread ended with the block b: each seat of a lock of that block has asked for its turn alone
 pub record DidEnd (q : PackageView) (b : Block) (d e : DeskView) (r : Settled) : Type 0 where
   pub sleepers : e.sleepers ≡ d.sleepers
-  pub ended : EndedAs q b d.seats e.seats d.pass.knows e.pass.knows d.aside e.aside r
+  pub seats : SeatsLeft b q d.seats e.seats
+  pub calls : List Call
+  pub adds : Adds calls d.pass.knows e.pass.knows
+  pub ended : EndedAs d.pass.knows.image q b d.seats e.seats d.aside e.aside calls r
 
 -- it goes on, and nothing was done
 abbrev pub DidNothing : PackageView → DeskView → DeskView → Settled → Type 0

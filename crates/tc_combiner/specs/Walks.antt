@@ -1,13 +1,11 @@
 -- What some calls of a pass and of a seat did: which calls their lists show, and how what is out changed.
-use Rattle.std.specs.Prelude.{◌≡◌, ℕ, ◌<◌, List, [], ◌∷◌, ◌++◌, All, Option, Some, None}
+use Rattle.std.specs.Prelude.{◌≡◌, ◌+◌, ℕ, List, [], ◌∷◌, ◌++◌, Option, Some, None}
 use Rattle.tc_segment.specs.View.{LockView}
 use Rattle.tc_context.specs.View.{PackageView}
 use Rattle.tc_hall.specs.declared.board.Knows.{Knows}
 use Rattle.tc_hall.specs.declared.board.Call.{Call}
 use Rattle.tc_hall.specs.declared.board.Call.TheVariants.{Put, Free, Look, Stop, Stopped}
 use Rattle.tc_hall.specs.declared.place.Place.TheVariants.{Ready, Parked, Done, Waiting}
-use Rattle.tc_hall.specs.PassView.{PassView}
-use Rattle.tc_hall.specs.Steps.{IsSamePass}
 use Rattle.tc_queue.specs.declared.turn.Turn.{Turn}
 use Rattle.tc_queue.specs.declared.turn.Departure.TheVariants.{Left}
 use Rattle.tc_queue.specs.Lines.{SeatView, LineCall, Enter, Link, Next, Leave}
@@ -70,24 +68,6 @@ ready_in (Look t x ∷ cs) = ready_in cs
 ready_in (Stop ∷ cs) = ready_in cs
 ready_in (Stopped x ∷ cs) = ready_in cs
 
--- calls were added, and the list got the threads that they put as ready, in order, each of them one of so many
-pub record Readied (threads : ℕ) (old new : List ℕ) (v w : Knows) : Type 0 where
-  pub calls : List Call
-  pub added : w.calls ≡ v.calls ++ calls
-  pub told : new ≡ old ++ ready_in calls
-  pub known : All (λ t. t < threads) (ready_in calls)
-
--- calls were added that put no thread as ready
-abbrev pub ReadiesNone : Knows → Knows → Type 0
-ReadiesNone v w = (threads : ℕ) (ts : List ℕ) → Readied threads ts ts v w
-
--- the pass made calls, and has out what it had
-pub record Stays (p q : PassView) : Type 0 where
-  pub own : IsSamePass p q
-  pub walks : Walks p.knows q.knows
-  pub none : ReadiesNone p.knows q.knows
-  pub outs : outs q.knows ≡ outs p.knows
-
 -- these calls are questions of this turn alone
 abbrev pub AreAsked : Turn → List LineCall → Type 0
 AreAsked u [] = Unit {0}
@@ -98,11 +78,26 @@ AreAsked u (Leave x a ∷ cs) = (x ≡ u) × AreAsked u cs
 
 -- the seat asked for this turn, and did nothing else
 pub record Asks (u : Turn) (s t : SeatView) : Type 0 where
-  pub table : t.table ≡ s.table
   pub threads : t.threads ≡ s.threads
+  pub table : t.table ≡ s.table
   pub lines : List LineCall
   pub calls : t.calls ≡ s.calls ++ lines
   pub asked : AreAsked u lines
+
+-- how many of these questions were not answered
+abbrev pub unanswered : List LineCall → ℕ
+unanswered [] = 0
+unanswered (Enter x a ∷ cs) = unanswered cs
+unanswered (Link m x ∷ cs) = unanswered cs
+unanswered (Next x None ∷ cs) = unanswered cs + 1
+unanswered (Next x (Some u) ∷ cs) = unanswered cs
+unanswered (Leave x a ∷ cs) = unanswered cs
+
+-- the seat asked for a turn and was not answered so many times
+pub record Asked (times : ℕ) (s t : SeatView) : Type 0 where
+  pub lines : List LineCall
+  pub calls : t.calls ≡ s.calls ++ lines
+  pub count : unanswered lines ≡ times
 
 -- who stands behind the turn, as the seat shows it
 abbrev pub AskedAs : Turn → SeatView → SeatView → Found → Type 0

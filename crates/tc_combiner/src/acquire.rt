@@ -1,23 +1,22 @@
 //! What `acquire` does, and how packages are put back where the run was stopped.
 
-ghost use Rattle.std.specs.Prelude.{ℕ, ◌≡◌, ◌<◌, ◌++◌, [], ◌∷◌, None, Some, true, false};
-ghost use Rattle.tc_journal.specs.declared.block.Kind.TheVariants.{Taken};
+ghost use Rattle.std.specs.Prelude.{◌≡◌, ◌<◌, ◌++◌, [], ◌∷◌};
 ghost use Rattle.tc_turn.specs.Turn.{is_running};
-ghost use Rattle.tc_segment.specs.View.{LockView};
-ghost use Rattle.tc_context.specs.View.{PackageView, IsNumber, IsWaiting, with_turns};
+ghost use Rattle.tc_context.specs.View.{IsNumber, IsWaiting};
 ghost use Rattle.tc_hall.specs.Rule.{threads, locks};
-ghost use Rattle.tc_hall.specs.Steps.{IsSamePass, put_call};
-ghost use Rattle.tc_hall.specs.declared.place.Place.TheVariants.{Ready, Waiting};
+ghost use Rattle.tc_hall.specs.Steps.{put_call};
+ghost use Rattle.tc_hall.specs.declared.place.Place.TheVariants.{Waiting};
 ghost use Rattle.tc_queue.specs.Lines.{IsSeatOf, MayLinkTo, Link, with_line};
 ghost use Rattle.tc_queue.specs.Words.{IsTurn};
 ghost use Rattle.tc_queue.specs.declared.turn.Turn.{Turn};
 ghost use Rattle.tc_hall.specs.Outs.{outs, IsOut, Pack};
-ghost use Rattle.tc_combiner.specs.Packages.{DidTake, IsAside, IsPlain, Runs, Wants};
-ghost use Rattle.tc_combiner.specs.Walks.{Walks, Moves, Owned, HasSeenStop, ReadiesNone, Shows, packed};
-ghost use Rattle.tc_combiner.specs.Ends.{IsSameSeat};
-ghost use Rattle.tc_combiner.specs.Answers.{AcquiredAs, FirstAs, HasReadied, carried, place_back};
+ghost use Rattle.tc_combiner.specs.Packages.{IsPlain, MayGoOn};
+ghost use Rattle.tc_combiner.specs.Walks.{packed};
+ghost use Rattle.tc_combiner.specs.Acts.{Acts, IsAtHall, MayGive};
+ghost use Rattle.tc_combiner.specs.Answers.{Acquires, DidFirst, MayAsk, PutAllBack, place_back};
 
 use crate::calls;
+use crate::hands::Hands;
 use crate::settled::Settled;
 use crate::waits::take_home;
 use std::sync::Wait;
@@ -36,16 +35,13 @@ fn is_running(package: &Package) -> bool
     matches!(package.status(), Status::Running)
 }
 
-/// Puts a package back, as ready or, where its thread has ended, as done.
-pub(crate) fn put_back(hall: &Hall, pass: &mut Pass, package: Package)
+// Puts a package back, as ready or, where its thread has ended, as done.
+fn put_back(hall: &Hall, pass: &mut Pass, package: Package)
     requires own { pass.old.table ≡ hall.now.table }
     requires out { IsOut (outs pass.old.knows) (Pack «package») }
     requires plain { IsPlain (threads hall.now.terms) «package» }
-    ensures own { IsSamePass pass.old pass.new }
-    ensures walks { Walks pass.old.knows pass.new.knows }
-    ensures moves { Moves pass.old.knows pass.new.knows (Pack «package» ∷ []) [] }
-    ensures put { Shows pass.old.knows.calls pass.new.knows.calls
-        (put_call «package» (place_back «package»)) }
+    ensures { Acts (put_call «package» (place_back «package») ∷ []) (Pack «package» ∷ []) []
+        pass.old pass.new }
 {
     if is_running(&package) {
         calls::put(hall, pass, package, Place::Ready);
@@ -54,66 +50,48 @@ pub(crate) fn put_back(hall: &Hall, pass: &mut Pass, package: Package)
     calls::put(hall, pass, package, Place::Done);
 }
 
-/// Puts back the package in hand and the one set aside.
-pub(crate) fn put_all_back(
-    hall: &Hall,
-    pass: &mut Pass,
-    package: Package,
-    aside: &mut Option<Package>,
-)
-    requires own { pass.old.table ≡ hall.now.table }
-    requires out { Owned pass.old.knows (Pack «package» ∷ packed aside.old) }
+/// Puts back the package in hand and the one set aside, and tells no thread as ready.
+pub(crate) fn put_all_back(hall: &Hall, hands: &mut Hands, package: Package)
+    requires hands { IsAtHall hall.now (Pack «package» ∷ packed hands.old.aside) hands.old }
     requires plain { IsPlain (threads hall.now.terms) «package» }
-    requires aside { (a : PackageView) → aside.old ≡ Some a → IsAside hall.now.terms a }
-    ensures own { IsSamePass pass.old pass.new }
-    ensures walks { Walks pass.old.knows pass.new.knows }
-    ensures moves { Moves pass.old.knows pass.new.knows (Pack «package» ∷ packed aside.old) [] }
-    ensures put { Shows pass.old.knows.calls pass.new.knows.calls
-        (put_call «package» (place_back «package»)) }
-    ensures aside_put { (a : PackageView) → aside.old ≡ Some a
-        → Shows pass.old.knows.calls pass.new.knows.calls (put_call a Ready) }
-    ensures aside_gone { aside.new ≡ None }
+    ensures { PutAllBack «package» hands.old hands.new }
 {
-    put_back(hall, pass, package);
-    if let Some(other) = aside.take() {
-        put_back(hall, pass, other);
+    hands.ready.clear();
+    put_back(hall, &mut hands.pass, package);
+    if let Some(other) = hands.aside.take() {
+        put_back(hall, &mut hands.pass, other);
     }
 }
 
-/// Takes the lock from its home and grants it as taken. False: the run was stopped.
-fn get_lock<R: Wait>(
+// Takes the lock for a turn that stands first in its line. None: the run was stopped.
+fn acquire_first<R: Wait>(
     rt: &R,
     hall: &Hall,
-    pass: &mut Pass,
-    package: &mut Package,
+    hands: &mut Hands,
+    mut package: Package,
     lock: u32,
     number: u64,
-) -> bool
-    requires own { pass.old.table ≡ hall.now.table }
+) -> Option<Package>
+    requires hands { IsAtHall hall.now (Pack «package» ∷ packed hands.old.aside) hands.old }
     requires place { lock < locks hall.now.terms }
-    requires of { «package».old.image ≡ pass.old.knows.image }
-    requires waits { IsWaiting «package».old lock }
+    requires may { MayGoOn hall.now.terms «package» }
+    requires waits { IsWaiting «package» lock }
     requires number { IsNumber number }
-    ensures own { IsSamePass pass.old pass.new }
-    ensures walks { Walks pass.old.knows pass.new.knows }
-    ensures none { ReadiesNone pass.old.knows pass.new.knows }
-    ensures moves { Moves pass.old.knows pass.new.knows
-        (Pack «package».old ∷ []) (Pack «package».new ∷ []) }
-    ensures granted { result ≡ true
-        → (l : LockView) × DidTake lock l number «package».old «package».new }
-    ensures stopped { result ≡ false
-        → («package».new ≡ «package».old) × HasSeenStop pass.old.knows pass.new.knows }
+    ensures { DidFirst hall.now.terms lock number «package» hands.old hands.new result }
 {
-    match take_home(rt, hall, pass, lock) {
+    match take_home(rt, hall, &mut hands.pass, lock) {
         Some(state) => {
             package.grant(state, Kind::Taken, number);
-            true
+            Some(package)
         }
-        None => false,
+        None => {
+            put_all_back(hall, hands, package);
+            None
+        }
     }
 }
 
-/// Puts the package as waiting, and then links its turn.
+// Puts the package as waiting, and then links its turn.
 fn ship<Q: Waiters>(
     hall: &Hall,
     pass: &mut Pass,
@@ -125,20 +103,12 @@ fn ship<Q: Waiters>(
     own: Turn,
 )
     requires own { pass.old.table ≡ hall.now.table }
-    requires place { lock < locks hall.now.terms }
-    requires out { IsOut (outs pass.old.knows) (Pack «package») }
-    requires plain { IsPlain (threads hall.now.terms) «package» }
-    requires runs { Runs «package» }
-    requires want { Wants «package» lock }
+    requires may { MayGive hall.now.terms pass.old.knows (Waiting lock) «package» }
     requires seat { IsSeatOf (Q.queue queue.now) (Q.seen seat.old) }
     requires turn { IsTurn (Q.queue queue.now).threads own }
     requires entered { MayLinkTo (Q.seen seat.old).calls own (Q.mark place) }
-    ensures own { IsSamePass pass.old pass.new }
-    ensures walks { Walks pass.old.knows pass.new.knows }
-    ensures none { ReadiesNone pass.old.knows pass.new.knows }
-    ensures moves { Moves pass.old.knows pass.new.knows (Pack «package» ∷ []) [] }
-    ensures put { Shows pass.old.knows.calls pass.new.knows.calls
-        (put_call «package» (Waiting lock)) }
+    ensures acts { Acts (put_call «package» (Waiting lock) ∷ []) (Pack «package» ∷ []) []
+        pass.old pass.new }
     ensures line { Q.seen seat.new ≡ with_line (Q.seen seat.old) (Link (Q.mark place) own) }
 {
     calls::put(hall, pass, package, Place::Waiting(lock));
@@ -149,31 +119,18 @@ fn ship<Q: Waiters>(
 pub(crate) fn acquire_with<R: Wait, Q: Waiters>(
     rt: &R,
     hall: &Hall,
-    pass: &mut Pass,
+    hands: &mut Hands,
     queue: &Q,
     seat: &mut Q::Seat,
-    aside: &mut Option<Package>,
     mut package: Package,
     lock: u32,
 ) -> Settled
-    requires own { pass.old.table ≡ hall.now.table }
-    requires place { lock < locks hall.now.terms }
-    requires of { «package».image ≡ pass.old.knows.image }
-    requires out { Owned pass.old.knows (Pack «package» ∷ packed aside.old) }
-    requires plain { IsPlain (threads hall.now.terms) «package» }
-    requires want { Wants «package» lock }
-    requires aside { (a : PackageView) → aside.old ≡ Some a → IsAside hall.now.terms a }
+    requires hands { IsAtHall hall.now (Pack «package» ∷ packed hands.old.aside) hands.old }
+    requires may { MayAsk hall.now.terms lock «package» }
     requires seat { IsSeatOf (Q.queue queue.now) (Q.seen seat.old) }
     requires made { (Q.queue queue.now).threads ≡ threads hall.now.terms }
-    ensures own { IsSamePass pass.old pass.new }
-    ensures walks { Walks pass.old.knows pass.new.knows }
-    ensures moves { Moves pass.old.knows pass.new.knows
-        (Pack «package» ∷ packed aside.old) (carried result ++ packed aside.new) }
-    ensures readied { HasReadied (threads hall.now.terms) result [] [] pass.old.knows pass.new.knows }
-    ensures seat { IsSameSeat (Q.seen seat.old) (Q.seen seat.new) }
-    ensures acquired { AcquiredAs lock «package» pass.old.knows pass.new.knows
-        (Q.seen seat.old) (Q.seen seat.new) aside.old aside.new result }
-    ensures aside { (a : PackageView) → aside.new ≡ Some a → IsAside hall.now.terms a }
+    ensures { Acquires hall.now.terms lock «package» (Q.seen seat.old) (Q.seen seat.new)
+        hands.old hands.new result }
 {
     package.keeps();
     let own = Turn {
@@ -181,45 +138,14 @@ pub(crate) fn acquire_with<R: Wait, Q: Waiters>(
         thread: package.thread(),
     };
     match queue.enter(seat, own) {
-        Arrival::First => acquire_first(rt, hall, pass, aside, package, lock, own.number),
+        Arrival::First => match acquire_first(rt, hall, hands, package, lock, own.number) {
+            Some(package) => Settled::GoesOn(package),
+            None => Settled::Stopped,
+        },
         Arrival::Behind(place) => {
+            let pass = &mut hands.pass;
             ship(hall, pass, queue, seat, package, lock, place, own);
             Settled::Shipped
         }
     }
-}
-
-// The turn stands first in its line.
-fn acquire_first<R: Wait>(
-    rt: &R,
-    hall: &Hall,
-    pass: &mut Pass,
-    aside: &mut Option<Package>,
-    mut package: Package,
-    lock: u32,
-    number: u64,
-) -> Settled
-    requires own { pass.old.table ≡ hall.now.table }
-    requires place { lock < locks hall.now.terms }
-    requires of { «package».image ≡ pass.old.knows.image }
-    requires out { Owned pass.old.knows (Pack «package» ∷ packed aside.old) }
-    requires plain { IsPlain (threads hall.now.terms) «package» }
-    requires waits { IsWaiting «package» lock }
-    requires runs { Runs «package» }
-    requires aside { (a : PackageView) → aside.old ≡ Some a → IsAside hall.now.terms a }
-    requires number { IsNumber number }
-    ensures own { IsSamePass pass.old pass.new }
-    ensures walks { Walks pass.old.knows pass.new.knows }
-    ensures moves { Moves pass.old.knows pass.new.knows
-        (Pack «package» ∷ packed aside.old) (carried result ++ packed aside.new) }
-    ensures readied { HasReadied (threads hall.now.terms) result [] [] pass.old.knows pass.new.knows }
-    ensures first { FirstAs lock «package» number pass.old.knows pass.new.knows
-        aside.old aside.new result }
-    ensures aside { (a : PackageView) → aside.new ≡ Some a → IsAside hall.now.terms a }
-{
-    if get_lock(rt, hall, pass, &mut package, lock, number) {
-        return Settled::GoesOn(package);
-    }
-    put_all_back(hall, pass, package, aside);
-    Settled::Stopped
 }

@@ -14,6 +14,7 @@ ghost use Rattle.tc_combiner.specs.Answers.{carried};
 ghost use Rattle.tc_combiner.specs.View.{FitsBench, desk_of};
 ghost use Rattle.tc_combiner.specs.Settling.{HasAcquired, HasSettled, IsInHand, MayAcquire, MayCommit, MaySettle, MovesSealed, TellsReady, Works};
 
+use crate::hands::Hands;
 use crate::ready::ReadyList;
 use crate::settle::{acquire_at, settle_with};
 use crate::settled::Settled;
@@ -50,12 +51,10 @@ impl<'a, Q: Waiters> Model for Bench<'a, Q> {
 /// A worker's place.
 #[derive(Drop)]
 pub struct Desk<Q: Waiters> {
-    pass: Pass,
+    hands: Hands,
     seats: Vec<Q::Seat>,
     sleepers: Sleepers,
     clock: u64,
-    aside: Option<Package>,
-    ready: ReadyList,
 }
 
 impl<Q: Waiters> Model for Desk<Q> {
@@ -64,7 +63,7 @@ impl<Q: Waiters> Model for Desk<Q> {
 
     ghost Value = { DeskView };
 
-    ghost view = { λ d. record { pass = d.pass; seats = map Q.seen d.seats.items; sleepers = d.sleepers; now = d.clock; aside = d.aside; handed = d.ready.items } };
+    ghost view = { λ d. record { pass = d.hands.pass; seats = map Q.seen d.seats.items; sleepers = d.sleepers; now = d.clock; aside = d.hands.aside; handed = d.hands.ready.items } };
 }
 
 impl<Q: Waiters> Desk<Q> {
@@ -74,12 +73,14 @@ impl<Q: Waiters> Desk<Q> {
         ensures { result ≡ desk_of pass (map Q.seen seats.items) sleepers 0 None [] }
     {
         Desk {
-            pass,
+            hands: Hands {
+                pass,
+                aside: None,
+                ready: ReadyList::new(),
+            },
             seats,
             sleepers,
             clock: 0,
-            aside: None,
-            ready: ReadyList::new(),
         }
     }
 
@@ -88,7 +89,7 @@ impl<Q: Waiters> Desk<Q> {
         ensures* writes_back { sem 𝓛 (Lends (the_row Q.row Q.Seat.row Q.Place.row Q.Waiters) pass_row self.entry result (λ pass. record self.old { pass = pass })) }
         ensures value { result.now ≡ self.old.pass }
     {
-        &mut self.pass
+        &mut self.hands.pass
     }
 
     /// The sleepers.
@@ -128,7 +129,7 @@ impl<Q: Waiters> Desk<Q> {
             { pass = self.new.pass; now = min (self.old.now + 1) (2 ^ 64 - 1) } }
         ensures fits { FitsBench bench.now self.new }
     {
-        let stamp = bench.hall.commit(&mut self.pass, package);
+        let stamp = bench.hall.commit(&mut self.hands.pass, package);
         self.clock = self.clock.saturating_add(1);
         stamp
     }
@@ -147,7 +148,7 @@ impl<Q: Waiters> Desk<Q> {
         ensures acquired { HasAcquired «package» self.old self.new result }
         ensures fits { FitsBench bench.now self.new }
     {
-        self.ready.clear();
+        self.hands.ready.clear();
         package.keeps();
         let lock = match package.want(bench.image) {
             Some(lock) => lock,
@@ -156,10 +157,9 @@ impl<Q: Waiters> Desk<Q> {
         acquire_at(
             rt,
             bench.hall,
-            &mut self.pass,
+            &mut self.hands,
             bench.queues,
             self.seats.as_mut_slice(),
-            &mut self.aside,
             package,
             lock,
         )
@@ -187,15 +187,13 @@ impl<Q: Waiters> Desk<Q> {
         settle_with(
             rt,
             bench.hall,
-            &mut self.pass,
+            &mut self.hands,
             bench.queues,
             self.seats.as_mut_slice(),
             &mut self.sleepers,
             self.clock,
-            &mut self.aside,
             package,
             end,
-            &mut self.ready,
         )
     }
 
@@ -204,7 +202,7 @@ impl<Q: Waiters> Desk<Q> {
         ensures given { result ≡ self.old.aside }
         ensures rest { self.new ≡ record self.old { aside = None } }
     {
-        self.aside.take()
+        self.hands.aside.take()
     }
 
     /// The threads that the last `acquire` or `settle` put as ready, in that order: a waiter that was
@@ -213,7 +211,7 @@ impl<Q: Waiters> Desk<Q> {
         ensures threads { result.now ≡ self.now.handed }
         ensures few { length result.now ≤ MAX_HELD }
     {
-        self.ready.as_slice()
+        self.hands.ready.as_slice()
     }
 
     /// Ends the place.
@@ -223,13 +221,16 @@ impl<Q: Waiters> Desk<Q> {
         ensures seats { map Q.seen result.1.items ≡ self.seats }
     {
         let Desk {
-            pass,
+            hands,
             seats,
             sleepers: _,
             clock: _,
+        } = self;
+        let Hands {
+            pass,
             aside: _,
             ready: _,
-        } = self;
+        } = hands;
         (pass, seats)
     }
 }

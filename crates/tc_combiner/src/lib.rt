@@ -6,20 +6,23 @@
 //! block asks: it passes locks on to the waiters behind, adopts one of them, parks a sleeper. Only
 //! these two may wait, and each of their waits looks at the stop.
 //!
-//! The layer above is promised, for any order of waiters and any number of held locks: what was put,
-//! granted or brought home, by what the lists of the pass and of the seats show; which package the
-//! desk has in hand afterwards, fit for its worker; and that nothing else that was out changed.
+//! The layer above is promised, for any order of waiters and any number of held locks: for each
+//! answer the calls of the pass that led to it, in order and no others but looks at the stop that
+//! saw none; what the seats show; which package the desk has in hand afterwards, fit for its worker;
+//! and that nothing else that was out changed.
 //!
 //! - `specs/View.antt`: desks and benches as contracts see them, and when a desk fits a bench.
-//!   `specs/Walks.antt`: what some calls of a pass and of a seat did. `specs/Packages.antt`: what is
-//!   asked and said of packages. `specs/Answers.antt`: what became of a package that wants a lock.
+//!   `specs/Walks.antt`: what some calls of a pass and of a seat did. `specs/Acts.antt`: which calls,
+//!   one by one, and what hands may do. `specs/Packages.antt`: what is asked and said of packages.
+//!   `specs/Answers.antt`: what became of a package that wants a lock, and of one that is put back.
 //!   `specs/Release.antt`: what became of a released lock. `specs/Ends.antt`: of all locks of a
 //!   thread that ended. `specs/Settling.antt`: all of it by the end of the block. `specs/Ties.antt`:
 //!   the tail of a queue beside the line of the pure machine.
-//! - `desk`: desks and benches. `settle`: what `settle` does, over the parts of a desk. `acquire`,
-//!   `unlock`, `ends`: what is done for a package that wants a lock, at an unlock, and at a sleep or
-//!   a thread's end. `release`: what becomes of a released lock. `waits`: the three waits.
-//!   `calls`: the calls of the hall, as desks make them. `tie`: the tie of lines.
+//! - `desk`: desks and benches. `hands`: what a desk acts with. `settle`: what `settle` does, over
+//!   the parts of a desk. `acquire`, `unlock`, `ends`: what is done for a package that wants a lock,
+//!   at an unlock, and at a sleep or a thread's end. `release`: what becomes of a released lock.
+//!   `waits`: the three waits. `calls`: the calls of the hall, as desks make them. `tie`: the tie of
+//!   lines.
 //! - `settled`, `passed`, `found`, `ready`: what became of a package, of a lock, who stands behind,
 //!   and which threads were made ready.
 #![tactic(auto)]
@@ -29,6 +32,7 @@ mod calls;
 mod desk;
 mod ends;
 mod found;
+mod hands;
 mod passed;
 mod ready;
 mod release;

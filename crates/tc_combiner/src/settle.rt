@@ -1,28 +1,24 @@
 //! What `settle` does, by the end of the block, over the parts of a desk.
 
-ghost use Rattle.std.specs.Prelude.{ℕ, ◌≡◌, ◌≢◌, ◌<◌, ◌≤◌, ◌+◌, ◌++◌, [], ◌∷◌, None, Some, true, length, map};
-ghost use Rattle.tc_isa.specs.declared.limits.TheConstants.{MAX_HELD};
-ghost use Rattle.tc_context.specs.View.{PackageView};
+ghost use Rattle.std.specs.Prelude.{◌≡◌, ◌≤◌, ◌∷◌, length, map};
 ghost use Rattle.tc_hall.specs.Outs.{Pack};
 ghost use Rattle.tc_hall.specs.Rule.{threads, locks};
-ghost use Rattle.tc_hall.specs.Steps.{IsSamePass};
-ghost use Rattle.tc_combiner.specs.Packages.{HasHeldAnd, IsAside, IsPlain, Runs, Wants};
-ghost use Rattle.tc_combiner.specs.Walks.{Asks, Walks, Moves, Owned, packed};
-ghost use Rattle.tc_combiner.specs.Answers.{AcquiredAs, HasReadied, carried};
-ghost use Rattle.tc_combiner.specs.Release.{MayRelease, UnlockedAs, turn_of};
-ghost use Rattle.tc_combiner.specs.Ends.{AreSameSeats, seat_at};
+ghost use Rattle.tc_combiner.specs.Walks.{packed};
+ghost use Rattle.tc_combiner.specs.Acts.{IsAtHall, MayAct};
+ghost use Rattle.tc_combiner.specs.Answers.{Acquires, MayAsk};
+ghost use Rattle.tc_combiner.specs.Release.{MayUnlock, Unlocks};
+ghost use Rattle.tc_combiner.specs.Ends.{AtSeat};
 ghost use Rattle.tc_combiner.specs.View.{AreSeats, desk_of};
-ghost use Rattle.tc_combiner.specs.Settling.{HasSettled, MaySettle};
+ghost use Rattle.tc_combiner.specs.Settling.{HasSettled, Keeps, MaySettle};
 
 use crate::acquire::acquire_with;
 use crate::ends::{ended_with, park};
-use crate::ready::ReadyList;
+use crate::hands::Hands;
 use crate::settled::Settled;
 use crate::unlock::unlocked_with;
 use std::sync::Wait;
 use tc_context::package::Package;
 use tc_hall::hall::Hall;
-use tc_hall::pass::Pass;
 use tc_journal::block::{Block, End};
 use tc_park::Sleepers;
 use tc_queue::Waiters;
@@ -31,156 +27,88 @@ use tc_queue::Waiters;
 pub(crate) fn acquire_at<R: Wait, Q: Waiters>(
     rt: &R,
     hall: &Hall,
-    pass: &mut Pass,
+    hands: &mut Hands,
     queues: &[Q],
     seats: &mut [Q::Seat],
-    aside: &mut Option<Package>,
     package: Package,
     lock: u32,
 ) -> Settled
-    requires own { pass.old.table ≡ hall.now.table }
-    requires place { lock < locks hall.now.terms }
-    requires of { «package».image ≡ pass.old.knows.image }
+    requires hands { IsAtHall hall.now (Pack «package» ∷ packed hands.old.aside) hands.old }
+    requires may { MayAsk hall.now.terms lock «package» }
     requires counts { (length queues.now ≡ locks hall.now.terms)
         × (length seats.old ≡ locks hall.now.terms) }
     requires seats { AreSeats hall.now.terms (map Q.queue queues.now) (map Q.seen seats.old) }
-    requires out { Owned pass.old.knows (Pack «package» ∷ packed aside.old) }
-    requires plain { IsPlain (threads hall.now.terms) «package» }
-    requires want { Wants «package» lock }
-    requires aside { (a : PackageView) → aside.old ≡ Some a → IsAside hall.now.terms a }
-    ensures own { IsSamePass pass.old pass.new }
-    ensures walks { Walks pass.old.knows pass.new.knows }
-    ensures moves { Moves pass.old.knows pass.new.knows
-        (Pack «package» ∷ packed aside.old) (carried result ++ packed aside.new) }
-    ensures seats { AreSameSeats (map Q.seen seats.old) (map Q.seen seats.new) }
-    ensures others { (j : ℕ) → j ≢ lock
-        → seat_at (map Q.seen seats.new) j ≡ seat_at (map Q.seen seats.old) j }
-    ensures readied { HasReadied (threads hall.now.terms) result [] [] pass.old.knows pass.new.knows }
-    ensures acquired { AcquiredAs lock «package» pass.old.knows pass.new.knows
-        (seat_at (map Q.seen seats.old) lock) (seat_at (map Q.seen seats.new) lock)
-        aside.old aside.new result }
-    ensures aside { (a : PackageView) → aside.new ≡ Some a → IsAside hall.now.terms a }
+    ensures { AtSeat lock (map Q.seen seats.old) (map Q.seen seats.new)
+        (λ s t. Acquires hall.now.terms lock «package» s t hands.old hands.new result) }
 {
-    acquire_with(
-        rt,
-        hall,
-        pass,
-        &queues[lock as usize],
-        &mut seats[lock as usize],
-        aside,
-        package,
-        lock,
-    )
+    let queue = &queues[lock as usize];
+    let seat = &mut seats[lock as usize];
+    acquire_with(rt, hall, hands, queue, seat, package, lock)
 }
 
-/// What `settle` does at an unlock, at the lock's place in the bench.
-pub(crate) fn unlocked_at<R: Wait, Q: Waiters>(
+// What `settle` does at an unlock, at the lock's place in the bench.
+fn unlocked_at<R: Wait, Q: Waiters>(
     rt: &R,
     hall: &Hall,
-    pass: &mut Pass,
+    hands: &mut Hands,
     queues: &[Q],
     seats: &mut [Q::Seat],
-    aside: &mut Option<Package>,
     package: Package,
     lock: u32,
     block: &Block,
-    ready: &mut ReadyList,
 ) -> Settled
-    requires own { pass.old.table ≡ hall.now.table }
-    requires image { pass.old.knows.image ≡ hall.now.terms.image.value }
-    requires place { lock < locks hall.now.terms }
+    requires hands { MayAct hall.now (Pack «package» ∷ packed hands.old.aside) 2 hands.old }
+    requires may { MayUnlock hall.now.terms hands.old.pass.knows lock block.now «package» }
     requires counts { (length queues.now ≡ locks hall.now.terms)
         × (length seats.old ≡ locks hall.now.terms) }
     requires seats { AreSeats hall.now.terms (map Q.queue queues.now) (map Q.seen seats.old) }
-    requires out { Owned pass.old.knows (Pack «package» ∷ packed aside.old) }
-    requires may { MayRelease pass.old.knows (threads hall.now.terms) lock block.now «package» }
-    requires runs { Runs «package» }
-    requires locks { HasHeldAnd lock «package» }
-    requires aside { (a : PackageView) → aside.old ≡ Some a → IsAside hall.now.terms a }
-    requires room { length ready.old.items + 1 < MAX_HELD }
-    ensures own { IsSamePass pass.old pass.new }
-    ensures walks { Walks pass.old.knows pass.new.knows }
-    ensures moves { Moves pass.old.knows pass.new.knows
-        (Pack «package» ∷ packed aside.old) (carried result ++ packed aside.new) }
-    ensures seats { AreSameSeats (map Q.seen seats.old) (map Q.seen seats.new) }
-    ensures others { (j : ℕ) → j ≢ lock
-        → seat_at (map Q.seen seats.new) j ≡ seat_at (map Q.seen seats.old) j }
-    ensures asks { Asks (turn_of «package» lock) (seat_at (map Q.seen seats.old) lock)
-        (seat_at (map Q.seen seats.new) lock) }
-    ensures readied { HasReadied (threads hall.now.terms) result ready.old.items ready.new.items
-        pass.old.knows pass.new.knows }
-    ensures settled { UnlockedAs lock «package» block.now (seat_at (map Q.seen seats.old) lock)
-        (seat_at (map Q.seen seats.new) lock) pass.old.knows pass.new.knows
-        aside.old aside.new result }
-    ensures aside { (a : PackageView) → aside.new ≡ Some a → IsAside hall.now.terms a }
+    ensures { AtSeat lock (map Q.seen seats.old) (map Q.seen seats.new)
+        (λ s t. Unlocks hall.now.terms lock block.now «package» s t hands.old hands.new result) }
 {
-    unlocked_with(
-        rt,
-        hall,
-        pass,
-        &queues[lock as usize],
-        &mut seats[lock as usize],
-        aside,
-        package,
-        lock,
-        block,
-        ready,
-    )
+    let queue = &queues[lock as usize];
+    let seat = &mut seats[lock as usize];
+    unlocked_with(rt, hall, hands, queue, seat, package, lock, block)
 }
 
 /// What `settle` does, over the parts of a desk.
 pub(crate) fn settle_with<R: Wait, Q: Waiters>(
     rt: &R,
     hall: &Hall,
-    pass: &mut Pass,
+    hands: &mut Hands,
     queues: &[Q],
     seats: &mut [Q::Seat],
     sleepers: &mut Sleepers,
     clock: u64,
-    aside: &mut Option<Package>,
     package: Package,
     end: End,
-    ready: &mut ReadyList,
 ) -> Settled
-    requires own { pass.old.table ≡ hall.now.table }
-    requires image { pass.old.knows.image ≡ hall.now.terms.image.value }
+    requires hands { IsAtHall hall.now (Pack «package» ∷ packed hands.old.aside) hands.old }
     requires counts { (length queues.now ≡ locks hall.now.terms)
         × (length seats.old ≡ locks hall.now.terms) }
     requires seats { AreSeats hall.now.terms (map Q.queue queues.now) (map Q.seen seats.old) }
     requires room { threads hall.now.terms ≤ length sleepers.old }
-    requires out { Owned pass.old.knows (Pack «package» ∷ packed aside.old) }
-    requires may { MaySettle hall.now.terms.image.value pass.old.knows.worker end «package» }
-    requires aside { (a : PackageView) → aside.old ≡ Some a → IsAside hall.now.terms a }
-    ensures own { IsSamePass pass.old pass.new }
-    ensures walks { Walks pass.old.knows pass.new.knows }
-    ensures moves { Moves pass.old.knows pass.new.knows
-        (Pack «package» ∷ packed aside.old) (carried result ++ packed aside.new) }
-    ensures seats { AreSameSeats (map Q.seen seats.old) (map Q.seen seats.new) }
-    ensures room { length sleepers.new ≡ length sleepers.old }
-    ensures readied { HasReadied (threads hall.now.terms) result [] ready.new.items
-        pass.old.knows pass.new.knows }
+    requires may { MaySettle hall.now.terms.image.value hands.old.pass.knows.worker end «package» }
+    ensures keeps { Keeps hall.now.terms «package» (map Q.seen seats.old) (map Q.seen seats.new)
+        sleepers.old sleepers.new hands.old.pass hands.old.aside hands.new result }
     ensures settled { HasSettled end «package»
-        (desk_of pass.old (map Q.seen seats.old) sleepers.old clock aside.old
-        ready.old.items)
-        (desk_of pass.new (map Q.seen seats.new) sleepers.new clock aside.new
-        ready.new.items) result }
-    ensures aside { (a : PackageView) → aside.new ≡ Some a → IsAside hall.now.terms a }
+        (desk_of hands.old.pass (map Q.seen seats.old) sleepers.old clock
+        hands.old.aside hands.old.ready.items)
+        (desk_of hands.new.pass (map Q.seen seats.new) sleepers.new clock
+        hands.new.aside hands.new.ready.items) result }
 {
-    ready.clear();
+    hands.ready.clear();
     package.keeps();
     let block = package.last();
     match end {
-        End::Wants(lock) => acquire_at(rt, hall, pass, queues, seats, aside, package, lock),
-        End::Unlocked(lock) => unlocked_at(
-            rt, hall, pass, queues, seats, aside, package, lock, &block, ready,
-        ),
+        End::Wants(lock) => acquire_at(rt, hall, hands, queues, seats, package, lock),
+        End::Unlocked(lock) => unlocked_at(rt, hall, hands, queues, seats, package, lock, &block),
         End::Slept => {
-            park(hall, pass, sleepers, clock, package);
+            park(hall, hands, sleepers, clock, package);
             Settled::Parked
         }
         End::Cut => Settled::GoesOn(package),
-        End::Exit => ended_with(rt, hall, pass, queues, seats, aside, package, &block, ready),
-        End::Fault(_) => ended_with(rt, hall, pass, queues, seats, aside, package, &block, ready),
-        End::Spent => ended_with(rt, hall, pass, queues, seats, aside, package, &block, ready),
+        End::Exit => ended_with(rt, hall, hands, queues, seats, package, &block),
+        End::Fault(_) => ended_with(rt, hall, hands, queues, seats, package, &block),
+        End::Spent => ended_with(rt, hall, hands, queues, seats, package, &block),
     }
 }

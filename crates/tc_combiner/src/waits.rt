@@ -1,15 +1,15 @@
 //! The three waits of a desk. Each looks at STOP in each turn.
 
-ghost use Rattle.std.specs.Prelude.{ℕ, ◌≡◌, ◌<◌, [], ◌∷◌, None, Some};
+ghost use Rattle.std.specs.Prelude.{ℕ, ◌≡◌, ◌<◌, ◌≤◌, [], ◌∷◌, None, Some};
 ghost use Rattle.tc_segment.specs.View.{LockView, IsAtRest};
 ghost use Rattle.tc_context.specs.View.{PackageView};
 ghost use Rattle.tc_hall.specs.Rule.{threads, locks};
-ghost use Rattle.tc_hall.specs.Steps.{IsSamePass};
 ghost use Rattle.tc_queue.specs.Lines.{IsSeatOf};
 ghost use Rattle.tc_queue.specs.Words.{IsTurn};
 ghost use Rattle.tc_combiner.specs.Packages.{IsWaiter};
-ghost use Rattle.tc_combiner.specs.Walks.{Walks, Moves, Stays, ReadiesNone, HasSeenStop, Asks, AskedAs, loose, packed};
+ghost use Rattle.tc_combiner.specs.Walks.{Asked, Asks, AskedAs, loose, packed};
 ghost use Rattle.tc_combiner.specs.declared.found.Found.TheVariants.{Unknown};
+ghost use Rattle.tc_combiner.specs.Acts.{Acts, LooksAfterFirst, LooksEachTime, saw_at_none, saw_at_unknown};
 
 use crate::calls;
 use crate::found::Found;
@@ -30,12 +30,9 @@ pub(crate) fn take_home<R: Wait>(
 ) -> Option<LockState>
     requires own { pass.old.table ≡ hall.now.table }
     requires place { lock < locks hall.now.terms }
-    ensures own { IsSamePass pass.old pass.new }
-    ensures walks { Walks pass.old.knows pass.new.knows }
-    ensures none { ReadiesNone pass.old.knows pass.new.knows }
-    ensures moves { Moves pass.old.knows pass.new.knows [] (loose result) }
+    ensures acts { Acts (saw_at_none result) [] (loose result) pass.old pass.new }
+    ensures looks { LooksEachTime pass.old.knows pass.new.knows }
     ensures lock { (l : LockView) → result ≡ Some l → IsAtRest pass.old.knows.image lock l }
-    ensures stopped { result ≡ None → HasSeenStop pass.old.knows pass.new.knows }
 {
     let pause = Backoff::new();
     for _ in rt.forever() {
@@ -60,12 +57,9 @@ pub(crate) fn await_waiter<R: Wait>(
 ) -> Option<Package>
     requires own { pass.old.table ≡ hall.now.table }
     requires place { (t < threads hall.now.terms) × (lock < locks hall.now.terms) }
-    ensures own { IsSamePass pass.old pass.new }
-    ensures walks { Walks pass.old.knows pass.new.knows }
-    ensures none { ReadiesNone pass.old.knows pass.new.knows }
-    ensures moves { Moves pass.old.knows pass.new.knows [] (packed result) }
+    ensures acts { Acts (saw_at_none result) [] (packed result) pass.old pass.new }
+    ensures looks { LooksEachTime pass.old.knows pass.new.knows }
     ensures waiter { (q : PackageView) → result ≡ Some q → IsWaiter t lock pass.old.knows.image q }
-    ensures stopped { result ≡ None → HasSeenStop pass.old.knows pass.new.knows }
 {
     let pause = Backoff::new();
     for _ in rt.forever() {
@@ -86,6 +80,8 @@ fn ask<R: Wait, Q: Waiters>(rt: &R, queue: &Q, seat: &mut Q::Seat, own: Turn) ->
     requires turn { IsTurn (Q.queue queue.now).threads own }
     ensures asks { Asks own (Q.seen seat.old) (Q.seen seat.new) }
     ensures found { AskedAs own (Q.seen seat.old) (Q.seen seat.new) result }
+    ensures once { (n : ℕ) × Asked n (Q.seen seat.old) (Q.seen seat.new) × (n ≤ 1)
+        × (result ≡ Unknown → n ≡ 1) }
 {
     if let Some(next) = queue.next(rt, seat, own) {
         return Found::Next(next);
@@ -108,10 +104,11 @@ pub(crate) fn find_next<R: Wait, Q: Waiters>(
     requires own { pass.old.table ≡ hall.now.table }
     requires seat { IsSeatOf (Q.queue queue.now) (Q.seen seat.old) }
     requires turn { IsTurn (Q.queue queue.now).threads own }
-    ensures stays { Stays pass.old pass.new }
+    ensures acts { Acts (saw_at_unknown result) [] [] pass.old pass.new }
     ensures asks { Asks own (Q.seen seat.old) (Q.seen seat.new) }
     ensures found { AskedAs own (Q.seen seat.old) (Q.seen seat.new) result }
-    ensures stopped { result ≡ Unknown → HasSeenStop pass.old.knows pass.new.knows }
+    ensures looks { LooksAfterFirst (Q.seen seat.old) (Q.seen seat.new)
+        pass.old.knows pass.new.knows }
 {
     match ask(rt, queue, seat, own) {
         Found::Unknown => {}

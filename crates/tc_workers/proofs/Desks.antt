@@ -18,7 +18,9 @@ use Rattle.tc_combiner.specs.Packages.{IsGoodFor}
 use Rattle.tc_combiner.specs.Settling.{DidAcquire, DidUnlock, DidEnd, HasAcquired, HasSettled, SettledAs, Works}
 use Rattle.tc_combiner.specs.View.{BenchView, DeskView, FitsBench}
 use Rattle.tc_combiner.specs.Walks.{Moves, Owns, packed}
+use Rattle.tc_combiner.proofs.Answering.{good_after}
 use Rattle.tc_combiner.proofs.Packages.{plain_good}
+use Rattle.tc_combiner.proofs.Telling.{acquire_seen, end_seen, unlock_seen}
 use Rattle.tc_workers.specs.Finished.{IsFinished}
 use Rattle.tc_workers.specs.Settled.{IsAnswer, step_of}
 use Rattle.tc_workers.specs.Worker.{HasClaimed, HasLeft, HasOut, HasSealed, IsAtDesk, IsClaimed, IsFit, IsStep, IsStill, MayGoBack, nothing}
@@ -195,20 +197,20 @@ moved : (v w : Knows) (xs ys : List Item) → Moves v w xs ys → HasOut v xs �
 moved v w xs ys m h = subst (λ (l : List Item). Owns nothing (outs w) l) (append-nil ys) (m nothing [] (subst (λ (l : List Item). Owns nothing (outs v) l) (sym (append-nil xs)) h))
 
 acquired : (i : ℕ) (q : PackageView) (d e : DeskView) (s : Settled) → DidAcquire i q d e s → IsAnswer d.pass.knows e s
-acquired i q d e (GoesOn p) h = h.acquired.2
+acquired i q d e (GoesOn p) h = good_after h.calls d.pass.knows e.pass.knows p h.adds h.acquired.1.3
 acquired i q d e (Adopted p) h = absurd h.acquired
 acquired i q d e Shipped h = tt
 acquired i q d e Parked h = tt
 acquired i q d e Ended h = tt
-acquired i q d e Was_stopped h = (h.acquired.seen, h.acquired.aside_gone)
+acquired i q d e Was_stopped h = (acquire_seen i q d e h, h.acquired.1.1)
 
 unlocked : (i : ℕ) (q : PackageView) (x : Block) (d e : DeskView) (s : Settled) → DidUnlock i q x d e s → IsAnswer d.pass.knows e s
-unlocked i q x d e (GoesOn p) h = h.unlocked.1.0
-unlocked i q x d e (Adopted p) h = h.unlocked.0.2.2.2
+unlocked i q x d e (GoesOn p) h = good_after h.calls d.pass.knows e.pass.knows p h.adds h.unlocked.4.0
+unlocked i q x d e (Adopted p) h = good_after h.calls d.pass.knows e.pass.knows p h.adds h.unlocked.5
 unlocked i q x d e Shipped h = tt
 unlocked i q x d e Parked h = tt
 unlocked i q x d e Ended h = tt
-unlocked i q x d e Was_stopped h = (h.unlocked.1.seen, h.unlocked.1.aside_gone)
+unlocked i q x d e Was_stopped h = (unlock_seen i q x d e h, h.unlocked.3)
 
 ended : (q : PackageView) (x : Block) (d e : DeskView) (s : Settled) → DidEnd q x d e s → IsAnswer d.pass.knows e s
 ended q x d e (GoesOn p) h = absurd h.ended
@@ -216,7 +218,7 @@ ended q x d e (Adopted p) h = absurd h.ended
 ended q x d e Shipped h = tt
 ended q x d e Parked h = tt
 ended q x d e Ended h = tt
-ended q x d e Was_stopped h = (h.ended.1.2.seen, h.ended.1.2.aside_gone)
+ended q x d e Was_stopped h = (end_seen q x d e h, h.ended.5)
 
 slept : (q : PackageView) (x : Block) (d e : DeskView) (s : Settled) → SettledAs Slept q x d e s → IsAnswer d.pass.knows e s
 slept q x d e (GoesOn p) h = absurd h

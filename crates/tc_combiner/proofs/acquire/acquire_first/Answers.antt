@@ -1,21 +1,28 @@
-use Rattle.std.proofs.Common.{[], refl}
-use Rattle.tc_combiner.proofs.Walking.{walks_then, same_good}
-use Rattle.tc_combiner.proofs.Packages.{taken_good, was_stopped}
-use Rattle.tc_hall.specs.Rule.{threads}
+use Rattle.std.proofs.Common.{refl, sym, ◌∙◌, subst, ℕ}
+use Rattle.tc_elf.specs.Shown.{Shown}
+use Rattle.tc_segment.specs.View.{IsAtRest}
+use Rattle.tc_context.specs.View.{IsWaiting}
+use Rattle.tc_combiner.proofs.Acquiring.{at_still, stops_first, takes_first}
 use Rattle.tc_combiner.proofs.acquire.acquire_first.Goals as goal
 
-pub returns-then-get_lock-clause-first : goal.returns-then-get_lock-clause-first
-returns-then-get_lock-clause-first g c =
-    let d = c.get_lock.ensures.granted (cc) in
-    (refl, d, same_good c.args.pass.now.knows c.get_lock.new.pass.knows c.get_lock.new.«package» c.get_lock.ensures.walks (taken_good c.args.lock d.0 c.args.number _ c.args.pass.now.knows.worker c.args.pass.now.knows.image c.args.«package» c.get_lock.new.«package» d.1 c.requires.of c.requires.plain c.requires.runs))
+pub grant-requires-clause-waiting : goal.grant-requires-clause-waiting
+grant-requires-clause-waiting g c = subst (λ (i : ℕ). IsWaiting c.args.«package» i) (sym ((c.in-Some.ensures {u = tt}).lock c.in-Some.state refl).number) c.requires.waits
 
-pub returns-clause-walks : goal.returns-clause-walks
-returns-clause-walks g c = walks_then c.args.pass.now.knows c.get_lock.new.pass.knows c.put_all_back.new.pass.knows c.get_lock.ensures.walks c.put_all_back.ensures.walks
+pub grant-requires-clause-rest : goal.grant-requires-clause-rest
+grant-requires-clause-rest g c =
+    let r = (c.in-Some.ensures {u = tt}).lock c.in-Some.state refl in
+    subst (λ (x : Shown). IsAtRest x c.in-Some.state.number c.in-Some.state) (c.requires.hands.image ∙ sym c.requires.may.of) (subst (λ (i : ℕ). IsAtRest c.args.hands.now.pass.knows.image i c.in-Some.state) (sym r.number) r)
 
-pub returns-clause-first : goal.returns-clause-first
-returns-clause-first g c =
-    let s = c.get_lock.ensures.stopped (cc) in
-    was_stopped c.args.pass.now.knows c.get_lock.new.pass.knows c.put_all_back.new.pass.knows c.get_lock.new.«package» c.args.«package» c.args.aside.now c.put_all_back.new.aside c.get_lock.ensures.walks s.1 c.put_all_back.ensures.walks c.put_all_back.ensures.put s.0 c.put_all_back.ensures.aside_put c.put_all_back.ensures.aside_gone
+pub put_all_back-requires : goal.put_all_back-requires
+put_all_back-requires g c = record {
+  hands = at_still c.args.hall.now _ _ c.args.hands.now _ c.requires.hands (c.in-None.ensures {u = tt}).acts refl;
+  plain = c.requires.may.plain;
+}
 
-pub returns-then-get_lock-clause-readied : goal.returns-then-get_lock-clause-readied
-returns-then-get_lock-clause-readied g c = c.get_lock.ensures.none (threads c.args.hall.now.terms) []
+pub returns-in-Some : goal.returns-in-Some
+returns-in-Some g c =
+    let e = c.in-Some.ensures {u = tt} in
+    takes_first c.args.hall.now.terms c.args.lock c.args.number c.in-Some.state c.args.«package» c.grant.new.self c.args.hands.now _ (subst (λ (x : Shown). IsAtRest x c.args.lock c.in-Some.state) (c.requires.hands.image ∙ sym c.requires.may.of) (e.lock c.in-Some.state refl)) (record { is = c.grant.ensures.is; locks = c.grant.ensures.locks }) c.requires.waits c.requires.may e.acts refl refl
+
+pub returns-in-None : goal.returns-in-None
+returns-in-None g c = stops_first c.args.hall.now.terms c.args.lock c.args.number c.args.«package» c.args.hands.now _ c.put_all_back.new.hands (c.in-None.ensures {u = tt}).acts refl c.put_all_back.ensures

@@ -1,22 +1,19 @@
-use Rattle.std.proofs.Common.{[], ◌++◌}
-use Rattle.tc_hall.specs.Outs.{Pack}
-use Rattle.tc_combiner.specs.Walks.{packed}
-use Rattle.tc_combiner.specs.Answers.{carried}
-use Rattle.tc_combiner.proofs.Owning.{counted_owned, counted_then, one_gone}
-use Rattle.tc_hall.specs.Rule.{threads}
+use Rattle.std.proofs.Common.{refl}
+use Rattle.tc_combiner.proofs.Acquiring.{at_counted, goes_on, is_counted, may_wait, ships, still_asks, stops_second}
+use Rattle.tc_combiner.proofs.Packages.{wants_runs}
 use Rattle.tc_combiner.proofs.acquire.acquire_with.Goals as goal
 
-pub acquire_first-requires-clause-out : goal.acquire_first-requires-clause-out
-acquire_first-requires-clause-out g c = counted_owned c.args.pass.now.knows c.args.«package» c.next_number.new.self c.next_number.result (packed c.args.aside.now) c.next_number.ensures.rest c.requires.out
+pub acquire_first-requires-clause-hands : goal.acquire_first-requires-clause-hands
+acquire_first-requires-clause-hands g c = at_counted c.args.hall.now c.args.«package» c.next_number.new.self c.next_number.result c.args.hands.now c.next_number.ensures.rest c.requires.hands
 
-pub ship-requires-clause-out : goal.ship-requires-clause-out
-ship-requires-clause-out g c = λ κs b. (counted_owned c.args.pass.now.knows c.args.«package» c.next_number.new.self c.next_number.result (packed c.args.aside.now) c.next_number.ensures.rest c.requires.out).1.0
+pub ship-requires-clause-may : goal.ship-requires-clause-may
+ship-requires-clause-may g c = λ κs b. may_wait c.args.hall.now.terms c.args.hands.now.pass.knows c.args.lock c.next_number.new.self (still_asks c.args.hall.now.terms c.args.lock c.args.«package» c.next_number.new.self c.next_number.result c.next_number.ensures.rest c.requires.may) (wants_runs c.next_number.new.self c.args.lock (still_asks c.args.hall.now.terms c.args.lock c.args.«package» c.next_number.new.self c.next_number.result c.next_number.ensures.rest c.requires.may).want) (at_counted c.args.hall.now c.args.«package» c.next_number.new.self c.next_number.result c.args.hands.now c.next_number.ensures.rest c.requires.hands).out.1.0
 
-pub returns-in-First-clause-moves : goal.returns-in-First-clause-moves
-returns-in-First-clause-moves g c = counted_then c.args.pass.now.knows c.acquire_first.new.pass.knows c.args.«package» c.next_number.new.self c.next_number.result (packed c.args.aside.now) (carried c.acquire_first.result ++ packed c.acquire_first.new.aside) c.next_number.ensures.rest c.acquire_first.ensures.moves
+pub returns-in-Some : goal.returns-in-Some
+returns-in-Some g c = goes_on c.args.hall.now c.args.lock _ c.args.«package» c.next_number.new.self (g.Q.Waiters.seen c.args.seat.now) (g.Q.Waiters.seen c.enter.new.seat) c.args.hands.now c.acquire_first.new.hands (is_counted c.args.«package» c.next_number.new.self c.next_number.result c.thread.result c.next_number.ensures.is c.next_number.ensures.rest c.thread.ensures) c.requires.hands c.in-Some.«package» (c.in-First.ensures {u = tt}).call (c.in-Some.ensures {u = tt})
 
-pub returns-in-Behind-clause-moves : goal.returns-in-Behind-clause-moves
-returns-in-Behind-clause-moves g c = counted_then c.args.pass.now.knows c.ship.new.pass.knows c.args.«package» c.next_number.new.self c.next_number.result (packed c.args.aside.now) (packed c.args.aside.now) c.next_number.ensures.rest (one_gone c.args.pass.now.knows c.ship.new.pass.knows (Pack c.next_number.new.self) (packed c.args.aside.now) c.ship.ensures.moves)
+pub returns-in-None : goal.returns-in-None
+returns-in-None g c = stops_second c.args.hall.now c.args.lock _ c.args.«package» c.next_number.new.self (g.Q.Waiters.seen c.args.seat.now) (g.Q.Waiters.seen c.enter.new.seat) c.args.hands.now c.acquire_first.new.hands (is_counted c.args.«package» c.next_number.new.self c.next_number.result c.thread.result c.next_number.ensures.is c.next_number.ensures.rest c.thread.ensures) c.requires.hands (c.in-First.ensures {u = tt}).call (c.in-None.ensures {u = tt})
 
-pub returns-in-Behind-clause-readied : goal.returns-in-Behind-clause-readied
-returns-in-Behind-clause-readied g c = c.ship.ensures.none (threads c.args.hall.now.terms) []
+pub returns-in-Behind : goal.returns-in-Behind
+returns-in-Behind g c = ships c.args.hall.now c.args.lock _ c.args.«package» c.next_number.new.self (g.Q.Waiters.seen c.args.seat.now) (g.Q.Waiters.seen c.enter.new.seat) c.args.hands.now _ (is_counted c.args.«package» c.next_number.new.self c.next_number.result c.thread.result c.next_number.ensures.is c.next_number.ensures.rest c.thread.ensures) c.requires.hands _ (g.Q.Waiters.seen c.ship.new.seat) (c.in-Behind.ensures {u = tt}).call c.ship.ensures.line c.ship.ensures.acts refl refl

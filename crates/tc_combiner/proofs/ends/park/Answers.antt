@@ -1,10 +1,14 @@
-use Rattle.tc_combiner.proofs.Walking.{shows_now}
-use Rattle.std.proofs.Common.{refl}
-use Rattle.tc_combiner.proofs.Readying.{readied_by}
+use Rattle.std.proofs.Common.{[], ◌∷◌, refl}
+use Rattle.tc_hall.specs.Rule.{threads}
+use Rattle.tc_hall.specs.Steps.{put_call}
+use Rattle.tc_hall.specs.declared.place.Place.TheVariants.{Parked}
+use Rattle.tc_combiner.specs.declared.settled.Settled.TheVariants.{Parked as Did_park}
+use Rattle.tc_combiner.proofs.Answering.{keeps_answers, takes_none, wider}
 use Rattle.tc_combiner.proofs.ends.park.Goals as goal
 
-pub returns-clause-put : goal.returns-clause-put
-returns-clause-put c = shows_now c.args.pass.now.knows.calls c.put.new.pass.knows.calls _ c.put.ensures.told.calls
-
-pub returns-clause-none : goal.returns-clause-none
-returns-clause-none c = readied_by _ c.args.pass.now.knows c.put.new.pass.knows c.put.ensures.told refl
+pub returns-clause-calls : goal.returns-clause-calls
+returns-clause-calls c =
+    let put = put_call c.args.«package» Parked ∷ [] in record {
+      answers = keeps_answers c.args.hall.now put c.args.«package» c.args.hands.now (record c.args.hands.now { pass = c.put.new.pass }) Did_park c.requires.hands (wider put c.args.«package» c.args.hands.now (record c.args.hands.now { pass = c.put.new.pass }) refl c.put.ensures) (takes_none (threads c.args.hall.now.terms) c.args.hands.now.ready.items c.args.hands.now.ready.items put refl refl) refl;
+      aside = refl;
+    }

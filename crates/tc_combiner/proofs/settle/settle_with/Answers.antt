@@ -1,160 +1,106 @@
-use Rattle.std.proofs.Common.{ℕ, List, [], length, refl, sym, ap, ◌∙◌, subst, map, arith}
+use Rattle.std.proofs.Common.{ℕ, List, [], ◌∷◌, refl, sym, ap, ◌∙◌, subst, map, arith, length, length-set, Option}
 use Rattle.tc_journal.specs.declared.block.End.{End}
-use Rattle.tc_journal.specs.declared.block.End.TheVariants.{Wants, Unlocked, Slept, Cut, Exit, Fault, Spent}
 use Rattle.tc_hall.specs.Outs.{Pack}
+use Rattle.tc_hall.specs.Rule.{threads}
 use Rattle.tc_combiner.specs.declared.settled.Settled.TheVariants.{GoesOn, Parked}
 use Rattle.tc_combiner.specs.Walks.{packed}
-use Rattle.tc_combiner.specs.Settling.{IsAfterBlock, SettledAs}
-use Rattle.tc_hall.specs.Rule.{threads}
-use Rattle.tc_combiner.specs.Answers.{HasReadied}
+use Rattle.tc_combiner.specs.Packages.{IsGood}
+use Rattle.tc_combiner.specs.Settling.{SettledAs}
 use Rattle.tc_combiner.specs.View.{desk_of}
-use Rattle.tc_combiner.proofs.Readying.{readied_none}
-use Rattle.tc_combiner.proofs.Owning.{one_gone}
-use Rattle.tc_combiner.proofs.Walking.{walks_none}
-use Rattle.tc_combiner.proofs.Packages.{plain_good}
-use Rattle.tc_combiner.proofs.Ending.{seats_first}
-use Rattle.tc_combiner.proofs.Settling.{after_of, by_last, some_block, plain_on, runs_on, held_and, lock_in_range, may_release, may_end, wants_ends, slept_ends, cut_ends, unlocked_ends, unlocked_other, wants_lock, wanted_known, slept_block}
+use Rattle.tc_elf.specs.Shown.{Shown}
+use Rattle.tc_combiner.proofs.Acting.{acts_none}
+use Rattle.tc_combiner.proofs.Answering.{takes_none}
+use Rattle.tc_combiner.proofs.Ending.{same_seats, seats_first}
+use Rattle.tc_combiner.proofs.Settling.{after_last, at_begin, did_acquire, did_end, did_unlock, keeps_of, may_ask, may_begin, may_continue, may_end, may_park, may_unlock, some_block}
+use Rattle.tc_combiner.proofs.Unlocking.{going_good}
 use Rattle.tc_combiner.proofs.settle.settle_with.Goals as goal
 
 pub last-block-requires : goal.last-block-requires
 last-block-requires g c = some_block c.args.«package».log c.requires.may.0 c.requires.may.1.last
 
-pub acquire_at-requires-clause-place : goal.acquire_at-requires-clause-place
-acquire_at-requires-clause-place g c = λ κs b.
-    let m : IsAfterBlock c.args.hall.now.terms.image.value c.args.pass.now.knows.worker (Wants c.in-Wants.lock) c.last-block.result c.args.«package» = subst (λ (x : End). IsAfterBlock c.args.hall.now.terms.image.value c.args.pass.now.knows.worker x c.last-block.result c.args.«package») (c.in-Wants.is) (by_last c.args.hall.now.terms.image.value c.args.pass.now.knows.worker c.args.end c.last-block.result c.args.«package» c.requires.may c.last-block.ensures) in
-    wanted_known c.args.hall.now.terms c.args.pass.now.knows.worker c.in-Wants.lock c.last-block.result c.args.«package» c.keeps.ensures.sound c.keeps.ensures.want m
+pub acquire_at-requires-clause-hands : goal.acquire_at-requires-clause-hands
+acquire_at-requires-clause-hands g c = λ κs b. at_begin c.args.hall.now _ c.args.hands.now _ c.requires.hands refl refl
 
-pub acquire_at-requires-clause-of : goal.acquire_at-requires-clause-of
-acquire_at-requires-clause-of g c = λ κs b.
-    let m : IsAfterBlock c.args.hall.now.terms.image.value c.args.pass.now.knows.worker (Wants c.in-Wants.lock) c.last-block.result c.args.«package» = subst (λ (x : End). IsAfterBlock c.args.hall.now.terms.image.value c.args.pass.now.knows.worker x c.last-block.result c.args.«package») (c.in-Wants.is) (by_last c.args.hall.now.terms.image.value c.args.pass.now.knows.worker c.args.end c.last-block.result c.args.«package» c.requires.may c.last-block.ensures) in
-    m.of ∙ sym c.requires.image
-
-pub acquire_at-requires-clause-plain : goal.acquire_at-requires-clause-plain
-acquire_at-requires-clause-plain g c = λ κs b.
-    let m : IsAfterBlock c.args.hall.now.terms.image.value c.args.pass.now.knows.worker (Wants c.in-Wants.lock) c.last-block.result c.args.«package» = subst (λ (x : End). IsAfterBlock c.args.hall.now.terms.image.value c.args.pass.now.knows.worker x c.last-block.result c.args.«package») (c.in-Wants.is) (by_last c.args.hall.now.terms.image.value c.args.pass.now.knows.worker c.args.end c.last-block.result c.args.«package» c.requires.may c.last-block.ensures) in
-    plain_on c.args.hall.now.terms c.args.pass.now.knows.worker (Wants c.in-Wants.lock) c.last-block.result c.args.«package» c.keeps.ensures.sound m (λ i. wants_ends i c.in-Wants.lock c.last-block.result m.end_is) refl
-
-pub acquire_at-requires-clause-want : goal.acquire_at-requires-clause-want
-acquire_at-requires-clause-want g c = λ κs b.
-    let m : IsAfterBlock c.args.hall.now.terms.image.value c.args.pass.now.knows.worker (Wants c.in-Wants.lock) c.last-block.result c.args.«package» = subst (λ (x : End). IsAfterBlock c.args.hall.now.terms.image.value c.args.pass.now.knows.worker x c.last-block.result c.args.«package») (c.in-Wants.is) (by_last c.args.hall.now.terms.image.value c.args.pass.now.knows.worker c.args.end c.last-block.result c.args.«package» c.requires.may c.last-block.ensures) in
-    wants_lock c.args.hall.now.terms.image.value c.args.pass.now.knows.worker c.in-Wants.lock c.last-block.result c.args.«package» c.keeps.ensures.sound m (runs_on c.args.hall.now.terms c.args.pass.now.knows.worker (Wants c.in-Wants.lock) c.last-block.result c.args.«package» c.keeps.ensures.sound m refl)
+pub acquire_at-requires-clause-may : goal.acquire_at-requires-clause-may
+acquire_at-requires-clause-may g c = λ κs b. may_ask c.args.hall.now.terms c.args.hands.now.pass.knows.worker c.last-block.result c.args.«package» c.keeps.ensures.sound c.in-Wants.lock c.keeps.ensures.want (after_last c.args.hall.now.terms.image.value c.args.hands.now.pass.knows.worker c.args.end _ c.last-block.result c.args.«package» c.in-Wants.is c.requires.may c.last-block.ensures)
 
 pub returns-in-Wants-clause-settled : goal.returns-in-Wants-clause-settled
-returns-in-Wants-clause-settled g c =
-    (c.last-block.result, c.last-block.ensures, subst (λ (x : End). SettledAs x c.args.«package» c.last-block.result (desk_of c.args.pass.now (map g.Q.Waiters.seen c.args.seats.now) c.args.sleepers.now c.args.clock c.args.aside.now c.args.ready.now.items) (desk_of c.acquire_at.new.pass (map g.Q.Waiters.seen c.acquire_at.new.seats) c.args.sleepers.now c.args.clock c.acquire_at.new.aside c.clear.new.self.items) c.acquire_at.result) (sym c.in-Wants.is) (record { same = record { others = c.acquire_at.ensures.others; sleepers = refl }; acquired = c.acquire_at.ensures.acquired }))
+returns-in-Wants-clause-settled g c = (c.last-block.result, c.last-block.ensures, subst (λ (x : End). SettledAs x c.args.«package» c.last-block.result (desk_of c.args.hands.now.pass (map g.Q.Waiters.seen c.args.seats.now) c.args.sleepers.now c.args.clock c.args.hands.now.aside c.args.hands.now.ready.items) (desk_of c.acquire_at.new.hands.pass (map g.Q.Waiters.seen c.acquire_at.new.seats) c.args.sleepers.now c.args.clock c.acquire_at.new.hands.aside c.acquire_at.new.hands.ready.items) c.acquire_at.result) (sym c.in-Wants.is) (did_acquire c.args.hall.now.terms c.args.«package» (map g.Q.Waiters.seen c.args.seats.now) (map g.Q.Waiters.seen c.acquire_at.new.seats) c.args.sleepers.now c.args.clock c.args.hands.now.ready.items _ c.acquire_at.new.hands c.requires.hands.image c.in-Wants.lock c.acquire_at.result c.acquire_at.ensures))
 
-pub unlocked_at-requires-clause-place : goal.unlocked_at-requires-clause-place
-unlocked_at-requires-clause-place g c = λ κs b.
-    let m : IsAfterBlock c.args.hall.now.terms.image.value c.args.pass.now.knows.worker (Unlocked c.in-Unlocked.lock) c.last-block.result c.args.«package» = subst (λ (x : End). IsAfterBlock c.args.hall.now.terms.image.value c.args.pass.now.knows.worker x c.last-block.result c.args.«package») (c.in-Unlocked.is) (by_last c.args.hall.now.terms.image.value c.args.pass.now.knows.worker c.args.end c.last-block.result c.args.«package» c.requires.may c.last-block.ensures) in
-    let has = (after_of c.args.hall.now.terms.image.value c.args.pass.now.knows.worker (Unlocked c.in-Unlocked.lock) c.last-block.result c.args.«package» c.keeps.ensures.sound m).released c.in-Unlocked.lock m.end_is in
-    lock_in_range c.args.hall.now.terms c.args.pass.now.knows.worker (Unlocked c.in-Unlocked.lock) c.last-block.result c.args.«package» c.keeps.ensures.sound m c.in-Unlocked.lock has
+pub returns-in-Wants-clause-keeps : goal.returns-in-Wants-clause-keeps
+returns-in-Wants-clause-keeps g c = keeps_of c.args.hall.now.terms _ c.args.«package» (map g.Q.Waiters.seen c.args.seats.now) (map g.Q.Waiters.seen c.acquire_at.new.seats) c.args.sleepers.now c.args.sleepers.now _ c.acquire_at.new.hands c.acquire_at.result c.clear.ensures c.acquire_at.ensures.here.answers c.acquire_at.ensures.same refl
+
+pub unlocked_at-requires-clause-hands : goal.unlocked_at-requires-clause-hands
+unlocked_at-requires-clause-hands g c = λ κs b. may_begin c.args.hall.now _ 2 c.args.hands.now _ c.requires.hands refl refl c.clear.ensures (omega arith)
 
 pub unlocked_at-requires-clause-may : goal.unlocked_at-requires-clause-may
-unlocked_at-requires-clause-may g c = λ κs b.
-    let m : IsAfterBlock c.args.hall.now.terms.image.value c.args.pass.now.knows.worker (Unlocked c.in-Unlocked.lock) c.last-block.result c.args.«package» = subst (λ (x : End). IsAfterBlock c.args.hall.now.terms.image.value c.args.pass.now.knows.worker x c.last-block.result c.args.«package») (c.in-Unlocked.is) (by_last c.args.hall.now.terms.image.value c.args.pass.now.knows.worker c.args.end c.last-block.result c.args.«package» c.requires.may c.last-block.ensures) in
-    let has = (after_of c.args.hall.now.terms.image.value c.args.pass.now.knows.worker (Unlocked c.in-Unlocked.lock) c.last-block.result c.args.«package» c.keeps.ensures.sound m).released c.in-Unlocked.lock m.end_is in
-    may_release c.args.hall.now.terms c.args.pass.now.knows.worker (Unlocked c.in-Unlocked.lock) c.last-block.result c.args.«package» c.keeps.ensures.sound m c.args.pass.now.knows c.in-Unlocked.lock c.requires.image refl has (unlocked_ends c.in-Unlocked.lock c.last-block.result m.end_is)
-
-pub unlocked_at-requires-clause-runs : goal.unlocked_at-requires-clause-runs
-unlocked_at-requires-clause-runs g c = λ κs b.
-    let m : IsAfterBlock c.args.hall.now.terms.image.value c.args.pass.now.knows.worker (Unlocked c.in-Unlocked.lock) c.last-block.result c.args.«package» = subst (λ (x : End). IsAfterBlock c.args.hall.now.terms.image.value c.args.pass.now.knows.worker x c.last-block.result c.args.«package») (c.in-Unlocked.is) (by_last c.args.hall.now.terms.image.value c.args.pass.now.knows.worker c.args.end c.last-block.result c.args.«package» c.requires.may c.last-block.ensures) in
-    runs_on c.args.hall.now.terms c.args.pass.now.knows.worker (Unlocked c.in-Unlocked.lock) c.last-block.result c.args.«package» c.keeps.ensures.sound m refl
-
-pub unlocked_at-requires-clause-locks : goal.unlocked_at-requires-clause-locks
-unlocked_at-requires-clause-locks g c = λ κs b.
-    let m : IsAfterBlock c.args.hall.now.terms.image.value c.args.pass.now.knows.worker (Unlocked c.in-Unlocked.lock) c.last-block.result c.args.«package» = subst (λ (x : End). IsAfterBlock c.args.hall.now.terms.image.value c.args.pass.now.knows.worker x c.last-block.result c.args.«package») (c.in-Unlocked.is) (by_last c.args.hall.now.terms.image.value c.args.pass.now.knows.worker c.args.end c.last-block.result c.args.«package» c.requires.may c.last-block.ensures) in
-    held_and c.args.hall.now.terms c.args.pass.now.knows.worker (Unlocked c.in-Unlocked.lock) c.last-block.result c.args.«package» c.keeps.ensures.sound m c.in-Unlocked.lock (λ j ne. unlocked_other c.in-Unlocked.lock j c.last-block.result m.end_is ne)
+unlocked_at-requires-clause-may g c = λ κs b. may_unlock c.args.hall.now.terms c.args.hands.now.pass.knows.worker c.last-block.result c.args.«package» c.keeps.ensures.sound c.args.hands.now.pass.knows c.in-Unlocked.lock c.requires.hands.image refl (after_last c.args.hall.now.terms.image.value c.args.hands.now.pass.knows.worker c.args.end _ c.last-block.result c.args.«package» c.in-Unlocked.is c.requires.may c.last-block.ensures)
 
 pub returns-in-Unlocked-clause-settled : goal.returns-in-Unlocked-clause-settled
-returns-in-Unlocked-clause-settled g c =
-    (c.last-block.result, c.last-block.ensures, subst (λ (x : End). SettledAs x c.args.«package» c.last-block.result (desk_of c.args.pass.now (map g.Q.Waiters.seen c.args.seats.now) c.args.sleepers.now c.args.clock c.args.aside.now c.args.ready.now.items) (desk_of c.unlocked_at.new.pass (map g.Q.Waiters.seen c.unlocked_at.new.seats) c.args.sleepers.now c.args.clock c.unlocked_at.new.aside c.unlocked_at.new.ready.items) c.unlocked_at.result) (sym c.in-Unlocked.is) (record { same = record { others = c.unlocked_at.ensures.others; sleepers = refl }; asks = c.unlocked_at.ensures.asks; unlocked = c.unlocked_at.ensures.settled }))
+returns-in-Unlocked-clause-settled g c = (c.last-block.result, c.last-block.ensures, subst (λ (x : End). SettledAs x c.args.«package» c.last-block.result (desk_of c.args.hands.now.pass (map g.Q.Waiters.seen c.args.seats.now) c.args.sleepers.now c.args.clock c.args.hands.now.aside c.args.hands.now.ready.items) (desk_of c.unlocked_at.new.hands.pass (map g.Q.Waiters.seen c.unlocked_at.new.seats) c.args.sleepers.now c.args.clock c.unlocked_at.new.hands.aside c.unlocked_at.new.hands.ready.items) c.unlocked_at.result) (sym c.in-Unlocked.is) (did_unlock c.args.hall.now.terms c.args.«package» (map g.Q.Waiters.seen c.args.seats.now) (map g.Q.Waiters.seen c.unlocked_at.new.seats) c.args.sleepers.now c.args.clock c.args.hands.now.ready.items _ c.unlocked_at.new.hands c.requires.hands.image c.in-Unlocked.lock c.last-block.result c.unlocked_at.result c.unlocked_at.ensures))
 
-pub park-requires-clause-plain : goal.park-requires-clause-plain
-park-requires-clause-plain g c =
-    let m : IsAfterBlock c.args.hall.now.terms.image.value c.args.pass.now.knows.worker Slept c.last-block.result c.args.«package» = subst (λ (x : End). IsAfterBlock c.args.hall.now.terms.image.value c.args.pass.now.knows.worker x c.last-block.result c.args.«package») (c.in-Slept.is) (by_last c.args.hall.now.terms.image.value c.args.pass.now.knows.worker c.args.end c.last-block.result c.args.«package» c.requires.may c.last-block.ensures) in
-    plain_on c.args.hall.now.terms c.args.pass.now.knows.worker Slept c.last-block.result c.args.«package» c.keeps.ensures.sound m (λ i. slept_ends i c.last-block.result m.end_is) refl
+pub returns-in-Unlocked-clause-keeps : goal.returns-in-Unlocked-clause-keeps
+returns-in-Unlocked-clause-keeps g c = keeps_of c.args.hall.now.terms _ c.args.«package» (map g.Q.Waiters.seen c.args.seats.now) (map g.Q.Waiters.seen c.unlocked_at.new.seats) c.args.sleepers.now c.args.sleepers.now _ c.unlocked_at.new.hands c.unlocked_at.result c.clear.ensures c.unlocked_at.ensures.here.answers c.unlocked_at.ensures.same refl
 
-pub park-requires-clause-runs : goal.park-requires-clause-runs
-park-requires-clause-runs g c =
-    let m : IsAfterBlock c.args.hall.now.terms.image.value c.args.pass.now.knows.worker Slept c.last-block.result c.args.«package» = subst (λ (x : End). IsAfterBlock c.args.hall.now.terms.image.value c.args.pass.now.knows.worker x c.last-block.result c.args.«package») (c.in-Slept.is) (by_last c.args.hall.now.terms.image.value c.args.pass.now.knows.worker c.args.end c.last-block.result c.args.«package» c.requires.may c.last-block.ensures) in
-    runs_on c.args.hall.now.terms c.args.pass.now.knows.worker Slept c.last-block.result c.args.«package» c.keeps.ensures.sound m refl
+pub park-requires-clause-hands : goal.park-requires-clause-hands
+park-requires-clause-hands g c = at_begin c.args.hall.now _ c.args.hands.now _ c.requires.hands refl refl
 
-pub park-requires-clause-slept : goal.park-requires-clause-slept
-park-requires-clause-slept g c =
-    let m : IsAfterBlock c.args.hall.now.terms.image.value c.args.pass.now.knows.worker Slept c.last-block.result c.args.«package» = subst (λ (x : End). IsAfterBlock c.args.hall.now.terms.image.value c.args.pass.now.knows.worker x c.last-block.result c.args.«package») (c.in-Slept.is) (by_last c.args.hall.now.terms.image.value c.args.pass.now.knows.worker c.args.end c.last-block.result c.args.«package» c.requires.may c.last-block.ensures) in
-    slept_block c.args.hall.now.terms.image.value c.args.pass.now.knows.worker c.last-block.result c.args.«package» m
-
-pub park-requires-clause-out : goal.park-requires-clause-out
-park-requires-clause-out g c =
-    c.requires.out.1.0
-
-pub returns-in-Slept-clause-moves : goal.returns-in-Slept-clause-moves
-returns-in-Slept-clause-moves g c =
-    one_gone c.args.pass.now.knows c.park.new.pass.knows (Pack c.args.«package») (packed c.args.aside.now) c.park.ensures.moves
-
-pub returns-in-Slept-clause-seats : goal.returns-in-Slept-clause-seats
-returns-in-Slept-clause-seats g c =
-    seats_first (map g.Q.Waiters.seen c.args.seats.now)
+pub park-requires-clause-may : goal.park-requires-clause-may
+park-requires-clause-may g c = may_park c.args.hall.now.terms c.args.hands.now.pass.knows.worker c.last-block.result c.args.«package» c.keeps.ensures.sound (after_last c.args.hall.now.terms.image.value c.args.hands.now.pass.knows.worker c.args.end _ c.last-block.result c.args.«package» c.in-Slept.is c.requires.may c.last-block.ensures)
 
 pub returns-in-Slept-clause-settled : goal.returns-in-Slept-clause-settled
-returns-in-Slept-clause-settled g c =
-    (c.last-block.result, c.last-block.ensures, subst (λ (x : End). SettledAs x c.args.«package» c.last-block.result (desk_of c.args.pass.now (map g.Q.Waiters.seen c.args.seats.now) c.args.sleepers.now c.args.clock c.args.aside.now c.args.ready.now.items) (desk_of c.park.new.pass (map g.Q.Waiters.seen c.args.seats.now) c.park.new.sleepers c.args.clock c.args.aside.now c.clear.new.self.items) Parked) (sym c.in-Slept.is) (record { seats = refl; aside = refl; put = c.park.ensures.put; sleeper = c.park.ensures.sleeper }))
+returns-in-Slept-clause-settled g c = (c.last-block.result, c.last-block.ensures, subst (λ (x : End). SettledAs x c.args.«package» c.last-block.result (desk_of c.args.hands.now.pass (map g.Q.Waiters.seen c.args.seats.now) c.args.sleepers.now c.args.clock c.args.hands.now.aside c.args.hands.now.ready.items) (desk_of c.park.new.hands.pass (map g.Q.Waiters.seen c.args.seats.now) c.park.new.sleepers c.args.clock c.park.new.hands.aside c.park.new.hands.ready.items) Parked) (sym c.in-Slept.is) (record { seats = refl; aside = c.park.ensures.calls.aside; adds = c.park.ensures.calls.answers.acts.adds; sleeper = c.park.ensures.sleeper }))
 
-pub returns-in-Cut-clause-walks : goal.returns-in-Cut-clause-walks
-returns-in-Cut-clause-walks g c =
-    walks_none c.args.pass.now.knows
-
-pub returns-in-Cut-clause-moves : goal.returns-in-Cut-clause-moves
-returns-in-Cut-clause-moves g c =
-    λ b zs o. o
-
-pub returns-in-Cut-clause-seats : goal.returns-in-Cut-clause-seats
-returns-in-Cut-clause-seats g c =
-    seats_first (map g.Q.Waiters.seen c.args.seats.now)
+pub returns-in-Slept-clause-keeps : goal.returns-in-Slept-clause-keeps
+returns-in-Slept-clause-keeps g c = keeps_of c.args.hall.now.terms _ c.args.«package» (map g.Q.Waiters.seen c.args.seats.now) (map g.Q.Waiters.seen c.args.seats.now) c.args.sleepers.now c.park.new.sleepers _ c.park.new.hands Parked c.clear.ensures c.park.ensures.calls.answers (seats_first (map g.Q.Waiters.seen c.args.seats.now)) (ap (λ (sl : List (Option ℕ)). length sl) c.park.ensures.sleeper ∙ length-set _ _ _)
 
 pub returns-in-Cut-clause-settled : goal.returns-in-Cut-clause-settled
 returns-in-Cut-clause-settled g c =
-    let m : IsAfterBlock c.args.hall.now.terms.image.value c.args.pass.now.knows.worker Cut c.last-block.result c.args.«package» = subst (λ (x : End). IsAfterBlock c.args.hall.now.terms.image.value c.args.pass.now.knows.worker x c.last-block.result c.args.«package») (c.in-Cut.is) (by_last c.args.hall.now.terms.image.value c.args.pass.now.knows.worker c.args.end c.last-block.result c.args.«package» c.requires.may c.last-block.ensures) in
-    (c.last-block.result, c.last-block.ensures, subst (λ (x : End). SettledAs x c.args.«package» c.last-block.result (desk_of c.args.pass.now (map g.Q.Waiters.seen c.args.seats.now) c.args.sleepers.now c.args.clock c.args.aside.now c.args.ready.now.items) (desk_of c.args.pass.now (map g.Q.Waiters.seen c.args.seats.now) c.args.sleepers.now c.args.clock c.args.aside.now c.clear.new.self.items) (GoesOn c.args.«package»)) (sym c.in-Cut.is) (refl, ap (λ (hs : List ℕ). desk_of c.args.pass.now (map g.Q.Waiters.seen c.args.seats.now) c.args.sleepers.now c.args.clock c.args.aside.now hs) c.clear.ensures, plain_good (threads c.args.hall.now.terms) c.args.«package» c.args.pass.now.knows (plain_on c.args.hall.now.terms c.args.pass.now.knows.worker Cut c.last-block.result c.args.«package» c.keeps.ensures.sound m (λ i. cut_ends i c.last-block.result m.end_is) refl) (runs_on c.args.hall.now.terms c.args.pass.now.knows.worker Cut c.last-block.result c.args.«package» c.keeps.ensures.sound m refl) (m.of ∙ sym c.requires.image)))
+    let good = going_good c.args.hall.now.terms c.args.hands.now.pass.knows.worker c.args.«package» (may_continue c.args.hall.now.terms c.args.hands.now.pass.knows.worker c.last-block.result c.args.«package» c.keeps.ensures.sound (after_last c.args.hall.now.terms.image.value c.args.hands.now.pass.knows.worker c.args.end _ c.last-block.result c.args.«package» c.in-Cut.is c.requires.may c.last-block.ensures)) in
+    (c.last-block.result, c.last-block.ensures, subst (λ (x : End). SettledAs x c.args.«package» c.last-block.result (desk_of c.args.hands.now.pass (map g.Q.Waiters.seen c.args.seats.now) c.args.sleepers.now c.args.clock c.args.hands.now.aside c.args.hands.now.ready.items) (desk_of c.args.hands.now.pass (map g.Q.Waiters.seen c.args.seats.now) c.args.sleepers.now c.args.clock c.args.hands.now.aside c.clear.new.self.items) (GoesOn c.args.«package»)) (sym c.in-Cut.is) (refl, ap (λ (hs : List ℕ). desk_of c.args.hands.now.pass (map g.Q.Waiters.seen c.args.seats.now) c.args.sleepers.now c.args.clock c.args.hands.now.aside hs) c.clear.ensures, subst (λ (x : Shown). IsGood c.args.«package» x c.args.hands.now.pass.knows.worker) (sym c.requires.hands.image) good))
+
+pub returns-in-Cut-clause-keeps : goal.returns-in-Cut-clause-keeps
+returns-in-Cut-clause-keeps g c = record {
+  calls = [];
+  acts = acts_none c.args.hands.now.pass (Pack c.args.«package» ∷ packed c.args.hands.now.aside);
+  readied = takes_none (threads c.args.hall.now.terms) [] c.clear.new.self.items [] c.clear.ensures refl;
+  aside = c.requires.hands.aside;
+  seats = seats_first (map g.Q.Waiters.seen c.args.seats.now);
+  room = refl;
+}
+
+pub ended_with-requires-clause-hands : goal.ended_with-requires-clause-hands
+ended_with-requires-clause-hands g c = λ κs b. may_begin c.args.hall.now _ _ c.args.hands.now _ c.requires.hands refl refl c.clear.ensures (omega arith)
 
 pub ended_with-requires-clause-may : goal.ended_with-requires-clause-may
-ended_with-requires-clause-may g c = λ κs b.
-    let m : IsAfterBlock c.args.hall.now.terms.image.value c.args.pass.now.knows.worker Exit c.last-block.result c.args.«package» = subst (λ (x : End). IsAfterBlock c.args.hall.now.terms.image.value c.args.pass.now.knows.worker x c.last-block.result c.args.«package») (c.in-Exit.is) (by_last c.args.hall.now.terms.image.value c.args.pass.now.knows.worker c.args.end c.last-block.result c.args.«package» c.requires.may c.last-block.ensures) in
-    may_end c.args.hall.now.terms c.args.pass.now.knows.worker Exit c.last-block.result c.args.«package» c.keeps.ensures.sound m c.args.pass.now.knows c.requires.image refl refl
+ended_with-requires-clause-may g c = λ κs b. may_end c.args.hall.now.terms c.args.hands.now.pass.knows.worker _ c.last-block.result c.args.«package» c.keeps.ensures.sound (after_last c.args.hall.now.terms.image.value c.args.hands.now.pass.knows.worker c.args.end _ c.last-block.result c.args.«package» c.in-Exit.is c.requires.may c.last-block.ensures) c.args.hands.now.pass.knows c.requires.hands.image refl refl
 
 pub returns-in-Exit-clause-settled : goal.returns-in-Exit-clause-settled
-returns-in-Exit-clause-settled g c =
-    (c.last-block.result, c.last-block.ensures, subst (λ (x : End). SettledAs x c.args.«package» c.last-block.result (desk_of c.args.pass.now (map g.Q.Waiters.seen c.args.seats.now) c.args.sleepers.now c.args.clock c.args.aside.now c.args.ready.now.items) (desk_of c.ended_with.new.pass (map g.Q.Waiters.seen c.ended_with.new.seats) c.args.sleepers.now c.args.clock c.ended_with.new.aside c.ended_with.new.ready.items) c.ended_with.result) (sym c.in-Exit.is) (record { sleepers = refl; ended = c.ended_with.ensures.ended }))
+returns-in-Exit-clause-settled g c = (c.last-block.result, c.last-block.ensures, subst (λ (x : End). SettledAs x c.args.«package» c.last-block.result (desk_of c.args.hands.now.pass (map g.Q.Waiters.seen c.args.seats.now) c.args.sleepers.now c.args.clock c.args.hands.now.aside c.args.hands.now.ready.items) (desk_of c.ended_with.new.hands.pass (map g.Q.Waiters.seen c.ended_with.new.seats) c.args.sleepers.now c.args.clock c.ended_with.new.hands.aside c.ended_with.new.hands.ready.items) c.ended_with.result) (sym c.in-Exit.is) (did_end c.args.hall.now.terms c.args.«package» (map g.Q.Waiters.seen c.args.seats.now) (map g.Q.Waiters.seen c.ended_with.new.seats) c.args.sleepers.now c.args.clock c.args.hands.now.ready.items _ c.ended_with.new.hands c.requires.hands.image c.last-block.result c.ended_with.result c.ended_with.ensures))
+
+pub returns-in-Exit-clause-keeps : goal.returns-in-Exit-clause-keeps
+returns-in-Exit-clause-keeps g c = keeps_of c.args.hall.now.terms _ c.args.«package» (map g.Q.Waiters.seen c.args.seats.now) (map g.Q.Waiters.seen c.ended_with.new.seats) c.args.sleepers.now c.args.sleepers.now _ c.ended_with.new.hands c.ended_with.result c.clear.ensures c.ended_with.ensures.answers (same_seats c.last-block.result c.args.«package» (map g.Q.Waiters.seen c.args.seats.now) (map g.Q.Waiters.seen c.ended_with.new.seats) c.ended_with.ensures.seats) refl
+
+pub ended_with-requires-in-Fault-clause-hands : goal.ended_with-requires-in-Fault-clause-hands
+ended_with-requires-in-Fault-clause-hands g c = λ κs b. may_begin c.args.hall.now _ _ c.args.hands.now _ c.requires.hands refl refl c.clear.ensures (omega arith)
 
 pub ended_with-requires-in-Fault-clause-may : goal.ended_with-requires-in-Fault-clause-may
-ended_with-requires-in-Fault-clause-may g c = λ κs b.
-    let m : IsAfterBlock c.args.hall.now.terms.image.value c.args.pass.now.knows.worker (Fault c.in-Fault.field-0) c.last-block.result c.args.«package» = subst (λ (x : End). IsAfterBlock c.args.hall.now.terms.image.value c.args.pass.now.knows.worker x c.last-block.result c.args.«package») (c.in-Fault.is) (by_last c.args.hall.now.terms.image.value c.args.pass.now.knows.worker c.args.end c.last-block.result c.args.«package» c.requires.may c.last-block.ensures) in
-    may_end c.args.hall.now.terms c.args.pass.now.knows.worker (Fault c.in-Fault.field-0) c.last-block.result c.args.«package» c.keeps.ensures.sound m c.args.pass.now.knows c.requires.image refl refl
+ended_with-requires-in-Fault-clause-may g c = λ κs b. may_end c.args.hall.now.terms c.args.hands.now.pass.knows.worker _ c.last-block.result c.args.«package» c.keeps.ensures.sound (after_last c.args.hall.now.terms.image.value c.args.hands.now.pass.knows.worker c.args.end _ c.last-block.result c.args.«package» c.in-Fault.is c.requires.may c.last-block.ensures) c.args.hands.now.pass.knows c.requires.hands.image refl refl
 
 pub returns-in-Fault-clause-settled : goal.returns-in-Fault-clause-settled
-returns-in-Fault-clause-settled g c =
-    (c.last-block.result, c.last-block.ensures, subst (λ (x : End). SettledAs x c.args.«package» c.last-block.result (desk_of c.args.pass.now (map g.Q.Waiters.seen c.args.seats.now) c.args.sleepers.now c.args.clock c.args.aside.now c.args.ready.now.items) (desk_of c.ended_with-in-Fault.new.pass (map g.Q.Waiters.seen c.ended_with-in-Fault.new.seats) c.args.sleepers.now c.args.clock c.ended_with-in-Fault.new.aside c.ended_with-in-Fault.new.ready.items) c.ended_with-in-Fault.result) (sym c.in-Fault.is) (record { sleepers = refl; ended = c.ended_with-in-Fault.ensures.ended }))
+returns-in-Fault-clause-settled g c = (c.last-block.result, c.last-block.ensures, subst (λ (x : End). SettledAs x c.args.«package» c.last-block.result (desk_of c.args.hands.now.pass (map g.Q.Waiters.seen c.args.seats.now) c.args.sleepers.now c.args.clock c.args.hands.now.aside c.args.hands.now.ready.items) (desk_of c.ended_with-in-Fault.new.hands.pass (map g.Q.Waiters.seen c.ended_with-in-Fault.new.seats) c.args.sleepers.now c.args.clock c.ended_with-in-Fault.new.hands.aside c.ended_with-in-Fault.new.hands.ready.items) c.ended_with-in-Fault.result) (sym c.in-Fault.is) (did_end c.args.hall.now.terms c.args.«package» (map g.Q.Waiters.seen c.args.seats.now) (map g.Q.Waiters.seen c.ended_with-in-Fault.new.seats) c.args.sleepers.now c.args.clock c.args.hands.now.ready.items _ c.ended_with-in-Fault.new.hands c.requires.hands.image c.last-block.result c.ended_with-in-Fault.result c.ended_with-in-Fault.ensures))
+
+pub returns-in-Fault-clause-keeps : goal.returns-in-Fault-clause-keeps
+returns-in-Fault-clause-keeps g c = keeps_of c.args.hall.now.terms _ c.args.«package» (map g.Q.Waiters.seen c.args.seats.now) (map g.Q.Waiters.seen c.ended_with-in-Fault.new.seats) c.args.sleepers.now c.args.sleepers.now _ c.ended_with-in-Fault.new.hands c.ended_with-in-Fault.result c.clear.ensures c.ended_with-in-Fault.ensures.answers (same_seats c.last-block.result c.args.«package» (map g.Q.Waiters.seen c.args.seats.now) (map g.Q.Waiters.seen c.ended_with-in-Fault.new.seats) c.ended_with-in-Fault.ensures.seats) refl
+
+pub ended_with-requires-in-Spent-clause-hands : goal.ended_with-requires-in-Spent-clause-hands
+ended_with-requires-in-Spent-clause-hands g c = λ κs b. may_begin c.args.hall.now _ _ c.args.hands.now _ c.requires.hands refl refl c.clear.ensures (omega arith)
 
 pub ended_with-requires-in-Spent-clause-may : goal.ended_with-requires-in-Spent-clause-may
-ended_with-requires-in-Spent-clause-may g c = λ κs b.
-    let m : IsAfterBlock c.args.hall.now.terms.image.value c.args.pass.now.knows.worker Spent c.last-block.result c.args.«package» = subst (λ (x : End). IsAfterBlock c.args.hall.now.terms.image.value c.args.pass.now.knows.worker x c.last-block.result c.args.«package») (c.in-Spent.is) (by_last c.args.hall.now.terms.image.value c.args.pass.now.knows.worker c.args.end c.last-block.result c.args.«package» c.requires.may c.last-block.ensures) in
-    may_end c.args.hall.now.terms c.args.pass.now.knows.worker Spent c.last-block.result c.args.«package» c.keeps.ensures.sound m c.args.pass.now.knows c.requires.image refl refl
+ended_with-requires-in-Spent-clause-may g c = λ κs b. may_end c.args.hall.now.terms c.args.hands.now.pass.knows.worker _ c.last-block.result c.args.«package» c.keeps.ensures.sound (after_last c.args.hall.now.terms.image.value c.args.hands.now.pass.knows.worker c.args.end _ c.last-block.result c.args.«package» c.in-Spent.is c.requires.may c.last-block.ensures) c.args.hands.now.pass.knows c.requires.hands.image refl refl
 
 pub returns-in-Spent-clause-settled : goal.returns-in-Spent-clause-settled
-returns-in-Spent-clause-settled g c =
-    (c.last-block.result, c.last-block.ensures, subst (λ (x : End). SettledAs x c.args.«package» c.last-block.result (desk_of c.args.pass.now (map g.Q.Waiters.seen c.args.seats.now) c.args.sleepers.now c.args.clock c.args.aside.now c.args.ready.now.items) (desk_of c.ended_with-in-Spent.new.pass (map g.Q.Waiters.seen c.ended_with-in-Spent.new.seats) c.args.sleepers.now c.args.clock c.ended_with-in-Spent.new.aside c.ended_with-in-Spent.new.ready.items) c.ended_with-in-Spent.result) (sym c.in-Spent.is) (record { sleepers = refl; ended = c.ended_with-in-Spent.ensures.ended }))
+returns-in-Spent-clause-settled g c = (c.last-block.result, c.last-block.ensures, subst (λ (x : End). SettledAs x c.args.«package» c.last-block.result (desk_of c.args.hands.now.pass (map g.Q.Waiters.seen c.args.seats.now) c.args.sleepers.now c.args.clock c.args.hands.now.aside c.args.hands.now.ready.items) (desk_of c.ended_with-in-Spent.new.hands.pass (map g.Q.Waiters.seen c.ended_with-in-Spent.new.seats) c.args.sleepers.now c.args.clock c.ended_with-in-Spent.new.hands.aside c.ended_with-in-Spent.new.hands.ready.items) c.ended_with-in-Spent.result) (sym c.in-Spent.is) (did_end c.args.hall.now.terms c.args.«package» (map g.Q.Waiters.seen c.args.seats.now) (map g.Q.Waiters.seen c.ended_with-in-Spent.new.seats) c.args.sleepers.now c.args.clock c.args.hands.now.ready.items _ c.ended_with-in-Spent.new.hands c.requires.hands.image c.last-block.result c.ended_with-in-Spent.result c.ended_with-in-Spent.ensures))
 
-pub unlocked_at-requires-clause-room : goal.unlocked_at-requires-clause-room
-unlocked_at-requires-clause-room g c = λ κs b. let none = ap (λ (hs : List ℕ). length hs) c.clear.ensures in omega arith
-
-pub returns-in-Wants-clause-readied : goal.returns-in-Wants-clause-readied
-returns-in-Wants-clause-readied g c = subst (λ (hs : List ℕ). HasReadied (threads c.args.hall.now.terms) c.acquire_at.result [] hs c.args.pass.now.knows c.acquire_at.new.pass.knows) (sym c.clear.ensures) c.acquire_at.ensures.readied
-
-pub returns-in-Unlocked-clause-readied : goal.returns-in-Unlocked-clause-readied
-returns-in-Unlocked-clause-readied g c = subst (λ (hs : List ℕ). HasReadied (threads c.args.hall.now.terms) c.unlocked_at.result hs c.unlocked_at.new.ready.items c.args.pass.now.knows c.unlocked_at.new.pass.knows) c.clear.ensures c.unlocked_at.ensures.readied
-
-pub returns-in-Slept-clause-readied : goal.returns-in-Slept-clause-readied
-returns-in-Slept-clause-readied g c = subst (λ (hs : List ℕ). HasReadied (threads c.args.hall.now.terms) Parked [] hs c.args.pass.now.knows c.park.new.pass.knows) (sym c.clear.ensures) (c.park.ensures.none (threads c.args.hall.now.terms) [])
-
-pub returns-in-Cut-clause-readied : goal.returns-in-Cut-clause-readied
-returns-in-Cut-clause-readied g c = subst (λ (hs : List ℕ). HasReadied (threads c.args.hall.now.terms) (GoesOn c.args.«package») [] hs c.args.pass.now.knows c.args.pass.now.knows) (sym c.clear.ensures) (readied_none c.args.pass.now.knows (threads c.args.hall.now.terms) [])
+pub returns-in-Spent-clause-keeps : goal.returns-in-Spent-clause-keeps
+returns-in-Spent-clause-keeps g c = keeps_of c.args.hall.now.terms _ c.args.«package» (map g.Q.Waiters.seen c.args.seats.now) (map g.Q.Waiters.seen c.ended_with-in-Spent.new.seats) c.args.sleepers.now c.args.sleepers.now _ c.ended_with-in-Spent.new.hands c.ended_with-in-Spent.result c.clear.ensures c.ended_with-in-Spent.ensures.answers (same_seats c.last-block.result c.args.«package» (map g.Q.Waiters.seen c.args.seats.now) (map g.Q.Waiters.seen c.ended_with-in-Spent.new.seats) c.ended_with-in-Spent.ensures.seats) refl

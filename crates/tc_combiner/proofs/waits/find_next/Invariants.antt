@@ -1,5 +1,7 @@
-use Rattle.tc_combiner.specs.Walks.{Stays, Asks}
+use Rattle.std.proofs.Common.{[]}
+use Rattle.tc_combiner.specs.Acts.{Acts, LooksBetween}
+use Rattle.tc_combiner.specs.Walks.{Asks}
 use Rattle.tc_combiner.proofs.waits.find_next.Given as goal
 
 abbrev pub invariant-loop : goal.invariant-loop
-invariant-loop g l = (goal.iterator-loop g).can_next l.iterator' × (goal.iterator-loop g).is_finite l.iterator' × Stays l.fn.pass l.pass × Asks l.fn.own (g.Q.Waiters.seen l.fn.seat) (g.Q.Waiters.seen l.seat)
+invariant-loop g l = (goal.iterator-loop g).can_next l.iterator' × (goal.iterator-loop g).is_finite l.iterator' × Acts [] [] [] l.fn.pass l.pass × Asks l.fn.own (g.Q.Waiters.seen l.fn.seat) (g.Q.Waiters.seen l.seat) × LooksBetween (g.Q.Waiters.seen l.fn.seat) (g.Q.Waiters.seen l.seat) l.fn.pass.knows l.pass.knows

@@ -16,12 +16,12 @@ commit-stamp-requires-clause-ready g c = may_seal _ c.args.«package».now (subs
 pub returns-clause-moves : goal.returns-clause-moves
 returns-clause-moves g c =
     let q : PackageView = c.args.«package».now in
-    let v : Knows = c.self.inside.pass.knows in
+    let v : Knows = c.self.inside.hands.pass.knows in
     let w : Knows = c.commit-stamp.new.pass.knows in
     subst (λ (d : DeskView). MovesSealed q c.commit-stamp.new.«package» d (record d { pass = c.commit-stamp.new.pass })) c.self.view_is
     (λ p ran. subst (λ (z : PackageView). Moves v w (Pack p ∷ []) (Pack z ∷ [])) (sym c.commit-stamp.ensures.context) (sealed_moves v.image v w p q c.commit-stamp.result ran c.commit-stamp.ensures.seals))
 
 pub returns-clause-fits : goal.returns-clause-fits
 returns-clause-fits g c =
-    fits_after c.args.bench.now c.self.inside.pass c.commit-stamp.new.pass (map g.Q.Waiters.seen c.self.inside.seats.items) (map g.Q.Waiters.seen c.self.inside.seats.items) c.self.inside.sleepers c.self.inside.sleepers c.self.inside.clock c.saturating_add-self-inside.result c.self.inside.aside c.self.inside.aside c.self.inside.ready.items c.self.inside.ready.items
+    fits_after c.args.bench.now c.self.inside.hands.pass c.commit-stamp.new.pass (map g.Q.Waiters.seen c.self.inside.seats.items) (map g.Q.Waiters.seen c.self.inside.seats.items) c.self.inside.sleepers c.self.inside.sleepers c.self.inside.clock c.saturating_add-self-inside.result c.self.inside.hands.aside c.self.inside.hands.aside c.self.inside.hands.ready.items c.self.inside.hands.ready.items
     (subst (λ (d : DeskView). FitsBench c.args.bench.now d) (sym c.self.view_is) c.requires.fits) c.commit-stamp.ensures.own (ap (λ (v : Knows). v.image) c.commit-stamp.ensures.seals.now) (seats_first (map g.Q.Waiters.seen c.self.inside.seats.items)) refl (λ a e. c.requires.fits.aside a (sym (ap (λ (d : DeskView). d.aside) c.self.view_is) ∙ e))

@@ -1,0 +1,171 @@
+-- What became of a package that wants a lock, from its parts.
+use Rattle.std.proofs.Common.{◌≡◌, ◌+◌, min, ℕ, List, [], ◌∷◌, ◌++◌, refl, sym, ap, ◌∙◌, subst, arith, Option, Some, None, if◌then◌else◌}
+use Rattle.tc_journal.specs.declared.block.Kind.TheVariants.{Taken}
+use Rattle.tc_context.specs.declared.package.TheConstants.{MAX_NUMBER}
+use Rattle.tc_segment.specs.View.{LockView, IsAtRest}
+use Rattle.tc_context.specs.View.{PackageView, IsWaiting, with_turns}
+use Rattle.tc_hall.specs.declared.board.Call.{Call}
+use Rattle.tc_hall.specs.declared.board.Knows.{Knows}
+use Rattle.tc_hall.specs.declared.board.Terms.{Terms}
+use Rattle.tc_hall.specs.declared.place.Place.TheVariants.{Ready, Done, Waiting}
+use Rattle.tc_hall.specs.Outs.{Item, IsOut, Pack, Loose, outs}
+use Rattle.tc_hall.specs.PassView.{HallView, PassView}
+use Rattle.tc_hall.specs.Rule.{locked_in, threads}
+use Rattle.tc_hall.specs.Steps.{put_call}
+use Rattle.tc_queue.specs.Lines.{SeatView, Enter, Link, First, Behind, with_line}
+use Rattle.tc_queue.specs.declared.turn.Turn.{Turn}
+use Rattle.tc_combiner.specs.declared.hands.Hands.{Hands}
+use Rattle.tc_combiner.specs.declared.settled.Settled.TheVariants.{GoesOn, Adopted, Shipped, Parked as Did_park, Ended, Stopped as Was_stopped}
+use Rattle.tc_combiner.specs.declared.settled.Settled.{Settled}
+use Rattle.tc_elf.specs.Shown.{Shown}
+use Rattle.tc_combiner.specs.Ends.{IsSameSeat}
+use Rattle.tc_combiner.specs.Packages.{DidGrant, DidTake, MayGoOn, Runs, Wants}
+use Rattle.tc_combiner.specs.Walks.{packed, ready_in}
+use Rattle.tc_combiner.specs.Answers.{AcquiredAs, Acquires, DidFirst, FirstAs, MayAsk, PutAllBack, back, counted, next_turn, place_back}
+use Rattle.tc_combiner.specs.Acts.{Acts, IsAtHall, MayGive, saw}
+use Rattle.tc_combiner.proofs.Acting.{adds_then, acts_then, acts_by, owned_by}
+use Rattle.tc_combiner.proofs.Owning.{counted_then, counted_owned, granted_with, takes_in}
+use Rattle.tc_combiner.proofs.Answering.{keeps_answers, takes_none, wider}
+use Rattle.tc_combiner.proofs.Packages.{no_other, taken_good, ungranted_fits, ungranted_plain}
+
+-- ---- packages that are put back
+
+pub puts_both : (q o : PackageView) (h g : Hands) (m : PassView) → h.aside ≡ Some o → Runs o → g.aside ≡ None → g.ready.items ≡ [] → Acts (put_call q (place_back q) ∷ []) (Pack q ∷ []) [] h.pass m → Acts (put_call o (place_back o) ∷ []) (Pack o ∷ []) [] m g.pass → PutAllBack q h g
+puts_both q o h g m e runs none same a b =
+    let ready : place_back o ≡ Ready = ap (λ x. if x then Ready else Done) runs in
+    let c : Acts (put_call o Ready ∷ []) (Pack o ∷ []) [] m g.pass = subst (λ x. Acts (put_call o x ∷ []) (Pack o ∷ []) [] m g.pass) ready b in record {
+      acts = subst (λ (x : Option PackageView). Acts (back q x) (Pack q ∷ packed x) [] h.pass g.pass) (sym e) (record {
+        own = (c.own.0 ∙ a.own.0, c.own.1 ∙ a.own.1);
+        adds = adds_then (put_call q (place_back q) ∷ []) (put_call o Ready ∷ []) h.pass.knows m.knows g.pass.knows a.adds c.adds;
+        moves = λ d us w. c.moves d us (a.moves d (Pack o ∷ us) w);
+      });
+      aside = none;
+      ready = same;
+    }
+
+pub puts_one : (q : PackageView) (h g : Hands) → h.aside ≡ None → g.aside ≡ None → g.ready.items ≡ [] → Acts (put_call q (place_back q) ∷ []) (Pack q ∷ []) [] h.pass g.pass → PutAllBack q h g
+puts_one q h g e none same a = record {
+  acts = subst (λ (x : Option PackageView). Acts (back q x) (Pack q ∷ packed x) [] h.pass g.pass) (sym e) a;
+  aside = none;
+  ready = same;
+}
+
+-- ---- the first of its line
+
+pub takes_first : (k : Terms) (i n : ℕ) (l : LockView) (q r : PackageView) (h g : Hands) → IsAtRest q.image i l → DidGrant l Taken n q r → IsWaiting q i → MayGoOn k q → Acts [] [] (Loose l ∷ []) h.pass g.pass → g.ready.items ≡ h.ready.items → g.aside ≡ h.aside → DidFirst k i n q h g (Some r)
+takes_first k i n l q r h g rest d waits m a same keeps =
+    let free : locked_in q l.number ≡ None = subst (λ (j : ℕ). locked_in q j ≡ None) (sym rest.number) waits.absent in
+    let t : DidTake i l n q r = record { rest = rest; grant = d } in record {
+      calls = [];
+      acts = subst (λ (x : Option PackageView). Acts [] (Pack q ∷ packed h.aside) (Pack r ∷ packed x) h.pass g.pass) (sym keeps) (record {
+        own = a.own;
+        adds = a.adds;
+        moves = λ b zs o. takes_in h.pass.knows g.pass.knows l q r a.moves (granted_with l Taken n q r d free) b (packed h.aside ++ zs) o;
+      });
+      ready = same;
+      became = (refl, keeps, (l, t), taken_good i l n _ h.pass.knows.worker k.image.value q r t m.of m.plain m.runs);
+    }
+
+pub stops_first : (k : Terms) (i n : ℕ) (q : PackageView) (h m g : Hands) → Acts saw [] [] h.pass m.pass → m.aside ≡ h.aside → PutAllBack q m g → DidFirst k i n q h g None
+stops_first k i n q h m g a e p = record {
+  calls = saw ++ back q h.aside;
+  acts = subst (λ (x : Option PackageView). Acts (saw ++ back q h.aside) (Pack q ∷ packed h.aside) (packed x) h.pass g.pass) (sym p.aside)
+      (acts_then saw (back q h.aside) (Pack q ∷ packed h.aside) (Pack q ∷ packed h.aside) [] h.pass m.pass g.pass (acts_by saw (Pack q ∷ packed h.aside) h.pass m.pass a)
+      (subst (λ (x : Option PackageView). Acts (back q x) (Pack q ∷ packed x) [] m.pass g.pass) e p.acts));
+  ready = p.ready;
+  became = (refl, p.aside);
+}
+
+pub at_still : (hall : HallView) (cs : List Call) (xs : List Item) (h g : Hands) → IsAtHall hall xs h → Acts cs [] [] h.pass g.pass → g.aside ≡ h.aside → IsAtHall hall xs g
+at_still hall cs xs h g m a s = record {
+  own = a.own.0 ∙ m.own;
+  image = a.adds.told.image ∙ m.image;
+  out = owned_by h.pass.knows g.pass.knows xs xs (λ b zs o. a.moves b (xs ++ zs) o) m.out;
+  aside = λ b e. m.aside b (sym s ∙ e);
+}
+
+-- ---- with its number counted
+
+turned : (q p : PackageView) (n : ℕ) (xs ys : List Item) (ds : List Call) (v w : PassView) → p ≡ with_turns n q → Acts ds (Pack p ∷ xs) ys v w → Acts ds (Pack q ∷ xs) ys v w
+turned q p n xs ys ds v w e a = record { own = a.own; adds = a.adds; moves = counted_then v.knows w.knows q p n xs ys e a.moves }
+
+pub at_counted : (hall : HallView) (q p : PackageView) (n : ℕ) (h : Hands) → p ≡ with_turns n q → IsAtHall hall (Pack q ∷ packed h.aside) h → IsAtHall hall (Pack p ∷ packed h.aside) h
+at_counted hall q p n h e y = record { own = y.own; image = y.image; out = counted_owned h.pass.knows q p n (packed h.aside) e y.out; aside = y.aside }
+
+-- the package p is q with its number counted, and u is the turn of that number
+pub record IsCounted (q p : PackageView) (u : Turn) : Type 0 where
+  pub is : p ≡ counted q
+  pub turn : u ≡ next_turn q
+
+pub is_counted : (q p : PackageView) (n t : ℕ) → n ≡ min (q.turns + 1) MAX_NUMBER → p ≡ with_turns n q → t ≡ p.context.thread → IsCounted q p (record { thread = t; number = n })
+is_counted q p n t e f g = record {
+  is = f ∙ ap (λ (m : ℕ). with_turns m q) e;
+  turn = let h : t ≡ q.context.thread = g ∙ ap (λ (c : PackageView). c.context.thread) f in λ j. record { thread = h j; number = e j };
+}
+
+module _ (hall : HallView) (i : ℕ) (u : Turn) (q p : PackageView) (s t : SeatView) (h g : Hands) (c : IsCounted q p u) (at : IsAtHall hall (Pack q ∷ packed h.aside) h) where
+  first_as : (cs : List Call) (r : Option PackageView) → FirstAs hall.terms.image.value h.pass.knows.worker i u.number p h.aside g.aside cs r → FirstAs hall.terms.image.value h.pass.knows.worker i (next_turn q).number (counted q) h.aside g.aside cs r
+  first_as cs r d = subst (λ (x : PackageView). FirstAs hall.terms.image.value h.pass.knows.worker i (next_turn q).number x h.aside g.aside cs r) c.is (subst (λ (x : Turn). FirstAs hall.terms.image.value h.pass.knows.worker i x.number p h.aside g.aside cs r) c.turn d)
+
+  pub goes_on : (r : PackageView) → t ≡ with_line s (Enter u First) → DidFirst hall.terms i u.number p h g (Some r) → Acquires hall.terms i q s t h g (GoesOn r)
+  goes_on r line d = record {
+    calls = d.calls;
+    answers = keeps_answers hall d.calls q h g (GoesOn r) at (turned q p _ (packed h.aside) (Pack r ∷ packed g.aside) d.calls h.pass g.pass c.is d.acts) (takes_none (threads hall.terms) h.ready.items g.ready.items d.calls d.ready (ap ready_in d.became.0)) d.became.1;
+    acquired = (subst (λ (x : Turn). t ≡ with_line s (Enter x First)) c.turn line, first_as d.calls (Some r) d.became);
+  }
+
+  pub stops_second : t ≡ with_line s (Enter u First) → DidFirst hall.terms i u.number p h g None → Acquires hall.terms i q s t h g Was_stopped
+  stops_second line d = record {
+    calls = d.calls;
+    answers = record {
+      acts = turned q p _ (packed h.aside) (packed g.aside) d.calls h.pass g.pass c.is d.acts;
+      readied = d.ready;
+      aside = λ b e. let f = d.became.1 in let n : ⊥ = cc in absurd n;
+    };
+    acquired = (subst (λ (x : Turn). t ≡ with_line s (Enter x First)) c.turn line, first_as d.calls None d.became);
+  }
+
+  pub ships : (mark : ℕ) (r : SeatView) → t ≡ with_line s (Enter u (Behind mark)) → r ≡ with_line t (Link mark u) → Acts (put_call p (Waiting i) ∷ []) (Pack p ∷ []) [] h.pass g.pass → g.ready.items ≡ h.ready.items → g.aside ≡ h.aside → Acquires hall.terms i q s r h g Shipped
+  ships mark r first later a f n = record {
+    calls = put_call p (Waiting i) ∷ [];
+    answers = keeps_answers hall (put_call p (Waiting i) ∷ []) q h g Shipped at
+        (turned q p _ (packed h.aside) (packed g.aside) (put_call p (Waiting i) ∷ []) h.pass g.pass c.is (wider (put_call p (Waiting i) ∷ []) p h g n a))
+        (takes_none (threads hall.terms) h.ready.items g.ready.items (put_call p (Waiting i) ∷ []) f refl) n;
+    acquired = (
+      mark,
+      subst (λ (x : Turn). r ≡ with_line (with_line s (Enter x (Behind mark))) (Link mark x)) c.turn (later ∙ ap (λ (z : SeatView). with_line z (Link mark u)) first),
+      ap (λ (x : PackageView). put_call x (Waiting i) ∷ []) c.is,
+      n,
+    );
+  }
+
+-- what is asked of a package that wants a lock, once its number was counted
+pub still_asks : (k : Terms) (i : ℕ) (q p : PackageView) (n : ℕ) → p ≡ with_turns n q → MayAsk k i q → MayAsk k i p
+still_asks k i q p n e m = subst (λ (x : PackageView). MayAsk k i x) (sym e) (record { lock = m.lock; of = m.of; plain = record { thread = m.plain.thread; settled = m.plain.settled; granted = m.plain.granted; locks = m.plain.locks; ended = m.plain.ended }; want = m.want })
+
+pub may_wait : (k : Terms) (v : Knows) (i : ℕ) (q : PackageView) → MayAsk k i q → Runs q → IsOut (outs v) (Pack q) → MayGive k v (Waiting i) q
+may_wait k v i q m runs out = record {
+  thread = m.plain.thread;
+  place = m.lock;
+  out = out;
+  order = record {
+    ended = λ e. let n : ⊥ = omega arith in absurd n;
+    runs = λ ne. runs;
+    own = no_other q m.plain.locks;
+    waits = λ j e. let same : i ≡ j = omega arith in subst (λ (x : ℕ). Wants q x) same m.want;
+    ready = λ g e. let f = m.plain.granted in let n : ⊥ = cc in absurd n;
+  };
+  plain = ungranted_plain q m.plain.granted;
+  fits = ungranted_fits q v.worker m.plain.granted;
+}
+
+on_line : (s t r : SeatView) → t ≡ r → IsSameSeat s r → IsSameSeat s t
+on_line s t r e h = subst (λ (x : SeatView). IsSameSeat s x) (sym e) h
+
+pub same_seat : (image : Shown) (worker i : ℕ) (q : PackageView) (s t : SeatView) (a b : Option PackageView) (cs : List Call) (r : Settled) → AcquiredAs image worker i q s t a b cs r → IsSameSeat s t
+same_seat image worker i q s t a b cs (GoesOn r) h = on_line s t _ h.0 (refl, refl)
+same_seat image worker i q s t a b cs (Adopted r) h = absurd h
+same_seat image worker i q s t a b cs Shipped h = on_line s t _ h.1 (refl, refl)
+same_seat image worker i q s t a b cs Did_park h = absurd h
+same_seat image worker i q s t a b cs Ended h = absurd h
+same_seat image worker i q s t a b cs Was_stopped h = on_line s t _ h.0 (refl, refl)

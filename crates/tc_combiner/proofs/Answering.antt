@@ -1,0 +1,94 @@
+-- What the hands answer: one after another, and with packages put back.
+use Rattle.std.proofs.Common.{◌≡◌, ◌<◌, ℕ, All, List, [], ◌∷◌, ◌++◌, sym, ap, ◌∙◌, subst, append_assoc, append-nil, Option}
+use Rattle.std.proofs.lemmas.List.Elements.{All-append, All-nil}
+use Rattle.tc_elf.specs.Shown.{Shown}
+use Rattle.tc_context.specs.View.{PackageView}
+use Rattle.tc_hall.specs.declared.board.Call.{Call}
+use Rattle.tc_hall.specs.declared.board.Knows.{Knows}
+use Rattle.tc_hall.specs.declared.board.Terms.{Terms}
+use Rattle.tc_hall.specs.Outs.{Item, Pack}
+use Rattle.tc_hall.specs.PassView.{HallView, PassView}
+use Rattle.tc_hall.specs.Rule.{threads}
+use Rattle.tc_combiner.specs.declared.hands.Hands.{Hands}
+use Rattle.tc_combiner.specs.declared.settled.Settled.{Settled}
+use Rattle.tc_combiner.specs.declared.settled.Settled.TheVariants.{GoesOn, Adopted, Shipped, Parked as Did_park, Ended, Stopped as Was_stopped}
+use Rattle.tc_combiner.specs.Packages.{IsGood, IsGoodFor}
+use Rattle.tc_combiner.specs.Walks.{Owned, Walks, packed, ready_in}
+use Rattle.tc_combiner.specs.Acts.{Acted, Acts, Adds, IsAtHall, MayAct}
+use Rattle.tc_combiner.specs.Answers.{Answers, HasReadied, PutAllBack, TakesDown, back, carried}
+use Rattle.tc_combiner.proofs.Acting.{acts_then, ready_append}
+use Rattle.tc_combiner.proofs.Owning.{owned_changed}
+
+-- ---- the threads that were put as ready
+
+pub takes_then : (n : ℕ) (xs ys zs : List ℕ) (cs ds : List Call) → TakesDown n xs ys cs → TakesDown n ys zs ds → TakesDown n xs zs (cs ++ ds)
+takes_then n xs ys zs cs ds a b = (
+  b.0 ∙ (ap (λ (l : List ℕ). l ++ ready_in ds) a.0 ∙ (append_assoc xs (ready_in cs) (ready_in ds) ∙ ap (λ (l : List ℕ). xs ++ l) (sym (ready_append cs ds)))),
+  subst (λ (l : List ℕ). All (λ t. t < n) l) (sym (ready_append cs ds)) (All-append (λ t. t < n) (ready_in cs) (ready_in ds) a.1 b.1),
+)
+
+readied_then : (n : ℕ) (r : Settled) (xs ys zs : List ℕ) (cs ds : List Call) → TakesDown n xs ys cs → HasReadied n r ys zs ds → HasReadied n r xs zs (cs ++ ds)
+readied_then n (GoesOn q) xs ys zs cs ds a b = takes_then n xs ys zs cs ds a b
+readied_then n (Adopted q) xs ys zs cs ds a b = takes_then n xs ys zs cs ds a b
+readied_then n Shipped xs ys zs cs ds a b = takes_then n xs ys zs cs ds a b
+readied_then n Did_park xs ys zs cs ds a b = takes_then n xs ys zs cs ds a b
+readied_then n Ended xs ys zs cs ds a b = takes_then n xs ys zs cs ds a b
+readied_then n Was_stopped xs ys zs cs ds a b = b
+
+-- calls that put no thread as ready
+pub takes_none : (n : ℕ) (xs ys : List ℕ) (cs : List Call) → ys ≡ xs → ready_in cs ≡ [] → TakesDown n xs ys cs
+takes_none n xs ys cs e none = (
+  e ∙ (sym (append-nil xs) ∙ ap (λ (l : List ℕ). xs ++ l) (sym none)),
+  subst (λ (l : List ℕ). All (λ t. t < n) l) (sym none) (All-nil (λ t. t < n)),
+)
+
+-- ---- one after another
+
+-- a call that changed the package in hand alone
+pub wider : (cs : List Call) (q : PackageView) (h g : Hands) → g.aside ≡ h.aside → Acts cs (Pack q ∷ []) [] h.pass g.pass → Acts cs (Pack q ∷ packed h.aside) (packed g.aside) h.pass g.pass
+wider cs q h g e a = subst (λ (o : Option PackageView). Acts cs (Pack q ∷ packed h.aside) (packed o) h.pass g.pass) (sym e) (record { own = a.own; adds = a.adds; moves = λ b zs o. a.moves b (packed h.aside ++ zs) o })
+
+changed : (cs : List Call) (q p : PackageView) (xs : List Item) (v w : PassView) → Acts cs (Pack q ∷ []) (Pack p ∷ []) v w → Acts cs (Pack q ∷ xs) (Pack p ∷ xs) v w
+changed cs q p xs v w a = record { own = a.own; adds = a.adds; moves = λ b zs o. a.moves b (xs ++ zs) o }
+
+pub then_answers : (k : Terms) (cs ds : List Call) (q p : PackageView) (h m g : Hands) (r : Settled) → Acted k cs (Pack q ∷ []) (Pack p ∷ []) h m → m.aside ≡ h.aside → Answers k ds p m g r → Answers k (cs ++ ds) q h g r
+then_answers k cs ds q p h m g r a e b = record {
+  acts = acts_then cs ds (Pack q ∷ packed h.aside) (Pack p ∷ packed h.aside) (carried r ++ packed g.aside) h.pass m.pass g.pass
+      (changed cs q p (packed h.aside) h.pass m.pass a.acts)
+      (subst (λ (o : Option PackageView). Acts ds (Pack p ∷ packed o) (carried r ++ packed g.aside) m.pass g.pass) e b.acts);
+  readied = readied_then (threads k) r h.ready.items m.ready.items g.ready.items cs ds (a.told, a.known) b.readied;
+  aside = b.aside;
+}
+
+-- so the hands may act on
+pub at_hall : (hall : HallView) (xs : List Item) (n : ℕ) (h : Hands) → MayAct hall xs n h → IsAtHall hall xs h
+at_hall hall xs n h m = record { own = m.own; image = m.image; out = m.out; aside = m.aside }
+
+pub then_at : (hall : HallView) (cs : List Call) (q p : PackageView) (h m : Hands) → IsAtHall hall (Pack q ∷ packed h.aside) h → Acted hall.terms cs (Pack q ∷ []) (Pack p ∷ []) h m → m.aside ≡ h.aside → IsAtHall hall (Pack p ∷ packed m.aside) m
+then_at hall cs q p h m may a e = record {
+  own = a.acts.own.0 ∙ may.own;
+  image = a.acts.adds.told.image ∙ may.image;
+  out = subst (λ (o : Option PackageView). Owned m.pass.knows (Pack p ∷ packed o)) (sym e) (owned_changed h.pass.knows m.pass.knows (Pack q) (Pack p) (packed h.aside) a.acts.moves may.out);
+  aside = λ b f. may.aside b (sym e ∙ f);
+}
+
+-- a call that left what is set aside
+pub keeps_answers : (hall : HallView) (cs : List Call) (q : PackageView) (h g : Hands) (r : Settled) → IsAtHall hall (Pack q ∷ packed h.aside) h → Acts cs (Pack q ∷ packed h.aside) (carried r ++ packed g.aside) h.pass g.pass → HasReadied (threads hall.terms) r h.ready.items g.ready.items cs → g.aside ≡ h.aside → Answers hall.terms cs q h g r
+keeps_answers hall cs q h g r may a told e = record { acts = a; readied = told; aside = λ b f. may.aside b (sym e ∙ f) }
+
+-- all was put back
+pub back_answers : (k : Terms) (q : PackageView) (h g : Hands) → PutAllBack q h g → Answers k (back q h.aside) q h g Was_stopped
+back_answers k q h g a = record {
+  acts = subst (λ (o : Option PackageView). Acts (back q h.aside) (Pack q ∷ packed h.aside) (packed o) h.pass g.pass) (sym a.aside) a.acts;
+  readied = a.ready;
+  aside = λ b e. let f = a.aside in let n : ⊥ = cc in absurd n;
+}
+
+-- ---- in the words of a desk
+
+pub walks_of : (cs : List Call) (v w : Knows) → Adds cs v w → Walks v w
+walks_of cs v w a = record { calls = a.calls; told = a.told; stops = a.stops }
+
+-- what is good for the pass before is so afterwards
+pub good_after : (cs : List Call) (v w : Knows) (q : PackageView) → Adds cs v w → IsGood q v.image v.worker → IsGoodFor w q
+good_after cs v w q a h = subst (λ (n : ℕ). IsGood q w.image n) (sym a.told.worker) (subst (λ (x : Shown). IsGood q x v.worker) (sym a.told.image) h)

@@ -1,0 +1,8 @@
+use Rattle.tc_combiner.proofs.Acting.{acts_looked, tried_looked}
+use Rattle.tc_combiner.proofs.calls.stopped.Goals as goal
+
+pub returns-clause-acts : goal.returns-clause-acts
+returns-clause-acts c = acts_looked c.stopped.result c.args.pass.now c.stopped.new.pass c.stopped.ensures.own c.stopped.ensures.stopped
+
+pub returns-clause-tried : goal.returns-clause-tried
+returns-clause-tried c = tried_looked c.args.pass.now.knows c.stopped.new.pass.knows c.stopped.ensures.stopped.word c.stopped.ensures.stopped.now
