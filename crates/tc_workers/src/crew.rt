@@ -10,6 +10,7 @@ ghost use Rattle.tc_workers.specs.Crew.{AreAtWork, AreHired, AreSeatsOf, HaveFin
 
 use crate::finished::Finished;
 use crate::gate::Gate;
+use crate::start::Start;
 use crate::work::work;
 use crate::worker::Worker;
 use std::alloc::{AllocError, Global};
@@ -81,6 +82,7 @@ pub(crate) fn together<R: Threads + Wait + Sync, G: Gate, Q: Waiters>(
     rt: &R,
     bench: &Bench<'_, Q>,
     gate: &G,
+    start: &Start,
     mut crew: Vec<Worker<Q>>,
 ) -> Finished
 where
@@ -93,17 +95,21 @@ where
         unreachable!();
     };
     if crew.is_empty() {
+        start.wait(rt);
         return work(rt, bench, gate, worker);
     }
     let others = move || -> Finished
-        requires { IsSync R.row × IsSync G.row × IsSync Q.row × IsSend Q.Seat.row × IsSend Q.Place.row × (0 < length crew.items) × AreAtWork bench.now crew.items }
+        requires { (0 < length crew.items) × AreAtWork bench.now crew.items }
         ensures { HaveFinished bench.entry.now crew.items result.pass result.all_done }
-    { together(rt, bench, gate, crew) };
+    { together(rt, bench, gate, start, crew) };
     let own = move || -> Finished
-        requires { IsAtWork bench.now None worker }
+        requires { IsSync R.row × IsSync G.row × IsSync Q.row × IsSend Q.Seat.row × IsSend Q.Place.row × IsAtWork bench.now None worker }
         ensures { IsFinished bench.entry.now.hall.terms worker.desk.pass result.pass result.all_done }
-    { work(rt, bench, gate, worker) };
-    let (rest, own) = join(rt, others, own);
+    {
+        start.wait(rt);
+        work(rt, bench, gate, worker)
+    };
+    let (own, rest) = join(rt, own, others);
     let Finished { mut pass, all_done } = own;
     let Finished {
         pass: other,

@@ -12,8 +12,8 @@
 //! - `gate`: whom a worker tells how far it is. `worker`: workers. `work`: a worker's steps, in their
 //!   order. `find`, `go_on`, `leave`: how it finds a package, goes on with one, and leaves. `calls`:
 //!   the calls of the hall, as workers make them. `step`, `finished`: what a step and the end give.
-//! - `crew`: all workers beside one another. `lines`: the queues of all locks, and their seats.
-//!   `run`: whole runs. `options`: with what a guest is run.
+//! - `crew`: all workers beside one another. `start`: how they begin together. `lines`: the queues of
+//!   all locks, and their seats. `run`: whole runs. `options`: with what a guest is run.
 #![tactic(auto)]
 
 mod calls;
@@ -28,6 +28,7 @@ pub mod options;
 mod run;
 #[cfg(test)]
 mod scripts;
+mod start;
 mod step;
 #[cfg(test)]
 mod tests;

@@ -15,6 +15,7 @@ use crate::finished::Finished;
 use crate::gate::Gate;
 use crate::lines::{Lines, line_up};
 use crate::options::Options;
+use crate::start::Start;
 use std::alloc::{AllocError, Global};
 use std::sync::Wait;
 use std::thread::Threads;
@@ -84,7 +85,8 @@ where
     ensures { IfOk result (λ f. HasRun bench.now (length passes.items) f.pass f.all_done) }
 {
     let crew = hire(alloc, bench, passes, seats, ready)?;
-    Ok(together(rt, bench, gate, crew))
+    let start = Start::new(crew.len() as u64);
+    Ok(together(rt, bench, gate, &start, crew))
 }
 
 /// Runs the threads of an image to their ends, by so many workers beside one another, with these

@@ -21,8 +21,8 @@ returns-then-is_empty g t c =
     let none : length c.pop.new.self.items ≡ 0 = search rules in
     one_finished c.args.bench.now c.in-Some.worker c.pop.new.self.items c.args.crew.items c.work.result.pass c.work.result.all_done work c.work.ensures c.in-Some.ensures.items none
 
-pub join-rest-requires-send-F : goal.join-rest-requires-send-F
-join-rest-requires-send-F g t c κs within =
+pub join-own-requires-send-F : goal.join-own-requires-send-F
+join-own-requires-send-F g t c κs within =
     let seat : IsSend (param 3 g.row.Q-Seat) = search (rules, sendable) in
     let queue : IsSync (param 2 g.row.Q) = search (rules, sendable) in
     let gate : IsSync (param 1 g.row.G) = search (rules, sendable) in
@@ -31,11 +31,11 @@ join-rest-requires-send-F g t c κs within =
     let bench : (l : NamedLft) → IsSync (Bench.the_row l (param 2 g.row.Q) (param 3 g.row.Q-Seat) (param 4 g.row.Q-Place) g.Q.Waiters) = λ l. bench_sync (param 2 g.row.Q) (param 3 g.row.Q-Seat) (param 4 g.row.Q-Place) g.Q.Waiters l queue in
     search (sendable, crosses, bench) depth 20
 
-pub join-rest-requires-send-A : goal.join-rest-requires-send-A
-join-rest-requires-send-A g t c κs within = search (sendable, finished_send)
+pub join-own-requires-send-A : goal.join-own-requires-send-A
+join-own-requires-send-A g t c κs within = search (sendable, finished_send)
 
-pub join-rest-requires-after_bounds : goal.join-rest-requires-after_bounds
-join-rest-requires-after_bounds g t c κs within =
+pub join-own-requires-after_bounds : goal.join-own-requires-after_bounds
+join-own-requires-after_bounds g t c κs within =
     let both = at_work_last c.args.bench.now c.pop.new.self.items c.args.crew.items c.in-Some.worker c.requires.work c.in-Some.ensures.items in
     let work = both.0 in
     let others = both.1 in
@@ -46,17 +46,17 @@ pub join-requires-clause-own : goal.join-requires-clause-own
 join-requires-clause-own g t c =
     let table = ap (λ (b : BenchView). b.hall.table) c.bench.view_is in
     let work = (at_work_last c.args.bench.now c.pop.new.self.items c.args.crew.items c.in-Some.worker c.requires.work c.in-Some.ensures.items).0 in
-    let own = c.join-rest.ensures.second in
-    let rest = c.join-rest.ensures.first in
+    let own = c.join-own.ensures.first in
+    let rest = c.join-own.ensures.second in
     ((own.still.own.0 ∙ work.desk.fits.own) ∙ sym table, rest.own ∙ sym table)
 
 pub returns : goal.returns
 returns g t c =
     let work = (at_work_last c.args.bench.now c.pop.new.self.items c.args.crew.items c.in-Some.worker c.requires.work c.in-Some.ensures.items).0 in
-    let own = c.join-rest.ensures.second in
-    let rest = c.join-rest.ensures.first in
-    let own_done = c.join-rest.result.1.all_done in
-    let rest_done = c.join-rest.result.0.all_done in
+    let own = c.join-own.ensures.first in
+    let rest = c.join-own.ensures.second in
+    let own_done = c.join-own.result.0.all_done in
+    let rest_done = c.join-own.result.1.all_done in
     let done : (own_done || rest_done) ≡ c.if-all_done.result = elim c.if-all_done.branch [ then-all_done w ↦ ap (λ (x : Bool). x || rest_done) w.if-all_done.true ∙ (sym w.if-all_done.true ∙ sym w.result-is) | else-all_done w ↦ ap (λ (x : Bool). x || rest_done) w.if-all_done.false ∙ sym w.result-is ] in
     subst (λ (x : Bool). HaveFinished c.args.bench.now c.args.crew.items c.join.new.pass x) done
-    (all_finished c.args.bench.now c.in-Some.worker c.pop.new.self.items c.args.crew.items c.join-rest.result.1.pass c.join-rest.result.0.pass c.join.new.pass own_done rest_done work own rest c.in-Some.ensures.items c.join.ensures.own c.join.ensures.merged)
+    (all_finished c.args.bench.now c.in-Some.worker c.pop.new.self.items c.args.crew.items c.join-own.result.0.pass c.join-own.result.1.pass c.join.new.pass own_done rest_done work own rest c.in-Some.ensures.items c.join.ensures.own c.join.ensures.merged)
