@@ -1,0 +1,12 @@
+pub mod Telling
+pub mod Wrong
+pub mod Exact
+pub mod Judging
+pub mod Lenient
+pub mod Keeping
+pub mod Handing
+pub mod Taking
+pub mod Whole
+pub mod Starting
+pub mod Ending
+pub mod Through

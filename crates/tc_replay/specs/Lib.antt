@@ -1,0 +1,4 @@
+pub mod Reasons
+pub mod Rejected
+pub mod Run
+pub mod Taken

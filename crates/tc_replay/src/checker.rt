@@ -1,0 +1,237 @@
+//! The checker: the packages of all threads, and the locks that are in none of them.
+
+ghost use Rattle.std.specs.Prelude.{◌≡◌, ℕ, ◌+◌, ◌<◌, ◌≤◌, ◌∷◌, ◌++◌, [], List, OnOk, OnErr, IfOk, IsErrOf, Some, None, Ok, nat_lt, length, map, if◌then◌else◌};
+ghost use Rattle.tc_elf.specs.Shown.{Shown};
+ghost use Rattle.tc_isa.specs.declared.limits.TheConstants.{MAX_BATCH};
+ghost use Rattle.tc_journal.specs.declared.block.Block.{Block as AnyBlock};
+ghost use Rattle.tc_mutex_spec.specs.Blocks.{end_after};
+ghost use Rattle.tc_segment.specs.View.{kept};
+ghost use Rattle.tc_turn.specs.Turn.{is_running};
+ghost use Rattle.tc_context.specs.Locks.{lock_in};
+ghost use Rattle.tc_context.specs.View.{bare, status_in};
+ghost use Rattle.tc_law.specs.Lawful.{IsLimited, Lawful};
+ghost use Rattle.tc_replay.specs.Rejected.{IsWrong, IsFirstOn};
+ghost use Rattle.tc_replay.specs.Taken.{AreFreshPackages, AreTaken, HasEnded, HasTaken, lenient_state};
+ghost use Rattle.tc_replay.specs.declared.reason.Reason.{Reason as AnyReason};
+ghost use Rattle.tc_replay.specs.declared.reason.Take.TheVariants.{Wrong, OutOfMemory};
+
+use crate::judge::take_on;
+use crate::reason::{Reason, Take};
+use crate::terms::Terms;
+use std::alloc::{AllocError, Global};
+use std::marker::Model;
+use std::snapshot::Snapshot;
+use std::sync::Arc;
+use tc_context::locks::LockSet;
+use tc_context::package::Package;
+use tc_elf::image::Image;
+use tc_exec::code::Code;
+use tc_isa::held::Held;
+use tc_journal::block::Block;
+use tc_segment::state::LockState;
+use tc_turn::status::Status;
+
+/// A checker of one history, which takes its blocks one by one and runs each of them. Once a block
+/// was wrong, each later one is answered with the same reason.
+#[derive(Drop)]
+pub struct Checker {
+    of: Snapshot<Image>,
+    terms: Terms,
+    // Those of all threads, in order of number.
+    packages: Vec<Package>,
+    // The locks that no thread holds.
+    home: LockSet,
+    // Room for the lock states, once all of them are home.
+    states: Vec<LockState>,
+    failed: Option<Reason>,
+}
+
+impl Model for Checker {
+    ghost use Rattle.std.specs.Prelude.{◌≡◌, ◌≤◌, [], List, None, length, vec_capacity};
+    ghost use Rattle.tc_journal.specs.declared.block.Block.{Block as AnyBlock};
+    ghost use Rattle.tc_replay.specs.Taken.{CheckerView, AreTaken};
+
+    ghost Value = { CheckerView };
+
+    ghost view = { λ a. record {
+      image = a.of.value;
+      terms = a.terms;
+      packages = a.packages.items;
+      home = a.home;
+      failed = a.failed;
+    } };
+
+    ghost invariant = { λ a. (a.failed ≡ None → (h : List AnyBlock)
+        × AreTaken a.of.value a.terms h a.packages.items a.home)
+        × (a.states.items ≡ [])
+        × (length a.of.value.guards ≤ vec_capacity a.states) };
+}
+
+/// The packages of all threads, at their start. They share the code, which is decoded here.
+fn packages_at_start(alloc: Global, image: &Image, terms: Terms) -> Result<Vec<Package>, AllocError>
+    ensures fresh { IfOk result (λ v. AreFreshPackages image.now terms.fuel v.items) }
+    ensures limits { OnOk result (IsLimited image.now terms.fuel) }
+{
+    let threads = image.threads();
+    let code = Arc::new(alloc, Code::of(alloc, image)?)?;
+    let mut packages = Vec::with_capacity(alloc, threads as usize)?;
+    for t in 0..threads {
+        let package = Package::start_with(alloc, image, &code, t, terms.fuel)?;
+        packages.push_reserved(package);
+    }
+    Ok(packages)
+}
+
+/// The locks of a guest at their start. They are not strict: a history may tell that a section was
+/// passed on to the thread that released it.
+fn locks_at_start(alloc: Global, image: &Image, terms: Terms) -> Result<LockSet, AllocError>
+    ensures { IfOk result (λ s. (k : ℕ) → lock_in s k ≡ (if nat_lt k (length image.now.guards)
+        then Some (lenient_state image.now terms.limit k) else None)) }
+{
+    let mut home = LockSet::new(alloc)?;
+    for lock in 0..image.guards() {
+        home.put_in(LockState::lenient(alloc, image, lock, terms.limit)?);
+    }
+    Ok(home)
+}
+
+/// Whether the thread of a package has not ended.
+fn goes_on(package: &Package) -> bool
+    ensures { result ≡ is_running (status_in «package».now) }
+{
+    match package.status() {
+        Status::Running => true,
+        Status::Exited | Status::Faulted(_) | Status::SpentFuel => false,
+    }
+}
+
+/// Takes the next block, and says what is wrong with it, if anything is: the packages and locks are
+/// of no use then.
+fn judge(
+    image: &Image,
+    terms: Terms,
+    home: &mut LockSet,
+    packages: &mut Vec<Package>,
+    block: &Block,
+) -> Result<Option<Reason>, AllocError>
+    requires taken { (h : List AnyBlock) × AreTaken image.now terms h packages.old.items home.old }
+    requires stamp { (h : List AnyBlock) → AreTaken image.now terms h packages.old.items home.old
+        → block.now.stamp ≡ length h }
+    ensures memory { OnErr result ((h : List AnyBlock)
+        → AreTaken image.now terms h packages.old.items home.old
+        → AreTaken image.now terms h packages.new.items home.new) }
+    ensures took { result ≡ Ok None → (h : List AnyBlock)
+        → AreTaken image.now terms h packages.old.items home.old
+        → AreTaken image.now terms (h ++ block.now ∷ []) packages.new.items home.new }
+    ensures wrong { (r : AnyReason) → result ≡ Ok (Some r) → (h : List AnyBlock)
+        → AreTaken image.now terms h packages.old.items home.old
+        → IsWrong image.now terms h (end_after image.now terms.fuel h) block.now r }
+{
+    let t = block.thread as usize;
+    if t >= packages.len() {
+        return Ok(Some(Reason::Thread));
+    }
+    let package = &mut packages[t];
+    if !goes_on(package) {
+        return Ok(Some(Reason::Thread));
+    }
+    take_on(image, terms, home, package, block)
+}
+
+impl Checker {
+    /// What each checker keeps: it has taken the blocks of one history, unless it has failed. A law:
+    /// it does nothing when it is called.
+    pub fn keeps(&self)
+        ensures taken { self.now.failed ≡ None → (h : List AnyBlock) × HasTaken self.now h }
+        ensures one { (g h : List AnyBlock) → HasTaken self.now g → HasTaken self.now h → g ≡ h }
+    {
+        let _ = &self.failed;
+    }
+
+    /// A checker that has taken no block.
+    pub fn new(alloc: Global, image: &Image, terms: Terms) -> Result<Checker, AllocError>
+        ensures taken { IfOk result (λ c. HasTaken c []) }
+        ensures image { IfOk result (λ c. c.image ≡ image.now) }
+        ensures terms { IfOk result (λ c. c.terms ≡ terms) }
+    {
+        Ok(Checker {
+            of: Snapshot::of(image),
+            terms,
+            packages: packages_at_start(alloc, image, terms)?,
+            home: locks_at_start(alloc, image, terms)?,
+            states: Vec::with_capacity(alloc, image.guards() as usize)?,
+            failed: None,
+        })
+    }
+
+    /// Takes the next block: it is run, and compared with what ran. It is taken exactly where nothing
+    /// is wrong with it behind those that were taken; else the checker has failed, and answers each
+    /// later block as it does this one. Want of memory comes before the block is run, and the same
+    /// block may be given again.
+    pub fn take(&mut self, image: &Image, block: &Block) -> Result<(), Take>
+        requires image { self.old.image ≡ image.now }
+        requires stamp { (h : List AnyBlock) → HasTaken self.old h → block.now.stamp ≡ length h }
+        ensures taken { OnOk result ((h : List AnyBlock) → HasTaken self.old h
+            → HasTaken self.new (h ++ block.now ∷ [])) }
+        ensures wrong { (r : AnyReason) → IsErrOf result (Wrong r)
+            → (h : List AnyBlock) → HasTaken self.old h
+            → IsWrong image.now self.old.terms h
+            (end_after image.now self.old.terms.fuel h) block.now r }
+        ensures failed { (r : AnyReason) → IsErrOf result (Wrong r) → self.new.failed ≡ Some r }
+        ensures again { (r : AnyReason) → self.old.failed ≡ Some r → IsErrOf result (Wrong r) }
+        ensures memory { IsErrOf result OutOfMemory
+            → (h : List AnyBlock) → HasTaken self.old h → HasTaken self.new h }
+        ensures same { (self.new.image ≡ self.old.image) × (self.new.terms ≡ self.old.terms) }
+    {
+        if let Some(reason) = self.failed {
+            return Err(Take::Wrong(reason));
+        }
+        let terms = self.terms;
+        self.failed = judge(image, terms, &mut self.home, &mut self.packages, block)?;
+        match self.failed {
+            None => Ok(()),
+            Some(reason) => Err(Take::Wrong(reason)),
+        }
+    }
+
+    /// The least thread that has not ended, None exactly where each has.
+    pub fn unfinished(&self) -> Option<u32>
+        requires { self.now.failed ≡ None }
+        ensures some { (t : ℕ) → result ≡ Some t → (h : List AnyBlock) → HasTaken self.now h
+            → IsFirstOn self.now.image (end_after self.now.image self.now.terms.fuel h) t }
+        ensures none { result ≡ None → HasEnded self.now }
+    {
+        for t in 0..self.packages.len() {
+            if goes_on(&self.packages[t]) {
+                return Some(t as u32);
+            }
+        }
+        None
+    }
+
+    /// All packages and all lock states, in order of number, as the history leaves them. It takes no
+    /// memory.
+    pub fn parts(self) -> (Vec<Package>, Vec<LockState>)
+        requires failed { self.failed ≡ None }
+        requires ended { HasEnded self }
+        ensures { (h : List AnyBlock) → HasTaken self h
+            → Lawful self.image self.terms.fuel self.terms.limit h
+            (map bare result.0.items) (map kept result.1.items) }
+    {
+        let Checker {
+            of: _,
+            terms: _,
+            packages,
+            mut home,
+            mut states,
+            failed: _,
+        } = self;
+        home.bound();
+        for lock in 0..Held::PLACES {
+            if let Some(state) = home.take_out(lock) {
+                states.push_reserved(state);
+            }
+        }
+        (packages, states)
+    }
+}
