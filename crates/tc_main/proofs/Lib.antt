@@ -4,3 +4,5 @@ pub mod Merging
 pub mod Outcomes
 pub mod Reporting
 pub mod Statuses
+pub mod NodeRows
+pub mod Spelled

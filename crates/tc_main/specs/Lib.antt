@@ -1,4 +1,5 @@
 pub mod Statuses
+pub mod Orders
 pub mod Words
 pub mod Results
 pub mod Report

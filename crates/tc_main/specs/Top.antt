@@ -1,12 +1,11 @@
 -- What the program answers and writes.
-use Rattle.std.specs.Prelude.{◌≡◌, ◌≢◌, ℕ, ◌+◌, ◌<◌, ◌≤◌, ◌⊎◌, List, [], ◌∷◌, ◌++◌, length, None, Some, codes, decimal}
+use Rattle.std.specs.Prelude.{◌≡◌, ◌≢◌, ℕ, ◌+◌, ◌<◌, ◌≤◌, ◌⊎◌, List, [], ◌∷◌, ◌++◌, length, Option, None, Some, codes, decimal}
 use Rattle.tc_io.specs.Causes.{Rose}
 use Rattle.tc_io.specs.Stream.{Stream}
 use Rattle.tc_io.specs.Taken.{FailsAmid, Gives, TakesAll, TakesCount}
 use Rattle.tc_elf.specs.Loading.{refusal, subset}
 use Rattle.tc_elf.specs.Refused.{refusal_number, refusal_name}
 use Rattle.tc_elf.specs.Shown.{Shown}
-use Rattle.tc_elf.specs.declared.limits.TheConstants.{MAX_FILE}
 use Rattle.tc_elf.specs.declared.refusal.Refusal.{Refusal}
 use Rattle.tc_elf.specs.declared.refusal.Refusal.TheVariants as refused
 use Rattle.tc_build.specs.Generator.{generated, generated_file}
@@ -14,28 +13,37 @@ use Rattle.tc_main.specs.Legal.{IsLegalRun}
 use Rattle.tc_main.specs.Report.{report_text}
 use Rattle.tc_main.specs.Results.{Results}
 use Rattle.tc_main.specs.Summary.{summary_text}
-use Rattle.tc_main.specs.Words.{Asks, AsksDemo, AsksFile, AsksNothing, AsksRun}
+use Rattle.tc_main.specs.Words.{Input, AskFor, AskForNothing, AskToRead, Reads, input_of}
 use Rattle.tc_workers.specs.declared.options.Options.{Options}
 use Rattle.tc_main.specs.declared.status.Status.{Status}
 use Rattle.tc_main.specs.declared.status.Status.TheVariants.{Done, Usage, ReadFault, Refused, WriteFault, OutOfMemory}
+use Rattle.tc_main.specs.declared.words.Asked.{Asked}
+use Rattle.tc_main.specs.declared.words.Asked.TheVariants.{Run, Generate, Demo}
 
 abbrev pub usage_line : List ℕ
-usage_line = codes "usage: tclocks run W F B | tclocks gen N | tclocks demo N W\n"
+usage_line = codes "usage: tclocks run W F B | tclocks gen N | tclocks demo N W | tclocks nodes G K W F B\n"
 
 -- the number and the name of a refusal
 abbrev pub refused_line : ℕ → List ℕ → List ℕ
 refused_line k name = codes "refused " ++ decimal k ++ codes " " ++ name ++ 10 ∷ []
 
--- ---- causes, by the source before and after the call
+-- ---- what was read, by the source before and after the call
 
--- the source was read to its end, and had these bytes, which are no more than a guest file may have
-pub record ReadsAll (before now : Stream) (bytes : List ℕ) : Type 0 where
-  pub few : length bytes ≤ MAX_FILE
+-- the source was read to its end, and had these bytes, which are no more than the input may have
+pub record ReadsAll (input : Input) (before now : Stream) (bytes : List ℕ) : Type 0 where
+  pub few : length bytes ≤ input.most
   pub read : TakesAll before now bytes
 
--- more bytes were read than a guest file may have
-abbrev pub ReadsTooMany : Stream → Stream → Type 0
-ReadsTooMany before now = TakesCount before now (MAX_FILE + 1)
+-- more bytes were read than the input may have
+abbrev pub ReadsTooMany : Input → Stream → Stream → Type 0
+ReadsTooMany input before now = TakesCount before now (input.most + 1)
+
+-- these bytes were read for what is asked; where it needs none, none were
+abbrev pub HasRead : Option Input → Stream → Stream → List ℕ → Type 0
+HasRead None before now bytes = (now ≡ before) × (bytes ≡ [])
+HasRead (Some input) before now bytes = ReadsAll input before now bytes
+
+-- ---- refusals
 
 -- the bytes of a file are refused for a reason that has this number and this name
 pub record IsRefusedFile (bytes : List ℕ) (k : ℕ) (name : List ℕ) : Type 0 where
@@ -45,11 +53,17 @@ pub record IsRefusedFile (bytes : List ℕ) (k : ℕ) (name : List ℕ) : Type 0
   pub number : k ≡ refusal_number reason
   pub called : name ≡ refusal_name reason
 
--- no read failed, and the source is refused by this number and this name: it is too large, or it was read whole and has a reason
-abbrev pub IsRefused : Stream → Stream → ℕ → List ℕ → Type 0
-IsRefused before now k name =
-    (ReadsTooMany before now × (k ≡ 0) × (name ≡ codes "TooLarge"))
-    ⊎ ((bytes : List ℕ) × ReadsAll before now bytes × IsRefusedFile bytes k name)
+-- the bytes that were read are refused by this number and this name: they end before the file does, or the file has a reason
+abbrev pub AreRefused : Input → List ℕ → ℕ → List ℕ → Type 0
+AreRefused input bytes k name =
+    ((length bytes < input.least) × (k ≡ 17) × (name ≡ codes "ShortInput"))
+    ⊎ ((input.least ≤ length bytes) × IsRefusedFile (input.file bytes) k name)
+
+-- no read failed, and what was read is refused by this number and this name: it is too large, or it was read whole
+abbrev pub IsRefused : Input → Stream → Stream → ℕ → List ℕ → Type 0
+IsRefused input before now k name =
+    (ReadsTooMany input before now × (k ≡ 0) × (name ≡ codes "TooLarge"))
+    ⊎ ((bytes : List ℕ) × ReadsAll input before now bytes × AreRefused input bytes k name)
 
 -- ---- texts
 
@@ -59,21 +73,9 @@ pub record IsReportOf (image : Shown) (o : Options) (text : List ℕ) : Type 0 w
   pub legal : IsLegalRun image o results
   pub printed : text ≡ report_text image o results
 
--- the text is the report of a legal run of the guest that the source had, with the options that the words give
-pub record IsReport (words : List (List ℕ)) (before now : Stream) (text : List ℕ) : Type 0 where
-  pub options : Options
-  pub bytes : List ℕ
-  pub image : Shown
-  pub asked : Asks words options
-  pub read : ReadsAll before now bytes
-  pub loaded : subset bytes image
-  pub report : IsReportOf image options text
-
--- the text is the file of the generator's guest, with the rounds that the words give
-pub record IsFile (words : List (List ℕ)) (text : List ℕ) : Type 0 where
-  pub rounds : ℕ
-  pub asked : AsksFile words rounds
-  pub made : text ≡ generated_file rounds
+-- the text is the report of a legal run, with these options, of the guest whose file these bytes are
+abbrev pub IsReport : Options → List ℕ → List ℕ → Type 0
+IsReport o bytes text = (image : Shown) × subset bytes image × IsReportOf image o text
 
 -- the text is the summary of a legal run of the generator's guest with so many rounds
 pub record IsSummaryOf (rounds : ℕ) (o : Options) (text : List ℕ) : Type 0 where
@@ -81,48 +83,75 @@ pub record IsSummaryOf (rounds : ℕ) (o : Options) (text : List ℕ) : Type 0 w
   pub legal : IsLegalRun (generated rounds) o results
   pub printed : text ≡ summary_text rounds results
 
--- the text is the summary of a legal run of that guest, with the rounds and the workers that the words give
-pub record IsSummary (words : List (List ℕ)) (text : List ℕ) : Type 0 where
-  pub rounds : ℕ
-  pub options : Options
-  pub asked : AsksDemo words rounds options
-  pub summary : IsSummaryOf rounds options text
+-- the text is what is asked for, of the bytes that were read for it. The report is the same in each order of waiters
+abbrev pub IsTextOf : Asked → List ℕ → List ℕ → Type 0
+IsTextOf (Run order o) bytes text = IsReport o bytes text
+IsTextOf (Generate rounds) bytes text = text ≡ generated_file rounds
+IsTextOf (Demo rounds o) bytes text = IsSummaryOf rounds o text
 
--- the text is what the words ask for: the report, the file or the summary
-abbrev pub IsWanted : List (List ℕ) → Stream → Stream → List ℕ → Type 0
-IsWanted words before now text = IsReport words before now text ⊎ (IsFile words text ⊎ IsSummary words text)
+-- what the bytes that were read for what is asked come to: a text, or a refusal with its line
+abbrev pub Verdict : Asked → List ℕ → List ℕ → Status → Type 0
+Verdict asked bytes text Done = IsTextOf asked bytes text
+Verdict asked bytes text (Refused k) = (input : Input) × (input_of asked ≡ Some input) × ((name : List ℕ) × AreRefused input bytes k name × (text ≡ refused_line k name))
+Verdict asked bytes text Usage = ⊥
+Verdict asked bytes text ReadFault = ⊥
+Verdict asked bytes text WriteFault = ⊥
+Verdict asked bytes text OutOfMemory = ⊥
+
+-- the text is what the words ask for, of what was read of the source
+pub record IsWanted (words : List (List ℕ)) (before now : Stream) (text : List ℕ) : Type 0 where
+  pub asked : Asked
+  pub bytes : List ℕ
+  pub asks : AskFor words asked
+  pub read : HasRead (input_of asked) before now bytes
+  pub made : IsTextOf asked bytes text
 
 -- ---- what is to be done
 
--- the bytes of the source, which it tells and gives without a fault, are a file that is not refused
-pub record HasFile (before now : Stream) : Type 0 where
+-- the source tells its bytes and gives them without a fault, and they have a file that is not refused
+pub record HasFile (input : Input) (before now : Stream) : Type 0 where
   pub bytes : List ℕ
   pub told : before.bytes ≡ Some bytes
-  pub few : length bytes ≤ MAX_FILE
-  pub fine : refusal bytes ≡ None
+  pub few : length bytes ≤ input.most
+  pub enough : input.least ≤ length bytes
+  pub fine : refusal (input.file bytes) ≡ None
   pub quiet : ¬ Rose before now
 
--- the words ask for what can be done; a run needs a file
-abbrev pub CanBeDone : List (List ℕ) → Stream → Stream → Type 0
-CanBeDone words before now =
-    (AsksRun words × HasFile before now)
-    ⊎ (((rounds : ℕ) × AsksFile words rounds) ⊎ ((rounds : ℕ) × (o : Options) × AsksDemo words rounds o))
+-- where something is to be read, it has a file
+abbrev pub HasInput : Option Input → Stream → Stream → Type 0
+HasInput None before now = Unit {0}
+HasInput (Some input) before now = HasFile input before now
+
+-- the words ask for what can be done
+pub record CanBeDone (words : List (List ℕ)) (before now : Stream) : Type 0 where
+  pub asked : Asked
+  pub asks : AskFor words asked
+  pub input : HasInput (input_of asked) before now
 
 -- ---- what is to be refused
 
--- a source with these bytes is to be refused by this number: they are too many, or they have a reason
-abbrev pub RefusesBytes : List ℕ → ℕ → Type 0
-RefusesBytes bytes k =
-    ((MAX_FILE < length bytes) × (k ≡ 0))
-    ⊎ ((length bytes ≤ MAX_FILE) × ((reason : Refusal) × (refusal bytes ≡ Some reason) × (k ≡ refusal_number reason)))
+-- a source with these bytes is to be refused by this number: they are too many or too few, or the file has a reason
+abbrev pub RefusesBytes : Input → List ℕ → ℕ → Type 0
+RefusesBytes input bytes k =
+    ((input.most < length bytes) × (k ≡ 0))
+    ⊎ (((length bytes ≤ input.most) × (length bytes < input.least) × (k ≡ 17))
+    ⊎ ((length bytes ≤ input.most) × (input.least ≤ length bytes) × ((reason : Refusal) × (refusal (input.file bytes) ≡ Some reason) × (k ≡ refusal_number reason))))
 
--- the words, or the bytes of a source that tells them and doesn't fail, are to be refused with this status
+-- the words ask for something of a source that tells its bytes without a fault, and these are to be refused by this number
+pub record HasRefusal (words : List (List ℕ)) (before now : Stream) (k : ℕ) : Type 0 where
+  pub input : Input
+  pub bytes : List ℕ
+  pub asks : AskToRead words input
+  pub told : before.bytes ≡ Some bytes
+  pub quiet : ¬ Rose before now
+  pub refused : RefusesBytes input bytes k
+
+-- the words, or the bytes of the source, are to be refused with this status
 abbrev pub MustRefuse : List (List ℕ) → Stream → Stream → Status → Type 0
+MustRefuse words before now Usage = AskForNothing words
+MustRefuse words before now (Refused k) = HasRefusal words before now k
 MustRefuse words before now Done = ⊥
-MustRefuse words before now Usage = AsksNothing words
 MustRefuse words before now ReadFault = ⊥
-MustRefuse words before now (Refused k) =
-    AsksRun words × ¬ Rose before now × ((bytes : List ℕ) × (before.bytes ≡ Some bytes) × RefusesBytes bytes k)
 MustRefuse words before now WriteFault = ⊥
 MustRefuse words before now OutOfMemory = ⊥
 
@@ -137,31 +166,21 @@ WritesNothing had has = Gives had has []
 
 -- ---- answers
 
--- what the bytes of a file come to, with the text that goes with it
-abbrev pub FileAnswers : List ℕ → Options → Status → List ℕ → Type 0
-FileAnswers bytes o Done text = (image : Shown) × subset bytes image × IsReportOf image o text
-FileAnswers bytes o (Refused k) text = (name : List ℕ) × IsRefusedFile bytes k name × (text ≡ refused_line k name)
-FileAnswers bytes o Usage text = ⊥
-FileAnswers bytes o ReadFault text = ⊥
-FileAnswers bytes o WriteFault text = ⊥
-FileAnswers bytes o OutOfMemory text = ⊥
+-- the words and the source come to this status, with a text of which P holds
+abbrev pub Comes : List (List ℕ) → Stream → Stream → (List ℕ → Type 0) → Status → Type 0
+Comes words before now P Done = (text : List ℕ) × IsWanted words before now text × P text
+Comes words before now P Usage = AskForNothing words × (now ≡ before) × P usage_line
+Comes words before now P ReadFault = Reads words × Rose before now × P []
+Comes words before now P (Refused k) =
+    (input : Input) × AskToRead words input × ((name : List ℕ) × IsRefused input before now k name × P (refused_line k name))
+Comes words before now P WriteFault = ⊥
+Comes words before now P OutOfMemory = ⊥
 
--- what the words and the source come to, with the text that goes with it
-abbrev pub Answers : List (List ℕ) → Stream → Stream → Status → List ℕ → Type 0
-Answers words before now Done text = IsWanted words before now text
-Answers words before now Usage text = AsksNothing words × (now ≡ before) × (text ≡ usage_line)
-Answers words before now ReadFault text = AsksRun words × Rose before now × (text ≡ [])
-Answers words before now (Refused k) text =
-    AsksRun words × ((name : List ℕ) × IsRefused before now k name × (text ≡ refused_line k name))
-Answers words before now WriteFault text = ⊥
-Answers words before now OutOfMemory text = ⊥
-
--- how the program ends
+-- how the program ends: what the words and the source come to, and how much of the text was written
 abbrev pub Ends : List (List ℕ) → Stream → Stream → Stream → Stream → Status → Type 0
-Ends words before now had has Done = (text : List ℕ) × IsWanted words before now text × Gives had has text
-Ends words before now had has Usage = AsksNothing words × (now ≡ before) × Writes had has usage_line
-Ends words before now had has ReadFault = AsksRun words × Rose before now × WritesNothing had has
-Ends words before now had has (Refused k) =
-    AsksRun words × ((name : List ℕ) × IsRefused before now k name × Writes had has (refused_line k name))
-Ends words before now had has WriteFault = (text : List ℕ) × IsWanted words before now text × FailsAmid had has text
+Ends words before now had has Done = Comes words before now (Gives had has) Done
+Ends words before now had has Usage = Comes words before now (Writes had has) Usage
+Ends words before now had has ReadFault = Comes words before now (Gives had has) ReadFault
+Ends words before now had has (Refused k) = Comes words before now (Writes had has) (Refused k)
+Ends words before now had has WriteFault = Comes words before now (FailsAmid had has) Done
 Ends words before now had has OutOfMemory = WritesNothing had has

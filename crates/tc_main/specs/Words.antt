@@ -1,44 +1,65 @@
--- The words of the command line: `run W F B`, `gen N` or `demo N W`, each number in decimal digits without a leading zero.
-use Rattle.std.specs.Prelude.{◌≡◌, ℕ, ◌≤◌, List, [], ◌∷◌, codes, decimal}
+-- The words of the command line: `run W F B`, `gen N`, `demo N W` or `nodes G K W F B`, each number in decimal digits without a
+-- leading zero.
+use Rattle.std.specs.Prelude.{◌≡◌, ℕ, ◌≤◌, List, [], ◌∷◌, Option, None, Some, codes, decimal}
 use Rattle.tc_build.specs.declared.generate.TheConstants.{MAX_ROUNDS}
+use Rattle.tc_elf.specs.declared.limits.TheConstants.{MAX_FILE}
 use Rattle.tc_workers.specs.declared.options.Options.{Options}
+use Rattle.tc_main.specs.Orders.{IsOrderFor}
+use Rattle.tc_main.specs.declared.order.Order.TheVariants.{Entry, Nodes}
 use Rattle.tc_main.specs.declared.words.Asked.{Asked}
 use Rattle.tc_main.specs.declared.words.Asked.TheVariants.{Run, Generate, Demo}
 
--- ---- the three forms
+-- ---- the forms
 
--- the words ask for a run with these options
-pub record Asks (words : List (List ℕ)) (o : Options) : Type 0 where
-  pub spelled : words ≡ codes "run" ∷ decimal o.workers ∷ decimal o.fuel ∷ decimal o.limit ∷ []
+-- the words of the options of a run
+abbrev pub option_words : Options → List (List ℕ)
+option_words o = decimal o.workers ∷ decimal o.fuel ∷ decimal o.limit ∷ []
 
--- the words ask for the file of the generator's guest with so many rounds
-pub record AsksFile (words : List (List ℕ)) (rounds : ℕ) : Type 0 where
-  pub some : 1 ≤ rounds
-  pub most : rounds ≤ MAX_ROUNDS
-  pub spelled : words ≡ codes "gen" ∷ decimal rounds ∷ []
+-- the words by which something is asked for
+abbrev pub spelling : Asked → List (List ℕ)
+spelling (Run Entry o) = codes "run" ∷ option_words o
+spelling (Run (Nodes nodes bound) o) = codes "nodes" ∷ decimal nodes ∷ decimal bound ∷ option_words o
+spelling (Generate rounds) = codes "gen" ∷ decimal rounds ∷ []
+spelling (Demo rounds o) = codes "demo" ∷ decimal rounds ∷ decimal o.workers ∷ []
 
--- the words ask for a demonstration: a run of that guest with these options, of which they give the workers
-pub record AsksDemo (words : List (List ℕ)) (rounds : ℕ) (o : Options) : Type 0 where
-  pub some : 1 ≤ rounds
-  pub most : rounds ≤ MAX_ROUNDS
-  pub spelled : words ≡ codes "demo" ∷ decimal rounds ∷ decimal o.workers ∷ []
-  pub fuel : o.fuel ≡ 65536
-  pub limit : o.limit ≡ 8
+-- its numbers are within their limits, as those of options always are; a demonstration has one fuel and one batch limit
+abbrev pub IsWithinLimits : Asked → Type 0
+IsWithinLimits (Run order o) = IsOrderFor o.workers order
+IsWithinLimits (Generate rounds) = (1 ≤ rounds) × (rounds ≤ MAX_ROUNDS)
+IsWithinLimits (Demo rounds o) = (1 ≤ rounds) × (rounds ≤ MAX_ROUNDS) × (o.fuel ≡ 65536) × (o.limit ≡ 8)
 
--- ---- what they ask for
-
--- the words ask for a run
-abbrev pub AsksRun : List (List ℕ) → Type 0
-AsksRun words = (o : Options) × Asks words o
-
--- the words have none of the three forms
-pub record AsksNothing (words : List (List ℕ)) : Type 0 where
-  pub run : (o : Options) → ¬ Asks words o
-  pub file : (rounds : ℕ) → ¬ AsksFile words rounds
-  pub demo : (rounds : ℕ) (o : Options) → ¬ AsksDemo words rounds o
-
--- the words have the form of what is asked
+-- the words ask for this
 abbrev pub AskFor : List (List ℕ) → Asked → Type 0
-AskFor words (Run o) = Asks words o
-AskFor words (Generate rounds) = AsksFile words rounds
-AskFor words (Demo rounds o) = AsksDemo words rounds o
+AskFor words asked = IsWithinLimits asked × (words ≡ spelling asked)
+
+-- the words have no form
+abbrev pub AskForNothing : List (List ℕ) → Type 0
+AskForNothing words = (asked : Asked) → ¬ AskFor words asked
+
+-- ---- what is read
+
+-- what is read of the source: at most so many bytes, and at least so many, and which part of them is the guest's file
+pub record Input : Type 0 where
+  pub most : ℕ
+  pub least : ℕ
+  pub file : List ℕ → List ℕ
+
+-- a guest's file, and nothing else
+abbrev pub whole_file : Input
+whole_file = record { most = MAX_FILE; least = 0; file = λ bytes. bytes }
+
+-- what is read for what is asked; nothing is read for a guest that the program makes
+abbrev pub input_of : Asked → Option Input
+input_of (Run order o) = Some whole_file
+input_of (Generate rounds) = None
+input_of (Demo rounds o) = None
+
+-- the words ask for something for which this is read
+pub record AskToRead (words : List (List ℕ)) (input : Input) : Type 0 where
+  pub asked : Asked
+  pub asks : AskFor words asked
+  pub input_is : input_of asked ≡ Some input
+
+-- the words ask for something for which the source is read
+abbrev pub Reads : List (List ℕ) → Type 0
+Reads words = (input : Input) × AskToRead words input

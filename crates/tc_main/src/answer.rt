@@ -2,10 +2,13 @@
 
 ghost use Rattle.std.specs.Prelude.{◌≡◌, ◌≤◌, ℕ, List, IfOk, length};
 ghost use Rattle.tc_elf.specs.declared.limits.TheConstants.{MAX_FILE};
-ghost use Rattle.tc_main.specs.Top.{Answers, FileAnswers, refused_line, usage_line};
-ghost use Rattle.tc_main.specs.Words.{Asks, AsksRun};
+ghost use Rattle.tc_main.specs.Orders.{IsOrderFor};
+ghost use Rattle.tc_main.specs.Top.{Comes, Verdict, refused_line, usage_line};
+ghost use Rattle.tc_main.specs.Words.{AskFor, Reads};
+ghost use Rattle.tc_main.specs.declared.words.Asked.TheVariants.{Run};
 
 use crate::demo::run_summary;
+use crate::order::Order;
 use crate::run::run_report;
 use crate::status::Status;
 use crate::words::{Asked, asked_of};
@@ -25,7 +28,8 @@ use tc_workers::options::Options;
 fn usage(alloc: Global) -> Result<Vec<u8>, AllocError>
     ensures { IfOk result (λ text. text.items ≡ usage_line) }
 {
-    let line = "usage: tclocks run W F B | tclocks gen N | tclocks demo N W\n";
+    let line =
+        "usage: tclocks run W F B | tclocks gen N | tclocks demo N W | tclocks nodes G K W F B\n";
     Vec::from_slice(alloc, line.as_bytes())
 }
 
@@ -44,20 +48,22 @@ pub(crate) struct Answer {
     pub text: Vec<u8>,
 }
 
-/// What the bytes of a file come to.
+/// What the bytes of a file, with which a run is asked for, come to.
 fn answer_file<R: Threads + Wait + Sync, G: Gate>(
     rt: &R,
     alloc: Global,
+    order: Order,
     options: Options,
     bytes: &[u8],
     gate: &G,
 ) -> Result<Answer, AllocError>
-    requires { length bytes.now ≤ MAX_FILE }
-    ensures { IfOk result (λ a. FileAnswers bytes.now options a.status a.text.items) }
+    requires few { length bytes.now ≤ MAX_FILE }
+    requires order { IsOrderFor options.workers order }
+    ensures { IfOk result (λ a. Verdict (Run order options) bytes.now a.text.items a.status) }
 {
     match load(alloc, bytes) {
         Ok(image) => {
-            let text = run_report(rt, alloc, &image, options, gate)?;
+            let text = run_report(rt, alloc, &image, order, options, gate)?;
             Ok(Answer {
                 status: Status::Done,
                 text,
@@ -79,16 +85,18 @@ fn answer_file<R: Threads + Wait + Sync, G: Gate>(
 fn answer_run<R: Threads + Wait + Sync, S: Source, G: Gate>(
     rt: &R,
     alloc: Global,
+    order: Order,
     options: Options,
     source: &mut S,
     gate: &G,
 ) -> Result<Answer, AllocError>
-    ensures { (words : List (List ℕ)) → Asks words options
-        → IfOk result (λ a. Answers words (S.stream source.old) (S.stream source.new)
-        a.status a.text.items) }
+    requires { IsOrderFor options.workers order }
+    ensures { (words : List (List ℕ)) → AskFor words (Run order options)
+        → IfOk result (λ a. Comes words (S.stream source.old) (S.stream source.new)
+        (λ text. a.text.items ≡ text) a.status) }
 {
     match read_all(alloc, source, MAX_BYTES) {
-        Ok(bytes) => answer_file(rt, alloc, options, &bytes, gate),
+        Ok(bytes) => answer_file(rt, alloc, order, options, &bytes, gate),
         Err(ReadAll::Fault) => Ok(Answer {
             status: Status::ReadFault,
             text: Vec::new(alloc),
@@ -112,11 +120,11 @@ pub(crate) fn answer_words<R: Threads + Wait + Sync, S: Source, G: Gate>(
     source: &mut S,
     gate: &G,
 ) -> Result<Answer, AllocError>
-    ensures answer { IfOk result (λ a. Answers words.now
-        (S.stream source.old) (S.stream source.new) a.status a.text.items) }
-    ensures unread { ¬ AsksRun words.now → S.stream source.new ≡ S.stream source.old }
+    ensures answer { IfOk result (λ a. Comes words.now
+        (S.stream source.old) (S.stream source.new) (λ text. a.text.items ≡ text) a.status) }
+    ensures unread { ¬ Reads words.now → S.stream source.new ≡ S.stream source.old }
 {
-    match asked_of(alloc, words)? {
+    match asked_of(words) {
         None => {
             let text = usage(alloc)?;
             Ok(Answer {
@@ -124,7 +132,7 @@ pub(crate) fn answer_words<R: Threads + Wait + Sync, S: Source, G: Gate>(
                 text,
             })
         }
-        Some(Asked::Run(options)) => answer_run(rt, alloc, options, source, gate),
+        Some(Asked::Run { order, options }) => answer_run(rt, alloc, order, options, source, gate),
         Some(Asked::Generate(rounds)) => {
             let text = generate(alloc, rounds)?;
             Ok(Answer {

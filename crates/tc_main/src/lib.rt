@@ -6,8 +6,9 @@
 //! of the generator's guest, and says of every other status why it comes and what was written. Which
 //! runs are legal is one word of the contract, `IsLegalRun`; the texts do not depend on it.
 //!
-//! - `words`: what the words of the command line ask for. `run`: a run by workers, from the image
-//!   to the report. `report`: the text of a report. `demo`: a run of the generator's guest, to the
+//! - `words`: what the words of the command line ask for. `order`: in which order the waiters of a
+//!   lock are served. `run`: a run by workers, from the image to the report. `nodes`: a run by workers
+//!   that belong to nodes. `report`: the text of a report. `demo`: a run of the generator's guest, to the
 //!   summary. `summary`: the text of a summary. `answer`: what the words and the source come to.
 //! - `build`, `generate`: files of guests, of tc_build. `options`, `gate`: with what a guest is run,
 //!   and whom its workers tell how far they are, of tc_workers.
@@ -18,6 +19,8 @@
 mod answer;
 pub mod delegation;
 mod demo;
+mod nodes;
+pub mod order;
 pub mod report;
 mod run;
 pub mod status;

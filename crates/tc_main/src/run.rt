@@ -5,10 +5,13 @@ ghost use Rattle.std.specs.List.Sorted.{IsPermutation};
 ghost use Rattle.tc_journal.specs.History.{HasEachStamp, IsInOrder};
 ghost use Rattle.tc_segment.specs.View.{IsSoundLock};
 ghost use Rattle.tc_main.specs.Legal.{IsLegalRun, results_after};
+ghost use Rattle.tc_main.specs.Orders.{IsOrderFor};
 ghost use Rattle.tc_main.specs.Outcome.{IsOutcome, log_in, logs_of};
 ghost use Rattle.tc_main.specs.Top.{IsReportOf};
 ghost use Rattle.tc_workers.specs.Run.{IsWholeRun};
 
+use crate::nodes::run_nodes;
+use crate::order::Order;
 use crate::report::{report_with, tail_of};
 use std::alloc::{AllocError, Global};
 use std::sync::Wait;
@@ -64,18 +67,38 @@ fn history_in(alloc: Global, packages: &[Package]) -> Result<Vec<&Block>, AllocE
     in_order(alloc, &logs)
 }
 
+/// Runs the guest until each thread has ended, with the queues of the order.
+fn run_in<R: Threads + Wait + Sync, G: Gate>(
+    rt: &R,
+    alloc: Global,
+    image: &Image,
+    order: Order,
+    options: Options,
+    gate: &G,
+) -> Result<Closed, AllocError>
+    requires { IsOrderFor options.workers order }
+    ensures { IfOk result (λ closed. IsWholeRun image.now options closed) }
+{
+    match order {
+        Order::Entry => run_all(rt, alloc, image, options, gate),
+        Order::Nodes { nodes, bound } => run_nodes(rt, alloc, image, nodes, bound, options, gate),
+    }
+}
+
 /// Runs the guest until each thread has ended, and shows what the lock states keep.
 fn run_closed<R: Threads + Wait + Sync, G: Gate>(
     rt: &R,
     alloc: Global,
     image: &Image,
+    order: Order,
     options: Options,
     gate: &G,
 ) -> Result<Closed, AllocError>
+    requires { IsOrderFor options.workers order }
     ensures whole { IfOk result (λ closed. IsWholeRun image.now options closed) }
     ensures sound { IfOk result (λ closed. All IsSoundLock closed.locks) }
 {
-    let closed = run_all(rt, alloc, image, options, gate)?;
+    let closed = run_in(rt, alloc, image, order, options, gate)?;
     keep(closed.locks());
     Ok(closed)
 }
@@ -87,7 +110,7 @@ pub(crate) struct WholeRun {
     pub history: Vec<Block>,
 }
 
-/// Runs the guest until each thread has ended.
+/// Runs the guest, in the order of entry, until each thread has ended.
 pub(crate) fn run_whole<R: Threads + Wait + Sync, G: Gate>(
     rt: &R,
     alloc: Global,
@@ -100,7 +123,7 @@ pub(crate) fn run_whole<R: Threads + Wait + Sync, G: Gate>(
     ensures legal { IfOk result (λ run. IsLegalRun image.now options
         (results_after image.now options.fuel run.history.items)) }
 {
-    let closed = run_closed(rt, alloc, image, options, gate)?;
+    let closed = run_closed(rt, alloc, image, Order::Entry, options, gate)?;
     let history = history_of(alloc, closed.packages())?;
     Ok(WholeRun { closed, history })
 }
@@ -113,12 +136,14 @@ pub(crate) fn run_report<R: Threads + Wait + Sync, G: Gate>(
     rt: &R,
     alloc: Global,
     image: &Image,
+    order: Order,
     options: Options,
     gate: &G,
 ) -> Result<Vec<u8>, AllocError>
+    requires { IsOrderFor options.workers order }
     ensures { IfOk result (λ out. IsReportOf image.now options out.items) }
 {
-    let closed = run_closed(rt, alloc, image, options, gate)?;
+    let closed = run_closed(rt, alloc, image, order, options, gate)?;
     let (packages, locks) = closed.into_parts();
     let tail = tail_of(alloc, image, &packages, &locks)?;
     drop(locks);

@@ -4,8 +4,8 @@ ghost use Rattle.std.specs.Prelude.{◌≡◌, ℕ, List, ◌⊎◌};
 ghost use Rattle.tc_io.specs.Causes.{Rose};
 ghost use Rattle.tc_io.specs.Stream.{Stream};
 ghost use Rattle.tc_io.specs.Taken.{FailsAmid, Gives};
-ghost use Rattle.tc_main.specs.Words.{AsksNothing, AsksRun};
-ghost use Rattle.tc_main.specs.Top.{Answers, CanBeDone, Ends, IsRefused, IsWanted, MustRefuse};
+ghost use Rattle.tc_main.specs.Words.{AskForNothing, AskToRead, Input, Reads};
+ghost use Rattle.tc_main.specs.Top.{CanBeDone, Comes, Ends, IsRefused, IsWanted, MustRefuse};
 ghost use Rattle.tc_main.specs.Top.{Writes, WritesNothing, refused_line, usage_line};
 ghost use Rattle.tc_main.specs.declared.status.Status.{Status as Answered};
 
@@ -20,7 +20,7 @@ use tc_workers::gate::Gate;
 /// Writes a text, and says how the program ends.
 fn written<K: Sink>(sink: &mut K, answer: &Answer) -> Status
     ensures { (words : List (List ℕ)) (before now : Stream)
-        → Answers words before now answer.now.status answer.now.text.items
+        → Comes words before now (λ text. answer.now.text.items ≡ text) answer.now.status
         → Ends words before now (K.stream sink.old) (K.stream sink.new) result }
 {
     match write_all(sink, &answer.text) {
@@ -43,7 +43,7 @@ fn run_words<R: Threads + Wait + Sync, S: Source, K: Sink, G: Gate>(
 ) -> Status
     ensures ends { Ends words.now (S.stream source.old) (S.stream source.new)
         (K.stream sink.old) (K.stream sink.new) result }
-    ensures unread { ¬ AsksRun words.now → S.stream source.new ≡ S.stream source.old }
+    ensures unread { ¬ Reads words.now → S.stream source.new ≡ S.stream source.old }
 {
     match answer_words(rt, alloc, words, source, gate) {
         Ok(answer) => written(sink, &answer),
@@ -55,7 +55,9 @@ fn run_words<R: Threads + Wait + Sync, S: Source, K: Sink, G: Gate>(
 /// name: `run W F B` with the number of workers, the fuel of each thread and the batch limit reads
 /// the source, runs the guest and writes the report; `gen N` writes the file of the generator's guest
 /// with so many rounds; `demo N W` runs that guest on so many workers, with the fuel 65,536 and the
-/// batch limit 8, and writes the summary.
+/// batch limit 8, and writes the summary. `nodes G K W F B` does what `run W F B` does, by workers that
+/// belong to G nodes: a lock goes to a waiter of the releaser's node first, but none in its line is
+/// passed over more than K times. No clause tells the two apart.
 ///
 /// The source is read to its end before a worker starts, and the text is made whole before any of
 /// it is written. Want of memory may come at any growth, and nothing is written then. Each worker
@@ -75,18 +77,19 @@ pub fn tclocks<R: Threads + Wait + Sync, S: Source, K: Sink, G: Gate>(
         × Gives (K.stream sink.old) (K.stream sink.new) text }
 
     // Nothing was asked for, so nothing was read; and the usage line was written.
-    ensures usage { result ≡ Status.Usage → AsksNothing words.now
+    ensures usage { result ≡ Status.Usage → AskForNothing words.now
         × (S.stream source.new ≡ S.stream source.old)
         × Writes (K.stream sink.old) (K.stream sink.new) usage_line }
 
     // A read failed in this call, and nothing was written.
-    ensures read { result ≡ Status.ReadFault → AsksRun words.now
+    ensures read { result ≡ Status.ReadFault → Reads words.now
         × Rose (S.stream source.old) (S.stream source.new)
         × WritesNothing (K.stream sink.old) (K.stream sink.new) }
 
-    // The file was refused, no read failed, and the line that says why was written.
-    ensures refused { (k : ℕ) → result ≡ Status.Refused k → AsksRun words.now × ((name : List ℕ)
-        × IsRefused (S.stream source.old) (S.stream source.new) k name
+    // What was read was refused, no read failed, and the line that says why was written.
+    ensures refused { (k : ℕ) → result ≡ Status.Refused k → (input : Input)
+        × AskToRead words.now input × ((name : List ℕ)
+        × IsRefused input (S.stream source.old) (S.stream source.new) k name
         × Writes (K.stream sink.old) (K.stream sink.new) (refused_line k name)) }
 
     // A write failed in this call, and a front of what was asked for was written before it.
@@ -98,8 +101,8 @@ pub fn tclocks<R: Threads + Wait + Sync, S: Source, K: Sink, G: Gate>(
     ensures memory { result ≡ Status.OutOfMemory
         → WritesNothing (K.stream sink.old) (K.stream sink.new) }
 
-    // Only a run reads the source.
-    ensures unread { ¬ AsksRun words.now → S.stream source.new ≡ S.stream source.old }
+    // Where what is asked for needs nothing of the source, nothing is read.
+    ensures unread { ¬ Reads words.now → S.stream source.new ≡ S.stream source.old }
 
     // What is to be refused is refused, unless memory is wanted.
     ensures refuses { (s : Answered)

@@ -1,10 +1,13 @@
 //! The words of the command line.
 
-ghost use Rattle.std.specs.Prelude.{◌≡◌, ℕ, ◌≤◌, MatchBool, IfOk, IfSome, IfNone, codes, decimal};
-ghost use Rattle.tc_main.specs.Words.{AskFor, Asks, AsksDemo, AsksFile, AsksNothing};
+ghost use Rattle.std.specs.Prelude.{◌≡◌, ℕ, ◌≤◌, MatchBool, IfSome, IfNone, decimal};
+ghost use Rattle.tc_main.specs.Words.{AskFor, AskForNothing, option_words};
+ghost use Rattle.tc_main.specs.declared.words.Asked.TheVariants.{Run, Generate, Demo as Demonstrate};
+ghost use Rattle.tc_main.specs.declared.order.Order.TheVariants.{Entry, Nodes};
 ghost use Rattle.tc_workers.specs.declared.options.Options.{Options as Chosen};
 
-use std::alloc::{AllocError, Global};
+use crate::order::{MAX_PASSES, Order};
+use itoa::Buffer;
 use std::str::from_utf8;
 use tc_build::generate::MAX_ROUNDS;
 use tc_io::Word;
@@ -22,7 +25,12 @@ pub const DEMO_LIMIT: u32 = 8;
 #[derive(Clone, Copy, Debug, PartialEq, Eq)]
 pub enum Asked {
     /// A run of the source's guest.
-    Run(Options),
+    Run {
+        /// In which order the waiters of a lock are served.
+        order: Order,
+        /// With what it is run.
+        options: Options,
+    },
     /// The file of the generator's guest with so many rounds.
     Generate(u32),
     /// A demonstration: a run of the generator's guest.
@@ -35,43 +43,40 @@ pub enum Asked {
 }
 
 /// Whether this is how the number is written.
-fn is_decimal(alloc: Global, text: &str, number: u32) -> Result<bool, AllocError>
-    ensures { IfOk result (λ b.
-        MatchBool b (text.now ≡ decimal number) (text.now ≡ decimal number → ⊥)) }
+fn is_decimal(text: &str, number: u32) -> bool
+    ensures { MatchBool result (text.now ≡ decimal number) (text.now ≡ decimal number → ⊥) }
 {
-    let own = number.to_string(alloc)?;
-    Ok(own.as_str() == text)
+    let mut buffer = Buffer::new();
+    buffer.format(number) == text
 }
 
 /// The number that a text is, where it is one within a limit.
-fn number_of_text(alloc: Global, text: &str, limit: u32) -> Result<Option<u32>, AllocError>
-    ensures some { IfOk result (λ o. IfSome o (λ n. (n ≤ limit) × (text.now ≡ decimal n))) }
-    ensures none { IfOk result (λ o. IfNone o ((n : ℕ) → n ≤ limit → text.now ≡ decimal n → ⊥)) }
+fn number_of_text(text: &str, limit: u32) -> Option<u32>
+    ensures some { IfSome result (λ n. (n ≤ limit) × (text.now ≡ decimal n)) }
+    ensures none { IfNone result ((n : ℕ) → n ≤ limit → text.now ≡ decimal n → ⊥) }
 {
     let Ok(number) = text.parse::<u32>() else {
-        return Ok(None);
+        return None;
     };
-    let same = is_decimal(alloc, text, number)?;
+    let same = is_decimal(text, number);
     if number <= limit && same {
-        Ok(Some(number))
+        Some(number)
     } else {
-        Ok(None)
+        None
     }
 }
 
 /// The number that a word is, where it is one from `least` to `most`.
-fn number_of(alloc: Global, word: &Word, least: u32, most: u32) -> Result<Option<u32>, AllocError>
-    ensures some { IfOk result (λ o.
-        IfSome o (λ n. (least ≤ n) × (n ≤ most) × (word.now ≡ decimal n))) }
-    ensures none { IfOk result (λ o.
-        IfNone o ((n : ℕ) → least ≤ n → n ≤ most → word.now ≡ decimal n → ⊥)) }
+fn number_of(word: &Word, least: u32, most: u32) -> Option<u32>
+    ensures some { IfSome result (λ n. (least ≤ n) × (n ≤ most) × (word.now ≡ decimal n)) }
+    ensures none { IfNone result ((n : ℕ) → least ≤ n → n ≤ most → word.now ≡ decimal n → ⊥) }
 {
     let Ok(text) = from_utf8(word.bytes()) else {
-        return Ok(None);
+        return None;
     };
-    match number_of_text(alloc, text, most)? {
-        Some(number) if number >= least => Ok(Some(number)),
-        _ => Ok(None),
+    match number_of_text(text, most) {
+        Some(number) if number >= least => Some(number),
+        _ => None,
     }
 }
 
@@ -82,86 +87,100 @@ fn is(word: &Word, name: &str) -> bool
     word.bytes() == name.as_bytes()
 }
 
-/// The options of the run that the words ask for.
-fn run_of(alloc: Global, words: &[Word]) -> Result<Option<Options>, AllocError>
-    ensures some { IfOk result (λ o. IfSome o (λ o. Asks words.now o)) }
-    ensures none { IfOk result (λ o. IfNone o ((o : Chosen) → ¬ Asks words.now o)) }
+/// The options that the words give: the number of workers, the fuel and the batch limit.
+fn options_of(words: &[Word]) -> Option<Options>
+    ensures some { IfSome result (λ o. words.now ≡ option_words o) }
+    ensures none { IfNone result ((o : Chosen) → words.now ≡ option_words o → ⊥) }
 {
-    let [run, workers, fuel, limit] = words else {
-        return Ok(None);
+    let [workers, fuel, limit] = words else {
+        return None;
     };
-    if !is(run, "run") {
-        return Ok(None);
-    }
-    let Some(workers) = number_of(alloc, workers, 1, MAX_WORKERS)? else {
-        return Ok(None);
-    };
-    let Some(fuel) = number_of(alloc, fuel, 1, MAX_FUEL)? else {
-        return Ok(None);
-    };
-    let Some(limit) = number_of(alloc, limit, 0, MAX_BATCH)? else {
-        return Ok(None);
-    };
-    Ok(Some(Options {
+    let workers = number_of(workers, 1, MAX_WORKERS)?;
+    let fuel = number_of(fuel, 1, MAX_FUEL)?;
+    let limit = number_of(limit, 0, MAX_BATCH)?;
+    Some(Options {
         workers,
         fuel,
         limit,
-    }))
+    })
+}
+
+/// The options of the run, in the order of entry, that the words ask for.
+fn run_of(words: &[Word]) -> Option<Options>
+    ensures some { IfSome result (λ o. AskFor words.now (Run Entry o)) }
+    ensures none { IfNone result ((o : Chosen) → ¬ AskFor words.now (Run Entry o)) }
+{
+    match words {
+        [name, options @ ..] if is(name, "run") => options_of(options),
+        _ => None,
+    }
+}
+
+/// The order and the options of the run by nodes that the words ask for.
+fn nodes_of(words: &[Word]) -> Option<(Order, Options)>
+    ensures some { IfSome result (λ asked. AskFor words.now (Run asked.0 asked.1)) }
+    ensures none { IfNone result ((nodes bound : ℕ) (o : Chosen)
+        → ¬ AskFor words.now (Run (Nodes nodes bound) o)) }
+{
+    let [name, nodes, bound, options @ ..] = words else {
+        return None;
+    };
+    if !is(name, "nodes") {
+        return None;
+    }
+    let options = options_of(options)?;
+    let nodes = number_of(nodes, 1, options.workers)?;
+    let bound = number_of(bound, 0, MAX_PASSES)?;
+    Some((Order::Nodes { nodes, bound }, options))
 }
 
 /// The rounds of the guest whose file the words ask for.
-fn file_of(alloc: Global, words: &[Word]) -> Result<Option<u32>, AllocError>
-    ensures some { IfOk result (λ o. IfSome o (λ n. AsksFile words.now n)) }
-    ensures none { IfOk result (λ o. IfNone o ((n : ℕ) → ¬ AsksFile words.now n)) }
+fn file_of(words: &[Word]) -> Option<u32>
+    ensures some { IfSome result (λ n. AskFor words.now (Generate n)) }
+    ensures none { IfNone result ((n : ℕ) → ¬ AskFor words.now (Generate n)) }
 {
-    let [name, rounds] = words else {
-        return Ok(None);
-    };
-    if !is(name, "gen") {
-        return Ok(None);
+    match words {
+        [name, rounds] if is(name, "gen") => number_of(rounds, 1, MAX_ROUNDS),
+        _ => None,
     }
-    number_of(alloc, rounds, 1, MAX_ROUNDS)
 }
 
 /// The rounds and the options of the demonstration that the words ask for.
-fn demo_of(alloc: Global, words: &[Word]) -> Result<Option<(u32, Options)>, AllocError>
-    ensures some { IfOk result (λ o. IfSome o (λ d. AsksDemo words.now d.0 d.1)) }
-    ensures none { IfOk result (λ o.
-        IfNone o ((n : ℕ) (o : Chosen) → ¬ AsksDemo words.now n o)) }
+fn demo_of(words: &[Word]) -> Option<(u32, Options)>
+    ensures some { IfSome result (λ d. AskFor words.now (Demonstrate d.0 d.1)) }
+    ensures none { IfNone result ((n : ℕ) (o : Chosen) → ¬ AskFor words.now (Demonstrate n o)) }
 {
     let [name, rounds, workers] = words else {
-        return Ok(None);
+        return None;
     };
     if !is(name, "demo") {
-        return Ok(None);
+        return None;
     }
-    let Some(rounds) = number_of(alloc, rounds, 1, MAX_ROUNDS)? else {
-        return Ok(None);
-    };
-    let Some(workers) = number_of(alloc, workers, 1, MAX_WORKERS)? else {
-        return Ok(None);
-    };
+    let rounds = number_of(rounds, 1, MAX_ROUNDS)?;
+    let workers = number_of(workers, 1, MAX_WORKERS)?;
     let options = Options {
         workers,
         fuel: DEMO_FUEL,
         limit: DEMO_LIMIT,
     };
-    Ok(Some((rounds, options)))
+    Some((rounds, options))
 }
 
-/// What the words ask for, where they have one of the three forms.
-pub fn asked_of(alloc: Global, words: &[Word]) -> Result<Option<Asked>, AllocError>
-    ensures some { IfOk result (λ o. IfSome o (λ asked. AskFor words.now asked)) }
-    ensures none { IfOk result (λ o. IfNone o (AsksNothing words.now)) }
+/// What the words ask for, where they have one of the forms.
+pub fn asked_of(words: &[Word]) -> Option<Asked>
+    ensures some { IfSome result (λ asked. AskFor words.now asked) }
+    ensures none { IfNone result (AskForNothing words.now) }
 {
-    if let Some(options) = run_of(alloc, words)? {
-        return Ok(Some(Asked::Run(options)));
+    if let Some(options) = run_of(words) {
+        let order = Order::Entry;
+        return Some(Asked::Run { order, options });
     }
-    if let Some(rounds) = file_of(alloc, words)? {
-        return Ok(Some(Asked::Generate(rounds)));
+    if let Some(rounds) = file_of(words) {
+        return Some(Asked::Generate(rounds));
     }
-    match demo_of(alloc, words)? {
-        Some((rounds, options)) => Ok(Some(Asked::Demo { rounds, options })),
-        None => Ok(None),
+    if let Some((rounds, options)) = demo_of(words) {
+        return Some(Asked::Demo { rounds, options });
     }
+    let (order, options) = nodes_of(words)?;
+    Some(Asked::Run { order, options })
 }

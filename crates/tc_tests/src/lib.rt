@@ -3,7 +3,7 @@
 //! `locks` guests with locks, `faults` every fault of a thread that holds a lock, `held_faults` what
 //! another thread sees of it, `limits` what stands at a limit, `outside` words that ask for nothing,
 //! `cuts` and `fields` damaged files, `devices` sources and sinks that fail, `gates` what workers
-//! report, `demos` the generator's guest.
+//! report, `nodes` runs by workers that belong to nodes, `demos` the generator's guest.
 #![tactic(auto)]
 
 #[cfg(test)]
@@ -28,6 +28,8 @@ mod held_faults;
 mod limits;
 #[cfg(test)]
 mod locks;
+#[cfg(test)]
+mod nodes;
 #[cfg(test)]
 mod outside;
 #[cfg(test)]

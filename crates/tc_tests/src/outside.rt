@@ -6,10 +6,11 @@ use std::test::Fail;
 use tc_main::status::Status;
 
 /// The usage line.
-pub(crate) const USAGE: &str = "usage: tclocks run W F B | tclocks gen N | tclocks demo N W\n";
+pub(crate) const USAGE: &str =
+    "usage: tclocks run W F B | tclocks gen N | tclocks demo N W | tclocks nodes G K W F B\n";
 
-/// Words that have none of the three forms. The last six have a word that is no text.
-const NO_FORM: [&[&[u8]]; 35] = [
+/// Words that have none of the forms. The last seven have a word that is no text.
+const NO_FORM: [&[&[u8]]; 45] = [
     &[],
     &[b"run"],
     &[b"run", b"1", b"1"],
@@ -36,6 +37,15 @@ const NO_FORM: [&[&[u8]]; 35] = [
     &[b"demo", b"5", b"0"],
     &[b"demo", b"5", b"9"],
     &[b"demo", b"5", b"1", b"1"],
+    &[b"nodes"],
+    &[b"nodes", b"2", b"4", b"4", b"2000"],
+    &[b"nodes", b"2", b"4", b"4", b"2000", b"8", b"8"],
+    &[b"nodes", b"3", b"4", b"2", b"2000", b"8"],
+    &[b"nodes", b"0", b"4", b"2", b"2000", b"8"],
+    &[b"nodes", b"1", b"257", b"2", b"2000", b"8"],
+    &[b"nodes", b"9", b"4", b"9", b"2000", b"8"],
+    &[b"nodes", b"1", b"04", b"2", b"2000", b"8"],
+    &[b"nodes", b"1", b"4", b"2", b"2000", b"257"],
     &[b"--help"],
     &[b"--version"],
     &[b"Run", b"1", b"1", b"0"],
@@ -43,11 +53,12 @@ const NO_FORM: [&[&[u8]]; 35] = [
     &[b"run", b"\xff", b"1", b"0"],
     &[b"run", b"1", b"\xff", b"0"],
     &[b"run", b"1", b"1", b"\xff"],
+    &[b"nodes", b"1", b"\xff", b"2", b"2000", b"8"],
     &[b"gen", b"\xff"],
     &[b"demo", b"\xff", b"1"],
 ];
 
-/// Every list of words that has none of the three forms is answered by the usage line, and nothing is
+/// Every list of words that has none of the forms is answered by the usage line, and nothing is
 /// read: the source would fail.
 #[test]
 fn answers_other_words_by_the_usage_line(rt: HostRuntime) -> Result<(), Fail> {

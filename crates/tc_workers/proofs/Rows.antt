@@ -1,71 +1,114 @@
 -- Rows of seats, while queues are made.
 use Rattle.std.proofs.Common.{◌≡◌, ◌≢◌, ℕ, zero, suc, ◌+◌, ◌<◌, ◌≤◌, List, [], ◌∷◌, ◌++◌, All, length, map, set, get_or, refl, sym, ap, ◌∙◌, subst, ⊎_elim, arith, length-append}
-use Rattle.std.proofs.lemmas.List.{map-append}
-use mathlib.Core.Option.{some}
+use Rattle.std.proofs.lemmas.List.{map-append, length-set}
+use mathlib.Core.Option.{some, some-injective}
 use lib.ListN.{get_elem?}
-use Rattle.tc_mutex_spec.proofs.ListLaws.{there, set_at}
-use Rattle.tc_queue.specs.Lines.{SeatView, IsSeatOf, seat_as}
-use Rattle.tc_queue.specs.View.{QueueView, OwnView, IsNewSeatOf}
+use Rattle.atomic_table.proofs.Lists.{at_longer, at_last}
+use Rattle.tc_mutex_spec.proofs.ListLaws.{there, set_at, at_place}
+use Rattle.tc_queue.specs.Lines.{SeatView, IsSeatOf}
+use Rattle.tc_queue.specs.View.{QueueView}
 use Rattle.tc_hall.proofs.Telling.{snoc_at}
-use Rattle.tc_queue.specs.declared.board.SeatLog.{SeatLog}
 use Rattle.tc_workers.specs.Crew.{AreSeatsOf}
+use Rattle.tc_workers.specs.Rows.{AreDealtOut}
 use Rattle.tc_workers.proofs.Hiring.{at_itself}
 
 -- a row with a seat of one queue more
-pub row_more : (qs : List QueueView) (q : QueueView) (row more : List OwnView) (s : OwnView) → AreSeatsOf qs (map seat_as row) → IsNewSeatOf q s → more ≡ row ++ s ∷ [] → AreSeatsOf (qs ++ q ∷ []) (map seat_as more)
-row_more qs q row more s of new is = subst (AreSeatsOf (qs ++ q ∷ [])) (sym (ap (map seat_as) is ∙ map-append seat_as row (s ∷ []))) record {
-  count = let a = length-append (map seat_as row) (seat_as s ∷ []) in let b = length-append qs (q ∷ []) in let c = of.count in omega arith;
+row_more : (qs : List QueueView) (q : QueueView) (row : List SeatView) (s : SeatView) → AreSeatsOf qs row → IsSeatOf q s → AreSeatsOf (qs ++ q ∷ []) (row ++ s ∷ [])
+row_more qs q row s of own = record {
+  count = let a = length-append row (s ∷ []) in let b = length-append qs (q ∷ []) in let c = of.count in omega arith;
   each = λ i r t e f. ⊎_elim
       (λ (h : get_elem? qs i ≡ some r). ⊎_elim
-      (λ (g : get_elem? (map seat_as row) i ≡ some t). of.each i r t h g)
-      (λ (g : (i ≡ length (map seat_as row)) × (seat_as s ≡ t)). let b = (there qs i r r h).0 in let c = of.count in let a = g.0 in absurd (omega arith))
-      (snoc_at (map seat_as row) (seat_as s) t i f))
+      (λ (g : get_elem? row i ≡ some t). of.each i r t h g)
+      (λ (g : (i ≡ length row) × (s ≡ t)). let b = (there qs i r r h).0 in let c = of.count in let a = g.0 in absurd (omega arith))
+      (snoc_at row s t i f))
       (λ (h : (i ≡ length qs) × (q ≡ r)). ⊎_elim
-      (λ (g : get_elem? (map seat_as row) i ≡ some t). let b = (there (map seat_as row) i t t g).0 in let c = of.count in let a = h.0 in absurd (omega arith))
-      (λ (g : (i ≡ length (map seat_as row)) × (seat_as s ≡ t)). subst (λ (z : QueueView × SeatView). IsSeatOf z.0 z.1) (λ j. (h.1 j, g.1 j)) (new.0, ap (λ (v : SeatLog). v.threads) new.1))
-      (snoc_at (map seat_as row) (seat_as s) t i f))
+      (λ (g : get_elem? row i ≡ some t). let b = (there row i t t g).0 in let c = of.count in let a = h.0 in absurd (omega arith))
+      (λ (g : (i ≡ length row) × (s ≡ t)). subst (λ (z : QueueView × SeatView). IsSeatOf z.0 z.1) (λ j. (h.1 j, g.1 j)) own)
+      (snoc_at row s t i f))
       (snoc_at qs q r i e);
 }
 
 -- each row has a seat of each of these queues
-abbrev pub AreRows : {X : Type 0} → (X → List OwnView) → List QueueView → List X → Type 0
-AreRows items qs rows = All (λ row. AreSeatsOf qs (map seat_as (items row))) rows
+abbrev pub AreRows : {X S : Type 0} → (X → List S) → (S → SeatView) → List QueueView → List X → Type 0
+AreRows items seen qs rows = All (λ row. AreSeatsOf qs (map seen (items row))) rows
 
-pub no_seats : {X : Type 0} (items : X → List OwnView) (qs : List QueueView) (rows : List X) → qs ≡ [] → All (λ row. items row ≡ []) rows → AreRows items qs rows
-no_seats items qs rows none all k d lt = subst (λ (z : List QueueView × List OwnView). AreSeatsOf z.0 (map seat_as z.1)) (λ i. (sym none i, sym (all k d lt) i)) record { count = refl; each = λ i q s e f. absurd (nowhere i q e) }
+pub no_seats : {X S : Type 0} (items : X → List S) (seen : S → SeatView) (qs : List QueueView) (rows : List X) → qs ≡ [] → All (λ row. items row ≡ []) rows → AreRows items seen qs rows
+no_seats items seen qs rows none all k d lt = subst (λ (z : List QueueView × List SeatView). AreSeatsOf z.0 z.1) (λ i. (sym none i, map seen (sym (all k d lt) i))) record { count = refl; each = λ i q s e f. absurd (nowhere i q e) }
   where
     nowhere : (i : ℕ) (q : QueueView) → get_elem? [] i ≡ some q → ⊥
     nowhere zero q e = cc e
     nowhere (suc i) q e = cc e
 
--- the first n rows have a seat of the queue q too
-pub record Dealing {X : Type 0} (items : X → List OwnView) (qs : List QueueView) (q : QueueView) (n : ℕ) (rows : List X) : Type 0 where
-  pub more : (i : ℕ) (row : X) → get_elem? rows i ≡ some row → i < n → AreSeatsOf (qs ++ q ∷ []) (map seat_as (items row))
-  pub left : (i : ℕ) (row : X) → get_elem? rows i ≡ some row → n ≤ i → AreSeatsOf qs (map seat_as (items row))
+-- ---- seats that are dealt out, from the last one on
 
-module _ {X : Type 0} (items : X → List OwnView) (qs : List QueueView) (q : QueueView) where
-  pub dealt_none : (rows : List X) → AreRows items qs rows → Dealing items qs q 0 rows
-  dealt_none rows all = record {
-    more = λ i row e lt. absurd (omega arith);
-    left = λ i row e le. let h = there rows i row row e in subst (λ (r : X). AreSeatsOf qs (map seat_as (items r))) h.1 (all i row h.0);
+-- the rows from the number n on have their seat
+pub record Dealing {X S : Type 0} (items : X → List S) (rows : List X) (seats : List S) (n : ℕ) (now : List X) : Type 0 where
+  pub count : length now ≡ length rows
+  pub left : (w : ℕ) (row : X) → w < n → get_elem? now w ≡ some row → get_elem? rows w ≡ some row
+  pub more : (w : ℕ) (row new : X) (s : S) → n ≤ w → get_elem? rows w ≡ some row → get_elem? seats w ≡ some s → get_elem? now w ≡ some new → items new ≡ items row ++ s ∷ []
+
+-- these seats are the first ones of all
+pub record AreFirst {S : Type 0} (some_of all : List S) : Type 0 where
+  pub each : (i : ℕ) (s : S) → get_elem? some_of i ≡ some s → get_elem? all i ≡ some s
+
+module _ {X S : Type 0} (items : X → List S) (rows : List X) (seats : List S) where
+  pub dealt_none : (n : ℕ) → length seats ≤ n → length seats ≡ length rows → Dealing items rows seats n rows
+  dealt_none n past same = record {
+    count = refl;
+    left = λ w row lt e. e;
+    more = λ w row new s le e f g. let low = (there seats w s s f).0 in absurd (omega arith);
   }
 
-  pub dealt_one : (n : ℕ) (rows more : List X) (row new d : X) (s : OwnView) → Dealing items qs q n rows → n < length rows → get_or rows n d ≡ row → items new ≡ items row ++ s ∷ [] → IsNewSeatOf q s → more ≡ set rows n new → Dealing items qs q (n + 1) more
-  dealt_one n rows more row new d s old lt at is seat now = subst (Dealing items qs q (n + 1)) (sym now) record {
-    more = λ i r e below. ⊎_elim
-        (λ (h : (i ≡ n) × (new ≡ r)). subst (λ (x : X). AreSeatsOf (qs ++ q ∷ []) (map seat_as (items x))) h.1 (row_more qs q (items row) (items new) s (old.left n row (at_itself rows n d lt ∙ ap some at) (omega arith)) seat is))
-        (λ (h : (i ≢ n) × (get_elem? rows i ≡ some r)). let ne = h.0 in old.more i r h.1 (omega arith))
-        (set_at rows n i new r e);
-    left = λ i r e past. ⊎_elim
-        (λ (h : (i ≡ n) × (new ≡ r)). let e = h.0 in absurd (omega arith))
-        (λ (h : (i ≢ n) × (get_elem? rows i ≡ some r)). old.left i r h.1 (omega arith))
-        (set_at rows n i new r e);
+  pub dealt_one : (n : ℕ) (now after : List X) (rest all : List S) (s : S) (row new d : X) → Dealing items rows seats n now → AreFirst all seats → all ≡ rest ++ s ∷ [] → length rest + 1 ≡ n → length rest < length now
+      → get_or now (length rest) d ≡ row → items new ≡ items row ++ s ∷ [] → after ≡ set now (length rest) new → Dealing items rows seats (length rest) after
+  dealt_one n now after rest all s row new d old firsts split one lt at is then = subst (Dealing items rows seats (length rest)) (sym then) record {
+    count = length-set now (length rest) new ∙ old.count;
+    left = λ w r low e. ⊎_elim
+        (λ (h : (w ≡ length rest) × (new ≡ r)). let a = h.0 in absurd (omega arith))
+        (λ (h : (w ≢ length rest) × (get_elem? now w ≡ some r)). old.left w r (omega arith) h.1)
+        (set_at now (length rest) w new r e);
+    more = λ w r t u high e f g. ⊎_elim
+        (λ (h : (w ≡ length rest) × (new ≡ t)).
+        let same_row : row ≡ r = some-injective row r (sym was ∙ ap (get_elem? rows) (sym h.0) ∙ e) in
+        let same_seat : s ≡ u = some-injective s u (sym here ∙ ap (get_elem? seats) (sym h.0) ∙ f) in
+        ap items (sym h.1) ∙ is ∙ (λ j. items (same_row j) ++ same_seat j ∷ []))
+        (λ (h : (w ≢ length rest) × (get_elem? now w ≡ some t)). let ne = h.0 in old.more w r t u (omega arith) e f h.1)
+        (set_at now (length rest) w new t g);
   }
+    where
+      here : get_elem? seats (length rest) ≡ some s
+      here = firsts.each (length rest) s (ap (λ (l : List S). get_elem? l (length rest)) split ∙ at_last rest s (length rest) refl)
 
-  pub dealt_all : (n : ℕ) (rows : List X) → Dealing items qs q n rows → length rows ≤ n → AreRows items (qs ++ q ∷ []) rows
-  dealt_all n rows all le k d lt = all.more k (get_or rows k d) (at_itself rows k d lt) (omega arith)
+      was : get_elem? rows (length rest) ≡ some row
+      was = old.left (length rest) row (omega arith) (at_itself now (length rest) d lt ∙ ap some at)
 
--- a queue more
+  pub firsts_less : (rest all : List S) (s : S) → AreFirst all seats → all ≡ rest ++ s ∷ [] → AreFirst rest seats
+  firsts_less rest all s firsts split = record { each = λ i t e. firsts.each i t (ap (λ (l : List S). get_elem? l i) split ∙ at_longer rest (s ∷ []) i t e) }
+
+  pub dealt_all : (now : List X) → Dealing items rows seats 0 now → AreDealtOut items rows seats now
+  dealt_all now all = record { count = all.count; each = λ w row new s e f g. all.more w row new s (omega arith) e f g }
+
+-- ---- a queue more
+
+-- what holds of each row, by its number, once its seat was dealt out
+pub row_by_row : {X S : Type 0} (items : X → List S) (rows : List X) (seats : List S) (more : List X) (P : ℕ → List S → Type 0) → AreDealtOut items rows seats more → length seats ≡ length rows
+    → ((w : ℕ) (row : X) (s : S) → get_elem? rows w ≡ some row → get_elem? seats w ≡ some s → P w (items row ++ s ∷ [])) → (w : ℕ) (new : X) → get_elem? more w ≡ some new → P w (items new)
+row_by_row items rows seats more P dealt same so w new e =
+    let low = (there more w new new e).0 in
+    let count = dealt.count in
+    let row = at_place rows w (omega arith) in
+    let seat = at_place seats w (omega arith) in
+    subst (P w) (sym (dealt.each w row.0 new seat.0 row.1 seat.1 e)) (so w row.0 seat.0 row.1 seat.1)
+
+pub rows_more : {X S : Type 0} (items : X → List S) (seen : S → SeatView) (qs : List QueueView) (q : QueueView) (rows : List X) (seats : List S) (more : List X) → AreRows items seen qs rows → All (λ s. IsSeatOf q (seen s)) seats
+    → length seats ≡ length rows → AreDealtOut items rows seats more → AreRows items seen (qs ++ q ∷ []) more
+rows_more items seen qs q rows seats more all own same dealt k d lt =
+    row_by_row items rows seats more (λ w row. AreSeatsOf (qs ++ q ∷ []) (map seen row)) dealt same
+    (λ w row s e f. let r = there rows w row row e in let t = there seats w s s f in
+    subst (AreSeatsOf (qs ++ q ∷ [])) (sym (map-append seen (items row) (s ∷ [])))
+    (row_more qs q (map seen (items row)) (seen s) (subst (λ x. AreSeatsOf qs (map seen (items x))) r.1 (all w row r.0)) (subst (λ x. IsSeatOf q (seen x)) t.1 (own w s t.0))))
+    k (get_or more k d) (at_itself more k d lt)
+
 pub queues_more : (n : ℕ) (qs more : List QueueView) (q : QueueView) → ((i : ℕ) (r : QueueView) → get_elem? qs i ≡ some r → r.threads ≡ n) → q.threads ≡ n → more ≡ qs ++ q ∷ [] → (i : ℕ) (r : QueueView) → get_elem? more i ≡ some r → r.threads ≡ n
 queues_more n qs more q all new is i r e = ⊎_elim
     (λ (h : get_elem? qs i ≡ some r). all i r h)

@@ -4,6 +4,7 @@ pub mod Finished
 pub mod Settled
 pub mod GoOn
 pub mod Crew
+pub mod Rows
 pub mod Run
 pub mod Scripts
 pub mod Offers

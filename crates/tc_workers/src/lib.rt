@@ -23,7 +23,7 @@ mod finished;
 pub mod gate;
 mod go_on;
 mod leave;
-mod lines;
+pub mod lines;
 pub mod options;
 mod run;
 #[cfg(test)]

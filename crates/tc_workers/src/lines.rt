@@ -1,24 +1,25 @@
 //! The queues of all locks, and their seats.
 
-ghost use Rattle.std.specs.Prelude.{◌≡◌, ◌≤◌, ◌++◌, ◌∷◌, [], All, IfOk, OnOk, length, map};
-ghost use Rattle.tc_isa.specs.declared.limits.TheConstants.{MAX_WORKERS};
+ghost use Rattle.std.specs.Prelude.{◌≡◌, ◌≤◌, [], All, IfOk, OnOk, length, map};
 ghost use Rattle.tc_queue.specs.Lines.{seat_as};
-ghost use Rattle.tc_queue.specs.View.{IsNewSeatOf};
 ghost use Rattle.tc_workers.specs.Crew.{AreQueues, AreSeatsOf};
+ghost use Rattle.tc_workers.specs.Rows.{AreDealtOut};
 
 use std::alloc::{AllocError, Global};
 use tc_elf::image::Image;
-use tc_queue::{Queue, QueueSeat};
+use tc_queue::{Queue, Waiters};
 
 /// A queue for each lock, in order of number, and for each worker a row with a seat of each queue.
 #[derive(Drop)]
-pub(crate) struct Lines {
-    pub(crate) queues: Vec<Queue>,
-    pub(crate) rows: Vec<Vec<QueueSeat>>,
+pub struct Lines<Q: Waiters + Drop> {
+    /// The queues, in order of lock.
+    pub queues: Vec<Q>,
+    /// The rows, in order of worker. A row has its seats in order of lock.
+    pub rows: Vec<Vec<Q::Seat>>,
 }
 
-// A row without a seat for each worker.
-fn empty_rows(alloc: Global, workers: u32) -> Result<Vec<Vec<QueueSeat>>, AllocError>
+/// A row without a seat for each worker.
+pub fn empty_rows<S: Drop>(alloc: Global, workers: u32) -> Result<Vec<Vec<S>>, AllocError>
     ensures count { IfOk result (λ rows. length rows.items ≡ workers) }
     ensures rows { IfOk result (λ rows. All (λ row. row.items ≡ []) rows.items) }
 {
@@ -29,34 +30,27 @@ fn empty_rows(alloc: Global, workers: u32) -> Result<Vec<Vec<QueueSeat>>, AllocE
     Ok(rows)
 }
 
-// A seat of one queue more, for each row.
-fn deal(
-    queues: &Vec<Queue>,
-    queue: &Queue,
-    rows: &mut Vec<Vec<QueueSeat>>,
-    mut seats: Vec<QueueSeat>,
-) -> Result<(), AllocError>
-    requires count { length seats.items ≡ length rows.old.items }
-    requires rows { All (λ row. AreSeatsOf queues.now.items (map seat_as row.items)) rows.old.items }
-    requires seats { All (IsNewSeatOf queue.now) seats.items }
-    ensures count { OnOk result (length rows.new.items ≡ length rows.old.items) }
-    ensures rows { OnOk result (All
-        (λ row. AreSeatsOf (queues.now.items ++ queue.now ∷ []) (map seat_as row.items))
-        rows.new.items) }
+/// Gives each row one seat more: the seat of its number.
+pub fn deal<S: Drop>(rows: &mut Vec<Vec<S>>, mut seats: Vec<S>) -> Result<(), AllocError>
+    requires { length seats.items ≡ length rows.old.items }
+    ensures { OnOk result (AreDealtOut (λ row. row.items)
+        rows.old.items seats.items rows.new.items) }
 {
-    let _ = queues;
-    let _ = queue;
-    for worker in 0..rows.len() {
+    for dealt in 0..rows.len() {
         let Some(seat) = seats.pop() else {
             unreachable!();
         };
-        rows[worker].push(seat)?;
+        rows[seats.len()].push(seat)?;
     }
     Ok(())
 }
 
 /// The queues of the image's locks, with seats for so many workers.
-pub(crate) fn line_up(alloc: Global, image: &Image, workers: u32) -> Result<Lines, AllocError>
+pub(crate) fn line_up(
+    alloc: Global,
+    image: &Image,
+    workers: u32,
+) -> Result<Lines<Queue>, AllocError>
     requires { 1 ≤ workers }
     ensures queues { IfOk result (λ lines. AreQueues image.now lines.queues.items) }
     ensures count { IfOk result (λ lines. length lines.rows.items ≡ workers) }
@@ -67,7 +61,7 @@ pub(crate) fn line_up(alloc: Global, image: &Image, workers: u32) -> Result<Line
     let mut rows = empty_rows(alloc, workers)?;
     for lock in 0..image.guards() {
         let (queue, seats) = Queue::new(alloc, image.threads(), workers)?;
-        deal(&queues, &queue, &mut rows, seats)?;
+        deal(&mut rows, seats)?;
         queues.push_reserved(queue);
     }
     Ok(Lines { queues, rows })

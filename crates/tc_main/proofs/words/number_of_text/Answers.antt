@@ -12,6 +12,6 @@ returns-else-number-limit-clause-none c = λ n le e.
     let again = parse-decimal 32 n c.args.text.now c.parse.result (omega arith) (omega arith) e c.parse.ensures.value.0 in
     let same : c.in-Ok.number ≡ n = cc (again, c.in-Ok.is) in
     elim c.else-number-limit.branch [
-      | else-number-limit-via-then-number-limit+else-same w ↦ grind (arith, w.if-same, c.in_ok-same.ensures, e, ap decimal same)
+      | else-number-limit-via-then-number-limit+else-same w ↦ grind (arith, w.if-same, c.is_decimal-same.ensures, e, ap decimal same)
       | else-number-limit-via-else-number-limit w ↦ absurd (omega (arith, w.if-number-limit.false))
     ]

@@ -1,38 +1,32 @@
-use Rattle.std.proofs.Common.{rules, ◌≡◌, arith, get_or, refl, Some, Vec, Global}
-use Rattle.std.proofs.lemmas.List.Elements.{All-pop}
-use Rattle.tc_queue.specs.declared.queue.QueueSeat.{QueueSeat}
-use Rattle.tc_queue.specs.View.{IsNewSeatOf}
-use Rattle.tc_ready.proofs.Crews.{last_all}
+use Rattle.std.proofs.Common.{rules, ◌≡◌, arith, get_or, refl, subst, length}
 use Rattle.tc_workers.proofs.Hiring.{one_longer}
-use Rattle.tc_workers.proofs.Rows.{dealt_none, dealt_one, dealt_all}
+use Rattle.tc_workers.proofs.Rows.{AreFirst, Dealing, dealt_none, dealt_one, dealt_all, firsts_less}
 use Rattle.tc_workers.proofs.lines.deal.Goals as goal
 
-pub loop-worker-init : goal.loop-worker-init
-loop-worker-init c = record {
-  size = search rules;
+pub loop-dealt-init : goal.loop-dealt-init
+loop-dealt-init g c = record {
   left = search rules;
-  seats = c.requires.seats;
-  dealing = dealt_none (λ (row : Vec QueueSeat Global). row.items) c.args.queues.now.items c.args.queue.now c.args.rows.now.items c.requires.rows;
+  firsts = record { each = λ i s e. e };
+  dealing = dealt_none (λ row. row.items) c.args.rows.now.items c.args.seats.items (length c.args.seats.items) (omega arith) c.requires;
 }
 
-pub loop-worker-preserved : goal.loop-worker-preserved
-loop-worker-preserved c =
-    let i = c.loop-worker.invariant in
+pub loop-dealt-preserved : goal.loop-dealt-preserved
+loop-dealt-preserved g c =
+    let i = c.loop-dealt.invariant in
     let left = i.left in
-    let size = i.size in
-    let below = c.loop-worker-test.true in
-    let fewer = one_longer c.loop-worker.seats.items c.pop.new.self.items c.in-Some.seat c.in-Some.ensures.items in
-    let new = last_all (IsNewSeatOf c.args.queue.now) c.pop.new.self.items c.loop-worker.seats.items c.in-Some.seat c.in-Some.ensures.items i.seats in
+    let count = i.dealing.count in
+    let below = c.loop-dealt-test.true in
+    let rest = c.pop.new.self.items in
+    let fewer = one_longer c.loop-dealt.seats.items rest c.in-Some.seat c.in-Some.ensures.items in
     let old = c.index_mut.result.now in
-    let at : get_or c.loop-worker.rows.items c.loop-worker.worker old ≡ old = search rules in record {
-      size = search rules;
+    let at : get_or c.loop-dealt.rows.items (length rest) old ≡ old = search rules in record {
       left = omega arith;
-      seats = (All-pop (IsNewSeatOf c.args.queue.now) c.loop-worker.seats.items c.pop.new.self.items (Some c.in-Some.seat) c.in-Some.ensures.items i.seats).0;
-      dealing = dealt_one (λ (row : Vec QueueSeat Global). row.items) c.args.queues.now.items c.args.queue.now c.loop-worker.worker c.loop-worker.rows.items _ old c.push.new.self old c.in-Some.seat i.dealing (omega arith) at c.in_ok-push.ensures.items new refl;
+      firsts = firsts_less (λ row. row.items) c.args.rows.now.items c.args.seats.items rest c.loop-dealt.seats.items c.in-Some.seat i.firsts c.in-Some.ensures.items;
+      dealing = dealt_one (λ row. row.items) c.args.rows.now.items c.args.seats.items (length c.loop-dealt.seats.items) c.loop-dealt.rows.items _ rest c.loop-dealt.seats.items c.in-Some.seat old c.push.new.self old i.dealing i.firsts c.in-Some.ensures.items (omega arith) (omega arith) at c.in_ok-push.ensures.items (search rules);
     }
 
-pub returns-clause-rows : goal.returns-clause-rows
-returns-clause-rows c =
-    let past = c.loop-worker-test.false in
-    let size = c.loop-worker.invariant.size in
-    dealt_all (λ (row : Vec QueueSeat Global). row.items) c.args.queues.now.items c.args.queue.now c.loop-worker.worker c.loop-worker.rows.items c.loop-worker.invariant.dealing (omega arith)
+pub returns : goal.returns
+returns g c =
+    let left = c.loop-dealt.invariant.left in
+    let past = c.loop-dealt-test.false in
+    dealt_all (λ row. row.items) c.args.rows.now.items c.args.seats.items c.loop-dealt.rows.items (subst (λ n. Dealing (λ row. row.items) c.args.rows.now.items c.args.seats.items n c.loop-dealt.rows.items) (omega arith) c.loop-dealt.invariant.dealing)

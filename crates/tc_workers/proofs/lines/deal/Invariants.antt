@@ -1,12 +1,10 @@
-use Rattle.std.proofs.Common.{◌≡◌, ◌+◌, All, length}
-use Rattle.tc_queue.specs.View.{IsNewSeatOf}
-use Rattle.tc_workers.proofs.Rows.{Dealing}
+use Rattle.std.proofs.Common.{◌≡◌, ◌+◌, length}
+use Rattle.tc_workers.proofs.Rows.{AreFirst, Dealing}
 use Rattle.tc_workers.proofs.lines.deal.Given as goal
 
-abbrev pub invariant-loop-worker : goal.invariant-loop-worker
-invariant-loop-worker l = record {
-  size : length l.rows.items ≡ l.worker-end;
-  left : length l.seats.items + l.worker ≡ l.worker-end;
-  seats : All (IsNewSeatOf l.queue) l.seats.items;
-  dealing : Dealing (λ row. row.items) l.queues.items l.queue l.worker l.rows.items;
+abbrev pub invariant-loop-dealt : goal.invariant-loop-dealt
+invariant-loop-dealt g l = record {
+  left : length l.seats.items + l.dealt ≡ l.dealt-end;
+  firsts : AreFirst l.seats.items l.fn.seats.items;
+  dealing : Dealing (λ row. row.items) l.fn.rows.items l.fn.seats.items (length l.seats.items) l.rows.items;
 }

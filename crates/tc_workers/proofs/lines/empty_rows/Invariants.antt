@@ -2,7 +2,7 @@ use Rattle.std.proofs.Common.{◌≡◌, ◌≤◌, [], All, length, vec_capacit
 use Rattle.tc_workers.proofs.lines.empty_rows.Given as goal
 
 abbrev pub invariant-loop-worker : goal.invariant-loop-worker
-invariant-loop-worker l = record {
+invariant-loop-worker g l = record {
   count : length l.rows.items ≡ l.worker;
   empty : All (λ row. row.items ≡ []) l.rows.items;
   room : l.workers ≤ vec_capacity l.rows;
