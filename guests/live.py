@@ -1,15 +1,17 @@
 """Which registers a guest's code can still read: a register that is written before it is read again, on
 every way on, has a value that nothing depends on.
 
-Every branch is taken to go both ways, and a return (jalr x0,0(x1)) to every place behind a call; where a
-return goes elsewhere, `expect` says so, and nothing of this may be used. At other indirect jumps all
-registers count as read. x10 always does, since it is told of an ended thread, and it can end anywhere.
+Every branch is taken to go both ways, and a return (jalr x0,0(x1), or x5, which functions that a compiler
+calls for a division return by) to every place behind a call; where a return goes elsewhere, `expect` says so,
+and nothing of this may be used. At other indirect jumps all registers count as read. x10 always does, since it
+is told of an ended thread, and it can end anywhere.
 """
 import rv32im
 
 ALL = 2**32 - 1
 ALWAYS = 1 << 10
 CALLS = 1 << 10 | 1 << 17  # the registers that a guest call looks at
+LINKS = 1, 5  # the registers that a return goes by
 
 
 class Elsewhere(Exception):
@@ -17,7 +19,7 @@ class Elsewhere(Exception):
 
 
 def is_return(what):
-    return what.name == "jalr" and (what.to, what.a, what.value) == (0, 1, 0)
+    return what.name == "jalr" and (what.to, what.value) == (0, 0) and what.a in LINKS
 
 
 def registers(what):
