@@ -3,10 +3,10 @@ report of any size needs little memory.
 
 Of a lock, with its sections in their order:
   rows     how many rows of adopted sections there are, and longest, the most that stand in one
-  changes  how many sections, from the second on, have another worker than the lock's block before
+  changes  of worker: how many sections, from the second on, have another worker than the lock's block before
   home     how many sections, from the second on, have another home worker than the section before:
            the home worker is that of the thread's block before, or the section's own where there is none.
-           So often the lock would have moved, had each section run where its thread came from
+           So often its worker would have changed, had each section run where its thread came from
   waiting  the blocks of all threads that stand between a thread's LOCK, which ended its block before,
            and its section
   fairness of this waiting over the threads (Jain's index of their mean waits): 1 where each waited as
@@ -59,7 +59,7 @@ class LockCounts:
     def begin(self, block, before, away):
         """A section of the lock begins with this block, and its thread's block before is given."""
         home = block.worker if before is None else before.worker
-        if self.worker is not None:
+        if self.sections:
             self.changes += block.worker != self.worker
             self.home += home != self.home_worker
         self.home_worker = home

@@ -78,7 +78,7 @@ class Panel:
                 x = self.middle(place) + shift
                 points.append(f"{x:.1f} {self.height(mean):.1f}")
                 if not thin:
-                    said = (f"{workers} workers, batch limit {limit}: {name} {thousands(mean)} "
+                    said = (f"{workers} workers, batch limit {limit}, {name}: {thousands(mean)} "
                             f"({thousands(least)} to {thousands(most)})")
                     shown.append(titled(said, [
                         f'<path stroke="{colour}" d="M{x:.1f} {self.height(least):.1f}V{self.height(most):.1f}"/>',
@@ -139,7 +139,7 @@ def panels(name, results):
     """The plots of a sweep."""
     sweep = Sweep(results)
     wanted = [(None, "Sections by kind (a bar for each number of workers)", number_of("sections"), None),
-              ("lock moves", "Moves of locks (thin: had sections run at home)", number_of("changes"),
+              ("changes of worker", "Changes of a lock's worker (thin: had sections run at home)", number_of("changes"),
                number_of("home")),
               ("sections away", "Sections away from their thread's worker", number_of("away"), None),
               ("adopted in a row", "Adopted sections in a row (thin: the longest row)", longest_mean,
@@ -176,7 +176,7 @@ def strips(name, results, lock, most):
     for result in results:
         numbers, workers = result.locks[lock], result.setting.workers
         text = (f"{f'{workers} workers, ' if several else ''}batch limit {result.setting.batch}: in "
-                f"{thousands(numbers['sections'])} sections the lock moved {thousands(numbers['changes'])} times")
+                f"{thousands(numbers['sections'])} sections the lock changed its worker {thousands(numbers['changes'])} times")
         parts.append(label(LEFT, y, text, "t"))
         y += 8
         for worker in range(workers):

@@ -85,7 +85,7 @@ class Sweep(Case):
                 xml.etree.ElementTree.fromstring(text)
                 self.assertNotIn("<script", text)
             self.assertNotIn("Seconds", plot.read_text())
-        moved = re.findall(r"in (\d+) sections the lock moved (\d+) times", strips.read_text())
+        moved = re.findall(r"in (\d+) sections the lock changed its worker (\d+) times", strips.read_text())
         rows = [row for row in table(done) if row["run"] == "1"]
         self.assertEqual(moved, [(row["sections"], row["changes"]) for row in rows])
 

@@ -87,9 +87,18 @@ class Tables(Case):
                              [1, 1, 0, 0, 0, 0, 0])
         self.assertEqual([counts["by_thread"][0][name] for name in ("blocks", "turns", "moves")], [5, 14, 0])
 
-    def test_waiting_and_moves_on_paper(self):
+    def test_changes_are_counted_from_the_second_section(self):
+        """A lock's first section changes nothing, whatever stands before it, as in a report that is not legal."""
+        blocks = ("thread 0 turns 1 held 0 kind on worker 0 end slept", "thread 1 turns 1 held 0 kind taken worker 1 end slept",
+                  "thread 0 turns 1 held 0 kind taken worker 2 end slept")
+        text = "\n".join(["tclocks 1", "guest threads 2 guards 1", "run workers 3 fuel 9 batch 0",
+                          *(f"block {stamp} {block}" for stamp, block in enumerate(blocks))]) + "\n"
+        lock = json.loads(run("summary", "-", "--json", given=text).stdout)["by_lock"][0]
+        self.assertEqual([lock[name] for name in ("sections", "taken", "changes", "home")], [2, 2, 1, 1])
+
+    def test_waiting_and_changes_on_paper(self):
         """Three threads come to their LOCK, and the sections stand 0, 2, 1: thread 1 waits three blocks,
-        thread 2 one. The lock moves from worker 0 to 1 and back to 0; at home it would be so too, but that
+        thread 2 one. The lock goes from worker 0 to 1 and back to 0; at home it would be so too, but that
         worker 2 ran thread 1 to its LOCK: 0, 1, 2."""
         lines = """run workers 3 fuel 100 batch 4
             thread 0 worker 0

@@ -2,11 +2,11 @@
 
   sections   of a lock, and how many of them were taken, adopted, granted
   longest    the most adopted sections in a row
-  changes    how many sections, from the second on, ran with another worker than the lock's block before:
-             so often the lock moved
+  changes    of worker: how many sections, from the second on, ran with another worker than the lock's block
+             before
   home       how many sections, from the second on, have another home worker than the section before; the
-             home worker is that of the thread's block before. So often the lock would have moved, had each
-             section run where its thread came from
+             home worker is that of the thread's block before. So often the worker would have changed, had
+             each section run where its thread came from
   away       blocks of a section (of a lock: its sections' first blocks) that ran with another worker
              than the thread's last block without a lock
   waiting    how many blocks stand between a thread's LOCK and its section, in sum, and the longest wait

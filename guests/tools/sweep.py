@@ -6,10 +6,10 @@ seeds; `by` says which. Numbers of a run are sums over its locks, and the greate
 
   sections   and how many of them were taken, adopted, granted
   rows       of adopted sections, and longest, the most that stand in one
-  changes    how often a lock moved: sections, from a lock's second on, with another worker than the lock's
+  changes    how often a lock changed its worker: sections, from a lock's second on, with another worker than
+             the lock's block before
+  home       how often it would have, had each section run with its home worker, which is that of its thread's
              block before
-  home       how often it would have moved, had each section run with its home worker, which is that of its
-             thread's block before
   away       sections that ran with another worker than their thread's last block without a lock: its context
              was handed over
   waiting    the blocks that stand between a thread's LOCK and its section, and the longest wait
