@@ -2,7 +2,7 @@
 lock. Workers and kinds are told apart by shape as well as by colour."""
 import itertools
 
-from svg import COLOURS, box, label, titled
+from svg import COLOURS, box, document, label, titled
 
 WIDE, HIGH, GAP, LEFT, TOP = 360, 170, 50, 56, 84  # of a panel, and the margins
 KINDS = {"taken": "#CFCFCF", "adopted": "#0072B2", "granted": "#E69F00"}
@@ -10,12 +10,6 @@ STYLE = """text{font:11px 'DejaVu Sans',Verdana,sans-serif;fill:#222}.h{font-siz
 .t{font-weight:bold}.axis{fill:#555;font-size:9px}.end{text-anchor:end}.mid{text-anchor:middle}
 path{fill:none}.g{stroke:#ddd}.w{stroke-width:1.8}.thin{stroke-width:1;stroke-dasharray:4 3}"""
 MARKS = ("M-3-3h6v6h-6z", "M0-4l4 7h-8z", "M0-4l4 4-4 4-4-4z", "M-4 0a4 4 0 1 0 8 0a4 4 0 1 0-8 0z")
-
-
-def page(wide, high, parts):
-    return (f'<svg xmlns="http://www.w3.org/2000/svg" viewBox="0 0 {wide:g} {high:g}" width="{wide:g}" '
-            f'height="{high:g}"><style>{STYLE}</style><rect width="100%" height="100%" fill="#fff"/>\n'
-            + "\n".join(parts) + "\n</svg>\n")
 
 
 def thousands(value):
@@ -162,7 +156,7 @@ def panels(name, results):
     title = f"{name}, fuel {setting.fuel}, {runs} run{'s' * (runs > 1)} of each by the {setting.by}"
     head = [label(LEFT, 20, title, "h"), *workers_legend(sweep.workers, LEFT, 40),
             *kinds_legend(LEFT + 105 * len(sweep.workers) + 20, 40)]
-    return page(2 * (WIDE + LEFT + GAP), TOP + (len(wanted) + 1) // 2 * (HIGH + 70), head + parts)
+    return document(2 * (WIDE + LEFT + GAP), TOP + (len(wanted) + 1) // 2 * (HIGH + 70), STYLE, head + parts)
 
 
 LANE, LONG = 13, 760  # of a strip: the height of a worker's lane, and how wide all sections are
@@ -189,7 +183,7 @@ def strips(name, results, lock, most):
     title = f"Who had the lock: {name}" + ("" if several else f", {setting.workers} workers") + f", by the {setting.by}"
     head = [label(LEFT, 20, title, "h"), label(LEFT, 38, "Each box is a stretch of sections that one worker ran; where "
                                                "the next one stands in another lane, the lock's data moved.")]
-    return page(LEFT + LONG + 20, y, head + parts)
+    return document(LEFT + LONG + 20, y, STYLE, head + parts)
 
 
 def lane(owners, worker, y, unit):

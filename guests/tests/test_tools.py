@@ -151,7 +151,7 @@ class Tables(Case):
                 self.assertEqual((done.returncode, done.stderr), (0, b""), (tool, words))
 
     def test_explore_keeps_a_history_of_each_outcome(self):
-        folder = TEMPORARY / "kept"
+        folder = TEMPORARY / "outcomes"
         done = run("explore", elf("buffer"), "--runs", "6", "--model", "--keep", str(folder))
         self.assertEqual(done.returncode, 0)
         for path in folder.iterdir():

@@ -6,7 +6,6 @@ the model takes the interleaving of its seed. A seed asks for the model.
 """
 import delegation
 import guestfile
-import limits
 import program
 import tool
 
@@ -26,7 +25,7 @@ def by_model(file, asked, why):
     try:
         guest = guestfile.GuestFile(file).guest
     except guestfile.Refused as refused:
-        print(str(refused).split(":")[0])
+        print(refused.line)
         raise tool.Trouble(tool.WRONG, ENDS[tool.WRONG]) from None
     tool.note("run", "by the model" + ("" if asked.workers == 1 else f", in the interleaving of seed {asked.seed or 0}")
               + (f": {why}" if why else ""))
@@ -36,10 +35,7 @@ def by_model(file, asked, why):
 
 
 def main(words):
-    parser = tool.words("run", __doc__)
-    parser.add_argument("guest", metavar="GUEST", help="the guest's file")
-    for name, (least, most) in limits.RUN.items():
-        parser.add_argument(name, metavar=name.upper(), type=tool.number(least, most), help=f"{least} to {most}")
+    parser = tool.words("run", __doc__, "guest", "run")
     parser.add_argument("--seed", type=tool.number(0, 10**9), metavar="N", help="the model, in this interleaving (0)")
     asked = parser.parse_args(words)
     file = guestfile.read(asked.guest)

@@ -2,18 +2,8 @@
 table (CSV) with one line for each run, or with --locks one for each lock of each run.
 
 The runs are those of the program where it is built, and else of the model, in the interleavings of its
-seeds; `by` says which. Numbers of a run are sums over its locks, and the greatest of longest and longest_wait.
-
-  sections   and how many of them were taken, adopted, granted
-  rows       of adopted sections, and longest, the most that stand in one
-  changes    how often a lock changed its worker: sections, from a lock's second on, with another worker than
-             the lock's block before
-  home       how often it would have, had each section run with its home worker, which is that of its thread's
-             block before
-  away       sections that ran with another worker than their thread's last block without a lock: its context
-             was handed over
-  waiting    the blocks that stand between a thread's LOCK and its section, and the longest wait
-  seconds    that the program took; none for the model, which tells of no time
+seeds; `by` says which. Numbers of a run are sums over its locks, and the greatest of longest and longest_wait;
+seconds are those that the program took, and none of the model, which tells of no time.
 """
 import argparse
 import csv
@@ -36,7 +26,6 @@ import program
 import report
 import tool
 
-SUMS = ("sections", "taken", "adopted", "granted", "rows", "changes", "home", "away", "waiting")
 GREATEST = ("longest", "longest_wait")
 NUMBERS = ("sections", "taken", "adopted", "granted", "rows", "longest", "changes", "home", "away", "waiting",
            "longest_wait")
@@ -153,8 +142,7 @@ def draw(asked, done):
 
 
 def asked_of(words):
-    parser = tool.words("sweep", __doc__)
-    parser.add_argument("guest", metavar="GUEST", help="the guest's file")
+    parser = tool.words("sweep", __doc__ + counts.MEANINGS, "guest")
     for name, usual in (("workers", "1,2,4,8"), ("batch", "0,1,8,256")):
         parser.add_argument(f"--{name}", metavar="N,N..", type=numbers(*limits.RUN[name]), default=usual,
                             help=f"({usual})")
