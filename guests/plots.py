@@ -2,6 +2,7 @@
 lock. Workers and kinds are told apart by shape as well as by colour."""
 import itertools
 
+from report import several
 from svg import COLOURS, box, document, label, titled
 
 WIDE, HIGH, GAP, LEFT, TOP = 360, 170, 50, 56, 84  # of a panel, and the margins
@@ -72,7 +73,7 @@ class Panel:
                 x = self.middle(place) + shift
                 points.append(f"{x:.1f} {self.height(mean):.1f}")
                 if not thin:
-                    said = (f"{workers} workers, batch limit {limit}, {name}: {thousands(mean)} "
+                    said = (f"{several(workers, 'worker')}, batch limit {limit}, {name}: {thousands(mean)} "
                             f"({thousands(least)} to {thousands(most)})")
                     shown.append(titled(said, [
                         f'<path stroke="{colour}" d="M{x:.1f} {self.height(least):.1f}V{self.height(most):.1f}"/>',
@@ -92,7 +93,7 @@ class Panel:
                     _, mean, _ = self.sweep.values(workers, limit, lambda result: result.sums()[kind])
                     if mean:
                         self.parts.append(titled(
-                            f"{workers} workers, batch limit {limit}: {thousands(mean)} {kind}",
+                            f"{several(workers, 'worker')}, batch limit {limit}: {thousands(mean)} {kind}",
                             [box(x + 1, self.height(base + mean), wide - 2, HIGH * mean / self.top, colour)]))
                     base += mean
                 self.parts.append(label(x + wide / 2, self.y + HIGH + 11, str(workers), "axis mid"))
@@ -121,7 +122,7 @@ def workers_legend(workers, x, y):
         colour = COLOURS[which % 7]
         yield f'<path class="w" stroke="{colour}" d="M{x:g} {y - 4:g}h22"/>'
         yield f'<path style="fill:{colour}" transform="translate({x + 11:g} {y - 4:g})" d="{MARKS[which % 4]}"/>'
-        yield label(x + 27, y, f"{count} worker{'s' * (count > 1)}")
+        yield label(x + 27, y, several(count, "worker"))
         x += 105
 
 
@@ -166,10 +167,10 @@ def strips(name, results, lock, most):
     """For each run a strip of which worker had a lock: a lane for each worker, over the lock's sections."""
     setting, parts, y = results[0].setting, [], 62
     shown = min(most, max(1, *(len(result.owners[lock]) for result in results)))
-    several = len({result.setting.workers for result in results}) > 1
+    differ = len({result.setting.workers for result in results}) > 1
     for result in results:
         numbers, workers = result.locks[lock], result.setting.workers
-        text = (f"{f'{workers} workers, ' if several else ''}batch limit {result.setting.batch}: in "
+        text = (f"{several(workers, 'worker') + ', ' if differ else ''}batch limit {result.setting.batch}: in "
                 f"{thousands(numbers['sections'])} sections the lock changed its worker {thousands(numbers['changes'])} times")
         parts.append(label(LEFT, y, text, "t"))
         y += 8
@@ -180,7 +181,7 @@ def strips(name, results, lock, most):
         y += LANE * workers + 26
     parts.append(label(LEFT + LONG, y - 12, f"the first {thousands(shown)} sections of lock {lock}, one after another",
                        "axis end"))
-    title = f"Who had the lock: {name}" + ("" if several else f", {setting.workers} workers") + f", by the {setting.by}"
+    title = f"Who had the lock: {name}" + ("" if differ else f", {several(setting.workers, 'worker')}") + f", by the {setting.by}"
     head = [label(LEFT, 20, title, "h"), label(LEFT, 38, "Each box is a stretch of sections that one worker ran; where "
                                                "the next one stands in another lane, the lock's data moved.")]
     return document(LEFT + LONG + 20, y, STYLE, head + parts)

@@ -297,4 +297,4 @@ def sentences(line, first, last):
     sections = Counter(mark.block.begun for mark in marks if mark.block.begun is not None)
     if sections:
         yield "Moves of locks to another worker: " + ", ".join(
-            f"lock {lock} {moves[lock]} in {several(sections[lock], 'section')}" for lock in sorted(sections)) + "."
+            f"lock {lock}: {moves[lock]} in {several(sections[lock], 'section')}" for lock in sorted(sections)) + "."
