@@ -159,4 +159,7 @@ def usage(words):
     names = limits.FORMS[form].values()
     if len(numbers) != len(names):
         return f"behind {form} stand {len(numbers)} words: it wants {', '.join(names)}"
-    return next(filter(None, map(report.wrong_number, names, numbers)), None)
+    wrong = next(filter(None, map(report.wrong_number, names, numbers)), None)
+    if wrong is None and form == "nodes" and int(numbers[0]) > int(numbers[2]):
+        return f"{numbers[0]} nodes and {numbers[2]} workers: each node wants a worker"
+    return wrong

@@ -56,6 +56,7 @@ class Explanations(Case):
         for words, part in (("run 0 10 1", "workers"), ("run 2 010 1", "leading zero"), ("run 1 65537 0", "65537"),
                             ("run 1 1 257", "257"), ("run", "workers, fuel, batch"), ("", "no words"), ("gen 0", "rounds is 0"),
                             ("gen 2001", "1 to 2000"), ("demo 5", "rounds, workers"), ("demo 5 9", "1 to 8"),
+                            ("nodes 3 4 2 2000 8", "3 nodes and 2 workers"), ("nodes 1 257 1 1 0", "bound is 257"), ("nodes 1 1 0", "nodes, bound, workers"),
                             ("stop", "stop"), ("run 1 -1 0", "-1")):
             done = run("explain", elf("first"), "--words", *words.split())
             self.assertEqual(done.returncode, 0)

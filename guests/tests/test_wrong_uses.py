@@ -3,6 +3,7 @@ import json
 import subprocess
 import unittest
 
+import limits
 from common import GUESTS, TEMPORARY, Case, elf, history, run, saved
 
 
@@ -62,7 +63,7 @@ class WrongUses(Case):
             self.assertEqual((piped.wait(), said.count(b"\n")), (4, 1), said)
 
     def test_refusal_or_usage_line_in_the_place_of_a_report(self):
-        for line in ("refused 9 BadLoad", "usage: tclocks run W F B | tclocks gen N | tclocks demo N W"):
+        for line in ("refused 9 BadLoad", limits.USAGE):
             for tool in ("judge", "summary", "draw"):
                 done = run(tool, *self.WORDS[tool], "-", given=line + "\n")
                 self.one_line(done, 3)
