@@ -49,7 +49,8 @@ class Waits:
 class LockCounts:
     def __init__(self):
         self.kinds, self.turns, self.away = Counter(), 0, 0
-        self.row = self.rows = self.longest = self.changes = self.home = 0
+        self.row = self.rows = self.longest = self.home = 0
+        self.changed, self.came = Counter(), Counter()  # by two workers: that before, and that of the section
         self.worker = self.home_worker = None  # of the lock's block before, of its section before
         self.waits = {}  # by thread
 
@@ -62,8 +63,9 @@ class LockCounts:
         """A section of the lock begins with this block, and its thread's block before is given."""
         home = block.worker if before is None else before.worker
         if self.sections:
-            self.changes += block.worker != self.worker
+            self.changed[self.worker, block.worker] += 1
             self.home += home != self.home_worker
+        self.came[home, block.worker] += 1
         self.home_worker = home
         self.kinds[block.kind] += 1
         self.away += away
@@ -75,6 +77,10 @@ class LockCounts:
     @property
     def sections(self):
         return sum(self.kinds.values())
+
+    @property
+    def changes(self):
+        return apart(self.changed)
 
     @property
     def waiting(self):
@@ -120,6 +126,11 @@ class WorkerCounts:
         self.blocks += 1
         self.turns += block.turns
         self.away += away
+
+
+def apart(pairs, nodes=8):
+    """How many pairs of workers are of two workers, or of two nodes where there are fewer nodes than workers."""
+    return sum(count for (one, other), count in pairs.items() if one % nodes != other % nodes)
 
 
 def wait(block, before):

@@ -47,7 +47,8 @@ class Run(Case):
     def test_wrong_uses(self):
         for words in ((), (elf("first"),), (elf("first"), "1", "1"), (elf("first"), "0", "1", "0"),
                       (elf("first"), "1", "65537", "0"), (elf("first"), "1", "1", "257"), (elf("first"), "1", "1", "0", "0"),
-                      (elf("first"), "1", "1", "0", "--seed", "x"), (elf("first"), "1", "1", "0", "--model")):
+                      (elf("first"), "1", "1", "0", "--seed", "x"), (elf("first"), "1", "1", "0", "--model"), (elf("first"), "1", "1", "0", "--nodes", "2", "0"),
+                      (elf("first"), "1", "1", "0", "--nodes", "0", "1"), (elf("first"), "1", "1", "0", "--nodes", "1")):
             self.one_line(run("run", *words), 1)
         self.one_line(run("run", "/no/such/file", "1", "1", "0"), 2)
         with open("/dev/full", "wb") as full:
