@@ -1,6 +1,7 @@
 """Makes the guests of the bench: ELF32 files of the form of docs/GUEST.md, of words of code that
 guests/rv32im.py makes of mnemonics and operands."""
 
+import functools
 import struct
 import sys
 from pathlib import Path
@@ -106,18 +107,6 @@ def image(kibibytes):
     return elf(call(limits.EXIT, 0), 16, twelve_ranges(12 * [kibibytes * 1024 // 12]))
 
 
-def quarter_image():
-    return image(240)
-
-
-def half_image():
-    return image(480)
-
-
-def large_image():
-    return image(960)
-
-
 def many_ranges():
     """Loads and stores in the last of 13 ranges, beside 16 guards that nobody uses."""
     ranges = twelve_ranges(12 * [4096])
@@ -125,15 +114,7 @@ def many_ranges():
     return elf(base + for_ever([encode("addi", 8, 8, 0)] + 4 * add_one(8)), 16, ranges)
 
 
-GUESTS = {
-    "arithmetic": arithmetic,
-    "memory": memory,
-    "hot-lock": hot_lock,
-    "nested-locks": nested_locks,
-    "sleeps": sleeps,
-    "shortest-blocks": shortest_blocks,
-    "quarter-image": quarter_image,
-    "half-image": half_image,
-    "large-image": large_image,
-    "many-ranges": many_ranges,
-}
+GUESTS = {guest.__name__.replace("_", "-"): guest for guest in (
+    arithmetic, memory, hot_lock, nested_locks, sleeps, shortest_blocks, many_ranges)}
+GUESTS.update({f"{size}-image": functools.partial(image, kibibytes)
+               for size, kibibytes in (("quarter", 240), ("half", 480), ("large", 960))})

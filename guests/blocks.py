@@ -16,7 +16,6 @@ class Places:
 
     def __init__(self, guest):
         self.guest, self.found, self.first = guest, {}, {}
-        self.guards = [range(start, start + length) for start, length in guest.guards]
 
     def at(self, address, width):
         """The fault of an access (4 for one that lies in nothing) or None; what it lies in, which is a
@@ -33,7 +32,7 @@ class Places:
             return 6, None, None
         if address in limits.STACK:
             return None, None, None
-        for number, guard in enumerate(self.guards):
+        for number, guard in enumerate(self.guest.spans):
             if address in guard:
                 return None, number, address - guard.start
         for where, flags, content in self.guest.ranges:

@@ -75,10 +75,6 @@ class History:
         if text in ("tclocks 1", "tclocks 2"):
             self.header["version"] = int(text[8:])
             return True
-        found = report.OPTIONS.fullmatch(text)
-        if found:
-            for name, word in zip(limits.RUN, found.groups()):
-                if report.wrong_number(name, word):
-                    raise report.Wrong(f"line {number}: {report.wrong_number(name, word)}")
-                self.header[name] = int(word)
-        return bool(found) or bool(report.GUEST.fullmatch(text))
+        found = report.options_of(text, number)
+        self.header.update(found or {})
+        return bool(found or report.GUEST.fullmatch(text))

@@ -1,22 +1,24 @@
 """Counts of a report: by lock, by thread and by worker. Blocks are counted one by one, so that a
-report of any size needs little memory.
-
-Of a lock, with its sections in their order:
-  rows     how many rows of adopted sections there are, and longest, the most that stand in one
-  changes  how many sections, from the second on, have another worker than the lock's block before
-  home     how many sections, from the second on, have another home worker than the section before:
-           the home worker is that of the thread's block before, or the section's own where there is none.
-           So often the lock would have moved, had each section run where its thread came from
-  waiting  the blocks of all threads that stand between a thread's LOCK, which ended its block before,
-           and its section
-  fairness of this waiting over the threads (Jain's index of their mean waits): 1 where each waited as
-           long as the others, 1/N where one of N threads waited alone
-Of a thread, moves: how many of its blocks have another worker than its block before.
-"""
+report of any size needs little memory."""
 from collections import Counter
 
 from limits import SECTIONS
 
+MEANINGS = """
+  sections   of a lock, and how many of them were taken, adopted, granted
+  rows       of adopted sections, and longest, the most that stand in one
+  changes    of worker: how many sections, from the second on, have another worker than the lock's block before
+  home       how many sections, from the second on, have another home worker than the section before; the
+             home worker is that of the thread's block before, or the section's own where there is none. So often
+             the worker would have changed, had each section run where its thread came from
+  away       blocks of a section (of a lock: its sections' first blocks) that ran with another worker
+             than the thread's last block without a lock: its context was handed over
+  waiting    how many blocks stand between a thread's LOCK and its section, in sum, and the longest wait
+  fairness   of the waiting for a lock: 1 where each thread waited as long as the others, 1/N where one of
+             N threads waited alone (Jain's index of the threads' mean waits)
+  turns      of a lock: turns in which it was held
+  moves      of a thread: how many blocks have another worker than its block before
+"""
 
 class Away:
     """Follows which worker each thread calls its own: the one that ran its last block without a
@@ -47,7 +49,8 @@ class Waits:
 class LockCounts:
     def __init__(self):
         self.kinds, self.turns, self.away = Counter(), 0, 0
-        self.row = self.rows = self.longest = self.changes = self.home = 0
+        self.row = self.rows = self.longest = self.home = 0
+        self.changed, self.came = Counter(), Counter()  # by two workers: that before, and that of the section
         self.worker = self.home_worker = None  # of the lock's block before, of its section before
         self.waits = {}  # by thread
 
@@ -59,9 +62,10 @@ class LockCounts:
     def begin(self, block, before, away):
         """A section of the lock begins with this block, and its thread's block before is given."""
         home = block.worker if before is None else before.worker
-        if self.worker is not None:
-            self.changes += block.worker != self.worker
+        if self.sections:
+            self.changed[self.worker, block.worker] += 1
             self.home += home != self.home_worker
+        self.came[home, block.worker] += 1
         self.home_worker = home
         self.kinds[block.kind] += 1
         self.away += away
@@ -73,6 +77,10 @@ class LockCounts:
     @property
     def sections(self):
         return sum(self.kinds.values())
+
+    @property
+    def changes(self):
+        return apart(self.changed)
 
     @property
     def waiting(self):
@@ -118,6 +126,11 @@ class WorkerCounts:
         self.blocks += 1
         self.turns += block.turns
         self.away += away
+
+
+def apart(pairs, nodes=8):
+    """How many pairs of workers are of two workers, or of two nodes where there are fewer nodes than workers."""
+    return sum(count for (one, other), count in pairs.items() if one % nodes != other % nodes)
 
 
 def wait(block, before):

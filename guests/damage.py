@@ -10,8 +10,7 @@ import made
 from elf32 import word
 
 ODD = (0, 1, 3, 5, 7, 17, 65540, 0x100002, 0x7FFFC000, 0xFFFFFFFF)
-# Words of a program header.
-TYPE, OFFSET, ADDRESS, FILE_SIZE, MEMORY = 0, 1, 2, 4, 5
+OFFSET, ADDRESS, FILE_SIZE, MEMORY = 1, 2, 4, 5  # words of a program header
 
 
 def with_word(file, at, value):

@@ -28,7 +28,8 @@ class Worker:
 class Hall:
     """Where threads and locks are, and who stands in each lock's line."""
 
-    def __init__(self, guest, workers, fuel, limit, seed, version=2):
+    def __init__(self, guest, workers, fuel, limit, seed, version=2, nodes=0, bound=0):
+        self.nodes, self.bound = nodes, bound  # without nodes waiters are served in the order in which they came
         self.run = legal.Run(guest, workers, fuel, limit, version)
         self.threads = self.run.machine.threads
         self.place = [READY] * len(self.threads)
@@ -36,6 +37,7 @@ class Hall:
         self.home = [True] * len(self.run.machine.locks)
         self.line = [[] for _ in self.home]  # threads; the first has the lock or is about to
         self.linked = set()  # (thread, lock): it stands in the line for the one before to see
+        self.shipped = {}  # of a thread that waits: its worker, and how many that came later were picked before it
         self.chance = random.Random(seed)
         self.slowness = [4 ** self.chance.uniform(-1, 1) for _ in range(workers)]
         self.blocks = []
@@ -127,6 +129,7 @@ class Hall:
             self.granted[thread] = "taken"
             return thread
         self.place[thread] = WAITING
+        self.shipped[thread] = [worker.number, 0]
         yield 1
         self.linked.add((thread, lock))
         return None
@@ -159,6 +162,18 @@ class Hall:
             thread, worker.aside = worker.aside, None
         return thread
 
+    def next_in_line(self, lock, worker):
+        """Whom a worker passes a lock on to: the first that stands in the line, or with nodes the first of the
+        worker's node, as long as the first of all was not passed over as often as the bound says."""
+        waiting = list(itertools.takewhile(lambda thread: (thread, lock) in self.linked, self.line[lock][1:]))
+        chosen = waiting[0]
+        if self.nodes and self.shipped[chosen][1] < self.bound:
+            near = (thread for thread in waiting if (self.shipped[thread][0] - worker.number) % self.nodes == 0)
+            chosen = next(near, chosen)
+        for passed in waiting[:waiting.index(chosen)]:
+            self.shipped[passed][1] += 1
+        return chosen
+
     def release(self, worker, lock, block):
         """Hands a lock to the next in its line, or brings it home. Answers the thread that the
         worker adopts, or None."""
@@ -170,8 +185,9 @@ class Hall:
             yield 1
             self.home[lock] = True
             return None
-        line.pop(0)
-        waiter = line[0]
+        waiter = self.next_in_line(lock, worker)
+        line.remove(waiter)
+        line[0] = waiter
         self.linked.discard((waiter, lock))
         adopts = "adopted" in self.run.kinds(waiter, worker.number)
         self.granted[waiter] = "adopted" if adopts else "granted"
@@ -183,10 +199,10 @@ class Hall:
         return waiter if adopts else None
 
 
-def delegated(guest, fuel, workers, limit, seed=0, version=2):
+def delegated(guest, fuel, workers, limit, seed=0, version=2, nodes=0, bound=0):
     """The history that the seed stands for, which one worker alone does not look at: the run and
     its blocks."""
-    hall = Hall(guest, workers, fuel, limit, seed, version)
+    hall = Hall(guest, workers, fuel, limit, seed, version, nodes, bound)
     blocks = hall.history()
     return hall.run, blocks
 

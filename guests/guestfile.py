@@ -15,11 +15,11 @@ STACK = limits.STACK
 
 
 class Refused(Exception):
-    """A refusal: its number, its name, and the numbers that disagree."""
+    """A refusal: its number, its name, and the numbers that disagree; `line` is what the program prints of it."""
 
     def __init__(self, number, name, why):
-        super().__init__(f"refused {number} {name}: {why}")
-        self.number = number
+        self.number, self.line = number, f"refused {number} {name}"
+        super().__init__(f"{self.line}: {why}")
 
 
 def check(file):
@@ -224,16 +224,9 @@ class GuestFile:
                 return self.symbols.at(address, addresses)
         return ""
 
-    def word(self, pc):
-        """The word of the code at an address, or None."""
-        return self.guest.word(pc)
-
     def guard_at(self, address):
         """The number of the guard that has an address, or None."""
-        for number, (start, length) in enumerate(self.guest.guards):
-            if start <= address < start + length:
-                return number
-        return None
+        return next((number for number, span in enumerate(self.guest.spans) if address in span), None)
 
 
 def read(path):

@@ -128,7 +128,7 @@ class Run:
     def candidates(self):
         """What could come next: each block that could, with the workers that could run it."""
         guest = self.machine.guest
-        for number in self.runnable():
+        for number in self.machine.able():
             kinds = {}
             for worker in range(self.workers):
                 for kind in self.kinds(number, worker):
@@ -136,18 +136,11 @@ class Run:
             for kind, workers in kinds.items():
                 yield copy.deepcopy(self, {id(guest): guest}).step(number, kind, workers[0]), workers
 
-    def runnable(self):
-        """The threads that can run a block."""
-        for number, thread in enumerate(self.machine.threads):
-            lock = self.machine.next_lock(thread)
-            if thread.end is None and (lock is None or self.machine.locks[lock].owner is None):
-                yield number
-
     def go_on(self):
         """Runs to the end of every thread: each runs as long as it can, as worker 0, and every
         section is taken. Answers the blocks."""
         while True:
-            number = next(self.runnable(), None)
+            number = next(self.machine.able(), None)
             if number is None:
                 return
             taken = self.machine.next_lock(self.machine.threads[number]) is not None

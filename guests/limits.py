@@ -14,6 +14,7 @@ TURNS = 4096  # of one block
 
 KINDS = ("start", "on", "taken", "adopted", "granted")
 SECTIONS = KINDS[2:]  # the kinds that begin a section
+PASSED_ON = KINDS[3:]  # those of a section that a waiter was given
 
 # The least and the most of each number that stands behind the program's words.
 RUN = {"workers": (1, 8), "fuel": (1, 65536), "batch": (0, 256)}

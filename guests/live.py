@@ -1,15 +1,16 @@
 """Which registers a guest's code can still read: a register that is written before it is read again, on
 every way on, has a value that nothing depends on.
 
-Every branch is taken to go both ways, and a return (jalr x0,0(x1)) to every place behind a call; where a
-return goes elsewhere, `expect` says so, and nothing of this may be used. At other indirect jumps all
-registers count as read. x10 always does, since it is told of an ended thread, and it can end anywhere.
+Every branch is taken to go both ways, and a return (jalr x0,0(x1), or x5, which functions that a compiler
+calls for a division return by) to every place behind a call; where a return goes elsewhere, `expect` says so,
+and nothing of this may be used. At other indirect jumps all registers count as read. x10 always does, since it
+is told of an ended thread, and it can end anywhere.
 """
 import rv32im
 
 ALL = 2**32 - 1
-ALWAYS = 1 << 10
-CALLS = 1 << 10 | 1 << 17  # the registers that a guest call looks at
+X10 = 10
+LINKS = 1, 5  # the registers that a return goes by
 
 
 class Elsewhere(Exception):
@@ -17,16 +18,7 @@ class Elsewhere(Exception):
 
 
 def is_return(what):
-    return what.name == "jalr" and (what.to, what.a, what.value) == (0, 1, 0)
-
-
-def registers(what):
-    """The registers that an instruction reads, and that it writes, as bits."""
-    if what.name == "ecall":
-        return CALLS, 0
-    operands = rv32im.OPERANDS[rv32im.BY_NAME[what.name][0]] if what.name in rv32im.BY_NAME else ()
-    bits = {name: 1 << getattr(what, name) for name in operands if name in rv32im.REGISTER}
-    return bits.get("a", 0) | bits.get("b", 0), bits.get("to", 0)
+    return what.name == "jalr" and (what.to, what.value) == (0, 0) and what.a in LINKS
 
 
 class Live:
@@ -51,10 +43,10 @@ class Live:
         word = self.guest.word(pc)
         what = None if word is None else rv32im.decode(word)
         if what is None or what.name == "ebreak":
-            self.reads[pc] = ALWAYS, 0
+            self.reads[pc] = 1 << X10, 0
             return []
-        read, written = registers(what)
-        self.reads[pc] = read | ALWAYS, written
+        read, written = rv32im.registers(what)
+        self.reads[pc] = sum(1 << register for register in {*read, X10}), 1 << written
         after, behind = [pc + 4 & ALL], []
         if what.name in ("jal", "jalr") and what.to:
             self.returns.add(pc + 4 & ALL)

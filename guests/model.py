@@ -52,7 +52,7 @@ class Illegal(Exception):
 
 
 class Guest:
-    """What a file says: ranges (addresses, flags, bytes), entries and guards."""
+    """What a file says: ranges (addresses, flags, bytes), entries and guards, and the guards' addresses."""
 
     def __init__(self, file):
         self.entries, self.guards = [(elf32.entry(file), 0)], []
@@ -66,6 +66,7 @@ class Guest:
                     if note.is_threads:
                         _, threads, _, pairs = elf32.described(note.descriptor)
                         self.entries, self.guards = pairs[:threads], pairs[threads:]
+        self.spans = [range(start, start + length) for start, length in self.guards]
 
     def word(self, pc):
         """The word at an address that code may be fetched from, or None."""
@@ -94,11 +95,10 @@ class Lock:
     """The guarded bytes, who has the lock, whether it is broken, how often it was taken."""
 
     def __init__(self, guest, number):
-        start, length = guest.guards[number]
-        self.addresses = range(start, start + length)
-        self.bytes = bytearray(next(content[start - where.start:start - where.start + length]
+        self.addresses = span = guest.spans[number]
+        self.bytes = bytearray(next(content[span.start - where.start:span.stop - where.start]
                                     for where, flags, content in guest.ranges
-                                    if flags & 2 and start in where))
+                                    if flags & 2 and span.start in where))
         self.owner, self.broken, self.sections = None, 0, 0
 
 
@@ -118,6 +118,13 @@ class Machine:
                 and all(wanted > lock for lock in thread.held)):
             return wanted
         return None
+
+    def able(self):
+        """The threads that can run a block."""
+        for number, thread in enumerate(self.threads):
+            lock = self.next_lock(thread)
+            if thread.end is None and (lock is None or self.locks[lock].owner is None):
+                yield number
 
     def place(self, thread, address, width, fault):
         """The bytes at an address, where they begin there, and whether they may be stored to."""

@@ -12,7 +12,7 @@ import tool
 class Names:
     def __init__(self, text, file=None):
         """The names of a report's threads and locks; `file` is the guest's, or None."""
-        self.threads, self.locks = [""] * text.threads, [""] * text.guards
+        self.threads, self.workers, self.locks = [""] * text.threads, text.workers, [""] * text.guards
         if file is None:
             return
         if (len(file.guest.entries), len(file.guest.guards)) != (text.threads, text.guards):
@@ -27,6 +27,11 @@ class Names:
 
     def lock(self, number):
         return f"lock {number} {self.locks[number]}".rstrip()
+
+    def lanes(self):
+        """The names of the lanes of threads, of workers and of locks."""
+        return ([*map(self.thread, range(len(self.threads)))], [f"worker {number}" for number in range(self.workers)],
+                [*map(self.lock, range(len(self.locks)))])
 
 
 def thread_name(file, entry, argument):

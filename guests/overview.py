@@ -102,7 +102,7 @@ class Overview:
 
     def __init__(self, line, first, last, names, title):
         self.text, self.names, self.columns = line.text, names, Columns(line, first, last)
-        self.left, self.wide = svg.margin(line, names), WIDE / self.columns.count
+        self.left, self.wide = svg.margin(names), WIDE / self.columns.count
         self.picture = svg.Picture(self.left + WIDE + 60, title)
 
     def head(self, title, items=()):

@@ -18,7 +18,7 @@ def place(file, address):
 
 def instruction(file, pc):
     """The address of an instruction with its symbol and text."""
-    word = file.word(pc)
+    word = file.guest.word(pc)
     return f"{place(file, pc)} " + ("can't be fetched" if word is None else rv32im.text(word, pc))
 
 
@@ -31,7 +31,7 @@ def call_text(thread):
 def start_text(file, thread):
     """Where a thread is about to go on."""
     text = instruction(file, thread.pc)
-    return text + (f" ({call_text(thread)})" if file.word(thread.pc) == rv32im.WHOLE["ecall"] else "")
+    return text + (f" ({call_text(thread)})" if file.guest.word(thread.pc) == rv32im.WHOLE["ecall"] else "")
 
 
 def delegation(block, batch, came, away):
@@ -64,7 +64,7 @@ def ending(file, thread, held):
 
 
 def illegal(file, thread, _):
-    word = file.word(thread.pc)
+    word = file.guest.word(thread.pc)
     if word & 3 != 3:
         hint = "the word 0 is none" if word == 0 else "its low bits are those of compressed code (C)"
     else:
@@ -86,7 +86,7 @@ def region(file, address):
     """What an address lies in."""
     guard = file.guard_at(address)
     if guard is not None:
-        return f"it is in guard {guard}, {guestfile.span(guard_span(file, guard))}"
+        return f"it is in guard {guard}, {guestfile.span(file.guest.spans[guard])}"
     if address in limits.STACK:
         return "it is on the stack"
     for where, flags, _ in file.guest.ranges:
@@ -99,24 +99,19 @@ def region(file, address):
     return "it is in nothing" + (", as of a null pointer" if address < 4096 else "")
 
 
-def guard_span(file, number):
-    start, length = file.guest.guards[number]
-    return range(start, start + length)
-
-
 def target(file, thread, _):
-    address = rv32im.jump_target(file.word(thread.pc), thread.pc, thread.x)
+    address = rv32im.jump_target(file.guest.word(thread.pc), thread.pc, thread.x)
     return f"it goes to {address:08x}, which is no multiple of 4"
 
 
 def access(file, thread, held):
-    kind, address, width = rv32im.access(file.word(thread.pc), thread.x)
+    kind, address, width = rv32im.access(file.guest.word(thread.pc), thread.x)
     said = f"it {kind}s {width} byte{'s' * (width > 1)} at {place(file, address)}"
     if address % width:
         return f"{said}, which is no multiple of {width}"
     guard = file.guard_at(address)
     if guard is not None:
-        return (f"{said}, in guard {guard} ({guestfile.span(guard_span(file, guard))}), and lock {guard} isn't "
+        return (f"{said}, in guard {guard} ({guestfile.span(file.guest.spans[guard])}), and lock {guard} isn't "
                 f"held (held: {report.held_text(held)})")
     return f"{said}; {region(file, address)}"
 

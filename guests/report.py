@@ -7,9 +7,9 @@ import re
 from typing import NamedTuple, Optional, Tuple
 
 import limits
-from limits import KINDS, SECTIONS
+import tool
+from limits import KINDS, PASSED_ON, SECTIONS
 
-LIMITS = limits.RUN
 NUMBER = r"(0|[1-9]\d{0,9})"
 HEX8 = r"([0-9a-f]{8})"
 GUEST = re.compile(f"guest threads {NUMBER} guards {NUMBER}")
@@ -24,8 +24,11 @@ DATA = re.compile(f"data {HEX8} ((?:[0-9a-f]{{2}})+)")
 REFUSED = re.compile(r"refused (\d{1,2}) (\w+)")
 
 
-class Wrong(Exception):
+class Wrong(tool.Trouble):
     """What is wrong with a report."""
+
+    def __init__(self, text):
+        super().__init__(tool.WRONG, text)
 
 
 class NoReport(Wrong):
@@ -50,6 +53,16 @@ class Block(NamedTuple):
     def begun(self):
         """The lock whose section it begins, or None."""
         return self.held[-1] if self.kind in SECTIONS else None
+
+    @property
+    def passed_on(self):
+        """Whether it begins a section that a waiter was given."""
+        return self.kind in PASSED_ON
+
+    @property
+    def wanted(self):
+        """The lock that it ends before, or None."""
+        return int(self.end[6:]) if self.end.startswith("wants") else None
 
     @property
     def ends_thread(self):
@@ -116,6 +129,15 @@ def wrong_number(name, word):
                else "it has too many digits" if word.isdigit() else "it is no number in digits alone")
         return f"{name} is {word!r}: {why}"
     return None if least <= int(word) <= most else f"{name} is {word}, which is not {least} to {most}"
+
+
+def options_of(line, number):
+    """The numbers of a line on options, by name; None where the line with this number is no such line."""
+    found = OPTIONS.fullmatch(line)
+    for name, word in zip(limits.RUN, found.groups()) if found else ():
+        if wrong_number(name, word):
+            raise Wrong(f"line {number}: {wrong_number(name, word)}")
+    return found and dict(zip(limits.RUN, map(int, found.groups())))
 
 
 def header_lines(version, threads, guards, workers, fuel, batch):
@@ -199,14 +221,11 @@ class Report:
         return threads, guards
 
     def options_line(self):
-        found = OPTIONS.fullmatch(self.lines.next or "")
-        if not found:
+        options = options_of(self.lines.next or "", self.lines.at())
+        if not options:
             raise self.lines.wrong("'run workers W fuel F batch B'")
-        for name, word in zip(limits.RUN, found.groups()):
-            if wrong_number(name, word):
-                raise Wrong(f"line {self.lines.at()}: {wrong_number(name, word)}")
         self.lines.take()
-        return map(int, found.groups())
+        return options.values()
 
     def blocks(self):
         """The blocks in their order."""

@@ -16,6 +16,8 @@ import operator
 import re
 from typing import NamedTuple, Tuple
 
+from rv32im import signed
+
 TOKEN = re.compile(r"\s*(0x[0-9a-fA-F]+|\d+|[a-z]\w*|==|!=|<=|>=|[-+*()<>])")
 COMPARISONS = {"==": operator.eq, "!=": operator.ne, "<": operator.lt, "<=": operator.le,
                ">": operator.gt, ">=": operator.ge}
@@ -43,10 +45,6 @@ class End(NamedTuple):
 
     def word(self, lock, word):
         return int.from_bytes(self.locks[lock][2][4 * word:4 * word + 4], "little")
-
-
-def signed(value):
-    return value - (1 << 32) if value >> 31 else value
 
 
 class Rule:

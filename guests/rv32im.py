@@ -5,6 +5,7 @@ from typing import NamedTuple
 REGISTERS = ("zero ra sp gp tp t0 t1 t2 s0 s1 a0 a1 a2 a3 a4 a5 a6 a7 "
              "s2 s3 s4 s5 s6 s7 s8 s9 s10 s11 t3 t4 t5 t6").split()
 WHOLE = {"ecall": 0x73, "ebreak": 0x00100073}
+CALL = (17, 10), 10  # the registers of a guest call: which it is, its argument; its answer
 WIDTHS = {"lb": 1, "lh": 2, "lw": 4, "lbu": 1, "lhu": 2, "sb": 1, "sh": 2, "sw": 4}  # bytes
 
 # The form of the word, its opcode, its funct7 where that tells, and the names by funct3.
@@ -111,6 +112,16 @@ def access(word, x):
     if what is None or what.name not in WIDTHS:
         return None
     return ("load" if what.name[0] == "l" else "store", (x[what.a] + what.value) % 2**32, WIDTHS[what.name])
+
+
+def registers(what):
+    """The registers that an instruction reads, in the order of its operands, and the one that it sets, or 0."""
+    if what.name == "ecall":
+        return CALL
+    if what.name in WHOLE or what.name == "fence":
+        return (), 0
+    operands = OPERANDS[BY_NAME[what.name][0]]
+    return tuple(getattr(what, name) for name in operands if name in ("a", "b")), what.to if "to" in operands else 0
 
 
 def jump_target(word, pc, x):

@@ -76,6 +76,7 @@ class Code:
                 return store(a, b, value, width, after)
             return load(to, a, value, width, name in model.SIGNED, after)
         if name in ("add", "sub"):
+            a, b = (b, a) if name == "add" and to == b else (a, b)
             return sum_of(to, a, b, 1 if name == "add" else -1, after)
         if name == "addi":
             return added(to, a, value, after)
@@ -154,14 +155,15 @@ def added(to, a, value, after):
 
 
 def sum_of(to, a, b, sign, after):
-    """x[to] = x[a] + sign * x[b]."""
+    """x[to] = x[a] + sign * x[b]. Of two Sums the second is looked at."""
     def step(x, run):
         first, second = x[a], x[b]
-        if first.__class__ is int and second.__class__ is not int and sign == 1:
-            first, second = second, first
         if second.__class__ is not int:
-            second = number(x, b)
-            first = number(x, a)
+            if first.__class__ is int and sign == 1:
+                first, second = second, first
+            else:
+                second = number(x, b)
+                first = x[a]  # which may be the same register
         if to:
             x[to] = first + sign * second & MASK if first.__class__ is int else first.plus(sign * second)
         return after

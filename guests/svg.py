@@ -133,6 +133,14 @@ def stay_parts(x, y, width, stay):
     return [stroke("has", WORKERS[stay.worker], x, y + HEIGHT / 2, width)]
 
 
+def document(width, height, style, parts, title=""):
+    """A picture's file."""
+    title = f"<title>{html.escape(title)}</title>\n" if title else ""
+    return (f'<svg xmlns="http://www.w3.org/2000/svg" width="{width:g}" height="{height:g}" '
+            f'viewBox="0 0 {width:g} {height:g}" role="img">\n{title}<style>{style}</style>\n'
+            '<rect width="100%" height="100%" fill="#fff"/>\n' + "\n".join(parts) + "\n</svg>\n")
+
+
 class Picture:
     """Parts below one another, and how high they are together."""
 
@@ -156,11 +164,8 @@ class Picture:
         self.add(label(10, self.height + 12, row), 16)
 
     def svg(self, locks):
-        return (f'<svg xmlns="http://www.w3.org/2000/svg" width="{self.width:g}" height="{self.height + 10:g}" '
-                f'viewBox="0 0 {self.width:g} {self.height + 10:g}" role="img">\n'
-                f"<title>{html.escape(self.title)}</title>\n<style>{STYLE}</style>\n"
-                f"<defs>{''.join(patterns(locks))}</defs>\n"
-                f'<rect width="100%" height="100%" fill="#fff"/>\n' + "\n".join(self.parts) + "\n</svg>\n")
+        defined = f"<defs>{''.join(patterns(locks))}</defs>"
+        return document(self.width, self.height + 10, STYLE, [defined, *self.parts], self.title)
 
 
 def colour_items(names):
@@ -222,13 +227,9 @@ class Strip:
         self.workers = self.threads + LANE * threads + 6
         self.locks = self.workers + LANE * workers + 6
         self.height = self.locks + LANE * locks + 12 - picture.height
-        self.heads([names.thread(number) for number in range(threads)], self.threads)
-        self.heads([f"worker {number}" for number in range(workers)], self.workers)
-        self.heads([names.lock(number) for number in range(locks)], self.locks)
-
-    def heads(self, texts, top):
-        for number, text in enumerate(texts):
-            self.picture.add(label(10, top + LANE * number + 13, text))
+        for texts, top in zip(names.lanes(), (self.threads, self.workers, self.locks)):
+            for number, text in enumerate(texts):
+                picture.add(label(10, top + LANE * number + 13, text))
 
     def x(self, stamp):
         return self.margin + UNIT * (stamp - self.first)
@@ -262,16 +263,14 @@ class Strip:
             yield from worker_parts(x, self.locks + LANE * lock, block.worker, lock in mark.moved)
 
 
-def margin(line, names):
+def margin(names):
     """How wide the names of lanes are."""
-    text = line.text
-    heads = [names.thread(number) for number in range(text.threads)] + [names.lock(number) for number in range(text.guards)]
-    return max(80, 20 + 6.7 * max(map(len, heads)))
+    return max(80, 20 + 6.7 * max(map(len, sum(names.lanes(), []))))
 
 
 def detailed(line, first, last, names, title):
     """All blocks of some stamps, in strips."""
-    longest, left = min(STRIP, last - first + 1), margin(line, names)
+    longest, left = min(STRIP, last - first + 1), margin(names)
     picture = Picture(max(left + UNIT * longest + 60, NARROWEST), title)
     legend(picture, [*colour_items(names), *mark_items()])
     legend(picture, line_items(), "Lines:")
@@ -298,4 +297,4 @@ def sentences(line, first, last):
     sections = Counter(mark.block.begun for mark in marks if mark.block.begun is not None)
     if sections:
         yield "Moves of locks to another worker: " + ", ".join(
-            f"lock {lock} {moves[lock]} in {several(sections[lock], 'section')}" for lock in sorted(sections)) + "."
+            f"lock {lock}: {moves[lock]} in {several(sections[lock], 'section')}" for lock in sorted(sections)) + "."

@@ -26,13 +26,6 @@ def digit(number):
     return "0123456789ABCDEFGHIJKLMNOPQRSTUV"[number]
 
 
-def heads(line, called):
-    """The names of the lanes."""
-    text = line.text
-    return [*map(called.thread, range(text.threads)), *(f"worker {worker}" for worker in range(text.workers)),
-            *map(called.lock, range(text.guards))]
-
-
 def width(names):
     return max(10, 2 + max(map(len, names)))
 
@@ -43,7 +36,7 @@ class Canvas:
     def __init__(self, line, called, first, last):
         text = line.text
         self.first, self.last, self.workers, self.locks = first, last, text.threads, text.threads + text.workers
-        self.names = heads(line, called)
+        self.names = sum(called.lanes(), [])
         self.wide = width(self.names)
         self.lanes = [[(" ", None)] * (last - first + 1) for _ in self.names]
         for gap in line.part(first, last)[1]:
@@ -105,16 +98,16 @@ def painted(character, colour):
     return f"\x1b[{97 if colour[1] else 30};48;2;{red};{green};{blue}m{character}\x1b[0m"
 
 
-def show(line, called, first, last, most, colours):
-    """Prints the lanes of some stamps, at most so many, in strips as wide as the terminal."""
-    colours = colours or (sys.stdout.isatty() and "NO_COLOR" not in os.environ)
+def show(line, called, first, last, asked):
+    """Prints the lanes of some stamps, at most so many as are asked for, in strips as wide as the terminal."""
+    colours = asked.colour or (sys.stdout.isatty() and "NO_COLOR" not in os.environ)
     print(LEGEND)
     if colours:
         print("locks: " + " ".join(painted(f" {lock} ", by_lock(lock)) for lock in range(line.text.guards))
               + "  workers: " + " ".join(painted(f" {worker} ", by_worker(worker)) for worker in range(line.text.workers)))
     columns = shutil.get_terminal_size().columns if sys.stdout.isatty() else 100
-    room = max(20, (columns - width(heads(line, called)) - 1) // 10 * 10)
-    shown = min(last, first + most - 1)
+    room = max(20, (columns - width(sum(called.lanes(), [])) - 1) // 10 * 10)
+    shown = min(last, first + asked.most - 1)
     for start in range(first, shown + 1, room):
         stop = min(start + room - 1, shown)
         print(f"\nblocks {start} to {stop}")

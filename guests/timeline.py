@@ -69,11 +69,6 @@ class Stay(NamedTuple):
         return f"lock {self.lock}, blocks {self.first} to {self.last}: {has}, {self.what}"
 
 
-def wanted_by(block):
-    """The lock that a block ended before, or None."""
-    return int(block.end[6:]) if block.end.startswith("wants") else None
-
-
 class Timeline:
     """The marks and gaps of a report's blocks, and the counts of all."""
 
@@ -89,8 +84,7 @@ class Timeline:
         before = self.last[block.thread]
         if before is not None and before.stamp + 1 < block.stamp:
             self.add_gap(before, block)
-        passed_on = block.kind in ("adopted", "granted")
-        release = self.released[block.begun] if passed_on else None
+        release = self.released[block.begun] if block.passed_on else None
         if release is not None:
             self.add_handing(release, before, block)
         moved = tuple(lock for lock in block.held if self.workers[lock] not in (None, block.worker))
@@ -99,13 +93,13 @@ class Timeline:
         for lock in block.released:
             self.released[lock] = block
         self.last[block.thread] = block
-        self.marks.append(Mark(block, away, before if passed_on else None, release, moved))
+        self.marks.append(Mark(block, away, before if block.passed_on else None, release, moved))
 
     def add_gap(self, before, block):
-        kept, wanted = before.kept, wanted_by(before)
+        kept, wanted = before.kept, before.wanted
         if before.end == "slept" and kept:
             state = ASLEEP
-        elif block.kind in ("adopted", "granted"):
+        elif block.passed_on:
             state = SHIPPED if kept else WAITING
         elif wanted is not None:
             state = WANTS
@@ -133,8 +127,8 @@ class Timeline:
         """Adds what threads want at the end of a report that was cut."""
         end = len(self.marks) - 1
         for block in self.last:
-            if block is not None and block.stamp < end and wanted_by(block) is not None:
-                self.gaps.append(Gap(block.thread, block.stamp + 1, end, WANTS, block.kept, wanted_by(block)))
+            if block is not None and block.stamp < end and block.wanted is not None:
+                self.gaps.append(Gap(block.thread, block.stamp + 1, end, WANTS, block.kept, block.wanted))
 
     def part(self, first, last):
         """The marks and gaps of some stamps; gaps are cut to them."""
@@ -166,7 +160,4 @@ def of(text):
 
 def read(path):
     """The timeline of a report in a file."""
-    try:
-        return of(report.Report(tool.read_lines(path)))
-    except report.Wrong as wrong:
-        raise tool.Trouble(tool.WRONG, str(wrong)) from None
+    return of(report.Report(tool.read_lines(path)))

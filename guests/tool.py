@@ -11,6 +11,8 @@ import gc
 import os
 import sys
 
+import limits
+
 DONE, WORDS, INPUT, WRONG, OUTPUT, MEMORY, STOPPED = 0, 1, 2, 3, 4, 5, 130
 
 LONGEST_LINE = 4096
@@ -37,9 +39,15 @@ def called(tool):
     return tool if "/" in tool else f"guests/{tool}"
 
 
-def words(tool, description):
-    return Words(prog=called(tool), description=description, allow_abbrev=False,
-                 formatter_class=argparse.RawDescriptionHelpFormatter)
+def words(tool, description, *first):
+    """The parser of a tool's words, with a guest's file and the numbers of a run where these come first."""
+    parser = Words(prog=called(tool), description=description, allow_abbrev=False,
+                   formatter_class=argparse.RawDescriptionHelpFormatter)
+    if "guest" in first:
+        parser.add_argument("guest", metavar="GUEST", help="the guest's file")
+    for name, (least, most) in limits.RUN.items() if "run" in first else ():
+        parser.add_argument(name, metavar=name.upper(), type=number(least, most), help=f"{least} to {most}")
+    return parser
 
 
 def number(least, most):
@@ -84,12 +92,27 @@ def read_lines(path):
         raise input_trouble(path, error) from None
 
 
-def write_file(path, text):
+def write_file(path, content):
+    """Writes a text or bytes."""
     try:
-        with open(path, "w", encoding="utf-8") as file:
-            file.write(text)
+        with open(path, "wb") as file:
+            file.write(content if isinstance(content, bytes) else content.encode("utf-8"))
     except OSError as error:
         raise Trouble(OUTPUT, f"{path}: {error.strerror}") from None
+
+
+def make_folder(path):
+    try:
+        os.makedirs(path, exist_ok=True)
+    except OSError as error:
+        raise Trouble(OUTPUT, f"{path}: {error.strerror}") from None
+
+
+def print_columns(rows, adjust=str.rjust):
+    """Prints rows of cells, each as wide as its column."""
+    widths = [max(map(len, column)) for column in zip(*rows)]
+    for row in rows:
+        print("  ".join(map(adjust, row, widths)).rstrip())
 
 
 def note(name, text):

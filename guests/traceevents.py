@@ -23,10 +23,8 @@ def lanes(group, name, heads):
 
 def events(line, called, first, last):
     """The trace: a stamp is a microsecond."""
-    text = line.text
-    yield from lanes(THREADS, "threads", [called.thread(number) for number in range(text.threads)])
-    yield from lanes(WORKERS, "workers", [f"worker {number}" for number in range(text.workers)])
-    yield from lanes(LOCKS, "locks", [called.lock(number) for number in range(text.guards)])
+    for *group, heads in zip((THREADS, WORKERS, LOCKS), ("threads", "workers", "locks"), called.lanes()):
+        yield from lanes(*group, heads)
     marks, gaps = line.part(first, last)
     for mark in marks:
         yield from block_events(mark)
@@ -62,9 +60,9 @@ def arrow(mark):
     yield {"ph": "f", "bp": "e", **common, **lane(WORKERS, mark.block.worker), "ts": mark.block.stamp}
 
 
-def show(line, called, first, last, title):
+def show(line, called, first, last, asked):
     """Prints the trace, one event a line."""
-    print('{"displayTimeUnit": "ns", "otherData": ' + json.dumps({"title": title}) + ', "traceEvents": [')
+    print('{"displayTimeUnit": "ns", "otherData": ' + json.dumps({"title": asked.title}) + ', "traceEvents": [')
     before = ""
     for event in events(line, called, first, last):
         print(before + json.dumps(event), end="")

@@ -3,37 +3,10 @@ that it loads or stores, by a copy of the model."""
 import copy
 
 import limits
+import model
 import reasons
 import report
 import rv32im
-
-ECALL = rv32im.WHOLE["ecall"]
-
-
-def sources(word):
-    """The numbers of the registers that a word reads, but for x0."""
-    if word == ECALL:
-        return [17, 10]
-    what = rv32im.decode(word)
-    if what is None or what.name in rv32im.WHOLE or what.name == "fence":
-        return []
-    numbers = [getattr(what, name) for name in rv32im.OPERANDS[rv32im.BY_NAME[what.name][0]] if name in ("a", "b")]
-    return [number for number in dict.fromkeys(numbers) if number]
-
-
-def result(word):
-    """The number of the register that a word sets, or 0."""
-    if word == ECALL:
-        return 10
-    what = rv32im.decode(word)
-    if what is None or what.name in rv32im.WHOLE or what.name == "fence":
-        return 0
-    return what.to if "to" in rv32im.OPERANDS[rv32im.BY_NAME[what.name][0]] else 0
-
-
-def is_branch(word):
-    what = rv32im.decode(word)
-    return what is not None and what.name not in rv32im.WHOLE and rv32im.BY_NAME[what.name][0] == "B"
 
 
 def values(numbers, x):
@@ -62,12 +35,13 @@ def memory(file, word, x):
 
 def turn_text(file, word, pc, before, thread):
     """What one turn did: the registers read, what was loaded or stored, and the register set."""
-    parts = [values(sources(word), before), memory(file, word, before)]
+    what = rv32im.decode(word)
+    read, written = rv32im.registers(what) if what else ((), 0)
+    parts = [values(dict.fromkeys(filter(None, read)), before), memory(file, word, before)]
     if thread.end is None or thread.end == "exit":
-        number = result(word)
-        if number:
-            parts.append(f"-> {values([number], thread.x)}")
-        if is_branch(word):
+        if written:
+            parts.append(f"-> {values([written], thread.x)}")
+        if what.name in model.COMPARISONS:
             parts.append("-> goes on behind it" if thread.pc == pc + 4 else "-> branches")
     return "  ".join(part for part in parts if part)
 

@@ -78,8 +78,8 @@ class Folder(unittest.TestCase):
             self.write(f"crates/{crate}/src/lib.rt", f"// {crate}\n")
         self.write("crates.txt", CRATES)
         self.write("guests/exit.elf", "")
-        for name in ("tclocks", "tclocks-build", "CITATION.cff"):
-            shutil.copy(ROOT / name, self.root)
+        for name in ("tclocks", "tclocks-build", "CITATION.cff", "guests/tool.py", "guests/limits.py"):
+            shutil.copy(ROOT / name, self.root / name)
         self.write("bin/rt", TOOLCHAIN)
         self.write("program", PROGRAM)
         for name in ("bin/rt", "program"):

@@ -7,6 +7,7 @@ import subprocess
 import unittest
 
 from common import GUESTS, TEMPORARY, Case, elf, run, saved, with_program
+import delegation
 import guestfile
 import model
 
@@ -47,7 +48,8 @@ class Run(Case):
     def test_wrong_uses(self):
         for words in ((), (elf("first"),), (elf("first"), "1", "1"), (elf("first"), "0", "1", "0"),
                       (elf("first"), "1", "65537", "0"), (elf("first"), "1", "1", "257"), (elf("first"), "1", "1", "0", "0"),
-                      (elf("first"), "1", "1", "0", "--seed", "x"), (elf("first"), "1", "1", "0", "--model")):
+                      (elf("first"), "1", "1", "0", "--seed", "x"), (elf("first"), "1", "1", "0", "--model"), (elf("first"), "1", "1", "0", "--nodes", "2", "0"),
+                      (elf("first"), "1", "1", "0", "--nodes", "0", "1"), (elf("first"), "1", "1", "0", "--nodes", "1")):
             self.one_line(run("run", *words), 1)
         self.one_line(run("run", "/no/such/file", "1", "1", "0"), 2)
         with open("/dev/full", "wb") as full:
@@ -118,6 +120,24 @@ class Pages(Case):
         for command in found:
             _, guest, *words = shlex.split(command)
             self.assertEqual(run("run", ROOT / guest, *words[:3], "--seed", "0").returncode, 0, command)
+
+    def test_history_on_nodes(self):
+        """It is legal, and its sections stand as a line picks them with the bound 2, and with no other."""
+        text = re.search(r"(?s)```\n(tclocks 2\nguest threads 8 .*?)```", PAGES[0].read_text())[1]
+        self.says("legal so far, 16 blocks", run("judge", elf("counter"), given=text))
+        found = re.findall(r"thread (\d) .* kind adopted worker 0 ", text)
+        for bound in range(6):
+            hall = delegation.Hall(guestfile.load(elf("counter")).guest, 4, 100, 8, 0, nodes=2, bound=bound)
+            for come, picked in zip(("12345", "", "2", "4", "", "", ""), found):
+                for thread in map(int, come):
+                    hall.line[0] = (hall.line[0] or [0]) + [thread]
+                    hall.linked.add((thread, 0))
+                    hall.shipped[thread] = [thread % 2, 0]
+                chosen = hall.next_in_line(0, delegation.Worker(0))
+                if str(chosen) != picked:
+                    break
+                hall.line[0].remove(chosen)
+            self.assertEqual(str(chosen) == found[-1], bound == 2, bound)
 
     def test_links(self):
         for page in PAGES:

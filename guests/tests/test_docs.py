@@ -45,11 +45,10 @@ class Kept(Case):
         summary = run("summary", PICTURES / "philosophers.txt").stdout.decode()
         self.assertIn(summary, (GUESTS / "README.md").read_text())
         contexts = ("--block", "108", "--contexts")
-        for words, page in ((("--trace", "108"), GUESTS / "README.md"), (contexts, GUESTS / "README.md"),
-                            (contexts, DOCS / "TEACHING.md")):
+        for words, page, count in ((("--trace", "108"), GUESTS / "README.md", 11), (contexts, GUESTS / "README.md", 3),
+                                   (contexts, DOCS / "TEACHING.md", 2)):
             said = run("explain", elf("counter"), PICTURES / "counter.txt", *words).stdout.decode().splitlines()
-            for line in said[2:4]:
-                self.assertIn(f"\n{line}\n", page.read_text())
+            self.assertIn("\n" + "\n".join(said[2:2 + count]) + "\n", page.read_text())
         lanes = run("draw", PICTURES / "first.txt", "--text").stdout.decode().split("\n\n")[1]
         self.assertIn(lanes, (DOCS / "GUEST.md").read_text())
 

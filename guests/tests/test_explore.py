@@ -12,6 +12,7 @@ from common import GUESTS, NAMES, TEMPORARY, Case, elf, run, saved
 import delegation
 import guestfile
 import limits
+import live
 import made
 import model
 import rules
@@ -56,13 +57,42 @@ class EveryInterleaving(Case):
 
     def test_a_return_to_a_place_behind_no_call(self):
         """Which registers are read again is not known then, so all are kept."""
-        code = [encode("lui", small.BASE, made.DATA), *made.call(limits.LOCK, 0), *small.load(0),
-                encode("addi", 6, small.VALUE, 0), *small.twice(random.Random(1), 0), *made.call(limits.UNLOCK, 0),
-                encode("auipc", 1, 0), encode("addi", 1, 1, 16), encode("jalr", 0, 1, 0), encode("ebreak"),
-                *made.call(limits.LOCK, 0), *made.call(limits.UNLOCK, 0), encode("addi", 10, 6, 0), *small.EXIT]
+        for link in live.LINKS:
+            code = [encode("lui", small.BASE, made.DATA), *made.call(limits.LOCK, 0), *small.load(0),
+                    encode("addi", 6, small.VALUE, 0), *small.twice(random.Random(1), 0), *made.call(limits.UNLOCK, 0),
+                    encode("auipc", link, 0), encode("addi", link, link, 16), encode("jalr", 0, link, 0), encode("ebreak"),
+                    *made.call(limits.LOCK, 0), *made.call(limits.UNLOCK, 0), encode("addi", 10, 6, 0), *small.EXIT]
+            found, ends = self.same(common.built(code, (0, 0), 1), 100)
+            self.assertIsNone(found.shares.alone.sections.live)
+            self.assertEqual({tuple(x10 for _, x10 in end.threads) for end in ends}, {(0, 1), (1, 0)})
+
+    def test_a_return_by_the_other_link_register(self):
+        """A function is called by x1 and returns by x5, as that of a division does: nothing begins anew."""
+        word, link = small.VALUE, live.LINKS[1]
+        code = [encode("lui", 11, made.DATA), *made.call(limits.LOCK, 0), encode("lw", word, 11, 0),
+                encode("jal", 1, 4 * 8), encode("sw", word, 11, 0), *made.call(limits.UNLOCK, 0),
+                encode("addi", 10, word, 0), *small.EXIT, encode("addi", link, 1, 0),
+                encode("add", word, word, word), encode("addi", word, word, 1), encode("jalr", 0, link, 0)]
         found, ends = self.same(common.built(code, (0, 0), 1), 100)
-        self.assertIsNone(found.shares.alone.sections.live)
-        self.assertEqual({tuple(x10 for _, x10 in end.threads) for end in ends}, {(0, 1), (1, 0)})
+        self.assertIsNotNone(found.shares.alone.sections.live)
+        self.assertEqual({tuple(x10 for _, x10 in end.threads) for end in ends}, {(1, 3), (3, 1)})
+
+    def test_sums_of_two_words(self):
+        """Words of two locks are added and taken off one another, one of them twice: what the section comes to
+        depends on one, and on the other only as the sum that it is."""
+        for seed in range(4):
+            chance = random.Random(seed)
+            ways = [[encode("add", 7, 7, 9)], [encode("add", 9, 7, 9), encode("addi", 7, 9, 1)],
+                    [encode("sub", 7, 7, 9)], [encode("add", 7, 7, 7), encode("sub", 7, 7, 9)]]
+            code = []
+            for way in (ways[seed], chance.choice(ways)):
+                code.append([encode("lui", small.BASE, made.DATA), *made.call(limits.LOCK, 0), *made.call(limits.LOCK, 1),
+                             *small.load(0), encode("lw", small.OTHER, small.BASE, 4), *way, *small.store(0),
+                             *small.twice(chance, 1), *made.call(limits.UNLOCK, 1), *made.call(limits.UNLOCK, 0),
+                             *made.call(limits.LOCK, 1), *small.add(chance, 1), *made.call(limits.UNLOCK, 1), *small.EXIT])
+            file = made.elf(made.note([(made.CODE, 0), (made.CODE + 4 * len(code[0]), 0)],
+                                      [(made.DATA + 4 * lock, 4) for lock in range(2)]), code[0] + code[1], bytes([3, 0, 0, 0, 5, 0, 0, 0]), 8)
+            self.same(file, 100)
 
     def test_a_lock_that_is_taken_for_some_bytes_alone(self):
         """Thread 1 takes lock 1 only where the first word is odd. It is even behind the first step of thread 0,

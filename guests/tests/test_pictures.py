@@ -39,7 +39,7 @@ class Lanes(Case):
         self.assertEqual(rows["thread 1"], "s0A.x")
         rows, said = lanes(GRANTED)
         self.assertEqual(rows["lock 0"], "01")
-        self.assertIn("Moves of locks to another worker: lock 0 1 in 2 sections.", said)
+        self.assertIn("Moves of locks to another worker: lock 0: 1 in 2 sections.", said)
 
     def test_lock_is_with_the_worker_that_adopts(self):
         """In BY_HAND block 2 stands between the release and the adopted section."""

@@ -6,6 +6,8 @@ import unittest
 import xml.etree.ElementTree
 
 from common import BY_HAND, GUESTS, NAMES, ONE, TEMPORARY, Case, built, elf, run, saved, with_program
+import delegation
+import guestfile
 
 
 def table(done):
@@ -48,6 +50,37 @@ class Sweep(Case):
         self.assertLessEqual(int(rows["256"]["granted"]), 480 // 257)
         self.assertLess(10 * int(rows["256"]["changes"]), int(rows["0"]["changes"]))
 
+    def test_nodes(self):
+        """With one node nobody is on another one; more nodes than workers are left out; each run is that of guests/run."""
+        words = ("--workers", "2,4", "--batch", "8", "--nodes", "0,1,2,4", "--bound", "0,3", "--runs", "1", "--model")
+        rows = table(run("sweep", elf("counter"), *words, "--plot", str(TEMPORARY / "nodes.svg")))
+        self.assertEqual([(row["workers"], row["nodes"], row["bound"]) for row in rows],
+                         [("2", "", "")] + [("2", n, k) for n in "12" for k in "03"]
+                         + [("4", "", "")] + [("4", n, k) for n in "124" for k in "03"])
+        for row in rows:
+            if row["nodes"] in ("", "1"):
+                self.assertEqual([row[name] or "0" for name in ("changes_of_node", "other_node")], ["0", "0"])
+            if row["nodes"] == row["workers"]:
+                self.assertEqual(row["changes_of_node"], row["changes"])
+            more = ("--nodes", row["nodes"], row["bound"]) if row["nodes"] else ()
+            text = run("run", elf("counter"), row["workers"], row["fuel"], row["batch"], "--seed", row["seed"], *more).stdout
+            self.says("a legal run, to the end of every thread", run("judge", elf("counter"), given=text))
+            self.assertEqual(row["adopted"], str(text.count(b" kind adopted ")))
+        self.assertIn("4 workers, 2 nodes, bound 3", (TEMPORARY / "nodes.svg").read_text())
+
+    def test_whom_a_line_prefers(self):
+        """One waiter of node 1 came before two of node 0, and a worker of node 0 passes the lock on three times."""
+        guest, worker = guestfile.load(elf("counter")).guest, delegation.Worker(0)
+        for nodes, bound, wanted in ((0, 0, [1, 2, 3]), (2, 0, [1, 2, 3]), (2, 1, [2, 1, 3]), (2, 2, [2, 3, 1])):
+            hall = delegation.Hall(guest, 4, 100, 8, 0, nodes=nodes, bound=bound)
+            hall.line[0] = [0, 1, 2, 3]
+            hall.linked, hall.shipped = {(thread, 0) for thread in (1, 2, 3)}, {1: [3, 0], 2: [2, 0], 3: [0, 0]}
+            found = []
+            for _ in wanted:
+                found.append(hall.next_in_line(0, worker))
+                hall.line[0].remove(found[-1])
+            self.assertEqual(found, wanted, (nodes, bound))
+
     def test_a_guest_without_locks(self):
         row, = table(run("sweep", elf("exit"), "--workers", "1", "--batch", "0", "--runs", "1", "--model"))
         self.assertEqual((row["sections"], row["longest"], row["blocks"], row["turns"]), ("0", "0", "1", "2"))
@@ -85,7 +118,7 @@ class Sweep(Case):
                 xml.etree.ElementTree.fromstring(text)
                 self.assertNotIn("<script", text)
             self.assertNotIn("Seconds", plot.read_text())
-        moved = re.findall(r"in (\d+) sections the lock moved (\d+) times", strips.read_text())
+        moved = re.findall(r"in (\d+) sections the lock changed its worker (\d+) times", strips.read_text())
         rows = [row for row in table(done) if row["run"] == "1"]
         self.assertEqual(moved, [(row["sections"], row["changes"]) for row in rows])
 
@@ -101,7 +134,8 @@ class WrongUses(Case):
     def test_words(self):
         for words in ((), ("--workers", "0"), ("--workers", "9"), ("--workers", "1,1"), ("--workers", "1,"),
                       ("--batch", "257"), ("--batch", "x"), ("--runs", "0"), ("--fuel", "65537"), ("--seed", "-1"),
-                      ("--sections", "0"), ("--nodes", "2"), ("--strips", "x.svg", "--lock", "1"), ("more",)):
+                      ("--sections", "0"), ("--nodes", "9"), ("--nodes", "x"), ("--bound", "257"), ("--nodes", "2", "--workers", "1"),
+                      ("--strips", "x.svg", "--lock", "1"), ("more",)):
             done = run("sweep", *([elf("first")] if words else []), *words)
             self.one_line(done, 1)
             self.assertEqual(done.stdout, b"")

@@ -56,6 +56,7 @@ class Explanations(Case):
         for words, part in (("run 0 10 1", "workers"), ("run 2 010 1", "leading zero"), ("run 1 65537 0", "65537"),
                             ("run 1 1 257", "257"), ("run", "workers, fuel, batch"), ("", "no words"), ("gen 0", "rounds is 0"),
                             ("gen 2001", "1 to 2000"), ("demo 5", "rounds, workers"), ("demo 5 9", "1 to 8"),
+                            ("nodes 3 4 2 2000 8", "3 nodes and 2 workers"), ("nodes 1 257 1 1 0", "bound is 257"), ("nodes 1 1 0", "nodes, bound, workers"),
                             ("stop", "stop"), ("run 1 -1 0", "-1")):
             done = run("explain", elf("first"), "--words", *words.split())
             self.assertEqual(done.returncode, 0)
@@ -87,9 +88,18 @@ class Tables(Case):
                              [1, 1, 0, 0, 0, 0, 0])
         self.assertEqual([counts["by_thread"][0][name] for name in ("blocks", "turns", "moves")], [5, 14, 0])
 
-    def test_waiting_and_moves_on_paper(self):
+    def test_changes_are_counted_from_the_second_section(self):
+        """A lock's first section changes nothing, whatever stands before it, as in a report that is not legal."""
+        blocks = ("thread 0 turns 1 held 0 kind on worker 0 end slept", "thread 1 turns 1 held 0 kind taken worker 1 end slept",
+                  "thread 0 turns 1 held 0 kind taken worker 2 end slept")
+        text = "\n".join(["tclocks 1", "guest threads 2 guards 1", "run workers 3 fuel 9 batch 0",
+                          *(f"block {stamp} {block}" for stamp, block in enumerate(blocks))]) + "\n"
+        lock = json.loads(run("summary", "-", "--json", given=text).stdout)["by_lock"][0]
+        self.assertEqual([lock[name] for name in ("sections", "taken", "changes", "home")], [2, 2, 1, 1])
+
+    def test_waiting_and_changes_on_paper(self):
         """Three threads come to their LOCK, and the sections stand 0, 2, 1: thread 1 waits three blocks,
-        thread 2 one. The lock moves from worker 0 to 1 and back to 0; at home it would be so too, but that
+        thread 2 one. The lock goes from worker 0 to 1 and back to 0; at home it would be so too, but that
         worker 2 ran thread 1 to its LOCK: 0, 1, 2."""
         lines = """run workers 3 fuel 100 batch 4
             thread 0 worker 0
@@ -142,7 +152,7 @@ class Tables(Case):
                 self.assertEqual((done.returncode, done.stderr), (0, b""), (tool, words))
 
     def test_explore_keeps_a_history_of_each_outcome(self):
-        folder = TEMPORARY / "kept"
+        folder = TEMPORARY / "outcomes"
         done = run("explore", elf("buffer"), "--runs", "6", "--model", "--keep", str(folder))
         self.assertEqual(done.returncode, 0)
         for path in folder.iterdir():

@@ -20,14 +20,6 @@ import traceevents
 MOST = 2000  # blocks that are drawn each
 
 
-def print_text(line, called, first, last, asked):
-    textlanes.show(line, called, first, last, asked.most, asked.colour)
-
-
-def print_trace(line, called, first, last, asked):
-    traceevents.show(line, called, first, last, asked.title)
-
-
 def print_svg(line, called, first, last, asked):
     draw = svg.detailed if last - first < asked.most else overview.draw
     picture = draw(line, first, last, called, asked.title)
@@ -55,8 +47,8 @@ def main(words):
     parser = tool.words("draw", __doc__)
     parser.add_argument("report", metavar="REPORT", help="a report; - is standard input")
     forms = parser.add_mutually_exclusive_group()
-    forms.add_argument("--text", action="store_const", dest="form", const=print_text, help="for a terminal")
-    forms.add_argument("--trace", action="store_const", dest="form", const=print_trace, help="trace events, JSON")
+    forms.add_argument("--text", action="store_const", dest="form", const=textlanes.show, help="for a terminal")
+    forms.add_argument("--trace", action="store_const", dest="form", const=traceevents.show, help="trace events, JSON")
     forms.add_argument("--page", action="store_const", dest="form", const=print_page,
                        help="a page that steps through the run, HTML")
     parser.add_argument("--guest", metavar="GUEST", help="the guest's file, for names, and for the page's bytes")

@@ -17,7 +17,6 @@ import guestfile
 import legal
 import reasons
 import report
-import timeline
 import tool
 import tracing
 
@@ -34,9 +33,9 @@ def explain_file(path):
         print(f"range {guestfile.span(where)}: " + ("code" if flags & 1 else "writable" if flags & 2 else "read-only"))
     for number, (entry, argument) in enumerate(guest.entries):
         print(f"thread {number}: argument {argument} ({argument:#x}), begins at {reasons.instruction(file, entry)}")
-    for number, (start, length) in enumerate(guest.guards):
-        name = file.name(start)
-        print(f"lock {number}: guards {length} bytes, {guestfile.span(range(start, start + length))}"
+    for number, guarded in enumerate(guest.spans):
+        name = file.name(guarded.start)
+        print(f"lock {number}: guards {len(guarded)} bytes, {guestfile.span(guarded)}"
               + (f" <{name}>" if name else ""))
 
 
@@ -64,7 +63,7 @@ class Chosen:
 
     def block(self, block):
         return ((self.thread is None or block.thread == self.thread)
-                and (self.lock is None or self.lock in block.held or timeline.wanted_by(block) == self.lock)
+                and (self.lock is None or self.lock in block.held or block.wanted == self.lock)
                 and self.first <= block.stamp and (self.last is None or block.stamp <= self.last))
 
     def thread_at_end(self, number):
@@ -102,7 +101,7 @@ class Explainer:
         if block.stamp == self.chosen.trace and thread.end is None:
             traced = list(tracing.trace(self.run, self.file, self.lines, block.thread))
         moved = list(self.contexts.before(block)) if self.contexts else []
-        batch = copy.copy(self.run.batches[block.begun]) if block.kind in ("adopted", "granted") else None
+        batch = copy.copy(self.run.batches[block.begun]) if block.passed_on else None
         self.run.follow(block, f", line {self.text.lines.at()}")
         yield f"{block.line(self.text.version)}  # {start}"
         if batch:
@@ -133,7 +132,7 @@ def refusal(path, line):
     try:
         guestfile.check(guestfile.read(path))
     except guestfile.Refused as refused:
-        if str(refused).startswith(f"{line}:"):
+        if refused.line == line:
             return str(refused)
         return f"the program said {line!r}, and this file is {refused}: is it the same file?"
     return f"the program said {line!r}, and {path} isn't refused: is it the same file, and whole?"
@@ -161,7 +160,6 @@ def stamps(word):
 
 
 def words_of(parser):
-    parser.add_argument("guest", metavar="GUEST", help="the guest's file")
     parser.add_argument("report", metavar="REPORT", nargs="?", help="a report; - is standard input")
     parser.add_argument("--thread", metavar="N", type=tool.number(0, 31), help="the blocks of this thread")
     parser.add_argument("--lock", metavar="N", type=tool.number(0, 31),
@@ -177,7 +175,7 @@ def words_of(parser):
 
 
 def main(words):
-    asked = words_of(tool.words("explain", __doc__)).parse_args(words)
+    asked = words_of(tool.words("explain", __doc__, "guest")).parse_args(words)
     if asked.report is None:
         of_report = ["contexts"] * asked.contexts + [name for name in ("thread", "lock", "block", "trace")
                                                      if getattr(asked, name) is not None]

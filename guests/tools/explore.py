@@ -15,6 +15,7 @@ from collections import Counter
 import delegation
 import guestfile
 import legal
+import limits
 import program
 import report
 import rules
@@ -60,7 +61,7 @@ def cells(guest, end):
         yield f"lock {number} broken", str(broken)
         for at in range(0, len(content), 4):
             value = end.word(number, at // 4)
-            yield f"lock {number} word {at // 4} ({guest.guards[number][0] + at:08x})", f"{value} ({value:#x})"
+            yield f"lock {number} word {at // 4} ({guest.spans[number].start + at:08x})", f"{value} ({value:#x})"
 
 
 def by_program(path, fuel, runs):
@@ -122,10 +123,7 @@ def show_same(values):
 
 
 def keep(folder, histories):
-    try:
-        os.makedirs(folder, exist_ok=True)
-    except OSError as error:
-        raise tool.Trouble(tool.OUTPUT, f"{folder}: {error.strerror}") from None
+    tool.make_folder(folder)
     for number, lines in enumerate(histories, 1):
         tool.write_file(os.path.join(folder, f"outcome-{number}.txt"), "\n".join(lines) + "\n")
     sys.stdout.flush()
@@ -264,8 +262,7 @@ def samples(guest, asked):
 
 
 def parsed(words):
-    parser = tool.words("explore", __doc__)
-    parser.add_argument("guest", metavar="GUEST", help="the guest's file")
+    parser = tool.words("explore", __doc__, "guest")
     parser.add_argument("--all", action="store_true", help="every interleaving, and each outcome")
     parser.add_argument("--reach", metavar="RULE", action="append", default=[],
                         help="a history to an end of which RULE holds, as 'lock 0 word 2 == 1'")
@@ -279,7 +276,7 @@ def parsed(words):
     parser.add_argument("--seed", metavar="N", type=tool.number(0, 10**9),
                         help="samples: of the first interleaving (1)")
     parser.add_argument("--model", action="store_true", help="samples: by the model alone")
-    parser.add_argument("--fuel", metavar="N", type=tool.number(1, 65536), default=20000, help="(20000)")
+    parser.add_argument("--fuel", metavar="N", type=tool.number(*limits.RUN["fuel"]), default=20000, help="(20000)")
     parser.add_argument("--keep", metavar="FOLDER", help="write a history of each outcome into it")
     parser.add_argument("--most", metavar="N", type=tool.number(1, 100000), default=10,
                         help="show at most N outcomes (10)")

@@ -70,8 +70,7 @@ def print_report(run, blocks):
 
 
 def main(words):
-    parser = tool.words("finish", __doc__)
-    parser.add_argument("guest", metavar="GUEST", help="the guest's file")
+    parser = tool.words("finish", __doc__, "guest")
     parser.add_argument("history", metavar="HISTORY", nargs="?", default="-",
                         help="the history; standard input where it is left out")
     parser.add_argument("--on", action="store_true", help="go on to the end of every thread, all sections taken")
@@ -80,10 +79,7 @@ def main(words):
                             help=f"where the history has no header ({DEFAULTS[name]})")
     asked = parser.parse_intermixed_args(words)
     guest = guestfile.load(asked.guest).guest
-    try:
-        history = byhand.History(tool.read_lines(asked.history))
-    except report.Wrong as wrong:
-        raise tool.Trouble(tool.WRONG, str(wrong)) from None
+    history = byhand.History(tool.read_lines(asked.history))
     given = {name: getattr(asked, name) for name in limits.RUN if getattr(asked, name) is not None}
     options = {**DEFAULTS, **history.header, **given}
     run, blocks = follow(lambda: legal.Run(guest, options["workers"], options["fuel"], options["batch"],

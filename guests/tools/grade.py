@@ -99,7 +99,7 @@ def graded(name, path, asked):
         try:
             guestfile.check(guestfile.read(file))
         except guestfile.Refused as refused:
-            return Graded(name, str(refused).split(":")[0], ["-"] * len(asked.rules), {})
+            return Graded(name, refused.line, ["-"] * len(asked.rules), {})
         answers = [answer(file, rule, asked) for rule in asked.rules]
     return Graded(name, "accepted", [said for said, _ in answers],
                   {number: history for number, (_, history) in enumerate(answers, 1) if history})
@@ -107,10 +107,7 @@ def graded(name, path, asked):
 
 def keep(folder, one):
     """Writes a guest's histories."""
-    try:
-        os.makedirs(folder, exist_ok=True)
-    except OSError as error:
-        raise tool.Trouble(tool.OUTPUT, f"{folder}: {error.strerror}") from None
+    tool.make_folder(folder)
     for number, history in one.histories.items():
         name = re.sub(r"[^\w.-]", "-", one.name)
         tool.write_file(os.path.join(folder, f"{name}-rule-{number}.txt"), history)
@@ -119,9 +116,7 @@ def keep(folder, one):
 def print_text(rules, results):
     rows = [["guest", "file", *(f"rule {number}" for number in range(1, len(rules) + 1)), "right"]]
     rows += [[one.name, one.file, *one.answers, f"{one.right} of {len(rules)}"] for one in results]
-    widths = [max(map(len, column)) for column in zip(*rows)]
-    for row in rows:
-        print("  ".join(cell.ljust(width) for cell, width in zip(row, widths)).rstrip())
+    tool.print_columns(rows, str.ljust)
     print()
     for number, rule in enumerate(rules, 1):
         print(f"rule {number}: {rule}")

@@ -10,8 +10,7 @@ import tool
 
 
 def main(words):
-    parser = tool.words("judge", __doc__)
-    parser.add_argument("guest", metavar="GUEST", help="the guest's file")
+    parser = tool.words("judge", __doc__, "guest")
     parser.add_argument("report", metavar="REPORT", nargs="?", default="-",
                         help="a report; standard input where it is left out")
     asked = parser.parse_intermixed_args(words)

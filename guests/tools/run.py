@@ -1,13 +1,13 @@
 """Runs a guest, by the program where it is built and else by the model, and prints its report.
 
-Output and status are those of ./tclocks run W F B < GUEST. Which of the two ran is said on standard error.
-With one worker both print the same; with several the program does what the host's scheduler makes of it, and
-the model takes the interleaving of its seed. A seed asks for the model.
+Output and status are those of ./tclocks run W F B < GUEST, or of nodes G K W F B with --nodes G K. Which of the
+two ran is said on standard error. With one worker both print the same; with several the program does what the
+host's scheduler makes of it, and the model takes the interleaving of its seed. A seed asks for the model.
 """
 import delegation
 import guestfile
-import limits
 import program
+import reasons
 import tool
 
 
@@ -26,28 +26,32 @@ def by_model(file, asked, why):
     try:
         guest = guestfile.GuestFile(file).guest
     except guestfile.Refused as refused:
-        print(str(refused).split(":")[0])
+        print(refused.line)
         raise tool.Trouble(tool.WRONG, ENDS[tool.WRONG]) from None
     tool.note("run", "by the model" + ("" if asked.workers == 1 else f", in the interleaving of seed {asked.seed or 0}")
               + (f": {why}" if why else ""))
-    run, blocks = delegation.delegated(guest, asked.fuel, asked.workers, asked.batch, asked.seed or 0)
+    nodes, bound = asked.nodes
+    run, blocks = delegation.delegated(guest, asked.fuel, asked.workers, asked.batch, asked.seed or 0, nodes=nodes, bound=bound)
     for line in run.lines(blocks):
         print(line)
 
 
 def main(words):
-    parser = tool.words("run", __doc__)
-    parser.add_argument("guest", metavar="GUEST", help="the guest's file")
-    for name, (least, most) in limits.RUN.items():
-        parser.add_argument(name, metavar=name.upper(), type=tool.number(least, most), help=f"{least} to {most}")
+    parser = tool.words("run", __doc__, "guest", "run")
     parser.add_argument("--seed", type=tool.number(0, 10**9), metavar="N", help="the model, in this interleaving (0)")
+    parser.add_argument("--nodes", metavar=("G", "K"), nargs=2, type=tool.number(0, 256), default=(0, 0),
+                        help="as ./tclocks nodes G K W F B")
     asked = parser.parse_args(words)
+    wrong = reasons.usage([*map(str, ("nodes", *asked.nodes, asked.workers, asked.fuel, asked.batch))])
+    if asked.nodes != (0, 0) and wrong:
+        parser.error(wrong)
     file = guestfile.read(asked.guest)
     why = program.missing() if asked.seed is None else None
     if why or asked.seed is not None:
         by_model(file, asked, why)
     else:
-        by_program(file, ("run", asked.workers, asked.fuel, asked.batch))
+        form = ("nodes", *asked.nodes) if asked.nodes[0] else ("run",)
+        by_program(file, (*form, asked.workers, asked.fuel, asked.batch))
 
 
 if __name__ == "__main__":

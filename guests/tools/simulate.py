@@ -5,16 +5,11 @@ interleaving that the seed stands for; the program's is another one each time.
 """
 import delegation
 import guestfile
-import limits
 import tool
 
 
 def main(words):
-    parser = tool.words("simulate", __doc__)
-    parser.add_argument("guest", metavar="GUEST", help="the guest's file")
-    for name, (least, most) in limits.RUN.items():
-        parser.add_argument(name, metavar=name.upper(), type=tool.number(least, most),
-                            help=f"{least} to {most}")
+    parser = tool.words("simulate", __doc__, "guest", "run")
     parser.add_argument("--seed", type=tool.number(0, 10**9), default=0,
                         help="the interleaving of several workers, 0 if it is not given")
     parser.add_argument("--form", type=int, choices=(1, 2), default=2,

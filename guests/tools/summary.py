@@ -1,19 +1,4 @@
 """Counts what a report says: by lock, by thread and by worker.
-
-  sections   of a lock, and how many of them were taken, adopted, granted
-  longest    the most adopted sections in a row
-  changes    how many sections, from the second on, ran with another worker than the lock's block before:
-             so often the lock moved
-  home       how many sections, from the second on, have another home worker than the section before; the
-             home worker is that of the thread's block before. So often the lock would have moved, had each
-             section run where its thread came from
-  away       blocks of a section (of a lock: its sections' first blocks) that ran with another worker
-             than the thread's last block without a lock
-  waiting    how many blocks stand between a thread's LOCK and its section, in sum, and the longest wait
-  fairness   of the waiting for a lock: 1 where each thread waited as long as the others, 1/N where one of
-             N threads waited alone (Jain's index of the threads' mean waits)
-  turns      of a lock: turns in which it was held
-  moves      how often a thread's next block had another worker than the one before
 """
 import csv
 import json
@@ -26,14 +11,11 @@ import tool
 
 
 def read(path):
-    try:
-        text = report.Report(tool.read_lines(path))
-        counted = counts.Counts(text)
-        for block in text.blocks():
-            counted.add(block)
-        text.ends()
-    except report.Wrong as wrong:
-        raise tool.Trouble(tool.WRONG, str(wrong)) from None
+    text = report.Report(tool.read_lines(path))
+    counted = counts.Counts(text)
+    for block in text.blocks():
+        counted.add(block)
+    text.ends()
     return counted
 
 
@@ -50,11 +32,8 @@ def print_text(counted):
         if not rows:
             continue
         names = [name.replace("_", " ") for name in rows[0]]
-        cells = [names] + [[shown(value) for value in row.values()] for row in rows]
-        widths = [max(map(len, column)) for column in zip(*cells)]
         print()
-        for line in cells:
-            print("  ".join(cell.rjust(width) for cell, width in zip(line, widths)))
+        tool.print_columns([names, *([shown(value) for value in row.values()] for row in rows)])
 
 
 def print_json(counted):
@@ -78,7 +57,7 @@ def print_csv(counted):
 
 
 def main(words):
-    parser = tool.words("summary", __doc__)
+    parser = tool.words("summary", __doc__ + counts.MEANINGS)
     parser.add_argument("report", metavar="REPORT", help="a report; - is standard input")
     forms = parser.add_mutually_exclusive_group()
     forms.add_argument("--json", action="store_const", dest="form", const=print_json)

@@ -2,18 +2,15 @@
 table (CSV) with one line for each run, or with --locks one for each lock of each run.
 
 The runs are those of the program where it is built, and else of the model, in the interleavings of its
-seeds; `by` says which. Numbers of a run are sums over its locks, and the greatest of longest and longest_wait.
+seeds; `by` says which. Numbers of a run are sums over its locks, and the greatest of longest and longest_wait;
+seconds are those that the program took, and none of the model, which tells of no time.
 
-  sections   and how many of them were taken, adopted, granted
-  rows       of adopted sections, and longest, the most that stand in one
-  changes    how often a lock moved: sections, from a lock's second on, with another worker than the lock's
-             block before
-  home       how often it would have moved, had each section run with its home worker, which is that of its
-             thread's block before
-  away       sections that ran with another worker than their thread's last block without a lock: its context
-             was handed over
-  waiting    the blocks that stand between a thread's LOCK and its section, and the longest wait
-  seconds    that the program took; none for the model, which tells of no time
+With --nodes the runs are those of `nodes G K W F B`: worker W is on node W modulo G, and a lock is passed on to a
+waiter of the releaser's node first, but to none before one that was passed over K times (--bound). 0 nodes are
+`run W F B`. More nodes than workers are left out. Two more numbers are of a run with nodes:
+
+  changes_of_node   changes of worker between two nodes: so often the lock's bytes went to another node
+  other_node        sections whose home worker is on another node: so often a context did
 """
 import argparse
 import csv
@@ -36,10 +33,10 @@ import program
 import report
 import tool
 
-SUMS = ("sections", "taken", "adopted", "granted", "rows", "changes", "home", "away", "waiting")
 GREATEST = ("longest", "longest_wait")
 NUMBERS = ("sections", "taken", "adopted", "granted", "rows", "longest", "changes", "home", "away", "waiting",
            "longest_wait")
+OF_NODES = ("changes_of_node", "other_node")
 
 
 class Setting(NamedTuple):
@@ -47,9 +44,19 @@ class Setting(NamedTuple):
     by: str
     workers: int
     batch: int
+    nodes: int
+    bound: int
     fuel: int
     run: int
     seed: int
+
+    def order(self):
+        """What its runs are told apart by beside the batch limit."""
+        return self.workers, self.nodes, self.bound
+
+    def words(self):
+        form = ("nodes", self.nodes, self.bound) if self.nodes else ("run",)
+        return (*form, self.workers, self.fuel, self.batch)
 
 
 class Result(NamedTuple):
@@ -65,7 +72,7 @@ class Result(NamedTuple):
     def sums(self):
         """The numbers of all locks together."""
         return {name: (max if name in GREATEST else sum)([lock[name] for lock in self.locks] or [0])
-                for name in NUMBERS}
+                for name in NUMBERS + OF_NODES}
 
 
 def numbers(least, most):
@@ -89,14 +96,16 @@ def counted(setting, shape, blocks, seconds=""):
         if block.begun is not None:
             owners[block.begun].append(block.worker)
     return Result(setting, [{"sections": lock.sections, **{kind: lock.kinds[kind] for kind in limits.SECTIONS},
-                             **{name: getattr(lock, name) for name in NUMBERS[4:]}} for lock in result.locks],
+                             **{name: getattr(lock, name) for name in NUMBERS[4:]},
+                             **{name: counts.apart(pairs, setting.nodes or 1)
+                                for name, pairs in zip(OF_NODES, (lock.changed, lock.came))}} for lock in result.locks],
                   owners, sum(worker.blocks for worker in result.workers),
                   sum(worker.turns for worker in result.workers), seconds)
 
 
 def by_program(file, setting):
-    """A run of the program. The forms of its words that sweep knows are those of run alone."""
-    words = ("run", setting.workers, setting.fuel, setting.batch)
+    """A run of the program."""
+    words = setting.words()
     began = time.perf_counter()
     status, text = program.run(words, file)
     seconds = f"{time.perf_counter() - began:.3f}"
@@ -108,7 +117,8 @@ def by_program(file, setting):
 
 def by_model(job):
     file, setting = job
-    run, blocks = delegation.delegated(model.Guest(file), setting.fuel, setting.workers, setting.batch, setting.seed)
+    run, blocks = delegation.delegated(model.Guest(file), setting.fuel, setting.workers, setting.batch, setting.seed,
+                                       nodes=setting.nodes, bound=setting.bound)
     shape = types.SimpleNamespace(threads=len(run.machine.threads), guards=len(run.machine.locks), workers=run.workers)
     return counted(setting, shape, blocks)
 
@@ -126,16 +136,22 @@ def results(file, settings):
 
 
 def settings_of(asked, by):
-    for number, (workers, batch, run) in enumerate(itertools.product(asked.workers, asked.batch,
-                                                                     range(1, asked.runs + 1))):
-        yield Setting(by, workers, batch, asked.fuel, run, asked.seed + number if by == "model" else "")
+    orders = [(nodes, bound) for nodes in asked.nodes for bound in (asked.bound if nodes else [0])]
+    every = [(workers, batch, order, run) for workers, batch, order, run in itertools.product(
+        asked.workers, asked.batch, orders, range(1, asked.runs + 1)) if order[0] <= workers]
+    for number, (workers, batch, order, run) in enumerate(every):
+        yield Setting(by, workers, batch, *order, asked.fuel, run, asked.seed + number if by == "model" else "")
 
 
 def lines(name, result, each_lock):
     """The cells of a run's lines behind its parameters."""
     found = enumerate(result.locks) if each_lock else [("all", result.sums())]
+    setting = result.setting
+    if not setting.nodes:
+        setting = setting._replace(nodes="", bound="")
     for lock, numbers_ in found:
-        yield [name, *result.setting, lock, *(numbers_[number] for number in NUMBERS), result.blocks, result.turns,
+        yield [name, *setting, lock, *(numbers_[number] for number in NUMBERS),
+               *(numbers_[number] if setting.nodes else "" for number in OF_NODES), result.blocks, result.turns,
                result.seconds]
 
 
@@ -153,11 +169,14 @@ def draw(asked, done):
 
 
 def asked_of(words):
-    parser = tool.words("sweep", __doc__)
-    parser.add_argument("guest", metavar="GUEST", help="the guest's file")
+    parser = tool.words("sweep", __doc__ + counts.MEANINGS, "guest")
     for name, usual in (("workers", "1,2,4,8"), ("batch", "0,1,8,256")):
         parser.add_argument(f"--{name}", metavar="N,N..", type=numbers(*limits.RUN[name]), default=usual,
                             help=f"({usual})")
+    parser.add_argument("--nodes", metavar="G,G..", type=numbers(0, limits.NUMBERS["nodes"][1]), default="0",
+                        help="of workers; 0 is an order without nodes (0)")
+    parser.add_argument("--bound", metavar="K,K..", type=numbers(*limits.NUMBERS["bound"]), default="4",
+                        help="so often a waiter may be passed over, with nodes (4)")
     parser.add_argument("--runs", metavar="N", type=tool.number(1, 1000), default=3, help="of each (3)")
     parser.add_argument("--fuel", metavar="N", type=tool.number(*limits.RUN["fuel"]), default=20000, help="(20000)")
     parser.add_argument("--seed", metavar="N", type=tool.number(0, 10**9), default=1, help="of the model's first run (1)")
@@ -170,7 +189,10 @@ def asked_of(words):
                         help="the lock of --strips (the one with the most sections)")
     parser.add_argument("--sections", metavar="N", type=tool.number(1, 100_000), default=1000,
                         help="so many sections of it (1000)")
-    return parser.parse_args(words)
+    asked = parser.parse_args(words)
+    if min(asked.nodes) > max(asked.workers):
+        parser.error("there are more --nodes than --workers")
+    return asked
 
 
 def main(words):
@@ -184,7 +206,7 @@ def main(words):
         tool.note("sweep", f"by the model: {why}")
     settings = list(settings_of(asked, "model" if asked.model or why else "program"))
     table = csv.writer(sys.stdout, lineterminator="\n")
-    table.writerow(["guest", *Setting._fields, "lock", *NUMBERS, "blocks", "turns", "seconds"])
+    table.writerow(["guest", *Setting._fields, "lock", *NUMBERS, *OF_NODES, "blocks", "turns", "seconds"])
     done = []
     for result in results(file, settings):
         table.writerows(lines(os.path.basename(asked.guest), result, asked.locks))
