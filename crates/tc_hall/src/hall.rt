@@ -260,7 +260,8 @@ impl Hall {
         }
         let slot = words.exchange(&mut pass.seat, t as usize, None);
         words.load::<Lay>(&mut pass.seat, 0);
-        Ok(package_of(slot))
+        let package = package_of(slot);
+        Ok(package)
     }
 
     /// Takes the package of a ready or a parked thread, by one compare-and-swap on the thread's

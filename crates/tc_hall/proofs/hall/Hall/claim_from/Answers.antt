@@ -44,8 +44,8 @@ load-requires g c =
           (ap (λ (z : Knows). z.hand) view) (ap (λ (z : Knows). z.spent) view ∙ (ap (λ (z : Knows). z.spent) got.2.now ∙ c.pass.invariant.3)) (of_package c.args.t (bare got.0) refl (subst (λ (z : Knows × ℕ). Has z.0 z.1 (bare got.0)) (λ i. (sym view i, got.2.thread i)) (has_out got.1 got.0 got.2.came.out))),
     )
 
-pub package_of-requires : goal.package_of-requires
-package_of-requires g c =
+pub package_of-package-requires : goal.package_of-package-requires
+package_of-package-requires g c =
     let got = c.compare_exchange-found.ensures.2.0 c.if-found-code.false c.args.t refl in
     (got.0, got_found c.args.t (Package got.0) got.1 c.pass.inside.seat.me c.compare_exchange-found.new.seat.me got.3 c.exchange-slot.result c.exchange-slot.ensures.2)
 
@@ -68,8 +68,8 @@ returns-clause-result g c =
     let free : got.1.hand ≡ None = ap (λ (z : Knows). z.hand) got.2.now ∙ c.pass.invariant.1 in
     let last = got_last c.args.t (Package got.0) got.1 m c.compare_exchange-found.new.seat.me got.3 c.pass.invariant.0 c.exchange-slot.new.seat.me c.exchange-slot.ensures.3 free c.load.new.seat.me c.load.ensures.2 in
     let found = got_found c.args.t (Package got.0) got.1 m c.compare_exchange-found.new.seat.me got.3 c.exchange-slot.result c.exchange-slot.ensures.2 in
-    let same : got.0 ≡ c.package_of.result = cc (found, c.package_of.ensures) in
-    subst (λ (p : PassView). Gets c.args.code c.args.t c.package_of.result p.knows c.load.new.seat.me.0) c.pass.view_is
+    let same : got.0 ≡ c.package_of-package.result = cc (found, c.package_of-package.ensures) in
+    subst (λ (p : PassView). Gets c.args.code c.args.t c.package_of-package.result p.knows c.load.new.seat.me.0) c.pass.view_is
     (subst (λ (z : PackageView × Knows). Gets c.args.code c.args.t z.0 m.0 z.1) (λ i. (same i, sym last i)) got.2)
 
 pub returns-clause-left : goal.returns-clause-left
@@ -78,6 +78,6 @@ returns-clause-left g c =
     let m = c.pass.inside.seat.me in
     let key : Terms = c.self.inside.board.shared.key in
     let found = got_found c.args.t (Package got.0) got.1 m c.compare_exchange-found.new.seat.me got.3 c.exchange-slot.result c.exchange-slot.ensures.2 in
-    let same : got.0 ≡ c.package_of.result = cc (found, c.package_of.ensures) in
-    subst (λ (z : HallView × PassView). IsAsLeft z.0.terms z.1.knows c.package_of.result) (λ i. (c.self.view_is i, c.pass.view_is i))
+    let same : got.0 ≡ c.package_of-package.result = cc (found, c.package_of-package.ensures) in
+    subst (λ (z : HallView × PassView). IsAsLeft z.0.terms z.1.knows c.package_of-package.result) (λ i. (c.self.view_is i, c.pass.view_is i))
     (subst (λ (q : PackageView). IsAsLeft key m.0 q) same (got.4 key (c.requires.picked ∙ ap (λ (h : HallView). Some h.terms) (sym c.self.view_is))))
