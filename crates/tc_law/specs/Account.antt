@@ -2,10 +2,9 @@
 use Rattle.std.specs.Prelude.{ℕ, List, [], ◌∷◌, ◌++◌, length, Option}
 use Rattle.tc_elf.specs.Shown.{Shown}
 use Rattle.tc_journal.specs.declared.block.Block.{Block}
-use Rattle.tc_mutex_spec.specs.Blocks.{end_after}
 use Rattle.tc_segment.specs.View.{LockView, sealed_block}
 use Rattle.tc_context.specs.View.{PackageView, locks_in, with_seal}
-use Rattle.tc_law.specs.Lawful.{Lawful, with_package, with_states}
+use Rattle.tc_law.specs.Lawful.{Lawful, owner_after, with_package, with_states}
 
 pub record Account : Type 0 where
   pub image : Shown
@@ -29,4 +28,4 @@ with_block a b p worker =
 
 -- who owns lock k in the history's end
 abbrev pub owner_in : Account → ℕ → Option ℕ
-owner_in a k = ((end_after a.image a.fuel a.history).locks k).owner
+owner_in a k = owner_after a.image a.fuel a.history k

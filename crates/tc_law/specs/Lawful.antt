@@ -51,6 +51,10 @@ pub record Lawful (image : Shown) (fuel limit : ℕ) (h : List Block) (packages 
   pub states_after : (k : ℕ) (l : LockView) → StandsAt states k l → IsStateAfter image fuel limit h k l
   pub bound : length h + all_left packages ≤ length image.entries * (fuel + 1)
 
+-- who owns lock k in the history's end
+abbrev pub owner_after : Shown → ℕ → List Block → ℕ → Option ℕ
+owner_after image fuel h k = ((end_after image fuel h).locks k).owner
+
 -- the limits under which a history stays short
 pub record IsLimited (image : Shown) (fuel : ℕ) : Type 0 where
   pub threads : length image.entries ≤ MAX_THREADS
