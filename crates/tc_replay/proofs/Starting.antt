@@ -7,16 +7,15 @@ use Rattle.std.proofs.lemmas.List.{length-map}
 use Rattle.std.proofs.lemmas.List.Folds.{fold-map}
 use Rattle.std.proofs.lemmas.List.FromFn.{length-map-range_with_len, get_or-map-range_with_len}
 use mathlib.Core.Option.{some, some-injective, some-ne-none}
-use lib.ListN.{get_elem?}
 use Rattle.tc_elf.specs.Shown.{Shown}
 use Rattle.tc_mutex_spec.proofs.ListLaws.{there, at_place}
-use Rattle.tc_segment.specs.View.{LockView, IsAtRest, fresh_state, kept}
+use Rattle.tc_segment.specs.View.{LockView, fresh_state}
 use Rattle.tc_context.specs.Locks.{lock_in, IsPlaced}
 use Rattle.tc_context.specs.Whole.{thread_in}
 use Rattle.tc_context.specs.View.{PackageView, IsFresh, bare}
-use Rattle.tc_law.specs.Lawful.{Lawful, StandsAt, IsAmong, IsStateAfter, IsLimited, IsPackageAfter, blocks_left}
+use Rattle.tc_law.specs.Lawful.{Lawful, StandsAt, IsStateAfter, IsLimited, IsPackageAfter, blocks_left}
 use Rattle.tc_law.proofs.Lawful.{fresh_lawful}
-use Rattle.tc_replay.specs.Taken.{AreFreshPackages, AreTaken, IsCalm, IsHome, lenient_state}
+use Rattle.tc_replay.specs.Taken.{AreFreshPackages, AreTaken, IsHome, lenient_state}
 use Rattle.tc_replay.specs.declared.terms.Terms.{Terms}
 use Rattle.tc_replay.proofs.Keeping.{at_map}
 

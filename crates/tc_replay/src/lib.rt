@@ -24,6 +24,8 @@ pub(crate) mod judge;
 pub mod law;
 pub mod reason;
 pub mod terms;
+#[cfg(test)]
+mod tests;
 
 pub use crate::checker::Checker;
 pub use crate::checking::{Verdict, check, checked};

@@ -1,6 +1,5 @@
-use Rattle.std.proofs.Common.{◌≡◌, ◌<◌, ◌∙◌, sym, subst, arith, length}
+use Rattle.std.proofs.Common.{◌≡◌, ◌∙◌, sym, subst, arith}
 use Rattle.tc_mutex_spec.specs.Blocks.{end_after}
-use Rattle.tc_law.specs.Lawful.{StandsAt}
 use Rattle.tc_replay.specs.Rejected.{IsWrong}
 use Rattle.tc_replay.specs.Taken.{Before}
 use Rattle.tc_replay.specs.declared.reason.Reason.TheVariants as reason

@@ -1,5 +1,4 @@
-use Rattle.std.proofs.Common.{◌≡◌, ◌∙◌, ◌+◌, refl, sym, subst, ap, take, length}
-use Rattle.std.specs.Prelude.{Ok}
+use Rattle.std.proofs.Common.{◌≡◌, ◌∙◌, refl, sym, subst, ap, take}
 use Rattle.tc_replay.specs.Rejected.{IsRejected}
 use Rattle.tc_replay.specs.Taken.{CheckerView, HasTaken}
 use Rattle.tc_replay.specs.declared.reason.Reason.{Reason}

@@ -1,4 +1,4 @@
-use Rattle.std.proofs.Common.{refl, subst, ◌≡◌, ◌∙◌, ap, sym, arith}
+use Rattle.std.proofs.Common.{refl, subst, ◌≡◌, ◌∙◌, sym, arith}
 use Rattle.std.specs.Prelude.{Option, Some}
 use Rattle.tc_mutex_spec.specs.Blocks.{end_after}
 use Rattle.tc_replay.specs.Rejected.{IsWrong}

@@ -1,4 +1,4 @@
-use Rattle.std.proofs.Common.{◌≡◌, ℕ, ◌<◌, ◌≤◌, ◌∙◌, ap, map, sym, subst, arith, length, vec_capacity}
+use Rattle.std.proofs.Common.{◌≡◌, ℕ, ◌≤◌, ◌∙◌, ap, map, sym, subst, arith, length, vec_capacity}
 use Rattle.std.specs.Prelude.{None, Vec}
 use Rattle.std.specs.Global.{Global}
 use Rattle.tc_segment.specs.View.{LockView, kept}

@@ -1,4 +1,4 @@
-use Rattle.std.proofs.Common.{◌≡◌, ◌∙◌, ◌++◌, ◌∷◌, [], List, sym, subst, ap}
+use Rattle.std.proofs.Common.{◌≡◌, ◌∙◌, ◌++◌, ◌∷◌, [], sym, subst, ap}
 use Rattle.std.specs.Prelude.{None, Ok}
 use Rattle.tc_elf.specs.Shown.{Shown}
 use Rattle.tc_replay.specs.Taken.{AreTaken, CheckerView}

@@ -1,7 +1,6 @@
-use Rattle.std.proofs.Common.{◌≡◌, ◌<◌, ◌∙◌, ap, sym, subst, arith, length}
+use Rattle.std.proofs.Common.{◌≡◌, ◌∙◌, ap, sym, subst, arith, length}
 use Rattle.tc_mutex_spec.specs.Blocks.{end_after}
 use Rattle.tc_mutex_spec.proofs.ListLaws.{there}
-use Rattle.tc_context.specs.View.{PackageView}
 use Rattle.tc_law.specs.Lawful.{StandsAt}
 use Rattle.tc_replay.specs.Rejected.{IsFirstOn}
 use Rattle.tc_replay.specs.Taken.{CheckerView}
