@@ -10,7 +10,7 @@ import shutil
 import unittest
 from unittest import mock
 
-from common import BY_HAND, GUESTS, NAMES, ONE, TEMPORARY, Case, built, elf, history, run, saved
+from common import BY_HAND, GUESTS, NAMES, ONE, TEMPORARY, Case, built, history, run, saved
 import damage
 import delegation
 import elf32
