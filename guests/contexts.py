@@ -28,7 +28,7 @@ def changed(machine, thread):
     """How many bytes of a thread's own memory aren't as the file has them."""
     count = 0
     for place, own in thread.own.items():
-        start, content = machine.guest.ranges[place][0].start, machine.guest.ranges[place][2]
+        content = machine.guest.ranges[place][2]
         if own != content:
             count += sum(one != other for one, other in zip(own, content))
     return count

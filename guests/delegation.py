@@ -209,13 +209,8 @@ def delegated(guest, fuel, workers, limit, seed=0, version=2, nodes=0, bound=0):
 
 def check_alone(guest, fuel, limit, report_text):
     """Wrong where a report of one worker is not the model's, to the last byte."""
-    lines = text(*delegated(guest, fuel, 1, limit))
-    pairs = itertools.zip_longest(report_text.splitlines(), lines)
+    run, blocks = delegated(guest, fuel, 1, limit)
+    pairs = itertools.zip_longest(report_text.splitlines(), run.lines(blocks))
     for number, (line, wanted) in enumerate(pairs, 1):
         if line != wanted:
             raise report.Wrong(f"line {number} is {line!r}, and by the model {wanted!r}")
-
-
-def text(run, blocks):
-    """The lines of a report."""
-    return run.lines(blocks)

@@ -50,8 +50,7 @@ class Player:
     def play(self, block):
         """Runs a block of the window."""
         thread = self.machine.threads[block.thread]
-        said = self.lines.text(thread.pc)
-        self.starts[block.stamp] = reasons.start_text(self.file, thread) + (f", {said}" if said else "")
+        self.starts[block.stamp] = reasons.start_text(self.file, thread, self.lines)
         before, locks = state(thread), [(lock, bytes(self.machine.locks[lock].bytes)) for lock in block.held]
         self.run.follow(block)
         after = state(thread)

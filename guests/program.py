@@ -12,13 +12,9 @@ BUILD = "./tclocks-build proves and builds it"
 NOT_BUILT = 127  # the command's own status
 
 
-def is_built():
-    return os.access(PATH, os.X_OK)
-
-
 def missing():
     """Why there is no program to run: it isn't built, or a source is newer than it. None where there is one."""
-    if not is_built():
+    if not os.access(PATH, os.X_OK):
         return f"the program isn't built; {BUILD}"
     asked = subprocess.run([COMMAND], env={"TCLOCKS_PROGRAM": "built", **os.environ}, stdin=subprocess.DEVNULL,
                            stdout=subprocess.DEVNULL, stderr=subprocess.PIPE, check=False)

@@ -28,10 +28,11 @@ def call_text(thread):
     return f"{name} {thread.x[10]}"
 
 
-def start_text(file, thread):
-    """Where a thread is about to go on."""
-    text = instruction(file, thread.pc)
-    return text + (f" ({call_text(thread)})" if file.guest.word(thread.pc) == rv32im.WHOLE["ecall"] else "")
+def start_text(file, thread, lines=None):
+    """Where a thread is about to go on, and the line of the source that is known."""
+    text, said = instruction(file, thread.pc), lines.text(thread.pc) if lines else ""
+    text += f" ({call_text(thread)})" if file.guest.word(thread.pc) == rv32im.WHOLE["ecall"] else ""
+    return text + (f", {said}" if said else "")
 
 
 def delegation(block, batch, came, away):

@@ -79,20 +79,18 @@ class Rule:
             return self.tokens.pop()
         return None
 
-    def joined(self, word, part):
-        """Parts with a word between: all of them in a list."""
-        parts = [part()]
+    def joined(self, word, read, holds):
+        """Parts with a word between, as one."""
+        parts = [read()]
         while self.take(word):
-            parts.append(part())
-        return parts
+            parts.append(read())
+        return parts[0] if len(parts) == 1 else lambda end: holds(part(end) for part in parts)
 
     def either(self):
-        parts = self.joined("or", self.both)
-        return parts[0] if len(parts) == 1 else lambda end: any(part(end) for part in parts)
+        return self.joined("or", self.both, any)
 
     def both(self):
-        parts = self.joined("and", self.negated)
-        return parts[0] if len(parts) == 1 else lambda end: all(part(end) for part in parts)
+        return self.joined("and", self.negated, all)
 
     def negated(self):
         if self.take("not"):

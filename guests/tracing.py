@@ -16,9 +16,8 @@ def values(numbers, x):
 def where(file, address):
     """What an address of memory is, in few words."""
     guard = file.guard_at(address)
-    name = file.name(address)
     inside = f" of lock {guard}" if guard is not None else " of the stack" if address in limits.STACK else ""
-    return f"{address:08x}" + (f" <{name}>" if name else "") + inside
+    return reasons.place(file, address) + inside
 
 
 def memory(file, word, x):

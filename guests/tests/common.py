@@ -81,8 +81,8 @@ def with_program(name, text):
 
 
 def history(name, workers, batch, seed, fuel=20000, version=2):
-    made = delegation.delegated(guestfile.load(elf(name)).guest, fuel, workers, batch, seed, version)
-    return made[1], "\n".join(delegation.text(*made)) + "\n"
+    made_run, blocks = delegation.delegated(guestfile.load(elf(name)).guest, fuel, workers, batch, seed, version)
+    return blocks, "\n".join(made_run.lines(blocks)) + "\n"
 
 
 class Case(unittest.TestCase):

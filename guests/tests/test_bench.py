@@ -1,10 +1,11 @@
 """The script that measures, as far as it needs no program."""
+import csv
 import pathlib
 import shutil
 import subprocess
 import sys
 
-from common import TEMPORARY, Case
+from common import GUESTS, TEMPORARY, Case, elf, run, with_program
 import guestfile
 
 BENCH = pathlib.Path(__file__).resolve().parent.parent.parent / "bench"
@@ -43,6 +44,38 @@ class Bench(Case):
         copy = TEMPORARY / "checkout"
         shutil.copytree(BENCH, copy / "bench", ignore=shutil.ignore_patterns("__pycache__"))
         shutil.copytree(BENCH.parent / "guests", copy / "guests", ignore=shutil.ignore_patterns("__pycache__", "out", "tests"))
-        done = bench("sleeps", script=copy / "bench" / "run")
-        self.one_line(done, 2)
-        self.says("./tclocks-build", done)
+        for name, words in (("run", ("sleeps",)), ("nodes", ("4", "100", "8"))):
+            done = bench(*words, script=copy / "bench" / name)
+            self.one_line(done, 2)
+            self.says("./tclocks-build", done)
+
+
+class Nodes(Case):
+    def test_words(self):
+        done = bench("--help", script=BENCH / "nodes")
+        self.assertEqual((done.returncode, done.stderr), (0, b""))
+        self.says("usage: bench/nodes", done)
+        for words in ((), ("9", "1", "1"), ("1", "1", "1", "nobody"), ("1", "1", "1", "-r", "0")):
+            self.one_line(bench(*words, script=BENCH / "nodes"), 1)
+
+    def test_the_table(self):
+        """By a program that is made up: with one seed each order's line has the numbers of its sweep."""
+        tools = with_program("orders", f"""#!/bin/sh
+if [ "$1" = nodes ]; then orders="--nodes $2 $3"; shift 2; fi
+shift
+exec {GUESTS}/run - "$@" --seed 1 $orders 2>/dev/null
+""")
+        shutil.copytree(BENCH, tools.parent / "bench", ignore=shutil.ignore_patterns("__pycache__"))
+        done = bench("2", "200", "8", "counter", "hot-lock", "-r", "1", script=tools.parent / "bench" / "nodes")
+        self.assertEqual((done.returncode, done.stderr), (0, b""))
+        rows = [[cell.strip() for cell in line.split("|")[1:-1]] for line in done.stdout.decode().splitlines()]
+        self.assertEqual(rows[0], ["Guest", "Words", "Taken", "Adopted", "Granted", "Changes", "Changes of node",
+                                   "Other node", "Seconds"])
+        words = ["`run`", *(f"`nodes {nodes} {bound}`" for nodes in (1, 2) for bound in (0, 4, 256))]
+        self.assertEqual([row[:2] for row in rows[2:]], [[name, word] for name in ("counter", "hot-lock") for word in words])
+        swept = run(tools / "sweep", elf("counter"), "--workers", "2", "--batch", "8", "--nodes", "0,1,2", "--bound", "0,4,256",
+                    "--runs", "1", "--fuel", "200")
+        self.assertEqual([row[2:8] for row in rows[2:9]],
+                         [[row[name] for name in ("taken", "adopted", "granted", "changes", "changes_of_node",
+                                                         "other_node")]
+                          for row in csv.DictReader(swept.stdout.decode().splitlines())])

@@ -126,8 +126,8 @@ class EveryInterleaving(Case):
             found = search.Search(guest, 20000)
             ends = {end for end, _ in found.ends()}
             for seed in range(8):
-                made_ = delegation.delegated(guest, 20000, 1 + seed % 4, seed)
-                self.assertIn(explore.end_of(list(delegation.text(*made_))), ends)
+                run_, blocks = delegation.delegated(guest, 20000, 1 + seed % 4, seed)
+                self.assertIn(explore.end_of(list(run_.lines(blocks))), ends)
 
     def test_ways_on_each_guest_come_to_their_ends_by_the_model(self):
         for name in NAMES:

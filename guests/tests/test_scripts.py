@@ -8,9 +8,11 @@ import json
 import random
 import shutil
 import unittest
+from unittest import mock
 
-from common import BY_HAND, GUESTS, NAMES, ONE, TEMPORARY, Case, built, elf, history, run, saved
+from common import BY_HAND, GUESTS, NAMES, ONE, TEMPORARY, Case, built, history, run, saved
 import damage
+import delegation
 import elf32
 import guestfile
 import limits
@@ -130,12 +132,37 @@ class Parts(Case):
     def test_a_contended_guest_must_show_delegation(self):
         check, known = script("check"), json.loads((GUESTS / "facts.json").read_text())
         text = history("counter", 1, 8, None)[1]
-        check.check_run = lambda file, known, *options: text
+        check.check_run = lambda file, known, words: text
         with contextlib.redirect_stdout(io.StringIO()) as said:
             passed = [check.check(name, known[name]) for name in ("counter", "first")]
         self.assertEqual(passed, [False, True])
-        self.assertEqual(said.getvalue(), "counter: FAILED: one worker alone ran in each of 123 runs\n"
-                         "first: passed, 23 runs, 0 by two workers or more, 0 with adopted sections (0 of them)\n")
+        self.assertEqual(said.getvalue(), "counter: FAILED: one worker alone ran in each of 125 runs\n"
+                         "first: passed, 25 runs, 0 by two workers or more, 0 with adopted sections (0 of them)\n")
+
+    def test_a_run_by_nodes_is_judged_as_a_run(self):
+        """By a program that is made up: it answers by the model, and of nodes what is given."""
+        check, known = script("check"), json.loads((GUESTS / "facts.json").read_text())["first"]
+
+        def checked(of_nodes):
+            def answer(words, file):
+                nodes, bound = words[1:-3] or (0, 0)
+                workers, fuel, batch = words[-3:]
+                run_, blocks = delegation.delegated(model.Guest(file), fuel, workers, batch, 5, nodes=nodes, bound=bound)
+                text = "\n".join(run_.lines(blocks)) + "\n"
+                return of_nodes(text) if words[0] == "nodes" else (0, text)
+            with mock.patch.object(program, "run", answer), contextlib.redirect_stdout(io.StringIO()) as said:
+                passed = check.check("first", known)
+            return passed, said.getvalue()
+
+        passed, said = checked(lambda text: (0, text))
+        self.assertTrue(passed and said.startswith("first: passed, 25 runs, "), said)
+        for of_nodes, wrong in ((lambda text: (1, ""), "status 1, ''"),
+                                (lambda text: (0, text.replace("workers 4 ", "workers 3 ")), "the report is of another run"),
+                                (lambda text: (0, text.replace(" kind taken ", " kind granted ", 1)), "its kind is granted"),
+                                (lambda text: (0, text.replace(" exit ", " spent ", 1)), "")):
+            passed, said = checked(of_nodes)
+            self.assertFalse(passed)
+            self.assertRegex(said, rf"^first: FAILED: nodes 2 4 4 20000 8: .*{wrong}")
 
 
 class Bytes(Case):

@@ -86,18 +86,14 @@ class Explainer:
                 print("\n".join(said))
         for number, thread in enumerate(self.run.machine.threads):
             if thread.end is None and self.chosen.thread_at_end(number):
-                print(f"  thread {number} has not ended: it goes on at {self.start(thread)}")
+                print(f"  thread {number} has not ended: it goes on at {reasons.start_text(self.file, thread, self.lines)}")
         if self.contexts:
             print(f"In all blocks: {self.contexts.total()}.")
-
-    def start(self, thread):
-        said = self.lines.text(thread.pc)
-        return reasons.start_text(self.file, thread) + (f", {said}" if said else "")
 
     def block(self, block):
         """Runs a block, and says what there is to say of it."""
         thread, is_away = self.run.machine.threads[block.thread], self.away.is_away(block)
-        start, traced = self.start(thread), []
+        start, traced = reasons.start_text(self.file, thread, self.lines), []
         if block.stamp == self.chosen.trace and thread.end is None:
             traced = list(tracing.trace(self.run, self.file, self.lines, block.thread))
         moved = list(self.contexts.before(block)) if self.contexts else []

@@ -80,9 +80,8 @@ def by_model(path, guest, fuel, runs, seed):
     """Reports of the model with their commands."""
     for i in range(runs):
         workers, batch = OPTIONS[i % len(OPTIONS)]
-        made = delegation.delegated(guest, fuel, workers, batch, seed + i)
-        yield (list(delegation.text(*made)),
-               f"guests/simulate {path} {workers} {fuel} {batch} --seed {seed + i}")
+        run, blocks = delegation.delegated(guest, fuel, workers, batch, seed + i)
+        yield list(run.lines(blocks)), f"guests/simulate {path} {workers} {fuel} {batch} --seed {seed + i}"
 
 
 def collect(sources):
@@ -232,22 +231,14 @@ def compare(guest, found, asked):
             raise tool.Trouble(tool.WRONG, f"the search has not the outcome of {outcome.command}")
 
 
-def is_built():
-    """Whether the program is there to make runs; if not, it says so."""
-    try:
-        program.need()
-    except tool.Trouble as trouble:
-        tool.note("explore", f"{trouble}; so the model alone makes runs")
-        return False
-    return True
-
-
 def sampled(guest, asked):
     """Looks at some runs: how many of whom, and their outcomes."""
-    built = not asked.model and is_built()
+    why = None if asked.model else program.missing()
+    if why:
+        tool.note("explore", f"{why}; so the model alone makes runs")
     runs, seed = asked.runs or 32, 1 if asked.seed is None else asked.seed
     sources = [("model", by_model(asked.guest, guest, asked.fuel, runs, seed))]
-    if built:
+    if not (asked.model or why):
         sources.insert(0, ("program", by_program(asked.guest, asked.fuel, runs)))
     return f"samples, {' and '.join(f'{runs} runs by the {name}' for name, _ in sources)}", collect(sources)
 

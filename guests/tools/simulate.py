@@ -16,9 +16,8 @@ def main(words):
                         help="1: block lines without the program counter, as they were before")
     asked = parser.parse_args(words)
     guest = guestfile.load(asked.guest).guest
-    options = (asked.fuel, asked.workers, asked.batch)
-    made = delegation.delegated(guest, *options, asked.seed, asked.form)
-    for line in delegation.text(*made):
+    run, blocks = delegation.delegated(guest, asked.fuel, asked.workers, asked.batch, asked.seed, asked.form)
+    for line in run.lines(blocks):
         print(line)
 
 
