@@ -90,7 +90,8 @@ fn locks_at_start(alloc: Global, image: &Image, terms: Terms) -> Result<LockSet,
 {
     let mut home = LockSet::new(alloc)?;
     for lock in 0..image.guards() {
-        home.put_in(LockState::lenient(alloc, image, lock, terms.limit)?);
+        let state = LockState::lenient(alloc, image, lock, terms.limit)?;
+        home.put_in(state);
     }
     Ok(home)
 }
