@@ -79,20 +79,44 @@ const TWO: Terms = Terms {
 
 /// A run of the two threads: the second one's section is adopted by the worker that released the
 /// lock.
-const D0: &str = "block 0 thread 0 turns 3 held - kind start worker 0 pc 00100000 end wants 0\n";
+const FIRST_WANTS: &str =
+    "block 0 thread 0 turns 3 held - kind start worker 0 pc 00100000 end wants 0\n";
 
-const D1: &str = "block 1 thread 0 turns 4 held 0 kind taken worker 0 pc 0010000c end slept\n";
+const FIRST_DOZES: &str =
+    "block 1 thread 0 turns 4 held 0 kind taken worker 0 pc 0010000c end slept\n";
 
-const D2: &str = "block 2 thread 1 turns 3 held - kind start worker 1 pc 00100030 end wants 0\n";
+const SECOND_WANTS: &str =
+    "block 2 thread 1 turns 3 held - kind start worker 1 pc 00100030 end wants 0\n";
 
-const D3: &str = "block 3 thread 0 turns 3 held 0 kind on worker 0 pc 0010001c end unlocked 0\n";
+const FIRST_UNLOCKS: &str =
+    "block 3 thread 0 turns 3 held 0 kind on worker 0 pc 0010001c end unlocked 0\n";
 
-const D4: &str =
+const SECOND_ADDS: &str =
     "block 4 thread 1 turns 7 held 0 kind adopted worker 0 pc 0010003c end unlocked 0\n";
 
-const D5: &str = "block 5 thread 0 turns 2 held - kind on worker 0 pc 00100028 end exit\n";
+const FIRST_EXITS: &str = "block 5 thread 0 turns 2 held - kind on worker 0 pc 00100028 end exit\n";
 
-const D6: &str = "block 6 thread 1 turns 2 held - kind on worker 1 pc 00100058 end exit\n";
+const SECOND_EXITS: &str =
+    "block 6 thread 1 turns 2 held - kind on worker 1 pc 00100058 end exit\n";
+
+/// The second thread takes the lock while the first one holds it, asleep.
+const TAKES_TOO_EARLY: &str =
+    "block 3 thread 1 turns 7 held 0 kind taken worker 1 pc 0010003c end unlocked 0\n";
+
+/// The first thread's section goes on without its lock.
+const HOLDS_NOTHING: &str =
+    "block 3 thread 0 turns 3 held - kind on worker 0 pc 0010001c end unlocked 0\n";
+
+/// Another worker than the one that released the lock adopts.
+const ADOPTED_ELSEWHERE: &str =
+    "block 4 thread 1 turns 7 held 0 kind adopted worker 1 pc 0010003c end unlocked 0\n";
+
+/// The lock is granted where the worker that released it has to adopt.
+const GRANTED: &str =
+    "block 4 thread 1 turns 7 held 0 kind granted worker 0 pc 0010003c end unlocked 0\n";
+
+/// The first thread exits once more.
+const EXITS_AGAIN: &str = "block 6 thread 0 turns 2 held - kind on worker 0 pc 00100030 end exit\n";
 
 /// A run of the thread with two sections, where it adopts its own second one.
 const OWN: &str = "\
@@ -103,20 +127,31 @@ block 3 thread 0 turns 4 held 0 kind adopted worker 0 pc 00100020 end unlocked 0
 block 4 thread 0 turns 2 held - kind on worker 0 pc 00100030 end exit
 ";
 
-/// A history of a guest, and at which line it is rejected and why, if it is.
+/// A history of a guest, its last lines apart, and at which line it is rejected and why, if it is.
 #[derive(Clone, Copy)]
 struct Case<'a> {
-    lines: &'a [&'a str],
+    front: &'a [&'a str],
+    last: &'a str,
     rejected: Option<(u64, Reason)>,
 }
 
 /// The lines of a history in one text.
-fn joined(alloc: Global, lines: &[&str]) -> Result<String, AllocError> {
+fn joined(alloc: Global, case: &Case) -> Result<String, AllocError> {
     let mut text = String::new(alloc);
-    for line in lines {
+    for line in case.front {
         text.push_str(line)?;
     }
+    text.push_str(case.last)?;
     Ok(text)
+}
+
+/// A history that goes on with one more line.
+fn behind<'a>(front: &'a [&'a str], last: &'a str, rejected: Option<(u64, Reason)>) -> Case<'a> {
+    Case {
+        front,
+        last,
+        rejected,
+    }
 }
 
 /// Each of these histories is found to be what its case says.
@@ -128,7 +163,7 @@ fn check_cases<R: Abort>(
     cases: &[Case],
 ) -> Result<(), Fail> {
     for case in cases {
-        let text = joined(alloc, case.lines)?;
+        let text = joined(alloc, case)?;
         let history = read(alloc, text.as_bytes())?;
         let found = check(alloc, image, terms, &history)?;
         let rejected = found.map(|r| (r.line, r.reason));
@@ -143,27 +178,33 @@ fn a_lone_thread_is_rejected_for_each_reason(rt: HostRuntime) -> Result<(), Fail
     let image = load(alloc, &SMALLEST)?;
     let cases = [
         Case {
-            lines: &[EXITS],
+            front: &[],
+            last: EXITS,
             rejected: None,
         },
         Case {
-            lines: &["block 0 thread 0 turns 1 held - kind start worker 0 pc 00010054 end exit\n"],
+            front: &[],
+            last: "block 0 thread 0 turns 1 held - kind start worker 0 pc 00010054 end exit\n",
             rejected: Some((1, Reason::Block)),
         },
         Case {
-            lines: &["block 0 thread 0 turns 2 held - kind on worker 0 pc 00010054 end exit\n"],
+            front: &[],
+            last: "block 0 thread 0 turns 2 held - kind on worker 0 pc 00010054 end exit\n",
             rejected: Some((1, Reason::Kind)),
         },
         Case {
-            lines: &["block 0 thread 0 turns 2 held - kind start worker 1 pc 00010054 end exit\n"],
+            front: &[],
+            last: "block 0 thread 0 turns 2 held - kind start worker 1 pc 00010054 end exit\n",
             rejected: Some((1, Reason::Worker)),
         },
         Case {
-            lines: &["block 0 thread 1 turns 2 held - kind start worker 0 pc 00010054 end exit\n"],
+            front: &[],
+            last: "block 0 thread 1 turns 2 held - kind start worker 0 pc 00010054 end exit\n",
             rejected: Some((1, Reason::Thread)),
         },
         Case {
-            lines: &[],
+            front: &[],
+            last: "",
             rejected: Some((1, Reason::Incomplete)),
         },
     ];
@@ -176,70 +217,23 @@ fn two_threads_are_rejected_where_they_go_wrong(rt: HostRuntime) -> Result<(), F
     let entries = [(0x0010_0000, 0), (0x0010_0030, 0)];
     let file = build(alloc, &DOZE_AND_ADD, &entries, &[0; 4], &[(DATA_START, 4)])?;
     let image = load(alloc, &file)?;
+    let run = [
+        FIRST_WANTS,
+        FIRST_DOZES,
+        SECOND_WANTS,
+        FIRST_UNLOCKS,
+        SECOND_ADDS,
+        FIRST_EXITS,
+        SECOND_EXITS,
+    ];
     let cases = [
-        Case {
-            lines: &[D0, D1, D2, D3, D4, D5, D6],
-            rejected: None,
-        },
-        // The first thread holds the lock while it sleeps.
-        Case {
-            lines: &[
-                D0,
-                D1,
-                D2,
-                "block 3 thread 1 turns 7 held 0 kind taken worker 1 pc 0010003c end unlocked 0\n",
-            ],
-            rejected: Some((4, Reason::Owner)),
-        },
-        // The held set is another one.
-        Case {
-            lines: &[
-                D0,
-                D1,
-                D2,
-                "block 3 thread 0 turns 3 held - kind on worker 0 pc 0010001c end unlocked 0\n",
-            ],
-            rejected: Some((4, Reason::Block)),
-        },
-        // Another worker than the one that released the lock.
-        Case {
-            lines: &[
-                D0,
-                D1,
-                D2,
-                D3,
-                "block 4 thread 1 turns 7 held 0 kind adopted worker 1 pc 0010003c end unlocked 0\n",
-            ],
-            rejected: Some((5, Reason::Kind)),
-        },
-        // The worker that released the lock could go on.
-        Case {
-            lines: &[
-                D0,
-                D1,
-                D2,
-                D3,
-                "block 4 thread 1 turns 7 held 0 kind granted worker 0 pc 0010003c end unlocked 0\n",
-            ],
-            rejected: Some((5, Reason::Kind)),
-        },
-        // The thread has ended.
-        Case {
-            lines: &[
-                D0,
-                D1,
-                D2,
-                D3,
-                D4,
-                D5,
-                "block 6 thread 0 turns 2 held - kind on worker 0 pc 00100030 end exit\n",
-            ],
-            rejected: Some((7, Reason::Thread)),
-        },
-        Case {
-            lines: &[D0, D1, D2, D3, D4, D5],
-            rejected: Some((7, Reason::Incomplete)),
-        },
+        behind(&run, "", None),
+        behind(&run[..3], TAKES_TOO_EARLY, Some((4, Reason::Owner))),
+        behind(&run[..3], HOLDS_NOTHING, Some((4, Reason::Block))),
+        behind(&run[..4], ADOPTED_ELSEWHERE, Some((5, Reason::Kind))),
+        behind(&run[..4], GRANTED, Some((5, Reason::Kind))),
+        behind(&run[..6], EXITS_AGAIN, Some((7, Reason::Thread))),
+        behind(&run[..6], "", Some((7, Reason::Incomplete))),
     ];
     check_cases(&rt, alloc, &image, TWO, &cases)
 }
@@ -256,12 +250,14 @@ fn a_thread_may_adopt_its_own_section(rt: HostRuntime) -> Result<(), Fail> {
     )?;
     let image = load(alloc, &file)?;
     let accepted = [Case {
-        lines: &[OWN],
+        front: &[],
+        last: OWN,
         rejected: None,
     }];
     check_cases(&rt, alloc, &image, TWO, &accepted)?;
     let rejected = [Case {
-        lines: &[OWN],
+        front: &[],
+        last: OWN,
         rejected: Some((4, Reason::Kind)),
     }];
     check_cases(&rt, alloc, &image, ALONE, &rejected)
