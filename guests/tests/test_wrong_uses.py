@@ -3,8 +3,8 @@ import json
 import subprocess
 import unittest
 
-import limits
 from common import GUESTS, TEMPORARY, Case, elf, history, run, saved
+import limits
 
 
 class WrongUses(Case):
