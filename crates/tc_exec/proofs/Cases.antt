@@ -1,11 +1,12 @@
--- What is true of each instruction's load, store and guest call.
+-- The eight things that an instruction may be, and what is true of its load, store and guest call.
 use Rattle.std.proofs.Common.{◌≡◌, ℕ, ◌*◌, ◌%◌, ◌/◌, ◌<◌, ◌≤◌, ◌^◌, Bool, true, false, refl, arith, inl, inr}
-use Rattle.std.specs.Prelude.{Some, None, Ok, Err, ◌==◌, length, if◌then◌else◌}
-use Rattle.std.proofs.lemmas.Bool.Decides.{nat_tests}
-use Rattle.tc_isa.specs.Registers.{Registers, get, with_register}
+use Rattle.std.specs.Prelude.{Option, Some, None, Ok, Err, ◌==◌, length, if◌then◌else◌}
+use Rattle.std.proofs.lemmas.Bool.{eqb-true}
+use Rattle.std.proofs.lemmas.Bool.Decides.{eqb_tells, nat_tests}
+use Rattle.tc_isa.specs.Registers.{Registers, IsRegisters, get, with_register}
 use Rattle.tc_isa.specs.declared.limits.TheConstants.{MAX_SLEEP}
+use Rattle.tc_isa.specs.declared.fault.Fault.{Fault}
 use Rattle.tc_isa.specs.declared.fault.Fault.TheVariants as fault
-use Rattle.tc_isa.specs.declared.instr.Cond.{Cond}
 use Rattle.tc_isa.specs.declared.instr.LoadKind.{LoadKind}
 use Rattle.tc_isa.specs.declared.instr.LoadKind.TheVariants as load_kind
 use Rattle.tc_isa.specs.declared.instr.StoreKind.{StoreKind}
@@ -17,23 +18,34 @@ use Rattle.tc_elf.specs.Places.{region_of}
 use Rattle.tc_elf.specs.declared.image.Region.{Region}
 use Rattle.tc_elf.specs.declared.image.Region.TheVariants as region
 use Rattle.tc_exec.proofs.Ascending.{above_all, above_itself}
-use Rattle.tc_exec.specs.Arithmetic.{plus, is_taken}
-use Rattle.tc_exec.specs.Flow.{at_place, at_next, set, jump_to, branch, faulted_or}
+use Rattle.tc_exec.proofs.Kept.{with_kept, at_kept, at_next_kept, set_kept}
+use Rattle.tc_exec.specs.Arithmetic.{plus, value_of, op_of_imm, is_taken}
+use Rattle.tc_exec.specs.Flow.{at_place, at_next, set, jump_to, faulted_or}
 use Rattle.tc_exec.specs.Access.{load_width, store_width, extended, load_fault, store_fault, nothing_or, load_want, load, put_at, store}
 use Rattle.tc_exec.specs.Calls.{is_above_held, lock_fault, unlock_fault, sleep_fault, answered, guest_call}
 use Rattle.tc_exec.specs.Step.{instruction_at, wants_by, act_by, wants_from, act_from, wants_of, act_of}
-use Rattle.tc_exec.specs.Told.{IsWidth, IsOpen, IsOpenToStores, IsUnlock, IsWant, IsAct}
+use Rattle.tc_exec.specs.Statements.{CallsLock}
+use Rattle.tc_exec.specs.Told.{IsWidth, IsOpen, IsOpenToStores, IsLoad, IsPut, IsLock, IsUnlock, IsWant, IsAct}
 use Rattle.tc_exec.specs.declared.outcome.Act.{Act}
 use Rattle.tc_exec.specs.declared.outcome.Act.TheVariants.{Next, Called, Faulted}
 use Rattle.tc_exec.specs.declared.outcome.Call.TheVariants.{Lock, Unlock, Sleep, Exit}
+use Rattle.tc_exec.specs.declared.outcome.Put.{Put}
+use Rattle.tc_exec.specs.declared.outcome.Want.{Want}
 use Rattle.tc_exec.specs.declared.outcome.Want.TheVariants as want
 
--- what is true of both arms of a test
-pub choose : (P : Act → Type 0) (b : Bool) (one other : Act) → P one → P other → P (if b then one else other)
-choose P true one other p q = p
-choose P false one other p q = q
+-- what is true of each of these, of what it does by the answer and of what it loads, is true of the next instruction
+pub record Cases (image : Shown) (held : ℕ → Bool) (r : Registers) (P : (ℕ → Act) → Want → Type 0) : Type 0 where
+  pub goes : (next : Registers) → (IsRegisters r → IsRegisters next) → P (λ answer. Next next None) want.Nothing
+  pub faults : (f : Fault) → P (λ answer. Faulted f) want.Nothing
+  pub loads : (kind : LoadKind) (rd addr : ℕ) → IsLoad image held (region_of image addr (load_width kind)) addr (load_width kind)
+      → P (λ answer. set r rd (extended kind answer)) (want.Load (region_of image addr (load_width kind)) addr (load_width kind))
+  pub stores : (put : Put) → IsPut image held put → P (λ answer. Next (at_next r) (Some put)) want.Nothing
+  pub locks : (lock : ℕ) → CallsLock image r → IsLock image held lock → P (λ answer. Called (Lock lock) (answered r answer)) want.Nothing
+  pub unlocks : (lock : ℕ) → IsUnlock image held lock → P (λ answer. Called (Unlock lock) (answered r 0)) want.Nothing
+  pub sleeps : (blocks : ℕ) → blocks ≤ MAX_SLEEP → P (λ answer. Called (Sleep blocks) (answered r 0)) want.Nothing
+  pub exits : P (λ answer. Called Exit r) want.Nothing
 
--- ---- loads and stores
+-- ---- what no fault says
 
 load_opens : (held : ℕ → Bool) (place : Region) (addr width : ℕ) → load_fault held place addr width ≡ None → (addr % width ≡ 0) × IsOpen held place
 load_opens held region.Text addr width e = (grind (arith, nat_tests), tt)
@@ -56,67 +68,16 @@ load_width_fits load_kind.Lw = inr (inr refl)
 load_width_fits load_kind.Lbu = inl refl
 load_width_fits load_kind.Lhu = inr (inl refl)
 
-store_width_fits : (kind : StoreKind) → IsWidth (store_width kind)
-store_width_fits store_kind.Sb = inl refl
-store_width_fits store_kind.Sh = inr (inl refl)
-store_width_fits store_kind.Sw = inr (inr refl)
+-- of a store, the low bits of the value too
+store_fits : (kind : StoreKind) (value : ℕ) → IsWidth (store_width kind) × (value % 2 ^ (8 * store_width kind) < 2 ^ (8 * store_width kind))
+store_fits store_kind.Sb value = (inl refl, omega arith)
+store_fits store_kind.Sh value = (inr (inl refl), omega arith)
+store_fits store_kind.Sw value = (inr (inr refl), omega arith)
 
-low_bits_fit : (kind : StoreKind) (value : ℕ) → value % 2 ^ (8 * store_width kind) < 2 ^ (8 * store_width kind)
-low_bits_fit store_kind.Sb value = omega arith
-low_bits_fit store_kind.Sh value = omega arith
-low_bits_fit store_kind.Sw value = omega arith
-
-pub want_told : (image : Shown) (held : ℕ → Bool) (kind : LoadKind) (addr : ℕ) → IsWant image held (load_want image held kind addr)
-unfolding load_want
-want_told image held kind addr =
-    let place = region_of image addr (load_width kind) in
-    (elim (load_fault held place addr (load_width kind)) as (λ f. load_fault held place addr (load_width kind) ≡ f → IsWant image held (nothing_or f (want.Load place addr (load_width kind)))) [
-      | Some f ↦ λ e. tt
-      | None ↦ λ e.
-          (let o = load_opens held place addr (load_width kind) e in
-          record { width_fits = load_width_fits kind; aligned = o.0; lies = refl; is_open = o.1 })
-    ]) refl
-
-pub load_told : (image : Shown) (held : ℕ → Bool) (r : Registers) (answer : ℕ) (kind : LoadKind) (rd addr : ℕ) → IsAct image held r (load image held r answer kind rd addr)
-unfolding load
-load_told image held r answer kind rd addr =
-    elim (load_fault held (region_of image addr (load_width kind)) addr (load_width kind)) as (λ f. IsAct image held r (faulted_or f (set r rd (extended kind answer)))) [
-      | Some f ↦ tt
-      | None ↦ tt
-    ]
-
-pub store_told : (image : Shown) (held : ℕ → Bool) (r : Registers) (kind : StoreKind) (addr value : ℕ) → IsAct image held r (store image held r kind addr value)
-unfolding store
-store_told image held r kind addr value =
-    let width = store_width kind in
-    let place = region_of image addr width in
-    (elim (store_fault held place addr width) as (λ f. store_fault held place addr width ≡ f → IsAct image held r (faulted_or f (Next (at_next r) (Some (put_at place addr width value))))) [
-      | Some f ↦ λ e. tt
-      | None ↦ λ e.
-          (let o = store_opens held place addr width e in
-          record { width_fits = store_width_fits kind; aligned = o.0; lies = refl; is_open = o.1; value_fits = low_bits_fit kind value })
-    ]) refl
-
--- ---- jumps
-
-jump_told : (image : Shown) (held : ℕ → Bool) (r s : Registers) (target : ℕ) → IsAct image held r (jump_to s target)
-jump_told image held r s target =
-    elim (target % 4 == 0) as (λ b. IsAct image held r (if b then Next (at_place s target) None else Faulted fault.JumpTarget)) [
-      | true ↦ tt
-      | false ↦ tt
-    ]
-
-branch_told : (image : Shown) (held : ℕ → Bool) (r : Registers) (k : Cond) (rs1 rs2 off : ℕ) → IsAct image held r (branch r k rs1 rs2 off)
-branch_told image held r k rs1 rs2 off =
-    elim (is_taken k (get r rs1) (get r rs2)) as (λ b. IsAct image held r (if b then jump_to r (plus r.pc off) else Next (at_next r) None)) [
-      | true ↦ jump_told image held r r (plus r.pc off)
-      | false ↦ tt
-    ]
-
--- ---- guest calls
-
-lock_opens : (image : Shown) (held : ℕ → Bool) (lock : ℕ) → lock_fault image held lock ≡ None → (lock < length image.guards) × (is_above_held held lock ≡ true)
-lock_opens image held lock e = (grind (arith, nat_tests), grind (arith, nat_tests))
+lock_opens : (image : Shown) (held : ℕ → Bool) (lock : ℕ) → lock_fault image held lock ≡ None → IsLock image held lock
+lock_opens image held lock e =
+    let above : is_above_held held lock ≡ true = grind (arith, nat_tests) in
+    record { known = grind (arith, nat_tests); free = above_itself held lock above; above = λ other. above_all held lock other above }
 
 unlock_opens : (image : Shown) (held : ℕ → Bool) (lock : ℕ) → unlock_fault image held lock ≡ None → IsUnlock image held lock
 unlock_opens image held lock e = record { known = grind (arith, nat_tests); is_held = grind (arith, nat_tests) }
@@ -124,76 +85,89 @@ unlock_opens image held lock e = record { known = grind (arith, nat_tests); is_h
 sleep_opens : (blocks : ℕ) → sleep_fault blocks ≡ None → blocks ≤ MAX_SLEEP
 sleep_opens blocks e = grind (arith, nat_tests)
 
-pub call_told : (image : Shown) (held : ℕ → Bool) (r : Registers) (answer : ℕ) → IsAct image held r (guest_call image held r answer)
+-- ---- the case of each instruction
+
+choose : (P : (ℕ → Act) → Type 0) (b : Bool) (one other : ℕ → Act) → (b ≡ true → P one) → P other → P (λ answer. if b then one answer else other answer)
+choose P true one other p q = p refl
+choose P false one other p q = q
+
+or_fault : (P : (ℕ → Act) → Want → Type 0) (f : Option Fault) (act : ℕ → Act) (wanted : Want)
+    → ((g : Fault) → P (λ answer. Faulted g) want.Nothing) → (f ≡ None → P act wanted) → P (λ answer. faulted_or f (act answer)) (nothing_or f wanted)
+or_fault P (Some f) act wanted faults goes = faults f
+or_fault P None act wanted faults goes = goes refl
+
+jump_case : (image : Shown) (held : ℕ → Bool) (r : Registers) (P : (ℕ → Act) → Want → Type 0) → Cases image held r P
+    → (s : Registers) (target : ℕ) → (IsRegisters r → IsRegisters s) → P (λ answer. jump_to s target) want.Nothing
+jump_case image held r P c s target kept =
+    choose (λ act. P act want.Nothing) (target % 4 == 0) _ _ (λ is. c.goes (at_place s target) (λ k. at_kept s target (eqb-true (target % 4) 0 is) (kept k))) (c.faults fault.JumpTarget)
+
+call_case : (image : Shown) (held : ℕ → Bool) (r : Registers) (P : (ℕ → Act) → Want → Type 0) → Cases image held r P
+    → instruction_at image r.pc ≡ Ok Ecall → P (λ answer. guest_call image held r answer) want.Nothing
 unfolding guest_call
-call_told image held r answer =
+call_case image held r P c at =
     let x = get r 10 in
-    let P : Act → Type 0 = IsAct image held r in
-    let lock : P (faulted_or (lock_fault image held x) (Called (Lock x) (answered r answer))) =
-    (elim (lock_fault image held x) as (λ f. lock_fault image held x ≡ f → P (faulted_or f (Called (Lock x) (answered r answer)))) [
-      | Some f ↦ λ e. tt
-      | None ↦ λ e.
-          (let o = lock_opens image held x e in
-          record { known = o.0; free = above_itself held x o.1; above = λ other bound is. above_all held x other o.1 bound is })
-    ]) refl in
-    let unlock : P (faulted_or (unlock_fault image held x) (Called (Unlock x) (answered r 0))) =
-    (elim (unlock_fault image held x) as (λ f. unlock_fault image held x ≡ f → P (faulted_or f (Called (Unlock x) (answered r 0)))) [
-      | Some f ↦ λ e. tt
-      | None ↦ λ e. (unlock_opens image held x e, refl)
-    ]) refl in
-    let sleep : P (faulted_or (sleep_fault x) (Called (Sleep x) (answered r 0))) =
-    (elim (sleep_fault x) as (λ f. sleep_fault x ≡ f → P (faulted_or f (Called (Sleep x) (answered r 0)))) [
-      | Some f ↦ λ e. tt
-      | None ↦ λ e. (sleep_opens x e, refl)
-    ]) refl in
-    let exit : P (Called Exit r) = refl in
-    choose P (get r 17 == 1) _ _ lock
-    (choose P (get r 17 == 2) _ _ unlock
-    (choose P (get r 17 == 3) _ _ sleep
-    (choose P (get r 17 == 93) _ _ exit tt)))
+    let Q : (ℕ → Act) → Type 0 = λ act. P act want.Nothing in
+    choose Q (get r 17 == 1) _ _ (λ is. or_fault (λ act w. Q act) (lock_fault image held x) _ want.Nothing c.faults (λ e. c.locks x record { ecall = at; number = eqb-true (get r 17) 1 is } (lock_opens image held x e)))
+    (choose Q (get r 17 == 2) _ _ (λ is. or_fault (λ act w. Q act) (unlock_fault image held x) _ want.Nothing c.faults (λ e. c.unlocks x (unlock_opens image held x e)))
+    (choose Q (get r 17 == 3) _ _ (λ is. or_fault (λ act w. Q act) (sleep_fault x) _ want.Nothing c.faults (λ e. c.sleeps x (sleep_opens x e)))
+    (choose Q (get r 17 == 93) _ _ (λ is. c.exits) (c.faults fault.BadCall))))
 
--- ---- the next instruction
+case_by : (image : Shown) (held : ℕ → Bool) (r : Registers) (P : (ℕ → Act) → Want → Type 0) → Cases image held r P
+    → (instr : Instr) → instruction_at image r.pc ≡ Ok instr → P (λ answer. act_by image held r answer instr) (wants_by image held r instr)
+unfolding act_by wants_by load load_want store
+case_by image held r P c (Lui rd imm) at = c.goes _ (set_kept r rd imm)
+case_by image held r P c (Auipc rd imm) at = c.goes _ (set_kept r rd (plus r.pc imm))
+case_by image held r P c (Jal rd off) at = jump_case image held r P c _ (plus r.pc off) (with_kept r rd (plus r.pc 4))
+case_by image held r P c (Jalr rd rs1 off) at = jump_case image held r P c _ (plus (get r rs1) off / 2 * 2) (with_kept r rd (plus r.pc 4))
+case_by image held r P c (Branch k rs1 rs2 off) at =
+    choose (λ act. P act want.Nothing) (is_taken k (get r rs1) (get r rs2)) _ _ (λ is. jump_case image held r P c r (plus r.pc off) (λ kept. kept)) (c.goes _ (at_next_kept r))
+case_by image held r P c (Load kind rd rs1 off) at =
+    let addr = plus (get r rs1) off in
+    or_fault P (load_fault held (region_of image addr (load_width kind)) addr (load_width kind)) (λ answer. set r rd (extended kind answer)) _ c.faults (λ e.
+        (let o = load_opens held _ addr (load_width kind) e in
+        c.loads kind rd addr record { width_fits = load_width_fits kind; aligned = o.0; lies = refl; is_open = o.1 }))
+case_by image held r P c (Store kind rs1 rs2 off) at =
+    let addr = plus (get r rs1) off in
+    let put = put_at (region_of image addr (store_width kind)) addr (store_width kind) (get r rs2) in
+    or_fault (λ act w. P act want.Nothing) (store_fault held put.region addr put.width) (λ answer. Next (at_next r) (Some put)) want.Nothing c.faults (λ e.
+        (let o = store_opens held put.region addr put.width e in
+        let fits = store_fits kind (get r rs2) in
+        c.stores put record { width_fits = fits.0; aligned = o.0; lies = refl; is_open = o.1; value_fits = fits.1 }))
+case_by image held r P c (Imm o rd rs1 imm) at = c.goes _ (set_kept r rd (value_of (op_of_imm o) (get r rs1) imm))
+case_by image held r P c (Op o rd rs1 rs2) at = c.goes _ (set_kept r rd (value_of o (get r rs1) (get r rs2)))
+case_by image held r P c (Fence rd rs1 imm) at = c.goes _ (at_next_kept r)
+case_by image held r P c Ecall at = call_case image held r P c at
+case_by image held r P c Ebreak at = c.faults fault.Break
 
-pub by_told : (image : Shown) (held : ℕ → Bool) (r : Registers) (answer : ℕ) (instr : Instr) → IsAct image held r (act_by image held r answer instr)
-unfolding act_by
-by_told image held r answer (Lui rd imm) = tt
-by_told image held r answer (Auipc rd imm) = tt
-by_told image held r answer (Jal rd off) = jump_told image held r (with_register r rd (plus r.pc 4)) (plus r.pc off)
-by_told image held r answer (Jalr rd rs1 off) = jump_told image held r (with_register r rd (plus r.pc 4)) (plus (get r rs1) off / 2 * 2)
-by_told image held r answer (Branch k rs1 rs2 off) = branch_told image held r k rs1 rs2 off
-by_told image held r answer (Load kind rd rs1 off) = load_told image held r answer kind rd (plus (get r rs1) off)
-by_told image held r answer (Store kind rs1 rs2 off) = store_told image held r kind (plus (get r rs1) off) (get r rs2)
-by_told image held r answer (Imm o rd rs1 imm) = tt
-by_told image held r answer (Op o rd rs1 rs2) = tt
-by_told image held r answer (Fence rd rs1 imm) = tt
-by_told image held r answer Ecall = call_told image held r answer
-by_told image held r answer Ebreak = tt
+pub each : (image : Shown) (held : ℕ → Bool) (r : Registers) (P : (ℕ → Act) → Want → Type 0) → Cases image held r P → P (act_of image held r) (wants_of image held r)
+unfolding act_of wants_of
+each image held r P c = (elim (instruction_at image r.pc) as (λ i. instruction_at image r.pc ≡ i → P (λ answer. act_from image held r answer i) (wants_from image held r i)) [
+  | Ok instr ↦ λ at. case_by image held r P c instr at
+  | Err f ↦ λ at. c.faults f
+]) refl
 
-pub wanted_told : (image : Shown) (held : ℕ → Bool) (r : Registers) (instr : Instr) → IsWant image held (wants_by image held r instr)
-unfolding wants_by
-wanted_told image held r (Lui rd imm) = tt
-wanted_told image held r (Auipc rd imm) = tt
-wanted_told image held r (Jal rd off) = tt
-wanted_told image held r (Jalr rd rs1 off) = tt
-wanted_told image held r (Branch k rs1 rs2 off) = tt
-wanted_told image held r (Load kind rd rs1 off) = want_told image held kind (plus (get r rs1) off)
-wanted_told image held r (Store kind rs1 rs2 off) = tt
-wanted_told image held r (Imm o rd rs1 imm) = tt
-wanted_told image held r (Op o rd rs1 rs2) = tt
-wanted_told image held r (Fence rd rs1 imm) = tt
-wanted_told image held r Ecall = tt
-wanted_told image held r Ebreak = tt
+-- ---- what is true of it
 
 pub wants_told : (image : Shown) (held : ℕ → Bool) (r : Registers) → IsWant image held (wants_of image held r)
-unfolding wants_of
-wants_told image held r = elim (instruction_at image r.pc) as (λ i. IsWant image held (wants_from image held r i)) [
-  | Ok instr ↦ wanted_told image held r instr
-  | Err f ↦ tt
-]
+wants_told image held r = each image held r (λ act wanted. IsWant image held wanted) record {
+  goes = λ next kept. tt;
+  faults = λ f. tt;
+  loads = λ kind rd addr told. told;
+  stores = λ put told. tt;
+  locks = λ lock calls told. tt;
+  unlocks = λ lock told. tt;
+  sleeps = λ blocks few. tt;
+  exits = tt;
+}
 
 pub act_told : (image : Shown) (held : ℕ → Bool) (r : Registers) (answer : ℕ) → IsAct image held r (act_of image held r answer)
-unfolding act_of
-act_told image held r answer = elim (instruction_at image r.pc) as (λ i. IsAct image held r (act_from image held r answer i)) [
-  | Ok instr ↦ by_told image held r answer instr
-  | Err f ↦ tt
-]
+act_told image held r answer = each image held r (λ act wanted. IsAct image held r (act answer)) record {
+  goes = λ next kept. tt;
+  faults = λ f. tt;
+  loads = λ kind rd addr told. tt;
+  stores = λ put told. told;
+  locks = λ lock calls told. told;
+  unlocks = λ lock told. (told, refl);
+  sleeps = λ blocks few. (few, refl);
+  exits = refl;
+}

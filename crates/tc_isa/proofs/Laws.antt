@@ -1,264 +1,125 @@
 -- Whatever gives an instruction's word has its fields, so that instruction is read.
-use Rattle.std.proofs.Common.{◌≡◌, ℕ, ◌^◌, ◌<◌, [], ◌∷◌, Some, refl, arith}
-use Rattle.tc_isa.specs.Rows.{from_fields, row, cond_code, load_code, store_code, op_code, IsValid}
+use Rattle.std.proofs.Common.{◌≡◌, ℕ, ◌+◌, ◌*◌, ◌%◌, ◌^◌, ◌<◌, [], ◌∷◌, Some, refl, ◌∙◌, arith}
+use Rattle.tc_isa.specs.Rows.{bits, from_fields, i_fields, r_fields, row, cond_code, load_code, store_code, op_code, IsSigned, IsValid}
 use Rattle.tc_isa.specs.Reading.{instr_of, word_of, IsWithin, u_number, b_number, i_number, j_number, s_number}
 use Rattle.tc_isa.specs.declared.fields.Fields.{Fields}
 use Rattle.tc_isa.specs.declared.instr.Cond.{Cond}
-use Rattle.tc_isa.specs.declared.instr.LoadKind.{LoadKind}
 use Rattle.tc_isa.specs.declared.instr.StoreKind.{StoreKind}
-use Rattle.tc_isa.specs.declared.instr.RegOp.{RegOp}
 use Rattle.tc_isa.specs.declared.instr.ImmOp.TheVariants as imm
 use Rattle.tc_isa.specs.declared.instr.Instr.{Instr}
 use Rattle.tc_isa.specs.declared.instr.Instr.TheVariants.{Lui, Auipc, Jal, Jalr, Branch, Load, Store, Imm, Op, Fence, Ecall, Ebreak}
 use Rattle.tc_isa.proofs.Tables.{cond_again, load_again, store_again, op_again, cond_fits, load_fits, store_fits, op_fits}
 
--- the instruction is read from any fields with its word
-abbrev pub Again : Instr → Type 0
-Again i = (f : Fields) → IsWithin f → IsValid i → word_of f ≡ from_fields (row i) → instr_of f ≡ Some i
+-- the word has 32 bits, and the instruction is read from any fields with it
+abbrev pub Reads : ℕ → Instr → Type 0
+Reads word i = (word < 2 ^ 32) × ((f : Fields) → IsWithin f → word_of f ≡ word → instr_of f ≡ Some i)
 
-lui : (rd imm : ℕ) → Again (Lui rd imm)
+-- an upper number
+upper : (make : ℕ → ℕ → Instr) (opcode rd n : ℕ) → opcode < 128 → ((f : Fields) → f.opcode ≡ opcode → instr_of f ≡ Some (make f.rd (u_number f)))
+    → (rd < 32) × (n < 2 ^ 32) × (n % 2 ^ 12 ≡ 0) → Reads (from_fields ((20, bits 31 12 n) ∷ (5, rd) ∷ (7, opcode) ∷ [])) (make rd n)
+upper make opcode rd n o read v = (
+  omega arith,
+  λ f w e.
+      (let rd_is : f.rd ≡ rd = omega arith in
+      let number : u_number f ≡ n = omega arith in
+      read f (omega arith) ∙ (λ i. Some (make (rd_is i) (number i)))),
+)
+
+-- the I form with a number that is extended
+i_form : (make : ℕ → ℕ → ℕ → Instr) (code opcode rd rs1 n : ℕ) → code < 8 → opcode < 128
+    → ((f : Fields) → f.opcode ≡ opcode → f.funct3 ≡ code → instr_of f ≡ Some (make f.rd f.rs1 (i_number f)))
+    → (rd < 32) × (rs1 < 32) × IsSigned 12 n → Reads (from_fields (i_fields (bits 11 0 n) rs1 code rd opcode)) (make rd rs1 n)
+i_form make code opcode rd rs1 n c o read v = (
+  omega arith,
+  λ f w e.
+      (let rd_is : f.rd ≡ rd = omega arith in
+      let rs1_is : f.rs1 ≡ rs1 = omega arith in
+      let number : i_number f ≡ n = omega arith in
+      read f (omega arith) (omega arith) ∙ (λ i. Some (make (rd_is i) (rs1_is i) (number i)))),
+)
+
+-- the R form
+r_form : (make : ℕ → ℕ → ℕ → Instr) (m n opcode rd rs1 rs2 : ℕ) → m < 128 → n < 8 → opcode < 128
+    → ((f : Fields) → f.opcode ≡ opcode → f.funct7 ≡ m → f.funct3 ≡ n → instr_of f ≡ Some (make f.rd f.rs1 f.rs2))
+    → (rd < 32) × (rs1 < 32) × (rs2 < 32) → Reads (from_fields (r_fields m rs2 rs1 n rd opcode)) (make rd rs1 rs2)
+r_form make m n opcode rd rs1 rs2 a b o read v = (
+  omega arith,
+  λ f w e.
+      (let rd_is : f.rd ≡ rd = omega arith in
+      let rs1_is : f.rs1 ≡ rs1 = omega arith in
+      let rs2_is : f.rs2 ≡ rs2 = omega arith in
+      read f (omega arith) (omega arith) (omega arith) ∙ (λ i. Some (make (rd_is i) (rs1_is i) (rs2_is i)))),
+)
+
+branch : (k : Cond) (rs1 rs2 off : ℕ) → IsValid (Branch k rs1 rs2 off) → Reads (from_fields (row (Branch k rs1 rs2 off))) (Branch k rs1 rs2 off)
 unfolding instr_of
-lui rd imm f w v e =
-    let opcode : f.opcode ≡ 55 = omega arith in
-    let rd_is : f.rd ≡ rd = omega arith in
-    let number : u_number f ≡ imm = omega arith in
-    rw (opcode, rd_is, number) refl
+branch k rs1 rs2 off v =
+    let small = cond_fits k in (
+      omega arith,
+      λ f w e.
+          (let opcode : f.opcode ≡ 99 = omega arith in
+          let rs1_is : f.rs1 ≡ rs1 = omega arith in
+          let rs2_is : f.rs2 ≡ rs2 = omega arith in
+          let funct3_is : f.funct3 ≡ cond_code k = omega arith in
+          let number : b_number f ≡ off = omega arith in
+          rw (opcode, funct3_is, cond_again k, rs1_is, rs2_is, number) refl),
+    )
 
-auipc : (rd imm : ℕ) → Again (Auipc rd imm)
+stored : (k : StoreKind) (rs1 rs2 off : ℕ) → IsValid (Store k rs1 rs2 off) → Reads (from_fields (row (Store k rs1 rs2 off))) (Store k rs1 rs2 off)
 unfolding instr_of
-auipc rd imm f w v e =
-    let opcode : f.opcode ≡ 23 = omega arith in
-    let rd_is : f.rd ≡ rd = omega arith in
-    let number : u_number f ≡ imm = omega arith in
-    rw (opcode, rd_is, number) refl
+stored k rs1 rs2 off v =
+    let small = store_fits k in (
+      omega arith,
+      λ f w e.
+          (let opcode : f.opcode ≡ 35 = omega arith in
+          let rs1_is : f.rs1 ≡ rs1 = omega arith in
+          let rs2_is : f.rs2 ≡ rs2 = omega arith in
+          let funct3_is : f.funct3 ≡ store_code k = omega arith in
+          let number : s_number f ≡ off = omega arith in
+          rw (opcode, funct3_is, store_again k, rs1_is, rs2_is, number) refl),
+    )
 
-jal : (rd off : ℕ) → Again (Jal rd off)
+-- the fields of a system call of this number
+system : (n : ℕ) (f : Fields) → n < 32 → IsWithin f → word_of f ≡ n * 2 ^ 20 + 115 → (f.opcode ≡ 115) × (f.funct7 ≡ 0) × (f.rs1 ≡ 0) × (f.funct3 ≡ 0) × (f.rd ≡ 0) × (f.rs2 ≡ n)
+system n f small w e = (omega arith, omega arith, omega arith, omega arith, omega arith, omega arith)
+
+pub again : (i : Instr) → IsValid i → Reads (from_fields (row i)) i
 unfolding instr_of
-jal rd off f w v e =
-    let opcode : f.opcode ≡ 111 = omega arith in
-    let rd_is : f.rd ≡ rd = omega arith in
-    let number : j_number f ≡ off = omega arith in
-    rw (opcode, rd_is, number) refl
-
-jalr : (rd rs1 off : ℕ) → Again (Jalr rd rs1 off)
-unfolding instr_of
-jalr rd rs1 off f w v e =
-    let opcode : f.opcode ≡ 103 = omega arith in
-    let rd_is : f.rd ≡ rd = omega arith in
-    let rs1_is : f.rs1 ≡ rs1 = omega arith in
-    let funct3_is : f.funct3 ≡ 0 = omega arith in
-    let number : i_number f ≡ off = omega arith in
-    rw (opcode, funct3_is, rd_is, rs1_is, number) refl
-
-branch : (k : Cond) (rs1 rs2 off : ℕ) → Again (Branch k rs1 rs2 off)
-unfolding instr_of
-branch k rs1 rs2 off f w v e =
-    let opcode : f.opcode ≡ 99 = omega arith in
-    let rs1_is : f.rs1 ≡ rs1 = omega (arith, cond_fits k) in
-    let rs2_is : f.rs2 ≡ rs2 = omega (arith, cond_fits k) in
-    let funct3_is : f.funct3 ≡ cond_code k = omega (arith, cond_fits k) in
-    let number : b_number f ≡ off = omega (arith, cond_fits k) in
-    rw (opcode, funct3_is, cond_again k, rs1_is, rs2_is, number) refl
-
-loaded : (k : LoadKind) (rd rs1 off : ℕ) → Again (Load k rd rs1 off)
-unfolding instr_of
-loaded k rd rs1 off f w v e =
-    let opcode : f.opcode ≡ 3 = omega arith in
-    let rs1_is : f.rs1 ≡ rs1 = omega (arith, load_fits k) in
-    let rd_is : f.rd ≡ rd = omega (arith, load_fits k) in
-    let funct3_is : f.funct3 ≡ load_code k = omega (arith, load_fits k) in
-    let number : i_number f ≡ off = omega (arith, load_fits k) in
-    rw (opcode, funct3_is, load_again k, rs1_is, rd_is, number) refl
-
-stored : (k : StoreKind) (rs1 rs2 off : ℕ) → Again (Store k rs1 rs2 off)
-unfolding instr_of
-stored k rs1 rs2 off f w v e =
-    let opcode : f.opcode ≡ 35 = omega arith in
-    let rs1_is : f.rs1 ≡ rs1 = omega (arith, store_fits k) in
-    let rs2_is : f.rs2 ≡ rs2 = omega (arith, store_fits k) in
-    let funct3_is : f.funct3 ≡ store_code k = omega (arith, store_fits k) in
-    let number : s_number f ≡ off = omega (arith, store_fits k) in
-    rw (opcode, funct3_is, store_again k, rs1_is, rs2_is, number) refl
-
-addi : (rd rs1 n : ℕ) → Again (Imm imm.Addi rd rs1 n)
-unfolding instr_of
-addi rd rs1 n f w v e =
-    let opcode : f.opcode ≡ 19 = omega arith in
-    let rs1_is : f.rs1 ≡ rs1 = omega arith in
-    let rd_is : f.rd ≡ rd = omega arith in
-    let funct3_is : f.funct3 ≡ 0 = omega arith in
-    let number : i_number f ≡ n = omega arith in
-    rw (opcode, funct3_is, rd_is, rs1_is, number) refl
-
-slti : (rd rs1 n : ℕ) → Again (Imm imm.Slti rd rs1 n)
-unfolding instr_of
-slti rd rs1 n f w v e =
-    let opcode : f.opcode ≡ 19 = omega arith in
-    let rs1_is : f.rs1 ≡ rs1 = omega arith in
-    let rd_is : f.rd ≡ rd = omega arith in
-    let funct3_is : f.funct3 ≡ 2 = omega arith in
-    let number : i_number f ≡ n = omega arith in
-    rw (opcode, funct3_is, rd_is, rs1_is, number) refl
-
-sltiu : (rd rs1 n : ℕ) → Again (Imm imm.Sltiu rd rs1 n)
-unfolding instr_of
-sltiu rd rs1 n f w v e =
-    let opcode : f.opcode ≡ 19 = omega arith in
-    let rs1_is : f.rs1 ≡ rs1 = omega arith in
-    let rd_is : f.rd ≡ rd = omega arith in
-    let funct3_is : f.funct3 ≡ 3 = omega arith in
-    let number : i_number f ≡ n = omega arith in
-    rw (opcode, funct3_is, rd_is, rs1_is, number) refl
-
-xori : (rd rs1 n : ℕ) → Again (Imm imm.Xori rd rs1 n)
-unfolding instr_of
-xori rd rs1 n f w v e =
-    let opcode : f.opcode ≡ 19 = omega arith in
-    let rs1_is : f.rs1 ≡ rs1 = omega arith in
-    let rd_is : f.rd ≡ rd = omega arith in
-    let funct3_is : f.funct3 ≡ 4 = omega arith in
-    let number : i_number f ≡ n = omega arith in
-    rw (opcode, funct3_is, rd_is, rs1_is, number) refl
-
-ori : (rd rs1 n : ℕ) → Again (Imm imm.Ori rd rs1 n)
-unfolding instr_of
-ori rd rs1 n f w v e =
-    let opcode : f.opcode ≡ 19 = omega arith in
-    let rs1_is : f.rs1 ≡ rs1 = omega arith in
-    let rd_is : f.rd ≡ rd = omega arith in
-    let funct3_is : f.funct3 ≡ 6 = omega arith in
-    let number : i_number f ≡ n = omega arith in
-    rw (opcode, funct3_is, rd_is, rs1_is, number) refl
-
-andi : (rd rs1 n : ℕ) → Again (Imm imm.Andi rd rs1 n)
-unfolding instr_of
-andi rd rs1 n f w v e =
-    let opcode : f.opcode ≡ 19 = omega arith in
-    let rs1_is : f.rs1 ≡ rs1 = omega arith in
-    let rd_is : f.rd ≡ rd = omega arith in
-    let funct3_is : f.funct3 ≡ 7 = omega arith in
-    let number : i_number f ≡ n = omega arith in
-    rw (opcode, funct3_is, rd_is, rs1_is, number) refl
-
-slli : (rd rs1 n : ℕ) → Again (Imm imm.Slli rd rs1 n)
-unfolding instr_of
-slli rd rs1 n f w v e =
-    let opcode : f.opcode ≡ 19 = omega arith in
-    let rs1_is : f.rs1 ≡ rs1 = omega arith in
-    let rd_is : f.rd ≡ rd = omega arith in
-    let rs2_is : f.rs2 ≡ n = omega arith in
-    let funct3_is : f.funct3 ≡ 1 = omega arith in
-    let funct7_is : f.funct7 ≡ 0 = omega arith in
-    rw (opcode, funct3_is, funct7_is, rd_is, rs1_is, rs2_is) refl
-
-srli : (rd rs1 n : ℕ) → Again (Imm imm.Srli rd rs1 n)
-unfolding instr_of
-srli rd rs1 n f w v e =
-    let opcode : f.opcode ≡ 19 = omega arith in
-    let rs1_is : f.rs1 ≡ rs1 = omega arith in
-    let rd_is : f.rd ≡ rd = omega arith in
-    let rs2_is : f.rs2 ≡ n = omega arith in
-    let funct3_is : f.funct3 ≡ 5 = omega arith in
-    let funct7_is : f.funct7 ≡ 0 = omega arith in
-    rw (opcode, funct3_is, funct7_is, rd_is, rs1_is, rs2_is) refl
-
-srai : (rd rs1 n : ℕ) → Again (Imm imm.Srai rd rs1 n)
-unfolding instr_of
-srai rd rs1 n f w v e =
-    let opcode : f.opcode ≡ 19 = omega arith in
-    let rs1_is : f.rs1 ≡ rs1 = omega arith in
-    let rd_is : f.rd ≡ rd = omega arith in
-    let rs2_is : f.rs2 ≡ n = omega arith in
-    let funct3_is : f.funct3 ≡ 5 = omega arith in
-    let funct7_is : f.funct7 ≡ 32 = omega arith in
-    rw (opcode, funct3_is, funct7_is, rd_is, rs1_is, rs2_is) refl
-
-op_two : (k : RegOp) (rd rs1 rs2 : ℕ) → Again (Op k rd rs1 rs2)
-unfolding instr_of
-op_two k rd rs1 rs2 f w v e =
-    let fits : ((op_code k).0 < 128) × ((op_code k).1 < 8) = op_fits k in
-    let opcode : f.opcode ≡ 51 = omega arith in
-    let rs1_is : f.rs1 ≡ rs1 = omega arith in
-    let rs2_is : f.rs2 ≡ rs2 = omega arith in
-    let rd_is : f.rd ≡ rd = omega arith in
-    let funct3_is : f.funct3 ≡ (op_code k).1 = omega arith in
-    let funct7_is : f.funct7 ≡ (op_code k).0 = omega arith in
-    rw (opcode, funct3_is, funct7_is, op_again k, rd_is, rs1_is, rs2_is) refl
-
-fence : (rd rs1 n : ℕ) → Again (Fence rd rs1 n)
-unfolding instr_of
-fence rd rs1 n f w v e =
-    let opcode : f.opcode ≡ 15 = omega arith in
-    let rs1_is : f.rs1 ≡ rs1 = omega arith in
-    let rd_is : f.rd ≡ rd = omega arith in
-    let funct3_is : f.funct3 ≡ 0 = omega arith in
-    let number : from_fields ((7, f.funct7) ∷ (5, f.rs2) ∷ []) ≡ n = omega arith in
-    rw (opcode, funct3_is, rd_is, rs1_is, number) refl
-
-ecall : Again Ecall
-unfolding instr_of
-ecall f w v e =
-    let opcode : f.opcode ≡ 115 = omega arith in
-    let funct7_is : f.funct7 ≡ 0 = omega arith in
-    let rs1_is : f.rs1 ≡ 0 = omega arith in
-    let funct3_is : f.funct3 ≡ 0 = omega arith in
-    let rd_is : f.rd ≡ 0 = omega arith in
-    let rs2_is : f.rs2 ≡ 0 = omega arith in
-    rw (opcode, funct7_is, rs1_is, funct3_is, rd_is, rs2_is) refl
-
-ebreak : Again Ebreak
-unfolding instr_of
-ebreak f w v e =
-    let opcode : f.opcode ≡ 115 = omega arith in
-    let funct7_is : f.funct7 ≡ 0 = omega arith in
-    let rs1_is : f.rs1 ≡ 0 = omega arith in
-    let funct3_is : f.funct3 ≡ 0 = omega arith in
-    let rd_is : f.rd ≡ 0 = omega arith in
-    let rs2_is : f.rs2 ≡ 1 = omega arith in
-    rw (opcode, funct7_is, rs1_is, funct3_is, rd_is, rs2_is) refl
-
-pub again : (i : Instr) → Again i
-again (Lui rd n) = lui rd n
-again (Auipc rd n) = auipc rd n
-again (Jal rd off) = jal rd off
-again (Jalr rd rs1 off) = jalr rd rs1 off
-again (Branch k rs1 rs2 off) = branch k rs1 rs2 off
-again (Load k rd rs1 off) = loaded k rd rs1 off
-again (Store k rs1 rs2 off) = stored k rs1 rs2 off
-again (Imm imm.Addi rd rs1 n) = addi rd rs1 n
-again (Imm imm.Slti rd rs1 n) = slti rd rs1 n
-again (Imm imm.Sltiu rd rs1 n) = sltiu rd rs1 n
-again (Imm imm.Xori rd rs1 n) = xori rd rs1 n
-again (Imm imm.Ori rd rs1 n) = ori rd rs1 n
-again (Imm imm.Andi rd rs1 n) = andi rd rs1 n
-again (Imm imm.Slli rd rs1 n) = slli rd rs1 n
-again (Imm imm.Srli rd rs1 n) = srli rd rs1 n
-again (Imm imm.Srai rd rs1 n) = srai rd rs1 n
-again (Op k rd rs1 rs2) = op_two k rd rs1 rs2
-again (Fence rd rs1 n) = fence rd rs1 n
-again Ecall = ecall
-again Ebreak = ebreak
-
--- ---- a row's word has 32 bits
-
-pub fits : (i : Instr) → IsValid i → from_fields (row i) < 2 ^ 32
-fits (Lui rd n) v = omega arith
-fits (Auipc rd n) v = omega arith
-fits (Jal rd off) v = omega arith
-fits (Jalr rd rs1 off) v = omega arith
-fits (Branch k rs1 rs2 off) v = omega (arith, cond_fits k)
-fits (Load k rd rs1 off) v = omega (arith, load_fits k)
-fits (Store k rs1 rs2 off) v = omega (arith, store_fits k)
-fits (Imm imm.Addi rd rs1 n) v = omega arith
-fits (Imm imm.Slti rd rs1 n) v = omega arith
-fits (Imm imm.Sltiu rd rs1 n) v = omega arith
-fits (Imm imm.Xori rd rs1 n) v = omega arith
-fits (Imm imm.Ori rd rs1 n) v = omega arith
-fits (Imm imm.Andi rd rs1 n) v = omega arith
-fits (Imm imm.Slli rd rs1 n) v = omega arith
-fits (Imm imm.Srli rd rs1 n) v = omega arith
-fits (Imm imm.Srai rd rs1 n) v = omega arith
-fits (Op k rd rs1 rs2) v = let codes = op_fits k in omega arith
-fits (Fence rd rs1 n) v = omega arith
-fits Ecall v = omega arith
-fits Ebreak v = omega arith
+again (Lui rd n) v = upper Lui 55 rd n (omega arith) (λ f o. rw o refl) v
+again (Auipc rd n) v = upper Auipc 23 rd n (omega arith) (λ f o. rw o refl) v
+again (Jal rd off) v = (
+  omega arith,
+  λ f w e.
+      (let opcode : f.opcode ≡ 111 = omega arith in
+      let rd_is : f.rd ≡ rd = omega arith in
+      let number : j_number f ≡ off = omega arith in
+      rw (opcode, rd_is, number) refl),
+)
+again (Jalr rd rs1 off) v = i_form Jalr 0 103 rd rs1 off (omega arith) (omega arith) (λ f o c. rw (o, c) refl) v
+again (Branch k rs1 rs2 off) v = branch k rs1 rs2 off v
+again (Load k rd rs1 off) v = i_form (Load k) (load_code k) 3 rd rs1 off (load_fits k) (omega arith) (λ f o c. rw (o, c, load_again k) refl) v
+again (Store k rs1 rs2 off) v = stored k rs1 rs2 off v
+again (Imm imm.Addi rd rs1 n) v = i_form (Imm imm.Addi) 0 19 rd rs1 n (omega arith) (omega arith) (λ f o c. rw (o, c) refl) v
+again (Imm imm.Slti rd rs1 n) v = i_form (Imm imm.Slti) 2 19 rd rs1 n (omega arith) (omega arith) (λ f o c. rw (o, c) refl) v
+again (Imm imm.Sltiu rd rs1 n) v = i_form (Imm imm.Sltiu) 3 19 rd rs1 n (omega arith) (omega arith) (λ f o c. rw (o, c) refl) v
+again (Imm imm.Xori rd rs1 n) v = i_form (Imm imm.Xori) 4 19 rd rs1 n (omega arith) (omega arith) (λ f o c. rw (o, c) refl) v
+again (Imm imm.Ori rd rs1 n) v = i_form (Imm imm.Ori) 6 19 rd rs1 n (omega arith) (omega arith) (λ f o c. rw (o, c) refl) v
+again (Imm imm.Andi rd rs1 n) v = i_form (Imm imm.Andi) 7 19 rd rs1 n (omega arith) (omega arith) (λ f o c. rw (o, c) refl) v
+again (Imm imm.Slli rd rs1 n) v = r_form (Imm imm.Slli) 0 1 19 rd rs1 n (omega arith) (omega arith) (omega arith) (λ f o a b. rw (o, b, a) refl) v
+again (Imm imm.Srli rd rs1 n) v = r_form (Imm imm.Srli) 0 5 19 rd rs1 n (omega arith) (omega arith) (omega arith) (λ f o a b. rw (o, b, a) refl) v
+again (Imm imm.Srai rd rs1 n) v = r_form (Imm imm.Srai) 32 5 19 rd rs1 n (omega arith) (omega arith) (omega arith) (λ f o a b. rw (o, b, a) refl) v
+again (Op k rd rs1 rs2) v =
+    let fits = op_fits k in
+    r_form (Op k) (op_code k).0 (op_code k).1 51 rd rs1 rs2 fits.0 fits.1 (omega arith) (λ f o a b. rw (o, b, a, op_again k) refl) v
+again (Fence rd rs1 n) v = (
+  omega arith,
+  λ f w e.
+      (let opcode : f.opcode ≡ 15 = omega arith in
+      let rs1_is : f.rs1 ≡ rs1 = omega arith in
+      let rd_is : f.rd ≡ rd = omega arith in
+      let funct3_is : f.funct3 ≡ 0 = omega arith in
+      let number : from_fields ((7, f.funct7) ∷ (5, f.rs2) ∷ []) ≡ n = omega arith in
+      rw (opcode, funct3_is, rd_is, rs1_is, number) refl),
+)
+again Ecall v = (omega arith, λ f w e. (let p = system 0 f (omega arith) w e in rw (p.0, p.1, p.2, p.3, p.4, p.5) refl))
+again Ebreak v = (omega arith, λ f w e. (let p = system 1 f (omega arith) w e in rw (p.0, p.1, p.2, p.3, p.4, p.5) refl))

@@ -21,13 +21,11 @@ cond_again cond.Ge = refl
 cond_again cond.Ltu = refl
 cond_again cond.Geu = refl
 
+cond_small : (n : ℕ) → IfSome (cond_of n) (λ k. n < 8)
+cond_small n = grind (arith, nat_tests)
+
 pub cond_fits : (k : Cond) → cond_code k < 8
-cond_fits cond.Eq = omega arith
-cond_fits cond.Ne = omega arith
-cond_fits cond.Lt = omega arith
-cond_fits cond.Ge = omega arith
-cond_fits cond.Ltu = omega arith
-cond_fits cond.Geu = omega arith
+cond_fits k = rw (cond_again k) at (cond_small (cond_code k))
 
 pub cond_back : (n : ℕ) → IfSome (cond_of n) (λ k. n ≡ cond_code k)
 cond_back n = grind (arith, nat_tests)
@@ -82,25 +80,11 @@ op_again op.Divu = refl
 op_again op.Rem = refl
 op_again op.Remu = refl
 
+op_small : (m n : ℕ) → IfSome (op_of m n) (λ k. (m < 128) × (n < 8))
+op_small m n = grind (arith, nat_tests)
+
 pub op_fits : (k : RegOp) → ((op_code k).0 < 128) × ((op_code k).1 < 8)
-op_fits op.Add = omega arith
-op_fits op.Sub = omega arith
-op_fits op.Sll = omega arith
-op_fits op.Slt = omega arith
-op_fits op.Sltu = omega arith
-op_fits op.Xor = omega arith
-op_fits op.Srl = omega arith
-op_fits op.Sra = omega arith
-op_fits op.Or = omega arith
-op_fits op.And = omega arith
-op_fits op.Mul = omega arith
-op_fits op.Mulh = omega arith
-op_fits op.Mulhsu = omega arith
-op_fits op.Mulhu = omega arith
-op_fits op.Div = omega arith
-op_fits op.Divu = omega arith
-op_fits op.Rem = omega arith
-op_fits op.Remu = omega arith
+op_fits k = rw (op_again k) at (op_small (op_code k).0 (op_code k).1)
 
 pub op_back : (m n : ℕ) → IfSome (op_of m n) (λ k. (m ≡ (op_code k).0) × (n ≡ (op_code k).1))
 op_back m n = grind (arith, nat_tests)

@@ -1,5 +1,4 @@
-use Rattle.tc_exec.proofs.Kept.{registers_are_kept}
-use Rattle.tc_exec.proofs.Laws.{guard_is_held, put_is_held, unlock_is_held, lock_is_free, lock_wants_nothing, lock_is_above, answer_is_unread}
+use Rattle.tc_exec.proofs.Laws.{guard_is_held, put_is_held, unlock_is_held, lock_is_free, lock_wants_nothing, lock_is_above, answer_is_unread, registers_are_kept}
 use Rattle.tc_exec.proofs.instruction_laws.laws.Goals as goal
 
 pub returns : goal.returns

@@ -1,11 +1,11 @@
-use Rattle.std.proofs.Common.{subst, sym}
+use Rattle.std.proofs.Common.{◌≡◌, rules}
 use Rattle.tc_isa.specs.Sets.{has}
-use Rattle.tc_exec.specs.Told.{IsWant}
-use Rattle.tc_exec.specs.declared.outcome.Want.{Want}
-use Rattle.tc_exec.proofs.Cases.{want_told}
+use Rattle.tc_exec.specs.Step.{wants_of, wants_by}
+use Rattle.tc_exec.proofs.Cases.{wants_told}
 use Rattle.tc_exec.proofs.known.wants.Goals as goal
 
 pub returns-in-Load-clause-told : goal.returns-in-Load-clause-told
+unfolding wants_of wants_by
 returns-in-Load-clause-told c =
-    let P : Want → Type 0 = IsWant c.args.image.now (has c.args.held) in
-    subst P (sym c.load_want.ensures) (want_told c.args.image.now (has c.args.held) _ _)
+    let value : c.load_want.result ≡ wants_of c.args.image.now (has c.args.held) c.args.regs.now = search rules in
+    rw value (wants_told c.args.image.now (has c.args.held) c.args.regs.now)
