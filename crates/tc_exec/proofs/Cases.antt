@@ -1,9 +1,9 @@
 -- The eight things that an instruction may be, and what is true of its load, store and guest call.
 use Rattle.std.proofs.Common.{◌≡◌, ℕ, ◌*◌, ◌%◌, ◌/◌, ◌<◌, ◌≤◌, ◌^◌, Bool, true, false, refl, arith, inl, inr}
-use Rattle.std.specs.Prelude.{Option, Some, None, Ok, Err, ◌==◌, length, if◌then◌else◌}
+use Rattle.std.specs.Prelude.{Option, Some, None, Ok, Err, ◌==◌, if◌then◌else◌}
 use Rattle.std.proofs.lemmas.Bool.{eqb-true}
-use Rattle.std.proofs.lemmas.Bool.Decides.{eqb_tells, nat_tests}
-use Rattle.tc_isa.specs.Registers.{Registers, IsRegisters, get, with_register}
+use Rattle.std.proofs.lemmas.Bool.Decides.{nat_tests}
+use Rattle.tc_isa.specs.Registers.{Registers, IsRegisters, get}
 use Rattle.tc_isa.specs.declared.limits.TheConstants.{MAX_SLEEP}
 use Rattle.tc_isa.specs.declared.fault.Fault.{Fault}
 use Rattle.tc_isa.specs.declared.fault.Fault.TheVariants as fault

@@ -6,7 +6,6 @@ use Rattle.std.proofs.lemmas.Grind.{common_steps}
 use Rattle.tc_isa.specs.Registers.{Registers, IsRegisters, with_register}
 use Rattle.tc_exec.specs.Arithmetic.{plus}
 use Rattle.tc_exec.specs.Flow.{at_place, at_next}
-use Rattle.tc_exec.specs.Calls.{answered}
 
 pub with_kept : (r : Registers) (n value : ℕ) → IsRegisters r → IsRegisters (with_register r n value)
 with_kept r n value kept = elim (eqb_tells n 0) [

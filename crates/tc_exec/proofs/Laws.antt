@@ -1,6 +1,5 @@
 -- What the layers above need to know of instructions, and all that they need to know.
 use Rattle.std.proofs.Common.{◌≡◌, ℕ, Bool, refl, ap, arith, subst}
-use Rattle.std.specs.Prelude.{Some}
 use Rattle.tc_isa.specs.Registers.{Registers}
 use Rattle.tc_elf.specs.Shown.{Shown}
 use Rattle.tc_exec.proofs.Cases.{each, wants_told, act_told}
