@@ -139,12 +139,10 @@ fn branch_word(cond: Cond, rs1: Reg, rs2: Reg, off: u32) -> u32
     r_word(high, rs2, rs1, cond_code(cond), low, 0x63)
 }
 
-/// The word of an instruction whose fields are in their ranges, as `is_valid` tests.
-pub fn encode(instr: &Instr) -> u32
+/// The word of an instruction, whatever `decode` answers at it.
+fn word_of(instr: &Instr) -> u32
     requires { IsValid instr.now }
-    ensures word { result ≡ encoded instr.now }
-    // What `decode` answers at the word.
-    ensures decodes { decoded result ≡ Some instr.now }
+    ensures { result ≡ encoded instr.now }
 {
     match *instr {
         Instr::Lui { rd, imm } => then(then(bits(imm, 31, 12), 5, rd.number()), 7, 0x37),
@@ -184,4 +182,14 @@ pub fn encode(instr: &Instr) -> u32
         Instr::Ecall => 0x73,
         Instr::Ebreak => 0x0010_0073,
     }
+}
+
+/// The word of an instruction whose fields are in their ranges, as `is_valid` tests.
+pub fn encode(instr: &Instr) -> u32
+    requires { IsValid instr.now }
+    ensures word { result ≡ encoded instr.now }
+    // What `decode` answers at the word.
+    ensures decodes { decoded result ≡ Some instr.now }
+{
+    word_of(instr)
 }
