@@ -16,7 +16,7 @@ use Rattle.tc_journal.specs.Line.{numbers_text, kind_text, end_text, pc_text, to
 use Rattle.tc_journal.specs.Spelling.{before, behind, value_of, rest_of, end_word, end_number, from_pc}
 use Rattle.tc_journal.proofs.Sets.{AreLocks-locks_of}
 use Rattle.tc_journal.proofs.HexWord.{lacks-hex8}
-use Rattle.tc_journal.proofs.Words.{lacks, lacks-append, lacks-decimal, lacks-numbers_text, before-at, before-all, behind-at, behind-all}
+use Rattle.tc_journal.proofs.Words.{lacks, lacks-append, lacks-decimal, lacks-numbers_text, split-at, split-all}
 
 -- what follows the name of the end
 abbrev pub from_end : Told → List ℕ → List ℕ
@@ -53,11 +53,12 @@ behind_worker (Some pc) text = refl
 fields : (t : Told) (more : List ℕ) → told_line t ++ more ≡ from_stamp t (32 ∷ from_pc t.pc (codes "end " ++ from_end t more))
 fields t more = words t more ∙ ap (from_stamp t) (behind_worker t.pc (codes "end " ++ from_end t more))
 
-value-field : (name word rest : List ℕ) → lacks 32 name ≡ true → lacks 32 word ≡ true → value_of (name ++ 32 ∷ (word ++ 32 ∷ rest)) ≡ word
-value-field name word rest h k = ap (before 32) (behind-at 32 name (word ++ 32 ∷ rest) h) ∙ before-at 32 word rest k
-
-rest-field : (name word rest : List ℕ) → lacks 32 name ≡ true → lacks 32 word ≡ true → rest_of (name ++ 32 ∷ (word ++ 32 ∷ rest)) ≡ rest
-rest-field name word rest h k = ap (behind 32) (behind-at 32 name (word ++ 32 ∷ rest) h) ∙ behind-at 32 word rest k
+-- a field's value and what stands behind it
+field : (name word rest : List ℕ) → lacks 32 name ≡ true → lacks 32 word ≡ true → (value_of (name ++ 32 ∷ (word ++ 32 ∷ rest)) ≡ word) × (rest_of (name ++ 32 ∷ (word ++ 32 ∷ rest)) ≡ rest)
+field name word rest h k =
+    let named = (split-at 32 name (word ++ 32 ∷ rest) h).1 in
+    let parts = split-at 32 word rest k in
+    (ap (before 32) named ∙ parts.0, ap (behind 32) named ∙ parts.1)
 
 lacks-kind_text : (kind : Kind) → lacks 32 (kind_text kind) ≡ true
 lacks-kind_text Start = refl
@@ -89,27 +90,18 @@ lacks-end_text Exit h = refl
 lacks-end_text (Fault fault) h = lacks-append 10 (codes "fault ") (decimal (fault_number fault)) refl (lacks-decimal 10 (fault_number fault) (omega arith) (small_fault fault))
 lacks-end_text Spent h = refl
 
-word-end : (end : End) → before 32 (end_text end) ≡ end_word end
-word-end (Wants lock) = before-at 32 (codes "wants") (decimal lock) refl
-word-end (Unlocked lock) = before-at 32 (codes "unlocked") (decimal lock) refl
-word-end Slept = before-all 32 (codes "slept") refl
-word-end Cut = before-all 32 (codes "cut") refl
-word-end Exit = before-all 32 (codes "exit") refl
-word-end (Fault fault) = before-at 32 (codes "fault") (decimal (fault_number fault)) refl
-word-end Spent = before-all 32 (codes "spent") refl
-
-number-end : (end : End) → behind 32 (end_text end) ≡ end_number end
-number-end (Wants lock) = behind-at 32 (codes "wants") (decimal lock) refl
-number-end (Unlocked lock) = behind-at 32 (codes "unlocked") (decimal lock) refl
-number-end Slept = behind-all 32 (codes "slept") refl
-number-end Cut = behind-all 32 (codes "cut") refl
-number-end Exit = behind-all 32 (codes "exit") refl
-number-end (Fault fault) = behind-at 32 (codes "fault") (decimal (fault_number fault)) refl
-number-end Spent = behind-all 32 (codes "spent") refl
+split-end : (end : End) → (before 32 (end_text end) ≡ end_word end) × (behind 32 (end_text end) ≡ end_number end)
+split-end (Wants lock) = split-at 32 (codes "wants") (decimal lock) refl
+split-end (Unlocked lock) = split-at 32 (codes "unlocked") (decimal lock) refl
+split-end Slept = split-all 32 (codes "slept") refl
+split-end Cut = split-all 32 (codes "cut") refl
+split-end Exit = split-all 32 (codes "exit") refl
+split-end (Fault fault) = split-at 32 (codes "fault") (decimal (fault_number fault)) refl
+split-end Spent = split-all 32 (codes "spent") refl
 
 -- the field of a pc is there, and what follows it; and where none is told, no such field is there
 pub pc_field : (pc : ℕ) (more : List ℕ) → (value_of (from_pc (Some pc) more) ≡ hex8 pc) × (rest_of (from_pc (Some pc) more) ≡ more)
-pc_field pc more = (value-field (codes "pc") (hex8 pc) more refl (lacks-hex8 pc), rest-field (codes "pc") (hex8 pc) more refl (lacks-hex8 pc))
+pc_field pc more = field (codes "pc") (hex8 pc) more refl (lacks-hex8 pc)
 
 -- what is found at the places of the fields is what was written there
 pub record HasFields (text : List ℕ) (t : Told) (more : List ℕ) : Type 0 where
@@ -129,12 +121,10 @@ pub record HasEnd (rest : List ℕ) (t : Told) : Type 0 where
 pub has_end : (t : Told) (more rest : List ℕ) → IsTold t → rest ≡ codes "end " ++ from_end t more → HasEnd rest t
 has_end t more rest h e =
     let end : before 10 (behind 32 rest) ≡ end_text t.block.end =
-    ap (λ x. before 10 (behind 32 x)) e ∙ ap (before 10) (behind-at 32 (codes "end") (from_end t more) refl)
-    ∙ before-at 10 (end_text t.block.end) more (lacks-end_text t.block.end h.end) in
-    record {
-      word = ap (before 32) end ∙ word-end t.block.end;
-      number = ap (behind 32) end ∙ number-end t.block.end;
-    }
+    ap (λ x. before 10 (behind 32 x)) e ∙ ap (before 10) (split-at 32 (codes "end") (from_end t more) refl).1
+    ∙ (split-at 10 (end_text t.block.end) more (lacks-end_text t.block.end h.end)).0 in
+    let parts = split-end t.block.end in
+    record { word = ap (before 32) end ∙ parts.0; number = ap (behind 32) end ∙ parts.1 }
 
 pub has_fields : (t : Told) (more text : List ℕ) → IsTold t → text ≡ told_line t ++ more → HasFields text t more
 has_fields t more text h e =
@@ -145,18 +135,18 @@ has_fields t more text h e =
     let worker : lacks 32 (decimal t.block.worker) ≡ true = lacks-decimal 32 t.block.worker (omega arith) (omega (arith, h.worker)) in
     let rest : List ℕ = 32 ∷ from_pc t.pc (codes "end " ++ from_end t more) in
     let r0 : text ≡ from_stamp t rest = e ∙ fields t more in
-    let r1 : rest_of text ≡ from_thread t rest = ap rest_of r0 ∙ rest-field (codes "block") _ _ refl stamp in
-    let r2 : rest_of (rest_of text) ≡ from_turns t rest = ap rest_of r1 ∙ rest-field (codes "thread") _ _ refl thread in
-    let r3 : rest_of (rest_of (rest_of text)) ≡ from_held t rest = ap rest_of r2 ∙ rest-field (codes "turns") _ _ refl turns in
-    let r4 : rest_of (rest_of (rest_of (rest_of text))) ≡ from_kind t rest = ap rest_of r3 ∙ rest-field (codes "held") _ _ refl held in
-    let r5 : rest_of (rest_of (rest_of (rest_of (rest_of text)))) ≡ from_worker t rest = ap rest_of r4 ∙ rest-field (codes "kind") _ _ refl (lacks-kind_text t.block.kind) in
-    let r6 : rest_of (rest_of (rest_of (rest_of (rest_of (rest_of text))))) ≡ from_pc t.pc (codes "end " ++ from_end t more) = ap rest_of r5 ∙ rest-field (codes "worker") _ _ refl worker in
+    let r1 : rest_of text ≡ from_thread t rest = ap rest_of r0 ∙ (field (codes "block") _ _ refl stamp).1 in
+    let r2 : rest_of (rest_of text) ≡ from_turns t rest = ap rest_of r1 ∙ (field (codes "thread") _ _ refl thread).1 in
+    let r3 : rest_of (rest_of (rest_of text)) ≡ from_held t rest = ap rest_of r2 ∙ (field (codes "turns") _ _ refl turns).1 in
+    let r4 : rest_of (rest_of (rest_of (rest_of text))) ≡ from_kind t rest = ap rest_of r3 ∙ (field (codes "held") _ _ refl held).1 in
+    let r5 : rest_of (rest_of (rest_of (rest_of (rest_of text)))) ≡ from_worker t rest = ap rest_of r4 ∙ (field (codes "kind") _ _ refl (lacks-kind_text t.block.kind)).1 in
+    let r6 : rest_of (rest_of (rest_of (rest_of (rest_of (rest_of text))))) ≡ from_pc t.pc (codes "end " ++ from_end t more) = ap rest_of r5 ∙ (field (codes "worker") _ _ refl worker).1 in
     record {
-      stamp = ap value_of r0 ∙ value-field (codes "block") _ _ refl stamp;
-      thread = ap value_of r1 ∙ value-field (codes "thread") _ _ refl thread;
-      turns = ap value_of r2 ∙ value-field (codes "turns") _ _ refl turns;
-      held = ap value_of r3 ∙ value-field (codes "held") _ _ refl held;
-      kind = ap value_of r4 ∙ value-field (codes "kind") _ _ refl (lacks-kind_text t.block.kind);
-      worker = ap value_of r5 ∙ value-field (codes "worker") _ _ refl worker;
+      stamp = ap value_of r0 ∙ (field (codes "block") _ _ refl stamp).0;
+      thread = ap value_of r1 ∙ (field (codes "thread") _ _ refl thread).0;
+      turns = ap value_of r2 ∙ (field (codes "turns") _ _ refl turns).0;
+      held = ap value_of r3 ∙ (field (codes "held") _ _ refl held).0;
+      kind = ap value_of r4 ∙ (field (codes "kind") _ _ refl (lacks-kind_text t.block.kind)).0;
+      worker = ap value_of r5 ∙ (field (codes "worker") _ _ refl worker).0;
       pc = r6;
     }

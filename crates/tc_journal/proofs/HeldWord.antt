@@ -9,7 +9,7 @@ use Rattle.tc_isa.specs.Sets.{locks_of, with_lock}
 use Rattle.tc_journal.specs.Line.{comma_text, numbers_text}
 use Rattle.tc_journal.specs.Spelling.{before, behind}
 use Rattle.tc_journal.proofs.Sets.{AreLocks, with_locks, with_locks-locks_of, AreLocks-locks_of}
-use Rattle.tc_journal.proofs.Words.{commas, before-commas, behind-commas}
+use Rattle.tc_journal.proofs.Words.{commas, split-commas}
 
 -- the text has the locks of the set that are not held yet
 pub record Remains (text : List ℕ) (held set : ℕ) : Type 0 where
@@ -44,12 +44,8 @@ dashed (n ∷ ns) word small e dash =
     absurd (no_dash (decimal n) (flat_map comma_text ns) numeral.0.1 numeral.0.0 (sym dash ∙ e))
 
 pub begins : (set : ℕ) (word : List ℕ) → set < 2 ^ 32 → word ≡ numbers_text (locks_of set) → (word ≡ codes "-" → ⊥) → Remains word 0 set
-begins set word small e some = record {
-  locks = locks_of set;
-  is = listed (locks_of set) word e some;
-  small = AreLocks-locks_of set;
-  whole = with_locks-locks_of set small;
-}
+begins set word small e some =
+    record { locks = locks_of set; is = listed (locks_of set) word e some; small = AreLocks-locks_of set; whole = with_locks-locks_of set small }
 
 pub empty_set : (set : ℕ) (word : List ℕ) → set < 2 ^ 32 → word ≡ numbers_text (locks_of set) → word ≡ codes "-" → set ≡ 0
 empty_set set word small e dash =
@@ -59,16 +55,12 @@ next_of : (locks text : List ℕ) (held set : ℕ) → text ≡ commas locks →
 next_of [] text held set is small whole some = absurd (omega (arith, ap length is))
 next_of (n ∷ ns) text held set is small whole some =
     let first = small.0 in
+    let parts = split-commas n ns (omega arith) in
     record {
       lock = n;
       small = first;
-      is = ap (before 44) is ∙ before-commas n ns (omega arith);
-      rest = record {
-        locks = ns;
-        is = ap (behind 44) is ∙ behind-commas n ns (omega arith);
-        small = small.1;
-        whole = whole;
-      };
+      is = ap (before 44) is ∙ parts.0;
+      rest = record { locks = ns; is = ap (behind 44) is ∙ parts.1; small = small.1; whole = whole };
     }
 
 pub next : (text : List ℕ) (held set : ℕ) → Remains text held set → 0 < length text → Next text held set

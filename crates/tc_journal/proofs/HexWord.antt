@@ -10,42 +10,29 @@ use Rattle.tc_journal.proofs.Words.{lacks}
 use Rattle.tc_journal.specs.Digits.{hex2, hex8}
 use Rattle.tc_journal.specs.declared.buffer.TheConstants.{PAIRS}
 
--- the digit below n is that of the table
-abbrev agree : ℕ → Bool
-agree zero = true
-agree (suc n) = (digit_glyph false n == slice_index lower_digits n) && agree n
+-- each number below n passes the test
+abbrev all_pass : (ℕ → Bool) → ℕ → Bool
+all_pass p zero = true
+all_pass p (suc n) = p n && all_pass p n
 
-agree-at : (n d : ℕ) → agree n ≡ true → d < n → digit_glyph false d ≡ slice_index lower_digits d
-agree-at zero d all lt = absurd (omega arith)
-agree-at (suc n) d all lt =
-    let parts = and_parts (digit_glyph false n == slice_index lower_digits n) (agree n) all in
-    elim (cases_lt d n) as (λ w. digit_glyph false d ≡ slice_index lower_digits d) [
-      | inl below ↦ agree-at n d parts.1 below
-      | inr top ↦ (let e : d ≡ n = omega arith in rw e (eqb-true (digit_glyph false n) (slice_index lower_digits n) parts.0))
+passes : (p : ℕ → Bool) (n k : ℕ) → all_pass p n ≡ true → k < n → p k ≡ true
+passes p zero k all lt = absurd (omega arith)
+passes p (suc n) k all lt =
+    let parts = and_parts (p n) (all_pass p n) all in
+    elim (cases_lt k n) as (λ w. p k ≡ true) [
+      | inl below ↦ passes p n k parts.1 below
+      | inr top ↦ (let e : k ≡ n = omega arith in rw e parts.0)
     ]
 
 -- a digit is that of the table
 pub glyph : (d : ℕ) → d < 16 → digit_glyph false d ≡ slice_index lower_digits d
-glyph d small = agree-at 16 d refl small
+glyph d small = eqb-true _ _ (passes (λ k. digit_glyph false k == slice_index lower_digits k) 16 d refl small)
 
--- the digits of the byte below n are those of the table of pairs
-abbrev are_pairs : ℕ → Bool
-are_pairs zero = true
-are_pairs (suc n) = ((slice_index PAIRS (n * 2) == digit_glyph false (n / 16)) && (slice_index PAIRS (n * 2 + 1) == digit_glyph false (n % 16))) && are_pairs n
-
-are_pairs-at : (n b : ℕ) → are_pairs n ≡ true → b < n → (slice_index PAIRS (b * 2) ≡ digit_glyph false (b / 16)) × (slice_index PAIRS (b * 2 + 1) ≡ digit_glyph false (b % 16))
-are_pairs-at zero b all lt = absurd (omega arith)
-are_pairs-at (suc n) b all lt =
-    let parts = and_parts _ (are_pairs n) all in
-    let here = and_parts _ _ parts.0 in
-    elim (cases_lt b n) as (λ w. (slice_index PAIRS (b * 2) ≡ digit_glyph false (b / 16)) × (slice_index PAIRS (b * 2 + 1) ≡ digit_glyph false (b % 16))) [
-      | inl below ↦ are_pairs-at n b parts.1 below
-      | inr top ↦ (let e : b ≡ n = omega arith in rw e (eqb-true _ _ here.0, eqb-true _ _ here.1))
-    ]
-
--- the digits of a byte
+-- the digits of a byte are those of the table of pairs
 pub pair : (b : ℕ) → b < 256 → (slice_index PAIRS (b * 2) ≡ digit_glyph false (b / 16)) × (slice_index PAIRS (b * 2 + 1) ≡ digit_glyph false (b % 16))
-pair b small = are_pairs-at 256 b refl small
+pair b small =
+    let both = and_parts _ _ (passes (λ k. (slice_index PAIRS (k * 2) == digit_glyph false (k / 16)) && (slice_index PAIRS (k * 2 + 1) == digit_glyph false (k % 16))) 256 b refl small) in
+    (eqb-true _ _ both.0, eqb-true _ _ both.1)
 
 -- the bytes of a word, the highest first
 abbrev pub bytes : ℕ → List ℕ

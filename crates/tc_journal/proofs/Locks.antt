@@ -2,6 +2,7 @@
 use Rattle.std.proofs.Common.{◌≡◌, ℕ, zero, suc, ◌+◌, ◌*◌, ◌<◌, ◌≤◌, Bool, true, false, cond, List, [], ◌∷◌, ◌++◌, length, filter, refl, sym, ap, ◌∙◌, append_assoc, append-nil, arith}
 use Rattle.std.specs.Prelude.{Option, Some, None, MatchOption, unwrap_or, codes, decimal}
 use Rattle.std.specs.List.{flat_map, range_with_len}
+use Rattle.std.proofs.lemmas.Bool.{false_from_ne_true}
 use Rattle.tc_isa.specs.Sets.{has, locks_of, IsGreatest, IsLeast}
 use Rattle.tc_journal.specs.Line.{comma_text, numbers_text}
 
@@ -10,9 +11,6 @@ none_from p a zero none = refl
 none_from p a (suc n) none =
     let rest : List ℕ = filter p (range_with_len (a + 1) n) in
     ap (λ b. cond b (a ∷ rest) rest) (none a (omega arith)) ∙ none_from p (a + 1) n (λ i le. none i (omega arith))
-
-fails_above : (p : ℕ → Bool) (last i : ℕ) → ((k : ℕ) → p k ≡ true → k ≤ last) → last < i → p i ≡ false
-fails_above p last i most above = elim (p i) as (λ b. p i ≡ b → b ≡ false) [ true ↦ λ e. absurd (omega (arith, most i e)) | false ↦ λ e. refl ] refl
 
 -- the locks of a set from this one on are written in front of an old line
 pub record Written (set lock : ℕ) (line old : List ℕ) : Type 0 where
@@ -34,7 +32,7 @@ begun set lock count line old is sum text short =
       others = [];
       count = suc count;
       sum = sum;
-      are = ap (λ b. cond b (lock ∷ rest) rest) is.0 ∙ ap (λ ks. lock ∷ ks) (none_from p (lock + 1) count (λ i le. fails_above p lock i is.1 (omega arith)));
+      are = ap (λ b. cond b (lock ∷ rest) rest) is.0 ∙ ap (λ ks. lock ∷ ks) (none_from p (lock + 1) count (λ i le. false_from_ne_true (p i) (λ e. absurd (omega (arith, is.1 i e)))));
       text = text ∙ ap (λ t. t ++ old) (sym (append-nil (decimal lock)));
       room = omega arith;
     }
@@ -69,12 +67,9 @@ one_less set k lock line old w e none =
     }
 
 -- what comes before them is not in the set
-fails_below : (p : ℕ → Bool) (first i : ℕ) → ((k : ℕ) → p k ≡ true → first ≤ k) → i < first → p i ≡ false
-fails_below p first i least below = elim (p i) as (λ b. p i ≡ b → b ≡ false) [ true ↦ λ e. absurd (omega (arith, least i e)) | false ↦ λ e. refl ] refl
-
 pub none_below : (set lock : ℕ) (least : Option ℕ) → MatchOption least (set ≡ 0) (λ l. IsLeast set l) → lock ≤ unwrap_or least 0 → (k : ℕ) → k < lock → has set k ≡ false
 none_below set lock None is low k below = absurd (omega arith)
-none_below set lock (Some l) is low k below = fails_below (has set) l k is.1 (omega arith)
+none_below set lock (Some l) is low k below = false_from_ne_true (has set k) (λ e. absurd (omega (arith, is.1 k e)))
 
 none_before : (p : ℕ → Bool) (a m n total : ℕ) → m + n ≡ total → ((i : ℕ) → i < a + m → p i ≡ false) → filter p (range_with_len a total) ≡ filter p (range_with_len (a + m) n)
 none_before p a zero n total e none =

@@ -27,24 +27,20 @@ missed stop [] h = refl
 missed stop (c ∷ cs) h = grind (arith, nat_tests, common_steps, missed stop cs)
 
 -- a word that ends at such a byte
-pub before-at : (stop : ℕ) (word rest : List ℕ) → lacks stop word ≡ true → before stop (word ++ stop ∷ rest) ≡ word
-unfolding before
-before-at stop word rest h =
-    ap (λ n. take n (word ++ stop ∷ rest)) (lacked stop word rest h) ∙ take_at word (stop ∷ rest) (length word) refl
-
-pub behind-at : (stop : ℕ) (word rest : List ℕ) → lacks stop word ≡ true → behind stop (word ++ stop ∷ rest) ≡ rest
-unfolding behind
-behind-at stop word rest h =
-    ap (λ n. drop (n + 1) (word ++ stop ∷ rest)) (lacked stop word rest h) ∙ drop-append-add word (stop ∷ rest) 1
+pub split-at : (stop : ℕ) (word rest : List ℕ) → lacks stop word ≡ true → (before stop (word ++ stop ∷ rest) ≡ word) × (behind stop (word ++ stop ∷ rest) ≡ rest)
+unfolding before behind
+split-at stop word rest h =
+    let place = lacked stop word rest h in (
+      ap (λ n. take n (word ++ stop ∷ rest)) place ∙ take_at word (stop ∷ rest) (length word) refl,
+      ap (λ n. drop (n + 1) (word ++ stop ∷ rest)) place ∙ drop-append-add word (stop ∷ rest) 1,
+    )
 
 -- a word that nothing follows
-pub before-all : (stop : ℕ) (word : List ℕ) → lacks stop word ≡ true → before stop word ≡ word
-unfolding before
-before-all stop word h = ap (λ n. take n word) (missed stop word h) ∙ take_all (length word) word (omega arith)
-
-pub behind-all : (stop : ℕ) (word : List ℕ) → lacks stop word ≡ true → behind stop word ≡ []
-unfolding behind
-behind-all stop word h = ap (λ n. drop (n + 1) word) (missed stop word h) ∙ grind (arith, common_steps)
+pub split-all : (stop : ℕ) (word : List ℕ) → lacks stop word ≡ true → (before stop word ≡ word) × (behind stop word ≡ [])
+unfolding before behind
+split-all stop word h =
+    let place = missed stop word h in
+    (ap (λ n. take n word) place ∙ take_all (length word) word (omega arith), ap (λ n. drop (n + 1) word) place ∙ grind (arith, common_steps))
 
 pub lacks-append : (stop : ℕ) (word more : List ℕ) → lacks stop word ≡ true → lacks stop more ≡ true → lacks stop (word ++ more) ≡ true
 lacks-append stop word more h k = list_all-append (λ c. not (c == stop)) word more ∙ ap (λ b. b && lacks stop more) h ∙ k
@@ -67,15 +63,10 @@ commas [] = []
 commas (n ∷ ns) = decimal n ++ flat_map comma_text ns
 
 -- the number at the front is before the first comma, and the others are behind it
-pub before-commas : (n : ℕ) (ns : List ℕ) → n < 2 ^ 64 → before 44 (commas (n ∷ ns)) ≡ decimal n
+pub split-commas : (n : ℕ) (ns : List ℕ) → n < 2 ^ 64 → (before 44 (commas (n ∷ ns)) ≡ decimal n) × (behind 44 (commas (n ∷ ns)) ≡ commas ns)
 unfolding comma_text
-before-commas n [] small = ap (before 44) (append-nil (decimal n)) ∙ before-all 44 (decimal n) (lacks-decimal 44 n (omega arith) small)
-before-commas n (m ∷ ms) small = before-at 44 (decimal n) (commas (m ∷ ms)) (lacks-decimal 44 n (omega arith) small)
-
-pub behind-commas : (n : ℕ) (ns : List ℕ) → n < 2 ^ 64 → behind 44 (commas (n ∷ ns)) ≡ commas ns
-unfolding comma_text
-behind-commas n [] small = ap (behind 44) (append-nil (decimal n)) ∙ behind-all 44 (decimal n) (lacks-decimal 44 n (omega arith) small)
-behind-commas n (m ∷ ms) small = behind-at 44 (decimal n) (commas (m ∷ ms)) (lacks-decimal 44 n (omega arith) small)
+split-commas n [] small = (let alone = split-all 44 (decimal n) (lacks-decimal 44 n (omega arith) small) in rw (append-nil (decimal n)) alone)
+split-commas n (m ∷ ms) small = split-at 44 (decimal n) (commas (m ∷ ms)) (lacks-decimal 44 n (omega arith) small)
 
 lacks-others : (stop : ℕ) (ns : List ℕ) → stop < 44 → AreLocks ns → lacks stop (flat_map comma_text ns) ≡ true
 unfolding comma_text

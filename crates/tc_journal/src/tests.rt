@@ -13,20 +13,12 @@ use tc_isa::held::Held;
 fn two_threads() -> [Block; 6] {
     let none = Held::none();
     let lock = none.plus(0);
+    let end = End::Unlocked(0);
     [
         block(0, 0, 3, none, Kind::Start, 0, 0x0010_0000, End::Wants(0)),
-        block(1, 0, 7, lock, Kind::Taken, 0, 0x0010_000c, End::Unlocked(0)),
+        block(1, 0, 7, lock, Kind::Taken, 0, 0x0010_000c, end),
         block(2, 1, 3, none, Kind::Start, 1, 0x0010_0000, End::Wants(0)),
-        block(
-            3,
-            1,
-            7,
-            lock,
-            Kind::Adopted,
-            0,
-            0x0010_000c,
-            End::Unlocked(0),
-        ),
+        block(3, 1, 7, lock, Kind::Adopted, 0, 0x0010_000c, end),
         block(4, 0, 2, none, Kind::On, 0, 0x0010_0028, End::Exit),
         block(5, 1, 2, none, Kind::On, 1, 0x0010_0028, End::Exit),
     ]
@@ -91,6 +83,7 @@ fn logs_are_merged_by_their_stamps(rt: HostRuntime) -> Result<(), Fail> {
 
 #[test]
 fn blocks_end_by_the_first_rule_that_holds(rt: HostRuntime) {
+    let fault = Fault::Break;
     let cases = [
         (Outcome::Went, 1, None, None),
         (Outcome::Went, 4095, None, None),
@@ -101,19 +94,11 @@ fn blocks_end_by_the_first_rule_that_holds(rt: HostRuntime) {
         (Outcome::Slept, 4096, Some(3), Some(End::Slept)),
         (Outcome::Exited, 4096, None, Some(End::Exit)),
         (Outcome::Spent, 4096, None, Some(End::Spent)),
-        (
-            Outcome::Faulted(Fault::Break),
-            4096,
-            None,
-            Some(End::Fault(Fault::Break)),
-        ),
+        (Outcome::Faulted(fault), 4096, None, Some(End::Fault(fault))),
     ];
     for (outcome, turns, next, want) in cases {
-        assert_eq!(rt;
-            end_of(outcome, turns, next),
-            want,
-            "{outcome:?}, {turns} turns"
-        );
+        let end = end_of(outcome, turns, next);
+        assert_eq!(rt; end, want, "{outcome:?}, {turns} turns");
     }
 }
 
@@ -131,16 +116,8 @@ block 6 thread 0 turns 1000 held - kind on worker 1 pc 00f0e0d0 end spent
     let blocks = read(rt.alloc(), lines)?;
     let printed = text(rt.alloc(), &blocks)?;
     assert_eq!(rt; printed.as_slice(), lines.as_slice());
-    let last = block(
-        6,
-        0,
-        1000,
-        Held::none(),
-        Kind::On,
-        1,
-        0x00f0_e0d0,
-        End::Spent,
-    );
+    let none = Held::none();
+    let last = block(6, 0, 1000, none, Kind::On, 1, 0x00f0_e0d0, End::Spent);
     assert_eq!(rt; blocks.last().copied(), Some(last));
     Ok(())
 }
@@ -158,18 +135,16 @@ const RIGHT: [&str; 9] = [
     "block 0 thread 0 turns 2 held - kind start worker 0 pc 00100004 end fault 12\n",
 ];
 
-/// Texts whose first line has other spaces, ends of line or letters than a block's.
-const WRONG_FORM: [&str; 6] = [
+/// Texts whose first line is wrong.
+const WRONG: [&str; 36] = [
+    // Other spaces, ends of line or letters than a block's.
     "\n",
     "block 0 thread 0 turns 2 held - kind start worker 0 pc 00100004 end exit",
     "block 0 thread 0 turns 2 held - kind start worker 0 pc 00100004 end exit\r\n",
     "block 0 thread 0 turns 2 held - kind start worker 0 pc 00100004 end exit \n",
     " block 0 thread 0 turns 2 held - kind start worker 0 pc 00100004 end exit\n",
     "block 0 thread 0  turns 2 held - kind start worker 0 pc 00100004 end exit\n",
-];
-
-/// Texts whose first line has a number that is spelled otherwise, out of range or not the stamp.
-const WRONG_NUMBER: [&str; 9] = [
+    // A number that is spelled otherwise, out of range or not the stamp.
     "block 1 thread 0 turns 2 held - kind start worker 0 pc 00100004 end exit\n",
     "block 00 thread 0 turns 2 held - kind start worker 0 pc 00100004 end exit\n",
     "block +0 thread 0 turns 2 held - kind start worker 0 pc 00100004 end exit\n",
@@ -179,10 +154,7 @@ const WRONG_NUMBER: [&str; 9] = [
     "block 0 thread 0 turns 0 held - kind start worker 0 pc 00100004 end exit\n",
     "block 0 thread 0 turns 4097 held - kind start worker 0 pc 00100004 end exit\n",
     "block 0 thread 0 turns 2 held - kind start worker 4294967296 pc 00100004 end exit\n",
-];
-
-/// Texts whose first line has no pc, or one that is spelled otherwise.
-const WRONG_PC: [&str; 7] = [
+    // No pc, or one that is spelled otherwise.
     "block 0 thread 0 turns 2 held - kind start worker 0 end exit\n",
     "block 0 thread 0 turns 2 held - kind start worker 0 pc 0010004 end exit\n",
     "block 0 thread 0 turns 2 held - kind start worker 0 pc 000100004 end exit\n",
@@ -190,19 +162,13 @@ const WRONG_PC: [&str; 7] = [
     "block 0 thread 0 turns 2 held - kind start worker 0 pc 0010000g end exit\n",
     "block 0 thread 0 turns 2 held - kind start worker 0 pc end exit\n",
     "block 0 thread 0 turns 2 held - kind start pc 00100004 worker 0 end exit\n",
-];
-
-/// Texts whose first line has held locks that are none, or are not in ascending order.
-const WRONG_HELD: [&str; 5] = [
+    // Held locks that are none, or are not in ascending order.
     "block 0 thread 0 turns 2 held 32 kind start worker 0 pc 00100004 end exit\n",
     "block 0 thread 0 turns 2 held 1,0 kind start worker 0 pc 00100004 end exit\n",
     "block 0 thread 0 turns 2 held 1,1 kind start worker 0 pc 00100004 end exit\n",
     "block 0 thread 0 turns 2 held 0,1, kind start worker 0 pc 00100004 end exit\n",
     "block 0 thread 0 turns 2 held  kind start worker 0 pc 00100004 end exit\n",
-];
-
-/// Texts whose first line has a word, a kind or an end that is none.
-const WRONG_WORD: [&str; 9] = [
+    // A word, a kind or an end that is none.
     "Block 0 thread 0 turns 2 held - kind start worker 0 pc 00100004 end exit\n",
     "block 0 thread 0 turns 2 held - kind lent worker 0 pc 00100004 end exit\n",
     "block 0 thread 0 turns 2 held - kind start worker 0 pc 00100004 end wants 32\n",
@@ -225,17 +191,9 @@ fn one_right_line_is_read(rt: HostRuntime) -> Result<(), Fail> {
 
 #[test]
 fn a_wrong_first_line_is_named(rt: HostRuntime) {
-    for lines in [
-        WRONG_FORM.as_slice(),
-        WRONG_NUMBER.as_slice(),
-        WRONG_PC.as_slice(),
-        WRONG_HELD.as_slice(),
-        WRONG_WORD.as_slice(),
-    ] {
-        for line in lines {
-            let found = read(rt.alloc(), line.as_bytes()).err();
-            assert_eq!(rt; found, Some(BadText::Line(1)), "{line}");
-        }
+    for line in WRONG {
+        let found = read(rt.alloc(), line.as_bytes()).err();
+        assert_eq!(rt; found, Some(BadText::Line(1)), "{line}");
     }
 }
 
@@ -298,10 +256,8 @@ fn a_section_follows_by_the_batch_rule(rt: HostRuntime) {
         (2, Kind::On, 2, false),
     ] {
         assert!(rt; may_adopt(&last, 3, run, 2) == (run < 2));
-        assert!(rt;
-            may_begin(3, 2, Some(last), run, kind, worker) == want,
-            "{kind:?} {worker}"
-        );
+        let may = may_begin(3, 2, Some(last), run, kind, worker);
+        assert!(rt; may == want, "{kind:?} {worker}");
     }
     // A thread may take the lock again, but is not adopted after itself.
     assert!(rt; passes_to(Some(last), Kind::Taken, 1));
