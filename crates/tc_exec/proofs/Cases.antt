@@ -124,15 +124,15 @@ case_by image held r P c (Branch k rs1 rs2 off) at =
 case_by image held r P c (Load kind rd rs1 off) at =
     let addr = plus (get r rs1) off in
     or_fault P (load_fault held (region_of image addr (load_width kind)) addr (load_width kind)) (λ answer. set r rd (extended kind answer)) _ c.faults (λ e.
-        (let o = load_opens held _ addr (load_width kind) e in
-        c.loads kind rd addr record { width_fits = load_width_fits kind; aligned = o.0; lies = refl; is_open = o.1 }))
+    (let o = load_opens held _ addr (load_width kind) e in
+    c.loads kind rd addr record { width_fits = load_width_fits kind; aligned = o.0; lies = refl; is_open = o.1 }))
 case_by image held r P c (Store kind rs1 rs2 off) at =
     let addr = plus (get r rs1) off in
     let put = put_at (region_of image addr (store_width kind)) addr (store_width kind) (get r rs2) in
     or_fault (λ act w. P act want.Nothing) (store_fault held put.region addr put.width) (λ answer. Next (at_next r) (Some put)) want.Nothing c.faults (λ e.
-        (let o = store_opens held put.region addr put.width e in
-        let fits = store_fits kind (get r rs2) in
-        c.stores put record { width_fits = fits.0; aligned = o.0; lies = refl; is_open = o.1; value_fits = fits.1 }))
+    (let o = store_opens held put.region addr put.width e in
+    let fits = store_fits kind (get r rs2) in
+    c.stores put record { width_fits = fits.0; aligned = o.0; lies = refl; is_open = o.1; value_fits = fits.1 }))
 case_by image held r P c (Imm o rd rs1 imm) at = c.goes _ (set_kept r rd (value_of (op_of_imm o) (get r rs1) imm))
 case_by image held r P c (Op o rd rs1 rs2) at = c.goes _ (set_kept r rd (value_of o (get r rs1) (get r rs2)))
 case_by image held r P c (Fence rd rs1 imm) at = c.goes _ (at_next_kept r)

@@ -40,15 +40,15 @@ lock_anyway : (image : Shown) (held : ℕ → Bool) (r : Registers) (answer : �
     → ((other : ℕ) → act_of image held r other ≡ Called (Lock lock) (answered r other)) × (wants_of image held r ≡ want.Nothing)
 lock_anyway image held r answer next lock = each image held r (λ act wanted. act answer ≡ Called (Lock lock) next
     → ((other : ℕ) → act other ≡ Called (Lock lock) (answered r other)) × (wanted ≡ want.Nothing)) record {
-  goes = λ next kept e. absurd (cc);
-  faults = λ f e. absurd (cc);
-  loads = λ kind rd addr told e. absurd (cc);
-  stores = λ put told e. absurd (cc);
-  locks = λ taken calls told e. (λ other. (let same : taken ≡ lock = cc in ap (λ k. Called (Lock k) (answered r other)) same), refl);
-  unlocks = λ lock told e. absurd (cc);
-  sleeps = λ blocks few e. absurd (cc);
-  exits = λ e. absurd (cc);
-}
+      goes = λ next kept e. absurd (cc);
+      faults = λ f e. absurd (cc);
+      loads = λ kind rd addr told e. absurd (cc);
+      stores = λ put told e. absurd (cc);
+      locks = λ taken calls told e. (λ other. (let same : taken ≡ lock = cc in ap (λ k. Called (Lock k) (answered r other)) same), refl);
+      unlocks = λ lock told e. absurd (cc);
+      sleeps = λ blocks few e. absurd (cc);
+      exits = λ e. absurd (cc);
+    }
 
 pub lock_is_free : LockIsFree
 lock_is_free image held r answer next lock e =
@@ -61,15 +61,15 @@ lock_wants_nothing image held r answer next lock e = (lock_anyway image held r a
 pub answer_is_unread : AnswerIsUnread
 answer_is_unread image held r one other = each image held r (λ act wanted. wanted ≡ want.Nothing
     → ((next : Registers) (lock : ℕ) → act one ≡ Called (Lock lock) next → ⊥) → act one ≡ act other) record {
-  goes = λ next kept w never. refl;
-  faults = λ f w never. refl;
-  loads = λ kind rd addr told w never. absurd (cc);
-  stores = λ put told w never. refl;
-  locks = λ lock calls told w never. absurd (never _ lock refl);
-  unlocks = λ lock told w never. refl;
-  sleeps = λ blocks few w never. refl;
-  exits = λ w never. refl;
-}
+      goes = λ next kept w never. refl;
+      faults = λ f w never. refl;
+      loads = λ kind rd addr told w never. absurd (cc);
+      stores = λ put told w never. refl;
+      locks = λ lock calls told w never. absurd (never _ lock refl);
+      unlocks = λ lock told w never. refl;
+      sleeps = λ blocks few w never. refl;
+      exits = λ w never. refl;
+    }
 
 pub registers_are_kept : RegistersAreKept
 registers_are_kept image held r answer before = each image held r (λ act wanted. KeepsRegisters (act answer)) record {
