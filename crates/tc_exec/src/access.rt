@@ -106,11 +106,7 @@ fn extended(kind: LoadKind, number: u32) -> u32
 fn guard_fault(held: Held, lock: u32) -> Option<Fault>
     ensures { result ≡ access.guard_fault (has held) lock }
 {
-    if held.has(lock) {
-        None
-    } else {
-        Some(Fault::Unguarded)
-    }
+    (!held.has(lock)).then_some(Fault::Unguarded)
 }
 
 fn misaligned_or(addr: u32, width: Width, other: Option<Fault>) -> Option<Fault>

@@ -76,7 +76,6 @@ impl<'a> Stretch<'a> {
     }
 
     /// The instruction in a slot. None says nothing.
-
     pub fn find(&self, slot: usize) -> Option<&'a Instr>
         ensures tells { (image : Shown) → SlotsTell image self.now.start self.now.slots.now
             → IfSome result (λ instr.
@@ -143,7 +142,6 @@ fn part_of(alloc: Global, image: &Image, start: u32, length: u32) -> Result<Part
 }
 
 /// The decoded words of the executable ranges.
-
 fn parts_of(alloc: Global, image: &Image) -> Result<Vec<Part>, AllocError>
     ensures { IfOk result (λ v. PartsTell image.now v.items) }
 {

@@ -68,11 +68,7 @@ fn unlock_fault(image: &Image, held: Held, lock: u32) -> Option<Fault>
 fn sleep_fault(blocks: u32) -> Option<Fault>
     ensures { result ≡ calls.sleep_fault blocks }
 {
-    if blocks > MAX_SLEEP {
-        Some(Fault::BadCall)
-    } else {
-        None
-    }
+    (blocks > MAX_SLEEP).then_some(Fault::BadCall)
 }
 
 /// Comes back from a guest call with its answer.

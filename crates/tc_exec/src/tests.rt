@@ -13,7 +13,7 @@ use Call::Sleep;
 use Effect::{Calls, Exits, Faults, Goes, Puts};
 use Fault::{BadCall, BadLock, Break, Illegal, JumpTarget, Load, Misaligned, Store};
 use Region::{Stack, Text};
-use std::alloc::{AllocError, Global};
+use std::alloc::Global;
 use std::process::Abort;
 use std::test::Fail;
 use tc_elf::image::{Image, Region};
@@ -245,36 +245,28 @@ static OTHERS: [(u32, u32, u32, Effect); 41] = [
     (0x0000_0073, 2, 0, Faults(BadLock)), // ecall
 ];
 
-/// A file with one range, of one word of code, and a thread that begins there.
-fn file_of(alloc: Global, at: u32, word: u32) -> Result<Vec<u8>, AllocError> {
-    let header = [
-        0x464c_457f,
-        0x0001_0101,
-        0,
-        0,
-        0x00f3_0002,
-        1,
-        at,
-        52,
-        0,
-        0,
-        0x0020_0034,
-        1,
-        0,
-    ];
-    let segment = [1, 84, at, 0, 4, 4, 5, 4];
+/// The image of a file with this entry and so many segments, of which these numbers behind its header
+/// tell.
+fn image_from(
+    rt: &impl Abort,
+    alloc: Global,
+    entry: u32,
+    segments: u32,
+    numbers: &[u32],
+) -> Result<Image, Fail> {
+    let start = [0x464c_457f, 0x0001_0101, 0, 0, 0x00f3_0002, 1];
+    let sizes = [entry, 52, 0, 0, 0x0020_0034, segments, 0];
     let mut file = Vec::new(alloc);
-    for number in header.iter().chain(&segment).chain(&[word]) {
+    for number in start.iter().chain(&sizes).chain(numbers) {
         file.extend_from_slice(&number.to_le_bytes())?;
     }
-    Ok(file)
+    assert!(rt; file.len() < 1_000);
+    Ok(load(alloc, &file)?)
 }
 
-/// The image of that file.
+/// The image of a file with one range, of one word of code, and a thread that begins there.
 fn image_of(rt: &impl Abort, alloc: Global, at: u32, word: u32) -> Result<Image, Fail> {
-    let file = file_of(alloc, at, word)?;
-    assert_eq!(rt; file.len(), 88);
-    Ok(load(alloc, &file)?)
+    image_from(rt, alloc, at, 1, &[1, 84, at, 0, 4, 4, 5, 4, word])
 }
 
 /// The registers of a case, where its address is a multiple of 4.
@@ -332,7 +324,27 @@ fn act_of(regs: Regs, effect: Effect) -> Option<Act> {
     Some(act)
 }
 
-/// Asserts what a word at an address wants and does. The answer is one that nothing looks at.
+/// Asserts what the instruction at registers wants and does.
+fn check_told(
+    rt: &impl Abort,
+    alloc: Global,
+    image: &Image,
+    held: Held,
+    regs: Regs,
+    answer: u32,
+    told: (Want, Act),
+) -> Result<(), Fail> {
+    assert_eq!(rt; wants(image, held, &regs), told.0, "{held:?} {regs:?}");
+    assert_eq!(rt;
+        act(image, held, &regs, answer),
+        told.1,
+        "{held:?} {regs:?}"
+    );
+    in_place::check_in_place(rt, alloc, image, held, regs, answer)
+}
+
+/// Asserts what a word at an address does, which loads nothing. The answer is one that nothing looks
+/// at.
 fn check(
     rt: &impl Abort,
     alloc: Global,
@@ -344,15 +356,8 @@ fn check(
 ) -> Result<(), Fail> {
     let image = image_of(rt, alloc, pc, word)?;
     let regs = regs_of(pc, first, second).ok_or("a register")?;
-    let next = act_of(regs, effect).ok_or("a register")?;
-    let text = format!(in alloc; "{word:x} at {pc:x} of {first:x} and {second:x}")?;
-    assert_eq!(rt; wants(&image, Held::none(), &regs), Want::Nothing, "{text}");
-    assert_eq!(rt;
-        act(&image, Held::none(), &regs, 0x5a5a_5a5a),
-        next,
-        "{text}"
-    );
-    in_place::check_in_place(rt, alloc, &image, Held::none(), regs, 0x5a5a_5a5a)
+    let told = (Want::Nothing, act_of(regs, effect).ok_or("a register")?);
+    check_told(rt, alloc, &image, Held::none(), regs, 0x5a5a_5a5a, told)
 }
 
 /// Asserts what a load from a region wants and does.
@@ -366,24 +371,14 @@ fn check_load(rt: &impl Abort, alloc: Global, region: Region, row: Loaded) -> Re
         addr,
         width,
     };
-    let text = format!(in alloc; "{word:x} of {x11:x}")?;
-    assert_eq!(rt; wants(&image, Held::none(), &regs), want, "{text}");
-    assert_eq!(rt; act(&image, Held::none(), &regs, answer), next, "{text}");
-    in_place::check_in_place(rt, alloc, &image, Held::none(), regs, answer)
+    check_told(rt, alloc, &image, Held::none(), regs, answer, (want, next))
 }
 
 #[test]
 fn operations_give_the_manuals_values(rt: HostRuntime) -> Result<(), Fail> {
     for (word, x11, x12, x10) in VALUES.iter().copied() {
-        check(
-            &rt,
-            rt.alloc(),
-            word,
-            CODE,
-            x11,
-            x12,
-            Goes(10, x10, CODE + 4),
-        )?;
+        let effect = Goes(10, x10, CODE + 4);
+        check(&rt, rt.alloc(), word, CODE, x11, x12, effect)?;
     }
     Ok(())
 }
@@ -410,15 +405,8 @@ fn loads_want_and_take_their_answer(rt: HostRuntime) -> Result<(), Fail> {
 #[test]
 fn other_instructions_do_what_the_manual_says(rt: HostRuntime) -> Result<(), Fail> {
     for (word, x11, addr, width, value) in STORES.iter().copied() {
-        check(
-            &rt,
-            rt.alloc(),
-            word,
-            CODE,
-            x11,
-            STORED,
-            Puts(addr, width, value),
-        )?;
+        let effect = Puts(addr, width, value);
+        check(&rt, rt.alloc(), word, CODE, x11, STORED, effect)?;
     }
     for (word, first, second, effect) in OTHERS.iter().copied() {
         check(&rt, rt.alloc(), word, CODE, first, second, effect)?;
@@ -431,12 +419,8 @@ fn code_ends_where_its_range_ends(rt: HostRuntime) -> Result<(), Fail> {
     let image = image_of(&rt, rt.alloc(), CODE, 0x0000_0013)?;
     for pc in [CODE - 4, CODE + 4, 0, STACK, 0xffff_fffc] {
         let regs = regs_of(pc, 0, 0).ok_or("aligned")?;
-        assert_eq!(rt; wants(&image, Held::none(), &regs), Want::Nothing, "{pc:x}");
-        assert_eq!(rt;
-            act(&image, Held::none(), &regs, 0),
-            Act::Faulted(Fault::Fetch),
-            "{pc:x}"
-        );
+        let told = (Want::Nothing, Act::Faulted(Fault::Fetch));
+        check_told(&rt, rt.alloc(), &image, Held::none(), regs, 0, told)?;
     }
     Ok(())
 }

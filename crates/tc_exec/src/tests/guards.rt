@@ -1,16 +1,14 @@
 //! What loads, stores and guest calls do with five guards of 4 bytes, 8 bytes apart.
 
-use super::{STORED, moved, regs_of};
+use super::{STORED, check_told, image_from, moved, regs_of};
 use crate::outcome::{Act, Call, Put, Want};
-use crate::step::{act, wants};
 use Call::{Lock, Sleep, Unlock};
 use Fault::{BadCall, BadLock, LockOrder, Misaligned, NotHeld, Store, Unguarded};
 use Region::{Guard, Private, Text};
-use std::alloc::{AllocError, Global};
+use std::alloc::Global;
 use std::process::Abort;
 use std::test::Fail;
 use tc_elf::image::{Image, Region};
-use tc_elf::load::load;
 use tc_isa::fault::Fault;
 use tc_isa::held::Held;
 use tc_isa::regs::Regs;
@@ -93,52 +91,22 @@ static CALLS: [Called; 22] = [
     (&[], EXIT, 0xffff_ffff, Ok(Call::Exit)),
 ];
 
-/// A file with a word of code, ten words of data, and a note that tells of a thread at the code and
-/// of five guards in the data.
-fn file_of(alloc: Global, word: u32) -> Result<Vec<u8>, AllocError> {
-    let header = [
-        0x464c_457f,
-        0x0001_0101,
-        0,
-        0,
-        0x00f3_0002,
-        1,
-        CODE,
-        52,
-        0,
-        0,
-        0x0020_0034,
-        3,
-        0,
-    ];
+/// The image of a file with a word of code, ten words of data, and a note that tells of a thread at
+/// the code and of five guards in the data.
+pub(super) fn image_of(rt: &impl Abort, alloc: Global, word: u32) -> Result<Image, Fail> {
     let note = [4, 148, 0, 0, 80, 80, 4, 4];
     let code = [1, 228, CODE, CODE, 4, 4, 5, 4];
     let data = [1, 232, DATA, DATA, 40, 40, 6, 4];
-    let name = [8, 60, 1, 0x4f4c_4354, 0x0053_4b43, 1, 1, 5, CODE, 0];
-    let mut file = Vec::new(alloc);
-    for number in header
-        .iter()
-        .chain(&note)
-        .chain(&code)
-        .chain(&data)
-        .chain(&name)
-    {
-        file.extend_from_slice(&number.to_le_bytes())?;
-    }
+    let mut numbers = Vec::from_slice(alloc, &note)?;
+    numbers.extend_from_slice(&code)?;
+    numbers.extend_from_slice(&data)?;
+    numbers.extend_from_slice(&[8, 60, 1, 0x4f4c_4354, 0x0053_4b43, 1, 1, 5, CODE, 0])?;
     for lock in 0..5u32 {
-        file.extend_from_slice(&(DATA + 8 * lock).to_le_bytes())?;
-        file.extend_from_slice(&4u32.to_le_bytes())?;
+        numbers.extend_from_slice(&[DATA + 8 * lock, 4])?;
     }
-    file.extend_from_slice(&word.to_le_bytes())?;
-    file.extend_from_slice(&[0; 40])?;
-    Ok(file)
-}
-
-/// The image of that file.
-pub(super) fn image_of(rt: &impl Abort, alloc: Global, word: u32) -> Result<Image, Fail> {
-    let file = file_of(alloc, word)?;
-    assert_eq!(rt; file.len(), 272);
-    Ok(load(alloc, &file)?)
+    numbers.push(word)?;
+    numbers.extend_from_slice(&[0; 10])?;
+    image_from(rt, alloc, CODE, 3, &numbers)
 }
 
 pub(super) fn held_of(locks: &[u32]) -> Held {
@@ -165,10 +133,9 @@ fn called(regs: Regs, call: Call, answer: u32) -> Option<Act> {
 fn loads_lie_in_guards_that_are_held(rt: HostRuntime) -> Result<(), Fail> {
     let image = image_of(&rt, rt.alloc(), LW)?;
     for (locks, addr, place) in LOADS.iter().copied() {
-        let held = held_of(locks);
         let regs = regs_of(CODE, addr, 0).ok_or("a register")?;
         let next = moved(regs, 10, STORED, CODE + 4).ok_or("a register")?;
-        let (want, loaded) = match place {
+        let told = match place {
             Ok(region) => (
                 Want::Load {
                     region,
@@ -182,12 +149,7 @@ fn loads_lie_in_guards_that_are_held(rt: HostRuntime) -> Result<(), Fail> {
             ),
             Err(fault) => (Want::Nothing, Act::Faulted(fault)),
         };
-        assert_eq!(rt; wants(&image, held, &regs), want, "{addr:x} with {locks:?}");
-        assert_eq!(rt;
-            act(&image, held, &regs, STORED),
-            loaded,
-            "{addr:x} with {locks:?}"
-        );
+        check_told(&rt, rt.alloc(), &image, held_of(locks), regs, STORED, told)?;
     }
     Ok(())
 }
@@ -196,7 +158,6 @@ fn loads_lie_in_guards_that_are_held(rt: HostRuntime) -> Result<(), Fail> {
 fn stores_lie_in_guards_that_are_held(rt: HostRuntime) -> Result<(), Fail> {
     let image = image_of(&rt, rt.alloc(), SW)?;
     for (locks, addr, place) in STORES.iter().copied() {
-        let held = held_of(locks);
         let regs = regs_of(CODE, addr, STORED).ok_or("a register")?;
         let next = moved(regs, 0, 0, CODE + 4).ok_or("a register")?;
         let stored = match place {
@@ -211,16 +172,8 @@ fn stores_lie_in_guards_that_are_held(rt: HostRuntime) -> Result<(), Fail> {
             },
             Err(fault) => Act::Faulted(fault),
         };
-        assert_eq!(rt;
-            wants(&image, held, &regs),
-            Want::Nothing,
-            "{addr:x} with {locks:?}"
-        );
-        assert_eq!(rt;
-            act(&image, held, &regs, 1),
-            stored,
-            "{addr:x} with {locks:?}"
-        );
+        let told = (Want::Nothing, stored);
+        check_told(&rt, rt.alloc(), &image, held_of(locks), regs, 1, told)?;
     }
     Ok(())
 }
@@ -229,19 +182,14 @@ fn stores_lie_in_guards_that_are_held(rt: HostRuntime) -> Result<(), Fail> {
 fn calls_are_checked_in_their_order(rt: HostRuntime) -> Result<(), Fail> {
     let image = image_of(&rt, rt.alloc(), ECALL)?;
     for (locks, x17, x10, result) in CALLS.iter().copied() {
-        let held = held_of(locks);
         let regs = regs_of(CODE, x17, x10).ok_or("a register")?;
-        assert_eq!(rt; wants(&image, held, &regs), Want::Nothing, "{x17} of {x10}");
         for answer in [0, 1] {
-            let want = match result {
+            let act = match result {
                 Ok(call) => called(regs, call, answer).ok_or("a register")?,
                 Err(fault) => Act::Faulted(fault),
             };
-            assert_eq!(rt;
-                act(&image, held, &regs, answer),
-                want,
-                "{x17} of {x10} with {locks:?}"
-            );
+            let told = (Want::Nothing, act);
+            check_told(&rt, rt.alloc(), &image, held_of(locks), regs, answer, told)?;
         }
     }
     Ok(())

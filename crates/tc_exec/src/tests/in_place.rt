@@ -1,7 +1,5 @@
 //! The calls in place, with and without decoded code, tell what the plain calls tell.
 
-ghost use Rattle.std.specs.Prelude.{◌≡◌};
-
 use super::guards;
 use crate::access::finish_load;
 use crate::code::Code;
@@ -15,6 +13,7 @@ use std::process::Abort;
 use std::test::Fail;
 use tc_elf::image::Image;
 use tc_isa::held::Held;
+use tc_isa::instr::Instr;
 use tc_isa::reg::Reg;
 use tc_isa::regs::Regs;
 
@@ -34,20 +33,8 @@ static WORDS: [u32; 12] = [
     0x0000_0000, // no instruction
 ];
 
-/// The registers that an act leaves, of those before it, and what it does beside them.
-fn parts_of(before: Regs, act: &Act) -> (Regs, Done) {
-    match *act {
-        Act::Next { regs, put: None } => (regs, Done::Went),
-        Act::Next {
-            regs,
-            put: Some(put),
-        } => (regs, Done::Stored(put)),
-        Act::Called { call, regs } => (regs, Done::Called(call)),
-        Act::Faulted(fault) => (before, Done::Faulted(fault)),
-    }
-}
-
-/// Asserts that the calls in place tell of an instruction what `wants` and `act` tell of it.
+/// Asserts that the calls in place tell of an instruction what `wants` and `act` tell of it, whichever
+/// place they try first.
 pub(super) fn check_in_place(
     rt: &impl Abort,
     alloc: Global,
@@ -58,73 +45,52 @@ pub(super) fn check_in_place(
 ) -> Result<(), Fail> {
     let code = Code::of(alloc, image)?;
     let none = Code::undecoded(alloc, image);
-    check_ahead(rt, image, &code, held, regs)?;
-    check_ahead(rt, image, &none, held, regs)?;
-    check_known(rt, image, held, regs, answer)?;
-    let (next, done) = parts_of(regs, &act(image, held, &regs, answer));
-    if let Some(instr) = code.find(regs.pc()) {
-        let mut ran = regs;
-        let effect = execute(&mut ran, instr);
-        if let Effect::Went | Effect::Jumped = effect {
-            assert_eq!(rt; (ran, Done::Went), (next, done));
-        } else {
-            assert_eq!(rt; ran, regs);
-        }
-        if let Some(did) = touched(image, &mut ran, effect, answer) {
-            assert_eq!(rt; (ran, did), (next, done));
-        }
-    }
-    assert!(rt; none.stretch(regs.pc()).is_none());
-    Ok(())
-}
-
-/// Asserts that what is ahead by the code is the lock that is wanted.
-fn check_ahead(
-    rt: &impl Abort,
-    image: &Image,
-    code: &Code,
-    held: Held,
-    regs: Regs,
-) -> Result<(), Fail>
-    requires { code.now ≡ image.now }
-{
     let lock = lock_wanted(image, held, &regs);
     assert_eq!(rt; code.ahead(image, held, &regs, None).lock, lock);
-    Ok(())
-}
-
-/// Asserts that the calls by the next instruction, where there is one, tell the same, whichever
-/// place they try first.
-fn check_known(
-    rt: &impl Abort,
-    image: &Image,
-    held: Held,
-    regs: Regs,
-    answer: u32,
-) -> Result<(), Fail> {
-    let (next, done) = parts_of(regs, &act(image, held, &regs, answer));
-    let want = wants(image, held, &regs);
+    assert_eq!(rt; none.ahead(image, held, &regs, None).lock, lock);
+    assert!(rt; none.stretch(regs.pc()).is_none());
+    let told = (wants(image, held, &regs), act(image, held, &regs, answer));
     match instruction_at(image, regs.pc()) {
         Ok(instr) => {
             for near in 0..4 {
-                assert_eq!(rt; known::wants(image, near, held, &regs, &instr), want);
                 let mut after = regs;
-                let did = known::go(image, near, held, &mut after, &instr, want, answer);
-                assert_eq!(rt; did, done);
-                assert_eq!(rt; after, next);
+                let done = known::go(image, near, held, &mut after, &instr, told.0, answer);
+                assert_eq!(rt; known::wants(image, near, held, &regs, &instr), told.0);
+                assert_eq!(rt; done.act(after), told.1);
+                assert!(rt; after == regs || !matches!(done, Done::Faulted(_)));
             }
         }
-        Err(fault) => {
-            assert_eq!(rt; want, Want::Nothing);
-            assert_eq!(rt; (next, done), (regs, Done::Faulted(fault)));
-        }
+        Err(fault) => assert_eq!(rt; told, (Want::Nothing, Act::Faulted(fault))),
+    }
+    if let Some(found) = code.find(regs.pc()) {
+        check_executed(rt, image, regs, found, answer, told.1);
     }
     Ok(())
 }
 
-/// What a load or a store of own memory does, where that is what is left to do.
+/// Asserts that an instruction does this act to the registers and to own memory, where it needs no
+/// more.
+fn check_executed(
+    rt: &impl Abort,
+    image: &Image,
+    regs: Regs,
+    instr: &Instr,
+    answer: u32,
+    act: Act,
+) {
+    let mut ran = regs;
+    let effect = execute(&mut ran, instr);
+    let went = matches!(effect, Effect::Went | Effect::Jumped);
+    assert!(rt; went || ran == regs);
+    if let Some(done) = touched(image, &mut ran, effect, answer) {
+        assert_eq!(rt; done.act(ran), act);
+    }
+}
+
+/// What an instruction does, where nothing is left to do but a load or a store of own memory.
 fn touched(image: &Image, regs: &mut Regs, effect: Effect, answer: u32) -> Option<Done> {
     match effect {
+        Effect::Went | Effect::Jumped => Some(Done::Went),
         Effect::Load { kind, rd, addr } => {
             own_load(image, &mut 0, kind, addr)?;
             finish_load(regs, kind, rd, answer);
