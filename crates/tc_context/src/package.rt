@@ -64,8 +64,10 @@ struct Contents {
     numbers: [u64; Held::PLACES as usize],
     turns: u64,
     slept: u32,
-    // Where registers are packed for the journals of a block's locks.
+    // Where registers are packed for the journals of a block's locks, and whether they are those of
+    // the thread.
     edge: Packed,
+    packed: bool,
 }
 
 /// A thread's whole context.
@@ -233,6 +235,7 @@ impl Package {
             turns: 0,
             slept: 0,
             edge,
+            packed: false,
         };
         Ok(Package {
             contents: Box::new(alloc, contents)?,
@@ -292,6 +295,7 @@ impl Package {
             kind,
             contents.next,
             &mut contents.edge,
+            contents.packed,
         );
         contents.context.locks.bound();
         let block = &ran.block;
@@ -301,6 +305,7 @@ impl Package {
         contents.pending = true;
         contents.slept = ran.slept;
         contents.next = ran.next;
+        contents.packed = ran.packed;
         block.end
     }
 
