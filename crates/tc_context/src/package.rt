@@ -429,5 +429,16 @@ fn make_room(log: &mut Vec<Block>) -> Result<(), AllocError>
     if log.len() < log.capacity() {
         return Ok(());
     }
+    grow(log)
+}
+
+/// Makes room for many blocks in a log. Few blocks pay for a call of it, and the others don't.
+#[cold]
+#[inline(never)]
+fn grow(log: &mut Vec<Block>) -> Result<(), AllocError>
+    ensures items { log.new.items ≡ log.old.items }
+    ensures room { OnOk result (vec_len log.new + 1 ≤ vec_capacity log.new) }
+    ensures capacity { vec_capacity log.old ≤ vec_capacity log.new }
+{
     log.reserve(GROWTH)
 }
