@@ -1,5 +1,5 @@
 -- A package's fields, as it is seen, and what they keep.
-use Rattle.std.specs.Prelude.{◌≡◌, ℕ, ◌+◌, ◌≤◌, Bool, List, Option, None, is_some, if◌then◌else◌, vec_len, vec_capacity}
+use Rattle.std.specs.Prelude.{◌≡◌, ℕ, ◌+◌, ◌≤◌, Bool, true, List, Option, None, is_some, if◌then◌else◌, vec_len, vec_capacity}
 use Rattle.std.specs.Arc.{arc_value}
 use Rattle.tc_isa.specs.Sets.{has}
 use Rattle.tc_journal.specs.Batch.{last_of}
@@ -33,3 +33,4 @@ pub record KeptPackage (a : Contents) : Type 0 where
   pub present : (k : ℕ) → set_of a.context k ≡ has a.present k
   pub pending : is_some (pending_in a.pending a.log.items) ≡ a.pending
   pub log : vec_len a.log + a.log_room ≤ vec_capacity a.log
+  pub edge : a.packed ≡ true → a.edge ≡ a.context.guest.regs

@@ -4,3 +4,4 @@ pub mod Middle
 pub mod View
 pub mod Kept
 pub mod Ran
+pub mod Block

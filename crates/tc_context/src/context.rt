@@ -1,11 +1,9 @@
 //! A thread with the locks that are in its package, and the blocks that it runs.
 
-ghost use Rattle.std.specs.Prelude.{◌≡◌, ℕ, ◌+◌, ◌<◌, ◌≤◌, ◌^◌, ◌==◌, true, false, is_some, length, Ok, Err, Some, None, IfOk, IfSome, if◌then◌else◌};
+ghost use Rattle.std.specs.Prelude.{◌≡◌, ℕ, ◌+◌, ◌<◌, ◌≤◌, ◌^◌, ◌==◌, true, false, length, Ok, Err, Some, None, IfOk, IfSome, if◌then◌else◌};
 ghost use Rattle.tc_isa.specs.Sets.{has};
 ghost use Rattle.tc_isa.specs.declared.limits.TheConstants.{MAX_TURNS};
 ghost use Rattle.tc_isa.specs.declared.held.TheConstants.Held.{PLACES};
-ghost use Rattle.tc_journal.specs.Batch.{is_section};
-ghost use Rattle.tc_journal.specs.History.{IsBlock, IsEnd};
 ghost use Rattle.tc_journal.specs.Rule.{end_rule};
 ghost use Rattle.tc_journal.specs.declared.rule.Outcome.TheVariants.{Went};
 ghost use Rattle.tc_exec.specs.Step.{instruction_at};
@@ -13,7 +11,7 @@ ghost use Rattle.tc_turn.specs.Ahead.{IsAhead};
 ghost use Rattle.tc_turn.specs.Turn.{lock_answer, next_lock, thread_at_start};
 ghost use Rattle.tc_mutex_spec.specs.Blocks.{locks_of_block};
 ghost use Rattle.tc_context.specs.Locks.{lock_in};
-ghost use Rattle.tc_context.specs.Ran.{slept_in, slept_by as slept_of_turn};
+ghost use Rattle.tc_context.specs.Ran.{slept_by as slept_of_turn};
 
 use crate::locks::{LockSet, is_empty};
 use std::alloc::{AllocError, Global};
@@ -50,13 +48,14 @@ struct OwnSteps<'a> {
     ahead: Ahead<'a>,
 }
 
-/// A block that ran, the number of the SLEEP with which it ended, else 0, and the lock that the
-/// thread's next turn takes.
+/// A block that ran, the number of the SLEEP with which it ended, else 0, the lock that the thread's
+/// next turn takes, and whether the registers behind it were packed.
 #[derive(Clone, Copy)]
 pub(crate) struct Ran {
     pub(crate) block: Block,
     pub(crate) slept: u32,
     pub(crate) next: Option<u32>,
+    pub(crate) packed: bool,
 }
 
 /// A thread, its number, and the locks that are in its package: those that it holds, the granted
@@ -69,8 +68,9 @@ pub struct Context {
 }
 
 impl Context {
-    ghost use Rattle.tc_context.specs.Whole.{thread_in, mutex_at, CanGo, RunsAs, Journals};
-    ghost use Rattle.tc_context.specs.Middle.{AreOwnTurns, AreNoted, AreReady, MayTurn, DidTurn};
+    ghost use Rattle.tc_context.specs.Whole.{thread_in, mutex_at};
+    ghost use Rattle.tc_context.specs.Middle.{AreOwnTurns, MayTurn, DidTurn};
+    ghost use Rattle.tc_context.specs.Block.{DidTurns, MayRunBlock, DidRunBlock};
 
     /// The thread of this number at its start, with no lock.
     pub(crate) fn start(
@@ -252,12 +252,7 @@ impl Context {
         requires code { code.now ≡ image.now }
         requires may { MayTurn image.now (has block) MAX_TURNS self.old }
         requires takes { takes ≡ next_lock image.now (thread_in self.old) }
-        ensures runs { RunsAs image.now self.old self.new result.count result.end }
-        ensures most { result.count ≤ MAX_TURNS }
-        ensures end { IsEnd result.end }
-        ensures slept { result.slept ≡ slept_in image.now self.old result.count }
-        ensures journals { AreNoted image.now (has block) result.count self.old self.new }
-        ensures next { result.next ≡ next_lock image.now (thread_in self.new) }
+        ensures did { DidTurns image.now (has block) self.old self.new result }
     {
         let mut ahead = Ahead {
             lock: takes,
@@ -291,7 +286,7 @@ impl Context {
 
     /// Runs one block, with an entry in the journal of each of its locks. `takes` is the lock that
     /// its first turn takes. The block has no stamp and no worker yet. `edge` is where registers are
-    /// packed.
+    /// packed, which has the thread's where they are `packed`.
     pub(crate) fn run_block(
         &mut self,
         image: &Image,
@@ -299,27 +294,21 @@ impl Context {
         kind: Kind,
         takes: Option<u32>,
         edge: &mut Packed,
+        packed: bool,
     ) -> Ran
         requires code { code.now ≡ image.now }
-        requires go { CanGo image.now self.old }
-        requires takes { takes ≡ next_lock image.now (thread_in self.old) }
-        requires ready { AreReady image.now self.old }
-        requires kind { is_section kind ≡ is_some (next_lock image.now (thread_in self.old)) }
-        ensures runs { RunsAs image.now self.old self.new result.block.turns result.block.end }
-        ensures journals { Journals image.now self.old self.new result.block }
-        ensures slept { result.slept ≡ slept_in image.now self.old result.block.turns }
-        ensures thread { result.block.thread ≡ self.old.thread }
-        ensures kind { result.block.kind ≡ kind }
-        ensures pc { result.block.pc ≡ (thread_in self.old).regs.pc }
-        ensures bounds { IsBlock result.block }
-        ensures next { result.next ≡ next_lock image.now (thread_in self.new) }
+        requires may { MayRunBlock image.now kind takes self.old }
+        requires packed { packed ≡ true → edge.old ≡ self.old.guest.regs }
+        ensures did { DidRunBlock image.now kind self.old self.new result }
+        ensures packed { result.packed ≡ true → edge.new ≡ self.new.guest.regs }
     {
         let held = block_held(self.guest.held(), takes);
         let thread = self.thread;
         prove!(held.bits() <= u32::MAX);
         prove!(thread <= u32::MAX);
         let fuel = self.guest.fuel();
-        self.locks.open_entries(held, edge, self.guest.regs(), fuel);
+        self.locks
+            .open_entries(held, edge, packed, self.guest.regs(), fuel);
         let pc = self.guest.regs().pc();
         let turns = self.turns(image, code, held, takes);
         let block = Block {
@@ -332,12 +321,14 @@ impl Context {
             pc,
             end: turns.end,
         };
-        self.locks
+        let packed = self
+            .locks
             .close_entries(image, held, &block, edge, self.guest.regs());
         Ran {
             block,
             slept: turns.slept,
             next: turns.next,
+            packed,
         }
     }
 }

@@ -9,7 +9,8 @@
 //! that the block began. A lock goes in by `grant` and out by `take_out` as it is.
 //!
 //! - `specs/View.antt`: a package as contracts see it, and what each keeps. `specs/Whole.antt`: its
-//!   thread and locks as a part of the machine. `specs/Ran.antt`: what a block made of it.
+//!   thread and locks as a part of the machine. `specs/Block.antt`: what a block asks of these, and
+//!   what it did. `specs/Ran.antt`: what a block made of the package.
 //! - `package`: packages. `context`: the thread, its locks and the turns of a block. `locks`: the
 //!   lock states of a package.
 #![tactic(auto)]

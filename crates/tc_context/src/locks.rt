@@ -163,15 +163,23 @@ impl LockSet {
     }
 
     /// Opens an entry in each of these locks. The registers are packed once for all of them, in
-    /// `edge`, and not at all where there is no lock.
-    pub(crate) fn open_entries(&mut self, held: Held, edge: &mut Packed, start: &Regs, fuel: u32)
+    /// `edge`, and not at all where there is no lock, or where they are `packed` there already.
+    pub(crate) fn open_entries(
+        &mut self,
+        held: Held,
+        edge: &mut Packed,
+        packed: bool,
+        start: &Regs,
+        fuel: u32,
+    )
+        requires packed { packed ≡ true → edge.old ≡ start.now }
         requires opened { EachHeld (has held) (λ l. l.journal.opened ≡ None) self.old }
         requires closed { EachHeld (has held) (λ l. l.journal.closed ≡ None) self.old }
         requires room { EachHeld (has held) (λ l. 0 < l.journal.entry_room) self.old }
         ensures { Changed (opened_in (has held) start.now fuel) self.old self.new }
     {
         if !is_empty(held) {
-            edge.set(start);
+            pack(edge, packed, start);
             self.open_each(held, edge, fuel);
         }
     }
@@ -242,7 +250,8 @@ impl LockSet {
         }
     }
 
-    /// Closes the entry of each of these locks. The registers are packed as in `open_entries`.
+    /// Closes the entry of each of these locks. The registers are packed once for all of them, in
+    /// `edge`, and not at all where there is no lock. Whether they were.
     pub(crate) fn close_entries(
         &mut self,
         image: &Image,
@@ -250,16 +259,19 @@ impl LockSet {
         block: &Block,
         edge: &mut Packed,
         finish: &Regs,
-    )
+    ) -> bool
         requires image { EachHeld (has held) (λ l. l.journal.image ≡ image.now) self.old }
         requires opened { EachHeld (has held) (λ l. is_some l.journal.opened ≡ true) self.old }
         requires closes { EachHeld (has held) (ClosesWith block.now finish.now) self.old }
-        ensures { Changed (closed_in (has held) block.now finish.now) self.old self.new }
+        ensures closed { Changed (closed_in (has held) block.now finish.now) self.old self.new }
+        ensures packed { result ≡ true → edge.new ≡ finish.now }
     {
-        if !is_empty(held) {
-            edge.set(finish);
-            self.close_each(image, held, block, edge);
+        if is_empty(held) {
+            return false;
         }
+        edge.set(finish);
+        self.close_each(image, held, block, edge);
+        true
     }
 
     fn seal_one(&mut self, lock: u32, held: Held, stamp: u64, worker: u32)
@@ -307,6 +319,18 @@ impl LockSet {
         ensures ok { OnOk result (Changed (roomy_in (has held) 1 MAX_TURNS) self.old self.new) }
         ensures err { OnErr result (SameLocks self.old self.new) }
     {
+        if is_empty(held) {
+            return Ok(());
+        }
+        self.reserve_each(held)
+    }
+
+    // Blocks without locks don't pay for a call of it.
+    #[inline(never)]
+    fn reserve_each(&mut self, held: Held) -> Result<(), AllocError>
+        ensures ok { OnOk result (Changed (roomy_in (has held) 1 MAX_TURNS) self.old self.new) }
+        ensures err { OnErr result (SameLocks self.old self.new) }
+    {
         let mut left = held;
         while let Some(lock) = left.least() {
             self.reserve_one(lock, held)?;
@@ -347,6 +371,16 @@ impl LockSet {
             Region::Guard(lock) => self.store(lock, put.addr, put.width, put.value),
             Region::Text | Region::Private | Region::Stack | Region::Nothing => {}
         }
+    }
+}
+
+/// Packs these registers, where they are not `packed` already.
+fn pack(edge: &mut Packed, packed: bool, regs: &Regs)
+    requires { packed ≡ true → edge.old ≡ regs.now }
+    ensures { edge.new ≡ regs.now }
+{
+    if !packed {
+        edge.set(regs);
     }
 }
 

@@ -64,8 +64,10 @@ struct Contents {
     numbers: [u64; Held::PLACES as usize],
     turns: u64,
     slept: u32,
-    // Where registers are packed for the journals of a block's locks.
+    // Where registers are packed for the journals of a block's locks, and whether they are those of
+    // the thread.
     edge: Packed,
+    packed: bool,
 }
 
 /// A thread's whole context.
@@ -233,6 +235,7 @@ impl Package {
             turns: 0,
             slept: 0,
             edge,
+            packed: false,
         };
         Ok(Package {
             contents: Box::new(alloc, contents)?,
@@ -292,6 +295,7 @@ impl Package {
             kind,
             contents.next,
             &mut contents.edge,
+            contents.packed,
         );
         contents.context.locks.bound();
         let block = &ran.block;
@@ -301,6 +305,7 @@ impl Package {
         contents.pending = true;
         contents.slept = ran.slept;
         contents.next = ran.next;
+        contents.packed = ran.packed;
         block.end
     }
 
@@ -424,5 +429,16 @@ fn make_room(log: &mut Vec<Block>) -> Result<(), AllocError>
     if log.len() < log.capacity() {
         return Ok(());
     }
+    grow(log)
+}
+
+/// Makes room for many blocks in a log. Few blocks pay for a call of it, and the others don't.
+#[cold]
+#[inline(never)]
+fn grow(log: &mut Vec<Block>) -> Result<(), AllocError>
+    ensures items { log.new.items ≡ log.old.items }
+    ensures room { OnOk result (vec_len log.new + 1 ≤ vec_capacity log.new) }
+    ensures capacity { vec_capacity log.old ≤ vec_capacity log.new }
+{
     log.reserve(GROWTH)
 }

@@ -48,6 +48,13 @@ pub struct OwnTurns<'a> {
     pub stop: Option<&'a Instr>,
 }
 
+/// Turns that were done, and the slot of the instruction behind them.
+#[derive(Clone, Copy)]
+struct Stretched {
+    count: u32,
+    slot: usize,
+}
+
 impl GuestThread {
     /// Does turns that touch registers and its own memory alone, and says how many: at most `most`,
     /// and none outside the decoded words round the first. It loads only where `loads` says so.
@@ -70,25 +77,33 @@ impl GuestThread {
                 stop: None,
             };
         };
-        let count = self.run_stretch(image, stretch, most.min(self.fuel), loads);
-        self.fuel -= count;
+        let ran = self.run_stretch(image, &stretch, most.min(self.fuel), loads);
+        self.fuel -= ran.count;
         OwnTurns {
-            count,
-            stop: stretch.find(stretch.slot(self.regs.pc())),
+            count: ran.count,
+            stop: stretch.find(ran.slot),
         }
     }
 
-    /// Does at most so many such turns, all but what they take of the fuel, and returns how many. It
-    /// is never inlined, so that its loop has the registers of the host for itself.
+    /// Does at most so many such turns, all but what they take of the fuel. It is never inlined, so
+    /// that its loop has the registers of the host for itself.
     #[inline(never)]
-    fn run_stretch(&mut self, image: &Image, stretch: Stretch<'_>, most: u32, loads: bool) -> u32
-        requires tells { SlotsTell image.now stretch.start stretch.slots.now }
-        requires fits { stretch.start + 4 * length stretch.slots.now ≤ 2 ^ 32 }
+    fn run_stretch(
+        &mut self,
+        image: &Image,
+        stretch: &Stretch<'_>,
+        most: u32,
+        loads: bool,
+    ) -> Stretched
+        requires tells { SlotsTell image.now stretch.now.start stretch.now.slots.now }
+        requires fits { stretch.now.start + 4 * length stretch.now.slots.now ≤ 2 ^ 32 }
         requires fuel { most ≤ self.old.fuel }
-        ensures runs { OwnRun image.now loads result self.old
-            (record self.new { fuel = self.old.fuel - result }) }
+        ensures runs { OwnRun image.now loads result.count self.old
+            (record self.new { fuel = self.old.fuel - result.count }) }
         ensures fuel { self.new.fuel ≡ self.old.fuel }
-        ensures most { result ≤ most }
+        ensures most { result.count ≤ most }
+        ensures slot { result.slot < length stretch.now.slots.now
+            → stretch.now.start + 4 * result.slot ≡ self.new.regs.pc }
     {
         let mut count = 0;
         let mut slot = stretch.slot(self.regs.pc());
@@ -103,7 +118,7 @@ impl GuestThread {
             }
             count += 1;
         }
-        count
+        Stretched { count, slot }
     }
 
     /// What its next turn, which is of this instruction, does beside the fuel, where that is such a

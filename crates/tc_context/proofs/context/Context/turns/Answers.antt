@@ -29,12 +29,14 @@ returns-in-Some c =
     let rule = (λ i. end_rule outcome.Went n (sym own.ahead.lock i)) ∙ some.1 in
     let ends = (λ i. end_rule (t.went i) (sym t.count i) (next_lock image (thread_in new))) ∙ rule in
     record {
-      runs = subst (λ n. RunsAs image c.args.self.now new n c.in-Some.end) (sym t.count) (partway_ends image (has c.args.block) c.args.self.now t.last new t.before c.in-Some.end t.partway t.turn ends c.requires.may.go);
-      most = (let short = c.block.invariant.partway.short in let few = own.most in omega arith);
-      end = end_done (Some Went) n (next_lock image (thread_in new)) c.in-Some.end tt (next_small image (thread_in new) c.requires.may.go.guards) rule;
-      slept = sym (sleeps_not (act_in image t.last) t.went) ∙ partway_slept image (has c.args.block) c.args.self.now t.last new t.before t.partway t.turn ∙ ap (slept_in image c.args.self.now) (sym t.count);
-      journals = subst (λ n. AreNoted image (has c.args.block) n c.args.self.now new) (sym t.count) (noted_next image (has c.args.block) c.args.self.now t.last new t.before t.partway t.turn);
-      next = own.ahead.lock;
+      did = record {
+        runs = subst (λ n. RunsAs image c.args.self.now new n c.in-Some.end) (sym t.count) (partway_ends image (has c.args.block) c.args.self.now t.last new t.before c.in-Some.end t.partway t.turn ends c.requires.may.go);
+        most = (let short = c.block.invariant.partway.short in let few = own.most in omega arith);
+        ends = end_done (Some Went) n (next_lock image (thread_in new)) c.in-Some.end tt (next_small image (thread_in new) c.requires.may.go.guards) rule;
+        sleeps = sym (sleeps_not (act_in image t.last) t.went) ∙ partway_slept image (has c.args.block) c.args.self.now t.last new t.before t.partway t.turn ∙ ap (slept_in image c.args.self.now) (sym t.count);
+        journals = subst (λ n. AreNoted image (has c.args.block) n c.args.self.now new) (sym t.count) (noted_next image (has c.args.block) c.args.self.now t.last new t.before t.partway t.turn);
+        follows = own.ahead.lock;
+      };
     }
 
 -- behind any other turn
@@ -47,12 +49,14 @@ returns-in-Some-end_of c =
     let mid = partway_own image (has c.args.block) c.args.self.now c.block.self own.new.self c.block.count own.result.count own.result.ahead.lock c.block.invariant.partway own.ensures.most own.ensures.turns own.ensures.none own.ensures.ahead.lock (sym c.own_end.ensures ∙ c.in_default.is) in
     let ends = sym (ap (λ o. end_rule o (n + 1) (next_lock image (thread_in turn.new.self))) (c.outcome_by.ensures ∙ ap outcome_done turn.ensures.did.done ∙ same_outcome (act_in image own.new.self))) ∙ ap (λ o. end_rule c.outcome_by.result (n + 1) o) (sym c.ahead-ahead.ensures.lock) ∙ sym c.end_of.ensures ∙ c.in-Some-end_of.is in
     record {
-      runs = partway_ends image (has c.args.block) c.args.self.now own.new.self turn.new.self n c.in-Some-end_of.end mid turn.ensures.did.turn ends c.requires.may.go;
-      most = (let short = mid.short in omega arith);
-      end = end_done turn.result (n + 1) (next_lock image (thread_in turn.new.self)) c.in-Some-end_of.end turn.ensures.did.fits (next_small image (thread_in turn.new.self) c.requires.may.go.guards) (ap (λ o. end_rule o (n + 1) (next_lock image (thread_in turn.new.self))) (ap outcome_done turn.ensures.did.done ∙ same_outcome (act_in image own.new.self)) ∙ ends);
-      slept = c.slept_by.ensures ∙ ap slept_by turn.ensures.did.done ∙ partway_slept image (has c.args.block) c.args.self.now own.new.self turn.new.self n mid turn.ensures.did.turn;
-      journals = noted_next image (has c.args.block) c.args.self.now own.new.self turn.new.self n mid turn.ensures.did.turn;
-      next = c.ahead-ahead.ensures.lock;
+      did = record {
+        runs = partway_ends image (has c.args.block) c.args.self.now own.new.self turn.new.self n c.in-Some-end_of.end mid turn.ensures.did.turn ends c.requires.may.go;
+        most = (let short = mid.short in omega arith);
+        ends = end_done turn.result (n + 1) (next_lock image (thread_in turn.new.self)) c.in-Some-end_of.end turn.ensures.did.fits (next_small image (thread_in turn.new.self) c.requires.may.go.guards) (ap (λ o. end_rule o (n + 1) (next_lock image (thread_in turn.new.self))) (ap outcome_done turn.ensures.did.done ∙ same_outcome (act_in image own.new.self)) ∙ ends);
+        sleeps = c.slept_by.ensures ∙ ap slept_by turn.ensures.did.done ∙ partway_slept image (has c.args.block) c.args.self.now own.new.self turn.new.self n mid turn.ensures.did.turn;
+        journals = noted_next image (has c.args.block) c.args.self.now own.new.self turn.new.self n mid turn.ensures.did.turn;
+        follows = c.ahead-ahead.ensures.lock;
+      };
     }
 
 pub block-preserved : goal.block-preserved

@@ -17,6 +17,7 @@ invariant_of-self c =
       }) (granted_sound p c.args.lock c.args.kind c.args.number s.kept.sound (subst (λ v. IsWaiting v c.args.lock.number) (sym s.is) c.requires.waiting)
           (subst (λ (v : PackageView). IsAtRest v.image c.args.lock.number c.args.lock) (sym s.is) c.requires.rest) c.requires.kind (subst (λ (v : PackageView). MayPassTo c.args.lock c.args.kind v.context.thread) (sym s.is) c.requires.passes) c.requires.number);
       code = s.kept.code;
+      edge = s.kept.edge;
       next = s.kept.next;
       present = set_with c.args.lock.number _ c.args.lock p.context.locks _ c.deref_mut-contents.result.now.present _ n c.put_in.ensures.locks c.plus-contents.ensures.each s.kept.present;
       pending = s.kept.pending;

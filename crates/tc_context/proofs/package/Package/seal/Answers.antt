@@ -35,6 +35,7 @@ invariant_of-self c =
     record {
       sound = subst IsSoundPackage (sym is) (sealed_sound p l.block c.args.stamp c.args.worker s.kept.sound l.pending);
       code = s.kept.code;
+      edge = s.kept.edge;
       next = s.kept.next;
       present = λ k. changed_set _ p.context.locks c.seal.new.self c.seal.ensures k ∙ s.kept.present k;
       pending = refl;

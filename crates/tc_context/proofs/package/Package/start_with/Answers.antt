@@ -23,5 +23,6 @@ invariant_of-result c = subst KeptPackage (sym c.in_ok-new.ensures.ok) (record {
   present = λ k. ap is_some (c.in_ok-context.ensures.locks k) ∙ sym (ap (λ n. has n k) c.none.ensures ∙ ap (λ b. b == 1) (bit_at-zero k));
   code = c.in_ok-clone.ensures.cases ∙ c.requires.code ∙ sym c.of.ensures;
   pending = refl;
+  edge = λ no. absurd (cc);
   log = omega (arith, c.new.ensures.len, c.new.ensures.capacity);
 })

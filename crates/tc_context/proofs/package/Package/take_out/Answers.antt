@@ -19,6 +19,7 @@ invariant_of-self c =
           (taken_sound p c.args.lock s.kept.sound (ap (λ (v : PackageView). v.pending) s.is ∙ c.requires.pending) (ap (λ (v : PackageView). v.granted) s.is ∙ c.requires.granted)
           (ap (λ (v : PackageView). has v.context.guest.held c.args.lock) s.is ∙ c.requires.released) small);
       code = s.kept.code;
+      edge = s.kept.edge;
       next = s.kept.next;
       present = set_without c.args.lock p.context.locks _ c.deref_mut-contents.result.now.present _ c.take_out.ensures.left c.less-contents.ensures.each s.kept.present;
       pending = s.kept.pending;

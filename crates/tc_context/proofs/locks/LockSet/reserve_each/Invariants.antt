@@ -1,6 +1,6 @@
 use Rattle.tc_context.proofs.Vocabulary.{has, MAX_TURNS, Changed, roomy_in}
 use Rattle.tc_context.proofs.LockList.{outside}
-use Rattle.tc_context.proofs.locks.LockSet.reserve.Given as goal
+use Rattle.tc_context.proofs.locks.LockSet.reserve_each.Given as goal
 
 abbrev pub invariant-loop-lock : goal.invariant-loop-lock
 invariant-loop-lock l = Changed (outside (has l.left) (roomy_in (has l.held) 1 MAX_TURNS)) l.fn.self l.self

@@ -1,0 +1,42 @@
+-- What a block asks of a package's thread and locks, and what it made of them.
+use Rattle.std.specs.Prelude.{◌≡◌, ℕ, ◌≤◌, Bool, Option, is_some}
+use Rattle.tc_isa.specs.declared.limits.TheConstants.{MAX_TURNS}
+use Rattle.tc_elf.specs.Shown.{Shown}
+use Rattle.tc_journal.specs.Batch.{is_section}
+use Rattle.tc_journal.specs.History.{IsBlock, IsEnd}
+use Rattle.tc_journal.specs.declared.block.Kind.{Kind}
+use Rattle.tc_turn.specs.Turn.{next_lock}
+use Rattle.tc_context.specs.declared.context.Context.{Context}
+use Rattle.tc_context.specs.declared.context.Ran.{Ran}
+use Rattle.tc_context.specs.declared.context.Turns.{Turns}
+use Rattle.tc_context.specs.Whole.{thread_in, CanGo, RunsAs, Journals}
+use Rattle.tc_context.specs.Middle.{AreNoted, AreReady}
+use Rattle.tc_context.specs.Ran.{slept_in}
+
+-- the turns of a block with these locks, whose entries are open: how many they are and how the block ended, the number of its
+-- SLEEP, the words that the locks noted, and the lock that the next turn takes
+pub record DidTurns (image : Shown) (block : ℕ → Bool) (old new : Context) (t : Turns) : Type 0 where
+  pub runs : RunsAs image old new t.count t.end
+  pub most : t.count ≤ MAX_TURNS
+  pub ends : IsEnd t.end
+  pub sleeps : t.slept ≡ slept_in image old t.count
+  pub journals : AreNoted image block t.count old new
+  pub follows : t.next ≡ next_lock image (thread_in new)
+
+-- what a block of this kind asks, whose first turn takes this lock
+pub record MayRunBlock (image : Shown) (kind : Kind) (lock : Option ℕ) (p : Context) : Type 0 where
+  pub go : CanGo image p
+  pub takes : lock ≡ next_lock image (thread_in p)
+  pub ready : AreReady image p
+  pub section : is_section kind ≡ is_some (next_lock image (thread_in p))
+
+-- the block that ran, the entries of its locks, the number of its SLEEP, and the lock that the next turn takes
+pub record DidRunBlock (image : Shown) (kind : Kind) (old new : Context) (ran : Ran) : Type 0 where
+  pub runs : RunsAs image old new ran.block.turns ran.block.end
+  pub journals : Journals image old new ran.block
+  pub sleeps : ran.slept ≡ slept_in image old ran.block.turns
+  pub thread : ran.block.thread ≡ old.thread
+  pub kind_is : ran.block.kind ≡ kind
+  pub pc : ran.block.pc ≡ (thread_in old).regs.pc
+  pub bounds : IsBlock ran.block
+  pub follows : ran.next ≡ next_lock image (thread_in new)
