@@ -74,7 +74,7 @@ within image start n whole addr width some low high =
     let writable = any_same (range_cuts start n) (in_writable addr width) (in_writable start n) (λ r e. ap (λ b. r.writable && b) (same_in r.start r.length e)) image.ranges u.ranges in
     let stack = same_in stack_start stack_length u.stack in
     λ i. option_map_or region.Guard (if nat_lt (first i) (length gs) then Some (first i) else None)
-        (if text i then region.Text else if writable i && not (touched i) then region.Private else if stack i then region.Stack else region.Nothing)
+    (if text i then region.Text else if writable i && not (touched i) then region.Private else if stack i then region.Stack else region.Nothing)
 
 -- one more place
 pub place_more : (image : Shown) (places : List Place) (start n : ℕ) (p : Place) → PlacesTell image places → is_cut image start n ≡ false → p.start ≡ start → p.end ≡ start + n

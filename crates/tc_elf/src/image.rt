@@ -9,7 +9,7 @@ ghost use Rattle.tc_elf.specs.Kept.{IsRange, IsGuard};
 ghost use Rattle.tc_elf.specs.Places.{lies_in, meets, in_range, in_text, in_writable, in_code, in_guard, touches, touches_range, region_of, unguarded_region, fetched, byte_of};
 
 use crate::limits::{STACK_LENGTH, STACK_START};
-use crate::places::{Place, part_by, place_by, place_number};
+use crate::places::{Place, place_by, place_number};
 use byteorder::{ByteOrder, LittleEndian};
 use std::marker::Model;
 
@@ -350,7 +350,10 @@ impl Image {
     /// tells where to look first.
     #[inline(always)]
     pub fn part(&self, near: usize) -> usize {
-        part_by(&self.places, near)
+        match self.places.get(near) {
+            Some(place) => place.part,
+            None => 0,
+        }
     }
 
     /// The word of the instruction at `pc`; None where its four bytes aren't in one executable

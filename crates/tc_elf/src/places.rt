@@ -21,7 +21,7 @@ pub(crate) struct Place {
     end: u64,
     region: Region,
     /// How many places of a thread's own memory stand before it.
-    part: usize,
+    pub(crate) part: usize,
 }
 
 /// The nearest of some edges above an address: the known one, a start, and the end that is so far
@@ -44,20 +44,16 @@ fn cuts(addr: u32, width: u32, start: u32, length: u32) -> bool
     meets(addr, width, start, length) && !lies_in(addr, width, start, length)
 }
 
-fn any_range_cut(ranges: &[Range], start: u32, length: u32) -> bool
-    ensures { result ≡ list_any (range_cuts start length) ranges.now }
+fn any_range_cut(ranges: &[Range], addr: u32, width: u32) -> bool
+    ensures { result ≡ list_any (range_cuts addr width) ranges.now }
 {
-    ranges
-        .iter()
-        .any(|r| cuts(start, length, r.start, r.length))
+    ranges.iter().any(|r| cuts(addr, width, r.start, r.length))
 }
 
-fn any_guard_cut(guards: &[Guard], start: u32, length: u32) -> bool
-    ensures { result ≡ list_any (guard_cuts start length) guards.now }
+fn any_guard_cut(guards: &[Guard], addr: u32, width: u32) -> bool
+    ensures { result ≡ list_any (guard_cuts addr width) guards.now }
 {
-    guards
-        .iter()
-        .any(|g| cuts(start, length, g.start, g.length))
+    guards.iter().any(|g| cuts(addr, width, g.start, g.length))
 }
 
 impl Image {
@@ -67,9 +63,10 @@ impl Image {
         for range in &self.ranges {
             edge = nearest(at, edge, range.start, range.length);
         }
-        self.guards
-            .iter()
-            .fold(edge, |edge, guard| nearest(at, edge, guard.start, guard.length))
+        self.guards.iter().fold(
+            edge,
+            |edge, guard| nearest(at, edge, guard.start, guard.length),
+        )
     }
 
     fn is_cut(&self, start: u32, length: u32) -> bool
@@ -151,9 +148,8 @@ pub(crate) fn places(alloc: Global, image: &Image) -> Result<Vec<Place>, AllocEr
 
 /// The number of the place that may have an access: the last that begins no later.
 pub(crate) fn place_number(places: &[Place], addr: u32) -> usize {
-    places
-        .partition_point(|place| place.start <= addr)
-        .saturating_sub(1)
+    let behind = places.partition_point(|place| place.start <= addr);
+    behind.saturating_sub(1)
 }
 
 /// The place of an access, where the place of this number in the table has it.
@@ -171,13 +167,4 @@ pub(crate) fn place_by(places: &[Place], number: usize, addr: u32, width: u32) -
         return None;
     }
     Some(place.region)
-}
-
-/// The number of the part of a thread's own memory that the place of this number is, if it is one.
-#[inline(always)]
-pub(crate) fn part_by(places: &[Place], number: usize) -> usize {
-    match places.get(number) {
-        Some(place) => place.part,
-        None => 0,
-    }
 }
