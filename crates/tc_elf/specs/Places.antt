@@ -28,9 +28,6 @@ in_range addr width r = lies_in addr width r.start r.length
 abbrev pub touches_range : ℕ → ℕ → Range → Bool
 touches_range addr width r = meets addr width r.start r.length
 
-abbrev pub touches_text : ℕ → ℕ → Range → Bool
-touches_text addr width r = not r.writable && touches_range addr width r
-
 abbrev pub in_text : ℕ → ℕ → Range → Bool
 in_text addr width r = not r.writable && in_range addr width r
 
@@ -63,6 +60,14 @@ unguarded_region image addr width =
 unfoldable pub region_of : Shown → ℕ → ℕ → Region
 region_of image addr width =
     option_map_or region.Guard (position (in_guard addr width) image.guards) (unguarded_region image addr width)
+
+-- the place of an address in a thread's own memory; Nothing where that doesn't have it
+abbrev pub own_region : Shown → ℕ → Region
+own_region image at =
+    if list_any (touches at 1) image.guards then region.Nothing
+    else if list_any (in_writable at 1) image.ranges then region.Private
+    else if lies_in at 1 stack_start stack_length then region.Stack
+    else region.Nothing
 
 -- the little-endian number of the four bytes from an address on
 abbrev pub range_word : Range → ℕ → ℕ

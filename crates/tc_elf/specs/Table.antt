@@ -1,18 +1,34 @@
 -- A table of places, beside the image that it is of.
-use Rattle.std.specs.Prelude.{◌≡◌, ℕ, ◌<◌, true, All, List}
+use Rattle.std.specs.Prelude.{◌≡◌, ℕ, ◌+◌, ◌<◌, ◌≤◌, Bool, not, ◌&&◌, ◌||◌, All, List}
+use Rattle.std.specs.List.{list_any}
 use Rattle.tc_elf.specs.Kept.{IsImage}
-use Rattle.tc_elf.specs.Places.{lies_in, region_of}
-use Rattle.tc_elf.specs.Shown.{Shown}
+use Rattle.tc_elf.specs.Places.{lies_in, meets, region_of, stack_start, stack_length}
+use Rattle.tc_elf.specs.Shown.{Shown, Range, Guard}
 use Rattle.tc_elf.specs.declared.image.Region.{Region}
 use Rattle.tc_elf.specs.declared.places.Place.{Place}
 
--- each access within these addresses has this place
+-- the m addresses from b on have some of the n from a on, and not all
+abbrev pub cuts : ℕ → ℕ → ℕ → ℕ → Bool
+cuts a n b m = meets a n b m && not (lies_in a n b m)
+
+abbrev pub range_cuts : ℕ → ℕ → Range → Bool
+range_cuts start n r = cuts start n r.start r.length
+
+abbrev pub guard_cuts : ℕ → ℕ → Guard → Bool
+guard_cuts start n g = cuts start n g.start g.length
+
+-- a range, a guard or the stack has some of these addresses, and not all
+abbrev pub is_cut : Shown → ℕ → ℕ → Bool
+is_cut image start n =
+    list_any (range_cuts start n) image.ranges || list_any (guard_cuts start n) image.guards || cuts start n stack_start stack_length
+
+-- each access of these addresses has this place
 abbrev pub IsWithin : Shown → ℕ → ℕ → Region → Type 0
-IsWithin image start length region =
-    (addr width : ℕ) → 0 < width → lies_in addr width start length ≡ true → region_of image addr width ≡ region
+IsWithin image start end region =
+    (addr width : ℕ) → 0 < width → start ≤ addr → addr + width ≤ end → region_of image addr width ≡ region
 
 abbrev pub PlacesTell : Shown → List Place → Type 0
-PlacesTell image places = All (λ p. IsWithin image p.start p.length p.region) places
+PlacesTell image places = All (λ p. IsWithin image p.start p.end p.region) places
 
 -- an image with its table
 pub record IsTabled (image : Shown) (places : List Place) : Type 0 where

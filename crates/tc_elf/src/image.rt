@@ -288,7 +288,7 @@ impl Image {
 
     /// The place of an access, looked for in guards and ranges.
     #[tactic(auto, unfolding(crate::specs::Places::region_of))]
-    fn searched_region(&self, addr: u32, width: u32) -> Region
+    pub(crate) fn searched_region(&self, addr: u32, width: u32) -> Region
         ensures { result ≡ region_of self.now addr width }
     {
         match guard_with(&self.guards, addr, width) {
@@ -301,7 +301,13 @@ impl Image {
     pub fn region(&self, addr: u32, width: u32) -> Region
         ensures { result ≡ region_of self.now addr width }
     {
-        self.region_by(place_number(&self.places, addr, width), addr, width)
+        if width == 0 {
+            return self.searched_region(addr, width);
+        }
+        match place_by(&self.places, place_number(&self.places, addr), addr, width) {
+            Some(region) => region,
+            None => self.searched_region(addr, width),
+        }
     }
 
     /// What `region` answers. The place of the number `near` is tried first, which costs less where
@@ -318,27 +324,35 @@ impl Image {
 
     /// What `region` answers. `near` is a number by which the place of the last access is tried
     /// first; it may be any.
+    #[inline(always)]
     pub fn region_near(&self, near: &mut usize, addr: u32, width: u32) -> Region
         requires { 0 < width }
         ensures { result ≡ region_of self.now addr width }
     {
-        if let Some(region) = place_by(&self.places, *near, addr, width) {
-            return region;
+        match place_by(&self.places, *near, addr, width) {
+            Some(region) => region,
+            None => self.region_anew(near, addr, width),
         }
-        *near = place_number(&self.places, addr, width);
-        self.region_by(*near, addr, width)
     }
 
-    /// What `region` answers, from the place of this number in the table where that has the access.
-    fn region_by(&self, number: usize, addr: u32, width: u32) -> Region
+    /// The same, where the place is looked for.
+    #[inline(never)]
+    fn region_anew(&self, near: &mut usize, addr: u32, width: u32) -> Region
+        requires { 0 < width }
         ensures { result ≡ region_of self.now addr width }
     {
-        if width == 0 {
-            return self.searched_region(addr, width);
-        }
-        match place_by(&self.places, number, addr, width) {
-            Some(region) => region,
-            None => self.searched_region(addr, width),
+        *near = place_number(&self.places, addr);
+        self.region_from(*near, addr, width)
+    }
+
+    /// By the number of a place in the table, as `region_near` leaves it: the number of its piece
+    /// among those of a thread's own memory in the order of addresses, where it is one. It only
+    /// tells where to look first.
+    #[inline(always)]
+    pub fn part(&self, near: usize) -> usize {
+        match self.places.get(near) {
+            Some(place) => place.part,
+            None => 0,
         }
     }
 

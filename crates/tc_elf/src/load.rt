@@ -87,11 +87,12 @@ pub fn load(alloc: Global, bytes: &[u8]) -> Result<Image, Refusal>
     ensures kept { IfOk result (λ image. IsImage image) }
 {
     let (ranges, layout) = parts(alloc, bytes)?;
-    let places = places(alloc, &ranges, &layout.guards)?;
-    Ok(Image {
+    let mut image = Image {
         ranges,
         entries: layout.entries,
         guards: layout.guards,
-        places,
-    })
+        places: Vec::new(alloc),
+    };
+    image.places = places(alloc, &image)?;
+    Ok(image)
 }

@@ -1,181 +1,159 @@
 //! The places of accesses, found once: a table of addresses, all of whose accesses have one place.
 //!
 //! The address space is cut at each start and end of a range, a guard and the stack, and each piece
-//! is asked for its place. The table is sound and not complete: an access that it does not have is
-//! looked for in ranges and guards as ever.
+//! has one place.
 
-ghost use Rattle.std.specs.Prelude.{◌≡◌, ◌<◌, ◌-◌, false, length, IfOk, IfSome, position};
+ghost use Rattle.std.specs.Prelude.{◌≡◌, ℕ, ◌+◌, ◌<◌, ◌≤◌, ◌^◌, false, IfOk, IfSome};
 ghost use Rattle.std.specs.List.{list_any};
-ghost use Rattle.tc_elf.specs.Places.{touches, touches_range, touches_text, region_of};
+ghost use Rattle.tc_elf.specs.Places.{own_region, region_of};
 ghost use Rattle.tc_elf.specs.Shown.{Shown};
-ghost use Rattle.tc_elf.specs.Table.{IsWithin, PlacesTell};
+ghost use Rattle.tc_elf.specs.Table.{PlacesTell, cuts, guard_cuts, is_cut, range_cuts};
+ghost use Rattle.tc_elf.specs.declared.image.Region.TheVariants as region;
 
-use crate::image::{Guard, Range, Region, any_text, any_touched, any_writable, lies_in, meets};
+use crate::image::{Guard, Image, Range, Region, any_touched, any_writable, lies_in, meets};
 use crate::limits::{STACK_LENGTH, STACK_START};
 use std::alloc::{AllocError, Global};
 
-/// Addresses of which each access has this place.
+/// Addresses from a start on, and before an end, of which each access has this place.
 #[derive(Clone, Copy, Drop)]
 pub(crate) struct Place {
     start: u32,
-    length: u32,
+    end: u64,
     region: Region,
+    /// How many places of a thread's own memory stand before it.
+    pub(crate) part: usize,
 }
 
-fn any_meeting(ranges: &[Range], start: u32, length: u32) -> bool
-    ensures { result ≡ list_any (touches_range start length) ranges.now }
-{
-    ranges
-        .iter()
-        .any(|r| meets(start, length, r.start, r.length))
-}
-
-fn any_text_meeting(ranges: &[Range], start: u32, length: u32) -> bool
-    ensures { result ≡ list_any (touches_text start length) ranges.now }
-{
-    ranges
-        .iter()
-        .any(|r| !r.writable && meets(start, length, r.start, r.length))
-}
-
-fn first_touched(guards: &[Guard], start: u32, count: u32) -> Option<usize>
-    ensures first { result ≡ position (touches start count) guards.now }
-    ensures bound { IfSome result (λ lock. lock < length guards.now) }
-{
-    guards.iter().position(|g| g.touches(start, count))
-}
-
-/// The place of all accesses within addresses that no guard has.
-fn unguarded_within(ranges: &[Range], start: u32, length: u32) -> Option<Region>
-    ensures { (image : Shown) → image.ranges ≡ ranges.now
-        → list_any (touches start length) image.guards ≡ false
-        → IfSome result (IsWithin image start length) }
-{
-    if any_text(ranges, start, length) {
-        return Some(Region::Text);
-    }
-    if any_text_meeting(ranges, start, length) {
-        return None;
-    }
-    if any_writable(ranges, start, length) {
-        return Some(Region::Private);
-    }
-    if any_meeting(ranges, start, length) || !lies_in(start, length, STACK_START, STACK_LENGTH) {
-        return None;
-    }
-    Some(Region::Stack)
-}
-
-/// The place of all accesses within some addresses, where they have one.
-fn region_within(ranges: &[Range], guards: &[Guard], start: u32, length: u32) -> Option<Region>
-    ensures { (image : Shown) → image.ranges ≡ ranges.now → image.guards ≡ guards.now
-        → IfSome result (IsWithin image start length) }
-{
-    if !any_touched(guards, start, length) {
-        return unguarded_within(ranges, start, length);
-    }
-    let lock = first_touched(guards, start, length)?;
-    if !guards[lock].has(start, length) {
-        return None;
-    }
-    Some(Region::Guard(u32::try_from(lock).ok()?))
-}
-
-/// The nearer of two edges above an address, where one is known to be above.
-fn nearer(at: u32, known: u32, edge: u32) -> u32
-    requires { at < known }
-    ensures { at < result }
-{
-    if at < edge && edge < known {
-        edge
+/// The nearest of some edges above an address: the known one, a start, and the end that is so far
+/// behind it.
+fn nearest(at: u32, known: u32, start: u32, length: u32) -> u32 {
+    let end = start.saturating_add(length);
+    if at < start && start < known {
+        start
+    } else if at < end && end < known {
+        end
     } else {
         known
     }
 }
 
-/// The nearest edge above an address that a range has, or the known one.
-fn range_edge(ranges: &[Range], at: u32, known: u32) -> u32
-    requires { at < known }
-    ensures { at < result }
+/// Whether what begins at `start` and has this length has some of the addresses, and not all.
+fn cuts(addr: u32, width: u32, start: u32, length: u32) -> bool
+    ensures { result ≡ cuts addr width start length }
 {
-    let mut edge = known;
-    for range in ranges {
-        edge = nearer(at, edge, range.start);
-        edge = nearer(at, edge, range.start.saturating_add(range.length));
+    meets(addr, width, start, length) && !lies_in(addr, width, start, length)
+}
+
+fn any_range_cut(ranges: &[Range], addr: u32, width: u32) -> bool
+    ensures { result ≡ list_any (range_cuts addr width) ranges.now }
+{
+    ranges.iter().any(|r| cuts(addr, width, r.start, r.length))
+}
+
+fn any_guard_cut(guards: &[Guard], addr: u32, width: u32) -> bool
+    ensures { result ≡ list_any (guard_cuts addr width) guards.now }
+{
+    guards.iter().any(|g| cuts(addr, width, g.start, g.length))
+}
+
+impl Image {
+    /// The next edge above an address: where a range, a guard or the stack begins or ends.
+    fn edge_above(&self, at: u32) -> u32 {
+        let mut edge = nearest(at, u32::MAX, STACK_START, STACK_LENGTH);
+        for range in &self.ranges {
+            edge = nearest(at, edge, range.start, range.length);
+        }
+        self.guards.iter().fold(
+            edge,
+            |edge, guard| nearest(at, edge, guard.start, guard.length),
+        )
     }
-    edge
-}
 
-/// The same of guards.
-fn guard_edge(guards: &[Guard], at: u32, known: u32) -> u32
-    requires { at < known }
-    ensures { at < result }
-{
-    let mut edge = known;
-    for guard in guards {
-        edge = nearer(at, edge, guard.start);
-        edge = nearer(at, edge, guard.start.saturating_add(guard.length));
+    fn is_cut(&self, start: u32, length: u32) -> bool
+        ensures { result ≡ is_cut self.now start length }
+    {
+        any_range_cut(&self.ranges, start, length)
+            || any_guard_cut(&self.guards, start, length)
+            || cuts(start, length, STACK_START, STACK_LENGTH)
     }
-    edge
+
+    /// How many addresses from one on nothing cuts: those before the next edge. One alone is never
+    /// cut.
+    #[tactic(auto, using(crate::proofs::Table::one_whole))]
+    fn piece(&self, start: u32) -> u32
+        ensures some { 0 < result }
+        ensures fits { start + result ≤ 2 ^ 32 }
+        ensures whole { is_cut self.now start result ≡ false }
+    {
+        let length = self.edge_above(start).saturating_sub(start).max(1);
+        if self.is_cut(start, length) {
+            1
+        } else {
+            length
+        }
+    }
+
+    /// The place of an address in a thread's own memory.
+    fn own_region(&self, at: u32) -> Region
+        ensures { result ≡ own_region self.now at }
+    {
+        if any_touched(&self.guards, at, 1) {
+            Region::Nothing
+        } else if any_writable(&self.ranges, at, 1) {
+            Region::Private
+        } else if lies_in(at, 1, STACK_START, STACK_LENGTH) {
+            Region::Stack
+        } else {
+            Region::Nothing
+        }
+    }
+
+    /// How many addresses from one on have all one place in a thread's own memory, and that place:
+    /// `Private`, `Stack`, or `Nothing` where that memory has none of them.
+    pub fn own_piece(&self, start: u32) -> (u32, Region)
+        ensures some { 0 < result.0 }
+        ensures fits { start + result.0 ≤ 2 ^ 32 }
+        ensures each { (at : ℕ) → start ≤ at → at < start + result.0
+            → own_region self.now at ≡ result.1 }
+        ensures past { (at : ℕ) → 2 ^ 32 ≤ at → own_region self.now at ≡ region.Nothing }
+    {
+        let _ = &self.ranges;
+        (self.piece(start), self.own_region(start))
+    }
 }
 
-/// The next edge above an address: where a range, a guard or the stack begins or ends.
-fn edge_above(ranges: &[Range], guards: &[Guard], at: u32) -> u32
-    requires { at < 4294967295 }
-    ensures { at < result }
-{
-    let edge = nearer(at, u32::MAX, STACK_START);
-    let edge = nearer(at, edge, STACK_START + STACK_LENGTH);
-    guard_edge(guards, at, range_edge(ranges, at, edge))
-}
-
-/// The table of an image with these ranges and guards.
-pub(crate) fn places(
-    alloc: Global,
-    ranges: &[Range],
-    guards: &[Guard],
-) -> Result<Vec<Place>, AllocError>
-    ensures { IfOk result (λ places. (image : Shown) → image.ranges ≡ ranges.now
-        → image.guards ≡ guards.now → PlacesTell image places.items) }
+/// The table of an image, in the order of addresses.
+pub(crate) fn places(alloc: Global, image: &Image) -> Result<Vec<Place>, AllocError>
+    ensures { IfOk result (λ places. PlacesTell image.now places.items) }
 {
     let mut places = Vec::new(alloc);
-    let mut start = 0;
-    'pieces: for _ in 0..2 * (ranges.len() + guards.len() + 1) {
-        if start == u32::MAX {
-            break;
-        }
-        let length = edge_above(ranges, guards, start) - start;
-        if let Some(region) = region_within(ranges, guards, start, length) {
-            places.push(Place {
-                start,
-                length,
-                region,
-            })?;
-        }
-        start += length;
+    let mut next: u64 = 0;
+    let mut part: usize = 0;
+    'pieces: while next < 1 << 32 {
+        let start = next as u32;
+        let length = image.piece(start);
+        next += length as u64;
+        let region = image.searched_region(start, length);
+        places.push(Place {
+            start,
+            end: next,
+            region,
+            part,
+        })?;
+        let is_own = region == Region::Private || region == Region::Stack;
+        part = part.saturating_add(usize::from(is_own));
     }
     Ok(places)
 }
 
-/// The number of the place that has an access, where one of the table has it.
-pub(crate) fn place_number(places: &[Place], addr: u32, width: u32) -> usize {
-    let mut low = 0;
-    let mut high = places.len();
-    'halves: while low < high {
-        let middle = low + (high - low) / 2;
-        let place = &places[middle];
-        if addr < place.start {
-            high = middle;
-        } else if lies_in(addr, width, place.start, place.length) {
-            return middle;
-        } else {
-            low = middle + 1;
-        }
-    }
-    low
+/// The number of the place that may have an access: the last that begins no later.
+pub(crate) fn place_number(places: &[Place], addr: u32) -> usize {
+    let behind = places.partition_point(|place| place.start <= addr);
+    behind.saturating_sub(1)
 }
 
 /// The place of an access, where the place of this number in the table has it.
+#[inline(always)]
 pub(crate) fn place_by(places: &[Place], number: usize, addr: u32, width: u32) -> Option<Region>
     requires { 0 < width }
     ensures { (image : Shown) → PlacesTell image places.now
@@ -185,7 +163,7 @@ pub(crate) fn place_by(places: &[Place], number: usize, addr: u32, width: u32) -
         return None;
     }
     let place = &places[number];
-    if !lies_in(addr, width, place.start, place.length) {
+    if addr < place.start || addr as u64 + width as u64 > place.end {
         return None;
     }
     Some(place.region)

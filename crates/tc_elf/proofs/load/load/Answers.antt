@@ -1,11 +1,17 @@
-use Rattle.std.proofs.Common.{sym}
+use Rattle.std.proofs.Common.{arith}
 use Rattle.tc_elf.proofs.Images.{IsImage-parts}
 use Rattle.tc_elf.proofs.load.load.Goals as goal
 
-pub invariant_of-result : goal.invariant_of-result
-invariant_of-result c = record {
+pub invariant_of-image : goal.invariant_of-image
+invariant_of-image c = record {
   is_image = IsImage-parts c.args.bytes.now c.in_ok-ranges.ranges.items c.in_ok-ranges.layout _ c.layout.view_is c.in_ok-ranges.ensures.loaded;
-  tells = c.in_ok-places.ensures _ (sym c.deref.ensures.value) (sym c.deref-2.ensures.value);
+  tells = λ k d below. absurd (omega arith);
+}
+
+pub invariant_of-image-2 : goal.invariant_of-image-2
+invariant_of-image-2 c = record {
+  is_image = IsImage-parts c.args.bytes.now c.in_ok-ranges.ranges.items c.in_ok-ranges.layout _ c.layout.view_is c.in_ok-ranges.ensures.loaded;
+  tells = c.in_ok-image-inside.ensures;
 }
 
 pub returns-clause-kept : goal.returns-clause-kept
