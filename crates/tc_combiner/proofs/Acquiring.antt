@@ -15,17 +15,16 @@ use Rattle.tc_hall.specs.Steps.{put_call}
 use Rattle.tc_queue.specs.Lines.{SeatView, Enter, Link, First, Behind, with_line}
 use Rattle.tc_queue.specs.declared.turn.Turn.{Turn}
 use Rattle.tc_combiner.specs.declared.hands.Hands.{Hands}
-use Rattle.tc_combiner.specs.declared.settled.Settled.TheVariants.{GoesOn, Adopted, Shipped, Parked as Did_park, Ended, Stopped as Was_stopped}
+use Rattle.tc_combiner.specs.declared.settled.Settled.TheVariants.{GoesOn, Shipped, Stopped as Was_stopped}
 use Rattle.tc_combiner.specs.declared.settled.Settled.{Settled}
 use Rattle.tc_elf.specs.Shown.{Shown}
-use Rattle.tc_combiner.specs.Ends.{IsSameSeat}
+use Rattle.tc_combiner.specs.Release.{IsSameSeat}
 use Rattle.tc_combiner.specs.Packages.{DidGrant, DidTake, MayGoOn, Runs, Wants}
-use Rattle.tc_combiner.specs.Walks.{packed, ready_in}
+use Rattle.tc_combiner.specs.Walks.{packed, ready_in, Acts, IsAtHall, MayGive, saw}
 use Rattle.tc_combiner.specs.Answers.{AcquiredAs, Acquires, DidFirst, FirstAs, MayAsk, PutAllBack, back, counted, next_turn, place_back}
-use Rattle.tc_combiner.specs.Acts.{Acts, IsAtHall, MayGive, saw}
-use Rattle.tc_combiner.proofs.Acting.{adds_then, acts_then, acts_by, owned_by}
+use Rattle.tc_combiner.proofs.Acting.{adds_then, acts_then, acts_by, takes_none}
 use Rattle.tc_combiner.proofs.Owning.{counted_then, counted_owned, granted_with, takes_in}
-use Rattle.tc_combiner.proofs.Answering.{keeps_answers, takes_none, wider}
+use Rattle.tc_combiner.proofs.Answering.{keeps_answers, wider}
 use Rattle.tc_combiner.proofs.Packages.{no_other, taken_good, ungranted_fits, ungranted_plain}
 
 -- ---- packages that are put back
@@ -42,13 +41,6 @@ puts_both q o h g m e runs none same a b =
       aside = none;
       ready = same;
     }
-
-pub puts_one : (q : PackageView) (h g : Hands) → h.aside ≡ None → g.aside ≡ None → g.ready.items ≡ [] → Acts (put_call q (place_back q) ∷ []) (Pack q ∷ []) [] h.pass g.pass → PutAllBack q h g
-puts_one q h g e none same a = record {
-  acts = subst (λ (x : Option PackageView). Acts (back q x) (Pack q ∷ packed x) [] h.pass g.pass) (sym e) a;
-  aside = none;
-  ready = same;
-}
 
 -- ---- the first of its line
 
@@ -74,14 +66,6 @@ stops_first k i n q h m g a e p = record {
       (subst (λ (x : Option PackageView). Acts (back q x) (Pack q ∷ packed x) [] m.pass g.pass) e p.acts));
   ready = p.ready;
   became = (refl, p.aside);
-}
-
-pub at_still : (hall : HallView) (cs : List Call) (xs : List Item) (h g : Hands) → IsAtHall hall xs h → Acts cs [] [] h.pass g.pass → g.aside ≡ h.aside → IsAtHall hall xs g
-at_still hall cs xs h g m a s = record {
-  own = a.own.0 ∙ m.own;
-  image = a.adds.told.image ∙ m.image;
-  out = owned_by h.pass.knows g.pass.knows xs xs (λ b zs o. a.moves b (xs ++ zs) o) m.out;
-  aside = λ b e. m.aside b (sym s ∙ e);
 }
 
 -- ---- with its number counted
@@ -164,8 +148,6 @@ on_line s t r e h = subst (λ (x : SeatView). IsSameSeat s x) (sym e) h
 
 pub same_seat : (image : Shown) (worker i : ℕ) (q : PackageView) (s t : SeatView) (a b : Option PackageView) (cs : List Call) (r : Settled) → AcquiredAs image worker i q s t a b cs r → IsSameSeat s t
 same_seat image worker i q s t a b cs (GoesOn r) h = on_line s t _ h.0 (refl, refl)
-same_seat image worker i q s t a b cs (Adopted r) h = absurd h
 same_seat image worker i q s t a b cs Shipped h = on_line s t _ h.1 (refl, refl)
-same_seat image worker i q s t a b cs Did_park h = absurd h
-same_seat image worker i q s t a b cs Ended h = absurd h
 same_seat image worker i q s t a b cs Was_stopped h = on_line s t _ h.0 (refl, refl)
+same_seat image worker i q s t a b cs r h = absurd h

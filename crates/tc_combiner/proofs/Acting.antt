@@ -1,27 +1,84 @@
 -- Calls of a pass, one after another, with each call that counts.
-use Rattle.std.proofs.Common.{◌≡◌, ◌≢◌, ◌==◌, ◌<◌, ◌≤◌, ◌+◌, ℕ, Bool, true, false, cond, arith, All, List, [], ◌∷◌, ◌++◌, length, length-append, filter, refl, sym, ap, ◌∙◌, subst, subst₂, append_assoc, append-nil}
+use Rattle.std.proofs.Common.{◌≡◌, ◌≢◌, ◌==◌, ◌<◌, ◌≤◌, ◌+◌, ℕ, Bool, true, false, cond, arith, All, List, [], ◌∷◌, ◌++◌, length, length-append, filter, refl, sym, ap, ◌∙◌, subst, append_assoc, append-nil, Some, None, Option}
 use Rattle.std.proofs.lemmas.Bool.Decides.{nat_tests}
 use Rattle.std.proofs.lemmas.List.Elements.{filter-append, All-append, All-nil}
-use Rattle.tc_elf.specs.Shown.{Shown}
 use Rattle.tc_context.specs.View.{PackageView}
 use Rattle.tc_segment.specs.View.{LockView}
 use Rattle.tc_hall.specs.declared.board.Knows.{Knows}
 use Rattle.tc_hall.specs.declared.board.Miss.{Miss}
 use Rattle.tc_hall.specs.declared.board.Terms.{Terms}
 use Rattle.tc_hall.specs.declared.board.Call.{Call}
-use Rattle.tc_hall.specs.declared.board.Call.TheVariants.{Put, Free, Look, Stop, Stopped}
-use Rattle.tc_hall.specs.declared.place.Place.TheVariants.{Ready, Parked, Done, Waiting}
+use Rattle.tc_hall.specs.declared.board.Call.TheVariants.{Put, Stopped, Stop}
+use Rattle.tc_hall.specs.declared.place.Place.TheVariants.{Ready}
 use Rattle.tc_hall.specs.Outs.{Called, Item, outs}
 use Rattle.tc_hall.specs.Steps.{IsSamePass, SawStopped, after_claim, after_miss, after_stopped, after_take}
 use Rattle.tc_combiner.proofs.Owning.{moves_none}
 use Rattle.tc_hall.specs.Rule.{threads}
 use Rattle.tc_isa.specs.declared.limits.TheConstants.{MAX_HELD}
 use Rattle.tc_hall.specs.PassView.{HallView, PassView}
+use Rattle.tc_combiner.specs.declared.attempt.Attempt.TheVariants.{Came, Refused, Stopped as Try_stopped}
 use Rattle.tc_combiner.specs.declared.hands.Hands.{Hands}
-use Rattle.tc_combiner.specs.Packages.{IsWaiter}
-use Rattle.tc_combiner.specs.Walks.{HaveNoStop, Moves, Owned, Owns, ready_in}
-use Rattle.tc_combiner.specs.Acts.{LooksEachTime, Tried, counts, Adds, Acts, Acted, MayAct, saw, saw_if}
-use Rattle.tc_combiner.proofs.Walking.{no_stops, told_then}
+use Rattle.tc_combiner.specs.Walks.{HaveNoStop, Moves, Owned, Owns, ready_in, AreAsked, Asked, Asks, unanswered, LooksEachTime, Tried, TriedAs, WaitedAs, Waits, counts, Adds, Acts, Acted, IsAt, MayAct, saw, saw_if, TakesDown}
+use Rattle.tc_queue.specs.declared.turn.Departure.{Departure}
+use Rattle.tc_queue.specs.declared.turn.Turn.{Turn}
+use Rattle.tc_queue.specs.Lines.{SeatView, LineCall, Next, Leave, with_line}
+
+pub no_stops : (cs ds : List Call) → HaveNoStop cs → HaveNoStop ds → HaveNoStop (cs ++ ds)
+no_stops [] ds p q = q
+no_stops (Stop ∷ cs) ds p q = p
+no_stops (c ∷ cs) ds p q = no_stops cs ds p q
+
+pub told_then : (cs ds : List Call) (v w x : Knows) → Called cs v w → Called ds w x → Called (cs ++ ds) v x
+told_then cs ds v w x a b = record {
+  image = b.image ∙ a.image;
+  worker = b.worker ∙ a.worker;
+  sealed = b.sealed ∙ a.sealed;
+  joined = b.joined ∙ a.joined;
+  calls = b.calls ∙ (ap (λ (l : List Call). l ++ ds) a.calls ∙ append_assoc v.calls cs ds);
+}
+
+asked_one : (u : Turn) (cs : List LineCall) (a : Option Turn) → AreAsked u cs → AreAsked u (cs ++ Next u a ∷ [])
+asked_one u [] a h = (refl, tt)
+asked_one u (Next x e ∷ cs) a h = (h.0, asked_one u cs a h.1)
+asked_one u (Leave x e ∷ cs) a h = (h.0, asked_one u cs a h.1)
+asked_one u (c ∷ cs) a h = absurd h
+
+pub asks_next : (u : Turn) (s t r : SeatView) (a : Option Turn) → Asks u s t → r ≡ with_line t (Next u a) → Asks u s r
+asks_next u s t r a k e = subst (λ (z : SeatView). Asks u s z) (sym e) (record {
+  table = k.table;
+  threads = k.threads;
+  lines = k.lines ++ Next u a ∷ [];
+  calls = ap (λ (l : List LineCall). l ++ Next u a ∷ []) k.calls ∙ append_assoc s.calls k.lines (Next u a ∷ []);
+  asked = asked_one u k.lines a k.asked;
+})
+
+unanswered_then : (cs ds : List LineCall) → unanswered (cs ++ ds) ≡ unanswered cs + unanswered ds
+unanswered_then [] ds = omega arith
+unanswered_then (Next x None ∷ cs) ds = let e = unanswered_then cs ds in omega arith
+unanswered_then (c ∷ cs) ds = unanswered_then cs ds
+
+asked_line : (n k : ℕ) (s t r : SeatView) (c : LineCall) → Asked n s t → r ≡ with_line t c → unanswered (c ∷ []) ≡ k → Asked (n + k) s r
+asked_line n k s t r c h e f = record {
+  lines = h.lines ++ c ∷ [];
+  calls = ap (λ (z : SeatView). z.calls) e ∙ (ap (λ (l : List LineCall). l ++ c ∷ []) h.calls ∙ append_assoc s.calls h.lines (c ∷ []));
+  count = unanswered_then h.lines (c ∷ []) ∙ (ap (λ (m : ℕ). m + unanswered (c ∷ [])) h.count ∙ ap (λ (m : ℕ). n + m) f);
+}
+
+asked_none : (s : SeatView) → Asked 0 s s
+asked_none s = record { lines = []; calls = sym (append-nil s.calls); count = refl }
+
+-- one question, and where it was not answered perhaps the leave
+pub asked_found : (s t : SeatView) (u x : Turn) → t ≡ with_line s (Next u (Some x)) → Asked 0 s t
+asked_found s t u x e = asked_line 0 0 s s t (Next u (Some x)) (asked_none s) e refl
+
+pub asked_left : (s m t : SeatView) (u : Turn) (a : Option Turn) (d : Departure) → m ≡ with_line s (Next u a) → a ≡ None → t ≡ with_line m (Leave u d) → Asked 1 s t
+asked_left s m t u a d e none f = asked_line 1 0 s m t (Leave u d) (asked_line 0 1 s s m (Next u a) (asked_none s) e (ap (λ (o : Option Turn). unanswered (Next u o ∷ [])) none)) f refl
+
+pub asked_more : (n : ℕ) (s t r : SeatView) (u : Turn) → Asked n s t → r ≡ with_line t (Next u None) → Asked (n + 1) s r
+asked_more n s t r u h e = asked_line n 1 s t r (Next u None) h e refl
+
+pub asked_last : (n : ℕ) (s t r : SeatView) (u x : Turn) → Asked n s t → r ≡ with_line t (Next u (Some x)) → Asked (n + 0) s r
+asked_last n s t r u x h e = asked_line n 0 s t r (Next u (Some x)) h e refl
 
 pub adds_then : (ds es : List Call) (v w x : Knows) → Adds ds v w → Adds es w x → Adds (ds ++ es) v x
 adds_then ds es v w x a b = record {
@@ -111,38 +168,52 @@ tried_then a b c d v w x h k = record {
 pub tried_still : (v : Knows) → Tried 0 0 v v
 tried_still v = tried_none v v refl refl
 
-pub looks_none : (v : Knows) → LooksEachTime v v
-looks_none v = (0, tried_still v)
+pub tries_more : (m k : ℕ) (v w x : Knows) → Tried 0 m v w → Tried 0 k w x → Tried 0 (m + k) v x
+tries_more m k v w x h t = tried_then 0 m 0 k v w x h t
 
-pub looks_more : (v w x y : Knows) → LooksEachTime v w → Tried 1 0 w x → Tried 0 1 x y → LooksEachTime v y
-looks_more v w x y h m l = let t = tried_then (h.0 + 1) (h.0 + 0) 0 1 v x y (tried_then h.0 h.0 1 0 v w x h.1 m) l in
-    (h.0 + 1, subst₂ (λ (a b : ℕ). Tried a b v y) (let e : (h.0 + 1) + 0 ≡ h.0 + 1 = omega arith in e) (let e : (h.0 + 0) + 1 ≡ h.0 + 1 = omega arith in e) t)
+-- a step that was refused, and the look at STOP behind it
+pub misses : (b x : Bool) (p q r : PassView) → b ≡ x → Acts [] [] [] p q → Tried 1 0 p.knows q.knows → Acts (saw_if b) [] [] q r → Tried 0 1 q.knows r.knows → Acts (saw_if x) [] [] p r × Tried 1 1 p.knows r.knows
+misses b x p q r e a t s l = (acts_then [] (saw_if x) [] [] [] p q r a (subst (λ (y : Bool). Acts (saw_if y) [] [] q r) e s), tried_then 1 0 0 1 p.knows q.knows r.knows t l)
 
-pub looked_once : (n : ℕ) (v w x : Knows) → Tried 0 n v w → Tried 0 1 w x → Tried 0 (n + 1) v x
-looked_once n v w x h l = tried_then 0 n 0 1 v w x h l
+-- the look alone
+pub looked : (b x : Bool) (p q : PassView) → b ≡ x → Acts (saw_if b) [] [] p q → Tried 0 1 p.knows q.knows → Acts (saw_if x) [] [] p q × Tried 0 1 p.knows q.knows
+looked b x p q e s l = (subst (λ (y : Bool). Acts (saw_if y) [] [] p q) e s, l)
 
-pub looks_last : (v w x : Knows) → LooksEachTime v w → Tried 0 0 w x → LooksEachTime v x
-looks_last v w x h t = (h.0, subst₂ (λ (a b : ℕ). Tried a b v x) (let e : h.0 + 0 ≡ h.0 = omega arith in e) (let e : h.0 + 0 ≡ h.0 = omega arith in e) (tried_then h.0 h.0 0 0 v w x h.1 t))
+looks_then : (n : ℕ) (v w x : Knows) → LooksEachTime v w → Tried n n w x → LooksEachTime v x
+looks_then n v w x h t = (h.0 + n, tried_then h.0 h.0 n n v w x h.1 t)
 
-pub looked : (b : Bool) (p q r : PassView) → b ≡ false → Acts [] [] [] p q → Acts (saw_if b) [] [] q r → Acts [] [] [] p r
-looked b p q r e a s = acts_then [] [] [] [] [] p q r a (subst (λ (x : Bool). Acts (saw_if x) [] [] q r) e s)
+pub waits_none : (p : PassView) → Waits p p
+waits_none p = (acts_none p [], (0, tried_still p.knows))
 
-pub saw_stop : (b : Bool) (p q r : PassView) → b ≡ true → Acts [] [] [] p q → Acts (saw_if b) [] [] q r → Acts saw [] [] p r
-saw_stop b p q r e a s = acts_then [] saw [] [] [] p q r a (subst (λ (x : Bool). Acts (saw_if x) [] [] q r) e s)
+module _ {A : Type 0} (items : A → List Item) (is : Knows → A → Type 0) (p q r : PassView) (h : Waits p q) where
+  pub waits_more : TriedAs 1 items is q r Refused → Waits p r
+  waits_more t = (acts_then [] [] [] [] [] p q r h.0 t.0, looks_then 1 p.knows q.knows r.knows h.1 t.1)
 
-pub waits_at : (p q : PassView) (t i : ℕ) (w : PackageView) → Acts [] [] [] p q → IsWaiter t i q.knows.image w → IsWaiter t i p.knows.image w
-waits_at p q t i w a h = subst (λ (x : Shown). IsWaiter t i x w) a.adds.told.image h
+  pub waits_stopped : TriedAs 1 items is q r Try_stopped → WaitedAs items is p r None
+  waits_stopped t = (acts_then [] saw [] [] [] p q r h.0 t.0, looks_then 1 p.knows q.knows r.knows h.1 t.1)
+
+  pub waits_came : (a : A) → TriedAs 1 items is q r (Came a) → WaitedAs items is p r (Some a)
+  waits_came a t = (acts_then [] [] [] [] (items a) p q r h.0 t.0, looks_then 0 p.knows q.knows r.knows h.1 t.1, t.2)
 
 pub ready_append : (cs ds : List Call) → ready_in (cs ++ ds) ≡ ready_in cs ++ ready_in ds
 ready_append [] ds = refl
 ready_append (Put t Ready ls g ∷ cs) ds = ap (λ (l : List ℕ). t ∷ l) (ready_append cs ds)
-ready_append (Put t Parked ls g ∷ cs) ds = ready_append cs ds
-ready_append (Put t Done ls g ∷ cs) ds = ready_append cs ds
-ready_append (Put t (Waiting i) ls g ∷ cs) ds = ready_append cs ds
-ready_append (Free i ∷ cs) ds = ready_append cs ds
-ready_append (Look t x ∷ cs) ds = ready_append cs ds
-ready_append (Stop ∷ cs) ds = ready_append cs ds
-ready_append (Stopped x ∷ cs) ds = ready_append cs ds
+ready_append (c ∷ cs) ds = ready_append cs ds
+
+-- ---- the threads that were put as ready
+
+pub takes_then : (n : ℕ) (xs ys zs : List ℕ) (cs ds : List Call) → TakesDown n xs ys cs → TakesDown n ys zs ds → TakesDown n xs zs (cs ++ ds)
+takes_then n xs ys zs cs ds a b = (
+  b.0 ∙ (ap (λ (l : List ℕ). l ++ ready_in ds) a.0 ∙ (append_assoc xs (ready_in cs) (ready_in ds) ∙ ap (λ (l : List ℕ). xs ++ l) (sym (ready_append cs ds)))),
+  subst (λ (l : List ℕ). All (λ t. t < n) l) (sym (ready_append cs ds)) (All-append (λ t. t < n) (ready_in cs) (ready_in ds) a.1 b.1),
+)
+
+-- calls that put no thread as ready
+pub takes_none : (n : ℕ) (xs ys : List ℕ) (cs : List Call) → ys ≡ xs → ready_in cs ≡ [] → TakesDown n xs ys cs
+takes_none n xs ys cs e none = (
+  e ∙ (sym (append-nil xs) ∙ ap (λ (l : List ℕ). xs ++ l) (sym none)),
+  subst (λ (l : List ℕ). All (λ t. t < n) l) (sym none) (All-nil (λ t. t < n)),
+)
 
 -- ---- hands
 
@@ -152,38 +223,27 @@ owned_by v w xs ys m o = (o.0, subst (λ (l : List Item). Owns o.0 (outs w) l) (
 pub same_outs : (ds : List Call) (p q : PassView) → Acts ds [] [] p q → outs q.knows ≡ outs p.knows
 same_outs ds p q a = a.moves (outs p.knows) [] refl
 
+-- where the pass is afterwards
+pub at_after : (hall : HallView) (ds : List Call) (xs ys : List Item) (p q : PassView) (a b : Option PackageView) → IsAt hall xs p a → Acts ds xs ys p q → b ≡ a → IsAt hall ys q b
+at_after hall ds xs ys p q a b m c e = record { own = c.own.0 ∙ m.own; image = c.adds.told.image ∙ m.image; out = owned_by p.knows q.knows xs ys c.moves m.out; aside = λ x f. m.aside x (sym e ∙ f) }
+
 -- the hands may act on, where they put no thread as ready
 pub may_still : (hall : HallView) (ds : List Call) (xs ys : List Item) (n : ℕ) (h g : Hands) → MayAct hall xs n h → Acts ds xs ys h.pass g.pass → g.ready.items ≡ h.ready.items → g.aside ≡ h.aside → MayAct hall ys n g
-may_still hall ds xs ys n h g m a r s = record {
-  own = a.own.0 ∙ m.own;
-  image = a.adds.told.image ∙ m.image;
-  out = owned_by h.pass.knows g.pass.knows xs ys a.moves m.out;
-  room = subst (λ (l : List ℕ). length l + n ≤ MAX_HELD) (sym r) m.room;
-  aside = λ b e. m.aside b (sym s ∙ e);
-}
+may_still hall ds xs ys n h g m a r s = record { at = at_after hall ds xs ys h.pass g.pass h.aside g.aside m.at a s; room = subst (λ (l : List ℕ). length l + n ≤ MAX_HELD) (sym r) m.room }
 
 -- a call that added nothing of note, and then hands that acted
 pub acted_sooner : (k : Terms) (ds : List Call) (xs ys zs : List Item) (h m g : Hands) → Acts [] xs ys h.pass m.pass → m.ready.items ≡ h.ready.items → Acted k ds ys zs m g → Acted k ds xs zs h g
 acted_sooner k ds xs ys zs h m g a r b = record {
   acts = acts_then [] ds xs ys zs h.pass m.pass g.pass a b.acts;
-  told = b.told ∙ ap (λ (l : List ℕ). l ++ ready_in ds) r;
-  known = b.known;
+  readied = (b.readied.0 ∙ ap (λ (l : List ℕ). l ++ ready_in ds) r, b.readied.1);
 }
 
 -- calls that put no thread as ready
 pub acted_by : (k : Terms) (ds : List Call) (xs ys : List Item) (h g : Hands) → Acts ds xs ys h.pass g.pass → g.ready.items ≡ h.ready.items → ready_in ds ≡ [] → Acted k ds xs ys h g
-acted_by k ds xs ys h g a r none = record {
-  acts = a;
-  told = r ∙ (sym (append-nil h.ready.items) ∙ ap (λ (l : List ℕ). h.ready.items ++ l) (sym none));
-  known = subst (λ (l : List ℕ). All (λ t. t < threads k) l) (sym none) (All-nil (λ t. t < threads k));
-}
+acted_by k ds xs ys h g a r none = record { acts = a; readied = takes_none (threads k) h.ready.items g.ready.items ds r none }
 
 pub acted_none : (k : Terms) (xs : List Item) (h : Hands) → Acted k [] xs xs h h
 acted_none k xs h = acted_by k [] xs xs h h (acts_none h.pass xs) refl refl
 
 pub acted_then : (k : Terms) (ds es : List Call) (xs ys zs : List Item) (h m g : Hands) → Acted k ds xs ys h m → Acted k es ys zs m g → Acted k (ds ++ es) xs zs h g
-acted_then k ds es xs ys zs h m g a b = record {
-  acts = acts_then ds es xs ys zs h.pass m.pass g.pass a.acts b.acts;
-  told = b.told ∙ (ap (λ (l : List ℕ). l ++ ready_in es) a.told ∙ (append_assoc h.ready.items (ready_in ds) (ready_in es) ∙ ap (λ (l : List ℕ). h.ready.items ++ l) (sym (ready_append ds es))));
-  known = subst (λ (l : List ℕ). All (λ t. t < threads k) l) (sym (ready_append ds es)) (All-append (λ t. t < threads k) (ready_in ds) (ready_in es) a.known b.known);
-}
+acted_then k ds es xs ys zs h m g a b = record { acts = acts_then ds es xs ys zs h.pass m.pass g.pass a.acts b.acts; readied = takes_then (threads k) h.ready.items m.ready.items g.ready.items ds es a.readied b.readied }

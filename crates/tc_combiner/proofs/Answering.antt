@@ -1,6 +1,5 @@
 -- What the hands answer: one after another, and with packages put back.
-use Rattle.std.proofs.Common.{◌≡◌, ◌<◌, ℕ, All, List, [], ◌∷◌, ◌++◌, sym, ap, ◌∙◌, subst, append_assoc, append-nil, Option}
-use Rattle.std.proofs.lemmas.List.Elements.{All-append, All-nil}
+use Rattle.std.proofs.Common.{◌≡◌, ℕ, List, [], ◌∷◌, ◌++◌, sym, ◌∙◌, subst, Option}
 use Rattle.tc_elf.specs.Shown.{Shown}
 use Rattle.tc_context.specs.View.{PackageView}
 use Rattle.tc_hall.specs.declared.board.Call.{Call}
@@ -11,36 +10,17 @@ use Rattle.tc_hall.specs.PassView.{HallView, PassView}
 use Rattle.tc_hall.specs.Rule.{threads}
 use Rattle.tc_combiner.specs.declared.hands.Hands.{Hands}
 use Rattle.tc_combiner.specs.declared.settled.Settled.{Settled}
-use Rattle.tc_combiner.specs.declared.settled.Settled.TheVariants.{GoesOn, Adopted, Shipped, Parked as Did_park, Ended, Stopped as Was_stopped}
+use Rattle.tc_combiner.specs.declared.settled.Settled.TheVariants.{Stopped as Was_stopped}
 use Rattle.tc_combiner.specs.Packages.{IsGood, IsGoodFor}
-use Rattle.tc_combiner.specs.Walks.{Owned, Walks, packed, ready_in}
-use Rattle.tc_combiner.specs.Acts.{Acted, Acts, Adds, IsAtHall, MayAct}
-use Rattle.tc_combiner.specs.Answers.{Answers, HasReadied, PutAllBack, TakesDown, back, carried}
-use Rattle.tc_combiner.proofs.Acting.{acts_then, ready_append}
-use Rattle.tc_combiner.proofs.Owning.{owned_changed}
+use Rattle.tc_combiner.specs.Walks.{Walks, packed, Acted, Acts, Adds, IsAt, IsAtHall, TakesDown}
+use Rattle.tc_combiner.specs.Answers.{Answers, HasReadied, PutAllBack, back, carried}
+use Rattle.tc_combiner.proofs.Acting.{acts_then, at_after, takes_then}
 
 -- ---- the threads that were put as ready
 
-pub takes_then : (n : ℕ) (xs ys zs : List ℕ) (cs ds : List Call) → TakesDown n xs ys cs → TakesDown n ys zs ds → TakesDown n xs zs (cs ++ ds)
-takes_then n xs ys zs cs ds a b = (
-  b.0 ∙ (ap (λ (l : List ℕ). l ++ ready_in ds) a.0 ∙ (append_assoc xs (ready_in cs) (ready_in ds) ∙ ap (λ (l : List ℕ). xs ++ l) (sym (ready_append cs ds)))),
-  subst (λ (l : List ℕ). All (λ t. t < n) l) (sym (ready_append cs ds)) (All-append (λ t. t < n) (ready_in cs) (ready_in ds) a.1 b.1),
-)
-
 readied_then : (n : ℕ) (r : Settled) (xs ys zs : List ℕ) (cs ds : List Call) → TakesDown n xs ys cs → HasReadied n r ys zs ds → HasReadied n r xs zs (cs ++ ds)
-readied_then n (GoesOn q) xs ys zs cs ds a b = takes_then n xs ys zs cs ds a b
-readied_then n (Adopted q) xs ys zs cs ds a b = takes_then n xs ys zs cs ds a b
-readied_then n Shipped xs ys zs cs ds a b = takes_then n xs ys zs cs ds a b
-readied_then n Did_park xs ys zs cs ds a b = takes_then n xs ys zs cs ds a b
-readied_then n Ended xs ys zs cs ds a b = takes_then n xs ys zs cs ds a b
 readied_then n Was_stopped xs ys zs cs ds a b = b
-
--- calls that put no thread as ready
-pub takes_none : (n : ℕ) (xs ys : List ℕ) (cs : List Call) → ys ≡ xs → ready_in cs ≡ [] → TakesDown n xs ys cs
-takes_none n xs ys cs e none = (
-  e ∙ (sym (append-nil xs) ∙ ap (λ (l : List ℕ). xs ++ l) (sym none)),
-  subst (λ (l : List ℕ). All (λ t. t < n) l) (sym none) (All-nil (λ t. t < n)),
-)
+readied_then n r xs ys zs cs ds a b = takes_then n xs ys zs cs ds a b
 
 -- ---- one after another
 
@@ -56,21 +36,13 @@ then_answers k cs ds q p h m g r a e b = record {
   acts = acts_then cs ds (Pack q ∷ packed h.aside) (Pack p ∷ packed h.aside) (carried r ++ packed g.aside) h.pass m.pass g.pass
       (changed cs q p (packed h.aside) h.pass m.pass a.acts)
       (subst (λ (o : Option PackageView). Acts ds (Pack p ∷ packed o) (carried r ++ packed g.aside) m.pass g.pass) e b.acts);
-  readied = readied_then (threads k) r h.ready.items m.ready.items g.ready.items cs ds (a.told, a.known) b.readied;
+  readied = readied_then (threads k) r h.ready.items m.ready.items g.ready.items cs ds a.readied b.readied;
   aside = b.aside;
 }
 
 -- so the hands may act on
-pub at_hall : (hall : HallView) (xs : List Item) (n : ℕ) (h : Hands) → MayAct hall xs n h → IsAtHall hall xs h
-at_hall hall xs n h m = record { own = m.own; image = m.image; out = m.out; aside = m.aside }
-
 pub then_at : (hall : HallView) (cs : List Call) (q p : PackageView) (h m : Hands) → IsAtHall hall (Pack q ∷ packed h.aside) h → Acted hall.terms cs (Pack q ∷ []) (Pack p ∷ []) h m → m.aside ≡ h.aside → IsAtHall hall (Pack p ∷ packed m.aside) m
-then_at hall cs q p h m may a e = record {
-  own = a.acts.own.0 ∙ may.own;
-  image = a.acts.adds.told.image ∙ may.image;
-  out = subst (λ (o : Option PackageView). Owned m.pass.knows (Pack p ∷ packed o)) (sym e) (owned_changed h.pass.knows m.pass.knows (Pack q) (Pack p) (packed h.aside) a.acts.moves may.out);
-  aside = λ b f. may.aside b (sym e ∙ f);
-}
+then_at hall cs q p h m may a e = subst (λ (o : Option PackageView). IsAt hall (Pack p ∷ packed o) m.pass m.aside) (sym e) (at_after hall cs (Pack q ∷ packed h.aside) (Pack p ∷ packed h.aside) h.pass m.pass h.aside m.aside may (changed cs q p (packed h.aside) h.pass m.pass a.acts) e)
 
 -- a call that left what is set aside
 pub keeps_answers : (hall : HallView) (cs : List Call) (q : PackageView) (h g : Hands) (r : Settled) → IsAtHall hall (Pack q ∷ packed h.aside) h → Acts cs (Pack q ∷ packed h.aside) (carried r ++ packed g.aside) h.pass g.pass → HasReadied (threads hall.terms) r h.ready.items g.ready.items cs → g.aside ≡ h.aside → Answers hall.terms cs q h g r

@@ -1,5 +1,6 @@
 -- The locks of a thread that has ended, one after another.
-use Rattle.std.proofs.Common.{◌≡◌, ◌≢◌, ◌<◌, ◌≤◌, inl, inr, ⊎_elim, ℕ, zero, suc, ◌^◌, ◌+◌, ◌-◌, ◌*◌, Bool, true, false, not, ◌&&◌, ◌||◌, ◌==◌, cond, List, [], ◌∷◌, ◌++◌, length, map, filter, get_or, refl, sym, ap, ◌∙◌, subst, subst₂, arith, append_assoc, append-nil, length-append, Option, Some, None, is_some, slice_index_or}
+use Rattle.std.proofs.Common.{◌≡◌, ◌≢◌, ◌<◌, ◌≤◌, inl, inr, ⊎_elim, ℕ, zero, suc, ◌^◌, ◌+◌, ◌-◌, ◌*◌, Bool, true, false, not, ◌&&◌, ◌==◌, cond, List, [], ◌∷◌, ◌++◌, length, map, filter, get_or, refl, sym, ap, ◌∙◌, subst, subst₂, arith, append_assoc, append-nil, length-append, Option, Some, None, is_some, slice_index_or}
+use Rattle.std.proofs.lemmas.Bool.{and_right, cond-false, cond-true, or_right}
 use Rattle.std.proofs.lemmas.Bool.Decides.{nat_tests, eqb_tells}
 use Rattle.std.specs.List.{range_with_len}
 use native.Mathlib.Decide.{ℕ_discrete}
@@ -11,10 +12,8 @@ use Rattle.std.proofs.lemmas.Nat.{pow_pos}
 use Rattle.std.proofs.lemmas.Nat.Bits.{bit_at-zero}
 use Rattle.std.specs.Prelude.{MatchOption}
 use Rattle.tc_elf.specs.Shown.{Shown}
-use Rattle.tc_journal.specs.Batch.{may_adopt, unlocks, ends_section, ends_thread, is_only, last_of}
+use Rattle.tc_journal.specs.Batch.{unlocks, ends_section, ends_thread, last_of}
 use Rattle.tc_journal.specs.declared.block.Block.{Block}
-use Rattle.tc_journal.specs.declared.block.End.{End}
-use Rattle.tc_journal.specs.declared.block.End.TheVariants.{Wants, Unlocked, Slept, Cut, Exit, Fault, Spent}
 use Rattle.tc_turn.specs.Turn.{is_running}
 use Rattle.tc_turn.proofs.Few.{less_few}
 use Rattle.tc_segment.specs.View.{LockView}
@@ -35,31 +34,16 @@ use Rattle.tc_combiner.specs.declared.hands.Hands.{Hands}
 use Rattle.tc_combiner.specs.declared.passed.Passed.TheVariants.{Home, Granted as Was_granted, Stopped as Passed_stopped}
 use Rattle.tc_combiner.specs.declared.settled.Settled.TheVariants.{Ended, Stopped as Was_stopped}
 use Rattle.tc_combiner.specs.Packages.{IsPlain}
-use Rattle.tc_combiner.specs.Walks.{Asks, packed, ready_in}
-use Rattle.tc_combiner.specs.Acts.{Acts, IsAtHall, MayAct, MayGive}
+use Rattle.tc_combiner.specs.Walks.{Asks, packed, ready_in, Acts, IsAtHall, MayAct, MayGive}
 use Rattle.tc_combiner.specs.Answers.{PutAllBack, back}
-use Rattle.tc_combiner.specs.Release.{MayRelease, turn_of}
-use Rattle.tc_combiner.specs.Ends.{AreSameSeats, DidLeave, DidLeaveAll, Ending, Ends, IsEmptied, LeftAs, LeftInOrder, MayEnd, OneLeft, SeatsLeft, seat_at}
+use Rattle.tc_combiner.specs.Release.{MayRelease, turn_of, AreSameSeats, DidLeave, DidLeaveAll, Ending, Ends, IsEmptied, LeftAs, LeftInOrder, MayEnd, OneLeft, SeatsLeft, seat_at}
 use Rattle.tc_combiner.specs.View.{AreSeats, no_seat}
-use Rattle.tc_combiner.proofs.Acting.{acted_none, acted_then, owned_by}
-use Rattle.tc_combiner.proofs.Answering.{at_hall, back_answers, keeps_answers, takes_none, then_answers, then_at, wider}
-use Rattle.tc_combiner.proofs.Handing.{few_followed, few_in, left_after}
-use Rattle.tc_combiner.proofs.Packages.{ungranted_fits, ungranted_plain}
-use Rattle.tc_combiner.proofs.Unlocking.{and_left}
+use Rattle.tc_combiner.proofs.Acting.{acted_none, acted_then, at_after, takes_none}
+use Rattle.tc_combiner.proofs.Answering.{back_answers, keeps_answers, then_answers, then_at, wider}
+use Rattle.tc_combiner.proofs.PassedOn.{few_followed, few_in, left_after}
+use Rattle.tc_combiner.proofs.Packages.{not_some, ungranted_fits, ungranted_plain}
 use Rattle.tc_combiner.proofs.Owning.{place_here, place_other}
 use Rattle.tc_combiner.proofs.Seats.{map_at, seat_before}
-
-no_unlock : (i : ℕ) (e : End) → ends_thread e ≡ true → unlocks i e ≡ false
-no_unlock i (Wants k) h = let n : ⊥ = cc in absurd n
-no_unlock i (Unlocked k) h = let n : ⊥ = cc in absurd n
-no_unlock i Slept h = refl
-no_unlock i Cut h = refl
-no_unlock i Exit h = refl
-no_unlock i (Fault f) h = refl
-no_unlock i Spent h = refl
-
-pub no_adopt : (b : Block) (i run limit : ℕ) → ends_thread b.end ≡ true → may_adopt b i run limit ≡ true → ⊥
-no_adopt b i run limit e m = let k = and_left (unlocks i b.end) _ (and_left (unlocks i b.end && is_only b.held i) _ m) in let f = no_unlock i b.end e in cc
 
 left_in : (rest next i j : ℕ) → ((k : ℕ) → has next k ≡ (not (k == i) && has rest k)) → has next j ≡ true → (j ≢ i) × (has rest j ≡ true)
 left_in rest next i j e h = elim (j == i) as (λ (x : Bool). (j == i) ≡ x → (not x && has rest j) ≡ true → (j ≢ i) × (has rest j ≡ true)) [
@@ -69,14 +53,6 @@ left_in rest next i j e h = elim (j == i) as (λ (x : Bool). (j == i) ≡ x → 
 
 gone_in : (rest next i j : ℕ) → ((k : ℕ) → has next k ≡ (not (k == i) && has rest k)) → has next j ≡ false → j ≢ i → has rest j ≡ false
 gone_in rest next i j e h ne = let f : (j == i) ≡ false = grind (arith, nat_tests) in sym (ap (λ (x : Bool). not x && has rest j) f) ∙ (sym (e j) ∙ h)
-
-no_some : {A : Type 0} (o : Option A) → is_some o ≡ false → o ≡ None
-no_some None e = refl
-no_some (Some a) e = let n : ⊥ = cc in absurd n
-
-or_right : (x y : Bool) → y ≡ true → (x || y) ≡ true
-or_right true y e = refl
-or_right false y e = e
 
 releases_all : (b : Block) (i : ℕ) → ends_thread b.end ≡ true → ends_section i b ≡ true
 releases_all b i e = or_right (unlocks i b.end) (ends_thread b.end) e
@@ -116,12 +92,6 @@ not_running q b s e r = (left_after q.image q b s.left e).runs ∙ ap not r
 
 -- ---- the least of a set comes first
 
-kept_out : (v : Bool) (x : ℕ) (xs : List ℕ) → v ≡ false → cond v (x ∷ xs) xs ≡ xs
-kept_out v x xs e = ap (λ (b : Bool). cond b (x ∷ xs) xs) e
-
-kept_in : (v : Bool) (x : ℕ) (xs : List ℕ) → v ≡ true → cond v (x ∷ xs) xs ≡ x ∷ xs
-kept_in v x xs e = ap (λ (b : Bool). cond b (x ∷ xs) xs) e
-
 both_kept : (v w : Bool) (x : ℕ) (xs ys : List ℕ) → v ≡ w → xs ≡ ys → cond v (x ∷ xs) xs ≡ cond w (x ∷ ys) ys
 both_kept v w x xs ys e f = λ j. cond (e j) (x ∷ f j) (f j)
 
@@ -138,15 +108,11 @@ not_yet p i a least low = elim (p a) as (λ (x : Bool). p a ≡ x → x ≡ fals
 least_first : (p q : ℕ → Bool) (i a n : ℕ) → ((k : ℕ) → k ≢ i → q k ≡ p k) → q i ≡ false → p i ≡ true → ((k : ℕ) → p k ≡ true → i ≤ k) → a ≤ i → i < a + n → filter p (range_with_len a n) ≡ i ∷ filter q (range_with_len a n)
 least_first p q i a zero same out in_it least low high = absurd (omega arith)
 least_first p q i a (suc n) same out in_it least low high = elim (eqb_tells a i) [
-  | inl e ↦ kept_in (p a) a _ (ap p e.1 ∙ in_it) ∙ ((λ j. e.1 j ∷ same_past p q i (a + 1) n same (let f = e.1 in omega arith) j) ∙ ap (λ (l : List ℕ). i ∷ l) (sym (kept_out (q a) a _ (ap q e.1 ∙ out))))
+  | inl e ↦ cond-true (p a) _ _ (ap p e.1 ∙ in_it) ∙ ((λ j. e.1 j ∷ same_past p q i (a + 1) n same (let f = e.1 in omega arith) j) ∙ ap (λ (l : List ℕ). i ∷ l) (sym (cond-false (q a) _ _ (ap q e.1 ∙ out))))
   | inr e ↦ let ne : a ≢ i = e.1 in
       let off : p a ≡ false = not_yet p i a least (omega arith) in
-      kept_out (p a) a _ off ∙ (least_first p q i (a + 1) n same out in_it least (omega arith) (omega arith) ∙ ap (λ (l : List ℕ). i ∷ l) (sym (kept_out (q a) a _ (same a ne ∙ off))))
+      cond-false (p a) _ _ off ∙ (least_first p q i (a + 1) n same out in_it least (omega arith) (omega arith) ∙ ap (λ (l : List ℕ). i ∷ l) (sym (cond-false (q a) _ _ (same a ne ∙ off))))
 ]
-
-no_and : (x y : Bool) → y ≡ false → (x && y) ≡ false
-no_and true y e = e
-no_and false y e = refl
 
 other_lock : (x y : Bool) → x ≡ false → (not x && y) ≡ y
 other_lock x y e = ap (λ b. not b && y) e
@@ -167,7 +133,7 @@ no_locks = refl
 -- ---- one lock more
 
 still_out : (rest next i j : ℕ) → ((k : ℕ) → has next k ≡ (not (k == i) && has rest k)) → has rest j ≡ false → has next j ≡ false
-still_out rest next i j each f = each j ∙ no_and (not (j == i)) (has rest j) f
+still_out rest next i j each f = each j ∙ and_right (not (j == i)) (has rest j) f
 
 same_turn : (p q : PackageView) (i : ℕ) → bare p ≡ bare q → p.numbers ≡ q.numbers → turn_of p i ≡ turn_of q i
 same_turn p q i same numbers = λ j. record { thread = (same j).context.thread; number = slice_index_or (numbers j) i 0 }
@@ -187,7 +153,7 @@ leaves_first hall b q ss h m locks = record {
   numbers = refl;
   within = λ j f. f;
   left = λ j f. refl;
-  gone = λ j f. no_some (locked_in q j) (locks j ∙ f);
+  gone = λ j f. not_some (locked_in q j) (locks j ∙ f);
   count = refl;
   others = λ j f. refl;
   wait = λ j f. refl;
@@ -241,13 +207,7 @@ left_all k b q p rest ss ts h g now none y0 = let y : Ending k b q p 0 ss ts h g
 -- ---- what the next may ask
 
 pub may_next : (hall : HallView) (b : Block) (q p : PackageView) (rest next i n : ℕ) (ss ts : List SeatView) (h g : Hands) (now : Bool) → MayAct hall (Pack q ∷ []) n h → Ending hall.terms b q p rest ss ts h g now → has rest i ≡ true → i < 32 → ((j : ℕ) → has next j ≡ (not (j == i) && has rest j)) → MayAct hall (Pack p ∷ []) 1 g
-may_next hall b q p rest next i n ss ts h g now m y waits small each = record {
-  own = y.acted.acts.own.0 ∙ m.own;
-  image = y.acted.acts.adds.told.image ∙ m.image;
-  out = owned_by h.pass.knows g.pass.knows (Pack q ∷ []) (Pack p ∷ []) y.acted.acts.moves m.out;
-  room = let less = less_few rest next i each waits small in let old = y.room in omega arith;
-  aside = λ a e. m.aside a (sym y.aside ∙ e);
-}
+may_next hall b q p rest next i n ss ts h g now m y waits small each = record { at = at_after hall y.calls (Pack q ∷ []) (Pack p ∷ []) h.pass g.pass h.aside g.aside m.at y.acted.acts y.aside; room = (let less = less_few rest next i each waits small in let old = y.room in omega arith) }
 
 pub may_release : (k : Terms) (n : ℕ) (b : Block) (q p : PackageView) (rest i : ℕ) (ss ts : List SeatView) (h g : Hands) (now : Bool) → MayEnd h.pass.knows n b q → Ending k b q p rest ss ts h g now → has rest i ≡ true → MayRelease g.pass.knows n i b p
 may_release k n b q p rest i ss ts h g now m y waits = record {
@@ -263,13 +223,12 @@ may_release k n b q p rest i ss ts h g now m y waits = record {
 
 pub lock_in_hall : (hall : HallView) (n m : ℕ) (b : Block) (q p : PackageView) (rest i : ℕ) (ss ts : List SeatView) (h g : Hands) (now : Bool) → MayAct hall (Pack q ∷ []) m h → MayEnd h.pass.knows n b q → Ending hall.terms b q p rest ss ts h g now → IsSoundPackage p → has rest i ≡ true → i < locks hall.terms
 lock_in_hall hall n m b q p rest i ss ts h g now a e y s waits =
-    subst (λ (x : Shown). i < length x.guards) (ap (λ (c : PackageView). c.image) y.same ∙ (e.of ∙ a.image))
+    subst (λ (x : Shown). i < length x.guards) (ap (λ (c : PackageView). c.image) y.same ∙ (e.of ∙ a.at.image))
     (known_in p i (locked_in p i) s refl (ap is_some (y.left i waits) ∙ (e.locks i ∙ y.within i waits)))
 
 module _ {S X : Type 0} where
-  pub seat_in : (seen : S → SeatView) (queue : X → QueueView) (k : Terms) (qs : List X) (ss ts : List S) (i : ℕ) (x : X) (s : S) → x ≡ get_or qs i x → s ≡ get_or ts i s → AreSeats k (map queue qs) (map seen ss) → seat_at (map seen ts) i ≡ seat_at (map seen ss) i → i < locks k → i < length ts → IsSeatOf (queue x) (seen s)
-  seat_in seen queue k qs ss ts i x s ix is of same low deep =
-      subst₂ (λ (a : QueueView) (b : SeatView). IsSeatOf a b) (map_at queue qs i x ∙ ap queue (sym ix)) (sym same ∙ seat_before seen ts i s no_seat deep is) (of.each i (queue x) no_seat low)
+  pub seat_in : (seen : S → SeatView) (queue : X → QueueView) (k : Terms) (qs : List X) (ss ts : List S) (i : ℕ) (x : X) (s : S) → s ≡ get_or ts i s → AreSeats k (map queue qs) (map seen ss) → seat_at (map seen ts) i ≡ seat_at (map seen ss) i → i < locks k → i < length ts → IsSeatOf (queue (get_or qs i x)) (seen (get_or ts i s))
+  seat_in seen queue k qs ss ts i x s is of same low deep = subst₂ (λ (a : QueueView) (b : SeatView). IsSeatOf a b) (map_at queue qs i x) (sym same ∙ (seat_before seen ts i s no_seat deep is ∙ ap seen is)) (of.each i (queue x) no_seat low)
 
 -- one thread at most was put as ready
 few_left : (image : Shown) (l : LockView) (b : Block) (own : Turn) (s t : SeatView) (cs : List Call) (was is : Bool) → LeftAs image l b own s t cs was is → length (ready_in cs) ≤ 1
@@ -281,7 +240,7 @@ few_left image l b own s t cs true true h = few_in cs (Free l.number ∷ []) h.1
 pub few_more : (k : Terms) (i : ℕ) (b : Block) (q p : PackageView) (s t : SeatView) (h g : Hands) (was is : Bool) → DidLeave k i b q p s t h g was is → length g.ready.items ≤ length h.ready.items + 1
 few_more k i b q p s t h g was is d =
     let few = few_left k.image.value d.state b (turn_of q i) s t d.calls was is d.became in
-    let all : length g.ready.items ≡ length h.ready.items + length (ready_in d.calls) = ap (λ (l : List ℕ). length l) d.acted.told ∙ length-append h.ready.items (ready_in d.calls) in
+    let all : length g.ready.items ≡ length h.ready.items + length (ready_in d.calls) = ap (λ (l : List ℕ). length l) d.acted.readied.0 ∙ length-append h.ready.items (ready_in d.calls) in
     omega arith
 
 -- ---- once all of them were passed on
@@ -306,7 +265,7 @@ emptied_order v n b q p m s h = record {
 
 module _ (hall : HallView) (b : Block) (q p : PackageView) (ss ts : List SeatView) (h m : Hands) (may : MayEnd h.pass.knows (threads hall.terms) b q) (hands : MayAct hall (Pack q ∷ packed h.aside) MAX_HELD h) where
   pub at_end : (end : Bool) → DidLeaveAll hall.terms b q p ss ts h m end → IsAtHall hall (Pack p ∷ packed m.aside) m
-  at_end end d = then_at hall d.calls q p h m (at_hall hall (Pack q ∷ packed h.aside) MAX_HELD h hands) d.acted d.aside
+  at_end end d = then_at hall d.calls q p h m hands.at d.acted d.aside
 
   pub may_done : (end : Bool) → IsSoundPackage q → DidLeaveAll hall.terms b q p ss ts h m end → MayGive hall.terms m.pass.knows Done p
   may_done end s d = record {

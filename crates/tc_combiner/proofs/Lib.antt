@@ -1,9 +1,7 @@
 pub mod Owning
-pub mod Walking
 pub mod Acting
 pub mod Answering
 pub mod Packages
-pub mod Handing
 pub mod PassedOn
 pub mod Acquiring
 pub mod Unlocking

@@ -39,10 +39,6 @@ module _ {A : Type 0} where
   apart_at a None x c h e = refl
   apart_at a (Some g) x c h e = let k = (unless_some a x g (h g refl)).0 in let n : ⊥ = cc in absurd n
 
-  either_some : (a d : Option A) (c : A) → either a d ≡ Some c → (a ≡ None → d ≡ Some c) × ((b : A) → a ≡ Some b → a ≡ Some c)
-  either_some None d c e = (λ _. e, λ b f. let n : ⊥ = cc in absurd n)
-  either_some (Some a) d c e = (λ f. let n : ⊥ = cc in absurd n, λ b f. e)
-
   either_in : (a d x : Option A) (c : A) → ((e : A) → a ≡ Some e → x ≡ Some e) → ((e : A) → d ≡ Some e → unless a x ≡ Some e) → either a d ≡ Some c → x ≡ Some c
   either_in None d x c h k e = k c e
   either_in (Some a) d x c h k e = h c e

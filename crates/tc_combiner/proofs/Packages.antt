@@ -1,10 +1,10 @@
 -- Packages that were granted a lock, and packages that are put.
-use Rattle.std.proofs.Common.{◌≡◌, ◌≢◌, inl, inr, ⊎_elim, ℕ, ◌+◌, Bool, true, false, if◌then◌else◌, List, refl, sym, ap, ◌∙◌, subst, arith, Option, Some, None, IfSome}
+use Rattle.std.proofs.Common.{◌≡◌, ◌≢◌, inl, inr, ⊎_elim, ℕ, ◌+◌, Bool, true, false, if◌then◌else◌, List, refl, sym, ap, ◌∙◌, subst, arith, Option, Some, None, IfSome, is_some}
 use native.Mathlib.Decide.{ℕ_discrete}
 use mathlib.Core.Logic.{dite}
 use Rattle.tc_isa.specs.Sets.{has}
 use Rattle.tc_elf.specs.Shown.{Shown}
-use Rattle.tc_journal.specs.Batch.{last_of, run_of, ends_section, allows_of, may_begin, passes_to}
+use Rattle.tc_journal.specs.Batch.{last_of, run_of, ends_section, allows_of, may_begin}
 use Rattle.tc_journal.specs.declared.block.Block.{Block}
 use Rattle.tc_journal.specs.declared.block.Kind.{Kind}
 use Rattle.tc_journal.specs.declared.block.Kind.TheVariants.{Taken}
@@ -12,16 +12,12 @@ use Rattle.tc_turn.specs.Turn.{is_running, next_lock}
 use Rattle.tc_context.specs.Whole.{thread_in}
 use Rattle.tc_segment.specs.View.{LockView, blocks_of}
 use Rattle.tc_context.specs.declared.package.Grant.{Grant}
-use Rattle.tc_context.specs.View.{PackageView, IsWaiting, WantIsLawful, fits_of, fits_granted, fits_in, granted_lock}
+use Rattle.tc_context.specs.View.{PackageView, IsWaiting, fits_of, fits_granted, fits_in, granted_lock}
 use Rattle.tc_hall.specs.declared.board.Knows.{Knows}
 use Rattle.tc_hall.specs.Rule.{IsInOrder, locked_in, grants_adopted}
 use Rattle.tc_hall.specs.Steps.{Gets}
 use Rattle.tc_combiner.specs.Packages.{DidGrant, DidTake, HasNoOther, HasOnlyHeld, IsGood, IsGoodFor, IsPlain, IsWaiter, Runs, Wants}
 use Rattle.tc_combiner.proofs.Owning.{place_here, place_other}
-
-pub taken_passes : (o : Option Block) (t : ℕ) → passes_to o Taken t ≡ true
-taken_passes None t = refl
-taken_passes (Some b) t = refl
 
 taken_begins : (k limit run w : ℕ) (o : Option Block) → IfSome o (λ b. ends_section k b ≡ true) → may_begin k limit o run Taken w ≡ true
 taken_begins k limit run w None h = refl
@@ -72,16 +68,17 @@ wants_runs q i w = elim (is_running q.context.guest.status) as (λ (b : Bool). i
   | false ↦ λ e. let f : Some i ≡ None = sym w ∙ ap (λ (x : Bool). if x then next_lock q.image (thread_in q.context) else None) e in let n : ⊥ = cc in absurd n
 ] refl
 
-pub none_is : (o : Option LockView) → ((l : LockView) → o ≡ Some l → ⊥) → o ≡ None
+pub none_is : {A : Type 0} (o : Option A) → ((a : A) → o ≡ Some a → ⊥) → o ≡ None
 none_is None h = refl
-none_is (Some l) h = absurd (h l refl)
+none_is (Some a) h = absurd (h a refl)
+
+pub not_some : {A : Type 0} (o : Option A) → is_some o ≡ false → o ≡ None
+not_some None e = refl
+not_some (Some a) e = let n : ⊥ = cc in absurd n
 
 -- a package that wants a lock does not hold it, so it has no state of it
 pub not_held : (p : PackageView) (i : ℕ) → HasOnlyHeld p → has p.context.guest.held i ≡ false → locked_in p i ≡ None
 not_held p i h free = none_is (locked_in p i) (λ l e. let y = h i l e in let n : ⊥ = cc in n)
-
-pub waits_for : (n i : ℕ) (p : PackageView) → IsPlain n p → WantIsLawful p → Wants p i → IsWaiting p i
-waits_for n i p h law want = record { pending = h.settled; granted = h.granted; want = want; absent = not_held p i h.locks (law i want).free }
 
 pub waiter_good : (l : LockView) (k : Kind) (t n w : ℕ) (image : Shown) (p q : PackageView) → IsWaiter t l.number image p → DidGrant l k n p q → allows_of l.number l.journal.limit (blocks_of l) k w ≡ true → IsGood q image w
 waiter_good l k t n w image p q h d a = granted_good l k n w image p q d h.of h.waits.pending h.runs (only_held p h.locks h.waits.granted) a
@@ -95,10 +92,6 @@ good_order q image w h = record {
   ready = λ g e. refl;
 }
 
-no_grant : (o : Option Grant) → ((g : Grant) → o ≡ Some g → ⊥) → o ≡ None
-no_grant None h = refl
-no_grant (Some g) h = absurd (h g refl)
-
 pub ungranted_fits : (q : PackageView) (w : ℕ) → q.granted ≡ None → fits_of q w ≡ true
 ungranted_fits q w e = ap (λ (g : Option Grant). fits_granted q.context g w) e
 
@@ -106,16 +99,8 @@ pub plain_good : (n : ℕ) (q : PackageView) (v : Knows) → IsPlain n q → Run
 plain_good n q v h r e = record { of = e; settled = h.settled; runs = r; locks = no_other q h.locks; fits = ungranted_fits q v.worker h.granted }
 
 -- the package that `adopt` gives waits for the lock
-pub is_waiter : (t i : ℕ) (q : PackageView) (v w : Knows) → Gets (256 + i) t q v w → WantIsLawful q → IsWaiter t i v.image q
-is_waiter t i q v w g law =
-    let want : Wants q i = g.order.waits i refl in
-    let none : q.granted ≡ None = no_grant q.granted (λ a e. let k = g.order.ready a e in let n : ⊥ = omega arith in n) in record {
-      thread = g.thread;
-      of = g.of;
-      waits = record { pending = g.settled; granted = none; want = want; absent = not_held q i (only_held q g.order.own none) (law i want).free };
-      runs = g.order.runs (λ e. let n : ⊥ = omega arith in n);
-      locks = g.order.own;
-    }
+pub is_waiter : (t i : ℕ) (q : PackageView) (v w : Knows) → Gets (256 + i) t q v w → IsWaiting q i → IsWaiter t i v.image q
+is_waiter t i q v w g waits = record { thread = g.thread; of = g.of; waits = waits; runs = g.order.runs (λ e. let n : ⊥ = omega arith in n); locks = g.order.own }
 
 pub ungranted_plain : (q : PackageView) → q.granted ≡ None → grants_adopted q.granted ≡ false
 ungranted_plain q e = ap grants_adopted e

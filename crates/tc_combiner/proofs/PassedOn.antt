@@ -1,21 +1,21 @@
 -- What became of a released lock, from its parts.
-use Rattle.std.proofs.Common.{inl, inr, ◌≡◌, ◌<◌, ◌≤◌, ◌+◌, ℕ, true, false, List, [], ◌∷◌, ◌++◌, length, refl, sym, ap, ◌∙◌, subst, append-nil, Some}
+use Rattle.std.proofs.Common.{inl, inr, ◌&&◌, ◌≡◌, ◌<◌, ◌≤◌, ◌+◌, ℕ, true, false, List, [], ◌∷◌, ◌++◌, length, refl, sym, ap, ◌∙◌, subst, append-nil, Some, ◌≢◌, Bool, not, ◌==◌, if◌then◌else◌, arith, Option, None}
 use Rattle.std.proofs.lemmas.List.Elements.{All-cons, All-nil}
 use Rattle.tc_journal.specs.declared.block.Block.{Block}
 use Rattle.tc_journal.specs.declared.block.Kind.TheVariants.{Adopted, Granted}
 use Rattle.tc_isa.specs.declared.limits.TheConstants.{MAX_HELD}
 use Rattle.tc_elf.specs.Shown.{Shown}
 use Rattle.tc_segment.specs.View.{LockView, IsAtRest, blocks_of}
-use Rattle.tc_context.specs.View.{PackageView, Rests}
+use Rattle.tc_context.specs.View.{PackageView, Rests, IsAt, IsSoundPackage, IsLeft, IsNumber, MayPassTo, bare, granted_lock}
 use Rattle.tc_hall.specs.declared.board.Knows.{Knows}
 use Rattle.tc_hall.specs.declared.board.Terms.{Terms}
 use Rattle.tc_hall.specs.declared.board.Call.{Call}
-use Rattle.tc_hall.specs.declared.board.Call.TheVariants.{Free}
+use Rattle.tc_hall.specs.declared.board.Call.TheVariants.{Free, Stopped}
 use Rattle.tc_hall.specs.declared.place.Place.TheVariants.{Ready}
-use Rattle.tc_hall.specs.Outs.{Item, Pack, Loose}
+use Rattle.tc_hall.specs.Outs.{Item, Pack, Loose, Outs, outs, erase, unless}
 use Rattle.tc_hall.specs.PassView.{HallView, PassView}
-use Rattle.tc_hall.specs.Rule.{threads, locks, grants_adopted}
-use Rattle.tc_hall.specs.Steps.{put_call}
+use Rattle.tc_hall.specs.Rule.{threads, locks, grants_adopted, locked_in}
+use Rattle.tc_hall.specs.Steps.{Takes, put_call}
 use Rattle.tc_nested.proofs.Allowing.{adopted, granted}
 use Rattle.tc_queue.specs.declared.turn.Turn.{Turn}
 use Rattle.tc_queue.specs.Lines.{SeatView, Next, Leave}
@@ -25,16 +25,112 @@ use Rattle.tc_combiner.specs.declared.hands.Hands.{Hands}
 use Rattle.tc_combiner.specs.declared.passed.Passed.{Passed}
 use Rattle.tc_combiner.specs.declared.passed.Passed.TheVariants.{Home, Granted as Was_granted, Adopted as Was_adopted, Stopped as Was_stopped}
 use Rattle.tc_combiner.specs.Packages.{DidGrant, DidTakeOut, IsGood, IsWaiter}
-use Rattle.tc_combiner.specs.Walks.{Asks, Moves, Owned, Shows, ready_in}
-use Rattle.tc_combiner.specs.Release.{DidHand, DidPass, FollowedAs, HandedAs, IsReleased, adopts, handed, turn_of}
-use Rattle.tc_combiner.specs.Acts.{Acts, Acted, MayAct, MayBringHome, MayGive, saw}
-use Rattle.tc_combiner.specs.Ends.{DidLeave}
+use Rattle.tc_combiner.specs.Walks.{Asks, Moves, Owned, Shows, ready_in, Owns, Acts, Acted, MayAct, MayBringHome, MayGive, saw, IsTaken}
+use Rattle.tc_combiner.specs.Release.{DidHand, DidPass, FollowedAs, HandedAs, IsReleased, adopts, handed, turn_of, MayRelease, DidLeave}
 use Rattle.tc_combiner.proofs.Acting.{acts_none, adds_then, acts_then, acts_by, acted_by, acted_sooner, same_outs}
-use Rattle.tc_combiner.proofs.Handing.{lock_owned, still_rests, took_out}
-use Rattle.tc_combiner.proofs.Ending.{no_adopt}
-use Rattle.tc_journal.specs.Batch.{ends_thread}
-use Rattle.tc_combiner.proofs.Owning.{granted_moves, owned_then}
+use Rattle.tc_journal.specs.Batch.{ends_thread, is_only, may_adopt, unlocks, last_of, run_of, ends_section, is_passed, passes_to}
+use Rattle.tc_journal.specs.declared.block.End.{End}
+use Rattle.tc_journal.specs.declared.block.End.TheVariants.{Unlocked}
+use Rattle.std.proofs.lemmas.Bool.{and_parts}
+use Rattle.tc_combiner.proofs.Owning.{granted_moves, owned_then, comes_out, taken_with, swap, rotate}
 use Rattle.tc_combiner.proofs.Packages.{waiter_good, good_order}
+use Rattle.std.proofs.lemmas.Bool.Decides.{nat_tests}
+use Rattle.tc_isa.specs.Sets.{has}
+use Rattle.tc_journal.specs.declared.block.Kind.{Kind}
+use Rattle.tc_nested.specs.Release.{Releases}
+
+-- ---- what the batch rule says
+
+pub adopts_is : (b : Block) (l : LockView) (lock run limit : ℕ) (x : Bool) → lock ≡ l.number → run ≡ run_of l.number (blocks_of l) → limit ≡ l.journal.limit → may_adopt b lock run limit ≡ x → adopts l b ≡ x
+adopts_is b l lock run limit x e f g h = subst (λ (z : ℕ). may_adopt b l.number (run_of l.number (blocks_of l)) z ≡ x) g (subst (λ (z : ℕ). may_adopt b l.number z limit ≡ x) f (subst (λ (z : ℕ). may_adopt b z run limit ≡ x) e h))
+
+pub adopts_was : (b : Block) (l : LockView) (lock run limit : ℕ) → lock ≡ l.number → run ≡ run_of l.number (blocks_of l) → limit ≡ l.journal.limit → adopts l b ≡ true → may_adopt b lock run limit ≡ true
+adopts_was b l lock run limit e f g h = subst (λ (z : ℕ). may_adopt b lock run z ≡ true) (sym g) (subst (λ (z : ℕ). may_adopt b lock z l.journal.limit ≡ true) (sym f) (subst (λ (z : ℕ). may_adopt b z (run_of l.number (blocks_of l)) l.journal.limit ≡ true) (sym e) h))
+
+no_pass : (x : Bool) → not (x && false) ≡ true
+no_pass true = refl
+no_pass false = refl
+
+passes_apart : (k : Kind) (t : ℕ) (b : Block) → b.thread ≢ t → passes_to (Some b) k t ≡ true
+passes_apart k t b ne = let e : (b.thread == t) ≡ false = grind (arith, nat_tests) in ap (λ (x : Bool). not (is_passed k && x)) e ∙ no_pass (is_passed k)
+
+pub passes_other : (l : LockView) (b : Block) (k : Kind) (t : ℕ) → last_of (blocks_of l) ≡ Some b → b.thread ≢ t → MayPassTo l k t
+passes_other l b k t last ne strict = ap (λ (o : Option Block). passes_to o k t) last ∙ passes_apart k t b ne
+
+-- ---- the thread of the block that released a lock, and its turn
+
+pub turn_is : (n t k : ℕ) → t < n → IsNumber k → IsTurn n (record { thread = t; number = k })
+turn_is n t k h e = record { thread = h; numbered = e.0; small = let a = e.1 in omega arith }
+
+pub number_is : (n : ℕ) (u : Turn) → IsTurn n u → IsNumber u.number
+number_is n u h = let a = h.numbered in let b = h.small in (omega arith, omega arith)
+
+-- a package that came out is of another thread than one that is out already
+pub came_apart : (v w : Knows) (q p : PackageView) (t : ℕ) → Moves v w [] (Pack q ∷ []) → (outs v).context t ≡ Some p → t ≢ q.context.thread
+came_apart v w q p t m e s =
+    let o : Owns (outs v) (outs w) (Pack q ∷ []) = m (outs v) [] refl in
+    let here : (t == q.context.thread) ≡ true = grind (arith, nat_tests) in
+    let gone : (outs v).context t ≡ None = sym (ap (λ (z : Outs). z.context t) o.1) ∙ ap (λ (b : Bool). unless (if b then Some (bare q) else None) ((outs w).context t)) here in
+    cc
+
+pub is_beside : (v w : Knows) (p : PackageView) (t : ℕ) → Owned v (Pack p ∷ []) → outs w ≡ outs v → t ≡ p.context.thread → (outs w).context t ≡ Some (bare p)
+is_beside v w p t o e s =
+    let here : (t == p.context.thread) ≡ true = grind (arith, nat_tests) in
+    ap (λ (z : Outs). z.context t) e ∙ o.1.0.contexts t (bare p) (ap (λ (b : Bool). if b then Some (bare p) else None) here)
+
+pub left_after : (image : Shown) (q : PackageView) (b : Block) → IsLeft image q.context (last_of q.log) → last_of q.log ≡ Some b → IsLeft image q.context (Some b)
+left_after image q b h e = subst (λ (o : Option Block). IsLeft image q.context o) e h
+
+pub block_thread : (q : PackageView) (b : Block) → IsSoundPackage q → last_of q.log ≡ Some b → b.thread ≡ q.context.thread
+block_thread q b s e = (left_after q.image q b s.left e).thread
+
+pub given_up : (x y : Bool) → y ≡ true → (x && not y) ≡ false
+given_up true y e = ap not e
+given_up false y e = refl
+
+-- a lock that the last block released is not held
+pub released_free : (q : PackageView) (b : Block) (i : ℕ) → IsSoundPackage q → last_of q.log ≡ Some b → Releases i b → has q.context.guest.held i ≡ false
+released_free q b i s e r = (left_after q.image q b s.left e).held i ∙ given_up (has b.held i) (ends_section i b) r.1
+
+-- the lock that was taken out is as the last block left it
+pub is_released : (v w : Knows) (n i : ℕ) (b : Block) (l : LockView) (q : PackageView) → IsSoundPackage q → MayRelease v n i b q → w.image ≡ v.image → w.worker ≡ v.worker → locked_in q i ≡ Some l → IsAtRest q.image i l → IsReleased w b l
+is_released v w n i b l q s h image worker was rest =
+    let stored = s.stored i l was in
+    let at = subst (λ (p : Option Block). IsAt p q i l) h.settled stored.at in
+    let none : granted_lock q.granted ≢ Some i = (λ e. let f : granted_lock q.granted ≡ None = ap granted_lock h.granted in let z : ⊥ = cc in z) in
+    record {
+      rest = subst (λ (k : ℕ). IsAtRest w.image k l) (sym rest.number) (subst (λ (x : Shown). IsAtRest x i l) (h.of ∙ sym image) rest);
+      last = at.last b h.last h.released.0 none;
+      released = subst (λ (k : ℕ). Releases k b) (sym rest.number) h.released;
+      worker = h.worker ∙ sym worker;
+    }
+
+pub still_rests : (image : Shown) (i : ℕ) (l : LockView) → IsAtRest image i l → Rests l.number l
+still_rests image i l h = subst (λ (k : ℕ). Rests k l) (sym h.number) h.ended
+
+-- the lock came out of its package, and then went on
+pub took_out : (v w x : Knows) (i : ℕ) (l : LockView) (p q : PackageView) (ys : List Item) → DidTakeOut i l p q → outs w ≡ outs v → Moves w x (Loose l ∷ []) ys → Moves v x (Pack p ∷ []) (Pack q ∷ ys)
+took_out v w x i l p q ys d e m b zs o =
+    let apart : Owns b (outs v) (Loose l ∷ Pack q ∷ zs) = swap b (outs v) (Pack q) (Loose l) zs (comes_out v l p q (taken_with i l p q d) b zs o) in
+    let after : Owns b (outs x) (ys ++ (Pack q ∷ zs)) = m b (Pack q ∷ zs) (subst (λ (a : Outs). Owns b a (Loose l ∷ Pack q ∷ zs)) (sym e) apart) in
+    rotate b (outs x) (Pack q) ys zs after
+
+pub lock_owned : (v w : Knows) (i : ℕ) (l : LockView) (p q : PackageView) → DidTakeOut i l p q → outs w ≡ outs v → Owned v (Pack p ∷ []) → Owned w (Loose l ∷ [])
+lock_owned v w i l p q d e o =
+    let apart : Owns o.0 (outs v) (Loose l ∷ Pack q ∷ []) = swap o.0 (outs v) (Pack q) (Loose l) [] (comes_out v l p q (taken_with i l p q d) o.0 [] o.1) in
+    let moved : Owns o.0 (outs w) (Loose l ∷ Pack q ∷ []) = subst (λ (a : Outs). Owns o.0 a (Loose l ∷ Pack q ∷ [])) (sym e) apart in
+    (erase (outs w) (Loose l), (moved.0, refl))
+
+-- ---- one thread at most was put as ready
+
+pub few_in : (cs ds : List Call) → cs ≡ ds → length (ready_in ds) ≤ 1 → length (ready_in cs) ≤ 1
+few_in cs ds e h = subst (λ (c : List Call). length (ready_in c) ≤ 1) (sym e) h
+
+pub few_followed : (image : Shown) (l : LockView) (b : Block) (own : Turn) (s t : SeatView) (cs : List Call) (r : Passed) → FollowedAs image l b own s t cs r → length (ready_in cs) ≤ 1
+few_followed image l b own s t cs Home h = few_in cs (Free l.number ∷ []) h.1 (omega arith)
+few_followed image l b own s t cs Was_granted h = few_in cs (put_call h.2.0 Ready ∷ []) h.2.3 (omega arith)
+few_followed image l b own s t cs (Was_adopted q) h = few_in cs [] h.2.3 (omega arith)
+few_followed image l b own s t cs Was_stopped h = few_in cs (Stopped 1 ∷ Free l.number ∷ []) h (omega arith)
 
 -- ---- a lock for a waiter
 
@@ -71,7 +167,7 @@ pub may_put : (hall : HallView) (b : Block) (l : LockView) (u : Turn) (w q : Pac
 may_put hall b l u w q h m i t r d a = let g = good_granted hall.terms.image.value b l u h.pass.knows w q i r d a in record {
   thread = known_waiter hall.terms l u w q i t d;
   place = tt;
-  out = (owned_then h.pass.knows h.pass.knows (Pack w ∷ Loose l ∷ []) (Pack q ∷ []) m.out (granted_moves h.pass.knows l Granted u.number w q d i.waits.absent)).1.0;
+  out = (owned_then h.pass.knows h.pass.knows (Pack w ∷ Loose l ∷ []) (Pack q ∷ []) m.at.out (granted_moves h.pass.knows l Granted u.number w q d i.waits.absent)).1.0;
   order = good_order q hall.terms.image.value h.pass.knows.worker g;
   plain = ap (λ (c : PackageView). grants_adopted c.granted) d.is;
   fits = g.fits;
@@ -83,8 +179,7 @@ is_granted k b l u w q h g i t d a p e s = record {
   calls = put_call q Ready ∷ [];
   acted = record {
     acts = acts_then [] (put_call q Ready ∷ []) (Pack w ∷ Loose l ∷ []) (Pack q ∷ []) [] h.pass h.pass g.pass (grants h.pass l w q (granted_moves h.pass.knows l Granted u.number w q d i.waits.absent)) p;
-    told = e;
-    known = All-cons (λ n. n < threads k) q.context.thread [] (known_waiter k l u w q i t d) (All-nil (λ n. n < threads k));
+    readied = (e, All-cons (λ n. n < threads k) q.context.thread [] (known_waiter k l u w q i t d) (All-nil (λ n. n < threads k)));
   };
   aside = s;
   became = (q, record { waiter = w; was = i; grant = d }, a, refl);
@@ -133,17 +228,13 @@ took k ds i l q p ys h m g d a e b = record {
     adds = adds_then [] ds h.pass.knows m.pass.knows g.pass.knows a.adds b.acts.adds;
     moves = took_out h.pass.knows m.pass.knows g.pass.knows i l q p ys d (same_outs [] h.pass m.pass a) b.acts.moves;
   };
-  told = b.told ∙ ap (λ (n : List ℕ). n ++ ready_in ds) e;
-  known = b.known;
+  readied = (b.readied.0 ∙ ap (λ (n : List ℕ). n ++ ready_in ds) e, b.readied.1);
 }
 
 pub may_lock : (hall : HallView) (n i : ℕ) (l : LockView) (q p : PackageView) (h m : Hands) → DidTakeOut i l q p → Acts [] [] [] h.pass m.pass → m.ready.items ≡ h.ready.items → m.aside ≡ h.aside → MayAct hall (Pack q ∷ []) n h → MayAct hall (Loose l ∷ []) n m
 may_lock hall n i l q p h m d a e s y = record {
-  own = a.own.0 ∙ y.own;
-  image = a.adds.told.image ∙ y.image;
-  out = lock_owned h.pass.knows m.pass.knows i l q p d (same_outs [] h.pass m.pass a) y.out;
+  at = record { own = a.own.0 ∙ y.at.own; image = a.adds.told.image ∙ y.at.image; out = lock_owned h.pass.knows m.pass.knows i l q p d (same_outs [] h.pass m.pass a) y.at.out; aside = λ b f. y.at.aside b (sym s ∙ f) };
   room = subst (λ (x : List ℕ). length x + n ≤ MAX_HELD) (sym e) y.room;
-  aside = λ b f. y.aside b (sym s ∙ f);
 }
 
 pub followed : (image : Shown) (l : LockView) (b : Block) (own u : Turn) (s t : SeatView) (cs : List Call) (r : Passed) → Shows s.calls t.calls (Next own (Some u)) → HandedAs image l b u cs r → FollowedAs image l b own s t cs r
@@ -197,6 +288,11 @@ stops k i b l own q p s t h g m d same asks a f e n = record {
   became = refl;
 }
 
+pub is_taken : (k : Terms) (i : ℕ) (l : LockView) (p q : PassView) → i < locks k → Takes i l p.knows q.knows → IsTaken k i q.knows l
+is_taken k i l p q small t =
+    let rest : IsAtRest q.knows.image i l = subst (λ (x : Shown). IsAtRest x i l) (sym t.called.image) t.rest in
+    (rest, record { lock = subst (λ (n : ℕ). n < locks k) (sym rest.number) small; out = t.came.out; rests = still_rests q.knows.image i l rest })
+
 pub taken_free : (k : Terms) (ds : List Call) (i : ℕ) (l : LockView) (q p : PackageView) (v w : PassView) → DidTakeOut i l q p → i < locks k → Owned v.knows (Pack q ∷ []) → Acts ds [] [] v w → MayBringHome k w.knows l
 taken_free k ds i l q p v w d small o a = record {
   lock = subst (λ (n : ℕ). n < locks k) (sym d.rest.number) small;
@@ -225,6 +321,13 @@ left_before k i b l q p s h g d f e n = record {
   asks = record { table = refl; threads = refl; lines = []; calls = sym (append-nil s.calls); asked = tt };
   became = (refl, refl);
 }
+
+no_unlock : (i : ℕ) (e : End) → ends_thread e ≡ true → unlocks i e ≡ false
+no_unlock i (Unlocked k) h = let n : ⊥ = cc in absurd n
+no_unlock i end h = refl
+
+no_adopt : (b : Block) (i run limit : ℕ) → ends_thread b.end ≡ true → may_adopt b i run limit ≡ true → ⊥
+no_adopt b i run limit e m = let k = (and_parts (unlocks i b.end) _ (and_parts (unlocks i b.end && is_only b.held i) _ m).0).0 in let f = no_unlock i b.end e in cc
 
 -- nobody is adopted behind it
 pub none_adopted : (k : Terms) (i : ℕ) (b : Block) (q p : PackageView) (s t : SeatView) (h g : Hands) (r : PackageView) → ends_thread b.end ≡ true → DidPass k i b q p s t h g (Was_adopted r) → ⊥

@@ -1,15 +1,14 @@
 -- A desk's seats, and the queues of a bench, by their places.
-use Rattle.std.proofs.Common.{◌≡◌, ◌≢◌, ℕ, zero, suc, ◌<◌, List, [], ◌∷◌, length, map, get_or, set, refl, sym, ap, ◌∙◌, subst, subst₂, arith, length-set, get_or-set_same, get_or-set_other}
-use Rattle.std.proofs.Common.{Vec}
+use Rattle.std.proofs.Common.{◌≡◌, ◌≢◌, ℕ, zero, suc, ◌<◌, List, [], ◌∷◌, length, map, get_or, set, refl, sym, ap, ◌∙◌, subst, subst₂, arith, length-set, get_or-set_same, get_or-set_other, Vec}
 use Rattle.std.specs.Vec.{with_items}
-use Rattle.std.proofs.lemmas.List.{with_items_is}
+use Rattle.std.proofs.lemmas.List.{get_or_default, length-map, map-set, with_items_is}
 use native.Mathlib.Decide.{ℕ_discrete}
 use mathlib.Core.Logic.{dite}
 use Rattle.tc_hall.specs.declared.board.Terms.{Terms}
 use Rattle.tc_hall.specs.Rule.{locks, threads}
 use Rattle.tc_queue.specs.View.{QueueView}
 use Rattle.tc_combiner.specs.View.{AreSeats, no_seat}
-use Rattle.tc_combiner.specs.Ends.{AreSameSeats, AtSeat, IsSameSeat, seat_at}
+use Rattle.tc_combiner.specs.Release.{AreSameSeats, AtSeat, IsSameSeat, seat_at}
 use Rattle.tc_queue.specs.Lines.{SeatView, IsSeatOf}
 
 module _ {A B : Type 0} where
@@ -18,42 +17,27 @@ module _ {A B : Type 0} where
   map_at f (x ∷ xs) zero d = refl
   map_at f (x ∷ xs) (suc i) d = map_at f xs i d
 
-  pub map_set : (f : A → B) (xs : List A) (i : ℕ) (v : A) → map f (set xs i v) ≡ set (map f xs) i (f v)
-  map_set f [] i v = refl
-  map_set f (x ∷ xs) zero v = refl
-  map_set f (x ∷ xs) (suc i) v = ap (λ (l : List B). f x ∷ l) (map_set f xs i v)
-
-  pub map_length : (f : A → B) (xs : List A) → length (map f xs) ≡ length xs
-  map_length f [] = refl
-  map_length f (x ∷ xs) = ap suc (map_length f xs)
-
-pub any_default : {A : Type 0} (xs : List A) (i : ℕ) (d e : A) → i < length xs → get_or xs i d ≡ get_or xs i e
-any_default [] i d e h = absurd (let n : ⊥ = omega arith in n)
-any_default (x ∷ xs) zero d e h = refl
-any_default (x ∷ xs) (suc i) d e h = any_default xs i d e (omega arith)
-
 module _ {S : Type 0} where
   -- the seat at a place, as the desk shows it
   pub seat_before : (seen : S → SeatView) (ss : List S) (i : ℕ) (s : S) (d : SeatView) → i < length ss → s ≡ get_or ss i s → get_or (map seen ss) i d ≡ seen s
-  seat_before seen ss i s d h is = any_default (map seen ss) i d (seen s) (let l = map_length seen ss in omega arith) ∙ (map_at seen ss i s ∙ ap seen (sym is))
+  seat_before seen ss i s d h is = get_or_default (map seen ss) i d (seen s) (let l = length-map ss seen in omega arith) ∙ (map_at seen ss i s ∙ ap seen (sym is))
 
   pub seat_after : (seen : S → SeatView) (ss : List S) (i : ℕ) (t : S) (d : SeatView) → i < length ss → get_or (map seen (set ss i t)) i d ≡ seen t
-  seat_after seen ss i t d h = ap (λ (l : List SeatView). get_or l i d) (map_set seen ss i t) ∙ get_or-set_same (map seen ss) i (seen t) d (let l = map_length seen ss in omega arith)
+  seat_after seen ss i t d h = ap (λ (l : List SeatView). get_or l i d) (map-set seen ss i t) ∙ get_or-set_same (map seen ss) i (seen t) d (let l = length-map ss seen in omega arith)
 
   pub other_seats : (seen : S → SeatView) (ss : List S) (i j : ℕ) (t : S) (d : SeatView) → j ≢ i → get_or (map seen (set ss i t)) j d ≡ get_or (map seen ss) j d
-  other_seats seen ss i j t d ne = ap (λ (l : List SeatView). get_or l j d) (map_set seen ss i t) ∙ get_or-set_other (map seen ss) i j (seen t) d ne
+  other_seats seen ss i j t d ne = ap (λ (l : List SeatView). get_or l j d) (map-set seen ss i t) ∙ get_or-set_other (map seen ss) i j (seen t) d ne
 
   pub seats_count : (seen : S → SeatView) (ss : List S) (i : ℕ) (t : S) → length (map seen (set ss i t)) ≡ length (map seen ss)
-  seats_count seen ss i t = ap length (map_set seen ss i t) ∙ length-set (map seen ss) i (seen t)
+  seats_count seen ss i t = ap length (map-set seen ss i t) ∙ length-set (map seen ss) i (seen t)
 
 module _ {S X : Type 0} where
   -- the seat and the queue at one place
-  pub at_one : (seen : S → SeatView) (queue : X → QueueView) (k : Terms) (qs : List X) (ss : List S) (i : ℕ) (x : X) (s : S) → x ≡ get_or qs i x → AreSeats k (map queue qs) (map seen ss) → i < locks k → IsSeatOf (queue x) (seen (get_or ss i s))
-  at_one seen queue k qs ss i x s is of low =
-      subst₂ (λ (a : QueueView) (b : SeatView). IsSeatOf a b) (map_at queue qs i x ∙ ap queue (sym is)) (map_at seen ss i s) (of.each i (queue x) (seen s) low)
+  pub at_one : (seen : S → SeatView) (queue : X → QueueView) (k : Terms) (qs : List X) (ss : List S) (i : ℕ) (x : X) (s : S) → AreSeats k (map queue qs) (map seen ss) → i < locks k → IsSeatOf (queue (get_or qs i x)) (seen (get_or ss i s))
+  at_one seen queue k qs ss i x s of low = subst₂ (λ (a : QueueView) (b : SeatView). IsSeatOf a b) (map_at queue qs i x) (map_at seen ss i s) (of.each i (queue x) (seen s) low)
 
-  pub made_one : (seen : S → SeatView) (queue : X → QueueView) (k : Terms) (qs : List X) (ss : List S) (i : ℕ) (x : X) → x ≡ get_or qs i x → AreSeats k (map queue qs) (map seen ss) → i < locks k → (queue x).threads ≡ threads k
-  made_one seen queue k qs ss i x is of low = ap (λ (a : QueueView). a.threads) (sym (map_at queue qs i x ∙ ap queue (sym is))) ∙ of.made i (queue x) low
+  pub made_one : (seen : S → SeatView) (queue : X → QueueView) (k : Terms) (qs : List X) (ss : List S) (i : ℕ) (x : X) → AreSeats k (map queue qs) (map seen ss) → i < locks k → (queue (get_or qs i x)).threads ≡ threads k
+  made_one seen queue k qs ss i x of low = ap (λ (a : QueueView). a.threads) (sym (map_at queue qs i x)) ∙ of.made i (queue x) low
 
 module _ {S : Type 0} where
   -- a seat of the same queue stands where it stood
@@ -69,7 +53,7 @@ module _ {S : Type 0} where
 module _ {S Z : Type 0} where
   -- the seats as they were written back
   pub written_back : (seen : S → SeatView) (v : Vec S Z) (xs ts : List S) → xs ≡ v.items → AreSameSeats (map seen xs) (map seen ts) → (with_items v ts).items ≡ ts
-  written_back seen v xs ts e same = with_items_is v ts (sym (map_length seen ts) ∙ (same.count ∙ (map_length seen xs ∙ (ap length e ∙ sym v.ok.0))))
+  written_back seen v xs ts e same = with_items_is v ts (sym (length-map ts seen) ∙ (same.count ∙ (length-map xs seen ∙ (ap length e ∙ sym v.ok.0))))
 
 module _ {S : Type 0} where
   -- what was done at one seat

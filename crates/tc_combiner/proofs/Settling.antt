@@ -17,20 +17,18 @@ use Rattle.tc_hall.specs.declared.board.Terms.{Terms}
 use Rattle.tc_hall.specs.Rule.{locked_in, locks, threads}
 use Rattle.tc_hall.specs.declared.board.Call.{Call}
 use Rattle.tc_hall.specs.Outs.{Item}
-use Rattle.tc_hall.specs.PassView.{HallView, PassView}
+use Rattle.tc_hall.specs.PassView.{HallView}
 use Rattle.tc_queue.specs.Lines.{SeatView}
 use Rattle.tc_combiner.specs.declared.hands.Hands.{Hands}
+use Rattle.tc_combiner.specs.declared.hands.Rest.{Rest}
 use Rattle.tc_combiner.specs.declared.settled.Settled.{Settled}
 use Rattle.tc_combiner.specs.Packages.{HasHeldAnd, HasOnlyHeld, IsPlain, MayGoOn, Runs, Wants as Wants_lock}
-use Rattle.tc_combiner.specs.Walks.{Owned}
-use Rattle.tc_combiner.specs.Acts.{IsAtHall, MayAct}
+use Rattle.tc_combiner.specs.Walks.{IsAtHall, MayAct}
 use Rattle.tc_combiner.specs.Answers.{AcquiredAs, Acquires, Answers, HasReadied, MayAsk, MayPark}
-use Rattle.tc_combiner.specs.View.{desk_of}
-use Rattle.tc_combiner.specs.Release.{MayRelease, MayUnlock, UnlockedAs, Unlocks}
-use Rattle.tc_combiner.specs.Ends.{AreSameSeats, AtSeat, EndedAs, Ends, MayEnd, seat_at}
-use Rattle.tc_combiner.specs.Settling.{DidAcquire, DidEnd, DidUnlock, IsAfterBlock, Keeps, MaySettle, Works}
-use Rattle.tc_combiner.proofs.Answering.{walks_of}
-use Rattle.tc_combiner.proofs.Handing.{left_after}
+use Rattle.tc_combiner.specs.View.{DeskView, desk_of}
+use Rattle.tc_combiner.specs.Release.{MayRelease, MayUnlock, UnlockedAs, Unlocks, AreSameSeats, AtSeat, EndedAs, Ends, MayEnd, seat_at}
+use Rattle.tc_combiner.specs.Settling.{DidAcquire, DidEnd, DidUnlock, IsAfterBlock, Keeps, MaySettle, SettledAs}
+use Rattle.tc_combiner.proofs.PassedOn.{left_after}
 use Rattle.tc_combiner.proofs.Ending.{known_in}
 
 and_true : (x : Bool) → (x && not false) ≡ x
@@ -164,13 +162,14 @@ module _ (k : Terms) (worker : ℕ) (b : Block) (q : PackageView) (s : IsSoundPa
 
 -- ---- what was done with it, in the words of a desk
 
-pub keeps_of : (k : Terms) (cs : List Call) (q : PackageView) (ss ts : List SeatView) (sl sm : List (Option ℕ)) (h g : Hands) (r : Settled) → h.ready.items ≡ [] → Answers k cs q h g r → AreSameSeats ss ts → length sm ≡ length sl → Keeps k q ss ts sl sm h.pass h.aside g r
-keeps_of k cs q ss ts sl sm h g r none a same room = record {
+pub keeps_of : (k : Terms) (cs : List Call) (q : PackageView) (ss ts : List SeatView) (x y : Rest) (h g : Hands) (r : Settled) → h.ready.items ≡ [] → Answers k cs q h g r → AreSameSeats ss ts → y.clock ≡ x.clock → length y.sleepers ≡ length x.sleepers → Keeps k q ss ts x y h.pass h.aside g r
+keeps_of k cs q ss ts x y h g r none a same clock room = record {
   calls = cs;
   acts = a.acts;
   readied = subst (λ (hs : List ℕ). HasReadied (threads k) r hs g.ready.items cs) none a.readied;
   aside = a.aside;
   seats = same;
+  clock = clock;
   room = room;
 }
 
@@ -201,23 +200,20 @@ module _ (k : Terms) (q : PackageView) (ss ts : List SeatView) (sl : List (Optio
     ended = subst (λ (x : Shown). EndedAs x q b ss ts h.aside g.aside a.calls r) (sym image) a.ended;
   }
 
-pub works_of : (k : Terms) (q : PackageView) (ss ts : List SeatView) (sl sm : List (Option ℕ)) (p : PassView) (a : Option PackageView) (g : Hands) (r : Settled) (now : ℕ) (hs : List ℕ) → Keeps k q ss ts sl sm p a g r → Works (desk_of p ss sl now a hs) (desk_of g.pass ts sm now g.aside g.ready.items)
-works_of k q ss ts sl sm p a g r now hs h = record { own = h.acts.own; walks = walks_of h.calls p.knows g.pass.knows h.acts.adds; now = refl; room = h.room }
+pub settled_end : (x : End) (q : PackageView) (b : Block) (d e : DeskView) (r : Settled) → ends_thread x ≡ true → DidEnd q b d e r → SettledAs x q b d e r
+settled_end (Wants i) q b d e r t h = let n : ⊥ = cc in absurd n
+settled_end (Unlocked i) q b d e r t h = let n : ⊥ = cc in absurd n
+settled_end Slept q b d e r t h = let n : ⊥ = cc in absurd n
+settled_end Cut q b d e r t h = let n : ⊥ = cc in absurd n
+settled_end x q b d e r t h = h
+
+pub ended : (x : End) → ((i : ℕ) → x ≡ Wants i → ⊥) → ((i : ℕ) → x ≡ Unlocked i → ⊥) → (x ≡ Slept → ⊥) → (x ≡ Cut → ⊥) → ends_thread x ≡ true
+ended (Wants i) a b c d = absurd (a i refl)
+ended (Unlocked i) a b c d = absurd (b i refl)
+ended Slept a b c d = absurd (c refl)
+ended Cut a b c d = absurd (d refl)
+ended x a b c d = refl
 
 -- hands whose list is empty may begin
-pub at_begin : (hall : HallView) (xs : List Item) (h g : Hands) → IsAtHall hall xs h → g.pass ≡ h.pass → g.aside ≡ h.aside → IsAtHall hall xs g
-at_begin hall xs h g m p a = record {
-  own = ap (λ (x : PassView). x.table) p ∙ m.own;
-  image = ap (λ (x : PassView). x.knows.image) p ∙ m.image;
-  out = subst (λ (x : PassView). Owned x.knows xs) (sym p) m.out;
-  aside = λ c e. m.aside c (sym a ∙ e);
-}
-
-pub may_begin : (hall : HallView) (xs : List Item) (n : ℕ) (h g : Hands) → IsAtHall hall xs h → g.pass ≡ h.pass → g.aside ≡ h.aside → g.ready.items ≡ [] → n ≤ MAX_HELD → MayAct hall xs n g
-may_begin hall xs n h g m p a none few = let b = at_begin hall xs h g m p a in record {
-  own = b.own;
-  image = b.image;
-  out = b.out;
-  room = subst (λ (l : List ℕ). length l + n ≤ MAX_HELD) (sym none) (let room : 0 + n ≤ MAX_HELD = omega arith in room);
-  aside = b.aside;
-}
+pub may_begin : (hall : HallView) (xs : List Item) (n : ℕ) (h : Hands) → IsAtHall hall xs h → h.ready.items ≡ [] → n ≤ MAX_HELD → MayAct hall xs n h
+may_begin hall xs n h m none few = record { at = m; room = subst (λ (l : List ℕ). length l + n ≤ MAX_HELD) (sym none) (let room : 0 + n ≤ MAX_HELD = omega arith in room) }

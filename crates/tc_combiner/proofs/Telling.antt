@@ -11,11 +11,9 @@ use Rattle.tc_hall.specs.declared.board.Call.TheVariants.{Free, Stopped}
 use Rattle.tc_queue.specs.declared.turn.Turn.{Turn}
 use Rattle.tc_queue.specs.Lines.{SeatView}
 use Rattle.tc_combiner.specs.declared.settled.Settled.TheVariants.{Stopped as Was_stopped}
-use Rattle.tc_combiner.specs.Walks.{HasSeenStop}
-use Rattle.tc_combiner.specs.Acts.{Adds, counts}
+use Rattle.tc_combiner.specs.Walks.{HasSeenStop, Adds, counts}
 use Rattle.tc_combiner.specs.Answers.{back, counted}
-use Rattle.tc_combiner.specs.Release.{UnlockedAs, turn_of}
-use Rattle.tc_combiner.specs.Ends.{EndedAs, LeftAs, LeftInOrder, seat_at}
+use Rattle.tc_combiner.specs.Release.{UnlockedAs, turn_of, EndedAs, LeftAs, LeftInOrder, seat_at}
 use Rattle.tc_combiner.specs.Settling.{DidAcquire, DidEnd, DidUnlock}
 use Rattle.tc_combiner.specs.View.{DeskView}
 

@@ -9,7 +9,7 @@ use Rattle.tc_queue.specs.Calls.{enter_effect, leave_effect}
 use Rattle.tc_queue.specs.Laws as queue
 use Rattle.tc_combiner.specs.Ties.{line_of, EnterTie, LeaveTie}
 use Rattle.tc_combiner.proofs.Owning.{same_number}
-use Rattle.tc_combiner.proofs.Unlocking.{and_right}
+use Rattle.std.proofs.lemmas.Bool.{and_parts}
 
 entered_line : (image : Shown) (c : Core) (w t lock : ℕ) → line_of (effect image c (Enter w t lock)) lock ≡ line_of c lock ++ t ∷ []
 unfolding effect
@@ -21,7 +21,7 @@ left_line image c w lock = ap (λ (b : Bool). (if b then left_by_all (c.custody 
 
 single_line : (image : Shown) (limits : Limits) (c : Core) (w lock : ℕ) → is_enabled image limits c (Leave w lock) ≡ true → is_single (line_of c lock) ≡ true
 unfolding is_enabled
-single_line image limits c w lock e = and_right (not (c.custody lock).left) _ (and_right (has_lock image limits c w lock) _ e)
+single_line image limits c w lock e = (and_parts (not (c.custody lock).left) _ (and_parts (has_lock image limits c w lock) _ e).1).1
 
 only_of : (line : List ℕ) → is_single line ≡ true → (only : ℕ) × (line ≡ only ∷ [])
 only_of [] e = let n : ⊥ = cc in absurd n

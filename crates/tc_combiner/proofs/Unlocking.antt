@@ -1,5 +1,6 @@
 -- What an unlock comes to, from its parts.
-use Rattle.std.proofs.Common.{◌≡◌, ◌≢◌, ◌<◌, ◌≤◌, ◌+◌, ◌⊎◌, inl, inr, ℕ, Bool, true, false, not, ◌&&◌, ◌==◌, List, [], ◌∷◌, ◌++◌, length, refl, sym, ap, ◌∙◌, subst, subst₂, arith, Option, Some, None, is_some, length-append}
+use Rattle.std.proofs.Common.{◌≡◌, ◌≢◌, ◌<◌, ◌≤◌, ◌+◌, ◌⊎◌, inl, inr, ℕ, true, false, ◌&&◌, ◌==◌, List, [], ◌∷◌, ◌++◌, length, refl, sym, ap, ◌∙◌, subst, subst₂, arith, Option, Some, None, is_some, length-append}
+use Rattle.std.proofs.lemmas.Bool.{and_left, and_parts}
 use Rattle.std.proofs.lemmas.Bool.Decides.{nat_tests}
 use Rattle.std.proofs.lemmas.List.Elements.{All-cons, All-nil}
 use native.Mathlib.Decide.{ℕ_discrete}
@@ -19,7 +20,7 @@ use Rattle.tc_hall.specs.declared.board.Call.{Call}
 use Rattle.tc_hall.specs.declared.board.Knows.{Knows}
 use Rattle.tc_hall.specs.declared.board.Terms.{Terms}
 use Rattle.tc_hall.specs.declared.place.Place.TheVariants.{Ready}
-use Rattle.tc_hall.specs.PassView.{HallView}
+use Rattle.tc_hall.specs.PassView.{HallView, PassView}
 use Rattle.tc_hall.specs.Rule.{locked_in, threads}
 use Rattle.tc_hall.specs.Steps.{put_call}
 use Rattle.tc_queue.specs.Lines.{SeatView}
@@ -27,17 +28,16 @@ use Rattle.tc_combiner.specs.declared.hands.Hands.{Hands}
 use Rattle.tc_combiner.specs.declared.passed.Passed.{Passed}
 use Rattle.tc_combiner.specs.declared.passed.Passed.TheVariants.{Home, Granted as Was_granted, Adopted as Was_adopted, Stopped as Was_stopped}
 use Rattle.tc_combiner.specs.declared.settled.Settled.{Settled}
-use Rattle.tc_combiner.specs.declared.settled.Settled.TheVariants.{GoesOn, Adopted as Did_adopt, Shipped, Parked as Did_park, Ended, Stopped as Did_stop}
+use Rattle.tc_combiner.specs.declared.settled.Settled.TheVariants.{GoesOn, Adopted as Did_adopt, Stopped as Did_stop}
 use Rattle.tc_hall.specs.Outs.{Outs, outs, erase, IsOut, Item, Pack}
 use Rattle.tc_combiner.specs.Packages.{DidTakeOut, HasHeldAnd, HasNone, HasOnlyHeld, HoldsNone, IsAside, IsGood, IsPlain, MayGoOn, Runs}
-use Rattle.tc_combiner.specs.Walks.{Moves, Owned, Owns, packed, ready_in}
-use Rattle.tc_combiner.specs.Acts.{Acted, Acts, IsAtHall, MayAct, MayGive}
-use Rattle.tc_combiner.specs.Answers.{Goes, PutAllBack, PutsAside, SetAside, TakesDown, WentOn, back}
+use Rattle.tc_combiner.specs.Walks.{Moves, Owned, Owns, packed, ready_in, Acted, Acts, IsAt, IsAtHall, MayAct, MayGive, TakesDown}
+use Rattle.tc_combiner.specs.Answers.{Goes, PutAllBack, PutsAside, SetAside, WentOn, back}
 use Rattle.tc_combiner.specs.Release.{DidPass, MayRelease, MayUnlock, PassedAs, UnlockedAs, Unlocks, adopts, handed, turn_of}
-use Rattle.tc_combiner.proofs.Acting.{adds_then}
-use Rattle.tc_combiner.proofs.Answering.{at_hall, back_answers, keeps_answers, takes_none, takes_then, then_answers, then_at, wider}
+use Rattle.tc_combiner.proofs.Acting.{adds_then, takes_none, takes_then}
+use Rattle.tc_combiner.proofs.Answering.{back_answers, keeps_answers, then_answers, then_at, wider}
 use Rattle.tc_combiner.proofs.Packages.{good_order, no_other, not_held, ungranted_fits, ungranted_plain}
-use Rattle.tc_combiner.proofs.Handing.{few_followed, left_after}
+use Rattle.tc_combiner.proofs.PassedOn.{few_followed, given_up, left_after}
 use Rattle.tc_combiner.proofs.Owning.{swap, rotate, place_here, place_other}
 
 left_only_held : (i : ℕ) (l : LockView) (q p : PackageView) → DidTakeOut i l q p → HasHeldAnd i q → HasOnlyHeld p
@@ -66,34 +66,19 @@ left_of i l q p d = ap (λ (c : PackageView). c.image) d.is
 
 -- ---- a package behind which a waiter is adopted holds no lock
 
-pub and_left : (x y : Bool) → (x && y) ≡ true → x ≡ true
-and_left true y e = refl
-and_left false y e = let n : ⊥ = cc in absurd n
-
-pub and_right : (x y : Bool) → (x && y) ≡ true → y ≡ true
-and_right true y e = e
-and_right false y e = let n : ⊥ = cc in absurd n
-
 adopts_only : (b : Block) (i run limit : ℕ) → may_adopt b i run limit ≡ true → b.held ≡ with_lock 0 i
-adopts_only b i run limit e = let k : (b.held == with_lock 0 i) ≡ true = and_right (unlocks i b.end) _ (and_left (unlocks i b.end && is_only b.held i) _ e) in grind (arith, nat_tests)
+adopts_only b i run limit e = let k : (b.held == with_lock 0 i) ≡ true = (and_parts (unlocks i b.end) _ (and_parts (unlocks i b.end && is_only b.held i) _ e).0).1 in grind (arith, nat_tests)
 
 with_other : (i j : ℕ) → j ≢ i → has (with_lock 0 i) j ≡ false
 with_other i j ne = ap (λ b. b == 1) (let same : bit_at (bit_or 0 (2 ^ i)) j ≡ 0 = omega (arith, bit_at_or 0 (2 ^ i) j, bit_at-pow_other i j ne, bit_at-zero j) in same)
-
-no_more : (x y : Bool) → x ≡ false → (x && y) ≡ false
-no_more x y e = ap (λ z. z && y) e
-
-past_none : (x y : Bool) → y ≡ true → (x && not y) ≡ false
-past_none true y e = ap not e
-past_none false y e = refl
 
 -- what the package holds whose block may adopt
 pub alone_holds : (q : PackageView) (b : Block) (i run limit : ℕ) → IsSoundPackage q → last_of q.log ≡ Some b → ends_section i b ≡ true → may_adopt b i run limit ≡ true → HoldsNone q
 alone_holds q b i run limit s e r a j =
     let held = (left_after q.image q b s.left e).held j in
     dite (ℕ_discrete j i)
-    (λ (y : j ≡ i). held ∙ past_none (has b.held j) (ends_section j b) (ap (λ (k : ℕ). ends_section k b) y ∙ r))
-    (λ (ne : j ≢ i). held ∙ no_more (has b.held j) _ (ap (λ (h : ℕ). has h j) (adopts_only b i run limit a) ∙ with_other i j ne))
+    (λ (y : j ≡ i). held ∙ given_up (has b.held j) (ends_section j b) (ap (λ (k : ℕ). ends_section k b) y ∙ r))
+    (λ (ne : j ≢ i). held ∙ and_left (has b.held j) _ (ap (λ (h : ℕ). has h j) (adopts_only b i run limit a) ∙ with_other i j ne))
 
 none_in : (p : PackageView) → HasOnlyHeld p → HoldsNone p → HasNone p
 none_in p h n j = not_held p j h (n j)
@@ -138,9 +123,12 @@ add_nil : (b o : Outs) (xs : List Item) → Owns b o xs → Owns b o (xs ++ [])
 add_nil b o [] h = h
 add_nil b o (x ∷ xs) h = (h.0, add_nil b (erase o x) xs h.1)
 
+pub without_first : (w : Knows) (x : Item) (xs : List Item) → Owned w (x ∷ xs) → Owned w xs
+without_first w x xs o = beneath o.0 (outs w) x xs (unrotate o.0 (outs w) x xs [] (o.1.0, add_nil o.0 (erase (outs w) x) xs o.1.1))
+
 -- the first of these, where the rest counts as what is out besides
-pub alone : (v : Knows) (x : Item) (xs : List Item) → Owned v (x ∷ xs) → Owned v (x ∷ [])
-alone v x xs o = (erase (outs v) x, (o.1.0, refl))
+pub alone : (hall : HallView) (x : Item) (xs : List Item) (p : PassView) (a : Option PackageView) → IsAt hall (x ∷ xs) p a → IsAt hall (x ∷ []) p a
+alone hall x xs p a m = record { own = m.own; image = m.image; out = (erase (outs p.knows) x, (m.out.1.0, refl)); aside = m.aside }
 
 pub adopts_owned : (v w : Knows) (q p r : Item) (os : List Item) → Moves v w (q ∷ []) (p ∷ r ∷ []) → Owned v (q ∷ os) → Owned w (p ∷ os)
 adopts_owned v w q p r os m o =
@@ -152,32 +140,30 @@ adopts_owned v w q p r os m o =
 
 went_unlocks : (image : Shown) (worker i : ℕ) (q : PackageView) (b : Block) (s t : SeatView) (a c : Option PackageView) (ds es : List Call) (r : Settled) → PassedAs image i q b s t ds Home ⊎ PassedAs image i q b s t ds Was_granted → WentOn image worker (without_lock i q) a c es r → UnlockedAs image worker i q b s t a c (ds ++ es) r
 went_unlocks image worker i q b s t a c ds es (GoesOn r) k g = (ds, es, refl, k, g)
-went_unlocks image worker i q b s t a c ds es (Did_adopt r) k g = absurd g
-went_unlocks image worker i q b s t a c ds es Shipped k g = absurd g
-went_unlocks image worker i q b s t a c ds es Did_park k g = absurd g
-went_unlocks image worker i q b s t a c ds es Ended k g = absurd g
-went_unlocks image worker i q b s t a c ds es Did_stop k g = absurd g
+went_unlocks image worker i q b s t a c ds es r k g = absurd g
 
 module _ (hall : HallView) (i : ℕ) (b : Block) (q p : PackageView) (s t : SeatView) (h m : Hands) (hands : MayAct hall (Pack q ∷ packed h.aside) 2 h) where
   room_after : (r : Passed) → DidPass hall.terms i b q p s t h m r → length m.ready.items + 1 ≤ MAX_HELD
   room_after r d =
       let few = few_followed hall.terms.image.value d.state b (turn_of q i) s t d.calls r d.became in
-      let all : length m.ready.items ≡ length h.ready.items + length (ready_in d.calls) = ap (λ (l : List ℕ). length l) d.acted.told ∙ length-append h.ready.items (ready_in d.calls) in
+      let all : length m.ready.items ≡ length h.ready.items + length (ready_in d.calls) = ap (λ (l : List ℕ). length l) d.acted.readied.0 ∙ length-append h.ready.items (ready_in d.calls) in
       let room = hands.room in omega arith
 
   pub at_then : (r : Passed) → handed r ≡ [] → DidPass hall.terms i b q p s t h m r → IsAtHall hall (Pack p ∷ packed m.aside) m
-  at_then r e d = then_at hall d.calls q p h m (at_hall hall (Pack q ∷ packed h.aside) 2 h hands) (subst (λ (xs : List Item). Acted hall.terms d.calls (Pack q ∷ []) (Pack p ∷ xs) h m) e d.acted) d.aside
+  at_then r e d = then_at hall d.calls q p h m hands.at (subst (λ (xs : List Item). Acted hall.terms d.calls (Pack q ∷ []) (Pack p ∷ xs) h m) e d.acted) d.aside
 
   pub may_then : (r : Passed) → handed r ≡ [] → DidPass hall.terms i b q p s t h m r → MayAct hall (Pack p ∷ packed m.aside) 1 m
-  may_then r e d = let a = at_then r e d in record { own = a.own; image = a.image; out = a.out; room = room_after r d; aside = a.aside }
+  may_then r e d = record { at = at_then r e d; room = room_after r d }
 
   pub may_adopted : (x : PackageView) → DidPass hall.terms i b q p s t h m (Was_adopted x) → MayAct hall (Pack p ∷ packed m.aside) 1 m
   may_adopted x d = record {
-    own = d.acted.acts.own.0 ∙ hands.own;
-    image = d.acted.acts.adds.told.image ∙ hands.image;
-    out = subst (λ (o : Option PackageView). Owned m.pass.knows (Pack p ∷ packed o)) (sym d.aside) (adopts_owned h.pass.knows m.pass.knows (Pack q) (Pack p) (Pack x) (packed h.aside) d.acted.acts.moves hands.out);
+    at = record {
+      own = d.acted.acts.own.0 ∙ hands.at.own;
+      image = d.acted.acts.adds.told.image ∙ hands.at.image;
+      out = subst (λ (o : Option PackageView). Owned m.pass.knows (Pack p ∷ packed o)) (sym d.aside) (adopts_owned h.pass.knows m.pass.knows (Pack q) (Pack p) (Pack x) (packed h.aside) d.acted.acts.moves hands.at.out);
+      aside = λ a e. hands.at.aside a (sym d.aside ∙ e);
+    };
     room = room_after (Was_adopted x) d;
-    aside = λ a e. hands.aside a (sym d.aside ∙ e);
   }
 
   -- the lock went home or was granted, and the package goes on
@@ -208,7 +194,7 @@ module _ (hall : HallView) (i : ℕ) (b : Block) (q p : PackageView) (s t : Seat
             adds = adds_then d.calls f.calls h.pass.knows m.pass.knows g.pass.knows d.acted.acts.adds c.adds;
             moves = adopts_waiter h.pass.knows m.pass.knows g.pass.knows (Pack q) (Pack p) (Pack x) (packed h.aside) (packed g.aside) d.acted.acts.moves c.moves;
           };
-          readied = takes_then (threads hall.terms) h.ready.items m.ready.items g.ready.items d.calls f.calls (d.acted.told, d.acted.known) (f.acted.told, f.acted.known);
+          readied = takes_then (threads hall.terms) h.ready.items m.ready.items g.ready.items d.calls f.calls d.acted.readied f.acted.readied;
           aside = f.aside;
         };
         asks = d.asks;
@@ -254,7 +240,7 @@ module _ (hall : HallView) (q : PackageView) (h g : Hands) (hands : MayAct hall 
   pub goes_same : MayGoOn hall.terms q → Acts [] (Pack q ∷ packed h.aside) (Pack q ∷ packed h.aside) h.pass g.pass → g.ready.items ≡ h.ready.items → g.aside ≡ h.aside → (HoldsNone q → h.aside ≡ None) → Goes hall.terms q h g (GoesOn q)
   goes_same m a e f none = record {
     calls = [];
-    answers = keeps_answers hall [] q h g (GoesOn q) (at_hall hall (Pack q ∷ packed h.aside) 1 h hands) (subst (λ (o : Option PackageView). Acts [] (Pack q ∷ packed h.aside) (Pack q ∷ packed o) h.pass g.pass) (sym f) a) (takes_none (threads hall.terms) h.ready.items g.ready.items [] e refl) f;
+    answers = keeps_answers hall [] q h g (GoesOn q) hands.at (subst (λ (o : Option PackageView). Acts [] (Pack q ∷ packed h.aside) (Pack q ∷ packed o) h.pass g.pass) (sym f) a) (takes_none (threads hall.terms) h.ready.items g.ready.items [] e refl) f;
     went = (going_good hall.terms h.pass.knows.worker q m, inl (refl, f, none, refl));
   }
 
@@ -263,7 +249,7 @@ module _ (hall : HallView) (q : PackageView) (h g : Hands) (hands : MayAct hall 
 
   pub goes_other : (o : PackageView) → MayGoOn hall.terms q → h.aside ≡ Some o → g.aside ≡ None → HoldsNone q → Acts (put_call q Ready ∷ []) (Pack q ∷ []) [] h.pass g.pass → g.ready.items ≡ h.ready.items ++ q.context.thread ∷ [] → Goes hall.terms q h g (GoesOn o)
   goes_other o m is gone none a e =
-      let other = hands.aside o is in record {
+      let other = hands.at.aside o is in record {
         calls = put_call q Ready ∷ [];
         answers = record {
           acts = subst₂ (λ (x y : Option PackageView). Acts (put_call q Ready ∷ []) (Pack q ∷ packed x) (Pack o ∷ packed y) h.pass g.pass) (sym is) (sym gone) (record { own = a.own; adds = a.adds; moves = λ b zs w. a.moves b (Pack o ∷ zs) w });
@@ -282,17 +268,17 @@ module _ (hall : HallView) (q : PackageView) (h g : Hands) (hands : MayAct hall 
   sets_first (Some x) c e f = let n : ⊥ = cc in absurd n
 
   pub sets_behind : IsAside hall.terms q → is_some h.aside ≡ true → g.aside ≡ h.aside → Acts (put_call q Ready ∷ []) (Pack q ∷ []) [] h.pass g.pass → g.ready.items ≡ h.ready.items ++ q.context.thread ∷ [] → PutsAside hall.terms q h g
-  sets_behind i some f a e = let t = takes_one (record { of = i.of; plain = i.plain; runs = i.runs }) e in record {
+  sets_behind i some f a e = record {
     calls = put_call q Ready ∷ [];
-    acted = record { acts = wider (put_call q Ready ∷ []) q h g f a; told = t.0; known = t.1 };
+    acted = record { acts = wider (put_call q Ready ∷ []) q h g f a; readied = takes_one (record { of = i.of; plain = i.plain; runs = i.runs }) e };
     set = sets_later h.aside g.aside some f;
-    aside = λ b x. hands.aside b (sym f ∙ x);
+    aside = λ b x. hands.at.aside b (sym f ∙ x);
   }
 
   pub sets_alone : IsAside hall.terms q → h.aside ≡ None → g.aside ≡ Some q → Acts [] (Pack q ∷ []) (Pack q ∷ []) h.pass g.pass → g.ready.items ≡ h.ready.items → PutsAside hall.terms q h g
-  sets_alone i none f a e = let t = takes_none (threads hall.terms) h.ready.items g.ready.items [] e refl in record {
+  sets_alone i none f a e = record {
     calls = [];
-    acted = record { acts = subst₂ (λ (x y : Option PackageView). Acts [] (Pack q ∷ packed x) (packed y) h.pass g.pass) (sym none) (sym f) a; told = t.0; known = t.1 };
+    acted = record { acts = subst₂ (λ (x y : Option PackageView). Acts [] (Pack q ∷ packed x) (packed y) h.pass g.pass) (sym none) (sym f) a; readied = takes_none (threads hall.terms) h.ready.items g.ready.items [] e refl };
     set = sets_first h.aside g.aside none f;
     aside = λ b x. let y : Some q ≡ Some b = sym f ∙ x in let z : q ≡ b = cc in subst (λ (c : PackageView). IsAside hall.terms c) z i;
   }

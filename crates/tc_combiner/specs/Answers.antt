@@ -1,5 +1,5 @@
 -- What a desk's calls answer, with each call of the pass that was made.
-use Rattle.std.specs.Prelude.{◌⊎◌, ◌≡◌, ◌<◌, ℕ, ◌+◌, min, if◌then◌else◌, All, List, [], ◌∷◌, ◌++◌, Option, Some, None}
+use Rattle.std.specs.Prelude.{◌⊎◌, ◌≡◌, ◌<◌, ℕ, ◌+◌, min, if◌then◌else◌, List, [], ◌∷◌, ◌++◌, Option, Some, None}
 use Rattle.tc_elf.specs.Shown.{Shown}
 use Rattle.tc_turn.specs.Turn.{is_running}
 use Rattle.tc_segment.specs.View.{LockView}
@@ -19,31 +19,19 @@ use Rattle.tc_queue.specs.declared.turn.Turn.{Turn}
 use Rattle.tc_queue.specs.Lines.{SeatView, Enter, Link, First, Behind, with_line}
 use Rattle.tc_combiner.specs.declared.hands.Hands.{Hands}
 use Rattle.tc_combiner.specs.declared.settled.Settled.{Settled}
-use Rattle.tc_combiner.specs.declared.settled.Settled.TheVariants.{GoesOn, Adopted, Shipped, Parked as Did_park, Ended, Stopped as Was_stopped}
+use Rattle.tc_combiner.specs.declared.settled.Settled.TheVariants.{GoesOn, Adopted, Shipped, Parked as Did_park, Stopped as Was_stopped}
 use Rattle.tc_combiner.specs.Packages.{DidTake, HoldsNone, IsAside, IsGood, IsPlain, Runs, Wants}
-use Rattle.tc_combiner.specs.Walks.{packed, ready_in}
-use Rattle.tc_combiner.specs.Acts.{Acted, Acts}
+use Rattle.tc_combiner.specs.Walks.{TakesDown, packed, Acted, Acts}
 
 abbrev pub carried : Settled → List Item
 carried (GoesOn q) = Pack q ∷ []
 carried (Adopted q) = Pack q ∷ []
-carried Shipped = []
-carried Did_park = []
-carried Ended = []
-carried Was_stopped = []
+carried r = []
 
--- the list got the threads that these calls put as ready, in order, each of them one of so many
-abbrev pub TakesDown : ℕ → List ℕ → List ℕ → List Call → Type 0
-TakesDown threads old new cs = (new ≡ old ++ ready_in cs) × All (λ t. t < threads) (ready_in cs)
-
--- so it did; it is empty where the run was stopped
+-- the list got the threads that these calls put as ready; it is empty where the run was stopped
 abbrev pub HasReadied : ℕ → Settled → List ℕ → List ℕ → List Call → Type 0
-HasReadied threads (GoesOn q) old new cs = TakesDown threads old new cs
-HasReadied threads (Adopted q) old new cs = TakesDown threads old new cs
-HasReadied threads Shipped old new cs = TakesDown threads old new cs
-HasReadied threads Did_park old new cs = TakesDown threads old new cs
-HasReadied threads Ended old new cs = TakesDown threads old new cs
 HasReadied threads Was_stopped old new cs = new ≡ []
+HasReadied threads r old new cs = TakesDown threads old new cs
 
 -- the hands had the package q and made these calls, with this answer
 pub record Answers (k : Terms) (cs : List Call) (q : PackageView) (h g : Hands) (r : Settled) : Type 0 where
@@ -100,11 +88,9 @@ pub record DidFirst (k : Terms) (i n : ℕ) (q : PackageView) (h g : Hands) (r :
 -- granted as Taken under the turn's number; or it stood behind another, was put as waiting with all its locks, and linked
 abbrev pub EnteredAs : Shown → ℕ → ℕ → Turn → PackageView → SeatView → SeatView → Option PackageView → Option PackageView → List Call → Settled → Type 0
 EnteredAs image worker i u q s t a b cs (GoesOn r) = (t ≡ with_line s (Enter u First)) × FirstAs image worker i u.number q a b cs (Some r)
-EnteredAs image worker i u q s t a b cs (Adopted r) = ⊥
 EnteredAs image worker i u q s t a b cs Shipped = (mark : ℕ) × (t ≡ with_line (with_line s (Enter u (Behind mark))) (Link mark u)) × (cs ≡ put_call q (Waiting i) ∷ []) × (b ≡ a)
-EnteredAs image worker i u q s t a b cs Did_park = ⊥
-EnteredAs image worker i u q s t a b cs Ended = ⊥
 EnteredAs image worker i u q s t a b cs Was_stopped = (t ≡ with_line s (Enter u First)) × FirstAs image worker i u.number q a b cs None
+EnteredAs image worker i u q s t a b cs r = ⊥
 
 -- the package with its next number counted, and the turn of that number
 abbrev pub counted : PackageView → PackageView
@@ -139,11 +125,7 @@ pub record Parks (k : Terms) (q : PackageView) (h g : Hands) : Type 0 where
 -- the package q goes on; or it was adopted, holds no lock, was handed back as ready, and the one that was set aside goes on
 abbrev pub WentOn : Shown → ℕ → PackageView → Option PackageView → Option PackageView → List Call → Settled → Type 0
 WentOn image worker q a b cs (GoesOn r) = IsGood r image worker × (((r ≡ q) × (b ≡ a) × (HoldsNone q → a ≡ None) × (cs ≡ [])) ⊎ ((a ≡ Some r) × HoldsNone q × (b ≡ None) × (cs ≡ put_call q Ready ∷ [])))
-WentOn image worker q a b cs (Adopted r) = ⊥
-WentOn image worker q a b cs Shipped = ⊥
-WentOn image worker q a b cs Did_park = ⊥
-WentOn image worker q a b cs Ended = ⊥
-WentOn image worker q a b cs Was_stopped = ⊥
+WentOn image worker q a b cs r = ⊥
 
 pub record Goes (k : Terms) (q : PackageView) (h g : Hands) (r : Settled) : Type 0 where
   pub calls : List Call

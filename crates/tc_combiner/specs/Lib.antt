@@ -1,9 +1,7 @@
 pub mod Packages
 pub mod Walks
-pub mod Acts
 pub mod Answers
 pub mod Release
 pub mod View
-pub mod Ends
 pub mod Settling
 pub mod Ties

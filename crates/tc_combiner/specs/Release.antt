@@ -1,17 +1,17 @@
--- What became of a released lock, with each call of the pass that was made.
-use Rattle.std.specs.Prelude.{◌⊎◌, ◌≡◌, ℕ, Bool, true, false, List, [], ◌∷◌, ◌++◌, ◌<◌, Option, Some, None, is_some}
+-- What became of a released lock, and of all locks of a thread that has ended, with each call of the pass that was made.
+use Rattle.std.specs.Prelude.{◌⊎◌, ◌≡◌, ℕ, Bool, true, false, List, [], ◌∷◌, ◌++◌, ◌<◌, Option, Some, None, is_some, ◌≢◌, ◌+◌, ◌≤◌, get_or, length}
 use Rattle.tc_elf.specs.Shown.{Shown}
-use Rattle.tc_journal.specs.Batch.{last_of, may_adopt, run_of}
+use Rattle.tc_journal.specs.Batch.{last_of, may_adopt, run_of, ends_thread}
 use Rattle.tc_journal.specs.declared.block.Block.{Block}
 use Rattle.tc_journal.specs.declared.block.Kind.{Kind}
 use Rattle.tc_journal.specs.declared.block.Kind.TheVariants.{Adopted, Granted}
 use Rattle.tc_segment.specs.View.{LockView, IsAtRest, blocks_of}
-use Rattle.tc_context.specs.View.{PackageView, number_in, without_lock}
+use Rattle.tc_context.specs.View.{PackageView, number_in, without_lock, bare}
 use Rattle.tc_hall.specs.declared.board.Knows.{Knows}
 use Rattle.tc_hall.specs.declared.board.Terms.{Terms}
 use Rattle.tc_hall.specs.declared.board.Call.{Call}
 use Rattle.tc_hall.specs.declared.board.Call.TheVariants.{Free, Stopped}
-use Rattle.tc_hall.specs.declared.place.Place.TheVariants.{Ready}
+use Rattle.tc_hall.specs.declared.place.Place.TheVariants.{Ready, Done}
 use Rattle.tc_hall.specs.Rule.{locked_in, locks, threads}
 use Rattle.tc_nested.specs.Release.{Releases}
 use Rattle.tc_queue.specs.declared.turn.Turn.{Turn}
@@ -22,12 +22,14 @@ use Rattle.tc_combiner.specs.declared.hands.Hands.{Hands}
 use Rattle.tc_combiner.specs.declared.passed.Passed.{Passed}
 use Rattle.tc_combiner.specs.declared.passed.Passed.TheVariants.{Home, Granted as Was_granted, Adopted as Was_adopted, Stopped as Was_stopped}
 use Rattle.tc_combiner.specs.declared.settled.Settled.{Settled}
-use Rattle.tc_combiner.specs.declared.settled.Settled.TheVariants.{GoesOn, Adopted as Did_adopt, Shipped, Parked as Did_park, Ended, Stopped as Did_stop}
+use Rattle.tc_combiner.specs.declared.settled.Settled.TheVariants.{GoesOn, Adopted as Did_adopt, Stopped as Did_stop, Ended as Has_ended}
 use Rattle.tc_hall.specs.Outs.{Item, Pack}
-use Rattle.tc_combiner.specs.Packages.{DidGrant, DidTakeOut, HasHeldAnd, IsGood, IsWaiter, Runs}
-use Rattle.tc_combiner.specs.Walks.{Asks, Shows}
-use Rattle.tc_combiner.specs.Acts.{Acted}
+use Rattle.tc_combiner.specs.Packages.{DidGrant, DidTakeOut, HasHeldAnd, IsGood, IsWaiter, Runs, HasNone}
+use Rattle.tc_combiner.specs.Walks.{Asks, Shows, Acted}
 use Rattle.tc_combiner.specs.Answers.{Answers, WentOn, SetAside, back}
+use Rattle.tc_isa.specs.Sets.{has, locks_of}
+use Rattle.tc_isa.specs.declared.limits.TheConstants.{MAX_HELD}
+use Rattle.tc_combiner.specs.View.{no_seat}
 
 -- the batch rule lets the worker of the block adopt a waiter for the lock
 abbrev pub adopts : LockView → Block → Bool
@@ -59,10 +61,8 @@ pub record MayUnlock (k : Terms) (v : Knows) (i : ℕ) (b : Block) (q : PackageV
   pub locks_in : HasHeldAnd i q
 
 abbrev pub handed : Passed → List Item
-handed Home = []
-handed Was_granted = []
 handed (Was_adopted q) = Pack q ∷ []
-handed Was_stopped = []
+handed r = []
 
 -- q is the package of the turn's thread, with lock l granted under the turn's number
 pub record IsHanded (k : Kind) (l : LockView) (u : Turn) (image : Shown) (q : PackageView) : Type 0 where
@@ -72,10 +72,10 @@ pub record IsHanded (k : Kind) (l : LockView) (u : Turn) (image : Shown) (q : Pa
 
 -- the turn u is next after the block b released l: with these calls and no others
 abbrev pub HandedAs : Shown → LockView → Block → Turn → List Call → Passed → Type 0
-HandedAs image l b u cs Home = ⊥
 HandedAs image l b u cs Was_granted = (q : PackageView) × IsHanded Granted l u image q × (adopts l b ≡ false) × (cs ≡ put_call q Ready ∷ [])
 HandedAs image l b u cs (Was_adopted q) = IsHanded Adopted l u image q × (adopts l b ≡ true) × IsGood q image b.worker × (cs ≡ [])
 HandedAs image l b u cs Was_stopped = cs ≡ Stopped 1 ∷ Free l.number ∷ []
+HandedAs image l b u cs Home = ⊥
 
 -- the lock l of the turn own went to the turn behind it, or home where there is none
 abbrev pub FollowedAs : Shown → LockView → Block → Turn → SeatView → SeatView → List Call → Passed → Type 0
@@ -114,10 +114,8 @@ PassedAs image i q b s t cs r = (l : LockView) × (locked_in q i ≡ Some l) × 
 abbrev pub UnlockedAs : Shown → ℕ → ℕ → PackageView → Block → SeatView → SeatView → Option PackageView → Option PackageView → List Call → Settled → Type 0
 UnlockedAs image worker i q b s t a c cs (GoesOn r) = (ds es : List Call) × (cs ≡ ds ++ es) × (PassedAs image i q b s t ds Home ⊎ PassedAs image i q b s t ds Was_granted) × WentOn image worker (without_lock i q) a c es (GoesOn r)
 UnlockedAs image worker i q b s t a c cs (Did_adopt r) = (ds es : List Call) × (cs ≡ ds ++ es) × PassedAs image i q b s t ds (Was_adopted r) × SetAside (without_lock i q) a c es × IsGood r image worker
-UnlockedAs image worker i q b s t a c cs Shipped = ⊥
-UnlockedAs image worker i q b s t a c cs Did_park = ⊥
-UnlockedAs image worker i q b s t a c cs Ended = ⊥
 UnlockedAs image worker i q b s t a c cs Did_stop = (ds : List Call) × (cs ≡ ds ++ back (without_lock i q) a) × PassedAs image i q b s t ds Was_stopped × (c ≡ None)
+UnlockedAs image worker i q b s t a c cs r = ⊥
 
 -- what was done at the unlock
 pub record Unlocks (k : Terms) (i : ℕ) (b : Block) (q : PackageView) (s t : SeatView) (h g : Hands) (r : Settled) : Type 0 where
@@ -125,3 +123,120 @@ pub record Unlocks (k : Terms) (i : ℕ) (b : Block) (q : PackageView) (s t : Se
   pub answers : Answers k calls q h g r
   pub asks : Asks (turn_of q i) s t
   pub unlocked : UnlockedAs k.image.value h.pass.knows.worker i q b s t h.aside g.aside calls r
+
+abbrev pub seat_at : List SeatView → ℕ → SeatView
+seat_at ss j = get_or ss j no_seat
+
+-- a seat of the same queue
+abbrev pub IsSameSeat : SeatView → SeatView → Type 0
+IsSameSeat s t = (t.table ≡ s.table) × (t.threads ≡ s.threads)
+
+pub record AreSameSeats (ss ts : List SeatView) : Type 0 where
+  pub count : length ts ≡ length ss
+  pub each : (j : ℕ) → IsSameSeat (seat_at ss j) (seat_at ts j)
+
+-- the seat i is of this, before and after, and the other seats are as they were
+pub record AtSeat (i : ℕ) (ss ts : List SeatView) (P : SeatView → SeatView → Type 0) : Type 0 where
+  pub same : AreSameSeats ss ts
+  pub others : (j : ℕ) → j ≢ i → seat_at ts j ≡ seat_at ss j
+  pub here : P (seat_at ss i) (seat_at ts i)
+
+-- the thread of package q has ended with the block b, a block of this pass, and the locks in it are those of that block
+pub record MayEnd (v : Knows) (threads : ℕ) (b : Block) (q : PackageView) : Type 0 where
+  pub of : q.image ≡ v.image
+  pub thread : q.context.thread < threads
+  pub settled : q.pending ≡ None
+  pub granted : q.granted ≡ None
+  pub last : last_of q.log ≡ Some b
+  pub ended : ends_thread b.end ≡ true
+  pub worker : b.worker ≡ v.worker
+  pub locks : (i : ℕ) → is_some (locked_in q i) ≡ has b.held i
+
+-- ---- one lock
+
+-- the lock l of an ended thread, whose turn there is own; was, is: whether the run was stopped before, and is now
+abbrev pub LeftAs : Shown → LockView → Block → Turn → SeatView → SeatView → List Call → Bool → Bool → Type 0
+LeftAs image l b own s t cs false false = FollowedAs image l b own s t cs Home ⊎ FollowedAs image l b own s t cs Was_granted
+LeftAs image l b own s t cs false true = FollowedAs image l b own s t cs Was_stopped
+LeftAs image l b own s t cs true false = ⊥
+LeftAs image l b own s t cs true true = (t ≡ s) × (cs ≡ Free l.number ∷ [])
+
+-- what was done with lock i of the package q, whose thread ended with the block b; q is p then
+pub record DidLeave (k : Terms) (i : ℕ) (b : Block) (q p : PackageView) (s t : SeatView) (h g : Hands) (was is : Bool) : Type 0 where
+  pub calls : List Call
+  pub acted : Acted k calls (Pack q ∷ []) (Pack p ∷ []) h g
+  pub aside : g.aside ≡ h.aside
+  pub state : LockView
+  pub taken : DidTakeOut i state q p
+  pub asks : Asks (turn_of q i) s t
+  pub became : LeftAs k.image.value state b (turn_of q i) s t calls was is
+
+-- ---- all of its locks
+
+-- package p is q without its locks
+pub record IsEmptied (q p : PackageView) : Type 0 where
+  pub same : bare p ≡ bare q
+  pub granted : p.granted ≡ q.granted
+  pub free : HasNone p
+
+-- lock i of the package q, whose thread ended with the block b; was: whether the run was stopped before
+pub record OneLeft (image : Shown) (b : Block) (q : PackageView) (i : ℕ) (s t : SeatView) (was : Bool) : Type 0 where
+  pub state : LockView
+  pub here : locked_in q i ≡ Some state
+  pub calls : List Call
+  pub stopped : Bool
+  pub became : LeftAs image state b (turn_of q i) s t calls was stopped
+
+-- so each of these locks, in this order, with these calls and no others
+abbrev pub LeftInOrder : Shown → Block → PackageView → List SeatView → List SeatView → List ℕ → List Call → Bool → Bool → Type 0
+LeftInOrder image b q ss ts [] cs was end = (cs ≡ []) × (end ≡ was)
+LeftInOrder image b q ss ts (i ∷ is) cs was end = (x : OneLeft image b q i (seat_at ss i) (seat_at ts i) was) × (es : List Call) × (cs ≡ x.calls ++ es) × LeftInOrder image b q ss ts is es x.stopped end
+
+-- the seats of the locks of the block b asked for their turns of the package q alone, and each other seat is as it was
+pub record SeatsLeft (b : Block) (q : PackageView) (ss ts : List SeatView) : Type 0 where
+  pub count : length ts ≡ length ss
+  pub others : (j : ℕ) → has b.held j ≡ false → seat_at ts j ≡ seat_at ss j
+  pub asks : (j : ℕ) → has b.held j ≡ true → Asks (turn_of q j) (seat_at ss j) (seat_at ts j)
+
+-- what was done with all locks of the package q, whose thread ended with the block b; q is p then
+pub record DidLeaveAll (k : Terms) (b : Block) (q p : PackageView) (ss ts : List SeatView) (h g : Hands) (end : Bool) : Type 0 where
+  pub calls : List Call
+  pub acted : Acted k calls (Pack q ∷ []) (Pack p ∷ []) h g
+  pub aside : g.aside ≡ h.aside
+  pub emptied : IsEmptied q p
+  pub seats : SeatsLeft b q ss ts
+  pub order : LeftInOrder k.image.value b q ss ts (locks_of b.held) calls false end
+
+-- what became of a package q whose thread ended with the block b, with these calls and no others: each of its locks was passed
+-- on, the least first, and then it was put as Done
+abbrev pub EndedAs : Shown → PackageView → Block → List SeatView → List SeatView → Option PackageView → Option PackageView → List Call → Settled → Type 0
+EndedAs image q b ss ts a c cs Has_ended = (p : PackageView) × (ds : List Call) × (cs ≡ ds ++ put_call p Done ∷ []) × IsEmptied q p × LeftInOrder image b q ss ts (locks_of b.held) ds false false × (c ≡ a)
+EndedAs image q b ss ts a c cs Did_stop = (p : PackageView) × (ds : List Call) × (cs ≡ ds ++ back p a) × IsEmptied q p × LeftInOrder image b q ss ts (locks_of b.held) ds false true × (c ≡ None)
+EndedAs image q b ss ts a c cs r = ⊥
+
+-- what was done at the thread's end
+pub record Ends (k : Terms) (b : Block) (q : PackageView) (ss ts : List SeatView) (h g : Hands) (r : Settled) : Type 0 where
+  pub calls : List Call
+  pub answers : Answers k calls q h g r
+  pub seats : SeatsLeft b q ss ts
+  pub ended : EndedAs k.image.value q b ss ts h.aside g.aside calls r
+
+-- ---- in between
+
+-- the locks in rest wait, the others were passed on, or brought home where the run was stopped
+pub record Ending (k : Terms) (b : Block) (q p : PackageView) (rest : ℕ) (ss ts : List SeatView) (h g : Hands) (now : Bool) : Type 0 where
+  pub calls : List Call
+  pub acted : Acted k calls (Pack q ∷ []) (Pack p ∷ []) h g
+  pub aside : g.aside ≡ h.aside
+  pub room : length g.ready.items + length (locks_of rest) ≤ MAX_HELD
+  pub same : bare p ≡ bare q
+  pub granted : p.granted ≡ q.granted
+  pub numbers : p.numbers ≡ q.numbers
+  pub within : (j : ℕ) → has rest j ≡ true → has b.held j ≡ true
+  pub left : (j : ℕ) → has rest j ≡ true → locked_in p j ≡ locked_in q j
+  pub gone : (j : ℕ) → has rest j ≡ false → locked_in p j ≡ None
+  pub count : length ts ≡ length ss
+  pub others : (j : ℕ) → has b.held j ≡ false → seat_at ts j ≡ seat_at ss j
+  pub wait : (j : ℕ) → has rest j ≡ true → seat_at ts j ≡ seat_at ss j
+  pub asks : (j : ℕ) → has b.held j ≡ true → has rest j ≡ false → Asks (turn_of q j) (seat_at ss j) (seat_at ts j)
+  pub order : (us : List SeatView) (es : List Call) (end : Bool) → ((j : ℕ) → has rest j ≡ false → seat_at us j ≡ seat_at ts j) → LeftInOrder k.image.value b q ss us (locks_of rest) es now end → LeftInOrder k.image.value b q ss us (locks_of b.held) (calls ++ es) false end

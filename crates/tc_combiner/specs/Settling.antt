@@ -5,7 +5,7 @@ use Rattle.tc_elf.specs.Shown.{Shown}
 use Rattle.tc_journal.specs.Batch.{last_of}
 use Rattle.tc_journal.specs.declared.block.Block.{Block}
 use Rattle.tc_journal.specs.declared.block.End.{End}
-use Rattle.tc_journal.specs.declared.block.End.TheVariants.{Wants, Unlocked, Slept, Cut, Exit, Fault, Spent}
+use Rattle.tc_journal.specs.declared.block.End.TheVariants.{Wants, Unlocked, Slept, Cut}
 use Rattle.tc_context.specs.Ran.{DidRun}
 use Rattle.tc_context.specs.View.{PackageView, AllowsPending, want_of}
 use Rattle.tc_hall.specs.declared.place.Place.TheVariants.{Parked}
@@ -14,16 +14,15 @@ use Rattle.tc_hall.specs.declared.board.Terms.{Terms}
 use Rattle.tc_hall.specs.Rule.{locked_in, threads}
 use Rattle.tc_hall.specs.Steps.{put_call, IsSamePass}
 use Rattle.tc_combiner.specs.declared.settled.Settled.{Settled}
-use Rattle.tc_combiner.specs.declared.settled.Settled.TheVariants.{GoesOn, Adopted, Shipped, Parked as Did_park, Ended, Stopped}
+use Rattle.tc_combiner.specs.declared.settled.Settled.TheVariants.{GoesOn, Parked as Did_park}
 use Rattle.tc_combiner.specs.Packages.{HasOnlyHeld, IsAside, IsGoodFor}
-use Rattle.tc_combiner.specs.Walks.{Moves, Owned, Walks, packed, Asks}
-use Rattle.tc_combiner.specs.Acts.{Acts, Adds}
+use Rattle.tc_combiner.specs.Walks.{Moves, Owned, Walks, packed, Asks, Acts, Adds}
 use Rattle.tc_combiner.specs.declared.hands.Hands.{Hands}
+use Rattle.tc_combiner.specs.declared.hands.Rest.{Rest}
 use Rattle.tc_hall.specs.PassView.{PassView}
 use Rattle.tc_queue.specs.Lines.{SeatView}
 use Rattle.tc_combiner.specs.Answers.{AcquiredAs, HasReadied, carried}
-use Rattle.tc_combiner.specs.Release.{UnlockedAs, turn_of}
-use Rattle.tc_combiner.specs.Ends.{AreSameSeats, EndedAs, SeatsLeft, seat_at}
+use Rattle.tc_combiner.specs.Release.{UnlockedAs, turn_of, AreSameSeats, EndedAs, SeatsLeft, seat_at}
 use Rattle.tc_combiner.specs.View.{DeskView}
 use Rattle.tc_hall.specs.Outs.{Pack}
 
@@ -43,15 +42,16 @@ pub record Works (d e : DeskView) : Type 0 where
 abbrev pub TellsReady : Terms → Settled → DeskView → DeskView → Type 0
 TellsReady k r d e = (cs : List Call) × Adds cs d.pass.knows e.pass.knows × HasReadied (threads k) r [] e.handed cs
 
--- what the calls of a desk that had the package q keep, and what they tell; p, a: its pass and what was set aside; g: its hands
--- now
-pub record Keeps (k : Terms) (q : PackageView) (ss ts : List SeatView) (sl sm : List (Option ℕ)) (p : PassView) (a : Option PackageView) (g : Hands) (r : Settled) : Type 0 where
+-- what the calls of a desk that had the package q keep, and what they tell; x, y: its sleepers before and after; p, a: its pass and
+-- what was set aside; g: its hands now
+pub record Keeps (k : Terms) (q : PackageView) (ss ts : List SeatView) (x y : Rest) (p : PassView) (a : Option PackageView) (g : Hands) (r : Settled) : Type 0 where
   pub calls : List Call
   pub acts : Acts calls (Pack q ∷ packed a) (carried r ++ packed g.aside) p g.pass
   pub readied : HasReadied (threads k) r [] g.ready.items calls
   pub aside : (c : PackageView) → g.aside ≡ Some c → IsAside k c
   pub seats : AreSameSeats ss ts
-  pub room : length sm ≡ length sl
+  pub clock : y.clock ≡ x.clock
+  pub room : length y.sleepers ≡ length x.sleepers
 
 -- a block made the package of one that the desk has in hand, and the batch rule allows it the desk's worker
 pub record MayCommit (d : DeskView) (q : PackageView) : Type 0 where
@@ -124,19 +124,11 @@ pub record DidEnd (q : PackageView) (b : Block) (d e : DeskView) (r : Settled) :
 -- it goes on, and nothing was done
 abbrev pub DidNothing : PackageView → DeskView → DeskView → Settled → Type 0
 DidNothing q d e (GoesOn p) = (p ≡ q) × (e ≡ record d { handed = [] }) × IsGoodFor e.pass.knows q
-DidNothing q d e (Adopted p) = ⊥
-DidNothing q d e Shipped = ⊥
-DidNothing q d e Did_park = ⊥
-DidNothing q d e Ended = ⊥
-DidNothing q d e Stopped = ⊥
+DidNothing q d e r = ⊥
 
 abbrev pub DidSleep : PackageView → DeskView → DeskView → Settled → Type 0
-DidSleep q d e (GoesOn p) = ⊥
-DidSleep q d e (Adopted p) = ⊥
-DidSleep q d e Shipped = ⊥
 DidSleep q d e Did_park = DidPark q d e
-DidSleep q d e Ended = ⊥
-DidSleep q d e Stopped = ⊥
+DidSleep q d e r = ⊥
 
 -- of one whose last block is b
 abbrev pub SettledAs : End → PackageView → Block → DeskView → DeskView → Settled → Type 0
@@ -144,9 +136,7 @@ SettledAs (Wants i) q b d e r = DidAcquire i q d e r
 SettledAs (Unlocked i) q b d e r = DidUnlock i q b d e r
 SettledAs Slept q b d e r = DidSleep q d e r
 SettledAs Cut q b d e r = DidNothing q d e r
-SettledAs Exit q b d e r = DidEnd q b d e r
-SettledAs (Fault f) q b d e r = DidEnd q b d e r
-SettledAs Spent q b d e r = DidEnd q b d e r
+SettledAs end q b d e r = DidEnd q b d e r
 
 -- a package that wants a lock was acquired for
 abbrev pub HasAcquired : PackageView → DeskView → DeskView → Settled → Type 0

@@ -8,6 +8,7 @@ use Rattle.tc_hall.specs.PassView.{HallView, PassView}
 use Rattle.tc_queue.specs.View.{QueueView}
 use Rattle.tc_queue.specs.Lines.{SeatView, IsSeatOf}
 use Rattle.tc_combiner.specs.Packages.{IsAside}
+use Rattle.tc_combiner.specs.Walks.{Owned, packed}
 
 -- the number of blocks that it committed is `now`; `handed` are the threads that its last call put as ready
 pub record DeskView : Type 0 where
@@ -32,7 +33,7 @@ pub record AreSeats (k : Terms) (queues : List QueueView) (seats : List SeatView
   pub each : (i : ℕ) (q : QueueView) (s : SeatView) → i < locks k → IsSeatOf (get_or queues i q) (get_or seats i s)
   pub made : (i : ℕ) (q : QueueView) → i < locks k → (get_or queues i q).threads ≡ threads k
 
--- a desk fits a bench
+-- a desk fits a bench; what is set aside is out in its pass
 pub record FitsBench (bench : BenchView) (d : DeskView) : Type 0 where
   pub hall : bench.hall.terms.image.value ≡ bench.image
   pub own : d.pass.table ≡ bench.hall.table
@@ -42,6 +43,7 @@ pub record FitsBench (bench : BenchView) (d : DeskView) : Type 0 where
   pub of : AreSeats bench.hall.terms bench.queues d.seats
   pub sleepers : threads bench.hall.terms ≤ length d.sleepers
   pub aside : (a : PackageView) → d.aside ≡ Some a → IsAside bench.hall.terms a
+  pub out : Owned d.pass.knows (packed d.aside)
 
 -- a seat that no desk has, where a list is read past its end
 abbrev pub no_seat : SeatView

@@ -1,27 +1,36 @@
--- What some calls of a pass and of a seat did: which calls their lists show, and how what is out changed.
-use Rattle.std.specs.Prelude.{◌≡◌, ◌+◌, ℕ, List, [], ◌∷◌, ◌++◌, Option, Some, None}
-use Rattle.tc_segment.specs.View.{LockView}
-use Rattle.tc_context.specs.View.{PackageView}
+-- What some calls of a pass and of a seat did: which calls, one by one, and how what is out changed; and what hands may do.
+use Rattle.std.specs.Prelude.{◌≡◌, ◌+◌, ℕ, List, [], ◌∷◌, ◌++◌, Option, Some, None, ◌==◌, ◌<◌, ◌≤◌, Bool, true, false, All, length, filter}
+use Rattle.tc_segment.specs.View.{LockView, IsAtRest}
+use Rattle.tc_context.specs.View.{PackageView, Rests, fits_of}
 use Rattle.tc_hall.specs.declared.board.Knows.{Knows}
 use Rattle.tc_hall.specs.declared.board.Call.{Call}
-use Rattle.tc_hall.specs.declared.board.Call.TheVariants.{Put, Free, Look, Stop, Stopped}
-use Rattle.tc_hall.specs.declared.place.Place.TheVariants.{Ready, Parked, Done, Waiting}
+use Rattle.tc_hall.specs.declared.board.Call.TheVariants.{Put, Stop, Stopped}
+use Rattle.tc_hall.specs.declared.place.Place.TheVariants.{Ready}
 use Rattle.tc_queue.specs.declared.turn.Turn.{Turn}
 use Rattle.tc_queue.specs.declared.turn.Departure.TheVariants.{Left}
-use Rattle.tc_queue.specs.Lines.{SeatView, LineCall, Enter, Link, Next, Leave}
+use Rattle.tc_queue.specs.Lines.{SeatView, LineCall, Next, Leave}
 use Rattle.tc_queue.specs.Words.{IsTurn}
 use Rattle.tc_combiner.specs.declared.found.Found.{Found}
 use Rattle.tc_combiner.specs.declared.found.Found.TheVariants.{Nobody, Next as Next_is, Unknown}
 use Rattle.tc_hall.specs.Outs.{Called, Outs, outs, erase, IsOut, Item, Pack, Loose}
+use Rattle.tc_isa.specs.declared.limits.TheConstants.{MAX_HELD}
+use Rattle.tc_hall.specs.declared.board.Miss.{Miss}
+use Rattle.tc_hall.specs.declared.board.Terms.{Terms}
+use Rattle.tc_hall.specs.declared.place.Place.{Place}
+use Rattle.tc_hall.specs.PassView.{HallView, PassView}
+use Rattle.tc_hall.specs.Places.{IsInRange, code_of}
+use Rattle.tc_hall.specs.Rule.{threads, locks, IsInOrder, grants_adopted}
+use Rattle.tc_hall.specs.Steps.{IsSamePass}
+use Rattle.tc_combiner.specs.declared.attempt.Attempt.{Attempt}
+use Rattle.tc_combiner.specs.declared.attempt.Attempt.TheVariants.{Came, Refused, Stopped as Try_stopped}
+use Rattle.tc_combiner.specs.declared.hands.Hands.{Hands}
+use Rattle.tc_combiner.specs.Packages.{IsAside}
 
 -- no call of these is a stop
 abbrev pub HaveNoStop : List Call → Type 0
 HaveNoStop [] = Unit {0}
-HaveNoStop (Put t at ls g ∷ cs) = HaveNoStop cs
-HaveNoStop (Free i ∷ cs) = HaveNoStop cs
-HaveNoStop (Look t x ∷ cs) = HaveNoStop cs
 HaveNoStop (Stop ∷ cs) = ⊥
-HaveNoStop (Stopped x ∷ cs) = HaveNoStop cs
+HaveNoStop (c ∷ cs) = HaveNoStop cs
 
 -- calls were added, none of them a stop; image, worker, sealed blocks and joined passes stay
 pub record Walks (v w : Knows) : Type 0 where
@@ -60,21 +69,14 @@ packed (Some q) = Pack q ∷ []
 abbrev pub ready_in : List Call → List ℕ
 ready_in [] = []
 ready_in (Put t Ready ls g ∷ cs) = t ∷ ready_in cs
-ready_in (Put t Parked ls g ∷ cs) = ready_in cs
-ready_in (Put t Done ls g ∷ cs) = ready_in cs
-ready_in (Put t (Waiting i) ls g ∷ cs) = ready_in cs
-ready_in (Free i ∷ cs) = ready_in cs
-ready_in (Look t x ∷ cs) = ready_in cs
-ready_in (Stop ∷ cs) = ready_in cs
-ready_in (Stopped x ∷ cs) = ready_in cs
+ready_in (c ∷ cs) = ready_in cs
 
 -- these calls are questions of this turn alone
 abbrev pub AreAsked : Turn → List LineCall → Type 0
 AreAsked u [] = Unit {0}
-AreAsked u (Enter x a ∷ cs) = ⊥
-AreAsked u (Link m x ∷ cs) = ⊥
 AreAsked u (Next x a ∷ cs) = (x ≡ u) × AreAsked u cs
 AreAsked u (Leave x a ∷ cs) = (x ≡ u) × AreAsked u cs
+AreAsked u (c ∷ cs) = ⊥
 
 -- the seat asked for this turn, and did nothing else
 pub record Asks (u : Turn) (s t : SeatView) : Type 0 where
@@ -87,11 +89,8 @@ pub record Asks (u : Turn) (s t : SeatView) : Type 0 where
 -- how many of these questions were not answered
 abbrev pub unanswered : List LineCall → ℕ
 unanswered [] = 0
-unanswered (Enter x a ∷ cs) = unanswered cs
-unanswered (Link m x ∷ cs) = unanswered cs
 unanswered (Next x None ∷ cs) = unanswered cs + 1
-unanswered (Next x (Some u) ∷ cs) = unanswered cs
-unanswered (Leave x a ∷ cs) = unanswered cs
+unanswered (c ∷ cs) = unanswered cs
 
 -- the seat asked for a turn and was not answered so many times
 pub record Asked (times : ℕ) (s t : SeatView) : Type 0 where
@@ -108,3 +107,119 @@ AskedAs u s t Unknown = Unit {0}
 -- these are out, apart from one another
 abbrev pub Owned : Knows → List Item → Type 0
 Owned v xs = (b : Outs) × Owns b (outs v) xs
+
+-- any call but a look at STOP that saw no stop
+abbrev pub counts : Call → Bool
+counts (Stopped x) = x == 1
+counts c = true
+
+-- of the calls that were added, none of them a stop, these count, in this order; image, worker, sealed blocks and joined passes
+-- stay
+pub record Adds (ds : List Call) (v w : Knows) : Type 0 where
+  pub calls : List Call
+  pub told : Called calls v w
+  pub stops : HaveNoStop calls
+  pub are : filter counts calls ≡ ds
+
+-- the same pass added these calls; whoever had xs out, apart from anything else, has ys out
+pub record Acts (ds : List Call) (xs ys : List Item) (p q : PassView) : Type 0 where
+  pub own : IsSamePass p q
+  pub adds : Adds ds p.knows q.knows
+  pub moves : Moves p.knows q.knows xs ys
+
+-- the call of one who saw the stop
+abbrev pub saw : List Call
+saw = Stopped 1 ∷ []
+
+abbrev pub saw_if : Bool → List Call
+saw_if true = saw
+saw_if false = []
+
+abbrev pub saw_at_unknown : Found → List Call
+saw_at_unknown Unknown = saw
+saw_at_unknown found = []
+
+-- so many steps of the pass were refused, and it made so many calls
+pub record Tried (refused made : ℕ) (v w : Knows) : Type 0 where
+  pub misses : List Miss
+  pub missed : w.missed ≡ v.missed ++ misses
+  pub each : length misses ≡ refused
+  pub calls : List Call
+  pub added : w.calls ≡ v.calls ++ calls
+  pub all : length calls ≡ made
+
+-- one call was made after each step that was refused
+abbrev pub LooksEachTime : Knows → Knows → Type 0
+LooksEachTime v w = (n : ℕ) × Tried n n v w
+
+-- what came of a try
+abbrev pub came_of : {A : Type 0} → Attempt A → Option A
+came_of (Came a) = Some a
+came_of r = None
+
+-- one try: it came, with these items, and nothing was looked at; or so many steps were refused, and then STOP was looked at once
+abbrev pub TriedAs : {A : Type 0} → ℕ → (A → List Item) → (Knows → A → Type 0) → PassView → PassView → Attempt A → Type 0
+TriedAs n items is p q (Came a) = Acts [] [] (items a) p q × Tried 0 0 p.knows q.knows × is q.knows a
+TriedAs n items is p q Refused = Acts [] [] [] p q × Tried n 1 p.knows q.knows
+TriedAs n items is p q Try_stopped = Acts saw [] [] p q × Tried n 1 p.knows q.knows
+
+-- the lock may go home
+pub record MayBringHome (k : Terms) (v : Knows) (l : LockView) : Type 0 where
+  pub lock : l.number < locks k
+  pub out : IsOut (outs v) (Loose l)
+  pub rests : Rests l.number l
+
+-- a lock that was taken from its home: it is as it was left there, and may go home
+abbrev pub IsTaken : Terms → ℕ → Knows → LockView → Type 0
+IsTaken k i v l = IsAtRest v.image i l × MayBringHome k v l
+
+-- tries until it came, with these items, or until the run was stopped
+abbrev pub WaitedAs : {A : Type 0} → (A → List Item) → (Knows → A → Type 0) → PassView → PassView → Option A → Type 0
+WaitedAs items is p q (Some a) = Acts [] [] (items a) p q × LooksEachTime p.knows q.knows × is q.knows a
+WaitedAs items is p q None = Acts saw [] [] p q × LooksEachTime p.knows q.knows
+
+-- tries so far, none of which came
+abbrev pub Waits : PassView → PassView → Type 0
+Waits p q = Acts [] [] [] p q × LooksEachTime p.knows q.knows
+
+-- after the first question each that was not answered was followed by one call
+abbrev pub LooksAfterFirst : SeatView → SeatView → Knows → Knows → Type 0
+LooksAfterFirst s t v w = (n m : ℕ) × Asked n s t × Tried 0 m v w × (m ≤ n) × (n ≤ m + 1)
+
+-- so it was before each look
+abbrev pub LooksBetween : SeatView → SeatView → Knows → Knows → Type 0
+LooksBetween s t v w = (m : ℕ) × Asked (m + 1) s t × Tried 0 m v w
+
+-- the package may be put at the place
+pub record MayGive (k : Terms) (v : Knows) (to : Place) (q : PackageView) : Type 0 where
+  pub thread : q.context.thread < threads k
+  pub place : IsInRange (locks k) to
+  pub out : IsOut (outs v) (Pack q)
+  pub order : IsInOrder (code_of to) q
+  pub plain : grants_adopted q.granted ≡ false
+  pub fits : fits_of q v.worker ≡ true
+
+-- a pass of this hall has these items out, and a may be set aside there
+pub record IsAt (hall : HallView) (xs : List Item) (p : PassView) (a : Option PackageView) : Type 0 where
+  pub own : p.table ≡ hall.table
+  pub image : p.knows.image ≡ hall.terms.image.value
+  pub out : Owned p.knows xs
+  pub aside : (c : PackageView) → a ≡ Some c → IsAside hall.terms c
+
+-- so it is with these hands
+abbrev pub IsAtHall : HallView → List Item → Hands → Type 0
+IsAtHall hall xs h = IsAt hall xs h.pass h.aside
+
+-- and they may put so many threads as ready
+pub record MayAct (hall : HallView) (xs : List Item) (n : ℕ) (h : Hands) : Type 0 where
+  pub at : IsAtHall hall xs h
+  pub room : length h.ready.items + n ≤ MAX_HELD
+
+-- the list got the threads that these calls put as ready, in order, each of them one of so many
+abbrev pub TakesDown : ℕ → List ℕ → List ℕ → List Call → Type 0
+TakesDown threads old new cs = (new ≡ old ++ ready_in cs) × All (λ t. t < threads) (ready_in cs)
+
+-- the hands made these calls, and took down the threads that they put as ready
+pub record Acted (k : Terms) (ds : List Call) (xs ys : List Item) (h g : Hands) : Type 0 where
+  pub acts : Acts ds xs ys h.pass g.pass
+  pub readied : TakesDown (threads k) h.ready.items g.ready.items ds

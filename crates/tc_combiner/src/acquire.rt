@@ -5,14 +5,10 @@ ghost use Rattle.tc_turn.specs.Turn.{is_running};
 ghost use Rattle.tc_context.specs.View.{IsNumber, IsWaiting};
 ghost use Rattle.tc_hall.specs.Rule.{threads, locks};
 ghost use Rattle.tc_hall.specs.Steps.{put_call};
-ghost use Rattle.tc_hall.specs.declared.place.Place.TheVariants.{Waiting};
-ghost use Rattle.tc_queue.specs.Lines.{IsSeatOf, MayLinkTo, Link, with_line};
-ghost use Rattle.tc_queue.specs.Words.{IsTurn};
-ghost use Rattle.tc_queue.specs.declared.turn.Turn.{Turn};
+ghost use Rattle.tc_queue.specs.Lines.{IsSeatOf};
 ghost use Rattle.tc_hall.specs.Outs.{outs, IsOut, Pack};
 ghost use Rattle.tc_combiner.specs.Packages.{IsPlain, MayGoOn};
-ghost use Rattle.tc_combiner.specs.Walks.{packed};
-ghost use Rattle.tc_combiner.specs.Acts.{Acts, IsAtHall, MayGive};
+ghost use Rattle.tc_combiner.specs.Walks.{packed, Acts, IsAtHall};
 ghost use Rattle.tc_combiner.specs.Answers.{Acquires, DidFirst, MayAsk, PutAllBack, place_back};
 
 use crate::calls;
@@ -91,30 +87,6 @@ fn acquire_first<R: Wait>(
     }
 }
 
-// Puts the package as waiting, and then links its turn.
-fn ship<Q: Waiters>(
-    hall: &Hall,
-    pass: &mut Pass,
-    queue: &Q,
-    seat: &mut Q::Seat,
-    package: Package,
-    lock: u32,
-    place: Q::Place,
-    own: Turn,
-)
-    requires own { pass.old.table ≡ hall.now.table }
-    requires may { MayGive hall.now.terms pass.old.knows (Waiting lock) «package» }
-    requires seat { IsSeatOf (Q.queue queue.now) (Q.seen seat.old) }
-    requires turn { IsTurn (Q.queue queue.now).threads own }
-    requires entered { MayLinkTo (Q.seen seat.old).calls own (Q.mark place) }
-    ensures acts { Acts (put_call «package» (Waiting lock) ∷ []) (Pack «package» ∷ []) []
-        pass.old pass.new }
-    ensures line { Q.seen seat.new ≡ with_line (Q.seen seat.old) (Link (Q.mark place) own) }
-{
-    calls::put(hall, pass, package, Place::Waiting(lock));
-    queue.link(seat, place, own);
-}
-
 /// What `acquire` does, with what it needs of the desk.
 pub(crate) fn acquire_with<R: Wait, Q: Waiters>(
     rt: &R,
@@ -143,8 +115,8 @@ pub(crate) fn acquire_with<R: Wait, Q: Waiters>(
             None => Settled::Stopped,
         },
         Arrival::Behind(place) => {
-            let pass = &mut hands.pass;
-            ship(hall, pass, queue, seat, package, lock, place, own);
+            calls::put(hall, &mut hands.pass, package, Place::Waiting(lock));
+            queue.link(seat, place, own);
             Settled::Shipped
         }
     }

@@ -14,7 +14,7 @@ ghost use Rattle.tc_combiner.specs.Answers.{carried};
 ghost use Rattle.tc_combiner.specs.View.{FitsBench, desk_of};
 ghost use Rattle.tc_combiner.specs.Settling.{HasAcquired, HasSettled, IsInHand, MayAcquire, MayCommit, MaySettle, MovesSealed, TellsReady, Works};
 
-use crate::hands::Hands;
+use crate::hands::{Hands, Rest, Shared};
 use crate::ready::ReadyList;
 use crate::settle::{acquire_at, settle_with};
 use crate::settled::Settled;
@@ -53,8 +53,7 @@ impl<'a, Q: Waiters> Model for Bench<'a, Q> {
 pub struct Desk<Q: Waiters> {
     hands: Hands,
     seats: Vec<Q::Seat>,
-    sleepers: Sleepers,
-    clock: u64,
+    rest: Rest,
 }
 
 impl<Q: Waiters> Model for Desk<Q> {
@@ -63,7 +62,7 @@ impl<Q: Waiters> Model for Desk<Q> {
 
     ghost Value = { DeskView };
 
-    ghost view = { λ d. record { pass = d.hands.pass; seats = map Q.seen d.seats.items; sleepers = d.sleepers; now = d.clock; aside = d.hands.aside; handed = d.hands.ready.items } };
+    ghost view = { λ d. record { pass = d.hands.pass; seats = map Q.seen d.seats.items; sleepers = d.rest.sleepers; now = d.rest.clock; aside = d.hands.aside; handed = d.hands.ready.items } };
 }
 
 impl<Q: Waiters> Desk<Q> {
@@ -79,8 +78,7 @@ impl<Q: Waiters> Desk<Q> {
                 ready: ReadyList::new(),
             },
             seats,
-            sleepers,
-            clock: 0,
+            rest: Rest { sleepers, clock: 0 },
         }
     }
 
@@ -97,14 +95,14 @@ impl<Q: Waiters> Desk<Q> {
         ensures* writes_back { sem 𝓛 (Lends (the_row Q.row Q.Seat.row Q.Place.row Q.Waiters) sleepers_row self.entry result (λ sleepers. record self.old { sleepers = sleepers })) }
         ensures value { result.now ≡ self.old.sleepers }
     {
-        &mut self.sleepers
+        &mut self.rest.sleepers
     }
 
     /// The clock: how many blocks it committed, unless it was advanced.
     pub fn now(&self) -> u64
         ensures { result ≡ self.now.now }
     {
-        self.clock
+        self.rest.clock
     }
 
     /// Moves the clock on, to a turn that is not before.
@@ -112,7 +110,7 @@ impl<Q: Waiters> Desk<Q> {
         requires { self.old.now ≤ to }
         ensures { self.new ≡ record self.old { now = to } }
     {
-        self.clock = to;
+        self.rest.clock = to;
     }
 
     /// Seals the package's pending block, with a stamp that is the answer. The clock rises by 1; one
@@ -130,7 +128,7 @@ impl<Q: Waiters> Desk<Q> {
         ensures fits { FitsBench bench.now self.new }
     {
         let stamp = bench.hall.commit(&mut self.hands.pass, package);
-        self.clock = self.clock.saturating_add(1);
+        self.rest.clock = self.rest.clock.saturating_add(1);
         stamp
     }
 
@@ -154,11 +152,14 @@ impl<Q: Waiters> Desk<Q> {
             Some(lock) => lock,
             None => unreachable!(),
         };
+        let shared = Shared {
+            hall: bench.hall,
+            queues: bench.queues,
+        };
         acquire_at(
             rt,
-            bench.hall,
+            &shared,
             &mut self.hands,
-            bench.queues,
             self.seats.as_mut_slice(),
             package,
             lock,
@@ -184,14 +185,16 @@ impl<Q: Waiters> Desk<Q> {
         ensures settled { HasSettled end «package» self.old self.new result }
         ensures fits { FitsBench bench.now self.new }
     {
+        let shared = Shared {
+            hall: bench.hall,
+            queues: bench.queues,
+        };
         settle_with(
             rt,
-            bench.hall,
+            &shared,
             &mut self.hands,
-            bench.queues,
             self.seats.as_mut_slice(),
-            &mut self.sleepers,
-            self.clock,
+            &mut self.rest,
             package,
             end,
         )
@@ -223,8 +226,7 @@ impl<Q: Waiters> Desk<Q> {
         let Desk {
             hands,
             seats,
-            sleepers: _,
-            clock: _,
+            rest: _,
         } = self;
         let Hands {
             pass,

@@ -1,23 +1,21 @@
 //! What `settle` does where a thread sleeps, and where it has ended.
 
-ghost use Rattle.std.specs.Prelude.{◌≡◌, ◌<◌, ◌≤◌, ◌-◌, ◌+◌, ◌^◌, [], ◌∷◌, Some, true, min, length, map, slice_set};
+ghost use Rattle.std.specs.Prelude.{◌≡◌, ◌<◌, ◌≤◌, ◌-◌, ◌+◌, ◌^◌, [], ◌∷◌, Some, true, min, length, map, slice_set, false};
 ghost use Rattle.tc_isa.specs.Sets.{locks_of};
 ghost use Rattle.tc_isa.specs.declared.limits.TheConstants.{MAX_HELD};
 ghost use Rattle.tc_journal.specs.Batch.{ends_thread};
 ghost use Rattle.tc_hall.specs.Rule.{threads, locks};
-ghost use Rattle.tc_queue.specs.Lines.{IsSeatOf};
+ghost use Rattle.tc_queue.specs.Lines.{IsSeatOf, SeatView};
 ghost use Rattle.tc_hall.specs.Outs.{Pack};
-ghost use Rattle.tc_combiner.specs.Walks.{packed};
-ghost use Rattle.tc_combiner.specs.Acts.{IsAtHall, MayAct};
+ghost use Rattle.tc_combiner.specs.Walks.{packed, IsAtHall, MayAct};
 ghost use Rattle.tc_combiner.specs.Answers.{MayPark, Parks};
-ghost use Rattle.tc_combiner.specs.Release.{MayRelease};
+ghost use Rattle.tc_combiner.specs.Release.{MayRelease, DidLeave, DidLeaveAll, Ends, MayEnd};
 ghost use Rattle.tc_combiner.specs.View.{AreSeats};
-ghost use Rattle.tc_combiner.specs.Ends.{DidLeave, DidLeaveAll, Ends, MayEnd};
 
 use crate::acquire::put_all_back;
 use crate::calls;
-use crate::hands::Hands;
-use crate::passed::Passed;
+use crate::hands::{Hands, Rest, Shared};
+use crate::passed::{Passed, Released};
 use crate::release::pass_on;
 use crate::settled::Settled;
 use std::sync::Wait;
@@ -26,32 +24,40 @@ use tc_hall::hall::Hall;
 use tc_hall::place::Place;
 use tc_journal::block::Block;
 use tc_nested::first_release;
-use tc_park::Sleepers;
 use tc_queue::Waiters;
 
 /// Puts the package as parked, and enters its thread among the sleepers.
-pub(crate) fn park(
-    hall: &Hall,
-    hands: &mut Hands,
-    sleepers: &mut Sleepers,
-    clock: u64,
-    package: Package,
-)
+pub(crate) fn park(hall: &Hall, hands: &mut Hands, rest: &mut Rest, package: Package)
     requires hands { IsAtHall hall.now (Pack «package» ∷ packed hands.old.aside) hands.old }
-    requires room { threads hall.now.terms ≤ length sleepers.old }
+    requires room { threads hall.now.terms ≤ length rest.old.sleepers }
     requires may { MayPark hall.now.terms «package» }
     ensures calls { Parks hall.now.terms «package» hands.old hands.new }
-    ensures sleeper { sleepers.new ≡ slice_set sleepers.old «package».context.thread
-        (Some (min (clock + «package».slept) (2 ^ 64 - 1))) }
+    ensures sleeper { rest.new ≡ record rest.old {
+      sleepers = slice_set rest.old.sleepers «package».context.thread
+          (Some (min (rest.old.clock + «package».slept) (2 ^ 64 - 1)));
+    } }
 {
-    let due = clock.saturating_add(u64::from(package.slept()));
+    let due = rest.clock.saturating_add(u64::from(package.slept()));
     let thread = package.thread();
     calls::put(hall, &mut hands.pass, package, Place::Parked);
-    sleepers.add(thread, due);
+    rest.sleepers.add(thread, due);
 }
 
-// Passes on one lock of a thread that has ended, or brings it home where the run was stopped
-// before. Whether it is stopped now.
+// Brings home one lock of a thread that has ended, where the run was stopped before.
+fn bring_home(hall: &Hall, hands: &mut Hands, package: &mut Package, released: Released<'_>)
+    requires hands { MayAct hall.now (Pack «package».old ∷ []) 1 hands.old }
+    requires place { released.lock < locks hall.now.terms }
+    requires may { MayRelease hands.old.pass.knows (threads hall.now.terms) released.lock
+        released.block.now «package».old }
+    ensures { (s : SeatView) → DidLeave hall.now.terms released.entry.lock released.entry.block.now
+        «package».old «package».new s s hands.old hands.new true true }
+{
+    package.keeps();
+    let state = package.take_out(released.lock);
+    calls::free(hall, &mut hands.pass, state);
+}
+
+// Passes on one lock of a thread that has ended. Whether the run was stopped.
 fn end_one<R: Wait, Q: Waiters>(
     rt: &R,
     hall: &Hall,
@@ -59,27 +65,19 @@ fn end_one<R: Wait, Q: Waiters>(
     queue: &Q,
     seat: &mut Q::Seat,
     package: &mut Package,
-    lock: u32,
-    block: &Block,
-    stopped: bool,
+    released: Released<'_>,
 ) -> bool
     requires hands { MayAct hall.now (Pack «package».old ∷ []) 1 hands.old }
-    requires place { lock < locks hall.now.terms }
-    requires may { MayRelease hands.old.pass.knows (threads hall.now.terms) lock block.now
-        «package».old }
-    requires ended { ends_thread block.now.end ≡ true }
+    requires place { released.lock < locks hall.now.terms }
+    requires may { MayRelease hands.old.pass.knows (threads hall.now.terms) released.lock
+        released.block.now «package».old }
+    requires ended { ends_thread released.block.now.end ≡ true }
     requires seat { IsSeatOf (Q.queue queue.now) (Q.seen seat.old) }
     requires made { (Q.queue queue.now).threads ≡ threads hall.now.terms }
-    ensures { DidLeave hall.now.terms lock block.now «package».old «package».new
-        (Q.seen seat.old) (Q.seen seat.new) hands.old hands.new stopped result }
+    ensures { DidLeave hall.now.terms released.entry.lock released.entry.block.now «package».old «package».new
+        (Q.seen seat.old) (Q.seen seat.new) hands.old hands.new false result }
 {
-    if stopped {
-        package.keeps();
-        let state = package.take_out(lock);
-        calls::free(hall, &mut hands.pass, state);
-        return true;
-    }
-    match pass_on(rt, hall, hands, queue, seat, package, lock, block) {
+    match pass_on(rt, hall, hands, queue, seat, package, released) {
         Passed::Home => false,
         Passed::Granted => false,
         Passed::Adopted(_) => unreachable!(),
@@ -90,20 +88,19 @@ fn end_one<R: Wait, Q: Waiters>(
 // Passes on the locks of a thread that has ended, the least first. Whether the run was stopped.
 fn end_all<R: Wait, Q: Waiters>(
     rt: &R,
-    hall: &Hall,
+    shared: &Shared<'_, Q>,
     hands: &mut Hands,
-    queues: &[Q],
     seats: &mut [Q::Seat],
     package: &mut Package,
     block: &Block,
 ) -> bool
-    requires hands { MayAct hall.now (Pack «package».old ∷ [])
+    requires hands { MayAct shared.now.hall.now (Pack «package».old ∷ [])
         (length (locks_of block.now.held)) hands.old }
-    requires may { MayEnd hands.old.pass.knows (threads hall.now.terms) block.now «package».old }
-    requires counts { (length queues.now ≡ locks hall.now.terms)
-        × (length seats.old ≡ locks hall.now.terms) }
-    requires seats { AreSeats hall.now.terms (map Q.queue queues.now) (map Q.seen seats.old) }
-    ensures { DidLeaveAll hall.now.terms block.now «package».old «package».new
+    requires may { MayEnd hands.old.pass.knows (threads shared.now.hall.now.terms) block.now «package».old }
+    requires counts { (length shared.now.queues.now ≡ locks shared.now.hall.now.terms)
+        × (length seats.old ≡ locks shared.now.hall.now.terms) }
+    requires seats { AreSeats shared.now.hall.now.terms (map Q.queue shared.now.queues.now) (map Q.seen seats.old) }
+    ensures { DidLeaveAll shared.now.hall.now.terms block.now «package».old «package».new
         (map Q.seen seats.old) (map Q.seen seats.new) hands.old hands.new result }
 {
     let mut stopped = false;
@@ -111,17 +108,14 @@ fn end_all<R: Wait, Q: Waiters>(
     while let Some(lock) = first_release(rest) {
         package.keeps();
         rest = rest.less(lock);
-        stopped = end_one(
-            rt,
-            hall,
-            hands,
-            &queues[lock as usize],
-            &mut seats[lock as usize],
-            package,
-            lock,
-            block,
-            stopped,
-        );
+        let released = Released { lock, block };
+        if stopped {
+            bring_home(shared.hall, hands, package, released);
+            continue;
+        }
+        let queue = &shared.queues[lock as usize];
+        let seat = &mut seats[lock as usize];
+        stopped = end_one(rt, shared.hall, hands, queue, seat, package, released);
     }
     stopped
 }
@@ -129,26 +123,25 @@ fn end_all<R: Wait, Q: Waiters>(
 /// What `settle` does at a thread's end.
 pub(crate) fn ended_with<R: Wait, Q: Waiters>(
     rt: &R,
-    hall: &Hall,
+    shared: &Shared<'_, Q>,
     hands: &mut Hands,
-    queues: &[Q],
     seats: &mut [Q::Seat],
     mut package: Package,
     block: &Block,
 ) -> Settled
-    requires hands { MayAct hall.now (Pack «package» ∷ packed hands.old.aside) MAX_HELD hands.old }
-    requires may { MayEnd hands.old.pass.knows (threads hall.now.terms) block.now «package» }
-    requires counts { (length queues.now ≡ locks hall.now.terms)
-        × (length seats.old ≡ locks hall.now.terms) }
-    requires seats { AreSeats hall.now.terms (map Q.queue queues.now) (map Q.seen seats.old) }
-    ensures { Ends hall.now.terms block.now «package» (map Q.seen seats.old) (map Q.seen seats.new)
+    requires hands { MayAct shared.now.hall.now (Pack «package» ∷ packed hands.old.aside) MAX_HELD hands.old }
+    requires may { MayEnd hands.old.pass.knows (threads shared.now.hall.now.terms) block.now «package» }
+    requires counts { (length shared.now.queues.now ≡ locks shared.now.hall.now.terms)
+        × (length seats.old ≡ locks shared.now.hall.now.terms) }
+    requires seats { AreSeats shared.now.hall.now.terms (map Q.queue shared.now.queues.now) (map Q.seen seats.old) }
+    ensures { Ends shared.now.hall.now.terms block.now «package» (map Q.seen seats.old) (map Q.seen seats.new)
         hands.old hands.new result }
 {
     package.keeps();
-    if end_all(rt, hall, hands, queues, seats, &mut package, block) {
-        put_all_back(hall, hands, package);
+    if end_all(rt, shared, hands, seats, &mut package, block) {
+        put_all_back(shared.hall, hands, package);
         return Settled::Stopped;
     }
-    calls::put(hall, &mut hands.pass, package, Place::Done);
+    calls::put(shared.hall, &mut hands.pass, package, Place::Done);
     Settled::Ended
 }

@@ -12,22 +12,22 @@
 //! and that nothing else that was out changed.
 //!
 //! - `specs/View.antt`: desks and benches as contracts see them, and when a desk fits a bench.
-//!   `specs/Walks.antt`: what some calls of a pass and of a seat did. `specs/Acts.antt`: which calls,
-//!   one by one, and what hands may do. `specs/Packages.antt`: what is asked and said of packages.
-//!   `specs/Answers.antt`: what became of a package that wants a lock, and of one that is put back.
-//!   `specs/Release.antt`: what became of a released lock. `specs/Ends.antt`: of all locks of a
-//!   thread that ended. `specs/Settling.antt`: all of it by the end of the block. `specs/Ties.antt`:
-//!   the tail of a queue beside the line of the pure machine.
-//! - `desk`: desks and benches. `hands`: what a desk acts with. `settle`: what `settle` does, over
-//!   the parts of a desk. `acquire`, `unlock`, `ends`: what is done for a package that wants a lock,
-//!   at an unlock, and at a sleep or a thread's end. `release`: what becomes of a released lock.
-//!   `waits`: the three waits. `calls`: the calls of the hall, as desks make them. `tie`: the tie of
-//!   lines.
-//! - `settled`, `passed`, `found`, `ready`: what became of a package, of a lock, who stands behind,
-//!   and which threads were made ready.
+//!   `specs/Walks.antt`: what some calls of a pass and of a seat did, one by one, and what hands may
+//!   do. `specs/Packages.antt`: what is asked and said of packages. `specs/Answers.antt`: what became
+//!   of a package that wants a lock, and of one that is put back. `specs/Release.antt`: what became of
+//!   a released lock, and of all locks of a thread that ended. `specs/Settling.antt`: all of it by the
+//!   end of the block. `specs/Ties.antt`: the tail of a queue beside the line of the pure machine.
+//! - `desk`: desks and benches. `hands`: what a desk acts with, and what it shares. `settle`: what
+//!   `settle` does, over the parts of a desk. `acquire`, `unlock`, `ends`: what is done for a package
+//!   that wants a lock, at an unlock, and at a sleep or a thread's end. `release`: what becomes of a
+//!   released lock. `waits`: the three waits, and one try of each. `calls`: the calls of the hall that
+//!   several of these make. `tie`: the tie of lines.
+//! - `settled`, `passed`, `found`, `attempt`, `ready`: what became of a package, of a lock, who stands
+//!   behind, what one try came to, and which threads were made ready.
 #![tactic(auto)]
 
 mod acquire;
+mod attempt;
 mod calls;
 mod desk;
 mod ends;

@@ -1,6 +1,14 @@
-//! What became of a released lock.
+//! Locks that a block released, and what became of them.
 
 use tc_context::package::Package;
+use tc_journal::block::Block;
+
+/// A lock, and the block that released it.
+#[derive(Clone, Copy)]
+pub(crate) struct Released<'a> {
+    pub(crate) lock: u32,
+    pub(crate) block: &'a Block,
+}
 
 /// What became of a released lock.
 #[derive(Drop)]

@@ -8,12 +8,12 @@ ghost use Rattle.tc_queue.specs.Words.{IsTurn};
 ghost use Rattle.tc_hall.specs.Outs.{outs, Pack, Loose};
 ghost use Rattle.tc_combiner.specs.Packages.{IsWaiter};
 ghost use Rattle.tc_combiner.specs.Release.{DidHand, DidPass, IsReleased, MayRelease};
-ghost use Rattle.tc_combiner.specs.Acts.{MayAct};
+ghost use Rattle.tc_combiner.specs.Walks.{MayAct};
 
 use crate::calls;
 use crate::found::Found;
 use crate::hands::Hands;
-use crate::passed::Passed;
+use crate::passed::{Passed, Released};
 use crate::waits::{await_waiter, find_next};
 use std::sync::Wait;
 use tc_context::package::Package;
@@ -88,26 +88,25 @@ pub(crate) fn pass_on<R: Wait, Q: Waiters>(
     queue: &Q,
     seat: &mut Q::Seat,
     package: &mut Package,
-    lock: u32,
-    block: &Block,
+    released: Released<'_>,
 ) -> Passed
     requires hands { MayAct hall.now (Pack «package».old ∷ []) 1 hands.old }
-    requires place { lock < locks hall.now.terms }
-    requires may { MayRelease hands.old.pass.knows (threads hall.now.terms) lock block.now
-        «package».old }
+    requires place { released.lock < locks hall.now.terms }
+    requires may { MayRelease hands.old.pass.knows (threads hall.now.terms) released.lock
+        released.block.now «package».old }
     requires seat { IsSeatOf (Q.queue queue.now) (Q.seen seat.old) }
     requires made { (Q.queue queue.now).threads ≡ threads hall.now.terms }
-    ensures { DidPass hall.now.terms lock block.now «package».old «package».new
+    ensures { DidPass hall.now.terms released.entry.lock released.entry.block.now «package».old «package».new
         (Q.seen seat.old) (Q.seen seat.new) hands.old hands.new result }
 {
     package.keeps();
     let own = Turn {
         thread: package.thread(),
-        number: package.number_of(lock),
+        number: package.number_of(released.lock),
     };
-    let state = package.take_out(lock);
+    let state = package.take_out(released.lock);
     match find_next(rt, hall, &mut hands.pass, queue, seat, own) {
-        Found::Next(next) => hand_on(rt, hall, hands, state, block, next),
+        Found::Next(next) => hand_on(rt, hall, hands, state, released.block, next),
         Found::Nobody => {
             calls::free(hall, &mut hands.pass, state);
             Passed::Home

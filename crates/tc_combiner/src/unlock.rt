@@ -5,22 +5,20 @@ ghost use Rattle.tc_hall.specs.Rule.{threads};
 ghost use Rattle.tc_queue.specs.Lines.{IsSeatOf};
 ghost use Rattle.tc_hall.specs.Outs.{Pack};
 ghost use Rattle.tc_combiner.specs.Packages.{HoldsNone, IsAside, MayGoOn};
-ghost use Rattle.tc_combiner.specs.Walks.{packed};
-ghost use Rattle.tc_combiner.specs.Acts.{MayAct};
+ghost use Rattle.tc_combiner.specs.Walks.{packed, MayAct};
 ghost use Rattle.tc_combiner.specs.Answers.{Goes, PutsAside};
 ghost use Rattle.tc_combiner.specs.Release.{MayUnlock, Unlocks};
 
 use crate::acquire::put_all_back;
 use crate::calls;
 use crate::hands::Hands;
-use crate::passed::Passed;
+use crate::passed::{Passed, Released};
 use crate::release::pass_on;
 use crate::settled::Settled;
 use std::sync::Wait;
 use tc_context::package::Package;
 use tc_hall::hall::Hall;
 use tc_hall::place::Place;
-use tc_journal::block::Block;
 use tc_nested::first_release;
 use tc_queue::Waiters;
 
@@ -74,18 +72,18 @@ pub(crate) fn unlocked_with<R: Wait, Q: Waiters>(
     queue: &Q,
     seat: &mut Q::Seat,
     mut package: Package,
-    lock: u32,
-    block: &Block,
+    released: Released<'_>,
 ) -> Settled
     requires hands { MayAct hall.now (Pack «package» ∷ packed hands.old.aside) 2 hands.old }
-    requires may { MayUnlock hall.now.terms hands.old.pass.knows lock block.now «package» }
+    requires may { MayUnlock hall.now.terms hands.old.pass.knows released.lock
+        released.block.now «package» }
     requires seat { IsSeatOf (Q.queue queue.now) (Q.seen seat.old) }
     requires made { (Q.queue queue.now).threads ≡ threads hall.now.terms }
-    ensures { Unlocks hall.now.terms lock block.now «package» (Q.seen seat.old) (Q.seen seat.new)
-        hands.old hands.new result }
+    ensures { Unlocks hall.now.terms released.entry.lock released.entry.block.now «package»
+        (Q.seen seat.old) (Q.seen seat.new) hands.old hands.new result }
 {
     package.keeps();
-    match pass_on(rt, hall, hands, queue, seat, &mut package, lock, block) {
+    match pass_on(rt, hall, hands, queue, seat, &mut package, released) {
         Passed::Home => go_on(hall, hands, package),
         Passed::Granted => go_on(hall, hands, package),
         Passed::Adopted(waiter) => {

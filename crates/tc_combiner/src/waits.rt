@@ -1,25 +1,84 @@
-//! The three waits of a desk. Each looks at STOP in each turn.
+//! The three waits of a desk, and one try of each. Each looks at STOP after each try that failed.
 
-ghost use Rattle.std.specs.Prelude.{ℕ, ◌≡◌, ◌<◌, ◌≤◌, [], ◌∷◌, None, Some};
-ghost use Rattle.tc_segment.specs.View.{LockView, IsAtRest};
-ghost use Rattle.tc_context.specs.View.{PackageView};
+ghost use Rattle.std.specs.Prelude.{ℕ, ◌≡◌, ◌<◌, ◌≤◌, [], ◌∷◌};
 ghost use Rattle.tc_hall.specs.Rule.{threads, locks};
-ghost use Rattle.tc_queue.specs.Lines.{IsSeatOf};
+ghost use Rattle.tc_hall.specs.Outs.{Pack, Loose};
+ghost use Rattle.tc_queue.specs.Lines.{IsSeatOf, Next, with_line};
 ghost use Rattle.tc_queue.specs.Words.{IsTurn};
 ghost use Rattle.tc_combiner.specs.Packages.{IsWaiter};
-ghost use Rattle.tc_combiner.specs.Walks.{Asked, Asks, AskedAs, loose, packed};
+ghost use Rattle.tc_combiner.specs.Walks.{Asked, Asks, AskedAs, Acts, LooksAfterFirst, IsTaken, TriedAs, WaitedAs, came_of, saw_at_unknown};
 ghost use Rattle.tc_combiner.specs.declared.found.Found.TheVariants.{Unknown};
-ghost use Rattle.tc_combiner.specs.Acts.{Acts, LooksAfterFirst, LooksEachTime, saw_at_none, saw_at_unknown};
 
+use crate::attempt::Attempt;
 use crate::calls;
 use crate::found::Found;
 use crossbeam_utils::Backoff;
 use std::sync::Wait;
 use tc_context::package::Package;
-use tc_hall::hall::Hall;
+use tc_hall::hall::{Hall, LockOut, NotWaiting};
 use tc_hall::pass::Pass;
 use tc_queue::{Departure, Turn, Waiters};
 use tc_segment::state::LockState;
+
+// Tries to take the lock, and looks at STOP where it is not home.
+fn try_take(hall: &Hall, pass: &mut Pass, lock: u32) -> Attempt<LockState>
+    requires own { pass.old.table ≡ hall.now.table }
+    requires place { lock < locks hall.now.terms }
+    ensures { TriedAs 1 (λ l. Loose l ∷ []) (IsTaken hall.now.terms lock) pass.old pass.new result }
+{
+    match hall.take(pass, lock) {
+        Ok(state) => Attempt::Came(state),
+        Err(LockOut(_)) => {
+            if calls::stopped(hall, pass) {
+                return Attempt::Stopped;
+            }
+            Attempt::Refused
+        }
+    }
+}
+
+// Tries to take the waiter's package, and looks at STOP where it does not wait.
+fn try_adopt(hall: &Hall, pass: &mut Pass, t: u32, lock: u32) -> Attempt<Package>
+    requires own { pass.old.table ≡ hall.now.table }
+    requires places { (t < threads hall.now.terms) × (lock < locks hall.now.terms) }
+    ensures { TriedAs 1 (λ q. Pack q ∷ []) (λ v q. IsWaiter t lock v.image q) pass.old pass.new result }
+{
+    match hall.adopt(pass, t, lock) {
+        Ok(waiter) => Attempt::Came(waiter),
+        Err(NotWaiting(_)) => {
+            if calls::stopped(hall, pass) {
+                return Attempt::Stopped;
+            }
+            Attempt::Refused
+        }
+    }
+}
+
+// Asks for the turn behind, and looks at STOP where it is not linked.
+fn try_next<R: Wait, Q: Waiters>(
+    rt: &R,
+    hall: &Hall,
+    pass: &mut Pass,
+    queue: &Q,
+    seat: &mut Q::Seat,
+    own: Turn,
+) -> Attempt<Turn>
+    requires own { pass.old.table ≡ hall.now.table }
+    requires seat { IsSeatOf (Q.queue queue.now) (Q.seen seat.old) }
+    requires turn { IsTurn (Q.queue queue.now).threads own }
+    ensures line { Q.seen seat.new ≡ with_line (Q.seen seat.old) (Next own (came_of result)) }
+    ensures tried { TriedAs 0 (λ u. []) (λ v u. IsTurn (Q.queue queue.now).threads u) pass.old pass.new result }
+{
+    match queue.next(rt, seat, own) {
+        Some(next) => Attempt::Came(next),
+        None => {
+            if calls::stopped(hall, pass) {
+                return Attempt::Stopped;
+            }
+            Attempt::Refused
+        }
+    }
+}
 
 /// Takes the lock once it is home. None: the run was stopped.
 pub(crate) fn take_home<R: Wait>(
@@ -30,19 +89,15 @@ pub(crate) fn take_home<R: Wait>(
 ) -> Option<LockState>
     requires own { pass.old.table ≡ hall.now.table }
     requires place { lock < locks hall.now.terms }
-    ensures acts { Acts (saw_at_none result) [] (loose result) pass.old pass.new }
-    ensures looks { LooksEachTime pass.old.knows pass.new.knows }
-    ensures lock { (l : LockView) → result ≡ Some l → IsAtRest pass.old.knows.image lock l }
+    ensures { WaitedAs (λ l. Loose l ∷ []) (IsTaken hall.now.terms lock) pass.old pass.new result }
 {
     let pause = Backoff::new();
     for _ in rt.forever() {
-        if let Ok(state) = calls::take(hall, pass, lock) {
-            return Some(state);
+        match try_take(hall, pass, lock) {
+            Attempt::Came(state) => return Some(state),
+            Attempt::Stopped => return None,
+            Attempt::Refused => pause.snooze(),
         }
-        if calls::stopped(hall, pass) {
-            return None;
-        }
-        pause.snooze();
     }
     unreachable!()
 }
@@ -56,20 +111,16 @@ pub(crate) fn await_waiter<R: Wait>(
     lock: u32,
 ) -> Option<Package>
     requires own { pass.old.table ≡ hall.now.table }
-    requires place { (t < threads hall.now.terms) × (lock < locks hall.now.terms) }
-    ensures acts { Acts (saw_at_none result) [] (packed result) pass.old pass.new }
-    ensures looks { LooksEachTime pass.old.knows pass.new.knows }
-    ensures waiter { (q : PackageView) → result ≡ Some q → IsWaiter t lock pass.old.knows.image q }
+    requires places { (t < threads hall.now.terms) × (lock < locks hall.now.terms) }
+    ensures { WaitedAs (λ q. Pack q ∷ []) (λ v q. IsWaiter t lock v.image q) pass.old pass.new result }
 {
     let pause = Backoff::new();
     for _ in rt.forever() {
-        if let Ok(waiter) = calls::adopt(hall, pass, t, lock) {
-            return Some(waiter);
+        match try_adopt(hall, pass, t, lock) {
+            Attempt::Came(waiter) => return Some(waiter),
+            Attempt::Stopped => return None,
+            Attempt::Refused => pause.snooze(),
         }
-        if calls::stopped(hall, pass) {
-            return None;
-        }
-        pause.snooze();
     }
     unreachable!()
 }
@@ -116,13 +167,11 @@ pub(crate) fn find_next<R: Wait, Q: Waiters>(
     }
     let pause = Backoff::new();
     for _ in rt.forever() {
-        if let Some(next) = queue.next(rt, seat, own) {
-            return Found::Next(next);
+        match try_next(rt, hall, pass, queue, seat, own) {
+            Attempt::Came(next) => return Found::Next(next),
+            Attempt::Stopped => return Found::Unknown,
+            Attempt::Refused => pause.snooze(),
         }
-        if calls::stopped(hall, pass) {
-            return Found::Unknown;
-        }
-        pause.snooze();
     }
     unreachable!()
 }

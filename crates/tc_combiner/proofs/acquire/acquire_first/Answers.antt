@@ -1,28 +1,31 @@
-use Rattle.std.proofs.Common.{refl, sym, ◌∙◌, subst, ℕ}
+use Rattle.std.proofs.Common.{◌∷◌, refl, sym, ◌∙◌, subst, ℕ}
 use Rattle.tc_elf.specs.Shown.{Shown}
 use Rattle.tc_segment.specs.View.{IsAtRest}
 use Rattle.tc_context.specs.View.{IsWaiting}
-use Rattle.tc_combiner.proofs.Acquiring.{at_still, stops_first, takes_first}
+use Rattle.tc_hall.specs.Outs.{Pack}
+use Rattle.tc_combiner.specs.Walks.{packed}
+use Rattle.tc_combiner.proofs.Acting.{acts_by, at_after}
+use Rattle.tc_combiner.proofs.Acquiring.{stops_first, takes_first}
 use Rattle.tc_combiner.proofs.acquire.acquire_first.Goals as goal
 
 pub grant-requires-clause-waiting : goal.grant-requires-clause-waiting
-grant-requires-clause-waiting g c = subst (λ (i : ℕ). IsWaiting c.args.«package» i) (sym ((c.in-Some.ensures {u = tt}).lock c.in-Some.state refl).number) c.requires.waits
+grant-requires-clause-waiting g c = subst (λ (i : ℕ). IsWaiting c.args.«package» i) (sym (c.in-Some.ensures {u = tt}).2.0.number) c.requires.waits
 
 pub grant-requires-clause-rest : goal.grant-requires-clause-rest
 grant-requires-clause-rest g c =
-    let r = (c.in-Some.ensures {u = tt}).lock c.in-Some.state refl in
-    subst (λ (x : Shown). IsAtRest x c.in-Some.state.number c.in-Some.state) (c.requires.hands.image ∙ sym c.requires.may.of) (subst (λ (i : ℕ). IsAtRest c.args.hands.now.pass.knows.image i c.in-Some.state) (sym r.number) r)
+    let r = (c.in-Some.ensures {u = tt}).2.0 in
+    subst (λ (x : Shown). IsAtRest x c.in-Some.state.number c.in-Some.state) ((c.in-Some.ensures {u = tt}).0.adds.told.image ∙ c.requires.hands.image ∙ sym c.requires.may.of) (subst (λ (i : ℕ). IsAtRest c.take_home.new.pass.knows.image i c.in-Some.state) (sym r.number) r)
 
 pub put_all_back-requires : goal.put_all_back-requires
 put_all_back-requires g c = record {
-  hands = at_still c.args.hall.now _ _ c.args.hands.now _ c.requires.hands (c.in-None.ensures {u = tt}).acts refl;
+  hands = at_after c.args.hall.now _ _ _ c.args.hands.now.pass _ c.args.hands.now.aside _ c.requires.hands (acts_by _ (Pack c.args.«package» ∷ packed c.args.hands.now.aside) c.args.hands.now.pass _ (c.in-None.ensures {u = tt}).0) refl;
   plain = c.requires.may.plain;
 }
 
 pub returns-in-Some : goal.returns-in-Some
 returns-in-Some g c =
     let e = c.in-Some.ensures {u = tt} in
-    takes_first c.args.hall.now.terms c.args.lock c.args.number c.in-Some.state c.args.«package» c.grant.new.self c.args.hands.now _ (subst (λ (x : Shown). IsAtRest x c.args.lock c.in-Some.state) (c.requires.hands.image ∙ sym c.requires.may.of) (e.lock c.in-Some.state refl)) (record { is = c.grant.ensures.is; locks = c.grant.ensures.locks }) c.requires.waits c.requires.may e.acts refl refl
+    takes_first c.args.hall.now.terms c.args.lock c.args.number c.in-Some.state c.args.«package» c.grant.new.self c.args.hands.now _ (subst (λ (x : Shown). IsAtRest x c.args.lock c.in-Some.state) ((c.in-Some.ensures {u = tt}).0.adds.told.image ∙ c.requires.hands.image ∙ sym c.requires.may.of) e.2.0) (record { is = c.grant.ensures.is; locks = c.grant.ensures.locks }) c.requires.waits c.requires.may e.0 refl refl
 
 pub returns-in-None : goal.returns-in-None
-returns-in-None g c = stops_first c.args.hall.now.terms c.args.lock c.args.number c.args.«package» c.args.hands.now _ c.put_all_back.new.hands (c.in-None.ensures {u = tt}).acts refl c.put_all_back.ensures
+returns-in-None g c = stops_first c.args.hall.now.terms c.args.lock c.args.number c.args.«package» c.args.hands.now _ c.put_all_back.new.hands (c.in-None.ensures {u = tt}).0 refl c.put_all_back.ensures

@@ -1,7 +1,7 @@
 use Rattle.std.proofs.Common.{map, refl, ◌∙◌, subst, arith, Bool}
 use Rattle.tc_hall.specs.Outs.{Pack}
 use Rattle.tc_combiner.specs.Walks.{packed}
-use Rattle.tc_combiner.specs.Ends.{DidLeaveAll}
+use Rattle.tc_combiner.specs.Release.{DidLeaveAll}
 use Rattle.tc_combiner.proofs.Ending.{at_end, emptied_plain, ends_done, ends_stopped, few_at_end, may_done}
 use Rattle.tc_combiner.proofs.Unlocking.{alone}
 use Rattle.tc_combiner.proofs.ends.ended_with.Goals as goal
@@ -9,19 +9,19 @@ use Rattle.tc_combiner.proofs.ends.ended_with.Goals as goal
 pub end_all-requires-clause-hands : goal.end_all-requires-clause-hands
 end_all-requires-clause-hands g c κs within =
     let few = few_at_end c.args.hands.now.pass.knows _ c.args.block.now c.args.«package» c.keeps.ensures.sound c.requires.may in
-    record { own = c.requires.hands.own; image = c.requires.hands.image; out = alone c.args.hands.now.pass.knows (Pack c.args.«package») (packed c.args.hands.now.aside) c.requires.hands.out; room = (let r = c.requires.hands.room in omega arith); aside = c.requires.hands.aside }
+    record { at = alone c.args.shared.now.hall.now (Pack c.args.«package») (packed c.args.hands.now.aside) c.args.hands.now.pass c.args.hands.now.aside c.requires.hands.at; room = (let r = c.requires.hands.room in omega arith) }
 
 pub put_all_back-requires-clause-hands : goal.put_all_back-requires-clause-hands
-put_all_back-requires-clause-hands g c = at_end c.args.hall.now c.args.block.now c.args.«package» c.end_all.new.«package» (map g.Q.Waiters.seen c.args.seats.now) (map g.Q.Waiters.seen c.end_all.new.seats) c.args.hands.now c.end_all.new.hands c.requires.may c.requires.hands c.end_all.result c.end_all.ensures
+put_all_back-requires-clause-hands g c = at_end c.args.shared.now.hall.now c.args.block.now c.args.«package» c.end_all.new.«package» (map g.Q.Waiters.seen c.args.seats.now) (map g.Q.Waiters.seen c.end_all.new.seats) c.args.hands.now c.end_all.new.hands c.requires.may c.requires.hands c.end_all.result c.end_all.ensures
 
 pub put_all_back-requires-clause-plain : goal.put_all_back-requires-clause-plain
 put_all_back-requires-clause-plain g c = emptied_plain c.args.hands.now.pass.knows _ c.args.block.now c.args.«package» c.end_all.new.«package» c.requires.may c.end_all.ensures.emptied
 
 pub put-requires : goal.put-requires
-put-requires g c = record { own = c.end_all.ensures.acted.acts.own.0 ∙ c.requires.hands.own; may = may_done c.args.hall.now c.args.block.now c.args.«package» c.end_all.new.«package» (map g.Q.Waiters.seen c.args.seats.now) (map g.Q.Waiters.seen c.end_all.new.seats) c.args.hands.now c.end_all.new.hands c.requires.may c.requires.hands c.end_all.result c.keeps.ensures.sound c.end_all.ensures }
+put-requires g c = record { own = c.end_all.ensures.acted.acts.own.0 ∙ c.requires.hands.at.own; may = may_done c.args.shared.now.hall.now c.args.block.now c.args.«package» c.end_all.new.«package» (map g.Q.Waiters.seen c.args.seats.now) (map g.Q.Waiters.seen c.end_all.new.seats) c.args.hands.now c.end_all.new.hands c.requires.may c.requires.hands c.end_all.result c.keeps.ensures.sound c.end_all.ensures }
 
 pub returns-then-end_all : goal.returns-then-end_all
-returns-then-end_all g c = ends_stopped c.args.hall.now c.args.block.now c.args.«package» c.end_all.new.«package» (map g.Q.Waiters.seen c.args.seats.now) (map g.Q.Waiters.seen c.end_all.new.seats) c.args.hands.now c.end_all.new.hands c.requires.may c.requires.hands c.put_all_back.new.hands (subst (λ (b : Bool). DidLeaveAll c.args.hall.now.terms c.args.block.now c.args.«package» c.end_all.new.«package» (map g.Q.Waiters.seen c.args.seats.now) (map g.Q.Waiters.seen c.end_all.new.seats) c.args.hands.now c.end_all.new.hands b) c.if-end_all.true c.end_all.ensures) c.put_all_back.ensures
+returns-then-end_all g c = ends_stopped c.args.shared.now.hall.now c.args.block.now c.args.«package» c.end_all.new.«package» (map g.Q.Waiters.seen c.args.seats.now) (map g.Q.Waiters.seen c.end_all.new.seats) c.args.hands.now c.end_all.new.hands c.requires.may c.requires.hands c.put_all_back.new.hands (subst (λ (b : Bool). DidLeaveAll c.args.shared.now.hall.now.terms c.args.block.now c.args.«package» c.end_all.new.«package» (map g.Q.Waiters.seen c.args.seats.now) (map g.Q.Waiters.seen c.end_all.new.seats) c.args.hands.now c.end_all.new.hands b) c.if-end_all.true c.end_all.ensures) c.put_all_back.ensures
 
 pub returns : goal.returns
-returns g c = ends_done c.args.hall.now c.args.block.now c.args.«package» c.end_all.new.«package» (map g.Q.Waiters.seen c.args.seats.now) (map g.Q.Waiters.seen c.end_all.new.seats) c.args.hands.now c.end_all.new.hands c.requires.may c.requires.hands _ (subst (λ (b : Bool). DidLeaveAll c.args.hall.now.terms c.args.block.now c.args.«package» c.end_all.new.«package» (map g.Q.Waiters.seen c.args.seats.now) (map g.Q.Waiters.seen c.end_all.new.seats) c.args.hands.now c.end_all.new.hands b) c.if-end_all.false c.end_all.ensures) c.put.ensures refl refl
+returns g c = ends_done c.args.shared.now.hall.now c.args.block.now c.args.«package» c.end_all.new.«package» (map g.Q.Waiters.seen c.args.seats.now) (map g.Q.Waiters.seen c.end_all.new.seats) c.args.hands.now c.end_all.new.hands c.requires.may c.requires.hands _ (subst (λ (b : Bool). DidLeaveAll c.args.shared.now.hall.now.terms c.args.block.now c.args.«package» c.end_all.new.«package» (map g.Q.Waiters.seen c.args.seats.now) (map g.Q.Waiters.seen c.end_all.new.seats) c.args.hands.now c.end_all.new.hands b) c.if-end_all.false c.end_all.ensures) c.put.ensures refl refl

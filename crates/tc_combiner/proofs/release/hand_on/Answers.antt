@@ -3,29 +3,28 @@ use Rattle.tc_elf.specs.Shown.{Shown}
 use Rattle.tc_hall.specs.Outs.{Pack, Loose}
 use Rattle.tc_combiner.specs.Packages.{IsWaiter}
 use Rattle.tc_combiner.proofs.Acting.{may_still}
-use Rattle.tc_combiner.proofs.Handing.{came_apart}
-use Rattle.tc_combiner.proofs.PassedOn.{came, hand_sooner, is_stopped, may_free, released_still}
+use Rattle.tc_combiner.proofs.PassedOn.{came_apart, came, hand_sooner, is_stopped, may_free, released_still}
 use Rattle.tc_combiner.proofs.release.hand_on.Goals as goal
 
 pub grant_to-requires : goal.grant_to-requires
 grant_to-requires g c =
     let e = c.in-Some.ensures {u = tt} in
-    let w = e.waiter c.in-Some.waiter refl in record {
-      hands = may_still c.args.hall.now [] (Loose c.args.state ∷ []) (Pack c.in-Some.waiter ∷ Loose c.args.state ∷ []) 1 c.args.hands.now _ c.requires.hands (came c.args.state c.in-Some.waiter c.args.hands.now.pass c.await_waiter.new.pass e.acts) refl refl;
-      waiter = subst (λ (x : Shown). IsWaiter c.args.next.thread c.args.state.number x c.in-Some.waiter) c.requires.hands.image (subst (λ (i : ℕ). IsWaiter c.args.next.thread i c.args.hands.now.pass.knows.image c.in-Some.waiter) c.number-lock.ensures.is w);
+    let w = e.2 in record {
+      hands = may_still c.args.hall.now [] (Loose c.args.state ∷ []) (Pack c.in-Some.waiter ∷ Loose c.args.state ∷ []) 1 c.args.hands.now _ c.requires.hands (came c.args.state c.in-Some.waiter c.args.hands.now.pass c.await_waiter.new.pass e.0) refl refl;
+      waiter = subst (λ (x : Shown). IsWaiter c.args.next.thread c.args.state.number x c.in-Some.waiter) (e.0.adds.told.image ∙ c.requires.hands.at.image) (subst (λ (i : ℕ). IsWaiter c.args.next.thread i c.await_waiter.new.pass.knows.image c.in-Some.waiter) c.number-lock.ensures.is w);
       turn = c.requires.turn;
-      other = λ f. came_apart c.args.hands.now.pass.knows c.await_waiter.new.pass.knows c.in-Some.waiter c.requires.beside.0 c.args.block.now.thread e.acts.moves c.requires.beside.1 (f ∙ sym w.thread);
-      released = released_still [] [] (Pack c.in-Some.waiter ∷ []) c.args.hands.now.pass c.await_waiter.new.pass c.args.block.now c.args.state e.acts c.requires.released;
+      other = λ f. came_apart c.args.hands.now.pass.knows c.await_waiter.new.pass.knows c.in-Some.waiter c.requires.beside.0 c.args.block.now.thread e.0.moves c.requires.beside.1 (f ∙ sym w.thread);
+      released = released_still [] [] (Pack c.in-Some.waiter ∷ []) c.args.hands.now.pass c.await_waiter.new.pass c.args.block.now c.args.state e.0 c.requires.released;
     }
 
 pub free-requires : goal.free-requires
 free-requires g c = record {
-  own = c.await_waiter.ensures.acts.own.0 ∙ c.requires.hands.own;
-  may = may_free c.args.hall.now.terms _ c.args.state c.args.hands.now.pass c.await_waiter.new.pass c.requires.place c.requires.released.rest.ended c.requires.hands.out (c.in-None.ensures {u = tt}).acts;
+  own = (c.in-None.ensures {u = tt}).0.own.0 ∙ c.requires.hands.at.own;
+  may = may_free c.args.hall.now.terms _ c.args.state c.args.hands.now.pass c.await_waiter.new.pass c.requires.place c.requires.released.rest.ended c.requires.hands.at.out (c.in-None.ensures {u = tt}).0;
 }
 
 pub returns-in-Some : goal.returns-in-Some
-returns-in-Some g c = hand_sooner c.args.hall.now.terms c.args.state c.args.block.now c.args.next (Loose c.args.state ∷ []) (Pack c.in-Some.waiter ∷ Loose c.args.state ∷ []) c.args.hands.now _ c.grant_to.new.hands c.grant_to.result (came c.args.state c.in-Some.waiter c.args.hands.now.pass c.await_waiter.new.pass (c.in-Some.ensures {u = tt}).acts) refl refl c.grant_to.ensures
+returns-in-Some g c = hand_sooner c.args.hall.now.terms c.args.state c.args.block.now c.args.next (Loose c.args.state ∷ []) (Pack c.in-Some.waiter ∷ Loose c.args.state ∷ []) c.args.hands.now _ c.grant_to.new.hands c.grant_to.result (came c.args.state c.in-Some.waiter c.args.hands.now.pass c.await_waiter.new.pass (c.in-Some.ensures {u = tt}).0) refl refl c.grant_to.ensures
 
 pub returns-in-None : goal.returns-in-None
-returns-in-None g c = is_stopped c.args.hall.now.terms c.args.state c.args.block.now c.args.next c.args.hands.now _ c.await_waiter.new.pass (c.in-None.ensures {u = tt}).acts c.free.ensures refl refl
+returns-in-None g c = is_stopped c.args.hall.now.terms c.args.state c.args.block.now c.args.next c.args.hands.now _ c.await_waiter.new.pass (c.in-None.ensures {u = tt}).0 c.free.ensures refl refl

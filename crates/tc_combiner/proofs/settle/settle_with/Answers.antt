@@ -1,4 +1,4 @@
-use Rattle.std.proofs.Common.{ℕ, List, [], ◌∷◌, refl, sym, ap, ◌∙◌, subst, map, arith, length, length-set, Option}
+use Rattle.std.proofs.Common.{ℕ, List, [], ◌∷◌, refl, sym, ap, ◌∙◌, subst, map, arith, length, length-set}
 use Rattle.tc_journal.specs.declared.block.End.{End}
 use Rattle.tc_hall.specs.Outs.{Pack}
 use Rattle.tc_hall.specs.Rule.{threads}
@@ -8,99 +8,76 @@ use Rattle.tc_combiner.specs.Packages.{IsGood}
 use Rattle.tc_combiner.specs.Settling.{SettledAs}
 use Rattle.tc_combiner.specs.View.{desk_of}
 use Rattle.tc_elf.specs.Shown.{Shown}
-use Rattle.tc_combiner.proofs.Acting.{acts_none}
-use Rattle.tc_combiner.proofs.Answering.{takes_none}
+use Rattle.tc_combiner.proofs.Acting.{acts_none, takes_none}
 use Rattle.tc_combiner.proofs.Ending.{same_seats, seats_first}
-use Rattle.tc_combiner.proofs.Settling.{after_last, at_begin, did_acquire, did_end, did_unlock, keeps_of, may_ask, may_begin, may_continue, may_end, may_park, may_unlock, some_block}
+use Rattle.tc_combiner.proofs.Settling.{after_last, did_acquire, did_end, did_unlock, ended, keeps_of, may_ask, may_begin, may_continue, may_end, may_park, may_unlock, settled_end, some_block}
 use Rattle.tc_combiner.proofs.Unlocking.{going_good}
+use Rattle.tc_combiner.specs.declared.hands.Rest.{Rest}
 use Rattle.tc_combiner.proofs.settle.settle_with.Goals as goal
 
 pub last-block-requires : goal.last-block-requires
 last-block-requires g c = some_block c.args.«package».log c.requires.may.0 c.requires.may.1.last
 
 pub acquire_at-requires-clause-hands : goal.acquire_at-requires-clause-hands
-acquire_at-requires-clause-hands g c = λ κs b. at_begin c.args.hall.now _ c.args.hands.now _ c.requires.hands refl refl
+acquire_at-requires-clause-hands g c = λ κs b. c.requires.hands
 
 pub acquire_at-requires-clause-may : goal.acquire_at-requires-clause-may
-acquire_at-requires-clause-may g c = λ κs b. may_ask c.args.hall.now.terms c.args.hands.now.pass.knows.worker c.last-block.result c.args.«package» c.keeps.ensures.sound c.in-Wants.lock c.keeps.ensures.want (after_last c.args.hall.now.terms.image.value c.args.hands.now.pass.knows.worker c.args.end _ c.last-block.result c.args.«package» c.in-Wants.is c.requires.may c.last-block.ensures)
+acquire_at-requires-clause-may g c = λ κs b. may_ask c.args.shared.now.hall.now.terms c.args.hands.now.pass.knows.worker c.last-block.result c.args.«package» c.keeps.ensures.sound c.in-Wants.lock c.keeps.ensures.want (after_last c.args.shared.now.hall.now.terms.image.value c.args.hands.now.pass.knows.worker c.args.end _ c.last-block.result c.args.«package» c.in-Wants.is c.requires.may c.last-block.ensures)
 
 pub returns-in-Wants-clause-settled : goal.returns-in-Wants-clause-settled
-returns-in-Wants-clause-settled g c = (c.last-block.result, c.last-block.ensures, subst (λ (x : End). SettledAs x c.args.«package» c.last-block.result (desk_of c.args.hands.now.pass (map g.Q.Waiters.seen c.args.seats.now) c.args.sleepers.now c.args.clock c.args.hands.now.aside c.args.hands.now.ready.items) (desk_of c.acquire_at.new.hands.pass (map g.Q.Waiters.seen c.acquire_at.new.seats) c.args.sleepers.now c.args.clock c.acquire_at.new.hands.aside c.acquire_at.new.hands.ready.items) c.acquire_at.result) (sym c.in-Wants.is) (did_acquire c.args.hall.now.terms c.args.«package» (map g.Q.Waiters.seen c.args.seats.now) (map g.Q.Waiters.seen c.acquire_at.new.seats) c.args.sleepers.now c.args.clock c.args.hands.now.ready.items _ c.acquire_at.new.hands c.requires.hands.image c.in-Wants.lock c.acquire_at.result c.acquire_at.ensures))
+returns-in-Wants-clause-settled g c = (c.last-block.result, c.last-block.ensures, subst (λ (x : End). SettledAs x c.args.«package» c.last-block.result (desk_of c.args.hands.now.pass (map g.Q.Waiters.seen c.args.seats.now) c.args.rest.now.sleepers c.args.rest.now.clock c.args.hands.now.aside c.args.hands.now.ready.items) (desk_of c.acquire_at.new.hands.pass (map g.Q.Waiters.seen c.acquire_at.new.seats) c.args.rest.now.sleepers c.args.rest.now.clock c.acquire_at.new.hands.aside c.acquire_at.new.hands.ready.items) c.acquire_at.result) (sym c.in-Wants.is) (did_acquire c.args.shared.now.hall.now.terms c.args.«package» (map g.Q.Waiters.seen c.args.seats.now) (map g.Q.Waiters.seen c.acquire_at.new.seats) c.args.rest.now.sleepers c.args.rest.now.clock c.args.hands.now.ready.items _ c.acquire_at.new.hands c.requires.hands.image c.in-Wants.lock c.acquire_at.result c.acquire_at.ensures))
 
 pub returns-in-Wants-clause-keeps : goal.returns-in-Wants-clause-keeps
-returns-in-Wants-clause-keeps g c = keeps_of c.args.hall.now.terms _ c.args.«package» (map g.Q.Waiters.seen c.args.seats.now) (map g.Q.Waiters.seen c.acquire_at.new.seats) c.args.sleepers.now c.args.sleepers.now _ c.acquire_at.new.hands c.acquire_at.result c.clear.ensures c.acquire_at.ensures.here.answers c.acquire_at.ensures.same refl
+returns-in-Wants-clause-keeps g c = keeps_of c.args.shared.now.hall.now.terms _ c.args.«package» (map g.Q.Waiters.seen c.args.seats.now) (map g.Q.Waiters.seen c.acquire_at.new.seats) c.args.rest.now c.args.rest.now _ c.acquire_at.new.hands c.acquire_at.result c.clear.ensures c.acquire_at.ensures.here.answers c.acquire_at.ensures.same refl refl
 
 pub unlocked_at-requires-clause-hands : goal.unlocked_at-requires-clause-hands
-unlocked_at-requires-clause-hands g c = λ κs b. may_begin c.args.hall.now _ 2 c.args.hands.now _ c.requires.hands refl refl c.clear.ensures (omega arith)
+unlocked_at-requires-clause-hands g c = λ κs b. may_begin c.args.shared.now.hall.now _ 2 _ c.requires.hands c.clear.ensures (omega arith)
 
 pub unlocked_at-requires-clause-may : goal.unlocked_at-requires-clause-may
-unlocked_at-requires-clause-may g c = λ κs b. may_unlock c.args.hall.now.terms c.args.hands.now.pass.knows.worker c.last-block.result c.args.«package» c.keeps.ensures.sound c.args.hands.now.pass.knows c.in-Unlocked.lock c.requires.hands.image refl (after_last c.args.hall.now.terms.image.value c.args.hands.now.pass.knows.worker c.args.end _ c.last-block.result c.args.«package» c.in-Unlocked.is c.requires.may c.last-block.ensures)
+unlocked_at-requires-clause-may g c = λ κs b. may_unlock c.args.shared.now.hall.now.terms c.args.hands.now.pass.knows.worker c.last-block.result c.args.«package» c.keeps.ensures.sound c.args.hands.now.pass.knows c.in-Unlocked.lock c.requires.hands.image refl (after_last c.args.shared.now.hall.now.terms.image.value c.args.hands.now.pass.knows.worker c.args.end _ c.last-block.result c.args.«package» c.in-Unlocked.is c.requires.may c.last-block.ensures)
 
 pub returns-in-Unlocked-clause-settled : goal.returns-in-Unlocked-clause-settled
-returns-in-Unlocked-clause-settled g c = (c.last-block.result, c.last-block.ensures, subst (λ (x : End). SettledAs x c.args.«package» c.last-block.result (desk_of c.args.hands.now.pass (map g.Q.Waiters.seen c.args.seats.now) c.args.sleepers.now c.args.clock c.args.hands.now.aside c.args.hands.now.ready.items) (desk_of c.unlocked_at.new.hands.pass (map g.Q.Waiters.seen c.unlocked_at.new.seats) c.args.sleepers.now c.args.clock c.unlocked_at.new.hands.aside c.unlocked_at.new.hands.ready.items) c.unlocked_at.result) (sym c.in-Unlocked.is) (did_unlock c.args.hall.now.terms c.args.«package» (map g.Q.Waiters.seen c.args.seats.now) (map g.Q.Waiters.seen c.unlocked_at.new.seats) c.args.sleepers.now c.args.clock c.args.hands.now.ready.items _ c.unlocked_at.new.hands c.requires.hands.image c.in-Unlocked.lock c.last-block.result c.unlocked_at.result c.unlocked_at.ensures))
+returns-in-Unlocked-clause-settled g c = (c.last-block.result, c.last-block.ensures, subst (λ (x : End). SettledAs x c.args.«package» c.last-block.result (desk_of c.args.hands.now.pass (map g.Q.Waiters.seen c.args.seats.now) c.args.rest.now.sleepers c.args.rest.now.clock c.args.hands.now.aside c.args.hands.now.ready.items) (desk_of c.unlocked_at.new.hands.pass (map g.Q.Waiters.seen c.unlocked_at.new.seats) c.args.rest.now.sleepers c.args.rest.now.clock c.unlocked_at.new.hands.aside c.unlocked_at.new.hands.ready.items) c.unlocked_at.result) (sym c.in-Unlocked.is) (did_unlock c.args.shared.now.hall.now.terms c.args.«package» (map g.Q.Waiters.seen c.args.seats.now) (map g.Q.Waiters.seen c.unlocked_at.new.seats) c.args.rest.now.sleepers c.args.rest.now.clock c.args.hands.now.ready.items _ c.unlocked_at.new.hands c.requires.hands.image c.in-Unlocked.lock c.last-block.result c.unlocked_at.result c.unlocked_at.ensures))
 
 pub returns-in-Unlocked-clause-keeps : goal.returns-in-Unlocked-clause-keeps
-returns-in-Unlocked-clause-keeps g c = keeps_of c.args.hall.now.terms _ c.args.«package» (map g.Q.Waiters.seen c.args.seats.now) (map g.Q.Waiters.seen c.unlocked_at.new.seats) c.args.sleepers.now c.args.sleepers.now _ c.unlocked_at.new.hands c.unlocked_at.result c.clear.ensures c.unlocked_at.ensures.here.answers c.unlocked_at.ensures.same refl
+returns-in-Unlocked-clause-keeps g c = keeps_of c.args.shared.now.hall.now.terms _ c.args.«package» (map g.Q.Waiters.seen c.args.seats.now) (map g.Q.Waiters.seen c.unlocked_at.new.seats) c.args.rest.now c.args.rest.now _ c.unlocked_at.new.hands c.unlocked_at.result c.clear.ensures c.unlocked_at.ensures.here.answers c.unlocked_at.ensures.same refl refl
 
 pub park-requires-clause-hands : goal.park-requires-clause-hands
-park-requires-clause-hands g c = at_begin c.args.hall.now _ c.args.hands.now _ c.requires.hands refl refl
+park-requires-clause-hands g c = c.requires.hands
 
 pub park-requires-clause-may : goal.park-requires-clause-may
-park-requires-clause-may g c = may_park c.args.hall.now.terms c.args.hands.now.pass.knows.worker c.last-block.result c.args.«package» c.keeps.ensures.sound (after_last c.args.hall.now.terms.image.value c.args.hands.now.pass.knows.worker c.args.end _ c.last-block.result c.args.«package» c.in-Slept.is c.requires.may c.last-block.ensures)
+park-requires-clause-may g c = may_park c.args.shared.now.hall.now.terms c.args.hands.now.pass.knows.worker c.last-block.result c.args.«package» c.keeps.ensures.sound (after_last c.args.shared.now.hall.now.terms.image.value c.args.hands.now.pass.knows.worker c.args.end _ c.last-block.result c.args.«package» c.in-Slept.is c.requires.may c.last-block.ensures)
 
 pub returns-in-Slept-clause-settled : goal.returns-in-Slept-clause-settled
-returns-in-Slept-clause-settled g c = (c.last-block.result, c.last-block.ensures, subst (λ (x : End). SettledAs x c.args.«package» c.last-block.result (desk_of c.args.hands.now.pass (map g.Q.Waiters.seen c.args.seats.now) c.args.sleepers.now c.args.clock c.args.hands.now.aside c.args.hands.now.ready.items) (desk_of c.park.new.hands.pass (map g.Q.Waiters.seen c.args.seats.now) c.park.new.sleepers c.args.clock c.park.new.hands.aside c.park.new.hands.ready.items) Parked) (sym c.in-Slept.is) (record { seats = refl; aside = c.park.ensures.calls.aside; adds = c.park.ensures.calls.answers.acts.adds; sleeper = c.park.ensures.sleeper }))
+returns-in-Slept-clause-settled g c = (c.last-block.result, c.last-block.ensures, subst (λ (x : End). SettledAs x c.args.«package» c.last-block.result (desk_of c.args.hands.now.pass (map g.Q.Waiters.seen c.args.seats.now) c.args.rest.now.sleepers c.args.rest.now.clock c.args.hands.now.aside c.args.hands.now.ready.items) (desk_of c.park.new.hands.pass (map g.Q.Waiters.seen c.args.seats.now) c.park.new.rest.sleepers c.park.new.rest.clock c.park.new.hands.aside c.park.new.hands.ready.items) Parked) (sym c.in-Slept.is) (record { seats = refl; aside = c.park.ensures.calls.aside; adds = c.park.ensures.calls.answers.acts.adds; sleeper = ap (λ (x : Rest). x.sleepers) c.park.ensures.sleeper }))
 
 pub returns-in-Slept-clause-keeps : goal.returns-in-Slept-clause-keeps
-returns-in-Slept-clause-keeps g c = keeps_of c.args.hall.now.terms _ c.args.«package» (map g.Q.Waiters.seen c.args.seats.now) (map g.Q.Waiters.seen c.args.seats.now) c.args.sleepers.now c.park.new.sleepers _ c.park.new.hands Parked c.clear.ensures c.park.ensures.calls.answers (seats_first (map g.Q.Waiters.seen c.args.seats.now)) (ap (λ (sl : List (Option ℕ)). length sl) c.park.ensures.sleeper ∙ length-set _ _ _)
+returns-in-Slept-clause-keeps g c = keeps_of c.args.shared.now.hall.now.terms _ c.args.«package» (map g.Q.Waiters.seen c.args.seats.now) (map g.Q.Waiters.seen c.args.seats.now) c.args.rest.now c.park.new.rest _ c.park.new.hands Parked c.clear.ensures c.park.ensures.calls.answers (seats_first (map g.Q.Waiters.seen c.args.seats.now)) (ap (λ (x : Rest). x.clock) c.park.ensures.sleeper) (ap (λ (x : Rest). length x.sleepers) c.park.ensures.sleeper ∙ length-set _ _ _)
 
 pub returns-in-Cut-clause-settled : goal.returns-in-Cut-clause-settled
 returns-in-Cut-clause-settled g c =
-    let good = going_good c.args.hall.now.terms c.args.hands.now.pass.knows.worker c.args.«package» (may_continue c.args.hall.now.terms c.args.hands.now.pass.knows.worker c.last-block.result c.args.«package» c.keeps.ensures.sound (after_last c.args.hall.now.terms.image.value c.args.hands.now.pass.knows.worker c.args.end _ c.last-block.result c.args.«package» c.in-Cut.is c.requires.may c.last-block.ensures)) in
-    (c.last-block.result, c.last-block.ensures, subst (λ (x : End). SettledAs x c.args.«package» c.last-block.result (desk_of c.args.hands.now.pass (map g.Q.Waiters.seen c.args.seats.now) c.args.sleepers.now c.args.clock c.args.hands.now.aside c.args.hands.now.ready.items) (desk_of c.args.hands.now.pass (map g.Q.Waiters.seen c.args.seats.now) c.args.sleepers.now c.args.clock c.args.hands.now.aside c.clear.new.self.items) (GoesOn c.args.«package»)) (sym c.in-Cut.is) (refl, ap (λ (hs : List ℕ). desk_of c.args.hands.now.pass (map g.Q.Waiters.seen c.args.seats.now) c.args.sleepers.now c.args.clock c.args.hands.now.aside hs) c.clear.ensures, subst (λ (x : Shown). IsGood c.args.«package» x c.args.hands.now.pass.knows.worker) (sym c.requires.hands.image) good))
+    let good = going_good c.args.shared.now.hall.now.terms c.args.hands.now.pass.knows.worker c.args.«package» (may_continue c.args.shared.now.hall.now.terms c.args.hands.now.pass.knows.worker c.last-block.result c.args.«package» c.keeps.ensures.sound (after_last c.args.shared.now.hall.now.terms.image.value c.args.hands.now.pass.knows.worker c.args.end _ c.last-block.result c.args.«package» c.in-Cut.is c.requires.may c.last-block.ensures)) in
+    (c.last-block.result, c.last-block.ensures, subst (λ (x : End). SettledAs x c.args.«package» c.last-block.result (desk_of c.args.hands.now.pass (map g.Q.Waiters.seen c.args.seats.now) c.args.rest.now.sleepers c.args.rest.now.clock c.args.hands.now.aside c.args.hands.now.ready.items) (desk_of c.args.hands.now.pass (map g.Q.Waiters.seen c.args.seats.now) c.args.rest.now.sleepers c.args.rest.now.clock c.args.hands.now.aside c.clear.new.self.items) (GoesOn c.args.«package»)) (sym c.in-Cut.is) (refl, ap (λ (hs : List ℕ). desk_of c.args.hands.now.pass (map g.Q.Waiters.seen c.args.seats.now) c.args.rest.now.sleepers c.args.rest.now.clock c.args.hands.now.aside hs) c.clear.ensures, subst (λ (x : Shown). IsGood c.args.«package» x c.args.hands.now.pass.knows.worker) (sym c.requires.hands.image) good))
 
 pub returns-in-Cut-clause-keeps : goal.returns-in-Cut-clause-keeps
 returns-in-Cut-clause-keeps g c = record {
   calls = [];
   acts = acts_none c.args.hands.now.pass (Pack c.args.«package» ∷ packed c.args.hands.now.aside);
-  readied = takes_none (threads c.args.hall.now.terms) [] c.clear.new.self.items [] c.clear.ensures refl;
+  readied = takes_none (threads c.args.shared.now.hall.now.terms) [] c.clear.new.self.items [] c.clear.ensures refl;
   aside = c.requires.hands.aside;
   seats = seats_first (map g.Q.Waiters.seen c.args.seats.now);
+  clock = refl;
   room = refl;
 }
 
 pub ended_with-requires-clause-hands : goal.ended_with-requires-clause-hands
-ended_with-requires-clause-hands g c = λ κs b. may_begin c.args.hall.now _ _ c.args.hands.now _ c.requires.hands refl refl c.clear.ensures (omega arith)
+ended_with-requires-clause-hands g c = λ κs b. may_begin c.args.shared.now.hall.now _ _ _ c.requires.hands c.clear.ensures (omega arith)
 
 pub ended_with-requires-clause-may : goal.ended_with-requires-clause-may
-ended_with-requires-clause-may g c = λ κs b. may_end c.args.hall.now.terms c.args.hands.now.pass.knows.worker _ c.last-block.result c.args.«package» c.keeps.ensures.sound (after_last c.args.hall.now.terms.image.value c.args.hands.now.pass.knows.worker c.args.end _ c.last-block.result c.args.«package» c.in-Exit.is c.requires.may c.last-block.ensures) c.args.hands.now.pass.knows c.requires.hands.image refl refl
+ended_with-requires-clause-may g c = λ κs b. may_end c.args.shared.now.hall.now.terms c.args.hands.now.pass.knows.worker _ c.last-block.result c.args.«package» c.keeps.ensures.sound (after_last c.args.shared.now.hall.now.terms.image.value c.args.hands.now.pass.knows.worker c.args.end _ c.last-block.result c.args.«package» refl c.requires.may c.last-block.ensures) c.args.hands.now.pass.knows c.requires.hands.image refl (ended c.args.end c.in_default.not-Wants c.in_default.not-Unlocked c.in_default.not-Slept c.in_default.not-Cut)
 
-pub returns-in-Exit-clause-settled : goal.returns-in-Exit-clause-settled
-returns-in-Exit-clause-settled g c = (c.last-block.result, c.last-block.ensures, subst (λ (x : End). SettledAs x c.args.«package» c.last-block.result (desk_of c.args.hands.now.pass (map g.Q.Waiters.seen c.args.seats.now) c.args.sleepers.now c.args.clock c.args.hands.now.aside c.args.hands.now.ready.items) (desk_of c.ended_with.new.hands.pass (map g.Q.Waiters.seen c.ended_with.new.seats) c.args.sleepers.now c.args.clock c.ended_with.new.hands.aside c.ended_with.new.hands.ready.items) c.ended_with.result) (sym c.in-Exit.is) (did_end c.args.hall.now.terms c.args.«package» (map g.Q.Waiters.seen c.args.seats.now) (map g.Q.Waiters.seen c.ended_with.new.seats) c.args.sleepers.now c.args.clock c.args.hands.now.ready.items _ c.ended_with.new.hands c.requires.hands.image c.last-block.result c.ended_with.result c.ended_with.ensures))
+pub returns-in_default-clause-settled : goal.returns-in_default-clause-settled
+returns-in_default-clause-settled g c = (c.last-block.result, c.last-block.ensures, settled_end c.args.end c.args.«package» c.last-block.result _ _ c.ended_with.result (ended c.args.end c.in_default.not-Wants c.in_default.not-Unlocked c.in_default.not-Slept c.in_default.not-Cut) (did_end c.args.shared.now.hall.now.terms c.args.«package» (map g.Q.Waiters.seen c.args.seats.now) (map g.Q.Waiters.seen c.ended_with.new.seats) c.args.rest.now.sleepers c.args.rest.now.clock c.args.hands.now.ready.items _ c.ended_with.new.hands c.requires.hands.image c.last-block.result c.ended_with.result c.ended_with.ensures))
 
-pub returns-in-Exit-clause-keeps : goal.returns-in-Exit-clause-keeps
-returns-in-Exit-clause-keeps g c = keeps_of c.args.hall.now.terms _ c.args.«package» (map g.Q.Waiters.seen c.args.seats.now) (map g.Q.Waiters.seen c.ended_with.new.seats) c.args.sleepers.now c.args.sleepers.now _ c.ended_with.new.hands c.ended_with.result c.clear.ensures c.ended_with.ensures.answers (same_seats c.last-block.result c.args.«package» (map g.Q.Waiters.seen c.args.seats.now) (map g.Q.Waiters.seen c.ended_with.new.seats) c.ended_with.ensures.seats) refl
-
-pub ended_with-requires-in-Fault-clause-hands : goal.ended_with-requires-in-Fault-clause-hands
-ended_with-requires-in-Fault-clause-hands g c = λ κs b. may_begin c.args.hall.now _ _ c.args.hands.now _ c.requires.hands refl refl c.clear.ensures (omega arith)
-
-pub ended_with-requires-in-Fault-clause-may : goal.ended_with-requires-in-Fault-clause-may
-ended_with-requires-in-Fault-clause-may g c = λ κs b. may_end c.args.hall.now.terms c.args.hands.now.pass.knows.worker _ c.last-block.result c.args.«package» c.keeps.ensures.sound (after_last c.args.hall.now.terms.image.value c.args.hands.now.pass.knows.worker c.args.end _ c.last-block.result c.args.«package» c.in-Fault.is c.requires.may c.last-block.ensures) c.args.hands.now.pass.knows c.requires.hands.image refl refl
-
-pub returns-in-Fault-clause-settled : goal.returns-in-Fault-clause-settled
-returns-in-Fault-clause-settled g c = (c.last-block.result, c.last-block.ensures, subst (λ (x : End). SettledAs x c.args.«package» c.last-block.result (desk_of c.args.hands.now.pass (map g.Q.Waiters.seen c.args.seats.now) c.args.sleepers.now c.args.clock c.args.hands.now.aside c.args.hands.now.ready.items) (desk_of c.ended_with-in-Fault.new.hands.pass (map g.Q.Waiters.seen c.ended_with-in-Fault.new.seats) c.args.sleepers.now c.args.clock c.ended_with-in-Fault.new.hands.aside c.ended_with-in-Fault.new.hands.ready.items) c.ended_with-in-Fault.result) (sym c.in-Fault.is) (did_end c.args.hall.now.terms c.args.«package» (map g.Q.Waiters.seen c.args.seats.now) (map g.Q.Waiters.seen c.ended_with-in-Fault.new.seats) c.args.sleepers.now c.args.clock c.args.hands.now.ready.items _ c.ended_with-in-Fault.new.hands c.requires.hands.image c.last-block.result c.ended_with-in-Fault.result c.ended_with-in-Fault.ensures))
-
-pub returns-in-Fault-clause-keeps : goal.returns-in-Fault-clause-keeps
-returns-in-Fault-clause-keeps g c = keeps_of c.args.hall.now.terms _ c.args.«package» (map g.Q.Waiters.seen c.args.seats.now) (map g.Q.Waiters.seen c.ended_with-in-Fault.new.seats) c.args.sleepers.now c.args.sleepers.now _ c.ended_with-in-Fault.new.hands c.ended_with-in-Fault.result c.clear.ensures c.ended_with-in-Fault.ensures.answers (same_seats c.last-block.result c.args.«package» (map g.Q.Waiters.seen c.args.seats.now) (map g.Q.Waiters.seen c.ended_with-in-Fault.new.seats) c.ended_with-in-Fault.ensures.seats) refl
-
-pub ended_with-requires-in-Spent-clause-hands : goal.ended_with-requires-in-Spent-clause-hands
-ended_with-requires-in-Spent-clause-hands g c = λ κs b. may_begin c.args.hall.now _ _ c.args.hands.now _ c.requires.hands refl refl c.clear.ensures (omega arith)
-
-pub ended_with-requires-in-Spent-clause-may : goal.ended_with-requires-in-Spent-clause-may
-ended_with-requires-in-Spent-clause-may g c = λ κs b. may_end c.args.hall.now.terms c.args.hands.now.pass.knows.worker _ c.last-block.result c.args.«package» c.keeps.ensures.sound (after_last c.args.hall.now.terms.image.value c.args.hands.now.pass.knows.worker c.args.end _ c.last-block.result c.args.«package» c.in-Spent.is c.requires.may c.last-block.ensures) c.args.hands.now.pass.knows c.requires.hands.image refl refl
-
-pub returns-in-Spent-clause-settled : goal.returns-in-Spent-clause-settled
-returns-in-Spent-clause-settled g c = (c.last-block.result, c.last-block.ensures, subst (λ (x : End). SettledAs x c.args.«package» c.last-block.result (desk_of c.args.hands.now.pass (map g.Q.Waiters.seen c.args.seats.now) c.args.sleepers.now c.args.clock c.args.hands.now.aside c.args.hands.now.ready.items) (desk_of c.ended_with-in-Spent.new.hands.pass (map g.Q.Waiters.seen c.ended_with-in-Spent.new.seats) c.args.sleepers.now c.args.clock c.ended_with-in-Spent.new.hands.aside c.ended_with-in-Spent.new.hands.ready.items) c.ended_with-in-Spent.result) (sym c.in-Spent.is) (did_end c.args.hall.now.terms c.args.«package» (map g.Q.Waiters.seen c.args.seats.now) (map g.Q.Waiters.seen c.ended_with-in-Spent.new.seats) c.args.sleepers.now c.args.clock c.args.hands.now.ready.items _ c.ended_with-in-Spent.new.hands c.requires.hands.image c.last-block.result c.ended_with-in-Spent.result c.ended_with-in-Spent.ensures))
-
-pub returns-in-Spent-clause-keeps : goal.returns-in-Spent-clause-keeps
-returns-in-Spent-clause-keeps g c = keeps_of c.args.hall.now.terms _ c.args.«package» (map g.Q.Waiters.seen c.args.seats.now) (map g.Q.Waiters.seen c.ended_with-in-Spent.new.seats) c.args.sleepers.now c.args.sleepers.now _ c.ended_with-in-Spent.new.hands c.ended_with-in-Spent.result c.clear.ensures c.ended_with-in-Spent.ensures.answers (same_seats c.last-block.result c.args.«package» (map g.Q.Waiters.seen c.args.seats.now) (map g.Q.Waiters.seen c.ended_with-in-Spent.new.seats) c.ended_with-in-Spent.ensures.seats) refl
+pub returns-in_default-clause-keeps : goal.returns-in_default-clause-keeps
+returns-in_default-clause-keeps g c = keeps_of c.args.shared.now.hall.now.terms _ c.args.«package» (map g.Q.Waiters.seen c.args.seats.now) (map g.Q.Waiters.seen c.ended_with.new.seats) c.args.rest.now c.args.rest.now _ c.ended_with.new.hands c.ended_with.result c.clear.ensures c.ended_with.ensures.answers (same_seats c.last-block.result c.args.«package» (map g.Q.Waiters.seen c.args.seats.now) (map g.Q.Waiters.seen c.ended_with.new.seats) c.ended_with.ensures.seats) refl refl

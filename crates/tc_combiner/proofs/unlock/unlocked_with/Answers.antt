@@ -6,50 +6,44 @@ use Rattle.tc_combiner.proofs.Unlocking.{alone, at_then, goes_adopted, goes_gran
 use Rattle.tc_combiner.proofs.unlock.unlocked_with.Goals as goal
 
 pub pass_on-requires-clause-hands : goal.pass_on-requires-clause-hands
-pass_on-requires-clause-hands g c = λ κs b. record {
-  own = c.requires.hands.own;
-  image = c.requires.hands.image;
-  out = alone c.args.hands.now.pass.knows (Pack c.args.«package») (packed c.args.hands.now.aside) c.requires.hands.out;
-  room = (let r = c.requires.hands.room in omega arith);
-  aside = c.requires.hands.aside;
-}
+pass_on-requires-clause-hands g c = λ κs b. record { at = alone c.args.hall.now (Pack c.args.«package») (packed c.args.hands.now.aside) c.args.hands.now.pass c.args.hands.now.aside c.requires.hands.at; room = (let r = c.requires.hands.room in omega arith) }
 
 pub go_on-requires : goal.go_on-requires
 go_on-requires g c =
     let d = c.in-Home.ensures {u = tt} in record {
-      hands = may_then c.args.hall.now c.args.lock c.args.block.now c.args.«package» c.pass_on.new.«package» (g.Q.Waiters.seen c.args.seat.now) (g.Q.Waiters.seen c.pass_on.new.seat) c.args.hands.now c.pass_on.new.hands c.requires.hands Home refl d;
-      may = may_go_on c.args.hands.now.pass.knows c.args.hall.now.terms c.args.lock c.args.block.now d.state c.args.«package» c.pass_on.new.«package» c.requires.may c.requires.hands.image d.taken;
+      hands = may_then c.args.hall.now c.args.released.lock c.args.released.block.now c.args.«package» c.pass_on.new.«package» (g.Q.Waiters.seen c.args.seat.now) (g.Q.Waiters.seen c.pass_on.new.seat) c.args.hands.now c.pass_on.new.hands c.requires.hands Home refl d;
+      may = may_go_on c.args.hands.now.pass.knows c.args.hall.now.terms c.args.released.lock c.args.released.block.now d.state c.args.«package» c.pass_on.new.«package» c.requires.may c.requires.hands.at.image d.taken;
     }
 
 pub go_on-requires-in-Granted : goal.go_on-requires-in-Granted
 go_on-requires-in-Granted g c =
     let d = c.in-Granted.ensures {u = tt} in record {
-      hands = may_then c.args.hall.now c.args.lock c.args.block.now c.args.«package» c.pass_on.new.«package» (g.Q.Waiters.seen c.args.seat.now) (g.Q.Waiters.seen c.pass_on.new.seat) c.args.hands.now c.pass_on.new.hands c.requires.hands Was_granted refl d;
-      may = may_go_on c.args.hands.now.pass.knows c.args.hall.now.terms c.args.lock c.args.block.now d.state c.args.«package» c.pass_on.new.«package» c.requires.may c.requires.hands.image d.taken;
+      hands = may_then c.args.hall.now c.args.released.lock c.args.released.block.now c.args.«package» c.pass_on.new.«package» (g.Q.Waiters.seen c.args.seat.now) (g.Q.Waiters.seen c.pass_on.new.seat) c.args.hands.now c.pass_on.new.hands c.requires.hands Was_granted refl d;
+      may = may_go_on c.args.hands.now.pass.knows c.args.hall.now.terms c.args.released.lock c.args.released.block.now d.state c.args.«package» c.pass_on.new.«package» c.requires.may c.requires.hands.at.image d.taken;
     }
 
 pub set_aside-requires : goal.set_aside-requires
 set_aside-requires g c =
     let d = c.in-Adopted.ensures {u = tt} in record {
-      hands = may_adopted c.args.hall.now c.args.lock c.args.block.now c.args.«package» c.pass_on.new.«package» (g.Q.Waiters.seen c.args.seat.now) (g.Q.Waiters.seen c.pass_on.new.seat) c.args.hands.now c.pass_on.new.hands c.requires.hands c.in-Adopted.waiter d;
-      may = may_aside c.args.hands.now.pass.knows c.args.hall.now.terms c.args.lock c.args.block.now d.state c.args.«package» c.pass_on.new.«package» c.keeps.ensures.sound c.requires.may c.requires.hands.image d.taken d.became.2.1;
+      hands = may_adopted c.args.hall.now c.args.released.lock c.args.released.block.now c.args.«package» c.pass_on.new.«package» (g.Q.Waiters.seen c.args.seat.now) (g.Q.Waiters.seen c.pass_on.new.seat) c.args.hands.now c.pass_on.new.hands c.requires.hands c.in-Adopted.waiter d;
+      may = may_aside c.args.hands.now.pass.knows c.args.hall.now.terms c.args.released.lock c.args.released.block.now d.state c.args.«package» c.pass_on.new.«package» c.keeps.ensures.sound c.requires.may c.requires.hands.at.image d.taken d.became.2.1;
     }
 
 pub put_all_back-requires : goal.put_all_back-requires
 put_all_back-requires g c =
     let d = c.in-Stopped.ensures {u = tt} in record {
-      hands = at_then c.args.hall.now c.args.lock c.args.block.now c.args.«package» c.pass_on.new.«package» (g.Q.Waiters.seen c.args.seat.now) (g.Q.Waiters.seen c.pass_on.new.seat) c.args.hands.now c.pass_on.new.hands c.requires.hands Was_stopped refl d;
-      plain = (may_go_on c.args.hands.now.pass.knows c.args.hall.now.terms c.args.lock c.args.block.now d.state c.args.«package» c.pass_on.new.«package» c.requires.may c.requires.hands.image d.taken).plain;
+      hands = at_then c.args.hall.now c.args.released.lock c.args.released.block.now c.args.«package» c.pass_on.new.«package» (g.Q.Waiters.seen c.args.seat.now) (g.Q.Waiters.seen c.pass_on.new.seat) c.args.hands.now c.pass_on.new.hands c.requires.hands Was_stopped refl d;
+      plain = (may_go_on c.args.hands.now.pass.knows c.args.hall.now.terms c.args.released.lock c.args.released.block.now d.state c.args.«package» c.pass_on.new.«package» c.requires.may c.requires.hands.at.image d.taken).plain;
     }
 
 pub returns-in-Home : goal.returns-in-Home
-returns-in-Home g c = goes_home c.args.hall.now c.args.lock c.args.block.now c.args.«package» c.pass_on.new.«package» (g.Q.Waiters.seen c.args.seat.now) (g.Q.Waiters.seen c.pass_on.new.seat) c.args.hands.now c.pass_on.new.hands c.requires.hands c.go_on.new.hands c.go_on.result (c.in-Home.ensures {u = tt}) c.go_on.ensures
+returns-in-Home g c = goes_home c.args.hall.now c.args.released.lock c.args.released.block.now c.args.«package» c.pass_on.new.«package» (g.Q.Waiters.seen c.args.seat.now) (g.Q.Waiters.seen c.pass_on.new.seat) c.args.hands.now c.pass_on.new.hands c.requires.hands c.go_on.new.hands c.go_on.result (c.in-Home.ensures {u = tt}) c.go_on.ensures
 
 pub returns-in-Granted : goal.returns-in-Granted
-returns-in-Granted g c = goes_granted c.args.hall.now c.args.lock c.args.block.now c.args.«package» c.pass_on.new.«package» (g.Q.Waiters.seen c.args.seat.now) (g.Q.Waiters.seen c.pass_on.new.seat) c.args.hands.now c.pass_on.new.hands c.requires.hands c.go_on-in-Granted.new.hands c.go_on-in-Granted.result (c.in-Granted.ensures {u = tt}) c.go_on-in-Granted.ensures
+returns-in-Granted g c = goes_granted c.args.hall.now c.args.released.lock c.args.released.block.now c.args.«package» c.pass_on.new.«package» (g.Q.Waiters.seen c.args.seat.now) (g.Q.Waiters.seen c.pass_on.new.seat) c.args.hands.now c.pass_on.new.hands c.requires.hands c.go_on-in-Granted.new.hands c.go_on-in-Granted.result (c.in-Granted.ensures {u = tt}) c.go_on-in-Granted.ensures
 
 pub returns-in-Adopted : goal.returns-in-Adopted
-returns-in-Adopted g c = goes_adopted c.args.hall.now c.args.lock c.args.block.now c.args.«package» c.pass_on.new.«package» (g.Q.Waiters.seen c.args.seat.now) (g.Q.Waiters.seen c.pass_on.new.seat) c.args.hands.now c.pass_on.new.hands c.requires.hands c.set_aside.new.hands c.in-Adopted.waiter c.requires.may.release.worker (c.in-Adopted.ensures {u = tt}) c.set_aside.ensures
+returns-in-Adopted g c = goes_adopted c.args.hall.now c.args.released.lock c.args.released.block.now c.args.«package» c.pass_on.new.«package» (g.Q.Waiters.seen c.args.seat.now) (g.Q.Waiters.seen c.pass_on.new.seat) c.args.hands.now c.pass_on.new.hands c.requires.hands c.set_aside.new.hands c.in-Adopted.waiter c.requires.may.release.worker (c.in-Adopted.ensures {u = tt}) c.set_aside.ensures
 
 pub returns-in-Stopped : goal.returns-in-Stopped
-returns-in-Stopped g c = goes_stopped c.args.hall.now c.args.lock c.args.block.now c.args.«package» c.pass_on.new.«package» (g.Q.Waiters.seen c.args.seat.now) (g.Q.Waiters.seen c.pass_on.new.seat) c.args.hands.now c.pass_on.new.hands c.requires.hands c.put_all_back.new.hands (c.in-Stopped.ensures {u = tt}) c.put_all_back.ensures
+returns-in-Stopped g c = goes_stopped c.args.hall.now c.args.released.lock c.args.released.block.now c.args.«package» c.pass_on.new.«package» (g.Q.Waiters.seen c.args.seat.now) (g.Q.Waiters.seen c.pass_on.new.seat) c.args.hands.now c.pass_on.new.hands c.requires.hands c.put_all_back.new.hands (c.in-Stopped.ensures {u = tt}) c.put_all_back.ensures

@@ -1,22 +1,17 @@
 use Rattle.std.proofs.Common.{[], ◌∷◌}
 use Rattle.tc_hall.specs.Outs.{Pack}
-use Rattle.tc_combiner.proofs.Acting.{acts_none, acts_then, looked, looks_last, looks_more, looks_none, saw_stop}
+use Rattle.tc_combiner.specs.Packages.{IsWaiter}
+use Rattle.tc_combiner.proofs.Acting.{waits_came, waits_more, waits_none, waits_stopped}
 use Rattle.tc_combiner.proofs.waits.await_waiter.Goals as goal
 
 pub loop-init : goal.loop-init
-loop-init g c = (tt, tt, acts_none c.args.pass.now [], looks_none c.args.pass.now.knows)
+loop-init g c = (tt, tt, waits_none c.args.pass.now)
 
 pub loop-preserved : goal.loop-preserved
-loop-preserved g c = (tt, tt, looked _ c.args.pass.now c.adopt.new.pass c.stopped.new.pass c.if-stopped.false (acts_then [] [] [] [] [] c.args.pass.now c.loop.pass c.adopt.new.pass c.loop.invariant.2 (c.in_default.ensures {u = tt}).acts) c.stopped.ensures.acts, looks_more c.args.pass.now.knows c.loop.pass.knows c.adopt.new.pass.knows c.stopped.new.pass.knows c.loop.invariant.3 (c.in_default.ensures {u = tt}).tried c.stopped.ensures.tried)
+loop-preserved g c = (tt, tt, waits_more (λ q. Pack q ∷ []) (λ v q. IsWaiter c.args.t c.args.lock v.image q) c.args.pass.now c.loop.pass c.try_adopt.new.pass c.loop.invariant.2 (c.in-Refused.ensures {u = tt}))
 
-pub returns-then-stopped-clause-acts : goal.returns-then-stopped-clause-acts
-returns-then-stopped-clause-acts g c = saw_stop _ c.args.pass.now c.adopt.new.pass c.stopped.new.pass c.if-stopped.true (acts_then [] [] [] [] [] c.args.pass.now c.loop.pass c.adopt.new.pass c.loop.invariant.2 (c.in_default.ensures {u = tt}).acts) c.stopped.ensures.acts
+pub returns-in-Came : goal.returns-in-Came
+returns-in-Came g c = waits_came (λ q. Pack q ∷ []) (λ v q. IsWaiter c.args.t c.args.lock v.image q) c.args.pass.now c.loop.pass c.try_adopt.new.pass c.loop.invariant.2 c.in-Came.waiter (c.in-Came.ensures {u = tt})
 
-pub returns-in-Ok-clause-acts : goal.returns-in-Ok-clause-acts
-returns-in-Ok-clause-acts g c = acts_then [] [] [] [] (Pack c.in-Ok.waiter ∷ []) c.args.pass.now c.loop.pass c.adopt.new.pass c.loop.invariant.2 (c.in-Ok.ensures {u = tt}).acts.0
-
-pub returns-in-Ok-clause-looks : goal.returns-in-Ok-clause-looks
-returns-in-Ok-clause-looks g c = looks_last c.args.pass.now.knows c.loop.pass.knows c.adopt.new.pass.knows c.loop.invariant.3 (c.in-Ok.ensures {u = tt}).tried
-
-pub returns-then-stopped-clause-looks : goal.returns-then-stopped-clause-looks
-returns-then-stopped-clause-looks g c = looks_more c.args.pass.now.knows c.loop.pass.knows c.adopt.new.pass.knows c.stopped.new.pass.knows c.loop.invariant.3 (c.in_default.ensures {u = tt}).tried c.stopped.ensures.tried
+pub returns-in-Stopped : goal.returns-in-Stopped
+returns-in-Stopped g c = waits_stopped (λ q. Pack q ∷ []) (λ v q. IsWaiter c.args.t c.args.lock v.image q) c.args.pass.now c.loop.pass c.try_adopt.new.pass c.loop.invariant.2 (c.in-Stopped.ensures {u = tt})

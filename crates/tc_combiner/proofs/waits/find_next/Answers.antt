@@ -1,52 +1,7 @@
-use Rattle.std.proofs.Common.{ℕ, [], ◌+◌, arith, ap, ◌∙◌, subst, Option}
-use Rattle.tc_queue.specs.declared.turn.Turn.{Turn}
-use Rattle.tc_queue.specs.Lines.{Next, with_line}
-use Rattle.tc_combiner.specs.Walks.{Asked}
-use Rattle.tc_combiner.proofs.Walking.{asked_last, asked_more, asks_next, none_left_of}
-use Rattle.tc_combiner.proofs.Acting.{acts_none, looked, looked_once, saw_stop, tried_still}
+use Rattle.std.proofs.Common.{ℕ, [], ◌+◌, arith, subst, Some, None}
+use Rattle.tc_combiner.specs.Walks.{saw, Asked}
+use Rattle.tc_combiner.proofs.Acting.{asked_last, asked_more, asks_next, acts_none, acts_then, tried_still, tries_more}
 use Rattle.tc_combiner.proofs.waits.find_next.Goals as goal
-
-pub returns-in-Some-next-clause-asks : goal.returns-in-Some-next-clause-asks
-returns-in-Some-next-clause-asks g c = asks_next c.args.own (g.Q.Waiters.seen c.args.seat.now) (g.Q.Waiters.seen c.loop.seat) (g.Q.Waiters.seen c.next-in-loop.new.seat) c.next-in-loop.result c.loop.invariant.3 c.next-in-loop.ensures.call
-
-pub returns-then-stopped-clause-acts : goal.returns-then-stopped-clause-acts
-returns-then-stopped-clause-acts g c = saw_stop _ c.args.pass.now c.loop.pass c.stopped.new.pass c.if-stopped.true c.loop.invariant.2 c.stopped.ensures.acts
-
-pub returns-then-stopped-clause-asks : goal.returns-then-stopped-clause-asks
-returns-then-stopped-clause-asks g c = asks_next c.args.own (g.Q.Waiters.seen c.args.seat.now) (g.Q.Waiters.seen c.loop.seat) (g.Q.Waiters.seen c.next-in-loop.new.seat) c.next-in-loop.result c.loop.invariant.3 c.next-in-loop.ensures.call
-
-pub loop-preserved : goal.loop-preserved
-loop-preserved g c = (
-  tt,
-  tt,
-  looked _ c.args.pass.now c.loop.pass c.stopped.new.pass c.if-stopped.false c.loop.invariant.2 c.stopped.ensures.acts,
-  asks_next c.args.own (g.Q.Waiters.seen c.args.seat.now) (g.Q.Waiters.seen c.loop.seat) (g.Q.Waiters.seen c.next-in-loop.new.seat) c.next-in-loop.result c.loop.invariant.3 c.next-in-loop.ensures.call,
-  (
-    c.loop.invariant.4.0 + 1,
-    asked_more (c.loop.invariant.4.0 + 1) (g.Q.Waiters.seen c.args.seat.now) (g.Q.Waiters.seen c.loop.seat) (g.Q.Waiters.seen c.next-in-loop.new.seat) c.args.own c.next-in-loop.result c.loop.invariant.4.1 c.next-in-loop.ensures.call (none_left_of c.next-in-loop.result c.in_default-next.not-Some),
-    looked_once c.loop.invariant.4.0 c.args.pass.now.knows c.loop.pass.knows c.stopped.new.pass.knows c.loop.invariant.4.2 c.stopped.ensures.tried,
-  ),
-)
-
-pub returns-then-stopped-clause-looks : goal.returns-then-stopped-clause-looks
-returns-then-stopped-clause-looks g c = (
-  (c.loop.invariant.4.0 + 1) + 1,
-  c.loop.invariant.4.0 + 1,
-  asked_more (c.loop.invariant.4.0 + 1) (g.Q.Waiters.seen c.args.seat.now) (g.Q.Waiters.seen c.loop.seat) (g.Q.Waiters.seen c.next-in-loop.new.seat) c.args.own c.next-in-loop.result c.loop.invariant.4.1 c.next-in-loop.ensures.call (none_left_of c.next-in-loop.result c.in_default-next.not-Some),
-  looked_once c.loop.invariant.4.0 c.args.pass.now.knows c.loop.pass.knows c.stopped.new.pass.knows c.loop.invariant.4.2 c.stopped.ensures.tried,
-  omega arith,
-  omega arith,
-)
-
-pub returns-in-Some-next-clause-looks : goal.returns-in-Some-next-clause-looks
-returns-in-Some-next-clause-looks g c = (
-  (c.loop.invariant.4.0 + 1) + 0,
-  c.loop.invariant.4.0,
-  asked_last (c.loop.invariant.4.0 + 1) (g.Q.Waiters.seen c.args.seat.now) (g.Q.Waiters.seen c.loop.seat) (g.Q.Waiters.seen c.next-in-loop.new.seat) c.args.own c.in-Some-next.next c.loop.invariant.4.1 (c.next-in-loop.ensures.call ∙ ap (λ (o : Option Turn). with_line (g.Q.Waiters.seen c.loop.seat) (Next c.args.own o)) c.in-Some-next.is),
-  c.loop.invariant.4.2,
-  omega arith,
-  omega arith,
-)
 
 pub returns-in_default-clause-looks : goal.returns-in_default-clause-looks
 returns-in_default-clause-looks g c =
@@ -61,3 +16,30 @@ loop-init g c = (
   c.ask.ensures.asks,
   (0, subst (λ (n : ℕ). Asked n (g.Q.Waiters.seen c.args.seat.now) (g.Q.Waiters.seen c.ask.new.seat)) (c.ask.ensures.once.3 c.in-Unknown.is) c.ask.ensures.once.1, tried_still c.args.pass.now.knows),
 )
+
+pub loop-preserved : goal.loop-preserved
+loop-preserved g c =
+    let e = c.in-Refused.ensures {u = tt} in
+    (tt, tt, acts_then [] [] [] [] [] c.args.pass.now c.loop.pass c.try_next.new.pass c.loop.invariant.2 e.tried.0, asks_next c.args.own (g.Q.Waiters.seen c.args.seat.now) (g.Q.Waiters.seen c.loop.seat) (g.Q.Waiters.seen c.try_next.new.seat) None c.loop.invariant.3 e.line, (c.loop.invariant.4.0 + 1, asked_more (c.loop.invariant.4.0 + 1) (g.Q.Waiters.seen c.args.seat.now) (g.Q.Waiters.seen c.loop.seat) (g.Q.Waiters.seen c.try_next.new.seat) c.args.own c.loop.invariant.4.1 e.line, tries_more c.loop.invariant.4.0 1 c.args.pass.now.knows c.loop.pass.knows c.try_next.new.pass.knows c.loop.invariant.4.2 e.tried.1))
+
+pub returns-in-Stopped-clause-acts : goal.returns-in-Stopped-clause-acts
+returns-in-Stopped-clause-acts g c = let e = c.in-Stopped.ensures {u = tt} in acts_then [] saw [] [] [] c.args.pass.now c.loop.pass c.try_next.new.pass c.loop.invariant.2 e.tried.0
+
+pub returns-in-Stopped-clause-asks : goal.returns-in-Stopped-clause-asks
+returns-in-Stopped-clause-asks g c = let e = c.in-Stopped.ensures {u = tt} in asks_next c.args.own (g.Q.Waiters.seen c.args.seat.now) (g.Q.Waiters.seen c.loop.seat) (g.Q.Waiters.seen c.try_next.new.seat) None c.loop.invariant.3 e.line
+
+pub returns-in-Stopped-clause-looks : goal.returns-in-Stopped-clause-looks
+returns-in-Stopped-clause-looks g c =
+    let e = c.in-Stopped.ensures {u = tt} in
+    ((c.loop.invariant.4.0 + 1) + 1, c.loop.invariant.4.0 + 1, asked_more (c.loop.invariant.4.0 + 1) (g.Q.Waiters.seen c.args.seat.now) (g.Q.Waiters.seen c.loop.seat) (g.Q.Waiters.seen c.try_next.new.seat) c.args.own c.loop.invariant.4.1 e.line, tries_more c.loop.invariant.4.0 1 c.args.pass.now.knows c.loop.pass.knows c.try_next.new.pass.knows c.loop.invariant.4.2 e.tried.1, omega arith, omega arith)
+
+pub returns-in-Came-clause-acts : goal.returns-in-Came-clause-acts
+returns-in-Came-clause-acts g c = let e = c.in-Came.ensures {u = tt} in acts_then [] [] [] [] [] c.args.pass.now c.loop.pass c.try_next.new.pass c.loop.invariant.2 e.tried.0
+
+pub returns-in-Came-clause-asks : goal.returns-in-Came-clause-asks
+returns-in-Came-clause-asks g c = let e = c.in-Came.ensures {u = tt} in asks_next c.args.own (g.Q.Waiters.seen c.args.seat.now) (g.Q.Waiters.seen c.loop.seat) (g.Q.Waiters.seen c.try_next.new.seat) (Some c.in-Came.next) c.loop.invariant.3 e.line
+
+pub returns-in-Came-clause-looks : goal.returns-in-Came-clause-looks
+returns-in-Came-clause-looks g c =
+    let e = c.in-Came.ensures {u = tt} in
+    ((c.loop.invariant.4.0 + 1) + 0, c.loop.invariant.4.0 + 0, asked_last (c.loop.invariant.4.0 + 1) (g.Q.Waiters.seen c.args.seat.now) (g.Q.Waiters.seen c.loop.seat) (g.Q.Waiters.seen c.try_next.new.seat) c.args.own c.in-Came.next c.loop.invariant.4.1 e.line, tries_more c.loop.invariant.4.0 0 c.args.pass.now.knows c.loop.pass.knows c.try_next.new.pass.knows c.loop.invariant.4.2 e.tried.1, omega arith, omega arith)

@@ -1,6 +1,5 @@
-use Rattle.std.proofs.Common.{[]}
-use Rattle.tc_combiner.specs.Acts.{Acts, LooksEachTime}
+use Rattle.tc_combiner.specs.Walks.{Waits}
 use Rattle.tc_combiner.proofs.waits.take_home.Given as goal
 
 abbrev pub invariant-loop : goal.invariant-loop
-invariant-loop g l = (goal.iterator-loop g).can_next l.iterator' × (goal.iterator-loop g).is_finite l.iterator' × Acts [] [] [] l.fn.pass l.pass × LooksEachTime l.fn.pass.knows l.pass.knows
+invariant-loop g l = (goal.iterator-loop g).can_next l.iterator' × (goal.iterator-loop g).is_finite l.iterator' × Waits l.fn.pass l.pass
