@@ -1,5 +1,6 @@
+pub mod Numbers
+pub mod PartLaws
 pub mod MemoryLaws
-pub mod ClearLaws
 pub mod Turns
 pub mod Words
 pub mod InPlace

@@ -1,17 +1,21 @@
 -- A thread's own memory, kept in parts, is a map from addresses to bytes.
-use Rattle.std.proofs.Common.{◌≡◌, ◌≢◌, ℕ, zero, suc, ◌+◌, ◌-◌, ◌/◌, ◌%◌, ◌<◌, ◌==◌, Bool, true, false, ◌||◌, ◌&&◌, List, [], ◌∷◌, ◌++◌, take, length, map, set, get_or, replicate, refl, sym, ap, ◌∙◌, arith, inl, inr}
-use Rattle.std.specs.Prelude.{if◌then◌else◌, slice_get, Option, Some, None, unwrap_or}
+use Rattle.std.proofs.Common.{◌≡◌, ◌≢◌, ℕ, zero, suc, ◌+◌, ◌-◌, ◌/◌, ◌%◌, ◌<◌, ◌≤◌, ◌==◌, Bool, true, false, All, List, [], ◌∷◌, ◌++◌, length, map, set, get_or, replicate, refl, sym, ap, subst, ◌∙◌, arith, inl, inr}
+use Rattle.std.specs.Prelude.{if◌then◌else◌, nat_le, slice_get, Option, Some, None, unwrap_or}
 use Rattle.std.specs.List.{list_any}
 use Rattle.std.specs.Option.{option_map, option_or}
-use Rattle.std.proofs.lemmas.Bool.Decides.{eqb_tells, leb_tells}
-use Rattle.std.proofs.lemmas.Option.{slice_get-get_or, slice_get_past}
+use Rattle.std.proofs.lemmas.Bool.Decides.{eqb_tells, leb_tells, nat_tests}
+use Rattle.std.proofs.lemmas.Option.{slice_get-get_or}
 use Rattle.std.proofs.lemmas.List.{get_or-replicate, length-replicate, ext_get_or}
-use Rattle.std.proofs.lemmas.List.Folds.{list_any_more}
+use Rattle.std.proofs.lemmas.List.Elements.{All-push}
+use Rattle.std.proofs.lemmas.List.Quantifiers.{all_pairs_push}
 use Rattle.std.proofs.lemmas.List.FromFn.{length-map-range_with_len, get_or-map-range_with_len}
-use Rattle.tc_elf.specs.Shown.{Shown, Range}
-use Rattle.tc_elf.specs.declared.limits.TheConstants.{STACK_START, STACK_LENGTH}
-use Rattle.tc_elf.specs.Places.{lies_in, in_writable, touches, byte_of}
-use Rattle.tc_turn.specs.Memory.{with_byte, with_number, byte_from, put_byte, part_with, Part, Own, byte_in, own_of, starting_byte, starting_bytes, part_of, writable_byte, stack_byte, own_at_start}
+use Rattle.tc_elf.specs.Shown.{Shown}
+use Rattle.tc_elf.specs.declared.image.Region.{Region}
+use Rattle.tc_elf.specs.declared.image.Region.TheVariants as region
+use Rattle.tc_elf.specs.Places.{lies_in, in_writable, touches, byte_of, own_region, stack_start, stack_length}
+use Rattle.tc_turn.specs.Memory.{with_byte, with_number, byte_from, put_byte, part_with, Part, own_of, own_bytes, starting_byte, starting_bytes, own_at_start}
+use Rattle.tc_turn.specs.Parts.{no_part, with_piece, AreApart}
+use Rattle.tc_turn.proofs.PartLaws.{byte_away, none_has, or_none}
 
 -- ---- one byte in a list of bytes
 
@@ -60,12 +64,12 @@ or_with_byte a b at value k =
       | false ↦ refl
     ]
 
-byte_in-put : (parts : List Part) (at value k : ℕ) → byte_in (map (byte_part at value) parts) k ≡ with_byte (byte_in parts) at value k
-byte_in-put [] at value k = elim (k == at) as (λ b. None ≡ (if b then option_map {T = ℕ} (λ old. value) None else None)) [ true ↦ refl | false ↦ refl ]
-byte_in-put (p ∷ parts) at value k =
-    ap (λ o. option_or o (byte_in (map (byte_part at value) parts) k)) (byte_from-put p.start p.bytes at value k)
-    ∙ ap (option_or (with_byte (byte_from p.start p.bytes) at value k)) (byte_in-put parts at value k)
-    ∙ or_with_byte (byte_from p.start p.bytes) (byte_in parts) at value k
+own_of-put : (parts : List Part) (at value k : ℕ) → own_of (map (byte_part at value) parts) k ≡ with_byte (own_of parts) at value k
+own_of-put [] at value k = elim (k == at) as (λ b. None ≡ (if b then option_map {T = ℕ} (λ old. value) None else None)) [ true ↦ refl | false ↦ refl ]
+own_of-put (p ∷ parts) at value k =
+    ap (λ o. option_or o (own_of (map (byte_part at value) parts) k)) (byte_from-put p.start p.bytes at value k)
+    ∙ ap (option_or (with_byte (byte_from p.start p.bytes) at value k)) (own_of-put parts at value k)
+    ∙ or_with_byte (byte_from p.start p.bytes) (own_of parts) at value k
 
 -- ---- a number in the parts
 
@@ -77,52 +81,15 @@ map_twice : (parts : List Part) (at n value : ℕ) → map (part_with at (suc n)
 map_twice [] at n value = refl
 map_twice (p ∷ parts) at n value = ap (λ ps. part_with at (suc n) value p ∷ ps) (map_twice parts at n value)
 
-parts_put : (parts : List Part) (at n value : ℕ) → byte_in (map (part_with at n value) parts) ≡ with_number (byte_in parts) at n value
-parts_put parts at zero value = ap byte_in (map_same parts at value)
-parts_put parts at (suc n) value =
-    ap byte_in (map_twice parts at n value)
-    ∙ parts_put (map (byte_part at (value % 256)) parts) (at + 1) n (value / 256)
-    ∙ ap (λ m. with_number m (at + 1) n (value / 256)) (λ i k. byte_in-put parts at (value % 256) k i)
-
--- ---- without the guards
-
-abbrev outside : (ℕ → Bool) → (ℕ → Option ℕ) → ℕ → Option ℕ
-outside test memory k = if test k then None else memory k
-
-outside_byte : (test : ℕ → Bool) (memory : ℕ → Option ℕ) (at value k : ℕ) → outside test (with_byte memory at value) k ≡ with_byte (outside test memory) at value k
-outside_byte test memory at value k =
-    elim (test k) as (λ b. (if b then None else with_byte memory at value k) ≡ (if k == at then option_map (λ old. value) (if b then None else memory k) else (if b then None else memory k))) [
-      | true ↦ elim (k == at) as (λ b. None ≡ (if b then option_map {T = ℕ} (λ old. value) None else None)) [ true ↦ refl | false ↦ refl ]
-      | false ↦ refl
-    ]
-
-outside_number : (test : ℕ → Bool) (memory : ℕ → Option ℕ) (at n value : ℕ) → outside test (with_number memory at n value) ≡ with_number (outside test memory) at n value
-outside_number test memory at zero value = refl
-outside_number test memory at (suc n) value =
-    outside_number test (with_byte memory at (value % 256)) (at + 1) n (value / 256)
-    ∙ ap (λ m. with_number m (at + 1) n (value / 256)) (λ i k. outside_byte test memory at (value % 256) k i)
-
 -- to write in every part is to write in the map
-pub own_of-put : (m : Own) (at n value : ℕ) → own_of (record { parts = map (part_with at n value) m.parts; guards = m.guards }) ≡ with_number (own_of m) at n value
-own_of-put m at n value =
-    ap (outside (λ k. list_any (touches k 1) m.guards)) (parts_put m.parts at n value)
-    ∙ outside_number (λ k. list_any (touches k 1) m.guards) (byte_in m.parts) at n value
+pub parts_put : (parts : List Part) (at n value : ℕ) → own_of (map (part_with at n value) parts) ≡ with_number (own_of parts) at n value
+parts_put parts at zero value = ap own_of (map_same parts at value)
+parts_put parts at (suc n) value =
+    ap own_of (map_twice parts at n value)
+    ∙ parts_put (map (byte_part at (value % 256)) parts) (at + 1) n (value / 256)
+    ∙ ap (λ m. with_number m (at + 1) n (value / 256)) (λ i k. own_of-put parts at (value % 256) k i)
 
 -- ---- at the start
-
--- bytes of which each is what a function says of its address
-byte_from_each : (start : ℕ) (bytes : List ℕ) (f : ℕ → ℕ) (at : ℕ) → ((i : ℕ) → i < length bytes → get_or bytes i 0 ≡ f (start + i))
-    → byte_from start bytes at ≡ (if lies_in at 1 start (length bytes) then Some (f at) else None)
-byte_from_each start bytes f at each = elim (leb_tells start at) [
-  | inl low ↦ rw (low.0) (elim (leb_tells (at + 1) (start + length bytes)) [
-    | inl within ↦
-        let place : at - start < length bytes = omega arith in
-        let address : start + (at - start) ≡ at = omega arith in
-        rw (within.0) (slice_get-get_or bytes (at - start) 0 place ∙ ap Some (each (at - start) place ∙ ap f address))
-    | inr past ↦ rw (past.0) (slice_get_past bytes (at - start) (omega arith))
-  ])
-  | inr below ↦ rw (below.0) refl
-]
 
 length_starting : (image : Shown) (start n : ℕ) → length (starting_bytes image start n) ≡ n
 length_starting image start n = length-map-range_with_len (starting_byte image) start n
@@ -135,76 +102,116 @@ bytes_each image start n bytes long each =
     let within : i < n = omega (arith, long) in
     sym (get_or-map-range_with_len (starting_byte image) start n i (start + i) 0 within refl ∙ ap (λ o. unwrap_or o 0) (each i within)))
 
-byte_of_part : (image : Shown) (r : Range) (at : ℕ) → byte_from r.start (starting_bytes image r.start r.length) at ≡ (if lies_in at 1 r.start r.length then Some (starting_byte image at) else None)
-byte_of_part image r at =
-    byte_from_each r.start (starting_bytes image r.start r.length) (starting_byte image) at
-    (λ i within. get_or-map-range_with_len (starting_byte image) r.start r.length i (r.start + i) 0 (let e = length_starting image r.start r.length in omega arith) refl)
-    ∙ ap (λ n. if lies_in at 1 r.start n then Some (starting_byte image at) else None) (length_starting image r.start r.length)
+-- the byte at an address of this place in a thread's own memory
+abbrev own_byte : Shown → Region → ℕ → Option ℕ
+own_byte image region.Text at = None
+own_byte image region.Private at = Some (starting_byte image at)
+own_byte image region.Stack at = Some 0
+own_byte image (region.Guard lock) at = None
+own_byte image region.Nothing at = None
 
-byte_in-append : (parts : List Part) (p : Part) (at : ℕ) → byte_in (parts ++ p ∷ []) at ≡ option_or (byte_in parts at) (byte_from p.start p.bytes at)
-byte_in-append [] p at = last (byte_from p.start p.bytes at)
+own_at_start_is : (image : Shown) (at : ℕ) → own_at_start image at ≡ own_byte image (own_region image at) at
+unfolding own_at_start
+own_at_start_is image at = by (list_any (touches at 1) image.guards) (list_any (in_writable at 1) image.ranges) (lies_in at 1 stack_start stack_length)
   where
-    last : (o : Option ℕ) → option_or o None ≡ o
-    last None = refl
-    last (Some x) = refl
-byte_in-append (q ∷ parts) p at =
-    ap (option_or (byte_from q.start q.bytes at)) (byte_in-append parts p at)
-    ∙ sym (assoc (byte_from q.start q.bytes at) (byte_in parts at) (byte_from p.start p.bytes at))
+    by : (t w s : Bool) → (if t then None else option_or (if w then Some (starting_byte image at) else None) (if s then Some 0 else None))
+        ≡ own_byte image (if t then region.Nothing else if w then region.Private else if s then region.Stack else region.Nothing) at
+    by true w s = refl
+    by false true s = refl
+    by false false true = refl
+    by false false false = refl
+
+-- bytes that stand from a start on, if there are any
+abbrev byte_by : ℕ → Option (List ℕ) → ℕ → Option ℕ
+byte_by start None at = None
+byte_by start (Some bytes) at = byte_from start bytes at
+
+abbrev AreFew : ℕ → Option (List ℕ) → Type 0
+AreFew n None = Unit {0}
+AreFew n (Some bytes) = length bytes ≤ n
+
+byte_there : (start : ℕ) (bytes : List ℕ) (at value : ℕ) → start ≤ at → at < start + length bytes → get_or bytes (at - start) 0 ≡ value → byte_from start bytes at ≡ Some value
+byte_there start bytes at value low high is =
+    let from : nat_le start at ≡ true = grind (arith, nat_tests) in
+    rw (from) (slice_get-get_or bytes (at - start) 0 (omega arith) ∙ ap Some is)
+
+bytes_are : (image : Shown) (r : Region) (start n at : ℕ) → start ≤ at → at < start + n → byte_by start (own_bytes image r start n) at ≡ own_byte image r at
+bytes_are image region.Text start n at low high = refl
+bytes_are image region.Private start n at low high =
+    byte_there start (starting_bytes image start n) at (starting_byte image at) low (let e = length_starting image start n in omega arith)
+    (get_or-map-range_with_len (starting_byte image) start n (at - start) at 0 (omega arith) (omega arith))
+bytes_are image region.Stack start n at low high =
+    byte_there start (replicate n 0) at 0 low (let e = length-replicate {A = ℕ} n 0 in omega arith) (get_or-replicate {A = ℕ} n (at - start) 0 0 (omega arith))
+bytes_are image (region.Guard lock) start n at low high = refl
+bytes_are image region.Nothing start n at low high = refl
+
+are_few : (image : Shown) (r : Region) (start n : ℕ) → AreFew n (own_bytes image r start n)
+are_few image region.Text start n = tt
+are_few image region.Private start n = (let e = length_starting image start n in omega arith)
+are_few image region.Stack start n = (let e = length-replicate {A = ℕ} n 0 in omega arith)
+are_few image (region.Guard lock) start n = tt
+are_few image region.Nothing start n = tt
+
+own_of-append : (parts : List Part) (p : Part) (at : ℕ) → own_of (parts ++ p ∷ []) at ≡ option_or (own_of parts at) (byte_from p.start p.bytes at)
+own_of-append [] p at = or_none (byte_from p.start p.bytes at)
+own_of-append (q ∷ parts) p at =
+    ap (option_or (byte_from q.start q.bytes at)) (own_of-append parts p at)
+    ∙ sym (assoc (byte_from q.start q.bytes at) (own_of parts at) (byte_from p.start p.bytes at))
   where
     assoc : (a b c : Option ℕ) → option_or (option_or a b) c ≡ option_or a (option_or b c)
     assoc None b c = refl
     assoc (Some x) b c = refl
 
--- one more range that is writable
-pub writable_more : (image : Shown) (parts : List Part) (i at : ℕ) (d : Range) → i < length image.ranges → (get_or image.ranges i d).writable ≡ true
-    → byte_in parts at ≡ writable_byte image (take i image.ranges) at
-    → byte_in (parts ++ part_of image (get_or image.ranges i d) ∷ []) at ≡ writable_byte image (take (i + 1) image.ranges) at
-writable_more image parts i at d within is had =
-    let r = get_or image.ranges i d in
-    let any = list_any (in_writable at 1) (take i image.ranges) in
-    let answer : Bool → Option ℕ = λ b. if b then Some (starting_byte image at) else None in
-    let both : (a b : Bool) → option_or (answer a) (answer b) ≡ answer (a || b) = λ a b. elim a as (λ a. option_or (answer a) (answer b) ≡ answer (a || b)) [ true ↦ refl | false ↦ refl ] in
-    byte_in-append parts (part_of image r) at
-    ∙ ap (λ o. option_or o (byte_from r.start (starting_bytes image r.start r.length) at)) had
-    ∙ ap (option_or (answer any)) (byte_of_part image r at)
-    ∙ both any (lies_in at 1 r.start r.length)
-    ∙ ap (λ w. answer (any || (w && lies_in at 1 r.start r.length))) (sym is)
-    ∙ ap answer (sym (list_any_more (in_writable at 1) image.ranges i d within))
+own_of-with : (parts : List Part) (start : ℕ) (o : Option (List ℕ)) (at : ℕ) → own_of (with_piece parts start o) at ≡ option_or (own_of parts at) (byte_by start o at)
+own_of-with parts start None at = sym (or_none (own_of parts at))
+own_of-with parts start (Some bytes) at = own_of-append parts (record { start = start; bytes = bytes }) at
 
--- one more range that is not
-pub writable_same : (image : Shown) (parts : List Part) (i at : ℕ) (d : Range) → i < length image.ranges → (get_or image.ranges i d).writable ≡ false
-    → byte_in parts at ≡ writable_byte image (take i image.ranges) at
-    → byte_in parts at ≡ writable_byte image (take (i + 1) image.ranges) at
-writable_same image parts i at d within is had =
-    let r = get_or image.ranges i d in
-    let any = list_any (in_writable at 1) (take i image.ranges) in
-    let answer : Bool → Option ℕ = λ b. if b then Some (starting_byte image at) else None in
-    let alone : (a : Bool) → answer a ≡ answer (a || false) = λ a. elim a as (λ a. answer a ≡ answer (a || false)) [ true ↦ refl | false ↦ refl ] in
-    had ∙ alone any
-    ∙ ap (λ w. answer (any || (w && lies_in at 1 r.start r.length))) (sym is)
-    ∙ ap answer (sym (list_any_more (in_writable at 1) image.ranges i d within))
+before : (start : ℕ) (o : Option (List ℕ)) (at : ℕ) → at < start → byte_by start o at ≡ None
+before start None at low = refl
+before start (Some bytes) at low = byte_away (record { start = start; bytes = bytes }) at (inl (omega arith))
 
--- all ranges, and the stack, whose length is not computed with
-zeros_are : (start n at : ℕ) (bytes : List ℕ) → bytes ≡ replicate n 0 → byte_from start bytes at ≡ (if lies_in at 1 start n then Some 0 else None)
-zeros_are start n at bytes zeros =
-    let long : length bytes ≡ n = ap length zeros ∙ length-replicate {A = ℕ} n 0 in
-    byte_from_each start bytes (λ a. 0) at (λ i within. ap (λ xs. get_or xs i 0) zeros ∙ get_or-replicate {A = ℕ} n i 0 0 (omega arith))
-    ∙ ap (λ n. if lies_in at 1 start n then Some 0 else None) long
+-- the parts of the addresses before one
+pub record AreMade (image : Shown) (parts : List Part) (end : ℕ) : Type 0 where
+  pub own : (at : ℕ) → at < end → own_of parts at ≡ own_at_start image at
+  pub low : All (λ p. p.start + length p.bytes ≤ end) parts
+  pub apart : AreApart parts
 
-pub own_of-start : (image : Shown) (parts : List Part) (stack : List ℕ) → stack ≡ replicate STACK_LENGTH 0
-    → ((at : ℕ) → byte_in parts at ≡ writable_byte image image.ranges at)
-    → own_of (record { parts = parts ++ record { start = STACK_START; bytes = stack } ∷ []; guards = image.guards }) ≡ own_at_start image
-unfolding own_at_start
-own_of-start image parts stack zeros writable = λ i at. outer at i
+pub none_made : (image : Shown) → AreMade image [] 0
+none_made image = record { own = λ at below. absurd (omega arith); low = λ k d below. absurd (omega arith); apart = λ i j d first below. absurd (omega arith) }
+
+none_yet : (image : Shown) (parts : List Part) (end at : ℕ) → AreMade image parts end → end ≤ at → own_of parts at ≡ None
+none_yet image parts end at made past = none_has parts at (λ j known. inr (let low = made.low j no_part known in omega arith))
+
+low_more : (parts : List Part) (start n : ℕ) (o : Option (List ℕ)) → All (λ p. p.start + length p.bytes ≤ start) parts → AreFew n o → All (λ p. p.start + length p.bytes ≤ start + n) (with_piece parts start o)
+low_more parts start n None low few = λ k d below. (let was = low k d below in omega arith)
+low_more parts start n (Some bytes) low few = All-push (λ p. p.start + length p.bytes ≤ start + n) parts (record { start = start; bytes = bytes }) (λ k d below. (let was = low k d below in omega arith)) (omega arith)
+
+apart_more : (parts : List Part) (start : ℕ) (o : Option (List ℕ)) → All (λ p. p.start + length p.bytes ≤ start) parts → AreApart parts → AreApart (with_piece parts start o)
+apart_more parts start None low apart = apart
+apart_more parts start (Some bytes) low apart = all_pairs_push (λ p q. p.start + length p.bytes ≤ q.start) parts (record { start = start; bytes = bytes }) apart low
+
+pub piece_more : (image : Shown) (parts : List Part) (start n : ℕ) (r : Region) (o : Option (List ℕ)) → AreMade image parts start
+    → ((at : ℕ) → start ≤ at → at < start + n → own_region image at ≡ r) → o ≡ own_bytes image r start n → AreMade image (with_piece parts start o) (start + n)
+piece_more image parts start n r o made each is = record {
+  own = λ at below. own_of-with parts start o at ∙ elim (leb_tells start at) [
+    | inl from ↦
+        ap (λ x. option_or x (byte_by start o at)) (none_yet image parts start at made from.1)
+        ∙ ap (λ o. byte_by start o at) is ∙ bytes_are image r start n at from.1 below
+        ∙ ap (λ r. own_byte image r at) (sym (each at from.1 below)) ∙ sym (own_at_start_is image at)
+    | inr low ↦
+        let first : at < start = (let l = low.1 in omega arith) in
+        ap (option_or (own_of parts at)) (before start o at first) ∙ or_none (own_of parts at) ∙ made.own at first
+  ];
+  low = low_more parts start n o made.low (subst (AreFew n) (sym is) (are_few image r start n));
+  apart = apart_more parts start o made.low made.apart;
+}
+
+-- when all pieces are there
+pub own_made : (image : Shown) (parts : List Part) (end : ℕ) → AreMade image parts end → ((at : ℕ) → end ≤ at → own_region image at ≡ region.Nothing) → own_of parts ≡ own_at_start image
+own_made image parts end made past = λ i at. by at i
   where
-    stack_is : (at : ℕ) → byte_from STACK_START stack at ≡ stack_byte at
-    stack_is at = zeros_are STACK_START STACK_LENGTH at stack zeros
-
-    inner : (at : ℕ) → byte_in (parts ++ record { start = STACK_START; bytes = stack } ∷ []) at ≡ option_or (writable_byte image image.ranges at) (stack_byte at)
-    inner at =
-        byte_in-append parts (record { start = STACK_START; bytes = stack }) at
-        ∙ ap (λ o. option_or o (byte_from STACK_START stack at)) (writable at)
-        ∙ ap (option_or (writable_byte image image.ranges at)) (stack_is at)
-
-    outer : (at : ℕ) → own_of (record { parts = parts ++ record { start = STACK_START; bytes = stack } ∷ []; guards = image.guards }) at ≡ own_at_start image at
-    outer at = ap (λ o. if list_any (touches at 1) image.guards then None else o) (inner at)
+    by : (at : ℕ) → own_of parts at ≡ own_at_start image at
+    by at = elim (leb_tells end at) [
+      | inl high ↦ none_yet image parts end at made high.1 ∙ ap (λ r. own_byte image r at) (sym (past at high.1)) ∙ sym (own_at_start_is image at)
+      | inr low ↦ made.own at (let l = low.1 in omega arith)
+    ]

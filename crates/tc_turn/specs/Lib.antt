@@ -1,6 +1,6 @@
 pub mod Ahead
 pub mod Memory
-pub mod Clear
+pub mod Parts
 pub mod Turn
 pub mod Reads
 pub mod Replay

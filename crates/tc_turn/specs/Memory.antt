@@ -1,8 +1,10 @@
 -- Bytes at addresses: a thread's own memory, and the guards of locks.
-use Rattle.std.specs.Prelude.{ℕ, zero, suc, ◌+◌, ◌-◌, ◌*◌, ◌/◌, ◌%◌, ◌==◌, nat_le, if◌then◌else◌, List, [], ◌∷◌, map, slice_get, slice_set, Option, Some, None, unwrap_or}
+use Rattle.std.specs.Prelude.{ℕ, zero, suc, ◌+◌, ◌-◌, ◌*◌, ◌/◌, ◌%◌, ◌==◌, nat_le, if◌then◌else◌, List, [], ◌∷◌, map, replicate, slice_get, slice_set, Option, Some, None, unwrap_or}
 use Rattle.std.specs.List.{list_any, range_with_len}
 use Rattle.std.specs.Option.{option_map, option_or}
-use Rattle.tc_elf.specs.Shown.{Shown, Range, Guard}
+use Rattle.tc_elf.specs.Shown.{Shown, Range}
+use Rattle.tc_elf.specs.declared.image.Region.{Region}
+use Rattle.tc_elf.specs.declared.image.Region.TheVariants as region
 use Rattle.tc_elf.specs.Places.{lies_in, in_writable, touches, byte_of, stack_start, stack_length}
 
 -- the number in so many bytes from an address on, the lowest first
@@ -38,21 +40,13 @@ pub record Part : Type 0 where
   pub start : ℕ
   pub bytes : List ℕ
 
--- the parts, and the guards, which are no part of the memory even where they lie in one
-pub record Own : Type 0 where
-  pub parts : List Part
-  pub guards : List Guard
-
 abbrev pub part_with : ℕ → ℕ → ℕ → Part → Part
 part_with addr width value p = record { start = p.start; bytes = put_number p.start p.bytes addr width value }
 
 -- the byte at an address, of the first part that has it
-abbrev pub byte_in : List Part → ℕ → Option ℕ
-byte_in [] at = None
-byte_in (p ∷ parts) at = option_or (byte_from p.start p.bytes at) (byte_in parts at)
-
-abbrev pub own_of : Own → ℕ → Option ℕ
-own_of m at = if list_any (touches at 1) m.guards then None else byte_in m.parts at
+abbrev pub own_of : List Part → ℕ → Option ℕ
+own_of [] at = None
+own_of (p ∷ parts) at = option_or (byte_from p.start p.bytes at) (own_of parts at)
 
 -- ---- at the start
 
@@ -63,9 +57,13 @@ starting_byte image at = unwrap_or (byte_of image at) 0
 abbrev pub starting_bytes : Shown → ℕ → ℕ → List ℕ
 starting_bytes image start length = map (starting_byte image) (range_with_len start length)
 
--- the part that a range makes
-abbrev pub part_of : Shown → Range → Part
-part_of image r = record { start = r.start; bytes = starting_bytes image r.start r.length }
+-- those of addresses that have this place in a thread's own memory
+abbrev pub own_bytes : Shown → Region → ℕ → ℕ → Option (List ℕ)
+own_bytes image region.Text start length = None
+own_bytes image region.Private start length = Some (starting_bytes image start length)
+own_bytes image region.Stack start length = Some (replicate length 0)
+own_bytes image (region.Guard lock) start length = None
+own_bytes image region.Nothing start length = None
 
 -- the byte of the writable ranges, as the file says
 abbrev pub writable_byte : Shown → List Range → ℕ → Option ℕ

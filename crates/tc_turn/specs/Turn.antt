@@ -18,7 +18,7 @@ use Rattle.tc_journal.specs.declared.rule.Outcome.{Outcome}
 use Rattle.tc_journal.specs.declared.rule.Outcome.TheVariants as outcome
 use Rattle.tc_turn.specs.declared.status.Status.{Status}
 use Rattle.tc_turn.specs.declared.status.Status.TheVariants as status
-use Rattle.tc_turn.specs.Memory.{number_at, with_number, byte_from, put_number, own_at_start, starting_bytes, Own, own_of}
+use Rattle.tc_turn.specs.Memory.{number_at, with_number, byte_from, put_number, own_at_start, starting_bytes, Part, own_of}
 
 -- what a thread has: its own memory is a map from addresses to bytes, its locks are those of which `held` is true
 pub record Thread : Type 0 where
@@ -201,7 +201,7 @@ mutex_after image t held (Some (Faulted f)) k l = given_up (held k) l
 
 pub record Guest : Type 0 where
   pub regs : Registers
-  pub own : Own
+  pub own : List Part
   pub fuel : ℕ
   pub status : Status
   pub held : ℕ

@@ -76,7 +76,7 @@ fn guard_start(image: &Image, lock: u32) -> u32
 }
 
 /// The number in so many bytes of a place from an address on, the lowest first.
-#[tactic(auto, using(crate::proofs::ClearLaws::number_nothing))]
+#[tactic(auto, using(crate::proofs::Numbers::number_nothing))]
 fn number<S: Surroundings>(at: &S, image: &Image, region: Region, addr: u32, width: u32) -> u32
     requires fits { addr + width ≤ 2 ^ 32 }
     requires small { width ≤ 4 }

@@ -7,15 +7,13 @@
 //! replays on what one lock saw of it.
 //!
 //! - `status`: whether and how a thread has ended. `outcome`: how a turn came out for its block.
-//! - `number`: numbers in bytes. `memory`: a thread's own memory, with `clear`, its table of the
-//!   addresses that need no search. `thread`: a thread, which does what an act says. `own_turns`: its
-//!   turns that touch its own memory alone.
+//! - `number`: numbers in bytes. `memory`: a thread's own memory. `thread`: a thread, which does what
+//!   an act says. `own_turns`: its turns that touch its own memory alone.
 //! - `answer`: the answer that a turn finds in its surroundings.
 //! - `turn_laws`: what a turn reads and what it leaves alone.
 #![tactic(auto)]
 
 pub mod answer;
-mod clear;
 pub mod memory;
 pub mod number;
 pub mod outcome;

@@ -142,6 +142,15 @@ impl GuestThread {
         }
     }
 
+    /// Keeps the part of its memory that the last access found, where the place before was another.
+    fn look_at(&mut self, image: &Image, before: usize)
+        ensures { self.new ≡ self.old }
+    {
+        if self.near != before {
+            self.part = image.part(self.near);
+        }
+    }
+
     /// Loads into a register and goes on, where it may load, the bytes are its own, and the load does
     /// not fault.
     fn load(&mut self, image: &Image, kind: LoadKind, rd: Reg, addr: u32, loads: bool) -> bool
@@ -154,10 +163,12 @@ impl GuestThread {
         if !loads {
             return false;
         }
+        let before = self.near;
         let Some(width) = own_load(image, &mut self.near, kind, addr) else {
             return false;
         };
-        let number = self.own.number(addr, width);
+        self.look_at(image, before);
+        let number = self.own.number(self.part, addr, width);
         finish_load(&mut self.regs, kind, rd, number);
         true
     }
@@ -170,10 +181,12 @@ impl GuestThread {
             → thread_of self.new ≡ stored kind addr value (thread_of self.old) }
         ensures no { result ≡ false → self.new ≡ self.old }
     {
+        let before = self.near;
         let Some((width, number)) = own_store(image, &mut self.near, kind, addr, value) else {
             return false;
         };
-        self.own.put(addr, width, number);
+        self.look_at(image, before);
+        self.own.put(self.part, addr, width, number);
         self.regs.step();
         true
     }

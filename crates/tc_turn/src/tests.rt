@@ -70,7 +70,7 @@ fn turns_in_place_are_the_turns(rt: HostRuntime) -> Result<(), Fail> {
 fn numbers_stand_in_little_endian_order(rt: HostRuntime) -> Result<(), Fail> {
     let image = load(rt.alloc(), &SMALLEST)?;
     let mut memory = Memory::start(rt.alloc(), &image)?;
-    memory.put(0x7fff_fffc, 4, 0x0403_0201);
+    memory.put(0, 0x7fff_fffc, 4, 0x0403_0201);
     for (addr, byte) in [
         (0x7fff_c000, Some(0)),
         (0x7fff_fffb, Some(0)),
@@ -82,11 +82,14 @@ fn numbers_stand_in_little_endian_order(rt: HostRuntime) -> Result<(), Fail> {
     ] {
         assert!(rt; memory.byte(addr) == byte, "at {addr}");
     }
-    assert_eq!(rt; memory.number(0x7fff_fffc, 4), 0x0403_0201);
-    assert_eq!(rt; memory.number(0x7fff_fffe, 2), 0x0403);
-    assert_eq!(rt; memory.number(0x7fff_ffff, 1), 4);
+    assert_eq!(rt;
+        memory.number(memory.part_of(0x7fff_fffc), 0x7fff_fffc, 4),
+        0x0403_0201
+    );
+    assert_eq!(rt; memory.number(0, 0x7fff_fffe, 2), 0x0403);
+    assert_eq!(rt; memory.number(9, 0x7fff_ffff, 1), 4);
     // What is not in the memory counts as 0.
-    assert_eq!(rt; memory.number(0x0001_0054, 4), 0);
+    assert_eq!(rt; memory.number(0, 0x0001_0054, 4), 0);
     let mut bytes = starting_bytes(rt.alloc(), &image, 0x10054, 8)?;
     assert_eq!(rt; number_from(0x10054, &bytes, 0x10058, 4), 0x73);
     assert_eq!(rt; number_from(0x10054, &bytes, 0x1005a, 4), 0);

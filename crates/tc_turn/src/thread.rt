@@ -30,8 +30,8 @@ use tc_isa::held::Held;
 use tc_isa::instr::Instr;
 use tc_isa::regs::Regs;
 
-/// A guest thread, with all that is its own, and the number of the place of its last access. A
-/// contract sees it as `thread_of` shows it.
+/// A guest thread, with all that is its own, and the numbers of the place of its last access and of
+/// the part of its memory there. A contract sees it as `thread_of` shows it.
 #[derive(Drop)]
 pub struct GuestThread {
     pub(crate) regs: Regs,
@@ -40,6 +40,7 @@ pub struct GuestThread {
     status: Status,
     held: Held,
     pub(crate) near: usize,
+    pub(crate) part: usize,
 }
 
 impl Model for GuestThread {
@@ -64,6 +65,7 @@ impl GuestThread {
             status: Status::Running,
             held: Held::none(),
             near: 0,
+            part: 0,
         })
     }
 
@@ -109,7 +111,7 @@ impl GuestThread {
         requires small { width ≤ 4 }
         ensures { result ≡ number_at (λ at. unwrap_or (own_of self.now.own at) 0) addr width }
     {
-        self.own.number(addr, width)
+        self.own.number(self.own.part_of(addr), addr, width)
     }
 
     /// The load that its next instruction needs.
@@ -262,6 +264,7 @@ impl GuestThread {
     }
 
     /// The thread after its turn. None is the turn in which it ends for want of fuel.
+    #[tactic(auto, using(crate::proofs::InPlace::same_thread))]
     pub fn take_turn(&mut self, act: &Option<Act>)
         requires fuel { IfSome act.now (λ a. 0 < self.old.fuel) }
         requires fits { IfSome act.now ActFits }
@@ -279,12 +282,7 @@ impl GuestThread {
             }
             Act::Called { call, regs } => {
                 self.regs = *regs;
-                match *call {
-                    Call::Lock(lock) => self.held = self.held.plus(lock),
-                    Call::Unlock(lock) => self.held = self.held.less(lock),
-                    Call::Sleep(_) => {}
-                    Call::Exit => self.end(Status::Exited),
-                }
+                self.follow(&Done::Called(*call));
             }
             Act::Faulted(fault) => self.end(Status::Faulted(*fault)),
         }
@@ -305,7 +303,10 @@ impl GuestThread {
             return;
         };
         match put.region {
-            Region::Private | Region::Stack => self.own.put(put.addr, put.width, put.value),
+            Region::Private | Region::Stack => {
+                let near = self.own.part_of(put.addr);
+                self.own.put(near, put.addr, put.width, put.value);
+            }
             Region::Text | Region::Guard(_) | Region::Nothing => {}
         }
     }

@@ -1,5 +1,5 @@
 use Rattle.std.proofs.Common.{sym}
-use Rattle.tc_turn.proofs.ClearLaws.{number_nothing}
+use Rattle.tc_turn.proofs.Numbers.{number_nothing}
 use Rattle.tc_turn.proofs.answer.number.Goals as goal
 
 pub returns-in-Nothing : goal.returns-in-Nothing

@@ -1,5 +1,5 @@
 use Rattle.std.proofs.Common.{◌∙◌}
-use Rattle.tc_turn.proofs.ClearLaws.{number_text}
+use Rattle.tc_turn.proofs.Numbers.{number_text}
 use Rattle.tc_turn.proofs.answer.text_number.Goals as goal
 
 pub returns-in-Some : goal.returns-in-Some

@@ -1,6 +1,6 @@
 use Rattle.std.proofs.Common.{◌≡◌, drop}
-use Rattle.tc_turn.specs.Memory.{byte_in}
+use Rattle.tc_turn.specs.Memory.{own_of}
 use Rattle.tc_turn.proofs.memory.byte_in.Given as goal
 
 abbrev pub invariant-loop-part : goal.invariant-loop-part
-invariant-loop-part l = byte_in (drop l.part-index l.parts) l.addr ≡ byte_in l.parts l.addr
+invariant-loop-part l = own_of (drop l.part-index l.parts) l.addr ≡ own_of l.parts l.addr

@@ -1,7 +1,7 @@
 use Rattle.std.proofs.Common.{◌∙◌, ◌-◌, ◌≤◌, arith}
 use Rattle.std.proofs.lemmas.Bool.{and_parts}
 use Rattle.std.proofs.lemmas.Bool.Decides.{nat_tests}
-use Rattle.tc_turn.proofs.ClearLaws.{number_there}
+use Rattle.tc_turn.proofs.Numbers.{number_there}
 use Rattle.tc_turn.proofs.number.number_within.Goals as goal
 
 pub returns-in-Some : goal.returns-in-Some

@@ -1,14 +1,25 @@
-use Rattle.std.proofs.Common.{◌++◌, ◌∷◌, [], ap, ◌∙◌}
-use Rattle.tc_elf.specs.declared.limits.TheConstants.{STACK_START}
-use Rattle.tc_turn.specs.Memory.{own_of}
-use Rattle.tc_turn.proofs.MemoryLaws.{own_of-start}
+use Rattle.std.proofs.Common.{◌+◌, List, sym, subst, arith}
+use Rattle.tc_turn.specs.Memory.{Part}
+use Rattle.tc_turn.proofs.MemoryLaws.{AreMade, none_made, piece_more, own_made}
 use Rattle.tc_turn.proofs.memory.Memory.start.Goals as goal
 
+pub pieces-init : goal.pieces-init
+pieces-init c = record {
+  made = subst (λ (parts : List Part). AreMade c.args.image.now parts 0) (sym c.new-parts.ensures.items) (none_made c.args.image.now);
+  past = λ some. absurd (omega arith);
+  fits = omega arith;
+}
+
+pub pieces-preserved : goal.pieces-preserved
+pieces-preserved c = record {
+  made = subst (λ (parts : List Part). AreMade c.args.image.now parts (c.pieces.next + c.own_piece-piece.result.0)) (sym c.in_ok-push_piece.ensures)
+      (piece_more c.args.image.now c.pieces.parts.items c.pieces.next c.own_piece-piece.result.0 c.own_piece-piece.result.1 _ c.pieces.invariant.made c.own_piece-piece.ensures.each c.in_ok-bytes.ensures);
+  past = λ some. c.own_piece-piece.ensures.past;
+  fits = omega (arith, c.own_piece-piece.ensures.fits);
+}
+
+pub invariant_of-result : goal.invariant_of-result
+invariant_of-result c = c.pieces.invariant.made.apart
+
 pub returns : goal.returns
-returns c =
-    let image = c.args.image.now in
-    let parts = c.in_ok-parts.parts.items in
-    let stack = c.in_ok-zeros.field-0.items in
-    ap (λ ps. own_of (record { parts = ps; guards = c.in_ok-guards.guards.items })) c.in_ok-push.ensures.items
-    ∙ ap (λ gs. own_of (record { parts = parts ++ record { start = STACK_START; bytes = stack } ∷ []; guards = gs })) c.in_ok-guards.ensures
-    ∙ own_of-start image parts stack c.in_ok-zeros.ensures c.in_ok-parts.ensures
+returns c = own_made c.args.image.now c.pieces.parts.items c.pieces.next c.pieces.invariant.made (λ at high. c.pieces.invariant.past (omega (arith, c.pieces-test.false)) at (omega (arith, c.pieces-test.false, high)))
