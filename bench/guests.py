@@ -18,13 +18,13 @@ GUARD_BYTES = 64
 THREADS = 16
 
 
-def elf(code, guards, ranges=((DATA, b"", 16 * GUARD_BYTES),)):
-    """The file of a guest whose threads all run this code, with this number of locks.
+def elf(code, guards, ranges=((DATA, b"", 16 * GUARD_BYTES),), threads=THREADS):
+    """The file of a guest whose threads, so many, all run this code, with this number of locks.
 
     Each range is an address, the bytes that the file gives it, and a length; it is writable.
     """
     text = struct.pack(f"<{len(code)}I", *code)
-    notes = elf32.note([(TEXT, thread) for thread in range(THREADS)],
+    notes = elf32.note([(TEXT, thread) for thread in range(threads)],
                        [(DATA + number * GUARD_BYTES, GUARD_BYTES) for number in range(guards)])
     return elf32.written(TEXT, [(elf32.LOAD, TEXT, text, len(text), 5),
                                 *((elf32.LOAD, start, given, length, 6) for start, given, length in ranges),
@@ -87,10 +87,16 @@ def sleeps():
     return elf(call(limits.SLEEP, 0)[:2] + for_ever([encode("ecall")]), 0)
 
 
-def shortest_blocks():
-    """Four locks are taken and kept; then SLEEP after SLEEP, each a block of one turn with a long line."""
-    taken = [one for number in range(12, 16) for one in lock(number)]
-    return elf(taken + call(limits.SLEEP, 0)[:2] + for_ever(65536 * [encode("ecall")]), 16)
+def shortest_blocks(threads=THREADS, guards=16):
+    """The last four locks are taken and kept; then SLEEP after SLEEP, each a block of one turn with a long line."""
+    taken = [one for number in range(guards - 4, guards) for one in lock(number)]
+    code = taken + call(limits.SLEEP, 0)[:2] + for_ever(65536 * [encode("ecall")])
+    return elf(code, guards, ((DATA, b"", guards * GUARD_BYTES),), threads)
+
+
+def longest_history():
+    """The same with as many threads and locks as there can be: the most blocks with the longest lines."""
+    return shortest_blocks(limits.THREADS[2], limits.GUARDS[2])
 
 
 def twelve_ranges(lengths):
@@ -115,6 +121,6 @@ def many_ranges():
 
 
 GUESTS = {guest.__name__.replace("_", "-"): guest for guest in (
-    arithmetic, memory, hot_lock, nested_locks, sleeps, shortest_blocks, many_ranges)}
+    arithmetic, memory, hot_lock, nested_locks, sleeps, shortest_blocks, longest_history, many_ranges)}
 GUESTS.update({f"{size}-image": functools.partial(image, kibibytes)
                for size, kibibytes in (("quarter", 240), ("half", 480), ("large", 960))})

@@ -18,7 +18,16 @@ MEANINGS = """
              N threads waited alone (Jain's index of the threads' mean waits)
   turns      of a lock: turns in which it was held
   moves      of a thread: how many blocks have another worker than its block before
+
+sections, taken, adopted, granted, longest, changes and home of a lock, and blocks, turns and moves of a thread,
+are the numbers that ./tclocks profile prints.
 """
+
+
+# The names of the numbers that the program prints with `profile`.
+LOCK_PROFILE = "sections", *SECTIONS, "longest", "changes", "home"
+THREAD_PROFILE = "blocks", "turns", "moves"
+
 
 class Away:
     """Follows which worker each thread calls its own: the one that ran its last block without a
@@ -165,6 +174,14 @@ class Counts:
         yield "thread", [self.thread_row(*item) for item in enumerate(self.threads)]
         yield "worker", [{"worker": number, "blocks": worker.blocks, "turns": worker.turns,
                           "away": worker.away} for number, worker in enumerate(self.workers)]
+
+    def profile_lines(self):
+        """The lines that the program prints of this history with `profile`."""
+        yield "tclocks profile 1"
+        for name, names in (("lock", LOCK_PROFILE), ("thread", THREAD_PROFILE)):
+            for row in dict(self.tables())[name]:
+                yield " ".join(f"{column} {row[column]}" for column in (name, *names))
+        yield "end"
 
     def lock_row(self, number, lock):
         ends = self.text.lock_ends

@@ -152,13 +152,10 @@ class Run:
 
     def ending_lines(self):
         """The report's lines behind the blocks, for threads that have ended."""
-        threads, locks = self.machine.threads, self.machine.locks
-        for number, thread in enumerate(threads):
+        for number, thread in enumerate(self.machine.threads):
             if thread.end is None:
                 raise Wrong(f"behind block {self.count - 1}: thread {number} has not ended")
-        return report.ending_lines(
-            [report.ThreadEnd(thread.end, thread.fuel, thread.pc, thread.x) for thread in threads],
-            [report.LockEnd(lock.sections, lock.broken, lock.addresses.start, lock.bytes) for lock in locks])
+        return ending_lines(self.machine)
 
     def lines(self, blocks):
         """A report of these blocks, to its end where each thread has ended."""
@@ -170,6 +167,13 @@ class Run:
 
     def is_over(self):
         return all(thread.end is not None for thread in self.machine.threads)
+
+
+def ending_lines(machine):
+    """The report's lines behind the blocks, of a machine at its end."""
+    return report.ending_lines(
+        [report.ThreadEnd(thread.end, thread.fuel, thread.pc, thread.x) for thread in machine.threads],
+        [report.LockEnd(lock.sections, lock.broken, lock.addresses.start, lock.bytes) for lock in machine.locks])
 
 
 def shown(name, block):

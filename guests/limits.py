@@ -16,6 +16,10 @@ KINDS = ("start", "on", "taken", "adopted", "granted")
 SECTIONS = KINDS[2:]  # the kinds that begin a section
 PASSED_ON = KINDS[3:]  # those of a section that a waiter was given
 
+HISTORY_BYTES = 268435456  # of the history behind a guest's file
+REJECTED = 6  # the program's status where a history is rejected, and why it is: of several reasons the first
+REASONS = ("Text", "Thread", "Owner", "Block", "Kind", "Worker", "Incomplete")
+
 # The least and the most of each number that stands behind the program's words.
 RUN = {"workers": (1, 8), "fuel": (1, 65536), "batch": (0, 256)}
 NUMBERS = {**RUN, "rounds": (1, 2000), "nodes": (1, 8), "bound": (0, 256)}

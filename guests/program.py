@@ -34,6 +34,14 @@ def run(words, file):
     return done.returncode, done.stdout.decode("ascii", "replace")
 
 
+def keep(name, content):
+    """Keeps bytes that were given to the program, for who looks at its answer. Answers where."""
+    kept = GUESTS / "out" / name
+    kept.parent.mkdir(exist_ok=True)
+    kept.write_bytes(content)
+    return kept
+
+
 def pass_on(words, file):
     """Lets the program write to standard output itself, and answers its status."""
     return subprocess.run([PATH, *map(str, words)], input=file, check=False).returncode

@@ -149,6 +149,22 @@ FAULTS = {1: illegal, 3: target, 4: access, 5: access, 6: access, 7: access, 8: 
           10: bad_lock, 11: lock_order, 12: not_held}
 
 
+# Of the line at which a history is rejected.
+REJECTED = dict(zip(limits.REASONS, (
+    "it is no block line with the next stamp and an end of line", "there is no such thread, or it has ended",
+    "its thread would take a lock that another one has",
+    "its turns, its held locks, its pc or its end are not those that its thread has there",
+    "such a block has another kind, or the batch limit lets no section of this kind stand there",
+    "there is no such worker", "it is missing: some thread has not ended")))
+
+
+def rejection(line):
+    """What is said of the program's line on a history that it rejected."""
+    _, number, _, name = line.split()
+    why = REJECTED.get(name, f"{name} is no reason")
+    return f"line {number} of the history: {why} (of a whole report guests/judge says what would have been right)"
+
+
 def usage(words):
     """What is wrong with the words of the program, or None."""
     wanted = f"it wants {', '.join(limits.SHAPES[:-1])} or {limits.SHAPES[-1]}"

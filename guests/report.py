@@ -21,7 +21,7 @@ THREAD = re.compile(f"thread {NUMBER} (exit|fault \\d+|spent) fuel {NUMBER} pc {
 REGISTERS = re.compile(r"x(0|8|16|24)((?: [0-9a-f]{8}){8})")
 LOCK = re.compile(f"lock {NUMBER} sections {NUMBER} broken ([01]) bytes {NUMBER}")
 DATA = re.compile(f"data {HEX8} ((?:[0-9a-f]{{2}})+)")
-REFUSED = re.compile(r"refused (\d{1,2}) (\w+)")
+ANSWER = re.compile(r"refused \d{1,2} \w+|rejected \d{1,20} \d \w+|usage: .*")
 
 
 class Wrong(tool.Trouble):
@@ -32,7 +32,7 @@ class Wrong(tool.Trouble):
 
 
 class NoReport(Wrong):
-    """The program's answer in the place of a report: a refusal or the usage line."""
+    """The program's answer in the place of a report: a refusal, the line of a rejected history, or the usage line."""
 
     def __init__(self, line):
         super().__init__(f"this is no report but the program's answer: {line}")
@@ -199,10 +199,11 @@ class Report:
         line = self.lines.next
         if line is None:
             raise Wrong("this is no report: it is empty, or stops in its first line")
-        if REFUSED.fullmatch(line) or line.startswith("usage: "):
-            raise NoReport(line[:100])
-        if line.startswith("tclocks demo "):
-            raise Wrong("this is the summary of a demo and no report: it has no blocks")
+        if ANSWER.fullmatch(line):
+            raise NoReport(line[:200])
+        for form, what in ("demo", "the summary of a demo"), ("profile", "a profile"):
+            if line.startswith(f"tclocks {form} "):
+                raise Wrong(f"this is {what} and no report: it has no blocks")
         if line not in ("tclocks 1", "tclocks 2"):
             raise self.lines.wrong("'tclocks 1' or 'tclocks 2'")
         return int(self.lines.take()[8:])

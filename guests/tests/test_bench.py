@@ -44,7 +44,7 @@ class Bench(Case):
         copy = TEMPORARY / "checkout"
         shutil.copytree(BENCH, copy / "bench", ignore=shutil.ignore_patterns("__pycache__"))
         shutil.copytree(BENCH.parent / "guests", copy / "guests", ignore=shutil.ignore_patterns("__pycache__", "out", "tests"))
-        for name, words in (("run", ("sleeps",)), ("nodes", ("4", "100", "8"))):
+        for name, words in (("run", ("sleeps",)), ("nodes", ("4", "100", "8")), ("replay", ("sleeps",))):
             done = bench(*words, script=copy / "bench" / name)
             self.one_line(done, 2)
             self.says("./tclocks-build", done)
@@ -79,3 +79,50 @@ exec {GUESTS}/run - "$@" --seed 1 $orders 2>/dev/null
                          [[row[name] for name in ("taken", "adopted", "granted", "changes", "changes_of_node",
                                                          "other_node")]
                           for row in csv.DictReader(swept.stdout.decode().splitlines())])
+
+
+# A program that is made up: it answers by the model, and to `replay` of so much fuel with another report.
+MADE_UP = f"""#!{sys.executable}
+import sys
+sys.path.insert(0, {str(GUESTS)!r})
+import delegation, model, rejecting
+form, *numbers = sys.argv[1:]
+given, numbers = sys.stdin.buffer.read(), [*map(int, numbers)]
+if form == "run":
+    run, blocks = delegation.delegated(model.Guest(given), numbers[1], numbers[0], numbers[2])
+    status, text = 0, "\\n".join(run.lines(blocks)) + "\\n"
+else:
+    status, text = rejecting.Given(numbers[0], numbers[1:], given).answer(form)
+sys.stdout.write(text.replace("fuel 13 ", "fuel 14 ", form == "replay"))
+sys.exit(status)
+"""
+
+
+class Replay(Case):
+    def test_words(self):
+        done = bench("--help", script=BENCH / "replay")
+        self.assertEqual((done.returncode, done.stderr), (0, b""))
+        self.says("usage: bench/replay", done)
+        for words in (("nobody",), ("-f", "0"), ("-f", "1,"), ("-b", "257"), ("-r", "0"), ("-w", "1")):
+            self.one_line(bench(*words, script=BENCH / "replay"), 1)
+
+    def test_the_table(self):
+        tools = with_program("replays", MADE_UP)
+        shutil.copytree(BENCH, tools.parent / "bench", ignore=shutil.ignore_patterns("__pycache__"))
+        script = tools.parent / "bench" / "replay"
+        done = bench("-f", "13,20", "hot-lock", "longest-history", script=script)
+        self.assertEqual((done.returncode, done.stderr), (3, b""))
+        lines = [line.split() for line in done.stdout.decode().splitlines()]
+        self.assertEqual([line[0] for line in lines], ["guest", "hot-lock", "hot-lock", "longest-history", "longest-history"])
+        for line in lines[1], lines[3]:
+            self.assertIn("prints another report than the run's", " ".join(line))
+        # One worker runs a thread after another: each has its own first block, and then takes and gives the lock.
+        text = run("run", "-", "1", "20", "0", "--seed", "0", given=guests_file("hot-lock")).stdout.decode()
+        history = "".join(line for line in text.splitlines(keepends=True) if line.startswith("block "))
+        self.assertEqual(lines[2][1:3], [f"{history.count(chr(10)):,}", f"{len(history):,}"])
+
+
+def guests_file(name):
+    """The file of a guest of bench/."""
+    bench("-o", TEMPORARY / "guests", name)
+    return (TEMPORARY / "guests" / f"{name}.elf").read_bytes()

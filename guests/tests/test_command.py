@@ -42,7 +42,7 @@ class Command(Folder):
         self.assertEqual(self.command("cat", given=b"bytes\0"), (0, b"bytes\0", ""))
 
     def test_statuses_are_passed_on_and_three_have_a_line(self):
-        for number in range(7):
+        for number in range(8):
             status, out, said = self.command("status", str(number))
             self.assertEqual((status, out, said.count("\n")), (number, b"", number in (2, 4, 5)))
 
@@ -119,6 +119,13 @@ class Unproved(Folder):
                 self.assertEqual((done.returncode, done.stdout), (0, b"sources: " + " ".join(words).encode() + b"\n"))
             silent.kill()
 
+    def test_a_history_is_read_behind_the_file(self):
+        given = bytes(1048577) + b"block 0"
+        for form in "replay", "profile":
+            status, out, _ = self.command(form, "1048576", "1", "1", "0", given=given)
+            self.assertEqual((status, out), (0, f"sources: {form} 1048576 1 1 0\n".encode() + given))
+        self.assertEqual(self.command("run", "1", "1", "0", given=given)[1], b"sources: run 1 1 0\n" + given[:1048577])
+
     def test_an_input_that_pauses_is_read_to_its_end(self):
         done = subprocess.run(["sh", "-c", '(echo a; sleep 3; echo b) | "$0" run 1 1 0', self.root / "tclocks"],
                               env=self.environment, capture_output=True, check=False)
@@ -127,7 +134,8 @@ class Unproved(Folder):
     def test_streams_that_fail_have_the_programs_statuses(self):
         for words, shell, status in (("run 1 1 0", "<&-", 2), ("run 1 1 0", "</", 2), ("run 1 1 0", ">/dev/full", 4),
                                      ("run 1 1 0", ">&-", 4), ("demo 1 1", "<&-", 0), ("run 3 1 0", ">&-", 3),
-                                     ("stop", ">/dev/full", 1), ("stop", ">&-", 1)):
+                                     ("stop", ">/dev/full", 1), ("stop", ">&-", 1),
+                                     ("replay 1 1 1 0", "<&-", 2), ("profile 1 1 1 0", "</", 2), ("replay 1 1 1 0", ">&-", 4)):
             done = subprocess.run(["sh", "-c", f'exec "$0" {words} {shell}', self.root / "tclocks"], input=b"x",
                                   env=self.environment, capture_output=True, check=False)
             self.assertEqual(done.returncode, status, (words, shell, done.stderr))

@@ -15,6 +15,8 @@ import limits
 import live
 import made
 import model
+import program
+import rejecting
 import rules
 import search
 import tool
@@ -218,6 +220,23 @@ class Use(Case):
             self.says("a legal run, to the end of every thread", run("judge", elf("stale"), str(path)))
             ends.add(explore.end_of(path.read_text().splitlines()))
         self.assertEqual(len(ends), 2)
+
+    def test_replay_takes_the_history_of_each_outcome(self):
+        """By rejecting.py, and by the program where it is built: the answer is the report that is kept."""
+        outcomes = 0
+        for name, fuel in (("stale", 20000), ("first", 20), ("first", 20000), ("broken", 70), ("buffer", 90), ("ring", 80),
+                           ("sleepers", 40), ("philosophers", 60), ("faults", 20000)):
+            guest, file = guestfile.load(elf(name)).guest, (GUESTS / f"{name}.elf").read_bytes()
+            found = searched(file, fuel, most=2000, processes=1)
+            numbers = min(8, len(guest.entries)), fuel, explore.BATCH
+            for _, way in found.ends()[:40]:
+                text = "\n".join(explore.history(guest, fuel, way().threads)) + "\n"
+                lines = rejecting.history_of(text)
+                self.assertEqual(rejecting.Given(len(file), numbers, file + lines).answer("replay"), (0, text), name)
+                if not program.missing():
+                    self.assertEqual(program.run(("replay", len(file), *numbers), file + lines), (0, text), name)
+                outcomes += 1
+        self.assertGreater(outcomes, 100)
 
     def test_faults_come_first(self):
         """Thread 0 faults where thread 1 was there before it."""

@@ -1,5 +1,6 @@
 """The scripts that check the program and write facts.json, as far as they need no program: their words, what
 they draw, and what they find wrong."""
+import collections
 import contextlib
 import importlib.machinery
 import importlib.util
@@ -19,8 +20,10 @@ import limits
 import made
 import model
 import program
+import rejecting
 import report
 import rv32im
+import spoil
 
 SCRIPTS = ("check", "fuzz", "refuse", "endure", "facts")
 TOOLS = sorted(path.stem for path in (GUESTS / "tools").glob("*.py"))
@@ -133,36 +136,65 @@ class Parts(Case):
         check, known = script("check"), json.loads((GUESTS / "facts.json").read_text())
         text = history("counter", 1, 8, None)[1]
         check.check_run = lambda file, known, words: text
+        check.give_back = check.give_changed = lambda *_: ()
         with contextlib.redirect_stdout(io.StringIO()) as said:
-            passed = [check.check(name, known[name]) for name in ("counter", "first")]
+            passed = [check.check(name, known[name])[0] for name in ("counter", "first")]
         self.assertEqual(passed, [False, True])
         self.assertEqual(said.getvalue(), "counter: FAILED: one worker alone ran in each of 125 runs\n"
                          "first: passed, 25 runs, 0 by two workers or more, 0 with adopted sections (0 of them)\n")
 
-    def test_a_run_by_nodes_is_judged_as_a_run(self):
-        """By a program that is made up: it answers by the model, and of nodes what is given."""
+    def checked(self, of_nodes=lambda text: (0, text), of_history=lambda form, answer: answer):
+        """Checks the guest first by a program that is made up: it answers by the model, and in the place of that what
+        is given, of runs by nodes and of histories."""
         check, known = script("check"), json.loads((GUESTS / "facts.json").read_text())["first"]
 
-        def checked(of_nodes):
-            def answer(words, file):
-                nodes, bound = words[1:-3] or (0, 0)
-                workers, fuel, batch = words[-3:]
-                run_, blocks = delegation.delegated(model.Guest(file), fuel, workers, batch, 5, nodes=nodes, bound=bound)
-                text = "\n".join(run_.lines(blocks)) + "\n"
-                return of_nodes(text) if words[0] == "nodes" else (0, text)
-            with mock.patch.object(program, "run", answer), contextlib.redirect_stdout(io.StringIO()) as said:
-                passed = check.check("first", known)
-            return passed, said.getvalue()
+        def answer(words, file):
+            if words[0] in ("replay", "profile"):
+                return of_history(words[0], rejecting.Given(words[1], words[2:], file).answer(words[0]))
+            nodes, bound = words[1:-3] or (0, 0)
+            workers, fuel, batch = words[-3:]
+            run_, blocks = delegation.delegated(model.Guest(file), fuel, workers, batch, 5, nodes=nodes, bound=bound)
+            text = "\n".join(run_.lines(blocks)) + "\n"
+            return of_nodes(text) if words[0] == "nodes" else (0, text)
+        with mock.patch.object(program, "run", answer), mock.patch.object(program, "keep", lambda name, _: f"out/{name}"), \
+                contextlib.redirect_stdout(io.StringIO()) as said:
+            passed, answers = check.check("first", known)
+        return passed, said.getvalue(), answers
 
-        passed, said = checked(lambda text: (0, text))
+    def test_a_run_by_nodes_is_judged_as_a_run(self):
+        passed, said, answers = self.checked()
         self.assertTrue(passed and said.startswith("first: passed, 25 runs, "), said)
+        self.assertEqual(sum(answers.values()), 7 * len(spoil.FORMS))
+        self.assertGreaterEqual(len(answers), len(limits.REASONS) - 1)  # but Owner: its sections are one block each
         for of_nodes, wrong in ((lambda text: (1, ""), "status 1, ''"),
                                 (lambda text: (0, text.replace("workers 4 ", "workers 3 ")), "the report is of another run"),
                                 (lambda text: (0, text.replace(" kind taken ", " kind granted ", 1)), "its kind is granted"),
                                 (lambda text: (0, text.replace(" exit ", " spent ", 1)), "")):
-            passed, said = checked(of_nodes)
+            passed, said, _ = self.checked(of_nodes)
             self.assertFalse(passed)
             self.assertRegex(said, rf"^first: FAILED: nodes 2 4 4 20000 8: .*{wrong}")
+
+    def test_wrong_answers_to_histories_are_found(self):
+        def changed(of_form, old, new):
+            return lambda form, answer: (answer[0], answer[1].replace(old, new, form == of_form))
+        for of_history, wrong in ((lambda form, answer: (1, ""), "replay answers \"status 1, ''\", and not "),
+                                  (lambda form, answer: (answer[0], answer[1] * 2), "replay answers 'tclocks 2', and not None"),
+                                  (changed("replay", "\nend\n", "\n"), "replay answers None, and not 'end'"),
+                                  (changed("profile", " home ", " home 1"), "profile answers 'lock 0 .* home 1.*', and not 'lock 0 .*"),
+                                  (changed("replay", "rejected ", "rejected 1"), r"replay answers .*rejected 1\d+ .* and not "),
+                                  (changed("profile", " Block", " Kind"), r"profile answers .*rejected \d+ 4 Kind.* and not .*Block"),
+                                  (lambda form, answer: (0, "tclocks 2\n") if answer[0] else answer, "replay answers .*tclocks 2.*, and not .*status 6")):
+            passed, said, _ = self.checked(of_history=of_history)
+            self.assertFalse(passed)
+            self.assertRegex(said, rf"^first: FAILED: run 1 20000 0: {wrong}.*to the history in out/check-first.txt\n$")
+
+    def test_each_reason_must_come(self):
+        check = script("check")
+        answers = collections.Counter({reason: 1 for reason in limits.REASONS})
+        for missing in (None, *limits.REASONS):
+            with contextlib.redirect_stdout(io.StringIO()) as said:
+                self.assertEqual(check.check_reasons(answers - collections.Counter([missing])), missing is None)
+            self.assertIn("passed, 1 Text, 1 Thread" if missing is None else f"FAILED: none is rejected for {missing}", said.getvalue())
 
 
 class Bytes(Case):
@@ -212,7 +244,7 @@ class Bytes(Case):
         spec.loader.exec_module(bench)
         for name, make in bench.GUESTS.items():
             file = guestfile.GuestFile(make())
-            self.assertEqual(len(file.guest.entries), 16, name)
+            self.assertEqual(len(file.guest.entries), 32 if name == "longest-history" else 16, name)
 
 
 if __name__ == "__main__":

@@ -5,6 +5,7 @@ import unittest
 
 from common import BY_HAND, EXIT, GUESTS, NAMES, ONE, TEMPORARY, Case, built, call, elf, history, run, saved
 import guestfile
+import limits
 
 
 class Explanations(Case):
@@ -57,9 +58,19 @@ class Explanations(Case):
                             ("run 1 1 257", "257"), ("run", "workers, fuel, batch"), ("", "no words"), ("gen 0", "rounds is 0"),
                             ("gen 2001", "1 to 2000"), ("demo 5", "rounds, workers"), ("demo 5 9", "1 to 8"),
                             ("nodes 3 4 2 2000 8", "3 nodes and 2 workers"), ("nodes 1 257 1 1 0", "bound is 257"), ("nodes 1 1 0", "nodes, bound, workers"),
-                            ("stop", "stop"), ("run 1 -1 0", "-1")):
+                            ("replay 92 1 100", "size, workers, fuel, batch"), ("replay 0 1 100 0", "size is 0"),
+                            ("profile 1048577 1 1 0", "1 to 1048576"), ("stop", "stop"), ("run 1 -1 0", "-1")):
             done = run("explain", elf("first"), "--words", *words.split())
             self.assertEqual(done.returncode, 0)
+            self.says(part, done)
+
+
+    def test_a_rejected_history(self):
+        for name, part in (("Text", "no block line"), ("Thread", "no such thread"), ("Owner", "another one has"), ("Block", "its turns"),
+                           ("Kind", "batch limit"), ("Worker", "no such worker"), ("Incomplete", "has not ended")):
+            done = run("explain", elf("first"), "-", given=f"rejected 12 {limits.REASONS.index(name) + 1} {name}\n")
+            self.assertEqual((done.returncode, done.stderr), (0, b""))
+            self.says("line 12 of the history: ", done)
             self.says(part, done)
 
 
@@ -77,11 +88,20 @@ class Tables(Case):
         self.assertEqual({name: counts[name] for name in ("workers", "fuel", "batch")},
                          {"workers": 2, "fuel": 100, "batch": 4})
         self.says("\n2,100,4,lock,0,adopted,1\n", run("summary", "-", "--csv", given=text))
+        self.assertEqual(run("summary", "-", "--profile", given=text).stdout.decode(), """tclocks profile 1
+lock 0 sections 2 taken 1 adopted 1 granted 0 longest 1 changes 0 home 1
+thread 0 blocks 3 turns 12 moves 0
+thread 1 blocks 3 turns 12 moves 2
+end
+""")
 
     def test_one_worker_moves_nothing(self):
         """Two locks, held together, by one thread: five blocks of 2, 3, 4, 3 and 2 turns."""
         code = (*call(1, 0), *call(1, 1), *call(2, 0), *call(2, 1), *EXIT)
         text = run("simulate", saved("paper.elf", built(code, (0,), 2)), "1", "100", "4").stdout
+        lock = "lock {} sections 1 taken 1 adopted 0 granted 0 longest 0 changes 0 home 0\n"
+        self.assertEqual(run("summary", "-", "--profile", given=text).stdout.decode(), "tclocks profile 1\n" + lock.format(0)
+                         + lock.format(1) + "thread 0 blocks 5 turns 14 moves 0\nend\n")
         counts = json.loads(run("summary", "-", "--json", given=text).stdout)
         for lock in counts["by_lock"]:
             self.assertEqual([lock[name] for name in ("sections", "taken", "adopted", "granted", "longest", "changes", "home")],

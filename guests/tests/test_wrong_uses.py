@@ -63,11 +63,16 @@ class WrongUses(Case):
             self.assertEqual((piped.wait(), said.count(b"\n")), (4, 1), said)
 
     def test_refusal_or_usage_line_in_the_place_of_a_report(self):
-        for line in ("refused 9 BadLoad", limits.USAGE):
+        for line in ("refused 9 BadLoad", "rejected 12 3 Owner", "refused 17 ShortInput", limits.USAGE):
             for tool in ("judge", "summary", "draw"):
                 done = run(tool, *self.WORDS[tool], "-", given=line + "\n")
                 self.one_line(done, 3)
                 self.says(line, done)
+
+    def test_a_summary_or_a_profile_in_the_place_of_a_report(self):
+        for line in "tclocks demo 3", "tclocks profile 1":
+            for tool in self.TOOLS[:-1]:
+                self.one_line(run(tool, *self.WORDS[tool], "-", given=f"{line}\nend\n"), 3)
 
     def test_numbers_that_the_program_refuses(self):
         for words in ("workers 0 fuel 9 batch 0", "workers 9 fuel 9 batch 0", "workers 1 fuel 65537 batch 0",

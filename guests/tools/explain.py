@@ -3,7 +3,7 @@
 Without a report it says what the file has, or why it is refused. With one it says where each
 block began (symbol and instruction, and the line of the source where the guest has debug data), how
 each adopted or granted section came about, and why each thread ended; a refusal is told with the
-numbers that disagree. --thread, --lock and --block choose blocks: where several are given, those that
+numbers that disagree, and the line of a rejected history in a sentence. --thread, --lock and --block choose blocks: where several are given, those that
 all of them choose. After a usage line, --words says what is wrong with the words.
 """
 import argparse
@@ -142,6 +142,8 @@ def answer(path, line, words):
     """What is said of a line in the place of a report."""
     if line.startswith("refused"):
         return refusal(path, line)
+    if line.startswith("rejected"):
+        return reasons.rejection(line)
     if words is None:
         return "the words of the command were wrong; --words WORD.. behind the report says what is wrong with them"
     return words_text(words)

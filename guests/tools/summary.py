@@ -56,12 +56,19 @@ def print_csv(counted):
                     writer.writerow([*run.values(), name, row[name], key, "" if value is None else value])
 
 
+def print_profile(counted):
+    for line in counted.profile_lines():
+        print(line)
+
+
 def main(words):
     parser = tool.words("summary", __doc__ + counts.MEANINGS)
     parser.add_argument("report", metavar="REPORT", help="a report; - is standard input")
     forms = parser.add_mutually_exclusive_group()
     forms.add_argument("--json", action="store_const", dest="form", const=print_json)
     forms.add_argument("--csv", action="store_const", dest="form", const=print_csv)
+    forms.add_argument("--profile", action="store_const", dest="form", const=print_profile,
+                       help="what the program prints of the history with `profile`")
     asked = parser.parse_args(words)
     counted = read(asked.report)
     (asked.form or print_text)(counted)
