@@ -23,7 +23,7 @@ use Rattle.tc_combiner.proofs.Packages.{plain_good}
 use Rattle.tc_combiner.proofs.Telling.{acquire_seen, end_seen, unlock_seen}
 use Rattle.tc_workers.specs.Finished.{IsFinished}
 use Rattle.tc_workers.specs.Settled.{IsAnswer, step_of}
-use Rattle.tc_workers.specs.Worker.{HasClaimed, HasLeft, HasOut, HasSealed, IsAtDesk, IsClaimed, IsFit, IsStep, IsStill, MayGoBack, nothing}
+use Rattle.tc_workers.specs.Worker.{HasClaimed, HasLeft, HasOut, HasSealed, IsAtDesk, IsClaimed, IsFit, IsIdle, IsStep, IsStill, MayGoBack, nothing}
 use Rattle.tc_workers.proofs.Passes.{still_then, stop_shown}
 use Rattle.tc_workers.proofs.Running.{is_free, roomier_good, roomier_out}
 
@@ -180,6 +180,16 @@ other_sleepers b d sleepers now h e = record {
 pub length_without : (o : Option ℕ) (s : List (Option ℕ)) → length (without o s) ≡ length s
 length_without None s = refl
 length_without (Some t) s = length-set s t None
+
+-- a desk with nothing in hand and nothing set aside is so still
+pub idle_still : (b : BenchView) (d : DeskView) (p : PassView) → IsIdle b d → IsStill d.pass p → outs p.knows ≡ outs d.pass.knows → IsIdle b (with_pass d p)
+idle_still b d p h s same = record { desk = at_still b None d p h.desk s same; free = h.free }
+
+pub idle_sleepers : (b : BenchView) (d : DeskView) (sleepers : List (Option ℕ)) (now : ℕ) → IsIdle b d → length sleepers ≡ length d.sleepers → IsIdle b (record d { sleepers = sleepers; now = now })
+idle_sleepers b d sleepers now h e = record { desk = other_sleepers b d sleepers now h.desk e; free = h.free }
+
+pub idle_none : (b : BenchView) (d : DeskView) → IsAtDesk b None d → d.aside ≡ None → IsIdle b (record d { aside = None })
+idle_none b d h e = record { desk = none_aside b d h e; free = refl }
 
 -- ---- room
 

@@ -1,6 +1,9 @@
 pub mod Passes
 pub mod Running
 pub mod Desks
+pub mod Leaving
+pub mod Sealing
+pub mod Turning
 pub mod Searching
 pub mod Offering
 pub mod Crossing

@@ -1,10 +1,19 @@
--- Offers, one after another.
-use Rattle.std.proofs.Common.{◌≡◌, ◌≢◌, ℕ, ◌<◌, Bool, true, false, List, [], ◌∷◌, ◌++◌, length, map, refl, sym, ap, ◌∙◌, arith, append_assoc, append-nil}
+-- Offers, one after another, and room for them.
+use Rattle.std.proofs.Common.{◌≡◌, ◌≢◌, ℕ, ◌<◌, Bool, true, false, List, [], ◌∷◌, ◌++◌, All, length, map, refl, sym, ap, ◌∙◌, arith, append_assoc, append-nil, subst}
 use Rattle.std.proofs.lemmas.List.{map-append}
-use Rattle.std.specs.Prelude.{MatchBool}
+use Rattle.std.proofs.Math.Nat.{le-min, min-le_left, min-le_right, mul-le-mul_left}
+use Rattle.std.specs.Prelude.{MatchBool, ◌≤◌, ◌+◌, ◌*◌, ◌/◌, min}
+use Rattle.tc_hall.specs.declared.board.Terms.{Terms}
+use Rattle.tc_hall.specs.Rule.{threads}
 use Rattle.tc_ready.specs.ReadyView.{Offered, ReadyView}
 use Rattle.tc_ready.specs.Rule.{offer, thread_of}
-use Rattle.tc_workers.specs.Offers.{HasOffered}
+use Rattle.tc_combiner.specs.declared.settled.Settled.{Settled}
+use Rattle.tc_combiner.specs.declared.settled.Settled.TheVariants.{GoesOn, Adopted, Shipped, Parked, Ended, Stopped}
+use Rattle.tc_combiner.specs.Answers.{TakesDown}
+use Rattle.tc_combiner.specs.Settling.{TellsReady}
+use Rattle.tc_combiner.specs.View.{DeskView}
+use Rattle.tc_hall.specs.declared.board.Call.{Call}
+use Rattle.tc_workers.specs.Offers.{CanHave, HasOffered}
 
 pub offers_none : (r : ReadyView) → HasOffered [] r r
 offers_none r = record { threads = refl; room = refl; offered = []; rest = []; parts = refl; given = sym (append-nil (map thread_of r.given)); full = λ ne. absurd (ne refl) }
@@ -35,3 +44,21 @@ offers_more ts t false r s u h m = record {
   given = ap (λ (x : ReadyView). map thread_of x.given) m.1 ∙ h.given;
   full = λ ne. ap (λ (x : ReadyView). length x.given) m.1 ∙ (m.0 ∙ h.room);
 }
+
+took_down : (n : ℕ) (ts : List ℕ) (cs : List Call) → TakesDown n [] ts cs → All (λ t. t < n) ts
+took_down n ts cs h = subst (λ (l : List ℕ). All (λ t. t < n) l) (sym h.0) h.1
+
+pub handed_known : (k : Terms) (r : Settled) (d e : DeskView) → TellsReady k r d e → All (λ t. t < threads k) e.handed
+handed_known k (GoesOn q) d e h = took_down (threads k) e.handed h.0 h.2
+handed_known k (Adopted q) d e h = took_down (threads k) e.handed h.0 h.2
+handed_known k Shipped d e h = took_down (threads k) e.handed h.0 h.2
+handed_known k Parked d e h = took_down (threads k) e.handed h.0 h.2
+handed_known k Ended d e h = took_down (threads k) e.handed h.0 h.2
+handed_known k Stopped d e h = subst (λ (l : List ℕ). All (λ t. t < threads k) l) (sym h.2) (λ i x deep. absurd (omega arith))
+
+pub room_enough : (threads fuel sections : ℕ) → CanHave fuel sections → min (threads * sections) 4096 ≤ min (threads * (fuel / 2 + 2)) 4096
+room_enough threads fuel sections can =
+    let few : sections ≤ fuel / 2 + 2 = omega arith in
+    let all : threads * sections ≤ threads * (fuel / 2 + 2) = mul-le-mul_left threads few in
+    let least = min-le_left (threads * sections) 4096 in
+    le-min (omega arith) (min-le_right (threads * sections) 4096)

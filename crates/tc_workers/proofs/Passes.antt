@@ -19,7 +19,7 @@ use Rattle.tc_hall.specs.Steps.{IsSamePass, Gets, HasStop, made, seen, HasSeenAl
 use Rattle.tc_combiner.specs.Walks.{HasSeenStop}
 use Rattle.tc_ready.specs.Scan.{Looked, OnlyLooks}
 use Rattle.tc_ready.proofs.Scanning.{looked_more, nothing_looked}
-use Rattle.tc_workers.specs.Worker.{HasOut, IsClaimed, IsStill, SawOneLeft}
+use Rattle.tc_workers.specs.Worker.{HasOut, IsClaimed, IsStill, SawEnded, SawOneLeft}
 
 -- ---- the same pass
 
@@ -97,6 +97,9 @@ stop_shown v w s =
     let at = shown_at (v.calls ++ s.front) s.back (Stopped 1) in
     seen at.0 (ap (λ (l : List Call). get_elem? l at.0) (s.is ∙ sym (append_assoc v.calls s.front (Stopped 1 ∷ s.back))) ∙ at.1)
 
+pub stop_told : (v w : Knows) (cs : List Call) → w.calls ≡ v.calls ++ Stop ∷ cs → HasStop w
+stop_told v w cs e = let at = shown_at v.calls cs Stop in made at.0 (ap (λ (l : List Call). get_elem? l at.0) e ∙ at.1)
+
 -- ---- threads that have ended
 
 pub seen_none : (v : Knows) → HasSeenAll 0 v
@@ -106,13 +109,6 @@ pub seen_more : (n : ℕ) (v w : Knows) → HasSeenAll n v → w ≡ after_look 
 seen_more n v w h e t lt = dite (ℕ_discrete t n)
     (λ (s : t ≡ n). (length v.calls, ap (λ (x : Knows). get_elem? x.calls (length v.calls)) e ∙ (at_last v.calls (Look n 2) (length v.calls) refl ∙ ap (λ (k : ℕ). some (Look k 2)) (sym s))))
     (λ (ne : t ≢ n). let old = h t (omega arith) in (old.0, ap (λ (x : Knows). get_elem? x.calls old.0) e ∙ at_longer v.calls (Look n 2 ∷ []) old.0 (Look t 2) old.1))
-
--- the first n threads were looked at in order, and each had ended
-pub record SawEnded (n : ℕ) (v w : Knows) : Type 0 where
-  pub words : List ℕ
-  pub count : length words ≡ n
-  pub ended : All (λ x. x ≡ 2) words
-  pub looked : Looked words v w
 
 pub ended_none : (v : Knows) → SawEnded 0 v v
 ended_none v = record { words = []; count = refl; ended = λ i d deep. absurd (omega arith); looked = nothing_looked v }

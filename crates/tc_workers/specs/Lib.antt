@@ -3,6 +3,7 @@ pub mod Search
 pub mod Finished
 pub mod Settled
 pub mod GoOn
+pub mod Turns
 pub mod Crew
 pub mod Rows
 pub mod Run

@@ -1,35 +1,41 @@
 -- What a worker that looks for a package comes to, and why.
-use Rattle.std.specs.Prelude.{◌≡◌, ◌⊎◌, ℕ, max, Some, None}
+use Rattle.std.specs.Prelude.{◌≡◌, ◌⊎◌, ℕ, ◌∷◌, max, Option, Some, None}
 use Rattle.tc_context.specs.View.{PackageView}
+use Rattle.tc_hall.specs.declared.board.Call.TheVariants.{Stopped as Seen}
 use Rattle.tc_hall.specs.declared.board.Knows.{Knows}
 use Rattle.tc_hall.specs.declared.place.Origin.{Origin}
 use Rattle.tc_hall.specs.declared.place.Origin.TheVariants.{Ready, Parked}
-use Rattle.tc_hall.specs.PassView.{PassView}
 use Rattle.tc_hall.specs.Places.{origin_code}
-use Rattle.tc_hall.specs.Steps.{Gets, HasStop}
+use Rattle.tc_hall.specs.Outs.{Called}
+use Rattle.tc_hall.specs.Steps.{Gets}
 use Rattle.tc_park.specs.Order.{IsFirstDue, IsLeast, NoneIsDue, NoneSleeps}
 use Rattle.tc_ready.specs.ReadyView.{FoundNone, TookOne}
 use Rattle.tc_ready.specs.Scan.{OnlyLooks, SawNone, SawReady}
-use Rattle.tc_combiner.specs.View.{DeskView}
-use Rattle.tc_workers.specs.Worker.{WorkerView, HasMissed, SawOneLeft}
+use Rattle.tc_hall.specs.Rule.{threads}
+use Rattle.tc_combiner.specs.View.{BenchView, DeskView}
+use Rattle.tc_workers.specs.Worker.{WorkerView, HasMissed, SawEnded, SawOneLeft, put_back, worker_of}
 use Rattle.tc_workers.specs.declared.step.Step.{Step}
 use Rattle.tc_workers.specs.declared.step.Step.TheVariants.{On, AllDone, Stopped}
 
 -- ---- one try
 
--- a package that was claimed is in hand as it came, unless a stop was seen
+-- one who saw the stop put back the package
+abbrev pub SawStop : PackageView → Knows → Knows → Type 0
+SawStop q v w = Called (Seen 1 ∷ put_back (Some q)) v w
+
+-- a package that was claimed is in hand as it came, unless the stop was seen
 abbrev pub IsTakenUp : DeskView → DeskView → PackageView → Step → Type 0
 IsTakenUp d e q (On None) = ⊥
 IsTakenUp d e q (On (Some p)) = (p ≡ q) × (e ≡ d)
 IsTakenUp d e q AllDone = ⊥
-IsTakenUp d e q Stopped = HasStop e.pass.knows
+IsTakenUp d e q Stopped = SawStop q d.pass.knows e.pass.knows
 
--- a thread was tried at this place: its package is in hand, or it was not there, or a stop was seen
+-- a thread was tried at this place: its package is in hand, or it was not there, or it was and the stop was seen
 abbrev pub IsTry : Origin → ℕ → Knows → Knows → Step → Type 0
 IsTry from t v w (On None) = HasMissed from t v w
 IsTry from t v w (On (Some q)) = Gets (origin_code from) t q v w
 IsTry from t v w AllDone = ⊥
-IsTry from t v w Stopped = HasStop w
+IsTry from t v w Stopped = (q : PackageView) × (u : Knows) × Gets (origin_code from) t q v u × SawStop q u w
 
 -- ---- which thread is tried
 
@@ -60,22 +66,33 @@ pub data Waits (threads : ℕ) (d e : DeskView) : Type 0 where
   sleeps : (due : ℕ) → IsLeast d.sleepers due → e.now ≡ max due d.now → e.pass ≡ d.pass → Waits threads d e
   rests : NoneSleeps d.sleepers → SawOneLeft threads d.pass.knows e.pass.knows → Waits threads d e
 
--- a worker with nothing to do waits, or ends where nobody sleeps
+-- a worker with nothing to do waits, or ends where nobody sleeps and each thread was seen to have ended
 abbrev pub IsPause : ℕ → DeskView → DeskView → Step → Type 0
 IsPause n d e (On None) = Waits n d e
 IsPause n d e (On (Some q)) = ⊥
-IsPause n d e AllDone = NoneSleeps d.sleepers
+IsPause n d e AllDone = NoneSleeps d.sleepers × SawEnded n d.pass.knows e.pass.knows
 IsPause n d e Stopped = ⊥
 
 -- no sleeper was due and no offer was there, and each of so many threads was looked at and none was ready
-pub record HasNothing (threads : ℕ) (x z : WorkerView) (s : Step) : Type 0 where
+pub record FoundNothing (threads : ℕ) (x y : WorkerView) : Type 0 where
   pub due : NoneIsDue x.desk.now x.desk.sleepers
-  pub offers : FoundNone x.ready z.ready
-  pub looked : PassView
-  pub ready : SawNone threads x.desk.pass.knows looked.knows
-  pub pause : IsPause threads (record x.desk { pass = looked }) z.desk s
+  pub offers : FoundNone x.ready y.ready
+  pub ready : SawNone threads x.desk.pass.knows y.desk.pass.knows
+  pub rest : y.desk ≡ record x.desk { pass = y.desk.pass }
+
+-- so it was, and this came of it
+pub record HasNothing (threads : ℕ) (x z : WorkerView) (s : Step) : Type 0 where
+  pub between : WorkerView
+  pub none : FoundNothing threads x between
+  pub pause : IsPause threads between.desk z.desk s
+  pub ready : z.ready ≡ between.ready
 
 -- a thread was tried, or there was nothing to do
 pub data IsSearch (threads : ℕ) (x z : WorkerView) (s : Step) : Type 0 where
   tried : HasTried x z s → IsSearch threads x z s
   nothing : HasNothing threads x z s → IsSearch threads x z s
+
+-- the package that is set aside goes on, where there is one, and nothing else was done; else the worker searched
+abbrev pub Finds : BenchView → Option PackageView → WorkerView → WorkerView → Step → Type 0
+Finds b None x z s = IsSearch (threads b.hall.terms) x z s
+Finds b (Some q) x z s = (s ≡ On (Some q)) × (z ≡ worker_of (record x.desk { aside = None }) x.ready)

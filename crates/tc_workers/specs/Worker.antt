@@ -4,12 +4,14 @@ use mathlib.Core.Option.{some}
 use lib.ListN.{get_elem?}
 use Rattle.tc_journal.specs.declared.block.End.{End}
 use Rattle.tc_context.specs.View.{PackageView, fits_of}
+use Rattle.tc_hall.specs.declared.board.Call.{Call}
 use Rattle.tc_hall.specs.declared.board.Knows.{Knows}
-use Rattle.tc_hall.specs.Outs.{Outs, outs, Item, Pack}
+use Rattle.tc_hall.specs.declared.place.Place.TheVariants.{Ready}
+use Rattle.tc_hall.specs.Outs.{Called, IsOut, Outs, outs, Item, Pack}
 use Rattle.tc_hall.specs.PassView.{PassView}
 use Rattle.tc_hall.specs.Rule.{threads, grants_adopted}
 use Rattle.tc_hall.specs.Places.{origin_code}
-use Rattle.tc_hall.specs.Steps.{IsSamePass, Missed, HasSeenAll, HasStop}
+use Rattle.tc_hall.specs.Steps.{IsSamePass, Missed, HasSeenAll, HasStop, put_call}
 use Rattle.tc_hall.specs.declared.place.Origin.{Origin}
 use Rattle.tc_ready.specs.ReadyView.{ReadyView}
 use Rattle.tc_ready.specs.Scan.{Looked}
@@ -68,6 +70,13 @@ pub record HasMissed (from : Origin) (t : ℕ) (v w : Knows) : Type 0 where
   pub word : ℕ
   pub missed : Missed (origin_code from) (t + 2) word v w
 
+-- the first n threads were looked at in order, and each had ended
+pub record SawEnded (n : ℕ) (v w : Knows) : Type 0 where
+  pub words : List ℕ
+  pub count : length words ≡ n
+  pub ended : All (λ x. x ≡ 2) words
+  pub looked : Looked words v w
+
 -- the threads were looked at in order, and each had ended, up to the first that was seen not to have
 pub record SawOneLeft (threads : ℕ) (v w : Knows) : Type 0 where
   pub words : List ℕ
@@ -91,6 +100,11 @@ pub record IsAtDesk (b : BenchView) (hand : Option PackageView) (d : DeskView) :
   pub out : HasOut d.pass.knows (packed hand ++ packed d.aside)
   pub fit : IsFit d.pass.knows hand
 
+-- a desk with nothing in hand and nothing set aside
+pub record IsIdle (b : BenchView) (d : DeskView) : Type 0 where
+  pub desk : IsAtDesk b None d
+  pub free : d.aside ≡ None
+
 -- a package was claimed, and nothing else is out
 pub record HasClaimed (b : BenchView) (q : PackageView) (d : DeskView) : Type 0 where
   pub fits : FitsBench b d
@@ -110,6 +124,35 @@ pub record HasSealed (b : BenchView) (end : End) (q : PackageView) (d : DeskView
 pub record HasLeft (d : DeskView) : Type 0 where
   pub aside : d.aside ≡ None
   pub out : HasOut d.pass.knows []
+
+-- ---- packages that are put back, since the run was stopped
+
+abbrev pub put_back : Option PackageView → List Call
+put_back None = []
+put_back (Some q) = put_call q Ready ∷ []
+
+abbrev pub MayPutBack : Knows → Option PackageView → Type 0
+MayPutBack v None = Unit {0}
+MayPutBack v (Some q) = IsOut (outs v) (Pack q) × MayGoBack v q × HasStop v
+
+-- the package was put back, where there was one: of what was out it alone is not
+pub record DidPutBack (o : Option PackageView) (p q : PassView) : Type 0 where
+  pub still : IsStill p q
+  pub told : Called (put_back o) p.knows q.knows
+  pub rest : (xs : List Item) → HasOut p.knows (packed o ++ xs) → HasOut q.knows xs
+
+-- the desk may put back this package, where there is one, and the one that is set aside: nothing else is out
+pub record MayLeave (b : BenchView) (hand : Option PackageView) (d : DeskView) : Type 0 where
+  pub fits : FitsBench b d
+  pub out : HasOut d.pass.knows (packed hand ++ packed d.aside)
+  pub may : (q : PackageView) → hand ≡ Some q → MayGoBack d.pass.knows q
+  pub stop : HasStop d.pass.knows
+
+-- it put them back, and did nothing else
+pub record DidLeave (hand : Option PackageView) (d e : DeskView) : Type 0 where
+  pub still : IsStill d.pass e.pass
+  pub told : Called (put_back hand ++ put_back d.aside) d.pass.knows e.pass.knows
+  pub left : HasLeft e
 
 -- after a step: it is at its desk with what it has in hand; or it has left, and has seen every thread Done, or that a stop was
 -- made

@@ -1,11 +1,11 @@
 //! The calls of the hall, as a worker makes them.
 
-ghost use Rattle.std.specs.Prelude.{◌≡◌, ◌<◌, [], ◌∷◌, true, false, MatchOption};
+ghost use Rattle.std.specs.Prelude.{◌≡◌, ◌<◌, [], ◌∷◌, true, MatchBool, MatchOption};
 ghost use Rattle.tc_hall.specs.Rule.{threads};
 ghost use Rattle.tc_hall.specs.Places.{origin_code};
-ghost use Rattle.tc_hall.specs.Steps.{Gets, HasSeenAll, HasStop};
-ghost use Rattle.tc_hall.specs.Outs.{outs, erase, IsOut, Pack};
-ghost use Rattle.tc_workers.specs.Worker.{HasMisfit, HasMissed, HasOut, IsClaimed, IsStill, MayGoBack, SawOneLeft};
+ghost use Rattle.tc_hall.specs.Steps.{after_stop, Gets, HasSeenAll, SawStopped};
+ghost use Rattle.tc_hall.specs.Outs.{outs, Pack};
+ghost use Rattle.tc_workers.specs.Worker.{DidPutBack, HasMissed, HasOut, IsClaimed, IsStill, MayPutBack, SawEnded, SawOneLeft};
 
 use tc_context::package::Package;
 use tc_hall::hall::Hall;
@@ -29,19 +29,17 @@ pub fn claim(hall: &Hall, pass: &mut Pass, t: u32, from: Origin) -> Option<Packa
     }
 }
 
-/// Puts a package back as ready, since the run was stopped.
-pub fn put_back(hall: &Hall, pass: &mut Pass, package: Package)
+/// Puts a package back as ready, where there is one, since the run was stopped.
+pub fn put_back(hall: &Hall, pass: &mut Pass, package: Option<Package>)
     requires own { pass.old.table ≡ hall.now.table }
     requires image { pass.old.knows.image ≡ hall.now.terms.image.value }
-    requires out { IsOut (outs pass.old.knows) (Pack «package») }
-    requires may { MayGoBack pass.old.knows «package» }
-    requires stop { HasStop pass.old.knows }
-    ensures still { IsStill pass.old pass.new }
-    ensures outs { outs pass.new.knows ≡ erase (outs pass.old.knows) (Pack «package») }
-    ensures stop { HasStop pass.new.knows }
+    requires may { MayPutBack pass.old.knows «package» }
+    ensures did { DidPutBack «package» pass.old pass.new }
 {
-    package.keeps();
-    hall.put(pass, package, Place::Ready);
+    if let Some(package) = package {
+        package.keeps();
+        hall.put(pass, package, Place::Ready);
+    }
 }
 
 /// Whether the run was stopped.
@@ -49,8 +47,7 @@ pub fn stopped(hall: &Hall, pass: &mut Pass) -> bool
     requires own { pass.old.table ≡ hall.now.table }
     ensures still { IsStill pass.old pass.new }
     ensures outs { outs pass.new.knows ≡ outs pass.old.knows }
-    ensures seen { result ≡ true → HasStop pass.new.knows }
-    ensures misfit { HasMisfit pass.old.knows → result ≡ true }
+    ensures saw { SawStopped result pass.old.knows pass.new.knows }
 {
     hall.stopped(pass)
 }
@@ -60,7 +57,7 @@ pub fn stop(hall: &Hall, pass: &mut Pass)
     requires own { pass.old.table ≡ hall.now.table }
     ensures still { IsStill pass.old pass.new }
     ensures outs { outs pass.new.knows ≡ outs pass.old.knows }
-    ensures made { HasStop pass.new.knows }
+    ensures made { pass.new.knows ≡ after_stop pass.old.knows }
 {
     hall.stop(pass);
 }
@@ -73,7 +70,8 @@ pub fn all_done(hall: &Hall, pass: &mut Pass, count: u32) -> bool
     ensures still { IsStill pass.old pass.new }
     ensures outs { outs pass.new.knows ≡ outs pass.old.knows }
     ensures done { result ≡ true → HasSeenAll count pass.new.knows }
-    ensures left { result ≡ false → SawOneLeft count pass.old.knows pass.new.knows }
+    ensures looked { MatchBool result (SawEnded count pass.old.knows pass.new.knows)
+        (SawOneLeft count pass.old.knows pass.new.knows) }
 {
     for t in 0..count {
         if hall.look(pass, t) != 2 {

@@ -1,22 +1,21 @@
 //! How a worker with nothing in hand finds a package.
 
-ghost use Rattle.std.specs.Prelude.{◌≡◌, ◌<◌, Some, None, IfSome};
+ghost use Rattle.std.specs.Prelude.{◌≡◌, ◌<◌, None, IfSome, MatchOption};
 ghost use Rattle.tc_hall.specs.Rule.{threads};
-ghost use Rattle.tc_park.specs.Order.{NoneIsDue, NoneSleeps};
-ghost use Rattle.tc_workers.specs.Search.{IsPause, IsSearch, IsTakenUp, IsTry};
-ghost use Rattle.tc_workers.specs.Worker.{HasClaimed, IsAtDesk, IsStep, IsStill, worker_of};
-ghost use Rattle.tc_workers.specs.declared.step.Step.TheVariants.{On};
+ghost use Rattle.tc_park.specs.Order.{NoneSleeps};
+ghost use Rattle.tc_workers.specs.Search.{Finds, FoundNothing, IsChoice, IsPause, IsSearch, IsTakenUp, IsTry};
+ghost use Rattle.tc_workers.specs.Worker.{HasClaimed, IsAtWork, IsIdle, IsStep, IsStill};
 
 use crate::calls;
 use crate::gate::{Gate, Point};
-use crate::leave::leave_with;
+use crate::leave::leave;
 use crate::step::Step;
+use crate::worker::Worker;
 use crossbeam_utils::Backoff;
 use tc_combiner::{Bench, Desk};
 use tc_context::package::Package;
 use tc_hall::place::Origin;
 use tc_queue::Waiters;
-use tc_ready::Ready;
 
 /// The number of the desk's worker.
 pub fn number<Q: Waiters>(desk: &mut Desk<Q>) -> u32
@@ -38,7 +37,8 @@ fn take_up<Q: Waiters>(bench: &Bench<'_, Q>, desk: &mut Desk<Q>, package: Packag
         return Step::On(Some(package));
     }
     if calls::stopped(bench.hall, desk.pass()) {
-        return leave_with(bench, desk, package);
+        leave(bench, desk, Some(package));
+        return Step::Stopped;
     }
     unreachable!()
 }
@@ -51,8 +51,7 @@ pub fn claim<G: Gate, Q: Waiters>(
     t: u32,
     from: Origin,
 ) -> Step
-    requires work { IsAtDesk bench.now None desk.old }
-    requires free { desk.old.aside ≡ None }
+    requires idle { IsIdle bench.now desk.old }
     requires thread { t < threads bench.now.hall.terms }
     ensures still { IsStill desk.old.pass desk.new.pass }
     ensures step { IsStep bench.now desk.new result }
@@ -69,8 +68,7 @@ pub fn claim<G: Gate, Q: Waiters>(
 
 // There is nothing to do and nobody sleeps: ends where each thread is seen to have ended.
 fn rest<Q: Waiters>(bench: &Bench<'_, Q>, pause: &Backoff, desk: &mut Desk<Q>) -> Step
-    requires work { IsAtDesk bench.now None desk.old }
-    requires free { desk.old.aside ≡ None }
+    requires idle { IsIdle bench.now desk.old }
     requires sleepers { NoneSleeps desk.old.sleepers }
     ensures still { IsStill desk.old.pass desk.new.pass }
     ensures step { IsStep bench.now desk.new result }
@@ -85,8 +83,7 @@ fn rest<Q: Waiters>(bench: &Bench<'_, Q>, pause: &Backoff, desk: &mut Desk<Q>) -
 
 // There is nothing to do: moves the clock to the first sleeper.
 fn idle<Q: Waiters>(bench: &Bench<'_, Q>, pause: &Backoff, desk: &mut Desk<Q>) -> Step
-    requires work { IsAtDesk bench.now None desk.old }
-    requires free { desk.old.aside ≡ None }
+    requires idle { IsIdle bench.now desk.old }
     ensures still { IsStill desk.old.pass desk.new.pass }
     ensures step { IsStep bench.now desk.new result }
     ensures pause { IsPause (threads bench.now.hall.terms) desk.old desk.new result }
@@ -101,51 +98,43 @@ fn idle<Q: Waiters>(bench: &Bench<'_, Q>, pause: &Backoff, desk: &mut Desk<Q>) -
     }
 }
 
-// Takes a thread that is ready.
-fn seek_ready<G: Gate, Q: Waiters>(
-    bench: &Bench<'_, Q>,
-    gate: &G,
-    pause: &Backoff,
-    desk: &mut Desk<Q>,
-    ready: &mut Ready,
-) -> Step
-    requires work { IsAtDesk bench.now None desk.old }
-    requires free { desk.old.aside ≡ None }
-    requires ready { ready.old.threads ≡ threads bench.now.hall.terms }
-    requires sleepers { NoneIsDue desk.old.now desk.old.sleepers }
-    ensures still { IsStill desk.old.pass desk.new.pass }
-    ensures step { IsStep bench.now desk.new result }
-    ensures search { IsSearch (threads bench.now.hall.terms)
-        (worker_of desk.old ready.old) (worker_of desk.new ready.new) result }
-    ensures ready { ready.new.threads ≡ ready.old.threads }
+// The thread that the worker tries next, and where: a sleeper that is due, else one that is ready.
+fn choose<Q: Waiters>(bench: &Bench<'_, Q>, worker: &mut Worker<Q>) -> Option<(u32, Origin)>
+    requires idle { IsIdle bench.now worker.old.desk }
+    requires ready { worker.old.ready.threads ≡ threads bench.now.hall.terms }
+    ensures still { IsStill worker.old.desk.pass worker.new.desk.pass }
+    ensures idle { IsIdle bench.now worker.new.desk }
+    ensures ready { worker.new.ready.threads ≡ worker.old.ready.threads }
+    ensures thread { IfSome result (λ c. c.0 < threads bench.now.hall.terms) }
+    ensures choice { MatchOption result
+        (FoundNothing (threads bench.now.hall.terms) worker.old worker.new)
+        (λ c. IsChoice c.1 c.0 worker.old worker.new) }
 {
-    match ready.next(bench.hall, desk.pass()) {
-        None => idle(bench, pause, desk),
-        Some(t) => claim(bench, gate, desk, t, Origin::Ready),
+    let now = worker.desk.now();
+    if let Some(t) = worker.desk.sleepers().due(now) {
+        return Some((t, Origin::Parked));
     }
+    let t = worker.ready.next(bench.hall, worker.desk.pass())?;
+    Some((t, Origin::Ready))
 }
 
-// Wakes a sleeper that is due, else takes a thread that is ready.
+// Tries the next thread, where there is one, else waits.
 fn seek<G: Gate, Q: Waiters>(
     bench: &Bench<'_, Q>,
     gate: &G,
     pause: &Backoff,
-    desk: &mut Desk<Q>,
-    ready: &mut Ready,
+    worker: &mut Worker<Q>,
 ) -> Step
-    requires work { IsAtDesk bench.now None desk.old }
-    requires free { desk.old.aside ≡ None }
-    requires ready { ready.old.threads ≡ threads bench.now.hall.terms }
-    ensures still { IsStill desk.old.pass desk.new.pass }
-    ensures step { IsStep bench.now desk.new result }
-    ensures search { IsSearch (threads bench.now.hall.terms)
-        (worker_of desk.old ready.old) (worker_of desk.new ready.new) result }
-    ensures ready { ready.new.threads ≡ ready.old.threads }
+    requires idle { IsIdle bench.now worker.old.desk }
+    requires ready { worker.old.ready.threads ≡ threads bench.now.hall.terms }
+    ensures still { IsStill worker.old.desk.pass worker.new.desk.pass }
+    ensures step { IsStep bench.now worker.new.desk result }
+    ensures search { IsSearch (threads bench.now.hall.terms) worker.old worker.new result }
+    ensures ready { worker.new.ready.threads ≡ worker.old.ready.threads }
 {
-    let now = desk.now();
-    match desk.sleepers().due(now) {
-        None => seek_ready(bench, gate, pause, desk, ready),
-        Some(t) => claim(bench, gate, desk, t, Origin::Parked),
+    match choose(bench, worker) {
+        None => idle(bench, pause, &mut worker.desk),
+        Some((t, from)) => claim(bench, gate, &mut worker.desk, t, from),
     }
 }
 
@@ -155,20 +144,16 @@ pub fn find<G: Gate, Q: Waiters>(
     bench: &Bench<'_, Q>,
     gate: &G,
     pause: &Backoff,
-    desk: &mut Desk<Q>,
-    ready: &mut Ready,
+    worker: &mut Worker<Q>,
 ) -> Step
-    requires work { IsAtDesk bench.now None desk.old }
-    requires ready { ready.old.threads ≡ threads bench.now.hall.terms }
-    ensures still { IsStill desk.old.pass desk.new.pass }
-    ensures step { IsStep bench.now desk.new result }
-    ensures aside { IfSome desk.old.aside (λ q. result ≡ On (Some q)) }
-    ensures search { desk.old.aside ≡ None → IsSearch (threads bench.now.hall.terms)
-        (worker_of desk.old ready.old) (worker_of desk.new ready.new) result }
-    ensures ready { ready.new.threads ≡ ready.old.threads }
+    requires work { IsAtWork bench.now None worker.old }
+    ensures still { IsStill worker.old.desk.pass worker.new.desk.pass }
+    ensures step { IsStep bench.now worker.new.desk result }
+    ensures found { Finds bench.now worker.old.desk.aside worker.old worker.new result }
+    ensures ready { worker.new.ready.threads ≡ worker.old.ready.threads }
 {
-    match desk.back() {
-        None => seek(bench, gate, pause, desk, ready),
+    match worker.desk.back() {
+        None => seek(bench, gate, pause, worker),
         Some(package) => Step::On(Some(package)),
     }
 }

@@ -1,19 +1,20 @@
 //! How a worker goes on with a package.
 
-ghost use Rattle.std.specs.Prelude.{◌≡◌, ◌<◌, true, false, Some, None, is_some, All};
-ghost use Rattle.tc_context.specs.View.{IsReserved, IsRoomier, PackageView, WantIsGranted, want_of};
+ghost use Rattle.std.specs.Prelude.{◌≡◌, ◌<◌, Some, None, All, MatchBool, MatchResult};
+ghost use Rattle.tc_context.specs.View.{IsRoomier, WantIsGranted};
 ghost use Rattle.tc_hall.specs.Rule.{threads};
-ghost use Rattle.tc_workers.specs.Worker.{HasSealed, IsAtDesk, IsStep, IsStill};
+ghost use Rattle.tc_workers.specs.Worker.{HasLeft, HasSealed, IsAtDesk, IsAtWork, IsStep, IsStill};
 ghost use Rattle.tc_workers.specs.Settled.{step_of};
-ghost use Rattle.tc_workers.specs.declared.step.Step.TheVariants.{Stopped};
-ghost use Rattle.tc_workers.specs.GoOn.{Acquires, GoesOn, HasRunBlock, RunsBlock};
+ghost use Rattle.tc_workers.specs.GoOn.{Acquires, AsksForLock, GivesUp, GoesOn, HasRunBlock, MayRun, RanOne};
 ghost use Rattle.tc_workers.specs.Offers.{HasOffered};
 
 use crate::calls;
 use crate::find::number;
 use crate::gate::{Gate, Point};
-use crate::leave::leave_with;
+use crate::leave::leave;
 use crate::step::Step;
+use crate::worker::Worker;
+use std::alloc::AllocError;
 use std::sync::Wait;
 use tc_combiner::{Bench, Desk, Settled};
 use tc_context::package::Package;
@@ -25,10 +26,8 @@ use tc_ready::Ready;
 /// Whether the package wants a lock that is not granted to it.
 pub fn wants_lock(package: &Package, image: &Image) -> bool
     requires { «package».now.image ≡ image.now }
-    ensures free { result ≡ true → «package».now.granted ≡ None }
-    ensures wants { result ≡ true
-        → is_some (want_of «package».now.image «package».now.context) ≡ true }
-    ensures granted { result ≡ false → WantIsGranted image.now «package».now }
+    ensures { MatchBool result (AsksForLock «package».now)
+        (WantIsGranted image.now «package».now) }
 {
     package.keeps();
     if package.granted().is_some() {
@@ -58,35 +57,34 @@ fn tell<G: Gate>(gate: &G, worker: u32, t: u32, settled: &Settled) {
     }
 }
 
-// Offers each thread that the desk put as ready. Few blocks make one ready: those that do pay for a
-// call, and the others don't.
+// Offers each of these threads. Few blocks make one ready: those that do pay for a call, and the
+// others don't.
 #[inline(never)]
-fn offer_all<Q: Waiters>(desk: &Desk<Q>, ready: &mut Ready)
-    requires known { All (λ t. t < ready.old.threads) desk.now.handed }
-    ensures { HasOffered desk.now.handed ready.old ready.new }
+fn offer_all(threads: &[u32], ready: &mut Ready)
+    requires known { All (λ t. t < ready.old.threads) threads.now }
+    ensures { HasOffered threads.now ready.old ready.new }
 {
-    let handed = desk.handed();
-    for t in handed {
+    for t in threads {
         ready.offer(*t);
     }
 }
 
 // Goes on by the desk's answer: tells the gate, and offers each thread that the desk put as ready.
-fn conclude<G: Gate, Q: Waiters>(
+fn conclude<G: Gate>(
     gate: &G,
     worker: u32,
     t: u32,
-    desk: &Desk<Q>,
+    handed: &[u32],
     ready: &mut Ready,
     settled: Settled,
 ) -> Step
-    requires known { All (λ t. t < ready.old.threads) desk.now.handed }
+    requires known { All (λ t. t < ready.old.threads) handed.now }
     ensures step { result ≡ step_of settled }
-    ensures offered { HasOffered desk.now.handed ready.old ready.new }
+    ensures offered { HasOffered handed.now ready.old ready.new }
 {
     tell(gate, worker, t, &settled);
-    if !desk.handed().is_empty() {
-        offer_all(desk, ready);
+    if !handed.is_empty() {
+        offer_all(handed, ready);
     }
     next(settled)
 }
@@ -96,102 +94,93 @@ fn acquire<R: Wait, G: Gate, Q: Waiters>(
     rt: &R,
     bench: &Bench<'_, Q>,
     gate: &G,
-    desk: &mut Desk<Q>,
-    ready: &mut Ready,
+    worker: &mut Worker<Q>,
     package: Package,
 ) -> Step
-    requires work { IsAtDesk bench.now (Some «package») desk.old }
-    requires free { «package».granted ≡ None }
-    requires wants { is_some (want_of «package».image «package».context) ≡ true }
-    requires ready { ready.old.threads ≡ threads bench.now.hall.terms }
-    ensures still { IsStill desk.old.pass desk.new.pass }
-    ensures step { IsStep bench.now desk.new result }
-    ensures acquires { Acquires «package» desk.old desk.new result }
-    ensures offered { HasOffered desk.new.handed ready.old ready.new }
+    requires work { IsAtWork bench.now (Some «package») worker.old }
+    requires wants { AsksForLock «package» }
+    ensures still { IsStill worker.old.desk.pass worker.new.desk.pass }
+    ensures step { IsStep bench.now worker.new.desk result }
+    ensures acquires { Acquires «package» worker.old.desk worker.new.desk result }
+    ensures offered { HasOffered worker.new.desk.handed worker.old.ready worker.new.ready }
 {
     let t = package.thread();
-    let worker = number(desk);
-    let settled = desk.acquire(rt, bench, package);
-    conclude(gate, worker, t, desk, ready, settled)
+    let number = number(&mut worker.desk);
+    let settled = worker.desk.acquire(rt, bench, package);
+    let handed = worker.desk.handed();
+    conclude(gate, number, t, handed, &mut worker.ready, settled)
 }
 
-/// Runs a block of the package, and seals it.
+// Makes room for a block of the package, and runs it. It knows no queue of waiters, so that there is
+// one of it in a program, however many kinds of them there are.
+fn run_one(package: &mut Package, image: &Image) -> Result<End, AllocError>
+    requires may { MayRun image.now «package».old }
+    ensures { MatchResult result (λ end. RanOne image.now end «package».old «package».new)
+        (λ e. IsRoomier «package».old «package».new) }
+{
+    package.reserve()?;
+    package.keeps();
+    Ok(package.run_block(image))
+}
+
+/// Makes room for a block of the package, runs it and seals it.
 pub fn seal_block<Q: Waiters>(
     bench: &Bench<'_, Q>,
     desk: &mut Desk<Q>,
     package: &mut Package,
-) -> End
+) -> Result<End, AllocError>
     requires work { IsAtDesk bench.now (Some «package».old) desk.old }
     requires want { WantIsGranted bench.now.image «package».old }
-    requires reserved { IsReserved «package».old }
     ensures still { IsStill desk.old.pass desk.new.pass }
-    ensures sealed { HasSealed bench.now result «package».new desk.new }
-    ensures ran { HasRunBlock result «package».old «package».new desk.old desk.new }
+    ensures sealed { MatchResult result (λ end. HasSealed bench.now end «package».new desk.new)
+        (λ e. IsAtDesk bench.now (Some «package».new) desk.new) }
+    ensures ran { MatchResult result (λ end. HasRunBlock bench.now.image end «package».old «package».new desk.old desk.new)
+        (λ e. IsRoomier «package».old «package».new × (desk.new ≡ desk.old)) }
 {
-    package.keeps();
-    let end = package.run_block(bench.image);
+    let end = run_one(package, bench.image)?;
     desk.commit(bench, package);
-    end
-}
-
-// Runs a block of the package for which there is room, and settles it.
-fn run_reserved<R: Wait, G: Gate, Q: Waiters>(
-    rt: &R,
-    bench: &Bench<'_, Q>,
-    gate: &G,
-    desk: &mut Desk<Q>,
-    ready: &mut Ready,
-    mut package: Package,
-) -> Step
-    requires work { IsAtDesk bench.now (Some «package») desk.old }
-    requires want { WantIsGranted bench.now.image «package» }
-    requires reserved { IsReserved «package» }
-    requires ready { ready.old.threads ≡ threads bench.now.hall.terms }
-    ensures still { IsStill desk.old.pass desk.new.pass }
-    ensures step { IsStep bench.now desk.new result }
-    ensures runs { (p : PackageView) → IsRoomier p «package» → WantIsGranted bench.now.image p
-        → RunsBlock bench.now.image p desk.old desk.new result }
-    ensures offered { HasOffered desk.new.handed ready.old ready.new }
-{
-    let t = package.thread();
-    let worker = number(desk);
-    let end = seal_block(bench, desk, &mut package);
-    gate.at(worker, Point::Committed(t, end));
-    let settled = desk.settle(rt, bench, package, end);
-    conclude(gate, worker, t, desk, ready, settled)
+    Ok(end)
 }
 
 // Memory was refused: stops the others first, and then puts all back.
-fn give_up<Q: Waiters>(bench: &Bench<'_, Q>, desk: &mut Desk<Q>, package: Package) -> Step
+fn give_up<Q: Waiters>(bench: &Bench<'_, Q>, desk: &mut Desk<Q>, package: Package)
     requires work { IsAtDesk bench.now (Some «package») desk.old }
     ensures still { IsStill desk.old.pass desk.new.pass }
-    ensures step { IsStep bench.now desk.new result }
-    ensures stopped { result ≡ Stopped }
+    ensures left { HasLeft desk.new }
+    ensures gives_up { GivesUp «package» desk.old desk.new }
 {
     calls::stop(bench.hall, desk.pass());
-    leave_with(bench, desk, package)
+    leave(bench, desk, Some(package));
 }
 
-// Makes room for a block of the package, and runs it.
+// Runs a block of the package, where there is room for it, and settles it.
 fn run<R: Wait, G: Gate, Q: Waiters>(
     rt: &R,
     bench: &Bench<'_, Q>,
     gate: &G,
-    desk: &mut Desk<Q>,
-    ready: &mut Ready,
+    worker: &mut Worker<Q>,
     mut package: Package,
 ) -> Step
-    requires work { IsAtDesk bench.now (Some «package») desk.old }
+    requires work { IsAtWork bench.now (Some «package») worker.old }
     requires want { WantIsGranted bench.now.image «package» }
-    requires ready { ready.old.threads ≡ threads bench.now.hall.terms }
-    ensures still { IsStill desk.old.pass desk.new.pass }
-    ensures step { IsStep bench.now desk.new result }
-    ensures goes_on { GoesOn bench.now.image «package» desk.old desk.new result }
-    ensures ready { ready.new.threads ≡ ready.old.threads }
+    ensures still { IsStill worker.old.desk.pass worker.new.desk.pass }
+    ensures step { IsStep bench.now worker.new.desk result }
+    ensures goes_on { GoesOn bench.now.image «package» worker.old worker.new result }
+    ensures ready { worker.new.ready.threads ≡ worker.old.ready.threads }
 {
-    match package.reserve() {
-        Ok(()) => run_reserved(rt, bench, gate, desk, ready, package),
-        Err(_) => give_up(bench, desk, package),
+    let t = package.thread();
+    let number = number(&mut worker.desk);
+    match seal_block(bench, &mut worker.desk, &mut package) {
+        Ok(end) => {
+            gate.at(number, Point::Committed(t, end));
+            let settled = worker.desk.settle(rt, bench, package, end);
+            let handed = worker.desk.handed();
+            conclude(gate, number, t, handed, &mut worker.ready, settled)
+        }
+        Err(_) => {
+            give_up(bench, &mut worker.desk, package);
+            Step::Stopped
+        }
     }
 }
 
@@ -200,19 +189,17 @@ pub fn go_on<R: Wait, G: Gate, Q: Waiters>(
     rt: &R,
     bench: &Bench<'_, Q>,
     gate: &G,
-    desk: &mut Desk<Q>,
-    ready: &mut Ready,
+    worker: &mut Worker<Q>,
     package: Package,
 ) -> Step
-    requires work { IsAtDesk bench.now (Some «package») desk.old }
-    requires ready { ready.old.threads ≡ threads bench.now.hall.terms }
-    ensures still { IsStill desk.old.pass desk.new.pass }
-    ensures step { IsStep bench.now desk.new result }
-    ensures goes_on { GoesOn bench.now.image «package» desk.old desk.new result }
-    ensures ready { ready.new.threads ≡ ready.old.threads }
+    requires work { IsAtWork bench.now (Some «package») worker.old }
+    ensures still { IsStill worker.old.desk.pass worker.new.desk.pass }
+    ensures step { IsStep bench.now worker.new.desk result }
+    ensures goes_on { GoesOn bench.now.image «package» worker.old worker.new result }
+    ensures ready { worker.new.ready.threads ≡ worker.old.ready.threads }
 {
     if wants_lock(&package, bench.image) {
-        return acquire(rt, bench, gate, desk, ready, package);
+        return acquire(rt, bench, gate, worker, package);
     }
-    run(rt, bench, gate, desk, ready, package)
+    run(rt, bench, gate, worker, package)
 }

@@ -1,6 +1,6 @@
 //! Whole runs.
 
-ghost use Rattle.std.specs.Prelude.{◌≡◌, ◌<◌, ◌≤◌, ◌+◌, ◌*◌, ◌/◌, All, IfOk, length, map, min, true};
+ghost use Rattle.std.specs.Prelude.{◌≡◌, ℕ, ◌<◌, ◌≤◌, ◌*◌, All, IfOk, length, map, min, true};
 ghost use Rattle.tc_isa.specs.declared.limits.TheConstants.{MAX_FUEL};
 ghost use Rattle.tc_elf.specs.declared.limits.TheConstants.{MAX_THREADS};
 ghost use Rattle.tc_hall.specs.Made.{AreDealt};
@@ -8,6 +8,7 @@ ghost use Rattle.tc_hall.specs.Rule.{threads};
 ghost use Rattle.tc_hall.specs.Steps.{HasAll, HasSeenAll, IsEnd, IsFree};
 ghost use Rattle.tc_ready.specs.declared.limits.TheConstants.{MAX_ROOM};
 ghost use Rattle.tc_workers.specs.Crew.{AreQueues, AreSeatsOf, HasRun, IsBench};
+ghost use Rattle.tc_workers.specs.Offers.{CanHave};
 ghost use Rattle.tc_workers.specs.Run.{IsWholeRun};
 
 use crate::crew::{hire, together};
@@ -31,13 +32,15 @@ use tc_ready::Ready;
 // them when it is made.
 const MAX_OFFERS: u32 = 4_096;
 
-// For how many offers a worker gets room. It makes at most one for each section, and a section has a
-// turn at its beginning and, but for the last ones of a thread, one at its end. A thread that is not
-// offered for want of room is found by the look over all threads.
+// For how many offers a worker gets room: for one for each section that the threads can have, since
+// it makes at most one for each, but no more than MAX_OFFERS. A thread that is not offered for want
+// of room is found by the look over all threads.
 fn room_of(threads: u32, fuel: u32) -> u32
     requires threads { (1 ≤ threads) × (threads ≤ MAX_THREADS) }
     requires fuel { fuel ≤ MAX_FUEL }
-    ensures value { result ≡ min (threads * (fuel / 2 + 2)) 4096 }
+    ensures enough { (sections : ℕ) → CanHave fuel sections
+        → min (threads * sections) 4096 ≤ result }
+    ensures few { result ≤ 4096 }
     ensures least { 1 ≤ result }
     ensures most { result ≤ MAX_ROOM }
 {

@@ -121,8 +121,9 @@ fn run_block<R: Abort>(rt: &R, bench: &Bench<'_, Queue>, player: &mut Player) ->
         panic!(rt; "no package is in hand")
     };
     assert!(rt; !wants_lock(&package, bench.image));
-    assert!(rt; package.reserve().is_ok());
-    let end = seal_block(bench, &mut player.desk, &mut package);
+    let Ok(end) = seal_block(bench, &mut player.desk, &mut package) else {
+        panic!(rt; "there is memory for a block")
+    };
     let Some(&block) = package.log().last() else {
         panic!(rt; "a block was run")
     };

@@ -3,7 +3,7 @@
 ghost use Rattle.std.specs.Prelude.{◌≤◌};
 ghost use Rattle.tc_isa.specs.declared.limits.TheConstants.{MAX_WORKERS};
 
-use crate::gate::{Gate, Point};
+use crate::gate::{Gate, Open, Point};
 use crate::options::Options;
 use crate::run::run_all;
 use crossbeam_utils::atomic::AtomicCell;
@@ -22,6 +22,9 @@ const COUNT: [u32; 15] = [
     0x000202b7, 0x06400313, 0x00000513, 0x00100893, 0x00000073, 0x0002a383, 0x00138393, 0x0072a023,
     0x00000513, 0x00200893, 0x00000073, 0xfff30313, 0xfc031ce3, 0x05d00893, 0x00000073,
 ];
+
+/// A sleep for the most blocks that a thread can sleep, and an exit.
+const LONG_SLEEP: [u32; 5] = [0xfff00513, 0x00300893, 0x00000073, 0x05d00893, 0x00000073];
 
 /// A gate that counts the blocks that workers commit.
 #[derive(Drop)]
@@ -92,6 +95,25 @@ fn workers_beside_one_another_finish(rt: HostRuntime) -> Result<(), Fail> {
     }
     for limit in 0..5 {
         count(&rt, rt.alloc(), 3, limit)?;
+    }
+    Ok(())
+}
+
+/// No memory is refused after a long sleep: the thread goes on, and the run ends well.
+#[test]
+fn a_long_sleep_ends(rt: HostRuntime) -> Result<(), Fail> {
+    let entries = [(0x00100000, 0), (0x00100000, 0)];
+    let file = build(rt.alloc(), &LONG_SLEEP, &entries, &[], &[])?;
+    let image = load(rt.alloc(), &file)?;
+    let options = Options {
+        workers: 1,
+        fuel: 100,
+        limit: 0,
+    };
+    let closed = run_all(&rt, rt.alloc(), &image, options, &Open)?;
+    assert_eq!(rt; closed.packages().len(), 2);
+    for package in closed.packages() {
+        assert!(rt; package.status() == Status::Exited);
     }
     Ok(())
 }

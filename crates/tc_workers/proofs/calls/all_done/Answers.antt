@@ -7,8 +7,8 @@ use Rattle.tc_workers.proofs.calls.all_done.Goals as goal
 pub returns-then-look-ne2-clause-outs : goal.returns-then-look-ne2-clause-outs
 returns-then-look-ne2-clause-outs c = outs_call c.loop-t.pass.knows c.look.new.pass.knows (Look c.loop-t.t c.look.result) c.look.ensures.look ∙ c.loop-t.invariant.1
 
-pub returns-then-look-ne2-clause-left : goal.returns-then-look-ne2-clause-left
-returns-then-look-ne2-clause-left c = λ e. one_left c.args.count c.loop-t.t c.look.result c.args.pass.now.knows c.loop-t.pass.knows c.look.new.pass.knows c.loop-t-test.true c.loop-t.invariant.3 c.if-look-ne2.true c.look.ensures.look
+pub returns-then-look-ne2-clause-looked : goal.returns-then-look-ne2-clause-looked
+returns-then-look-ne2-clause-looked c = one_left c.args.count c.loop-t.t c.look.result c.args.pass.now.knows c.loop-t.pass.knows c.look.new.pass.knows c.loop-t-test.true c.loop-t.invariant.3 c.if-look-ne2.true c.look.ensures.look
 
 pub loop-t-preserved : goal.loop-t-preserved
 loop-t-preserved c =

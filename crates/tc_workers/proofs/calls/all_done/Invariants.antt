@@ -1,8 +1,7 @@
 use Rattle.std.proofs.Common.{◌≡◌}
 use Rattle.tc_hall.specs.Outs.{outs}
 use Rattle.tc_hall.specs.Steps.{HasSeenAll}
-use Rattle.tc_workers.specs.Worker.{IsStill}
-use Rattle.tc_workers.proofs.Passes.{SawEnded}
+use Rattle.tc_workers.specs.Worker.{IsStill, SawEnded}
 use Rattle.tc_workers.proofs.calls.all_done.Given as goal
 
 abbrev pub invariant-loop-t : goal.invariant-loop-t

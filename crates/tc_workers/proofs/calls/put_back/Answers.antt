@@ -1,12 +1,14 @@
-use Rattle.std.proofs.Common.{[], ◌∷◌}
-use Rattle.tc_hall.specs.declared.place.Place.TheVariants.{Ready}
-use Rattle.tc_hall.specs.Steps.{put_call}
-use Rattle.tc_workers.proofs.Passes.{stop_later}
+use Rattle.std.proofs.Common.{Option, Some, sym, subst}
+use Rattle.tc_context.specs.View.{PackageView}
+use Rattle.tc_workers.specs.Worker.{DidPutBack, MayPutBack}
+use Rattle.tc_workers.proofs.Leaving.{back_none, back_some}
 use Rattle.tc_workers.proofs.Running.{may_put}
 use Rattle.tc_workers.proofs.calls.put_back.Goals as goal
 
 pub put-requires-clause-ready : goal.put-requires-clause-ready
-put-requires-clause-ready c = may_put c.args.pass.now.knows c.args.«package» c.requires.out c.requires.may c.requires.stop
+put-requires-clause-ready c =
+    let may = subst (λ (o : Option PackageView). MayPutBack c.args.pass.now.knows o) c.in-Some.is c.requires.may in
+    may_put c.args.pass.now.knows c.in-Some.«package» may.0 may.1 may.2
 
-pub returns-clause-stop : goal.returns-clause-stop
-returns-clause-stop c = stop_later c.args.pass.now.knows c.put.new.pass.knows (put_call c.args.«package» Ready ∷ []) c.put.ensures.put.called.calls c.requires.stop
+pub returns-in-Some : goal.returns-in-Some
+returns-in-Some c = record { did = subst (λ (o : Option PackageView). DidPutBack o c.args.pass.now c.put.new.pass) (sym c.in-Some.is) (back_some c.in-Some.«package» c.args.pass.now c.put.new.pass c.put.ensures.own c.put.ensures.put) }

@@ -1,8 +1,15 @@
-use Rattle.tc_workers.proofs.Searching.{left_stopped}
+use Rattle.std.proofs.Common.{Some}
+use Rattle.tc_workers.proofs.Desks.{with_pass}
+use Rattle.tc_workers.proofs.Leaving.{left_step, may_leave_claimed, saw_stop}
 use Rattle.tc_workers.proofs.find.take_up.Goals as goal
 
-pub leave_with-requires-clause-stop : goal.leave_with-requires-clause-stop
-leave_with-requires-clause-stop g c κs within = c.stopped.ensures.seen c.if-stopped.true
+pub leave-requires-after_bounds : goal.leave-requires-after_bounds
+leave-requires-after_bounds g c κs within =
+    let stop = saw_stop c.stopped.result c.pass.result.now.knows c.stopped.new.pass.knows c.stopped.ensures.saw c.if-stopped.true in
+    may_leave_claimed c.args.bench.now c.number.new.desk c.pass.result.now c.stopped.new.pass c.pass.ensures.value c.stopped.ensures.still c.stopped.ensures.outs c.args.«package» c.args.desk.now c.requires.claimed c.number.ensures.same stop
 
-pub returns-then-stopped-clause-taken : goal.returns-then-stopped-clause-taken
-returns-then-stopped-clause-taken g c = left_stopped c.args.bench.now c.args.desk.now c.leave_with.new.desk c.args.«package» c.leave_with.result c.leave_with.ensures.stopped c.leave_with.ensures.step
+pub returns-then-stopped-clause-step : goal.returns-then-stopped-clause-step
+returns-then-stopped-clause-step g c =
+    let stop = saw_stop c.stopped.result c.pass.result.now.knows c.stopped.new.pass.knows c.stopped.ensures.saw c.if-stopped.true in
+    let may = may_leave_claimed c.args.bench.now c.number.new.desk c.pass.result.now c.stopped.new.pass c.pass.ensures.value c.stopped.ensures.still c.stopped.ensures.outs c.args.«package» c.args.desk.now c.requires.claimed c.number.ensures.same stop in
+    left_step c.args.bench.now (Some c.args.«package») (with_pass c.number.new.desk c.stopped.new.pass) may c.leave.new.desk c.leave.ensures

@@ -5,5 +5,5 @@ use Rattle.tc_workers.proofs.Offering.{offers_more}
 use Rattle.tc_workers.proofs.go_on.offer_all.Goals as goal
 
 pub loop-t-preserved : goal.loop-t-preserved
-loop-t-preserved g c = subst (λ (l : List ℕ). HasOffered l c.args.ready.now c.offer.new.self) (sym (take_more c.handed-handed.result.now c.loop-t.t-index 0 c.loop-t-test.true))
-    (offers_more (take c.loop-t.t-index c.handed-handed.result.now) (get_or c.handed-handed.result.now c.loop-t.t-index 0) c.offer.result c.args.ready.now c.loop-t.ready c.offer.new.self c.loop-t.invariant c.offer.ensures)
+loop-t-preserved c = subst (λ (l : List ℕ). HasOffered l c.args.ready.now c.offer.new.self) (sym (take_more c.args.threads.now c.loop-t.t-index 0 c.loop-t-test.true))
+    (offers_more (take c.loop-t.t-index c.args.threads.now) (get_or c.args.threads.now c.loop-t.t-index 0) c.offer.result c.args.ready.now c.loop-t.ready c.offer.new.self c.loop-t.invariant c.offer.ensures)

@@ -3,4 +3,4 @@ use Rattle.tc_workers.specs.Offers.{HasOffered}
 use Rattle.tc_workers.proofs.go_on.offer_all.Given as goal
 
 abbrev pub invariant-loop-t : goal.invariant-loop-t
-invariant-loop-t g l = HasOffered (take l.t-index l.handed) l.initial.ready l.ready
+invariant-loop-t l = HasOffered (take l.t-index l.threads) l.initial.ready l.ready

@@ -1,10 +1,9 @@
 use Rattle.std.proofs.Common.{◌≡◌, Some, None, rules}
-use Rattle.tc_workers.proofs.Desks.{roomier_at}
 use Rattle.tc_workers.proofs.Playing.{at_desk}
 use Rattle.tc_workers.proofs.scripts.run_block.Goals as goal
 
-pub seal_block-end-requires-clause-work : goal.seal_block-end-requires-clause-work
-seal_block-end-requires-clause-work g c κs =
+pub seal_block-requires-clause-work : goal.seal_block-requires-clause-work
+seal_block-requires-clause-work g c κs =
     let none : c.args.player.now.end ≡ None = search rules in
     let some : c.args.player.now.hand ≡ Some c.in-Some.package = search rules in
-    roomier_at c.args.bench.now c.args.player.now.desk c.in-Some.package c.reserve.new.self (at_desk c.args.bench.now c.args.player.now.desk c.args.player.now.hand (Some c.in-Some.package) c.args.player.now.end c.requires none some) c.reserve.ensures.same
+    at_desk c.args.bench.now c.args.player.now.desk c.args.player.now.hand (Some c.in-Some.package) c.args.player.now.end c.requires none some
