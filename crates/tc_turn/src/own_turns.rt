@@ -142,13 +142,24 @@ impl GuestThread {
         }
     }
 
-    /// Keeps the part of its memory that the last access found, where the place before was another.
+    /// Keeps the part of its memory in the place that the last access found, where the place before
+    /// was another.
     fn look_at(&mut self, image: &Image, before: usize)
         ensures { self.new ≡ self.old }
     {
         if self.near != before {
-            self.part = image.part(self.near);
+            self.change_part(image);
         }
+    }
+
+    /// Keeps the part of its memory in the place that the last access found. Few turns do so, and it
+    /// is never inlined, so that the loop over turns has the registers of the host for itself.
+    #[cold]
+    #[inline(never)]
+    fn change_part(&mut self, image: &Image)
+        ensures { self.new ≡ self.old }
+    {
+        self.part = image.part(self.near);
     }
 
     /// Loads into a register and goes on, where it may load, the bytes are its own, and the load does
@@ -174,7 +185,8 @@ impl GuestThread {
     }
 
     /// Stores the low bytes of a value and goes on, where the bytes are its own, and
-    /// the store does not fault.
+    /// the store does not fault. It is never inlined, as `change_part`.
+    #[inline(never)]
     fn store(&mut self, image: &Image, kind: StoreKind, addr: u32, value: u32) -> bool
         ensures own { result ≡ true → IsOwn image.now addr (store_width kind) }
         ensures yes { result ≡ true
