@@ -16,7 +16,7 @@ use Rattle.tc_workers.specs.Search.{SawStop}
 use Rattle.tc_workers.specs.Worker.{DidLeave, DidPutBack, HasClaimed, HasOut, IsAtDesk, IsFit, IsStep, IsStill, MayGoBack, MayLeave, MayPutBack, put_back}
 use Rattle.tc_workers.specs.declared.step.Step.TheVariants.{Stopped}
 use Rattle.tc_workers.proofs.Desks.{aside_good, at_still, back_still, fits_still, good_back, misfit_out, one_back, with_pass}
-use Rattle.tc_workers.proofs.Passes.{outs_call, still_call, still_called, still_same, still_then, stop_later, stop_made, stop_seen}
+use Rattle.tc_workers.proofs.Passes.{still_called, still_same, still_then, stop_later, stop_seen}
 
 -- ---- calls
 

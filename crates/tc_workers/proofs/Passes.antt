@@ -1,5 +1,5 @@
 -- What the calls of the hall say of a worker's pass.
-use Rattle.std.proofs.Common.{◌≡◌, ◌≢◌, ℕ, suc, ◌+◌, ◌<◌, false, List, [], ◌∷◌, ◌++◌, All, length, length-append, refl, sym, ap, ◌∙◌, subst, arith, append_assoc}
+use Rattle.std.proofs.Common.{◌≡◌, ◌≢◌, ℕ, suc, ◌+◌, ◌<◌, false, List, [], ◌∷◌, ◌++◌, length, length-append, refl, sym, ap, ◌∙◌, subst, arith, append_assoc}
 use Rattle.std.proofs.lemmas.List.Elements.{All-push}
 use mathlib.Core.Option.{some}
 use mathlib.Core.Logic.{dite}
@@ -17,7 +17,7 @@ use Rattle.tc_hall.specs.PassView.{PassView}
 use Rattle.tc_hall.specs.Outs.{outs, Called, Pack}
 use Rattle.tc_hall.specs.Steps.{IsSamePass, Gets, HasStop, made, seen, HasSeenAll, with_call, after_look, after_miss, after_stop, after_stopped}
 use Rattle.tc_combiner.specs.Walks.{HasSeenStop}
-use Rattle.tc_ready.specs.Scan.{Looked, OnlyLooks}
+use Rattle.tc_ready.specs.Scan.{OnlyLooks}
 use Rattle.tc_ready.proofs.Scanning.{looked_more, nothing_looked}
 use Rattle.tc_workers.specs.Worker.{HasOut, IsClaimed, IsStill, SawEnded, SawOneLeft}
 

@@ -1,5 +1,5 @@
 -- The steps of a worker, one after another.
-use Rattle.std.proofs.Common.{◌≡◌, Bool, false, Option, None, refl, sym, ap, ◌∙◌, subst}
+use Rattle.std.proofs.Common.{◌≡◌, Bool, false, Option, None, refl, subst}
 use Rattle.tc_context.specs.View.{PackageView}
 use Rattle.tc_hall.specs.Outs.{outs}
 use Rattle.tc_hall.specs.PassView.{PassView}
@@ -8,7 +8,6 @@ use Rattle.tc_ready.specs.ReadyView.{ReadyView}
 use Rattle.tc_combiner.specs.View.{BenchView, DeskView}
 use Rattle.tc_workers.specs.Turns.{SawNoStop, Steps, TakesStep, more, none}
 use Rattle.tc_workers.specs.Worker.{WorkerView, IsAtWork, IsStill, worker_of}
-use Rattle.tc_workers.specs.declared.step.Step.{Step}
 use Rattle.tc_workers.specs.declared.step.Step.TheVariants.{On}
 use Rattle.tc_workers.proofs.Desks.{at_still, with_pass}
 use Rattle.tc_workers.proofs.Leaving.{here_outs, here_still}

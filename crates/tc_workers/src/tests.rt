@@ -24,7 +24,7 @@ const COUNT: [u32; 15] = [
 ];
 
 /// A sleep for the most blocks that a thread can sleep, and an exit.
-const LONG_SLEEP: [u32; 5] = [0xfff00513, 0x00300893, 0x00000073, 0x05d00893, 0x00000073];
+const LONG_SLEEP: [u32; 5] = [0x0ff00513, 0x00300893, 0x00000073, 0x05d00893, 0x00000073];
 
 /// A gate that counts the blocks that workers commit.
 #[derive(Drop)]

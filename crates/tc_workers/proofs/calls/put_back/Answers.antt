@@ -1,7 +1,7 @@
-use Rattle.std.proofs.Common.{Option, Some, sym, subst}
+use Rattle.std.proofs.Common.{Option, sym, subst}
 use Rattle.tc_context.specs.View.{PackageView}
 use Rattle.tc_workers.specs.Worker.{DidPutBack, MayPutBack}
-use Rattle.tc_workers.proofs.Leaving.{back_none, back_some}
+use Rattle.tc_workers.proofs.Leaving.{back_some}
 use Rattle.tc_workers.proofs.Running.{may_put}
 use Rattle.tc_workers.proofs.calls.put_back.Goals as goal
 

@@ -1,6 +1,5 @@
 use Rattle.std.proofs.Common.{◌≡◌, ℕ, ◌<◌, ◌++◌, List, All, Some, refl, sym, ap, ◌∙◌, subst}
 use Rattle.tc_hall.specs.Rule.{threads}
-use Rattle.tc_combiner.specs.View.{DeskView}
 use Rattle.tc_workers.specs.GoOn.{GoesOn, gives_up}
 use Rattle.tc_workers.specs.Worker.{WorkerView, IsStep, put_back, worker_of}
 use Rattle.tc_workers.specs.declared.step.Step.{Step}

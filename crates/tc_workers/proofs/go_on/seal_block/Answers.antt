@@ -1,4 +1,4 @@
-use Rattle.std.proofs.Common.{rules, ◌≡◌, length, Some, ap, subst}
+use Rattle.std.proofs.Common.{rules, length, Some, ap, subst}
 use Rattle.tc_elf.specs.Shown.{Shown}
 use Rattle.tc_combiner.specs.View.{BenchView, DeskView}
 use Rattle.tc_workers.specs.GoOn.{RanOne}

@@ -1,6 +1,6 @@
-use Rattle.std.proofs.Common.{rules, ◌≡◌, arith, get_or, refl, subst, length}
+use Rattle.std.proofs.Common.{rules, ◌≡◌, arith, get_or, subst, length}
 use Rattle.tc_workers.proofs.Hiring.{one_longer}
-use Rattle.tc_workers.proofs.Rows.{AreFirst, Dealing, dealt_none, dealt_one, dealt_all, firsts_less}
+use Rattle.tc_workers.proofs.Rows.{Dealing, dealt_none, dealt_one, dealt_all, firsts_less}
 use Rattle.tc_workers.proofs.lines.deal.Goals as goal
 
 pub loop-dealt-init : goal.loop-dealt-init

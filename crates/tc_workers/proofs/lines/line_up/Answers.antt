@@ -1,6 +1,6 @@
-use Rattle.std.proofs.Common.{◌≡◌, ◌∙◌, ℕ, List, All, length, sym, ap, subst, arith, Vec, Global}
+use Rattle.std.proofs.Common.{◌∙◌, List, All, length, sym, ap, subst, arith, Vec, Global}
 use Rattle.tc_queue.specs.Lines.{IsSeatOf, seat_as}
-use Rattle.tc_queue.specs.View.{QueueView, OwnView, IsNewSeatOf}
+use Rattle.tc_queue.specs.View.{QueueView, OwnView}
 use Rattle.tc_queue.specs.declared.board.SeatLog.{SeatLog}
 use Rattle.tc_queue.specs.declared.queue.QueueSeat.{QueueSeat}
 use Rattle.tc_workers.proofs.Hiring.{one_longer}

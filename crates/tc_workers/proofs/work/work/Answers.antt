@@ -1,6 +1,4 @@
-use Rattle.std.proofs.Common.{rules, Option, None, sym, subst}
-use Rattle.tc_context.specs.View.{PackageView}
-use Rattle.tc_workers.specs.Turns.{Steps}
+use Rattle.std.proofs.Common.{rules}
 use Rattle.tc_workers.proofs.Desks.{done_finished, stop_finished}
 use Rattle.tc_workers.proofs.Passes.{still_same, still_then}
 use Rattle.tc_workers.proofs.Turning.{no_steps, one_more}
