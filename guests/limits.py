@@ -22,10 +22,10 @@ REASONS = ("Text", "Thread", "Owner", "Block", "Kind", "Worker", "Incomplete")
 
 # The least and the most of each number that stands behind the program's words.
 RUN = {"workers": (1, 8), "fuel": (1, 65536), "batch": (0, 256)}
-NUMBERS = {**RUN, "rounds": (1, 2000), "nodes": (1, 8), "bound": (0, 256)}
+NUMBERS = {**RUN, "rounds": (1, 2000), "nodes": (1, 8), "bound": (0, 256), "size": (1, FILE_BYTES)}
 # The forms of the words: the letter and the name of each number. There are no more nodes than workers.
 OPTIONS = {"W": "workers", "F": "fuel", "B": "batch"}
 FORMS = {"run": OPTIONS, "gen": {"N": "rounds"}, "demo": {"N": "rounds", "W": "workers"},
-         "nodes": {"G": "nodes", "K": "bound", **OPTIONS}}
+         "replay": {"N": "size", **OPTIONS}, "nodes": {"G": "nodes", "K": "bound", **OPTIONS}, "profile": {"N": "size", **OPTIONS}}
 SHAPES = [" ".join((form, *letters)) for form, letters in FORMS.items()]
 USAGE = "usage: " + " | ".join(f"tclocks {shape}" for shape in SHAPES)

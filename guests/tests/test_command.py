@@ -15,11 +15,13 @@ from madeup import ROOT, Folder
 USAGE = re.search(r'let line =\s+"(usage: [^"]*)\\n"', (ROOT / "crates/tc_main/src/answer.rt").read_text()).group(1).encode() + b"\n"
 # Words that ask for something, and words that ask for nothing.
 FORMS = ("run 1 1 0", "run 8 65536 256", "run 4 20000 8", "gen 1", "gen 2000", "demo 1 1", "demo 2000 8",
-         "nodes 1 0 1 1 0", "nodes 8 256 8 65536 256", "nodes 2 4 4 2000 8")
+         "nodes 1 0 1 1 0", "nodes 8 256 8 65536 256", "nodes 2 4 4 2000 8", "replay 1 1 1 0", "replay 1048576 8 65536 256",
+         "profile 1 1 1 0", "profile 1048576 8 65536 256")
 WRONG = ("", "run", "run 1 1", "run 1 1 0 0", "run 0 10 1", "run 9 10 1", "run 2 010 1", "run 1 0 0", "run 1 65537 0",
          "run 1 1 257", "run +1 1 0", "run -1 1 0", "run 1 1 99999999999999999999", "stop", "gen", "gen 0", "gen 01",
          "gen 2001", "gen 1 1", "demo 5", "demo 0 1", "demo 2001 1", "demo 5 0", "demo 5 9", "demo 5 1 1", "--help",
-         "nodes", "nodes 3 4 2 2000 8", "nodes 0 4 2 2000 8", "nodes 1 257 2 2000 8", "nodes 2 4 4 2000", "nodes 2 4 4 2000 8 8",
+         "replay", "replay 92 1 100", "replay 0 1 100 0", "replay 1048577 1 100 0", "replay 092 1 100 0", "replay 92 1 100 0 0",
+         "profile 92 9 100 0", "profile 1 100 0", "nodes", "nodes 3 4 2 2000 8", "nodes 0 4 2 2000 8", "nodes 1 257 2 2000 8", "nodes 2 4 4 2000", "nodes 2 4 4 2000 8 8",
          "--version", "-h", "Run 1 1 0", "run 1 1 ٣")
 
 
@@ -204,16 +206,18 @@ class Rules(unittest.TestCase):
 
     def test_limits_are_those_of_the_program(self):
         constants = {}
-        for path in ("tc_isa/src/limits.rt", "tc_elf/src/limits.rt", "tc_build/src/generate.rt", "tc_main/src/order.rt"):
+        for path in ("tc_isa/src/limits.rt", "tc_elf/src/limits.rt", "tc_build/src/generate.rt", "tc_main/src/order.rt", "tc_main/src/words.rt"):
             for name, value in re.findall(r"pub const (\w+): \w+ = ([\d_]+);", (ROOT / "crates" / path).read_text()):
                 constants[name] = int(value.replace("_", ""))
         named = {name: value for name, value in constants.items() if name.startswith("MAX_")}
         workers, fuel, batch, rounds, passes = (
             named[name] for name in ("MAX_WORKERS", "MAX_FUEL", "MAX_BATCH", "MAX_ROUNDS", "MAX_PASSES"))
         options = f"1-{workers} 1-{fuel} 0-{batch}"
-        for form in (f"run {options}", f"gen 1-{rounds}", f"demo 1-{rounds} 1-{workers}", f"nodes 1-{workers} 0-{passes} {options}"):
+        for form in (f"run {options}", f"gen 1-{rounds}", f"demo 1-{rounds} 1-{workers}", f"nodes 1-{workers} 0-{passes} {options}",
+                     f"replay 1-{named['MAX_FILE']} {options}", f"profile 1-{named['MAX_FILE']} {options}"):
             self.assertIn(f'    "{form}"\n', self.script)
         self.assertIn(f"\nmost={named['MAX_FILE'] + 1}\n", self.script)
+        self.assertIn(f"\nhistory={named['MAX_HISTORY']}\n", self.script)
 
     def test_the_programs_own_wrong_words_are_wrong_here(self):
         lists = words_of_tests()

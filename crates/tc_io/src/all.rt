@@ -9,7 +9,7 @@ use crate::source::{Failed, Sink, Source};
 use std::alloc::{AllocError, Global};
 
 /// The greatest limit that a caller of `read_all` may set, in bytes.
-pub const LIMIT: usize = 1_048_576;
+pub const LIMIT: usize = 269_484_032;
 
 /// Why not all bytes were read.
 #[derive(Clone, Copy, Debug, PartialEq, Eq)]

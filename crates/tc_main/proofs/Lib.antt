@@ -3,6 +3,10 @@ pub mod Ranges
 pub mod Merging
 pub mod Outcomes
 pub mod Reporting
+pub mod OneReading
+pub mod SameAsked
+pub mod Addable
+pub mod Replaying
 pub mod Statuses
 pub mod NodeRows
 pub mod Spelled

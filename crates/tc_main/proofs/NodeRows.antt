@@ -1,16 +1,16 @@
 -- Rows of seats on nodes, while queues are made.
-use Rattle.std.proofs.Common.{◌≡◌, ℕ, zero, suc, ◌<◌, ◌%◌, List, [], ◌∷◌, ◌++◌, All, length, map, get_or, refl, sym, ap, ◌∙◌, subst, ⊎_elim, arith}
+use Rattle.std.proofs.Common.{◌≡◌, ℕ, ◌%◌, List, [], ◌∷◌, ◌++◌, All, length, map, get_or, sym, ap, ◌∙◌, subst, ⊎_elim, arith}
 use Rattle.std.proofs.lemmas.List.{map-append}
 use mathlib.Core.Option.{some}
 use lib.ListN.{get_elem?}
 use Rattle.tc_mutex_spec.proofs.ListLaws.{there}
 use Rattle.tc_hall.proofs.Telling.{snoc_at}
 use Rattle.tc_queue.specs.View.{QueueView}
-use Rattle.tc_nodes.specs.Lines.{queue_as, seat_as}
-use Rattle.tc_nodes.specs.View.{NodeQueueView, NodeSeatView, IsSeatOf, AreNewSeats}
+use Rattle.tc_nodes.specs.Lines.{queue_as}
+use Rattle.tc_nodes.specs.View.{NodeQueueView, NodeSeatView, AreNewSeats}
 use Rattle.tc_workers.specs.Rows.{AreDealtOut}
 use Rattle.tc_workers.proofs.Hiring.{at_itself}
-use Rattle.tc_workers.proofs.Rows.{AreRows, rows_more, row_by_row}
+use Rattle.tc_workers.proofs.Rows.{row_by_row}
 use Rattle.tc_main.specs.Orders.{AreOnNodes}
 
 -- each queue is made for so many threads

@@ -5,5 +5,8 @@ pub mod Results
 pub mod Report
 pub mod Summary
 pub mod Legal
+pub mod Replayed
 pub mod Outcome
 pub mod Top
+pub mod Wrong
+pub mod Accepted

@@ -9,23 +9,31 @@ use Rattle.tc_elf.specs.Shown.{Shown}
 use Rattle.tc_elf.specs.declared.refusal.Refusal.{Refusal}
 use Rattle.tc_elf.specs.declared.refusal.Refusal.TheVariants as refused
 use Rattle.tc_build.specs.Generator.{generated, generated_file}
-use Rattle.tc_main.specs.Legal.{IsLegalRun}
+use Rattle.tc_profile.specs.Text.{profile_text}
+use Rattle.tc_replay.specs.Reasons.{reason_number, reason_name}
+use Rattle.tc_replay.specs.declared.reason.Rejected.{Rejected as Rejection}
+use Rattle.tc_main.specs.Legal.{IsLegalRun, results_after}
+use Rattle.tc_main.specs.Replayed.{HasRun, IsRejection}
 use Rattle.tc_main.specs.Report.{report_text}
 use Rattle.tc_main.specs.Results.{Results}
 use Rattle.tc_main.specs.Summary.{summary_text}
-use Rattle.tc_main.specs.Words.{Input, AskFor, AskForNothing, AskToRead, Reads, input_of}
+use Rattle.tc_main.specs.Words.{Input, AskFor, AskForNothing, AskToRead, Reads, history_asked, input_of}
 use Rattle.tc_workers.specs.declared.options.Options.{Options}
 use Rattle.tc_main.specs.declared.status.Status.{Status}
-use Rattle.tc_main.specs.declared.status.Status.TheVariants.{Done, Usage, ReadFault, Refused, WriteFault, OutOfMemory}
+use Rattle.tc_main.specs.declared.status.Status.TheVariants.{Done, Usage, ReadFault, Refused, WriteFault, OutOfMemory, Rejected}
 use Rattle.tc_main.specs.declared.words.Asked.{Asked}
-use Rattle.tc_main.specs.declared.words.Asked.TheVariants.{Run, Generate, Demo}
+use Rattle.tc_main.specs.declared.words.Asked.TheVariants.{Run, Generate, Demo, Replay, Profile}
 
 abbrev pub usage_line : List ℕ
-usage_line = codes "usage: tclocks run W F B | tclocks gen N | tclocks demo N W | tclocks nodes G K W F B\n"
+usage_line = codes "usage: tclocks run W F B | tclocks gen N | tclocks demo N W | tclocks replay N W F B | tclocks nodes G K W F B | tclocks profile N W F B\n"
 
 -- the number and the name of a refusal
 abbrev pub refused_line : ℕ → List ℕ → List ℕ
 refused_line k name = codes "refused " ++ decimal k ++ codes " " ++ name ++ 10 ∷ []
+
+-- where a history is rejected, and the number and the name of the reason
+abbrev pub rejected_line : Rejection → List ℕ
+rejected_line r = codes "rejected " ++ decimal r.line ++ codes " " ++ decimal (reason_number r.reason) ++ codes " " ++ reason_name r.reason ++ 10 ∷ []
 
 -- ---- what was read, by the source before and after the call
 
@@ -65,6 +73,21 @@ IsRefused input before now k name =
     (ReadsTooMany input before now × (k ≡ 0) × (name ≡ codes "TooLarge"))
     ⊎ ((bytes : List ℕ) × ReadsAll input before now bytes × AreRefused input bytes k name)
 
+-- ---- rejections
+
+-- the history, if one is asked for, is rejected so
+abbrev pub Rejects : Option (ℕ × Options) → List ℕ → Rejection → Type 0
+Rejects None bytes r = ⊥
+Rejects (Some h) bytes r = IsRejection h.0 h.1 bytes r
+
+-- the words ask for a history, no read failed, and it is rejected so
+pub record IsRejectedFor (words : List (List ℕ)) (before now : Stream) (r : Rejection) : Type 0 where
+  pub asked : Asked
+  pub bytes : List ℕ
+  pub asks : AskFor words asked
+  pub read : HasRead (input_of asked) before now bytes
+  pub rejected : Rejects (history_asked asked) bytes r
+
 -- ---- texts
 
 -- the text is the report of a legal run of this image with these options
@@ -88,8 +111,10 @@ abbrev pub IsTextOf : Asked → List ℕ → List ℕ → Type 0
 IsTextOf (Run order o) bytes text = IsReport o bytes text
 IsTextOf (Generate rounds) bytes text = text ≡ generated_file rounds
 IsTextOf (Demo rounds o) bytes text = IsSummaryOf rounds o text
+IsTextOf (Replay size o) bytes text = (run : HasRun size o bytes) × (text ≡ report_text run.image o (results_after run.image o.fuel run.history))
+IsTextOf (Profile size o) bytes text = (run : HasRun size o bytes) × (text ≡ profile_text run.image run.history)
 
--- what the bytes that were read for what is asked come to: a text, or a refusal with its line
+-- what the bytes that were read for what is asked come to: a text, a refusal or a rejection with its line
 abbrev pub Verdict : Asked → List ℕ → List ℕ → Status → Type 0
 Verdict asked bytes text Done = IsTextOf asked bytes text
 Verdict asked bytes text (Refused k) = (input : Input) × (input_of asked ≡ Some input) × ((name : List ℕ) × AreRefused input bytes k name × (text ≡ refused_line k name))
@@ -97,6 +122,7 @@ Verdict asked bytes text Usage = ⊥
 Verdict asked bytes text ReadFault = ⊥
 Verdict asked bytes text WriteFault = ⊥
 Verdict asked bytes text OutOfMemory = ⊥
+Verdict asked bytes text (Rejected r) = Rejects (history_asked asked) bytes r × (text ≡ rejected_line r)
 
 -- the text is what the words ask for, of what was read of the source
 pub record IsWanted (words : List (List ℕ)) (before now : Stream) (text : List ℕ) : Type 0 where
@@ -108,25 +134,32 @@ pub record IsWanted (words : List (List ℕ)) (before now : Stream) (text : List
 
 -- ---- what is to be done
 
--- the source tells its bytes and gives them without a fault, and they have a file that is not refused
-pub record HasFile (input : Input) (before now : Stream) : Type 0 where
+-- nothing is wrong with the history, if one is asked for
+abbrev pub Accepts : Option (ℕ × Options) → List ℕ → Type 0
+Accepts None bytes = Unit {0}
+Accepts (Some h) bytes = HasRun h.0 h.1 bytes
+
+-- the source tells its bytes and gives them without a fault, and they have a file that is not refused, and a history with which
+-- nothing is wrong, if one is asked for
+pub record HasFile (asked : Asked) (input : Input) (before now : Stream) : Type 0 where
   pub bytes : List ℕ
   pub told : before.bytes ≡ Some bytes
   pub few : length bytes ≤ input.most
   pub enough : input.least ≤ length bytes
   pub fine : refusal (input.file bytes) ≡ None
+  pub accepted : Accepts (history_asked asked) bytes
   pub quiet : ¬ Rose before now
 
 -- where something is to be read, it has a file
-abbrev pub HasInput : Option Input → Stream → Stream → Type 0
-HasInput None before now = Unit {0}
-HasInput (Some input) before now = HasFile input before now
+abbrev pub HasInput : Asked → Option Input → Stream → Stream → Type 0
+HasInput asked None before now = Unit {0}
+HasInput asked (Some input) before now = HasFile asked input before now
 
 -- the words ask for what can be done
 pub record CanBeDone (words : List (List ℕ)) (before now : Stream) : Type 0 where
   pub asked : Asked
   pub asks : AskFor words asked
-  pub input : HasInput (input_of asked) before now
+  pub input : HasInput asked (input_of asked) before now
 
 -- ---- what is to be refused
 
@@ -137,23 +170,24 @@ RefusesBytes input bytes k =
     ⊎ (((length bytes ≤ input.most) × (length bytes < input.least) × (k ≡ 17))
     ⊎ ((length bytes ≤ input.most) × (input.least ≤ length bytes) × ((reason : Refusal) × (refusal (input.file bytes) ≡ Some reason) × (k ≡ refusal_number reason))))
 
--- the words ask for something of a source that tells its bytes without a fault, and these are to be refused by this number
-pub record HasRefusal (words : List (List ℕ)) (before now : Stream) (k : ℕ) : Type 0 where
+-- the words ask for something of a source that tells its bytes without a fault
+pub record TellsBytes (words : List (List ℕ)) (before now : Stream) : Type 0 where
   pub input : Input
   pub bytes : List ℕ
   pub asks : AskToRead words input
   pub told : before.bytes ≡ Some bytes
   pub quiet : ¬ Rose before now
-  pub refused : RefusesBytes input bytes k
 
 -- the words, or the bytes of the source, are to be refused with this status
 abbrev pub MustRefuse : List (List ℕ) → Stream → Stream → Status → Type 0
 MustRefuse words before now Usage = AskForNothing words
-MustRefuse words before now (Refused k) = HasRefusal words before now k
+MustRefuse words before now (Refused k) = (source : TellsBytes words before now) × RefusesBytes source.input source.bytes k
 MustRefuse words before now Done = ⊥
 MustRefuse words before now ReadFault = ⊥
 MustRefuse words before now WriteFault = ⊥
 MustRefuse words before now OutOfMemory = ⊥
+MustRefuse words before now (Rejected r) =
+    (source : TellsBytes words before now) × (length source.bytes ≤ source.input.most) × Rejects (history_asked source.asks.asked) source.bytes r
 
 -- ---- what is written, by the sink before and after the call
 
@@ -175,6 +209,7 @@ Comes words before now P (Refused k) =
     (input : Input) × AskToRead words input × ((name : List ℕ) × IsRefused input before now k name × P (refused_line k name))
 Comes words before now P WriteFault = ⊥
 Comes words before now P OutOfMemory = ⊥
+Comes words before now P (Rejected r) = IsRejectedFor words before now r × P (rejected_line r)
 
 -- how the program ends: what the words and the source come to, and how much of the text was written
 abbrev pub Ends : List (List ℕ) → Stream → Stream → Stream → Stream → Status → Type 0
@@ -184,3 +219,4 @@ Ends words before now had has ReadFault = Comes words before now (Gives had has)
 Ends words before now had has (Refused k) = Comes words before now (Writes had has) (Refused k)
 Ends words before now had has WriteFault = Comes words before now (FailsAmid had has) Done
 Ends words before now had has OutOfMemory = WritesNothing had has
+Ends words before now had has (Rejected r) = Comes words before now (Writes had has) (Rejected r)

@@ -1,13 +1,14 @@
--- The words of the command line: `run W F B`, `gen N`, `demo N W` or `nodes G K W F B`, each number in decimal digits without a
--- leading zero.
-use Rattle.std.specs.Prelude.{◌≡◌, ℕ, ◌≤◌, List, [], ◌∷◌, Option, None, Some, codes, decimal}
+-- The words of the command line: `run W F B`, `gen N`, `demo N W`, `replay N W F B`, `nodes G K W F B` or
+-- `profile N W F B`, each number in decimal digits without a leading zero.
+use Rattle.std.specs.Prelude.{◌≡◌, ℕ, ◌+◌, ◌≤◌, List, [], ◌∷◌, length, take, Option, None, Some, codes, decimal}
 use Rattle.tc_build.specs.declared.generate.TheConstants.{MAX_ROUNDS}
 use Rattle.tc_elf.specs.declared.limits.TheConstants.{MAX_FILE}
 use Rattle.tc_workers.specs.declared.options.Options.{Options}
 use Rattle.tc_main.specs.Orders.{IsOrderFor}
 use Rattle.tc_main.specs.declared.order.Order.TheVariants.{Entry, Nodes}
 use Rattle.tc_main.specs.declared.words.Asked.{Asked}
-use Rattle.tc_main.specs.declared.words.Asked.TheVariants.{Run, Generate, Demo}
+use Rattle.tc_main.specs.declared.words.Asked.TheVariants.{Run, Generate, Demo, Replay, Profile}
+use Rattle.tc_main.specs.declared.words.TheConstants.{MAX_HISTORY}
 
 -- ---- the forms
 
@@ -21,12 +22,16 @@ spelling (Run Entry o) = codes "run" ∷ option_words o
 spelling (Run (Nodes nodes bound) o) = codes "nodes" ∷ decimal nodes ∷ decimal bound ∷ option_words o
 spelling (Generate rounds) = codes "gen" ∷ decimal rounds ∷ []
 spelling (Demo rounds o) = codes "demo" ∷ decimal rounds ∷ decimal o.workers ∷ []
+spelling (Replay size o) = codes "replay" ∷ decimal size ∷ option_words o
+spelling (Profile size o) = codes "profile" ∷ decimal size ∷ option_words o
 
 -- its numbers are within their limits, as those of options always are; a demonstration has one fuel and one batch limit
 abbrev pub IsWithinLimits : Asked → Type 0
 IsWithinLimits (Run order o) = IsOrderFor o.workers order
 IsWithinLimits (Generate rounds) = (1 ≤ rounds) × (rounds ≤ MAX_ROUNDS)
 IsWithinLimits (Demo rounds o) = (1 ≤ rounds) × (rounds ≤ MAX_ROUNDS) × (o.fuel ≡ 65536) × (o.limit ≡ 8)
+IsWithinLimits (Replay size o) = (1 ≤ size) × (size ≤ MAX_FILE)
+IsWithinLimits (Profile size o) = (1 ≤ size) × (size ≤ MAX_FILE)
 
 -- the words ask for this
 abbrev pub AskFor : List (List ℕ) → Asked → Type 0
@@ -48,11 +53,29 @@ pub record Input : Type 0 where
 abbrev pub whole_file : Input
 whole_file = record { most = MAX_FILE; least = 0; file = λ bytes. bytes }
 
+-- a guest's file of so many bytes, and the text of a history behind it
+abbrev pub file_and_history : ℕ → Input
+file_and_history size = record { most = size + MAX_HISTORY; least = size; file = take size }
+
 -- what is read for what is asked; nothing is read for a guest that the program makes
 abbrev pub input_of : Asked → Option Input
 input_of (Run order o) = Some whole_file
 input_of (Generate rounds) = None
 input_of (Demo rounds o) = None
+input_of (Replay size o) = Some (file_and_history size)
+input_of (Profile size o) = Some (file_and_history size)
+
+-- the history for which is asked: how many bytes the guest's file before it has, and with what the guest was run
+abbrev pub history_asked : Asked → Option (ℕ × Options)
+history_asked (Run order o) = None
+history_asked (Generate rounds) = None
+history_asked (Demo rounds o) = None
+history_asked (Replay size o) = Some (size, o)
+history_asked (Profile size o) = Some (size, o)
+
+-- the bytes are no more than are read for what is asked
+abbrev pub FitsInput : Asked → List ℕ → Type 0
+FitsInput asked bytes = (input : Input) → input_of asked ≡ Some input → length bytes ≤ input.most
 
 -- the words ask for something for which this is read
 pub record AskToRead (words : List (List ℕ)) (input : Input) : Type 0 where

@@ -1,44 +1,35 @@
 //! What the words and the source come to: a status, and the text that goes with it.
 
-ghost use Rattle.std.specs.Prelude.{◌≡◌, ◌≤◌, ℕ, List, IfOk, length};
-ghost use Rattle.tc_elf.specs.declared.limits.TheConstants.{MAX_FILE};
-ghost use Rattle.tc_main.specs.Orders.{IsOrderFor};
-ghost use Rattle.tc_main.specs.Top.{Comes, Verdict, refused_line, usage_line};
-ghost use Rattle.tc_main.specs.Words.{AskFor, Reads};
-ghost use Rattle.tc_main.specs.declared.words.Asked.TheVariants.{Run};
+ghost use Rattle.std.specs.Prelude.{◌≡◌, ℕ, List, IfOk, IfErr, None, option_map};
+ghost use Rattle.tc_main.specs.Wrong.{IsWrong};
+ghost use Rattle.tc_main.specs.Top.{Comes, IsTextOf, Verdict, refused_line, rejected_line, usage_line};
+ghost use Rattle.tc_main.specs.Words.{AskFor, FitsInput, Input, IsWithinLimits, Reads, input_of};
+ghost use Rattle.tc_main.specs.declared.status.Status.TheVariants.{Refused, Rejected as IsRejected};
+ghost use Rattle.tc_main.specs.declared.words.Asked.{Asked as AnyAsked};
 
 use crate::demo::run_summary;
-use crate::order::Order;
+use crate::replay::{guest_of, replay_profile, replay_report, replayed};
 use crate::run::run_report;
 use crate::status::Status;
-use crate::words::{Asked, asked_of};
+use crate::words::{Asked, MAX_HISTORY, asked_of};
+use crate::wrong::Wrong;
 use std::alloc::{AllocError, Global};
 use std::fmt::Write;
 use std::sync::Wait;
 use std::thread::Threads;
 use tc_build::generate::generate;
 use tc_elf::limits::MAX_FILE as MAX_BYTES;
-use tc_elf::load::load;
-use tc_elf::refusal::Refusal;
 use tc_io::{ReadAll, Source, Word, read_all};
+use tc_replay::reason::Rejected;
 use tc_workers::gate::Gate;
-use tc_workers::options::Options;
 
 /// The line that says what the program can be asked for.
 fn usage(alloc: Global) -> Result<Vec<u8>, AllocError>
     ensures { IfOk result (λ text. text.items ≡ usage_line) }
 {
     let line =
-        "usage: tclocks run W F B | tclocks gen N | tclocks demo N W | tclocks nodes G K W F B\n";
+        "usage: tclocks run W F B | tclocks gen N | tclocks demo N W | tclocks replay N W F B | tclocks nodes G K W F B | tclocks profile N W F B\n";
     Vec::from_slice(alloc, line.as_bytes())
-}
-
-/// The line that says why a file is refused.
-fn refused(alloc: Global, number: u32, name: &str) -> Result<Vec<u8>, AllocError>
-    ensures { IfOk result (λ text. text.items ≡ refused_line number name.now) }
-{
-    let line = format!(in alloc; "refused {number} {name}\n")?;
-    Ok(line.into_bytes())
 }
 
 /// A status with the text that goes with it. Want of memory goes with no text.
@@ -48,71 +39,140 @@ pub(crate) struct Answer {
     pub text: Vec<u8>,
 }
 
-/// What the bytes of a file, with which a run is asked for, come to.
-fn answer_file<R: Threads + Wait + Sync, G: Gate>(
+/// What was read is refused, for the reason with this number and name.
+fn refused(alloc: Global, number: u32, name: &str) -> Result<Answer, AllocError>
+    ensures { IfOk result (λ a. (a.status ≡ Refused number)
+        × (a.text.items ≡ refused_line number name.now)) }
+{
+    let line = format!(in alloc; "refused {number} {name}\n")?;
+    Ok(Answer {
+        status: Status::Refused(number),
+        text: line.into_bytes(),
+    })
+}
+
+/// The history is rejected.
+fn rejected(alloc: Global, rejected: Rejected) -> Result<Answer, AllocError>
+    ensures { IfOk result (λ a. (a.status ≡ IsRejected rejected)
+        × (a.text.items ≡ rejected_line rejected)) }
+{
+    let line = rejected.line;
+    let number = rejected.reason.number();
+    let name = rejected.reason.name();
+    let line = format!(in alloc; "rejected {line} {number} {name}\n")?;
+    Ok(Answer {
+        status: Status::Rejected(rejected),
+        text: line.into_bytes(),
+    })
+}
+
+/// The answer where there is no text for what is asked.
+fn answer_wrong(alloc: Global, wrong: Wrong) -> Result<Answer, AllocError>
+    ensures { (asked : AnyAsked) (bytes : List ℕ) → IsWrong asked bytes wrong
+        → IfOk result (λ a. Verdict asked bytes a.text.items a.status) }
+{
+    match wrong {
+        Wrong::Short => refused(alloc, 17, "ShortInput"),
+        Wrong::File(refusal) => refused(alloc, refusal.number(), refusal.name()),
+        Wrong::History(reason) => rejected(alloc, reason),
+        Wrong::OutOfMemory => Err(AllocError),
+    }
+}
+
+/// The text for what is asked, of the bytes that were read for it.
+fn text_of<R: Threads + Wait + Sync, G: Gate>(
     rt: &R,
     alloc: Global,
-    order: Order,
-    options: Options,
-    bytes: &[u8],
+    asked: Asked,
+    bytes: Vec<u8>,
     gate: &G,
-) -> Result<Answer, AllocError>
-    requires few { length bytes.now ≤ MAX_FILE }
-    requires order { IsOrderFor options.workers order }
-    ensures { IfOk result (λ a. Verdict (Run order options) bytes.now a.text.items a.status) }
+) -> Result<Vec<u8>, Wrong>
+    requires limits { IsWithinLimits asked }
+    requires few { FitsInput asked bytes.items }
+    ensures text { IfOk result (λ text. IsTextOf asked bytes.items text.items) }
+    ensures wrong { IfErr result (λ w. IsWrong asked bytes.items w) }
 {
-    match load(alloc, bytes) {
-        Ok(image) => {
-            let text = run_report(rt, alloc, &image, order, options, gate)?;
-            Ok(Answer {
-                status: Status::Done,
-                text,
-            })
+    match asked {
+        Asked::Run { order, options } => {
+            let image = guest_of(alloc, &bytes)?;
+            Ok(run_report(rt, alloc, &image, order, options, gate)?)
         }
-        Err(Refusal::OutOfMemory) => Err(AllocError),
-        Err(refusal) => {
-            let number = refusal.number();
-            let text = refused(alloc, number, refusal.name())?;
-            Ok(Answer {
-                status: Status::Refused(number),
-                text,
-            })
+        Asked::Generate(rounds) => Ok(generate(alloc, rounds)?),
+        Asked::Demo { rounds, options } => Ok(run_summary(rt, alloc, rounds, options, gate)?),
+        Asked::Replay { size, options } => {
+            let replay = replayed(alloc, size, options, bytes)?;
+            Ok(replay_report(alloc, options, replay)?)
+        }
+        Asked::Profile { size, options } => {
+            let replay = replayed(alloc, size, options, bytes)?;
+            Ok(replay_profile(alloc, replay)?)
         }
     }
 }
 
-/// What the source comes to, where a run is asked for.
-fn answer_run<R: Threads + Wait + Sync, S: Source, G: Gate>(
+/// What the bytes that were read for what is asked come to.
+fn answer_bytes<R: Threads + Wait + Sync, G: Gate>(
     rt: &R,
     alloc: Global,
-    order: Order,
-    options: Options,
+    asked: Asked,
+    bytes: Vec<u8>,
+    gate: &G,
+) -> Result<Answer, AllocError>
+    requires limits { IsWithinLimits asked }
+    requires few { FitsInput asked bytes.items }
+    ensures { IfOk result (λ a. Verdict asked bytes.items a.text.items a.status) }
+{
+    match text_of(rt, alloc, asked, bytes, gate) {
+        Ok(text) => Ok(Answer {
+            status: Status::Done,
+            text,
+        }),
+        Err(wrong) => answer_wrong(alloc, wrong),
+    }
+}
+
+/// The most bytes that are read for what is asked; None where nothing is.
+fn most_of(asked: Asked) -> Option<usize>
+    ensures { result ≡ option_map (λ (i : Input). i.most) (input_of asked) }
+{
+    match asked {
+        Asked::Run { .. } => Some(MAX_BYTES),
+        Asked::Replay { size, .. } | Asked::Profile { size, .. } => {
+            Some(size as usize + MAX_HISTORY)
+        }
+        Asked::Generate(_) | Asked::Demo { .. } => None,
+    }
+}
+
+/// What the source comes to for what is asked.
+fn answer_asked<R: Threads + Wait + Sync, S: Source, G: Gate>(
+    rt: &R,
+    alloc: Global,
+    asked: Asked,
     source: &mut S,
     gate: &G,
 ) -> Result<Answer, AllocError>
-    requires { IsOrderFor options.workers order }
-    ensures { (words : List (List ℕ)) → AskFor words (Run order options)
+    requires { IsWithinLimits asked }
+    ensures answer { (words : List (List ℕ)) → AskFor words asked
         → IfOk result (λ a. Comes words (S.stream source.old) (S.stream source.new)
         (λ text. a.text.items ≡ text) a.status) }
+    ensures unread { input_of asked ≡ None → S.stream source.new ≡ S.stream source.old }
 {
-    match read_all(alloc, source, MAX_BYTES) {
-        Ok(bytes) => answer_file(rt, alloc, order, options, &bytes, gate),
+    let Some(most) = most_of(asked) else {
+        return answer_bytes(rt, alloc, asked, Vec::new(alloc), gate);
+    };
+    match read_all(alloc, source, most) {
+        Ok(bytes) => answer_bytes(rt, alloc, asked, bytes, gate),
         Err(ReadAll::Fault) => Ok(Answer {
             status: Status::ReadFault,
             text: Vec::new(alloc),
         }),
-        Err(ReadAll::OverLimit) => {
-            let text = refused(alloc, 0, "TooLarge")?;
-            Ok(Answer {
-                status: Status::Refused(0),
-                text,
-            })
-        }
+        Err(ReadAll::OverLimit) => refused(alloc, 0, "TooLarge"),
         Err(ReadAll::OutOfMemory) => Err(AllocError),
     }
 }
 
-/// What the words and the source come to. Only a run reads the source.
+/// What the words and the source come to. Where nothing is to be read for them, nothing is.
 pub(crate) fn answer_words<R: Threads + Wait + Sync, S: Source, G: Gate>(
     rt: &R,
     alloc: Global,
@@ -132,20 +192,6 @@ pub(crate) fn answer_words<R: Threads + Wait + Sync, S: Source, G: Gate>(
                 text,
             })
         }
-        Some(Asked::Run { order, options }) => answer_run(rt, alloc, order, options, source, gate),
-        Some(Asked::Generate(rounds)) => {
-            let text = generate(alloc, rounds)?;
-            Ok(Answer {
-                status: Status::Done,
-                text,
-            })
-        }
-        Some(Asked::Demo { rounds, options }) => {
-            let text = run_summary(rt, alloc, rounds, options, gate)?;
-            Ok(Answer {
-                status: Status::Done,
-                text,
-            })
-        }
+        Some(asked) => answer_asked(rt, alloc, asked, source, gate),
     }
 }

@@ -21,6 +21,7 @@ pub mod delegation;
 mod demo;
 mod nodes;
 pub mod order;
+mod replay;
 pub mod report;
 mod run;
 pub mod status;
@@ -29,6 +30,7 @@ pub mod summary;
 mod tests;
 pub mod top;
 mod words;
+mod wrong;
 
 pub use crate::status::Status;
 pub use crate::top::tclocks;

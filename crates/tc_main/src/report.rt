@@ -297,7 +297,7 @@ pub(crate) fn report_with(
 }
 
 /// Blocks, where they stand.
-fn lent(alloc: Global, history: &[Block]) -> Result<Vec<&Block>, AllocError>
+pub(crate) fn lent(alloc: Global, history: &[Block]) -> Result<Vec<&Block>, AllocError>
     ensures { IfOk result (λ blocks. map (λ b. b.now) blocks.items ≡ history.now) }
 {
     history.iter().collect(alloc)

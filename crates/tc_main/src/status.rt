@@ -3,6 +3,8 @@
 ghost use Rattle.std.specs.Prelude.{◌≡◌, ◌≤◌};
 ghost use Rattle.tc_main.specs.Statuses.{status_number};
 
+use tc_replay::reason::Rejected;
+
 /// How the program ends.
 #[derive(Clone, Copy, Debug, PartialEq, Eq)]
 pub enum Status {
@@ -12,19 +14,22 @@ pub enum Status {
     Usage,
     /// The source failed.
     ReadFault,
-    /// The guest file was refused for the reason of this number; 0 is a file that is too large.
+    /// What was read was refused for the reason of this number: 0 where it is too large, 17 where
+    /// it ends before the guest's file does, and else that of the file.
     Refused(u32),
     /// The sink failed.
     WriteFault,
     /// Memory was refused.
     OutOfMemory,
+    /// The history was rejected: at this line, for this reason.
+    Rejected(Rejected),
 }
 
 impl Status {
-    /// The exit status of the program, from 0 to 5.
+    /// The exit status of the program, from 0 to 6.
     pub fn number(self) -> u32
         ensures value { result ≡ status_number self }
-        ensures bound { result ≤ 5 }
+        ensures bound { result ≤ 6 }
     {
         match self {
             Status::Done => 0,
@@ -33,6 +38,7 @@ impl Status {
             Status::Refused(_) => 3,
             Status::WriteFault => 4,
             Status::OutOfMemory => 5,
+            Status::Rejected(_) => 6,
         }
     }
 }

@@ -12,8 +12,15 @@ use std::thread::Threads;
 use tc_build::build::build;
 use tc_elf::limits::MAX_FILE;
 use tc_elf::load::load;
+use tc_replay::reason::{Reason, Rejected};
 use tc_workers::gate::Open;
 use tc_workers::options::Options;
+
+/// A history that ends before its first block.
+const REJECTED: Rejected = Rejected {
+    line: 1,
+    reason: Reason::Incomplete,
+};
 
 /// A lone thread that exits: `addi x17,x0,93` and `ecall`.
 const EXIT: [u32; 2] = [0x05d0_0893, 0x0000_0073];
@@ -114,8 +121,10 @@ fn each_status_has_its_number(rt: HostRuntime) {
         (Status::ReadFault, 2),
         (Status::Refused(0), 3),
         (Status::Refused(14), 3),
+        (Status::Refused(17), 3),
         (Status::WriteFault, 4),
         (Status::OutOfMemory, 5),
+        (Status::Rejected(REJECTED), 6),
     ] {
         assert_eq!(rt; status.number(), number, "{status:?}");
     }

@@ -5,8 +5,10 @@ ghost use Rattle.tc_io.specs.Causes.{Rose};
 ghost use Rattle.tc_io.specs.Stream.{Stream};
 ghost use Rattle.tc_io.specs.Taken.{FailsAmid, Gives};
 ghost use Rattle.tc_main.specs.Words.{AskForNothing, AskToRead, Input, Reads};
-ghost use Rattle.tc_main.specs.Top.{CanBeDone, Comes, Ends, IsRefused, IsWanted, MustRefuse};
-ghost use Rattle.tc_main.specs.Top.{Writes, WritesNothing, refused_line, usage_line};
+ghost use Rattle.tc_main.specs.Top.{CanBeDone, Comes, Ends, IsRefused, IsRejectedFor, IsWanted};
+ghost use Rattle.tc_main.specs.Top.{MustRefuse, Writes, WritesNothing};
+ghost use Rattle.tc_main.specs.Top.{refused_line, rejected_line, usage_line};
+ghost use Rattle.tc_replay.specs.declared.reason.Rejected.{Rejected as AnyRejected};
 ghost use Rattle.tc_main.specs.declared.status.Status.{Status as Answered};
 
 use crate::answer::{Answer, answer_words};
@@ -57,7 +59,10 @@ fn run_words<R: Threads + Wait + Sync, S: Source, K: Sink, G: Gate>(
 /// with so many rounds; `demo N W` runs that guest on so many workers, with the fuel 65,536 and the
 /// batch limit 8, and writes the summary. `nodes G K W F B` does what `run W F B` does, by workers that
 /// belong to G nodes: a lock goes to a waiter of the releaser's node first, but none in its line is
-/// passed over more than K times. No clause tells the two apart.
+/// passed over more than K times. No clause tells the two apart. `replay N W F B` reads a guest's file
+/// of N bytes and the text of a history of it behind them, replays the history under ordinary
+/// mutexes, and writes the report that a run with these numbers has whose history this is;
+/// `profile N W F B` does the same, and writes the profile.
 ///
 /// The source is read to its end before a worker starts, and the text is made whole before any of
 /// it is written. Want of memory may come at any growth, and nothing is written then. Each worker
@@ -91,6 +96,11 @@ pub fn tclocks<R: Threads + Wait + Sync, S: Source, K: Sink, G: Gate>(
         × AskToRead words.now input × ((name : List ℕ)
         × IsRefused input (S.stream source.old) (S.stream source.new) k name
         × Writes (K.stream sink.old) (K.stream sink.new) (refused_line k name)) }
+
+    // A history was rejected, no read failed, and the line that says where and why was written.
+    ensures rejected { (r : AnyRejected) → result ≡ Status.Rejected r
+        → IsRejectedFor words.now (S.stream source.old) (S.stream source.new) r
+        × Writes (K.stream sink.old) (K.stream sink.new) (rejected_line r) }
 
     // A write failed in this call, and a front of what was asked for was written before it.
     ensures write { result ≡ Status.WriteFault → (text : List ℕ)

@@ -1,8 +1,9 @@
 //! The words of the command line.
 
-ghost use Rattle.std.specs.Prelude.{◌≡◌, ℕ, ◌≤◌, MatchBool, IfSome, IfNone, decimal};
+ghost use Rattle.std.specs.Prelude.{◌≡◌, ℕ, ◌≤◌, ◌∷◌, MatchBool, IfSome, IfNone, decimal};
 ghost use Rattle.tc_main.specs.Words.{AskFor, AskForNothing, option_words};
-ghost use Rattle.tc_main.specs.declared.words.Asked.TheVariants.{Run, Generate, Demo as Demonstrate};
+ghost use Rattle.tc_elf.specs.declared.limits.TheConstants.{MAX_FILE};
+ghost use Rattle.tc_main.specs.declared.words.Asked.TheVariants.{Run, Generate, Demo as Demonstrate, Replay, Profile};
 ghost use Rattle.tc_main.specs.declared.order.Order.TheVariants.{Entry, Nodes};
 ghost use Rattle.tc_workers.specs.declared.options.Options.{Options as Chosen};
 
@@ -10,6 +11,7 @@ use crate::order::{MAX_PASSES, Order};
 use itoa::Buffer;
 use std::str::from_utf8;
 use tc_build::generate::MAX_ROUNDS;
+use tc_elf::limits::MAX_FILE as MAX_BYTES;
 use tc_io::Word;
 use tc_isa::limits::{MAX_BATCH, MAX_FUEL, MAX_WORKERS};
 use tc_workers::options::Options;
@@ -20,6 +22,9 @@ pub const DEMO_FUEL: u32 = 65_536;
 
 /// The batch limit of a demonstration.
 pub const DEMO_LIMIT: u32 = 8;
+
+/// The most bytes that the text of a history may have.
+pub const MAX_HISTORY: usize = 268_435_456;
 
 /// What the words ask for.
 #[derive(Clone, Copy, Debug, PartialEq, Eq)]
@@ -38,6 +43,20 @@ pub enum Asked {
         /// The rounds of the guest.
         rounds: u32,
         /// With what it is run.
+        options: Options,
+    },
+    /// The report of a history of the source's guest, which is replayed.
+    Replay {
+        /// How many bytes of the source are the guest's file. The others are the history's text.
+        size: u32,
+        /// With what the guest was run.
+        options: Options,
+    },
+    /// The profile of such a history, which is replayed too.
+    Profile {
+        /// How many bytes of the source are the guest's file. The others are the history's text.
+        size: u32,
+        /// With what the guest was run.
         options: Options,
     },
 }
@@ -166,6 +185,25 @@ fn demo_of(words: &[Word]) -> Option<(u32, Options)>
     Some((rounds, options))
 }
 
+/// The size of the guest's file and the options of the history for which the words ask, whose first
+/// word is this.
+fn history_of(words: &[Word], name: &str) -> Option<(u32, Options)>
+    ensures some { IfSome result (λ h. (1 ≤ h.0) × (h.0 ≤ MAX_FILE)
+        × (words.now ≡ name.now ∷ decimal h.0 ∷ option_words h.1)) }
+    ensures none { IfNone result ((n : ℕ) (o : Chosen) → 1 ≤ n → n ≤ MAX_FILE
+        → words.now ≡ name.now ∷ decimal n ∷ option_words o → ⊥) }
+{
+    let [own, size, options @ ..] = words else {
+        return None;
+    };
+    if !is(own, name) {
+        return None;
+    }
+    let size = number_of(size, 1, MAX_BYTES as u32)?;
+    let options = options_of(options)?;
+    Some((size, options))
+}
+
 /// What the words ask for, where they have one of the forms.
 pub fn asked_of(words: &[Word]) -> Option<Asked>
     ensures some { IfSome result (λ asked. AskFor words.now asked) }
@@ -180,6 +218,12 @@ pub fn asked_of(words: &[Word]) -> Option<Asked>
     }
     if let Some((rounds, options)) = demo_of(words) {
         return Some(Asked::Demo { rounds, options });
+    }
+    if let Some((size, options)) = history_of(words, "replay") {
+        return Some(Asked::Replay { size, options });
+    }
+    if let Some((size, options)) = history_of(words, "profile") {
+        return Some(Asked::Profile { size, options });
     }
     let (order, options) = nodes_of(words)?;
     Some(Asked::Run { order, options })

@@ -3,7 +3,8 @@
 //! `locks` guests with locks, `faults` every fault of a thread that holds a lock, `held_faults` what
 //! another thread sees of it, `limits` what stands at a limit, `outside` words that ask for nothing,
 //! `cuts` and `fields` damaged files, `devices` sources and sinks that fail, `gates` what workers
-//! report, `nodes` runs by workers that belong to nodes, `demos` the generator's guest.
+//! report, `nodes` runs by workers that belong to nodes, `demos` the generator's guest,
+//! `histories` replays and profiles of finished histories.
 #![tactic(auto)]
 
 #[cfg(test)]
@@ -24,6 +25,8 @@ mod gates;
 mod guests;
 #[cfg(test)]
 mod held_faults;
+#[cfg(test)]
+mod histories;
 #[cfg(test)]
 mod limits;
 #[cfg(test)]

@@ -6,11 +6,11 @@ use std::test::Fail;
 use tc_main::status::Status;
 
 /// The usage line.
-pub(crate) const USAGE: &str =
-    "usage: tclocks run W F B | tclocks gen N | tclocks demo N W | tclocks nodes G K W F B\n";
+pub(crate) const USAGE: &str = "usage: tclocks run W F B | tclocks gen N | tclocks demo N W | \
+    tclocks replay N W F B | tclocks nodes G K W F B | tclocks profile N W F B\n";
 
 /// Words that have none of the forms. The last seven have a word that is no text.
-const NO_FORM: [&[&[u8]]; 45] = [
+const NO_FORM: [&[&[u8]]; 56] = [
     &[],
     &[b"run"],
     &[b"run", b"1", b"1"],
@@ -46,6 +46,17 @@ const NO_FORM: [&[&[u8]]; 45] = [
     &[b"nodes", b"9", b"4", b"9", b"2000", b"8"],
     &[b"nodes", b"1", b"04", b"2", b"2000", b"8"],
     &[b"nodes", b"1", b"4", b"2", b"2000", b"257"],
+    &[b"replay"],
+    &[b"replay", b"92", b"1", b"100"],
+    &[b"replay", b"92", b"1", b"100", b"0", b"0"],
+    &[b"replay", b"0", b"1", b"100", b"0"],
+    &[b"replay", b"1048577", b"1", b"100", b"0"],
+    &[b"replay", b"092", b"1", b"100", b"0"],
+    &[b"replay", b"92", b"9", b"100", b"0"],
+    &[b"profile", b"1", b"100", b"0"],
+    &[b"profile", b"0", b"1", b"100", b"0"],
+    &[b"profile", b"92", b"1", b"65537", b"0"],
+    &[b"profiles", b"92", b"1", b"100", b"0"],
     &[b"--help"],
     &[b"--version"],
     &[b"Run", b"1", b"1", b"0"],

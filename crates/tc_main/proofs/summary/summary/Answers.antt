@@ -1,4 +1,4 @@
-use Rattle.std.proofs.Common.{◌≡◌, ◌++◌, length, sym, ◌∙◌, rules, append_assoc, arith}
+use Rattle.std.proofs.Common.{◌≡◌, ◌++◌, sym, ◌∙◌, rules, append_assoc, arith}
 use Rattle.tc_build.specs.Generator.{generated}
 use Rattle.tc_main.specs.Report.{states_text, last_line}
 use Rattle.tc_main.specs.Summary.{demo_line, blocks_line, packages_ends}

@@ -1,0 +1,167 @@
+-- What a replay comes to: its report, its profile, or what is wrong.
+use Rattle.std.proofs.Common.{◌≡◌, ℕ, ◌<◌, ◌≤◌, ◌^◌, ◌++◌, List, map, length, take, drop, inl, inr, refl, sym, ap, subst, ◌∙◌, arith}
+use Rattle.std.specs.Prelude.{Option, Some, None, codes, option_map}
+use Rattle.std.proofs.lemmas.Option.{same_Some}
+use Rattle.std.proofs.Math.Bridge.{le_prop}
+use mathlib.Core.HLevel.{is_prop→PathP}
+use Rattle.tc_isa.specs.declared.limits.TheConstants.{MAX_BATCH, MAX_FUEL, MAX_WORKERS}
+use Rattle.tc_elf.specs.Loading.{subset}
+use Rattle.tc_elf.specs.Refused.{refusal_name, refusal_number}
+use Rattle.tc_elf.specs.declared.refusal.Refusal.{Refusal}
+use Rattle.tc_elf.specs.Shown.{Shown}
+use Rattle.tc_journal.specs.Line.{history_text}
+use Rattle.tc_journal.specs.declared.block.Block.{Block}
+use Rattle.tc_mutex_spec.specs.Blocks.{IsComplete, end_after}
+use Rattle.tc_segment.specs.View.{LockView, kept}
+use Rattle.tc_context.specs.View.{PackageView, bare}
+use Rattle.tc_law.specs.Lawful.{Lawful}
+use Rattle.tc_law.proofs.Lawful.{short_history}
+use Rattle.tc_replay.specs.Rejected.{IsAccepted, IsCompleteRun, IsRejected}
+use Rattle.tc_replay.specs.Taken.{CheckerView, HasTaken}
+use Rattle.tc_replay.specs.declared.terms.Terms.{Terms}
+use Rattle.tc_replay.specs.declared.reason.Reason.{Reason}
+use Rattle.tc_replay.specs.declared.reason.Rejected.{Rejected}
+use Rattle.tc_replay.proofs.Telling.{accepted_run}
+use Rattle.tc_workers.specs.declared.options.Options.{Options}
+use Rattle.tc_main.specs.Legal.{results_after}
+use Rattle.tc_main.specs.Report.{head_text, report_text, tail_text}
+use Rattle.tc_main.specs.Replayed.{terms_of}
+use Rattle.tc_main.specs.Top.{Rejects, Verdict, refused_line, rejected_line}
+use Rattle.tc_main.specs.Words.{AskFor, FitsInput, Input, Reads, file_and_history, history_asked, input_of, whole_file}
+use Rattle.tc_main.specs.Wrong.{IsWrong, IsWrongFile, IsWrongInput, IsWrongText}
+use Rattle.tc_main.specs.declared.order.Order.{Order}
+use Rattle.tc_main.specs.declared.status.Status.{Status}
+use Rattle.tc_main.specs.declared.status.Status.TheVariants.{Refused}
+use Rattle.tc_main.specs.declared.status.Status.TheVariants as status
+use Rattle.tc_main.specs.declared.words.Asked.{Asked}
+use Rattle.tc_main.specs.declared.words.Asked.TheVariants.{Run}
+use Rattle.tc_main.specs.declared.wrong.Wrong.{Wrong}
+use Rattle.tc_main.specs.declared.wrong.Wrong.TheVariants.{Short, File, History, OutOfMemory}
+use Rattle.tc_main.specs.Accepted.{CanAllBeAdded}
+use Rattle.tc_main.proofs.Addable.{addable}
+use Rattle.tc_main.proofs.Outcomes.{outcome, told}
+
+-- ---- what is wrong
+
+-- a guest's file that is refused stands at the front of the bytes
+pub file_wrong : (size : ℕ) (o : Options) (bytes : List ℕ) (w : Wrong) → size ≤ length bytes → IsWrongFile (take size bytes) w → IsWrongInput size o bytes w
+file_wrong size o bytes Short enough wrong = absurd wrong
+file_wrong size o bytes (File reason) enough wrong = (enough, wrong)
+file_wrong size o bytes (History r) enough wrong = absurd wrong
+file_wrong size o bytes OutOfMemory enough wrong = tt
+
+-- what is no history's text stands behind it
+pub text_wrong : (size : ℕ) (o : Options) (bytes : List ℕ) (w : Wrong) (image : Shown) → size ≤ length bytes → subset (take size bytes) image → IsWrongText (drop size bytes) w → IsWrongInput size o bytes w
+text_wrong size o bytes Short image enough guest wrong = absurd wrong
+text_wrong size o bytes (File reason) image enough guest wrong = absurd wrong
+text_wrong size o bytes (History r) image enough guest wrong = inl (record { image = image; enough = enough; guest = guest; reason = wrong.0; line = wrong.1 })
+text_wrong size o bytes OutOfMemory image enough guest wrong = tt
+
+-- the same for what is asked of a history
+pub asked_wrong : (asked : Asked) (size : ℕ) (o : Options) (bytes : List ℕ) (w : Wrong) → input_of asked ≡ Some (file_and_history size) → history_asked asked ≡ Some (size, o) → IsWrongInput size o bytes w → IsWrong asked bytes w
+asked_wrong asked size o bytes Short is of wrong = (file_and_history size, is, wrong)
+asked_wrong asked size o bytes (File reason) is of wrong = (file_and_history size, is, wrong.0, wrong.1)
+asked_wrong asked size o bytes (History r) is of wrong = subst (λ (h : Option (ℕ × Options)). Rejects h bytes r) (sym of) wrong
+asked_wrong asked size o bytes OutOfMemory is of wrong = tt
+
+-- ---- what is told
+
+module _ (v : CheckerView) (image : Shown) (o : Options) (h : List Block) (of : v.image ≡ image) (made : v.terms ≡ terms_of o) where
+  pub law_of : (packages : List PackageView) (states : List LockView) → Lawful v.image v.terms.fuel v.terms.limit h (map bare packages) (map kept states) → Lawful image o.fuel o.limit h (map bare packages) (map kept states)
+  law_of packages states law = subst (λ (x : Shown × Terms). Lawful x.0 x.1.fuel x.1.limit h (map bare packages) (map kept states)) (λ i. (of i, made i)) law
+
+pub report_told : (image : Shown) (o : Options) (h : List Block) (packages : List PackageView) (states : List LockView) → Lawful image o.fuel o.limit h (map bare packages) (map kept states)
+    → IsComplete image (end_after image o.fuel h) → report_text image o (results_after image o.fuel h) ≡ head_text image o ++ history_text h ++ tail_text image packages states
+report_told image o h packages states law complete = told image o.fuel h packages states (outcome image o h packages states law complete) o
+
+-- the blocks that a checker has taken are no more than a profile counts, and each can be added to one
+pub few_taken : (v : CheckerView) (h : List Block) → HasTaken v h → length h < 2 ^ 32
+few_taken v h taken = short_history v.image v.terms.fuel v.terms.limit h (map bare v.packages) taken.taken.0 taken.taken.1.limits taken.taken.1.law
+
+pub addable_taken : (v : CheckerView) (image : Shown) (terms : Terms) (h : List Block) → HasTaken v h → IsCompleteRun image terms h → CanAllBeAdded image h
+addable_taken v image terms h taken run = addable image terms.fuel h (end_after image terms.fuel h) run.tells taken.taken.1.law.history
+
+-- ---- what is read
+
+-- so many bytes are read for what is asked
+pub record IsReadFor (asked : Asked) (most : ℕ) : Type 0 where
+  pub input : Input
+  pub is : input_of asked ≡ Some input
+  pub most_is : most ≡ input.most
+
+pub read_for : (asked : Asked) (most : ℕ) → Some most ≡ option_map (λ (i : Input). i.most) (input_of asked) → IsReadFor asked most
+read_for asked most e = go (input_of asked) refl e
+  where
+    go : (o : Option Input) → input_of asked ≡ o → Some most ≡ option_map (λ (i : Input). i.most) o → IsReadFor asked most
+    go None is f = absurd (cc)
+    go (Some input) is f = record { input = input; is = is; most_is = same_Some most input.most f }
+
+pub none_read : (asked : Asked) → None ≡ option_map (λ (i : Input). i.most) (input_of asked) → input_of asked ≡ None
+none_read asked e = go (input_of asked) e
+  where
+    go : (o : Option Input) → None ≡ option_map (λ (i : Input). i.most) o → o ≡ None
+    go None f = refl
+    go (Some input) f = absurd (cc)
+
+-- ---- what is answered
+
+-- the answer to what is wrong is the verdict
+pub answer_short : (asked : Asked) (bytes text : List ℕ) (s : Status) → IsWrong asked bytes Short → (s ≡ Refused 17) × (text ≡ refused_line 17 (codes "ShortInput")) → Verdict asked bytes text s
+answer_short asked bytes text s wrong is =
+    subst (Verdict asked bytes text) (sym is.0) (wrong.0, wrong.1, (codes "ShortInput", inl (wrong.2, refl, refl), is.1))
+
+pub answer_file : (asked : Asked) (bytes text : List ℕ) (s : Status) (reason : Refusal) → IsWrong asked bytes (File reason) → (s ≡ Refused (refusal_number reason)) × (text ≡ refused_line (refusal_number reason) (refusal_name reason)) → Verdict asked bytes text s
+answer_file asked bytes text s reason wrong is =
+    subst (Verdict asked bytes text) (sym is.0) (
+      wrong.0,
+      wrong.1,
+      (refusal_name reason, inr (wrong.2, record { reason = reason; first = wrong.3.0; known = wrong.3.1; number = refl; called = refl }), is.1),
+    )
+
+pub answer_history : (asked : Asked) (bytes text : List ℕ) (s : Status) (r : Rejected) → IsWrong asked bytes (History r) → (s ≡ status.Rejected r) × (text ≡ rejected_line r) → Verdict asked bytes text s
+answer_history asked bytes text s r wrong is = subst (Verdict asked bytes text) (sym is.0) (wrong, is.1)
+
+-- what is wrong with a guest's file alone
+pub run_wrong : (order : Order) (o : Options) (bytes : List ℕ) (w : Wrong) → IsWrongFile bytes w → IsWrong (Run order o) bytes w
+run_wrong order o bytes Short wrong = absurd wrong
+run_wrong order o bytes (File reason) wrong = (whole_file, refl, omega arith, wrong)
+run_wrong order o bytes (History r) wrong = absurd wrong
+run_wrong order o bytes OutOfMemory wrong = tt
+
+-- where the words ask for nothing that is read, nothing is read for it
+pub unread_input : (words : List (List ℕ)) (asked : Asked) → AskFor words asked → ¬ Reads words → input_of asked ≡ None
+unread_input words asked asks other = go (input_of asked) refl
+  where
+    go : (o : Option Input) → input_of asked ≡ o → o ≡ None
+    go None is = refl
+    go (Some input) is = absurd (other (input, record { asked = asked; asks = asks; input_is = is }))
+
+-- so many bytes fit what is asked
+pub fits : (asked : Asked) (most : ℕ) (bytes : List ℕ) → IsReadFor asked most → length bytes ≤ most → FitsInput asked bytes
+fits asked most bytes for few input is =
+    let same : for.input ≡ input = same_Some for.input input (sym for.is ∙ is) in
+    let most_is : most ≡ input.most = for.most_is ∙ ap (λ (i : Input). i.most) same in
+    omega (arith, few, most_is)
+
+-- ---- the options are the terms of the history
+
+same_terms : (t : Terms) (o : Options) → t.workers ≡ o.workers → t.fuel ≡ o.fuel → t.limit ≡ o.limit → t ≡ terms_of o
+same_terms t o workers fuel limit = λ i. record {
+  workers = workers i;
+  fuel = fuel i;
+  limit = limit i;
+  some_workers = is_prop→PathP (λ j. 1 ≤ workers j) (λ j. le_prop) t.some_workers o.some_workers i;
+  most_workers = is_prop→PathP (λ j. workers j ≤ MAX_WORKERS) (λ j. le_prop) t.most_workers o.most_workers i;
+  some_fuel = is_prop→PathP (λ j. 1 ≤ fuel j) (λ j. le_prop) t.some_fuel o.some_fuel i;
+  most_fuel = is_prop→PathP (λ j. fuel j ≤ MAX_FUEL) (λ j. le_prop) t.most_fuel o.most_fuel i;
+  most_adopted = is_prop→PathP (λ j. limit j ≤ MAX_BATCH) (λ j. le_prop) t.most_adopted o.most_adopted i;
+}
+
+pub run_of : (image : Shown) (o : Options) (h : List Block) {t : Terms} → IsAccepted image t h → t.workers ≡ o.workers → t.fuel ≡ o.fuel → t.limit ≡ o.limit → IsCompleteRun image (terms_of o) h
+run_of image o h {t} accepted workers fuel limit = subst (λ (x : Terms). IsCompleteRun image x h) (same_terms t o workers fuel limit) (accepted_run image t h accepted)
+
+pub rejected_of : (image : Shown) (o : Options) (h : List Block) (line : ℕ) (r : Reason) {t : Terms} → IsRejected image t h line r → t.workers ≡ o.workers → t.fuel ≡ o.fuel → t.limit ≡ o.limit → IsRejected image (terms_of o) h line r
+rejected_of image o h line r {t} rejected workers fuel limit = subst (λ (x : Terms). IsRejected image x h line r) (same_terms t o workers fuel limit) rejected
+
+pub made_of : (x : Terms) (o : Options) {t : Terms} → x ≡ t → t.workers ≡ o.workers → t.fuel ≡ o.fuel → t.limit ≡ o.limit → x ≡ terms_of o
+made_of x o {t} made workers fuel limit = made ∙ same_terms t o workers fuel limit

@@ -1,0 +1,60 @@
+use Rattle.std.proofs.Common.{◌∙◌, List, ℕ, length, take, drop, inr, refl, sym, subst, ap, arith}
+use Rattle.std.specs.Prelude.{Ok}
+use Rattle.tc_elf.specs.Loading.{subset}
+use Rattle.tc_journal.specs.History.{IsInOrder}
+use Rattle.tc_journal.specs.Reading.{IsTextOf}
+use Rattle.tc_journal.specs.Told.{told}
+use Rattle.tc_journal.specs.declared.block.Block.{Block}
+use Rattle.tc_replay.specs.Rejected.{IsCompleteRun, IsRejected}
+use Rattle.tc_replay.specs.Taken.{HasTaken}
+use Rattle.tc_replay.proofs.Through.{in_order_from}
+use Rattle.tc_main.specs.Replayed.{HasHistory, terms_of}
+use Rattle.tc_main.proofs.Replaying.{made_of, rejected_of, run_of}
+use Rattle.tc_main.proofs.replay.replayed.Goals as goal
+
+pub checked-requires : goal.checked-requires
+checked-requires c =
+    subst IsInOrder (sym c.deref-2.ensures.value) (in_order_from 0 c.in_ok-history.history.items c.in_ok-history.ensures.text.history)
+
+pub returns-in-Accepted-clause-replayed : goal.returns-in-Accepted-clause-replayed
+returns-in-Accepted-clause-replayed c =
+    let o = c.args.options in
+    let image = c.in_ok-image.image in
+    let same = c.deref-2.ensures.value in
+    let is = c.in_ok-checker.was ∙ ap (λ v. Ok v) c.in-Accepted.is in
+    let run : IsCompleteRun image (terms_of o) c.deref-2.result.now =
+    run_of image o c.deref-2.result.now (c.checked.ensures.accepted c.in-Accepted.checker is) refl refl refl in
+    let made = c.checked.ensures.made c.in-Accepted.checker is in
+    record {
+      run = subst (IsCompleteRun image (terms_of o)) same run;
+      taken = subst (HasTaken c.in-Accepted.checker) same (c.checked.ensures.taken c.in-Accepted.checker is);
+      ended = c.checked.ensures.ended c.in-Accepted.checker is;
+      image = made.0;
+      terms = made_of c.in-Accepted.checker.terms o made.1 refl refl refl;
+    }
+
+pub returns-in-Rejected-clause-wrong : goal.returns-in-Rejected-clause-wrong
+returns-in-Rejected-clause-wrong c =
+    let o = c.args.options in
+    let image = c.in_ok-image.image in
+    let r = c.in-Rejected.rejected in
+    let bytes = c.args.bytes.items in
+    let same = c.deref-2.ensures.value in
+    let is = c.in_ok-checker.was ∙ ap (λ v. Ok v) c.in-Rejected.is in
+    let guest : subset (take c.args.size bytes) image =
+    subst (λ (file : List ℕ). subset file image) (c.split_at.ensures.front ∙ ap (take c.args.size) c.deref.ensures.value) c.in_ok-image.ensures.guest in
+    let text : IsTextOf told (drop c.args.size bytes) c.in_ok-history.history.items =
+    subst (λ (t : List ℕ). IsTextOf told t c.in_ok-history.history.items) (c.split_at.ensures.back ∙ ap (drop c.args.size) c.deref.ensures.value) c.in_ok-history.ensures.text in
+    let history : HasHistory c.args.size bytes image c.in_ok-history.history.items = record {
+      enough = omega (arith, c.split_at.ensures.back_len, ap length c.deref.ensures.value);
+      guest = guest;
+      text = text;
+    } in
+    let wrong : IsRejected image (terms_of o) c.deref-2.result.now r.line r.reason =
+    rejected_of image o c.deref-2.result.now r.line r.reason (c.checked.ensures.rejected r is) refl refl refl in
+    inr (record {
+      image = image;
+      history = c.in_ok-history.history.items;
+      is = history;
+      rejected = subst (λ (h : List Block). IsRejected image (terms_of o) h r.line r.reason) same wrong;
+    })

@@ -1,0 +1,42 @@
+-- Why there is no text for what is asked, by the bytes that were read for it.
+use Rattle.std.specs.Prelude.{◌≡◌, ◌≢◌, ℕ, ◌<◌, ◌≤◌, List, length, take, Some}
+use Rattle.tc_elf.specs.Loading.{refusal}
+use Rattle.tc_elf.specs.declared.refusal.Refusal.TheVariants as refused
+use Rattle.tc_journal.specs.Reading.{IsFirstWrong}
+use Rattle.tc_journal.specs.Told.{told}
+use Rattle.tc_replay.specs.declared.reason.Reason.TheVariants as reason
+use Rattle.tc_workers.specs.declared.options.Options.{Options}
+use Rattle.tc_main.specs.Words.{Input, history_asked, input_of}
+use Rattle.tc_main.specs.Replayed.{IsRejection}
+use Rattle.tc_main.specs.Top.{Rejects}
+use Rattle.tc_main.specs.declared.words.Asked.{Asked}
+use Rattle.tc_main.specs.declared.wrong.Wrong.{Wrong}
+use Rattle.tc_main.specs.declared.wrong.Wrong.TheVariants.{Short, File, History, OutOfMemory}
+
+-- a guest's file is refused
+abbrev pub IsWrongFile : List ℕ → Wrong → Type 0
+IsWrongFile file Short = ⊥
+IsWrongFile file (File reason) = (refusal file ≡ Some reason) × (reason ≢ refused.OutOfMemory)
+IsWrongFile file (History r) = ⊥
+IsWrongFile file OutOfMemory = Unit {0}
+
+-- a text is not that of a history
+abbrev pub IsWrongText : List ℕ → Wrong → Type 0
+IsWrongText text Short = ⊥
+IsWrongText text (File reason) = ⊥
+IsWrongText text (History r) = (r.reason ≡ reason.Text) × IsFirstWrong told text r.line
+IsWrongText text OutOfMemory = Unit {0}
+
+-- a guest's file with a history behind it is wrong
+abbrev pub IsWrongInput : ℕ → Options → List ℕ → Wrong → Type 0
+IsWrongInput size o bytes Short = length bytes < size
+IsWrongInput size o bytes (File reason) = (size ≤ length bytes) × IsWrongFile (take size bytes) (File reason)
+IsWrongInput size o bytes (History r) = IsRejection size o bytes r
+IsWrongInput size o bytes OutOfMemory = Unit {0}
+
+-- there is no text for what is asked
+abbrev pub IsWrong : Asked → List ℕ → Wrong → Type 0
+IsWrong asked bytes Short = (input : Input) × (input_of asked ≡ Some input) × (length bytes < input.least)
+IsWrong asked bytes (File reason) = (input : Input) × (input_of asked ≡ Some input) × (input.least ≤ length bytes) × IsWrongFile (input.file bytes) (File reason)
+IsWrong asked bytes (History r) = Rejects (history_asked asked) bytes r
+IsWrong asked bytes OutOfMemory = Unit {0}
