@@ -17,7 +17,7 @@ use Rattle.tc_combiner.specs.Answers.{carried}
 use Rattle.tc_combiner.specs.Packages.{IsGoodFor}
 use Rattle.tc_combiner.specs.Settling.{DidAcquire, DidUnlock, DidEnd, HasAcquired, HasSettled, SettledAs, Works}
 use Rattle.tc_combiner.specs.View.{BenchView, DeskView, FitsBench}
-use Rattle.tc_combiner.specs.Walks.{Moves, Owns, packed}
+use Rattle.tc_combiner.specs.Walks.{Moves, Owned, Owns, packed}
 use Rattle.tc_combiner.proofs.Answering.{good_after}
 use Rattle.tc_combiner.proofs.Packages.{plain_good}
 use Rattle.tc_combiner.proofs.Telling.{acquire_seen, end_seen, unlock_seen}
@@ -30,8 +30,8 @@ use Rattle.tc_workers.proofs.Running.{is_free, roomier_good, roomier_out}
 abbrev pub with_pass : DeskView → PassView → DeskView
 with_pass d p = record d { pass = p }
 
-pub fits_still : (b : BenchView) (d : DeskView) (p : PassView) → FitsBench b d → IsStill d.pass p → FitsBench b (with_pass d p)
-fits_still b d p h s = record {
+pub fits_still : (b : BenchView) (d : DeskView) (p : PassView) → FitsBench b d → IsStill d.pass p → Owned p.knows (packed d.aside) → FitsBench b (with_pass d p)
+fits_still b d p h s out = record {
   hall = h.hall;
   own = s.own.0 ∙ h.own;
   image = s.image ∙ h.image;
@@ -40,7 +40,12 @@ fits_still b d p h s = record {
   of = h.of;
   sleepers = h.sleepers;
   aside = h.aside;
+  out = out;
 }
+
+-- where nothing is set aside, that is out
+none_out : (v : Knows) (a : Option PackageView) → a ≡ None → Owned v (packed a)
+none_out v a e = subst (λ (o : Option PackageView). Owned v (packed o)) (sym e) (outs v, refl)
 
 -- nothing is set aside any more
 pub fits_alone : (b : BenchView) (d : DeskView) → FitsBench b d → FitsBench b (record d { aside = None })
@@ -53,6 +58,7 @@ fits_alone b d h = record {
   of = h.of;
   sleepers = h.sleepers;
   aside = λ a e. absurd (let n : ⊥ = cc in n);
+  out = (outs d.pass.knows, refl);
 }
 
 good_still : (v w : Knows) (q : PackageView) → w.image ≡ v.image → w.worker ≡ v.worker → IsGoodFor v q → IsGoodFor w q
@@ -82,7 +88,7 @@ good_back v q h = record { of = h.of; settled = h.settled; runs = h.runs; locks 
 
 pub at_still : (b : BenchView) (hand : Option PackageView) (d : DeskView) (p : PassView) → IsAtDesk b hand d → IsStill d.pass p → outs p.knows ≡ outs d.pass.knows → IsAtDesk b hand (with_pass d p)
 at_still b hand d p h s same = record {
-  fits = fits_still b d p h.fits s;
+  fits = fits_still b d p h.fits s (subst (λ (o : Outs). (c : Outs) × Owns c o (packed d.aside)) (sym same) h.fits.out);
   sleepers = h.sleepers;
   out = subst (λ (o : Outs). Owns nothing o (packed hand ++ packed d.aside)) (sym same) h.out;
   fit = fit_still d.pass.knows p.knows hand s.image s.worker h.fit;
@@ -111,7 +117,7 @@ alone_out b d h e = out_aside d.pass.knows d.aside None e h.out
 -- nothing came
 pub none_claimed : (b : BenchView) (d : DeskView) (p : PassView) → IsAtDesk b None d → d.aside ≡ None → IsStill d.pass p → HasOut p.knows [] → IsAtDesk b None (with_pass d p)
 none_claimed b d p h e s out = record {
-  fits = fits_still b d p h.fits s;
+  fits = fits_still b d p h.fits s (none_out p.knows d.aside e);
   sleepers = h.sleepers;
   out = out_aside p.knows None d.aside (sym e) out;
   fit = tt;
@@ -119,7 +125,7 @@ none_claimed b d p h e s out = record {
 
 pub one_claimed : (b : BenchView) (d : DeskView) (p : PassView) (q : PackageView) → IsAtDesk b None d → d.aside ≡ None → IsStill d.pass p → HasOut p.knows (Pack q ∷ []) → IsClaimed p.knows q → HasClaimed b q (with_pass d p)
 one_claimed b d p q h e s out claimed = record {
-  fits = fits_still b d p h.fits s;
+  fits = fits_still b d p h.fits s (none_out p.knows d.aside e);
   sleepers = h.sleepers;
   aside = e;
   out = out;
@@ -171,6 +177,7 @@ other_sleepers b d sleepers now h e = record {
     of = h.fits.of;
     sleepers = subst (λ (n : ℕ). threads b.hall.terms ≤ n) (sym e) h.fits.sleepers;
     aside = h.fits.aside;
+    out = h.fits.out;
   };
   sleepers = e ∙ h.sleepers;
   out = h.out;

@@ -68,6 +68,7 @@ module _ (b : BenchView) (is : IsBench b) where
           of = all_seats ss of;
           sleepers = omega arith;
           aside = λ a e. absurd (cc e);
+          out = (outs p.knows, refl);
         };
         sleepers = rooms;
         out = new_out b.image (length b.image.entries) (length b.image.guards) p.knows.worker p.knows dealt.new;
