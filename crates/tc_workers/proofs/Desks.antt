@@ -44,7 +44,7 @@ fits_still b d p h s out = record {
 }
 
 -- where nothing is set aside, that is out
-none_out : (v : Knows) (a : Option PackageView) → a ≡ None → Owned v (packed a)
+pub none_out : (v : Knows) (a : Option PackageView) → a ≡ None → Owned v (packed a)
 none_out v a e = subst (λ (o : Option PackageView). Owned v (packed o)) (sym e) (outs v, refl)
 
 -- nothing is set aside any more

@@ -15,7 +15,7 @@ use Rattle.tc_workers.specs.GoOn.{GivesUp}
 use Rattle.tc_workers.specs.Search.{SawStop}
 use Rattle.tc_workers.specs.Worker.{DidLeave, DidPutBack, HasClaimed, HasOut, IsAtDesk, IsFit, IsStep, IsStill, MayGoBack, MayLeave, MayPutBack, put_back}
 use Rattle.tc_workers.specs.declared.step.Step.TheVariants.{Stopped}
-use Rattle.tc_workers.proofs.Desks.{aside_good, at_still, back_still, fits_still, good_back, misfit_out, one_back, with_pass}
+use Rattle.tc_workers.proofs.Desks.{aside_good, at_still, back_still, fits_still, good_back, misfit_out, none_out, one_back, with_pass}
 use Rattle.tc_workers.proofs.Passes.{still_called, still_same, still_then, stop_later, stop_seen}
 
 -- ---- calls
@@ -81,7 +81,7 @@ leave_hand b hand d p h s same stop =
 -- so may a package that was claimed and does not fit
 pub leave_claimed : (b : BenchView) (d : DeskView) (p : PassView) (q : PackageView) → HasClaimed b q d → IsStill d.pass p → outs p.knows ≡ outs d.pass.knows → HasStop p.knows → MayLeave b (Some q) (with_pass d p)
 leave_claimed b d p q h s same stop = record {
-  fits = fits_still b d p h.fits s;
+  fits = fits_still b d p h.fits s (none_out p.knows d.aside h.aside);
   out = misfit_out b d p q h same;
   may = λ r e. let is : q ≡ r = cc in subst (λ (z : PackageView). MayGoBack p.knows z) is (back_still d.pass.knows p.knows q s.image s.worker h.claimed.back);
   stop = stop;
