@@ -164,46 +164,57 @@ fn refuses_the_smallest_file_changed(rt: HostRuntime) -> Result<(), Fail> {
 
 #[test]
 fn refuses_the_linked_file_changed(rt: HostRuntime) -> Result<(), Fail> {
-    let same = (0, LINKED[0]);
     let cases = [
         // Code past the file's end, too much memory, data that is longer in the file, and data past
         // the last address.
-        ([(22, 0xffff_ffff), same, same, same], 9),
-        ([(26, 0x0010_0000), same, same, same], 9),
-        ([(34, 0), same, same, same], 9),
-        ([(31, 0xffff_ffe4), same, same, same], 9),
+        (22, 0xffff_ffff, 9),
+        (26, 0x0010_0000, 9),
+        (34, 0, 9),
+        (31, 0xffff_ffe4, 9),
         // Data over the last byte of the code, and over the first of the stack.
-        ([(31, 0x0001_0137), same, same, same], 10),
-        ([(31, 0x7fff_bfe1), same, same, same], 10),
+        (31, 0x0001_0137, 10),
+        (31, 0x7fff_bfe1, 10),
         // Data that touch these, or the last address: only the guard is elsewhere.
-        ([(31, 0x0001_0138), same, same, same], 14),
-        ([(31, 0x7fff_bfe0), same, same, same], 14),
-        ([(31, 0xffff_ffe0), same, same, same], 14),
+        (31, 0x0001_0138, 14),
+        (31, 0x7fff_bfe0, 14),
+        (31, 0xffff_ffe0, 14),
         // Notes past the file's end; a name or a descriptor past the segment's.
-        ([(46, 0xffff_fff0), same, same, same], 12),
-        ([(49, 91), same, same, same], 12),
-        ([(53, 0x50), same, same, same], 12),
-        ([(53, 0xffff_fffd), same, same, same], 12),
-        ([(54, 0xffff_fffd), same, same, same], 12),
+        (46, 0xffff_fff0, 12),
+        (49, 91, 12),
+        (53, 0x50, 12),
+        (53, 0xffff_fffd, 12),
+        (54, 0xffff_fffd, 12),
         // The descriptor's version, its numbers of threads and guards, and its length.
-        ([(67, 0), same, same, same], 12),
-        ([(67, 2), same, same, same], 0),
-        ([(67, 3), same, same, same], 12),
-        ([(68, 0), same, same, same], 12),
-        ([(69, 0), same, same, same], 12),
-        ([(63, 0x20), same, same, same], 12),
+        (67, 0, 12),
+        (67, 2, 0),
+        (67, 3, 12),
+        (68, 0, 12),
+        (69, 0, 12),
+        (63, 0x20, 12),
         // A note of another name or type is passed over, so that the file's own entry counts.
-        ([(62, 7), same, same, same], 13),
-        ([(64, 2), same, same, same], 13),
+        (62, 7, 13),
+        (64, 2, 13),
         // Entries in the data, at an odd place, behind the code.
-        ([(70, 0x0002_0000), same, same, same], 13),
-        ([(72, 0x0001_0132), same, same, same], 13),
-        ([(72, 0x0001_0138), same, same, same], 13),
+        (70, 0x0002_0000, 13),
+        (72, 0x0001_0132, 13),
+        (72, 0x0001_0138, 13),
         // Guards at an odd place, of an odd length, past the data, in the code.
-        ([(74, 0x0002_0012), same, same, same], 14),
-        ([(75, 6), same, same, same], 14),
-        ([(74, 0x0002_0014), same, same, same], 14),
-        ([(74, 0x0001_0000), same, same, same], 14),
+        (74, 0x0002_0012, 14),
+        (75, 6, 14),
+        (74, 0x0002_0014, 14),
+        (74, 0x0001_0000, 14),
+    ];
+    for (at, value, number) in cases {
+        let bytes = file(rt.alloc(), &LINKED, &[(at, value)])?;
+        assert_eq!(rt; refused(rt.alloc(), &bytes), number, "word {at} is {value}");
+    }
+    Ok(())
+}
+
+#[test]
+fn refuses_by_several_changes(rt: HostRuntime) -> Result<(), Fail> {
+    let same = (0, LINKED[0]);
+    let cases = [
         // Sizes whose sum is 2 ^ 32.
         ([(26, 0x8000_0000), (34, 0x8000_0000), same, same], 9),
         // A segment without memory: in the code, with the flags of writable code, past the file.
