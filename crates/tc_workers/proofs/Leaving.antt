@@ -10,7 +10,7 @@ use Rattle.tc_hall.specs.PassView.{PassView}
 use Rattle.tc_hall.specs.Steps.{Gave, HasStop, IsSamePass, SawStopped, after_stop, put_call, with_call}
 use Rattle.tc_combiner.specs.View.{BenchView, DeskView}
 use Rattle.tc_combiner.specs.Walks.{packed}
-use Rattle.tc_combiner.proofs.Walking.{told_then}
+use Rattle.tc_combiner.proofs.Acting.{told_then}
 use Rattle.tc_workers.specs.GoOn.{GivesUp}
 use Rattle.tc_workers.specs.Search.{SawStop}
 use Rattle.tc_workers.specs.Worker.{DidLeave, DidPutBack, HasClaimed, HasOut, IsAtDesk, IsFit, IsStep, IsStill, MayGoBack, MayLeave, MayPutBack, put_back}
