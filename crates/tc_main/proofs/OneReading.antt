@@ -27,7 +27,7 @@ use Rattle.tc_journal.proofs.Fields.{from_end, has_end, has_fields, pc_field}
 use Rattle.tc_journal.proofs.HexWord.{bytes, decoded, word_of_bytes}
 use Rattle.tc_journal.proofs.Histories.{none_begins}
 use Rattle.tc_journal.proofs.Sets.{AreLocks, AreLocks-locks_of, with_locks, with_locks-locks_of}
-use Rattle.tc_journal.proofs.Words.{before-all, before-commas, behind-commas, commas}
+use Rattle.tc_journal.proofs.Words.{commas, split-all, split-commas}
 
 -- ---- the words of a line tell its fields
 
@@ -110,8 +110,8 @@ one_list (n ∷ ns) [] a b e =
 one_list (n ∷ ns) (m ∷ ms) a b e =
     let small : n < 2 ^ 64 = (let first = a.0 in omega (arith, first)) in
     let small_too : m < 2 ^ 64 = (let first = b.0 in omega (arith, first)) in
-    let head : n ≡ m = decimal_injective n m small small_too (sym (before-commas n ns small) ∙ ap (before 44) e ∙ before-commas m ms small_too) in
-    let tail : ns ≡ ms = one_list ns ms a.1 b.1 (sym (behind-commas n ns small) ∙ ap (behind 44) e ∙ behind-commas m ms small_too) in
+    let head : n ≡ m = decimal_injective n m small small_too (sym ((split-commas n ns small).0) ∙ ap (before 44) e ∙ (split-commas m ms small_too).0) in
+    let tail : ns ≡ ms = one_list ns ms a.1 b.1 (sym ((split-commas n ns small).1) ∙ ap (behind 44) e ∙ (split-commas m ms small_too).1) in
     λ i. head i ∷ tail i
 
 no_minus : (n : ℕ) → n < 2 ^ 64 → decimal n ≡ 45 ∷ [] → ⊥
@@ -121,7 +121,7 @@ no_minus n small e =
 
 no_dash : (m : ℕ) (ms : List ℕ) → m < 32 → codes "-" ≡ commas (m ∷ ms) → ⊥
 no_dash m ms small e =
-    no_minus m (omega (arith, small)) (sym (before-commas m ms (omega (arith, small))) ∙ ap (before 44) (sym e) ∙ before-all 44 (codes "-") refl)
+    no_minus m (omega (arith, small)) (sym ((split-commas m ms (omega (arith, small))).0) ∙ ap (before 44) (sym e) ∙ (split-all 44 (codes "-") refl).0)
 
 one_numbers : (ns ms : List ℕ) → AreLocks ns → AreLocks ms → numbers_text ns ≡ numbers_text ms → ns ≡ ms
 one_numbers [] [] a b e = refl
