@@ -17,7 +17,7 @@ use Rattle.tc_workers.specs.declared.step.Step.{Step}
 use Rattle.tc_workers.specs.declared.step.Step.TheVariants.{On}
 use Rattle.tc_workers.specs.Worker.{HasSealed, IsAtDesk, IsStep, IsStill}
 use Rattle.tc_workers.specs.Scripts.{IsPlaying}
-use Rattle.tc_workers.proofs.Desks.{at_still, other_sleepers, with_pass}
+use Rattle.tc_workers.proofs.Desks.{aside_taken, at_still, other_sleepers, with_pass}
 
 pub at_bench : (b : BenchView) (d : DeskView) (hand : Option PackageView) (end : Option End) → IsPlaying b d hand end → FitsBench b d
 at_bench b d hand None p = p.fits
@@ -43,6 +43,12 @@ has_sealed b d (Some r) (Some y) q x p e f = subst (λ (z : Option End). IsPlayi
 -- the desk goes on with what comes
 pub goes_on : (b : BenchView) (d : DeskView) (s t : Step) (hand : Option PackageView) → IsStep b d s → t ≡ s → t ≡ On hand → IsAtDesk b hand d
 goes_on b d s t hand h e f = subst (λ (z : Step). IsStep b d z) f (subst (λ (z : Step). IsStep b d z) (sym e) h)
+
+-- the package that was set aside is in hand
+pub taken_back : (b : BenchView) (d e : DeskView) (hand : Option PackageView) (end : Option End) (q : PackageView) → IsPlaying b d hand end → end ≡ None → hand ≡ None → d.aside ≡ Some q → e ≡ record d { aside = None } → IsPlaying b e (Some q) end
+taken_back b d e hand end q p none empty aside is =
+    let r : Some q ≡ Some q = refl in
+    playing b e (Some q) (Some q) end (subst (λ (z : DeskView). IsAtDesk b (Some q) z) (sym is) (aside_taken b d q (at_desk b d hand None end p none empty) aside)) none r
 
 -- the clock was moved, and a sleeper was woken
 pub woken : (b : BenchView) (d m : DeskView) (hand : Option PackageView) (end : Option End) (sleepers : List (Option ℕ)) (now : ℕ) → IsPlaying b d hand end → end ≡ None → hand ≡ None → m ≡ record d { now = now } → length sleepers ≡ length d.sleepers → IsPlaying b (record m { sleepers = sleepers }) hand end
