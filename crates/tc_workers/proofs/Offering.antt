@@ -9,7 +9,7 @@ use Rattle.tc_ready.specs.ReadyView.{Offered, ReadyView}
 use Rattle.tc_ready.specs.Rule.{offer, thread_of}
 use Rattle.tc_combiner.specs.declared.settled.Settled.{Settled}
 use Rattle.tc_combiner.specs.declared.settled.Settled.TheVariants.{GoesOn, Adopted, Shipped, Parked, Ended, Stopped}
-use Rattle.tc_combiner.specs.Answers.{TakesDown}
+use Rattle.tc_combiner.specs.Walks.{TakesDown}
 use Rattle.tc_combiner.specs.Settling.{TellsReady}
 use Rattle.tc_combiner.specs.View.{DeskView}
 use Rattle.tc_hall.specs.declared.board.Call.{Call}
