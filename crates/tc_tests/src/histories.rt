@@ -2,7 +2,7 @@
 
 use crate::guests::{
     ADD, DATA, ECALL, EXIT, LOCK_0, LOCK_1, SMALLEST, SMALLEST_REPORT, UNLOCK_0, UNLOCK_1, built,
-    counting, joined,
+    joined,
 };
 use crate::ran::{CALM, Outside, Ran, run_with};
 use std::alloc::{AllocError, Global};
@@ -214,46 +214,6 @@ fn the_profile_of_a_history_is_told(rt: HostRuntime) -> Result<(), Fail> {
     let file = built(&rt, alloc, &code, &[(0, 0)], 2)?;
     let words = ["profile", "268", "1", "100", "4"];
     check_text(&rt, alloc, words, &file, CROSSES, CROSSES_PROFILE)?;
-    Ok(())
-}
-
-/// The lines of blocks of a report.
-fn blocks_of(alloc: Global, report: &str) -> Result<String, AllocError> {
-    let mut blocks = String::new(alloc);
-    for line in report.lines() {
-        if line.starts_with("block ") {
-            write!(blocks, "{line}\n")?;
-        }
-    }
-    Ok(blocks)
-}
-
-/// The blocks of a run's report, replayed behind the same guest with the same numbers, give that very
-/// report, whatever the workers did.
-#[test]
-fn the_report_of_a_run_is_that_of_its_history(rt: HostRuntime) -> Result<(), Fail> {
-    let alloc = rt.alloc();
-    let file = counting(&rt, alloc, 2)?;
-    let size = format!(in alloc; "{}", file.len())?;
-    let outside = Outside {
-        room: 524_288,
-        ..CALM
-    };
-    for [workers, batch] in [["1", "0"], ["2", "8"], ["4", "0"], ["8", "256"]] {
-        let asked = [
-            b"run".as_slice(),
-            workers.as_bytes(),
-            b"2000",
-            batch.as_bytes(),
-        ];
-        let ran = run_with(&rt, alloc, &asked, &file, &outside)?;
-        assert_eq!(rt; ran.status, Status::Done);
-        let history = blocks_of(alloc, ran.text())?;
-        let words = ["replay", size.as_str(), workers, "2000", batch];
-        let again = ask(&rt, alloc, words, &file, &history, &outside)?;
-        assert_eq!(rt; again.status, Status::Done);
-        assert!(rt; again.text() == ran.text());
-    }
     Ok(())
 }
 
