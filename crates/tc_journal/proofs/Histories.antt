@@ -1,13 +1,14 @@
 -- A text is read line by line.
-use Rattle.std.proofs.Common.{◌≡◌, ℕ, ◌+◌, ◌<◌, Bool, true, false, Option, Some, None, List, [], ◌∷◌, ◌++◌, length, length-append, drop, refl, sym, ap, subst, ◌∙◌, append_assoc, append-nil, arith}
+use Rattle.std.proofs.Common.{◌≡◌, ℕ, ◌+◌, ◌<◌, ◌≤◌, Bool, true, false, Option, Some, None, List, [], ◌∷◌, ◌++◌, length, length-append, map, take, drop, refl, sym, ap, subst, ◌∙◌, append_assoc, append-nil, arith}
+use Rattle.std.proofs.lemmas.List.{map-append, take-append-drop, length-take-le}
 use Rattle.std.proofs.lemmas.List.Concat.{flat_map-append}
-use Rattle.std.proofs.Math.Seq.{drop-append_seam}
+use Rattle.std.proofs.Math.Seq.{drop-append_seam, take-append-add}
 use Rattle.tc_journal.specs.declared.block.Block.{Block}
 use Rattle.std.specs.Prelude.{is_some}
 use Rattle.tc_journal.specs.declared.block.BlockV1.{BlockV1}
 use Rattle.tc_journal.specs.Told.{Told, block_of, pc_or_0, told, told_if, with_pc}
 use Rattle.tc_journal.specs.History.{IsTold, IsToldFrom, IsBlock, IsHistory}
-use Rattle.tc_journal.specs.Line.{told_text, told_line, lines_text}
+use Rattle.tc_journal.specs.Line.{told_text, told_line, lines_text, history_text}
 use Rattle.tc_journal.specs.Reading.{BeginsWith, IsTextOf, Reads}
 
 -- the block of what a line tells, told again in the line's form
@@ -112,3 +113,10 @@ pub lines_on : {B : Type 0} (told_of : B → Told) (text rest more : List ℕ) (
 lines_on told_of text rest more blocks b lines line =
     lines ∙ ap (λ t. lines_text told_of blocks ++ t) line ∙ sym (append_assoc (lines_text told_of blocks) (told_line (told_of b)) more)
     ∙ ap (λ t. t ++ more) (sym (lines_text_push told_of blocks b))
+
+-- the lines of the first blocks, and of some more
+pub text_on : {X : Type 0} (block : X → Block) (d m : ℕ) (h : List X) → d ≤ length h → history_text (map block (take (d + m) h)) ≡ history_text (map block (take d h)) ++ history_text (map block (take m (drop d h)))
+text_on block d m h low =
+    let split : take (d + m) h ≡ take d h ++ take m (drop d h) =
+    ap (λ n. take (n + m) h) (sym (length-take-le d h low)) ∙ ap (take (length (take d h) + m)) (sym (take-append-drop d h)) ∙ take-append-add (take d h) (drop d h) m in
+    ap (λ bs. history_text (map block bs)) split ∙ ap history_text (map-append block (take d h) (take m (drop d h))) ∙ flat_map-append _ (map block (take d h)) (map block (take m (drop d h)))

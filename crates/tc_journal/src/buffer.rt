@@ -1,4 +1,4 @@
-//! A line in one array. It is written from its end to its front, so that the digits of a number,
+//! Lines in one array. They are written from the end to the front, so that the digits of a number,
 //! which come up from the last to the first, are written where they stay and not counted first.
 
 ghost use Rattle.std.specs.Prelude.{◌≡◌, ℕ, ◌+◌, ◌/◌, ◌%◌, ◌^◌, ◌<◌, ◌≤◌, ◌∷◌, ◌++◌, [], false, decimal, drop, length};
@@ -9,10 +9,16 @@ use itoa::write_digits;
 use std::marker::Model;
 use std::str::from_utf8_unchecked;
 
-/// How many bytes a buffer takes. No line of a block is longer.
-pub(crate) const ROOM: usize = 240;
+/// How many bytes the line of a block has at most.
+pub(crate) const LINE: usize = 240;
 
-/// What is written of a line, which is text. A contract sees its bytes.
+/// How many lines a buffer takes.
+pub(crate) const LINES: usize = 16;
+
+/// How many bytes a buffer takes: room for so many lines.
+pub(crate) const ROOM: usize = 3_840;
+
+/// What is written of some lines, which is text. A contract sees its bytes.
 #[derive(Drop)]
 pub(crate) struct Buffer {
     bytes: [u8; ROOM],
@@ -130,7 +136,7 @@ impl Buffer {
         self.put_byte((word >> 24 & 0xff) as u8);
     }
 
-    /// The line. What was put in front each time is a text, so the line is one too: that is proved
+    /// What is written. What was put in front each time is a text, so this is one too: that is proved
     /// of each call and tested by none, which would go over each line once more.
     pub fn as_str(&self) -> &str
         ensures { result.now ≡ self.now }

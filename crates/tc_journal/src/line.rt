@@ -6,7 +6,7 @@ ghost use Rattle.tc_journal.specs.Told.{without_pc};
 ghost use Rattle.tc_isa.specs.Sets.{locks_of};
 
 use crate::block::{Block, End, Kind};
-use crate::buffer::{Buffer, ROOM};
+use crate::buffer::{Buffer, LINE, LINES, ROOM};
 use std::alloc::AllocError;
 use tc_isa::held::Held;
 
@@ -86,8 +86,9 @@ fn put_pc(line: &mut Buffer, pc: Option<u32>)
 
 /// Puts the line of a block in front, with this pc, or with none in the old form.
 pub(crate) fn put_line(line: &mut Buffer, block: &Block, pc: Option<u32>)
-    requires { line.old ≡ [] }
-    ensures { line.new ≡ spec.told_line (record { block = without_pc block.now; pc = pc }) }
+    requires { LINE + length line.old ≤ ROOM }
+    ensures value { line.new ≡ spec.told_line (record { block = without_pc block.now; pc = pc }) ++ line.old }
+    ensures len { length line.new ≤ LINE + length line.old }
 {
     line.put_str("\n");
     put_end(line, block.end);
@@ -107,17 +108,34 @@ pub(crate) fn put_line(line: &mut Buffer, block: &Block, pc: Option<u32>)
     line.put_str("block ");
 }
 
+/// Puts the lines of a few blocks in front, the last one first.
+fn put_lines(lines: &mut Buffer, blocks: &[&Block])
+    requires empty { lines.old ≡ [] }
+    requires few { length blocks.now ≤ LINES }
+    ensures { lines.new ≡ spec.history_text (map (λ b. b.now) blocks.now) }
+{
+    let mut left = blocks.len();
+    while left > 0 {
+        left -= 1;
+        put_line(lines, blocks[left], Some(blocks[left].pc));
+    }
+}
+
 /// Writes the lines of a history at the end of a text, of blocks that stand in different places.
+/// Some lines are appended at once.
 pub fn push_lent(text: &mut String, history: &[&Block]) -> Result<(), AllocError>
     ensures { OnOk result
         (string_bytes text.new ≡ string_bytes text.old
         ++ spec.history_text (map (λ b. b.now) history.now)) }
 {
-    let mut line = Buffer::new();
-    for block in history {
-        line.clear();
-        put_line(&mut line, block, Some(block.pc));
-        text.push_str(line.as_str())?;
+    let mut lines = Buffer::new();
+    let mut done = 0;
+    while done < history.len() {
+        let from = done;
+        done += LINES.min(history.len() - from);
+        lines.clear();
+        put_lines(&mut lines, &history[from..done]);
+        text.push_str(lines.as_str())?;
     }
     Ok(())
 }

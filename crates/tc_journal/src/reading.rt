@@ -33,8 +33,8 @@ impl From<AllocError> for BadText {
 }
 
 /// The block of a history with this stamp whose line stands at the front of a text, and what is
-/// behind that line.
-fn first_block<B: Form>(text: &[u8], stamp: u64) -> Option<(B, &[u8])>
+/// behind that line. The line is written once more, to be compared.
+fn first_block<'a, B: Form>(line: &mut Buffer, text: &'a [u8], stamp: u64) -> Option<(B, &'a [u8])>
     ensures some { IfSome result
         (λ r. (begins : BeginsWith text.now stamp (B.told r.0)) × (begins.more ≡ r.1.now)) }
     ensures every { (b : B) → BeginsWith text.now stamp (B.told b)
@@ -45,8 +45,8 @@ fn first_block<B: Form>(text: &[u8], stamp: u64) -> Option<(B, &[u8])>
     if block.stamp != stamp {
         return None;
     }
-    let mut line = Buffer::new();
-    put_line(&mut line, &block, has_pc.then_some(block.pc));
+    line.clear();
+    put_line(line, &block, has_pc.then_some(block.pc));
     let behind = text.strip_prefix(line.as_str().as_bytes())?;
     Some((B::of(block), behind))
 }
@@ -61,10 +61,11 @@ fn read_lines<B: Form>(alloc: Global, bytes: &[u8]) -> Result<Vec<B>, BadText>
         → IsErrOf result (BadText.Line n) ⊎ IsErrOf result BadText.OutOfMemory }
 {
     let mut blocks = Vec::new(alloc);
+    let mut line = Buffer::new();
     let mut rest = bytes;
     while !rest.is_empty() {
         let stamp = blocks.len() as u64;
-        let Some((block, behind)) = first_block(rest, stamp) else {
+        let Some((block, behind)) = first_block(&mut line, rest, stamp) else {
             return Err(BadText::Line(stamp + 1));
         };
         if blocks.push(block).is_err() {

@@ -1,7 +1,12 @@
-use Rattle.std.proofs.Common.{◌≡◌, ◌++◌, map, take}
+use Rattle.std.proofs.Common.{◌≡◌, ◌++◌, ◌-◌, ◌≤◌, length, map, take}
 use Rattle.std.specs.Prelude.{string_bytes}
 use Rattle.tc_journal.specs.Line.{history_text}
 use Rattle.tc_journal.proofs.line.push_lent.Given as goal
 
-abbrev pub invariant-loop-block : goal.invariant-loop-block
-invariant-loop-block l = string_bytes l.text ≡ string_bytes l.fn.text ++ history_text (map (λ b. b.now) (take l.block-index l.history))
+abbrev pub invariant-loop-done : goal.invariant-loop-done
+invariant-loop-done l =
+    (l.done ≤ length l.fn.history)
+    × (string_bytes l.text ≡ string_bytes l.fn.text ++ history_text (map (λ b. b.now) (take l.done l.fn.history)))
+
+abbrev pub decreases-loop-done : goal.decreases-loop-done
+decreases-loop-done l = length l.fn.history - l.done

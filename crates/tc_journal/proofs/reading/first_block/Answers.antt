@@ -1,4 +1,4 @@
-use Rattle.std.proofs.Common.{◌≡◌, ◌++◌, List, ℕ, Bool, Option, Some, None, sym, ap, subst, ◌∙◌, refl, arith, rules}
+use Rattle.std.proofs.Common.{◌≡◌, ◌++◌, [], List, ℕ, Bool, Option, Some, None, sym, ap, subst, ◌∙◌, refl, append-nil, arith, rules}
 use Rattle.std.specs.Prelude.{if◌then◌else◌}
 use Rattle.std.proofs.lemmas.Bool.Decides.{Decides-eqb}
 use Rattle.std.proofs.lemmas.Slice.Eq.{strip_prefix_is}
@@ -13,8 +13,8 @@ known : {X : Type 0} {o : Option X} {x y : X} → o ≡ Some x → o ≡ Some y 
 known {X} {o} {x} {y} is some = let same : Some x ≡ Some y = sym is ∙ some in cc
 
 -- the line that is written of a block, by what it tells
-line_is : (form : Bool) (b : Block) (pc : Option ℕ) (line : List ℕ) → pc ≡ (if form then Some b.pc else None) → line ≡ told_line (record { block = without_pc b; pc = pc }) → line ≡ told_line (told_if form b)
-line_is form b pc line is e = e ∙ ap (λ o. told_line (record { block = without_pc b; pc = o })) is
+line_is : (form : Bool) (b : Block) (pc : Option ℕ) (line : List ℕ) → pc ≡ (if form then Some b.pc else None) → line ≡ told_line (record { block = without_pc b; pc = pc }) ++ [] → line ≡ told_line (told_if form b)
+line_is form b pc line is e = e ∙ append-nil _ ∙ ap (λ o. told_line (record { block = without_pc b; pc = o })) is
 
 pub returns-in_err-behind-clause-every : goal.returns-in_err-behind-clause-every
 returns-in_err-behind-clause-every g c = λ b begins.
