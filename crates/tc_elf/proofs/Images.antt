@@ -92,7 +92,7 @@ passed false r o none = (refl, none)
 header_sound : (b : List ℕ) → header_refusal b ≡ None → is_bad_header b ≡ false
 header_sound b sound = grind (arith, passed)
 
-few_segments : (b : List ℕ) → header_refusal b ≡ None → length (segments b) ≤ MAX_HEADERS
+pub few_segments : (b : List ℕ) → header_refusal b ≡ None → length (segments b) ≤ MAX_HEADERS
 few_segments b sound =
     let good = header_sound b sound in
     let few : e_phnum b ≤ MAX_HEADERS = grind (arith, nat_tests, or_parts) in

@@ -3,11 +3,10 @@ use Rattle.std.specs.Prelude.{ℕ, if◌then◌else◌, List, Option, Some, None
 use Rattle.std.specs.Borrow.{Bor}
 use Rattle.std.specs.Option.{option_map, option_copied}
 use Rattle.std.specs.Result.{result_ok}
-use Rattle.tc_elf.specs.declared.refusal.Refusal.{Refusal}
 use Rattle.tc_elf.specs.Notes.{first_note, is_tclocks}
 
 -- what a search answers: nothing where it refuses the file, else the descriptor, where there is one
-abbrev pub finding_of : Result (Option (Bor (List ℕ))) Refusal → Option (Option (List ℕ))
+abbrev pub finding_of : {E : Type 0} → Result (Option (Bor (List ℕ))) E → Option (Option (List ℕ))
 finding_of answer = option_map option_copied (result_ok answer)
 
 abbrev pub first_descriptor : List ℕ → Option (List ℕ)

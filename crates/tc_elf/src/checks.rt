@@ -2,7 +2,6 @@
 
 ghost use Rattle.std.specs.Prelude.{◌≡◌, ◌≤◌, ◌^◌, length, sum_by, Some};
 ghost use Rattle.std.specs.List.{list_any};
-ghost use Rattle.tc_elf.specs.Places.{in_code, in_writable};
 ghost use Rattle.tc_elf.specs.Refusals.{is_dynamic, is_bad_load, load_size, any_pair, shares, is_on_stack, is_writable_code, segment_refusal, is_bad_entry, is_bad_guard, guards_meet, layout_refusal};
 
 use crate::image::{Entry, Guard, Range, any_code, any_writable, meets};
@@ -27,7 +26,10 @@ fn total_size(segments: &[Segment]) -> u64
     requires { length segments.now ≤ 2 ^ 16 }
     ensures { result ≡ sum_by load_size segments.now }
 {
-    segments.iter().map(|segment| segment.load_size()).sum()
+    segments
+        .iter()
+        .map(|segment| segment.load_size() as u64)
+        .sum()
 }
 
 fn shares_any(segment: &Segment, others: &[Segment]) -> bool

@@ -1,9 +1,9 @@
 //! The header of the file (System V gABI, "ELF Header"; RISC-V psABI, "ELF Object Files").
 
-ghost use Rattle.std.specs.Prelude.{◌≡◌, ◌≢◌, ◌+◌, ◌*◌, ◌≤◌, None, Some, length, vec_len, IfOk, IfErr};
+ghost use Rattle.std.specs.Prelude.{◌≡◌, ◌≢◌, ◌+◌, ◌*◌, ◌≤◌, None, Some, length, IfOk, IfErr};
 ghost use Rattle.tc_elf.specs.Elf.{segments, segments_from};
 ghost use Rattle.tc_elf.specs.declared.refusal.Refusal.TheVariants.{OutOfMemory};
-ghost use Rattle.tc_elf.specs.Refusals.{header_refusal, is_bad_magic, is_not_elf32_little, is_bad_header};
+ghost use Rattle.tc_elf.specs.Refusals.{header_refusal, is_bad_header};
 
 use crate::limits::MAX_HEADERS;
 use crate::refusal::Refusal;
@@ -21,20 +21,6 @@ const ET_EXEC: u16 = 2;
 
 /// The number of the machine RISC-V.
 const EM_RISCV: u16 = 243;
-
-fn is_bad_magic(bytes: &[u8]) -> bool
-    requires { HEADER_LENGTH ≤ length bytes.now }
-    ensures { result ≡ is_bad_magic bytes.now }
-{
-    bytes[0] != 0x7f || bytes[1] != 0x45 || bytes[2] != 0x4c || bytes[3] != 0x46
-}
-
-fn is_not_elf32_little(bytes: &[u8]) -> bool
-    requires { HEADER_LENGTH ≤ length bytes.now }
-    ensures { result ≡ is_not_elf32_little bytes.now }
-{
-    bytes[4] != 1 || bytes[5] != 1 || bytes[6] != 1
-}
 
 /// Whether the header has another version, or its program headers aren't 1 to 16 of their size in
 /// the file.
@@ -58,10 +44,10 @@ fn header_refusal(bytes: &[u8]) -> Option<Refusal>
     if bytes.len() < HEADER_LENGTH {
         return Some(Refusal::TooShort);
     }
-    if is_bad_magic(bytes) {
+    if bytes[0] != 0x7f || bytes[1] != 0x45 || bytes[2] != 0x4c || bytes[3] != 0x46 {
         return Some(Refusal::BadMagic);
     }
-    if is_not_elf32_little(bytes) {
+    if bytes[4] != 1 || bytes[5] != 1 || bytes[6] != 1 {
         return Some(Refusal::NotElf32Little);
     }
     if half_at(bytes, 16) != ET_EXEC {
@@ -87,8 +73,7 @@ fn segments_from(
     count: usize,
 ) -> Result<Vec<Segment>, AllocError>
     requires { at + 32 * count ≤ length bytes.now }
-    ensures value { IfOk result (λ v. v.items ≡ segments_from bytes.now at count) }
-    ensures count { IfOk result (λ v. vec_len v ≡ count) }
+    ensures { IfOk result (λ v. v.items ≡ segments_from bytes.now at count) }
 {
     let mut segments = Vec::with_capacity(alloc, count)?;
     for i in 0..count {
@@ -101,7 +86,6 @@ fn segments_from(
 pub(crate) fn segments(alloc: Global, bytes: &[u8]) -> Result<Vec<Segment>, Refusal>
     ensures value { IfOk result (λ v. v.items ≡ segments bytes.now) }
     ensures header { IfOk result (λ _. header_refusal bytes.now ≡ None) }
-    ensures few { IfOk result (λ v. vec_len v ≤ MAX_HEADERS) }
     ensures refused { IfErr result (λ e. e ≢ OutOfMemory → header_refusal bytes.now ≡ Some e) }
 {
     if let Some(refusal) = header_refusal(bytes) {

@@ -139,20 +139,6 @@ impl Range {
     }
 }
 
-impl Guard {
-    pub(crate) fn has(&self, addr: u32, width: u32) -> bool
-        ensures { result ≡ in_guard addr width self.now }
-    {
-        lies_in(addr, width, self.start, self.length)
-    }
-
-    pub(crate) fn touches(&self, addr: u32, width: u32) -> bool
-        ensures { result ≡ touches addr width self.now }
-    {
-        meets(addr, width, self.start, self.length)
-    }
-}
-
 pub(crate) fn any_text(ranges: &[Range], addr: u32, width: u32) -> bool
     ensures { result ≡ list_any (in_text addr width) ranges.now }
 {
@@ -176,14 +162,16 @@ pub(crate) fn any_writable(ranges: &[Range], addr: u32, width: u32) -> bool
 pub(crate) fn any_touched(guards: &[Guard], addr: u32, width: u32) -> bool
     ensures { result ≡ list_any (touches addr width) guards.now }
 {
-    guards.iter().any(|g| g.touches(addr, width))
+    guards.iter().any(|g| meets(addr, width, g.start, g.length))
 }
 
 fn guard_with(guards: &[Guard], addr: u32, width: u32) -> Option<usize>
     ensures first { result ≡ position (in_guard addr width) guards.now }
     ensures bound { IfSome result (λ lock. lock < length guards.now) }
 {
-    guards.iter().position(|g| g.has(addr, width))
+    guards
+        .iter()
+        .position(|g| lies_in(addr, width, g.start, g.length))
 }
 
 fn range_with(ranges: &[Range], addr: u32) -> Option<&Range>

@@ -5,7 +5,7 @@
 //! how many of both they may have.
 
 ghost use Rattle.std.specs.Prelude.{◌≡◌, ◌≢◌, ◌≤◌, ◌+◌, ◌*◌, false, length, Some, None, IfOk, IfErr};
-ghost use Rattle.tc_elf.specs.Notes.{has_room, is_bad_descriptor, entry_in, guard_in, entries_from, guards_from, described_layout, header_layout, layout_over, HasBadNote};
+ghost use Rattle.tc_elf.specs.Notes.{has_room, is_bad_descriptor, entries_from, guards_from, layout_over, HasBadNote};
 ghost use Rattle.tc_elf.specs.declared.refusal.Refusal.TheVariants.{OutOfMemory, BadNote};
 
 use crate::header::HEADER_LENGTH;
@@ -64,28 +64,6 @@ fn is_bad_descriptor(descriptor: &[u8]) -> bool
         || descriptor.len() != LAYOUT_HEADER_LENGTH + 8 * threads as usize + 8 * guards as usize
 }
 
-/// The entry at a place of the descriptor.
-fn entry_in(descriptor: &[u8], at: usize) -> Entry
-    requires { at + 8 ≤ length descriptor.now }
-    ensures { result ≡ entry_in descriptor.now at }
-{
-    Entry {
-        address: word_at(descriptor, at),
-        argument: word_at(descriptor, at + 4),
-    }
-}
-
-/// The guard at a place of the descriptor.
-fn guard_in(descriptor: &[u8], at: usize) -> Guard
-    requires { at + 8 ≤ length descriptor.now }
-    ensures { result ≡ guard_in descriptor.now at }
-{
-    Guard {
-        start: word_at(descriptor, at),
-        length: word_at(descriptor, at + 4),
-    }
-}
-
 /// So many entries, from a place of the descriptor on.
 fn entries_from(
     alloc: Global,
@@ -98,7 +76,10 @@ fn entries_from(
 {
     let mut entries = Vec::with_capacity(alloc, count)?;
     for i in 0..count {
-        entries.push(entry_in(descriptor, at + 8 * i))?;
+        entries.push(Entry {
+            address: word_at(descriptor, at + 8 * i),
+            argument: word_at(descriptor, at + 8 * i + 4),
+        })?;
     }
     Ok(entries)
 }
@@ -115,42 +96,17 @@ fn guards_from(
 {
     let mut guards = Vec::with_capacity(alloc, count)?;
     for i in 0..count {
-        guards.push(guard_in(descriptor, at + 8 * i))?;
+        guards.push(Guard {
+            start: word_at(descriptor, at + 8 * i),
+            length: word_at(descriptor, at + 8 * i + 4),
+        })?;
     }
     Ok(guards)
 }
 
 impl Layout {
-    /// The layout that a descriptor has.
-    fn described(alloc: Global, descriptor: &[u8]) -> Result<Layout, AllocError>
-        requires { is_bad_descriptor descriptor.now ≡ false }
-        ensures { IfOk result (λ l. l ≡ described_layout descriptor.now) }
-    {
-        let threads = word_at(descriptor, 4) as usize;
-        let guards = word_at(descriptor, 8) as usize;
-        let at = LAYOUT_HEADER_LENGTH + 8 * threads;
-        Ok(Layout {
-            entries: entries_from(alloc, descriptor, LAYOUT_HEADER_LENGTH, threads)?,
-            guards: guards_from(alloc, descriptor, at, guards)?,
-        })
-    }
-
-    /// The layout of a file without a note on it: one thread and no guard.
-    fn of_header(alloc: Global, bytes: &[u8]) -> Result<Layout, AllocError>
-        requires { HEADER_LENGTH ≤ length bytes.now }
-        ensures { IfOk result (λ l. l ≡ header_layout bytes.now) }
-    {
-        let entry = Entry {
-            address: word_at(bytes, 24),
-            argument: 0,
-        };
-        Ok(Layout {
-            entries: vec![in alloc; entry]?,
-            guards: Vec::new(alloc),
-        })
-    }
-
-    /// The layout of a file, unless its notes are refused.
+    /// The layout of a file, unless its notes are refused. Without a note on it there is one thread
+    /// and no guard.
     pub(crate) fn of(alloc: Global, bytes: &[u8], segments: &[Segment]) -> Result<Layout, Refusal>
         requires { HEADER_LENGTH ≤ length bytes.now }
         ensures value { IfOk result (λ l. layout_over bytes.now segments.now ≡ Some l) }
@@ -158,9 +114,26 @@ impl Layout {
         ensures notes { IfErr result (λ e. e ≢ OutOfMemory → HasBadNote bytes.now segments.now) }
     {
         match descriptor(bytes, segments)? {
-            None => Ok(Layout::of_header(alloc, bytes)?),
+            None => {
+                let entry = Entry {
+                    address: word_at(bytes, 24),
+                    argument: 0,
+                };
+                Ok(Layout {
+                    entries: vec![in alloc; entry]?,
+                    guards: Vec::new(alloc),
+                })
+            }
             Some(descriptor) if is_bad_descriptor(descriptor) => Err(Refusal::BadNote),
-            Some(descriptor) => Ok(Layout::described(alloc, descriptor)?),
+            Some(descriptor) => {
+                let threads = word_at(descriptor, 4) as usize;
+                let guards = word_at(descriptor, 8) as usize;
+                let at = LAYOUT_HEADER_LENGTH + 8 * threads;
+                Ok(Layout {
+                    entries: entries_from(alloc, descriptor, LAYOUT_HEADER_LENGTH, threads)?,
+                    guards: guards_from(alloc, descriptor, at, guards)?,
+                })
+            }
         }
     }
 }

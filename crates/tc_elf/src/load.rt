@@ -1,6 +1,6 @@
 //! From the bytes of a file to its image.
 
-ghost use Rattle.std.specs.Prelude.{◌≡◌, ◌≢◌, ◌≤◌, true, false, Some, length, vec_len, IfOk, IfErr};
+ghost use Rattle.std.specs.Prelude.{◌≡◌, ◌≢◌, ◌≤◌, true, false, Some, length, IfOk, IfErr};
 ghost use Rattle.std.specs.List.{list_any};
 ghost use Rattle.tc_elf.specs.Elf.{content, is_range, range_of, ranges_of};
 ghost use Rattle.tc_elf.specs.Refusals.{is_bad_load};
@@ -18,32 +18,22 @@ use crate::refusal::Refusal;
 use crate::segment::Segment;
 use std::alloc::{AllocError, Global};
 
-/// The bytes of a segment in memory at the start.
-fn content(alloc: Global, bytes: &[u8], segment: &Segment) -> Result<Vec<u8>, AllocError>
-    requires fits { is_bad_load bytes.now segment.now ≡ false }
-    requires range { is_range segment.now ≡ true }
-    ensures value { IfOk result (λ v. v.items ≡ content bytes.now segment.now) }
-    ensures count { IfOk result (λ v. vec_len v ≡ segment.now.memory_size) }
-{
-    let size = segment.memory_size as usize;
-    let mut content = Vec::with_capacity(alloc, size)?;
-    content.extend_from_slice(segment.part(bytes))?;
-    content.resize(size, 0)?;
-    Ok(content)
-}
-
-/// The range that a segment makes.
+/// The range that a segment makes: its part of the file, and zeros up to its size in memory.
 fn range_of(alloc: Global, bytes: &[u8], segment: &Segment) -> Result<Range, AllocError>
     requires fits { is_bad_load bytes.now segment.now ≡ false }
     requires range { is_range segment.now ≡ true }
     ensures { IfOk result (λ r. r ≡ range_of bytes.now segment.now) }
 {
+    let size = segment.memory_size as usize;
+    let mut content = Vec::with_capacity(alloc, size)?;
+    content.extend_from_slice(segment.part(bytes))?;
+    content.resize(size, 0)?;
     Ok(Range {
         start: segment.address,
         length: segment.memory_size,
         writable: segment.is_writable(),
         executable: segment.is_executable(),
-        bytes: content(alloc, bytes, segment)?,
+        bytes: content,
     })
 }
 
@@ -62,7 +52,7 @@ fn ranges_of(alloc: Global, bytes: &[u8], segments: &[Segment]) -> Result<Vec<Ra
 }
 
 /// The ranges, the threads and the guards of a file, unless it is refused.
-#[tactic(auto, unfolding(crate::specs::Loading::refusal))]
+#[tactic(auto, using(crate::proofs::Images::few_segments), unfolding(crate::specs::Loading::refusal))]
 fn parts(alloc: Global, bytes: &[u8]) -> Result<(Vec<Range>, Layout), Refusal>
     requires { length bytes.now ≤ MAX_FILE }
     ensures loaded { IfOk result (λ p. subset bytes.now (image_of p.0.items p.1)) }

@@ -1,6 +1,6 @@
 //! The notes of a file (System V gABI, "Note Section").
 
-ghost use Rattle.std.specs.Prelude.{◌≡◌, ◌≤◌, ◌<◌, ◌^◌, length, drop, Some, IfErr};
+ghost use Rattle.std.specs.Prelude.{◌≡◌, ◌≤◌, ◌<◌, length, drop, Some};
 ghost use Rattle.std.specs.Option.{option_copied};
 ghost use Rattle.tc_elf.specs.Notes.{padded, descriptor_end, next_at, descriptors_of, segment_descriptors, descriptors_over, single};
 ghost use Rattle.tc_elf.specs.Search.{finding_of, first_descriptor, only_one};
@@ -15,10 +15,21 @@ const NOTE_HEADER_LENGTH: usize = 12;
 /// The type of a note on threads and guards.
 const TCLOCKS_TYPE: u32 = 1;
 
+/// A segment of notes or a note is cut, or two notes are on threads and guards.
+#[derive(Debug, Drop)]
+pub(crate) struct BadNotes;
+
+impl From<BadNotes> for Refusal {
+    ghost from_gives = { λ _ e. e ≡ BadNote };
+
+    fn from(_: BadNotes) -> Self {
+        Refusal::BadNote
+    }
+}
+
 /// A length up to a multiple of 4.
 fn padded(count: u32) -> usize
-    ensures value { result ≡ padded count }
-    ensures bound { result ≤ 2 ^ 32 }
+    ensures { result ≡ padded count }
 {
     (count as usize + 3) / 4 * 4
 }
@@ -33,8 +44,7 @@ fn descriptor_end(bytes: &[u8]) -> usize
 
 /// The descriptor of the first note, if that is on threads and guards.
 fn first_descriptor(bytes: &[u8]) -> Option<&[u8]>
-    requires header { NOTE_HEADER_LENGTH ≤ length bytes.now }
-    requires whole { descriptor_end bytes.now ≤ length bytes.now }
+    requires { descriptor_end bytes.now ≤ length bytes.now }
     ensures { option_copied result ≡ first_descriptor bytes.now }
 {
     let name_length = word_at(bytes, 0);
@@ -49,8 +59,7 @@ fn first_descriptor(bytes: &[u8]) -> Option<&[u8]>
 /// What stands behind the first note.
 fn rest_of(bytes: &[u8]) -> &[u8]
     requires { NOTE_HEADER_LENGTH ≤ length bytes.now }
-    ensures rest { result.now ≡ drop (next_at bytes.now) bytes.now }
-    ensures shorter { length result.now < length bytes.now }
+    ensures { result.now ≡ drop (next_at bytes.now) bytes.now }
 {
     let next = NOTE_HEADER_LENGTH + padded(word_at(bytes, 0)) + padded(word_at(bytes, 4));
     if next < bytes.len() {
@@ -61,28 +70,29 @@ fn rest_of(bytes: &[u8]) -> &[u8]
 }
 
 /// The one descriptor of two searches; two are too many.
-fn only_one<'a>(one: Option<&'a [u8]>, other: Option<&'a [u8]>) -> Result<Option<&'a [u8]>, Refusal>
-    ensures value { finding_of result
+fn only_one<'a>(
+    one: Option<&'a [u8]>,
+    other: Option<&'a [u8]>,
+) -> Result<Option<&'a [u8]>, BadNotes>
+    ensures { finding_of result
         ≡ only_one (Some (option_copied one.entry)) (Some (option_copied other.entry)) }
-    ensures cause { IfErr result (λ e. e ≡ BadNote) }
 {
     match (one, other) {
-        (Some(_), Some(_)) => Err(Refusal::BadNote),
+        (Some(_), Some(_)) => Err(BadNotes),
         (Some(descriptor), None) | (None, Some(descriptor)) => Ok(Some(descriptor)),
         (None, None) => Ok(None),
     }
 }
 
 /// The descriptor in a segment's notes.
-fn descriptor_in(bytes: &[u8]) -> Result<Option<&[u8]>, Refusal>
-    ensures value { finding_of result ≡ single (descriptors_of bytes.now) }
-    ensures cause { IfErr result (λ e. e ≡ BadNote) }
+fn descriptor_in(bytes: &[u8]) -> Result<Option<&[u8]>, BadNotes>
+    ensures { finding_of result ≡ single (descriptors_of bytes.now) }
 {
     let mut found = None;
     let mut rest = bytes;
     while rest.len() >= NOTE_HEADER_LENGTH {
         if descriptor_end(rest) > rest.len() {
-            return Err(Refusal::BadNote);
+            return Err(BadNotes);
         }
         found = only_one(found, first_descriptor(rest))?;
         rest = rest_of(rest);
@@ -91,15 +101,14 @@ fn descriptor_in(bytes: &[u8]) -> Result<Option<&[u8]>, Refusal>
 }
 
 /// The descriptor in a segment, if that has notes.
-fn segment_descriptor<'a>(bytes: &'a [u8], segment: &Segment) -> Result<Option<&'a [u8]>, Refusal>
-    ensures value { finding_of result ≡ single (segment_descriptors bytes.now segment.now) }
-    ensures cause { IfErr result (λ e. e ≡ BadNote) }
+fn segment_descriptor<'a>(bytes: &'a [u8], segment: &Segment) -> Result<Option<&'a [u8]>, BadNotes>
+    ensures { finding_of result ≡ single (segment_descriptors bytes.now segment.now) }
 {
     if !segment.is_note() {
         return Ok(None);
     }
     if segment.runs_past(bytes) {
-        return Err(Refusal::BadNote);
+        return Err(BadNotes);
     }
     descriptor_in(segment.part(bytes))
 }
@@ -109,9 +118,8 @@ fn segment_descriptor<'a>(bytes: &'a [u8], segment: &Segment) -> Result<Option<&
 pub(crate) fn descriptor<'a>(
     bytes: &'a [u8],
     segments: &[Segment],
-) -> Result<Option<&'a [u8]>, Refusal>
-    ensures value { finding_of result ≡ single (descriptors_over bytes.now segments.now) }
-    ensures cause { IfErr result (λ e. e ≡ BadNote) }
+) -> Result<Option<&'a [u8]>, BadNotes>
+    ensures { finding_of result ≡ single (descriptors_over bytes.now segments.now) }
 {
     match segments {
         [] => Ok(None),

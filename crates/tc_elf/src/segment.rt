@@ -1,6 +1,6 @@
 //! Program headers and the segments that they describe (System V gABI, "Program Header").
 
-ghost use Rattle.std.specs.Prelude.{◌≡◌, ◌+◌, ◌≤◌, ◌^◌, ◌<◌, false, length};
+ghost use Rattle.std.specs.Prelude.{◌≡◌, ◌+◌, ◌≤◌, ◌<◌, false, length};
 ghost use Rattle.tc_elf.specs.Elf.{word_at, half_at, segment_at, is_executable, is_writable, is_range, part};
 ghost use Rattle.tc_elf.specs.Notes.{is_note, runs_past};
 ghost use Rattle.tc_elf.specs.Refusals.{is_dynamic, is_bad_load, load_size, shares, is_on_stack, is_writable_code};
@@ -127,12 +127,11 @@ impl Segment {
     }
 
     /// The memory that the segment takes.
-    pub(crate) fn load_size(&self) -> u64
-        ensures value { result ≡ load_size self.now }
-        ensures bound { result < 2 ^ 32 }
+    pub(crate) fn load_size(&self) -> u32
+        ensures { result ≡ load_size self.now }
     {
         if self.kind == PT_LOAD {
-            self.memory_size as u64
+            self.memory_size
         } else {
             0
         }

@@ -6,7 +6,4 @@ use Rattle.tc_elf.proofs.header.segments_from.Goals as goal
 pub loop-i-preserved : goal.loop-i-preserved
 loop-i-preserved c =
     let more = map-range_with_len_more (λ i. segment_at c.args.bytes.now (c.args.at + 32 * i)) 0 c.loop-i.i c.loop-i.i (omega arith) in
-    record {
-      made = cc (more, c.loop-i.invariant.made, c.in_ok-push.ensures.items, c.at.ensures);
-      count = omega (arith, c.in_ok-push.ensures.len);
-    }
+    cc (more, c.loop-i.invariant, c.in_ok-push.ensures.items, c.at.ensures)

@@ -6,4 +6,4 @@ use Rattle.tc_elf.proofs.layout.guards_from.Goals as goal
 pub loop-i-preserved : goal.loop-i-preserved
 loop-i-preserved c =
     let more = map-range_with_len_more (λ i. guard_in c.args.descriptor.now (c.args.at + 8 * i)) 0 c.loop-i.i c.loop-i.i (omega arith) in
-    cc (more, c.loop-i.invariant, c.in_ok-push.ensures.items, c.guard_in.ensures)
+    cc (more, c.loop-i.invariant, c.in_ok-push.ensures.items, c.word_at.ensures, c.word_at-in-loop-i.ensures)
