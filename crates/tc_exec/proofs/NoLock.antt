@@ -21,7 +21,7 @@ use Rattle.tc_exec.specs.declared.outcome.Act.TheVariants.{Next, Called, Faulted
 use Rattle.tc_exec.specs.declared.outcome.Call.TheVariants.{Lock, Unlock, Sleep, Exit}
 
 -- whatever is no ECALL with the number of LOCK is no LOCK
-never : (image : Shown) (r : Registers) → (CallsLock image r → ⊥) → NeverLocks image r
+pub never : (image : Shown) (r : Registers) → (CallsLock image r → ⊥) → NeverLocks image r
 never image r other held answer = each image held r (λ act wanted. IsNoLock (act answer)) record {
   goes = λ next kept. tt;
   faults = λ f. tt;

@@ -88,22 +88,16 @@ load_want image held kind addr = want_at held (region_of image addr (load_width 
 abbrev pub fault_of_load : Shown → (ℕ → Bool) → LoadKind → ℕ → Option Fault
 fault_of_load image held kind addr = load_fault held (region_of image addr (load_width kind)) addr (load_width kind)
 
-abbrev pub load_from : (ℕ → Bool) → Registers → ℕ → LoadKind → ℕ → Region → ℕ → Act
-load_from held r answer kind rd place addr =
-    faulted_or (load_fault held place addr (load_width kind)) (set r rd (extended kind answer))
-
 unfoldable pub load : Shown → (ℕ → Bool) → Registers → ℕ → LoadKind → ℕ → ℕ → Act
 load image held r answer kind rd addr =
-    load_from held r answer kind rd (region_of image addr (load_width kind)) addr
+    faulted_or (fault_of_load image held kind addr) (set r rd (extended kind answer))
 
 -- the low bits of a value
 abbrev pub put_at : Region → ℕ → ℕ → ℕ → Put
 put_at place addr width value = record { region = place; addr = addr; width = width; value = value % 2 ^ (8 * width) }
 
-abbrev pub store_at : (ℕ → Bool) → Registers → Region → ℕ → ℕ → ℕ → Act
-store_at held r place addr width value =
-    faulted_or (store_fault held place addr width) (Next (at_next r) (Some (put_at place addr width value)))
-
 unfoldable pub store : Shown → (ℕ → Bool) → Registers → StoreKind → ℕ → ℕ → Act
 store image held r kind addr value =
-    store_at held r (region_of image addr (store_width kind)) addr (store_width kind) value
+    let width = store_width kind in
+    let place = region_of image addr width in
+    faulted_or (store_fault held place addr width) (Next (at_next r) (Some (put_at place addr width value)))

@@ -48,12 +48,6 @@ abbrev pub remainder : ℕ → ℕ → ℕ
 remainder a b = if b == 0 then a else cast_unsigned w32 (int_rem (signed a) (signed b))
 
 -- the same as unsigned numbers
-abbrev pub quotient_unsigned : ℕ → ℕ → ℕ
-quotient_unsigned a b = if b == 0 then 2 ^ 32 - 1 else a / b
-
-abbrev pub remainder_unsigned : ℕ → ℕ → ℕ
-remainder_unsigned a b = if b == 0 then a else a % b
-
 abbrev pub flag : Bool → ℕ
 flag b = if b then 1 else 0
 
@@ -74,9 +68,9 @@ value_of op.Mulh a b = high_half (signed a *ℤ signed b)
 value_of op.Mulhsu a b = high_half (signed a *ℤ pos b)
 value_of op.Mulhu a b = high_half (pos a *ℤ pos b)
 value_of op.Div a b = quotient a b
-value_of op.Divu a b = quotient_unsigned a b
+value_of op.Divu a b = if b == 0 then 2 ^ 32 - 1 else a / b
 value_of op.Rem a b = remainder a b
-value_of op.Remu a b = remainder_unsigned a b
+value_of op.Remu a b = if b == 0 then a else a % b
 
 -- an operation with an immediate is the one on registers with the immediate in the second's place
 abbrev pub op_of_imm : ImmOp → RegOp

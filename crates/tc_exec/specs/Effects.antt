@@ -1,5 +1,5 @@
 -- What an instruction does beside the registers, and how the rest of it follows from that.
-use Rattle.std.specs.Prelude.{ℕ, Bool, true, false, None}
+use Rattle.std.specs.Prelude.{◌≡◌, ℕ, Bool, true, false, None}
 use Rattle.tc_isa.specs.Registers.{Registers}
 use Rattle.tc_elf.specs.Shown.{Shown}
 use Rattle.tc_exec.specs.Access.{load_want, load, store}
@@ -37,3 +37,9 @@ want_after image held (Load kind rd addr) = load_want image held kind addr
 want_after image held (Store kind addr value) = Nothing
 want_after image held Call = Nothing
 want_after image held (Fault f) = Nothing
+
+-- the instruction that does this loads nothing, and has this effect, before which the registers have their part
+pub record Goes (turn : Act) (before after : Registers) (effect : Effect) : Type 0 where
+  pub act : (image : Shown) (held : ℕ → Bool) (answer : ℕ) → turn ≡ act_after image held after answer effect
+  pub want : (image : Shown) (held : ℕ → Bool) → want_after image held effect ≡ Nothing
+  pub kept : is_done effect ≡ false → after ≡ before

@@ -1,5 +1,5 @@
 -- An act as it is done in place: to the registers, and what remains beside them.
-use Rattle.std.specs.Prelude.{ℕ, ◌≤◌, Bool, Some, None}
+use Rattle.std.specs.Prelude.{◌≡◌, ℕ, ◌≤◌, Bool, Some, None}
 use Rattle.tc_isa.specs.Registers.{Registers}
 use Rattle.tc_isa.specs.declared.limits.TheConstants.{MAX_SLEEP}
 use Rattle.tc_elf.specs.Shown.{Shown}
@@ -23,7 +23,12 @@ done_of (Next next (Some put)) = done.Stored put
 done_of (Called call next) = done.Called call
 done_of (Faulted f) = done.Faulted f
 
--- what is true of that
+-- the act was done to registers, and this is left of it
+pub record IsDoneBy (act : Act) (before after : Registers) (left : Done) : Type 0 where
+  pub done : left ≡ done_of act
+  pub regs : after ≡ regs_after act before
+
+-- what is true of what is left
 abbrev pub IsDone : Shown → (ℕ → Bool) → Done → Type 0
 IsDone image held done.Went = Unit {0}
 IsDone image held (done.Stored put) = IsPut image held put

@@ -5,7 +5,7 @@ ghost use Rattle.tc_isa.specs.Sets.{has};
 ghost use Rattle.tc_exec.specs.Access as access;
 ghost use Rattle.tc_exec.specs.Access.{width_bytes};
 ghost use Rattle.tc_exec.specs.Flow as flow;
-ghost use Rattle.tc_exec.specs.InPlace.{done_of, regs_after};
+ghost use Rattle.tc_exec.specs.InPlace.{IsDoneBy};
 ghost use Rattle.tc_exec.specs.declared.outcome.Act.TheVariants.{Next};
 
 use crate::outcome::{Done, Put, Want};
@@ -194,10 +194,8 @@ pub(crate) fn load(
     rd: Reg,
     answer: u32,
 ) -> Done
-    ensures done { result
-        ≡ done_of (flow.faulted_or fault (flow.set regs.old rd (access.extended kind answer))) }
-    ensures regs { regs.new ≡ regs_after
-        (flow.faulted_or fault (flow.set regs.old rd (access.extended kind answer))) regs.old }
+    ensures { IsDoneBy (flow.faulted_or fault (flow.set regs.old rd (access.extended kind answer)))
+        regs.old regs.new result }
 {
     match fault {
         Some(fault) => Done::Faulted(fault),
@@ -219,10 +217,8 @@ pub(crate) fn store(
     addr: u32,
     value: u32,
 ) -> Done
-    ensures done { result
-        ≡ done_of (access.store image.now (has held) regs.old kind addr value) }
-    ensures regs { regs.new
-        ≡ regs_after (access.store image.now (has held) regs.old kind addr value) regs.old }
+    ensures { IsDoneBy (access.store image.now (has held) regs.old kind addr value)
+        regs.old regs.new result }
 {
     let width = Width::of_store(kind);
     let region = image.region_from(near, addr, width.bytes());

@@ -2,7 +2,7 @@
 
 ghost use Rattle.std.specs.Prelude.{◌≡◌, ◌<◌};
 ghost use Rattle.tc_exec.specs.Arithmetic as arithmetic;
-ghost use Rattle.tc_isa.specs.declared.instr.RegOp.TheVariants.{Mulh, Mulhsu, Mulhu};
+ghost use Rattle.tc_isa.specs.declared.instr.RegOp.TheVariants.{Mulh, Mulhsu};
 
 use tc_isa::instr::{Cond, ImmOp, RegOp};
 
@@ -10,13 +10,6 @@ fn less_signed(a: u32, b: u32) -> bool
     ensures { result ≡ arithmetic.less_signed a b }
 {
     a.cast_signed() < b.cast_signed()
-}
-
-fn shifted_signed(a: u32, by: u32) -> u32
-    requires { by < 32 }
-    ensures { result ≡ arithmetic.shifted_signed a by }
-{
-    (a.cast_signed() >> by).cast_unsigned()
 }
 
 /// The high 32 bits of a product of 64 bits.
@@ -36,12 +29,6 @@ fn product_mixed(a: u32, b: u32) -> u32
     ensures { result ≡ arithmetic.value_of Mulhsu a b }
 {
     high_half(i64::from(a.cast_signed()) * i64::from(b))
-}
-
-fn product_unsigned(a: u32, b: u32) -> u32
-    ensures { result ≡ arithmetic.value_of Mulhu a b }
-{
-    ((u64::from(a) * u64::from(b)) >> 32) as u32
 }
 
 fn quotient(a: u32, b: u32) -> u32
@@ -64,18 +51,6 @@ fn remainder(a: u32, b: u32) -> u32
     remainder.cast_unsigned()
 }
 
-fn quotient_unsigned(a: u32, b: u32) -> u32
-    ensures { result ≡ arithmetic.quotient_unsigned a b }
-{
-    if b == 0 { u32::MAX } else { a / b }
-}
-
-fn remainder_unsigned(a: u32, b: u32) -> u32
-    ensures { result ≡ arithmetic.remainder_unsigned a b }
-{
-    if b == 0 { a } else { a % b }
-}
-
 /// What an operation on two numbers gives. It stands in the loop over turns, where a call would
 /// cost more than most operations do.
 #[inline(always)]
@@ -90,17 +65,17 @@ pub fn value_of(op: RegOp, a: u32, b: u32) -> u32
         RegOp::Sltu => (a < b) as u32,
         RegOp::Xor => a ^ b,
         RegOp::Srl => a >> (b % 32),
-        RegOp::Sra => shifted_signed(a, b % 32),
+        RegOp::Sra => (a.cast_signed() >> (b % 32)).cast_unsigned(),
         RegOp::Or => a | b,
         RegOp::And => a & b,
         RegOp::Mul => a.wrapping_mul(b),
         RegOp::Mulh => product_signed(a, b),
         RegOp::Mulhsu => product_mixed(a, b),
-        RegOp::Mulhu => product_unsigned(a, b),
+        RegOp::Mulhu => ((u64::from(a) * u64::from(b)) >> 32) as u32,
         RegOp::Div => quotient(a, b),
-        RegOp::Divu => quotient_unsigned(a, b),
+        RegOp::Divu => if b == 0 { u32::MAX } else { a / b },
         RegOp::Rem => remainder(a, b),
-        RegOp::Remu => remainder_unsigned(a, b),
+        RegOp::Remu => if b == 0 { a } else { a % b },
     }
 }
 

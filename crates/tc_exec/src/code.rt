@@ -8,7 +8,7 @@ ghost use Rattle.tc_isa.specs.Registers.{get};
 ghost use Rattle.tc_isa.specs.Sets.{has};
 ghost use Rattle.tc_isa.specs.declared.instr.Instr.TheVariants.{Ecall};
 ghost use Rattle.tc_elf.specs.Shown.{Shown};
-ghost use Rattle.tc_exec.specs.Code.{SlotTells, SlotsTell, PartsTell, IsTelling};
+ghost use Rattle.tc_exec.specs.Code.{SlotTells, SlotsTell, PartsTell};
 ghost use Rattle.tc_exec.specs.Statements.{NeverLocks, CallsLock};
 ghost use Rattle.tc_exec.specs.Step as step;
 ghost use Rattle.tc_exec.specs.Told.{taken_by};
@@ -92,13 +92,6 @@ impl<'a> Stretch<'a> {
     }
 }
 
-fn is_call(instr: &Instr) -> bool
-    ensures yes { result ≡ true → instr.now ≡ Ecall }
-    ensures no { result ≡ false → instr.now ≡ Ecall → ⊥ }
-{
-    matches!(instr, Instr::Ecall)
-}
-
 /// The decoded word of a place.
 fn slot_at(image: &Image, pc: u32) -> Option<Instr>
     ensures { SlotTells image.now pc result }
@@ -132,15 +125,6 @@ fn has_place(part: &Part, pc: u32) -> bool {
     pc >= part.start && (((pc - part.start) / 4) as usize) < part.slots.len()
 }
 
-/// The decoded words of a range.
-fn part_of(alloc: Global, image: &Image, start: u32, length: u32) -> Result<Part, AllocError>
-    requires { start + length ≤ 2 ^ 32 }
-    ensures { IfOk result (IsTelling image.now) }
-{
-    let slots = slots_from(alloc, image, start, length / 4)?;
-    Ok(Part { start, slots })
-}
-
 /// The decoded words of the executable ranges.
 fn parts_of(alloc: Global, image: &Image) -> Result<Vec<Part>, AllocError>
     ensures { IfOk result (λ v. PartsTell image.now v.items) }
@@ -149,7 +133,8 @@ fn parts_of(alloc: Global, image: &Image) -> Result<Vec<Part>, AllocError>
     'each: for i in 0..image.ranges() {
         let (start, length, _, executable) = image.range(i);
         if executable {
-            parts.push(part_of(alloc, image, start, length)?)?;
+            let slots = slots_from(alloc, image, start, length / 4)?;
+            parts.push(Part { start, slots })?;
         }
     }
     Ok(parts)
@@ -243,7 +228,7 @@ fn calls_lock(image: &Image, regs: &Regs, known: Option<&Instr>) -> bool
     ensures yes { result ≡ true → CallsLock image.now regs.now }
 {
     match known {
-        Some(instr) => is_call(instr),
+        Some(instr) => matches!(instr, Instr::Ecall),
         None => may_lock(image, regs),
     }
 }

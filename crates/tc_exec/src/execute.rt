@@ -3,11 +3,11 @@
 //! What an instruction does to the registers alone is done at once. A load, a store and a guest call
 //! need more than the registers, so they are told, with what they need of the registers.
 
-ghost use Rattle.std.specs.Prelude.{◌≡◌, ℕ, ◌+◌, ◌%◌, ◌^◌, Bool, None, true, false};
+ghost use Rattle.std.specs.Prelude.{◌≡◌, ℕ, ◌+◌, ◌%◌, ◌^◌, Bool, None, false};
 ghost use Rattle.tc_isa.specs.Registers.{get};
 ghost use Rattle.tc_elf.specs.Shown.{Shown};
 ghost use Rattle.tc_exec.specs.Arithmetic.{plus};
-ghost use Rattle.tc_exec.specs.Effects.{act_after, want_after, is_done};
+ghost use Rattle.tc_exec.specs.Effects.{Goes, act_after, want_after, is_done};
 ghost use Rattle.tc_exec.specs.Flow as flow;
 ghost use Rattle.tc_exec.specs.Step as step;
 ghost use Rattle.tc_exec.specs.declared.execute.Effect.TheVariants as TheEffect;
@@ -60,11 +60,8 @@ fn set(regs: &mut Regs, rd: Reg, value: u32) -> Effect
 /// Goes to a target, which has to be a multiple of 4. The address behind the jump goes into a
 /// register; that of a branch is x0.
 fn jump(regs: &mut Regs, rd: Reg, target: u32) -> Effect
-    ensures act { (image : Shown) (held : ℕ → Bool) (answer : ℕ)
-        → flow.jump regs.old rd target ≡ act_after image held regs.new answer result }
-    ensures want { (image : Shown) (held : ℕ → Bool) → want_after image held result ≡ Nothing }
+    ensures goes { Goes (flow.jump regs.old rd target) regs.old regs.new result }
     ensures jumped { result ≡ TheEffect.Went → ⊥ }
-    ensures kept { is_done result ≡ false → regs.new ≡ regs.old }
 {
     if target % 4 != 0 {
         return Effect::Fault(Fault::JumpTarget);
@@ -77,12 +74,8 @@ fn jump(regs: &mut Regs, rd: Reg, target: u32) -> Effect
 
 /// Goes by a distance from the program counter, as `jump` does.
 fn jump_by(regs: &mut Regs, rd: Reg, off: u32) -> Effect
-    ensures act { (image : Shown) (held : ℕ → Bool) (answer : ℕ)
-        → flow.jump regs.old rd (plus regs.old.pc off)
-        ≡ act_after image held regs.new answer result }
-    ensures want { (image : Shown) (held : ℕ → Bool) → want_after image held result ≡ Nothing }
+    ensures goes { Goes (flow.jump regs.old rd (plus regs.old.pc off)) regs.old regs.new result }
     ensures jumped { result ≡ TheEffect.Went → ⊥ }
-    ensures kept { is_done result ≡ false → regs.new ≡ regs.old }
 {
     let target = regs.pc().wrapping_add(off);
     jump(regs, rd, target)
@@ -90,11 +83,8 @@ fn jump_by(regs: &mut Regs, rd: Reg, off: u32) -> Effect
 
 /// Goes by a distance, where two registers meet a condition.
 fn branch(regs: &mut Regs, cond: Cond, rs1: Reg, rs2: Reg, off: u32) -> Effect
-    ensures act { (image : Shown) (held : ℕ → Bool) (answer : ℕ)
-        → flow.branch regs.old cond rs1 rs2 off ≡ act_after image held regs.new answer result }
-    ensures want { (image : Shown) (held : ℕ → Bool) → want_after image held result ≡ Nothing }
+    ensures goes { Goes (flow.branch regs.old cond rs1 rs2 off) regs.old regs.new result }
     ensures went { result ≡ TheEffect.Went → regs.new.pc ≡ (regs.old.pc + 4) % 2 ^ 32 }
-    ensures kept { is_done result ≡ false → regs.new ≡ regs.old }
 {
     if !is_taken(cond, regs.get(rs1), regs.get(rs2)) {
         regs.step();

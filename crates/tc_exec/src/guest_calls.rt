@@ -5,7 +5,7 @@ ghost use Rattle.tc_isa.specs.Registers.{get};
 ghost use Rattle.tc_isa.specs.Sets.{has};
 ghost use Rattle.tc_exec.specs.Calls as calls;
 ghost use Rattle.tc_exec.specs.Flow.{faulted_or};
-ghost use Rattle.tc_exec.specs.InPlace.{done_of, regs_after};
+ghost use Rattle.tc_exec.specs.InPlace.{IsDoneBy};
 ghost use Rattle.tc_exec.specs.declared.outcome.Act.TheVariants.{Called};
 
 use crate::outcome::{Call, Done};
@@ -65,12 +65,6 @@ fn unlock_fault(image: &Image, held: Held, lock: u32) -> Option<Fault>
     }
 }
 
-fn sleep_fault(blocks: u32) -> Option<Fault>
-    ensures { result ≡ calls.sleep_fault blocks }
-{
-    (blocks > MAX_SLEEP).then_some(Fault::BadCall)
-}
-
 /// Comes back from a guest call with its answer.
 pub fn come_back(regs: &mut Regs, answer: u32)
     ensures { regs.new ≡ calls.answered regs.old answer }
@@ -80,10 +74,8 @@ pub fn come_back(regs: &mut Regs, answer: u32)
 }
 
 fn called(fault: Option<Fault>, call: Call, regs: &mut Regs, value: u32) -> Done
-    ensures done { result
-        ≡ done_of (faulted_or fault (Called call (calls.answered regs.old value))) }
-    ensures regs { regs.new
-        ≡ regs_after (faulted_or fault (Called call (calls.answered regs.old value))) regs.old }
+    ensures { IsDoneBy (faulted_or fault (Called call (calls.answered regs.old value)))
+        regs.old regs.new result }
 {
     match fault {
         Some(fault) => Done::Faulted(fault),
@@ -104,9 +96,8 @@ pub(crate) fn is_numbered_lock(regs: &Regs) -> bool
 /// Does what ECALL does. `answer` is 1 for the LOCK of a broken lock, and else 0.
 #[tactic(auto, unfolding(crate::specs::Calls::guest_call))]
 pub(crate) fn guest_call(image: &Image, held: Held, regs: &mut Regs, answer: u32) -> Done
-    ensures done { result ≡ done_of (calls.guest_call image.now (has held) regs.old answer) }
-    ensures regs { regs.new
-        ≡ regs_after (calls.guest_call image.now (has held) regs.old answer) regs.old }
+    ensures { IsDoneBy (calls.guest_call image.now (has held) regs.old answer)
+        regs.old regs.new result }
 {
     let argument = regs.get(Reg::of(10));
     match regs.get(Reg::of(17)) {
@@ -118,7 +109,10 @@ pub(crate) fn guest_call(image: &Image, held: Held, regs: &mut Regs, answer: u32
             let fault = unlock_fault(image, held, argument);
             called(fault, Call::Unlock(argument), regs, 0)
         }
-        SLEEP => called(sleep_fault(argument), Call::Sleep(argument), regs, 0),
+        SLEEP => {
+            let fault = (argument > MAX_SLEEP).then_some(Fault::BadCall);
+            called(fault, Call::Sleep(argument), regs, 0)
+        }
         EXIT => Done::Called(Call::Exit),
         _ => Done::Faulted(Fault::BadCall),
     }
