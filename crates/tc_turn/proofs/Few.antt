@@ -1,23 +1,19 @@
 -- How many locks a thread holds.
-use Rattle.std.proofs.Common.{◌≡◌, ◌⊎◌, ℕ, zero, suc, ◌+◌, ◌<◌, ◌≤◌, Bool, true, false, cond, not, ◌||◌, ◌&&◌, ◌==◌, List, [], ◌∷◌, length, filter, refl, sym, ap, subst, ◌∙◌, inl, inr, arith}
-use Rattle.std.specs.Prelude.{Option, Some, None, if◌then◌else◌}
+use Rattle.std.proofs.Common.{◌≡◌, ℕ, zero, suc, ◌+◌, ◌<◌, ◌≤◌, Bool, true, false, cond, not, ◌||◌, ◌&&◌, ◌==◌, List, [], ◌∷◌, length, filter, refl, sym, ap, subst, ◌∙◌, inl, inr, arith}
+use Rattle.std.specs.Prelude.{Some, None, if◌then◌else◌}
 use Rattle.std.specs.List.{range_with_len}
 use Rattle.std.proofs.lemmas.Bool.Decides.{eqb_tells, leb_tells}
 use Rattle.tc_isa.specs.Registers.{Registers, get}
 use Rattle.tc_isa.specs.Sets.{has, locks_of}
-use Rattle.tc_isa.specs.Reading.{decoded}
 use Rattle.tc_isa.specs.declared.fault.Fault.TheVariants as fault
-use Rattle.tc_isa.specs.declared.instr.Instr.{Instr}
-use Rattle.tc_isa.specs.declared.instr.Instr.TheVariants.{Lui, Auipc, Jal, Jalr, Branch, Load, Store, Imm, Op, Fence, Ecall, Ebreak}
 use Rattle.tc_isa.specs.declared.limits.TheConstants.{MAX_HELD}
 use Rattle.tc_elf.specs.Shown.{Shown}
-use Rattle.tc_elf.specs.Places.{fetched}
 use Rattle.tc_exec.specs.Calls.{has_lock, holds_most, is_above_held, lock_fault}
 use Rattle.tc_exec.specs.Step.{act_of}
 use Rattle.tc_exec.specs.Told.{IsNoLock, taken_by}
 use Rattle.tc_exec.specs.declared.outcome.Act.TheVariants.{Called}
 use Rattle.tc_exec.specs.declared.outcome.Call.TheVariants.{Lock}
-use Rattle.tc_exec.proofs.NoLock.{other_number, other_word, no_word, calls, taken_some}
+use Rattle.tc_exec.proofs.NoLock.{never, taken_some}
 use Rattle.tc_turn.specs.Turn.{Thread, next_lock, plus_lock}
 use Rattle.tc_turn.proofs.Turns.{next_some}
 
@@ -91,24 +87,6 @@ less_few held rest i each mine small = one_less (has rest) (has held) i 0 32 (λ
 
 -- ---- a thread that holds as many locks as it may takes none
 
-ecall_or : (i : Instr) → (i ≡ Ecall) ⊎ (i ≡ Ecall → ⊥)
-ecall_or (Lui rd imm) = inr (λ e. cc)
-ecall_or (Auipc rd imm) = inr (λ e. cc)
-ecall_or (Jal rd off) = inr (λ e. cc)
-ecall_or (Jalr rd rs1 off) = inr (λ e. cc)
-ecall_or (Branch k rs1 rs2 off) = inr (λ e. cc)
-ecall_or (Load kind rd rs1 off) = inr (λ e. cc)
-ecall_or (Store kind rs1 rs2 off) = inr (λ e. cc)
-ecall_or (Imm o rd rs1 imm) = inr (λ e. cc)
-ecall_or (Op o rd rs1 rs2) = inr (λ e. cc)
-ecall_or (Fence rd rs1 imm) = inr (λ e. cc)
-ecall_or Ecall = inl refl
-ecall_or Ebreak = inr (λ e. cc)
-
-decoded_or : (o : Option Instr) → (o ≡ Some Ecall) ⊎ (o ≡ Some Ecall → ⊥)
-decoded_or None = inr (λ e. cc)
-decoded_or (Some i) = elim (ecall_or i) [ inl e ↦ inl (ap Some e) | inr e ↦ inr (λ s. e (cc)) ]
-
 most_fault : (image : Shown) (held : ℕ → Bool) (lock : ℕ) → holds_most held ≡ true → lock_fault image held lock ≡ Some fault.BadLock
 most_fault image held lock most = elim (has_lock image lock) as (λ b. (if not b then Some fault.BadLock else if holds_most held then Some fault.BadLock else if is_above_held held lock then None else Some fault.LockOrder) ≡ Some fault.BadLock) [
   | true ↦ rw most refl
@@ -116,17 +94,8 @@ most_fault image held lock most = elim (has_lock image lock) as (λ b. (if not b
 ]
 
 takes_none : (image : Shown) (held : ℕ → Bool) (r : Registers) (answer lock : ℕ) (next : Registers) → holds_most held ≡ true → act_of image held r answer ≡ Called (Lock lock) next → ⊥
-takes_none image held r answer lock next most e = elim (eqb_tells (get r 17) 1) [
-  | inl one ↦ by (fetched image r.pc) refl one.1
-  | inr other ↦ subst IsNoLock e (other_number image held r answer other.0)
-]
-  where
-    by : (o : Option ℕ) → fetched image r.pc ≡ o → get r 17 ≡ 1 → ⊥
-    by None at one = subst IsNoLock e (no_word image held r answer at)
-    by (Some word) at one = elim (decoded_or (decoded word)) [
-      | inl is ↦ (let none : None ≡ Some lock = sym (taken_some image held r (Some fault.BadLock) (calls image r word one at is) (most_fault image held (get r 10) most) answer) ∙ ap taken_by e in cc)
-      | inr other ↦ subst IsNoLock e (other_word image held r answer word at other)
-    ]
+takes_none image held r answer lock next most e = subst IsNoLock e (never image r (λ calls.
+    (let none : None ≡ Some lock = sym (taken_some image held r (Some fault.BadLock) calls (most_fault image held (get r 10) most) answer) ∙ ap taken_by e in cc)) held answer)
 
 -- ---- a thread that takes a lock holds less than it may
 

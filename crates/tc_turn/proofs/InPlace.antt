@@ -1,14 +1,13 @@
 -- A turn in place is the turn.
-use Rattle.std.proofs.Common.{◌≡◌, ℕ, Bool, refl}
+use Rattle.std.proofs.Common.{◌≡◌, refl}
 use Rattle.std.specs.Prelude.{Option, Some, None}
 use Rattle.std.specs.Option.{option_map}
-use Rattle.tc_elf.specs.Shown.{Shown}
 use Rattle.tc_exec.specs.InPlace.{regs_after, done_of}
 use Rattle.tc_exec.specs.declared.outcome.Act.{Act}
 use Rattle.tc_exec.specs.declared.outcome.Act.TheVariants.{Next, Called, Faulted}
 use Rattle.tc_exec.specs.declared.outcome.Call.TheVariants.{Lock, Unlock, Sleep, Exit}
-use Rattle.tc_turn.specs.Turn.{Thread, Mutex, thread_after, mutex_after, outcome_of}
-use Rattle.tc_turn.specs.InPlace.{thread_done, with_regs, mutex_done, outcome_done}
+use Rattle.tc_turn.specs.Turn.{Thread, thread_after, outcome_of}
+use Rattle.tc_turn.specs.InPlace.{thread_done, with_regs, outcome_done}
 
 -- ---- an act seen by its registers, and what is done beside them
 
@@ -20,16 +19,6 @@ same_thread d (Called (Unlock lock) next) = refl
 same_thread d (Called (Sleep blocks) next) = refl
 same_thread d (Called Exit next) = refl
 same_thread d (Faulted f) = refl
-
-pub same_mutex : (image : Shown) (t : ℕ) (held : ℕ → Bool) (a : Option Act) (k : ℕ) (l : Mutex) → mutex_done image t held (option_map done_of a) k l ≡ mutex_after image t held a k l
-same_mutex image t held None k l = refl
-same_mutex image t held (Some (Next next None)) k l = refl
-same_mutex image t held (Some (Next next (Some put))) k l = refl
-same_mutex image t held (Some (Called (Lock lock) next)) k l = refl
-same_mutex image t held (Some (Called (Unlock lock) next)) k l = refl
-same_mutex image t held (Some (Called (Sleep blocks) next)) k l = refl
-same_mutex image t held (Some (Called Exit next)) k l = refl
-same_mutex image t held (Some (Faulted f)) k l = refl
 
 pub same_outcome : (a : Option Act) → outcome_done (option_map done_of a) ≡ outcome_of a
 same_outcome None = refl

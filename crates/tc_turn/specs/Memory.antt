@@ -1,11 +1,16 @@
 -- Bytes at addresses: a thread's own memory, and the guards of locks.
-use Rattle.std.specs.Prelude.{ℕ, zero, suc, ◌+◌, ◌-◌, ◌*◌, ◌/◌, ◌%◌, ◌==◌, nat_le, if◌then◌else◌, List, [], ◌∷◌, map, replicate, slice_get, slice_set, Option, Some, None, unwrap_or}
+use Rattle.std.specs.Prelude.{ℕ, zero, suc, ◌^◌, ◌≤◌, ◌+◌, ◌-◌, ◌*◌, ◌/◌, ◌%◌, ◌==◌, nat_le, if◌then◌else◌, List, [], ◌∷◌, map, replicate, slice_get, slice_set, Option, Some, None, unwrap_or}
 use Rattle.std.specs.List.{list_any, range_with_len}
 use Rattle.std.specs.Option.{option_map, option_or}
 use Rattle.tc_elf.specs.Shown.{Shown, Range}
 use Rattle.tc_elf.specs.declared.image.Region.{Region}
 use Rattle.tc_elf.specs.declared.image.Region.TheVariants as region
 use Rattle.tc_elf.specs.Places.{lies_in, in_writable, touches, byte_of, stack_start, stack_length}
+
+-- of a word at most, and it ends within the address space
+pub record IsAccess (addr width : ℕ) : Type 0 where
+  pub fits : addr + width ≤ 2 ^ 32
+  pub small : width ≤ 4
 
 -- the number in so many bytes from an address on, the lowest first
 abbrev pub number_at : (ℕ → ℕ) → ℕ → ℕ → ℕ

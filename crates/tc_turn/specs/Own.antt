@@ -1,11 +1,12 @@
 -- Turns that touch the thread's own memory alone.
-use Rattle.std.specs.Prelude.{◌≡◌, ℕ, ◌-◌, ◌*◌, ◌%◌, ◌^◌, zero, suc, Bool, false, [], None, unwrap_or}
+use Rattle.std.specs.Prelude.{◌≡◌, ℕ, ◌-◌, ◌*◌, ◌%◌, ◌^◌, zero, suc, Bool, true, false, [], None, unwrap_or}
 use Rattle.tc_isa.specs.Registers.{with_register}
 use Rattle.tc_isa.specs.declared.instr.LoadKind.{LoadKind}
 use Rattle.tc_isa.specs.declared.instr.StoreKind.{StoreKind}
 use Rattle.tc_elf.specs.Shown.{Shown}
 use Rattle.tc_exec.specs.Access.{load_width, store_width, extended}
 use Rattle.tc_exec.specs.Flow.{at_next}
+use Rattle.tc_exec.specs.Touch.{IsOwn}
 use Rattle.tc_journal.specs.declared.rule.Outcome.TheVariants.{Went}
 use Rattle.tc_turn.specs.Turn.{Thread, Mutex, Guest, thread_of, next_lock, next_act, outcome_of, thread_after, mutex_after}
 use Rattle.tc_turn.specs.Memory.{number_at, with_number}
@@ -26,6 +27,17 @@ abbrev pub stored : StoreKind → ℕ → ℕ → Thread → Thread
 stored kind addr value d =
     let width = store_width kind in
     record { regs = at_next d.regs; own = with_number d.own addr width (value % 2 ^ (8 * width)); fuel = d.fuel; status = d.status; held = d.held }
+
+-- it may load, the bytes are its own, and it loaded them
+pub record HasLoaded (image : Shown) (loads : Bool) (kind : LoadKind) (rd addr : ℕ) (d next : Thread) : Type 0 where
+  pub may : loads ≡ true
+  pub own : IsOwn image addr (load_width kind)
+  pub after : next ≡ loaded kind rd addr d
+
+-- the bytes are its own, and it stored them
+pub record HasStored (image : Shown) (kind : StoreKind) (addr value : ℕ) (d next : Thread) : Type 0 where
+  pub own : IsOwn image addr (store_width kind)
+  pub after : next ≡ stored kind addr value d
 
 -- with so much fuel
 abbrev pub fuelled : ℕ → Thread → Thread

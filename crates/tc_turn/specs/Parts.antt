@@ -1,5 +1,5 @@
 -- The parts of a thread's own memory.
-use Rattle.std.specs.Prelude.{ℕ, ◌+◌, ◌≤◌, Bool, AllPairs, List, [], ◌∷◌, ◌++◌, length, slice_index_or, Option, None, Some}
+use Rattle.std.specs.Prelude.{◌≡◌, ℕ, ◌+◌, ◌<◌, ◌≤◌, Bool, true, AllPairs, List, [], ◌∷◌, ◌++◌, length, slice_index_or, Option, None, Some}
 use Rattle.tc_elf.specs.Places.{lies_in}
 use Rattle.tc_turn.specs.Memory.{Part}
 
@@ -11,6 +11,11 @@ part_at parts i = slice_index_or parts i no_part
 
 abbrev pub part_has : ℕ → ℕ → Part → Bool
 part_has start n p = lies_in start n p.start (length p.bytes)
+
+-- there is a part of this number, which has all of these addresses
+pub record HasAt (parts : List Part) (i start n : ℕ) : Type 0 where
+  pub known : i < length parts
+  pub there : part_has start n (part_at parts i) ≡ true
 
 -- each part ends before all later ones begin
 abbrev pub AreApart : List Part → Type 0

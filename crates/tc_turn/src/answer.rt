@@ -3,7 +3,7 @@
 ghost use Rattle.std.specs.Prelude.{◌≡◌, ℕ, ◌+◌, ◌≤◌, ◌^◌, unwrap_or};
 ghost use Rattle.tc_elf.specs.Shown.{guard_at};
 ghost use Rattle.tc_exec.specs.Told.{IsWant};
-ghost use Rattle.tc_turn.specs.Memory.{number_at, starting_byte};
+ghost use Rattle.tc_turn.specs.Memory.{IsAccess, number_at, starting_byte};
 ghost use Rattle.tc_turn.specs.Turn.{byte_at, answer_to};
 
 use crate::number::{Bytes, bytewise, number_from};
@@ -55,8 +55,7 @@ impl Bytes for Text<'_> {
 
 /// A number of the file's bytes.
 fn text_number(image: &Image, addr: u32, width: u32) -> u32
-    requires fits { addr + width ≤ 2 ^ 32 }
-    requires small { width ≤ 4 }
+    requires { IsAccess addr width }
     ensures { result ≡ number_at (starting_byte image.now) addr width }
 {
     match image.bytes(addr, width) {
@@ -78,8 +77,7 @@ fn guard_start(image: &Image, lock: u32) -> u32
 /// The number in so many bytes of a place from an address on, the lowest first.
 #[tactic(auto, using(crate::proofs::Numbers::number_nothing))]
 fn number<S: Surroundings>(at: &S, image: &Image, region: Region, addr: u32, width: u32) -> u32
-    requires fits { addr + width ≤ 2 ^ 32 }
-    requires small { width ≤ 4 }
+    requires { IsAccess addr width }
     ensures { result
         ≡ number_at (byte_at image.now (S.thread at.now).own (S.locks at.now) region) addr width }
 {

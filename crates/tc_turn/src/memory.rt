@@ -1,9 +1,9 @@
 //! A thread's own memory.
 
-ghost use Rattle.std.specs.Prelude.{◌≡◌, ℕ, true, false, ◌+◌, ◌≤◌, ◌^◌, ◌<◌, IfOk, IfSome, OnOk, length, map, replicate, unwrap_or};
+ghost use Rattle.std.specs.Prelude.{◌≡◌, true, ◌+◌, ◌≤◌, ◌^◌, ◌<◌, IfOk, OnOk, length, map, unwrap_or};
 ghost use Rattle.std.specs.Option.{option_map};
-ghost use Rattle.tc_turn.specs.Parts.{part_at, part_has, with_piece, AreApart};
-ghost use Rattle.tc_turn.specs.Memory.{byte_from, number_at, part_with, with_number, own_of, own_at_start, own_bytes, starting_bytes};
+ghost use Rattle.tc_turn.specs.Parts.{HasAt, part_has, with_piece, AreApart};
+ghost use Rattle.tc_turn.specs.Memory.{IsAccess, byte_from, number_at, part_with, with_number, own_of, own_at_start, own_bytes, starting_bytes};
 
 pub use crate::number::put_number;
 use crate::number::{Bytes, are_there, byte_from, bytewise, number_within, put_within};
@@ -43,14 +43,6 @@ fn single_bytes(
     Ok(bytes)
 }
 
-fn copied(alloc: Global, bytes: &[u8]) -> Result<Vec<u8>, AllocError>
-    ensures { IfOk result (λ copy. copy.items ≡ bytes.now) }
-{
-    let mut copy = Vec::with_capacity(alloc, bytes.len())?;
-    copy.extend_from_slice(bytes)?;
-    Ok(copy)
-}
-
 /// The bytes that the file gives the addresses from one on. Where one range has them, as it has
 /// those of its own and of a guard, they are copied at once.
 pub fn starting_bytes(
@@ -63,7 +55,7 @@ pub fn starting_bytes(
     ensures { IfOk result (λ bytes. bytes.items ≡ starting_bytes image.now start length) }
 {
     match image.bytes(start, length) {
-        Some(there) => copied(alloc, there),
+        Some(there) => Vec::from_slice(alloc, there),
         None => single_bytes(alloc, image, start, length),
     }
 }
@@ -76,18 +68,11 @@ impl Part {
         are_there(self.start, &self.bytes, start, length)
     }
 
-    fn byte(&self, addr: u32) -> Option<u8>
-        ensures { result ≡ byte_from self.now.start self.now.bytes addr }
-    {
-        byte_from(self.start, &self.bytes, addr)
-    }
-
     /// The number in so many bytes, of which it has all.
     #[inline(always)]
     fn number(&self, addr: u32, width: u32) -> u32
         requires there { part_has addr width self.now ≡ true }
-        requires fits { addr + width ≤ 2 ^ 32 }
-        requires small { width ≤ 4 }
+        requires access { IsAccess addr width }
         ensures { result ≡ number_at (λ at. unwrap_or (byte_from self.now.start self.now.bytes at) 0) addr width }
     {
         number_within(self.start, &self.bytes, addr, width)
@@ -146,7 +131,7 @@ fn byte_in(parts: &[Part], addr: u32) -> Option<u8>
     ensures { result ≡ own_of parts.now addr }
 {
     for part in parts {
-        if let Some(byte) = part.byte(addr) {
+        if let Some(byte) = byte_from(part.start, &part.bytes, addr) {
             return Some(byte);
         }
     }
@@ -166,8 +151,7 @@ fn put_in_parts(parts: &mut [Part], addr: u32, width: u32, value: u32)
 /// Whether there is a part of this number that has all of the addresses.
 #[inline(always)]
 fn has_in(parts: &[Part], part: usize, addr: u32, width: u32) -> bool
-    ensures known { result ≡ true → part < length parts.now }
-    ensures there { result ≡ true → part_has addr width (part_at parts.now part) ≡ true }
+    ensures { result ≡ true → HasAt parts.now part addr width }
 {
     part < parts.len() && parts[part].has(addr, width)
 }
@@ -187,12 +171,6 @@ fn put_near(parts: &mut [Part], part: usize, addr: u32, width: u32, value: u32)
     parts[part].put_within(addr, width, value);
 }
 
-fn zeros(alloc: Global, length: u32) -> Result<Vec<u8>, AllocError>
-    ensures { IfOk result (λ zeros. zeros.items ≡ replicate length 0) }
-{
-    vec![in alloc; 0; length as usize]
-}
-
 /// The bytes at the start of addresses that have this place in a thread's own memory, if it has
 /// them.
 fn own_bytes(
@@ -207,7 +185,7 @@ fn own_bytes(
 {
     Ok(match region {
         Region::Private => Some(starting_bytes(alloc, image, start, length)?),
-        Region::Stack => Some(zeros(alloc, length)?),
+        Region::Stack => Some(vec![in alloc; 0; length as usize]?),
         Region::Text | Region::Guard(_) | Region::Nothing => None,
     })
 }
@@ -257,8 +235,7 @@ impl Memory {
     /// 0. `near` is the number of the part that is tried first; it may be any.
     #[inline(always)]
     pub(crate) fn number(&self, near: usize, addr: u32, width: u32) -> u32
-        requires fits { addr + width ≤ 2 ^ 32 }
-        requires small { width ≤ 4 }
+        requires { IsAccess addr width }
         ensures { result ≡ number_at (λ at. unwrap_or (own_of self.now at) 0) addr width }
     {
         let parts = self.parts.as_slice();

@@ -6,7 +6,7 @@
 ghost use Rattle.std.specs.Prelude.{◌≡◌, ℕ, ◌+◌, ◌≤◌, ◌<◌, ◌^◌, true, length, drop, unwrap_or, IfSome};
 ghost use Rattle.byteorder.specs.Endian.{little_number};
 ghost use Rattle.tc_elf.specs.Places.{lies_in};
-ghost use Rattle.tc_turn.specs.Memory.{byte_from, put_byte, put_number, number_at};
+ghost use Rattle.tc_turn.specs.Memory.{IsAccess, byte_from, put_byte, put_number, number_at};
 
 use byteorder::{ByteOrder, LittleEndian};
 
@@ -52,8 +52,7 @@ pub(crate) fn byte_from(start: u32, bytes: &[u8], addr: u32) -> Option<u8>
 
 /// The number in so many bytes from an address on, each asked for alone.
 pub(crate) fn bytewise<B: Bytes>(bytes: &B, addr: u32, width: u32) -> u32
-    requires fits { addr + width ≤ 2 ^ 32 }
-    requires small { width ≤ 4 }
+    requires { IsAccess addr width }
     ensures value { result ≡ number_at (B.bytes bytes.now) addr width }
     ensures bound { result < 256 ^ width }
 {
@@ -107,8 +106,7 @@ pub fn number_from(start: u32, bytes: &[u8], addr: u32, width: u32) -> u32
 #[inline(always)]
 pub(crate) fn number_within(start: u32, bytes: &[u8], addr: u32, width: u32) -> u32
     requires there { lies_in addr width start (length bytes.now) ≡ true }
-    requires fits { addr + width ≤ 2 ^ 32 }
-    requires small { width ≤ 4 }
+    requires access { IsAccess addr width }
     ensures { result
         ≡ number_at (λ at. unwrap_or (byte_from start bytes.now at) 0) addr width }
 {
@@ -144,26 +142,6 @@ fn put_bytewise(start: u32, bytes: &mut [u8], addr: u32, width: u32, value: u32)
     }
 }
 
-fn put_half(bytes: &mut [u8], at: usize, value: u32)
-    requires { at + 2 ≤ length bytes.old }
-    ensures { (start addr : ℕ) → start + at ≡ addr
-        → bytes.new ≡ put_number start bytes.old addr 2 value }
-{
-    bytes[at] = (value % 256) as u8;
-    bytes[at + 1] = (value / 256 % 256) as u8;
-}
-
-fn put_word(bytes: &mut [u8], at: usize, value: u32)
-    requires { at + 4 ≤ length bytes.old }
-    ensures { (start addr : ℕ) → start + at ≡ addr
-        → bytes.new ≡ put_number start bytes.old addr 4 value }
-{
-    bytes[at] = (value % 256) as u8;
-    bytes[at + 1] = (value / 256 % 256) as u8;
-    bytes[at + 1 + 1] = (value / 256 / 256 % 256) as u8;
-    bytes[at + 1 + 1 + 1] = (value / 256 / 256 / 256 % 256) as u8;
-}
-
 /// Writes the low `width` bytes of a value, the lowest first, to the addresses from `addr` on,
 /// where `bytes` stand from `start` on. What lies outside of them is not written.
 pub fn put_number(start: u32, bytes: &mut [u8], addr: u32, width: u32, value: u32)
@@ -186,8 +164,16 @@ pub(crate) fn put_within(start: u32, bytes: &mut [u8], addr: u32, width: u32, va
 {
     let at = (addr - start) as usize;
     match width {
-        4 => put_word(bytes, at, value),
-        2 => put_half(bytes, at, value),
+        4 => {
+            bytes[at] = (value % 256) as u8;
+            bytes[at + 1] = (value / 256 % 256) as u8;
+            bytes[at + 1 + 1] = (value / 256 / 256 % 256) as u8;
+            bytes[at + 1 + 1 + 1] = (value / 256 / 256 / 256 % 256) as u8;
+        }
+        2 => {
+            bytes[at] = (value % 256) as u8;
+            bytes[at + 1] = (value / 256 % 256) as u8;
+        }
         _ => put_bytewise(start, bytes, addr, width, value),
     }
 }

@@ -2,11 +2,9 @@
 //! `OwnTurns`, which says what it did.
 
 ghost use Rattle.std.specs.Prelude.{◌≡◌, ℕ, ◌+◌, ◌-◌, ◌*◌, ◌%◌, ◌<◌, ◌≤◌, ◌^◌, true, false, length, IfSome, Ok};
-ghost use Rattle.tc_exec.specs.Access.{load_width, store_width};
 ghost use Rattle.tc_exec.specs.Code.{SlotsTell};
 ghost use Rattle.tc_exec.specs.Step.{instruction_at};
-ghost use Rattle.tc_exec.specs.Touch.{IsOwn};
-ghost use Rattle.tc_turn.specs.Own.{IsOwnTurn, OwnRun, fuelled, loaded, stored, spent};
+ghost use Rattle.tc_turn.specs.Own.{HasLoaded, HasStored, IsOwnTurn, OwnRun, fuelled, spent};
 ghost use Rattle.tc_turn.specs.Way.{is_gone, on_or_not};
 ghost use Rattle.tc_turn.specs.Turn.{thread_of};
 ghost use Rattle.tc_turn.specs.declared.own_turns.Way.TheVariants as TheWay;
@@ -165,10 +163,8 @@ impl GuestThread {
     /// Loads into a register and goes on, where it may load, the bytes are its own, and the load does
     /// not fault.
     fn load(&mut self, image: &Image, kind: LoadKind, rd: Reg, addr: u32, loads: bool) -> bool
-        ensures loads { result ≡ true → loads ≡ true }
-        ensures own { result ≡ true → IsOwn image.now addr (load_width kind) }
-        ensures yes { result ≡ true
-            → thread_of self.new ≡ loaded kind rd addr (thread_of self.old) }
+        ensures yes { result ≡ true → HasLoaded image.now loads kind rd addr
+            (thread_of self.old) (thread_of self.new) }
         ensures no { result ≡ false → self.new ≡ self.old }
     {
         if !loads {
@@ -188,9 +184,8 @@ impl GuestThread {
     /// the store does not fault. It is never inlined, as `change_part`.
     #[inline(never)]
     fn store(&mut self, image: &Image, kind: StoreKind, addr: u32, value: u32) -> bool
-        ensures own { result ≡ true → IsOwn image.now addr (store_width kind) }
-        ensures yes { result ≡ true
-            → thread_of self.new ≡ stored kind addr value (thread_of self.old) }
+        ensures yes { result ≡ true → HasStored image.now kind addr value
+            (thread_of self.old) (thread_of self.new) }
         ensures no { result ≡ false → self.new ≡ self.old }
     {
         let before = self.near;

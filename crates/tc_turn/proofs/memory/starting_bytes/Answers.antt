@@ -7,4 +7,4 @@ pub returns-in-Some : goal.returns-in-Some
 returns-in-Some c =
     let there = c.in-Some.there in
     let all = bytes_each c.args.image.now c.args.start c.args.length there.now c.in-Some.ensures.count c.in-Some.ensures.each in
-    subst (λ (them : List ℕ). IfOk c.copied.result (λ copy. copy.items ≡ them)) all c.copied.ensures
+    subst (λ (them : List ℕ). IfOk c.from_slice.result (λ copy. copy.items ≡ them)) all c.from_slice.ensures.items

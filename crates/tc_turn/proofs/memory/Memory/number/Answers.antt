@@ -10,7 +10,7 @@ pub number-requires-clause-there : goal.number-requires-clause-there
 number-requires-clause-there c =
     let yes = c.if-not-has_in.false in
     subst (λ (p : Part). part_has c.args.addr c.args.width p ≡ true)
-    (sym (c.index-parts-near.is ∙ get_or_default c.as_slice-parts.result.now c.args.near c.index-parts-near.result no_part (c.has_in.ensures.known yes))) (c.has_in.ensures.there yes)
+    (sym (c.index-parts-near.is ∙ get_or_default c.as_slice-parts.result.now c.args.near c.index-parts-near.result no_part (c.has_in.ensures yes).known)) (c.has_in.ensures yes).there
 
 pub returns : goal.returns
 returns c =
@@ -18,6 +18,6 @@ returns c =
     let yes = c.if-not-has_in.false in
     c.number.ensures
     ∙ ap (λ (p : Part). number_at (λ at. unwrap_or (byte_from p.start p.bytes at) 0) c.args.addr c.args.width)
-    (c.index-parts-near.is ∙ get_or_default parts c.args.near c.index-parts-near.result no_part (c.has_in.ensures.known yes))
-    ∙ number_there parts c.args.near c.args.addr c.args.width (subst AreApart (sym c.as_slice-parts.ensures.value) c.self.invariant) (c.has_in.ensures.known yes) (c.has_in.ensures.there yes)
+    (c.index-parts-near.is ∙ get_or_default parts c.args.near c.index-parts-near.result no_part (c.has_in.ensures yes).known)
+    ∙ number_there parts c.args.near c.args.addr c.args.width (subst AreApart (sym c.as_slice-parts.ensures.value) c.self.invariant) (c.has_in.ensures yes).known (c.has_in.ensures yes).there
     ∙ ap (λ parts. number_at (λ at. unwrap_or (own_of parts at) 0) c.args.addr c.args.width) (c.as_slice-parts.ensures.value ∙ c.self.view_is)

@@ -38,12 +38,12 @@ returns-in-Load-clause-turn c = λ left some gone.
     let same : c.execute.new.regs ≡ m.regs = i.ensures.kept refl in
     let at : instruction_at image m.regs.pc ≡ Ok c.args.instr.now = subst (λ (h : Guest). instruction_at image h.regs.pc ≡ Ok c.args.instr.now) (sym c.self.view_is) c.requires in
     let yes : c.load.result ≡ true = went_on c.on.result c.load.result c.on.ensures gone in
-    let after : thread_of c.load.new.self ≡ loaded i.kind i.rd i.addr (thread_of g) = c.load.ensures.yes yes ∙ ap (λ (r : Registers). loaded i.kind i.rd i.addr (thread_of (record g { regs = r }))) same in
+    let after : thread_of c.load.new.self ≡ loaded i.kind i.rd i.addr (thread_of g) = (c.load.ensures.yes yes).after ∙ ap (λ (r : Registers). loaded i.kind i.rd i.addr (thread_of (record g { regs = r }))) same in
     subst (λ (h : Guest). IsOwnTurn image c.args.loads (fuelled left (thread_of h)) (spent (fuelled left (thread_of c.load.new.self)))) c.self.view_is
     (subst (λ (d : Thread). IsOwnTurn image c.args.loads (fuelled left (thread_of g)) (spent (fuelled left d))) (sym after)
     (load_turn image c.args.loads (fuelled left (thread_of g)) i.kind i.rd i.addr c.args.instr.now some at
     (λ answer. i.ensures.act image (has m.held) answer ∙ ap (λ (r : Registers). load image (has m.held) r answer i.kind i.rd i.addr) same)
-    (i.ensures.want image (has m.held)) (c.load.ensures.loads yes) (c.load.ensures.own yes)))
+    (i.ensures.want image (has m.held)) (c.load.ensures.yes yes).may (c.load.ensures.yes yes).own))
 
 pub returns-in-Store-clause-turn : goal.returns-in-Store-clause-turn
 returns-in-Store-clause-turn c = λ left some gone.
@@ -54,9 +54,9 @@ returns-in-Store-clause-turn c = λ left some gone.
     let same : c.execute.new.regs ≡ m.regs = i.ensures.kept refl in
     let at : instruction_at image m.regs.pc ≡ Ok c.args.instr.now = subst (λ (h : Guest). instruction_at image h.regs.pc ≡ Ok c.args.instr.now) (sym c.self.view_is) c.requires in
     let yes : c.store.result ≡ true = went_on c.on-in-Store.result c.store.result c.on-in-Store.ensures gone in
-    let after : thread_of c.store.new.self ≡ stored i.kind i.addr i.value (thread_of g) = c.store.ensures.yes yes ∙ ap (λ (r : Registers). stored i.kind i.addr i.value (thread_of (record g { regs = r }))) same in
+    let after : thread_of c.store.new.self ≡ stored i.kind i.addr i.value (thread_of g) = (c.store.ensures.yes yes).after ∙ ap (λ (r : Registers). stored i.kind i.addr i.value (thread_of (record g { regs = r }))) same in
     subst (λ (h : Guest). IsOwnTurn image c.args.loads (fuelled left (thread_of h)) (spent (fuelled left (thread_of c.store.new.self)))) c.self.view_is
     (subst (λ (d : Thread). IsOwnTurn image c.args.loads (fuelled left (thread_of g)) (spent (fuelled left d))) (sym after)
     (store_turn image c.args.loads (fuelled left (thread_of g)) i.kind i.addr i.value c.args.instr.now some at
     (λ answer. i.ensures.act image (has m.held) answer ∙ ap (λ (r : Registers). store image (has m.held) r i.kind i.addr i.value) same)
-    (i.ensures.want image (has m.held)) (c.store.ensures.own yes)))
+    (i.ensures.want image (has m.held)) (c.store.ensures.yes yes).own))
