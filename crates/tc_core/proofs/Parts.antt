@@ -15,21 +15,22 @@ use Rattle.tc_turn.specs.Turn.{next_lock, next_act}
 use Rattle.tc_turn.proofs.Turns.{goes_on}
 use Rattle.tc_mutex_spec.specs.Machine.{after}
 use Rattle.tc_mutex_spec.specs.Slow.{Plain, state_of, Suits}
+use Rattle.tc_core.specs.declared.event.Event.{Event}
 use Rattle.tc_core.specs.declared.event.Event.TheVariants.{Adopt, Grant}
 use Rattle.tc_core.specs.Core.{Core, Course, Custody, Ready, At, With, first_course, first_custody, with_custody, with_place}
 use Rattle.tc_core.specs.Events.{custody_on, course_on, passed_to, end_here, after_turn, effect}
-use Rattle.tc_core.specs.View.{CoreView, course_at, custody_at, core_of, IsLine, IsCourse, HasParts}
+use Rattle.tc_core.specs.View.{CoreView, course_at, custody_at, core_of, IsLine, IsCourse, HasParts, Became}
 use Rattle.tc_core.proofs.Erasure.{MayTurn}
 use Rattle.tc_core.proofs.Places.{item_set}
 
 -- ---- one custody
 
-pub custody_core : (v : CoreView) (lock : ℕ) (x : Custody) (new : List Custody) → lock < length v.custodies → new ≡ set v.custodies lock x → core_of (record v { custodies = new }) ≡ with_custody (core_of v) lock x
+custody_core : (v : CoreView) (lock : ℕ) (x : Custody) (new : List Custody) → lock < length v.custodies → new ≡ set v.custodies lock x → core_of (record v { custodies = new }) ≡ with_custody (core_of v) lock x
 custody_core v lock x new lt e =
     ap (λ cs. core_of (record v { custodies = cs })) e
     ∙ (λ i. record { machine = state_of v.plain; course = course_at v.courses; custody = λ k. item_set v.custodies lock x first_custody lt k i })
 
-pub custody_parts : (image : Shown) (v : CoreView) (lock : ℕ) (x : Custody) (new : List Custody) → HasParts image v → lock < length image.guards → new ≡ set v.custodies lock x → IsLine (length image.entries) x.line → HasParts image (record v { custodies = new })
+custody_parts : (image : Shown) (v : CoreView) (lock : ℕ) (x : Custody) (new : List Custody) → HasParts image v → lock < length image.guards → new ≡ set v.custodies lock x → IsLine (length image.entries) x.line → HasParts image (record v { custodies = new })
 custody_parts image v lock x new parts lt e line = record {
   plain = parts.plain;
   courses = parts.courses;
@@ -40,6 +41,24 @@ custody_parts image v lock x new parts lt e line = record {
   where
     at : (k : ℕ) → IsLine (length image.entries) (if k == lock then x else custody_at v.custodies k).line
     at k = elim (k == lock) as (λ b. IsLine (length image.entries) (if b then x else custody_at v.custodies k).line) [ true ↦ line | false ↦ parts.lines k ]
+
+pub lock_in : (image : Shown) (v w : CoreView) (lock : ℕ) → v ≡ w → HasParts image w → lock < length image.guards → lock < length v.custodies
+lock_in image v w lock same parts lt = (let e = ap (λ (u : CoreView). length u.custodies) same in let long = parts.custodies in omega arith)
+
+-- what the change f of one custody is for the whole core
+pub custody_became : (image : Shown) (v w : CoreView) (lock : ℕ) (f : Custody → Custody) (new : List Custody) → v ≡ w → HasParts image w → lock < length image.guards
+    → new ≡ set v.custodies lock (f (custody_at v.custodies lock)) → IsLine (length image.entries) (f (custody_at w.custodies lock)).line
+    → Became image w (record v { custodies = new }) (with_custody (core_of w) lock (f (custody_at w.custodies lock)))
+custody_became image v w lock f new same parts lt at line =
+    subst (λ (u : CoreView). new ≡ set u.custodies lock (f (custody_at u.custodies lock)) → Became image w (record u { custodies = new }) (with_custody (core_of w) lock (f (custody_at w.custodies lock)))) (sym same)
+    (λ e. record {
+      core = custody_core w lock _ new (let l = parts.custodies in omega arith) e;
+      limits = refl;
+      parts = custody_parts image w lock _ new parts lt e line;
+    }) at
+
+pub took_effect : {image : Shown} {old new : CoreView} {e f : Event} → e ≡ f → Became image old new (effect image (core_of old) f) → Became image old new (effect image (core_of old) e)
+took_effect {image} {old} {new} same became = subst (λ x. Became image old new (effect image (core_of old) x)) (sym same) became
 
 -- ---- one course
 

@@ -1,5 +1,5 @@
 -- Lists by number, with one value for each number past their end.
-use Rattle.std.proofs.Common.{◌≡◌, ℕ, zero, suc, ◌<◌, ◌==◌, List, [], ◌∷◌, ◌++◌, length, set, get_or, refl, sym, ap, ◌∙◌, inl, inr}
+use Rattle.std.proofs.Common.{◌≡◌, ℕ, ◌<◌, ◌==◌, List, length, set, get_or, sym, ap, ◌∙◌, inl, inr}
 use Rattle.std.specs.Prelude.{slice_get, unwrap_or, if◌then◌else◌}
 use Rattle.std.proofs.lemmas.Bool.Decides.{eqb_tells}
 use Rattle.std.proofs.lemmas.Option.{slice_get-get_or}
@@ -17,10 +17,3 @@ item_set xs n x d lt k = elim (eqb_tells k n) [
   | inl h ↦ ap (λ j. unwrap_or (slice_get (set xs n x) j) d) h.1 ∙ ap (λ o. unwrap_or o d) (get-set_same xs n x lt) ∙ sym (ap (λ b. if b then x else unwrap_or (slice_get xs k) d) h.0)
   | inr h ↦ ap (λ o. unwrap_or o d) (get-set_other xs n k x h.1) ∙ sym (ap (λ b. if b then x else unwrap_or (slice_get xs k) d) h.0)
 ]
-
--- one item more of those that all are one value
-pub item_more : {A : Type 0} (xs : List A) (x d : A) → ((k : ℕ) → unwrap_or (slice_get xs k) d ≡ d) → x ≡ d → (k : ℕ) → unwrap_or (slice_get (xs ++ x ∷ []) k) d ≡ d
-item_more [] x d all e zero = e
-item_more [] x d all e (suc k) = refl
-item_more (y ∷ ys) x d all e zero = all zero
-item_more (y ∷ ys) x d all e (suc k) = item_more ys x d (λ j. all (suc j)) e k

@@ -63,6 +63,12 @@ pub record IsCoreOf (image : Shown) (v : CoreView) : Type 0 where
   pub parts : HasParts image v
   pub sound : IsSoundCore (core_of v)
 
+-- the core came to c: it has the limits that it had, and the image's threads and locks
+pub record Became (image : Shown) (old new : CoreView) (c : Core) : Type 0 where
+  pub core : core_of new ≡ c
+  pub limits : limits_of new ≡ limits_of old
+  pub parts : HasParts image new
+
 -- what a step did: its event was enabled and had its effect, or was not and nothing changed
 abbrev pub Stepped : Shown → CoreView → Event → Bool → CoreView → Type 0
 Stepped image old e true new =

@@ -9,7 +9,7 @@ ghost use Rattle.tc_core.specs.Events.{entered, taken_by, passed_to, left_by_all
 ghost use Rattle.tc_core.specs.View.{custody_at};
 ghost use Rattle.tc_core.specs.declared.place.LockPlace.TheVariants.{Free};
 
-use crate::place::{Custody, Release};
+use crate::place::{Custody, LockPlace, Release};
 use std::alloc::{AllocError, Global};
 use std::marker::Model;
 use tc_elf::image::Image;
@@ -66,16 +66,18 @@ impl Custodies {
         requires room { length (custody_at self.old lock).line < MAX_THREADS }
         ensures { self.new ≡ slice_set self.old lock (entered (custody_at self.old lock) thread) }
     {
-        self.custodies[lock as usize].enter(thread);
+        self.custodies[lock as usize].line.enter(thread);
     }
 
-    /// The lock is granted to the first of its line.
+    /// The lock is granted to the first of its line, as Taken.
     #[tactic(auto, using(crate::proofs::Places::custody_here))]
     pub fn grant(&mut self, lock: u32, thread: u32)
         requires { lock < length self.old }
         ensures { self.new ≡ slice_set self.old lock (taken_by (custody_at self.old lock) thread) }
     {
-        self.custodies[lock as usize].grant(thread);
+        let custody = &mut self.custodies[lock as usize];
+        custody.place = LockPlace::Granted(thread);
+        custody.run = 0;
     }
 
     /// The first of the line leaves it, and the lock is granted to the next.
@@ -85,7 +87,10 @@ impl Custodies {
         ensures { self.new
             ≡ slice_set self.old lock (passed_to (custody_at self.old lock) thread run) }
     {
-        self.custodies[lock as usize].pass(thread, run);
+        let custody = &mut self.custodies[lock as usize];
+        custody.line.pass();
+        custody.place = LockPlace::Granted(thread);
+        custody.run = run;
     }
 
     /// The last of the line leaves it.
@@ -94,7 +99,9 @@ impl Custodies {
         requires { lock < length self.old }
         ensures { self.new ≡ slice_set self.old lock (left_by_all (custody_at self.old lock)) }
     {
-        self.custodies[lock as usize].leave();
+        let custody = &mut self.custodies[lock as usize];
+        custody.line.clear();
+        custody.left = true;
     }
 
     /// The lock goes home.
@@ -103,7 +110,9 @@ impl Custodies {
         requires { lock < length self.old }
         ensures { self.new ≡ slice_set self.old lock (freed (custody_at self.old lock)) }
     {
-        self.custodies[lock as usize].free();
+        let custody = &mut self.custodies[lock as usize];
+        custody.place = LockPlace::Free;
+        custody.left = false;
     }
 
     /// The thread takes this lock, or none.
@@ -114,7 +123,7 @@ impl Custodies {
         ensures long { length self.new ≡ length self.old }
     {
         if let Some(lock) = taken {
-            self.custodies[lock as usize].take(thread);
+            self.custodies[lock as usize].place = LockPlace::With(thread);
         }
     }
 

@@ -6,7 +6,7 @@ ghost use Rattle.tc_isa.specs.declared.limits.TheConstants.{MAX_BATCH, MAX_FUEL,
 ghost use Rattle.tc_core.specs.Core as core;
 ghost use Rattle.tc_core.specs.Events as events;
 ghost use Rattle.tc_core.specs.Lines.{is_in_line};
-ghost use Rattle.tc_core.specs.View.{core_of, limits_of, custody_at, course_at, HasParts, IsSoundCore, IsCoreOf, Stepped};
+ghost use Rattle.tc_core.specs.View.{core_of, limits_of, custody_at, course_at, HasParts, IsCoreOf, Became, Stepped};
 ghost use Rattle.tc_core.specs.declared.event.Event.TheVariants as event;
 
 use crate::courses::Courses;
@@ -351,20 +351,18 @@ impl Core {
 
     #[tactic(auto, unfolding(crate::specs::Events::effect))]
     fn take_effect(&mut self, image: &Image, event: Event)
-        requires parts { HasParts image.now self.old }
-        requires sound { IsSoundCore (core_of self.old) }
+        requires core { IsCoreOf image.now self.old }
         requires enabled { events.is_enabled image.now (limits_of self.old)
             (core_of self.old) event ≡ true }
-        ensures core { core_of self.new ≡ events.effect image.now (core_of self.old) event }
-        ensures limits { limits_of self.new ≡ limits_of self.old }
-        ensures parts { HasParts image.now self.new }
+        ensures { Became image.now self.old self.new
+            (events.effect image.now (core_of self.old) event) }
     {
         match event {
             Event::Claim { worker, thread } => self.place(image, thread, ThreadPlace::At(worker)),
             Event::Turn { worker, thread } => self.turn(image, worker, thread),
             Event::Commit { worker, thread } => self.commit(image, worker, thread),
             Event::Enter { thread, lock, .. } => self.enter(image, thread, lock),
-            Event::Take { thread, lock, .. } => self.grant(image, thread, lock),
+            Event::Take { thread, lock, .. } => self.custodies.grant(lock, thread),
             Event::Ship { thread, lock, .. } => {
                 self.place(image, thread, ThreadPlace::Waiting(lock));
             }
@@ -383,8 +381,8 @@ impl Core {
                 self.pass(image, thread, lock, 0);
                 self.place(image, thread, ThreadPlace::Ready);
             }
-            Event::Leave { lock, .. } => self.leave(image, lock),
-            Event::Free { lock, .. } => self.free(image, lock),
+            Event::Leave { lock, .. } => self.custodies.leave(lock),
+            Event::Free { lock, .. } => self.custodies.free(lock),
             Event::HandBack { thread, .. } => self.place(image, thread, ThreadPlace::Ready),
             Event::Park { thread, .. } => self.place(image, thread, ThreadPlace::Parked),
             Event::Finish { thread, .. } => self.place(image, thread, ThreadPlace::Done),
@@ -395,9 +393,8 @@ impl Core {
     fn place(&mut self, image: &Image, thread: u32, place: ThreadPlace)
         requires parts { HasParts image.now self.old }
         requires thread { thread < length image.now.entries }
-        ensures core { core_of self.new ≡ core.with_place (core_of self.old) thread place }
-        ensures limits { limits_of self.new ≡ limits_of self.old }
-        ensures parts { HasParts image.now self.new }
+        ensures { Became image.now self.old self.new
+            (core.with_place (core_of self.old) thread place) }
     {
         let course = self.courses.at(thread).to(place);
         self.courses.put(thread, course);
@@ -405,13 +402,11 @@ impl Core {
 
     /// One turn of the thread.
     fn turn(&mut self, image: &Image, worker: u32, thread: u32)
-        requires parts { HasParts image.now self.old }
-        requires sound { IsSoundCore (core_of self.old) }
+        requires core { IsCoreOf image.now self.old }
         requires enabled { events.is_enabled image.now (limits_of self.old)
             (core_of self.old) (event.Turn worker thread) ≡ true }
-        ensures core { core_of self.new ≡ events.after_turn image.now (core_of self.old) thread }
-        ensures limits { limits_of self.new ≡ limits_of self.old }
-        ensures parts { HasParts image.now self.new }
+        ensures { Became image.now self.old self.new
+            (events.after_turn image.now (core_of self.old) thread) }
     {
         prove!(image.guards() <= 32);
         let taken = self.slow.next_lock(image, thread);
@@ -445,66 +440,23 @@ impl Core {
         requires thread { thread < length image.now.entries }
         requires lock { lock < length image.now.guards }
         requires out { is_in_line (custody_at self.old.custodies lock).line thread ≡ false }
-        ensures core { core_of self.new
-            ≡ core.with_custody (core_of self.old) lock
-            (events.entered (custody_at self.old.custodies lock) thread) }
-        ensures limits { limits_of self.new ≡ limits_of self.old }
-        ensures parts { HasParts image.now self.new }
+        ensures { Became image.now self.old self.new
+            (core.with_custody (core_of self.old) lock
+            (events.entered (custody_at self.old.custodies lock) thread)) }
     {
         prove!(image.threads() <= MAX_THREADS);
         self.custodies.enter(lock, thread);
-    }
-
-    /// The lock is granted to the first of its line.
-    fn grant(&mut self, image: &Image, thread: u32, lock: u32)
-        requires parts { HasParts image.now self.old }
-        requires lock { lock < length image.now.guards }
-        ensures core { core_of self.new
-            ≡ core.with_custody (core_of self.old) lock
-            (events.taken_by (custody_at self.old.custodies lock) thread) }
-        ensures limits { limits_of self.new ≡ limits_of self.old }
-        ensures parts { HasParts image.now self.new }
-    {
-        self.custodies.grant(lock, thread);
     }
 
     /// The lock is passed on to the second of its line.
     fn pass(&mut self, image: &Image, thread: u32, lock: u32, run: u32)
         requires parts { HasParts image.now self.old }
         requires lock { lock < length image.now.guards }
-        ensures core { core_of self.new
-            ≡ core.with_custody (core_of self.old) lock
-            (events.passed_to (custody_at self.old.custodies lock) thread run) }
-        ensures limits { limits_of self.new ≡ limits_of self.old }
-        ensures parts { HasParts image.now self.new }
+        ensures { Became image.now self.old self.new
+            (core.with_custody (core_of self.old) lock
+            (events.passed_to (custody_at self.old.custodies lock) thread run)) }
     {
         self.custodies.pass(lock, thread, run);
-    }
-
-    /// The last of the line leaves it.
-    fn leave(&mut self, image: &Image, lock: u32)
-        requires parts { HasParts image.now self.old }
-        requires lock { lock < length image.now.guards }
-        ensures core { core_of self.new
-            ≡ core.with_custody (core_of self.old) lock
-            (events.left_by_all (custody_at self.old.custodies lock)) }
-        ensures limits { limits_of self.new ≡ limits_of self.old }
-        ensures parts { HasParts image.now self.new }
-    {
-        self.custodies.leave(lock);
-    }
-
-    /// The lock goes home.
-    fn free(&mut self, image: &Image, lock: u32)
-        requires parts { HasParts image.now self.old }
-        requires lock { lock < length image.now.guards }
-        ensures core { core_of self.new
-            ≡ core.with_custody (core_of self.old) lock
-            (events.freed (custody_at self.old.custodies lock)) }
-        ensures limits { limits_of self.new ≡ limits_of self.old }
-        ensures parts { HasParts image.now self.new }
-    {
-        self.custodies.free(lock);
     }
 }
 

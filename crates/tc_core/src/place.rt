@@ -250,54 +250,6 @@ impl Custody {
         })
     }
 
-    /// The thread enters the line.
-    pub(crate) fn enter(&mut self, thread: u32)
-        requires { length self.old.line < MAX_THREADS }
-        ensures { self.new ≡ events.entered self.old thread }
-    {
-        self.line.enter(thread);
-    }
-
-    /// The lock is granted to the first of the line, as Taken.
-    pub(crate) fn grant(&mut self, thread: u32)
-        ensures { self.new ≡ events.taken_by self.old thread }
-    {
-        self.place = LockPlace::Granted(thread);
-        self.run = 0;
-    }
-
-    /// The first of the line leaves it, and the lock is granted to the next.
-    pub(crate) fn pass(&mut self, thread: u32, run: u32)
-        ensures { self.new ≡ events.passed_to self.old thread run }
-    {
-        self.line.pass();
-        self.place = LockPlace::Granted(thread);
-        self.run = run;
-    }
-
-    /// The last of the line leaves it.
-    pub(crate) fn leave(&mut self)
-        ensures { self.new ≡ events.left_by_all self.old }
-    {
-        self.line.clear();
-        self.left = true;
-    }
-
-    /// The lock goes home.
-    pub(crate) fn free(&mut self)
-        ensures { self.new ≡ events.freed self.old }
-    {
-        self.place = LockPlace::Free;
-        self.left = false;
-    }
-
-    /// The thread takes the lock.
-    pub(crate) fn take(&mut self, thread: u32)
-        ensures { self.new ≡ record self.old { place = core.With thread } }
-    {
-        self.place = LockPlace::With(thread);
-    }
-
     /// The lock after a block of the thread at the worker, which still holds it or released it so.
     pub(crate) fn release(
         &mut self,

@@ -159,11 +159,8 @@ fn walked(core: &mut Core, image: &Image, rows: &[Scene]) -> u32
 }
 
 /// Thread 0 runs to its lock and takes it, and thread 1 waits for it: 11 rows.
-fn up_to_the_wait(core: &mut Core, image: &Image) -> u32
-    requires { IsCoreOf image.now core.old }
-    ensures { IsCoreOf image.now core.new }
-{
-    let rows = [
+fn up_to_the_wait() -> [Scene; 11] {
+    [
         row(claim(0, 0), 1, [At(0), Ready, Ready], [Free, Free]),
         row(turn(0, 0), 3, [At(0), Ready, Ready], [Free, Free]),
         row(commit(0, 0), 1, [At(0), Ready, Ready], [Free, Free]),
@@ -180,15 +177,14 @@ fn up_to_the_wait(core: &mut Core, image: &Image) -> u32
             [At(0), Waiting(0), Ready],
             [With(0), Free],
         ),
-    ];
-    walked(core, image, &rows)
+    ]
 }
 
 #[test]
 fn a_waiter_is_adopted(rt: HostRuntime) -> Result<(), Fail> {
     let image = guest(rt.alloc(), &ONE)?;
     let mut core = Core::new(rt.alloc(), &image, 100, 2, 4)?;
-    assert_eq!(rt; up_to_the_wait(&mut core, &image), 11);
+    assert_eq!(rt; walked(&mut core, &image, &up_to_the_wait()), 11);
     let rows = [
         row(turn(0, 0), 6, [At(0), Waiting(0), Ready], [With(0), Free]),
         row(
@@ -220,7 +216,7 @@ fn a_waiter_is_adopted(rt: HostRuntime) -> Result<(), Fail> {
 fn a_waiter_is_granted_the_lock(rt: HostRuntime) -> Result<(), Fail> {
     let image = guest(rt.alloc(), &ONE)?;
     let mut core = Core::new(rt.alloc(), &image, 100, 2, 0)?;
-    assert_eq!(rt; up_to_the_wait(&mut core, &image), 11);
+    assert_eq!(rt; walked(&mut core, &image, &up_to_the_wait()), 11);
     let rows = [
         row(turn(0, 0), 6, [At(0), Waiting(0), Ready], [With(0), Free]),
         row(
@@ -244,7 +240,7 @@ fn a_waiter_is_granted_the_lock(rt: HostRuntime) -> Result<(), Fail> {
 fn a_thread_sleeps_with_its_lock(rt: HostRuntime) -> Result<(), Fail> {
     let image = guest(rt.alloc(), &DOZE)?;
     let mut core = Core::new(rt.alloc(), &image, 100, 2, 4)?;
-    assert_eq!(rt; up_to_the_wait(&mut core, &image), 11);
+    assert_eq!(rt; walked(&mut core, &image, &up_to_the_wait()), 11);
     let rows = [
         row(turn(0, 0), 3, [At(0), Waiting(0), Ready], [With(0), Free]),
         row(commit(0, 0), 1, [At(0), Waiting(0), Ready], [With(0), Free]),
@@ -264,11 +260,8 @@ fn a_thread_sleeps_with_its_lock(rt: HostRuntime) -> Result<(), Fail> {
 }
 
 /// Thread 0 takes lock 1 and thread 1 takes lock 0, each at its worker. Thread 2 waits for lock 0.
-fn up_to_the_nest(core: &mut Core, image: &Image) -> u32
-    requires { IsCoreOf image.now core.old }
-    ensures { IsCoreOf image.now core.new }
-{
-    let rows = [
+fn up_to_the_nest() -> [Scene; 17] {
+    [
         row(claim(0, 0), 1, [At(0), Ready, Ready], [Free, Free]),
         row(turn(0, 0), 2, [At(0), Ready, Ready], [Free, Free]),
         row(commit(0, 0), 1, [At(0), Ready, Ready], [Free, Free]),
@@ -296,17 +289,13 @@ fn up_to_the_nest(core: &mut Core, image: &Image) -> u32
             [At(0), At(1), Waiting(0)],
             [With(1), With(0)],
         ),
-    ];
-    walked(core, image, &rows)
+    ]
 }
 
 /// Thread 2 is adopted with lock 0, waits for lock 1 with it, is adopted with that one too, and gives
 /// both back.
-fn through_the_nest(core: &mut Core, image: &Image) -> u32
-    requires { IsCoreOf image.now core.old }
-    ensures { IsCoreOf image.now core.new }
-{
-    let rows = [
+fn through_the_nest() -> [Scene; 14] {
+    [
         row(
             commit(1, 1),
             1,
@@ -346,8 +335,7 @@ fn through_the_nest(core: &mut Core, image: &Image) -> u32
         row(set_free(0, 1), 1, [At(0), At(1), At(0)], [With(2), Free]),
         row(turn(0, 2), 3, [At(0), At(1), At(0)], [With(2), Free]),
         row(commit(0, 2), 1, [At(0), At(1), At(0)], [Loose(0), Free]),
-    ];
-    walked(core, image, &rows)
+    ]
 }
 
 /// Whether the lock was last released by a block that had these locks.
@@ -362,16 +350,19 @@ fn was_released_by(core: &Core, lock: u32, held: Held) -> bool {
 fn a_waiter_is_shipped_with_the_lock_that_it_holds(rt: HostRuntime) -> Result<(), Fail> {
     let image = guest(rt.alloc(), &NEST)?;
     let mut core = Core::new(rt.alloc(), &image, 100, 3, 4)?;
-    assert_eq!(rt; up_to_the_nest(&mut core, &image), 17);
-    assert_eq!(rt; through_the_nest(&mut core, &image), 14);
+    assert_eq!(rt; walked(&mut core, &image, &up_to_the_nest()), 17);
+    assert_eq!(rt; walked(&mut core, &image, &through_the_nest()), 14);
     // Lock 1 was last released by the block that had both, lock 0 by the one that had it alone.
     assert!(rt; was_released_by(&core, 1, Held::none().plus(0).plus(1)));
     assert!(rt; was_released_by(&core, 0, Held::none().plus(0)));
     Ok(())
 }
 
+/// An event, so many times, and whether it is enabled each time.
+type Try = (Event, u32, bool);
+
 /// How many from the first on were enabled, or not, as it is written beside them.
-fn tried(core: &mut Core, image: &Image, tries: &[(Event, u32, bool)]) -> u32
+fn tried(core: &mut Core, image: &Image, tries: &[Try]) -> u32
     requires { IsCoreOf image.now core.old }
     ensures { IsCoreOf image.now core.new }
 {
@@ -395,11 +386,8 @@ fn pass(adopted: bool, worker: u32, thread: u32, lock: u32) -> Event {
 }
 
 /// Up to where thread 0 has entered the line of lock 1: 21 rows.
-fn to_the_entry(core: &mut Core, image: &Image) -> u32
-    requires { IsCoreOf image.now core.old }
-    ensures { IsCoreOf image.now core.new }
-{
-    let tries = [
+fn to_the_entry() -> [Try; 21] {
+    [
         // No such worker, no such thread; at no worker.
         (claim(3, 0), 1, false),
         (claim(0, 3), 1, false),
@@ -425,16 +413,12 @@ fn to_the_entry(core: &mut Core, image: &Image) -> u32
         (enter(1, 0, 1), 1, false),
         (enter(0, 0, 0), 1, false),
         (enter(0, 0, 1), 1, true),
-    ];
-    tried(core, image, &tries)
+    ]
 }
 
 /// Up to where thread 0 has released lock 1, while threads 1 and 2 stand in its line: 22 rows.
-fn to_the_line(core: &mut Core, image: &Image) -> u32
-    requires { IsCoreOf image.now core.old }
-    ensures { IsCoreOf image.now core.new }
-{
-    let tries = [
+fn to_the_line() -> [Try; 22] {
+    [
         // In the line, and the lock is free; first in it; at another worker.
         (enter(0, 0, 1), 1, false),
         (hand_back(0, 0), 1, false),
@@ -461,16 +445,12 @@ fn to_the_line(core: &mut Core, image: &Image) -> u32
         (commit(2, 2), 1, true),
         (enter(2, 2, 1), 1, true),
         (ship(2, 2, 1), 1, true),
-    ];
-    tried(core, image, &tries)
+    ]
 }
 
 /// Lock 1 goes to thread 1, and thread 0 leaves lock 0: 18 rows.
-fn to_the_leave(core: &mut Core, image: &Image, adopted: bool) -> u32
-    requires { IsCoreOf image.now core.old }
-    ensures { IsCoreOf image.now core.new }
-{
-    let tries = [
+fn to_the_leave(adopted: bool) -> [Try; 18] {
+    [
         // The second of the line does not wait yet.
         (pass(adopted, 0, 1, 1), 1, false),
         (ship(1, 1, 1), 1, true),
@@ -493,16 +473,12 @@ fn to_the_leave(core: &mut Core, image: &Image, adopted: bool) -> u32
         (commit(0, 0), 1, true),
         (leave(1, 0), 1, false),
         (leave(0, 0), 1, true),
-    ];
-    tried(core, image, &tries)
+    ]
 }
 
 /// Lock 1 goes on to thread 2, and thread 0 ends: 27 rows.
-fn to_the_end(core: &mut Core, image: &Image, adopted: bool) -> u32
-    requires { IsCoreOf image.now core.old }
-    ensures { IsCoreOf image.now core.new }
-{
-    let tries = [
+fn to_the_end(adopted: bool) -> [Try; 27] {
+    [
         (claim(1, 1), 1, true),
         (turn(1, 1), 4, true),
         (commit(1, 1), 1, true),
@@ -534,8 +510,7 @@ fn to_the_end(core: &mut Core, image: &Image, adopted: bool) -> u32
         (finish(1, 0), 1, false),
         (finish(0, 0), 1, true),
         (claim(0, 0), 1, false),
-    ];
-    tried(core, image, &tries)
+    ]
 }
 
 /// Each event is tried where just one of its conditions fails. A condition that never fails alone
@@ -552,10 +527,10 @@ fn each_condition_counts(rt: HostRuntime) -> Result<(), Fail> {
     let image = guest(rt.alloc(), &words)?;
     for (limit, adopted) in [(4, true), (0, false)] {
         let mut core = Core::new(rt.alloc(), &image, 100, 3, limit)?;
-        assert_eq!(rt; to_the_entry(&mut core, &image), 21);
-        assert_eq!(rt; to_the_line(&mut core, &image), 22);
-        assert_eq!(rt; to_the_leave(&mut core, &image, adopted), 18);
-        assert_eq!(rt; to_the_end(&mut core, &image, adopted), 27);
+        assert_eq!(rt; tried(&mut core, &image, &to_the_entry()), 21);
+        assert_eq!(rt; tried(&mut core, &image, &to_the_line()), 22);
+        assert_eq!(rt; tried(&mut core, &image, &to_the_leave(adopted)), 18);
+        assert_eq!(rt; tried(&mut core, &image, &to_the_end(adopted)), 27);
     }
     Ok(())
 }
@@ -564,7 +539,7 @@ fn each_condition_counts(rt: HostRuntime) -> Result<(), Fail> {
 fn only_a_thread_that_has_slept_is_parked(rt: HostRuntime) -> Result<(), Fail> {
     let image = guest(rt.alloc(), &DOZE)?;
     let mut core = Core::new(rt.alloc(), &image, 100, 2, 4)?;
-    assert_eq!(rt; up_to_the_wait(&mut core, &image), 11);
+    assert_eq!(rt; walked(&mut core, &image, &up_to_the_wait()), 11);
     let tries = [
         (turn(0, 0), 3, true),
         (commit(0, 0), 1, true),

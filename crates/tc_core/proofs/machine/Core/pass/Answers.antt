@@ -1,14 +1,7 @@
-use Rattle.std.proofs.Common.{sym, subst}
-use Rattle.tc_core.specs.View.{CoreView, HasParts}
-use Rattle.tc_core.proofs.Parts.{custody_parts}
+use Rattle.tc_core.specs.Events.{passed_to}
 use Rattle.tc_core.proofs.Numbers.{line_rest}
+use Rattle.tc_core.proofs.Parts.{custody_became}
 use Rattle.tc_core.proofs.machine.Core.pass.Goals as goal
 
-abbrev before : goal.After-pass → CoreView
-before c = record { workers = c.self.inside.workers; batch = c.self.inside.limit; plain = c.self.inside.slow; courses = c.self.inside.courses; custodies = c.self.inside.custodies }
-
-parts : (c : goal.After-pass) → HasParts c.args.image.now (before c)
-parts c = subst (λ s. HasParts c.args.image.now s) (sym c.self.view_is) c.requires.parts
-
-pub returns-clause-parts : goal.returns-clause-parts
-returns-clause-parts c = custody_parts c.args.image.now (before c) c.args.lock _ c.pass.new.self (parts c) c.requires.lock (c.pass.ensures) (line_rest _ _ ((parts c).lines c.args.lock))
+pub returns : goal.returns
+returns c = custody_became c.args.image.now _ c.args.self.now c.args.lock (λ x. passed_to x c.args.thread c.args.run) c.pass.new.self c.self.view_is c.requires.parts c.requires.lock c.pass.ensures (line_rest _ _ (c.requires.parts.lines c.args.lock))
