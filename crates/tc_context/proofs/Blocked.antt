@@ -1,6 +1,6 @@
 -- A whole block: from journals at rest to journals with an entry more.
 use Rattle.std.proofs.Common.{◌≡◌, ℕ, ◌≤◌, arith, Bool, true, false, ◌||◌, List, refl, sym, ap, subst, ◌∙◌, Option, Some, None, is_some, if◌then◌else◌}
-use Rattle.tc_context.proofs.Vocabulary.{option_map, has, MAX_TURNS, Shown, is_section, ends_thread, Block, Thread, Mutex, next_lock, LockView, Journal, Opened, Closes, lock_of, with_end, with_journal, opened_at, noted, entry_from, closed_with, lock_in, mutex_of, mutex_or, when_in, Changed, opened_in, closed_in, Context, thread_in, mutex_at, whole, set_of, journal_in, journal_at, Keeps, CanGo, RunsAs, block_locks, entry_of, with_entry, entered, Journals, noted_when, words_of, AreReady, AreNoted, MayTurn}
+use Rattle.tc_context.proofs.Vocabulary.{option_map, has, MAX_TURNS, Shown, is_section, ends_thread, Block, Thread, Mutex, next_lock, LockView, Journal, Opened, Closes, lock_of, with_end, with_journal, opened_at, noted, entry_from, closed_with, lock_in, mutex_of, mutex_or, when_in, Changed, EachHeld, CanClose, opened_in, closed_in, Context, thread_in, mutex_at, whole, set_of, journal_in, journal_at, Keeps, CanGo, RunsAs, block_locks, entry_of, with_entry, entered, Journals, noted_when, words_of, MayTurn}
 use Rattle.tc_isa.specs.Registers.{Registers}
 use Rattle.tc_journal.specs.declared.block.End.{End}
 use Rattle.tc_journal.specs.declared.block.Kind.{Kind}
@@ -10,7 +10,9 @@ use Rattle.tc_mutex_spec.specs.Locality.{Agree, Apart}
 use Rattle.tc_mutex_spec.specs.Blocks.{locks_of_block, reach, Runs}
 use Rattle.tc_mutex_spec.proofs.Local.{agree_at, apart_at, covers_at}
 use Rattle.tc_mutex_spec.proofs.BlocksAlike.{covers_block}
+use Rattle.tc_context.specs.Block.{DidTurns, MayRunBlock}
 use Rattle.tc_context.specs.Ran.{slept_at}
+use Rattle.tc_context.specs.declared.context.Turns.{Turns}
 use Rattle.tc_context.proofs.LockList.{when_field, with_locks}
 use Rattle.tc_context.proofs.Moved.{identifies_when, keeps_changed, journals_changed, mutexes_same}
 use Rattle.tc_context.proofs.Partway.{keeps_all}
@@ -83,14 +85,14 @@ pub record Begins (image : Shown) (old : Context) (held : ℕ) (locks : List (Op
   pub is : (k : ℕ) → has held k ≡ block_locks image old k
   pub opens : Changed (opened_in (has held) old.guest.regs old.guest.fuel) old.locks locks
 
-pub begins_from : (image : Shown) (old : Context) (held was fuel : ℕ) (takes : Option ℕ) (regs : Registers) (locks : List (Option LockView)) → takes ≡ next_lock image (thread_in old) → was ≡ old.guest.held → regs ≡ old.guest.regs → fuel ≡ old.guest.fuel
+pub begins_from : (image : Shown) (old : Context) (held : ℕ) (locks : List (Option LockView)) {was fuel : ℕ} {takes : Option ℕ} {regs : Registers} → takes ≡ next_lock image (thread_in old) → was ≡ old.guest.held → regs ≡ old.guest.regs → fuel ≡ old.guest.fuel
     → ((k : ℕ) → has held k ≡ locks_of_block (has was) takes k) → Changed (opened_in (has held) regs fuel) old.locks locks → Begins image old held locks
-begins_from image old held was fuel takes regs locks next before start left is opens = record {
+begins_from image old held locks next before start left is opens = record {
   is = λ k. is k ∙ (λ i. locks_of_block (has (before i)) (next i) k);
   opens = subst (λ (x : Registers × ℕ). Changed (opened_in (has held) x.0 x.1) old.locks locks) (λ i. (start i, left i)) opens;
 }
 
-module _ (image : Shown) (old : Context) (held : ℕ) (locks : List (Option LockView)) (go : CanGo image old) (ready : AreReady image old) (begins : Begins image old held locks) where
+module _ {image decoded : Shown} {kind : Kind} {takes : Option ℕ} {old : Context} (may : MayRunBlock image decoded kind takes old) {held : ℕ} {locks : List (Option LockView)} (begins : Begins image old held locks) where
   abbrev pub begun : Context
   begun = with_locks old locks
 
@@ -117,45 +119,43 @@ module _ (image : Shown) (old : Context) (held : ℕ) (locks : List (Option Lock
   pub begun_may : MayTurn image (has held) MAX_TURNS begun
   begun_may = record {
     go = record {
-      guards = go.guards;
-      thread = go.thread;
-      running = go.running;
-      of = begun_part.keeps.of image go.of;
-      covers = covers_at image (set_of old) (set_of begun) (thread_in old) (λ k. sym (begun_part.keeps.set k)) go.covers;
+      guards = may.go.guards;
+      thread = may.go.thread;
+      running = may.go.running;
+      of = begun_part.keeps.of image may.go.of;
+      covers = covers_at image (set_of old) (set_of begun) (thread_in old) (λ k. sym (begun_part.keeps.set k)) may.go.covers;
     };
     covers = covers_at image (block_locks image old) (has held) (thread_in old) (λ k. sym (begins.is k)) (covers_block image (thread_in old));
     opened = λ k j at h. ap (λ (i : Journal). is_some i.opened) (begun_was k j at h).2;
-    room = λ k j at h. (let w = begun_was k j at h in subst (λ n. MAX_TURNS ≤ n) (sym (ap (λ (i : Journal). i.word_room) w.2)) (ready k w.0 w.1 (sym (begins.is k) ∙ h)).words);
+    room = λ k j at h. (let w = begun_was k j at h in subst (λ n. MAX_TURNS ≤ n) (sym (ap (λ (i : Journal). i.word_room) w.2)) (may.ready k w.0 w.1 (sym (begins.is k) ∙ h)).words);
   }
 
-  module _ (ran : Context) (turns : ℕ) (kind : Kind) (pc : ℕ) (end : End) (runs : RunsAs image begun ran turns end)
-      (noted_all : AreNoted image (has held) turns begun ran)
-      (section : is_section kind ≡ is_some (next_lock image (thread_in old))) where
+  module _ (pc : ℕ) {ran : Context} {t : Turns} (did : DidTurns image (has held) begun ran t) where
     abbrev pub made : Block
-    made = record { stamp = 0; thread = old.thread; turns = turns; held = held; kind = kind; worker = 0; pc = pc; end = end }
+    made = record { stamp = 0; thread = old.thread; turns = t.count; held = held; kind = kind; worker = 0; pc = pc; end = t.end }
 
-    pub old_runs : RunsAs image old ran turns end
-    old_runs = runs_from image old begun ran turns end begun_part runs
+    pub old_runs : RunsAs image old ran t.count t.end
+    old_runs = runs_from image old begun ran t.count t.end begun_part did.runs
 
     -- the package alone, as the machine where the block runs
-    abbrev alone : (to : State) × (Runs image (whole old) old.thread turns end to) × (Agree old.thread (block_locks image old) (whole ran) to) × (Apart old.thread (block_locks image old) (whole old) to)
+    abbrev alone : (to : State) × (Runs image (whole old) old.thread t.count t.end to) × (Agree old.thread (block_locks image old) (whole ran) to) × (Apart old.thread (block_locks image old) (whole old) to)
     alone = old_runs.block (whole old) (record { thread = refl; locks = λ k h. refl })
 
     -- what its last turn slept for is seen from the package as it was
     pub old_slept : (n : ℕ) → slept_at image (whole begun) begun.thread n ≡ slept_at image (whole old) old.thread n
     old_slept n = ap (λ m. slept_at image m old.thread n) begun_part.machine
 
-    finish_is : ran.guest.regs ≡ ((reach image (whole old) old.thread turns).threads old.thread).regs
+    finish_is : ran.guest.regs ≡ ((reach image (whole old) old.thread t.count).threads old.thread).regs
     finish_is = ap (λ (d : Thread). d.regs) alone.2.thread ∙ ap (λ (m : State). (m.threads old.thread).regs) alone.1.last
 
     abbrev words : ℕ → List ℕ
-    words k = words_of image begun k turns
+    words k = words_of image begun k t.count
 
     -- the open entry of a lock of the block, at the block's end
     abbrev filled : ℕ → Opened
     filled k = record { start = old.guest.regs; fuel = old.guest.fuel; from = unowned (mutex_at old k); foreign = words k }
 
-    words_is : (k : ℕ) → words k ≡ words_of image old k turns
+    words_is : (k : ℕ) → words k ≡ words_of image old k t.count
     words_is k = ap (λ (m : State). (entry_of image k m made).foreign) begun_part.machine
 
     entry_is : (k : ℕ) → entry_of image k (whole old) made ≡ entry_from made ran.guest.regs (filled k)
@@ -164,52 +164,54 @@ module _ (image : Shown) (old : Context) (held : ℕ) (locks : List (Option Lock
     was_ready : (k : ℕ) (l : LockView) → lock_in ran.locks k ≡ Some l → has held k ≡ true
         → (j : Journal) × (journal_at old k ≡ Some j) × (l.journal ≡ noted (words k) (opened_at (unowned (mutex_at old k)) old.guest.regs old.guest.fuel j))
     was_ready k l found h =
-        let a = map_some (noted_when (has held k) (words k)) (journal_at begun k) l.journal (sym (noted_all k) ∙ ap (option_map journal_in) found) in
+        let a = map_some (noted_when (has held k) (words k)) (journal_at begun k) l.journal (sym (did.journals k) ∙ ap (option_map journal_in) found) in
         let b = begun_was k a.0 a.1 h in
         (b.0, b.1, a.2 ∙ ap (λ v. noted_when v (words k) a.0) h ∙ ap (noted (words k)) b.2)
 
-    pub closes_image : (k : ℕ) (l : LockView) → lock_in ran.locks k ≡ Some l → has held k ≡ true → l.journal.image ≡ image
-    closes_image k l found h = (old_runs.keeps.of image go.of k l found).of
-
-    pub closes_opened : (k : ℕ) (l : LockView) → lock_in ran.locks k ≡ Some l → has held k ≡ true → is_some l.journal.opened ≡ true
-    closes_opened k l found h = ap (λ (x : Journal). is_some x.opened) (was_ready k l found h).2
-
     -- the lock as the machine has it at the block's end
-    lock_is : (k : ℕ) (l : LockView) → lock_in ran.locks k ≡ Some l → has held k ≡ true → unowned ((reach image (whole old) old.thread turns).locks k) ≡ lock_of l
+    lock_is : (k : ℕ) (l : LockView) → lock_in ran.locks k ≡ Some l → has held k ≡ true → unowned ((reach image (whole old) old.thread t.count).locks k) ≡ lock_of l
     lock_is k l found h =
         let some : block_locks image old k ≡ true = sym (begins.is k) ∙ h in
         ap (λ (m : State). unowned (m.locks k)) (sym alone.1.last) ∙ ap unowned (sym (alone.2.locks k some)) ∙ ap (λ x. unowned (mutex_or ran.thread (has ran.guest.held k) x)) found
 
-    pub closes : (k : ℕ) (l : LockView) → lock_in ran.locks k ≡ Some l → has held k ≡ true → (o : Opened) → l.journal.opened ≡ Some o → Closes l made ran.guest.regs o
+    closes : (k : ℕ) (l : LockView) → lock_in ran.locks k ≡ Some l → has held k ≡ true → (o : Opened) → l.journal.opened ≡ Some o → Closes l made ran.guest.regs o
     closes k l found h o e =
         let w = was_ready k l found h in
-        let of = old_runs.keeps.of image go.of k l found in
+        let of = old_runs.keeps.of image may.go.of k l found in
         let some : Some (filled k) ≡ Some o = sym (ap (λ (x : Journal). x.opened) w.2) ∙ e in
         let same : filled k ≡ o = cc in
         let entry : entry_of image k (whole old) made ≡ entry_from made ran.guest.regs o = entry_is k ∙ ap (entry_from made ran.guest.regs) same in
         let from : unowned (mutex_at old k) ≡ o.from = ap (λ (x : Opened). x.from) same in
         record {
-          replays = subst (λ (x : Shown × ℕ × Entry × Mutex). Replays x.0 x.1 x.2 x.3) (λ i. (sym of.of i, sym of.number i, entry i, from i)) (replays image k (whole old) made alone.0 alone.1 (record_is image old made go begins.is section));
-          lock = (λ i. replay_entry (of.of i) (of.number i) (sym entry i) (sym from i)) ∙ replay_is image k (whole old) made alone.0 alone.1 (record_is image old made go begins.is section) ∙ ap (ended end) (lock_is k l found h);
+          replays = subst (λ (x : Shown × ℕ × Entry × Mutex). Replays x.0 x.1 x.2 x.3) (λ i. (sym of.of i, sym of.number i, entry i, from i)) (replays image k (whole old) made alone.0 alone.1 (record_is image old made may.go begins.is may.section));
+          lock = (λ i. replay_entry (of.of i) (of.number i) (sym entry i) (sym from i)) ∙ replay_is image k (whole old) made alone.0 alone.1 (record_is image old made may.go begins.is may.section) ∙ ap (ended t.end) (lock_is k l found h);
         }
+
+    -- so the block may close it
+    pub may_close : EachHeld (has held) (CanClose image made ran.guest.regs) ran.locks
+    may_close k l found h = record {
+      image_is = (old_runs.keeps.of image may.go.of k l found).of;
+      opened = ap (λ (x : Journal). is_some x.opened) (was_ready k l found h).2;
+      closes = closes k l found h;
+    }
 
     module _ (after : List (Option LockView)) (shuts : Changed (closed_in (has held) made ran.guest.regs) ran.locks after) where
       abbrev pub finished : Context
       finished = with_locks ran after
 
-      is_broken : (k : ℕ) (l : LockView) → lock_in ran.locks k ≡ Some l → has held k ≡ true → ends_thread end ≡ true → l.broken ≡ true
+      is_broken : (k : ℕ) (l : LockView) → lock_in ran.locks k ≡ Some l → has held k ≡ true → ends_thread t.end ≡ true → l.broken ≡ true
       is_broken k l found h ends =
-          sym (ap (λ (m : Mutex). m.broken) (lock_is k l found h)) ∙ block_broken image (whole old) alone.0 old.thread turns end alone.1 k (sym (begins.is k) ∙ h) ends
+          sym (ap (λ (m : Mutex). m.broken) (lock_is k l found h)) ∙ block_broken image (whole old) alone.0 old.thread t.count t.end alone.1 k (sym (begins.is k) ∙ h) ends
 
-      same_ended : (t k : ℕ) (b : Bool) (l : LockView) → lock_in ran.locks k ≡ Some l → mutex_of t b (closed_in (has held) made ran.guest.regs k l) ≡ mutex_of t b l
-      same_ended t k b l found = (elim (has held k) as (λ v. has held k ≡ v → mutex_of t b (when_in v (λ m. with_end end (with_journal (closed_with made ran.guest.regs) m)) l) ≡ mutex_of t b l) [
-        | true ↦ λ h. (let e = ended_broken end l.broken (is_broken k l found h) in λ i. record { bytes = l.bytes; broken = e i; sections = l.sections; owner = if b then Some t else None })
+      same_ended : (n k : ℕ) (b : Bool) (l : LockView) → lock_in ran.locks k ≡ Some l → mutex_of n b (closed_in (has held) made ran.guest.regs k l) ≡ mutex_of n b l
+      same_ended n k b l found = (elim (has held k) as (λ v. has held k ≡ v → mutex_of n b (when_in v (λ m. with_end t.end (with_journal (closed_with made ran.guest.regs) m)) l) ≡ mutex_of n b l) [
+        | true ↦ λ h. (let e = ended_broken t.end l.broken (is_broken k l found h) in λ i. record { bytes = l.bytes; broken = e i; sections = l.sections; owner = if b then Some n else None })
         | false ↦ λ h. refl
       ]) refl
 
-      pub finished_runs : RunsAs image old finished turns end
-      finished_runs = runs_to image old ran finished turns end (same_part ran (closed_in (has held) made ran.guest.regs) after
-          (λ k l. identifies_when (has held k) (λ m. with_end end (with_journal (closed_with made ran.guest.regs) m)) l refl refl) shuts same_ended) old_runs
+      pub finished_runs : RunsAs image old finished t.count t.end
+      finished_runs = runs_to image old ran finished t.count t.end (same_part ran (closed_in (has held) made ran.guest.regs) after
+          (λ k l. identifies_when (has held k) (λ m. with_end t.end (with_journal (closed_with made ran.guest.regs) m)) l refl refl) shuts same_ended) old_runs
 
       all_three : (k : ℕ) (o : Option Journal)
           → option_map (when_in (has held k) (closed_with made ran.guest.regs)) (option_map (noted_when (has held k) (words k)) (option_map (opening k) o))
@@ -226,7 +228,7 @@ module _ (image : Shown) (old : Context) (held : ℕ) (locks : List (Option Lock
         held = begins.is;
         entries = λ k.
             journals_changed (closed_in (has held) made ran.guest.regs) (λ j. when_in (has held j) (closed_with made ran.guest.regs)) ran finished shuts
-            (λ j l e. journal_when (has held j) (closed_with made ran.guest.regs) (λ m. with_end end (with_journal (closed_with made ran.guest.regs) m)) l refl) k
-            ∙ ap (option_map (when_in (has held k) (closed_with made ran.guest.regs))) (noted_all k ∙ ap (option_map (noted_when (has held k) (words k))) (begun_journals k))
+            (λ j l e. journal_when (has held j) (closed_with made ran.guest.regs) (λ m. with_end t.end (with_journal (closed_with made ran.guest.regs) m)) l refl) k
+            ∙ ap (option_map (when_in (has held k) (closed_with made ran.guest.regs))) (did.journals k ∙ ap (option_map (noted_when (has held k) (words k))) (begun_journals k))
             ∙ all_three k (journal_at old k);
       }

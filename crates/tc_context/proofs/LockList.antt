@@ -1,6 +1,6 @@
 -- A package's lock states after a change of each of them.
 use Rattle.std.proofs.Common.{◌≡◌, ℕ, arith, get_or, set, ◌<◌, Bool, true, false, not, ◌==◌, List, length, refl, sym, ap, ◌∙◌, inl, inr, Option, Some, None, slice_get, if◌then◌else◌, ext_get_or}
-use Rattle.tc_context.proofs.Vocabulary.{option_map, LockView, Context, slot_of, lock_in, when_in, Changed, at_place}
+use Rattle.tc_context.proofs.Vocabulary.{option_map, LockView, Context, slot_of, lock_in, when_in, Changed, EachHeld, HeldAt, at_place}
 use Rattle.std.proofs.lemmas.Bool.Decides.{eqb_tells}
 use Rattle.tc_mutex_spec.proofs.ListLaws.{get-set}
 use Rattle.tc_mutex_spec.proofs.OptionLaws.{option_map-id}
@@ -29,6 +29,10 @@ outside left f k l = when_in (not (left k)) (f k) l
 -- what is left of the walk is as it was
 pub outside_here : (left : ℕ → Bool) (f : ℕ → LockView → LockView) (n : ℕ) (old now : List (Option LockView)) → left n ≡ true → Changed (outside left f) old now → lock_in now n ≡ lock_in old n
 outside_here left f n old now has_n changed = changed n ∙ option_map-id (outside left f n) (lock_in old n) (λ l. ap (λ b. when_in (not b) (f n) l) has_n)
+
+-- and what each lock of a set may do, the walk's next one still may
+pub next_here : (held left : ℕ → Bool) (f : ℕ → LockView → LockView) (P : LockView → Type 0) (n : ℕ) (old now : List (Option LockView)) → n < 32 → left n ≡ true → Changed (outside left f) old now → EachHeld held P old → HeldAt n held P now
+next_here held left f P n old now lt has_n changed each = record { place = lt; lock = λ l found h. each n l (sym (outside_here left f n old now has_n changed) ∙ found) h }
 
 -- the context with other locks
 abbrev pub with_locks : Context → List (Option LockView) → Context

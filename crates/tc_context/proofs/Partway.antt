@@ -70,97 +70,94 @@ agree_moved image block now new turn = record {
   locks = λ k h. after_mutex image (whole now) now.thread k ∙ sym (turn.locks k h);
 }
 
--- a further turn, as the machine tells it
-further : (image : Shown) (block : ℕ → Bool) (old now new : Context) (n : ℕ) → Partway image block old now n → IsTurn image block now new → IsTold image (whole old) old.thread n (set_of old) (whole now) (whole new)
-further image block old now new n partway turn =
-    let t = old.thread in
-    let set = set_of old in
-    let moved = agree_at now.thread t (set_of now) set _ (whole new) partway.keeps.thread partway.keeps.set (agree_moved image block now new turn) in
-    turn_told image (whole old) t n set (whole now) (whole new) (covers_at image (set_of now) set (thread_in now) partway.keeps.set partway.go.covers)
-    (ap (can_turn image (whole now)) (sym partway.keeps.thread) ∙ goes image now partway.go) partway.agree
-    (subst (λ u. Agree t set (after image (whole now) u) (whole new)) partway.keeps.thread moved)
-
--- the turn's words are noted
-pub noted_next : (image : Shown) (block : ℕ → Bool) (old now new : Context) (n : ℕ) → Partway image block old now n → IsTurn image block now new → AreNoted image block (n + 1) old new
-noted_next image block old now new n partway turn k =
-    let t = old.thread in
-    let ws = words_of image old k n in
-    let here = reach image (whole old) t n in
-    let covers : Covers image (set_of old) (thread_in now) = covers_at image (set_of now) (set_of old) (thread_in now) partway.keeps.set partway.go.covers in
-    let word : word_of image k (thread_in now) (mutex_at now) ≡ word_of image k (here.threads t) here.locks =
-    word_same image (set_of old) k (thread_in now) (mutex_at now) here.locks covers (λ j h. sym (partway.agree.locks j h)) ∙ ap (λ d. word_of image k d here.locks) (sym partway.agree.thread) in
-    turn.journals k
-    ∙ (λ i. option_map (noted_when (block k) (word i)) (partway.journals k i))
-    ∙ option_map-twice (noted_when (block k) ws) (noted_when (block k) (word_of image k (here.threads t) here.locks)) (noted_when (block k) (ws ++ word_of image k (here.threads t) here.locks)) (journal_at old k)
-    (when_more (block k) ws (word_of image k (here.threads t) here.locks))
-    ∙ ap (λ x. option_map (noted_when (block k) x) (journal_at old k))
-    (sym (words_next image k (whole old) t n))
-
 -- the same set covers the thread after a turn that ends no block
 covers_moved : (image : Shown) (set block : ℕ → Bool) (now new : Context) → Covers image set (thread_in now) → IsTurn image block now new → next_lock image (thread_in new) ≡ None → Covers image set (thread_in new)
 covers_moved image set block now new covers turn none =
     subst (λ d. Covers image set d) (sym turn.thread) (covers_on image set (thread_in now) (mutex_at now) covers (ap (next_lock image) (sym turn.thread) ∙ none))
-
-pub partway_more : (image : Shown) (block : ℕ → Bool) (old now new : Context) (n : ℕ) → Partway image block old now n → IsTurn image block now new → end_rule (outcome_of (act_in image now)) (n + 1) (next_lock image (thread_in new)) ≡ None → Partway image block old new (n + 1)
-partway_more image block old now new n partway turn none =
-    let f = further image block old now new n partway turn in
-    let on = goes_on (thread_in now) (act_in image now) (n + 1) (next_lock image (thread_in new)) none in
-    record {
-      short = (let s = partway.short in omega (arith, on.1));
-      keeps = keeps_all old now new partway.keeps turn.keeps;
-      go = record {
-        guards = partway.go.guards;
-        thread = rw turn.keeps.thread partway.go.thread;
-        running = ap (λ (d : Thread). d.status) turn.thread ∙ on.2 ∙ partway.go.running;
-        of = turn.keeps.of image partway.go.of;
-        covers = covers_at image (set_of now) (set_of new) (thread_in new) (λ k. sym (turn.keeps.set k)) (covers_moved image (set_of now) block now new partway.go.covers turn on.0);
-      };
-      agree = f.agree;
-      within = within_more image (whole old) old.thread n partway.within f.can (f.end ∙ none);
-      covers = covers_moved image block block now new partway.covers turn on.0;
-      journals = noted_next image block old now new n partway turn;
-    }
 
 -- what isn't in the package before and after is none
 none_same : (t u : ℕ) (b c : Bool) (o p : Option LockView) → is_some o ≡ false → is_some p ≡ false → mutex_or u c p ≡ mutex_or t b o
 none_same t u b c None None e f = refl
 none_same t u b c _ _ e f = absurd (cc)
 
-module _ (image : Shown) (block : ℕ → Bool) (old now new : Context) (n : ℕ) (end : End) (partway : Partway image block old now n) (turn : IsTurn image block now new) (ends : end_rule (outcome_of (act_in image now)) (n + 1) (next_lock image (thread_in new)) ≡ Some end) where
-  abbrev t : ℕ
-  t = old.thread
+module _ {image : Shown} {block : ℕ → Bool} {old now new : Context} {n : ℕ} (partway : Partway image block old now n) (turn : IsTurn image block now new) where
+  -- a further turn, as the machine tells it
+  further : IsTold image (whole old) old.thread n (set_of old) (whole now) (whole new)
+  further =
+      let t = old.thread in
+      let set = set_of old in
+      let moved = agree_at now.thread t (set_of now) set _ (whole new) partway.keeps.thread partway.keeps.set (agree_moved image block now new turn) in
+      turn_told image (whole old) t n set (whole now) (whole new) (covers_at image (set_of now) set (thread_in now) partway.keeps.set partway.go.covers)
+      (ap (can_turn image (whole now)) (sym partway.keeps.thread) ∙ goes image now partway.go) partway.agree
+      (subst (λ u. Agree t set (after image (whole now) u) (whole new)) partway.keeps.thread moved)
 
-  abbrev mine : ℕ → Bool
-  mine = block_locks image old
+  -- the turn's words are noted
+  pub noted_next : AreNoted image block (n + 1) old new
+  noted_next k =
+      let t = old.thread in
+      let ws = words_of image old k n in
+      let here = reach image (whole old) t n in
+      let covers : Covers image (set_of old) (thread_in now) = covers_at image (set_of now) (set_of old) (thread_in now) partway.keeps.set partway.go.covers in
+      let word : word_of image k (thread_in now) (mutex_at now) ≡ word_of image k (here.threads t) here.locks =
+      word_same image (set_of old) k (thread_in now) (mutex_at now) here.locks covers (λ j h. sym (partway.agree.locks j h)) ∙ ap (λ d. word_of image k d here.locks) (sym partway.agree.thread) in
+      turn.journals k
+      ∙ (λ i. option_map (noted_when (block k) (word i)) (partway.journals k i))
+      ∙ option_map-twice (noted_when (block k) ws) (noted_when (block k) (word_of image k (here.threads t) here.locks)) (noted_when (block k) (ws ++ word_of image k (here.threads t) here.locks)) (journal_at old k)
+      (when_more (block k) ws (word_of image k (here.threads t) here.locks))
+      ∙ ap (λ x. option_map (noted_when (block k) x) (journal_at old k))
+      (sym (words_next image k (whole old) t n))
 
-  abbrev last : State
-  last = reach image (whole old) t (n + 1)
+  pub partway_more : end_rule (outcome_of (act_in image now)) (n + 1) (next_lock image (thread_in new)) ≡ None → Partway image block old new (n + 1)
+  partway_more none =
+      let on = goes_on (thread_in now) (act_in image now) (n + 1) (next_lock image (thread_in new)) none in
+      record {
+        short = (let s = partway.short in omega (arith, on.1));
+        keeps = keeps_all old now new partway.keeps turn.keeps;
+        go = record {
+          guards = partway.go.guards;
+          thread = rw turn.keeps.thread partway.go.thread;
+          running = ap (λ (d : Thread). d.status) turn.thread ∙ on.2 ∙ partway.go.running;
+          of = turn.keeps.of image partway.go.of;
+          covers = covers_at image (set_of now) (set_of new) (thread_in new) (λ k. sym (turn.keeps.set k)) (covers_moved image (set_of now) block now new partway.go.covers turn on.0);
+        };
+        agree = further.agree;
+        within = within_more image (whole old) old.thread n partway.within further.can (further.end ∙ none);
+        covers = covers_moved image block block now new partway.covers turn on.0;
+        journals = noted_next;
+      }
 
-  f : IsTold image (whole old) t n (set_of old) (whole now) (whole new)
-  f = further image block old now new n partway turn
+  -- and what its last turn slept for
+  pub partway_slept : slept_by (option_map done_of (act_in image now)) ≡ slept_at image (whole old) old.thread (n + 1 - 1)
+  partway_slept =
+      let e : n ≡ n + 1 - 1 = omega arith in
+      ap (λ a. slept_by (option_map done_of a)) (sym further.acts) ∙ ap (slept_at image (whole old) old.thread) e
 
-  runs : Runs image (whole old) t (n + 1) end last
-  runs = within_ends image (whole old) t n partway.within f.can end (f.end ∙ ends)
+  module _ {end : End} (ends : end_rule (outcome_of (act_in image now)) (n + 1) (next_lock image (thread_in new)) ≡ Some end) where
+    abbrev t : ℕ
+    t = old.thread
 
-  by : (k : ℕ) → mine k ≡ false → (v : Bool) → set_of old k ≡ v → mutex_at new k ≡ mutex_at old k
-  by k out true s = sym (f.agree.locks k s) ∙ (runs_apart image (whole old) last t (n + 1) end runs).locks k out
-  by k out false s = none_same t new.thread (has old.guest.held k) (has new.guest.held k) (lock_in old.locks k) (lock_in new.locks k) s (turn.keeps.set k ∙ partway.keeps.set k ∙ s)
+    abbrev mine : ℕ → Bool
+    mine = block_locks image old
 
-  pub partway_ends : CanGo image old → RunsAs image old new (n + 1) end
-  partway_ends go = record {
-    keeps = keeps_all old now new partway.keeps turn.keeps;
-    block = λ m agree.
-        let r = runs_same image (whole old) m last t (n + 1) end mine runs (covers_block image (thread_in old)) agree in
-        let back : Agree t mine (whole new) last = record { thread = sym f.agree.thread; locks = λ k h. sym (f.agree.locks k (block_inside image (set_of old) (thread_in old) go.covers k h)) } in
-        (r.0, r.1, agree_trans t mine (whole new) last r.0 back r.2, r.3);
-    others = λ k out. by k out (set_of old k) refl;
-  }
+    abbrev last : State
+    last = reach image (whole old) t (n + 1)
 
--- and what its last turn slept for
-pub partway_slept : (image : Shown) (block : ℕ → Bool) (old now new : Context) (n : ℕ) → Partway image block old now n → IsTurn image block now new → slept_by (option_map done_of (act_in image now)) ≡ slept_at image (whole old) old.thread (n + 1 - 1)
-partway_slept image block old now new n partway turn =
-    let e : n ≡ n + 1 - 1 = omega arith in
-    ap (λ a. slept_by (option_map done_of a)) (sym (further image block old now new n partway turn).acts) ∙ ap (slept_at image (whole old) old.thread) e
+    runs : Runs image (whole old) t (n + 1) end last
+    runs = within_ends image (whole old) t n partway.within further.can end (further.end ∙ ends)
+
+    by : (k : ℕ) → mine k ≡ false → (v : Bool) → set_of old k ≡ v → mutex_at new k ≡ mutex_at old k
+    by k out true s = sym (further.agree.locks k s) ∙ (runs_apart image (whole old) last t (n + 1) end runs).locks k out
+    by k out false s = none_same t new.thread (has old.guest.held k) (has new.guest.held k) (lock_in old.locks k) (lock_in new.locks k) s (turn.keeps.set k ∙ partway.keeps.set k ∙ s)
+
+    pub partway_ends : CanGo image old → RunsAs image old new (n + 1) end
+    partway_ends go = record {
+      keeps = keeps_all old now new partway.keeps turn.keeps;
+      block = λ m agree.
+          let r = runs_same image (whole old) m last t (n + 1) end mine runs (covers_block image (thread_in old)) agree in
+          let back : Agree t mine (whole new) last = record { thread = sym further.agree.thread; locks = λ k h. sym (further.agree.locks k (block_inside image (set_of old) (thread_in old) go.covers k h)) } in
+          (r.0, r.1, agree_trans t mine (whole new) last r.0 back r.2, r.3);
+      others = λ k out. by k out (set_of old k) refl;
+    }
 
 -- a block has a turn
 pub runs_some : {image : Shown} {old new : Context} {n : ℕ} {e : End} → RunsAs image old new n e → 1 ≤ n
@@ -168,25 +165,26 @@ runs_some {old = old} runs = (let some = (runs.block (whole old) (record { threa
 
 -- ---- the journals
 
-opened_here : (image : Shown) (block : ℕ → Bool) (old now : Context) (n : ℕ) → AreOpen block old → Partway image block old now n → AreOpen block now
-opened_here image block old now n opened partway k j at h =
-    let was = map_some (noted_when (block k) (words_of image old k n)) (journal_at old k) j (sym (partway.journals k) ∙ at) in
-    ap (λ (i : Journal). is_some i.opened) was.2 ∙ when_open (block k) (words_of image old k n) was.0 ∙ opened k was.0 was.1 h
+module _ {image : Shown} {block : ℕ → Bool} {old now : Context} {n : ℕ} (may : MayTurn image block MAX_TURNS old) (partway : Partway image block old now n) where
+  opened_here : AreOpen block now
+  opened_here k j at h =
+      let was = map_some (noted_when (block k) (words_of image old k n)) (journal_at old k) j (sym (partway.journals k) ∙ at) in
+      ap (λ (i : Journal). is_some i.opened) was.2 ∙ when_open (block k) (words_of image old k n) was.0 ∙ may.opened k was.0 was.1 h
 
--- there is room for one word more
-room_here : (image : Shown) (block : ℕ → Bool) (old now : Context) (n : ℕ) → AreOpen block old → HasRoom MAX_TURNS block old → Partway image block old now n → HasRoom 1 block now
-room_here image block old now n opened room partway k j at h =
-    let ws = words_of image old k n in
-    let was = map_some (noted_when (block k) ws) (journal_at old k) j (sym (partway.journals k) ∙ at) in
-    let r : j.word_room ≡ was.0.word_room - length ws = ap (λ (i : Journal). i.word_room) was.2 ∙ ap (λ v. (noted_when v ws was.0).word_room) h ∙ ap (λ v. if v then was.0.word_room - length ws else was.0.word_room) (opened k was.0 was.1 h) in
-    let big = room k was.0 was.1 h in
-    let less : length ws ≤ n = words_short image k _ _ 0 n in
-    let short = partway.short in
-    omega (arith, r, big, less, short)
+  -- there is room for one word more
+  room_here : HasRoom 1 block now
+  room_here k j at h =
+      let ws = words_of image old k n in
+      let was = map_some (noted_when (block k) ws) (journal_at old k) j (sym (partway.journals k) ∙ at) in
+      let r : j.word_room ≡ was.0.word_room - length ws = ap (λ (i : Journal). i.word_room) was.2 ∙ ap (λ v. (noted_when v ws was.0).word_room) h ∙ ap (λ v. if v then was.0.word_room - length ws else was.0.word_room) (may.opened k was.0 was.1 h) in
+      let big = may.room k was.0 was.1 h in
+      let less : length ws ≤ n = words_short image k _ _ 0 n in
+      let short = partway.short in
+      omega (arith, r, big, less, short)
 
--- so the next turn may come
-pub may_here : (image : Shown) (block : ℕ → Bool) (old now : Context) (n : ℕ) → MayTurn image block MAX_TURNS old → Partway image block old now n → MayTurn image block 1 now
-may_here image block old now n may partway = record { go = partway.go; covers = partway.covers; opened = opened_here image block old now n may.opened partway; room = room_here image block old now n may.opened may.room partway }
+  -- so the next turn may come
+  pub may_here : MayTurn image block 1 now
+  may_here = record { go = partway.go; covers = partway.covers; opened = opened_here; room = room_here }
 
 -- ---- turns that touch the thread's own memory alone, one after another
 
@@ -240,7 +238,7 @@ partway_on image block old now c zero last partway lt goes = subst (λ (x : Cont
 partway_on image block old now c (suc n) last partway lt goes =
     let mid = partway_on image block old now c n goes.0 partway (omega (arith, lt)) goes.1 in
     let rule = (λ i. end_rule (goes.3 i) (c + n + 1) (goes.4 i)) ∙ no_cut (c + n + 1) (omega (arith, lt)) in
-    subst (Partway image block old last) (let e : c + n + 1 ≡ c + suc n = omega arith in e) (partway_more image block old goes.0 last (c + n) mid goes.2 rule)
+    subst (Partway image block old last) (let e : c + n + 1 ≡ c + suc n = omega arith in e) (partway_more mid goes.2 rule)
 
 -- turns of the thread's own in the middle of a block: the package before the last of them, and that turn
 pub record Taken (image : Shown) (block : ℕ → Bool) (old new : Context) (n : ℕ) : Type 0 where
@@ -251,8 +249,8 @@ pub record Taken (image : Shown) (block : ℕ → Bool) (old new : Context) (n :
   pub turn : IsTurn image block last new
   pub went : outcome_of (act_in image last) ≡ outcome.Went
 
-pub taken : (image : Shown) (block : ℕ → Bool) (old now new : Context) (c n : ℕ) → Partway image block old now c → n ≤ MAX_TURNS - c → AreOwnTurns image block now new n → Taken image block old new (c + n)
-taken image block old now new c n partway most turns =
+pub taken : {image : Shown} {block : ℕ → Bool} {old now new : Context} {c n : ℕ} → Partway image block old now c → n ≤ MAX_TURNS - c → AreOwnTurns image block now new n → Taken image block old new (c + n)
+taken {image = image} {block = block} {old = old} {now = now} {c = c} partway most turns =
     let short = partway.short in
     let count = turns.count in
     record {
@@ -276,14 +274,14 @@ chosen : (n : ℕ) (o : Option End) → o ≡ (if suc n == 0 then None else o)
 chosen n o = (let e : (suc n == 0) ≡ false = grind (arith, nat_tests) in ap (λ b. if b then None else o) (sym e))
 
 -- turns of the thread's own, or none, that end no block leave the package in the middle of it
-pub partway_own : (image : Shown) (block : ℕ → Bool) (old now new : Context) (c n : ℕ) (lock : Option ℕ) → Partway image block old now c → n ≤ MAX_TURNS - c → (0 < n → AreOwnTurns image block now new n) → (n ≡ 0 → new ≡ now)
+pub partway_own : {image : Shown} {block : ℕ → Bool} {old now new : Context} {c : ℕ} (n : ℕ) {lock : Option ℕ} → Partway image block old now c → n ≤ MAX_TURNS - c → (0 < n → AreOwnTurns image block now new n) → (n ≡ 0 → new ≡ now)
     → lock ≡ next_lock image (thread_in new) → (if n == 0 then None else end_rule outcome.Went (c + n) lock) ≡ None → Partway image block old new (c + n)
-partway_own image block old now new c zero lock partway most turns none next rule =
+partway_own {image = image} {block = block} {old = old} {c = c} zero partway most turns none next rule =
     subst (λ (x : Context × ℕ). Partway image block old x.0 x.1) (let e : c ≡ c + 0 = omega arith in λ i. (sym (none refl) i, e i)) partway
-partway_own image block old now new c (suc n) lock partway most turns none next rule =
-    let t = taken image block old now new c (suc n) partway most (turns (omega arith)) in
+partway_own {image = image} {block = block} {old = old} {new = new} {c = c} (suc n) {lock = lock} partway most turns none next rule =
+    let t = taken partway most (turns (omega arith)) in
     subst (Partway image block old new) (sym t.count)
-    (partway_more image block old t.last new t.before t.partway t.turn ((λ i. end_rule (t.went i) (sym t.count i) (sym next i)) ∙ chosen n (end_rule outcome.Went (c + suc n) lock) ∙ rule))
+    (partway_more t.partway t.turn ((λ i. end_rule (t.went i) (sym t.count i) (sym next i)) ∙ chosen n (end_rule outcome.Went (c + suc n) lock) ∙ rule))
 
 -- a block that ends behind turns of the thread's own has such turns
 pub own_some : (n : ℕ) (o : Option End) (e : End) → (if n == 0 then None else o) ≡ Some e → (0 < n) × (o ≡ Some e)

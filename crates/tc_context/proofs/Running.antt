@@ -1,6 +1,6 @@
 -- What running a block makes of a package, and sealing it.
 use Rattle.std.proofs.Common.{◌≡◌, ℕ, ◌-◌, ◌<◌, ◌≤◌, Bool, true, false, not, ◌||◌, ◌&&◌, ◌==◌, List, [], ◌∷◌, ◌++◌, map, length, refl, sym, ap, subst, ◌∙◌, inl, inr, set, arith, Option, Some, None, is_some, if◌then◌else◌, IfSome, slice_get, length-set}
-use Rattle.tc_context.proofs.Vocabulary.{option_map, has, Shown, is_section, begins, is_lock, takes_of, last_of, may_go_on, ends_section, passes_to, Block, Thread, is_running, next_lock, LockView, IsStrict, Journal, block_in, blocks_of, with_journal, sealed_block, sealed_entry, sealed_list, sealed_as, Context, lock_in, AreOf, slot_of, when_in, Changed, sealed_all, sealed_in, thread_in, whole, set_of, journal_in, journal_at, CanGo, RunsAs, entry_of, with_entry, entered, Journals, IsReady, AreReady, PackageView, granted_lock, kind_of, waiting_in, IsReserved, IsPending, IsStored, IsAfter, IsLeft, IsGranted, MayTake, IsSoundPackage, Allows, fits_in, fits_granted, fits_of, WantIsGranted, IsIdle, IsAt, EndsWith, sealed_log, with_seal}
+use Rattle.tc_context.proofs.Vocabulary.{option_map, has, Shown, is_section, begins, is_lock, takes_of, last_of, may_go_on, ends_section, passes_to, Block, Thread, is_running, next_lock, LockView, IsStrict, Journal, block_in, blocks_of, with_journal, sealed_block, sealed_entry, sealed_list, sealed_as, Context, lock_in, AreOf, slot_of, when_in, Changed, sealed_all, sealed_in, EachHeld, CanSeal, thread_in, whole, set_of, journal_in, journal_at, CanGo, RunsAs, entry_of, with_entry, entered, Journals, IsReady, AreReady, PackageView, granted_lock, kind_of, waiting_in, IsReserved, IsPending, IsStored, IsAfter, IsLeft, IsGranted, MayTake, IsSoundPackage, Allows, fits_in, fits_granted, fits_of, WantIsGranted, IsIdle, IsAt, EndsWith, sealed_log, with_seal}
 use Rattle.std.proofs.lemmas.Bool.Decides.{eqb_tells}
 use Rattle.tc_journal.specs.Batch.{allows_of, passes_on, may_follow}
 use Rattle.tc_turn.specs.declared.status.Status.TheVariants.{Running}
@@ -283,9 +283,6 @@ entry_was p b k l s pending h = map_some block_in l.journal.closed b (s.closed �
 closed_block : (p : PackageView) (b : Block) (k : ℕ) (l : LockView) → IsStored p k l → p.pending ≡ Some b → has b.held k ≡ true → (e : Entry) → l.journal.closed ≡ Some e → e.block ≡ b
 closed_block p b k l s pending h e is = (let w = entry_was p b k l s pending h in let same : Some e ≡ Some w.0 = sym is ∙ w.1 in let f : e ≡ w.0 = cc in ap block_in f ∙ sym w.2)
 
-pub seal_closed : (p : PackageView) (b : Block) → IsSoundPackage p → p.pending ≡ Some b → (k : ℕ) (l : LockView) → lock_in p.context.locks k ≡ Some l → has b.held k ≡ true → is_some l.journal.closed ≡ true
-seal_closed p b sound pending k l found h = ap is_some (entry_was p b k l (sound.stored k l found) pending h).1
-
 -- the batch rule lets the pending block follow, where it allows the section that the block began
 pub block_follows : (p : PackageView) (b : Block) (stamp worker : ℕ) → IsSoundPackage p → p.pending ≡ Some b → Allows p.context b worker → (k : ℕ) (l : LockView) → lock_in p.context.locks k ≡ Some l → has b.held k ≡ true
     → may_follow k l.journal.limit (blocks_of l) (sealed_block stamp worker b) ≡ true
@@ -295,22 +292,22 @@ block_follows p b stamp worker sound pending allows k l found h =
     let before = blocks_of l in
     (elim (begins k b) as (λ v. begins k b ≡ v → (if v then allows_of k l.journal.limit before b.kind worker else may_go_on k (last_of before) b.thread) ≡ true) [ true ↦ λ begun. allows k l begun found | false ↦ ran.on h ]) refl
 
-pub seal_follows : (p : PackageView) (b : Block) (stamp worker : ℕ) → IsSoundPackage p → p.pending ≡ Some b → Allows p.context b worker → (k : ℕ) (l : LockView) → lock_in p.context.locks k ≡ Some l → has b.held k ≡ true
-    → (e : Entry) → l.journal.closed ≡ Some e → may_follow l.number l.journal.limit (blocks_of l) (sealed_block stamp worker e.block) ≡ true
-seal_follows p b stamp worker sound pending allows k l found h e is =
-    let s = sound.stored k l found in
-    (λ i. may_follow (s.number i) l.journal.limit (blocks_of l) (sealed_block stamp worker (closed_block p b k l s pending h e is i))) ∙ block_follows p b stamp worker sound pending allows k l found h
-
 -- its stamp and worker don't count for the section that was passed on to it
 pub block_passes : (p : PackageView) (b : Block) (stamp worker : ℕ) → IsSoundPackage p → p.pending ≡ Some b → (k : ℕ) (l : LockView) → lock_in p.context.locks k ≡ Some l → IsStrict l → has b.held k ≡ true → passes_on k (blocks_of l) (sealed_block stamp worker b) ≡ true
 unfolding passes_on
 block_passes p b stamp worker sound pending k l found strict h = (subst (λ x. IsAt x p k l) pending (sound.stored k l found).at).passes strict h
 
-pub seal_passes : (p : PackageView) (b : Block) → IsSoundPackage p → p.pending ≡ Some b → (k : ℕ) (l : LockView) → lock_in p.context.locks k ≡ Some l → has b.held k ≡ true → (e : Entry) → l.journal.closed ≡ Some e → IsStrict l → passes_on l.number (blocks_of l) e.block ≡ true
-seal_passes p b sound pending k l found h e is strict =
+-- so the entry of each of its locks may be sealed
+pub may_seal : (p : PackageView) (b : Block) (stamp worker : ℕ) → IsSoundPackage p → p.pending ≡ Some b → Allows p.context b worker → EachHeld (has b.held) (CanSeal stamp worker) p.context.locks
+may_seal p b stamp worker sound pending allows k l found h =
     let s = sound.stored k l found in
+    let is = closed_block p b k l s pending h in
     let ran : IsPending b k l = subst (λ x. IsAt x p k l) pending s.at in
-    (λ i. passes_on (s.number i) (blocks_of l) (closed_block p b k l s pending h e is i)) ∙ ran.passes strict h
+    record {
+      closed = ap is_some (entry_was p b k l s pending h).1;
+      follows = λ e has_e. (λ i. may_follow (s.number i) l.journal.limit (blocks_of l) (sealed_block stamp worker (is e has_e i))) ∙ block_follows p b stamp worker sound pending allows k l found h;
+      passes = λ e has_e strict. (λ i. passes_on (s.number i) (blocks_of l) (is e has_e i)) ∙ ran.passes strict h;
+    }
 
 slot_map : (g : LockView → LockView) (o : Option (Option LockView)) → slot_of (option_map (option_map g) o) ≡ option_map g (slot_of o)
 slot_map g None = refl

@@ -1,17 +1,43 @@
 -- What a block asks of a package's thread and locks, and what it made of them.
-use Rattle.std.specs.Prelude.{◌≡◌, ℕ, ◌≤◌, Bool, Option, is_some}
+use Rattle.std.specs.Prelude.{◌≡◌, ℕ, ◌≤◌, Bool, Option, None, Result, length, is_some}
+use Rattle.tc_isa.specs.declared.fault.Fault.{Fault}
+use Rattle.tc_isa.specs.declared.held.TheConstants.Held.{PLACES}
+use Rattle.tc_isa.specs.declared.instr.Instr.{Instr}
 use Rattle.tc_isa.specs.declared.limits.TheConstants.{MAX_TURNS}
 use Rattle.tc_elf.specs.Shown.{Shown}
+use Rattle.tc_exec.specs.Step.{instruction_at}
+use Rattle.tc_exec.specs.declared.code.Ahead.{Ahead}
 use Rattle.tc_journal.specs.Batch.{is_section}
 use Rattle.tc_journal.specs.History.{IsBlock, IsEnd}
 use Rattle.tc_journal.specs.declared.block.Kind.{Kind}
-use Rattle.tc_turn.specs.Turn.{next_lock}
+use Rattle.tc_turn.specs.Ahead.{IsAhead}
+use Rattle.tc_turn.specs.Turn.{next_lock, thread_at_start}
 use Rattle.tc_context.specs.declared.context.Context.{Context}
 use Rattle.tc_context.specs.declared.context.Ran.{Ran}
 use Rattle.tc_context.specs.declared.context.Turns.{Turns}
 use Rattle.tc_context.specs.Whole.{thread_in, CanGo, RunsAs, Journals}
-use Rattle.tc_context.specs.Middle.{AreNoted, AreReady}
+use Rattle.tc_context.specs.Locks.{lock_in}
+use Rattle.tc_context.specs.Middle.{AreNoted, AreReady, MayTurn}
 use Rattle.tc_context.specs.Ran.{slept_in}
+
+-- the thread of this number at its start, with no lock
+pub record IsAtStart (image : Shown) (t fuel : ℕ) (p : Context) : Type 0 where
+  pub thread : thread_in p ≡ thread_at_start image fuel t
+  pub number : p.thread ≡ t
+  pub locks : (k : ℕ) → lock_in p.locks k ≡ None
+  pub places : length p.locks ≡ PLACES
+
+-- what so many turns of a block with these locks ask, where this is known of the first
+pub record MayTurns (image decoded : Shown) (block : ℕ → Bool) (n : ℕ) (known : Ahead) (p : Context) : Type 0 where
+  pub code : decoded ≡ image
+  pub may : MayTurn image block n p
+  pub ahead : IsAhead image (thread_in p) known
+
+-- a turn that takes no lock: its instruction, or why there is none
+pub record MayTurnBy (image : Shown) (block : ℕ → Bool) (found : Result Instr Fault) (p : Context) : Type 0 where
+  pub may : MayTurn image block 1 p
+  pub next : next_lock image (thread_in p) ≡ None
+  pub instr : instruction_at image p.guest.regs.pc ≡ found
 
 -- the turns of a block with these locks, whose entries are open: how many they are and how the block ended, the number of its
 -- SLEEP, the words that the locks noted, and the lock that the next turn takes
@@ -24,7 +50,8 @@ pub record DidTurns (image : Shown) (block : ℕ → Bool) (old new : Context) (
   pub follows : t.next ≡ next_lock image (thread_in new)
 
 -- what a block of this kind asks, whose first turn takes this lock
-pub record MayRunBlock (image : Shown) (kind : Kind) (lock : Option ℕ) (p : Context) : Type 0 where
+pub record MayRunBlock (image decoded : Shown) (kind : Kind) (lock : Option ℕ) (p : Context) : Type 0 where
+  pub code : decoded ≡ image
   pub go : CanGo image p
   pub takes : lock ≡ next_lock image (thread_in p)
   pub ready : AreReady image p

@@ -1,9 +1,11 @@
 -- A package's fields, as it is seen, and what they keep.
-use Rattle.std.specs.Prelude.{◌≡◌, ℕ, ◌+◌, ◌≤◌, Bool, true, List, Option, None, is_some, if◌then◌else◌, vec_len, vec_capacity}
+use Rattle.std.specs.Prelude.{◌≡◌, ℕ, ◌+◌, ◌-◌, ◌≤◌, Bool, true, List, Option, Some, None, is_some, set, Vec, if◌then◌else◌, vec_len, vec_capacity}
 use Rattle.std.specs.Arc.{arc_value}
+use Rattle.std.specs.Global.{Global}
 use Rattle.tc_isa.specs.Sets.{has}
 use Rattle.tc_journal.specs.Batch.{last_of}
 use Rattle.tc_journal.specs.declared.block.Block.{Block}
+use Rattle.tc_segment.specs.View.{sealed_block}
 use Rattle.tc_turn.specs.Turn.{next_lock}
 use Rattle.tc_context.specs.declared.package.Contents.{Contents}
 use Rattle.tc_context.specs.Whole.{thread_in, set_of}
@@ -34,3 +36,15 @@ pub record KeptPackage (a : Contents) : Type 0 where
   pub pending : is_some (pending_in a.pending a.log.items) ≡ a.pending
   pub log : vec_len a.log + a.log_room ≤ vec_capacity a.log
   pub edge : a.packed ≡ true → a.edge ≡ a.context.guest.regs
+
+-- the last block of a log has this stamp and worker now, and these are its locks
+pub record DidSealLast (stamp worker : ℕ) (old new : Vec Block Global) (locks : ℕ) : Type 0 where
+  pub log : (b : Block) → last_of old.items ≡ Some b → new.items ≡ set old.items (vec_len old - 1) (sealed_block stamp worker b)
+  pub held : (b : Block) → last_of old.items ≡ Some b → locks ≡ b.held
+  pub len : vec_len new ≡ vec_len old
+  pub capacity : vec_capacity new ≡ vec_capacity old
+
+-- the same log, but for its room, which is no less
+pub record IsSameLog (old new : Vec Block Global) : Type 0 where
+  pub items : new.items ≡ old.items
+  pub capacity : vec_capacity old ≤ vec_capacity new

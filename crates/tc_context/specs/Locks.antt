@@ -1,6 +1,7 @@
 -- The lock states that a package has, as it and the machine see them.
-use Rattle.std.specs.Prelude.{◌≡◌, ℕ, ◌<◌, Bool, true, false, ◌==◌, ◌&&◌, if◌then◌else◌, List, [], ◌∷◌, map, slice_get, length, Option, Some, None, is_some, option_map}
+use Rattle.std.specs.Prelude.{◌≡◌, ℕ, ◌<◌, ◌≤◌, Bool, true, false, ◌==◌, ◌&&◌, if◌then◌else◌, List, [], ◌∷◌, map, slice_get, length, Option, Some, None, is_some, option_map}
 use Rattle.tc_isa.specs.Registers.{Registers}
+use Rattle.tc_isa.specs.declared.limits.TheConstants.{MAX_TURNS}
 use Rattle.tc_isa.specs.declared.held.TheConstants.Held.{PLACES}
 use Rattle.tc_elf.specs.Shown.{Shown}
 use Rattle.tc_elf.specs.Places.{in_guard}
@@ -16,7 +17,7 @@ use Rattle.tc_journal.specs.declared.block.Block.{Block}
 use Rattle.tc_turn.specs.Turn.{Mutex}
 use Rattle.tc_turn.specs.Replay.{takes_word}
 use Rattle.tc_mutex_spec.specs.Slow.{no_mutex}
-use Rattle.tc_segment.specs.View.{LockView, kept, lock_of, guard_of, with_store, with_section, with_break, with_end, with_journal, opened_at, noted, closed_with, sealed_as, with_room}
+use Rattle.tc_segment.specs.View.{LockView, Journal, ClosesWith, MayFollow, MayPass, kept, lock_of, guard_of, with_store, with_section, with_break, with_end, with_journal, opened_at, noted, closed_with, sealed_as, with_room}
 
 abbrev pub slot_of : Option (Option LockView) → Option LockView
 slot_of None = None
@@ -37,13 +38,14 @@ mutex_or t held (Some l) = mutex_of t held l
 abbrev pub is_open_lock : LockView → Bool
 is_open_lock l = is_some l.journal.opened
 
--- this holds of lock k, where it is there
-abbrev pub HoldsAt : ℕ → (LockView → Type 0) → List (Option LockView) → Type 0
-HoldsAt k P slots = (l : LockView) → lock_in slots k ≡ Some l → P l
+-- lock k has a place, and this holds of it where it is there
+pub record HoldsAt (k : ℕ) (P : LockView → Type 0) (slots : List (Option LockView)) : Type 0 where
+  pub place : k < PLACES
+  pub lock : (l : LockView) → lock_in slots k ≡ Some l → P l
 
--- of lock k, where it is there and in the set
+-- where it is there and in the set
 abbrev pub HeldAt : ℕ → (ℕ → Bool) → (LockView → Type 0) → List (Option LockView) → Type 0
-HeldAt k held P slots = (l : LockView) → lock_in slots k ≡ Some l → held k ≡ true → P l
+HeldAt k held P slots = HoldsAt k (λ l. held k ≡ true → P l) slots
 
 -- of each lock that is there and in the set
 abbrev pub EachHeld : (ℕ → Bool) → (LockView → Type 0) → List (Option LockView) → Type 0
@@ -52,6 +54,25 @@ EachHeld held P slots = (k : ℕ) (l : LockView) → lock_in slots k ≡ Some l 
 -- of each lock that is there, with its number
 abbrev pub EachLock : (ℕ → LockView → Type 0) → List (Option LockView) → Type 0
 EachLock P slots = (k : ℕ) (l : LockView) → lock_in slots k ≡ Some l → P k l
+
+-- a journal at rest, with room for a block's entry
+pub record IsReady (j : Journal) : Type 0 where
+  pub opened : j.opened ≡ None
+  pub closed : j.closed ≡ None
+  pub entry : 0 < j.entry_room
+  pub words : MAX_TURNS ≤ j.word_room
+
+-- the open entry may be that of this block, which ended so
+pub record CanClose (image : Shown) (block : Block) (finish : Registers) (l : LockView) : Type 0 where
+  pub image_is : l.journal.image ≡ image
+  pub opened : is_open_lock l ≡ true
+  pub closes : ClosesWith block finish l
+
+-- the closed entry may have this stamp and worker
+pub record CanSeal (stamp worker : ℕ) (l : LockView) : Type 0 where
+  pub closed : is_some l.journal.closed ≡ true
+  pub follows : MayFollow stamp worker l
+  pub passes : MayPass l
 
 -- place n has this now, and the others have what they had
 abbrev pub IsPlaced : ℕ → Option LockView → List (Option LockView) → List (Option LockView) → Type 0

@@ -1,8 +1,7 @@
 -- A package in the middle of a block.
-use Rattle.std.specs.Prelude.{◌≡◌, ℕ, zero, suc, ◌+◌, ◌<◌, ◌≤◌, Bool, true, List, Option, Some, None, IfSome, is_some}
+use Rattle.std.specs.Prelude.{◌≡◌, ℕ, zero, suc, ◌+◌, ◌≤◌, Bool, true, List, Option, Some, None, IfSome, is_some}
 use Rattle.std.specs.Option.{option_map}
 use Rattle.tc_isa.specs.Sets.{has}
-use Rattle.tc_isa.specs.declared.limits.TheConstants.{MAX_TURNS}
 use Rattle.tc_elf.specs.Shown.{Shown}
 use Rattle.tc_exec.specs.InPlace.{done_of}
 use Rattle.tc_exec.specs.declared.outcome.Act.{Act}
@@ -15,7 +14,7 @@ use Rattle.tc_turn.specs.Replay.{word_of, words_from}
 use Rattle.tc_mutex_spec.specs.Blocks.{reach}
 use Rattle.tc_segment.specs.View.{Journal, noted}
 use Rattle.tc_context.specs.declared.context.Context.{Context}
-use Rattle.tc_context.specs.Locks.{when_in}
+use Rattle.tc_context.specs.Locks.{when_in, IsReady}
 use Rattle.tc_context.specs.Whole.{thread_in, mutex_at, whole, set_of, journal_at, block_locks, CanGo, Keeps}
 
 -- what the next turn does, on the package alone
@@ -53,13 +52,7 @@ pub record DidTurn (image : Shown) (block : ℕ → Bool) (old new : Context) (d
   pub fits : IfSome did DoneFits
   pub turn : IsTurn image block old new
 
--- a lock of the block: its journal is at rest and has room
-pub record IsReady (j : Journal) : Type 0 where
-  pub opened : j.opened ≡ None
-  pub closed : j.closed ≡ None
-  pub entry : 0 < j.entry_room
-  pub words : MAX_TURNS ≤ j.word_room
-
+-- the journals of the locks of its next block are ready
 abbrev pub AreReady : Shown → Context → Type 0
 AreReady image p = (k : ℕ) (j : Journal) → journal_at p k ≡ Some j → block_locks image p k ≡ true → IsReady j
 

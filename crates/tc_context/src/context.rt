@@ -6,11 +6,9 @@ ghost use Rattle.tc_isa.specs.declared.limits.TheConstants.{MAX_TURNS};
 ghost use Rattle.tc_isa.specs.declared.held.TheConstants.Held.{PLACES};
 ghost use Rattle.tc_journal.specs.Rule.{end_rule};
 ghost use Rattle.tc_journal.specs.declared.rule.Outcome.TheVariants.{Went};
-ghost use Rattle.tc_exec.specs.Step.{instruction_at};
 ghost use Rattle.tc_turn.specs.Ahead.{IsAhead};
-ghost use Rattle.tc_turn.specs.Turn.{lock_answer, next_lock, thread_at_start};
+ghost use Rattle.tc_turn.specs.Turn.{lock_answer, next_lock};
 ghost use Rattle.tc_mutex_spec.specs.Blocks.{locks_of_block};
-ghost use Rattle.tc_context.specs.Locks.{lock_in};
 ghost use Rattle.tc_context.specs.Ran.{slept_by as slept_of_turn};
 
 use crate::locks::{LockSet, is_empty};
@@ -70,7 +68,7 @@ pub struct Context {
 impl Context {
     ghost use Rattle.tc_context.specs.Whole.{thread_in, mutex_at};
     ghost use Rattle.tc_context.specs.Middle.{AreOwnTurns, MayTurn, DidTurn};
-    ghost use Rattle.tc_context.specs.Block.{DidTurns, MayRunBlock, DidRunBlock};
+    ghost use Rattle.tc_context.specs.Block.{IsAtStart, MayTurnBy, MayTurns, DidTurns, MayRunBlock, DidRunBlock};
 
     /// The thread of this number at its start, with no lock.
     pub(crate) fn start(
@@ -80,10 +78,7 @@ impl Context {
         fuel: u32,
     ) -> Result<Context, AllocError>
         requires { t < length image.now.entries }
-        ensures thread { IfOk result (λ c. thread_in c ≡ thread_at_start image.now fuel t) }
-        ensures number { IfOk result (λ c. c.thread ≡ t) }
-        ensures locks { IfOk result (λ c. (k : ℕ) → lock_in c.locks k ≡ None) }
-        ensures places { IfOk result (λ c. length c.locks ≡ PLACES) }
+        ensures { IfOk result (IsAtStart image.now t fuel) }
     {
         Ok(Context {
             thread: t,
@@ -112,9 +107,7 @@ impl Context {
         block: Held,
         ahead: Ahead<'a>,
     ) -> Option<Done>
-        requires code { code.now ≡ image.now }
-        requires may { MayTurn image.now (has block) 1 self.old }
-        requires ahead { IsAhead image.now (thread_in self.old) ahead }
+        requires { MayTurns image.now code.now (has block) 1 ahead self.old }
         ensures did { DidTurn image.now (has block) self.old self.new result }
     {
         match ahead.lock {
@@ -144,7 +137,7 @@ impl Context {
         Done::Called(Call::Lock(lock))
     }
 
-    /// A turn that takes no lock.
+    /// A turn that takes no lock, whose instruction is this where it is known.
     fn other_turn<'a>(
         &mut self,
         image: &Image,
@@ -152,11 +145,7 @@ impl Context {
         block: Held,
         known: Option<&'a Instr>,
     ) -> Option<Done>
-        requires code { code.now ≡ image.now }
-        requires may { MayTurn image.now (has block) 1 self.old }
-        requires next { next_lock image.now (thread_in self.old) ≡ None }
-        requires known { IfSome known
-            (λ instr. instruction_at image.now self.old.guest.regs.pc ≡ Ok instr.now) }
+        requires { MayTurns image.now code.now (has block) 1 (record { lock = None; instr = known }) self.old }
         ensures did { DidTurn image.now (has block) self.old self.new result }
     {
         let pc = self.guest.regs().pc();
@@ -181,9 +170,7 @@ impl Context {
     /// A turn that takes no lock, whose instruction is this.
     #[inline(always)]
     fn instr_turn(&mut self, image: &Image, block: Held, instr: &Instr) -> Option<Done>
-        requires may { MayTurn image.now (has block) 1 self.old }
-        requires next { next_lock image.now (thread_in self.old) ≡ None }
-        requires instr { instruction_at image.now self.old.guest.regs.pc ≡ Ok instr.now }
+        requires { MayTurnBy image.now (has block) (Ok instr.now) self.old }
         ensures did { DidTurn image.now (has block) self.old self.new result }
     {
         let want = self.guest.load_wanted(image, instr);
@@ -200,9 +187,7 @@ impl Context {
     #[cold]
     #[inline(never)]
     fn fault_turn(&mut self, image: &Image, block: Held, fault: Fault) -> Option<Done>
-        requires may { MayTurn image.now (has block) 1 self.old }
-        requires next { next_lock image.now (thread_in self.old) ≡ None }
-        requires fault { instruction_at image.now self.old.guest.regs.pc ≡ Err fault }
+        requires { MayTurnBy image.now (has block) (Err fault) self.old }
         ensures did { DidTurn image.now (has block) self.old self.new result }
     {
         let held = self.guest.held();
@@ -249,9 +234,8 @@ impl Context {
     /// Runs the turns of one block with these locks, whose entries are open. `takes` is the lock
     /// that the first turn takes.
     fn turns(&mut self, image: &Image, code: &Code, block: Held, takes: Option<u32>) -> Turns
-        requires code { code.now ≡ image.now }
-        requires may { MayTurn image.now (has block) MAX_TURNS self.old }
-        requires takes { takes ≡ next_lock image.now (thread_in self.old) }
+        requires { MayTurns image.now code.now (has block) MAX_TURNS
+            (record { lock = takes; instr = None }) self.old }
         ensures did { DidTurns image.now (has block) self.old self.new result }
     {
         let mut ahead = Ahead {
@@ -296,8 +280,7 @@ impl Context {
         edge: &mut Packed,
         packed: bool,
     ) -> Ran
-        requires code { code.now ≡ image.now }
-        requires may { MayRunBlock image.now kind takes self.old }
+        requires may { MayRunBlock image.now code.now kind takes self.old }
         requires packed { packed ≡ true → edge.old ≡ self.old.guest.regs }
         ensures did { DidRunBlock image.now kind self.old self.new result }
         ensures packed { result.packed ≡ true → edge.new ≡ self.new.guest.regs }

@@ -8,9 +8,9 @@ ghost use Rattle.tc_isa.specs.declared.held.TheConstants.Held.{PLACES};
 ghost use Rattle.tc_elf.specs.Places.{in_guard};
 ghost use Rattle.tc_exec.specs.Told.{IsWidth};
 ghost use Rattle.tc_turn.specs.Replay.{takes_word as takes};
-ghost use Rattle.tc_segment.specs.View.{ClosesWith, MayFollow, MayPass, guard_of, with_section, with_store};
+ghost use Rattle.tc_segment.specs.View.{guard_of, with_section, with_store};
 ghost use Rattle.tc_context.specs.Locks.{lock_in, turned, put_in, TurnReady, PutReady, TurnFits, StoreFits};
-ghost use Rattle.tc_context.specs.Locks.{Changed, HoldsAt, HeldAt, EachHeld, EachLock, IsPlaced, SameLocks, at_place, one_place};
+ghost use Rattle.tc_context.specs.Locks.{Changed, HoldsAt, HeldAt, EachHeld, EachLock, IsReady, CanClose, CanSeal, IsPlaced, SameLocks, at_place, one_place};
 ghost use Rattle.tc_context.specs.Locks.{broken_in, opened_in, noted_in, closed_in, sealed_in, roomy_in};
 
 use std::alloc::{AllocError, Global};
@@ -90,7 +90,6 @@ impl LockSet {
     }
 
     fn store(&mut self, lock: u32, addr: u32, width: u32, value: u32)
-        requires lock { lock < PLACES }
         requires width { IsWidth width }
         requires inside { HoldsAt lock (λ l. in_guard addr width (guard_of l) ≡ true) self.old }
         requires opened { HoldsAt lock (λ l. is_some l.journal.opened ≡ true) self.old }
@@ -102,8 +101,7 @@ impl LockSet {
     }
 
     pub(crate) fn begin(&mut self, lock: u32)
-        requires lock { lock < PLACES }
-        requires ready { HoldsAt lock (λ l. is_some l.journal.opened ≡ true) self.old }
+        requires { HoldsAt lock (λ l. is_some l.journal.opened ≡ true) self.old }
         ensures { Changed (at_place lock with_section) self.old self.new }
     {
         if let Some(state) = &mut self.places[lock as usize] {
@@ -112,8 +110,7 @@ impl LockSet {
     }
 
     fn break_one(&mut self, lock: u32, held: Held)
-        requires lock { lock < PLACES }
-        requires ready { HeldAt lock (has held) (λ l. is_some l.journal.opened ≡ true) self.old }
+        requires { HeldAt lock (has held) (λ l. is_some l.journal.opened ≡ true) self.old }
         ensures { Changed (at_place lock (broken_in (has held) lock)) self.old self.new }
     {
         if let Some(state) = &mut self.places[lock as usize] {
@@ -136,10 +133,7 @@ impl LockSet {
     }
 
     fn open_one(&mut self, lock: u32, held: Held, start: &Packed, fuel: u32)
-        requires lock { lock < PLACES }
-        requires opened { HeldAt lock (has held) (λ l. l.journal.opened ≡ None) self.old }
-        requires closed { HeldAt lock (has held) (λ l. l.journal.closed ≡ None) self.old }
-        requires room { HeldAt lock (has held) (λ l. 0 < l.journal.entry_room) self.old }
+        requires { HeldAt lock (has held) (λ l. IsReady l.journal) self.old }
         ensures { Changed (at_place lock (opened_in (has held) start.now fuel lock)) self.old self.new }
     {
         if let Some(state) = &mut self.places[lock as usize] {
@@ -150,9 +144,7 @@ impl LockSet {
     }
 
     fn open_each(&mut self, held: Held, start: &Packed, fuel: u32)
-        requires opened { EachHeld (has held) (λ l. l.journal.opened ≡ None) self.old }
-        requires closed { EachHeld (has held) (λ l. l.journal.closed ≡ None) self.old }
-        requires room { EachHeld (has held) (λ l. 0 < l.journal.entry_room) self.old }
+        requires { EachHeld (has held) (λ l. IsReady l.journal) self.old }
         ensures { Changed (opened_in (has held) start.now fuel) self.old self.new }
     {
         let mut left = held;
@@ -173,9 +165,7 @@ impl LockSet {
         fuel: u32,
     )
         requires packed { packed ≡ true → edge.old ≡ start.now }
-        requires opened { EachHeld (has held) (λ l. l.journal.opened ≡ None) self.old }
-        requires closed { EachHeld (has held) (λ l. l.journal.closed ≡ None) self.old }
-        requires room { EachHeld (has held) (λ l. 0 < l.journal.entry_room) self.old }
+        requires ready { EachHeld (has held) (λ l. IsReady l.journal) self.old }
         ensures { Changed (opened_in (has held) start.now fuel) self.old self.new }
     {
         if !is_empty(held) {
@@ -185,7 +175,6 @@ impl LockSet {
     }
 
     fn note_one(&mut self, lock: u32, held: Held, want: Want, next: Option<u32>, value: u32)
-        requires lock { lock < PLACES }
         requires opened { HeldAt lock (has held) (λ l. is_some l.journal.opened ≡ true) self.old }
         requires room { HeldAt lock (has held) (λ l. 0 < l.journal.word_room) self.old }
         ensures { Changed (one_place (noted_in (has held) want next value) lock) self.old self.new }
@@ -223,10 +212,7 @@ impl LockSet {
     }
 
     fn close_one(&mut self, image: &Image, lock: u32, held: Held, block: &Block, finish: &Packed)
-        requires lock { lock < PLACES }
-        requires image { HeldAt lock (has held) (λ l. l.journal.image ≡ image.now) self.old }
-        requires opened { HeldAt lock (has held) (λ l. is_some l.journal.opened ≡ true) self.old }
-        requires closes { HeldAt lock (has held) (ClosesWith block.now finish.now) self.old }
+        requires { HeldAt lock (has held) (CanClose image.now block.now finish.now) self.old }
         ensures { Changed (one_place (closed_in (has held) block.now finish.now) lock)
             self.old self.new }
     {
@@ -238,9 +224,7 @@ impl LockSet {
     }
 
     fn close_each(&mut self, image: &Image, held: Held, block: &Block, finish: &Packed)
-        requires image { EachHeld (has held) (λ l. l.journal.image ≡ image.now) self.old }
-        requires opened { EachHeld (has held) (λ l. is_some l.journal.opened ≡ true) self.old }
-        requires closes { EachHeld (has held) (ClosesWith block.now finish.now) self.old }
+        requires { EachHeld (has held) (CanClose image.now block.now finish.now) self.old }
         ensures { Changed (closed_in (has held) block.now finish.now) self.old self.new }
     {
         let mut left = held;
@@ -260,9 +244,7 @@ impl LockSet {
         edge: &mut Packed,
         finish: &Regs,
     ) -> bool
-        requires image { EachHeld (has held) (λ l. l.journal.image ≡ image.now) self.old }
-        requires opened { EachHeld (has held) (λ l. is_some l.journal.opened ≡ true) self.old }
-        requires closes { EachHeld (has held) (ClosesWith block.now finish.now) self.old }
+        requires { EachHeld (has held) (CanClose image.now block.now finish.now) self.old }
         ensures closed { Changed (closed_in (has held) block.now finish.now) self.old self.new }
         ensures packed { result ≡ true → edge.new ≡ finish.now }
     {
@@ -275,10 +257,7 @@ impl LockSet {
     }
 
     fn seal_one(&mut self, lock: u32, held: Held, stamp: u64, worker: u32)
-        requires lock { lock < PLACES }
-        requires closed { HeldAt lock (has held) (λ l. is_some l.journal.closed ≡ true) self.old }
-        requires follows { HeldAt lock (has held) (MayFollow stamp worker) self.old }
-        requires passes { HeldAt lock (has held) MayPass self.old }
+        requires { HeldAt lock (has held) (CanSeal stamp worker) self.old }
         ensures { Changed (one_place (sealed_in (has held) stamp worker) lock) self.old self.new }
     {
         if let Some(state) = &mut self.places[lock as usize] {
@@ -290,9 +269,7 @@ impl LockSet {
 
     /// Gives the last entry of each of these locks its stamp and worker.
     pub(crate) fn seal(&mut self, held: Held, stamp: u64, worker: u32)
-        requires closed { EachHeld (has held) (λ l. is_some l.journal.closed ≡ true) self.old }
-        requires follows { EachHeld (has held) (MayFollow stamp worker) self.old }
-        requires passes { EachHeld (has held) MayPass self.old }
+        requires { EachHeld (has held) (CanSeal stamp worker) self.old }
         ensures { Changed (sealed_in (has held) stamp worker) self.old self.new }
     {
         let mut left = held;

@@ -1,16 +1,16 @@
 //! Packages.
 
-ghost use Rattle.std.specs.Prelude.{◌≡◌, ◌<◌, ◌≤◌, ◌+◌, ◌-◌, min, true, false, is_some, length, set, vec_len, vec_capacity, Some, None, IfOk, OnOk, OnErr};
+ghost use Rattle.std.specs.Prelude.{◌≡◌, ◌<◌, ◌≤◌, ◌+◌, min, true, false, is_some, length, vec_len, vec_capacity, Some, None, IfOk, OnOk, OnErr};
 ghost use Rattle.std.specs.Arc.{arc_value};
 ghost use Rattle.tc_isa.specs.Sets.{has};
 ghost use Rattle.tc_isa.specs.declared.limits.TheConstants.{MAX_FUEL};
 ghost use Rattle.tc_journal.specs.Batch.{is_section, last_of};
-ghost use Rattle.tc_journal.specs.declared.block.Block.{Block};
 ghost use Rattle.tc_journal.specs.declared.block.End.TheVariants.{Slept};
 ghost use Rattle.tc_turn.specs.declared.status.Status.TheVariants.{Running};
-ghost use Rattle.tc_segment.specs.View.{IsAtRest, sealed_block};
+ghost use Rattle.tc_segment.specs.View.{IsAtRest};
 ghost use Rattle.tc_context.specs.Locks.{lock_in, IsPlaced};
 ghost use Rattle.tc_context.specs.Ran.{DidRun};
+ghost use Rattle.tc_context.specs.Kept.{DidSealLast, IsSameLog};
 ghost use Rattle.tc_context.specs.View.{granted_lock, want_of, kind_of, fits_of, number_in, with_grant, with_seal, with_turns, without_lock};
 ghost use Rattle.tc_context.specs.View.{thread_number, regs_in, fuel_in, status_in, held_in, own_in, locks_in};
 ghost use Rattle.tc_context.specs.View.{IsFresh, IsSoundPackage, WantIsLawful, IsReserved, IsRoomier, WantIsGranted, HasBlock, AllowsPending, IsWaiting, MayPassTo, IsNumber, IsNumbered, LastIsSealed};
@@ -407,11 +407,7 @@ impl Package {
 /// Gives the last block of a log its stamp and worker, and returns its locks.
 fn seal_last(log: &mut Vec<Block>, stamp: u64, worker: u32) -> Held
     requires { 0 < vec_len log.old }
-    ensures log { (b : Block) → last_of log.old.items ≡ Some b
-        → log.new.items ≡ set log.old.items (vec_len log.old - 1) (sealed_block stamp worker b) }
-    ensures held { (b : Block) → last_of log.old.items ≡ Some b → result ≡ b.held }
-    ensures len { vec_len log.new ≡ vec_len log.old }
-    ensures capacity { vec_capacity log.new ≡ vec_capacity log.old }
+    ensures { DidSealLast stamp worker log.old log.new result }
 {
     let last = log.len() - 1;
     let block = &mut log[last];
@@ -422,9 +418,8 @@ fn seal_last(log: &mut Vec<Block>, stamp: u64, worker: u32) -> Held
 
 /// Makes room for one block in a log.
 fn make_room(log: &mut Vec<Block>) -> Result<(), AllocError>
-    ensures items { log.new.items ≡ log.old.items }
+    ensures same { IsSameLog log.old log.new }
     ensures room { OnOk result (vec_len log.new + 1 ≤ vec_capacity log.new) }
-    ensures capacity { vec_capacity log.old ≤ vec_capacity log.new }
 {
     if log.len() < log.capacity() {
         return Ok(());
@@ -436,9 +431,8 @@ fn make_room(log: &mut Vec<Block>) -> Result<(), AllocError>
 #[cold]
 #[inline(never)]
 fn grow(log: &mut Vec<Block>) -> Result<(), AllocError>
-    ensures items { log.new.items ≡ log.old.items }
+    ensures same { IsSameLog log.old log.new }
     ensures room { OnOk result (vec_len log.new + 1 ≤ vec_capacity log.new) }
-    ensures capacity { vec_capacity log.old ≤ vec_capacity log.new }
 {
     log.reserve(GROWTH)
 }

@@ -1,9 +1,8 @@
 ghost use Rattle.std.specs.Prelude.{◌≡◌, ◌==◌, ℕ, true, false, None, OnOk, if◌then◌else◌};
 ghost use Rattle.tc_segment.specs.View.{IsAtRest};
-ghost use Rattle.tc_context.specs.View.{IsNumber};
 ghost use Rattle.tc_context.specs.Whole.{set_of};
 
-use crate::package::Package;
+use crate::package::{MAX_NUMBER, Package};
 use std::alloc::{AllocError, Global};
 use std::process::Abort;
 use std::test::Fail;
@@ -78,14 +77,12 @@ fn step<R: Abort>(
     end: End,
 ) -> Result<(), AllocError>
     requires image { «package».old.image ≡ image.now }
-    requires pending { «package».old.pending ≡ None }
     ensures image { «package».new.image ≡ «package».old.image }
-    ensures pending { OnOk result («package».new.pending ≡ None) }
-    ensures granted { OnOk result («package».new.granted ≡ None) }
     ensures locks { OnOk result ((k : ℕ) → set_of «package».new.context k ≡ set_of «package».old.context k) }
 {
     package.reserve()?;
     let want = package.want(image);
+    assert!(rt; !package.pending());
     assert!(rt; package.status() == Status::Running);
     assert!(rt; want == package.granted());
     assert!(rt; package.fits(0));
@@ -109,16 +106,15 @@ fn grant_as<R: Abort>(
     number: u64,
 )
     requires image { «package».old.image ≡ image.now }
-    requires pending { «package».old.pending ≡ None }
-    requires granted { «package».old.granted ≡ None }
     requires rest { IsAtRest image.now state.number state }
     requires absent { set_of «package».old.context state.number ≡ false }
-    requires number { IsNumber number }
     ensures image { «package».new.image ≡ «package».old.image }
-    ensures pending { «package».new.pending ≡ None }
     ensures locks { (k : ℕ) → set_of «package».new.context k ≡ (if k == state.number then true else set_of «package».old.context k) }
 {
     let lock = state.number();
+    assert!(rt; !package.pending());
+    assert!(rt; package.granted().is_none());
+    assert!(rt; 1 <= number && number <= MAX_NUMBER);
     assert!(rt; package.want(image) == Some(lock));
     assert!(rt; kind.is_section());
     assert!(rt; state.passes_to(kind, package.thread()));
@@ -137,12 +133,8 @@ fn grant_new<R: Abort>(
     number: u64,
 ) -> Result<(), AllocError>
     requires image { «package».old.image ≡ image.now }
-    requires pending { «package».old.pending ≡ None }
-    requires granted { «package».old.granted ≡ None }
     requires absent { set_of «package».old.context lock ≡ false }
-    requires number { IsNumber number }
     ensures image { «package».new.image ≡ «package».old.image }
-    ensures pending { OnOk result («package».new.pending ≡ None) }
     ensures locks { OnOk result ((k : ℕ) → set_of «package».new.context k ≡ (if k == lock then true else set_of «package».old.context k)) }
 {
     assert!(rt; lock < image.guards());
@@ -154,16 +146,14 @@ fn grant_new<R: Abort>(
 
 /// Takes out a lock that a package gave up. It came with the queue turn of this number.
 fn take_out<R: Abort>(rt: &R, package: &mut Package, lock: u32, number: u64) -> LockState
-    requires pending { «package».old.pending ≡ None }
-    requires granted { «package».old.granted ≡ None }
     requires here { set_of «package».old.context lock ≡ true }
     ensures image { «package».new.image ≡ «package».old.image }
-    ensures pending { «package».new.pending ≡ None }
-    ensures granted { «package».new.granted ≡ None }
     ensures locks { (k : ℕ) → set_of «package».new.context k ≡ (if k == lock then false else set_of «package».old.context k) }
     ensures rest { IsAtRest «package».old.image lock result }
 {
     assert!(rt; package.number_of(lock) == number);
+    assert!(rt; !package.pending());
+    assert!(rt; package.granted().is_none());
     assert!(rt; !package.held().has(lock));
     package.take_out(lock)
 }

@@ -15,10 +15,16 @@ note_each-requires c = record { opened = λ k l found. c.requires.may.opened k l
 pub take_lock-requires-clause-fuel : goal.take_lock-requires-clause-fuel
 take_lock-requires-clause-fuel c = (let some = next_fueled c.args.image.now (thread_in c.args.self.now) c.args.lock c.requires.next in grind (arith, nat_tests))
 
-pub begin-requires-clause-ready : goal.begin-requires-clause-ready
-begin-requires-clause-ready c = λ l found.
-    (noted_lock c.args.image.now (has c.args.block) (has c.args.block) c.args.self.now c.note_each.new.self Nothing (Some c.args.lock) c.lock_answer-answer.result c.requires.may.go.of c.requires.may.opened c.note_each.ensures c.args.lock l found).1
-    (c.requires.may.covers.next c.args.lock c.requires.next)
+pub begin-requires : goal.begin-requires
+begin-requires c =
+    let known = next_known c.args.image.now (thread_in c.args.self.now) c.args.lock c.requires.next in
+    let few = c.requires.may.go.guards in
+    record {
+      place = omega (arith, known, few);
+      lock = λ l found.
+          (noted_lock c.args.image.now (has c.args.block) (has c.args.block) c.args.self.now c.note_each.new.self Nothing (Some c.args.lock) c.lock_answer-answer.result c.requires.may.go.of c.requires.may.opened c.note_each.ensures c.args.lock l found).1
+          (c.requires.may.covers.next c.args.lock c.requires.next);
+    }
 
 pub returns : goal.returns
 returns c =

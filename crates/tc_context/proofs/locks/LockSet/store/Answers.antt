@@ -8,7 +8,7 @@ pub returns : goal.returns
 returns c = λ k.
     let n = c.args.lock in
     let items = c.self.inside.places.items in
-    let lt : n < length items = omega (arith, c.requires.lock, c.self.invariant) in
+    let lt : n < length items = omega (arith, c.requires.opened.place, c.self.invariant) in
     let f : LockView → LockView = with_store c.args.addr c.args.width c.args.value in
     (elim c.match-index_mut.branch [
       | in-Some w ↦ ap (λ x. lock_in x.places.items k) w.self-inside-is

@@ -8,14 +8,14 @@ invariant_of-self-in_err-made c =
     let s = shows c.deref_mut-contents.ensures.value c.self.view_is c.self.invariant in
     let p = view_of c.deref_mut-contents.result.now in
     record {
-      sound = subst (λ (g : List Block). IsSoundPackage (record (with_rooms p c.reserve-made.new.self p.log_room p.turns) { pending = pending_in c.deref_mut-contents.result.now.pending g; log = g })) (sym c.make_room.ensures.items)
+      sound = subst (λ (g : List Block). IsSoundPackage (record (with_rooms p c.reserve-made.new.self p.log_room p.turns) { pending = pending_in c.deref_mut-contents.result.now.pending g; log = g })) (sym c.make_room.ensures.same.items)
           (sound_rooms p c.reserve-made.new.self p.log_room p.turns c.bound.ensures.places c.in_err-made.ensures.err s.kept.sound);
       code = s.kept.code;
       edge = s.kept.edge;
       next = s.kept.next;
       present = λ k. same_set p.context.locks c.reserve-made.new.self c.in_err-made.ensures.err k ∙ s.kept.present k;
-      pending = subst (λ (g : List Block). is_some (pending_in c.deref_mut-contents.result.now.pending g) ≡ c.deref_mut-contents.result.now.pending) (sym c.make_room.ensures.items) s.kept.pending;
-      log = (let h = s.kept.log in omega (arith, ap length c.make_room.ensures.items, c.make_room.ensures.capacity));
+      pending = subst (λ (g : List Block). is_some (pending_in c.deref_mut-contents.result.now.pending g) ≡ c.deref_mut-contents.result.now.pending) (sym c.make_room.ensures.same.items) s.kept.pending;
+      log = (let h = s.kept.log in omega (arith, ap length c.make_room.ensures.same.items, c.make_room.ensures.same.capacity));
     }
 
 pub invariant_of-self-2 : goal.invariant_of-self-2
@@ -23,12 +23,12 @@ invariant_of-self-2 c =
     let s = shows c.deref_mut-contents.ensures.value c.self.view_is c.self.invariant in
     let p = view_of c.deref_mut-contents.result.now in
     record {
-      sound = subst (λ (g : List Block). IsSoundPackage (record (with_rooms p c.reserve-made.new.self 1 p.turns) { pending = pending_in c.deref_mut-contents.result.now.pending g; log = g })) (sym c.make_room.ensures.items)
+      sound = subst (λ (g : List Block). IsSoundPackage (record (with_rooms p c.reserve-made.new.self 1 p.turns) { pending = pending_in c.deref_mut-contents.result.now.pending g; log = g })) (sym c.make_room.ensures.same.items)
           (sound_rooms p c.reserve-made.new.self 1 p.turns c.bound.ensures.places (same_locks (has c.deref_mut-contents.result.now.present) p.context.locks c.reserve-made.new.self c.in_ok-made.ensures.ok) s.kept.sound);
       code = s.kept.code;
       edge = s.kept.edge;
       next = s.kept.next;
       present = λ k. changed_set _ p.context.locks c.reserve-made.new.self c.in_ok-made.ensures.ok k ∙ s.kept.present k;
-      pending = subst (λ (g : List Block). is_some (pending_in c.deref_mut-contents.result.now.pending g) ≡ c.deref_mut-contents.result.now.pending) (sym c.make_room.ensures.items) s.kept.pending;
+      pending = subst (λ (g : List Block). is_some (pending_in c.deref_mut-contents.result.now.pending g) ≡ c.deref_mut-contents.result.now.pending) (sym c.make_room.ensures.same.items) s.kept.pending;
       log = (let h = c.in_ok-make_room.ensures.room in omega (arith));
     }

@@ -11,8 +11,8 @@ run_block-ran-requires c =
     let p = view_of c.deref_mut-contents.result.now in
     let may = subst (MayRun image) (sym s.is) (record { is = c.requires.image; sound = subst IsSoundPackage s.is s.kept.sound; rest = c.requires.pending; running = c.requires.running; want = c.requires.want }) in
     record {
-      code = c.deref.ensures ∙ s.kept.code ∙ may.is;
       may = record {
+        code = c.deref.ensures ∙ s.kept.code ∙ may.is;
         go = can_go image p may;
         takes = s.kept.next ∙ ap (λ x. next_lock x (thread_in p.context)) may.is;
         ready = ready_from image p may (subst IsReserved (sym s.is) c.requires.reserved);

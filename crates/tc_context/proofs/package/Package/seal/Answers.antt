@@ -1,7 +1,7 @@
 use Rattle.std.proofs.Common.{◌∙◌, refl, ap, sym, subst, arith, is_some}
 use Rattle.tc_context.proofs.Vocabulary.{has, PackageView, IsSoundPackage, Allows, with_seal, view_of}
 use Rattle.tc_context.proofs.Staging.{shows, changed_set}
-use Rattle.tc_context.proofs.Running.{pending_last, seal_closed, seal_follows, seal_passes, sealed_sound, seal_is}
+use Rattle.tc_context.proofs.Running.{pending_last, may_seal, sealed_sound, seal_is}
 use Rattle.tc_context.proofs.package.Package.seal.Goals as goal
 
 pub seal_last-held-requires : goal.seal_last-held-requires
@@ -19,11 +19,7 @@ seal-requires c =
     let b = l.block in
     let held = sym (c.seal_last-held.ensures.held b l.last) in
     let allows = subst (λ (v : PackageView). Allows v.context b c.args.worker) (sym s.is) (c.requires.allows b (ap (λ (v : PackageView). v.pending) (sym s.is) ∙ l.pending)) in
-    record {
-      closed = λ k state found h. seal_closed p b s.kept.sound l.pending k state found (ap (λ n. has n k) held ∙ h);
-      follows = λ k state found h. seal_follows p b c.args.stamp c.args.worker s.kept.sound l.pending allows k state found (ap (λ n. has n k) held ∙ h);
-      passes = λ k state found h. seal_passes p b s.kept.sound l.pending k state found (ap (λ n. has n k) held ∙ h);
-    }
+    λ k state found h. may_seal p b c.args.stamp c.args.worker s.kept.sound l.pending allows k state found (ap (λ n. has n k) held ∙ h)
 
 pub invariant_of-self : goal.invariant_of-self
 invariant_of-self c =
