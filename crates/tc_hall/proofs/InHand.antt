@@ -25,9 +25,11 @@ use Rattle.tc_hall.specs.declared.board.Knows.{Knows}
 use Rattle.tc_hall.specs.declared.place.Place.{Place}
 use Rattle.tc_hall.specs.declared.place.Place.TheVariants.{Ready}
 use Rattle.tc_hall.specs.Places.{code_of}
-use Rattle.tc_hall.specs.Rule.{Has, IsInOrder, grants_adopted, locked_in}
+use Rattle.tc_hall.specs.PassView.{PassView, HallView}
+use Rattle.tc_hall.specs.Hands.{IsInHand, Plays, IsIdle}
+use Rattle.tc_hall.specs.Rule.{Has, IsInOrder, grants_adopted, locked_in, threads, locks}
 use Rattle.tc_hall.specs.Outs.{Outs, outs, nothing, keep, unless, erase, Pack, Loose, IsOut, Item, part}
-use Rattle.tc_hall.specs.Steps.{Gets, Seals, DidSeal, MayPut, Gave, Takes, MayFree, Freed, IsNew, IsFree, HasAll, HasSeenAll, after_look, after_miss, merged}
+use Rattle.tc_hall.specs.Steps.{IsSamePass, Gets, Seals, DidSeal, MayPut, Gave, Takes, MayFree, Freed, IsNew, IsFree, HasAll, HasSeenAll, after_look, after_miss, merged}
 use Rattle.tc_hall.proofs.Outs.{same_outs, found, is_there, has_out, loose_out}
 use Rattle.tc_hall.proofs.Cases.{apart, clash}
 
@@ -52,11 +54,8 @@ beside o l q free = (
     past : (a b x : Option LockView) (m : LockView) → (a ≡ None) ⊎ (b ≡ None) → b ≡ Some m → x ≡ Some m → unless a x ≡ Some m
     past a b x m none is there = ⊎_elim (λ (e : a ≡ None). ap (λ (z : Option LockView). unless z x) e ∙ there) (λ (e : b ≡ None). absurd (clash b m e is)) none
 
-pub record IsInHand (v : Knows) (q : PackageView) : Type 0 where
-  pub out : IsOut (outs v) (Pack q)
-  pub only : erase (outs v) (Pack q) ≡ nothing
-  pub image : q.image ≡ v.image
-  pub settled : q.pending ≡ None
+pub plays_on : {hall : HallView} (v w : PassView) → Plays hall v → IsSamePass v w → Plays hall w
+plays_on v w plays same = record { own = same.0 ∙ plays.own; two = plays.two; one = plays.one }
 
 pub claimed : (word t : ℕ) (q : PackageView) (v w : Knows) → Gets word t q v w → outs v ≡ nothing → IsInHand w q
 claimed word t q v w got free = record {
@@ -276,15 +275,21 @@ may_put place v q out none granted ended runs waits =
       fits = λ _. ap (λ (o : Option Grant). fits_granted q.context o v.worker) granted;
     }
 
+pub put_idle : {hall : HallView} {image : Shown} (place : Place) (q : PackageView) (v w : PassView) → Plays hall v → v.knows.image ≡ image → IsInHand v.knows q → IsSamePass v w → Gave place q v.knows w.knows → IsIdle hall image w
+put_idle place q v w plays runs hand same gave = record { plays = plays_on v w plays same; runs = gave.called.image ∙ runs; free = gave.rest ∙ hand.only }
+
 -- ---- at the start and at the end
 
-pub new_out : (image : Shown) (n m worker : ℕ) (v : Knows) → IsNew image n m worker v → outs v ≡ nothing
+new_out : (image : Shown) (n m worker : ℕ) (v : Knows) → IsNew image n m worker v → outs v ≡ nothing
 new_out image n m worker v is = ap outs is.now ∙ same_outs _ nothing (λ u. none_at n u) (λ i. none_at m i)
   where
     none_at : {A : Type 0} (n i : ℕ) → get_or (replicate {A = Option A} n None) i None ≡ None
     none_at zero i = refl
     none_at (suc n) zero = refl
     none_at (suc n) (suc i) = none_at n i
+
+pub new_idle : (hall : HallView) (image : Shown) (p : PassView) (n m worker : ℕ) → threads hall.terms ≡ 2 → locks hall.terms ≡ 1 → (p.table ≡ hall.table) × IsNew image n m worker p.knows → IsIdle hall image p
+new_idle hall image p n m worker two one is = record { plays = record { own = is.0; two = two; one = one }; runs = is.1.of; free = new_out image n m worker p.knows is.1 }
 
 pub is_free : (v : Knows) → outs v ≡ nothing → IsFree v
 is_free v free = record {

@@ -1,5 +1,5 @@
 -- Each operation keeps what holds between any two steps, so it holds after every order of them.
-use Rattle.std.proofs.Common.{◌≡◌, ◌≢◌, ℕ, ◌+◌, ◌<◌, ◌≤◌, false, List, [], ◌∷◌, sym, refl, ap, ◌∙◌, subst, ⊎_elim, inl, inr, arith, Option, Some, None, slice_index}
+use Rattle.std.proofs.Common.{◌≡◌, ◌≢◌, ℕ, ◌+◌, ◌<◌, ◌≤◌, false, List, [], ◌∷◌, sym, refl, ap, ◌∙◌, subst, ⊎_elim, arith, Option, Some, None, slice_index}
 use mathlib.Core.Option.{some}
 use lib.ListN.{get_elem?}
 use Rattle.std.specs.Prelude.{replicate}
@@ -10,13 +10,11 @@ use Rattle.tc_journal.specs.declared.block.Block.{Block}
 use Rattle.tc_segment.specs.View.{LockView}
 use Rattle.tc_context.specs.View.{PackageView}
 use Rattle.tc_hall.specs.declared.place.Place.{Place}
-use Rattle.tc_hall.specs.declared.place.Origin.{Origin}
-use Rattle.tc_hall.specs.declared.place.Origin.TheVariants as origin
 use Rattle.tc_hall.specs.declared.board.Knows.{Knows}
 use Rattle.tc_hall.specs.declared.board.Terms.{Terms}
 use Rattle.tc_hall.specs.declared.board.Cargo.{Cargo}
 use Rattle.tc_hall.specs.declared.board.Cargo.TheVariants.{Package}
-use Rattle.tc_hall.specs.Places.{code_of, origin_code}
+use Rattle.tc_hall.specs.Places.{code_of}
 use Rattle.tc_hall.specs.Rule.{threads, locks, starting, IsInLimits, KeptHall}
 use Rattle.tc_hall.specs.Made.{AreStocked}
 use Rattle.tc_hall.specs.Steps.{Seals, after_put}
@@ -36,10 +34,6 @@ claimable_low k word few can = ⊎_elim (λ (z : word ≡ 0). (omega arith, (λ 
   where
     waits : (i : ℕ) → i < locks k → word ≡ 256 + i → (word < 512) × (word ≢ 2)
     waits i below is = (omega arith, (λ e. omega arith))
-
-pub origin_claimable : (k : Terms) (from : Origin) → IsClaimable k (origin_code from)
-origin_claimable k origin.Ready = inl refl
-origin_claimable k origin.Parked = inr (inl refl)
 
 module _ (k : Terms) (s : Hall) (r : KeptHall k s) (id : ℕ) (v : Knows) (at : get_elem? s.views id ≡ some v) (live : v.spent ≡ false) where
   pub claim_after : (t : ℕ) (q : PackageView) → MayClaim k s v t q → KeptHall k (after s id (claim_effect v t q))

@@ -55,10 +55,6 @@ pub origin_low : (from : Origin) → origin_code from < 512
 origin_low origin.Ready = omega arith
 origin_low origin.Parked = omega arith
 
-pub origin_open : (from : Origin) → origin_code from ≡ 2 → ⊥
-origin_open origin.Ready e = omega arith
-origin_open origin.Parked e = omega arith
-
 -- a lock of a thread that was put
 pub lies_put : (p : Place) (t : ℕ) → lies_with (as_place p) t ≡ packed t
 lies_put Ready t = refl

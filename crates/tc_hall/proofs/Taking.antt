@@ -1,6 +1,6 @@
 -- Each step on a lock keeps the rule.
-use Rattle.std.proofs.Common.{◌≡◌, ◌≢◌, ◌⊎◌, ℕ, zero, suc, ◌+◌, ◌<◌, Bool, true, false, List, [], ◌∷◌, length, set, sym, refl, ap, ◌∙◌, subst, ⊎_elim, inl, inr, arith, Option, Some, None, slice_index, length-set, get_or-set_other, get_or-set_same}
-use mathlib.Core.Option.{none, some, some-injective, some-ne-none}
+use Rattle.std.proofs.Common.{◌≡◌, ◌≢◌, ◌⊎◌, ℕ, ◌+◌, ◌<◌, Bool, false, List, [], ◌∷◌, length, set, sym, refl, ap, ◌∙◌, subst, ⊎_elim, inl, inr, arith, Option, Some, None, slice_index, length-set, get_or-set_other, get_or-set_same}
+use mathlib.Core.Option.{none, some, some-injective}
 use mathlib.Core.Option as maybe
 use lib.ListN.{get_elem?}
 use lib.Seq.{set-get_or}
@@ -22,8 +22,6 @@ use Rattle.tc_hall.specs.Steps.{MayFree, after_take, after_free}
 use Rattle.tc_hall.proofs.Placing.{stays}
 use Rattle.tc_hall.proofs.Packing.{IsElseLock, lock_moves, out_of}
 use Rattle.tc_hall.proofs.Ranks.{apart_stays, stop_stays, IsTrueCall, pass_kept, passes_stay, done_still, stops_still, stops_back}
-use Rattle.std.specs.List.{filter}
-use Rattle.std.proofs.Common.{if◌then◌else◌}
 use Rattle.tc_hall.proofs.Telling.{snoc_at}
 use Rattle.tc_hall.proofs.Moves.{St, some_same}
 use Rattle.tc_hall.proofs.Cases.{clash, same_some, clash_at, same_at, same_lock}
@@ -32,19 +30,6 @@ pub lock_home_of : (n : ℕ) (ws : List ℕ) (hs : Homes) (vs : List Knows) (i :
 lock_home_of n ws hs vs i l home o e = (refl, o)
 lock_home_of n ws hs vs i l (inside t) o e = let w = o.word in absurd (omega arith)
 lock_home_of n ws hs vs i l (out j) o e = let w = o.word in absurd (omega arith)
-
--- what a list has, its filter has
-pub filter_finds : {A : Type 0} (f : A → Bool) (h : List A) (i : ℕ) (b : A) → get_elem? h i ≡ some b → f b ≡ true → (j : ℕ) × (get_elem? (filter f h) j ≡ some b)
-filter_finds f [] i b e is = absurd (some-ne-none b (sym e))
-filter_finds {A} f (c ∷ cs) zero b e is =
-    let same : c ≡ b = some-injective c b e in
-    let hit : f c ≡ true = ap f same ∙ is in
-    (0, ap (λ (v : Bool). get_elem? (if v then c ∷ filter f cs else filter f cs) 0) hit ∙ e)
-filter_finds {A} f (c ∷ cs) (suc i) b e is = let r = filter_finds f cs i b e is in more (f c) c (filter f cs) r.0 b r.1
-  where
-    more : (v : Bool) (c : A) (l : List A) (j : ℕ) (b : A) → get_elem? l j ≡ some b → (m : ℕ) × (get_elem? (if v then c ∷ l else l) m ≡ some b)
-    more true c l j b e = (suc j, e)
-    more false c l j b e = (j, e)
 
 module _ (k : Terms) where
   -- where a lock that a pass has out lies

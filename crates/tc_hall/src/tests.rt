@@ -1,8 +1,7 @@
 mod hand;
 mod runs;
 
-ghost use Rattle.std.specs.Prelude.{◌≡◌};
-ghost use Rattle.tc_hall.specs.Rule.{threads, locks};
+ghost use Rattle.tc_hall.specs.Hands.{Plays};
 
 use crate::hall::{Hall, LockOut, NotReady, NotWaiting};
 use crate::pass::Pass;
@@ -38,9 +37,8 @@ fn one(alloc: Global) -> Result<Image, Refusal> {
 
 /// Looks at the words of both threads, and at the one for a stop, which is 0.
 fn look_around<R: Abort>(rt: &R, hall: &Hall, pass: &mut Pass, words: [u64; 2])
-    requires own { pass.old.table ≡ hall.now.table }
-    requires threads { threads hall.now.terms ≡ 2 }
-    ensures own { pass.new.table ≡ pass.old.table }
+    requires { Plays hall.now pass.old }
+    ensures { Plays hall.now pass.new }
 {
     assert_eq!(rt; [hall.look(pass, 0), hall.look(pass, 1)], words);
     assert!(rt; !hall.stopped(pass));
@@ -48,10 +46,8 @@ fn look_around<R: Abort>(rt: &R, hall: &Hall, pass: &mut Pass, words: [u64; 2])
 
 /// A pass misses lock 0, which is out while thread 0 is.
 fn miss_lock<R: Abort>(rt: &R, hall: &Hall, pass: &mut Pass)
-    requires own { pass.old.table ≡ hall.now.table }
-    requires threads { threads hall.now.terms ≡ 2 }
-    requires locks { locks hall.now.terms ≡ 1 }
-    ensures own { pass.new.table ≡ pass.old.table }
+    requires { Plays hall.now pass.old }
+    ensures { Plays hall.now pass.new }
 {
     match hall.take(pass, 0) {
         Ok(_) => panic!(rt; "lock 0 is out"),
@@ -63,9 +59,7 @@ fn miss_lock<R: Abort>(rt: &R, hall: &Hall, pass: &mut Pass)
 /// What two passes see on a new hall, where the first of them has thread 0 and lock 0 out. What is
 /// refused changes no word.
 fn see_words<R: Abort>(rt: &R, hall: &Hall, zero: &mut Pass, other: &mut Pass)
-    requires own { (zero.old.table ≡ hall.now.table) × (other.old.table ≡ hall.now.table) }
-    requires threads { threads hall.now.terms ≡ 2 }
-    requires locks { locks hall.now.terms ≡ 1 }
+    requires { Plays hall.now zero.old × Plays hall.now other.old }
 {
     assert_eq!(rt; zero.worker(), 0);
     assert_eq!(rt; other.worker(), 1);

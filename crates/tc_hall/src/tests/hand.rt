@@ -1,9 +1,8 @@
 //! A worker with a package in hand, over a guest of two threads and one lock.
 
-ghost use Rattle.std.specs.Prelude.{◌≡◌, ◌==◌, ◌<◌, ℕ, None, true, false, IfOk};
+ghost use Rattle.std.specs.Prelude.{◌≡◌, ◌==◌, ◌<◌, None, false, IfOk};
 ghost use Rattle.tc_context.specs.Whole.{set_of};
-ghost use Rattle.tc_hall.specs.Outs.{outs, nothing, erase, Pack, IsOut};
-ghost use Rattle.tc_hall.specs.Rule.{threads, locks};
+ghost use Rattle.tc_hall.specs.Hands.{IsInHand, Plays, IsIdle, Carries};
 
 use crate::hall::Hall;
 use crate::pass::Pass;
@@ -23,20 +22,14 @@ use tc_turn::status::Status;
 pub(super) struct Hand {
     pub(super) pass: Pass,
     pub(super) carried: Package,
-    ghost out: { IsOut (outs pass.knows) (Pack carried) },
-    ghost only: { erase (outs pass.knows) (Pack carried) ≡ nothing },
-    ghost image: { carried.image ≡ pass.knows.image },
-    ghost settled: { carried.pending ≡ None },
+    ghost in_hand: { IsInHand pass.knows carried },
 }
 
 /// Claims a thread that is ready and has no lock.
 pub(super) fn claim<R: Abort>(rt: &R, hall: &Hall, mut pass: Pass, t: u32) -> Hand
-    requires own { pass.table ≡ hall.now.table }
-    requires free { outs pass.knows ≡ nothing }
-    requires thread { t < threads hall.now.terms }
-    ensures table { result.pass.table ≡ pass.table }
-    ensures image { result.pass.knows.image ≡ pass.knows.image }
-    ensures none { (k : ℕ) → set_of result.carried.context k ≡ false }
+    requires idle { IsIdle hall.now pass.knows.image pass }
+    requires thread { t < 2 }
+    ensures { Carries hall.now pass.knows.image result.pass result.carried (λ k. false) }
 {
     let Ok(carried) = hall.claim(&mut pass, t, Origin::Ready) else {
         panic!(rt; "the thread is ready")
@@ -54,12 +47,10 @@ pub(super) fn run<R: Abort>(
     hand: Hand,
     end: End,
 ) -> Result<Hand, AllocError>
-    requires own { hand.pass.table ≡ hall.now.table }
+    requires plays { Plays hall.now hand.pass }
     requires image { hand.pass.knows.image ≡ image.now }
-    ensures table { IfOk result (λ h. h.pass.table ≡ hand.pass.table) }
-    ensures image { IfOk result (λ h. h.pass.knows.image ≡ hand.pass.knows.image) }
-    ensures locks { IfOk result (λ h. (k : ℕ)
-        → set_of h.carried.context k ≡ set_of hand.carried.context k) }
+    ensures carries { IfOk result (λ h. Carries hall.now image.now h.pass h.carried
+        (set_of hand.carried.context)) }
     ensures granted { IfOk result (λ h. h.carried.granted ≡ None) }
 {
     let Hand {
@@ -81,13 +72,8 @@ pub(super) fn run<R: Abort>(
 
 /// Takes lock 0 for a thread that wants it, once the lock is home.
 pub(super) fn take<R: Abort + Wait>(rt: &R, hall: &Hall, image: &Image, hand: Hand) -> Hand
-    requires own { hand.pass.table ≡ hall.now.table }
-    requires image { hand.pass.knows.image ≡ image.now }
-    requires lock { 0 < locks hall.now.terms }
-    requires none { (k : ℕ) → set_of hand.carried.context k ≡ false }
-    ensures table { result.pass.table ≡ hand.pass.table }
-    ensures image { result.pass.knows.image ≡ hand.pass.knows.image }
-    ensures one { (k : ℕ) → set_of result.carried.context k ≡ (k == 0) }
+    requires { Carries hall.now image.now hand.pass hand.carried (λ k. false) }
+    ensures { Carries hall.now image.now result.pass result.carried (λ k. k == 0) }
 {
     let Hand {
         mut pass,
@@ -111,13 +97,9 @@ pub(super) fn take<R: Abort + Wait>(rt: &R, hall: &Hall, image: &Image, hand: Ha
 
 /// Brings lock 0 home, which the last block released.
 pub(super) fn bring_home<R: Abort>(rt: &R, hall: &Hall, hand: Hand) -> Hand
-    requires own { hand.pass.table ≡ hall.now.table }
-    requires lock { 0 < locks hall.now.terms }
+    requires carries { Carries hall.now hand.pass.knows.image hand.pass hand.carried (λ k. k == 0) }
     requires granted { hand.carried.granted ≡ None }
-    requires one { (k : ℕ) → set_of hand.carried.context k ≡ (k == 0) }
-    ensures table { result.pass.table ≡ hand.pass.table }
-    ensures image { result.pass.knows.image ≡ hand.pass.knows.image }
-    ensures none { (k : ℕ) → set_of result.carried.context k ≡ false }
+    ensures { Carries hall.now hand.pass.knows.image result.pass result.carried (λ k. false) }
 {
     let Hand {
         mut pass,
@@ -132,14 +114,10 @@ pub(super) fn bring_home<R: Abort>(rt: &R, hall: &Hall, hand: Hand) -> Hand
 /// Passes lock 0, which the last block released, on to a thread that waits for it. The package goes
 /// back to where any worker may run it.
 pub(super) fn pass_on<R: Abort>(rt: &R, hall: &Hall, hand: Hand, t: u32) -> Hand
-    requires own { hand.pass.table ≡ hall.now.table }
-    requires lock { 0 < locks hall.now.terms }
-    requires threads { (threads hall.now.terms ≡ 2) × (t < 2) }
+    requires carries { Carries hall.now hand.pass.knows.image hand.pass hand.carried (λ k. k == 0) }
     requires granted { hand.carried.granted ≡ None }
-    requires one { (k : ℕ) → set_of hand.carried.context k ≡ (k == 0) }
-    ensures table { result.pass.table ≡ hand.pass.table }
-    ensures image { result.pass.knows.image ≡ hand.pass.knows.image }
-    ensures one { (k : ℕ) → set_of result.carried.context k ≡ (k == 0) }
+    requires thread { t < 2 }
+    ensures { Carries hall.now hand.pass.knows.image result.pass result.carried (λ k. k == 0) }
 {
     let Hand {
         mut pass,
@@ -164,12 +142,8 @@ pub(super) fn pass_on<R: Abort>(rt: &R, hall: &Hall, hand: Hand, t: u32) -> Hand
 
 /// Puts the package of a thread that runs where any worker may run it.
 pub(super) fn put_ready<R: Abort>(rt: &R, hall: &Hall, hand: Hand) -> Pass
-    requires own { hand.pass.table ≡ hall.now.table }
-    requires threads { threads hall.now.terms ≡ 2 }
-    requires none { (k : ℕ) → set_of hand.carried.context k ≡ false }
-    ensures table { result.table ≡ hand.pass.table }
-    ensures image { result.knows.image ≡ hand.pass.knows.image }
-    ensures free { outs result.knows ≡ nothing }
+    requires { Carries hall.now hand.pass.knows.image hand.pass hand.carried (λ k. false) }
+    ensures { IsIdle hall.now hand.pass.knows.image result }
 {
     let Hand { mut pass, carried } = hand;
     assert!(rt; carried.thread() < 2);
@@ -181,14 +155,8 @@ pub(super) fn put_ready<R: Abort>(rt: &R, hall: &Hall, hand: Hand) -> Pass
 
 /// Puts the package of a thread that wants lock 0 behind it.
 pub(super) fn put_waiting<R: Abort>(rt: &R, hall: &Hall, image: &Image, hand: Hand) -> Pass
-    requires own { hand.pass.table ≡ hall.now.table }
-    requires image { hand.pass.knows.image ≡ image.now }
-    requires lock { 0 < locks hall.now.terms }
-    requires threads { threads hall.now.terms ≡ 2 }
-    requires none { (k : ℕ) → set_of hand.carried.context k ≡ false }
-    ensures table { result.table ≡ hand.pass.table }
-    ensures image { result.knows.image ≡ hand.pass.knows.image }
-    ensures free { outs result.knows ≡ nothing }
+    requires { Carries hall.now image.now hand.pass hand.carried (λ k. false) }
+    ensures { IsIdle hall.now image.now result }
 {
     let Hand { mut pass, carried } = hand;
     assert!(rt; carried.thread() < 2);
@@ -201,12 +169,8 @@ pub(super) fn put_waiting<R: Abort>(rt: &R, hall: &Hall, image: &Image, hand: Ha
 
 /// Puts the package of a thread that has ended.
 pub(super) fn put_done<R: Abort>(rt: &R, hall: &Hall, hand: Hand) -> Pass
-    requires own { hand.pass.table ≡ hall.now.table }
-    requires threads { threads hall.now.terms ≡ 2 }
-    requires none { (k : ℕ) → set_of hand.carried.context k ≡ false }
-    ensures table { result.table ≡ hand.pass.table }
-    ensures image { result.knows.image ≡ hand.pass.knows.image }
-    ensures free { outs result.knows ≡ nothing }
+    requires { Carries hall.now hand.pass.knows.image hand.pass hand.carried (λ k. false) }
+    ensures { IsIdle hall.now hand.pass.knows.image result }
 {
     let Hand { mut pass, carried } = hand;
     assert!(rt; carried.thread() < 2);

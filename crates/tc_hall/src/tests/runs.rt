@@ -1,9 +1,7 @@
 //! Whole runs by hand, of two threads that each add 1 to a word under lock 0.
 
-ghost use Rattle.std.specs.Prelude.{◌≡◌, ◌==◌, ◌<◌, ℕ, None, IfOk};
-ghost use Rattle.tc_context.specs.Whole.{set_of};
-ghost use Rattle.tc_hall.specs.Outs.{outs, nothing};
-ghost use Rattle.tc_hall.specs.Rule.{threads, locks};
+ghost use Rattle.std.specs.Prelude.{◌≡◌, ◌==◌, ◌<◌, None, IfOk};
+ghost use Rattle.tc_hall.specs.Hands.{IsIdle, Carries};
 
 use crate::closed::Closed;
 use crate::hall::Hall;
@@ -28,9 +26,8 @@ use tc_turn::status::Status;
 
 /// Ends a hall of two workers whose two threads have ended.
 fn close<R: Abort>(rt: &R, hall: Hall, mut zero: Pass, one: Pass) -> Closed
-    requires own { (zero.table ≡ hall.table) × (one.table ≡ hall.table) }
-    requires free { (outs zero.knows ≡ nothing) × (outs one.knows ≡ nothing) }
-    requires two { (threads hall.terms ≡ 2) × (hall.terms.workers ≡ 2) }
+    requires idle { IsIdle hall zero.knows.image zero × IsIdle hall one.knows.image one }
+    requires workers { hall.terms.workers ≡ 2 }
 {
     assert_eq!(rt; zero.worker(), 0);
     assert_eq!(rt; one.worker(), 1);
@@ -48,13 +45,9 @@ fn run_section<R: Abort + Wait>(
     pass: Pass,
     t: u32,
 ) -> Result<Hand, AllocError>
-    requires own { pass.table ≡ hall.now.table }
-    requires image { pass.knows.image ≡ image.now }
-    requires free { outs pass.knows ≡ nothing }
-    requires two { (threads hall.now.terms ≡ 2) × (locks hall.now.terms ≡ 1) × (t < 2) }
-    ensures own { IfOk result (λ h. h.pass.table ≡ hall.now.table) }
-    ensures image { IfOk result (λ h. h.pass.knows.image ≡ image.now) }
-    ensures one { IfOk result (λ h. (k : ℕ) → set_of h.carried.context k ≡ (k == 0)) }
+    requires idle { IsIdle hall.now image.now pass }
+    requires thread { t < 2 }
+    ensures carries { IfOk result (λ h. Carries hall.now image.now h.pass h.carried (λ k. k == 0)) }
     ensures granted { IfOk result (λ h. h.carried.granted ≡ None) }
 {
     let hand = claim(rt, hall, pass, t);
@@ -71,13 +64,9 @@ fn queue_up<R: Abort>(
     pass: Pass,
     t: u32,
 ) -> Result<Pass, AllocError>
-    requires own { pass.table ≡ hall.now.table }
-    requires image { pass.knows.image ≡ image.now }
-    requires free { outs pass.knows ≡ nothing }
-    requires two { (threads hall.now.terms ≡ 2) × (locks hall.now.terms ≡ 1) × (t < 2) }
-    ensures own { IfOk result (λ p. p.table ≡ hall.now.table) }
-    ensures image { IfOk result (λ p. p.knows.image ≡ image.now) }
-    ensures free { IfOk result (λ p. outs p.knows ≡ nothing) }
+    requires idle { IsIdle hall.now image.now pass }
+    requires thread { t < 2 }
+    ensures { IfOk result (IsIdle hall.now image.now) }
 {
     let hand = claim(rt, hall, pass, t);
     let hand = run(rt, hall, image, hand, End::Wants(0))?;
@@ -92,12 +81,9 @@ fn run_rest<R: Abort>(
     pass: Pass,
     t: u32,
 ) -> Result<Pass, AllocError>
-    requires own { pass.table ≡ hall.now.table }
-    requires image { pass.knows.image ≡ image.now }
-    requires free { outs pass.knows ≡ nothing }
-    requires two { (threads hall.now.terms ≡ 2) × (t < 2) }
-    ensures own { IfOk result (λ p. p.table ≡ hall.now.table) }
-    ensures free { IfOk result (λ p. outs p.knows ≡ nothing) }
+    requires idle { IsIdle hall.now image.now pass }
+    requires thread { t < 2 }
+    ensures { IfOk result (IsIdle hall.now image.now) }
 {
     let hand = claim(rt, hall, pass, t);
     let hand = run(rt, hall, image, hand, End::Exit)?;
@@ -113,12 +99,8 @@ fn adopt_one<R: Abort + Wait>(
     zero: Pass,
     one: Pass,
 ) -> Result<(Pass, Pass), AllocError>
-    requires own { (zero.table ≡ hall.now.table) × (one.table ≡ hall.now.table) }
-    requires image { (zero.knows.image ≡ image.now) × (one.knows.image ≡ image.now) }
-    requires free { (outs zero.knows ≡ nothing) × (outs one.knows ≡ nothing) }
-    requires two { (threads hall.now.terms ≡ 2) × (locks hall.now.terms ≡ 1) }
-    ensures own { IfOk result (λ r. (r.0.table ≡ hall.now.table) × (r.1.table ≡ hall.now.table)) }
-    ensures free { IfOk result (λ r. (outs r.0.knows ≡ nothing) × (outs r.1.knows ≡ nothing)) }
+    requires { IsIdle hall.now image.now zero × IsIdle hall.now image.now one }
+    ensures { IfOk result (λ r. IsIdle hall.now image.now r.0 × IsIdle hall.now image.now r.1) }
 {
     let first = run_section(rt, hall, image, zero, 0)?;
     let one = queue_up(rt, hall, image, one, 1)?;
@@ -225,12 +207,8 @@ fn run_own<R: Abort + Wait>(
     image: &Image,
     pass: Pass,
 ) -> Result<Pass, AllocError>
-    requires own { pass.table ≡ hall.now.table }
-    requires image { pass.knows.image ≡ image.now }
-    requires free { outs pass.knows ≡ nothing }
-    requires two { (threads hall.now.terms ≡ 2) × (locks hall.now.terms ≡ 1) }
-    ensures own { IfOk result (λ p. p.table ≡ hall.now.table) }
-    ensures free { IfOk result (λ p. outs p.knows ≡ nothing) }
+    requires { IsIdle hall.now image.now pass }
+    ensures { IfOk result (IsIdle hall.now image.now) }
 {
     let t = pass.worker();
     assert!(rt; t < 2);
@@ -248,28 +226,19 @@ fn run_beside<R: Abort + Threads + Wait + Sync>(
     zero: Pass,
     one: Pass,
 ) -> (Result<Pass, AllocError>, Result<Pass, AllocError>)
-    requires own { (zero.table ≡ hall.now.table) × (one.table ≡ hall.now.table) }
-    requires image { (zero.knows.image ≡ image.now) × (one.knows.image ≡ image.now) }
-    requires free { (outs zero.knows ≡ nothing) × (outs one.knows ≡ nothing) }
-    requires two { (threads hall.now.terms ≡ 2) × (locks hall.now.terms ≡ 1) }
-    ensures zero { IfOk result.0 (λ p. (p.table ≡ hall.now.table) × (outs p.knows ≡ nothing)) }
-    ensures one { IfOk result.1 (λ p. (p.table ≡ hall.now.table) × (outs p.knows ≡ nothing)) }
+    requires idle { IsIdle hall.now image.now zero × IsIdle hall.now image.now one }
+    ensures zero { IfOk result.0 (IsIdle hall.now image.now) }
+    ensures one { IfOk result.1 (IsIdle hall.now image.now) }
 {
     thread::join(
         rt,
         move || -> Result<Pass, AllocError>
-            requires { (zero.table ≡ hall.now.table) × (zero.knows.image ≡ image.now)
-                × (outs zero.knows ≡ nothing)
-                × (threads hall.now.terms ≡ 2) × (locks hall.now.terms ≡ 1) }
-            ensures { IfOk result (λ p. (p.table ≡ hall.entry.now.table)
-                × (outs p.knows ≡ nothing)) }
+            requires { IsIdle hall.now image.now zero }
+            ensures { IfOk result (IsIdle hall.entry.now image.entry.now) }
         { run_own(rt, hall, image, zero) },
         move || -> Result<Pass, AllocError>
-            requires { (one.table ≡ hall.now.table) × (one.knows.image ≡ image.now)
-                × (outs one.knows ≡ nothing)
-                × (threads hall.now.terms ≡ 2) × (locks hall.now.terms ≡ 1) }
-            ensures { IfOk result (λ p. (p.table ≡ hall.entry.now.table)
-                × (outs p.knows ≡ nothing)) }
+            requires { IsIdle hall.now image.now one }
+            ensures { IfOk result (IsIdle hall.entry.now image.entry.now) }
         { run_own(rt, hall, image, one) },
     )
 }

@@ -1,14 +1,18 @@
 use Rattle.std.proofs.Common.{rules, ◌≡◌, None}
 use Rattle.tc_context.specs.View.{granted_lock}
-use Rattle.tc_hall.proofs.InHand.{claimed, none_in}
+use Rattle.tc_hall.proofs.InHand.{claimed, none_in, plays_on}
 use Rattle.tc_hall.proofs.tests.hand.claim.Goals as goal
 
 pub invariant_of-result : goal.invariant_of-result
-invariant_of-result g c = let h = claimed _ _ c.in-Ok.carried c.args.pass.knows c.claim.new.pass.knows c.in-Ok.ensures.result c.requires.free in record { out = h.out; only = h.only; image = h.image; settled = h.settled }
+invariant_of-result g c = record { in_hand = claimed _ _ c.in-Ok.carried c.args.pass.knows c.claim.new.pass.knows c.in-Ok.ensures.result c.requires.idle.free }
 
-pub returns-clause-none : goal.returns-clause-none
-returns-clause-none g c =
+pub returns : goal.returns
+returns g c =
     let q = c.in-Ok.carried in
     let held : q.context.guest.held ≡ 0 = search rules in
     let granted : granted_lock q.granted ≡ None = search rules in
-    none_in 0 q c.in-Ok.ensures.result.order held granted
+    record {
+      plays = plays_on _ _ c.requires.idle.plays c.claim.ensures.own;
+      runs = c.in-Ok.ensures.result.called.image;
+      locks = none_in 0 q c.in-Ok.ensures.result.order held granted;
+    }
