@@ -85,6 +85,10 @@ HasWaiter m = (h : Stand) × Holds h m × (h.line.waiting ≢ [])
 abbrev pub HasNoWaiter : Sitting → Type 0
 HasNoWaiter m = (h : Stand) × Holds h m × (h.line.waiting ≡ [])
 
+-- the seat has no slot
+abbrev pub HasNoSlot : Sitting → Type 0
+HasNoSlot m = m.1 ≡ []
+
 -- a line is in the slot of the seat
 abbrev pub HasSlot : Sitting → Type 0
 HasSlot m = (h : Stand) × (m.1 ≡ (0, h) ∷ [])

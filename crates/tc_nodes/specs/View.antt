@@ -7,14 +7,15 @@ use Rattle.atomic_table.specs.declared.shared.Seat.{Seat}
 use Rattle.tc_queue.specs.declared.turn.Turn.{Turn}
 use Rattle.tc_queue.specs.declared.turn.Departure.{Departure}
 use Rattle.tc_queue.specs.declared.turn.Departure.TheVariants.{Followed}
+use Rattle.tc_queue.specs.Words.{IsTurn}
 use Rattle.tc_nodes.specs.declared.cells.Placed.{Placed}
 use Rattle.tc_nodes.specs.declared.call.Call.{Call}
 use Rattle.tc_nodes.specs.declared.call.Call.TheVariants.{Take, Read, Next, Stay, Leave, Back}
 use Rattle.tc_nodes.specs.declared.board.Stand.{Stand}
 use Rattle.tc_nodes.specs.declared.board.Terms.{Terms}
 use Rattle.tc_nodes.specs.declared.board.Known.{Known}
-use Rattle.tc_nodes.specs.Steps.{Sitting, IsLineFor, IsFound, Holds, with_hand, did_read, did_next, did_leave}
-use Rattle.tc_nodes.specs.Order.{next_to, takes_in, stand_after, pick_of, answer_to_leave, stand_left}
+use Rattle.tc_nodes.specs.Steps.{Sitting, IsLineFor, IsFound, Holds, Took, missed, with_hand, did_read, did_next, did_leave}
+use Rattle.tc_nodes.specs.Order.{next_to, takes_in, stand_after, pick_of, without_pick, answer_to_leave, stand_left}
 
 pub record NodeQueueView : Type 0 where
   pub table : TableId
@@ -37,6 +38,11 @@ seat_view table id node v = record { table = table; id = id; threads = v.threads
 
 abbrev pub IsSeatOf : NodeQueueView → NodeSeatView → Type 0
 IsSeatOf q s = (s.table ≡ q.table) × (s.threads ≡ q.threads)
+
+-- with this seat of the queue a call for this turn may be made
+pub record MayCall (q : NodeQueueView) (s : NodeSeatView) (u : Turn) : Type 0 where
+  pub seat : IsSeatOf q s
+  pub turn : IsTurn q.threads u
 
 abbrev pub with_calls : List Call → NodeSeatView → NodeSeatView
 with_calls cs s = record s { calls = s.calls ++ cs }
@@ -107,17 +113,40 @@ pub record IsTableFor (threads bound : ℕ) (k : Terms) (table : TableId) : Type
 abbrev pub IsSamePlace : Seat Stand Known → Seat Stand Known → Type 0
 IsSamePlace p q = (q.table_id ≡ p.table_id) × (q.id ≡ p.id)
 
--- what is in the seat's slot was changed so
+-- a place of this queue, of whose seat this holds
+pub record IsAt (q : NodeQueueView) (state : Sitting → Type 0) (p : Seat Stand Known) : Type 0 where
+  pub own : p.table_id ≡ q.table
+  pub holds : state p.me
+
+-- the place of one seat, before and after steps that did this
+pub record DidAt (steps : Sitting → Sitting → Type 0) (p q : Seat Stand Known) : Type 0 where
+  pub same : IsSamePlace p q
+  pub did : steps p.me q.me
+
+-- a try for the line, which was home or not
+pub record Tries (home : Bool) (m m' : Sitting) : Type 0 where
+  pub took : home ≡ true → Took m m'
+  pub missed : home ≡ false → m' ≡ (missed m.0, [])
+
+-- the number of the cell that is to be read next; nothing was done
+abbrev pub IsNextCell : ℕ → Sitting → Sitting → Type 0
+IsNextCell number m m' = (m' ≡ m) × ((h : Stand) → Holds h m → number ≡ next_to h.read)
+
+-- what is in the seat's slot was changed so, and nothing else
 abbrev pub Becomes : (Stand → Stand) → Sitting → Sitting → Type 0
-Becomes change m m' = (h : Stand) → m.1 ≡ (0, h) ∷ [] → m'.1 ≡ (0, change h) ∷ []
+Becomes change m m' = (m'.0 ≡ m.0) × ((h : Stand) → m.1 ≡ (0, h) ∷ [] → m'.1 ≡ (0, change h) ∷ [])
 
--- the answer says whether somebody waits in the line that the seat has out
-abbrev pub TellsWaiting : Bool → Sitting → Type 0
-TellsWaiting some_one m = (h : Stand) → Holds h m → MatchBool some_one (h.line.waiting ≢ []) (h.line.waiting ≡ [])
+-- the answer is what this node picks from the line in hand, which lost it
+abbrev pub Picks : ℕ → Option Turn → Sitting → Sitting → Type 0
+Picks node answer m m' = ((h : Stand) → Holds h m → answer ≡ pick_of node h) × Becomes (without_pick node) m m'
 
--- the line was put back without the turn that this node picks
-abbrev pub DidReturn : Turn → ℕ → Sitting → Sitting → Type 0
-DidReturn u node m m' = (h : Stand) → Holds h m → m' ≡ (did_next u node h m.0, [])
+-- the answer says whether somebody waits in the line that the seat has out; nothing was done
+abbrev pub TellsWaiting : Bool → Sitting → Sitting → Type 0
+TellsWaiting some_one m m' = (m' ≡ m) × ((h : Stand) → Holds h m → MatchBool some_one (h.line.waiting ≢ []) (h.line.waiting ≡ []))
+
+-- the line was put back without the turn that this node picks, which is the answer
+abbrev pub DidReturn : Turn → ℕ → Option Turn → Sitting → Sitting → Type 0
+DidReturn u node answer m m' = (h : Stand) → Holds h m → (answer ≡ pick_of node h) × (m' ≡ (did_next u node h m.0, []))
 
 abbrev pub with_all : List Call → Known → Known
 with_all cs v = record v { calls = v.calls ++ cs }

@@ -1,16 +1,15 @@
 //! The queue of the waiters of one lock, which knows on which node each of them waits, and its
 //! seats.
 
-ghost use Rattle.std.specs.Prelude.{◌≡◌, ◌≤◌, ℕ, All, length, IfOk, [], ◌∷◌, Some, true, false};
+ghost use Rattle.std.specs.Prelude.{◌≡◌, ◌≤◌, ℕ, All, length, IfOk, [], ◌∷◌, Some};
 ghost use Rattle.tc_queue.specs.declared.turn.Turn.{Turn};
 ghost use Rattle.tc_queue.specs.declared.turn.Departure.TheVariants.{Left};
 ghost use Rattle.tc_queue.specs.Words.{IsTurn};
-ghost use Rattle.tc_nodes.specs.declared.board.Stand.{Stand as Standing};
 ghost use Rattle.tc_nodes.specs.declared.call.Call.TheVariants.{Enter, Link};
 ghost use Rattle.tc_nodes.specs.Cells.{IsPlaced};
-ghost use Rattle.tc_nodes.specs.Order.{MayLink, answer_to_enter, enter_call, link_call, next_to, pick_of, stand_after, stand_left, without_pick};
-ghost use Rattle.tc_nodes.specs.Steps.{HasLine, HasNoWaiter, HasOwnLine, HasSlot, HasWaiter, Holds, Took, did_put_back, did_stay, missed};
-ghost use Rattle.tc_nodes.specs.View.{AreNewSeats, Becomes, DidExchange, DidLeave, DidNext, DidRead, DidReturn, IsFilled, IsSamePlace, IsSeatOf, IsTaken, TellsWaiting, with_calls};
+ghost use Rattle.tc_nodes.specs.Order.{MayLink, answer_to_enter, enter_call, link_call, stand_after, stand_left};
+ghost use Rattle.tc_nodes.specs.Steps.{HasLine, HasNoSlot, HasNoWaiter, HasOwnLine, HasSlot, HasWaiter, did_put_back, did_stay};
+ghost use Rattle.tc_nodes.specs.View.{AreNewSeats, Becomes, DidAt, DidExchange, DidLeave, DidNext, DidRead, DidReturn, IsAt, IsFilled, IsNextCell, IsSeatOf, IsTaken, MayCall, Picks, TellsWaiting, Tries, with_calls};
 
 use crate::board;
 use crate::board::{Beside, Board, Named, Place, PutBack, Stand, Take, Terms};
@@ -116,8 +115,7 @@ impl NodeQueue {
     /// Counts one more who entered. Nobody was there exactly where the count was 0; else the place
     /// is what the count was.
     pub fn enter(&self, seat: &mut NodeSeat, turn: Turn) -> Entered
-        requires seat { IsSeatOf self.now seat.old }
-        requires turn { IsTurn self.now.threads turn }
+        requires { MayCall self.now seat.old turn }
         ensures call { seat.new ≡ with_calls (Enter turn result ∷ []) seat.old }
         ensures step { (found : ℕ) × (result ≡ answer_to_enter found) }
     {
@@ -128,8 +126,7 @@ impl NodeQueue {
     }
 
     fn add_one<J: Named>(&self, seat: &mut NodeSeat, turn: &Turn) -> u64
-        requires seat { IsSeatOf self.now seat.old }
-        requires turn { IsTurn self.now.threads turn.now }
+        requires may { MayCall self.now seat.old turn.now }
         requires picked { turn.now ≡ J.own }
         ensures call { seat.new ≡ with_calls (enter_call turn.now result ∷ []) seat.old }
     {
@@ -141,8 +138,7 @@ impl NodeQueue {
 
     /// Puts the turn into the cell of its place, with the seat's node.
     pub fn link(&self, seat: &mut NodeSeat, place: u64, own: Turn)
-        requires seat { IsSeatOf self.now seat.old }
-        requires turn { IsTurn self.now.threads own }
+        requires may { MayCall self.now seat.old own }
         requires entered { MayLink seat.old.calls own place }
         ensures call { seat.new ≡ with_calls (Link place own seat.old.node ∷ []) seat.old }
     {
@@ -171,8 +167,7 @@ impl NodeQueue {
     /// passed over as often as may be, else the oldest of the seat's node, else the oldest. It waits
     /// while another seat has the line.
     pub fn next<R: Wait>(&self, rt: &R, seat: &mut NodeSeat, own: Turn) -> Option<Turn>
-        requires seat { IsSeatOf self.now seat.old }
-        requires turn { IsTurn self.now.threads own }
+        requires { MayCall self.now seat.old own }
         ensures next { DidNext own seat.old.node result seat.old seat.new }
         ensures turn { (u : Turn) → result ≡ Some u → IsTurn self.now.threads u }
     {
@@ -184,8 +179,7 @@ impl NodeQueue {
     /// Leaves, where nobody waits in the line and everyone who entered was read but the first. It
     /// waits while another seat has the line.
     pub fn leave<R: Wait>(&self, rt: &R, seat: &mut NodeSeat, own: Turn) -> Departure
-        requires seat { IsSeatOf self.now seat.old }
-        requires turn { IsTurn self.now.threads own }
+        requires { MayCall self.now seat.old own }
         ensures { DidLeave own result seat.old seat.new }
     {
         self.take(rt, &mut seat.place);
@@ -200,21 +194,16 @@ impl NodeQueue {
 
     // Takes the line, where it is home.
     fn try_take(&self, place: &mut Place) -> bool
-        requires own { place.old.table_id ≡ self.now.table }
-        requires free { place.old.me.1 ≡ [] }
-        ensures own { IsSamePlace place.old place.new }
-        ensures took { result ≡ true → Took place.old.me place.new.me }
-        ensures missed { result ≡ false → place.new.me ≡ (missed place.old.me.0, []) }
+        requires { IsAt self.now HasNoSlot place.old }
+        ensures { DidAt (Tries result) place.old place.new }
     {
         self.board.shared.compare_exchange::<Take>(place, 1, 0, 1) == 0
     }
 
     // Takes the line, with as many tries as it takes.
     fn take<R: Wait>(&self, rt: &R, place: &mut Place)
-        requires own { place.old.table_id ≡ self.now.table }
-        requires free { place.old.me.1 ≡ [] }
-        ensures own { IsSamePlace place.old place.new }
-        ensures taken { IsTaken place.old.me place.new.me }
+        requires { IsAt self.now HasNoSlot place.old }
+        ensures { DidAt IsTaken place.old place.new }
     {
         let pause = Backoff::new();
         for _ in rt.forever() {
@@ -227,11 +216,8 @@ impl NodeQueue {
 
     // The number of the cell that is to be read next.
     fn next_cell(&self, place: &mut Place) -> u64
-        requires own { place.old.table_id ≡ self.now.table }
-        requires holds { HasLine place.old.me }
-        ensures own { IsSamePlace place.old place.new }
-        ensures same { place.new.me ≡ place.old.me }
-        ensures number { (h : Standing) → Holds h place.old.me → result ≡ next_to h.read }
+        requires { IsAt self.now HasLine place.old }
+        ensures { DidAt (IsNextCell result) place.old place.new }
     {
         let stand = place.slot_mut(&self.board.shared, 0);
         stand.read.wrapping_add(1)
@@ -239,11 +225,8 @@ impl NodeQueue {
 
     // Puts what was found in a cell into the line.
     fn put_in(&self, place: &mut Place, found: Placed)
-        requires own { place.old.table_id ≡ self.now.table }
-        requires slot { HasSlot place.old.me }
-        ensures own { IsSamePlace place.old place.new }
-        ensures view { place.new.me.0 ≡ place.old.me.0 }
-        ensures slot { Becomes (stand_after (Some found)) place.old.me place.new.me }
+        requires { IsAt self.now HasSlot place.old }
+        ensures { DidAt (Becomes (stand_after (Some found))) place.old place.new }
     {
         let stand = place.slot_mut(&self.board.shared, 0);
         stand.read = stand.read.wrapping_add(1);
@@ -252,10 +235,8 @@ impl NodeQueue {
 
     // Reads the next cell, and says whether something was there.
     fn read_cell(&self, place: &mut Place) -> bool
-        requires own { place.old.table_id ≡ self.now.table }
-        requires holds { HasLine place.old.me }
-        ensures own { IsSamePlace place.old place.new }
-        ensures read { DidRead result place.old.me place.new.me }
+        requires { IsAt self.now HasLine place.old }
+        ensures { DidAt (DidRead result) place.old place.new }
     {
         let cell = self.next_cell(place) % 64;
         let word = self
@@ -273,10 +254,8 @@ impl NodeQueue {
 
     // Reads cells up to an empty one.
     fn fill<R: Wait>(&self, rt: &R, place: &mut Place)
-        requires own { place.old.table_id ≡ self.now.table }
-        requires holds { HasOwnLine place.old.me }
-        ensures own { IsSamePlace place.old place.new }
-        ensures filled { IsFilled place.old.me place.new.me }
+        requires { IsAt self.now HasOwnLine place.old }
+        ensures { DidAt IsFilled place.old place.new }
     {
         for _ in rt.forever() {
             if !self.read_cell(place) {
@@ -287,12 +266,8 @@ impl NodeQueue {
 
     // Picks from the line in hand.
     fn pick(&self, place: &mut Place, node: u32) -> Option<Turn>
-        requires own { place.old.table_id ≡ self.now.table }
-        requires holds { HasLine place.old.me }
-        ensures own { IsSamePlace place.old place.new }
-        ensures view { place.new.me.0 ≡ place.old.me.0 }
-        ensures answer { (h : Standing) → Holds h place.old.me → result ≡ pick_of node h }
-        ensures slot { Becomes (without_pick node) place.old.me place.new.me }
+        requires { IsAt self.now HasLine place.old }
+        ensures { DidAt (Picks node result) place.old place.new }
     {
         let stand = place.slot_mut(&self.board.shared, 0);
         stand.line.pick(node)
@@ -300,13 +275,10 @@ impl NodeQueue {
 
     // Picks from the line, and puts it back.
     fn give<J: Named>(&self, place: &mut Place, own: &Turn, node: u32) -> Option<Turn>
-        requires own { place.old.table_id ≡ self.now.table }
+        requires at { IsAt self.now HasLine place.old }
         requires turn { IsTurn self.now.threads own.now }
-        requires holds { HasLine place.old.me }
         requires picked { (own.now ≡ J.own) × (node ≡ J.node) }
-        ensures own { IsSamePlace place.old place.new }
-        ensures answer { (h : Standing) → Holds h place.old.me → result ≡ pick_of node h }
-        ensures now { DidReturn own.now node place.old.me place.new.me }
+        ensures { DidAt (DidReturn own.now node result) place.old place.new }
     {
         let _ = own;
         let answer = self.pick(place, node);
@@ -316,11 +288,8 @@ impl NodeQueue {
 
     // Whether somebody waits in the line in hand.
     fn has_waiter(&self, place: &mut Place) -> bool
-        requires own { place.old.table_id ≡ self.now.table }
-        requires holds { HasLine place.old.me }
-        ensures own { IsSamePlace place.old place.new }
-        ensures same { place.new.me ≡ place.old.me }
-        ensures answer { TellsWaiting result place.old.me }
+        requires { IsAt self.now HasLine place.old }
+        ensures { DidAt (TellsWaiting result) place.old place.new }
     {
         let stand = place.slot_mut(&self.board.shared, 0);
         !stand.line.is_empty()
@@ -328,12 +297,10 @@ impl NodeQueue {
 
     // Puts the line back, in which somebody waits.
     fn stay<J: Named>(&self, place: &mut Place, own: &Turn)
-        requires own { place.old.table_id ≡ self.now.table }
+        requires at { IsAt self.now HasWaiter place.old }
         requires turn { IsTurn self.now.threads own.now }
-        requires holds { HasWaiter place.old.me }
         requires picked { own.now ≡ J.own }
-        ensures own { IsSamePlace place.old place.new }
-        ensures now { place.new.me ≡ (did_stay own.now place.old.me.0, []) }
+        ensures { DidAt (λ m n. n ≡ (did_stay own.now m.0, [])) place.old place.new }
     {
         let _ = own;
         self.board.shared.store::<board::Stay<J>>(place, 1, 0);
@@ -341,11 +308,8 @@ impl NodeQueue {
 
     // No cell was read since nobody was there.
     fn forget_cells(&self, place: &mut Place)
-        requires own { place.old.table_id ≡ self.now.table }
-        requires slot { HasSlot place.old.me }
-        ensures own { IsSamePlace place.old place.new }
-        ensures view { place.new.me.0 ≡ place.old.me.0 }
-        ensures slot { Becomes (stand_left Left) place.old.me place.new.me }
+        requires { IsAt self.now HasSlot place.old }
+        ensures { DidAt (Becomes (stand_left Left)) place.old place.new }
     {
         let stand = place.slot_mut(&self.board.shared, 0);
         stand.read = 0;
@@ -353,12 +317,10 @@ impl NodeQueue {
 
     // Sets the count to 0, where everyone who entered was read but the first.
     fn exchange<J: Named>(&self, place: &mut Place, own: &Turn) -> Departure
-        requires own { place.old.table_id ≡ self.now.table }
+        requires at { IsAt self.now HasNoWaiter place.old }
         requires turn { IsTurn self.now.threads own.now }
-        requires holds { HasNoWaiter place.old.me }
         requires picked { own.now ≡ J.own }
-        ensures own { IsSamePlace place.old place.new }
-        ensures exchanged { DidExchange own.now result place.old.me place.new.me }
+        ensures { DidAt (DidExchange own.now result) place.old place.new }
     {
         let _ = own;
         let old = self.next_cell(place);
@@ -375,10 +337,8 @@ impl NodeQueue {
 
     // Puts the line back as it is.
     fn put_back(&self, place: &mut Place)
-        requires own { place.old.table_id ≡ self.now.table }
-        requires holds { HasLine place.old.me }
-        ensures own { IsSamePlace place.old place.new }
-        ensures now { place.new.me ≡ (did_put_back place.old.me.0, []) }
+        requires { IsAt self.now HasLine place.old }
+        ensures { DidAt (λ m n. n ≡ (did_put_back m.0, [])) place.old place.new }
     {
         self.board.shared.store::<PutBack>(place, 1, 0);
     }

@@ -3,6 +3,8 @@ use Rattle.std.specs.Prelude.{◌≡◌, ℕ, ◌+◌, ◌≤◌}
 use Rattle.atomic_table.specs.Seated.{TableId}
 use Rattle.tc_queue.specs.declared.board.SeatLog.{SeatLog}
 use Rattle.tc_queue.specs.declared.turn.Call.{Call}
+use Rattle.tc_queue.specs.declared.turn.Turn.{Turn}
+use Rattle.tc_queue.specs.Words.{IsTurn}
 use Rattle.tc_queue.specs.Calls.{with_call}
 use Rattle.tc_queue.specs.Order.{first_log}
 
@@ -19,6 +21,11 @@ pub record OwnView : Type 0 where
 
 abbrev pub IsOwnSeatOf : QueueView → OwnView → Type 0
 IsOwnSeatOf q s = (s.table ≡ q.table) × (s.log.threads ≡ q.threads)
+
+-- with this seat of the queue a call for this turn may be made
+pub record MayCall (q : QueueView) (s : OwnView) (u : Turn) : Type 0 where
+  pub seat : IsOwnSeatOf q s
+  pub turn : IsTurn q.threads u
 
 -- the seat after one call more
 abbrev pub seat_with : OwnView → Call → OwnView

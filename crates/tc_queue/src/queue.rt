@@ -7,7 +7,7 @@ ghost use Rattle.tc_queue.specs.declared.turn.Leave.TheVariants.{Followed};
 ghost use Rattle.tc_queue.specs.declared.turn.Call.TheVariants.{Enter, Link, Next, Leave as Leave_call};
 ghost use Rattle.tc_queue.specs.Words.{IsTurn};
 ghost use Rattle.tc_queue.specs.Calls.{IsTail, IsLink, MayLink, KnowsTurns, DidEnter, DidLeave, enter_call, next_call, leave_call};
-ghost use Rattle.tc_queue.specs.View.{IsOwnSeatOf, IsNewSeatOf, seat_with};
+ghost use Rattle.tc_queue.specs.View.{IsOwnSeatOf, IsNewSeatOf, MayCall, seat_with};
 
 use crate::board;
 use crate::board::{Beside, Board, Named, Place};
@@ -96,8 +96,7 @@ impl Queue {
     /// Puts the turn at the tail. It now stands behind the turn that was there, and is the first
     /// where none was.
     pub fn enter(&self, seat: &mut QueueSeat, turn: Turn) -> Entered
-        requires seat { IsOwnSeatOf self.now seat.old }
-        requires turn { IsTurn self.now.threads turn }
+        requires { MayCall self.now seat.old turn }
         ensures call { seat.new ≡ seat_with seat.old (Enter turn result) }
         ensures step { DidEnter self.now.threads turn result seat.old.log seat.new.log }
         ensures behind { (u : Turn) → result ≡ Behind u → IsTurn self.now.threads u }
@@ -120,8 +119,7 @@ impl Queue {
 
     /// The turn behind this one, once it is linked.
     pub fn next(&self, seat: &mut QueueSeat, own: Turn) -> Option<Turn>
-        requires seat { IsOwnSeatOf self.now seat.old }
-        requires turn { IsTurn self.now.threads own }
+        requires { MayCall self.now seat.old own }
         ensures call { seat.new ≡ seat_with seat.old (Next own result) }
         ensures turn { (u : Turn) → result ≡ Some u → IsTurn self.now.threads u }
     {
@@ -133,8 +131,7 @@ impl Queue {
 
     /// Empties the tail where it is this turn. Another tail stays.
     pub fn leave(&self, seat: &mut QueueSeat, own: Turn) -> Leave
-        requires seat { IsOwnSeatOf self.now seat.old }
-        requires turn { IsTurn self.now.threads own }
+        requires { MayCall self.now seat.old own }
         ensures call { seat.new ≡ seat_with seat.old (Leave_call own result) }
         ensures step { DidLeave self.now.threads own result seat.old.log seat.new.log }
         ensures turn { (u : Turn) → result ≡ Followed (Some u) → IsTurn self.now.threads u }
@@ -146,8 +143,7 @@ impl Queue {
     }
 
     fn swap_tail<J: Named>(&self, seat: &mut QueueSeat, turn: &Turn) -> Option<Turn>
-        requires seat { IsOwnSeatOf self.now seat.old }
-        requires turn { IsTurn self.now.threads turn.now }
+        requires may { MayCall self.now seat.old turn.now }
         requires picked { turn.now ≡ J.own }
         ensures tail { IsTail self.now.threads result }
         ensures call { seat.new ≡ seat_with seat.old (enter_call turn.now result) }
@@ -177,8 +173,7 @@ impl Queue {
     }
 
     fn load_link<J: Named>(&self, seat: &mut QueueSeat, own: &Turn) -> Option<Linked>
-        requires seat { IsOwnSeatOf self.now seat.old }
-        requires turn { IsTurn self.now.threads own.now }
+        requires may { MayCall self.now seat.old own.now }
         requires picked { own.now ≡ J.own }
         ensures link { IsLink self.now.threads result }
         ensures call { seat.new ≡ seat_with seat.old (next_call own.now result) }
@@ -192,8 +187,7 @@ impl Queue {
     }
 
     fn clear_tail<J: Named>(&self, seat: &mut QueueSeat, own: &Turn) -> Option<Turn>
-        requires seat { IsOwnSeatOf self.now seat.old }
-        requires turn { IsTurn self.now.threads own.now }
+        requires may { MayCall self.now seat.old own.now }
         requires picked { own.now ≡ J.own }
         ensures tail { IsTail self.now.threads result }
         ensures call { seat.new ≡ seat_with seat.old (leave_call own.now result) }

@@ -11,9 +11,9 @@ use Rattle.tc_queue.proofs.queue.Queue.load_link.Goals as goal
 
 pub load-word-requires : goal.load-word-requires
 load-word-requires g c =
-    let own = ap (λ (s : OwnView). s.table) c.seat.view_is ∙ (c.requires.seat.0 ∙ sym (ap (λ (q : QueueView). q.table) c.self.view_is)) in
+    let own = ap (λ (s : OwnView). s.table) c.seat.view_is ∙ (c.requires.may.seat.0 ∙ sym (ap (λ (q : QueueView). q.table) c.self.view_is)) in
     let threads : c.args.self.now.threads ≡ c.self.inside.board.shared.key = sym (ap (λ (q : QueueView). q.threads) c.self.view_is) ∙ c.self.invariant.0 in
-    let same = subst (λ (n : ℕ). IsTurn n c.args.own.now) threads c.requires.turn in
+    let same = subst (λ (n : ℕ). IsTurn n c.args.own.now) threads c.requires.may.turn in
     let low = same.thread in
     let turn : IsTurn c.self.inside.board.shared.key g.J.Named.own = subst (IsTurn c.self.inside.board.shared.key) c.requires.picked same in (
       own,
@@ -27,14 +27,14 @@ invariant_of-seat g c = let e = c.load-word.ensures.2 in (e.slots ∙ c.seat.inv
 pub returns-clause-link : goal.returns-clause-link
 returns-clause-link g c =
     let e = c.load-word.ensures.2 in
-    let count = ap (λ (s : OwnView). s.log.threads) c.seat.view_is ∙ c.requires.seat.1 in
+    let count = ap (λ (s : OwnView). s.log.threads) c.seat.view_is ∙ c.requires.may.seat.1 in
     let few : c.args.self.now.threads ≤ 64 = subst (λ (n : ℕ). n ≤ 64) (ap (λ (q : QueueView). q.threads) c.self.view_is) c.self.invariant.2 in
     (found_link c.seat.inside.place.me.0.threads c.args.self.now.threads e.found c.from_word.result c.load-word.result count few e.in_range e.word_found c.from_word.ensures).1
 
 pub returns-clause-call : goal.returns-clause-call
 returns-clause-call g c =
     let e = c.load-word.ensures.2 in
-    let count = ap (λ (s : OwnView). s.log.threads) c.seat.view_is ∙ c.requires.seat.1 in
+    let count = ap (λ (s : OwnView). s.log.threads) c.seat.view_is ∙ c.requires.may.seat.1 in
     let few : c.args.self.now.threads ≤ 64 = subst (λ (n : ℕ). n ≤ 64) (ap (λ (q : QueueView). q.threads) c.self.view_is) c.self.invariant.2 in
     let same = (found_link c.seat.inside.place.me.0.threads c.args.self.now.threads e.found c.from_word.result c.load-word.result count few e.in_range e.word_found c.from_word.ensures).0 in
     let log = e.log ∙ (λ i. with_call (c.seat.view_is i).log (Next (sym c.requires.picked i) (answer_to_next (sym c.requires.picked i) (same i)))) in
