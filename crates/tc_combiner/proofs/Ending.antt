@@ -29,7 +29,7 @@ use Rattle.tc_hall.specs.Rule.{IsInOrder, locked_in, locks, threads}
 use Rattle.tc_hall.specs.Steps.{put_call}
 use Rattle.tc_queue.specs.declared.turn.Turn.{Turn}
 use Rattle.tc_queue.specs.View.{QueueView}
-use Rattle.tc_queue.specs.Lines.{SeatView, IsSeatOf}
+use Rattle.tc_queue.specs.Lines.{SeatView}
 use Rattle.tc_combiner.specs.declared.hands.Hands.{Hands}
 use Rattle.tc_combiner.specs.declared.passed.Passed.TheVariants.{Home, Granted as Was_granted, Stopped as Passed_stopped}
 use Rattle.tc_combiner.specs.declared.settled.Settled.TheVariants.{Ended, Stopped as Was_stopped}
@@ -37,7 +37,7 @@ use Rattle.tc_combiner.specs.Packages.{IsPlain}
 use Rattle.tc_combiner.specs.Walks.{Asks, packed, ready_in, Acts, IsAtHall, MayAct, MayGive}
 use Rattle.tc_combiner.specs.Answers.{PutAllBack, back}
 use Rattle.tc_combiner.specs.Release.{MayRelease, turn_of, AreSameSeats, DidLeave, DidLeaveAll, Ending, Ends, IsEmptied, LeftAs, LeftInOrder, MayEnd, OneLeft, SeatsLeft, seat_at}
-use Rattle.tc_combiner.specs.View.{AreSeats, no_seat}
+use Rattle.tc_combiner.specs.View.{AreSeats, IsSeatFor, no_seat}
 use Rattle.tc_combiner.proofs.Acting.{acted_none, acted_then, at_after, takes_none}
 use Rattle.tc_combiner.proofs.Answering.{back_answers, keeps_answers, then_answers, then_at, wider}
 use Rattle.tc_combiner.proofs.PassedOn.{few_followed, few_in, left_after}
@@ -209,10 +209,11 @@ left_all k b q p rest ss ts h g now none y0 = let y : Ending k b q p 0 ss ts h g
 pub may_next : (hall : HallView) (b : Block) (q p : PackageView) (rest next i n : ℕ) (ss ts : List SeatView) (h g : Hands) (now : Bool) → MayAct hall (Pack q ∷ []) n h → Ending hall.terms b q p rest ss ts h g now → has rest i ≡ true → i < 32 → ((j : ℕ) → has next j ≡ (not (j == i) && has rest j)) → MayAct hall (Pack p ∷ []) 1 g
 may_next hall b q p rest next i n ss ts h g now m y waits small each = record { at = at_after hall y.calls (Pack q ∷ []) (Pack p ∷ []) h.pass g.pass h.aside g.aside m.at y.acted.acts y.aside; room = (let less = less_few rest next i each waits small in let old = y.room in omega arith) }
 
-pub may_release : (k : Terms) (n : ℕ) (b : Block) (q p : PackageView) (rest i : ℕ) (ss ts : List SeatView) (h g : Hands) (now : Bool) → MayEnd h.pass.knows n b q → Ending k b q p rest ss ts h g now → has rest i ≡ true → MayRelease g.pass.knows n i b p
-may_release k n b q p rest i ss ts h g now m y waits = record {
+pub may_release : (k : Terms) (b : Block) (q p : PackageView) (rest i : ℕ) (ss ts : List SeatView) (h g : Hands) (now : Bool) → MayEnd h.pass.knows (threads k) b q → Ending k b q p rest ss ts h g now → has rest i ≡ true → i < locks k → MayRelease k g.pass.knows i b p
+may_release k b q p rest i ss ts h g now m y waits low = record {
+  lock = low;
   of = ap (λ (c : PackageView). c.image) y.same ∙ (m.of ∙ sym y.acted.acts.adds.told.image);
-  thread = subst (λ (t : ℕ). t < n) (sym (ap (λ (c : PackageView). c.context.thread) y.same)) m.thread;
+  thread = subst (λ (t : ℕ). t < threads k) (sym (ap (λ (c : PackageView). c.context.thread) y.same)) m.thread;
   settled = ap (λ (c : PackageView). c.pending) y.same ∙ m.settled;
   granted = y.granted ∙ m.granted;
   last = ap (λ (c : PackageView). last_of c.log) y.same ∙ m.last;
@@ -227,8 +228,8 @@ lock_in_hall hall n m b q p rest i ss ts h g now a e y s waits =
     (known_in p i (locked_in p i) s refl (ap is_some (y.left i waits) ∙ (e.locks i ∙ y.within i waits)))
 
 module _ {S X : Type 0} where
-  pub seat_in : (seen : S → SeatView) (queue : X → QueueView) (k : Terms) (qs : List X) (ss ts : List S) (i : ℕ) (x : X) (s : S) → s ≡ get_or ts i s → AreSeats k (map queue qs) (map seen ss) → seat_at (map seen ts) i ≡ seat_at (map seen ss) i → i < locks k → i < length ts → IsSeatOf (queue (get_or qs i x)) (seen (get_or ts i s))
-  seat_in seen queue k qs ss ts i x s is of same low deep = subst₂ (λ (a : QueueView) (b : SeatView). IsSeatOf a b) (map_at queue qs i x) (sym same ∙ (seat_before seen ts i s no_seat deep is ∙ ap seen is)) (of.each i (queue x) no_seat low)
+  pub seat_in : (seen : S → SeatView) (queue : X → QueueView) (k : Terms) (qs : List X) (ss ts : List S) (i : ℕ) (x : X) (s : S) → s ≡ get_or ts i s → AreSeats k (map queue qs) (map seen ss) → seat_at (map seen ts) i ≡ seat_at (map seen ss) i → i < locks k → i < length ts → IsSeatFor (threads k) (queue (get_or qs i x)) (seen (get_or ts i s))
+  seat_in seen queue k qs ss ts i x s is of same low deep = subst₂ (λ (a : QueueView) (b : SeatView). IsSeatFor (threads k) a b) (map_at queue qs i x) (sym same ∙ (seat_before seen ts i s no_seat deep is ∙ ap seen is)) (of i (queue x) no_seat low)
 
 -- one thread at most was put as ready
 few_left : (image : Shown) (l : LockView) (b : Block) (own : Turn) (s t : SeatView) (cs : List Call) (was is : Bool) → LeftAs image l b own s t cs was is → length (ready_in cs) ≤ 1

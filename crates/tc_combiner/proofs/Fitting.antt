@@ -1,5 +1,5 @@
 -- A desk that fits a bench still fits it after its calls.
-use Rattle.std.proofs.Common.{◌≡◌, ◌<◌, ◌≤◌, ℕ, List, length, get_or, sym, ap, ◌∙◌, subst, subst₂, ◌∷◌, ◌++◌, arith, Option, Some}
+use Rattle.std.proofs.Common.{◌≡◌, ◌<◌, ◌≤◌, ℕ, List, length, get_or, map, Vec, sym, ap, ◌∙◌, subst, subst₂, ◌∷◌, ◌++◌, arith, Option, Some}
 use Rattle.tc_elf.specs.Shown.{Shown}
 use Rattle.tc_context.specs.View.{PackageView, IsSoundPackage, WantIsLawful, want_of}
 use Rattle.tc_hall.specs.Outs.{Item, Pack}
@@ -12,29 +12,29 @@ use Rattle.tc_combiner.specs.Settling.{IsInHand, Keeps, MayAcquire, TellsReady, 
 use Rattle.tc_hall.specs.PassView.{PassView}
 use Rattle.tc_hall.specs.Rule.{locks, threads}
 use Rattle.tc_hall.specs.Steps.{IsSamePass}
-use Rattle.tc_queue.specs.Lines.{SeatView, IsSeatOf}
+use Rattle.tc_queue.specs.View.{QueueView}
+use Rattle.tc_queue.specs.Lines.{SeatView}
 use Rattle.tc_combiner.specs.Packages.{IsAside}
 use Rattle.tc_combiner.specs.Release.{AreSameSeats, seat_at}
-use Rattle.tc_combiner.specs.View.{AreSeats, BenchView, DeskView, FitsBench, desk_of, no_seat}
+use Rattle.tc_combiner.specs.View.{AreSeats, HasSeats, IsSeatFor, BenchView, DeskView, FitsBench, desk_of, no_seat}
 use Rattle.tc_hall.specs.declared.board.Knows.{Knows}
 use Rattle.tc_combiner.specs.declared.settled.Settled.TheVariants.{GoesOn, Adopted}
 use Rattle.tc_combiner.proofs.Acting.{owned_by}
 use Rattle.tc_combiner.proofs.Answering.{walks_of}
 use Rattle.tc_combiner.proofs.Unlocking.{without_first}
 use Rattle.tc_combiner.proofs.Packages.{wants_runs}
-use Rattle.std.proofs.lemmas.List.{get_or_default}
+use Rattle.std.proofs.lemmas.List.{get_or_default, length-map}
+use Rattle.std.specs.Vec.{with_items}
+use Rattle.tc_combiner.proofs.Seats.{written_back}
 
 -- the seats are still of their queues
 pub still_seats : (b : BenchView) (ss ts : List SeatView) → length ss ≡ locks b.hall.terms → AreSeats b.hall.terms b.queues ss → AreSameSeats ss ts → AreSeats b.hall.terms b.queues ts
-still_seats b ss ts count of same = record {
-  each = λ i q s low.
-      let deep : i < length ss = omega (arith, count, low) in
-      let deeper : i < length ts = let c = same.count in omega arith in
-      let old : IsSeatOf (get_or b.queues i q) (seat_at ss i) = subst (λ (z : SeatView). IsSeatOf (get_or b.queues i q) z) (get_or_default ss i s no_seat deep) (of.each i q s low) in
-      let more = same.each i in
-      subst (λ (z : SeatView). IsSeatOf (get_or b.queues i q) z) (get_or_default ts i no_seat s deeper) (more.0 ∙ old.0, more.1 ∙ old.1);
-  made = of.made;
-}
+still_seats b ss ts count of same i q s low =
+    let deep : i < length ss = omega (arith, count, low) in
+    let deeper : i < length ts = let c = same.count in omega arith in
+    let old : IsSeatFor (threads b.hall.terms) (get_or b.queues i q) (seat_at ss i) = subst (λ (z : SeatView). IsSeatFor (threads b.hall.terms) (get_or b.queues i q) z) (get_or_default ss i s no_seat deep) (of i q s low) in
+    let more = same.each i in
+    subst (λ (z : SeatView). IsSeatFor (threads b.hall.terms) (get_or b.queues i q) z) (get_or_default ts i no_seat s deeper) (record { of = (more.0 ∙ old.of.0, more.1 ∙ old.of.1); made = old.made })
 
 pub fits_after : (b : BenchView) (pass pass' : PassView) (ss ts : List SeatView) (sl sl' : List (Option ℕ)) (now now' : ℕ) (a a' : Option PackageView) (hs hs' : List ℕ) → FitsBench b (desk_of pass ss sl now a hs) → IsSamePass pass pass' → pass'.knows.image ≡ pass.knows.image → AreSameSeats ss ts → length sl' ≡ length sl
     → ((x : PackageView) → a' ≡ Some x → IsAside b.hall.terms x) → Owned pass'.knows (packed a') → FitsBench b (desk_of pass' ts sl' now' a' hs')
@@ -68,16 +68,26 @@ kept b q ss ts x y p a g hs r fits hand k = (
   fits_after b p g.pass ss ts x.sleepers y.sleepers x.clock y.clock a g.aside hs g.ready.items fits k.acts.own k.acts.adds.told.image k.seats k.room k.aside (aside_out g.pass.knows r (packed g.aside) (owned_by p.knows g.pass.knows (Pack q ∷ packed a) (carried r ++ packed g.aside) k.acts.moves hand)),
 )
 
--- the lock that it wants is one of the hall
-pub want_known : (b : BenchView) (d : DeskView) (q : PackageView) (i : ℕ) (o : Option ℕ) → FitsBench b d → q.image ≡ b.image → WantIsLawful q → o ≡ want_of b.image q.context → o ≡ Some i → i < locks b.hall.terms
-want_known b d q i o h of law is e =
-    let want : want_of q.image q.context ≡ Some i = ap (λ (x : Shown). want_of x q.context) of ∙ (sym is ∙ e) in
-    subst (λ (x : Shown). i < length x.guards) (of ∙ sym h.hall) (law i want).known
+-- so it is of the desk whose parts these are, and what else was done with these parts was done with the desk
+module _ {S Z : Type 0} (seen : S → SeatView) (v : Vec S Z) (xs ts : List S) (e : xs ≡ v.items) where
+  pub kept_back : (P : DeskView → DeskView → Type 0) (b b' : BenchView) (q : PackageView) (x y : Rest) (h g : Hands) (d : DeskView) (r : Settled) → b ≡ b' → desk_of h.pass (map seen v.items) x.sleepers x.clock h.aside h.ready.items ≡ d → FitsBench b' d → IsInHand d q → Keeps b.hall.terms q (map seen xs) (map seen ts) x y h.pass h.aside g r
+      → P (desk_of h.pass (map seen xs) x.sleepers x.clock h.aside h.ready.items) (desk_of g.pass (map seen ts) y.sleepers y.clock g.aside g.ready.items)
+      → Kept b' q d (desk_of g.pass (map seen (with_items v ts).items) y.sleepers y.clock g.aside g.ready.items) r × P d (desk_of g.pass (map seen (with_items v ts).items) y.sleepers y.clock g.aside g.ready.items)
+  kept_back P b b' q x y h g d r bench is fits hand keeps did =
+      let after : List S → DeskView = λ zs. desk_of g.pass (map seen zs) y.sleepers y.clock g.aside g.ready.items in
+      let before : DeskView = desk_of h.pass (map seen xs) x.sleepers x.clock h.aside h.ready.items in
+      let same : before ≡ d = ap (λ zs. desk_of h.pass (map seen zs) x.sleepers x.clock h.aside h.ready.items) e ∙ is in
+      let all : Kept b q before (after ts) r = kept b q (map seen xs) (map seen ts) x y h.pass h.aside g h.ready.items r (subst₂ FitsBench (sym bench) (sym same) fits) (subst (λ (z : DeskView). IsInHand z q) (sym same) hand) keeps in
+      subst (λ zs. Kept b' q d (after zs) r × P d (after zs)) (sym (written_back seen v xs ts e keeps.seats))
+      (subst₂ (λ (c : BenchView) (z : DeskView). Kept c q z (after ts) r × P z (after ts)) bench same (all, did))
 
-pub may_want : (b : BenchView) (d : DeskView) (q : PackageView) (i : ℕ) (o : Option ℕ) → FitsBench b d → q.image ≡ b.image → {image : Shown} → MayAcquire image q → IsSoundPackage q → WantIsLawful q → o ≡ want_of b.image q.context → o ≡ Some i → MayAsk b.hall.terms i q
-may_want b d q i o h of m sound law is e =
+-- the package may ask for the lock that it wants
+pub may_want : (b b' : BenchView) (d : DeskView) (q : PackageView) (i : ℕ) (o : Option ℕ) → b ≡ b' → FitsBench b' d → MayAcquire b'.image q → IsSoundPackage q → WantIsLawful q → o ≡ want_of b.image q.context → o ≡ Some i → MayAsk b.hall.terms i q
+may_want b b' d q i o bench fits m sound law is e =
+    let h : FitsBench b d = subst (λ (x : BenchView). FitsBench x d) (sym bench) fits in
+    let of : q.image ≡ b.image = m.of ∙ sym (ap (λ (x : BenchView). x.image) bench) in
     let want : want_of q.image q.context ≡ Some i = ap (λ (x : Shown). want_of x q.context) of ∙ (sym is ∙ e) in record {
-      lock = want_known b d q i o h of law is e;
+      lock = subst (λ (x : Shown). i < length x.guards) (of ∙ sym h.hall) (law i want).known;
       of = of ∙ sym h.hall;
       plain = record {
         thread = subst (λ (x : Shown). q.context.thread < length x.entries) (of ∙ sym h.hall) sound.thread;
@@ -90,10 +100,19 @@ may_want b d q i o h of m sound law is e =
     }
 
 -- the desk's hands at the bench
-pub at_bench : (b : BenchView) (d : DeskView) (q : PackageView) (p : PassView) (a : Option PackageView) → FitsBench b d → p ≡ d.pass → a ≡ d.aside → IsInHand d q → IsAt b.hall (Pack q ∷ packed a) p a
-at_bench b d q p a f e n hand = record {
+pub at_bench : (b b' : BenchView) (d : DeskView) (q : PackageView) (p : PassView) (a : Option PackageView) → b ≡ b' → FitsBench b' d → p ≡ d.pass → a ≡ d.aside → IsInHand d q → IsAt b.hall (Pack q ∷ packed a) p a
+at_bench b b' d q p a bench fits e n hand = let f : FitsBench b d = subst (λ (x : BenchView). FitsBench x d) (sym bench) fits in record {
   own = ap (λ (x : PassView). x.table) e ∙ f.own;
   image = ap (λ (x : PassView). x.knows.image) e ∙ (f.image ∙ sym f.hall);
   out = subst₂ (λ (x : PassView) (y : Option PackageView). Owned x.knows (Pack q ∷ packed y)) (sym e) (sym n) hand;
   aside = λ c x. f.aside c (sym n ∙ x);
 }
+
+-- the queues of the bench, and the desk's seats
+module _ {S X : Type 0} (queue : X → QueueView) (seen : S → SeatView) where
+  pub has_seats : (b b' : BenchView) (d : DeskView) (qs : List X) (ss : List S) → b ≡ b' → FitsBench b' d → map queue qs ≡ b.queues → map seen ss ≡ d.seats → HasSeats queue seen b.hall.terms qs ss
+  has_seats b b' d qs ss bench fits e n = let f : FitsBench b d = subst (λ (x : BenchView). FitsBench x d) (sym bench) fits in record {
+    queues = sym (length-map qs queue) ∙ (ap (λ l. length l) e ∙ f.count);
+    seats = sym (length-map ss seen) ∙ (ap (λ l. length l) n ∙ f.seats);
+    of = subst₂ (λ (l : List QueueView) (m : List SeatView). AreSeats b.hall.terms l m) (sym e) (sym n) f.of;
+  }

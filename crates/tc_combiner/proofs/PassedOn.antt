@@ -93,12 +93,13 @@ pub released_free : (q : PackageView) (b : Block) (i : ℕ) → IsSoundPackage q
 released_free q b i s e r = (left_after q.image q b s.left e).held i ∙ given_up (has b.held i) (ends_section i b) r.1
 
 -- the lock that was taken out is as the last block left it
-pub is_released : (v w : Knows) (n i : ℕ) (b : Block) (l : LockView) (q : PackageView) → IsSoundPackage q → MayRelease v n i b q → w.image ≡ v.image → w.worker ≡ v.worker → locked_in q i ≡ Some l → IsAtRest q.image i l → IsReleased w b l
-is_released v w n i b l q s h image worker was rest =
+pub is_released : (k : Terms) (v w : Knows) (i : ℕ) (b : Block) (l : LockView) (q : PackageView) → IsSoundPackage q → MayRelease k v i b q → w.image ≡ v.image → w.worker ≡ v.worker → locked_in q i ≡ Some l → IsAtRest q.image i l → IsReleased k w b l
+is_released k v w i b l q s h image worker was rest =
     let stored = s.stored i l was in
     let at = subst (λ (p : Option Block). IsAt p q i l) h.settled stored.at in
     let none : granted_lock q.granted ≢ Some i = (λ e. let f : granted_lock q.granted ≡ None = ap granted_lock h.granted in let z : ⊥ = cc in z) in
     record {
+      lock = subst (λ (j : ℕ). j < locks k) (sym rest.number) h.lock;
       rest = subst (λ (k : ℕ). IsAtRest w.image k l) (sym rest.number) (subst (λ (x : Shown). IsAtRest x i l) (h.of ∙ sym image) rest);
       last = at.last b h.last h.released.0 none;
       released = subst (λ (k : ℕ). Releases k b) (sym rest.number) h.released;
@@ -141,13 +142,13 @@ grants p l w q m = record {
   moves = m;
 }
 
-pub good_adopted : (image : Shown) (b : Block) (l : LockView) (u : Turn) (v : Knows) (w q : PackageView) → IsWaiter u.thread l.number image w → IsReleased v b l → DidGrant l Adopted u.number w q → adopts l b ≡ true → IsGood q image b.worker
+pub good_adopted : {k : Terms} (image : Shown) (b : Block) (l : LockView) (u : Turn) (v : Knows) (w q : PackageView) → IsWaiter u.thread l.number image w → IsReleased k v b l → DidGrant l Adopted u.number w q → adopts l b ≡ true → IsGood q image b.worker
 good_adopted image b l u v w q h r d a = waiter_good l Adopted u.thread u.number b.worker image w q h d (adopted l.number l.journal.limit (blocks_of l) b r.last a)
 
-pub good_granted : (image : Shown) (b : Block) (l : LockView) (u : Turn) (v : Knows) (w q : PackageView) → IsWaiter u.thread l.number image w → IsReleased v b l → DidGrant l Granted u.number w q → adopts l b ≡ false → IsGood q image v.worker
+pub good_granted : {k : Terms} (image : Shown) (b : Block) (l : LockView) (u : Turn) (v : Knows) (w q : PackageView) → IsWaiter u.thread l.number image w → IsReleased k v b l → DidGrant l Granted u.number w q → adopts l b ≡ false → IsGood q image v.worker
 good_granted image b l u v w q h r d a = waiter_good l Granted u.thread u.number v.worker image w q h d (granted l.number l.journal.limit (blocks_of l) b v.worker r.last r.released a)
 
-pub is_adopted : (k : Terms) (b : Block) (l : LockView) (u : Turn) (w q : PackageView) (h : Hands) → IsWaiter u.thread l.number k.image.value w → IsReleased h.pass.knows b l → DidGrant l Adopted u.number w q → adopts l b ≡ true
+pub is_adopted : (k : Terms) (b : Block) (l : LockView) (u : Turn) (w q : PackageView) (h : Hands) → IsWaiter u.thread l.number k.image.value w → IsReleased k h.pass.knows b l → DidGrant l Adopted u.number w q → adopts l b ≡ true
     → DidHand k l b u (Pack w ∷ Loose l ∷ []) h h (Was_adopted q)
 is_adopted k b l u w q h i r d a = record {
   calls = [];
@@ -162,7 +163,7 @@ same_thread l n w q d = ap (λ (c : PackageView). c.context.thread) d.is
 known_waiter : (k : Terms) (l : LockView) (u : Turn) (w q : PackageView) → IsWaiter u.thread l.number k.image.value w → IsTurn (threads k) u → DidGrant l Granted u.number w q → q.context.thread < threads k
 known_waiter k l u w q i t d = subst (λ (n : ℕ). n < threads k) (sym (same_thread l u.number w q d ∙ i.thread)) t.thread
 
-pub may_put : (hall : HallView) (b : Block) (l : LockView) (u : Turn) (w q : PackageView) (h : Hands) → MayAct hall (Pack w ∷ Loose l ∷ []) 1 h → IsWaiter u.thread l.number hall.terms.image.value w → IsTurn (threads hall.terms) u → IsReleased h.pass.knows b l → DidGrant l Granted u.number w q → adopts l b ≡ false
+pub may_put : (hall : HallView) (b : Block) (l : LockView) (u : Turn) (w q : PackageView) (h : Hands) → MayAct hall (Pack w ∷ Loose l ∷ []) 1 h → IsWaiter u.thread l.number hall.terms.image.value w → IsTurn (threads hall.terms) u → IsReleased hall.terms h.pass.knows b l → DidGrant l Granted u.number w q → adopts l b ≡ false
     → MayGive hall.terms h.pass.knows Ready q
 may_put hall b l u w q h m i t r d a = let g = good_granted hall.terms.image.value b l u h.pass.knows w q i r d a in record {
   thread = known_waiter hall.terms l u w q i t d;
@@ -190,8 +191,9 @@ is_granted k b l u w q h g i t d a p e s = record {
 pub came : (l : LockView) (w : PackageView) (p q : PassView) → Acts [] [] (Pack w ∷ []) p q → Acts [] (Loose l ∷ []) (Pack w ∷ Loose l ∷ []) p q
 came l w p q a = record { own = a.own; adds = a.adds; moves = λ b zs o. a.moves b (Loose l ∷ zs) o }
 
-pub released_still : (ds : List Call) (xs ys : List Item) (p q : PassView) (b : Block) (l : LockView) → Acts ds xs ys p q → IsReleased p.knows b l → IsReleased q.knows b l
+pub released_still : {k : Terms} (ds : List Call) (xs ys : List Item) (p q : PassView) (b : Block) (l : LockView) → Acts ds xs ys p q → IsReleased k p.knows b l → IsReleased k q.knows b l
 released_still ds xs ys p q b l a h = record {
+  lock = h.lock;
   rest = subst (λ (x : Shown). IsAtRest x l.number l) (sym a.adds.told.image) h.rest;
   last = h.last;
   released = h.released;

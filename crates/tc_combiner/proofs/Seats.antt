@@ -7,9 +7,9 @@ use mathlib.Core.Logic.{dite}
 use Rattle.tc_hall.specs.declared.board.Terms.{Terms}
 use Rattle.tc_hall.specs.Rule.{locks, threads}
 use Rattle.tc_queue.specs.View.{QueueView}
-use Rattle.tc_combiner.specs.View.{AreSeats, no_seat}
+use Rattle.tc_combiner.specs.View.{AreSeats, IsSeatFor, no_seat}
 use Rattle.tc_combiner.specs.Release.{AreSameSeats, AtSeat, IsSameSeat, seat_at}
-use Rattle.tc_queue.specs.Lines.{SeatView, IsSeatOf}
+use Rattle.tc_queue.specs.Lines.{SeatView}
 
 module _ {A B : Type 0} where
   pub map_at : (f : A → B) (xs : List A) (i : ℕ) (d : A) → get_or (map f xs) i (f d) ≡ f (get_or xs i d)
@@ -33,11 +33,8 @@ module _ {S : Type 0} where
 
 module _ {S X : Type 0} where
   -- the seat and the queue at one place
-  pub at_one : (seen : S → SeatView) (queue : X → QueueView) (k : Terms) (qs : List X) (ss : List S) (i : ℕ) (x : X) (s : S) → AreSeats k (map queue qs) (map seen ss) → i < locks k → IsSeatOf (queue (get_or qs i x)) (seen (get_or ss i s))
-  at_one seen queue k qs ss i x s of low = subst₂ (λ (a : QueueView) (b : SeatView). IsSeatOf a b) (map_at queue qs i x) (map_at seen ss i s) (of.each i (queue x) (seen s) low)
-
-  pub made_one : (seen : S → SeatView) (queue : X → QueueView) (k : Terms) (qs : List X) (ss : List S) (i : ℕ) (x : X) → AreSeats k (map queue qs) (map seen ss) → i < locks k → (queue (get_or qs i x)).threads ≡ threads k
-  made_one seen queue k qs ss i x of low = ap (λ (a : QueueView). a.threads) (sym (map_at queue qs i x)) ∙ of.made i (queue x) low
+  pub at_one : (seen : S → SeatView) (queue : X → QueueView) (k : Terms) (qs : List X) (ss : List S) (i : ℕ) (x : X) (s : S) → AreSeats k (map queue qs) (map seen ss) → i < locks k → IsSeatFor (threads k) (queue (get_or qs i x)) (seen (get_or ss i s))
+  at_one seen queue k qs ss i x s of low = subst₂ (λ (a : QueueView) (b : SeatView). IsSeatFor (threads k) a b) (map_at queue qs i x) (map_at seen ss i s) (of i (queue x) (seen s) low)
 
 module _ {S : Type 0} where
   -- a seat of the same queue stands where it stood

@@ -80,8 +80,9 @@ module _ (k : Terms) (worker : ℕ) (end : End) (b : Block) (q : PackageView) (s
   lock_in_range : (i : ℕ) → has b.held i ≡ true → i < locks k
   lock_in_range i e = subst (λ (x : Shown). i < length x.guards) m.of (known_in q i (locked_in q i) s refl (m.locks i ∙ e))
 
-  may_release : (v : Knows) (i : ℕ) → v.image ≡ k.image.value → v.worker ≡ worker → has b.held i ≡ true → ends_section i b ≡ true → MayRelease v (threads k) i b q
+  may_release : (v : Knows) (i : ℕ) → v.image ≡ k.image.value → v.worker ≡ worker → has b.held i ≡ true → ends_section i b ≡ true → MayRelease k v i b q
   may_release v i image is e r = record {
+    lock = lock_in_range i e;
     of = m.of ∙ sym image;
     thread = thread_known;
     settled = m.settled;
@@ -144,7 +145,6 @@ module _ (k : Terms) (worker : ℕ) (b : Block) (q : PackageView) (s : IsSoundPa
   pub may_unlock : (v : Knows) (i : ℕ) → v.image ≡ k.image.value → v.worker ≡ worker → IsAfterBlock k.image.value worker (Unlocked i) b q → MayUnlock k v i b q
   may_unlock v i image is m =
       let has = (after_of k.image.value worker (Unlocked i) b q s m).released i m.end_is in record {
-        lock = lock_in_range k worker (Unlocked i) b q s m i has;
         release = may_release k worker (Unlocked i) b q s m v i image is has (unlocked_ends i b m.end_is);
         runs = runs_on k worker (Unlocked i) b q s m refl;
         locks_in = held_and k worker (Unlocked i) b q s m i (λ j ne. unlocked_other i j b m.end_is ne);

@@ -49,13 +49,13 @@ still_runs : (q p : PackageView) (i : ℕ) → p ≡ without_lock i q → Runs q
 still_runs q p i e r = ap (λ (c : PackageView). is_running c.context.guest.status) e ∙ r
 
 -- the package without the lock that it released
-pub left_plain : (v : Knows) (n i : ℕ) (b : Block) (l : LockView) (q p : PackageView) → DidTakeOut i l q p → MayRelease v n i b q → Runs q → HasHeldAnd i q → IsPlain n p
-left_plain v n i b l q p d m r h = record {
-  thread = subst (λ (t : ℕ). t < n) (sym (ap (λ (c : PackageView). c.context.thread) d.is)) m.thread;
+pub left_plain : (v : Knows) (k : Terms) (i : ℕ) (b : Block) (l : LockView) (q p : PackageView) → DidTakeOut i l q p → MayRelease k v i b q → Runs q → HasHeldAnd i q → IsPlain (threads k) p
+left_plain v k i b l q p d m r h = record {
+  thread = subst (λ (t : ℕ). t < threads k) (sym (ap (λ (c : PackageView). c.context.thread) d.is)) m.thread;
   settled = ap (λ (c : PackageView). c.pending) d.is ∙ m.settled;
   granted = ap (λ (c : PackageView). c.granted) d.is ∙ m.granted;
   locks = left_only_held i l q p d h;
-  ended = λ e. let y = still_runs q p i d.is r in let k : ⊥ = cc in absurd k;
+  ended = λ e. let y = still_runs q p i d.is r in let n : ⊥ = cc in absurd n;
 }
 
 pub left_runs : (i : ℕ) (l : LockView) (q p : PackageView) → DidTakeOut i l q p → Runs q → Runs p
@@ -87,7 +87,7 @@ none_in p h n j = not_held p j h (n j)
 pub may_go_on : (v : Knows) (k : Terms) (i : ℕ) (b : Block) (l : LockView) (q p : PackageView) → MayUnlock k v i b q → v.image ≡ k.image.value → DidTakeOut i l q p → MayGoOn k p
 may_go_on v k i b l q p m image d = record {
   of = left_of i l q p d ∙ (m.release.of ∙ image);
-  plain = left_plain v (threads k) i b l q p d m.release m.runs m.locks_in;
+  plain = left_plain v k i b l q p d m.release m.runs m.locks_in;
   runs = left_runs i l q p d m.runs;
 }
 

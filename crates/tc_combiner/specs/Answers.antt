@@ -5,7 +5,7 @@ use Rattle.tc_turn.specs.Turn.{is_running}
 use Rattle.tc_segment.specs.View.{LockView}
 use Rattle.tc_journal.specs.Batch.{last_of}
 use Rattle.tc_journal.specs.declared.block.End.TheVariants.{Slept}
-use Rattle.tc_context.specs.View.{PackageView, HasBlock, with_turns}
+use Rattle.tc_context.specs.View.{PackageView, HasBlock, IsNumber, IsWaiting, with_turns}
 use Rattle.tc_context.specs.declared.package.TheConstants.{MAX_NUMBER}
 use Rattle.tc_hall.specs.declared.board.Call.{Call}
 use Rattle.tc_hall.specs.declared.board.Call.TheVariants.{Stopped}
@@ -20,7 +20,7 @@ use Rattle.tc_queue.specs.Lines.{SeatView, Enter, Link, First, Behind, with_line
 use Rattle.tc_combiner.specs.declared.hands.Hands.{Hands}
 use Rattle.tc_combiner.specs.declared.settled.Settled.{Settled}
 use Rattle.tc_combiner.specs.declared.settled.Settled.TheVariants.{GoesOn, Adopted, Shipped, Parked as Did_park, Stopped as Was_stopped}
-use Rattle.tc_combiner.specs.Packages.{DidTake, HoldsNone, IsAside, IsGood, IsPlain, Runs, Wants}
+use Rattle.tc_combiner.specs.Packages.{DidTake, HoldsNone, IsAside, IsGood, IsPlain, MayGoOn, Runs, Wants}
 use Rattle.tc_combiner.specs.Walks.{TakesDown, packed, Acted, Acts}
 
 abbrev pub carried : Settled → List Item
@@ -66,6 +66,13 @@ pub record MayAsk (k : Terms) (i : ℕ) (q : PackageView) : Type 0 where
   pub of : q.image ≡ k.image.value
   pub plain : IsPlain (threads k) q
   pub want : Wants q i
+
+-- the package q, which waits for lock i, may get it under the number n
+pub record MayGetFirst (k : Terms) (i n : ℕ) (q : PackageView) : Type 0 where
+  pub lock : i < locks k
+  pub may : MayGoOn k q
+  pub waits : IsWaiting q i
+  pub number : IsNumber n
 
 -- lock i was taken from its home for the package q, which is r then, or the run was stopped; a and b: what was and is set aside
 abbrev pub FirstAs : Shown → ℕ → ℕ → ℕ → PackageView → Option PackageView → Option PackageView → List Call → Option PackageView → Type 0

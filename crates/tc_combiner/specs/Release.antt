@@ -35,17 +35,19 @@ use Rattle.tc_combiner.specs.View.{no_seat}
 abbrev pub adopts : LockView → Block → Bool
 adopts l b = may_adopt b l.number (run_of l.number (blocks_of l)) l.journal.limit
 
--- lock state l is out of its package, which released it with its block b, a block of this pass
-pub record IsReleased (v : Knows) (b : Block) (l : LockView) : Type 0 where
+-- lock state l, one of the hall, is out of its package, which released it with its block b, a block of this pass
+pub record IsReleased (k : Terms) (v : Knows) (b : Block) (l : LockView) : Type 0 where
+  pub lock : l.number < locks k
   pub rest : IsAtRest v.image l.number l
   pub last : last_of (blocks_of l) ≡ Some b
   pub released : Releases l.number b
   pub worker : b.worker ≡ v.worker
 
--- package q, of one of so many threads, released lock i with its last block b, a block of this pass, and has it still
-pub record MayRelease (v : Knows) (threads i : ℕ) (b : Block) (q : PackageView) : Type 0 where
+-- package q, of a thread of the hall, released lock i of the hall with its last block b, a block of this pass, and has it still
+pub record MayRelease (k : Terms) (v : Knows) (i : ℕ) (b : Block) (q : PackageView) : Type 0 where
+  pub lock : i < locks k
   pub of : q.image ≡ v.image
-  pub thread : q.context.thread < threads
+  pub thread : q.context.thread < threads k
   pub settled : q.pending ≡ None
   pub granted : q.granted ≡ None
   pub last : last_of q.log ≡ Some b
@@ -55,8 +57,7 @@ pub record MayRelease (v : Knows) (threads i : ℕ) (b : Block) (q : PackageView
 
 -- its thread runs on, with the other locks that it holds
 pub record MayUnlock (k : Terms) (v : Knows) (i : ℕ) (b : Block) (q : PackageView) : Type 0 where
-  pub lock : i < locks k
-  pub release : MayRelease v (threads k) i b q
+  pub release : MayRelease k v i b q
   pub runs : Runs q
   pub locks_in : HasHeldAnd i q
 

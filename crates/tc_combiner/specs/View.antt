@@ -1,5 +1,5 @@
 -- What contracts see of a desk, and when it fits a bench.
-use Rattle.std.specs.Prelude.{◌≡◌, ℕ, ◌<◌, ◌≤◌, List, [], length, get_or, Option, Some}
+use Rattle.std.specs.Prelude.{◌≡◌, ℕ, ◌<◌, ◌≤◌, List, [], length, get_or, map, Option, Some}
 use Rattle.tc_elf.specs.Shown.{Shown}
 use Rattle.tc_context.specs.View.{PackageView}
 use Rattle.tc_hall.specs.declared.board.Terms.{Terms}
@@ -28,10 +28,20 @@ pub record BenchView : Type 0 where
   pub hall : HallView
   pub queues : List QueueView
 
+-- a seat of the queue, which was made for so many threads
+pub record IsSeatFor (n : ℕ) (q : QueueView) (s : SeatView) : Type 0 where
+  pub of : IsSeatOf q s
+  pub made : q.threads ≡ n
+
 -- each seat is one of its queue, which was made for the threads of the hall
-pub record AreSeats (k : Terms) (queues : List QueueView) (seats : List SeatView) : Type 0 where
-  pub each : (i : ℕ) (q : QueueView) (s : SeatView) → i < locks k → IsSeatOf (get_or queues i q) (get_or seats i s)
-  pub made : (i : ℕ) (q : QueueView) → i < locks k → (get_or queues i q).threads ≡ threads k
+abbrev pub AreSeats : Terms → List QueueView → List SeatView → Type 0
+AreSeats k queues seats = (i : ℕ) (q : QueueView) (s : SeatView) → i < locks k → IsSeatFor (threads k) (get_or queues i q) (get_or seats i s)
+
+-- each lock of the hall has its queue and its seat here
+pub record HasSeats {X S : Type 0} (queue : X → QueueView) (seen : S → SeatView) (k : Terms) (qs : List X) (ss : List S) : Type 0 where
+  pub queues : length qs ≡ locks k
+  pub seats : length ss ≡ locks k
+  pub of : AreSeats k (map queue qs) (map seen ss)
 
 -- a desk fits a bench; what is set aside is out in its pass
 pub record FitsBench (bench : BenchView) (d : DeskView) : Type 0 where

@@ -8,7 +8,8 @@ use Rattle.tc_hall.specs.declared.board.Call.TheVariants.{Put, Stop, Stopped}
 use Rattle.tc_hall.specs.declared.place.Place.TheVariants.{Ready}
 use Rattle.tc_queue.specs.declared.turn.Turn.{Turn}
 use Rattle.tc_queue.specs.declared.turn.Departure.TheVariants.{Left}
-use Rattle.tc_queue.specs.Lines.{SeatView, LineCall, Next, Leave}
+use Rattle.tc_queue.specs.View.{QueueView}
+use Rattle.tc_queue.specs.Lines.{SeatView, IsSeatOf, LineCall, Next, Leave}
 use Rattle.tc_queue.specs.Words.{IsTurn}
 use Rattle.tc_combiner.specs.declared.found.Found.{Found}
 use Rattle.tc_combiner.specs.declared.found.Found.TheVariants.{Nobody, Next as Next_is, Unknown}
@@ -97,6 +98,11 @@ pub record Asked (times : ℕ) (s t : SeatView) : Type 0 where
   pub lines : List LineCall
   pub calls : t.calls ≡ s.calls ++ lines
   pub count : unanswered lines ≡ times
+
+-- the seat, one of this queue, may ask who stands behind this turn
+pub record MayAskFor (q : QueueView) (s : SeatView) (u : Turn) : Type 0 where
+  pub seat : IsSeatOf q s
+  pub turn : IsTurn q.threads u
 
 -- who stands behind the turn, as the seat shows it
 abbrev pub AskedAs : Turn → SeatView → SeatView → Found → Type 0

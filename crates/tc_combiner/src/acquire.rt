@@ -2,14 +2,13 @@
 
 ghost use Rattle.std.specs.Prelude.{◌≡◌, ◌<◌, ◌++◌, [], ◌∷◌};
 ghost use Rattle.tc_turn.specs.Turn.{is_running};
-ghost use Rattle.tc_context.specs.View.{IsNumber, IsWaiting};
 ghost use Rattle.tc_hall.specs.Rule.{threads, locks};
 ghost use Rattle.tc_hall.specs.Steps.{put_call};
-ghost use Rattle.tc_queue.specs.Lines.{IsSeatOf};
 ghost use Rattle.tc_hall.specs.Outs.{outs, IsOut, Pack};
-ghost use Rattle.tc_combiner.specs.Packages.{IsPlain, MayGoOn};
+ghost use Rattle.tc_combiner.specs.Packages.{IsPlain};
 ghost use Rattle.tc_combiner.specs.Walks.{packed, Acts, IsAtHall};
-ghost use Rattle.tc_combiner.specs.Answers.{Acquires, DidFirst, MayAsk, PutAllBack, place_back};
+ghost use Rattle.tc_combiner.specs.Answers.{Acquires, DidFirst, MayAsk, PutAllBack, place_back, MayGetFirst};
+ghost use Rattle.tc_combiner.specs.View.{IsSeatFor};
 
 use crate::calls;
 use crate::hands::Hands;
@@ -69,10 +68,7 @@ fn acquire_first<R: Wait>(
     number: u64,
 ) -> Option<Package>
     requires hands { IsAtHall hall.now (Pack «package» ∷ packed hands.old.aside) hands.old }
-    requires place { lock < locks hall.now.terms }
-    requires may { MayGoOn hall.now.terms «package» }
-    requires waits { IsWaiting «package» lock }
-    requires number { IsNumber number }
+    requires may { MayGetFirst hall.now.terms lock number «package» }
     ensures { DidFirst hall.now.terms lock number «package» hands.old hands.new result }
 {
     match take_home(rt, hall, &mut hands.pass, lock) {
@@ -99,8 +95,7 @@ pub(crate) fn acquire_with<R: Wait, Q: Waiters>(
 ) -> Settled
     requires hands { IsAtHall hall.now (Pack «package» ∷ packed hands.old.aside) hands.old }
     requires may { MayAsk hall.now.terms lock «package» }
-    requires seat { IsSeatOf (Q.queue queue.now) (Q.seen seat.old) }
-    requires made { (Q.queue queue.now).threads ≡ threads hall.now.terms }
+    requires seat { IsSeatFor (threads hall.now.terms) (Q.queue queue.now) (Q.seen seat.old) }
     ensures { Acquires hall.now.terms lock «package» (Q.seen seat.old) (Q.seen seat.new)
         hands.old hands.new result }
 {

@@ -5,12 +5,12 @@ ghost use Rattle.tc_isa.specs.Sets.{locks_of};
 ghost use Rattle.tc_isa.specs.declared.limits.TheConstants.{MAX_HELD};
 ghost use Rattle.tc_journal.specs.Batch.{ends_thread};
 ghost use Rattle.tc_hall.specs.Rule.{threads, locks};
-ghost use Rattle.tc_queue.specs.Lines.{IsSeatOf, SeatView};
+ghost use Rattle.tc_queue.specs.Lines.{SeatView};
 ghost use Rattle.tc_hall.specs.Outs.{Pack};
 ghost use Rattle.tc_combiner.specs.Walks.{packed, IsAtHall, MayAct};
 ghost use Rattle.tc_combiner.specs.Answers.{MayPark, Parks};
 ghost use Rattle.tc_combiner.specs.Release.{MayRelease, DidLeave, DidLeaveAll, Ends, MayEnd};
-ghost use Rattle.tc_combiner.specs.View.{AreSeats};
+ghost use Rattle.tc_combiner.specs.View.{HasSeats, IsSeatFor};
 
 use crate::acquire::put_all_back;
 use crate::calls;
@@ -46,8 +46,7 @@ pub(crate) fn park(hall: &Hall, hands: &mut Hands, rest: &mut Rest, package: Pac
 // Brings home one lock of a thread that has ended, where the run was stopped before.
 fn bring_home(hall: &Hall, hands: &mut Hands, package: &mut Package, released: Released<'_>)
     requires hands { MayAct hall.now (Pack «package».old ∷ []) 1 hands.old }
-    requires place { released.lock < locks hall.now.terms }
-    requires may { MayRelease hands.old.pass.knows (threads hall.now.terms) released.lock
+    requires may { MayRelease hall.now.terms hands.old.pass.knows released.lock
         released.block.now «package».old }
     ensures { (s : SeatView) → DidLeave hall.now.terms released.entry.lock released.entry.block.now
         «package».old «package».new s s hands.old hands.new true true }
@@ -68,12 +67,10 @@ fn end_one<R: Wait, Q: Waiters>(
     released: Released<'_>,
 ) -> bool
     requires hands { MayAct hall.now (Pack «package».old ∷ []) 1 hands.old }
-    requires place { released.lock < locks hall.now.terms }
-    requires may { MayRelease hands.old.pass.knows (threads hall.now.terms) released.lock
+    requires may { MayRelease hall.now.terms hands.old.pass.knows released.lock
         released.block.now «package».old }
     requires ended { ends_thread released.block.now.end ≡ true }
-    requires seat { IsSeatOf (Q.queue queue.now) (Q.seen seat.old) }
-    requires made { (Q.queue queue.now).threads ≡ threads hall.now.terms }
+    requires seat { IsSeatFor (threads hall.now.terms) (Q.queue queue.now) (Q.seen seat.old) }
     ensures { DidLeave hall.now.terms released.entry.lock released.entry.block.now «package».old «package».new
         (Q.seen seat.old) (Q.seen seat.new) hands.old hands.new false result }
 {
@@ -97,9 +94,7 @@ fn end_all<R: Wait, Q: Waiters>(
     requires hands { MayAct shared.now.hall.now (Pack «package».old ∷ [])
         (length (locks_of block.now.held)) hands.old }
     requires may { MayEnd hands.old.pass.knows (threads shared.now.hall.now.terms) block.now «package».old }
-    requires counts { (length shared.now.queues.now ≡ locks shared.now.hall.now.terms)
-        × (length seats.old ≡ locks shared.now.hall.now.terms) }
-    requires seats { AreSeats shared.now.hall.now.terms (map Q.queue shared.now.queues.now) (map Q.seen seats.old) }
+    requires seats { HasSeats Q.queue Q.seen shared.now.hall.now.terms shared.now.queues.now seats.old }
     ensures { DidLeaveAll shared.now.hall.now.terms block.now «package».old «package».new
         (map Q.seen seats.old) (map Q.seen seats.new) hands.old hands.new result }
 {
@@ -131,9 +126,7 @@ pub(crate) fn ended_with<R: Wait, Q: Waiters>(
 ) -> Settled
     requires hands { MayAct shared.now.hall.now (Pack «package» ∷ packed hands.old.aside) MAX_HELD hands.old }
     requires may { MayEnd hands.old.pass.knows (threads shared.now.hall.now.terms) block.now «package» }
-    requires counts { (length shared.now.queues.now ≡ locks shared.now.hall.now.terms)
-        × (length seats.old ≡ locks shared.now.hall.now.terms) }
-    requires seats { AreSeats shared.now.hall.now.terms (map Q.queue shared.now.queues.now) (map Q.seen seats.old) }
+    requires seats { HasSeats Q.queue Q.seen shared.now.hall.now.terms shared.now.queues.now seats.old }
     ensures { Ends shared.now.hall.now.terms block.now «package» (map Q.seen seats.old) (map Q.seen seats.new)
         hands.old hands.new result }
 {

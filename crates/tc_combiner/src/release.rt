@@ -3,12 +3,12 @@
 ghost use Rattle.std.specs.Prelude.{ℕ, ◌≡◌, ◌≢◌, ◌<◌, [], ◌∷◌, Some};
 ghost use Rattle.tc_context.specs.View.{PackageView};
 ghost use Rattle.tc_hall.specs.Rule.{threads, locks};
-ghost use Rattle.tc_queue.specs.Lines.{IsSeatOf};
 ghost use Rattle.tc_queue.specs.Words.{IsTurn};
 ghost use Rattle.tc_hall.specs.Outs.{outs, Pack, Loose};
 ghost use Rattle.tc_combiner.specs.Packages.{IsWaiter};
 ghost use Rattle.tc_combiner.specs.Release.{DidHand, DidPass, IsReleased, MayRelease};
 ghost use Rattle.tc_combiner.specs.Walks.{MayAct};
+ghost use Rattle.tc_combiner.specs.View.{IsSeatFor};
 
 use crate::calls;
 use crate::found::Found;
@@ -37,7 +37,7 @@ fn grant_to(
     requires waiter { IsWaiter next.thread state.number hall.now.terms.image.value waiter }
     requires turn { IsTurn (threads hall.now.terms) next }
     requires other { block.now.thread ≢ next.thread }
-    requires released { IsReleased hands.old.pass.knows block.now state }
+    requires released { IsReleased hall.now.terms hands.old.pass.knows block.now state }
     ensures { DidHand hall.now.terms state block.now next
         (Pack waiter ∷ Loose state ∷ []) hands.old hands.new result }
 {
@@ -62,11 +62,10 @@ fn hand_on<R: Wait>(
     next: Turn,
 ) -> Passed
     requires hands { MayAct hall.now (Loose state ∷ []) 1 hands.old }
-    requires place { state.number < locks hall.now.terms }
     requires turn { IsTurn (threads hall.now.terms) next }
     requires beside { (q : PackageView)
         × ((outs hands.old.pass.knows).context block.now.thread ≡ Some q) }
-    requires released { IsReleased hands.old.pass.knows block.now state }
+    requires released { IsReleased hall.now.terms hands.old.pass.knows block.now state }
     ensures { DidHand hall.now.terms state block.now next
         (Loose state ∷ []) hands.old hands.new result }
 {
@@ -91,11 +90,9 @@ pub(crate) fn pass_on<R: Wait, Q: Waiters>(
     released: Released<'_>,
 ) -> Passed
     requires hands { MayAct hall.now (Pack «package».old ∷ []) 1 hands.old }
-    requires place { released.lock < locks hall.now.terms }
-    requires may { MayRelease hands.old.pass.knows (threads hall.now.terms) released.lock
+    requires may { MayRelease hall.now.terms hands.old.pass.knows released.lock
         released.block.now «package».old }
-    requires seat { IsSeatOf (Q.queue queue.now) (Q.seen seat.old) }
-    requires made { (Q.queue queue.now).threads ≡ threads hall.now.terms }
+    requires seat { IsSeatFor (threads hall.now.terms) (Q.queue queue.now) (Q.seen seat.old) }
     ensures { DidPass hall.now.terms released.entry.lock released.entry.block.now «package».old «package».new
         (Q.seen seat.old) (Q.seen seat.new) hands.old hands.new result }
 {

@@ -6,7 +6,7 @@ ghost use Rattle.tc_hall.specs.Rule.{threads, locks};
 ghost use Rattle.tc_combiner.specs.Walks.{packed, IsAtHall, MayAct};
 ghost use Rattle.tc_combiner.specs.Answers.{Acquires, MayAsk};
 ghost use Rattle.tc_combiner.specs.Release.{MayUnlock, Unlocks, AtSeat};
-ghost use Rattle.tc_combiner.specs.View.{AreSeats, desk_of};
+ghost use Rattle.tc_combiner.specs.View.{desk_of, HasSeats};
 ghost use Rattle.tc_combiner.specs.Settling.{HasSettled, Keeps, MaySettle};
 
 use crate::acquire::acquire_with;
@@ -31,9 +31,7 @@ pub(crate) fn acquire_at<R: Wait, Q: Waiters>(
 ) -> Settled
     requires hands { IsAtHall shared.now.hall.now (Pack «package» ∷ packed hands.old.aside) hands.old }
     requires may { MayAsk shared.now.hall.now.terms lock «package» }
-    requires counts { (length shared.now.queues.now ≡ locks shared.now.hall.now.terms)
-        × (length seats.old ≡ locks shared.now.hall.now.terms) }
-    requires seats { AreSeats shared.now.hall.now.terms (map Q.queue shared.now.queues.now) (map Q.seen seats.old) }
+    requires seats { HasSeats Q.queue Q.seen shared.now.hall.now.terms shared.now.queues.now seats.old }
     ensures { AtSeat lock (map Q.seen seats.old) (map Q.seen seats.new)
         (λ s t. Acquires shared.now.hall.now.terms lock «package» s t hands.old hands.new result) }
 {
@@ -54,9 +52,7 @@ fn unlocked_at<R: Wait, Q: Waiters>(
     requires hands { MayAct shared.now.hall.now (Pack «package» ∷ packed hands.old.aside) 2 hands.old }
     requires may { MayUnlock shared.now.hall.now.terms hands.old.pass.knows
         released.lock released.block.now «package» }
-    requires counts { (length shared.now.queues.now ≡ locks shared.now.hall.now.terms)
-        × (length seats.old ≡ locks shared.now.hall.now.terms) }
-    requires seats { AreSeats shared.now.hall.now.terms (map Q.queue shared.now.queues.now) (map Q.seen seats.old) }
+    requires seats { HasSeats Q.queue Q.seen shared.now.hall.now.terms shared.now.queues.now seats.old }
     ensures { AtSeat released.entry.lock (map Q.seen seats.old) (map Q.seen seats.new)
         (λ s t. Unlocks shared.now.hall.now.terms released.entry.lock released.entry.block.now «package» s t
         hands.old hands.new result) }
@@ -78,9 +74,7 @@ pub(crate) fn settle_with<R: Wait, Q: Waiters>(
     end: End,
 ) -> Settled
     requires hands { IsAtHall shared.now.hall.now (Pack «package» ∷ packed hands.old.aside) hands.old }
-    requires counts { (length shared.now.queues.now ≡ locks shared.now.hall.now.terms)
-        × (length seats.old ≡ locks shared.now.hall.now.terms) }
-    requires seats { AreSeats shared.now.hall.now.terms (map Q.queue shared.now.queues.now) (map Q.seen seats.old) }
+    requires seats { HasSeats Q.queue Q.seen shared.now.hall.now.terms shared.now.queues.now seats.old }
     requires room { threads shared.now.hall.now.terms ≤ length rest.old.sleepers }
     requires may { MaySettle shared.now.hall.now.terms.image.value hands.old.pass.knows.worker end «package» }
     ensures keeps { Keeps shared.now.hall.now.terms «package» (map Q.seen seats.old) (map Q.seen seats.new)

@@ -2,12 +2,12 @@
 
 ghost use Rattle.std.specs.Prelude.{◌≡◌, ◌∷◌, true, false};
 ghost use Rattle.tc_hall.specs.Rule.{threads};
-ghost use Rattle.tc_queue.specs.Lines.{IsSeatOf};
 ghost use Rattle.tc_hall.specs.Outs.{Pack};
 ghost use Rattle.tc_combiner.specs.Packages.{HoldsNone, IsAside, MayGoOn};
 ghost use Rattle.tc_combiner.specs.Walks.{packed, MayAct};
 ghost use Rattle.tc_combiner.specs.Answers.{Goes, PutsAside};
 ghost use Rattle.tc_combiner.specs.Release.{MayUnlock, Unlocks};
+ghost use Rattle.tc_combiner.specs.View.{IsSeatFor};
 
 use crate::acquire::put_all_back;
 use crate::calls;
@@ -77,8 +77,7 @@ pub(crate) fn unlocked_with<R: Wait, Q: Waiters>(
     requires hands { MayAct hall.now (Pack «package» ∷ packed hands.old.aside) 2 hands.old }
     requires may { MayUnlock hall.now.terms hands.old.pass.knows released.lock
         released.block.now «package» }
-    requires seat { IsSeatOf (Q.queue queue.now) (Q.seen seat.old) }
-    requires made { (Q.queue queue.now).threads ≡ threads hall.now.terms }
+    requires seat { IsSeatFor (threads hall.now.terms) (Q.queue queue.now) (Q.seen seat.old) }
     ensures { Unlocks hall.now.terms released.entry.lock released.entry.block.now «package»
         (Q.seen seat.old) (Q.seen seat.new) hands.old hands.new result }
 {

@@ -11,7 +11,7 @@ pub free-requires : goal.free-requires
 free-requires c =
     let d : DidTakeOut c.args.released.lock c.take_out-state.result c.args.«package».now c.take_out-state.new.self = record { was = c.take_out-state.ensures.lock; is = c.take_out-state.ensures.is; locks = c.take_out-state.ensures.locks; rest = c.take_out-state.ensures.rest } in record {
       own = c.requires.hands.at.own;
-      may = taken_free c.args.hall.now.terms _ c.args.released.lock c.take_out-state.result c.args.«package».now c.take_out-state.new.self c.args.hands.now.pass c.args.hands.now.pass d c.requires.place c.requires.hands.at.out (acts_none c.args.hands.now.pass _);
+      may = taken_free c.args.hall.now.terms _ c.args.released.lock c.take_out-state.result c.args.«package».now c.take_out-state.new.self c.args.hands.now.pass c.args.hands.now.pass d c.requires.may.lock c.requires.hands.at.out (acts_none c.args.hands.now.pass _);
     }
 
 pub returns : goal.returns

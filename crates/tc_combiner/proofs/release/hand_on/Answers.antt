@@ -20,7 +20,7 @@ grant_to-requires g c =
 pub free-requires : goal.free-requires
 free-requires g c = record {
   own = (c.in-None.ensures {u = tt}).0.own.0 ∙ c.requires.hands.at.own;
-  may = may_free c.args.hall.now.terms _ c.args.state c.args.hands.now.pass c.await_waiter.new.pass c.requires.place c.requires.released.rest.ended c.requires.hands.at.out (c.in-None.ensures {u = tt}).0;
+  may = may_free c.args.hall.now.terms _ c.args.state c.args.hands.now.pass c.await_waiter.new.pass c.requires.released.lock c.requires.released.rest.ended c.requires.hands.at.out (c.in-None.ensures {u = tt}).0;
 }
 
 pub returns-in-Some : goal.returns-in-Some

@@ -1,7 +1,7 @@
 use Rattle.std.proofs.Common.{◌<◌, ℕ, refl, sym, ◌∙◌, subst}
 use Rattle.tc_queue.specs.Words.{IsTurn}
 use Rattle.tc_context.specs.View.{bare}
-use Rattle.tc_hall.specs.Rule.{threads, locks}
+use Rattle.tc_hall.specs.Rule.{threads}
 use Rattle.tc_combiner.specs.Packages.{DidTakeOut}
 use Rattle.tc_combiner.proofs.Acting.{same_outs}
 use Rattle.tc_combiner.proofs.PassedOn.{released_free, turn_is, is_beside, block_thread, is_released, goes_home, may_lock, passes, stops, taken_free}
@@ -10,19 +10,20 @@ use Rattle.tc_combiner.proofs.release.pass_on.Goals as goal
 pub take_out-state-requires-clause-released : goal.take_out-state-requires-clause-released
 take_out-state-requires-clause-released g c = released_free c.args.«package».now c.args.released.block.now c.args.released.lock c.keeps.ensures.sound c.requires.may.last c.requires.may.released
 
-pub find_next-requires-clause-turn : goal.find_next-requires-clause-turn
-find_next-requires-clause-turn g c = λ κs b.
-    turn_is _ _ _ (subst (λ (n : ℕ). c.thread.result < n) (sym c.requires.made) (subst (λ (t : ℕ). t < threads c.args.hall.now.terms) (sym c.thread.ensures) c.requires.may.thread)) c.number_of.ensures.number
+pub find_next-requires-clause-asks : goal.find_next-requires-clause-asks
+find_next-requires-clause-asks g c = λ κs b. record {
+  seat = c.requires.seat.of;
+  turn = turn_is _ _ _ (subst (λ (n : ℕ). c.thread.result < n) (sym c.requires.seat.made) (subst (λ (t : ℕ). t < threads c.args.hall.now.terms) (sym c.thread.ensures) c.requires.may.thread)) c.number_of.ensures.number;
+}
 
 pub hand_on-requires : goal.hand_on-requires
 hand_on-requires g c =
     let d : DidTakeOut c.args.released.lock c.take_out-state.result c.args.«package».now c.take_out-state.new.self = record { was = c.take_out-state.ensures.lock; is = c.take_out-state.ensures.is; locks = c.take_out-state.ensures.locks; rest = c.take_out-state.ensures.rest } in
     let e = c.in-Next.ensures {u = tt} in record {
       hands = may_lock c.args.hall.now 1 c.args.released.lock c.take_out-state.result c.args.«package».now c.take_out-state.new.self c.args.hands.now _ d e.acts refl refl c.requires.hands;
-      place = subst (λ (i : ℕ). i < locks c.args.hall.now.terms) (sym d.rest.number) c.requires.place;
-      turn = subst (λ (n : ℕ). IsTurn n c.in-Next.next) (c.requires.seat.1 ∙ c.requires.made) e.found.1;
+      turn = subst (λ (n : ℕ). IsTurn n c.in-Next.next) (c.requires.seat.of.1 ∙ c.requires.seat.made) e.found.1;
       beside = (bare c.args.«package».now, is_beside c.args.hands.now.pass.knows c.find_next.new.pass.knows c.args.«package».now c.args.released.block.now.thread c.requires.hands.at.out (same_outs _ c.args.hands.now.pass c.find_next.new.pass e.acts) (block_thread c.args.«package».now c.args.released.block.now c.keeps.ensures.sound c.requires.may.last));
-      released = is_released c.args.hands.now.pass.knows c.find_next.new.pass.knows _ c.args.released.lock c.args.released.block.now c.take_out-state.result c.args.«package».now c.keeps.ensures.sound c.requires.may e.acts.adds.told.image e.acts.adds.told.worker d.was d.rest;
+      released = is_released c.args.hall.now.terms c.args.hands.now.pass.knows c.find_next.new.pass.knows c.args.released.lock c.args.released.block.now c.take_out-state.result c.args.«package».now c.keeps.ensures.sound c.requires.may e.acts.adds.told.image e.acts.adds.told.worker d.was d.rest;
     }
 
 pub free-requires : goal.free-requires
@@ -30,7 +31,7 @@ free-requires g c =
     let d : DidTakeOut c.args.released.lock c.take_out-state.result c.args.«package».now c.take_out-state.new.self = record { was = c.take_out-state.ensures.lock; is = c.take_out-state.ensures.is; locks = c.take_out-state.ensures.locks; rest = c.take_out-state.ensures.rest } in
     let e = c.in-Nobody.ensures {u = tt} in record {
       own = c.find_next.ensures.acts.own.0 ∙ c.requires.hands.at.own;
-      may = taken_free c.args.hall.now.terms _ c.args.released.lock c.take_out-state.result c.args.«package».now c.take_out-state.new.self c.args.hands.now.pass c.find_next.new.pass d c.requires.place c.requires.hands.at.out e.acts;
+      may = taken_free c.args.hall.now.terms _ c.args.released.lock c.take_out-state.result c.args.«package».now c.take_out-state.new.self c.args.hands.now.pass c.find_next.new.pass d c.requires.may.lock c.requires.hands.at.out e.acts;
     }
 
 pub free-requires-in-Unknown : goal.free-requires-in-Unknown
@@ -38,7 +39,7 @@ free-requires-in-Unknown g c =
     let d : DidTakeOut c.args.released.lock c.take_out-state.result c.args.«package».now c.take_out-state.new.self = record { was = c.take_out-state.ensures.lock; is = c.take_out-state.ensures.is; locks = c.take_out-state.ensures.locks; rest = c.take_out-state.ensures.rest } in
     let e = c.in-Unknown.ensures {u = tt} in record {
       own = c.find_next.ensures.acts.own.0 ∙ c.requires.hands.at.own;
-      may = taken_free c.args.hall.now.terms _ c.args.released.lock c.take_out-state.result c.args.«package».now c.take_out-state.new.self c.args.hands.now.pass c.find_next.new.pass d c.requires.place c.requires.hands.at.out e.acts;
+      may = taken_free c.args.hall.now.terms _ c.args.released.lock c.take_out-state.result c.args.«package».now c.take_out-state.new.self c.args.hands.now.pass c.find_next.new.pass d c.requires.may.lock c.requires.hands.at.out e.acts;
     }
 
 pub returns-in-Next : goal.returns-in-Next

@@ -1,17 +1,15 @@
 use Rattle.std.proofs.Common.{◌<◌, length, arith}
 use Rattle.tc_queue.specs.Lines.{SeatView}
 use Rattle.tc_combiner.specs.Release.{Unlocks}
-use Rattle.tc_combiner.proofs.Seats.{at_one, at_seat, made_one}
+use Rattle.tc_combiner.proofs.Seats.{at_one, at_seat}
 use Rattle.tc_combiner.proofs.settle.unlocked_at.Goals as goal
 
 pub unlocked_with-requires-clause-seat : goal.unlocked_with-requires-clause-seat
-unlocked_with-requires-clause-seat g c = λ κs b. at_one g.Q.Waiters.seen g.Q.Waiters.queue c.args.shared.now.hall.now.terms c.args.shared.now.queues.now c.args.seats.now c.args.released.lock c.index-shared-lock.result c.index-seats-lock.result c.requires.seats c.requires.may.lock
-
-pub unlocked_with-requires-clause-made : goal.unlocked_with-requires-clause-made
-unlocked_with-requires-clause-made g c = λ κs b. made_one g.Q.Waiters.seen g.Q.Waiters.queue c.args.shared.now.hall.now.terms c.args.shared.now.queues.now c.args.seats.now c.args.released.lock c.index-shared-lock.result c.requires.seats c.requires.may.lock
+unlocked_with-requires-clause-seat g c = λ κs b. at_one g.Q.Waiters.seen g.Q.Waiters.queue c.args.shared.now.hall.now.terms c.args.shared.now.queues.now c.args.seats.now c.args.released.lock c.index-shared-lock.result c.index-seats-lock.result c.requires.seats.of c.requires.may.release.lock
 
 pub returns : goal.returns
 returns g c =
-    let low = c.requires.may.lock in
+    let low = c.requires.may.release.lock in
+    let count = c.requires.seats.seats in
     let deep : c.args.released.lock < length c.args.seats.now = omega arith in
     at_seat g.Q.Waiters.seen (λ (s t : SeatView). Unlocks c.args.shared.now.hall.now.terms c.args.released.lock c.args.released.block.now c.args.«package» s t c.args.hands.now c.unlocked_with.new.hands c.unlocked_with.result) c.args.seats.now c.args.released.lock c.index-seats-lock.result c.unlocked_with.new.seat deep c.index-seats-lock.is (c.unlocked_with.ensures.asks.table, c.unlocked_with.ensures.asks.threads) c.unlocked_with.ensures
