@@ -8,7 +8,7 @@ use Rattle.tc_mutex_spec.specs.Blocks.{IsComplete, end_after}
 use Rattle.tc_segment.specs.View.{LockView, IsAtRest, fresh_state, kept, strict_as, with_journal}
 use Rattle.tc_context.specs.Locks.{lock_in, IsPlaced}
 use Rattle.tc_context.specs.Whole.{set_of, block_locks}
-use Rattle.tc_context.specs.View.{PackageView, IsFresh, IsWaiting, bare, locks_in, with_grant, with_turns}
+use Rattle.tc_context.specs.View.{PackageView, IsFresh, IsWaiting, bare, held_in, locks_in, with_grant, with_turns}
 use Rattle.tc_law.specs.Lawful.{Lawful, StandsAt, IsAmong, IsLimited, owner_after, with_states}
 use Rattle.tc_replay.specs.Rejected.{AreRight, IsOfThread}
 use Rattle.tc_replay.specs.Run.{grant_kind}
@@ -43,6 +43,13 @@ pub record IsCalm (p : PackageView) : Type 0 where
   pub pending : p.pending ≡ None
   pub granted : p.granted ≡ None
   pub held : (k : ℕ) → set_of p.context k ≡ true → has p.context.guest.held k ≡ true
+
+-- the thread has run its block, and released this lock, which is in the package yet
+pub record HasReleased (lock : ℕ) (p : PackageView) : Type 0 where
+  pub pending : p.pending ≡ None
+  pub granted : p.granted ≡ None
+  pub released : has (held_in p) lock ≡ false
+  pub here : set_of p.context lock ≡ true
 
 -- all packages and all locks are as the blocks leave them, each of which is right, and each lock that nobody owns is at home
 pub record AreAsLeft (image : Shown) (terms : Terms) (before : Before) (home : List (Option LockView)) : Type 0 where

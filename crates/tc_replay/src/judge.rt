@@ -6,7 +6,7 @@ ghost use Rattle.tc_context.specs.Whole.{set_of};
 ghost use Rattle.tc_segment.specs.View.{LockView};
 ghost use Rattle.tc_context.specs.Locks.{lock_in, SameLocks};
 ghost use Rattle.tc_context.specs.View.{IsReserved, IsRoomier, bare, held_in};
-ghost use Rattle.tc_replay.specs.Taken.{Before, DidGrant, TookOne, HasRoom, IsCalm, IsNext, MayGrant, StaysWith};
+ghost use Rattle.tc_replay.specs.Taken.{HasReleased, Before, DidGrant, TookOne, HasRoom, IsCalm, IsNext, MayGrant, StaysWith};
 ghost use Rattle.tc_journal.specs.Batch.{is_section};
 ghost use Rattle.tc_journal.specs.declared.block.Block.{Block as AnyBlock};
 ghost use Rattle.tc_mutex_spec.specs.Blocks.{end_after};
@@ -131,10 +131,7 @@ fn run_recorded(image: &Image, terms: Terms, package: &mut Package, block: &Bloc
 
 /// Takes a released lock out of a package and brings it home.
 fn bring_home(home: &mut LockSet, package: &mut Package, lock: u32)
-    requires pending { «package».old.pending ≡ None }
-    requires granted { «package».old.granted ≡ None }
-    requires released { has (held_in «package».old) lock ≡ false }
-    requires here { set_of «package».old.context lock ≡ true }
+    requires { HasReleased lock «package».old }
     ensures at { StaysWith home.old «package».old home.new «package».new }
     ensures granted { «package».new.granted ≡ None }
     ensures set { (k : ℕ) → set_of «package».new.context k
