@@ -3,7 +3,7 @@ use Rattle.std.proofs.Common.{◌≡◌, ℕ, ◌≤◌, true, false, List, [], 
 use Rattle.std.proofs.lemmas.List.{length-set}
 use Rattle.tc_journal.specs.declared.block.Block.{Block}
 use Rattle.tc_journal.specs.declared.block.End.{End}
-use Rattle.tc_journal.specs.declared.block.End.TheVariants.{Wants, Unlocked, Slept, Cut, Exit, Fault, Spent}
+use Rattle.tc_journal.specs.declared.block.End.TheVariants.{Wants, Unlocked, Slept, Cut}
 use Rattle.tc_context.specs.View.{PackageView, IsRoomier, fits_of}
 use Rattle.tc_hall.specs.declared.board.Knows.{Knows}
 use Rattle.tc_hall.specs.Outs.{Outs, Item, Pack, erase, outs}
@@ -12,7 +12,7 @@ use Rattle.tc_hall.specs.Rule.{threads}
 use Rattle.tc_hall.specs.Steps.{HasSeenAll, HasStop}
 use Rattle.tc_park.specs.Order.{without}
 use Rattle.tc_combiner.specs.declared.settled.Settled.{Settled}
-use Rattle.tc_combiner.specs.declared.settled.Settled.TheVariants.{GoesOn, Adopted, Shipped, Parked, Ended, Stopped as Was_stopped}
+use Rattle.tc_combiner.specs.declared.settled.Settled.TheVariants.{GoesOn, Adopted, Stopped as Was_stopped}
 use Rattle.tc_combiner.specs.Answers.{carried}
 use Rattle.tc_combiner.specs.Packages.{IsGoodFor}
 use Rattle.tc_combiner.specs.Settling.{DidAcquire, DidUnlock, DidEnd, HasAcquired, HasSettled, SettledAs, Works}
@@ -23,7 +23,7 @@ use Rattle.tc_combiner.proofs.Packages.{plain_good}
 use Rattle.tc_combiner.proofs.Telling.{acquire_seen, end_seen, unlock_seen}
 use Rattle.tc_workers.specs.Finished.{IsFinished}
 use Rattle.tc_workers.specs.Settled.{IsAnswer, step_of}
-use Rattle.tc_workers.specs.Worker.{HasClaimed, HasLeft, HasOut, HasSealed, IsAtDesk, IsClaimed, IsFit, IsIdle, IsStep, IsStill, MayGoBack, nothing}
+use Rattle.tc_workers.specs.Worker.{HasClaimed, HasLeft, HasOut, HasSealed, IsAtDesk, IsClaimed, IsFit, IsIdle, IsStep, IsStill, IsUnmoved, MayGoBack, nothing}
 use Rattle.tc_workers.proofs.Passes.{still_then, stop_shown}
 use Rattle.tc_workers.proofs.Running.{is_free, roomier_good, roomier_out}
 
@@ -86,12 +86,12 @@ back_still v w q image worker h = record {
 pub good_back : (v : Knows) (q : PackageView) → IsGoodFor v q → MayGoBack v q
 good_back v q h = record { of = h.of; settled = h.settled; runs = h.runs; locks = h.locks; fits = λ e. h.fits }
 
-pub at_still : (b : BenchView) (hand : Option PackageView) (d : DeskView) (p : PassView) → IsAtDesk b hand d → IsStill d.pass p → outs p.knows ≡ outs d.pass.knows → IsAtDesk b hand (with_pass d p)
-at_still b hand d p h s same = record {
-  fits = fits_still b d p h.fits s (subst (λ (o : Outs). (c : Outs) × Owns c o (packed d.aside)) (sym same) h.fits.out);
+pub at_still : (b : BenchView) (hand : Option PackageView) (d : DeskView) (p : PassView) → IsAtDesk b hand d → IsUnmoved d.pass p → IsAtDesk b hand (with_pass d p)
+at_still b hand d p h u = record {
+  fits = fits_still b d p h.fits u.still (subst (λ (o : Outs). (c : Outs) × Owns c o (packed d.aside)) (sym u.out) h.fits.out);
   sleepers = h.sleepers;
-  out = subst (λ (o : Outs). Owns nothing o (packed hand ++ packed d.aside)) (sym same) h.out;
-  fit = fit_still d.pass.knows p.knows hand s.image s.worker h.fit;
+  out = subst (λ (o : Outs). Owns nothing o (packed hand ++ packed d.aside)) (sym u.out) h.out;
+  fit = fit_still d.pass.knows p.knows hand u.still.image u.still.worker h.fit;
 }
 
 -- ---- leaving
@@ -189,8 +189,8 @@ length_without None s = refl
 length_without (Some t) s = length-set s t None
 
 -- a desk with nothing in hand and nothing set aside is so still
-pub idle_still : (b : BenchView) (d : DeskView) (p : PassView) → IsIdle b d → IsStill d.pass p → outs p.knows ≡ outs d.pass.knows → IsIdle b (with_pass d p)
-idle_still b d p h s same = record { desk = at_still b None d p h.desk s same; free = h.free }
+pub idle_still : (b : BenchView) (d : DeskView) (p : PassView) → IsIdle b d → IsUnmoved d.pass p → IsIdle b (with_pass d p)
+idle_still b d p h u = record { desk = at_still b None d p h.desk u; free = h.free }
 
 pub idle_sleepers : (b : BenchView) (d : DeskView) (sleepers : List (Option ℕ)) (now : ℕ) → IsIdle b d → length sleepers ≡ length d.sleepers → IsIdle b (record d { sleepers = sleepers; now = now })
 idle_sleepers b d sleepers now h e = record { desk = other_sleepers b d sleepers now h.desk e; free = h.free }
@@ -216,51 +216,39 @@ moved v w xs ys m h = subst (λ (l : List Item). Owns nothing (outs w) l) (appen
 acquired : (i : ℕ) (q : PackageView) (d e : DeskView) (s : Settled) → DidAcquire i q d e s → IsAnswer d.pass.knows e s
 acquired i q d e (GoesOn p) h = good_after h.calls d.pass.knows e.pass.knows p h.adds h.acquired.1.3
 acquired i q d e (Adopted p) h = absurd h.acquired
-acquired i q d e Shipped h = tt
-acquired i q d e Parked h = tt
-acquired i q d e Ended h = tt
 acquired i q d e Was_stopped h = (acquire_seen i q d e h, h.acquired.1.1)
+acquired i q d e r h = tt
 
 unlocked : (i : ℕ) (q : PackageView) (x : Block) (d e : DeskView) (s : Settled) → DidUnlock i q x d e s → IsAnswer d.pass.knows e s
 unlocked i q x d e (GoesOn p) h = good_after h.calls d.pass.knows e.pass.knows p h.adds h.unlocked.4.0
 unlocked i q x d e (Adopted p) h = good_after h.calls d.pass.knows e.pass.knows p h.adds h.unlocked.5
-unlocked i q x d e Shipped h = tt
-unlocked i q x d e Parked h = tt
-unlocked i q x d e Ended h = tt
 unlocked i q x d e Was_stopped h = (unlock_seen i q x d e h, h.unlocked.3)
+unlocked i q x d e r h = tt
 
 ended : (q : PackageView) (x : Block) (d e : DeskView) (s : Settled) → DidEnd q x d e s → IsAnswer d.pass.knows e s
 ended q x d e (GoesOn p) h = absurd h.ended
 ended q x d e (Adopted p) h = absurd h.ended
-ended q x d e Shipped h = tt
-ended q x d e Parked h = tt
-ended q x d e Ended h = tt
 ended q x d e Was_stopped h = (end_seen q x d e h, h.ended.5)
+ended q x d e r h = tt
 
 slept : (q : PackageView) (x : Block) (d e : DeskView) (s : Settled) → SettledAs Slept q x d e s → IsAnswer d.pass.knows e s
 slept q x d e (GoesOn p) h = absurd h
 slept q x d e (Adopted p) h = absurd h
-slept q x d e Shipped h = tt
-slept q x d e Parked h = tt
-slept q x d e Ended h = tt
 slept q x d e Was_stopped h = absurd h
+slept q x d e r h = tt
 
 cut : (q : PackageView) (x : Block) (d e : DeskView) (s : Settled) → SettledAs Cut q x d e s → IsAnswer d.pass.knows e s
 cut q x d e (GoesOn p) h = subst (λ (z : PackageView). IsGoodFor e.pass.knows z) (sym h.0) h.2
 cut q x d e (Adopted p) h = absurd h
-cut q x d e Shipped h = tt
-cut q x d e Parked h = tt
-cut q x d e Ended h = tt
 cut q x d e Was_stopped h = absurd h
+cut q x d e r h = tt
 
 pub settled_answer : (end : End) (q : PackageView) (x : Block) (d e : DeskView) (s : Settled) → SettledAs end q x d e s → IsAnswer d.pass.knows e s
 settled_answer (Wants i) q x d e s h = acquired i q d e s h
 settled_answer (Unlocked i) q x d e s h = unlocked i q x d e s h
 settled_answer Slept q x d e s h = slept q x d e s h
 settled_answer Cut q x d e s h = cut q x d e s h
-settled_answer Exit q x d e s h = ended q x d e s h
-settled_answer (Fault f) q x d e s h = ended q x d e s h
-settled_answer Spent q x d e s h = ended q x d e s h
+settled_answer end q x d e s h = ended q x d e s h
 
 pub works_still : (d e : DeskView) → Works d e → IsStill d.pass e.pass
 works_still d e h = record { own = h.own; image = h.walks.told.image; worker = h.walks.told.worker; joined = h.walks.told.joined }
@@ -272,10 +260,8 @@ left_none e gone out = record { aside = gone; out = out_aside e.pass.knows e.asi
 answered : (b : BenchView) (v : Knows) (e : DeskView) (s : Settled) → FitsBench b e → length e.sleepers ≡ threads b.hall.terms → HasOut e.pass.knows (carried s ++ packed e.aside) → IsAnswer v e s → IsStep b e (step_of s)
 answered b v e (GoesOn p) fits count out a = record { fits = fits; sleepers = count; out = out; fit = a }
 answered b v e (Adopted p) fits count out a = record { fits = fits; sleepers = count; out = out; fit = a }
-answered b v e Shipped fits count out a = record { fits = fits; sleepers = count; out = out; fit = tt }
-answered b v e Parked fits count out a = record { fits = fits; sleepers = count; out = out; fit = tt }
-answered b v e Ended fits count out a = record { fits = fits; sleepers = count; out = out; fit = tt }
 answered b v e Was_stopped fits count out a = (left_none e a.1 out, stop_shown v e.pass.knows a.0)
+answered b v e r fits count out a = record { fits = fits; sleepers = count; out = out; fit = tt }
 
 pub after_acquire : (b : BenchView) (q : PackageView) (d e : DeskView) (s : Settled) → IsAtDesk b (Some q) d → Works d e → FitsBench b e → Moves d.pass.knows e.pass.knows (Pack q ∷ packed d.aside) (carried s ++ packed e.aside) → HasAcquired q d e s → IsStep b e (step_of s)
 after_acquire b q d e s h works fits moves did = answered b d.pass.knows e s fits (works.room ∙ h.sleepers) (moved d.pass.knows e.pass.knows (Pack q ∷ packed d.aside) (carried s ++ packed e.aside) moves h.out) (acquired did.0 q d e s did.2)

@@ -47,11 +47,9 @@ module _ (b : BenchView) (is : IsBench b) where
   threads_are = ap (λ (x : Shown). length x.entries) is.hall
 
   all_seats : (ss : List SeatView) → AreSeatsOf b.queues ss → AreSeats b.hall.terms b.queues ss
-  all_seats ss of = record {
-    each = λ i q s h. let l = locks_are in let c = is.queues.count in let d = of.count in
-        of.each i (get_or b.queues i q) (get_or ss i s) (at_itself b.queues i q (omega arith)) (at_itself ss i s (omega arith));
-    made = λ i q h. let l = locks_are in let c = is.queues.count in
-        is.queues.made i (get_or b.queues i q) (at_itself b.queues i q (omega arith)) ∙ sym threads_are;
+  all_seats ss of i q s h = let l = locks_are in let c = is.queues.count in let d = of.count in record {
+    of = of.each i (get_or b.queues i q) (get_or ss i s) (at_itself b.queues i q (omega arith)) (at_itself ss i s (omega arith));
+    made = is.queues.made i (get_or b.queues i q) (at_itself b.queues i q (omega arith)) ∙ sym threads_are;
   }
 
   -- a worker with a new pass

@@ -72,7 +72,7 @@ all_finished b w ws vs p q r a c work end others is same now = record {
 }
 
 -- so all workers of the run have ended
-pub has_run : (b : BenchView) (n : ℕ) (ws : List WorkerView) (p : PassView) (a : Bool) → AreHired b n n ws → HaveFinished b ws p a → HasRun b n p a
+pub has_run : (b : BenchView) (n : ℕ) (ws : List WorkerView) (p : PassView) (a : Bool) → AreHired b n n ws → HaveFinished b ws p a → HasRun b.hall n p a
 has_run b n ws p a hired end = record {
   own = end.own;
   all = λ u lt. let l = hired.all in let at = at_place ws (n - 1 - u) (omega arith) in

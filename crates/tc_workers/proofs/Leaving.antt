@@ -5,7 +5,7 @@ use Rattle.tc_hall.specs.declared.board.Call.{Call}
 use Rattle.tc_hall.specs.declared.board.Call.TheVariants.{Stop, Stopped as Seen}
 use Rattle.tc_hall.specs.declared.board.Knows.{Knows}
 use Rattle.tc_hall.specs.declared.place.Place.TheVariants.{Ready}
-use Rattle.tc_hall.specs.Outs.{Called, Item, outs}
+use Rattle.tc_hall.specs.Outs.{Called, Item}
 use Rattle.tc_hall.specs.PassView.{PassView}
 use Rattle.tc_hall.specs.Steps.{Gave, HasStop, IsSamePass, SawStopped, after_stop, put_call, with_call}
 use Rattle.tc_combiner.specs.View.{BenchView, DeskView}
@@ -13,7 +13,7 @@ use Rattle.tc_combiner.specs.Walks.{packed}
 use Rattle.tc_combiner.proofs.Acting.{told_then}
 use Rattle.tc_workers.specs.GoOn.{GivesUp}
 use Rattle.tc_workers.specs.Search.{SawStop}
-use Rattle.tc_workers.specs.Worker.{DidLeave, DidPutBack, HasClaimed, HasOut, IsAtDesk, IsFit, IsStep, IsStill, MayGoBack, MayLeave, MayPutBack, put_back}
+use Rattle.tc_workers.specs.Worker.{DidLeave, DidPutBack, HasClaimed, HasOut, IsAtDesk, IsFit, IsStep, IsStill, IsUnmoved, MayGoBack, MayLeave, MayPutBack, put_back}
 use Rattle.tc_workers.specs.declared.step.Step.TheVariants.{Stopped}
 use Rattle.tc_workers.proofs.Desks.{aside_good, at_still, back_still, fits_still, good_back, misfit_out, none_out, one_back, with_pass}
 use Rattle.tc_workers.proofs.Passes.{still_called, still_same, still_then, stop_later, stop_seen}
@@ -69,9 +69,9 @@ module _ (b : BenchView) (hand : Option PackageView) (d : DeskView) (h : MayLeav
   left_step e did = (did.left, stop_later d.pass.knows e.pass.knows (put_back hand ++ put_back d.aside) did.told.calls h.stop)
 
 -- what is in hand may be put back, once the stop was made or seen
-pub leave_hand : (b : BenchView) (hand : Option PackageView) (d : DeskView) (p : PassView) → IsAtDesk b hand d → IsStill d.pass p → outs p.knows ≡ outs d.pass.knows → HasStop p.knows → MayLeave b hand (with_pass d p)
-leave_hand b hand d p h s same stop =
-    let at : IsAtDesk b hand (with_pass d p) = at_still b hand d p h s same in record {
+pub leave_hand : (b : BenchView) (hand : Option PackageView) (d : DeskView) (p : PassView) → IsAtDesk b hand d → IsUnmoved d.pass p → HasStop p.knows → MayLeave b hand (with_pass d p)
+leave_hand b hand d p h u stop =
+    let at : IsAtDesk b hand (with_pass d p) = at_still b hand d p h u in record {
       fits = at.fits;
       out = at.out;
       may = λ q e. good_back p.knows q (subst (λ (o : Option PackageView). IsFit p.knows o) e at.fit);
@@ -79,11 +79,11 @@ leave_hand b hand d p h s same stop =
     }
 
 -- so may a package that was claimed and does not fit
-pub leave_claimed : (b : BenchView) (d : DeskView) (p : PassView) (q : PackageView) → HasClaimed b q d → IsStill d.pass p → outs p.knows ≡ outs d.pass.knows → HasStop p.knows → MayLeave b (Some q) (with_pass d p)
-leave_claimed b d p q h s same stop = record {
-  fits = fits_still b d p h.fits s (none_out p.knows d.aside h.aside);
-  out = misfit_out b d p q h same;
-  may = λ r e. let is : q ≡ r = cc in subst (λ (z : PackageView). MayGoBack p.knows z) is (back_still d.pass.knows p.knows q s.image s.worker h.claimed.back);
+pub leave_claimed : (b : BenchView) (d : DeskView) (p : PassView) (q : PackageView) → HasClaimed b q d → IsUnmoved d.pass p → HasStop p.knows → MayLeave b (Some q) (with_pass d p)
+leave_claimed b d p q h u stop = record {
+  fits = fits_still b d p h.fits u.still (none_out p.knows d.aside h.aside);
+  out = misfit_out b d p q h u.out;
+  may = λ r e. let is : q ≡ r = cc in subst (λ (z : PackageView). MayGoBack p.knows z) is (back_still d.pass.knows p.knows q u.still.image u.still.worker h.claimed.back);
   stop = stop;
 }
 
@@ -103,15 +103,12 @@ gave_up_from d0 d e q same did = subst (λ (z : DeskView). GivesUp q z e) same d
 -- ---- by the names of the calls
 
 -- the desk saw the stop
-module _ (b : BenchView) (d : DeskView) (o p : PassView) (is : o ≡ d.pass) (still : IsStill o p) (same : outs p.knows ≡ outs o.knows) where
-  pub here_still : IsStill d.pass p
-  here_still = subst (λ (z : PassView). IsStill z p) is still
-
-  pub here_outs : outs p.knows ≡ outs d.pass.knows
-  here_outs = same ∙ ap (λ (z : PassView). outs z.knows) is
+module _ (b : BenchView) (d : DeskView) (o p : PassView) (is : o ≡ d.pass) (u : IsUnmoved o p) where
+  pub here_unmoved : IsUnmoved d.pass p
+  here_unmoved = subst (λ (z : PassView). IsUnmoved z p) is u
 
   pub may_leave : (hand : Option PackageView) → IsAtDesk b hand d → HasStop p.knows → MayLeave b hand (with_pass d p)
-  may_leave hand at stop = leave_hand b hand d p at here_still here_outs stop
+  may_leave hand at stop = leave_hand b hand d p at here_unmoved stop
 
   pub may_leave_claimed : (q : PackageView) (e : DeskView) → HasClaimed b q e → d ≡ e → HasStop p.knows → MayLeave b (Some q) (with_pass d p)
-  may_leave_claimed q e claimed was stop = leave_claimed b d p q (subst (λ (z : DeskView). HasClaimed b q z) (sym was) claimed) here_still here_outs stop
+  may_leave_claimed q e claimed was stop = leave_claimed b d p q (subst (λ (z : DeskView). HasClaimed b q z) (sym was) claimed) here_unmoved stop

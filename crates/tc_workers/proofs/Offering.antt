@@ -8,7 +8,7 @@ use Rattle.tc_hall.specs.Rule.{threads}
 use Rattle.tc_ready.specs.ReadyView.{Offered, ReadyView}
 use Rattle.tc_ready.specs.Rule.{offer, thread_of}
 use Rattle.tc_combiner.specs.declared.settled.Settled.{Settled}
-use Rattle.tc_combiner.specs.declared.settled.Settled.TheVariants.{GoesOn, Adopted, Shipped, Parked, Ended, Stopped}
+use Rattle.tc_combiner.specs.declared.settled.Settled.TheVariants.{Stopped}
 use Rattle.tc_combiner.specs.Walks.{TakesDown}
 use Rattle.tc_combiner.specs.Settling.{TellsReady}
 use Rattle.tc_combiner.specs.View.{DeskView}
@@ -49,12 +49,8 @@ took_down : (n : ℕ) (ts : List ℕ) (cs : List Call) → TakesDown n [] ts cs 
 took_down n ts cs h = subst (λ (l : List ℕ). All (λ t. t < n) l) (sym h.0) h.1
 
 pub handed_known : (k : Terms) (r : Settled) (d e : DeskView) → TellsReady k r d e → All (λ t. t < threads k) e.handed
-handed_known k (GoesOn q) d e h = took_down (threads k) e.handed h.0 h.2
-handed_known k (Adopted q) d e h = took_down (threads k) e.handed h.0 h.2
-handed_known k Shipped d e h = took_down (threads k) e.handed h.0 h.2
-handed_known k Parked d e h = took_down (threads k) e.handed h.0 h.2
-handed_known k Ended d e h = took_down (threads k) e.handed h.0 h.2
 handed_known k Stopped d e h = subst (λ (l : List ℕ). All (λ t. t < threads k) l) (sym h.2) (λ i x deep. absurd (omega arith))
+handed_known k r d e h = took_down (threads k) e.handed h.0 h.2
 
 pub room_enough : (threads fuel sections : ℕ) → CanHave fuel sections → min (threads * sections) 4096 ≤ min (threads * (fuel / 2 + 2)) 4096
 room_enough threads fuel sections can =

@@ -19,7 +19,7 @@ use Rattle.tc_hall.specs.Steps.{IsSamePass, Gets, HasStop, made, seen, HasSeenAl
 use Rattle.tc_combiner.specs.Walks.{HasSeenStop}
 use Rattle.tc_ready.specs.Scan.{OnlyLooks}
 use Rattle.tc_ready.proofs.Scanning.{looked_more, nothing_looked}
-use Rattle.tc_workers.specs.Worker.{HasOut, IsClaimed, IsStill, SawEnded, SawOneLeft}
+use Rattle.tc_workers.specs.Worker.{HasOut, IsClaimed, IsStill, IsUnmoved, SawEnded, SawOneLeft}
 
 -- ---- the same pass
 
@@ -46,14 +46,17 @@ still_missed p q word found own e = record { own = own; image = ap (λ (v : Know
 pub still_looked : (p q : PassView) → IsSamePass p q → OnlyLooks p.knows q.knows → IsStill p q
 still_looked p q own h = record { own = own; image = ap (λ (v : Knows). v.image) h.looked; worker = ap (λ (v : Knows). v.worker) h.looked; joined = ap (λ (v : Knows). v.joined) h.looked }
 
-pub outs_call : (v w : Knows) (c : Call) → w ≡ with_call v c → outs w ≡ outs v
-outs_call v w c e = ap outs e
+pub unmoved_call : (p q : PassView) (c : Call) → IsSamePass p q → q.knows ≡ with_call p.knows c → IsUnmoved p q
+unmoved_call p q c own e = record { still = still_call p q c own e; out = ap outs e }
+
+pub unmoved_looked : (p q : PassView) → IsSamePass p q → OnlyLooks p.knows q.knows → IsUnmoved p q
+unmoved_looked p q own h = record { still = still_looked p q own h; out = ap outs h.looked }
+
+pub unmoved_then : (p q r : PassView) → IsUnmoved p q → IsUnmoved q r → IsUnmoved p r
+unmoved_then p q r a b = record { still = still_then p q r a.still b.still; out = b.out ∙ a.out }
 
 pub outs_missed : (v w : Knows) (word found : ℕ) → w ≡ after_miss v word found → outs w ≡ outs v
 outs_missed v w word found e = ap outs e
-
-pub outs_looked : (v w : Knows) → OnlyLooks v w → outs w ≡ outs v
-outs_looked v w h = ap outs h.looked
 
 -- ---- a claim
 

@@ -6,7 +6,6 @@ use Rattle.tc_journal.specs.declared.block.Block.{Block}
 use Rattle.tc_journal.specs.declared.block.End.{End}
 use Rattle.tc_journal.specs.declared.block.End.TheVariants.{Wants}
 use Rattle.tc_context.specs.View.{PackageView, IsAfter, IsSoundPackage, want_of}
-use Rattle.tc_hall.specs.Outs.{outs}
 use Rattle.tc_hall.specs.PassView.{PassView}
 use Rattle.tc_combiner.specs.declared.settled.Settled.{Settled}
 use Rattle.tc_combiner.specs.Packages.{Runs}
@@ -15,7 +14,7 @@ use Rattle.tc_combiner.specs.View.{BenchView, DeskView, FitsBench}
 use Rattle.tc_combiner.proofs.Settling.{after_of, wants_ends, wants_lock}
 use Rattle.tc_workers.specs.declared.step.Step.{Step}
 use Rattle.tc_workers.specs.declared.step.Step.TheVariants.{On}
-use Rattle.tc_workers.specs.Worker.{HasSealed, IsAtDesk, IsStep, IsStill}
+use Rattle.tc_workers.specs.Worker.{HasSealed, IsAtDesk, IsStep, IsUnmoved}
 use Rattle.tc_workers.specs.Scripts.{IsPlaying}
 use Rattle.tc_workers.proofs.Desks.{aside_taken, at_still, other_sleepers, with_pass}
 
@@ -56,8 +55,8 @@ woken b d m hand end sleepers now p e f is same =
     playing b (record m { sleepers = sleepers }) hand None end (subst (λ (z : DeskView). IsAtDesk b None (record z { sleepers = sleepers })) (sym is) (other_sleepers b d sleepers now (at_desk b d hand None end p e f) same)) e f
 
 -- the pass made calls, and has out what it had
-pub looked_on : (b : BenchView) (d : DeskView) (q : PassView) (hand : Option PackageView) (end : Option End) → IsPlaying b d hand end → end ≡ None → IsStill d.pass q → outs q.knows ≡ outs d.pass.knows → IsPlaying b (with_pass d q) hand end
-looked_on b d q hand end p e s same = let r : hand ≡ hand = refl in playing b (with_pass d q) hand hand end (at_still b hand d q (at_desk b d hand hand end p e r) s same) e r
+pub looked_on : (b : BenchView) (d : DeskView) (q : PassView) (hand : Option PackageView) (end : Option End) → IsPlaying b d hand end → end ≡ None → IsUnmoved d.pass q → IsPlaying b (with_pass d q) hand end
+looked_on b d q hand end p e u = let r : hand ≡ hand = refl in playing b (with_pass d q) hand hand end (at_still b hand d q (at_desk b d hand hand end p e r) u) e r
 
 -- a package whose last block wanted a lock may acquire it
 pub may_acquire : (b : BenchView) (i : ℕ) (q : PackageView) (d : DeskView) → IsSoundPackage q → HasSealed b (Wants i) q d → MayAcquire b.image q

@@ -1,16 +1,15 @@
 -- The steps of a worker, one after another.
 use Rattle.std.proofs.Common.{◌≡◌, Bool, false, Option, None, refl, subst}
 use Rattle.tc_context.specs.View.{PackageView}
-use Rattle.tc_hall.specs.Outs.{outs}
 use Rattle.tc_hall.specs.PassView.{PassView}
 use Rattle.tc_hall.specs.Steps.{IsSamePass, SawStopped, after_stopped}
 use Rattle.tc_ready.specs.ReadyView.{ReadyView}
 use Rattle.tc_combiner.specs.View.{BenchView, DeskView}
 use Rattle.tc_workers.specs.Turns.{SawNoStop, Steps, TakesStep, more, none}
-use Rattle.tc_workers.specs.Worker.{WorkerView, IsAtWork, IsStill, worker_of}
+use Rattle.tc_workers.specs.Worker.{WorkerView, IsAtWork, IsStill, IsUnmoved, worker_of}
 use Rattle.tc_workers.specs.declared.step.Step.TheVariants.{On}
 use Rattle.tc_workers.proofs.Desks.{at_still, with_pass}
-use Rattle.tc_workers.proofs.Leaving.{here_outs, here_still}
+use Rattle.tc_workers.proofs.Leaving.{here_unmoved}
 
 pub no_stop : (d : DeskView) (r : ReadyView) (o p : PassView) (answer : Bool) → o ≡ d.pass → IsStill o p → SawStopped answer o.knows p.knows → answer ≡ false → SawNoStop (worker_of d r) (worker_of (with_pass d p) r)
 no_stop d r o p answer is still saw went = record {
@@ -22,9 +21,9 @@ no_stop d r o p answer is still saw went = record {
   rest = refl;
 }
 
-pub at_work_still : (b : BenchView) (hand : Option PackageView) (w : WorkerView) (o p : PassView) → IsAtWork b hand w → o ≡ w.desk.pass → IsStill o p → outs p.knows ≡ outs o.knows → IsAtWork b hand (worker_of (with_pass w.desk p) w.ready)
-at_work_still b hand w o p h is still same = record {
-  desk = at_still b hand w.desk p h.desk (here_still b w.desk o p is still same) (here_outs b w.desk o p is still same);
+pub at_work_still : (b : BenchView) (hand : Option PackageView) (w : WorkerView) (o p : PassView) → IsAtWork b hand w → o ≡ w.desk.pass → IsUnmoved o p → IsAtWork b hand (worker_of (with_pass w.desk p) w.ready)
+at_work_still b hand w o p h is u = record {
+  desk = at_still b hand w.desk p h.desk (here_unmoved b w.desk o p is u);
   ready = h.ready;
 }
 

@@ -4,7 +4,7 @@ use mathlib.Core.Option.{some}
 use lib.ListN.{get_elem?}
 use Rattle.tc_elf.specs.Shown.{Shown}
 use Rattle.tc_hall.specs.declared.board.Knows.{Knows}
-use Rattle.tc_hall.specs.PassView.{PassView}
+use Rattle.tc_hall.specs.PassView.{HallView, PassView}
 use Rattle.tc_hall.specs.Rule.{threads}
 use Rattle.tc_hall.specs.Steps.{HasAll, HasSeenAll, IsFree, IsNew}
 use Rattle.tc_queue.specs.Lines.{SeatView, IsSeatOf}
@@ -62,10 +62,10 @@ pub record HaveFinished (b : BenchView) (ws : List WorkerView) (p : PassView) (a
   pub free : IsFree p.knows
   pub done : all_done ≡ true → HasSeenAll (threads b.hall.terms) p.knows
 
--- the workers of a run with this number of them have ended: the pass of each is this one or was joined into it, and it has
+-- the workers of a run in this hall, so many of them, have ended: the pass of each is this one or was joined into it, and it has
 -- nothing out, and has seen each thread done where they say so
-pub record HasRun (b : BenchView) (count : ℕ) (p : PassView) (all_done : Bool) : Type 0 where
-  pub own : p.table ≡ b.hall.table
+pub record HasRun (hall : HallView) (count : ℕ) (p : PassView) (all_done : Bool) : Type 0 where
+  pub own : p.table ≡ hall.table
   pub all : HasAll count p.knows
   pub free : IsFree p.knows
-  pub done : all_done ≡ true → HasSeenAll (threads b.hall.terms) p.knows
+  pub done : all_done ≡ true → HasSeenAll (threads hall.terms) p.knows

@@ -2,7 +2,7 @@
 use Rattle.std.specs.Prelude.{◌≡◌, Some, None}
 use Rattle.tc_hall.specs.declared.board.Knows.{Knows}
 use Rattle.tc_combiner.specs.declared.settled.Settled.{Settled}
-use Rattle.tc_combiner.specs.declared.settled.Settled.TheVariants.{GoesOn, Adopted, Shipped, Parked, Ended, Stopped as Was_stopped}
+use Rattle.tc_combiner.specs.declared.settled.Settled.TheVariants.{GoesOn, Adopted, Stopped as Was_stopped}
 use Rattle.tc_combiner.specs.Packages.{IsGoodFor}
 use Rattle.tc_combiner.specs.Walks.{HasSeenStop}
 use Rattle.tc_combiner.specs.View.{DeskView}
@@ -12,16 +12,12 @@ use Rattle.tc_workers.specs.declared.step.Step.TheVariants.{On, Stopped}
 abbrev pub step_of : Settled → Step
 step_of (GoesOn q) = On (Some q)
 step_of (Adopted q) = On (Some q)
-step_of Shipped = On None
-step_of Parked = On None
-step_of Ended = On None
 step_of Was_stopped = Stopped
+step_of r = On None
 
 -- a package that comes is good, and a stop was seen, at which nothing stays set aside
 abbrev pub IsAnswer : Knows → DeskView → Settled → Type 0
 IsAnswer v e (GoesOn q) = IsGoodFor e.pass.knows q
 IsAnswer v e (Adopted q) = IsGoodFor e.pass.knows q
-IsAnswer v e Shipped = Unit {0}
-IsAnswer v e Parked = Unit {0}
-IsAnswer v e Ended = Unit {0}
 IsAnswer v e Was_stopped = HasSeenStop v e.pass.knows × (e.aside ≡ None)
+IsAnswer v e r = Unit {0}

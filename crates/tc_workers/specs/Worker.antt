@@ -45,6 +45,11 @@ pub record IsStill (p q : PassView) : Type 0 where
   pub worker : q.knows.worker ≡ p.knows.worker
   pub joined : q.knows.joined ≡ p.knows.joined
 
+-- it has out what it had
+pub record IsUnmoved (p q : PassView) : Type 0 where
+  pub still : IsStill p q
+  pub out : outs q.knows ≡ outs p.knows
+
 -- ---- packages in hand
 
 -- one that may be put back where the run was stopped: it fits the worker, unless its grant is Adopted
@@ -160,6 +165,16 @@ abbrev pub IsStep : BenchView → DeskView → Step → Type 0
 IsStep b d (On hand) = IsAtDesk b hand d
 IsStep b d AllDone = HasLeft d × HasSeenAll (threads b.hall.terms) d.pass.knows
 IsStep b d Stopped = HasLeft d × HasStop d.pass.knows
+
+-- the desk did this step with its pass
+pub record DeskSteps (b : BenchView) (d e : DeskView) (s : Step) : Type 0 where
+  pub still : IsStill d.pass e.pass
+  pub after : IsStep b e s
+
+-- the worker did it, who may try as many threads as before
+pub record WorkerSteps (b : BenchView) (x z : WorkerView) (s : Step) : Type 0 where
+  pub desk : DeskSteps b x.desk z.desk s
+  pub ready : z.ready.threads ≡ x.ready.threads
 
 -- a worker at the bench, with this package in hand, where there is one
 pub record IsAtWork (b : BenchView) (hand : Option PackageView) (w : WorkerView) : Type 0 where

@@ -4,8 +4,8 @@ ghost use Rattle.std.specs.Prelude.{◌≡◌, ◌<◌, [], ◌∷◌, true, Mat
 ghost use Rattle.tc_hall.specs.Rule.{threads};
 ghost use Rattle.tc_hall.specs.Places.{origin_code};
 ghost use Rattle.tc_hall.specs.Steps.{after_stop, Gets, HasSeenAll, SawStopped};
-ghost use Rattle.tc_hall.specs.Outs.{outs, Pack};
-ghost use Rattle.tc_workers.specs.Worker.{DidPutBack, HasMissed, HasOut, IsClaimed, IsStill, MayPutBack, SawEnded, SawOneLeft};
+ghost use Rattle.tc_hall.specs.Outs.{Pack};
+ghost use Rattle.tc_workers.specs.Worker.{DidPutBack, HasMissed, HasOut, IsClaimed, IsStill, IsUnmoved, MayPutBack, SawEnded, SawOneLeft};
 
 use tc_context::package::Package;
 use tc_hall::hall::Hall;
@@ -45,8 +45,7 @@ pub fn put_back(hall: &Hall, pass: &mut Pass, package: Option<Package>)
 /// Whether the run was stopped.
 pub fn stopped(hall: &Hall, pass: &mut Pass) -> bool
     requires own { pass.old.table ≡ hall.now.table }
-    ensures still { IsStill pass.old pass.new }
-    ensures outs { outs pass.new.knows ≡ outs pass.old.knows }
+    ensures unmoved { IsUnmoved pass.old pass.new }
     ensures saw { SawStopped result pass.old.knows pass.new.knows }
 {
     hall.stopped(pass)
@@ -55,8 +54,7 @@ pub fn stopped(hall: &Hall, pass: &mut Pass) -> bool
 /// Stops the run.
 pub fn stop(hall: &Hall, pass: &mut Pass)
     requires own { pass.old.table ≡ hall.now.table }
-    ensures still { IsStill pass.old pass.new }
-    ensures outs { outs pass.new.knows ≡ outs pass.old.knows }
+    ensures unmoved { IsUnmoved pass.old pass.new }
     ensures made { pass.new.knows ≡ after_stop pass.old.knows }
 {
     hall.stop(pass);
@@ -67,8 +65,7 @@ pub fn stop(hall: &Hall, pass: &mut Pass)
 pub fn all_done(hall: &Hall, pass: &mut Pass, count: u32) -> bool
     requires own { pass.old.table ≡ hall.now.table }
     requires count { count ≡ threads hall.now.terms }
-    ensures still { IsStill pass.old pass.new }
-    ensures outs { outs pass.new.knows ≡ outs pass.old.knows }
+    ensures unmoved { IsUnmoved pass.old pass.new }
     ensures done { result ≡ true → HasSeenAll count pass.new.knows }
     ensures looked { MatchBool result (SawEnded count pass.old.knows pass.new.knows)
         (SawOneLeft count pass.old.knows pass.new.knows) }

@@ -4,7 +4,7 @@ ghost use Rattle.std.specs.Prelude.{◌≡◌, ◌<◌, None, IfSome, MatchOptio
 ghost use Rattle.tc_hall.specs.Rule.{threads};
 ghost use Rattle.tc_park.specs.Order.{NoneSleeps};
 ghost use Rattle.tc_workers.specs.Search.{Finds, FoundNothing, IsChoice, IsPause, IsSearch, IsTakenUp, IsTry};
-ghost use Rattle.tc_workers.specs.Worker.{HasClaimed, IsAtWork, IsIdle, IsStep, IsStill};
+ghost use Rattle.tc_workers.specs.Worker.{DeskSteps, HasClaimed, IsAtWork, IsIdle, IsStill, WorkerSteps};
 
 use crate::calls;
 use crate::gate::{Gate, Point};
@@ -29,8 +29,7 @@ pub fn number<Q: Waiters>(desk: &mut Desk<Q>) -> u32
 // the worker sees then: it puts the package back.
 fn take_up<Q: Waiters>(bench: &Bench<'_, Q>, desk: &mut Desk<Q>, package: Package) -> Step
     requires claimed { HasClaimed bench.now «package» desk.old }
-    ensures still { IsStill desk.old.pass desk.new.pass }
-    ensures step { IsStep bench.now desk.new result }
+    ensures steps { DeskSteps bench.now desk.old desk.new result }
     ensures taken { IsTakenUp desk.old desk.new «package» result }
 {
     if package.fits(number(desk)) {
@@ -53,8 +52,7 @@ pub fn claim<G: Gate, Q: Waiters>(
 ) -> Step
     requires idle { IsIdle bench.now desk.old }
     requires thread { t < threads bench.now.hall.terms }
-    ensures still { IsStill desk.old.pass desk.new.pass }
-    ensures step { IsStep bench.now desk.new result }
+    ensures steps { DeskSteps bench.now desk.old desk.new result }
     ensures tried { IsTry from t desk.old.pass.knows desk.new.pass.knows result }
 {
     match calls::claim(bench.hall, desk.pass(), t, from) {
@@ -70,8 +68,7 @@ pub fn claim<G: Gate, Q: Waiters>(
 fn rest<Q: Waiters>(bench: &Bench<'_, Q>, pause: &Backoff, desk: &mut Desk<Q>) -> Step
     requires idle { IsIdle bench.now desk.old }
     requires sleepers { NoneSleeps desk.old.sleepers }
-    ensures still { IsStill desk.old.pass desk.new.pass }
-    ensures step { IsStep bench.now desk.new result }
+    ensures steps { DeskSteps bench.now desk.old desk.new result }
     ensures pause { IsPause (threads bench.now.hall.terms) desk.old desk.new result }
 {
     if calls::all_done(bench.hall, desk.pass(), bench.image.threads()) {
@@ -84,8 +81,7 @@ fn rest<Q: Waiters>(bench: &Bench<'_, Q>, pause: &Backoff, desk: &mut Desk<Q>) -
 // There is nothing to do: moves the clock to the first sleeper.
 fn idle<Q: Waiters>(bench: &Bench<'_, Q>, pause: &Backoff, desk: &mut Desk<Q>) -> Step
     requires idle { IsIdle bench.now desk.old }
-    ensures still { IsStill desk.old.pass desk.new.pass }
-    ensures step { IsStep bench.now desk.new result }
+    ensures steps { DeskSteps bench.now desk.old desk.new result }
     ensures pause { IsPause (threads bench.now.hall.terms) desk.old desk.new result }
 {
     let now = desk.now();
@@ -127,10 +123,8 @@ fn seek<G: Gate, Q: Waiters>(
 ) -> Step
     requires idle { IsIdle bench.now worker.old.desk }
     requires ready { worker.old.ready.threads ≡ threads bench.now.hall.terms }
-    ensures still { IsStill worker.old.desk.pass worker.new.desk.pass }
-    ensures step { IsStep bench.now worker.new.desk result }
+    ensures steps { WorkerSteps bench.now worker.old worker.new result }
     ensures search { IsSearch (threads bench.now.hall.terms) worker.old worker.new result }
-    ensures ready { worker.new.ready.threads ≡ worker.old.ready.threads }
 {
     match choose(bench, worker) {
         None => idle(bench, pause, &mut worker.desk),
@@ -147,10 +141,8 @@ pub fn find<G: Gate, Q: Waiters>(
     worker: &mut Worker<Q>,
 ) -> Step
     requires work { IsAtWork bench.now None worker.old }
-    ensures still { IsStill worker.old.desk.pass worker.new.desk.pass }
-    ensures step { IsStep bench.now worker.new.desk result }
+    ensures steps { WorkerSteps bench.now worker.old worker.new result }
     ensures found { Finds bench.now worker.old.desk.aside worker.old worker.new result }
-    ensures ready { worker.new.ready.threads ≡ worker.old.ready.threads }
 {
     match worker.desk.back() {
         None => seek(bench, gate, pause, worker),

@@ -3,7 +3,7 @@
 ghost use Rattle.std.specs.Prelude.{◌≡◌, ◌<◌, Some, None, All, MatchBool, MatchResult};
 ghost use Rattle.tc_context.specs.View.{IsRoomier, WantIsGranted};
 ghost use Rattle.tc_hall.specs.Rule.{threads};
-ghost use Rattle.tc_workers.specs.Worker.{HasLeft, HasSealed, IsAtDesk, IsAtWork, IsStep, IsStill};
+ghost use Rattle.tc_workers.specs.Worker.{DeskSteps, HasLeft, HasSealed, IsAtDesk, IsAtWork, IsStill, WorkerSteps};
 ghost use Rattle.tc_workers.specs.Settled.{step_of};
 ghost use Rattle.tc_workers.specs.GoOn.{Acquires, AsksForLock, GivesUp, GoesOn, HasRunBlock, MayRun, RanOne};
 ghost use Rattle.tc_workers.specs.Offers.{HasOffered};
@@ -99,8 +99,7 @@ fn acquire<R: Wait, G: Gate, Q: Waiters>(
 ) -> Step
     requires work { IsAtWork bench.now (Some «package») worker.old }
     requires wants { AsksForLock «package» }
-    ensures still { IsStill worker.old.desk.pass worker.new.desk.pass }
-    ensures step { IsStep bench.now worker.new.desk result }
+    ensures steps { DeskSteps bench.now worker.old.desk worker.new.desk result }
     ensures acquires { Acquires «package» worker.old.desk worker.new.desk result }
     ensures offered { HasOffered worker.new.desk.handed worker.old.ready worker.new.ready }
 {
@@ -163,10 +162,8 @@ fn run<R: Wait, G: Gate, Q: Waiters>(
 ) -> Step
     requires work { IsAtWork bench.now (Some «package») worker.old }
     requires want { WantIsGranted bench.now.image «package» }
-    ensures still { IsStill worker.old.desk.pass worker.new.desk.pass }
-    ensures step { IsStep bench.now worker.new.desk result }
+    ensures steps { WorkerSteps bench.now worker.old worker.new result }
     ensures goes_on { GoesOn bench.now.image «package» worker.old worker.new result }
-    ensures ready { worker.new.ready.threads ≡ worker.old.ready.threads }
 {
     let t = package.thread();
     let number = number(&mut worker.desk);
@@ -193,10 +190,8 @@ pub fn go_on<R: Wait, G: Gate, Q: Waiters>(
     package: Package,
 ) -> Step
     requires work { IsAtWork bench.now (Some «package») worker.old }
-    ensures still { IsStill worker.old.desk.pass worker.new.desk.pass }
-    ensures step { IsStep bench.now worker.new.desk result }
+    ensures steps { WorkerSteps bench.now worker.old worker.new result }
     ensures goes_on { GoesOn bench.now.image «package» worker.old worker.new result }
-    ensures ready { worker.new.ready.threads ≡ worker.old.ready.threads }
 {
     if wants_lock(&package, bench.image) {
         return acquire(rt, bench, gate, worker, package);

@@ -31,6 +31,8 @@ mod scripts;
 mod start;
 mod step;
 #[cfg(test)]
+mod stops;
+#[cfg(test)]
 mod tests;
 mod work;
 mod worker;

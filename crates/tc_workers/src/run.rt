@@ -1,11 +1,11 @@
 //! Whole runs.
 
-ghost use Rattle.std.specs.Prelude.{◌≡◌, ℕ, ◌<◌, ◌≤◌, ◌*◌, All, IfOk, length, map, min, true};
+ghost use Rattle.std.specs.Prelude.{◌≡◌, ℕ, ◌<◌, ◌≤◌, ◌*◌, All, IfOk, length, map, min};
 ghost use Rattle.tc_isa.specs.declared.limits.TheConstants.{MAX_FUEL};
 ghost use Rattle.tc_elf.specs.declared.limits.TheConstants.{MAX_THREADS};
 ghost use Rattle.tc_hall.specs.Made.{AreDealt};
 ghost use Rattle.tc_hall.specs.Rule.{threads};
-ghost use Rattle.tc_hall.specs.Steps.{HasAll, HasSeenAll, IsEnd, IsFree};
+ghost use Rattle.tc_hall.specs.Steps.{IsEnd};
 ghost use Rattle.tc_ready.specs.declared.limits.TheConstants.{MAX_ROOM};
 ghost use Rattle.tc_workers.specs.Crew.{AreQueues, AreSeatsOf, HasRun, IsBench};
 ghost use Rattle.tc_workers.specs.Offers.{CanHave};
@@ -49,11 +49,7 @@ fn room_of(threads: u32, fuel: u32) -> u32
 
 // Ends a hall whose workers have all ended.
 fn finish(hall: Hall, finished: Finished) -> Result<Closed, AllocError>
-    requires own { finished.pass.table ≡ hall.table }
-    requires all { HasAll hall.terms.workers finished.pass.knows }
-    requires free { IsFree finished.pass.knows }
-    requires done { finished.all_done ≡ true
-        → HasSeenAll (threads hall.terms) finished.pass.knows }
+    requires { HasRun hall hall.terms.workers finished.pass finished.all_done }
     ensures { IfOk result (λ c. IsEnd hall.terms finished.pass.knows c.packages c.locks) }
 {
     let Finished { pass, all_done } = finished;
@@ -85,7 +81,7 @@ where
         × All (λ row. AreSeatsOf bench.now.queues (map Q.seen row.items)) seats.items }
     requires ready { (length ready.items ≡ length passes.items)
         × All (λ r. r.threads ≡ threads bench.now.hall.terms) ready.items }
-    ensures { IfOk result (λ f. HasRun bench.now (length passes.items) f.pass f.all_done) }
+    ensures { IfOk result (λ f. HasRun bench.now.hall (length passes.items) f.pass f.all_done) }
 {
     let crew = hire(alloc, bench, passes, seats, ready)?;
     let start = Start::new(crew.len() as u64);

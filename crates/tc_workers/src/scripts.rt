@@ -14,11 +14,13 @@ use crate::gate::Open;
 use crate::go_on::{next, seal_block, wants_lock};
 use crate::lines::{Lines, line_up};
 use crate::step::Step;
+use crate::stops::{Vain, stop_behind, wait_in_vain};
 use crate::worker::Worker;
 use std::alloc::{AllocError, Global};
 use std::process::Abort;
 use std::sync::Wait;
 use std::test::Fail;
+use std::thread::Threads;
 use tc_build::build::build;
 use tc_combiner::{Bench, Desk, Settled};
 use tc_context::package::Package;
@@ -36,7 +38,7 @@ use tc_ready::Ready;
 
 /// What is done with a desk.
 #[derive(Clone, Copy)]
-enum Action<'a> {
+pub(crate) enum Action<'a> {
     /// Claims this thread, which is ready.
     Claim(u32),
     /// Runs a block of the package in hand, and commits it.
@@ -72,10 +74,10 @@ enum Action<'a> {
 /// A desk, and what its worker has in hand: a package, and the end of the package's last block where
 /// that is not settled yet.
 #[derive(Drop)]
-struct Player {
-    desk: Desk<Queue>,
-    hand: Option<Package>,
-    end: Option<End>,
+pub(crate) struct Player {
+    pub(crate) desk: Desk<Queue>,
+    pub(crate) hand: Option<Package>,
+    pub(crate) end: Option<End>,
 }
 
 /// Whether the answer is that of the action.
@@ -133,7 +135,11 @@ fn run_block<R: Abort>(rt: &R, bench: &Bench<'_, Queue>, player: &mut Player) ->
 }
 
 /// Takes the package in hand, with the end of its last block, which is to be settled.
-fn in_hand<R: Abort>(rt: &R, bench: &Bench<'_, Queue>, player: &mut Player) -> (Package, End)
+pub(crate) fn in_hand<R: Abort>(
+    rt: &R,
+    bench: &Bench<'_, Queue>,
+    player: &mut Player,
+) -> (Package, End)
     requires { IsPlaying bench.now player.old.desk player.old.hand player.old.end }
     ensures sealed { HasSealed bench.now result.1 result.0 player.new.desk }
     ensures settled { player.new.end ≡ None }
@@ -288,16 +294,16 @@ fn act<R: Abort + Wait>(
 /// which desk, the lines of its history, the bytes of each guard at the end, where its lock is at home
 /// then, and whether the locks at home are broken.
 #[derive(Clone, Copy)]
-struct Script<'a> {
-    code: &'a [u32],
-    entries: &'a [(u32, u32)],
-    guards: &'a [(u32, u32)],
-    desks: u32,
-    limit: u32,
-    steps: &'a [(usize, Action<'a>)],
-    history: &'a str,
-    bytes: &'a [Option<[u8; 4]>],
-    broken: bool,
+pub(crate) struct Script<'a> {
+    pub(crate) code: &'a [u32],
+    pub(crate) entries: &'a [(u32, u32)],
+    pub(crate) guards: &'a [(u32, u32)],
+    pub(crate) desks: u32,
+    pub(crate) limit: u32,
+    pub(crate) steps: &'a [(usize, Action<'a>)],
+    pub(crate) history: &'a str,
+    pub(crate) bytes: &'a [Option<[u8; 4]>],
+    pub(crate) broken: bool,
 }
 
 /// The image of a guest, whose guards are zeros at the start.
@@ -312,7 +318,7 @@ fn image_of<R: Abort>(rt: &R, alloc: Global, script: &Script<'_>) -> Result<Imag
 }
 
 /// Gives each worker's desk to a player; the least number comes first.
-fn players(
+pub(crate) fn players(
     alloc: Global,
     bench: &Bench<'_, Queue>,
     mut hired: Vec<Worker<Queue>>,
@@ -350,7 +356,7 @@ fn check_history<R: Abort>(
 }
 
 /// Does the actions in their order.
-fn follow<R: Abort + Wait>(
+pub(crate) fn follow<R: Abort + Wait>(
     rt: &R,
     bench: &Bench<'_, Queue>,
     players: &mut Vec<Player>,
@@ -392,27 +398,75 @@ fn check_guards<R: Abort>(
     }
 }
 
-/// Seats a player at each worker's place, plays the script, and checks what came of it.
-fn perform<R: Abort + Wait>(
+/// How a script ends.
+#[derive(Clone, Copy)]
+pub(crate) enum Ending<'a> {
+    /// All is compared with what the script says.
+    Compared,
+    /// The first desk waits in vain, and the run is stopped meanwhile.
+    InVain(Vain<'a>),
+    /// All desks but one are left to their workers, and the run is stopped behind so many blocks.
+    Behind(u32),
+}
+
+/// Compares what came of a script.
+fn compare<R: Abort>(
     rt: &R,
     alloc: Global,
     bench: &Bench<'_, Queue>,
     script: &Script<'_>,
-    hired: Vec<Worker<Queue>>,
+    players: &mut Vec<Player>,
+    history: &[Block],
 ) -> Result<(), Fail>
-    requires { AreAtWork bench.now hired.items }
+    requires { All (λ p. IsPlaying bench.now p.desk p.hand p.end) players.old.items }
 {
-    let mut players = players(alloc, bench, hired)?;
-    let mut history = Vec::new(alloc);
-    follow(rt, bench, &mut players, &mut history, script.steps)?;
-    check_history(rt, alloc, &history, script.history)?;
+    check_history(rt, alloc, history, script.history)?;
     assert!(rt; !players.is_empty());
     check_guards(rt, bench, &mut players[0], script);
     Ok(())
 }
 
-/// Plays a script.
-fn play<R: Abort + Wait>(rt: &R, alloc: Global, script: &Script<'_>) -> Result<(), Fail> {
+/// Seats a player at each worker's place, plays the script, and checks what came of it.
+fn perform<R: Abort + Threads + Wait + Sync>(
+    rt: &R,
+    alloc: Global,
+    bench: &Bench<'_, Queue>,
+    script: &Script<'_>,
+    ending: Ending<'_>,
+    hired: Vec<Worker<Queue>>,
+) -> Result<(), Fail>
+    requires work { AreAtWork bench.now hired.items }
+{
+    if let Ending::Behind(blocks) = ending {
+        stop_behind(rt, bench, blocks, hired);
+        return Ok(());
+    }
+    let mut players = players(alloc, bench, hired)?;
+    let mut history = Vec::new(alloc);
+    follow(rt, bench, &mut players, &mut history, script.steps)?;
+    if let Ending::InVain(vain) = ending {
+        wait_in_vain(rt, bench, vain, players);
+        return Ok(());
+    }
+    compare(rt, alloc, bench, script, &mut players, &history)
+}
+
+/// Plays a script to its end.
+fn play<R: Abort + Threads + Wait + Sync>(
+    rt: &R,
+    alloc: Global,
+    script: &Script<'_>,
+) -> Result<(), Fail> {
+    play_to(rt, alloc, script, Ending::Compared)
+}
+
+/// Plays a script, which ends so.
+pub(crate) fn play_to<R: Abort + Threads + Wait + Sync>(
+    rt: &R,
+    alloc: Global,
+    script: &Script<'_>,
+    ending: Ending<'_>,
+) -> Result<(), Fail> {
     let image = image_of(rt, alloc, script)?;
     assert!(rt; 1 <= script.desks && script.desks <= MAX_WORKERS);
     assert!(rt; script.limit <= MAX_BATCH);
@@ -425,7 +479,7 @@ fn play<R: Abort + Wait>(rt: &R, alloc: Global, script: &Script<'_>) -> Result<(
         queues: queues.as_slice(),
     };
     let hired = hire(alloc, &bench, passes, rows, ready)?;
-    perform(rt, alloc, &bench, script, hired)
+    perform(rt, alloc, &bench, script, ending, hired)
 }
 
 /// One section, in which 1 is added to the guard's word.
@@ -441,11 +495,11 @@ const DOZE_AND_ONE: [u32; 24] = [
     0x0002a383, 0x00138393, 0x0072a023, 0x00000513, 0x00200893, 0x00000073, 0x05d00893, 0x00000073,
 ];
 
-const START: (u32, u32) = (0x00100000, 0);
+pub(crate) const START: (u32, u32) = (0x00100000, 0);
 
 const ONE_GUARD: [(u32, u32); 1] = [(0x00020000, 4)];
 
-const TWO_GUARDS: [(u32, u32); 2] = [(0x00020000, 4), (0x00020004, 4)];
+pub(crate) const TWO_GUARDS: [(u32, u32); 2] = [(0x00020000, 4), (0x00020004, 4)];
 
 const THREE_GUARDS: [(u32, u32); 3] = [(0x00020000, 4), (0x00020004, 4), (0x00020008, 4)];
 

@@ -1,7 +1,7 @@
 //! A worker's work: its steps, until it ends.
 
 ghost use Rattle.std.specs.Prelude.{◌≡◌, None};
-ghost use Rattle.tc_workers.specs.Worker.{HasLeft, IsAtWork, IsStep, IsStill};
+ghost use Rattle.tc_workers.specs.Worker.{HasLeft, IsAtWork, WorkerSteps};
 ghost use Rattle.tc_workers.specs.Finished.{IsFinished};
 ghost use Rattle.tc_workers.specs.Turns.{HasWorked, TakesStep};
 
@@ -30,10 +30,8 @@ fn take_step<R: Wait, G: Gate, Q: Waiters>(
     hand: Option<Package>,
 ) -> Step
     requires work { IsAtWork bench.now hand worker.old }
-    ensures still { IsStill worker.old.desk.pass worker.new.desk.pass }
-    ensures step { IsStep bench.now worker.new.desk result }
+    ensures steps { WorkerSteps bench.now worker.old worker.new result }
     ensures takes { TakesStep bench.now hand worker.old worker.new result }
-    ensures ready { worker.new.ready.threads ≡ worker.old.ready.threads }
 {
     if calls::stopped(bench.hall, worker.desk.pass()) {
         leave(bench, &mut worker.desk, hand);

@@ -1,4 +1,4 @@
-use Rattle.std.proofs.Common.{◌≡◌, Some, None, sym, ap, subst}
+use Rattle.std.proofs.Common.{rules, ◌≡◌, Some, None, sym, ap, subst}
 use Rattle.tc_combiner.specs.View.{DeskView}
 use Rattle.tc_workers.specs.Search.{Finds}
 use Rattle.tc_workers.specs.Worker.{WorkerView, IsAtDesk, worker_of}
@@ -7,13 +7,14 @@ use Rattle.tc_workers.proofs.Desks.{aside_taken}
 use Rattle.tc_workers.proofs.Searching.{found_aside}
 use Rattle.tc_workers.proofs.find.find.Goals as goal
 
-pub returns-in-Some-clause-step : goal.returns-in-Some-clause-step
-returns-in-Some-clause-step g c =
+pub returns-in-Some-clause-steps : goal.returns-in-Some-clause-steps
+returns-in-Some-clause-steps g c =
     let b = c.args.bench.now in
     let d = c.worker.inside.desk in
     let e : d.aside ≡ Some c.in-Some.«package» = cc in
     let at : IsAtDesk b None d = subst (λ (w : WorkerView). IsAtDesk b None w.desk) (sym c.worker.view_is) c.requires.work.desk in
-    subst (λ (z : DeskView). IsAtDesk b (Some c.in-Some.«package») z) (sym c.back.ensures.rest) (aside_taken b d c.in-Some.«package» at e)
+    let after : IsAtDesk b (Some c.in-Some.«package») c.back.new.self = subst (λ (z : DeskView). IsAtDesk b (Some c.in-Some.«package») z) (sym c.back.ensures.rest) (aside_taken b d c.in-Some.«package» at e) in
+    search rules
 
 pub returns-in-Some-clause-found : goal.returns-in-Some-clause-found
 returns-in-Some-clause-found g c =

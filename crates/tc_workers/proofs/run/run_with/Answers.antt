@@ -2,8 +2,9 @@ use Rattle.std.proofs.Common.{◌≡◌, ◌∙◌, ℕ, All, length, sym, ap, s
 use Rattle.std.proofs.lemmas.Result.{IfOk-weaker}
 use Rattle.tc_elf.specs.Shown.{Shown}
 use Rattle.tc_hall.specs.PassView.{ClosedView}
-use Rattle.tc_hall.specs.Steps.{HasAll, IsEnd}
+use Rattle.tc_hall.specs.Steps.{IsEnd}
 use Rattle.tc_ready.specs.ReadyView.{ReadyView}
+use Rattle.tc_workers.specs.Crew.{HasRun}
 use Rattle.tc_workers.specs.Run.{IsWholeRun}
 use Rattle.tc_workers.proofs.Hiring.{crew_threads}
 use Rattle.tc_workers.proofs.Wholes.{whole}
@@ -17,8 +18,8 @@ run_at-requires-clause-ready g c κs within =
       subst (λ (n : ℕ). All (λ (r : ReadyView). r.threads ≡ n) c.in_ok-ready.ready.items) same (crew_threads _ _ _ c.in_ok-ready.ready.items crew),
     )
 
-pub finish-requires-clause-all : goal.finish-requires-clause-all
-finish-requires-clause-all g c = subst (λ (n : ℕ). HasAll n c.in_ok-finished.finished.pass.knows) (c.in_ok-hall.ensures.passes.count ∙ sym c.in_ok-hall.ensures.hall.workers) c.in_ok-finished.ensures.all
+pub finish-requires : goal.finish-requires
+finish-requires g c = subst (λ (n : ℕ). HasRun c.in_ok-hall.hall n c.in_ok-finished.finished.pass c.in_ok-finished.finished.all_done) (c.in_ok-hall.ensures.passes.count ∙ sym c.in_ok-hall.ensures.hall.workers) c.in_ok-finished.ensures
 
 pub returns : goal.returns
 returns g c =

@@ -12,18 +12,18 @@ loop-init g c =
 
 pub loop-preserved : goal.loop-preserved
 loop-preserved g c =
-    let still = still_then c.args.worker.desk.pass c.loop.worker.desk.pass c.take_step.new.worker.desk.pass c.loop.invariant.2 c.take_step.ensures.still in
+    let still = still_then c.args.worker.desk.pass c.loop.worker.desk.pass c.take_step.new.worker.desk.pass c.loop.invariant.2 c.take_step.ensures.steps.desk.still in
     let steps = one_more c.args.bench.now c.args.worker c.loop.hand c.in-On.next c.loop.worker c.take_step.new.worker c.loop.invariant.4 c.in-On.ensures.takes in
     search rules
 
 pub returns-in-AllDone-clause-finished : goal.returns-in-AllDone-clause-finished
-returns-in-AllDone-clause-finished g c = done_finished c.args.bench.now c.args.worker.desk.pass c.pass_of.result c.loop.worker.desk c.take_step.new.worker.desk c.loop.invariant.2 c.take_step.ensures.still c.in-AllDone.ensures.step c.pass_of.ensures
+returns-in-AllDone-clause-finished g c = done_finished c.args.bench.now c.args.worker.desk.pass c.pass_of.result c.loop.worker.desk c.take_step.new.worker.desk c.loop.invariant.2 c.take_step.ensures.steps.desk.still c.in-AllDone.ensures.steps.desk.after c.pass_of.ensures
 
 pub returns-in-AllDone-clause-worked : goal.returns-in-AllDone-clause-worked
 returns-in-AllDone-clause-worked g c = record { hand = c.loop.hand; y = c.loop.worker; steps = c.loop.invariant.4; z = c.take_step.new.worker; last = c.in-AllDone.ensures.takes; pass = c.pass_of.ensures }
 
 pub returns-in-Stopped-clause-finished : goal.returns-in-Stopped-clause-finished
-returns-in-Stopped-clause-finished g c = stop_finished c.args.bench.now c.args.worker.desk.pass c.pass_of-in-Stopped.result c.loop.worker.desk c.take_step.new.worker.desk c.loop.invariant.2 c.take_step.ensures.still c.in-Stopped.ensures.step c.pass_of-in-Stopped.ensures
+returns-in-Stopped-clause-finished g c = stop_finished c.args.bench.now c.args.worker.desk.pass c.pass_of-in-Stopped.result c.loop.worker.desk c.take_step.new.worker.desk c.loop.invariant.2 c.take_step.ensures.steps.desk.still c.in-Stopped.ensures.steps.desk.after c.pass_of-in-Stopped.ensures
 
 pub returns-in-Stopped-clause-worked : goal.returns-in-Stopped-clause-worked
 returns-in-Stopped-clause-worked g c = record { hand = c.loop.hand; y = c.loop.worker; steps = c.loop.invariant.4; z = c.take_step.new.worker; last = c.in-Stopped.ensures.takes; pass = c.pass_of-in-Stopped.ensures }

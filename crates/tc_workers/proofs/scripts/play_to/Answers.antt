@@ -2,7 +2,7 @@ use Rattle.std.proofs.Common.{◌≡◌, ◌∙◌, ℕ, All, length, sym, ap, s
 use Rattle.tc_elf.specs.Shown.{Shown}
 use Rattle.tc_ready.specs.ReadyView.{ReadyView}
 use Rattle.tc_workers.proofs.Hiring.{at_work, crew_threads}
-use Rattle.tc_workers.proofs.scripts.play.Goals as goal
+use Rattle.tc_workers.proofs.scripts.play_to.Goals as goal
 
 pub hire-requires-clause-crew : goal.hire-requires-clause-crew
 hire-requires-clause-crew g c κs =
@@ -12,5 +12,5 @@ hire-requires-clause-crew g c κs =
       subst (λ (n : ℕ). All (λ (r : ReadyView). r.threads ≡ n) c.in_ok-ready.ready.items) same (crew_threads _ _ _ c.in_ok-ready.ready.items crew),
     )
 
-pub perform-requires : goal.perform-requires
-perform-requires g c = at_work _ _ c.in_ok-hired.hired.items c.in_ok-hired.ensures
+pub perform-requires-clause-work : goal.perform-requires-clause-work
+perform-requires-clause-work g c κs within = at_work _ _ c.in_ok-hired.hired.items c.in_ok-hired.ensures
