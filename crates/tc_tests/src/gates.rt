@@ -1,7 +1,7 @@
 //! Gates: what each worker reports, and a worker that is held until another has come so far.
 
 use crate::demos::ONE_ROUND;
-use crate::guests::{EXIT, built, counting};
+use crate::guests::{EXIT, built, counting, counting_from};
 use crate::ran::{CALM, Outside, Ran, run_at};
 use std::alloc::{AllocError, Global};
 use std::sync::atomic::{AtomicBool, Ordering};
@@ -223,5 +223,58 @@ fn a_thread_that_waits_is_adopted(rt: HostRuntime) -> Result<(), Fail> {
             "worker {worker}"
         );
     }
+    Ok(())
+}
+
+/// Whether the block that this worker reported last is this thread's, and ended with a wish for a
+/// lock.
+fn is_wish(last: Option<Point>, thread: u32) -> bool {
+    match last {
+        Some(Point::Committed(by, End::Wants(_))) => by == thread,
+        _ => false,
+    }
+}
+
+/// How many threads a worker has shipped, each right behind its own report of the thread's wish for
+/// a lock. None: it has shipped another one.
+fn shipments(reports: &[Report], worker: u32) -> Option<usize> {
+    let mut last = None;
+    let mut count = 0;
+    for (by, point) in reports {
+        if *by != worker {
+            continue;
+        }
+        if let Point::Shipped(thread) = point {
+            if !is_wish(last, *thread) {
+                return None;
+            }
+            count += 1;
+        }
+        last = Some(*point);
+    }
+    Some(count)
+}
+
+/// Workers 0 and 1 ship threads 2 and 3 alone, since threads 0 and 1 end at once. Each is shipped by
+/// the worker that ran its last block, right behind that block.
+#[test]
+fn a_thread_is_shipped_behind_its_wish(rt: HostRuntime) -> Result<(), Fail> {
+    let alloc = rt.alloc();
+    let file = counting_from(&rt, alloc, &[(13, 0), (13, 0), (0, 0), (0, 0)])?;
+    let gate = Watch::new(&rt, alloc, Hold::Release);
+    let words = [b"run".as_slice(), b"2", b"2000", b"8"];
+    let outside = Outside {
+        room: 524_288,
+        ..CALM
+    };
+    let ran = run_at(&rt, alloc, &words, &file, &outside, &gate)?;
+    assert_eq!(rt; ran.status, Status::Done);
+    assert!(rt; gate.held_in_time());
+    let reports = gate.reports.lock(&rt);
+    assert!(rt; reports.iter().all(|report| report.0 < 2));
+    let by_0 = shipments(&reports, 0);
+    let by_1 = shipments(&reports, 1);
+    assert!(rt; by_0.is_some() && by_1.is_some(), "{by_0:?} and {by_1:?}");
+    assert!(rt; by_0 != Some(0) || by_1 != Some(0));
     Ok(())
 }

@@ -115,6 +115,17 @@ pub(crate) fn counting<R: Abort>(
     alloc: Global,
     threads: usize,
 ) -> Result<Vec<u8>, AllocError> {
+    let entries = vec![in alloc; (0u32, 0u32); threads]?;
+    counting_from(rt, alloc, &entries)
+}
+
+/// The same, whose threads begin at these words of its code, with these arguments. At word 13 a
+/// thread ends at once.
+pub(crate) fn counting_from<R: Abort>(
+    rt: &R,
+    alloc: Global,
+    threads: &[(u32, u32)],
+) -> Result<Vec<u8>, AllocError> {
     let pieces: [&[u32]; 7] = [
         &DATA,
         &[0x0640_0313],
@@ -125,8 +136,7 @@ pub(crate) fn counting<R: Abort>(
         &EXIT,
     ];
     let code = joined(alloc, &pieces)?;
-    let entries = vec![in alloc; (0u32, 0u32); threads]?;
-    built(rt, alloc, &code, &entries, 1)
+    built(rt, alloc, &code, threads, 1)
 }
 
 /// A guest of two threads that sleep for a block in each of 2,200 sections under one lock. Before

@@ -3,8 +3,8 @@
 //! `locks` guests with locks, `faults` every fault of a thread that holds a lock, `held_faults` what
 //! another thread sees of it, `limits` what stands at a limit, `outside` words that ask for nothing,
 //! `cuts` and `fields` damaged files, `devices` sources and sinks that fail, `gates` what workers
-//! report, `nodes` runs by workers that belong to nodes, `demos` the generator's guest,
-//! `histories` replays and profiles of finished histories.
+//! report, `starved` runs to which memory is refused, `nodes` runs by workers that belong to nodes,
+//! `demos` the generator's guest, `histories` replays and profiles of finished histories.
 #![tactic(auto)]
 
 #[cfg(test)]
@@ -39,5 +39,7 @@ mod outside;
 mod ran;
 #[cfg(test)]
 mod runs;
+#[cfg(test)]
+mod starved;
 #[cfg(test)]
 mod words;
