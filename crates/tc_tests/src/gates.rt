@@ -248,7 +248,7 @@ fn shipments(reports: &[Report], worker: u32) -> Option<usize> {
             if !is_wish(last, *thread) {
                 return None;
             }
-            count += 1;
+            count = count.saturating_add(1);
         }
         last = Some(*point);
     }
