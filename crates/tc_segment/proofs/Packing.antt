@@ -53,16 +53,23 @@ stands_is {edges} {i} {r} s =
     λ j. record { pc = parts.0 j; words = all j }
 
 -- words that begin with these registers
-pub packed_is : (words : List ℕ) (end : ℕ) (r : Registers) → IsRegisters r → take end words ≡ packed r → regs_at words 0 ≡ r
-packed_is words end r whole is = stands_is {edges = words} {i = 0} (record {
-  inside = (let two : 2 ≤ length (packed r) = omega arith in omega (arith, ap length is, length-take end words));
+pub packed_is : (words : List ℕ) (end : ℕ) (r : Registers) → ArePacked words end r → regs_at words 0 ≡ r
+packed_is words end r h = stands_is {edges = words} {i = 0} (record {
+  inside = (let two : 2 ≤ length (packed r) = omega arith in omega (arith, ap length h.is, length-take end words));
   rest = drop end words;
-  is = sym (take-append-drop end words) ∙ ap (λ xs. xs ++ drop end words) is;
-  whole = whole;
+  is = sym (take-append-drop end words) ∙ ap (λ xs. xs ++ drop end words) h.is;
+  whole = h.whole;
 })
 
-pub are_packed : (words : List ℕ) (end : ℕ) (r : Registers) → IsRegisters r → end ≤ 33 → take end words ≡ packed r → ArePacked words end (regs_at words 0)
-are_packed words end r whole few is = subst (λ x. ArePacked words end x) (sym (packed_is words end r whole is)) (record { few = few; is = is; whole = whole })
+-- words that are these registers, with none behind them
+pub all_packed : {words : List ℕ} {r : Registers} → ArePacked words (length words) r → words ≡ packed r
+all_packed {words} {r} h = sym (take_all (length words) words (omega arith)) ∙ h.is
+
+pub some_packed : {words : List ℕ} {r : Registers} → ArePacked words (length words) r → 2 ≤ length words
+some_packed {words} {r} h = (let two : 2 ≤ length (packed r) = omega arith in omega (arith, ap length (all_packed h)))
+
+pub are_packed : (words : List ℕ) (end : ℕ) (r : Registers) → ArePacked words end r → ArePacked words end (regs_at words 0)
+are_packed words end r h = subst (λ x. ArePacked words end x) (sym (packed_is words end r h)) h
 
 pub stands_more : {edges : List ℕ} {i : ℕ} {r : Registers} (more : List ℕ) → StandsAt edges i r → StandsAt (edges ++ more) i r
 stands_more {edges} {i} {r} more s = record {

@@ -1,7 +1,7 @@
 -- An entry that is sealed.
-use Rattle.std.proofs.Common.{◌≡◌, ℕ, ◌+◌, ◌-◌, ◌≤◌, Bool, true, false, ◌&&◌, ◌<◌, List, [], ◌∷◌, ◌++◌, map, set, take, length, refl, sym, ap, subst, ◌∙◌, arith, append_assoc, append-nil, ◌==◌}
-use Rattle.std.proofs.lemmas.List.{map-append, length-map, length-set, take-map, take_all, take_more_set}
-use Rattle.std.proofs.lemmas.Option.{slice_get-map, slice_get_past, slice_get_within}
+use Rattle.std.proofs.Common.{◌≡◌, ℕ, ◌+◌, ◌≤◌, Bool, true, false, ◌&&◌, ◌<◌, List, [], ◌∷◌, ◌++◌, map, set, take, length, refl, sym, ap, subst, ◌∙◌, arith, append_assoc, append-nil, ◌==◌}
+use Rattle.std.proofs.lemmas.List.{map-append, length-set, take-map, take_all, take_more_set}
+use Rattle.std.proofs.lemmas.Option.{slice_get_past, slice_get_within}
 use Rattle.std.specs.Prelude.{Option, Some, None, option_map, nat_lt, slice_get, if◌then◌else◌}
 use Rattle.std.proofs.lemmas.Bool.Decides.{nat_tests}
 use Rattle.tc_elf.specs.Shown.{Shown}
@@ -25,9 +25,6 @@ blocks_all edges words (r ∷ rs) = (let e = blocks_all edges words rs in λ i. 
 -- the blocks of the first so many
 pub blocks_shown : (edges : List ℕ) (words : List ℕ) (n : ℕ) (rs : List Record) → map block_in (take n (map (shown edges words) rs)) ≡ map block_of (take n rs)
 blocks_shown edges words n rs = ap (map block_in) (take-map (shown edges words) n rs) ∙ blocks_all edges words (take n rs)
-
-pub last_shown : (rs : List Record) → last_of (map block_of rs) ≡ option_map block_of (slice_get rs (length rs - 1))
-last_shown rs = ap (λ n. slice_get (map block_of rs) (n - 1)) (length-map rs block_of) ∙ slice_get-map block_of rs (length rs - 1)
 
 -- stamp and worker don't count in a replay
 replays_sealed : (image : Shown) (lock stamp worker : ℕ) (e : Entry) (old : Mutex) → Replays image lock e old → Replays image lock (sealed_entry stamp worker e) old

@@ -1,5 +1,6 @@
 -- A lock state's fields, as it is seen, and what they keep.
-use Rattle.std.specs.Prelude.{◌≡◌, ℕ, ◌+◌, ◌-◌, ◌*◌, ◌^◌, ◌<◌, ◌≤◌, Bool, List, [], ◌∷◌, map, length, take, drop, slice_get, vec_len, vec_capacity, Option, Some, None, option_map}
+use Rattle.std.specs.Prelude.{◌≡◌, ℕ, ◌+◌, ◌-◌, ◌*◌, ◌^◌, ◌<◌, ◌≤◌, Bool, List, [], ◌∷◌, map, length, take, drop, slice_get, Vec, vec_len, vec_capacity, Option, Some, None, option_map, Result, OnOk}
+use Rattle.std.specs.Global.{Global}
 use Rattle.tc_elf.specs.Shown.{Shown, guard_at}
 use Rattle.tc_journal.specs.Batch.{run_of}
 use Rattle.tc_journal.specs.declared.block.Block.{Block}
@@ -55,6 +56,12 @@ pub record Fits (edges : List ℕ) (words : List ℕ) (r : Record) : Type 0 wher
   pub finish : IsPlace edges r.finish
   pub order : r.from ≤ r.to
   pub inside : r.to ≤ length words
+
+-- the records are as they were, in no less room, and where this went well, so many more have room
+pub record HasMadeRoom {E : Type 0} (more : ℕ) (old new : Vec Record Global) (went : Result (Unit {0}) E) : Type 0 where
+  pub items : new.items ≡ old.items
+  pub capacity : vec_capacity old ≤ vec_capacity new
+  pub ok : OnOk went (vec_len new + more ≤ vec_capacity new)
 
 abbrev pub AllFit : List ℕ → List ℕ → List Record → Type 0
 AllFit edges words [] = Unit {0}

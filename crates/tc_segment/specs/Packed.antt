@@ -1,5 +1,5 @@
 -- Registers as a journal keeps them: the program counter, a mask, and the numbers that are not 0.
-use Rattle.std.specs.Prelude.{◌≡◌, ℕ, zero, suc, ◌+◌, ◌*◌, ◌/◌, ◌%◌, ◌==◌, ◌<◌, ◌≤◌, List, [], ◌∷◌, ◌++◌, length, take, drop, slice_index, if◌then◌else◌}
+use Rattle.std.specs.Prelude.{◌≡◌, ℕ, zero, suc, ◌+◌, ◌*◌, ◌/◌, ◌%◌, ◌==◌, ◌<◌, ◌≤◌, List, [], ◌∷◌, ◌++◌, length, take, drop, slice_index, if◌then◌else◌, Result, OnOk}
 use Rattle.tc_isa.specs.Registers.{Registers, IsRegisters}
 use Rattle.tc_segment.specs.declared.packed.TheConstants.{MOST_WORDS}
 
@@ -51,3 +51,15 @@ pub record Extends (old new : List ℕ) : Type 0 where
 pub record Edges : Type 0 where
   pub words : List ℕ
   pub room : ℕ
+
+-- these registers stand at the place, beside all that stood there, and there may be room for so many words less
+pub record StandsBeside (regs : Registers) (old new : Edges) (at : ℕ) : Type 0 where
+  pub place : StandsAt new.words at regs
+  pub more : Extends old.words new.words
+  pub room : old.room ≤ new.room + MOST_WORDS
+
+-- the words are as they were, there is no less room for more, and where this went well, there is room for so many
+pub record HasReserved {E : Type 0} (count : ℕ) (old new : Edges) (went : Result (Unit {0}) E) : Type 0 where
+  pub words : new.words ≡ old.words
+  pub room : old.room ≤ new.room
+  pub ok : OnOk went (count ≤ new.room)

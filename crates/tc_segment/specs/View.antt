@@ -105,6 +105,11 @@ pub record IsAtRest (image : Shown) (k : ℕ) (l : LockView) : Type 0 where
 
 -- ---- at the start
 
+-- the image has a lock of this number, and the batch limit is a lawful one
+pub record CanStart (image : Shown) (number limit : ℕ) : Type 0 where
+  pub known : number < length image.guards
+  pub lawful : limit ≤ MAX_BATCH
+
 abbrev pub fresh_journal : Shown → ℕ → Journal
 fresh_journal image limit = record { image = image; limit = limit; strict = true; sealed = []; closed = None; opened = None; entry_room = 0; word_room = 0 }
 

@@ -1,7 +1,7 @@
 //! The registers before and behind blocks, one packed behind the other.
 
-ghost use Rattle.std.specs.Prelude.{◌≡◌, ◌+◌, ◌≤◌, OnOk};
-ghost use Rattle.tc_segment.specs.Packed.{IsPlace, StandsAt, Extends, regs_at};
+ghost use Rattle.std.specs.Prelude.{◌≡◌, ◌≤◌};
+ghost use Rattle.tc_segment.specs.Packed.{IsPlace, StandsBeside, HasReserved, regs_at};
 ghost use Rattle.tc_segment.specs.declared.packed.TheConstants.{MOST_WORDS};
 
 use crate::packed::{MOST_WORDS, Packed, unpack};
@@ -43,9 +43,7 @@ impl Edges {
 
     /// Makes room for so many words.
     pub(crate) fn reserve(&mut self, words: usize) -> Result<(), AllocError>
-        ensures words { self.new.words ≡ self.old.words }
-        ensures room { self.old.room ≤ self.new.room }
-        ensures ok { OnOk result (words ≤ self.new.room) }
+        ensures { HasReserved words self.old self.new result }
     {
         let most = u32::MAX as usize;
         if words > most - self.words.len() {
@@ -62,9 +60,7 @@ impl Edges {
     #[inline(always)]
     pub(crate) fn place_of(&mut self, packed: &Packed) -> u32
         requires { MOST_WORDS ≤ self.old.room }
-        ensures place { StandsAt self.new.words result packed.now }
-        ensures more { Extends self.old.words self.new.words }
-        ensures room { self.old.room ≤ self.new.room + MOST_WORDS }
+        ensures { StandsBeside packed.now self.old self.new result }
     {
         let words = packed.words();
         let count = self.words.len();

@@ -1,9 +1,8 @@
 //! Registers in few words: the program counter, a mask, and the numbers that are not 0.
 
-ghost use Rattle.std.specs.Prelude.{◌≡◌, ◌≤◌, length, take, drop, slice_index};
-ghost use Rattle.tc_isa.specs.Registers.{Registers, IsRegisters};
-ghost use Rattle.tc_segment.specs.declared.packed.TheConstants.{MOST_WORDS};
-ghost use Rattle.tc_segment.specs.Packed.{ArePacked, IsPlace, mask_of, packed, regs_at};
+ghost use Rattle.std.specs.Prelude.{◌≡◌, length, drop, slice_index};
+ghost use Rattle.tc_isa.specs.Registers.{Registers};
+ghost use Rattle.tc_segment.specs.Packed.{ArePacked, IsPlace, mask_of, regs_at};
 
 use std::marker::Model;
 use std::simd::prelude::*;
@@ -48,10 +47,7 @@ impl Packed {
 
     /// The words in which they are.
     pub(crate) fn words(&self) -> &[u32]
-        ensures packed { result.now ≡ packed self.now }
-        ensures some { 2 ≤ length result.now }
-        ensures few { length result.now ≤ MOST_WORDS }
-        ensures kept { IsRegisters self.now }
+        ensures { ArePacked result.now (length result.now) self.now }
     {
         &self.words[..self.end]
     }
@@ -59,9 +55,7 @@ impl Packed {
 
 /// Packs these registers at the front of the buffer, and tells where they end.
 fn pack(regs: &Regs, buffer: &mut [u32; MOST_WORDS]) -> usize
-    ensures end { result ≤ MOST_WORDS }
-    ensures packed { take result buffer.new ≡ packed regs.now }
-    ensures kept { IsRegisters regs.now }
+    ensures { ArePacked buffer.new result regs.now }
 {
     let words = regs.words();
     let mask = mask_of(words);

@@ -1,8 +1,8 @@
 //! How entries are kept: their registers stand in one place, and their foreign words in another.
 
-ghost use Rattle.std.specs.Prelude.{◌≡◌, ◌+◌, ◌≤◌, length, map, take, vec_len, vec_capacity, OnOk};
+ghost use Rattle.std.specs.Prelude.{◌≡◌, ◌≤◌, length, map, take};
 ghost use Rattle.tc_journal.specs.Batch.{last_of};
-ghost use Rattle.tc_segment.specs.Kept.{block_of, shown, sealed_record, Fits};
+ghost use Rattle.tc_segment.specs.Kept.{block_of, shown, sealed_record, Fits, HasMadeRoom};
 ghost use Rattle.tc_segment.specs.Lent.{entry_lent};
 
 use crate::edges::Edges;
@@ -71,9 +71,7 @@ const GROWTH: usize = 4_096;
 
 /// Makes room for two records more.
 pub(crate) fn make_room(records: &mut Vec<Record>) -> Result<(), AllocError>
-    ensures items { records.new.items ≡ records.old.items }
-    ensures room { OnOk result (vec_len records.new + 2 ≤ vec_capacity records.new) }
-    ensures capacity { vec_capacity records.old ≤ vec_capacity records.new }
+    ensures { HasMadeRoom 2 records.old records.new result }
 {
     if records.capacity() - records.len() >= 2 {
         return Ok(());

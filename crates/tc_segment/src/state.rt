@@ -1,13 +1,12 @@
 //! Lock states.
 
-ghost use Rattle.std.specs.Prelude.{◌≡◌, ◌+◌, ◌^◌, ◌<◌, ◌≤◌, ◌||◌, [], ◌∷◌, true, false, is_some, length, slice_get, OnOk, OnErr, IfOk, Some, None};
-ghost use Rattle.tc_isa.specs.declared.limits.TheConstants.{MAX_BATCH};
+ghost use Rattle.std.specs.Prelude.{◌≡◌, ◌<◌, [], ◌∷◌, true, false, is_some, length, slice_get, OnOk, OnErr, IfOk, Some, None};
 ghost use Rattle.tc_isa.specs.declared.held.TheConstants.Held.{PLACES};
 ghost use Rattle.tc_elf.specs.Places.{in_guard};
 ghost use Rattle.tc_exec.specs.Told.{IsWidth};
-ghost use Rattle.tc_journal.specs.Batch.{ends_thread, run_of};
+ghost use Rattle.tc_journal.specs.Batch.{run_of};
 ghost use Rattle.tc_segment.specs.Lent.{entry_lent};
-ghost use Rattle.tc_segment.specs.View.{IsSoundLock, allows_in, passes_in, number_of_guard, ClosesWith, MayFollow, MayPass, lock_of, guard_of, with_store, with_section, with_break, with_end, with_journal, opened_at, noted, closed_with, sealed_as, with_room, strict_as, blocks_of, entries, fresh_state};
+ghost use Rattle.tc_segment.specs.View.{CanStart, IsSoundLock, allows_in, passes_in, number_of_guard, ClosesWith, MayFollow, MayPass, lock_of, guard_of, with_store, with_section, with_break, with_end, with_journal, opened_at, noted, closed_with, sealed_as, with_room, strict_as, blocks_of, entries, fresh_state};
 
 use crate::edges::Edges;
 use crate::entry::Entry;
@@ -19,7 +18,7 @@ use std::snapshot::Snapshot;
 use tc_elf::image::Image;
 use tc_isa::regs::Regs;
 use tc_journal::batch::{may_begin, passes_to, run_after};
-use tc_journal::block::{Block, End, Kind};
+use tc_journal::block::{Block, Kind};
 use tc_turn::memory::{put_number, starting_bytes};
 use tc_turn::number::number_from;
 
@@ -71,8 +70,7 @@ impl LockState {
     /// The lock of this number as it is at the start, with a journal of no entries. The journal is
     /// strict: a section that is passed on goes to another thread than that of the section before.
     pub fn new(alloc: Global, image: &Image, lock: u32, limit: u32) -> Result<LockState, AllocError>
-        requires lock { lock < length image.now.guards }
-        requires limit { limit ≤ MAX_BATCH }
+        requires { CanStart image.now lock limit }
         ensures { IfOk result (λ l. l ≡ fresh_state image.now lock limit) }
     {
         LockState::at_start(alloc, image, lock, limit, true)
@@ -87,8 +85,7 @@ impl LockState {
         lock: u32,
         limit: u32,
     ) -> Result<LockState, AllocError>
-        requires lock { lock < length image.now.guards }
-        requires limit { limit ≤ MAX_BATCH }
+        requires { CanStart image.now lock limit }
         ensures { IfOk result
             (λ l. l ≡ with_journal (strict_as false) (fresh_state image.now lock limit)) }
     {
@@ -102,8 +99,7 @@ impl LockState {
         limit: u32,
         strict: bool,
     ) -> Result<LockState, AllocError>
-        requires lock { lock < length image.now.guards }
-        requires limit { limit ≤ MAX_BATCH }
+        requires { CanStart image.now lock limit }
         ensures { IfOk result
             (λ l. l ≡ with_journal (strict_as strict) (fresh_state image.now lock limit)) }
     {
@@ -346,7 +342,7 @@ impl LockState {
     {
         let _ = image;
         let contents = &mut *self.contents;
-        let broken = broken_after(contents.broken, block.end);
+        let broken = block.end.ends_thread() || contents.broken;
         let Some(opening) = contents.opened else {
             return;
         };
@@ -377,11 +373,4 @@ impl LockState {
         contents.run = run_after(contents.number, contents.run, &record.block);
         contents.sealed += 1;
     }
-}
-
-/// Whether a lock is broken after a block with this end, which broke it where it ended its thread.
-fn broken_after(broken: bool, end: End) -> bool
-    ensures { result ≡ (ends_thread end || broken) }
-{
-    end.ends_thread() || broken
 }

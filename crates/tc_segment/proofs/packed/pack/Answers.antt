@@ -60,9 +60,13 @@ loop-left-preserved c =
       kept = stored l.buffer l.end (slice_index words (z + 1)) (picked rest (drop 1 words)) (packed c.args.regs.now) (omega (arith, fits, l.invariant.buffer)) kept;
     }
 
-pub returns-clause-packed : goal.returns-clause-packed
-returns-clause-packed c =
+pub returns : goal.returns
+returns c =
     let l = c.loop-left in
     let xs = drop 1 c.words-words.result.now in
     let none = ap (λ m. picked m xs) c.loop-left-test.false ∙ picked_none xs in
-    sym (append-nil (take l.end l.buffer)) ∙ (λ i. take l.end l.buffer ++ sym none i) ∙ l.invariant.kept
+    record {
+      few = l.invariant.room;
+      is = sym (append-nil (take l.end l.buffer)) ∙ (λ i. take l.end l.buffer ++ sym none i) ∙ l.invariant.kept;
+      whole = c.words-words.ensures.kept;
+    }

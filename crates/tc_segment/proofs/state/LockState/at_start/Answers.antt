@@ -21,7 +21,7 @@ invariant_of-result c =
     let view = fresh_view _ image c.args.lock c.args.limit c.args.strict _ words edges _ of bytes records in
     let none = ap length records in
     subst KeptLock (sym c.in_ok-new.ensures.ok) (record {
-      sound = subst (λ (l : LockView). IsSoundLock l) (sym view) (sound_fresh image c.args.lock c.args.limit c.args.strict c.requires.lock (omega arith) guard.kept c.requires.limit);
+      sound = subst (λ (l : LockView). IsSoundLock l) (sym view) (sound_fresh image c.args.lock c.args.limit c.args.strict c.requires.known (omega arith) guard.kept c.requires.lawful);
       start = start;
       records = subst (λ rs. AllFit edges words rs) (sym records) tt;
       sealed = omega arith;

@@ -1,8 +1,8 @@
-use Rattle.std.proofs.Common.{◌≡◌, ℕ, true, List, [], ◌∷◌, ◌++◌, ◌+◌, map, length, sym, ap, subst, ◌∙◌, arith, length-append}
+use Rattle.std.proofs.Common.{◌≡◌, ℕ, true, List, [], ◌∷◌, ◌++◌, ◌+◌, ◌||◌, map, length, sym, ap, subst, ◌∙◌, arith, length-append}
 use Rattle.std.specs.Prelude.{Option, Some, None, option_map, is_some}
 use Rattle.std.proofs.lemmas.List.{length-map, map-append}
 use Rattle.tc_isa.specs.Registers.{Registers}
-use Rattle.tc_journal.specs.Batch.{run_of}
+use Rattle.tc_journal.specs.Batch.{ends_thread, run_of}
 use Rattle.tc_journal.specs.declared.block.Block.{Block}
 use Rattle.tc_turn.specs.Turn.{mutex_at_start}
 use Rattle.tc_turn.specs.Replay.{replayed}
@@ -15,6 +15,7 @@ use Rattle.tc_segment.specs.Packed.{StandsAt, Extends}
 use Rattle.tc_segment.proofs.Packing.{stands_is, place_of-stands}
 use Rattle.tc_segment.proofs.Keeping.{edges_more, shown_grown, fits_grown, fits_end, none_closed, closed_journal, sound_closed}
 use Rattle.tc_segment.proofs.state.LockState.close_packed.Goals as goal
+use Rattle.tc_segment.proofs.state.LockState.close_packed.Goals.{then-ends_thread, else-ends_thread}
 
 abbrev record_of : Block → Opening → ℕ → ℕ → Record
 record_of block o finish to = record { block = block; fuel = o.fuel; start = o.start; finish = finish; from = o.from; to = to }
@@ -42,8 +43,12 @@ returns c =
     let block = c.args.block.now in
     let finish = c.args.end.now in
     let place = c.place_of-finish.ensures in
+    let broken : c.if-ends_thread.broken ≡ (ends_thread block.end || a.broken) = elim c.if-ends_thread.branch [
+      | then-ends_thread w ↦ w.broken-is ∙ w.if-ends_thread.true ∙ ap (λ b. b || a.broken) (sym w.if-ends_thread.true ∙ c.ends_thread.ensures)
+      | else-ends_thread w ↦ w.broken-is ∙ ap (λ b. b || a.broken) (sym w.if-ends_thread.false ∙ c.ends_thread.ensures)
+    ] in
     let j = closed_view a _ _ c.in-Some.opening block finish _ _ kept c.in-Some.is place.more place.place (c.len.ensures ∙ a.words.ok.0) c.push_reserved.ensures.items in
-    (λ i. record { number = a.number; bytes = a.bytes.items; broken = c.broken_after-broken.ensures i; sections = a.sections; journal = j i })
+    (λ i. record { number = a.number; bytes = a.bytes.items; broken = broken i; sections = a.sections; journal = j i })
     ∙ ap (λ (l : LockView). with_end block.end (with_journal (closed_with block finish) l)) shows
 
 pub invariant_of-self-2 : goal.invariant_of-self-2
@@ -61,6 +66,10 @@ invariant_of-self-2 c =
     let p = shown_open (replayed a.of.value a.number (mutex_at_start a.of.value a.number) old) a.edges.words a.words.items o in
     let was : (view_of a).journal.opened ≡ Some p = ap (option_map (shown_open (replayed a.of.value a.number (mutex_at_start a.of.value a.number) old) a.edges.words a.words.items)) c.in-Some.is in
     let closes : Closes (view_of a) block finish p = subst (λ (l : LockView). ClosesWith block finish l) (sym shows) c.requires.closes p was in
+    let broken : c.if-ends_thread.broken ≡ (ends_thread block.end || a.broken) = elim c.if-ends_thread.branch [
+      | then-ends_thread w ↦ w.broken-is ∙ w.if-ends_thread.true ∙ ap (λ b. b || a.broken) (sym w.if-ends_thread.true ∙ c.ends_thread.ensures)
+      | else-ends_thread w ↦ w.broken-is ∙ ap (λ b. b || a.broken) (sym w.if-ends_thread.false ∙ c.ends_thread.ensures)
+    ] in
     let j = closed_view a _ _ o block finish _ _ k c.in-Some.is place.more place.place to c.push_reserved.ensures.items in
     let none = none_closed a.sealed old (let h = k.sealed in omega (arith, length-map a.records.items (shown a.edges.words a.words.items))) (k.sound.alone (was_open a o c.in-Some.is)) in
     let len = length-map a.records.items (shown a.edges.words a.words.items) in
@@ -73,7 +82,7 @@ invariant_of-self-2 c =
     let grown : length c.push_reserved.new.self.items ≡ length a.records.items + 1 = ap length items ∙ length-append a.records.items (r ∷ []) in
     let blocks = ap (λ (x : Journal). run_of a.number (map block_in x.sealed)) (sym j) in
     record {
-      sound = subst (λ (l : LockView). IsSoundLock l) (λ i. record { number = a.number; bytes = a.bytes.items; broken = sym c.broken_after-broken.ensures i; sections = a.sections; journal = sym j i }) (sound_closed block finish (view_of a) p k.sound was closes);
+      sound = subst (λ (l : LockView). IsSoundLock l) (λ i. record { number = a.number; bytes = a.bytes.items; broken = sym broken i; sections = a.sections; journal = sym j i }) (sound_closed block finish (view_of a) p k.sound was closes);
       start = k.start;
       records = subst (λ rs. AllFit c.place_of-finish.new.self.words a.words.items rs) (sym items)
           (fits_end c.place_of-finish.new.self.words a.words.items a.records.items r (fits_grown (edges_more a.edges.words _ a.words.items place.more) a.records.items k.records)
