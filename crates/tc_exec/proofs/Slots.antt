@@ -18,6 +18,7 @@ slot_tells image start [] k s t e = absurd (cc)
 slot_tells image start (x ∷ xs) zero s t e = (let same : x ≡ s = cc in let here : SlotTells image start s = subst (λ (y : Option Instr). SlotTells image start y) same t.0 in subst (λ at. SlotTells image at s) (omega arith) here)
 slot_tells image start (x ∷ xs) (suc k) s t e = subst (λ at. SlotTells image at s) (omega arith) (slot_tells image (start + 4) xs k s t.1 e)
 
-pub part_tells : (image : Shown) (parts : List Part) (k : ℕ) (p : Part) → PartsTell image parts → slice_get parts k ≡ Some p → IsTelling image p
+pub part_tells : (image : Shown) (parts : List Part) (k : ℕ) (p : Part) → PartsTell image parts → slice_get parts k ≡ Some p → IsTelling image p.start p.slots.items
 part_tells image parts k p all got =
-    subst (IsTelling image) (get_or_from_slice_get parts k p p got) (All-get_or (IsTelling image) parts k p (slice_get_within parts k p got) all)
+    (let P : Part → Type 0 = λ p. IsTelling image p.start p.slots.items in
+    subst P (get_or_from_slice_get parts k p p got) (All-get_or P parts k p (slice_get_within parts k p got) all))

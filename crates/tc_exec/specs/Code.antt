@@ -15,10 +15,10 @@ abbrev pub SlotsTell : Shown → ℕ → List (Option Instr) → Type 0
 SlotsTell image pc [] = Unit {0}
 SlotsTell image pc (slot ∷ slots) = SlotTells image pc slot × SlotsTell image (pc + 4) slots
 
--- a part's slots tell the truth, and end within the address space
-pub record IsTelling (image : Shown) (p : Part) : Type 0 where
-  pub tells : SlotsTell image p.start p.slots.items
-  pub fits : p.start + 4 * length p.slots.items ≤ 2 ^ 32
+-- the slots from a place on tell the truth, and end within the address space
+pub record IsTelling (image : Shown) (start : ℕ) (slots : List (Option Instr)) : Type 0 where
+  pub tells : SlotsTell image start slots
+  pub fits : start + 4 * length slots ≤ 2 ^ 32
 
 abbrev pub PartsTell : Shown → List Part → Type 0
-PartsTell image parts = All (IsTelling image) parts
+PartsTell image parts = All (λ p. IsTelling image p.start p.slots.items) parts

@@ -1,9 +1,11 @@
 -- What an instruction does beside the registers, and how the rest of it follows from that.
-use Rattle.std.specs.Prelude.{◌≡◌, ℕ, Bool, true, false, None}
+use Rattle.std.specs.Prelude.{◌≡◌, ℕ, ◌+◌, ◌%◌, ◌^◌, Bool, true, false, None}
 use Rattle.tc_isa.specs.Registers.{Registers}
+use Rattle.tc_isa.specs.declared.instr.Instr.{Instr}
 use Rattle.tc_elf.specs.Shown.{Shown}
 use Rattle.tc_exec.specs.Access.{load_want, load, store}
 use Rattle.tc_exec.specs.Calls.{guest_call}
+use Rattle.tc_exec.specs.Step.{wants_by, act_by}
 use Rattle.tc_exec.specs.declared.execute.Effect.{Effect}
 use Rattle.tc_exec.specs.declared.execute.Effect.TheVariants.{Went, Jumped, Load, Store, Call, Fault}
 use Rattle.tc_exec.specs.declared.outcome.Act.{Act}
@@ -38,8 +40,17 @@ want_after image held (Store kind addr value) = Nothing
 want_after image held Call = Nothing
 want_after image held (Fault f) = Nothing
 
--- the instruction that does this loads nothing, and has this effect, before which the registers have their part
+-- the instruction that does this loads nothing, and has this effect, before which the registers have their part; the effect
+-- tells whether it went to the next word
 pub record Goes (turn : Act) (before after : Registers) (effect : Effect) : Type 0 where
   pub act : (image : Shown) (held : ℕ → Bool) (answer : ℕ) → turn ≡ act_after image held after answer effect
   pub want : (image : Shown) (held : ℕ → Bool) → want_after image held effect ≡ Nothing
   pub kept : is_done effect ≡ false → after ≡ before
+  pub went : effect ≡ Went → after.pc ≡ (before.pc + 4) % 2 ^ 32
+
+-- the instruction has this effect, before which the registers have their part; the effect tells whether it went to the next word
+pub record Executes (instr : Instr) (before after : Registers) (effect : Effect) : Type 0 where
+  pub act : (image : Shown) (held : ℕ → Bool) (answer : ℕ) → act_by image held before answer instr ≡ act_after image held after answer effect
+  pub want : (image : Shown) (held : ℕ → Bool) → wants_by image held before instr ≡ want_after image held effect
+  pub kept : is_done effect ≡ false → after ≡ before
+  pub went : effect ≡ Went → after.pc ≡ (before.pc + 4) % 2 ^ 32

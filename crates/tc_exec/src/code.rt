@@ -3,12 +3,11 @@
 //! The table is sound and not complete: a place that it has is the instruction there, and a place
 //! that it has not tells nothing. So what is not found in it is fetched and decoded as ever.
 
-ghost use Rattle.std.specs.Prelude.{◌≡◌, ℕ, ◌*◌, ◌+◌, ◌<◌, ◌≤◌, ◌^◌, true, false, IfOk, IfSome, Ok, length};
-ghost use Rattle.tc_isa.specs.Registers.{get};
+ghost use Rattle.std.specs.Prelude.{◌≡◌, ℕ, ◌*◌, ◌+◌, ◌<◌, ◌≤◌, ◌^◌, IfOk, IfSome, MatchBool, Ok, length};
 ghost use Rattle.tc_isa.specs.Sets.{has};
-ghost use Rattle.tc_isa.specs.declared.instr.Instr.TheVariants.{Ecall};
 ghost use Rattle.tc_elf.specs.Shown.{Shown};
-ghost use Rattle.tc_exec.specs.Code.{SlotTells, SlotsTell, PartsTell};
+ghost use Rattle.tc_exec.specs.Code.{SlotTells, SlotsTell, PartsTell, IsTelling};
+ghost use Rattle.tc_exec.specs.Next.{KnowsCode, MayCallLock, LooksAhead};
 ghost use Rattle.tc_exec.specs.Statements.{NeverLocks, CallsLock};
 ghost use Rattle.tc_exec.specs.Step as step;
 ghost use Rattle.tc_exec.specs.Told.{taken_by};
@@ -110,8 +109,7 @@ fn slots_from(
     count: u32,
 ) -> Result<Vec<Option<Instr>>, AllocError>
     requires { start + 4 * count ≤ 2 ^ 32 }
-    ensures tells { IfOk result (λ v. SlotsTell image.now start v.items) }
-    ensures count { IfOk result (λ v. length v.items ≡ count) }
+    ensures { IfOk result (λ v. IsTelling image.now start v.items) }
 {
     let mut slots = Vec::with_capacity(alloc, count as usize)?;
     'words: for i in 0..count {
@@ -172,8 +170,7 @@ impl Code {
 
     /// The words round a place, where that was decoded.
     pub fn stretch(&self, pc: u32) -> Option<Stretch<'_>>
-        ensures tells { IfSome result (λ s. SlotsTell self.now s.start s.slots.now) }
-        ensures fits { IfSome result (λ s. s.start + 4 * length s.slots.now ≤ 2 ^ 32) }
+        ensures { IfSome result (λ s. IsTelling self.now s.start s.slots.now) }
     {
         'parts: for part in &self.parts {
             if has_place(part, pc) {
@@ -196,13 +193,8 @@ impl Code {
         regs: &Regs,
         known: Option<&'a Instr>,
     ) -> Ahead<'a>
-        requires code { self.now ≡ image.now }
-        requires known { IfSome known
-            (λ instr. step.instruction_at image.now regs.now.pc ≡ Ok instr.now) }
-        ensures lock { (answer : ℕ)
-            → result.lock ≡ taken_by (step.act_of image.now (has held) regs.now answer) }
-        ensures instr { IfSome result.instr
-            (λ instr. step.instruction_at image.now regs.now.pc ≡ Ok instr.now) }
+        requires { KnowsCode image.now self.now regs.now.pc known }
+        ensures { LooksAhead image.now (has held) regs.now result }
     {
         if !is_numbered_lock(regs) {
             return Ahead {
@@ -221,11 +213,8 @@ impl Code {
 /// Whether registers with the number of LOCK are at an ECALL, by the instruction there where it is
 /// known.
 fn calls_lock(image: &Image, regs: &Regs, known: Option<&Instr>) -> bool
-    requires number { get regs.now 17 ≡ 1 }
-    requires known { IfSome known
-        (λ instr. step.instruction_at image.now regs.now.pc ≡ Ok instr.now) }
-    ensures no { result ≡ false → NeverLocks image.now regs.now }
-    ensures yes { result ≡ true → CallsLock image.now regs.now }
+    requires { MayCallLock image.now regs.now known }
+    ensures { MatchBool result (CallsLock image.now regs.now) (NeverLocks image.now regs.now) }
 {
     match known {
         Some(instr) => matches!(instr, Instr::Ecall),
@@ -236,9 +225,7 @@ fn calls_lock(image: &Image, regs: &Regs, known: Option<&Instr>) -> bool
 /// The lock that such registers take, where that is lawful.
 #[tactic(auto, using(crate::proofs::NoLock::taken_none))]
 fn lock_by(image: &Image, held: Held, regs: &Regs, known: Option<&Instr>) -> Option<u32>
-    requires number { get regs.now 17 ≡ 1 }
-    requires known { IfSome known
-        (λ instr. step.instruction_at image.now regs.now.pc ≡ Ok instr.now) }
+    requires { MayCallLock image.now regs.now known }
     ensures { (answer : ℕ)
         → result ≡ taken_by (step.act_of image.now (has held) regs.now answer) }
 {

@@ -3,16 +3,12 @@
 //! What an instruction does to the registers alone is done at once. A load, a store and a guest call
 //! need more than the registers, so they are told, with what they need of the registers.
 
-ghost use Rattle.std.specs.Prelude.{◌≡◌, ℕ, ◌+◌, ◌%◌, ◌^◌, Bool, None, false};
+ghost use Rattle.std.specs.Prelude.{◌≡◌};
 ghost use Rattle.tc_isa.specs.Registers.{get};
-ghost use Rattle.tc_elf.specs.Shown.{Shown};
 ghost use Rattle.tc_exec.specs.Arithmetic.{plus};
-ghost use Rattle.tc_exec.specs.Effects.{Goes, act_after, want_after, is_done};
+ghost use Rattle.tc_exec.specs.Effects.{Goes, Executes};
 ghost use Rattle.tc_exec.specs.Flow as flow;
-ghost use Rattle.tc_exec.specs.Step as step;
 ghost use Rattle.tc_exec.specs.declared.execute.Effect.TheVariants as TheEffect;
-ghost use Rattle.tc_exec.specs.declared.outcome.Act.TheVariants.{Next};
-ghost use Rattle.tc_exec.specs.declared.outcome.Want.TheVariants.{Nothing};
 
 use crate::arithmetic::{is_taken, op_of_imm, value_of};
 use tc_isa::fault::Fault;
@@ -48,9 +44,7 @@ pub enum Effect {
 /// Puts a number into a register and goes on.
 #[tactic(auto, using(crate::proofs::Loaded::set_steps))]
 fn set(regs: &mut Regs, rd: Reg, value: u32) -> Effect
-    ensures effect { result ≡ TheEffect.Went }
-    ensures regs { Next regs.new None ≡ flow.set regs.old rd value }
-    ensures pc { regs.new.pc ≡ (regs.old.pc + 4) % 2 ^ 32 }
+    ensures { Goes (flow.set regs.old rd value) regs.old regs.new result }
 {
     regs.put(rd, value);
     regs.step();
@@ -60,8 +54,7 @@ fn set(regs: &mut Regs, rd: Reg, value: u32) -> Effect
 /// Goes to a target, which has to be a multiple of 4. The address behind the jump goes into a
 /// register; that of a branch is x0.
 fn jump(regs: &mut Regs, rd: Reg, target: u32) -> Effect
-    ensures goes { Goes (flow.jump regs.old rd target) regs.old regs.new result }
-    ensures jumped { result ≡ TheEffect.Went → ⊥ }
+    ensures { Goes (flow.jump regs.old rd target) regs.old regs.new result }
 {
     if target % 4 != 0 {
         return Effect::Fault(Fault::JumpTarget);
@@ -74,8 +67,7 @@ fn jump(regs: &mut Regs, rd: Reg, target: u32) -> Effect
 
 /// Goes by a distance from the program counter, as `jump` does.
 fn jump_by(regs: &mut Regs, rd: Reg, off: u32) -> Effect
-    ensures goes { Goes (flow.jump regs.old rd (plus regs.old.pc off)) regs.old regs.new result }
-    ensures jumped { result ≡ TheEffect.Went → ⊥ }
+    ensures { Goes (flow.jump regs.old rd (plus regs.old.pc off)) regs.old regs.new result }
 {
     let target = regs.pc().wrapping_add(off);
     jump(regs, rd, target)
@@ -83,8 +75,7 @@ fn jump_by(regs: &mut Regs, rd: Reg, off: u32) -> Effect
 
 /// Goes by a distance, where two registers meet a condition.
 fn branch(regs: &mut Regs, cond: Cond, rs1: Reg, rs2: Reg, off: u32) -> Effect
-    ensures goes { Goes (flow.branch regs.old cond rs1 rs2 off) regs.old regs.new result }
-    ensures went { result ≡ TheEffect.Went → regs.new.pc ≡ (regs.old.pc + 4) % 2 ^ 32 }
+    ensures { Goes (flow.branch regs.old cond rs1 rs2 off) regs.old regs.new result }
 {
     if !is_taken(cond, regs.get(rs1), regs.get(rs2)) {
         regs.step();
@@ -116,13 +107,7 @@ fn store(regs: &Regs, kind: StoreKind, rs1: Reg, rs2: Reg, off: u32) -> Effect
 #[tactic(auto, unfolding(crate::specs::Step::act_by, crate::specs::Step::wants_by))]
 #[inline(always)]
 pub fn execute(regs: &mut Regs, instr: &Instr) -> Effect
-    ensures act { (image : Shown) (held : ℕ → Bool) (answer : ℕ)
-        → step.act_by image held regs.old answer instr.now
-        ≡ act_after image held regs.new answer result }
-    ensures want { (image : Shown) (held : ℕ → Bool)
-        → step.wants_by image held regs.old instr.now ≡ want_after image held result }
-    ensures went { result ≡ TheEffect.Went → regs.new.pc ≡ (regs.old.pc + 4) % 2 ^ 32 }
-    ensures kept { is_done result ≡ false → regs.new ≡ regs.old }
+    ensures { Executes instr.now regs.old regs.new result }
 {
     match *instr {
         Instr::Lui { rd, imm } => set(regs, rd, imm),

@@ -2,9 +2,9 @@
 
 ghost use Rattle.std.specs.Prelude.{◌≡◌, Ok};
 ghost use Rattle.tc_isa.specs.Sets.{has};
-ghost use Rattle.tc_exec.specs.InPlace.{IsDone, done_of, regs_after};
+ghost use Rattle.tc_exec.specs.InPlace.{IsDone, IsDoneBy};
 ghost use Rattle.tc_exec.specs.Step as step;
-ghost use Rattle.tc_exec.specs.Told.{IsWant};
+ghost use Rattle.tc_exec.specs.Next.{IsNext, IsWantOf};
 
 use crate::access::{fault_of_load, load, load_want, store};
 use crate::execute::{Effect, execute};
@@ -20,8 +20,7 @@ use tc_isa::regs::Regs;
 #[tactic(auto, unfolding(crate::specs::Step::wants_of, crate::specs::Step::wants_by))]
 pub fn wants(image: &Image, near: usize, held: Held, regs: &Regs, instr: &Instr) -> Want
     requires { step.instruction_at image.now regs.now.pc ≡ Ok instr.now }
-    ensures value { result ≡ step.wants_of image.now (has held) regs.now }
-    ensures told { IsWant image.now (has held) result }
+    ensures { IsWantOf image.now (has held) regs.now result }
 {
     match *instr {
         Instr::Load { kind, rs1, off, .. } => {
@@ -45,10 +44,9 @@ pub fn go(
     want: Want,
     answer: u32,
 ) -> Done
-    requires instr { step.instruction_at image.now regs.old.pc ≡ Ok instr.now }
-    requires want { want ≡ step.wants_of image.now (has held) regs.old }
-    ensures done { result ≡ done_of (step.act_of image.now (has held) regs.old answer) }
-    ensures regs { regs.new ≡ regs_after (step.act_of image.now (has held) regs.old answer) regs.old }
+    requires { IsNext image.now (has held) regs.old instr.now want }
+    ensures goes { IsDoneBy (step.act_of image.now (has held) regs.old answer)
+        regs.old regs.new result }
     ensures told { IsDone image.now (has held) result }
 {
     match execute(regs, instr) {

@@ -1,10 +1,11 @@
 //! The next instruction: what it loads, and what it does.
 
-ghost use Rattle.std.specs.Prelude.{◌≡◌, ℕ, true, false};
+ghost use Rattle.std.specs.Prelude.{◌≡◌, ℕ, MatchBool};
 ghost use Rattle.tc_isa.specs.Sets.{has};
 ghost use Rattle.tc_exec.specs.Step as step;
 ghost use Rattle.tc_exec.specs.Statements.{NeverLocks, CallsLock};
-ghost use Rattle.tc_exec.specs.Told.{IsWant, IsAct, taken_by};
+ghost use Rattle.tc_exec.specs.Next.{IsWantOf, IsActOf};
+ghost use Rattle.tc_exec.specs.Told.{taken_by};
 
 use crate::guest_calls::{is_numbered_lock, lock_fault};
 use crate::known;
@@ -34,8 +35,7 @@ pub fn instruction_at(image: &Image, pc: u32) -> Result<Instr, Fault>
 /// faults, so that what is wanted may always be read.
 #[tactic(auto, unfolding(crate::specs::Step::wants_of))]
 pub fn wants(image: &Image, held: Held, regs: &Regs) -> Want
-    ensures value { result ≡ step.wants_of image.now (has held) regs.now }
-    ensures told { IsWant image.now (has held) result }
+    ensures { IsWantOf image.now (has held) regs.now result }
 {
     match instruction_at(image, regs.pc()) {
         Ok(instr) => known::wants(image, 0, held, regs, &instr),
@@ -49,8 +49,7 @@ pub fn wants(image: &Image, held: Held, regs: &Regs) -> Want
 /// call by the number in x17.
 #[tactic(auto, unfolding(crate::specs::Step::act_of))]
 pub fn act(image: &Image, held: Held, regs: &Regs, answer: u32) -> Act
-    ensures value { result ≡ step.act_of image.now (has held) regs.now answer }
-    ensures told { IsAct image.now (has held) regs.now result }
+    ensures { IsActOf image.now (has held) regs.now answer result }
 {
     match instruction_at(image, regs.pc()) {
         Ok(instr) => {
@@ -66,8 +65,7 @@ pub fn act(image: &Image, held: Held, regs: &Regs, answer: u32) -> Act
 /// Whether the next instruction may be a LOCK: x17 has its number, and the instruction is ECALL.
 /// It costs much less than `act`.
 pub fn may_lock(image: &Image, regs: &Regs) -> bool
-    ensures no { result ≡ false → NeverLocks image.now regs.now }
-    ensures yes { result ≡ true → CallsLock image.now regs.now }
+    ensures { MatchBool result (CallsLock image.now regs.now) (NeverLocks image.now regs.now) }
 {
     // ECALL has one word.
     rows_decide();

@@ -1,8 +1,8 @@
 //! Loads and stores of a thread's own memory, which do not fault.
 
-ghost use Rattle.std.specs.Prelude.{◌≡◌, ◌+◌, ◌*◌, ◌%◌, ◌^◌, ◌≤◌, true, IfSome};
-ghost use Rattle.tc_exec.specs.Access.{load_width, store_width, width_bytes};
-ghost use Rattle.tc_exec.specs.Touch.{IsOwn};
+ghost use Rattle.std.specs.Prelude.{◌≡◌, true, IfSome};
+ghost use Rattle.tc_exec.specs.Access.{width_bytes};
+ghost use Rattle.tc_exec.specs.Touch.{IsOwn, IsOwnLoad, IsOwnStore};
 
 use crate::access::{Width, low_bytes};
 use tc_elf::image::{Image, Region};
@@ -26,10 +26,7 @@ fn lies_own(image: &Image, near: &mut usize, addr: u32, width: Width) -> bool
 /// in `Image::region_near`.
 #[tactic(auto, using(crate::proofs::Touches::load_ends))]
 pub fn own_load(image: &Image, near: &mut usize, kind: LoadKind, addr: u32) -> Option<u32>
-    ensures width { IfSome result (λ width. width ≡ load_width kind) }
-    ensures own { IfSome result (IsOwn image.now addr) }
-    ensures fits { IfSome result (λ width. addr + width ≤ 2 ^ 32) }
-    ensures small { IfSome result (λ width. width ≤ 4) }
+    ensures { IfSome result (IsOwnLoad image.now kind addr) }
 {
     let width = Width::of_load(kind);
     if lies_own(image, near, addr, width) {
@@ -49,10 +46,7 @@ pub fn own_store(
     addr: u32,
     value: u32,
 ) -> Option<(u32, u32)>
-    ensures width { IfSome result (λ put. put.0 ≡ store_width kind) }
-    ensures number { IfSome result (λ put. put.1 ≡ value % 2 ^ (8 * store_width kind)) }
-    ensures own { IfSome result (λ put. IsOwn image.now addr put.0) }
-    ensures fits { IfSome result (λ put. addr + put.0 ≤ 2 ^ 32) }
+    ensures { IfSome result (IsOwnStore image.now kind addr value) }
 {
     let width = Width::of_store(kind);
     if lies_own(image, near, addr, width) {

@@ -11,10 +11,10 @@ use Rattle.tc_exec.proofs.step.act.Goals.{After-act}
 
 result_is : (c : After-act) → c.act.result ≡ act_of c.args.image.now (has c.args.held) c.args.regs.now c.args.answer
 result_is c =
-    c.act.ensures ∙ (λ i. act_from (c.go-done.ensures.done i) (c.go-done.ensures.regs i))
+    c.act.ensures ∙ (λ i. act_from (c.go-done.ensures.goes.done i) (c.go-done.ensures.goes.regs i))
     ∙ act_again (act_of c.args.image.now (has c.args.held) c.args.regs.now c.args.answer) c.args.regs.now
 
-pub returns-in-Ok-clause-told : goal.returns-in-Ok-clause-told
-returns-in-Ok-clause-told c =
+pub returns-in-Ok : goal.returns-in-Ok
+returns-in-Ok c =
     let P : Act → Type 0 = IsAct c.args.image.now (has c.args.held) c.args.regs.now in
-    subst P (sym (result_is c)) (act_told c.args.image.now (has c.args.held) c.args.regs.now c.args.answer)
+    record { value = result_is c; told = subst P (sym (result_is c)) (act_told c.args.image.now (has c.args.held) c.args.regs.now c.args.answer) }
