@@ -1,13 +1,16 @@
 -- A turn that is done in place: what becomes of a thread by what the turn did beside the registers.
-use Rattle.std.specs.Prelude.{◌-◌, ◌<◌, Option, Some, None}
+use Rattle.std.specs.Prelude.{◌≡◌, ℕ, ◌-◌, ◌<◌, Option, Some, None, IfSome}
+use Rattle.std.specs.Option.{option_map}
 use Rattle.tc_isa.specs.Registers.{Registers}
+use Rattle.tc_elf.specs.Shown.{Shown}
+use Rattle.tc_exec.specs.InPlace.{done_of}
 use Rattle.tc_exec.specs.declared.outcome.Done.{Done}
 use Rattle.tc_exec.specs.declared.outcome.Done.TheVariants as done
 use Rattle.tc_exec.specs.declared.outcome.Call.TheVariants.{Lock, Unlock, Sleep, Exit}
 use Rattle.tc_journal.specs.declared.rule.Outcome.{Outcome}
 use Rattle.tc_journal.specs.declared.rule.Outcome.TheVariants as outcome
 use Rattle.tc_turn.specs.declared.status.Status.TheVariants as status
-use Rattle.tc_turn.specs.Turn.{Thread, with_put, with_end, plus_lock, less_lock, PutFits}
+use Rattle.tc_turn.specs.Turn.{Thread, with_put, with_end, plus_lock, less_lock, PutFits, act_with, thread_after}
 
 -- the thread that did this beside the registers and the fuel, which have the turn already
 abbrev pub thread_done : Thread → Done → Thread
@@ -43,3 +46,9 @@ DoneFits (done.Called (Unlock lock)) = lock < 32
 DoneFits (done.Called (Sleep blocks)) = Unit {0}
 DoneFits (done.Called Exit) = Unit {0}
 DoneFits (done.Faulted f) = Unit {0}
+
+-- the turn with this answer was done in place, and this is left of it
+pub record HasTurned (image : Shown) (old : Thread) (answer : ℕ) (left : Option Done) (new : Thread) : Type 0 where
+  pub done : left ≡ option_map done_of (act_with image old answer)
+  pub thread : new ≡ thread_after old (act_with image old answer)
+  pub fits : IfSome left DoneFits

@@ -221,3 +221,8 @@ ActFits (Called (Unlock lock) regs) = lock < 32
 ActFits (Called (Sleep blocks) regs) = Unit {0}
 ActFits (Called Exit regs) = Unit {0}
 ActFits (Faulted f) = Unit {0}
+
+-- a thread with so much fuel may do this in its next turn
+pub record CanAct (left : ℕ) (act : Act) : Type 0 where
+  pub fuel : 0 < left
+  pub fits : ActFits act

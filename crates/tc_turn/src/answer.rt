@@ -12,8 +12,8 @@ use tc_exec::outcome::Want;
 
 /// A thread with the locks beside it, which a turn of the thread reads.
 pub trait Surroundings {
-    ghost use Rattle.std.specs.Prelude.{ℕ, ◌+◌, ◌≤◌, ◌^◌, unwrap_or};
-    ghost use Rattle.tc_turn.specs.Memory.{number_at};
+    ghost use Rattle.std.specs.Prelude.{ℕ, unwrap_or};
+    ghost use Rattle.tc_turn.specs.Memory.{IsAccess, number_at};
     ghost use Rattle.tc_turn.specs.Turn.{Thread, Mutex};
 
     // The thread, and each lock by its number.
@@ -23,8 +23,7 @@ pub trait Surroundings {
 
     /// The number in so many bytes of the thread's own memory. A byte that is not in it counts as 0.
     fn own_number(&self, addr: u32, width: u32) -> u32
-        requires fits { addr + width ≤ 2 ^ 32 }
-        requires small { width ≤ 4 }
+        requires { IsAccess addr width }
         ensures { result
             ≡ number_at (λ at. unwrap_or ((thread self.now).own at) 0) addr width };
 

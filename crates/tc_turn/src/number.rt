@@ -90,8 +90,7 @@ fn whole(bytes: &[u8], at: usize, width: u32) -> Option<u32>
 /// The number in so many bytes from an address on, of the bytes that stand from `start` on. A byte
 /// that is not there counts as 0.
 pub fn number_from(start: u32, bytes: &[u8], addr: u32, width: u32) -> u32
-    requires fits { addr + width ≤ 2 ^ 32 }
-    requires small { width ≤ 4 }
+    requires { IsAccess addr width }
     ensures { result
         ≡ number_at (λ at. unwrap_or (byte_from start bytes.now at) 0) addr width }
 {

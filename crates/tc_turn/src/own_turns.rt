@@ -1,13 +1,12 @@
 //! Turns that touch the thread's own memory alone, one after another: `GuestThread::run_own`, and
 //! `OwnTurns`, which says what it did.
 
-ghost use Rattle.std.specs.Prelude.{◌≡◌, ℕ, ◌+◌, ◌-◌, ◌*◌, ◌%◌, ◌<◌, ◌≤◌, ◌^◌, true, false, length, IfSome, Ok};
-ghost use Rattle.tc_exec.specs.Code.{SlotsTell};
+ghost use Rattle.std.specs.Prelude.{◌≡◌, ◌≤◌, true, false, Ok};
+ghost use Rattle.tc_exec.specs.Code.{IsTelling};
 ghost use Rattle.tc_exec.specs.Step.{instruction_at};
-ghost use Rattle.tc_turn.specs.Own.{HasLoaded, HasStored, IsOwnTurn, OwnRun, fuelled, spent};
-ghost use Rattle.tc_turn.specs.Way.{is_gone, on_or_not};
+ghost use Rattle.tc_turn.specs.Own.{HasLoaded, HasStored, HasRun, HasStretched, HasStepped};
+ghost use Rattle.tc_turn.specs.Way.{on_or_not};
 ghost use Rattle.tc_turn.specs.Turn.{thread_of};
-ghost use Rattle.tc_turn.specs.declared.own_turns.Way.TheVariants as TheWay;
 
 use crate::thread::GuestThread;
 use tc_elf::image::Image;
@@ -64,10 +63,7 @@ impl GuestThread {
         loads: bool,
     ) -> OwnTurns<'a>
         requires { code.now ≡ image.now }
-        ensures runs { OwnRun image.now loads result.count self.old self.new }
-        ensures most { result.count ≤ most }
-        ensures stop { IfSome result.stop
-            (λ instr. instruction_at image.now self.new.regs.pc ≡ Ok instr.now) }
+        ensures { HasRun image.now loads most self.old self.new result }
     {
         let Some(stretch) = code.stretch(self.regs.pc()) else {
             return OwnTurns {
@@ -93,15 +89,9 @@ impl GuestThread {
         most: u32,
         loads: bool,
     ) -> Stretched
-        requires tells { SlotsTell image.now stretch.now.start stretch.now.slots.now }
-        requires fits { stretch.now.start + 4 * length stretch.now.slots.now ≤ 2 ^ 32 }
+        requires telling { IsTelling image.now stretch.now.start stretch.now.slots.now }
         requires fuel { most ≤ self.old.fuel }
-        ensures runs { OwnRun image.now loads result.count self.old
-            (record self.new { fuel = self.old.fuel - result.count }) }
-        ensures fuel { self.new.fuel ≡ self.old.fuel }
-        ensures most { result.count ≤ most }
-        ensures slot { result.slot < length stretch.now.slots.now
-            → stretch.now.start + 4 * result.slot ≡ self.new.regs.pc }
+        ensures { HasStretched image.now loads most stretch.now self.old self.new result }
     {
         let mut count = 0;
         let mut slot = stretch.slot(self.regs.pc());
@@ -123,13 +113,7 @@ impl GuestThread {
     /// turn, and which way it went: whatever fuel it has.
     fn own_step(&mut self, image: &Image, instr: &Instr, loads: bool) -> Way
         requires { instruction_at image.now self.old.regs.pc ≡ Ok instr.now }
-        ensures turn { (fuel : ℕ) → 0 < fuel → is_gone result ≡ true
-            → IsOwnTurn image.now loads (fuelled fuel (thread_of self.old))
-            (spent (fuelled fuel (thread_of self.new))) }
-        ensures fuel { self.new.fuel ≡ self.old.fuel }
-        ensures next { result ≡ TheWay.Next
-            → self.new.regs.pc ≡ (self.old.regs.pc + 4) % 2 ^ 32 }
-        ensures stays { result ≡ TheWay.Stays → self.new ≡ self.old }
+        ensures { HasStepped image.now loads self.old self.new result }
     {
         match execute(&mut self.regs, instr) {
             Effect::Went => Way::Next,

@@ -1,19 +1,17 @@
 //! A guest thread.
 
-ghost use Rattle.std.specs.Prelude.{◌≡◌, ℕ, ◌+◌, ◌<◌, ◌≤◌, ◌^◌, IfOk, IfSome, Ok, Err, Some, length, unwrap_or};
-ghost use Rattle.std.specs.Option.{option_map};
+ghost use Rattle.std.specs.Prelude.{◌≡◌, ℕ, ◌<◌, IfOk, IfSome, Ok, Err, Some, length, unwrap_or};
 ghost use Rattle.tc_isa.specs.Sets.{has};
 ghost use Rattle.tc_exec.specs.Calls.{answered};
-ghost use Rattle.tc_exec.specs.InPlace.{done_of};
+ghost use Rattle.tc_exec.specs.Next.{IsNext, IsWantOf, KnowsCode};
 ghost use Rattle.tc_exec.specs.Step.{instruction_at, wants_of};
-ghost use Rattle.tc_exec.specs.Told.{IsWant};
 ghost use Rattle.tc_exec.specs.declared.outcome.Act.TheVariants.{Called};
 ghost use Rattle.tc_exec.specs.declared.outcome.Call.TheVariants.{Lock};
 ghost use Rattle.tc_exec.specs.declared.outcome.Want.TheVariants.{Nothing};
 ghost use Rattle.tc_turn.specs.Ahead.{IsAhead};
-ghost use Rattle.tc_turn.specs.InPlace.{thread_done, DoneFits};
-ghost use Rattle.tc_turn.specs.Memory.{number_at, own_of};
-ghost use Rattle.tc_turn.specs.Turn.{thread_of, thread_at_start, next_lock, act_with, ActFits, PutFits, thread_after, with_end, with_put};
+ghost use Rattle.tc_turn.specs.InPlace.{thread_done, DoneFits, HasTurned};
+ghost use Rattle.tc_turn.specs.Memory.{IsAccess, number_at, own_of};
+ghost use Rattle.tc_turn.specs.Turn.{thread_of, thread_at_start, next_lock, act_with, CanAct, PutFits, thread_after, with_end, with_put};
 
 use crate::memory::Memory;
 use crate::status::Status;
@@ -107,8 +105,7 @@ impl GuestThread {
     /// The number in so many bytes of its own memory from an address on. A byte that is not in it
     /// counts as 0.
     pub fn number(&self, addr: u32, width: u32) -> u32
-        requires fits { addr + width ≤ 2 ^ 32 }
-        requires small { width ≤ 4 }
+        requires { IsAccess addr width }
         ensures { result ≡ number_at (λ at. unwrap_or (own_of self.now.own at) 0) addr width }
     {
         self.own.number(self.own.part_of(addr), addr, width)
@@ -116,8 +113,7 @@ impl GuestThread {
 
     /// The load that its next instruction needs.
     pub fn wants(&self, image: &Image) -> Want
-        ensures value { result ≡ wants_of image.now (has self.now.held) self.now.regs }
-        ensures told { IsWant image.now (has self.now.held) result }
+        ensures { IsWantOf image.now (has self.now.held) self.now.regs result }
     {
         wants(image, self.held, &self.regs)
     }
@@ -125,8 +121,7 @@ impl GuestThread {
     /// What its next turn does with the answer to its load or to its LOCK.
     pub fn act(&self, image: &Image, answer: u32) -> Option<Act>
         ensures value { result ≡ act_with image.now (thread_of self.now) answer }
-        ensures fuel { IfSome result (λ a. 0 < self.now.fuel) }
-        ensures fits { IfSome result ActFits }
+        ensures can { IfSome result (CanAct self.now.fuel) }
     {
         if self.fuel == 0 {
             return None;
@@ -153,8 +148,7 @@ impl GuestThread {
     #[inline(always)]
     pub fn load_wanted(&self, image: &Image, instr: &Instr) -> Want
         requires { instruction_at image.now self.now.regs.pc ≡ Ok instr.now }
-        ensures value { result ≡ wants_of image.now (has self.now.held) self.now.regs }
-        ensures told { IsWant image.now (has self.now.held) result }
+        ensures { IsWantOf image.now (has self.now.held) self.now.regs result }
     {
         known::wants(image, self.near, self.held, &self.regs, instr)
     }
@@ -164,9 +158,7 @@ impl GuestThread {
     #[tactic(auto, unfolding(crate::specs::Turn::next_lock))]
     #[inline(always)]
     pub fn ahead<'a>(&self, image: &Image, code: &'a Code, known: Option<&'a Instr>) -> Ahead<'a>
-        requires code { code.now ≡ image.now }
-        requires known { IfSome known
-            (λ instr. instruction_at image.now self.now.regs.pc ≡ Ok instr.now) }
+        requires { KnowsCode image.now code.now self.now.regs.pc known }
         ensures { IsAhead image.now (thread_of self.now) result }
     {
         match self.fuel {
@@ -184,13 +176,8 @@ impl GuestThread {
     #[tactic(auto, using(crate::proofs::InPlace::same_thread))]
     #[inline(always)]
     pub fn turn(&mut self, image: &Image, instr: &Instr, want: Want, answer: u32) -> Option<Done>
-        requires instr { instruction_at image.now self.old.regs.pc ≡ Ok instr.now }
-        requires want { want ≡ wants_of image.now (has self.old.held) self.old.regs }
-        ensures done { result
-            ≡ option_map done_of (act_with image.now (thread_of self.old) answer) }
-        ensures thread { thread_of self.new
-            ≡ thread_after (thread_of self.old) (act_with image.now (thread_of self.old) answer) }
-        ensures fits { IfSome result DoneFits }
+        requires { IsNext image.now (has self.old.held) self.old.regs instr.now want }
+        ensures { HasTurned image.now (thread_of self.old) answer result (thread_of self.new) }
     {
         let Some(left) = self.fuel.checked_sub(1) else {
             self.end(Status::SpentFuel);
@@ -218,11 +205,8 @@ impl GuestThread {
     pub fn fault(&mut self, image: &Image, fault: Fault) -> Option<Done>
         requires { instruction_at image.now self.old.regs.pc ≡ Err fault }
         ensures want { wants_of image.now (has self.old.held) self.old.regs ≡ Nothing }
-        ensures done { (answer : ℕ) → result
-            ≡ option_map done_of (act_with image.now (thread_of self.old) answer) }
-        ensures thread { (answer : ℕ) → thread_of self.new
-            ≡ thread_after (thread_of self.old) (act_with image.now (thread_of self.old) answer) }
-        ensures fits { IfSome result DoneFits }
+        ensures turned { (answer : ℕ)
+            → HasTurned image.now (thread_of self.old) answer result (thread_of self.new) }
     {
         let Some(left) = self.fuel.checked_sub(1) else {
             self.end(Status::SpentFuel);
@@ -235,8 +219,7 @@ impl GuestThread {
 
     /// Its next turn, where that is the lawful LOCK of this lock with that answer.
     pub fn take_lock(&mut self, lock: u32, answer: u32)
-        requires fuel { 0 < self.old.fuel }
-        requires lock { lock < 32 }
+        requires { CanAct self.old.fuel (Called (Lock lock) (answered self.old.regs answer)) }
         ensures { thread_of self.new
             ≡ thread_after (thread_of self.old) (Some (Called (Lock lock) (answered self.old.regs answer))) }
     {
@@ -266,8 +249,7 @@ impl GuestThread {
     /// The thread after its turn. None is the turn in which it ends for want of fuel.
     #[tactic(auto, using(crate::proofs::InPlace::same_thread))]
     pub fn take_turn(&mut self, act: &Option<Act>)
-        requires fuel { IfSome act.now (λ a. 0 < self.old.fuel) }
-        requires fits { IfSome act.now ActFits }
+        requires { IfSome act.now (CanAct self.old.fuel) }
         ensures { thread_of self.new ≡ thread_after (thread_of self.old) act.now }
     {
         let Some(act) = act else {

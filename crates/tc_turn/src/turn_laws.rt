@@ -1,11 +1,9 @@
 //! The laws of one turn.
 
-ghost use Rattle.std.specs.Prelude.{◌≡◌, ℕ, ◌<◌, Bool, true, false, length, Some, None};
+ghost use Rattle.std.specs.Prelude.{◌≡◌, ℕ, Bool, true, false, Some, None};
 ghost use Rattle.tc_elf.specs.Shown.{Shown};
-ghost use Rattle.tc_exec.specs.Step.{wants_of};
-ghost use Rattle.tc_exec.specs.declared.outcome.Want.TheVariants.{Nothing};
 ghost use Rattle.tc_turn.specs.Turn.{Thread, Mutex, next_lock, next_act, thread_after, mutex_after};
-ghost use Rattle.tc_turn.specs.Reads.{Covers};
+ghost use Rattle.tc_turn.specs.Reads.{Covers, TakesLock};
 
 /// A turn reads its thread and the locks that the thread holds or takes, and leaves the others
 /// alone. A law: it does nothing when it is called.
@@ -21,11 +19,6 @@ pub fn turns()
     ensures covers { (image : Shown) (set : ℕ → Bool) (d : Thread) (locks : ℕ → Mutex)
         → Covers image set d → next_lock image (thread_after d (next_act image d locks)) ≡ None
         → Covers image set (thread_after d (next_act image d locks)) }
-    // A lock that the next turn takes is one of the image's, is not held, and the turn loads nothing.
-    ensures known { (image : Shown) (d : Thread) (k : ℕ)
-        → next_lock image d ≡ Some k → k < length image.guards }
-    ensures free { (image : Shown) (d : Thread) (k : ℕ)
-        → next_lock image d ≡ Some k → d.held k ≡ false }
-    ensures alone { (image : Shown) (d : Thread) (k : ℕ)
-        → next_lock image d ≡ Some k → wants_of image d.held d.regs ≡ Nothing }
+    ensures takes { (image : Shown) (d : Thread) (k : ℕ)
+        → next_lock image d ≡ Some k → TakesLock image d k }
 {}

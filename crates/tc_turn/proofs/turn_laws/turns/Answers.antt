@@ -10,11 +10,5 @@ returns-clause-leaves c = leaves
 pub returns-clause-covers : goal.returns-clause-covers
 returns-clause-covers c = covers_on
 
-pub returns-clause-known : goal.returns-clause-known
-returns-clause-known c = next_known
-
-pub returns-clause-free : goal.returns-clause-free
-returns-clause-free c = next_free
-
-pub returns-clause-alone : goal.returns-clause-alone
-returns-clause-alone c = next_wants
+pub returns-clause-takes : goal.returns-clause-takes
+returns-clause-takes c = λ image d k e. record { known = next_known image d k e; free = next_free image d k e; alone = next_wants image d k e }

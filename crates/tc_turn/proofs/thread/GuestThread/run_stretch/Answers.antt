@@ -21,7 +21,7 @@ run-preserved c =
       fuel = turn.fuel ∙ now.fuel;
       most = omega (arith, c.run-test.true);
       slot = elim c.match-own_step.branch [
-        | in-Next w ↦ λ low. omega (arith, low, w.slot-is, turn.next w.in-Next.is, now.slot c.in-Some.ensures.known, c.requires.fits)
+        | in-Next w ↦ λ low. omega (arith, low, w.slot-is, turn.next w.in-Next.is, now.slot c.in-Some.ensures.known, c.requires.telling.fits)
         | in-Jumps w ↦ λ low. omega (arith, w.slot-is, w.slot-slot-in-Jumps.ensures (omega (arith, low, w.slot-is)), w.pc-in-Jumps.ensures.value, here)
       ];
     }
