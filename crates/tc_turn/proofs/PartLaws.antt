@@ -1,11 +1,12 @@
 -- A thread's own memory: an access whose bytes one part has is read and written in that part.
 use Rattle.std.proofs.Common.{◌≡◌, ◌≢◌, ◌⊎◌, ℕ, zero, suc, ◌+◌, ◌-◌, ◌/◌, ◌%◌, ◌<◌, ◌≤◌, true, List, [], ◌∷◌, length, map, set, refl, sym, ap, ◌∙◌, arith, inl, inr}
-use Rattle.std.specs.Prelude.{Option, Some, None, unwrap_or}
+use Rattle.std.specs.Prelude.{Option, Some, None, Vec, unwrap_or}
+use Rattle.std.specs.Vec.{with_items}
 use Rattle.std.specs.Option.{option_or}
 use Rattle.std.proofs.lemmas.Bool.{and_parts}
 use Rattle.std.proofs.lemmas.Bool.Decides.{leb_tells, nat_tests}
 use Rattle.std.proofs.lemmas.Option.{slice_get_past}
-use Rattle.std.proofs.lemmas.List.{length-set, length-map, set_past, get_or-map}
+use Rattle.std.proofs.lemmas.List.{length-set, length-map, set_past, get_or-map, with_items_is}
 use Rattle.tc_turn.specs.Memory.{Part, number_at, byte_from, put_byte, put_number, part_with, own_of}
 use Rattle.tc_turn.specs.Parts.{no_part, part_at, part_has, AreApart}
 use Rattle.tc_turn.proofs.Numbers.{number_same}
@@ -118,3 +119,8 @@ apart_kept ps addr n value apart = λ i j d before below.
     let long = length_number p.start p.bytes addr n value in
     let had : (f p).start + length (f p).bytes ≤ (f (part_at ps j)).start = omega arith in
     rw (get_or-map f ps i no_part d (omega arith), get_or-map f ps j no_part d high) had
+
+-- a part whose bytes were written in place
+pub part_written : {Z : Type 0} (start : ℕ) (bytes : Vec ℕ Z) (new : List ℕ) (addr n value : ℕ) → length new ≡ bytes.len → new ≡ put_number start bytes.items addr n value
+    → record { start = start; bytes = (with_items bytes new).items } ≡ part_with addr n value (record { start = start; bytes = bytes.items })
+part_written start bytes new addr n value long is = λ i. record { start = start; bytes = (with_items_is bytes new long ∙ is) i }

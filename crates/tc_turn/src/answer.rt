@@ -1,6 +1,6 @@
 //! The answers that a turn finds.
 
-ghost use Rattle.std.specs.Prelude.{◌≡◌, ℕ, ◌+◌, ◌≤◌, ◌^◌, unwrap_or};
+ghost use Rattle.std.specs.Prelude.{◌≡◌, ℕ, unwrap_or};
 ghost use Rattle.tc_elf.specs.Shown.{guard_at};
 ghost use Rattle.tc_exec.specs.Told.{IsWant};
 ghost use Rattle.tc_turn.specs.Memory.{IsAccess, number_at, starting_byte};

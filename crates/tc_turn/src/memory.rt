@@ -3,7 +3,7 @@
 ghost use Rattle.std.specs.Prelude.{◌≡◌, true, ◌+◌, ◌≤◌, ◌^◌, ◌<◌, IfOk, OnOk, length, map, unwrap_or};
 ghost use Rattle.std.specs.Option.{option_map};
 ghost use Rattle.tc_turn.specs.Parts.{HasAt, part_has, with_piece, AreApart};
-ghost use Rattle.tc_turn.specs.Memory.{IsAccess, byte_from, number_at, part_with, with_number, own_of, own_at_start, own_bytes, starting_bytes};
+ghost use Rattle.tc_turn.specs.Memory.{IsAccess, number_at, part_with, with_number, own_of, own_at_start, own_bytes, starting_bytes};
 
 pub use crate::number::put_number;
 use crate::number::{Bytes, are_there, byte_from, bytewise, number_within, put_within};
@@ -67,33 +67,6 @@ impl Part {
     {
         are_there(self.start, &self.bytes, start, length)
     }
-
-    /// The number in so many bytes, of which it has all.
-    #[inline(always)]
-    fn number(&self, addr: u32, width: u32) -> u32
-        requires there { part_has addr width self.now ≡ true }
-        requires access { IsAccess addr width }
-        ensures { result ≡ number_at (λ at. unwrap_or (byte_from self.now.start self.now.bytes at) 0) addr width }
-    {
-        number_within(self.start, &self.bytes, addr, width)
-    }
-
-    fn put(&mut self, addr: u32, width: u32, value: u32)
-        requires { addr + width ≤ 2 ^ 32 }
-        ensures { self.new ≡ part_with addr width value self.old }
-    {
-        put_number(self.start, &mut self.bytes, addr, width, value);
-    }
-
-    /// The same where it has all of the addresses.
-    #[inline(always)]
-    fn put_within(&mut self, addr: u32, width: u32, value: u32)
-        requires there { part_has addr width self.old ≡ true }
-        requires fits { addr + width ≤ 2 ^ 32 }
-        ensures { self.new ≡ part_with addr width value self.old }
-    {
-        put_within(self.start, &mut self.bytes, addr, width, value);
-    }
 }
 
 /// The bytes that a thread has for itself: those of the writable ranges outside the guards, and its
@@ -144,7 +117,7 @@ fn put_in_parts(parts: &mut [Part], addr: u32, width: u32, value: u32)
     ensures { parts.new ≡ map (part_with addr width value) parts.old }
 {
     for part in parts.iter_mut() {
-        part.put(addr, width, value);
+        put_number(part.start, &mut part.bytes, addr, width, value);
     }
 }
 
@@ -168,7 +141,8 @@ fn put_near(parts: &mut [Part], part: usize, addr: u32, width: u32, value: u32)
         put_in_parts(parts, addr, width, value);
         return;
     }
-    parts[part].put_within(addr, width, value);
+    let part = &mut parts[part];
+    put_within(part.start, &mut part.bytes, addr, width, value);
 }
 
 /// The bytes at the start of addresses that have this place in a thread's own memory, if it has
@@ -242,7 +216,8 @@ impl Memory {
         if !has_in(parts, near, addr, width) {
             return bytewise(self, addr, width);
         }
-        parts[near].number(addr, width)
+        let part = &parts[near];
+        number_within(part.start, &part.bytes, addr, width)
     }
 
     /// Writes the low `width` bytes of a value, the lowest first, to the addresses from `addr` on.
