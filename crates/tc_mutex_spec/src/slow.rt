@@ -7,7 +7,7 @@ ghost use Rattle.std.specs.Prelude.{◌≡◌, ℕ, ◌+◌, ◌<◌, ◌≤◌,
 ghost use Rattle.std.specs.Option.{option_map};
 ghost use Rattle.tc_isa.specs.Sets.{has};
 ghost use Rattle.tc_journal.specs.declared.rule.Outcome.TheVariants.{Unlocked};
-ghost use Rattle.tc_turn.specs.Turn.{next_lock, next_act, outcome_of, ActFits};
+ghost use Rattle.tc_turn.specs.Turn.{next_lock, next_act, outcome_of, CanAct};
 ghost use Rattle.tc_mutex_spec.specs.Machine.{can_turn, after, turns, run_from, run, start};
 ghost use Rattle.tc_mutex_spec.specs.Slow.{state_of, thread_at, mutex_at, Suits, Turned, LeadsTo};
 
@@ -112,8 +112,7 @@ impl Slow {
         requires locks { length self.now.locks ≡ length image.now.guards }
         ensures value { result
             ≡ next_act image.now ((state_of self.now).threads t) (state_of self.now).locks }
-        ensures fits { IfSome result ActFits }
-        ensures fuel { IfSome result (λ act. 0 < ((state_of self.now).threads t).fuel) }
+        ensures can { IfSome result (CanAct ((state_of self.now).threads t).fuel) }
     {
         let thread = &self.threads[t as usize];
         let beside = Beside {

@@ -12,9 +12,9 @@ take_turn-requires c =
     let may = c.requires.may in
     let act = act_with image d 0 in
     record {
-      fits = subst TurnFits (sym (c.fault-done.ensures.done 0)) (turn_fits image d 0 act refl may.go.guards);
+      fits = subst TurnFits (sym (c.fault-done.ensures.turned 0).done) (turn_fits image d 0 act refl may.go.guards);
       ready = λ k l found.
-          subst (λ o. TurnReady (has c.held-held.result) o k l) (sym (c.fault-done.ensures.done 0))
+          subst (λ o. TurnReady (has c.held-held.result) o k l) (sym (c.fault-done.ensures.turned 0).done)
           (subst (λ n. TurnReady (has n) (option_map done_of act) k l) (sym c.held-held.ensures) (turn_ready image (has c.args.block) d 0 act refl may.covers k l (may.go.of k l found) (may.opened k l.journal (ap (option_map journal_in) found))));
     }
 
@@ -25,5 +25,5 @@ returns c =
     record {
       did = did_turn c.args.image.now (has c.args.block) noting old _ old.locks Nothing None 0 c.held-held.result c.fault-done.result c.requires.may.go.of
           (sym c.fault-done.ensures.want) (sym c.requires.next) refl (λ k. refl) (none_noted noting 0 old.locks)
-          c.held-held.ensures (c.fault-done.ensures.done 0) c.fault-done.ensures.fits c.take_turn.ensures refl (c.fault-done.ensures.thread 0);
+          c.held-held.ensures (c.fault-done.ensures.turned 0).done (c.fault-done.ensures.turned 0).fits c.take_turn.ensures refl (c.fault-done.ensures.turned 0).thread;
     }

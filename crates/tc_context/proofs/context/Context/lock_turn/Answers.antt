@@ -12,8 +12,14 @@ use Rattle.tc_context.proofs.context.Context.lock_turn.Goals as goal
 pub note_each-requires : goal.note_each-requires
 note_each-requires c = record { opened = λ k l found. c.requires.may.opened k l.journal (ap (option_map journal_in) found); room = λ k l found. c.requires.may.room k l.journal (ap (option_map journal_in) found) }
 
-pub take_lock-requires-clause-fuel : goal.take_lock-requires-clause-fuel
-take_lock-requires-clause-fuel c = (let some = next_fueled c.args.image.now (thread_in c.args.self.now) c.args.lock c.requires.next in grind (arith, nat_tests))
+pub take_lock-requires : goal.take_lock-requires
+take_lock-requires c =
+    let known = next_known c.args.image.now (thread_in c.args.self.now) c.args.lock c.requires.next in
+    let few = c.requires.may.go.guards in
+    record {
+      fuel = (let some = next_fueled c.args.image.now (thread_in c.args.self.now) c.args.lock c.requires.next in grind (arith, nat_tests));
+      fits = omega (arith, known, few);
+    }
 
 pub begin-requires : goal.begin-requires
 begin-requires c =

@@ -1,9 +1,10 @@
 use Rattle.std.proofs.Common.{◌≡◌, ℕ, ◌<◌, List, length, get_or, sym, ap, subst, ◌∙◌, arith}
-use Rattle.std.specs.Prelude.{slice_get, Some}
+use Rattle.std.specs.Prelude.{slice_get, Option, Some, None, IfSome}
 use Rattle.std.specs.Option.{option_map}
 use Rattle.std.proofs.lemmas.Option.{slice_get-get_or}
 use Rattle.tc_isa.specs.Sets.{has}
-use Rattle.tc_turn.specs.Turn.{Guest, next_act, outcome_of, mutex_after}
+use Rattle.tc_exec.specs.declared.outcome.Act.{Act}
+use Rattle.tc_turn.specs.Turn.{Guest, next_act, outcome_of, mutex_after, ActFits, CanAct}
 use Rattle.tc_turn.proofs.Turns.{released_held}
 use Rattle.tc_mutex_spec.specs.Machine.{after}
 use Rattle.tc_mutex_spec.specs.Slow.{Plain, thread_at, mutex_at, state_of, Suits}
@@ -14,6 +15,13 @@ use Rattle.tc_mutex_spec.proofs.slow.Slow.take_turn.Goals as goal
 -- one place of a list, read twice
 same_item : {A : Type 0} (xs : List A) (i : ℕ) (x y : A) → i < length xs → x ≡ get_or xs i x → y ≡ get_or xs i y → x ≡ y
 same_item xs i x y lt p q = (let e : Some x ≡ Some y = ap Some p ∙ sym (slice_get-get_or xs i x lt) ∙ slice_get-get_or xs i y lt ∙ ap Some (sym q) in cc)
+
+act_fits : (left : ℕ) (act : Option Act) → IfSome act (CanAct left) → IfSome act ActFits
+act_fits left None can = tt
+act_fits left (Some a) can = can.fits
+
+pub take_turn-requires-clause-fits : goal.take_turn-requires-clause-fits
+take_turn-requires-clause-fits c = act_fits _ c.next_act-act.result c.next_act-act.ensures.can
 
 abbrev plain : goal.After-outcome_of → Plain
 plain c = record { threads = c.self.inside.threads.items; locks = c.self.inside.locks }
