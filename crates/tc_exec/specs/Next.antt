@@ -11,7 +11,7 @@ use Rattle.tc_exec.specs.declared.outcome.Act.{Act}
 use Rattle.tc_exec.specs.declared.outcome.Want.{Want}
 
 -- this is the next instruction, and the load that it needs
-pub record IsNext (image : Shown) (held : ℕ → Bool) (r : Registers) (next : Instr) (wanted : Want) : Type 0 where
+pub record IsNextWith (image : Shown) (held : ℕ → Bool) (r : Registers) (next : Instr) (wanted : Want) : Type 0 where
   pub instr : instruction_at image r.pc ≡ Ok next
   pub want : wanted ≡ wants_of image held r
 
@@ -28,20 +28,20 @@ pub record IsActOf (image : Shown) (held : ℕ → Bool) (r : Registers) (answer
 -- ---- what is known of it
 
 -- the instruction at a place, where it is known
-abbrev pub IsKnown : Shown → ℕ → Option (Bor Instr) → Type 0
-IsKnown image pc known = IfSome known (λ instr. instruction_at image pc ≡ Ok instr.now)
+abbrev pub IsInstrAt : Shown → ℕ → Option (Bor Instr) → Type 0
+IsInstrAt image pc known = IfSome known (λ instr. instruction_at image pc ≡ Ok instr.now)
 
 -- the code is that of the image, and the instruction that is known is the one at the place
 pub record KnowsCode (image of : Shown) (pc : ℕ) (instr : Option (Bor Instr)) : Type 0 where
   pub code : of ≡ image
-  pub known : IsKnown image pc instr
+  pub known : IsInstrAt image pc instr
 
 -- x17 has the number of LOCK, and the instruction that is known is the one at the place
 pub record MayCallLock (image : Shown) (r : Registers) (instr : Option (Bor Instr)) : Type 0 where
   pub number : get r 17 ≡ 1
-  pub known : IsKnown image r.pc instr
+  pub known : IsInstrAt image r.pc instr
 
 -- it is the lock that the next instruction takes, whatever is answered, and that instruction, where it is known
 pub record LooksAhead (image : Shown) (held : ℕ → Bool) (r : Registers) (ahead : Ahead) : Type 0 where
   pub lock : (answer : ℕ) → ahead.lock ≡ taken_by (act_of image held r answer)
-  pub instr : IsKnown image r.pc ahead.instr
+  pub instr : IsInstrAt image r.pc ahead.instr

@@ -7,7 +7,7 @@ ghost use Rattle.std.specs.Prelude.{◌≡◌, ℕ, ◌*◌, ◌+◌, ◌<◌, �
 ghost use Rattle.tc_isa.specs.Sets.{has};
 ghost use Rattle.tc_elf.specs.Shown.{Shown};
 ghost use Rattle.tc_exec.specs.Code.{SlotTells, SlotsTell, PartsTell, IsTelling};
-ghost use Rattle.tc_exec.specs.Next.{KnowsCode, MayCallLock, LooksAhead};
+ghost use Rattle.tc_exec.specs.Next.{IsInstrAt, KnowsCode, MayCallLock, LooksAhead};
 ghost use Rattle.tc_exec.specs.Statements.{NeverLocks, CallsLock};
 ghost use Rattle.tc_exec.specs.Step as step;
 ghost use Rattle.tc_exec.specs.Told.{taken_by};
@@ -77,8 +77,7 @@ impl<'a> Stretch<'a> {
     /// The instruction in a slot. None says nothing.
     pub fn find(&self, slot: usize) -> Option<&'a Instr>
         ensures tells { (image : Shown) → SlotsTell image self.now.start self.now.slots.now
-            → IfSome result (λ instr.
-            step.instruction_at image (self.now.start + 4 * slot) ≡ Ok instr.now) }
+            → IsInstrAt image (self.now.start + 4 * slot) result }
         ensures known { IfSome result (λ instr. slot < length self.now.slots.now) }
     {
         if slot >= self.slots.len() {
@@ -162,7 +161,7 @@ impl Code {
 
     /// The instruction at a place, where it was decoded. None says nothing.
     pub fn find(&self, pc: u32) -> Option<&Instr>
-        ensures { IfSome result (λ instr. step.instruction_at self.now pc ≡ Ok instr.now) }
+        ensures { IsInstrAt self.now pc result }
     {
         let stretch = self.stretch(pc)?;
         stretch.find(stretch.slot(pc))

@@ -4,7 +4,7 @@ ghost use Rattle.std.specs.Prelude.{◌≡◌, Ok};
 ghost use Rattle.tc_isa.specs.Sets.{has};
 ghost use Rattle.tc_exec.specs.InPlace.{IsDone, IsDoneBy};
 ghost use Rattle.tc_exec.specs.Step as step;
-ghost use Rattle.tc_exec.specs.Next.{IsNext, IsWantOf};
+ghost use Rattle.tc_exec.specs.Next.{IsNextWith, IsWantOf};
 
 use crate::access::{fault_of_load, load, load_want, store};
 use crate::execute::{Effect, execute};
@@ -44,7 +44,7 @@ pub fn go(
     want: Want,
     answer: u32,
 ) -> Done
-    requires { IsNext image.now (has held) regs.old instr.now want }
+    requires { IsNextWith image.now (has held) regs.old instr.now want }
     ensures goes { IsDoneBy (step.act_of image.now (has held) regs.old answer)
         regs.old regs.new result }
     ensures told { IsDone image.now (has held) result }

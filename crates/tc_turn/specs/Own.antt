@@ -6,7 +6,7 @@ use Rattle.tc_isa.specs.declared.instr.StoreKind.{StoreKind}
 use Rattle.tc_elf.specs.Shown.{Shown}
 use Rattle.tc_exec.specs.Access.{load_width, store_width, extended}
 use Rattle.tc_exec.specs.Flow.{at_next}
-use Rattle.tc_exec.specs.Next.{IsKnown}
+use Rattle.tc_exec.specs.Next.{IsInstrAt}
 use Rattle.tc_exec.specs.Touch.{IsOwn}
 use Rattle.tc_exec.specs.declared.code.Stretch.{Stretch}
 use Rattle.tc_journal.specs.declared.rule.Outcome.TheVariants.{Went}
@@ -87,7 +87,7 @@ pub record HasStretched (image : Shown) (loads : Bool) (bound : ℕ) (stretch : 
   pub slot : ran.slot < length stretch.slots.now → stretch.start + 4 * ran.slot ≡ new.regs.pc
 
 -- at most so many turns, and the instruction behind them, where it is told
-pub record HasRun (image : Shown) (loads : Bool) (bound : ℕ) (old new : Guest) (own : OwnTurns) : Type 0 where
+pub record HasRunOwn (image : Shown) (loads : Bool) (bound : ℕ) (old new : Guest) (own : OwnTurns) : Type 0 where
   pub runs : OwnRun image loads own.count old new
   pub most : own.count ≤ bound
-  pub stop : IsKnown image new.regs.pc own.stop
+  pub stop : IsInstrAt image new.regs.pc own.stop

@@ -4,7 +4,7 @@
 ghost use Rattle.std.specs.Prelude.{◌≡◌, ◌≤◌, true, false, Ok};
 ghost use Rattle.tc_exec.specs.Code.{IsTelling};
 ghost use Rattle.tc_exec.specs.Step.{instruction_at};
-ghost use Rattle.tc_turn.specs.Own.{HasLoaded, HasStored, HasRun, HasStretched, HasStepped};
+ghost use Rattle.tc_turn.specs.Own.{HasLoaded, HasStored, HasRunOwn, HasStretched, HasStepped};
 ghost use Rattle.tc_turn.specs.Way.{on_or_not};
 ghost use Rattle.tc_turn.specs.Turn.{thread_of};
 
@@ -63,7 +63,7 @@ impl GuestThread {
         loads: bool,
     ) -> OwnTurns<'a>
         requires { code.now ≡ image.now }
-        ensures { HasRun image.now loads most self.old self.new result }
+        ensures { HasRunOwn image.now loads most self.old self.new result }
     {
         let Some(stretch) = code.stretch(self.regs.pc()) else {
             return OwnTurns {

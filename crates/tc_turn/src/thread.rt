@@ -3,7 +3,7 @@
 ghost use Rattle.std.specs.Prelude.{◌≡◌, ℕ, ◌<◌, IfOk, IfSome, Ok, Err, Some, length, unwrap_or};
 ghost use Rattle.tc_isa.specs.Sets.{has};
 ghost use Rattle.tc_exec.specs.Calls.{answered};
-ghost use Rattle.tc_exec.specs.Next.{IsNext, IsWantOf, KnowsCode};
+ghost use Rattle.tc_exec.specs.Next.{IsNextWith, IsWantOf, KnowsCode};
 ghost use Rattle.tc_exec.specs.Step.{instruction_at, wants_of};
 ghost use Rattle.tc_exec.specs.declared.outcome.Act.TheVariants.{Called};
 ghost use Rattle.tc_exec.specs.declared.outcome.Call.TheVariants.{Lock};
@@ -176,7 +176,7 @@ impl GuestThread {
     #[tactic(auto, using(crate::proofs::InPlace::same_thread))]
     #[inline(always)]
     pub fn turn(&mut self, image: &Image, instr: &Instr, want: Want, answer: u32) -> Option<Done>
-        requires { IsNext image.now (has self.old.held) self.old.regs instr.now want }
+        requires { IsNextWith image.now (has self.old.held) self.old.regs instr.now want }
         ensures { HasTurned image.now (thread_of self.old) answer result (thread_of self.new) }
     {
         let Some(left) = self.fuel.checked_sub(1) else {
