@@ -3,7 +3,7 @@
 //! The table is sound and not complete: a place that it has is the instruction there, and a place
 //! that it has not tells nothing. So what is not found in it is fetched and decoded as ever.
 
-ghost use Rattle.std.specs.Prelude.{◌≡◌, ℕ, ◌*◌, ◌+◌, ◌<◌, ◌≤◌, ◌^◌, IfOk, IfSome, MatchBool, Ok, length};
+ghost use Rattle.std.specs.Prelude.{◌≡◌, ℕ, ◌*◌, ◌+◌, ◌<◌, ◌≤◌, ◌^◌, IfOk, IfSome, MatchBool, length};
 ghost use Rattle.tc_isa.specs.Sets.{has};
 ghost use Rattle.tc_elf.specs.Shown.{Shown};
 ghost use Rattle.tc_exec.specs.Code.{SlotTells, SlotsTell, PartsTell, IsTelling};
