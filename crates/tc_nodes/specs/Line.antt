@@ -22,6 +22,12 @@ abbrev pub has_turn : Turn → List Waiter → Bool
 has_turn u [] = false
 has_turn u (w ∷ ws) = is_turn u w.turn || has_turn u ws
 
+-- a line may be made for so many threads with this bound
+pub record MayLineUp (threads bound : ℕ) : Type 0 where
+  pub some : 1 ≤ threads
+  pub few : threads ≤ 64
+  pub bounded : bound ≤ 256
+
 -- ---- coming
 
 abbrev pub newcomer : Turn → ℕ → Waiter

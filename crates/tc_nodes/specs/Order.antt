@@ -37,9 +37,6 @@ answer_to_leave found h = if found == next_to h.read then Left else Followed
 abbrev pub enter_call : Turn → ℕ → Call
 enter_call u found = Enter u (answer_to_enter found)
 
-abbrev pub link_call : ℕ → Placed → Call
-link_call place p = Link place p.turn p.node
-
 -- whether the line takes in what was found in a cell
 abbrev pub takes_in : Option Placed → Stand → Bool
 takes_in None h = false

@@ -1,5 +1,5 @@
 -- Who is picked, over a whole list of arrivals and picks.
-use Rattle.std.specs.Prelude.{◌≡◌, ℕ, ◌+◌, ◌≤◌, ◌==◌, Bool, true, false, not, ◌&&◌, ◌||◌, if◌then◌else◌, List, [], ◌∷◌, ◌++◌, Option, Some, None}
+use Rattle.std.specs.Prelude.{◌≡◌, ℕ, ◌+◌, ◌≤◌, ◌==◌, Bool, true, false, not, ◌&&◌, ◌||◌, if◌then◌else◌, List, [], ◌∷◌, ◌++◌, length, Option, Some, None}
 use mathlib.Core.Option.{some}
 use lib.ListN.{get_elem?}
 use Rattle.tc_queue.specs.declared.turn.Turn.{Turn}
@@ -109,6 +109,12 @@ arriving (Pick node ∷ ops) = arriving ops
 abbrev pub HaveComeOnce : List Placed → Type 0
 HaveComeOnce [] = Unit {0}
 HaveComeOnce (c ∷ cs) = (has_come c.turn cs ≡ false) × HaveComeOnce cs
+
+-- a line with this bound may go over the operations: no turn arrives twice
+pub record MayRun (bound : ℕ) (ops : List Op) : Type 0 where
+  pub bounded : bound ≤ 256
+  pub apart : HaveComeOnce (arriving ops)
+  pub few : length (arriving ops) ≤ 64
 
 -- ---- what follows
 

@@ -1,5 +1,5 @@
 -- What contracts see of a queue that knows nodes and of its seats.
-use Rattle.std.specs.Prelude.{◌≡◌, ◌≢◌, ◌⊎◌, ℕ, ◌%◌, ◌≤◌, Bool, false, true, is_some, MatchBool, List, [], ◌∷◌, ◌++◌, Option, Some, None}
+use Rattle.std.specs.Prelude.{◌≡◌, ◌≢◌, ◌⊎◌, ℕ, ◌%◌, ◌≤◌, Bool, false, true, is_some, MatchBool, List, [], ◌∷◌, ◌++◌, All, length, Option, Some, None}
 use mathlib.Core.Option.{some}
 use lib.ListN.{get_elem?}
 use Rattle.atomic_table.specs.Seated.{TableId}
@@ -15,7 +15,7 @@ use Rattle.tc_nodes.specs.declared.board.Stand.{Stand}
 use Rattle.tc_nodes.specs.declared.board.Terms.{Terms}
 use Rattle.tc_nodes.specs.declared.board.Known.{Known}
 use Rattle.tc_nodes.specs.Steps.{Sitting, IsLineFor, IsFound, Holds, Took, missed, with_hand, did_read, did_next, did_leave}
-use Rattle.tc_nodes.specs.Order.{next_to, takes_in, stand_after, pick_of, without_pick, answer_to_leave, stand_left}
+use Rattle.tc_nodes.specs.Order.{MayLink, next_to, takes_in, stand_after, pick_of, without_pick, answer_to_leave, stand_left}
 
 pub record NodeQueueView : Type 0 where
   pub table : TableId
@@ -39,10 +39,11 @@ seat_view table id node v = record { table = table; id = id; threads = v.threads
 abbrev pub IsSeatOf : NodeQueueView → NodeSeatView → Type 0
 IsSeatOf q s = (s.table ≡ q.table) × (s.threads ≡ q.threads)
 
--- with this seat of the queue a call for this turn may be made
-pub record MayCall (q : NodeQueueView) (s : NodeSeatView) (u : Turn) : Type 0 where
+-- with this seat of the queue the turn may be linked at a place that its `enter` answered
+pub record MayLinkAt (q : NodeQueueView) (s : NodeSeatView) (u : Turn) (place : ℕ) : Type 0 where
   pub seat : IsSeatOf q s
   pub turn : IsTurn q.threads u
+  pub entered : MayLink s.calls u place
 
 abbrev pub with_calls : List Call → NodeSeatView → NodeSeatView
 with_calls cs s = record s { calls = s.calls ++ cs }
@@ -58,6 +59,17 @@ pub record IsNewSeat (q : NodeQueueView) (number : ℕ) (s : NodeSeatView) : Typ
 -- seat w is on node w modulo the number of nodes
 abbrev pub AreNewSeats : NodeQueueView → ℕ → List NodeSeatView → Type 0
 AreNewSeats q nodes seats = (w : ℕ) (s : NodeSeatView) → get_elem? seats w ≡ some s → IsNewSeat q (w % nodes) s
+
+-- a queue for so many threads with this bound that was just made, with so many seats on so many nodes
+pub record IsOpened (threads bound many nodes : ℕ) (q : NodeQueueView) (made : List NodeSeatView) : Type 0 where
+  pub queue : (q.threads ≡ threads) × (q.bound ≡ bound)
+  pub count : length made ≡ many
+  pub own : All (IsSeatOf q) made
+  pub seats : AreNewSeats q nodes made
+
+-- so many seats may be on so many nodes
+abbrev pub MaySeat : ℕ → ℕ → Type 0
+MaySeat many nodes = (1 ≤ nodes) × (nodes ≤ many) × (many ≤ 8)
 
 -- the line was found out
 abbrev pub AreMisses : List Call → Type 0
@@ -117,6 +129,12 @@ IsSamePlace p q = (q.table_id ≡ p.table_id) × (q.id ≡ p.id)
 pub record IsAt (q : NodeQueueView) (state : Sitting → Type 0) (p : Seat Stand Known) : Type 0 where
   pub own : p.table_id ≡ q.table
   pub holds : state p.me
+
+-- and a step may be made from there for this turn, which is the one that the step names
+pub record MayStepAt (q : NodeQueueView) (state : Sitting → Type 0) (u named : Turn) (p : Seat Stand Known) : Type 0 where
+  pub at : IsAt q state p
+  pub turn : IsTurn q.threads u
+  pub picked : u ≡ named
 
 -- the place of one seat, before and after steps that did this
 pub record DidAt (steps : Sitting → Sitting → Type 0) (p q : Seat Stand Known) : Type 0 where

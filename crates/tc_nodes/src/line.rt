@@ -1,7 +1,7 @@
 //! A line of waiting turns, each with the node on which it waits.
 
-ghost use Rattle.std.specs.Prelude.{◌≡◌, ◌≢◌, ◌≤◌, [], IfOk, MatchBool, vec_capacity};
-ghost use Rattle.tc_nodes.specs.Line.{IsLetIn, IsRefused, IsSteady, LineView, arrived, has_turn, line_after, line_without, picked, with_waiting};
+ghost use Rattle.std.specs.Prelude.{◌≡◌, ◌≢◌, [], IfOk, MatchBool, vec_capacity};
+ghost use Rattle.tc_nodes.specs.Line.{IsLetIn, IsRefused, IsSteady, LineView, MayLineUp, arrived, has_turn, line_after, line_without, picked, with_waiting};
 
 use std::alloc::{AllocError, Global};
 use std::marker::Model;
@@ -39,8 +39,7 @@ impl Line {
     /// A line for so many threads in which nobody waits. Nobody in it is ever passed over more
     /// often than the bound says, and where the bound is 0, nobody is at all.
     pub fn new(alloc: Global, threads: u32, bound: u32) -> Result<Line, AllocError>
-        requires threads { (1 ≤ threads) × (threads ≤ 64) }
-        requires bound { bound ≤ 256 }
+        requires { MayLineUp threads bound }
         ensures { IfOk result (λ l. l ≡ record { threads = threads; bound = bound; waiting = [] }) }
     {
         let waiting = Vec::with_capacity(alloc, threads as usize)?;

@@ -1,7 +1,7 @@
 //! A line over a whole list of arrivals and picks.
 
-ghost use Rattle.std.specs.Prelude.{◌≡◌, ◌≤◌, IfOk, length};
-ghost use Rattle.tc_nodes.specs.Picks.{HaveComeOnce, IsBounded, IsOnce, arriving, picks};
+ghost use Rattle.std.specs.Prelude.{◌≡◌, IfOk};
+ghost use Rattle.tc_nodes.specs.Picks.{IsBounded, IsOnce, MayRun, picks};
 
 use crate::line::Line;
 use std::alloc::{AllocError, Global};
@@ -20,9 +20,7 @@ pub enum Op {
 /// comes to over a whole list of operations, where passes are counted over all that happened.
 #[tactic(auto, using(crate::proofs::Ran::bounded))]
 pub fn run_line(alloc: Global, bound: u32, ops: &[Op]) -> Result<Vec<Option<Turn>>, AllocError>
-    requires bound { bound ≤ 256 }
-    requires apart { HaveComeOnce (arriving ops.now) }
-    requires few { length (arriving ops.now) ≤ 64 }
+    requires { MayRun bound ops.now }
     ensures picks { IfOk result (λ v. v.items ≡ picks bound ops.now) }
     ensures once { IfOk result (λ v. IsOnce v.items) }
     ensures bounded { IsBounded bound ops.now }

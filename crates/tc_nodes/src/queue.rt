@@ -1,15 +1,17 @@
 //! The queue of the waiters of one lock, which knows on which node each of them waits, and its
 //! seats.
 
-ghost use Rattle.std.specs.Prelude.{◌≡◌, ◌≤◌, ℕ, All, length, IfOk, [], ◌∷◌, Some};
+ghost use Rattle.std.specs.Prelude.{◌≡◌, ℕ, IfOk, [], ◌∷◌, Some};
 ghost use Rattle.tc_queue.specs.declared.turn.Turn.{Turn};
 ghost use Rattle.tc_queue.specs.declared.turn.Departure.TheVariants.{Left};
 ghost use Rattle.tc_queue.specs.Words.{IsTurn};
+ghost use Rattle.tc_queue.specs.Lines.{MayCall, MayStep};
 ghost use Rattle.tc_nodes.specs.declared.call.Call.TheVariants.{Enter, Link};
-ghost use Rattle.tc_nodes.specs.Cells.{IsPlaced};
-ghost use Rattle.tc_nodes.specs.Order.{MayLink, answer_to_enter, enter_call, link_call, stand_after, stand_left};
+ghost use Rattle.tc_nodes.specs.Line.{MayLineUp};
+ghost use Rattle.tc_nodes.specs.Lines.{queue_as, seat_as};
+ghost use Rattle.tc_nodes.specs.Order.{answer_to_enter, enter_call, stand_after, stand_left};
 ghost use Rattle.tc_nodes.specs.Steps.{HasLine, HasNoSlot, HasNoWaiter, HasOwnLine, HasSlot, HasWaiter, did_put_back, did_stay};
-ghost use Rattle.tc_nodes.specs.View.{AreNewSeats, Becomes, DidAt, DidExchange, DidLeave, DidNext, DidRead, DidReturn, IsAt, IsFilled, IsNextCell, IsSeatOf, IsTaken, MayCall, Picks, TellsWaiting, Tries, with_calls};
+ghost use Rattle.tc_nodes.specs.View.{Becomes, DidAt, DidExchange, DidLeave, DidNext, DidRead, DidReturn, IsAt, IsFilled, IsNextCell, IsOpened, IsTaken, MayLinkAt, MaySeat, MayStepAt, Picks, TellsWaiting, Tries, with_calls};
 
 use crate::board;
 use crate::board::{Beside, Board, Named, Place, PutBack, Stand, Take, Terms};
@@ -74,14 +76,9 @@ impl NodeQueue {
         nodes: u32,
         bound: u32,
     ) -> Result<(NodeQueue, Vec<NodeSeat>), AllocError>
-        requires threads { (1 ≤ threads) × (threads ≤ 64) }
-        requires seats { (1 ≤ seats) × (seats ≤ 8) }
-        requires nodes { (1 ≤ nodes) × (nodes ≤ seats) }
-        requires bound { bound ≤ 256 }
-        ensures queue { IfOk result (λ made. (made.0.threads ≡ threads) × (made.0.bound ≡ bound)) }
-        ensures count { IfOk result (λ made. length made.1.items ≡ seats) }
-        ensures own { IfOk result (λ made. All (IsSeatOf made.0) made.1.items) }
-        ensures seats { IfOk result (λ made. AreNewSeats made.0 nodes made.1.items) }
+        requires line { MayLineUp threads bound }
+        requires seats { MaySeat seats nodes }
+        ensures { IfOk result (λ made. IsOpened threads bound seats nodes made.0 made.1.items) }
     {
         let mut made = Vec::with_capacity(alloc, seats as usize)?;
         let words = Vec::from_elem(alloc, 0u64, WORDS)?;
@@ -115,7 +112,7 @@ impl NodeQueue {
     /// Counts one more who entered. Nobody was there exactly where the count was 0; else the place
     /// is what the count was.
     pub fn enter(&self, seat: &mut NodeSeat, turn: Turn) -> Entered
-        requires { MayCall self.now seat.old turn }
+        requires { MayCall (queue_as self.now) (seat_as seat.old) turn }
         ensures call { seat.new ≡ with_calls (Enter turn result ∷ []) seat.old }
         ensures step { (found : ℕ) × (result ≡ answer_to_enter found) }
     {
@@ -126,8 +123,7 @@ impl NodeQueue {
     }
 
     fn add_one<J: Named>(&self, seat: &mut NodeSeat, turn: &Turn) -> u64
-        requires may { MayCall self.now seat.old turn.now }
-        requires picked { turn.now ≡ J.own }
+        requires { MayStep (queue_as self.now) (seat_as seat.old) turn.now J.own }
         ensures call { seat.new ≡ with_calls (enter_call turn.now result ∷ []) seat.old }
     {
         let _ = turn;
@@ -138,26 +134,22 @@ impl NodeQueue {
 
     /// Puts the turn into the cell of its place, with the seat's node.
     pub fn link(&self, seat: &mut NodeSeat, place: u64, own: Turn)
-        requires may { MayCall self.now seat.old own }
-        requires entered { MayLink seat.old.calls own place }
+        requires { MayLinkAt self.now seat.old own place }
         ensures call { seat.new ≡ with_calls (Link place own seat.old.node ∷ []) seat.old }
     {
-        let placed = Placed {
-            turn: own,
-            node: seat.node,
-        };
-        self.store_cell::<Brand>(seat, place, &placed);
+        self.store_cell::<Brand>(seat, place, &own);
     }
 
-    fn store_cell<J: Named>(&self, seat: &mut NodeSeat, place: u64, placed: &Placed)
-        requires seat { IsSeatOf self.now seat.old }
-        requires placed { IsPlaced self.now.threads placed.now }
-        requires entered { MayLink seat.old.calls placed.now.turn place }
-        requires picked { (placed.now.turn ≡ J.own) × (placed.now.node ≡ J.node) }
-        requires place { place ≡ J.place }
-        ensures call { seat.new ≡ with_calls (link_call place placed.now ∷ []) seat.old }
+    fn store_cell<J: Named>(&self, seat: &mut NodeSeat, place: u64, own: &Turn)
+        requires may { MayLinkAt self.now seat.old own.now place }
+        requires picked { (own.now ≡ J.own) × (place ≡ J.place) × (seat.old.node ≡ J.node) }
+        ensures call { seat.new ≡ with_calls (Link place own.now seat.old.node ∷ []) seat.old }
     {
         let cell = (place % 64) as usize + 2;
+        let placed = Placed {
+            turn: *own,
+            node: seat.node,
+        };
         self.board
             .shared
             .store::<board::Link<J>>(&mut seat.place, cell, placed.to_word());
@@ -167,7 +159,7 @@ impl NodeQueue {
     /// passed over as often as may be, else the oldest of the seat's node, else the oldest. It waits
     /// while another seat has the line.
     pub fn next<R: Wait>(&self, rt: &R, seat: &mut NodeSeat, own: Turn) -> Option<Turn>
-        requires { MayCall self.now seat.old own }
+        requires { MayCall (queue_as self.now) (seat_as seat.old) own }
         ensures next { DidNext own seat.old.node result seat.old seat.new }
         ensures turn { (u : Turn) → result ≡ Some u → IsTurn self.now.threads u }
     {
@@ -179,7 +171,7 @@ impl NodeQueue {
     /// Leaves, where nobody waits in the line and everyone who entered was read but the first. It
     /// waits while another seat has the line.
     pub fn leave<R: Wait>(&self, rt: &R, seat: &mut NodeSeat, own: Turn) -> Departure
-        requires { MayCall self.now seat.old own }
+        requires { MayCall (queue_as self.now) (seat_as seat.old) own }
         ensures { DidLeave own result seat.old seat.new }
     {
         self.take(rt, &mut seat.place);
@@ -275,9 +267,8 @@ impl NodeQueue {
 
     // Picks from the line, and puts it back.
     fn give<J: Named>(&self, place: &mut Place, own: &Turn, node: u32) -> Option<Turn>
-        requires at { IsAt self.now HasLine place.old }
-        requires turn { IsTurn self.now.threads own.now }
-        requires picked { (own.now ≡ J.own) × (node ≡ J.node) }
+        requires may { MayStepAt self.now HasLine own.now J.own place.old }
+        requires node { node ≡ J.node }
         ensures { DidAt (DidReturn own.now node result) place.old place.new }
     {
         let _ = own;
@@ -297,9 +288,7 @@ impl NodeQueue {
 
     // Puts the line back, in which somebody waits.
     fn stay<J: Named>(&self, place: &mut Place, own: &Turn)
-        requires at { IsAt self.now HasWaiter place.old }
-        requires turn { IsTurn self.now.threads own.now }
-        requires picked { own.now ≡ J.own }
+        requires { MayStepAt self.now HasWaiter own.now J.own place.old }
         ensures { DidAt (λ m n. n ≡ (did_stay own.now m.0, [])) place.old place.new }
     {
         let _ = own;
@@ -317,9 +306,7 @@ impl NodeQueue {
 
     // Sets the count to 0, where everyone who entered was read but the first.
     fn exchange<J: Named>(&self, place: &mut Place, own: &Turn) -> Departure
-        requires at { IsAt self.now HasNoWaiter place.old }
-        requires turn { IsTurn self.now.threads own.now }
-        requires picked { own.now ≡ J.own }
+        requires { MayStepAt self.now HasNoWaiter own.now J.own place.old }
         ensures { DidAt (DidExchange own.now result) place.old place.new }
     {
         let _ = own;

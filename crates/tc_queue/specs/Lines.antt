@@ -14,6 +14,7 @@ use Rattle.tc_queue.specs.declared.turn.Entered.{Entered as OwnEntered}
 use Rattle.tc_queue.specs.declared.turn.Entered.TheVariants.{First as Own_first, Behind as Own_behind}
 use Rattle.tc_queue.specs.declared.turn.Leave.{Leave as OwnLeave}
 use Rattle.tc_queue.specs.declared.turn.Leave.TheVariants.{Left as Own_left, Followed as Own_followed}
+use Rattle.tc_queue.specs.Words.{IsTurn}
 use Rattle.tc_queue.specs.View.{QueueView, OwnView}
 
 -- ---- any order of waiters
@@ -38,6 +39,16 @@ pub record SeatView : Type 0 where
 abbrev pub IsSeatOf : QueueView → SeatView → Type 0
 IsSeatOf q s = (s.table ≡ q.table) × (s.threads ≡ q.threads)
 
+-- with this seat of the queue a call for this turn may be made
+pub record MayCall (q : QueueView) (s : SeatView) (u : Turn) : Type 0 where
+  pub seat : IsSeatOf q s
+  pub turn : IsTurn q.threads u
+
+-- and it is the turn that the step of the call names
+pub record MayStep (q : QueueView) (s : SeatView) (u named : Turn) : Type 0 where
+  pub may : MayCall q s u
+  pub picked : u ≡ named
+
 abbrev pub with_line : SeatView → LineCall → SeatView
 with_line s c = record s { calls = s.calls ++ c ∷ [] }
 
@@ -48,6 +59,12 @@ answer mark (Came_behind place) = Behind (mark place)
 -- an `enter` of u answered the place of this mark, and u was not linked since
 abbrev pub MayLinkTo : List LineCall → Turn → ℕ → Type 0
 MayLinkTo calls u mark = (i : ℕ) × (get_elem? calls i ≡ some (Enter u (Behind mark))) × ((j other : ℕ) → i < j → get_elem? calls j ≢ some (Link other u))
+
+-- with this seat of the queue the turn may be linked to the place of this mark
+pub record MayLinkWith (q : QueueView) (s : SeatView) (u : Turn) (mark : ℕ) : Type 0 where
+  pub seat : IsSeatOf q s
+  pub turn : IsTurn q.threads u
+  pub entered : MayLinkTo s.calls u mark
 
 -- the place that was just answered may be linked
 abbrev pub IsLinkable : {P : Type 0} → (P → ℕ) → Turn → Arrival P → List LineCall → Type 0

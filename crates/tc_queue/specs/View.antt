@@ -1,11 +1,11 @@
 -- What contracts see of a queue and of its seats.
-use Rattle.std.specs.Prelude.{◌≡◌, ℕ, ◌+◌, ◌≤◌}
+use Rattle.std.specs.Prelude.{◌≡◌, ℕ, ◌+◌, ◌≤◌, List, All, length}
 use Rattle.atomic_table.specs.Seated.{TableId}
 use Rattle.tc_queue.specs.declared.board.SeatLog.{SeatLog}
 use Rattle.tc_queue.specs.declared.turn.Call.{Call}
 use Rattle.tc_queue.specs.declared.turn.Turn.{Turn}
 use Rattle.tc_queue.specs.Words.{IsTurn}
-use Rattle.tc_queue.specs.Calls.{with_call}
+use Rattle.tc_queue.specs.Calls.{with_call, MayLink}
 use Rattle.tc_queue.specs.Order.{first_log}
 
 -- which queue it is, and for how many threads it was made
@@ -22,10 +22,11 @@ pub record OwnView : Type 0 where
 abbrev pub IsOwnSeatOf : QueueView → OwnView → Type 0
 IsOwnSeatOf q s = (s.table ≡ q.table) × (s.log.threads ≡ q.threads)
 
--- with this seat of the queue a call for this turn may be made
-pub record MayCall (q : QueueView) (s : OwnView) (u : Turn) : Type 0 where
+-- with this seat of the queue a turn may be linked behind one that its `enter` answered
+pub record MayLinkBehind (q : QueueView) (s : OwnView) (before u : Turn) : Type 0 where
   pub seat : IsOwnSeatOf q s
-  pub turn : IsTurn q.threads u
+  pub turns : IsTurn q.threads before × IsTurn q.threads u
+  pub entered : MayLink s.log.calls u before
 
 -- the seat after one call more
 abbrev pub seat_with : OwnView → Call → OwnView
@@ -34,6 +35,12 @@ seat_with s c = record s { log = with_call s.log c }
 -- a seat of this queue that has made no call
 abbrev pub IsNewSeatOf : QueueView → OwnView → Type 0
 IsNewSeatOf q s = (s.table ≡ q.table) × (s.log ≡ first_log q.threads)
+
+-- a queue for so many threads that was just made, with so many seats
+pub record IsOpened (threads many : ℕ) (q : QueueView) (made : List OwnView) : Type 0 where
+  pub queue : q.threads ≡ threads
+  pub count : length made ≡ many
+  pub seats : All (IsNewSeatOf q) made
 
 -- a table of this key and number of words is one for so many threads
 abbrev pub IsTableFor : ℕ → ℕ → ℕ → Type 0

@@ -1,13 +1,14 @@
 //! The queue of the waiters of one lock, and its seats.
 
-ghost use Rattle.std.specs.Prelude.{◌≡◌, ◌≢◌, ◌<◌, ◌≤◌, Some, IfOk, All, length};
+ghost use Rattle.std.specs.Prelude.{◌≡◌, ◌<◌, ◌≤◌, Some, IfOk};
 ghost use Rattle.tc_queue.specs.declared.turn.Turn.{Turn};
 ghost use Rattle.tc_queue.specs.declared.turn.Entered.TheVariants.{Behind};
 ghost use Rattle.tc_queue.specs.declared.turn.Leave.TheVariants.{Followed};
 ghost use Rattle.tc_queue.specs.declared.turn.Call.TheVariants.{Enter, Link, Next, Leave as Leave_call};
 ghost use Rattle.tc_queue.specs.Words.{IsTurn};
-ghost use Rattle.tc_queue.specs.Calls.{IsTail, IsLink, MayLink, KnowsTurns, DidEnter, DidLeave, enter_call, next_call, leave_call};
-ghost use Rattle.tc_queue.specs.View.{IsOwnSeatOf, IsNewSeatOf, MayCall, seat_with};
+ghost use Rattle.tc_queue.specs.Calls.{IsTail, IsLink, KnowsTurns, DidEnter, DidLeave, enter_call, next_call, leave_call};
+ghost use Rattle.tc_queue.specs.View.{IsOpened, MayLinkBehind, seat_with};
+ghost use Rattle.tc_queue.specs.Lines.{MayCall, MayStep, seat_as};
 
 use crate::board;
 use crate::board::{Beside, Board, Named, Place};
@@ -70,9 +71,7 @@ impl Queue {
     ) -> Result<(Queue, Vec<QueueSeat>), AllocError>
         requires threads { (0 < threads) × (threads ≤ 64) }
         requires seats { 0 < seats }
-        ensures queue { IfOk result (λ made. made.0.threads ≡ threads) }
-        ensures count { IfOk result (λ made. length made.1.items ≡ seats) }
-        ensures seats { IfOk result (λ made. All (IsNewSeatOf made.0) made.1.items) }
+        ensures { IfOk result (λ made. IsOpened threads seats made.0 made.1.items) }
     {
         let mut made = Vec::with_capacity(alloc, seats as usize)?;
         let words = Vec::from_elem(alloc, 0u64, threads as usize + 1)?;
@@ -96,7 +95,7 @@ impl Queue {
     /// Puts the turn at the tail. It now stands behind the turn that was there, and is the first
     /// where none was.
     pub fn enter(&self, seat: &mut QueueSeat, turn: Turn) -> Entered
-        requires { MayCall self.now seat.old turn }
+        requires { MayCall self.now (seat_as seat.old) turn }
         ensures call { seat.new ≡ seat_with seat.old (Enter turn result) }
         ensures step { DidEnter self.now.threads turn result seat.old.log seat.new.log }
         ensures behind { (u : Turn) → result ≡ Behind u → IsTurn self.now.threads u }
@@ -109,9 +108,7 @@ impl Queue {
 
     /// Tells the turn before that this one stands behind it.
     pub fn link(&self, seat: &mut QueueSeat, before: Turn, own: Turn)
-        requires seat { IsOwnSeatOf self.now seat.old }
-        requires turns { IsTurn self.now.threads before × IsTurn self.now.threads own }
-        requires entered { MayLink seat.old.log.calls own before }
+        requires { MayLinkBehind self.now seat.old before own }
         ensures call { seat.new ≡ seat_with seat.old (Link before own) }
     {
         self.store_link::<Brand>(seat, &before, &own);
@@ -119,7 +116,7 @@ impl Queue {
 
     /// The turn behind this one, once it is linked.
     pub fn next(&self, seat: &mut QueueSeat, own: Turn) -> Option<Turn>
-        requires { MayCall self.now seat.old own }
+        requires { MayCall self.now (seat_as seat.old) own }
         ensures call { seat.new ≡ seat_with seat.old (Next own result) }
         ensures turn { (u : Turn) → result ≡ Some u → IsTurn self.now.threads u }
     {
@@ -131,7 +128,7 @@ impl Queue {
 
     /// Empties the tail where it is this turn. Another tail stays.
     pub fn leave(&self, seat: &mut QueueSeat, own: Turn) -> Leave
-        requires { MayCall self.now seat.old own }
+        requires { MayCall self.now (seat_as seat.old) own }
         ensures call { seat.new ≡ seat_with seat.old (Leave_call own result) }
         ensures step { DidLeave self.now.threads own result seat.old.log seat.new.log }
         ensures turn { (u : Turn) → result ≡ Followed (Some u) → IsTurn self.now.threads u }
@@ -143,8 +140,7 @@ impl Queue {
     }
 
     fn swap_tail<J: Named>(&self, seat: &mut QueueSeat, turn: &Turn) -> Option<Turn>
-        requires may { MayCall self.now seat.old turn.now }
-        requires picked { turn.now ≡ J.own }
+        requires { MayStep self.now (seat_as seat.old) turn.now J.own }
         ensures tail { IsTail self.now.threads result }
         ensures call { seat.new ≡ seat_with seat.old (enter_call turn.now result) }
     {
@@ -156,9 +152,7 @@ impl Queue {
     }
 
     fn store_link<J: Named>(&self, seat: &mut QueueSeat, before: &Turn, own: &Turn)
-        requires seat { IsOwnSeatOf self.now seat.old }
-        requires turns { IsTurn self.now.threads before.now × IsTurn self.now.threads own.now }
-        requires entered { MayLink seat.old.log.calls own.now before.now }
+        requires may { MayLinkBehind self.now seat.old before.now own.now }
         requires picked { (before.now ≡ J.before) × (own.now ≡ J.own) }
         ensures call { seat.new ≡ seat_with seat.old (Link before.now own.now) }
     {
@@ -173,8 +167,7 @@ impl Queue {
     }
 
     fn load_link<J: Named>(&self, seat: &mut QueueSeat, own: &Turn) -> Option<Linked>
-        requires may { MayCall self.now seat.old own.now }
-        requires picked { own.now ≡ J.own }
+        requires { MayStep self.now (seat_as seat.old) own.now J.own }
         ensures link { IsLink self.now.threads result }
         ensures call { seat.new ≡ seat_with seat.old (next_call own.now result) }
     {
@@ -187,8 +180,7 @@ impl Queue {
     }
 
     fn clear_tail<J: Named>(&self, seat: &mut QueueSeat, own: &Turn) -> Option<Turn>
-        requires may { MayCall self.now seat.old own.now }
-        requires picked { own.now ≡ J.own }
+        requires { MayStep self.now (seat_as seat.old) own.now J.own }
         ensures tail { IsTail self.now.threads result }
         ensures call { seat.new ≡ seat_with seat.old (leave_call own.now result) }
     {

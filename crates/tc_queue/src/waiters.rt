@@ -4,7 +4,7 @@ ghost use Rattle.std.specs.Prelude.{◌≡◌, ℕ, Some};
 ghost use Rattle.tc_queue.specs.declared.turn.Turn.{Turn};
 ghost use Rattle.tc_queue.specs.Words.{IsTurn};
 ghost use Rattle.tc_queue.specs.View.{QueueView};
-ghost use Rattle.tc_queue.specs.Lines.{SeatView, IsSeatOf, MayLinkTo, IsLinkable, Enter, Link, Next, Leave as Leave_call, with_line, answer, seat_as, mark_of};
+ghost use Rattle.tc_queue.specs.Lines.{SeatView, MayCall, MayLinkWith, IsLinkable, Enter, Link, Next, Leave as Leave_call, with_line, answer, seat_as, mark_of};
 
 use crate::queue::{Queue, QueueSeat};
 use crate::turn::{Arrival, Departure, Entered, Leave, Turn};
@@ -30,29 +30,24 @@ pub trait Waiters: Sync {
 
     /// Enters with a turn. Where it answers a place, that place is still to be linked.
     fn enter(&self, seat: &mut Self::Seat, turn: Turn) -> Arrival<Self::Place>
-        requires seat { IsSeatOf (queue self.now) (seen seat.old) }
-        requires turn { IsTurn (queue self.now).threads turn }
+        requires { MayCall (queue self.now) (seen seat.old) turn }
         ensures call { seen seat.new ≡ with_line (seen seat.old) (Enter turn (answer mark result)) }
         ensures may { IsLinkable mark turn result (seen seat.new).calls };
 
     /// Tells the one before that this turn stands behind it.
     fn link(&self, seat: &mut Self::Seat, place: Self::Place, own: Turn)
-        requires seat { IsSeatOf (queue self.now) (seen seat.old) }
-        requires turn { IsTurn (queue self.now).threads own }
-        requires entered { MayLinkTo (seen seat.old).calls own (mark place) }
+        requires { MayLinkWith (queue self.now) (seen seat.old) own (mark place) }
         ensures call { seen seat.new ≡ with_line (seen seat.old) (Link (mark place) own) };
 
     /// The turn that comes after this one, where one can be told.
     fn next<R: Wait>(&self, rt: &R, seat: &mut Self::Seat, own: Turn) -> Option<Turn>
-        requires seat { IsSeatOf (queue self.now) (seen seat.old) }
-        requires turn { IsTurn (queue self.now).threads own }
+        requires { MayCall (queue self.now) (seen seat.old) own }
         ensures call { seen seat.new ≡ with_line (seen seat.old) (Next own result) }
         ensures turn { (u : Turn) → result ≡ Some u → IsTurn (queue self.now).threads u };
 
     /// Leaves, where nobody comes after this turn.
     fn leave<R: Wait>(&self, rt: &R, seat: &mut Self::Seat, own: Turn) -> Departure
-        requires seat { IsSeatOf (queue self.now) (seen seat.old) }
-        requires turn { IsTurn (queue self.now).threads own }
+        requires { MayCall (queue self.now) (seen seat.old) own }
         ensures call { seen seat.new ≡ with_line (seen seat.old) (Leave_call own result) };
 }
 

@@ -1,4 +1,4 @@
-use Rattle.std.proofs.Common.{◌≡◌, ℕ, ap, ◌∙◌, arith}
+use Rattle.std.proofs.Common.{◌≡◌, ℕ, ap, refl, ◌∙◌, arith}
 use Rattle.tc_queue.specs.declared.board.SeatLog.{SeatLog}
 use Rattle.tc_queue.specs.View.{OwnView}
 use Rattle.tc_queue.specs.Order.{first_log, log_beside}
@@ -28,8 +28,12 @@ loop-seated-preserved c =
           (e.3 ∙ i.0, ap (λ (m : Me ℕ SeatLog). m.0) e.4 ∙ ap (λ (m : Me ℕ SeatLog). log_beside m.0) i.1) c.push_reserved.ensures.items,
     )
 
-pub returns-clause-seats : goal.returns-clause-seats
-returns-clause-seats c =
+pub returns : goal.returns
+returns c =
     let i = c.loop-seated.invariant in
     let P : OwnView → Type 0 = λ s. (s.table ≡ c.in_ok-board.board.shared.table_id) × (s.log ≡ first_log c.args.threads) in
-    one_more P c.loop-seated.made.items c.push_reserved-2.new.self.items record { table = c.loop-seated.first.table_id; id = c.loop-seated.first.id; log = c.loop-seated.first.me.0 } i.4 (i.0, ap (λ (m : Me ℕ SeatLog). m.0) i.1) c.push_reserved-2.ensures.items
+    record {
+      queue = refl;
+      count = (let a = c.push_reserved-2.ensures.len in let b = c.push_reserved-2.new.self.ok.0 in let d = c.loop-seated.made.ok.0 in let k = i.2 in let e = c.loop-seated-test.false in let f = c.loop-seated.auto.seated-end in omega arith);
+      seats = one_more P c.loop-seated.made.items c.push_reserved-2.new.self.items record { table = c.loop-seated.first.table_id; id = c.loop-seated.first.id; log = c.loop-seated.first.me.0 } i.4 (i.0, ap (λ (m : Me ℕ SeatLog). m.0) i.1) c.push_reserved-2.ensures.items;
+    }
