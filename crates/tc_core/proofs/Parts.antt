@@ -1,6 +1,7 @@
 -- What each change of the program's core is for the pure machine.
-use Rattle.std.proofs.Common.{◌≡◌, ◌≢◌, ℕ, ◌+◌, ◌<◌, ◌≤◌, true, false, ◌==◌, List, length, set, refl, sym, ap, subst, ◌∙◌, arith}
-use Rattle.std.specs.Prelude.{is_some, if◌then◌else◌, Option, Some, None, IfSome}
+use Rattle.std.proofs.Common.{◌≡◌, ◌≢◌, ℕ, ◌+◌, ◌<◌, ◌≤◌, Bool, true, false, ◌==◌, List, length, set, refl, sym, ap, subst, ◌∙◌, arith}
+use Rattle.std.specs.Option.{option_map}
+use Rattle.std.specs.Prelude.{is_some, if◌then◌else◌, ◌&&◌, not, slice_get, unwrap_or, Option, Some, None, IfSome}
 use Rattle.std.proofs.lemmas.Bool.Decides.{nat_tests}
 use Rattle.std.proofs.lemmas.List.{length-set}
 use Rattle.tc_isa.specs.declared.limits.TheConstants.{MAX_TURNS}
@@ -17,8 +18,8 @@ use Rattle.tc_mutex_spec.specs.Machine.{after}
 use Rattle.tc_mutex_spec.specs.Slow.{Plain, state_of, Suits}
 use Rattle.tc_core.specs.declared.event.Event.{Event}
 use Rattle.tc_core.specs.declared.event.Event.TheVariants.{Adopt, Grant}
-use Rattle.tc_core.specs.Core.{Core, Course, Custody, Ready, At, With, first_course, first_custody, with_custody, with_place}
-use Rattle.tc_core.specs.Events.{custody_on, course_on, passed_to, end_here, after_turn, effect}
+use Rattle.tc_core.specs.Core.{Core, Course, Custody, Release, Ready, At, With, Loose, first_course, first_custody, with_of, is_number, with_custody, with_place}
+use Rattle.tc_core.specs.Events.{custody_on, custody_past, course_on, course_past, release_of, passed_to, end_here, after_turn, after_commit, effect}
 use Rattle.tc_core.specs.View.{CoreView, course_at, custody_at, core_of, IsLine, IsCourse, HasParts, Became}
 use Rattle.tc_core.proofs.Erasure.{MayTurn}
 use Rattle.tc_core.proofs.Places.{item_set}
@@ -141,6 +142,44 @@ turn_room image v t parts may = (parts.blocks t).turns (no_end (course_at v.cour
 
 pub turn_thread : (image : Shown) (c : Core) (t : ℕ) → MayTurn image c t → t < length image.entries
 turn_thread image c t may = (let e = may.thread in grind (arith, nat_tests))
+
+-- ---- the end of a block
+
+-- what the end of a block does to the courses and the custodies of the program's core
+pub record IsPast (v : CoreView) (w t : ℕ) (courses : List Course) (custodies : List Custody) : Type 0 where
+  pub thread : t < length v.courses
+  pub course : courses ≡ set v.courses t (course_past (course_at v.courses t))
+  pub custody : (k : ℕ) → slice_get custodies k ≡ option_map (custody_past w t (((state_of v.plain).threads t).held k) (release_of (course_at v.courses t))) (slice_get v.custodies k)
+  pub long : length custodies ≡ length v.custodies
+
+past_at : (w t : ℕ) (held : Bool) (r : Option Release) (o : Option Custody) → unwrap_or (option_map (custody_past w t held r) o) first_custody ≡ custody_past w t held r (unwrap_or o first_custody)
+past_at w t held r None = refl
+past_at w t held r (Some x) = refl
+
+past_line : (w t : ℕ) (held : Bool) (r : Option Release) (x : Custody) → (custody_past w t held r x).line ≡ x.line
+past_line w t held r x = elim (is_number (with_of x.place) t && not held) as (λ b. (if b then record x { place = Loose w; last = r } else x).line ≡ x.line) [ true ↦ refl | false ↦ refl ]
+
+pub past_became : (image : Shown) (v now : CoreView) (w t : ℕ) (courses : List Course) (custodies : List Custody) → v ≡ now → HasParts image now → IsPast v w t courses custodies
+    → Became image now (record v { courses = courses; custodies = custodies }) (after_commit (core_of now) w t)
+past_became image v now w t courses custodies same parts is =
+    let p : HasParts image v = subst (HasParts image) (sym same) parts in
+    let x : Course = course_past (course_at v.courses t) in
+    let course : (k : ℕ) → course_at courses k ≡ (if k == t then x else course_at v.courses k) = λ k. ap (λ cs. course_at cs k) is.course ∙ item_set v.courses t x first_course is.thread k in
+    let held = ((state_of v.plain).threads t).held in
+    let release = release_of (course_at v.courses t) in
+    let custody : (k : ℕ) → custody_at custodies k ≡ custody_past w t (held k) release (custody_at v.custodies k) =
+    λ k. ap (λ o. unwrap_or o first_custody) (is.custody k) ∙ past_at w t (held k) release (slice_get v.custodies k) in
+    subst (λ u. Became image u (record v { courses = courses; custodies = custodies }) (after_commit (core_of u) w t)) same record {
+      core = λ i. record { machine = state_of v.plain; course = λ k. course k i; custody = λ k. custody k i };
+      limits = refl;
+      parts = record {
+        plain = p.plain;
+        courses = ap length is.course ∙ length-set v.courses t x ∙ p.courses;
+        custodies = is.long ∙ p.custodies;
+        blocks = course_blocks v t x courses p.blocks is.thread is.course (record { turns = λ e. omega arith; end = tt });
+        lines = λ k. subst (λ l. IsLine (length image.entries) l) (sym (ap (λ (y : Custody). y.line) (custody k) ∙ past_line w t (held k) release (custody_at v.custodies k))) (p.lines k);
+      };
+    }
 
 -- ---- a lock passed on
 

@@ -1,8 +1,8 @@
 //! The courses of all threads.
 
-ghost use Rattle.std.specs.Prelude.{◌≡◌, ℕ, ◌<◌, length, slice_set, IfOk};
+ghost use Rattle.std.specs.Prelude.{◌≡◌, ◌<◌, length, slice_set, IfOk};
 ghost use Rattle.tc_core.specs.Core.{first_course};
-ghost use Rattle.tc_core.specs.View.{course_at};
+ghost use Rattle.tc_core.specs.View.{course_at, AreAtStart};
 
 use crate::place::Course;
 use std::alloc::{AllocError, Global};
@@ -26,8 +26,7 @@ impl Model for Courses {
 impl Courses {
     /// So many threads at the start.
     pub fn new(alloc: Global, count: u32) -> Result<Courses, AllocError>
-        ensures each { IfOk result (λ a. (t : ℕ) → course_at a t ≡ first_course) }
-        ensures long { IfOk result (λ a. length a ≡ count) }
+        ensures { IfOk result (AreAtStart first_course count) }
     {
         let mut courses = Vec::new(alloc);
         for _ in 0..count {

@@ -6,7 +6,7 @@ ghost use Rattle.tc_isa.specs.Sets.{has};
 ghost use Rattle.tc_elf.specs.declared.limits.TheConstants.{MAX_THREADS};
 ghost use Rattle.tc_core.specs.Core.{Granted, With, first_custody};
 ghost use Rattle.tc_core.specs.Events.{entered, taken_by, passed_to, left_by_all, freed, custody_on, custody_past};
-ghost use Rattle.tc_core.specs.View.{custody_at};
+ghost use Rattle.tc_core.specs.View.{custody_at, AreAtStart};
 ghost use Rattle.tc_core.specs.declared.place.LockPlace.TheVariants.{Free};
 
 use crate::place::{Custody, LockPlace, Release};
@@ -33,8 +33,7 @@ impl Model for Custodies {
 impl Custodies {
     /// So many locks at the start.
     pub fn new(alloc: Global, count: u32) -> Result<Custodies, AllocError>
-        ensures each { IfOk result (λ a. (k : ℕ) → custody_at a k ≡ first_custody) }
-        ensures long { IfOk result (λ a. length a ≡ count) }
+        ensures { IfOk result (AreAtStart first_custody count) }
     {
         let mut custodies = Vec::new(alloc);
         for _ in 0..count {

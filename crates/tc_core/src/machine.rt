@@ -1,12 +1,10 @@
 //! The pure machine as a program.
 
-ghost use Rattle.std.specs.Prelude.{◌≡◌, ◌≤◌, ◌<◌, IfOk, IfSome, IsTrue, true, false, length, slice_get};
+ghost use Rattle.std.specs.Prelude.{◌≡◌, ◌<◌, IfOk, IfSome, length, slice_get};
 ghost use Rattle.std.specs.Option.{option_map};
-ghost use Rattle.tc_isa.specs.declared.limits.TheConstants.{MAX_BATCH, MAX_FUEL, MAX_WORKERS};
 ghost use Rattle.tc_core.specs.Core as core;
 ghost use Rattle.tc_core.specs.Events as events;
-ghost use Rattle.tc_core.specs.Lines.{is_in_line};
-ghost use Rattle.tc_core.specs.View.{core_of, limits_of, custody_at, course_at, HasParts, IsCoreOf, Became, Stepped};
+ghost use Rattle.tc_core.specs.View.{core_of, limits_of, custody_at, HasParts, IsAnswer, IsCoreOf, IsFirst, KnowsLock, KnowsThread, MayBegin, MayCome, MayEnter, Became, Stepped};
 ghost use Rattle.tc_core.specs.declared.event.Event.TheVariants as event;
 
 use crate::courses::Courses;
@@ -49,13 +47,8 @@ impl Core {
         workers: u32,
         limit: u32,
     ) -> Result<Core, AllocError>
-        requires fuel { (1 ≤ fuel) × (fuel ≤ MAX_FUEL) }
-        requires workers { (1 ≤ workers) × (workers ≤ MAX_WORKERS) }
-        requires limit { limit ≤ MAX_BATCH }
-        ensures core { IfOk result (λ c. core_of c ≡ core.first_core image.now fuel) }
-        ensures limits { IfOk result (λ c. limits_of c
-            ≡ record { workers = workers; batch = limit }) }
-        ensures suits { IfOk result (IsCoreOf image.now) }
+        requires { MayBegin fuel workers limit }
+        ensures { IfOk result (IsFirst image.now fuel workers limit) }
     {
         Ok(Core {
             workers,
@@ -162,9 +155,9 @@ impl Core {
     }
 
     fn has_thread(&self, image: &Image, worker: u32, thread: u32) -> bool
-        ensures value { result
-            ≡ events.has_thread image.now (limits_of self.now) (core_of self.now) worker thread }
-        ensures known { IsTrue result → thread < length image.now.entries }
+        ensures { IsAnswer result
+            (events.has_thread image.now (limits_of self.now) (core_of self.now) worker thread)
+            (thread < length image.now.entries) }
     {
         self.is_worker(worker)
             && thread < image.threads()
@@ -173,9 +166,9 @@ impl Core {
 
     fn has_lock(&self, image: &Image, worker: u32, lock: u32) -> bool
         requires { HasParts image.now self.now }
-        ensures value { result
-            ≡ events.has_lock image.now (limits_of self.now) (core_of self.now) worker lock }
-        ensures known { IsTrue result → lock < length image.now.guards }
+        ensures { IsAnswer result
+            (events.has_lock image.now (limits_of self.now) (core_of self.now) worker lock)
+            (lock < length image.now.guards) }
     {
         self.is_worker(worker)
             && lock < image.guards()
@@ -294,9 +287,9 @@ impl Core {
 
     fn may_pass(&self, image: &Image, worker: u32, thread: u32, lock: u32) -> bool
         requires { HasParts image.now self.now }
-        ensures value { result
-            ≡ events.may_pass image.now (limits_of self.now) (core_of self.now) worker thread lock }
-        ensures known { IsTrue result → lock < length image.now.guards }
+        ensures { IsAnswer result
+            (events.may_pass image.now (limits_of self.now) (core_of self.now) worker thread lock)
+            (lock < length image.now.guards) }
     {
         self.has_lock(image, worker, lock)
             && !self.custodies.at(lock).left
@@ -351,9 +344,7 @@ impl Core {
 
     #[tactic(auto, unfolding(crate::specs::Events::effect))]
     fn take_effect(&mut self, image: &Image, event: Event)
-        requires core { IsCoreOf image.now self.old }
-        requires enabled { events.is_enabled image.now (limits_of self.old)
-            (core_of self.old) event ≡ true }
+        requires { MayCome image.now self.old event }
         ensures { Became image.now self.old self.new
             (events.effect image.now (core_of self.old) event) }
     {
@@ -391,8 +382,7 @@ impl Core {
 
     /// The thread comes to a place.
     fn place(&mut self, image: &Image, thread: u32, place: ThreadPlace)
-        requires parts { HasParts image.now self.old }
-        requires thread { thread < length image.now.entries }
+        requires { KnowsThread image.now self.old thread }
         ensures { Became image.now self.old self.new
             (core.with_place (core_of self.old) thread place) }
     {
@@ -402,9 +392,7 @@ impl Core {
 
     /// One turn of the thread.
     fn turn(&mut self, image: &Image, worker: u32, thread: u32)
-        requires core { IsCoreOf image.now self.old }
-        requires enabled { events.is_enabled image.now (limits_of self.old)
-            (core_of self.old) (event.Turn worker thread) ≡ true }
+        requires { MayCome image.now self.old (event.Turn worker thread) }
         ensures { Became image.now self.old self.new
             (events.after_turn image.now (core_of self.old) thread) }
     {
@@ -420,11 +408,9 @@ impl Core {
 
     /// The thread's block is over.
     fn commit(&mut self, image: &Image, worker: u32, thread: u32)
-        requires parts { HasParts image.now self.old }
-        requires thread { thread < length image.now.entries }
-        ensures core { core_of self.new ≡ events.after_commit (core_of self.old) worker thread }
-        ensures limits { limits_of self.new ≡ limits_of self.old }
-        ensures parts { HasParts image.now self.new }
+        requires { KnowsThread image.now self.old thread }
+        ensures { Became image.now self.old self.new
+            (events.after_commit (core_of self.old) worker thread) }
     {
         let course = self.courses.at(thread);
         let held = self.slow.held(thread);
@@ -436,10 +422,7 @@ impl Core {
 
     /// The thread enters the line of the lock.
     fn enter(&mut self, image: &Image, thread: u32, lock: u32)
-        requires parts { HasParts image.now self.old }
-        requires thread { thread < length image.now.entries }
-        requires lock { lock < length image.now.guards }
-        requires out { is_in_line (custody_at self.old.custodies lock).line thread ≡ false }
+        requires { MayEnter image.now self.old thread lock }
         ensures { Became image.now self.old self.new
             (core.with_custody (core_of self.old) lock
             (events.entered (custody_at self.old.custodies lock) thread)) }
@@ -450,8 +433,7 @@ impl Core {
 
     /// The lock is passed on to the second of its line.
     fn pass(&mut self, image: &Image, thread: u32, lock: u32, run: u32)
-        requires parts { HasParts image.now self.old }
-        requires lock { lock < length image.now.guards }
+        requires { KnowsLock image.now self.old lock }
         ensures { Became image.now self.old self.new
             (core.with_custody (core_of self.old) lock
             (events.passed_to (custody_at self.old.custodies lock) thread run)) }

@@ -1,10 +1,9 @@
 //! What events write, as a program.
 
-ghost use Rattle.std.specs.Prelude.{◌≡◌, ℕ, ◌≤◌, ◌<◌, IfOk, IfSome, OnErr, length};
+ghost use Rattle.std.specs.Prelude.{◌≡◌, ℕ, ◌<◌, IfOk, IfSome, OnErr, length};
 ghost use Rattle.std.specs.Vec.{vec_len, vec_capacity};
-ghost use Rattle.tc_isa.specs.declared.limits.TheConstants.{MAX_BATCH, MAX_FUEL, MAX_WORKERS};
 ghost use Rattle.tc_journal.specs.declared.block.Kind.TheVariants as kind;
-ghost use Rattle.tc_core.specs.View.{core_of, limits_of, IsCoreOf};
+ghost use Rattle.tc_core.specs.View.{core_of, limits_of, IsCoreOf, MayBegin};
 ghost use Rattle.tc_told.specs.Written.{first_written, said_by, with_said, block_by, with_block};
 ghost use Rattle.tc_told.specs.View.{beginning_at, written_of, IsWriterOf, DidWrite};
 
@@ -50,9 +49,7 @@ impl Writer {
         workers: u32,
         limit: u32,
     ) -> Result<Writer, AllocError>
-        requires fuel { (1 ≤ fuel) × (fuel ≤ MAX_FUEL) }
-        requires workers { (1 ≤ workers) × (workers ≤ MAX_WORKERS) }
-        requires limit { limit ≤ MAX_BATCH }
+        requires { MayBegin fuel workers limit }
         ensures written { IfOk result (λ w. written_of w ≡ first_written image.now fuel) }
         ensures limits { IfOk result (λ w. limits_of w.core
             ≡ record { workers = workers; batch = limit }) }

@@ -16,5 +16,5 @@ enter-requires-clause-room c =
 
 pub returns : goal.returns
 returns c =
-    custody_became c.args.image.now _ c.args.self.now c.args.lock (λ x. entered x c.args.thread) c.enter.new.self c.self.view_is c.requires.parts c.requires.lock c.enter.ensures
+    custody_became c.args.image.now _ c.args.self.now c.args.lock (λ x. entered x c.args.thread) c.enter.new.self c.self.view_is c.requires.parts c.requires.known c.enter.ensures
     (line_more _ c.args.thread _ (c.requires.parts.lines c.args.lock) c.requires.thread c.requires.out)

@@ -7,44 +7,38 @@ use Rattle.tc_core.proofs.Numbers.{line_none}
 use Rattle.tc_core.proofs.Known.{known_as}
 use Rattle.tc_core.proofs.machine.Core.take_effect.Goals as goal
 
-pub place-requires-clause-thread : goal.place-requires-clause-thread
-place-requires-clause-thread c = known_as _ _ _ c.in-Claim.is c.requires.enabled
+pub place-requires : goal.place-requires
+place-requires c = record { parts = c.requires.core.parts; thread = known_as _ _ _ c.in-Claim.is c.requires.enabled }
 
-pub commit-requires-clause-thread : goal.commit-requires-clause-thread
-commit-requires-clause-thread c = known_as _ _ _ c.in-Commit.is c.requires.enabled
+pub commit-requires : goal.commit-requires
+commit-requires c = record { parts = c.requires.core.parts; thread = known_as _ _ _ c.in-Commit.is c.requires.enabled }
 
-pub enter-requires-clause-thread : goal.enter-requires-clause-thread
-enter-requires-clause-thread c = (known_as _ _ _ c.in-Enter.is c.requires.enabled).0
+pub enter-requires : goal.enter-requires
+enter-requires c = let known = known_as _ _ _ c.in-Enter.is c.requires.enabled in record { parts = c.requires.core.parts; thread = known.0; known = known.1; out = known.2 }
 
-pub enter-requires-clause-lock : goal.enter-requires-clause-lock
-enter-requires-clause-lock c = (known_as _ _ _ c.in-Enter.is c.requires.enabled).1
+pub place-requires-in-Ship : goal.place-requires-in-Ship
+place-requires-in-Ship c = record { parts = c.requires.core.parts; thread = known_as _ _ _ c.in-Ship.is c.requires.enabled }
 
-pub enter-requires-clause-out : goal.enter-requires-clause-out
-enter-requires-clause-out c = (known_as _ _ _ c.in-Enter.is c.requires.enabled).2
+pub pass-requires : goal.pass-requires
+pass-requires c = record { parts = c.requires.core.parts; lock = (known_as _ _ _ c.in-Adopt.is c.requires.enabled).1 }
 
-pub place-requires-in-Ship-clause-thread : goal.place-requires-in-Ship-clause-thread
-place-requires-in-Ship-clause-thread c = known_as _ _ _ c.in-Ship.is c.requires.enabled
+pub place-requires-in-Adopt : goal.place-requires-in-Adopt
+place-requires-in-Adopt c = record { parts = c.pass.ensures.parts; thread = (known_as _ _ _ c.in-Adopt.is c.requires.enabled).0 }
 
-pub pass-requires-clause-lock : goal.pass-requires-clause-lock
-pass-requires-clause-lock c = (known_as _ _ _ c.in-Adopt.is c.requires.enabled).1
+pub pass-requires-in-Grant : goal.pass-requires-in-Grant
+pass-requires-in-Grant c = record { parts = c.requires.core.parts; lock = (known_as _ _ _ c.in-Grant.is c.requires.enabled).1 }
 
-pub place-requires-in-Adopt-clause-thread : goal.place-requires-in-Adopt-clause-thread
-place-requires-in-Adopt-clause-thread c = (known_as _ _ _ c.in-Adopt.is c.requires.enabled).0
+pub place-requires-in-Grant : goal.place-requires-in-Grant
+place-requires-in-Grant c = record { parts = c.pass-in-Grant.ensures.parts; thread = (known_as _ _ _ c.in-Grant.is c.requires.enabled).0 }
 
-pub pass-requires-in-Grant-clause-lock : goal.pass-requires-in-Grant-clause-lock
-pass-requires-in-Grant-clause-lock c = (known_as _ _ _ c.in-Grant.is c.requires.enabled).1
+pub place-requires-in-HandBack : goal.place-requires-in-HandBack
+place-requires-in-HandBack c = record { parts = c.requires.core.parts; thread = known_as _ _ _ c.in-HandBack.is c.requires.enabled }
 
-pub place-requires-in-Grant-clause-thread : goal.place-requires-in-Grant-clause-thread
-place-requires-in-Grant-clause-thread c = (known_as _ _ _ c.in-Grant.is c.requires.enabled).0
+pub place-requires-in-Park : goal.place-requires-in-Park
+place-requires-in-Park c = record { parts = c.requires.core.parts; thread = known_as _ _ _ c.in-Park.is c.requires.enabled }
 
-pub place-requires-in-HandBack-clause-thread : goal.place-requires-in-HandBack-clause-thread
-place-requires-in-HandBack-clause-thread c = known_as _ _ _ c.in-HandBack.is c.requires.enabled
-
-pub place-requires-in-Park-clause-thread : goal.place-requires-in-Park-clause-thread
-place-requires-in-Park-clause-thread c = known_as _ _ _ c.in-Park.is c.requires.enabled
-
-pub place-requires-in-Finish-clause-thread : goal.place-requires-in-Finish-clause-thread
-place-requires-in-Finish-clause-thread c = known_as _ _ _ c.in-Finish.is c.requires.enabled
+pub place-requires-in-Finish : goal.place-requires-in-Finish
+place-requires-in-Finish c = record { parts = c.requires.core.parts; thread = known_as _ _ _ c.in-Finish.is c.requires.enabled }
 
 pub grant-requires : goal.grant-requires
 grant-requires c = lock_in c.args.image.now _ _ _ c.self.view_is c.requires.core.parts (known_as _ _ _ c.in-Take.is c.requires.enabled)
@@ -70,7 +64,7 @@ prove-unreachable-requires c =
 
 pub returns-in-Commit : goal.returns-in-Commit
 unfolding effect
-returns-in-Commit c = took_effect c.in-Commit.is record { core = c.commit.ensures.core; limits = c.commit.ensures.limits; parts = c.commit.ensures.parts }
+returns-in-Commit c = took_effect c.in-Commit.is c.commit.ensures
 
 pub returns-in-Take : goal.returns-in-Take
 unfolding effect
