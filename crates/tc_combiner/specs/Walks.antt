@@ -99,11 +99,6 @@ pub record Asked (times : ℕ) (s t : SeatView) : Type 0 where
   pub calls : t.calls ≡ s.calls ++ lines
   pub count : unanswered lines ≡ times
 
--- the seat, one of this queue, may ask who stands behind this turn
-pub record MayAskFor (q : QueueView) (s : SeatView) (u : Turn) : Type 0 where
-  pub seat : IsSeatOf q s
-  pub turn : IsTurn q.threads u
-
 -- who stands behind the turn, as the seat shows it
 abbrev pub AskedAs : Turn → SeatView → SeatView → Found → Type 0
 AskedAs u s t Nobody = Shows s.calls t.calls (Leave u Left)

@@ -3,10 +3,10 @@
 ghost use Rattle.std.specs.Prelude.{ℕ, ◌≡◌, ◌<◌, ◌≤◌, [], ◌∷◌};
 ghost use Rattle.tc_hall.specs.Rule.{threads, locks};
 ghost use Rattle.tc_hall.specs.Outs.{Pack, Loose};
-ghost use Rattle.tc_queue.specs.Lines.{Next, with_line};
+ghost use Rattle.tc_queue.specs.Lines.{MayCall, Next, with_line};
 ghost use Rattle.tc_queue.specs.Words.{IsTurn};
 ghost use Rattle.tc_combiner.specs.Packages.{IsWaiter};
-ghost use Rattle.tc_combiner.specs.Walks.{Asked, Asks, AskedAs, Acts, LooksAfterFirst, IsTaken, TriedAs, WaitedAs, came_of, saw_at_unknown, MayAskFor};
+ghost use Rattle.tc_combiner.specs.Walks.{Asked, Asks, AskedAs, Acts, LooksAfterFirst, IsTaken, TriedAs, WaitedAs, came_of, saw_at_unknown};
 ghost use Rattle.tc_combiner.specs.declared.found.Found.TheVariants.{Unknown};
 
 use crate::attempt::Attempt;
@@ -64,7 +64,7 @@ fn try_next<R: Wait, Q: Waiters>(
     own: Turn,
 ) -> Attempt<Turn>
     requires own { pass.old.table ≡ hall.now.table }
-    requires asks { MayAskFor (Q.queue queue.now) (Q.seen seat.old) own }
+    requires asks { MayCall (Q.queue queue.now) (Q.seen seat.old) own }
     ensures line { Q.seen seat.new ≡ with_line (Q.seen seat.old) (Next own (came_of result)) }
     ensures tried { TriedAs 0 (λ u. []) (λ v u. IsTurn (Q.queue queue.now).threads u) pass.old pass.new result }
 {
@@ -126,7 +126,7 @@ pub(crate) fn await_waiter<R: Wait>(
 
 // Asks once for the turn behind, and leaves where there is none.
 fn ask<R: Wait, Q: Waiters>(rt: &R, queue: &Q, seat: &mut Q::Seat, own: Turn) -> Found
-    requires asks { MayAskFor (Q.queue queue.now) (Q.seen seat.old) own }
+    requires asks { MayCall (Q.queue queue.now) (Q.seen seat.old) own }
     ensures asks { Asks own (Q.seen seat.old) (Q.seen seat.new) }
     ensures found { AskedAs own (Q.seen seat.old) (Q.seen seat.new) result }
     ensures once { (n : ℕ) × Asked n (Q.seen seat.old) (Q.seen seat.new) × (n ≤ 1)
@@ -151,7 +151,7 @@ pub(crate) fn find_next<R: Wait, Q: Waiters>(
     own: Turn,
 ) -> Found
     requires own { pass.old.table ≡ hall.now.table }
-    requires asks { MayAskFor (Q.queue queue.now) (Q.seen seat.old) own }
+    requires asks { MayCall (Q.queue queue.now) (Q.seen seat.old) own }
     ensures acts { Acts (saw_at_unknown result) [] [] pass.old pass.new }
     ensures asks { Asks own (Q.seen seat.old) (Q.seen seat.new) }
     ensures found { AskedAs own (Q.seen seat.old) (Q.seen seat.new) result }
