@@ -33,9 +33,9 @@ stands_read l t p lt is =
     let same : x.0 ≡ p = sym (there l t x.0 p x.1).1 ∙ sym is in
     x.1 ∙ ap (λ y. some y) same
 
-pub both_err : {T E : Type 0} (r : Result T E) (A B C : Type 0) → OnErr r A → OnErr r B → (A → B → C) → OnErr r C
-both_err (Ok x) A B C a b f = tt
-both_err (Err e) A B C a b f = f a b
+pub so_on_err : {T E : Type 0} (r : Result T E) (A B : Type 0) → OnErr r A → (A → B) → OnErr r B
+so_on_err (Ok x) A B a f = tt
+so_on_err (Err e) A B a f = f a
 
 -- one package of it in hand
 pub record IsInHand (image : Shown) (terms : Terms) (before : Before) (home : List (Option LockView)) (t : ℕ) (p : PackageView) : Type 0 where

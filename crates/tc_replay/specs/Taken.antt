@@ -1,14 +1,14 @@
 -- How far a checker has come: it has taken the blocks of a history.
-use Rattle.std.specs.Prelude.{◌≡◌, ◌≢◌, ℕ, ◌<◌, ◌≤◌, ◌⊎◌, true, false, List, [], ◌∷◌, ◌++◌, map, set, length, Option, Some, None}
+use Rattle.std.specs.Prelude.{◌≡◌, ◌≢◌, ℕ, ◌<◌, ◌≤◌, ◌⊎◌, ◌==◌, if◌then◌else◌, true, false, List, [], ◌∷◌, ◌++◌, map, set, length, Option, Some, None}
 use Rattle.tc_isa.specs.Sets.{has}
 use Rattle.tc_isa.specs.declared.limits.TheConstants.{MAX_TURNS}
 use Rattle.tc_elf.specs.Shown.{Shown}
 use Rattle.tc_journal.specs.declared.block.Block.{Block}
 use Rattle.tc_mutex_spec.specs.Blocks.{IsComplete, end_after}
 use Rattle.tc_segment.specs.View.{LockView, IsAtRest, fresh_state, kept, strict_as, with_journal}
-use Rattle.tc_context.specs.Locks.{lock_in, IsPlaced}
+use Rattle.tc_context.specs.Locks.{lock_in, IsPlaced, SameLocks}
 use Rattle.tc_context.specs.Whole.{set_of, block_locks}
-use Rattle.tc_context.specs.View.{PackageView, IsFresh, IsWaiting, bare, held_in, locks_in, with_grant, with_turns}
+use Rattle.tc_context.specs.View.{PackageView, IsFresh, IsRoomier, IsWaiting, bare, held_in, locks_in, with_grant, with_turns}
 use Rattle.tc_law.specs.Lawful.{Lawful, StandsAt, IsAmong, IsLimited, owner_after, with_states}
 use Rattle.tc_replay.specs.Rejected.{AreRight, IsOfThread}
 use Rattle.tc_replay.specs.Run.{grant_kind}
@@ -103,6 +103,31 @@ pub record IsWith (image : Shown) (terms : Terms) (before : Before) (home : List
 -- a package in hand stays so, where locks went from it to their home
 abbrev pub StaysWith : List (Option LockView) → PackageView → List (Option LockView) → PackageView → Type 0
 StaysWith home p back q = (image : Shown) (terms : Terms) (before : Before) → IsWith image terms before home p → IsWith image terms before back q
+
+-- a released lock went from the package to its home
+pub record WentHome (lock : ℕ) (home : List (Option LockView)) (p : PackageView) (back : List (Option LockView)) (q : PackageView) : Type 0 where
+  pub at : StaysWith home p back q
+  pub granted : q.granted ≡ None
+  pub set : (k : ℕ) → set_of q.context k ≡ (if k == lock then false else set_of p.context k)
+  pub guest : q.context.guest ≡ p.context.guest
+  pub rest : bare q ≡ bare p
+
+-- all locks that the block released went there
+pub record AllWentHome (home : List (Option LockView)) (p : PackageView) (back : List (Option LockView)) (q : PackageView) : Type 0 where
+  pub at : StaysWith home p back q
+  pub calm : IsCalm q
+  pub rest : bare q ≡ bare p
+
+-- the package has run the block, and has its locks yet
+pub record HasRun (b : Block) (p : PackageView) : Type 0 where
+  pub pending : p.pending ≡ None
+  pub granted : p.granted ≡ None
+  pub locks : (k : ℕ) → has b.held k ≡ set_of p.context k
+
+-- in the package and in the locks at home nothing but room changed
+pub record IsOnlyRoomier (old : List (Option LockView)) (p : PackageView) (new : List (Option LockView)) (q : PackageView) : Type 0 where
+  pub rooms : IsRoomier p q
+  pub home : SameLocks old new
 
 -- the package in hand is that of the next block, and its thread runs
 pub record IsNext (image : Shown) (terms : Terms) (before : Before) (home : List (Option LockView)) (p : PackageView) (b : Block) : Type 0 where

@@ -1,12 +1,10 @@
 //! A recorded block is run, and compared with what ran.
 
-ghost use Rattle.std.specs.Prelude.{◌≡◌, ℕ, ◌<◌, ◌≤◌, List, MatchBool, IfSome, OnOk, Some, None, true, false, is_some, OnErr, length, Ok, ◌==◌, if◌then◌else◌};
-ghost use Rattle.tc_isa.specs.Sets.{has};
-ghost use Rattle.tc_context.specs.Whole.{set_of};
+ghost use Rattle.std.specs.Prelude.{◌≡◌, ℕ, ◌<◌, List, MatchBool, IfSome, OnOk, Some, None, true, false, OnErr, Ok};
 ghost use Rattle.tc_segment.specs.View.{LockView};
-ghost use Rattle.tc_context.specs.Locks.{lock_in, SameLocks};
-ghost use Rattle.tc_context.specs.View.{IsReserved, IsRoomier, bare, held_in};
-ghost use Rattle.tc_replay.specs.Taken.{HasReleased, Before, DidGrant, TookOne, HasRoom, IsCalm, IsNext, MayGrant, StaysWith};
+ghost use Rattle.tc_context.specs.Locks.{lock_in};
+ghost use Rattle.tc_context.specs.View.{IsReserved};
+ghost use Rattle.tc_replay.specs.Taken.{AllWentHome, HasReleased, HasRun, Before, DidGrant, TookOne, HasRoom, IsNext, IsOnlyRoomier, MayGrant, WentHome};
 ghost use Rattle.tc_journal.specs.Batch.{is_section};
 ghost use Rattle.tc_journal.specs.declared.block.Block.{Block as AnyBlock};
 ghost use Rattle.tc_mutex_spec.specs.Blocks.{end_after};
@@ -54,8 +52,7 @@ fn kind_for(block: &Block) -> Kind
 /// Makes room for a block of the package, and for its entry in the lock at home that it wants.
 fn make_room(home: &mut LockSet, package: &mut Package, want: Option<u32>) -> Result<(), AllocError>
     requires { IfSome want (λ k. k < 32) }
-    ensures rooms { IsRoomier «package».old «package».new }
-    ensures home { SameLocks home.old home.new }
+    ensures same { IsOnlyRoomier home.old «package».old home.new «package».new }
     ensures reserved { OnOk result (IsReserved «package».new) }
     ensures room { OnOk result ((k : ℕ) (l : LockView) → want ≡ Some k
         → lock_in home.new k ≡ Some l → HasRoom l) }
@@ -132,12 +129,7 @@ fn run_recorded(image: &Image, terms: Terms, package: &mut Package, block: &Bloc
 /// Takes a released lock out of a package and brings it home.
 fn bring_home(home: &mut LockSet, package: &mut Package, lock: u32)
     requires { HasReleased lock «package».old }
-    ensures at { StaysWith home.old «package».old home.new «package».new }
-    ensures granted { «package».new.granted ≡ None }
-    ensures set { (k : ℕ) → set_of «package».new.context k
-        ≡ (if k == lock then false else set_of «package».old.context k) }
-    ensures guest { «package».new.context.guest ≡ «package».old.context.guest }
-    ensures rest { bare «package».new ≡ bare «package».old }
+    ensures { WentHome lock home.old «package».old home.new «package».new }
 {
     let state = package.take_out(lock);
     home.put_in(state);
@@ -145,12 +137,8 @@ fn bring_home(home: &mut LockSet, package: &mut Package, lock: u32)
 
 /// Brings the locks home that a block of these locks released.
 fn bring_released(home: &mut LockSet, package: &mut Package, block: &Block)
-    requires pending { «package».old.pending ≡ None }
-    requires granted { «package».old.granted ≡ None }
-    requires locks { (k : ℕ) → has block.now.held k ≡ set_of «package».old.context k }
-    ensures at { StaysWith home.old «package».old home.new «package».new }
-    ensures calm { IsCalm «package».new }
-    ensures rest { bare «package».new ≡ bare «package».old }
+    requires { HasRun block.now «package».old }
+    ensures { AllWentHome home.old «package».old home.new «package».new }
 {
     let held = package.held();
     for lock in 0..32 {
@@ -171,8 +159,8 @@ pub(crate) fn take_on(
     block: &Block,
 ) -> Result<Option<Reason>, AllocError>
     requires { (before : Before) × IsNext image.now terms before home.old «package».old block.now }
-    ensures rooms { OnErr result (IsRoomier «package».old «package».new) }
-    ensures home { OnErr result (SameLocks home.old home.new) }
+    ensures memory { OnErr result
+        (IsOnlyRoomier home.old «package».old home.new «package».new) }
     ensures took { result ≡ Ok None → (before : Before)
         → IsNext image.now terms before home.old «package».old block.now
         → TookOne image.now terms before block.now home.new «package».new }

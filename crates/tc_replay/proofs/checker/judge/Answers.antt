@@ -3,7 +3,7 @@ use Rattle.tc_mutex_spec.specs.Blocks.{end_after}
 use Rattle.tc_replay.specs.Rejected.{IsWrong}
 use Rattle.tc_replay.specs.Taken.{Before}
 use Rattle.tc_replay.specs.declared.reason.Reason.TheVariants as reason
-use Rattle.tc_replay.proofs.Whole.{stands_read, both_err, over_wrong, next_of, roomier_taken, more_taken, no_thread_wrong}
+use Rattle.tc_replay.proofs.Whole.{stands_read, so_on_err, over_wrong, next_of, roomier_taken, more_taken, no_thread_wrong}
 use Rattle.tc_replay.proofs.checker.judge.Goals as goal
 
 pub returns-then-t-len-clause-wrong : goal.returns-then-t-len-clause-wrong
@@ -49,5 +49,5 @@ pub returns-clause-memory : goal.returns-clause-memory
 returns-clause-memory c =
     let p = c.index_mut-package.result.now in
     let here = stands_read c.args.packages.now.items c.args.block.now.thread p (omega (arith, c.if-t-len.false, c.len.ensures, c.args.packages.now.ok.0)) c.index_mut-package.ensures.value in
-    both_err c.take_on.result _ _ _ c.take_on.ensures.rooms c.take_on.ensures.home
-    (λ rooms same h taken. roomier_taken c.args.image.now c.args.terms h c.args.packages.now.items c.args.home.now taken c.args.block.now p here c.take_on.new.home c.take_on.new.«package» rooms same)
+    so_on_err c.take_on.result _ _ c.take_on.ensures.memory
+    (λ same h taken. roomier_taken c.args.image.now c.args.terms h c.args.packages.now.items c.args.home.now taken c.args.block.now p here c.take_on.new.home c.take_on.new.«package» same.rooms same.home)
