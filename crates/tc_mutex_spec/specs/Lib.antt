@@ -2,4 +2,5 @@ pub mod Machine
 pub mod Locality
 pub mod Blocks
 pub mod Slow
+pub mod Turned
 pub mod Entries

@@ -5,6 +5,7 @@ ghost use Rattle.std.specs.Option.{option_map};
 ghost use Rattle.tc_isa.specs.Sets.{has};
 ghost use Rattle.tc_turn.specs.Turn.{Mutex, mutex_at_start, mutex_after, taken, given_up, guard_after, ActFits, PutFits};
 ghost use Rattle.tc_mutex_spec.specs.Slow.{mutex_at, AreTurned};
+ghost use Rattle.tc_mutex_spec.specs.Turned.{MayDo};
 ghost use Rattle.tc_mutex_spec.specs.Machine.{is_open};
 
 use std::alloc::{AllocError, Global};
@@ -105,8 +106,7 @@ impl SlowLock {
 
 /// Every lock after a turn.
 fn take_turns(locks: &mut [SlowLock], image: &Image, thread: u32, held: Held, act: &Option<Act>)
-    requires locks { length locks.old ≡ length image.now.guards }
-    requires fits { IfSome act.now ActFits }
+    requires { MayDo image.now locks.old act.now }
     ensures { AreTurned image.now thread (has held) act.now locks.old locks.new }
 {
     for number in 0..image.guards() {
@@ -145,8 +145,7 @@ impl SlowLocks {
 
     /// Every lock after a turn of the thread that held these locks before it.
     pub fn take_turn(&mut self, image: &Image, thread: u32, held: Held, act: &Option<Act>)
-        requires locks { length self.old ≡ length image.now.guards }
-        requires fits { IfSome act.now ActFits }
+        requires { MayDo image.now self.old act.now }
         ensures each { AreTurned image.now thread (has held) act.now self.old self.new }
         ensures long { length self.new ≡ length self.old }
     {

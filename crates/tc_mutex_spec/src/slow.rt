@@ -6,10 +6,10 @@
 ghost use Rattle.std.specs.Prelude.{◌≡◌, ℕ, ◌+◌, ◌<◌, ◌≤◌, ◌^◌, length, slice_get, IfOk, IfSome, true, false, replicate};
 ghost use Rattle.std.specs.Option.{option_map};
 ghost use Rattle.tc_isa.specs.Sets.{has};
-ghost use Rattle.tc_journal.specs.declared.rule.Outcome.TheVariants.{Unlocked};
-ghost use Rattle.tc_turn.specs.Turn.{next_lock, next_act, outcome_of, CanAct};
-ghost use Rattle.tc_mutex_spec.specs.Machine.{can_turn, after, turns, run_from, run, start};
+ghost use Rattle.tc_turn.specs.Turn.{next_lock};
+ghost use Rattle.tc_mutex_spec.specs.Machine.{can_turn, turns, run_from, run, start};
 ghost use Rattle.tc_mutex_spec.specs.Slow.{state_of, thread_at, mutex_at, Suits, Turned, LeadsTo};
+ghost use Rattle.tc_mutex_spec.specs.Turned.{IsNextAct, MayTakeTurn, TookTurn};
 
 use crate::locks::SlowLocks;
 use std::alloc::{AllocError, Global};
@@ -106,13 +106,10 @@ impl Slow {
     }
 
     /// What the thread's next turn does.
-    #[tactic(auto, unfolding(tc_turn::specs::Turn::next_act))]
+    #[tactic(auto, using(crate::proofs::Holds::can_thread))]
     fn next_act(&self, image: &Image, t: u32) -> Option<Act>
-        requires thread { t < length self.now.threads }
-        requires locks { length self.now.locks ≡ length image.now.guards }
-        ensures value { result
-            ≡ next_act image.now ((state_of self.now).threads t) (state_of self.now).locks }
-        ensures can { IfSome result (CanAct ((state_of self.now).threads t).fuel) }
+        requires { MayTakeTurn image.now self.now t }
+        ensures { IsNextAct image.now self.now t result }
     {
         let thread = &self.threads[t as usize];
         let beside = Beside {
@@ -135,15 +132,8 @@ impl Slow {
     /// A turn of the thread, and how it came out for the block that it is in.
     #[tactic(auto, using(crate::proofs::Holds::can_thread))]
     pub fn take_turn(&mut self, image: &Image, t: u32) -> Outcome
-        requires suits { Suits image.now self.old }
-        requires defined { can_turn image.now (state_of self.old) t ≡ true }
-        ensures after { state_of self.new ≡ after image.now (state_of self.old) t }
-        ensures outcome { result
-            ≡ outcome_of (next_act image.now ((state_of self.old).threads t)
-            (state_of self.old).locks) }
-        // A lock that is released is one of the image's.
-        ensures known { (lock : ℕ) → result ≡ Unlocked lock → lock < length image.now.guards }
-        ensures suits { Suits image.now self.new }
+        requires { MayTakeTurn image.now self.old t }
+        ensures { TookTurn image.now self.old self.new t result }
     {
         let act = self.next_act(image, t);
         let held = self.threads[t as usize].held();

@@ -1,12 +1,13 @@
 //! Old histories, whose blocks have no pc, made new by a run of their schedule.
 
-ghost use Rattle.std.specs.Prelude.{◌≡◌, ◌≤◌, IfOk, IfSome, is_some, replicate};
+ghost use Rattle.std.specs.Prelude.{◌≡◌, ◌≤◌, IfOk, IfSome, is_some};
 ghost use Rattle.std.specs.List.{All};
 ghost use Rattle.tc_journal.specs.History.{schedule_v1};
 ghost use Rattle.tc_journal.specs.declared.block.BlockV1.{BlockV1 as BlockV1Value};
 ghost use Rattle.tc_mutex_spec.specs.Blocks.{with_pcs};
-ghost use Rattle.tc_mutex_spec.specs.Machine.{turns, run, start};
-ghost use Rattle.tc_mutex_spec.specs.Slow.{state_of, Suits, LeadsTo};
+ghost use Rattle.tc_mutex_spec.specs.Machine.{run, start};
+ghost use Rattle.tc_mutex_spec.specs.Slow.{Suits};
+ghost use Rattle.tc_mutex_spec.specs.Turned.{TookBlock};
 
 use crate::slow::Slow;
 use std::alloc::{AllocError, Global};
@@ -18,10 +19,7 @@ use tc_journal::block::{Block, BlockV1};
 fn take_block(slow: &mut Slow, image: &Image, t: u32, count: u32) -> Option<u32>
     requires suits { Suits image.now slow.old }
     requires some { 1 ≤ count }
-    ensures pc { IfSome result (λ pc. pc ≡ ((state_of slow.old).threads t).regs.pc) }
-    ensures ran { LeadsTo (turns image.now (state_of slow.old) (replicate count t))
-        (is_some result) slow.new }
-    ensures suits { Suits image.now slow.new }
+    ensures { TookBlock image.now slow.old slow.new t count result }
 {
     if t >= image.threads() {
         return None;

@@ -3,7 +3,7 @@ use Rattle.tc_isa.specs.declared.limits.TheConstants.{MAX_TURNS}
 use Rattle.tc_journal.specs.Rule.{end_rule}
 use Rattle.tc_turn.specs.Turn.{next_lock}
 use Rattle.tc_mutex_spec.specs.Machine.{State, can_turn}
-use Rattle.tc_mutex_spec.specs.Slow.{state_of}
+use Rattle.tc_mutex_spec.specs.Slow.{Suits, state_of}
 use Rattle.tc_core.specs.Core.{Course}
 use Rattle.tc_core.specs.Events.{course_on, after_turn}
 use Rattle.tc_core.specs.View.{CoreView, course_at, core_of, limits_of, HasParts}
@@ -18,10 +18,12 @@ next_lock-taken-requires c =
     let long = c.requires.core.parts.plain.threads in
     omega arith
 
-pub take_turn-outcome-requires-clause-defined : goal.take_turn-outcome-requires-clause-defined
-take_turn-outcome-requires-clause-defined c =
-    ap (λ (s : CoreView). can_turn c.args.image.now (state_of s.plain) c.args.thread) c.self.view_is
-    ∙ turn_can c.args.image.now (core_of c.args.self.now) c.args.thread c.requires.core.sound (may_turn c.args.image.now _ _ c.args.worker c.args.thread c.requires.enabled)
+pub take_turn-outcome-requires : goal.take_turn-outcome-requires
+take_turn-outcome-requires c = record {
+  suits = subst (λ (s : CoreView). Suits c.args.image.now s.plain) (sym c.self.view_is) c.requires.core.parts.plain;
+  defined = ap (λ (s : CoreView). can_turn c.args.image.now (state_of s.plain) c.args.thread) c.self.view_is
+      ∙ turn_can c.args.image.now (core_of c.args.self.now) c.args.thread c.requires.core.sound (may_turn c.args.image.now _ _ c.args.worker c.args.thread c.requires.enabled);
+}
 
 pub next_lock-next-requires : goal.next_lock-next-requires
 next_lock-next-requires c =

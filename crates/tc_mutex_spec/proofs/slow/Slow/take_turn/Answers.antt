@@ -20,8 +20,11 @@ act_fits : (left : ℕ) (act : Option Act) → IfSome act (CanAct left) → IfSo
 act_fits left None can = tt
 act_fits left (Some a) can = can.fits
 
-pub take_turn-requires-clause-fits : goal.take_turn-requires-clause-fits
-take_turn-requires-clause-fits c = act_fits _ c.next_act-act.result c.next_act-act.ensures.can
+pub take_turn-requires : goal.take_turn-requires
+take_turn-requires c = record {
+  locks = ap (λ (p : Plain). length p.locks) c.self.view_is ∙ c.requires.suits.locks;
+  fits = act_fits _ c.next_act-act.result c.next_act-act.ensures.can;
+}
 
 abbrev plain : goal.After-outcome_of → Plain
 plain c = record { threads = c.self.inside.threads.items; locks = c.self.inside.locks }
@@ -46,15 +49,14 @@ step c =
           ∙ ap (λ held. option_map (mutex_after image t (has held) c.next_act-act.result k) (slice_get c.self.inside.locks k)) (c.held-held.ensures ∙ ap (λ (g : Guest). g.held) same);
     }
 
-pub returns-clause-after : goal.returns-clause-after
-returns-clause-after c =
-    turned c.args.image.now (plain c) c.args.t _ _ c.next_act-act.result _ (suits c) (step c) ∙ ap (λ s. after c.args.image.now (state_of s) c.args.t) c.self.view_is
-
-pub returns-clause-suits : goal.returns-clause-suits
-returns-clause-suits c = suits_on c.args.image.now (plain c) c.args.t _ _ c.next_act-act.result _ (suits c) (step c) c.take_turn.ensures.long
-
-pub returns-clause-known : goal.returns-clause-known
-returns-clause-known c = λ lock e.
+pub returns : goal.returns
+returns c =
     let s = c.args.self.now in
     let d = thread_at s.threads c.args.t in
-    c.requires.suits.held c.args.t lock (released_held c.args.image.now d (mutex_at s.locks) lock (ap outcome_of (sym c.next_act-act.ensures.value) ∙ sym c.outcome_of.ensures ∙ e))
+    let came = c.outcome_of.ensures ∙ ap outcome_of c.next_act-act.ensures.value in
+    record {
+      after = turned c.args.image.now (plain c) c.args.t _ _ c.next_act-act.result _ (suits c) (step c) ∙ ap (λ s. after c.args.image.now (state_of s) c.args.t) c.self.view_is;
+      outcome = came;
+      known = λ lock e. c.requires.suits.held c.args.t lock (released_held c.args.image.now d (mutex_at s.locks) lock (sym came ∙ e));
+      suits = suits_on c.args.image.now (plain c) c.args.t _ _ c.next_act-act.result _ (suits c) (step c) c.take_turn.ensures.long;
+    }
