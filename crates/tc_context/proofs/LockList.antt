@@ -1,6 +1,6 @@
 -- A package's lock states after a change of each of them.
-use Rattle.std.proofs.Common.{◌≡◌, ℕ, arith, get_or, set, ◌<◌, Bool, true, false, not, ◌==◌, List, length, refl, sym, ap, ◌∙◌, inl, inr, Option, Some, None, slice_get, if◌then◌else◌, ext_get_or}
-use Rattle.tc_context.proofs.Vocabulary.{option_map, LockView, Context, slot_of, lock_in, when_in, Changed, EachHeld, HeldAt, at_place}
+use Rattle.std.proofs.Common.{◌≡◌, ℕ, arith, get_or, set, ◌<◌, Bool, true, false, not, ◌==◌, ◌&&◌, List, length, refl, sym, ap, ◌∙◌, inl, inr, Option, Some, None, slice_get, if◌then◌else◌, ext_get_or}
+use Rattle.tc_context.proofs.Vocabulary.{option_map, LockView, Context, slot_of, lock_in, when_in, Changed, EachHeld, HoldsAt, at_place}
 use Rattle.std.proofs.lemmas.Bool.Decides.{eqb_tells}
 use Rattle.tc_mutex_spec.proofs.ListLaws.{get-set}
 use Rattle.tc_mutex_spec.proofs.OptionLaws.{option_map-id}
@@ -22,17 +22,39 @@ unchanged held f locks none k = sym (option_map-id (when_in (held k) (f k)) (loc
 
 -- ---- a walk over a set of locks
 
+and_true : (x y : Bool) → (x && y) ≡ true → y ≡ true
+and_true true y e = e
+and_true false y e = absurd (cc)
+
 -- the changes of the places outside a set: those at which a walk over the set has been
 abbrev pub outside : (ℕ → Bool) → (ℕ → LockView → LockView) → ℕ → LockView → LockView
 outside left f k l = when_in (not (left k)) (f k) l
+
+-- where what is left is of the walk's set
+abbrev pub Walked : (ℕ → Bool) → (ℕ → Bool) → (ℕ → LockView → LockView) → List (Option LockView) → List (Option LockView) → Type 0
+Walked held left f old now = Changed (outside left f) old now × ((k : ℕ) → left k ≡ true → held k ≡ true)
 
 -- what is left of the walk is as it was
 pub outside_here : (left : ℕ → Bool) (f : ℕ → LockView → LockView) (n : ℕ) (old now : List (Option LockView)) → left n ≡ true → Changed (outside left f) old now → lock_in now n ≡ lock_in old n
 outside_here left f n old now has_n changed = changed n ∙ option_map-id (outside left f n) (lock_in old n) (λ l. ap (λ b. when_in (not b) (f n) l) has_n)
 
 -- and what each lock of a set may do, the walk's next one still may
-pub next_here : (held left : ℕ → Bool) (f : ℕ → LockView → LockView) (P : LockView → Type 0) (n : ℕ) (old now : List (Option LockView)) → n < 32 → left n ≡ true → Changed (outside left f) old now → EachHeld held P old → HeldAt n held P now
-next_here held left f P n old now lt has_n changed each = record { place = lt; lock = λ l found h. each n l (sym (outside_here left f n old now has_n changed) ∙ found) h }
+pub next_here : (held left : ℕ → Bool) (f : ℕ → LockView → LockView) (P : LockView → Type 0) (n : ℕ) (old now : List (Option LockView)) → n < 32 → left n ≡ true → Walked held left f old now → EachHeld held P old → HoldsAt n P now
+next_here held left f P n old now lt has_n walked each = record { place = lt; lock = λ l found. each n l (sym (outside_here left f n old now has_n walked.0) ∙ found) (walked.1 n has_n) }
+
+-- the walk goes on: its next lock is changed
+pub walked_on : (held left rest : ℕ → Bool) (f : ℕ → LockView → LockView) (g : LockView → LockView) (n : ℕ) (old mid new : List (Option LockView)) → ((k : ℕ) → rest k ≡ (not (k == n) && left k)) → left n ≡ true → g ≡ f n
+    → Walked held left f old mid → Changed (at_place n g) mid new → Walked held rest f old new
+walked_on held left rest f g n old mid new less has_n same walked changed = (
+  (λ k. changed k ∙ (elim (eqb_tells k n) [
+    | inl h ↦ ap (λ b. option_map (λ l. when_in b g l) (lock_in mid k)) h.0 ∙ ap (λ j. option_map g (lock_in mid j)) h.1 ∙ ap (option_map g) (outside_here left f n old mid has_n walked.0)
+        ∙ ap (λ h. option_map h (lock_in old n)) same ∙ ap (λ j. option_map (f j) (lock_in old j)) (sym h.1)
+        ∙ ap (λ b. option_map (λ l. when_in (not b) (f k) l) (lock_in old k)) (sym (less k ∙ ap (λ b. not b && left k) h.0))
+    | inr h ↦ ap (λ b. option_map (λ l. when_in b g l) (lock_in mid k)) h.0 ∙ option_map-id (λ l. l) (lock_in mid k) (λ l. refl) ∙ walked.0 k
+        ∙ ap (λ b. option_map (λ l. when_in (not b) (f k) l) (lock_in old k)) (sym (less k ∙ ap (λ b. not b && left k) h.0))
+  ])),
+  λ k h. walked.1 k (and_true (not (k == n)) (left k) (sym (less k) ∙ h)),
+)
 
 -- the context with other locks
 abbrev pub with_locks : Context → List (Option LockView) → Context

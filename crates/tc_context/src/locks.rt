@@ -1,6 +1,6 @@
 //! The lock states that a package has.
 
-ghost use Rattle.std.specs.Prelude.{◌≡◌, ℕ, ◌<◌, ◌≤◌, ◌&&◌, true, false, is_some, length, set, Some, None, IfOk, OnOk, OnErr};
+ghost use Rattle.std.specs.Prelude.{◌≡◌, ℕ, ◌<◌, ◌≤◌, [], ◌∷◌, true, false, is_some, length, set, Some, None, IfOk, OnOk, OnErr};
 ghost use Rattle.std.specs.Option.{option_map};
 ghost use Rattle.tc_isa.specs.Sets.{has};
 ghost use Rattle.tc_isa.specs.declared.limits.TheConstants.{MAX_TURNS};
@@ -8,9 +8,9 @@ ghost use Rattle.tc_isa.specs.declared.held.TheConstants.Held.{PLACES};
 ghost use Rattle.tc_elf.specs.Places.{in_guard};
 ghost use Rattle.tc_exec.specs.Told.{IsWidth};
 ghost use Rattle.tc_turn.specs.Replay.{takes_word as takes};
-ghost use Rattle.tc_segment.specs.View.{guard_of, with_section, with_store};
+ghost use Rattle.tc_segment.specs.View.{closed_with, guard_of, lock_of, noted, opened_at, sealed_as, with_break, with_end, with_journal, with_room, with_section, with_store};
 ghost use Rattle.tc_context.specs.Locks.{lock_in, turned, put_in, TurnReady, PutReady, TurnFits, StoreFits};
-ghost use Rattle.tc_context.specs.Locks.{Changed, HoldsAt, HeldAt, EachHeld, EachLock, IsReady, CanClose, CanSeal, IsPlaced, SameLocks, at_place, one_place};
+ghost use Rattle.tc_context.specs.Locks.{Changed, HoldsAt, EachHeld, EachLock, IsReady, CanClose, CanSeal, IsPlaced, SameLocks, at_place, when_in};
 ghost use Rattle.tc_context.specs.Locks.{broken_in, opened_in, noted_in, closed_in, sealed_in, roomy_in};
 
 use std::alloc::{AllocError, Global};
@@ -109,14 +109,12 @@ impl LockSet {
         }
     }
 
-    fn break_one(&mut self, lock: u32, held: Held)
-        requires { HeldAt lock (has held) (λ l. is_some l.journal.opened ≡ true) self.old }
-        ensures { Changed (at_place lock (broken_in (has held) lock)) self.old self.new }
+    fn break_one(&mut self, lock: u32)
+        requires { HoldsAt lock (λ l. is_some l.journal.opened ≡ true) self.old }
+        ensures { Changed (at_place lock with_break) self.old self.new }
     {
         if let Some(state) = &mut self.places[lock as usize] {
-            if held.has(lock) {
-                state.break_lock();
-            }
+            state.break_lock();
         }
     }
 
@@ -127,19 +125,18 @@ impl LockSet {
     {
         let mut left = held;
         while let Some(lock) = left.least() {
-            self.break_one(lock, held);
+            self.break_one(lock);
             left = left.less(lock);
         }
     }
 
-    fn open_one(&mut self, lock: u32, held: Held, start: &Packed, fuel: u32)
-        requires { HeldAt lock (has held) (λ l. IsReady l.journal) self.old }
-        ensures { Changed (at_place lock (opened_in (has held) start.now fuel lock)) self.old self.new }
+    fn open_one(&mut self, lock: u32, start: &Packed, fuel: u32)
+        requires { HoldsAt lock (λ l. IsReady l.journal) self.old }
+        ensures { Changed (at_place lock (λ l. with_journal (opened_at (lock_of l) start.now fuel) l))
+            self.old self.new }
     {
         if let Some(state) = &mut self.places[lock as usize] {
-            if held.has(lock) {
-                state.open_packed(start, fuel);
-            }
+            state.open_packed(start, fuel);
         }
     }
 
@@ -149,7 +146,7 @@ impl LockSet {
     {
         let mut left = held;
         while let Some(lock) = left.least() {
-            self.open_one(lock, held, start, fuel);
+            self.open_one(lock, start, fuel);
             left = left.less(lock);
         }
     }
@@ -174,13 +171,14 @@ impl LockSet {
         }
     }
 
-    fn note_one(&mut self, lock: u32, held: Held, want: Want, next: Option<u32>, value: u32)
-        requires opened { HeldAt lock (has held) (λ l. is_some l.journal.opened ≡ true) self.old }
-        requires room { HeldAt lock (has held) (λ l. 0 < l.journal.word_room) self.old }
-        ensures { Changed (one_place (noted_in (has held) want next value) lock) self.old self.new }
+    fn note_one(&mut self, lock: u32, want: Want, next: Option<u32>, value: u32)
+        requires opened { HoldsAt lock (λ l. is_some l.journal.opened ≡ true) self.old }
+        requires room { HoldsAt lock (λ l. 0 < l.journal.word_room) self.old }
+        ensures { Changed (at_place lock
+            (when_in (takes lock want next) (with_journal (noted (value ∷ []))))) self.old self.new }
     {
         if let Some(state) = &mut self.places[lock as usize] {
-            if notes(lock, held, want, next) {
+            if takes_word(lock, want, next) {
                 state.note_foreign(value);
             }
         }
@@ -195,7 +193,7 @@ impl LockSet {
     {
         let mut left = held;
         while let Some(lock) = left.least() {
-            self.note_one(lock, held, want, next, value);
+            self.note_one(lock, want, next, value);
             left = left.less(lock);
         }
     }
@@ -211,15 +209,14 @@ impl LockSet {
         }
     }
 
-    fn close_one(&mut self, image: &Image, lock: u32, held: Held, block: &Block, finish: &Packed)
-        requires { HeldAt lock (has held) (CanClose image.now block.now finish.now) self.old }
-        ensures { Changed (one_place (closed_in (has held) block.now finish.now) lock)
+    fn close_one(&mut self, image: &Image, lock: u32, block: &Block, finish: &Packed)
+        requires { HoldsAt lock (CanClose image.now block.now finish.now) self.old }
+        ensures { Changed (at_place lock
+            (λ l. with_end block.now.end (with_journal (closed_with block.now finish.now) l)))
             self.old self.new }
     {
         if let Some(state) = &mut self.places[lock as usize] {
-            if held.has(lock) {
-                state.close_packed(image, block, finish);
-            }
+            state.close_packed(image, block, finish);
         }
     }
 
@@ -229,7 +226,7 @@ impl LockSet {
     {
         let mut left = held;
         while let Some(lock) = left.least() {
-            self.close_one(image, lock, held, block, finish);
+            self.close_one(image, lock, block, finish);
             left = left.less(lock);
         }
     }
@@ -256,14 +253,12 @@ impl LockSet {
         true
     }
 
-    fn seal_one(&mut self, lock: u32, held: Held, stamp: u64, worker: u32)
-        requires { HeldAt lock (has held) (CanSeal stamp worker) self.old }
-        ensures { Changed (one_place (sealed_in (has held) stamp worker) lock) self.old self.new }
+    fn seal_one(&mut self, lock: u32, stamp: u64, worker: u32)
+        requires { HoldsAt lock (CanSeal stamp worker) self.old }
+        ensures { Changed (at_place lock (with_journal (sealed_as stamp worker))) self.old self.new }
     {
         if let Some(state) = &mut self.places[lock as usize] {
-            if held.has(lock) {
-                state.seal(stamp, worker);
-            }
+            state.seal(stamp, worker);
         }
     }
 
@@ -274,20 +269,20 @@ impl LockSet {
     {
         let mut left = held;
         while let Some(lock) = left.least() {
-            self.seal_one(lock, held, stamp, worker);
+            self.seal_one(lock, stamp, worker);
             left = left.less(lock);
         }
     }
 
-    fn reserve_one(&mut self, lock: u32, held: Held) -> Result<(), AllocError>
+    fn reserve_one(&mut self, lock: u32) -> Result<(), AllocError>
         requires { lock < PLACES }
         ensures ok { OnOk result
-            (Changed (one_place (roomy_in (has held) 1 MAX_TURNS) lock) self.old self.new) }
+            (Changed (at_place lock (with_journal (with_room 1 MAX_TURNS))) self.old self.new) }
         ensures err { OnErr result (Changed (λ k l. l) self.old self.new) }
     {
         match &mut self.places[lock as usize] {
-            Some(state) if held.has(lock) => state.reserve(MAX_TURNS as usize),
-            _ => Ok(()),
+            Some(state) => state.reserve(MAX_TURNS as usize),
+            None => Ok(()),
         }
     }
 
@@ -310,7 +305,7 @@ impl LockSet {
     {
         let mut left = held;
         while let Some(lock) = left.least() {
-            self.reserve_one(lock, held)?;
+            self.reserve_one(lock)?;
             left = left.less(lock);
         }
         Ok(())
@@ -376,14 +371,6 @@ fn takes_any(want: Want, next: Option<u32>) -> bool
         Want::Load { .. } => true,
         Want::Nothing => next.is_some(),
     }
-}
-
-/// Whether the lock notes the value of a turn in a block with these locks.
-fn notes(lock: u32, held: Held, want: Want, next: Option<u32>) -> bool
-    ensures is { result ≡ (has held lock && takes lock want next) }
-    ensures held { result ≡ true → has held lock ≡ true }
-{
-    held.has(lock) && takes_word(lock, want, next)
 }
 
 /// Whether the value of a turn comes from elsewhere for the lock.

@@ -1,9 +1,9 @@
-use Rattle.tc_context.proofs.Vocabulary.{has, Changed, noted_in}
-use Rattle.tc_context.proofs.LockList.{outside}
+use Rattle.tc_context.proofs.Vocabulary.{has, noted_in}
+use Rattle.tc_context.proofs.LockList.{Walked}
 use Rattle.tc_context.proofs.locks.LockSet.note_each.Given as goal
 
 abbrev pub invariant-loop-lock : goal.invariant-loop-lock
-invariant-loop-lock l = Changed (outside (has l.left) (noted_in (has l.held) l.want l.next l.value)) l.fn.self l.self
+invariant-loop-lock l = Walked (has l.fn.held) (has l.left) (noted_in (has l.fn.held) l.want l.next l.value) l.fn.self l.self
 
 abbrev pub decreases-loop-lock : goal.decreases-loop-lock
 decreases-loop-lock l = l.left

@@ -6,5 +6,5 @@ use Rattle.tc_context.proofs.locks.LockSet.seal_one.Goals as goal
 pub seal-requires : goal.seal-requires
 seal-requires c =
     let found = ap (λ s. lock_in s c.args.lock) (sym c.self.view_is) ∙ place_is c.self.inside.places.items c.args.lock c.index_mut.result.now (omega (arith, c.requires.place, c.self.invariant)) c.index_mut.ensures.value ∙ c.in-Some.is in
-    let can = c.requires.lock c.in-Some.state found (sym c.has.ensures ∙ c.if-has.true) in
+    let can = c.requires.lock c.in-Some.state found in
     record { closed = can.closed; follows = can.follows; passes = can.passes }
