@@ -1,5 +1,5 @@
 -- A package's fields, as it is seen, and what they keep.
-use Rattle.std.specs.Prelude.{◌≡◌, ℕ, ◌+◌, ◌-◌, ◌≤◌, Bool, true, List, Option, Some, None, is_some, set, Vec, if◌then◌else◌, vec_len, vec_capacity}
+use Rattle.std.specs.Prelude.{◌≡◌, ℕ, ◌+◌, ◌-◌, ◌≤◌, Bool, true, List, [], ◌∷◌, ◌++◌, Option, Some, None, is_some, set, Vec, if◌then◌else◌, vec_len, vec_capacity}
 use Rattle.std.specs.Arc.{arc_value}
 use Rattle.std.specs.Global.{Global}
 use Rattle.tc_isa.specs.Sets.{has}
@@ -35,13 +35,19 @@ pub record KeptPackage (a : Contents) : Type 0 where
   pub present : (k : ℕ) → set_of a.context k ≡ has a.present k
   pub pending : is_some (pending_in a.pending a.log.items) ≡ a.pending
   pub log : vec_len a.log + a.log_room ≤ vec_capacity a.log
-  pub edge : a.packed ≡ true → a.edge ≡ a.context.guest.regs
+  pub edge : a.edge.packed ≡ true → a.edge.regs ≡ a.context.guest.regs
 
 -- the last block of a log has this stamp and worker now, and these are its locks
 pub record DidSealLast (stamp worker : ℕ) (old new : Vec Block Global) (locks : ℕ) : Type 0 where
   pub log : (b : Block) → last_of old.items ≡ Some b → new.items ≡ set old.items (vec_len old - 1) (sealed_block stamp worker b)
   pub held : (b : Block) → last_of old.items ≡ Some b → locks ≡ b.held
   pub len : vec_len new ≡ vec_len old
+  pub capacity : vec_capacity new ≡ vec_capacity old
+
+-- the log with a block more, for which it had room
+pub record IsLogWith (b : Block) (old new : Vec Block Global) : Type 0 where
+  pub items : new.items ≡ old.items ++ b ∷ []
+  pub len : vec_len new ≡ vec_len old + 1
   pub capacity : vec_capacity new ≡ vec_capacity old
 
 -- the same log, but for its room, which is no less

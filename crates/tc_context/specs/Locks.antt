@@ -43,10 +43,6 @@ pub record HoldsAt (k : ℕ) (P : LockView → Type 0) (slots : List (Option Loc
   pub place : k < PLACES
   pub lock : (l : LockView) → lock_in slots k ≡ Some l → P l
 
--- where it is there and in the set
-abbrev pub HeldAt : ℕ → (ℕ → Bool) → (LockView → Type 0) → List (Option LockView) → Type 0
-HeldAt k held P slots = HoldsAt k (λ l. held k ≡ true → P l) slots
-
 -- of each lock that is there and in the set
 abbrev pub EachHeld : (ℕ → Bool) → (LockView → Type 0) → List (Option LockView) → Type 0
 EachHeld held P slots = (k : ℕ) (l : LockView) → lock_in slots k ≡ Some l → held k ≡ true → P l
@@ -174,10 +170,6 @@ roomy_in held entries words k l = when_in (held k) (with_journal (with_room entr
 -- each entry that isn't sealed yet is
 abbrev pub sealed_all : ℕ → ℕ → List (Option LockView) → List (Option LockView)
 sealed_all stamp worker locks = map (option_map (with_journal (sealed_as stamp worker))) locks
-
--- a change of each lock, at the place of this number alone
-abbrev pub one_place : (ℕ → LockView → LockView) → ℕ → ℕ → LockView → LockView
-one_place f lock k l = when_in (k == lock) (f lock) l
 
 -- a change of the lock of this number alone
 abbrev pub at_place : ℕ → (LockView → LockView) → ℕ → LockView → LockView

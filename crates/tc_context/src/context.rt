@@ -1,6 +1,6 @@
 //! A thread with the locks that are in its package, and the blocks that it runs.
 
-ghost use Rattle.std.specs.Prelude.{◌≡◌, ℕ, ◌+◌, ◌<◌, ◌≤◌, ◌^◌, ◌==◌, true, false, length, Ok, Err, Some, None, IfOk, IfSome, if◌then◌else◌};
+ghost use Rattle.std.specs.Prelude.{◌≡◌, ℕ, ◌+◌, ◌<◌, ◌≤◌, ◌^◌, ◌==◌, true, false, length, Ok, Err, Some, None, IfOk, IfSome, if◌then◌else◌, vec_len, vec_capacity};
 ghost use Rattle.tc_isa.specs.Sets.{has};
 ghost use Rattle.tc_isa.specs.declared.limits.TheConstants.{MAX_TURNS};
 ghost use Rattle.tc_isa.specs.declared.held.TheConstants.Held.{PLACES};
@@ -9,6 +9,7 @@ ghost use Rattle.tc_journal.specs.declared.rule.Outcome.TheVariants.{Went};
 ghost use Rattle.tc_turn.specs.Ahead.{IsAhead};
 ghost use Rattle.tc_turn.specs.Turn.{lock_answer, next_lock};
 ghost use Rattle.tc_mutex_spec.specs.Blocks.{locks_of_block};
+ghost use Rattle.tc_context.specs.Kept.{IsLogWith};
 ghost use Rattle.tc_context.specs.Ran.{slept_by as slept_of_turn};
 
 use crate::locks::{LockSet, is_empty};
@@ -46,13 +47,20 @@ struct OwnSteps<'a> {
     ahead: Ahead<'a>,
 }
 
-/// A block that ran, the number of the SLEEP with which it ended, else 0, the lock that the thread's
-/// next turn takes, and whether the registers behind it were packed.
+/// A block that ran, the number of the SLEEP with which it ended, else 0, and the lock that the
+/// thread's next turn takes.
 #[derive(Clone, Copy)]
 pub(crate) struct Ran {
     pub(crate) block: Block,
     pub(crate) slept: u32,
     pub(crate) next: Option<u32>,
+}
+
+/// Where registers are packed for the journals of a block's locks, and whether they are those of the
+/// thread.
+#[derive(Drop)]
+pub(crate) struct Edge {
+    pub(crate) regs: Packed,
     pub(crate) packed: bool,
 }
 
@@ -269,21 +277,22 @@ impl Context {
     }
 
     /// Runs one block, with an entry in the journal of each of its locks. `takes` is the lock that
-    /// its first turn takes. The block has no stamp and no worker yet. `edge` is where registers are
-    /// packed, which has the thread's where they are `packed`.
+    /// its first turn takes. The block has no stamp and no worker yet, and stands last in the log.
     pub(crate) fn run_block(
         &mut self,
         image: &Image,
         code: &Code,
         kind: Kind,
         takes: Option<u32>,
-        edge: &mut Packed,
-        packed: bool,
+        edge: &mut Edge,
+        log: &mut Vec<Block>,
     ) -> Ran
         requires may { MayRunBlock image.now code.now kind takes self.old }
-        requires packed { packed ≡ true → edge.old ≡ self.old.guest.regs }
+        requires packed { edge.old.packed ≡ true → edge.old.regs ≡ self.old.guest.regs }
+        requires room { vec_len log.old < vec_capacity log.old }
         ensures did { DidRunBlock image.now kind self.old self.new result }
-        ensures packed { result.packed ≡ true → edge.new ≡ self.new.guest.regs }
+        ensures packed { edge.new.packed ≡ true → edge.new.regs ≡ self.new.guest.regs }
+        ensures log { IsLogWith result.block log.old log.new }
     {
         let held = block_held(self.guest.held(), takes);
         let thread = self.thread;
@@ -291,7 +300,7 @@ impl Context {
         prove!(thread <= u32::MAX);
         let fuel = self.guest.fuel();
         self.locks
-            .open_entries(held, edge, packed, self.guest.regs(), fuel);
+            .open_entries(held, &mut edge.regs, edge.packed, self.guest.regs(), fuel);
         let pc = self.guest.regs().pc();
         let turns = self.turns(image, code, held, takes);
         let block = Block {
@@ -304,15 +313,19 @@ impl Context {
             pc,
             end: turns.end,
         };
-        let packed = self
-            .locks
-            .close_entries(image, held, &block, edge, self.guest.regs());
-        Ran {
+        let ran = Ran {
             block,
             slept: turns.slept,
             next: turns.next,
-            packed,
-        }
+        };
+        // Each journal copies it from where it stands.
+        let last = log.len();
+        log.push_reserved(ran.block);
+        let packed = self
+            .locks
+            .close_entries(image, held, &log[last], &mut edge.regs, self.guest.regs());
+        edge.packed = packed;
+        ran
     }
 }
 

@@ -15,7 +15,7 @@ ghost use Rattle.tc_context.specs.View.{granted_lock, want_of, kind_of, fits_of,
 ghost use Rattle.tc_context.specs.View.{thread_number, regs_in, fuel_in, status_in, held_in, own_in, locks_in};
 ghost use Rattle.tc_context.specs.View.{IsFresh, IsSoundPackage, WantIsLawful, IsReserved, IsRoomier, WantIsGranted, HasBlock, AllowsPending, IsWaiting, MayPassTo, IsNumber, IsNumbered, LastIsSealed};
 
-use crate::context::Context;
+use crate::context::{Context, Edge};
 use crate::locks::LockSet;
 use std::alloc::{AllocError, Global};
 use std::marker::Model;
@@ -64,10 +64,7 @@ struct Contents {
     numbers: [u64; Held::PLACES as usize],
     turns: u64,
     slept: u32,
-    // Where registers are packed for the journals of a block's locks, and whether they are those of
-    // the thread.
-    edge: Packed,
-    packed: bool,
+    edge: Edge,
 }
 
 /// A thread's whole context.
@@ -220,7 +217,7 @@ impl Package {
     {
         prove!(image.guards() <= 32);
         let context = Context::start(alloc, image, t, fuel)?;
-        let edge = Packed::of(context.guest.regs());
+        let regs = Packed::of(context.guest.regs());
         let contents = Contents {
             of: Snapshot::of(image),
             code: Arc::clone(code)?,
@@ -234,8 +231,10 @@ impl Package {
             numbers: [0; Held::PLACES as usize],
             turns: 0,
             slept: 0,
-            edge,
-            packed: false,
+            edge: Edge {
+                regs,
+                packed: false,
+            },
         };
         Ok(Package {
             contents: Box::new(alloc, contents)?,
@@ -295,18 +294,15 @@ impl Package {
             kind,
             contents.next,
             &mut contents.edge,
-            contents.packed,
+            &mut contents.log,
         );
         contents.context.locks.bound();
-        let block = &ran.block;
-        contents.log.push_reserved(*block);
         contents.log_room -= 1;
         contents.granted = None;
         contents.pending = true;
         contents.slept = ran.slept;
         contents.next = ran.next;
-        contents.packed = ran.packed;
-        block.end
+        ran.block.end
     }
 
     /// The kind of the next block.

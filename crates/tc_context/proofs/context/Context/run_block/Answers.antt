@@ -1,9 +1,9 @@
-use Rattle.std.proofs.Common.{◌-◌, ◌<◌, ap, sym, ◌∙◌, subst, arith, rules, IfSome}
+use Rattle.std.proofs.Common.{◌≡◌, ◌-◌, ◌<◌, ap, sym, ◌∙◌, subst, arith, rules, IfSome}
 use Rattle.tc_context.proofs.Vocabulary.{option_map, has, CanClose, EachHeld, Changed, closed_in, thread_in, journal_in}
 use Rattle.tc_mutex_spec.specs.Blocks.{locks_of_block}
 use Rattle.tc_mutex_spec.proofs.Going.{next_small}
 use Rattle.tc_context.proofs.Partway.{runs_some}
-use Rattle.tc_context.proofs.Blocked.{begins_from, begun_may, made, may_close, old_slept, finished_runs, finished_journals}
+use Rattle.tc_context.proofs.Blocked.{begins_from, begun_may, made, may_close, old_slept, stands_last, finished_runs, finished_journals}
 use Rattle.tc_context.proofs.context.Context.run_block.Goals as goal
 
 pub block_held-held-requires : goal.block_held-held-requires
@@ -35,8 +35,11 @@ close_entries-packed-requires c =
     let held = c.block_held-held.result in
     let begins = begins_from image old held c.open_entries.new.self c.requires.may.takes c.held.ensures c.regs.ensures c.fuel-fuel.ensures c.block_held-held.ensures c.open_entries.ensures in
     let ran = c.turns-turns in
-    subst (λ r. EachHeld (has held) (CanClose image (made c.requires.may begins c.pc-pc.result ran.ensures.did) r) ran.new.self.locks) (sym c.regs-3.ensures)
-    (may_close c.requires.may begins c.pc-pc.result ran.ensures.did)
+    let block = made c.requires.may begins c.pc-pc.result ran.ensures.did in
+    let last : c.index.result.now ≡ block = stands_last c.args.log.now.items block c.index.result.now c.len-last.result c.push_reserved.new.self.items (omega (arith, c.len-last.ensures)) c.push_reserved.ensures.items c.index.ensures in
+    subst (λ b. EachHeld (has held) (CanClose image b c.regs-3.result.now) ran.new.self.locks) (sym last)
+    (subst (λ r. EachHeld (has held) (CanClose image block r) ran.new.self.locks) (sym c.regs-3.ensures)
+    (may_close c.requires.may begins c.pc-pc.result ran.ensures.did))
 
 pub returns : goal.returns
 returns c =
@@ -45,7 +48,10 @@ returns c =
     let held = c.block_held-held.result in
     let begins = begins_from image old held c.open_entries.new.self c.requires.may.takes c.held.ensures c.regs.ensures c.fuel-fuel.ensures c.block_held-held.ensures c.open_entries.ensures in
     let ran = c.turns-turns in
-    let shut = subst (λ r. Changed (closed_in (has held) (made c.requires.may begins c.pc-pc.result ran.ensures.did) r) ran.new.self.locks c.close_entries-packed.new.self) c.regs-3.ensures c.close_entries-packed.ensures.closed in
+    let block = made c.requires.may begins c.pc-pc.result ran.ensures.did in
+    let last : c.index.result.now ≡ block = stands_last c.args.log.now.items block c.index.result.now c.len-last.result c.push_reserved.new.self.items (omega (arith, c.len-last.ensures)) c.push_reserved.ensures.items c.index.ensures in
+    let shut = subst (λ r. Changed (closed_in (has held) block r) ran.new.self.locks c.close_entries-packed.new.self) c.regs-3.ensures
+    (subst (λ b. Changed (closed_in (has held) b c.regs-3.result.now) ran.new.self.locks c.close_entries-packed.new.self) last c.close_entries-packed.ensures.closed) in
     record {
       did = record {
         runs = finished_runs c.requires.may begins c.pc-pc.result ran.ensures.did c.close_entries-packed.new.self shut;
@@ -58,4 +64,5 @@ returns c =
         follows = search rules;
       };
       packed = λ is. c.close_entries-packed.ensures.packed is ∙ c.regs-3.ensures;
+      log = record { items = c.push_reserved.ensures.items; len = c.push_reserved.ensures.len; capacity = c.push_reserved.ensures.capacity };
     }

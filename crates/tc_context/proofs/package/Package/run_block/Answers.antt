@@ -10,6 +10,7 @@ run_block-ran-requires c =
     let image = c.args.image.now in
     let p = view_of c.deref_mut-contents.result.now in
     let may = subst (MayRun image) (sym s.is) (record { is = c.requires.image; sound = subst IsSoundPackage s.is s.kept.sound; rest = c.requires.pending; running = c.requires.running; want = c.requires.want }) in
+    let room : 0 < p.log_room = subst (λ (v : PackageView). 0 < v.log_room) (sym s.is) c.requires.reserved.log in
     record {
       may = record {
         code = c.deref.ensures ∙ s.kept.code ∙ may.is;
@@ -19,6 +20,7 @@ run_block-ran-requires c =
         section = ap is_section (c.next_kind-kind.ensures ∙ ap (λ (v : PackageView). kind_of v.granted v.log) (sym s.is)) ∙ kind_section image p may;
       };
       packed = s.kept.edge;
+      room = (let h = s.kept.log in omega (arith, room, h));
     }
 
 pub invariant_of-self : goal.invariant_of-self
@@ -32,12 +34,12 @@ invariant_of-self c =
     let e = ran.ensures.did in
     let kind = e.kind_is ∙ c.next_kind-kind.ensures ∙ ap (λ (v : PackageView). kind_of v.granted v.log) (sym s.is) in
     record {
-      sound = ran_sound image p may ran.new.self ran.result.block c.push_reserved.new.self.items ran.result.slept c.bound.ensures.places e.runs e.journals e.thread kind c.push_reserved.ensures.items;
+      sound = ran_sound image p may ran.new.self ran.result.block ran.new.log.items ran.result.slept c.bound.ensures.places e.runs e.journals e.thread kind ran.ensures.log.items;
       code = s.kept.code;
       next = e.follows ∙ ap (λ x. next_lock x (thread_in ran.new.self)) (sym may.is);
       present = λ k. e.runs.keeps.set k ∙ s.kept.present k;
-      pending = pending_shown image p may ran.new.self ran.result.block c.push_reserved.new.self.items ran.result.slept c.bound.ensures.places e.runs e.journals e.thread kind c.push_reserved.ensures.items;
-      log = (let h = s.kept.log in omega (arith, room, c.push_reserved.ensures.len, c.push_reserved.ensures.capacity));
+      pending = pending_shown image p may ran.new.self ran.result.block ran.new.log.items ran.result.slept c.bound.ensures.places e.runs e.journals e.thread kind ran.ensures.log.items;
+      log = (let h = s.kept.log in omega (arith, room, ran.ensures.log.len, ran.ensures.log.capacity));
       edge = ran.ensures.packed;
     }
 
@@ -50,4 +52,4 @@ returns-clause-ran c =
     let ran = c.run_block-ran in
     let e = ran.ensures.did in
     let kind = e.kind_is ∙ c.next_kind-kind.ensures ∙ ap (λ (v : PackageView). kind_of v.granted v.log) (sym s.is) in
-    did_run image p may ran.new.self ran.result.block c.push_reserved.new.self.items ran.result.slept c.bound.ensures.places e.runs e.journals e.thread kind c.push_reserved.ensures.items _ s.is e.pc e.bounds e.sleeps
+    did_run image p may ran.new.self ran.result.block ran.new.log.items ran.result.slept c.bound.ensures.places e.runs e.journals e.thread kind ran.ensures.log.items _ s.is e.pc e.bounds e.sleeps
