@@ -11,7 +11,7 @@ use Rattle.tc_turn.proofs.thread.GuestThread.TheSendSync as Guest_moves
 use Rattle.tc_segment.proofs.edges.Edges.TheSendSync as Edges_moves
 use Rattle.tc_segment.proofs.record.Record.TheSendSync as Record_moves
 use Rattle.tc_segment.proofs.record.Opening.TheSendSync as Opening_moves
-use Rattle.tc_segment.proofs.packed.Packed.TheSendSync as Packed_moves
+use Rattle.tc_context.proofs.context.Edge.TheSendSync as Edge_moves
 use Rattle.tc_context.proofs.package.Grant.TheSendSync as Grant_moves
 use Rattle.std.specs.contracts.option.Option as Optional
 use Rattle.tc_elf.specs.contracts.image.Image as Image
@@ -62,10 +62,10 @@ context_sync = search (sendable, crosses, Guest_moves.the_sync, locks_sync) dept
 
 -- field by field, since one search for all is too long
 contents_send : IsSend Contents.the_row
-contents_send = declared_send Contents.the_type (search crosses, (search (sendable, crosses, code_send, code_sync), (context_send, (search (sendable, crosses) depth 20, (search (sendable, crosses) depth 20, (search (sendable, Grant_moves.the_send) depth 20, (search (sendable, Block_moves.the_send) depth 20, (search (sendable, crosses, Block_moves.the_send), (search sendable, (search sendable, (search sendable, (search sendable, (search (sendable, Packed_moves.the_send) depth 20, (search sendable, tt))))))))))))))
+contents_send = declared_send Contents.the_type (search crosses, (search (sendable, crosses, code_send, code_sync), (context_send, (search (sendable, crosses) depth 20, (search (sendable, crosses) depth 20, (search (sendable, Grant_moves.the_send) depth 20, (search (sendable, Block_moves.the_send) depth 20, (search (sendable, crosses, Block_moves.the_send), (search sendable, (search sendable, (search sendable, (search sendable, (search (sendable, Edge_moves.the_send) depth 20, tt)))))))))))))
 
 contents_sync : IsSync Contents.the_row
-contents_sync = declared_sync Contents.the_type (search crosses, (search (sendable, crosses, code_send, code_sync), (context_sync, (search (sendable, crosses) depth 20, (search (sendable, crosses) depth 20, (search (sendable, Grant_moves.the_sync) depth 20, (search (sendable, Block_moves.the_sync) depth 20, (search (sendable, crosses, Block_moves.the_sync), (search sendable, (search sendable, (search sendable, (search sendable, (search (sendable, Packed_moves.the_sync) depth 20, (search sendable, tt))))))))))))))
+contents_sync = declared_sync Contents.the_type (search crosses, (search (sendable, crosses, code_send, code_sync), (context_sync, (search (sendable, crosses) depth 20, (search (sendable, crosses) depth 20, (search (sendable, Grant_moves.the_sync) depth 20, (search (sendable, Block_moves.the_sync) depth 20, (search (sendable, crosses, Block_moves.the_sync), (search sendable, (search sendable, (search sendable, (search sendable, (search (sendable, Edge_moves.the_sync) depth 20, tt)))))))))))))
 
 pub package_send : IsSend Package.the_row
 package_send = search (sendable, crosses, contents_send) depth 20
