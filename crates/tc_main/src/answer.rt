@@ -11,6 +11,7 @@ use crate::demo::run_summary;
 use crate::replay::{guest_of, replay_profile, replay_report, replayed};
 use crate::run::run_report;
 use crate::status::Status;
+use crate::text::Text;
 use crate::words::{Asked, MAX_HISTORY, asked_of};
 use crate::wrong::Wrong;
 use std::alloc::{AllocError, Global};
@@ -36,25 +37,25 @@ fn usage(alloc: Global) -> Result<Vec<u8>, AllocError>
 #[derive(Drop)]
 pub(crate) struct Answer {
     pub status: Status,
-    pub text: Vec<u8>,
+    pub text: Text,
 }
 
 /// What was read is refused, for the reason with this number and name.
 fn refused(alloc: Global, number: u32, name: &str) -> Result<Answer, AllocError>
     ensures { IfOk result (λ a. (a.status ≡ Refused number)
-        × (a.text.items ≡ refused_line number name.now)) }
+        × (a.text ≡ refused_line number name.now)) }
 {
     let line = format!(in alloc; "refused {number} {name}\n")?;
     Ok(Answer {
         status: Status::Refused(number),
-        text: line.into_bytes(),
+        text: Text::whole(alloc, line.into_bytes()),
     })
 }
 
 /// The history is rejected.
 fn rejected(alloc: Global, rejected: Rejected) -> Result<Answer, AllocError>
     ensures { IfOk result (λ a. (a.status ≡ IsRejected rejected)
-        × (a.text.items ≡ rejected_line rejected)) }
+        × (a.text ≡ rejected_line rejected)) }
 {
     let line = rejected.line;
     let number = rejected.reason.number();
@@ -62,14 +63,14 @@ fn rejected(alloc: Global, rejected: Rejected) -> Result<Answer, AllocError>
     let line = format!(in alloc; "rejected {line} {number} {name}\n")?;
     Ok(Answer {
         status: Status::Rejected(rejected),
-        text: line.into_bytes(),
+        text: Text::whole(alloc, line.into_bytes()),
     })
 }
 
 /// The answer where there is no text for what is asked.
 fn answer_wrong(alloc: Global, wrong: Wrong) -> Result<Answer, AllocError>
     ensures { (asked : AnyAsked) (bytes : List ℕ) → IsWrong asked bytes wrong
-        → IfOk result (λ a. Verdict asked bytes a.text.items a.status) }
+        → IfOk result (λ a. Verdict asked bytes a.text a.status) }
 {
     match wrong {
         Wrong::Short => refused(alloc, 17, "ShortInput"),
@@ -86,10 +87,10 @@ fn text_of<R: Threads + Wait + Sync, G: Gate>(
     asked: Asked,
     bytes: Vec<u8>,
     gate: &G,
-) -> Result<Vec<u8>, Wrong>
+) -> Result<Text, Wrong>
     requires limits { IsWithinLimits asked }
     requires few { FitsInput asked bytes.items }
-    ensures text { IfOk result (λ text. IsTextOf asked bytes.items text.items) }
+    ensures text { IfOk result (λ text. IsTextOf asked bytes.items text) }
     ensures wrong { IfErr result (λ w. IsWrong asked bytes.items w) }
 {
     match asked {
@@ -97,15 +98,18 @@ fn text_of<R: Threads + Wait + Sync, G: Gate>(
             let image = guest_of(alloc, &bytes)?;
             Ok(run_report(rt, alloc, &image, order, options, gate)?)
         }
-        Asked::Generate(rounds) => Ok(generate(alloc, rounds)?),
-        Asked::Demo { rounds, options } => Ok(run_summary(rt, alloc, rounds, options, gate)?),
+        Asked::Generate(rounds) => Ok(Text::whole(alloc, generate(alloc, rounds)?)),
+        Asked::Demo { rounds, options } => {
+            let summary = run_summary(rt, alloc, rounds, options, gate)?;
+            Ok(Text::whole(alloc, summary))
+        }
         Asked::Replay { size, options } => {
             let replay = replayed(alloc, size, options, bytes)?;
-            Ok(replay_report(alloc, options, replay)?)
+            Ok(Text::whole(alloc, replay_report(alloc, options, replay)?))
         }
         Asked::Profile { size, options } => {
             let replay = replayed(alloc, size, options, bytes)?;
-            Ok(replay_profile(alloc, replay)?)
+            Ok(Text::whole(alloc, replay_profile(alloc, replay)?))
         }
     }
 }
@@ -120,7 +124,7 @@ fn answer_bytes<R: Threads + Wait + Sync, G: Gate>(
 ) -> Result<Answer, AllocError>
     requires limits { IsWithinLimits asked }
     requires few { FitsInput asked bytes.items }
-    ensures { IfOk result (λ a. Verdict asked bytes.items a.text.items a.status) }
+    ensures { IfOk result (λ a. Verdict asked bytes.items a.text a.status) }
 {
     match text_of(rt, alloc, asked, bytes, gate) {
         Ok(text) => Ok(Answer {
@@ -155,7 +159,7 @@ fn answer_asked<R: Threads + Wait + Sync, S: Source, G: Gate>(
     requires { IsWithinLimits asked }
     ensures answer { (words : List (List ℕ)) → AskFor words asked
         → IfOk result (λ a. Comes words (S.stream source.old) (S.stream source.new)
-        (λ text. a.text.items ≡ text) a.status) }
+        (λ text. a.text ≡ text) a.status) }
     ensures unread { input_of asked ≡ None → S.stream source.new ≡ S.stream source.old }
 {
     let Some(most) = most_of(asked) else {
@@ -165,7 +169,7 @@ fn answer_asked<R: Threads + Wait + Sync, S: Source, G: Gate>(
         Ok(bytes) => answer_bytes(rt, alloc, asked, bytes, gate),
         Err(ReadAll::Fault) => Ok(Answer {
             status: Status::ReadFault,
-            text: Vec::new(alloc),
+            text: Text::whole(alloc, Vec::new(alloc)),
         }),
         Err(ReadAll::OverLimit) => refused(alloc, 0, "TooLarge"),
         Err(ReadAll::OutOfMemory) => Err(AllocError),
@@ -181,7 +185,7 @@ pub(crate) fn answer_words<R: Threads + Wait + Sync, S: Source, G: Gate>(
     gate: &G,
 ) -> Result<Answer, AllocError>
     ensures answer { IfOk result (λ a. Comes words.now
-        (S.stream source.old) (S.stream source.new) (λ text. a.text.items ≡ text) a.status) }
+        (S.stream source.old) (S.stream source.new) (λ text. a.text ≡ text) a.status) }
     ensures unread { ¬ Reads words.now → S.stream source.new ≡ S.stream source.old }
 {
     match asked_of(words) {
@@ -189,7 +193,7 @@ pub(crate) fn answer_words<R: Threads + Wait + Sync, S: Source, G: Gate>(
             let text = usage(alloc)?;
             Ok(Answer {
                 status: Status::Usage,
-                text,
+                text: Text::whole(alloc, text),
             })
         }
         Some(asked) => answer_asked(rt, alloc, asked, source, gate),

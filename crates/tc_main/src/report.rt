@@ -7,8 +7,11 @@ ghost use Rattle.tc_main.specs.Legal.{results_after};
 ghost use Rattle.tc_main.specs.Outcome.{IsOutcome};
 ghost use Rattle.tc_main.specs.Report as text;
 
+use crate::parts::history_parts;
+use crate::text::Text;
 use std::alloc::{AllocError, Global};
 use std::fmt::Write;
+use std::thread::Threads;
 use tc_context::package::Package;
 use tc_elf::image::Image;
 use tc_isa::reg::Reg;
@@ -213,7 +216,7 @@ const HEAD_ROOM: usize = 92;
 
 /// The room for the line of a block. No line of a run is longer: a stamp has at most 7 digits, a
 /// thread 2, the turns 4, a worker 1, a pc 8, and four locks with their commas 11 bytes.
-const BLOCK_ROOM: usize = 102;
+pub(crate) const BLOCK_ROOM: usize = 102;
 
 /// The room for the five lines of a thread.
 const THREAD_ROOM: usize = 352;
@@ -275,6 +278,16 @@ pub(crate) fn tail_of(
     Ok(tail)
 }
 
+/// Writes the lines before the history.
+fn push_head(out: &mut String, image: &Image, options: Options) -> Result<(), AllocError>
+    ensures { OnOk result (string_bytes out.new
+        ≡ string_bytes out.old ++ text.head_text image.now options) }
+{
+    out.push_str("tclocks 2\n")?;
+    push_guest(out, image.threads(), image.guards())?;
+    push_run(out, options)
+}
+
 /// The report that has this text behind its history. The memory for all of it is taken at once,
 /// before any of it is written, so that no second copy is made as it grows.
 pub(crate) fn report_with(
@@ -288,12 +301,39 @@ pub(crate) fn report_with(
         ++ history_text (map (λ b. b.now) history.now) ++ tail.now) }
 {
     let mut out = String::with_capacity(alloc, report_room(history, tail))?;
-    out.push_str("tclocks 2\n")?;
-    push_guest(&mut out, image.threads(), image.guards())?;
-    push_run(&mut out, options)?;
+    push_head(&mut out, image, options)?;
     push_lent(&mut out, history)?;
     out.push_str(tail)?;
     Ok(out.into_bytes())
+}
+
+/// How many blocks a history has at least for its lines to be made by several threads. To start a
+/// thread takes as long as some hundred lines.
+const MANY: usize = 4096;
+
+/// The report that has this text behind its history. The lines of many blocks are made by as many
+/// threads as there were workers, and each part stays where it was made, so that none is copied.
+pub(crate) fn report_by<R: Threads + Sync>(
+    rt: &R,
+    alloc: Global,
+    image: &Image,
+    options: Options,
+    history: &[&Block],
+    tail: String,
+) -> Result<Text, AllocError>
+    ensures { IfOk result (λ out. out ≡ text.head_text image.now options
+        ++ history_text (map (λ b. b.now) history.now) ++ string_bytes tail) }
+{
+    if options.workers == 1 || history.len() < MANY {
+        let report = report_with(alloc, image, options, history, &tail)?;
+        return Ok(Text::whole(alloc, report));
+    }
+    let mut head = String::with_capacity(alloc, HEAD_ROOM)?;
+    push_head(&mut head, image, options)?;
+    let size = history.len() / options.workers as usize + 1;
+    let mut parts = history_parts(rt, alloc, history, size)?;
+    parts.push(tail.into_bytes())?;
+    Ok(Text::of_parts(head.into_bytes(), parts))
 }
 
 /// Blocks, where they stand.

@@ -12,7 +12,8 @@ ghost use Rattle.tc_workers.specs.Run.{IsWholeRun};
 
 use crate::nodes::run_nodes;
 use crate::order::Order;
-use crate::report::{report_with, tail_of};
+use crate::report::{report_by, tail_of};
+use crate::text::Text;
 use std::alloc::{AllocError, Global};
 use std::sync::Wait;
 use std::thread::Threads;
@@ -139,14 +140,14 @@ pub(crate) fn run_report<R: Threads + Wait + Sync, G: Gate>(
     order: Order,
     options: Options,
     gate: &G,
-) -> Result<Vec<u8>, AllocError>
+) -> Result<Text, AllocError>
     requires { IsOrderFor options.workers order }
-    ensures { IfOk result (λ out. IsReportOf image.now options out.items) }
+    ensures { IfOk result (λ out. IsReportOf image.now options out) }
 {
     let closed = run_closed(rt, alloc, image, order, options, gate)?;
     let (packages, locks) = closed.into_parts();
     let tail = tail_of(alloc, image, &packages, &locks)?;
     drop(locks);
     let history = history_in(alloc, &packages)?;
-    report_with(alloc, image, options, &history, &tail)
+    report_by(rt, alloc, image, options, &history, tail)
 }

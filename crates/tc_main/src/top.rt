@@ -16,16 +16,16 @@ use crate::status::Status;
 use std::alloc::Global;
 use std::sync::Wait;
 use std::thread::Threads;
-use tc_io::{Sink, Source, Word, write_all};
+use tc_io::{Sink, Source, Word};
 use tc_workers::gate::Gate;
 
 /// Writes a text, and says how the program ends.
 fn written<K: Sink>(sink: &mut K, answer: &Answer) -> Status
     ensures { (words : List (List ℕ)) (before now : Stream)
-        → Comes words before now (λ text. answer.now.text.items ≡ text) answer.now.status
+        → Comes words before now (λ text. answer.now.text ≡ text) answer.now.status
         → Ends words before now (K.stream sink.old) (K.stream sink.new) result }
 {
-    match write_all(sink, &answer.text) {
+    match answer.text.write(sink) {
         Ok(()) => answer.status,
         Err(_) => match answer.status {
             Status::Done => Status::WriteFault,

@@ -33,7 +33,7 @@ returns-in_default-clause-answer g c = λ words asks.
     let none : input_of c.args.asked ≡ None = none_read c.args.asked (sym c.in_default.is ∙ c.most_of.ensures) in
     let read : HasRead (input_of c.args.asked) (g.S.Source.stream c.args.source.now) (g.S.Source.stream c.args.source.now) c.new.result.items =
     subst (λ (o : Option Input). HasRead o (g.S.Source.stream c.args.source.now) (g.S.Source.stream c.args.source.now) c.new.result.items) (sym none) (refl, c.new.ensures.items) in
-    IfOk-weaker c.answer_bytes.result _ _ (λ a v. of_verdict words _ _ c.args.asked c.new.result.items asks read a.text.items a.status v) c.answer_bytes.ensures
+    IfOk-weaker c.answer_bytes.result _ _ (λ a v. of_verdict words _ _ c.args.asked c.new.result.items asks read a.text a.status v) c.answer_bytes.ensures
 
 pub answer_bytes-requires-in-Ok-clause-few : goal.answer_bytes-requires-in-Ok-clause-few
 answer_bytes-requires-in-Ok-clause-few g c = λ lives outlive.
@@ -46,13 +46,13 @@ returns-in-Ok-clause-answer g c = λ words asks.
     record { few = omega (arith, c.in-Ok.ensures.limit, for.most_is); read = c.in-Ok.ensures.ok } in
     let read : HasRead (input_of c.args.asked) (g.S.Source.stream c.args.source.now) (g.S.Source.stream c.read_all.new.source) c.in-Ok.bytes.items =
     subst (λ (o : Option Input). HasRead o (g.S.Source.stream c.args.source.now) (g.S.Source.stream c.read_all.new.source) c.in-Ok.bytes.items) (sym for.is) all in
-    IfOk-weaker c.answer_bytes-in-Ok.result _ _ (λ a v. of_verdict words _ _ c.args.asked c.in-Ok.bytes.items asks read a.text.items a.status v) c.answer_bytes-in-Ok.ensures
+    IfOk-weaker c.answer_bytes-in-Ok.result _ _ (λ a v. of_verdict words _ _ c.args.asked c.in-Ok.bytes.items asks read a.text a.status v) c.answer_bytes-in-Ok.ensures
 
 pub returns-in-Err-Fault-clause-answer : goal.returns-in-Err-Fault-clause-answer
 returns-in-Err-Fault-clause-answer g c = λ words asks.
     let for = read_for c.args.asked c.in-Some.most (sym c.in-Some.is ∙ c.most_of.ensures) in
     let fails = c.in-Err-Fault.ensures.fault (ap Err c.in-Err-Fault.field-0-is) in
-    ((for.input, record { asked = c.args.asked; asks = asks; input_is = for.is }), omega (arith, fails.fault.next), c.new-in-Err-Fault.ensures.items)
+    ((for.input, record { asked = c.args.asked; asks = asks; input_is = for.is }), omega (arith, fails.fault.next), c.whole.ensures ∙ c.new-in-Err-Fault.ensures.items)
 
 pub returns-in-Err-OverLimit-clause-answer : goal.returns-in-Err-OverLimit-clause-answer
 returns-in-Err-OverLimit-clause-answer g c = λ words asks.
@@ -61,5 +61,5 @@ returns-in-Err-OverLimit-clause-answer g c = λ words asks.
     let now = g.S.Source.stream c.read_all.new.source in
     let over : ReadsTooMany for.input before now = subst (λ n. TakesCount before now (n + 1)) for.most_is (c.in-Err-OverLimit.ensures.over (ap Err c.in-Err-OverLimit.field-0-is)) in
     IfOk-weaker c.refused.result _ _
-    (λ a is. subst (Comes words before now (λ t. a.text.items ≡ t)) (sym is.0)
+    (λ a is. subst (Comes words before now (λ t. a.text ≡ t)) (sym is.0)
     (for.input, record { asked = c.args.asked; asks = asks; input_is = for.is }, (codes "TooLarge", inl (over, refl, refl), is.1))) c.refused.ensures

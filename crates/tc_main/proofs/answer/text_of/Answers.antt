@@ -1,4 +1,4 @@
-use Rattle.std.proofs.Common.{rules, ◌≤◌, List, ℕ, length, refl, sym, subst, ap, arith}
+use Rattle.std.proofs.Common.{rules, ◌≤◌, List, ℕ, length, refl, sym, subst, ap, ◌∙◌, arith}
 use Rattle.tc_elf.specs.declared.limits.TheConstants.{MAX_FILE}
 use Rattle.tc_main.specs.Replayed.{HasRun}
 use Rattle.tc_main.specs.Top.{IsTextOf}
@@ -43,8 +43,8 @@ returns-in_ok-replay_report-in-Replay-clause-text g c =
       is = c.in_ok-replay-in-Replay.ensures.history;
       run = c.in_ok-replay-in-Replay.ensures.replayed.run;
     } in
-    let text : IsTextOf (Replay c.in-Replay.size c.in-Replay.options) c.args.bytes.items c.in_ok-replay_report-in-Replay.field-0.items = (run, c.in_ok-replay_report-in-Replay.ensures) in
-    subst (λ (a : Asked). IsTextOf a c.args.bytes.items c.in_ok-replay_report-in-Replay.field-0.items) (sym c.in-Replay.is) text
+    let text : IsTextOf (Replay c.in-Replay.size c.in-Replay.options) c.args.bytes.items c.whole-in-Replay.result = (run, c.whole-in-Replay.ensures ∙ c.in_ok-replay_report-in-Replay.ensures) in
+    subst (λ (a : Asked). IsTextOf a c.args.bytes.items c.whole-in-Replay.result) (sym c.in-Replay.is) text
 
 pub returns-in_ok-replay_profile-in-Profile-clause-text : goal.returns-in_ok-replay_profile-in-Profile-clause-text
 returns-in_ok-replay_profile-in-Profile-clause-text g c =
@@ -55,5 +55,5 @@ returns-in_ok-replay_profile-in-Profile-clause-text g c =
       is = c.in_ok-replay-in-Profile.ensures.history;
       run = c.in_ok-replay-in-Profile.ensures.replayed.run;
     } in
-    let text : IsTextOf (Profile c.in-Profile.size c.in-Profile.options) c.args.bytes.items c.in_ok-replay_profile-in-Profile.field-0.items = (run, c.in_ok-replay_profile-in-Profile.ensures) in
-    subst (λ (a : Asked). IsTextOf a c.args.bytes.items c.in_ok-replay_profile-in-Profile.field-0.items) (sym c.in-Profile.is) text
+    let text : IsTextOf (Profile c.in-Profile.size c.in-Profile.options) c.args.bytes.items c.whole-in-Profile.result = (run, c.whole-in-Profile.ensures ∙ c.in_ok-replay_profile-in-Profile.ensures) in
+    subst (λ (a : Asked). IsTextOf a c.args.bytes.items c.whole-in-Profile.result) (sym c.in-Profile.is) text

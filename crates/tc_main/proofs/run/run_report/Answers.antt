@@ -1,4 +1,5 @@
 use Rattle.std.proofs.Common.{◌≡◌, ◌++◌, Bor, List, map, sym, ap, ◌∙◌}
+use Rattle.std.specs.Prelude.{string_bytes}
 use Rattle.std.proofs.lemmas.Result.{IfOk-weaker}
 use Rattle.tc_journal.specs.Line.{history_text}
 use Rattle.tc_journal.specs.declared.block.Block.{Block}
@@ -15,11 +16,11 @@ returns g c =
     let image = c.args.image.now in
     let blocks : List (Bor Block) → List Block = map (λ b. b.now) in
     let same : c.deref.result.now ≡ c.deref-3.result.now = c.deref.ensures.value ∙ sym c.deref-3.ensures.value in
-    let tail : c.deref-5.result.now ≡ tail_text image c.deref-3.result.now c.deref-2.result.now =
-    c.deref-5.ensures ∙ c.in_ok-tail.ensures ∙ ap (λ packages. tail_text image packages c.deref-2.result.now) same in
-    IfOk-weaker c.report_with.result _ _
+    let tail : string_bytes c.in_ok-tail.tail ≡ tail_text image c.deref-3.result.now c.deref-2.result.now =
+    c.in_ok-tail.ensures ∙ ap (λ packages. tail_text image packages c.deref-2.result.now) same in
+    IfOk-weaker c.report_by.result _ _
     (λ out written. report_is image c.args.options c.in_ok-closed.closed c.in_ok-closed.ensures.whole
     c.deref-3.result.now c.deref-2.result.now (c.deref-3.ensures.value ∙ c.into_parts-packages.ensures.packages) (c.deref-2.ensures.value ∙ c.into_parts-packages.ensures.locks)
     (blocks c.in_ok-history.history.items) c.in_ok-history.ensures.blocks c.in_ok-history.ensures.order c.in_ok-closed.ensures.sound
-    out.items (written ∙ (λ i. head_text image c.args.options ++ history_text (blocks (c.deref-4.ensures.value i)) ++ tail i)))
-    c.report_with.ensures
+    out (written ∙ (λ i. head_text image c.args.options ++ history_text (blocks (c.deref-4.ensures.value i)) ++ tail i)))
+    c.report_by.ensures
