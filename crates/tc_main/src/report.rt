@@ -308,8 +308,8 @@ pub(crate) fn report_with(
 }
 
 /// How many blocks a history has at least for its lines to be made by several threads. To start a
-/// thread takes as long as some hundred lines.
-const MANY: usize = 4096;
+/// thread takes as long as hundreds of lines, and longer where other work keeps the processors.
+const MANY: usize = 16_384;
 
 /// The report that has this text behind its history. The lines of many blocks are made by as many
 /// threads as there were workers, and each part stays where it was made, so that none is copied.
@@ -333,7 +333,10 @@ pub(crate) fn report_by<R: Threads + Sync>(
     let size = history.len() / options.workers as usize + 1;
     let mut parts = history_parts(rt, alloc, history, size)?;
     parts.push(tail.into_bytes())?;
-    Ok(Text::of_parts(head.into_bytes(), parts))
+    Ok(Text {
+        first: head.into_bytes(),
+        rest: parts,
+    })
 }
 
 /// Blocks, where they stand.

@@ -24,8 +24,8 @@ fn write_each<K: Sink>(sink: &mut K, parts: &[Vec<u8>]) -> Result<(), Failed>
 /// A text whose parts stand in different places. A contract sees the bytes of all of them, in order.
 #[derive(Drop)]
 pub(crate) struct Text {
-    first: Vec<u8>,
-    rest: Vec<Vec<u8>>,
+    pub first: Vec<u8>,
+    pub rest: Vec<Vec<u8>>,
 }
 
 impl Model for Text {
@@ -46,13 +46,6 @@ impl Text {
             first: bytes,
             rest: Vec::new(alloc),
         }
-    }
-
-    /// A text of several parts.
-    pub fn of_parts(first: Vec<u8>, rest: Vec<Vec<u8>>) -> Text
-        ensures { result ≡ first.items ++ flat_map (λ part. part.items) rest.items }
-    {
-        Text { first, rest }
     }
 
     /// Writes all of it, until a write fails.
