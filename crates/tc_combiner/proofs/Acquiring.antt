@@ -1,27 +1,6 @@
 -- What became of a package that wants a lock, from its parts.
 use Rattle.std.proofs.Common.{◌≡◌, ◌+◌, min, ℕ, List, [], ◌∷◌, ◌++◌, refl, sym, ap, ◌∙◌, subst, arith, Option, Some, None, if◌then◌else◌}
-use Rattle.tc_journal.specs.declared.block.Kind.TheVariants.{Taken}
-use Rattle.tc_context.specs.declared.package.TheConstants.{MAX_NUMBER}
-use Rattle.tc_segment.specs.View.{LockView, IsAtRest}
-use Rattle.tc_context.specs.View.{PackageView, IsWaiting, with_turns}
-use Rattle.tc_hall.specs.declared.board.Call.{Call}
-use Rattle.tc_hall.specs.declared.board.Knows.{Knows}
-use Rattle.tc_hall.specs.declared.board.Terms.{Terms}
-use Rattle.tc_hall.specs.declared.place.Place.TheVariants.{Ready, Done, Waiting}
-use Rattle.tc_hall.specs.Outs.{Item, IsOut, Pack, Loose, outs}
-use Rattle.tc_hall.specs.PassView.{HallView, PassView}
-use Rattle.tc_hall.specs.Rule.{locked_in, threads}
-use Rattle.tc_hall.specs.Steps.{put_call}
-use Rattle.tc_queue.specs.Lines.{SeatView, Enter, Link, First, Behind, with_line}
-use Rattle.tc_queue.specs.declared.turn.Turn.{Turn}
-use Rattle.tc_combiner.specs.declared.hands.Hands.{Hands}
-use Rattle.tc_combiner.specs.declared.settled.Settled.TheVariants.{GoesOn, Shipped, Stopped as Was_stopped}
-use Rattle.tc_combiner.specs.declared.settled.Settled.{Settled}
-use Rattle.tc_elf.specs.Shown.{Shown}
-use Rattle.tc_combiner.specs.Release.{IsSameSeat}
-use Rattle.tc_combiner.specs.Packages.{DidGrant, DidTake, MayGoOn, Runs, Wants}
-use Rattle.tc_combiner.specs.Walks.{packed, ready_in, Acts, IsAtHall, MayGive, saw}
-use Rattle.tc_combiner.specs.Answers.{AcquiredAs, Acquires, DidFirst, FirstAs, MayAsk, PutAllBack, back, counted, next_turn, place_back}
+use Rattle.tc_combiner.proofs.Vocabulary.{AcquiredAs, Acquires, Acts, Behind, Call, DidFirst, DidGrant, DidTake, Did_stop, Done, Enter, First, FirstAs, GoesOn, HallView, Hands, IsAtHall, IsAtRest, IsOut, IsSameSeat, IsWaiting, Item, Knows, Link, LockView, Loose, MAX_NUMBER, MayAsk, MayGive, MayGoOn, Pack, PackageView, PassView, PutAllBack, Ready, Runs, SeatView, Settled, Shipped, Shown, Taken, Terms, Turn, Waiting, Wants_lock, back, counted, locked_in, next_turn, outs, packed, place_back, put_call, ready_in, saw, threads, with_line, with_turns}
 use Rattle.tc_combiner.proofs.Acting.{adds_then, acts_then, acts_by, takes_none}
 use Rattle.tc_combiner.proofs.Owning.{counted_then, counted_owned, granted_with, takes_in}
 use Rattle.tc_combiner.proofs.Answering.{keeps_answers, wider}
@@ -98,7 +77,7 @@ module _ (hall : HallView) (i : ℕ) (u : Turn) (q p : PackageView) (s t : SeatV
     acquired = (subst (λ (x : Turn). t ≡ with_line s (Enter x First)) c.turn line, first_as d.calls (Some r) d.became);
   }
 
-  pub stops_second : t ≡ with_line s (Enter u First) → DidFirst hall.terms i u.number p h g None → Acquires hall.terms i q s t h g Was_stopped
+  pub stops_second : t ≡ with_line s (Enter u First) → DidFirst hall.terms i u.number p h g None → Acquires hall.terms i q s t h g Did_stop
   stops_second line d = record {
     calls = d.calls;
     answers = record {
@@ -136,7 +115,7 @@ may_wait k v i q m runs out = record {
     ended = λ e. let n : ⊥ = omega arith in absurd n;
     runs = λ ne. runs;
     own = no_other q m.plain.locks;
-    waits = λ j e. let same : i ≡ j = omega arith in subst (λ (x : ℕ). Wants q x) same m.want;
+    waits = λ j e. let same : i ≡ j = omega arith in subst (λ (x : ℕ). Wants_lock q x) same m.want;
     ready = λ g e. let f = m.plain.granted in let n : ⊥ = cc in absurd n;
   };
   plain = ungranted_plain q m.plain.granted;
@@ -149,5 +128,5 @@ on_line s t r e h = subst (λ (x : SeatView). IsSameSeat s x) (sym e) h
 pub same_seat : (image : Shown) (worker i : ℕ) (q : PackageView) (s t : SeatView) (a b : Option PackageView) (cs : List Call) (r : Settled) → AcquiredAs image worker i q s t a b cs r → IsSameSeat s t
 same_seat image worker i q s t a b cs (GoesOn r) h = on_line s t _ h.0 (refl, refl)
 same_seat image worker i q s t a b cs Shipped h = on_line s t _ h.1 (refl, refl)
-same_seat image worker i q s t a b cs Was_stopped h = on_line s t _ h.0 (refl, refl)
+same_seat image worker i q s t a b cs Did_stop h = on_line s t _ h.0 (refl, refl)
 same_seat image worker i q s t a b cs r h = absurd h

@@ -1,27 +1,8 @@
 -- Calls of a pass, one after another, with each call that counts.
 use Rattle.std.proofs.Common.{◌≡◌, ◌≢◌, ◌==◌, ◌<◌, ◌≤◌, ◌+◌, ℕ, Bool, true, false, cond, arith, All, List, [], ◌∷◌, ◌++◌, length, length-append, filter, refl, sym, ap, ◌∙◌, subst, append_assoc, append-nil, Some, None, Option}
-use Rattle.std.proofs.lemmas.Bool.Decides.{nat_tests}
-use Rattle.std.proofs.lemmas.List.Elements.{filter-append, All-append, All-nil}
-use Rattle.tc_context.specs.View.{PackageView}
-use Rattle.tc_segment.specs.View.{LockView}
-use Rattle.tc_hall.specs.declared.board.Knows.{Knows}
-use Rattle.tc_hall.specs.declared.board.Miss.{Miss}
-use Rattle.tc_hall.specs.declared.board.Terms.{Terms}
-use Rattle.tc_hall.specs.declared.board.Call.{Call}
-use Rattle.tc_hall.specs.declared.board.Call.TheVariants.{Put, Stopped, Stop}
-use Rattle.tc_hall.specs.declared.place.Place.TheVariants.{Ready}
-use Rattle.tc_hall.specs.Outs.{Called, Item, outs}
-use Rattle.tc_hall.specs.Steps.{IsSamePass, SawStopped, after_claim, after_miss, after_stopped, after_take}
+use Rattle.tc_combiner.proofs.Vocabulary.{Acted, Acts, Adds, All-nil, AreAsked, Asked, Asks, Call, Called, Came, Departure, HallView, Hands, HaveNoStop, IsAt, IsSamePass, Item, Knows, Leave, LineCall, LockView, LooksEachTime, MAX_HELD, MayAct, Miss, Moves, Next, Owned, Owns, PackageView, PassView, Put, Ready, Refused, SawStopped, SeatView, Stop, Stopped, TakesDown, Terms, Tried, TriedAs, Try_stopped, Turn, WaitedAs, Waits, after_claim, after_miss, after_stopped, after_take, counts, nat_tests, outs, ready_in, saw, saw_if, threads, unanswered, with_line}
+use Rattle.std.proofs.lemmas.List.Elements.{filter-append, All-append}
 use Rattle.tc_combiner.proofs.Owning.{moves_none}
-use Rattle.tc_hall.specs.Rule.{threads}
-use Rattle.tc_isa.specs.declared.limits.TheConstants.{MAX_HELD}
-use Rattle.tc_hall.specs.PassView.{HallView, PassView}
-use Rattle.tc_combiner.specs.declared.attempt.Attempt.TheVariants.{Came, Refused, Stopped as Try_stopped}
-use Rattle.tc_combiner.specs.declared.hands.Hands.{Hands}
-use Rattle.tc_combiner.specs.Walks.{HaveNoStop, Moves, Owned, Owns, ready_in, AreAsked, Asked, Asks, unanswered, LooksEachTime, Tried, TriedAs, WaitedAs, Waits, counts, Adds, Acts, Acted, IsAt, MayAct, saw, saw_if, TakesDown}
-use Rattle.tc_queue.specs.declared.turn.Departure.{Departure}
-use Rattle.tc_queue.specs.declared.turn.Turn.{Turn}
-use Rattle.tc_queue.specs.Lines.{SeatView, LineCall, Next, Leave, with_line}
 
 pub no_stops : (cs ds : List Call) → HaveNoStop cs → HaveNoStop ds → HaveNoStop (cs ++ ds)
 no_stops [] ds p q = q

@@ -1,25 +1,12 @@
 -- What the hands answer: one after another, and with packages put back.
 use Rattle.std.proofs.Common.{◌≡◌, ℕ, List, [], ◌∷◌, ◌++◌, sym, ◌∙◌, subst, Option}
-use Rattle.tc_elf.specs.Shown.{Shown}
-use Rattle.tc_context.specs.View.{PackageView}
-use Rattle.tc_hall.specs.declared.board.Call.{Call}
-use Rattle.tc_hall.specs.declared.board.Knows.{Knows}
-use Rattle.tc_hall.specs.declared.board.Terms.{Terms}
-use Rattle.tc_hall.specs.Outs.{Item, Pack}
-use Rattle.tc_hall.specs.PassView.{HallView, PassView}
-use Rattle.tc_hall.specs.Rule.{threads}
-use Rattle.tc_combiner.specs.declared.hands.Hands.{Hands}
-use Rattle.tc_combiner.specs.declared.settled.Settled.{Settled}
-use Rattle.tc_combiner.specs.declared.settled.Settled.TheVariants.{Stopped as Was_stopped}
-use Rattle.tc_combiner.specs.Packages.{IsGood, IsGoodFor}
-use Rattle.tc_combiner.specs.Walks.{Walks, packed, Acted, Acts, Adds, IsAt, IsAtHall, TakesDown}
-use Rattle.tc_combiner.specs.Answers.{Answers, HasReadied, PutAllBack, back, carried}
+use Rattle.tc_combiner.proofs.Vocabulary.{Acted, Acts, Adds, Answers, Call, Did_stop, HallView, Hands, HasReadied, IsAt, IsAtHall, IsGood, IsGoodFor, Item, Knows, Pack, PackageView, PassView, PutAllBack, Settled, Shown, TakesDown, Terms, Walks, back, carried, packed, threads}
 use Rattle.tc_combiner.proofs.Acting.{acts_then, at_after, takes_then}
 
 -- ---- the threads that were put as ready
 
 readied_then : (n : ℕ) (r : Settled) (xs ys zs : List ℕ) (cs ds : List Call) → TakesDown n xs ys cs → HasReadied n r ys zs ds → HasReadied n r xs zs (cs ++ ds)
-readied_then n Was_stopped xs ys zs cs ds a b = b
+readied_then n Did_stop xs ys zs cs ds a b = b
 readied_then n r xs ys zs cs ds a b = takes_then n xs ys zs cs ds a b
 
 -- ---- one after another
@@ -49,7 +36,7 @@ pub keeps_answers : (hall : HallView) (cs : List Call) (q : PackageView) (h g : 
 keeps_answers hall cs q h g r may a told e = record { acts = a; readied = told; aside = λ b f. may.aside b (sym e ∙ f) }
 
 -- all was put back
-pub back_answers : (k : Terms) (q : PackageView) (h g : Hands) → PutAllBack q h g → Answers k (back q h.aside) q h g Was_stopped
+pub back_answers : (k : Terms) (q : PackageView) (h g : Hands) → PutAllBack q h g → Answers k (back q h.aside) q h g Did_stop
 back_answers k q h g a = record {
   acts = subst (λ (o : Option PackageView). Acts (back q h.aside) (Pack q ∷ packed h.aside) (packed o) h.pass g.pass) (sym a.aside) a.acts;
   readied = a.ready;

@@ -1,43 +1,15 @@
 -- The locks of a thread that has ended, one after another.
 use Rattle.std.proofs.Common.{◌≡◌, ◌≢◌, ◌<◌, ◌≤◌, inl, inr, ⊎_elim, ℕ, zero, suc, ◌^◌, ◌+◌, ◌-◌, ◌*◌, Bool, true, false, not, ◌&&◌, ◌==◌, cond, List, [], ◌∷◌, ◌++◌, length, map, filter, get_or, refl, sym, ap, ◌∙◌, subst, subst₂, arith, append_assoc, append-nil, length-append, Option, Some, None, is_some, slice_index_or}
 use Rattle.std.proofs.lemmas.Bool.{and_right, cond-false, cond-true, or_right}
-use Rattle.std.proofs.lemmas.Bool.Decides.{nat_tests, eqb_tells}
+use Rattle.tc_combiner.proofs.Vocabulary.{Acts, AreSameSeats, AreSeats, Asks, Block, Call, DidLeave, DidLeaveAll, Did_stop, Done, Ending, Ends, Free, HallView, Hands, Has_ended, Home, IsAtHall, IsEmptied, IsInOrder, IsPlain, IsSeatFor, IsSoundPackage, Knows, LeftAs, LeftInOrder, LockView, MAX_HELD, MayAct, MayEnd, MayGive, MayRelease, OneLeft, Pack, PackageView, PutAllBack, QueueView, SeatView, SeatsLeft, Shown, Terms, Turn, Was_granted, Was_stopped, back, bare, dite, ends_section, ends_thread, has, is_running, last_of, locked_in, locks, nat_tests, no_seat, packed, put_call, ready_in, seat_at, threads, turn_of, unlocks, ℕ_discrete}
+use Rattle.std.proofs.lemmas.Bool.Decides.{eqb_tells}
 use Rattle.std.specs.List.{range_with_len}
-use native.Mathlib.Decide.{ℕ_discrete}
-use mathlib.Core.Logic.{dite}
-use Rattle.tc_isa.specs.Sets.{has, without_lock, locks_of}
-use Rattle.tc_isa.specs.declared.limits.TheConstants.{MAX_HELD}
+use Rattle.tc_isa.specs.Sets.{without_lock, locks_of}
 use Rattle.std.specs.Int.{bit_at}
 use Rattle.std.proofs.lemmas.Nat.{pow_pos}
 use Rattle.std.proofs.lemmas.Nat.Bits.{bit_at-zero}
 use Rattle.std.specs.Prelude.{MatchOption}
-use Rattle.tc_elf.specs.Shown.{Shown}
-use Rattle.tc_journal.specs.Batch.{unlocks, ends_section, ends_thread, last_of}
-use Rattle.tc_journal.specs.declared.block.Block.{Block}
-use Rattle.tc_turn.specs.Turn.{is_running}
 use Rattle.tc_turn.proofs.Few.{less_few}
-use Rattle.tc_segment.specs.View.{LockView}
-use Rattle.tc_context.specs.View.{PackageView, IsSoundPackage, bare}
-use Rattle.tc_hall.specs.declared.board.Knows.{Knows}
-use Rattle.tc_hall.specs.declared.board.Call.{Call}
-use Rattle.tc_hall.specs.declared.board.Call.TheVariants.{Free}
-use Rattle.tc_hall.specs.declared.board.Terms.{Terms}
-use Rattle.tc_hall.specs.declared.place.Place.TheVariants.{Done}
-use Rattle.tc_hall.specs.Outs.{Pack}
-use Rattle.tc_hall.specs.PassView.{HallView}
-use Rattle.tc_hall.specs.Rule.{IsInOrder, locked_in, locks, threads}
-use Rattle.tc_hall.specs.Steps.{put_call}
-use Rattle.tc_queue.specs.declared.turn.Turn.{Turn}
-use Rattle.tc_queue.specs.View.{QueueView}
-use Rattle.tc_queue.specs.Lines.{SeatView}
-use Rattle.tc_combiner.specs.declared.hands.Hands.{Hands}
-use Rattle.tc_combiner.specs.declared.passed.Passed.TheVariants.{Home, Granted as Was_granted, Stopped as Passed_stopped}
-use Rattle.tc_combiner.specs.declared.settled.Settled.TheVariants.{Ended, Stopped as Was_stopped}
-use Rattle.tc_combiner.specs.Packages.{IsPlain}
-use Rattle.tc_combiner.specs.Walks.{Asks, packed, ready_in, Acts, IsAtHall, MayAct, MayGive}
-use Rattle.tc_combiner.specs.Answers.{PutAllBack, back}
-use Rattle.tc_combiner.specs.Release.{MayRelease, turn_of, AreSameSeats, DidLeave, DidLeaveAll, Ending, Ends, IsEmptied, LeftAs, LeftInOrder, MayEnd, OneLeft, SeatsLeft, seat_at}
-use Rattle.tc_combiner.specs.View.{AreSeats, IsSeatFor, no_seat}
 use Rattle.tc_combiner.proofs.Acting.{acted_none, acted_then, at_after, takes_none}
 use Rattle.tc_combiner.proofs.Answering.{back_answers, keeps_answers, then_answers, then_at, wider}
 use Rattle.tc_combiner.proofs.PassedOn.{few_followed, few_in, left_after}
@@ -234,7 +206,7 @@ module _ {S X : Type 0} where
 -- one thread at most was put as ready
 few_left : (image : Shown) (l : LockView) (b : Block) (own : Turn) (s t : SeatView) (cs : List Call) (was is : Bool) → LeftAs image l b own s t cs was is → length (ready_in cs) ≤ 1
 few_left image l b own s t cs false false h = ⊎_elim (λ y. few_followed image l b own s t cs Home y) (λ y. few_followed image l b own s t cs Was_granted y) h
-few_left image l b own s t cs false true h = few_followed image l b own s t cs Passed_stopped h
+few_left image l b own s t cs false true h = few_followed image l b own s t cs Was_stopped h
 few_left image l b own s t cs true false h = absurd h
 few_left image l b own s t cs true true h = few_in cs (Free l.number ∷ []) h.1 (omega arith)
 
@@ -278,19 +250,19 @@ module _ (hall : HallView) (b : Block) (q p : PackageView) (ss ts : List SeatVie
     fits = ungranted_fits p m.pass.knows.worker (d.emptied.granted ∙ may.granted);
   }
 
-  pub ends_done : (g : Hands) → DidLeaveAll hall.terms b q p ss ts h m false → Acts (put_call p Done ∷ []) (Pack p ∷ []) [] m.pass g.pass → g.ready.items ≡ m.ready.items → g.aside ≡ m.aside → Ends hall.terms b q ss ts h g Ended
+  pub ends_done : (g : Hands) → DidLeaveAll hall.terms b q p ss ts h m false → Acts (put_call p Done ∷ []) (Pack p ∷ []) [] m.pass g.pass → g.ready.items ≡ m.ready.items → g.aside ≡ m.aside → Ends hall.terms b q ss ts h g Has_ended
   ends_done g d a e f = record {
     calls = d.calls ++ put_call p Done ∷ [];
-    answers = then_answers hall.terms d.calls (put_call p Done ∷ []) q p h m g Ended d.acted d.aside
-        (keeps_answers hall (put_call p Done ∷ []) p m g Ended (at_end false d) (wider (put_call p Done ∷ []) p m g f a) (takes_none (threads hall.terms) m.ready.items g.ready.items (put_call p Done ∷ []) e refl) f);
+    answers = then_answers hall.terms d.calls (put_call p Done ∷ []) q p h m g Has_ended d.acted d.aside
+        (keeps_answers hall (put_call p Done ∷ []) p m g Has_ended (at_end false d) (wider (put_call p Done ∷ []) p m g f a) (takes_none (threads hall.terms) m.ready.items g.ready.items (put_call p Done ∷ []) e refl) f);
     seats = d.seats;
     ended = (p, d.calls, refl, d.emptied, d.order, f ∙ d.aside);
   }
 
-  pub ends_stopped : (g : Hands) → DidLeaveAll hall.terms b q p ss ts h m true → PutAllBack p m g → Ends hall.terms b q ss ts h g Was_stopped
+  pub ends_stopped : (g : Hands) → DidLeaveAll hall.terms b q p ss ts h m true → PutAllBack p m g → Ends hall.terms b q ss ts h g Did_stop
   ends_stopped g d a = record {
     calls = d.calls ++ back p m.aside;
-    answers = then_answers hall.terms d.calls (back p m.aside) q p h m g Was_stopped d.acted d.aside (back_answers hall.terms p m g a);
+    answers = then_answers hall.terms d.calls (back p m.aside) q p h m g Did_stop d.acted d.aside (back_answers hall.terms p m g a);
     seats = d.seats;
     ended = (p, d.calls, ap (λ (o : Option PackageView). d.calls ++ back p o) d.aside, d.emptied, d.order, a.aside);
   }

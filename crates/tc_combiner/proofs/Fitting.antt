@@ -1,29 +1,10 @@
 -- A desk that fits a bench still fits it after its calls.
 use Rattle.std.proofs.Common.{◌≡◌, ◌<◌, ◌≤◌, ℕ, List, length, get_or, map, Vec, sym, ap, ◌∙◌, subst, subst₂, ◌∷◌, ◌++◌, arith, Option, Some}
-use Rattle.tc_elf.specs.Shown.{Shown}
-use Rattle.tc_context.specs.View.{PackageView, IsSoundPackage, WantIsLawful, want_of}
-use Rattle.tc_hall.specs.Outs.{Item, Pack}
-use Rattle.tc_combiner.specs.declared.hands.Hands.{Hands}
-use Rattle.tc_combiner.specs.declared.hands.Rest.{Rest}
-use Rattle.tc_combiner.specs.declared.settled.Settled.{Settled}
-use Rattle.tc_combiner.specs.Walks.{Moves, Owned, packed, IsAt}
-use Rattle.tc_combiner.specs.Answers.{MayAsk, carried}
-use Rattle.tc_combiner.specs.Settling.{IsInHand, Keeps, MayAcquire, TellsReady, Works}
-use Rattle.tc_hall.specs.PassView.{PassView}
-use Rattle.tc_hall.specs.Rule.{locks, threads}
-use Rattle.tc_hall.specs.Steps.{IsSamePass}
-use Rattle.tc_queue.specs.View.{QueueView}
-use Rattle.tc_queue.specs.Lines.{SeatView}
-use Rattle.tc_combiner.specs.Packages.{IsAside}
-use Rattle.tc_combiner.specs.Release.{AreSameSeats, seat_at}
-use Rattle.tc_combiner.specs.View.{AreSeats, HasSeats, IsSeatFor, BenchView, DeskView, FitsBench, desk_of, no_seat}
-use Rattle.tc_hall.specs.declared.board.Knows.{Knows}
-use Rattle.tc_combiner.specs.declared.settled.Settled.TheVariants.{GoesOn, Adopted}
+use Rattle.tc_combiner.proofs.Vocabulary.{AreSameSeats, AreSeats, BenchView, DeskView, Did_adopt, FitsBench, GoesOn, Hands, HasSeats, IsAside, IsAt, IsInHand, IsSamePass, IsSeatFor, IsSoundPackage, Item, Keeps, Knows, MayAcquire, MayAsk, Moves, Owned, Pack, PackageView, PassView, QueueView, Rest, SeatView, Settled, Shown, TellsReady, WantIsLawful, Works, carried, desk_of, get_or_default, length-map, locks, no_seat, packed, seat_at, threads, want_of}
 use Rattle.tc_combiner.proofs.Acting.{owned_by}
 use Rattle.tc_combiner.proofs.Answering.{walks_of}
 use Rattle.tc_combiner.proofs.Unlocking.{without_first}
 use Rattle.tc_combiner.proofs.Packages.{wants_runs}
-use Rattle.std.proofs.lemmas.List.{get_or_default, length-map}
 use Rattle.std.specs.Vec.{with_items}
 use Rattle.tc_combiner.proofs.Seats.{written_back}
 
@@ -53,7 +34,7 @@ fits_after b pass pass' ss ts sl sl' now now' a a' hs hs' h own image same room 
 -- what is set aside is out, beside what the answer carries
 aside_out : (w : Knows) (r : Settled) (xs : List Item) → Owned w (carried r ++ xs) → Owned w xs
 aside_out w (GoesOn q) xs o = without_first w (Pack q) xs o
-aside_out w (Adopted q) xs o = without_first w (Pack q) xs o
+aside_out w (Did_adopt q) xs o = without_first w (Pack q) xs o
 aside_out w r xs o = o
 
 -- what the calls of a desk that had the package q keep, as its public clauses say it

@@ -1,3 +1,4 @@
+pub mod Vocabulary
 pub mod Owning
 pub mod Acting
 pub mod Answering

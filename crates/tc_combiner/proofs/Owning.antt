@@ -1,15 +1,6 @@
 -- What is out, split among those who have it in hand.
 use Rattle.std.proofs.Common.{◌≡◌, ◌≢◌, ℕ, ◌==◌, Bool, true, false, if◌then◌else◌, List, [], ◌∷◌, ◌++◌, refl, sym, ap, ◌∙◌, subst, arith, Option, Some, None}
-use Rattle.std.proofs.lemmas.Bool.Decides.{nat_tests}
-use Rattle.tc_journal.specs.declared.block.Kind.{Kind}
-use Rattle.tc_hall.specs.declared.board.Knows.{Knows}
-use Rattle.tc_segment.specs.View.{LockView, kept}
-use Rattle.tc_context.specs.Locks.{IsPlaced}
-use Rattle.tc_context.specs.View.{PackageView, bare, with_turns}
-use Rattle.tc_hall.specs.Rule.{locked_in}
-use Rattle.tc_combiner.specs.Packages.{DidGrant, DidTakeOut}
-use Rattle.tc_hall.specs.Outs.{Outs, outs, Item, Pack, Loose, keep, part, unless, minus, Within, IsOut, erase}
-use Rattle.tc_combiner.specs.Walks.{Moves, Owned, Owns}
+use Rattle.tc_combiner.proofs.Vocabulary.{DidGrant, DidTakeOut, IsOut, IsPlaced, Item, Kind, Knows, LockView, Loose, Moves, Outs, Owned, Owns, Pack, PackageView, Within, bare, erase, keep, kept, locked_in, minus, nat_tests, outs, part, unless, with_turns}
 
 module _ {A : Type 0} where
   -- a, or else d

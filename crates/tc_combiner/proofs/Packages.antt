@@ -1,22 +1,7 @@
 -- Packages that were granted a lock, and packages that are put.
 use Rattle.std.proofs.Common.{◌≡◌, ◌≢◌, inl, inr, ⊎_elim, ℕ, ◌+◌, Bool, true, false, if◌then◌else◌, List, refl, sym, ap, ◌∙◌, subst, arith, Option, Some, None, IfSome, is_some}
-use native.Mathlib.Decide.{ℕ_discrete}
-use mathlib.Core.Logic.{dite}
-use Rattle.tc_isa.specs.Sets.{has}
-use Rattle.tc_elf.specs.Shown.{Shown}
-use Rattle.tc_journal.specs.Batch.{last_of, run_of, ends_section, allows_of, may_begin}
-use Rattle.tc_journal.specs.declared.block.Block.{Block}
-use Rattle.tc_journal.specs.declared.block.Kind.{Kind}
-use Rattle.tc_journal.specs.declared.block.Kind.TheVariants.{Taken}
-use Rattle.tc_turn.specs.Turn.{is_running, next_lock}
-use Rattle.tc_context.specs.Whole.{thread_in}
-use Rattle.tc_segment.specs.View.{LockView, blocks_of}
-use Rattle.tc_context.specs.declared.package.Grant.{Grant}
-use Rattle.tc_context.specs.View.{PackageView, IsWaiting, fits_of, fits_granted, fits_in, granted_lock}
-use Rattle.tc_hall.specs.declared.board.Knows.{Knows}
-use Rattle.tc_hall.specs.Rule.{IsInOrder, locked_in, grants_adopted}
-use Rattle.tc_hall.specs.Steps.{Gets}
-use Rattle.tc_combiner.specs.Packages.{DidGrant, DidTake, HasNoOther, HasOnlyHeld, IsGood, IsGoodFor, IsPlain, IsWaiter, Runs, Wants}
+use Rattle.tc_combiner.proofs.Vocabulary.{Block, DidGrant, DidTake, Gets, Grant, HasNoOther, HasOnlyHeld, IsGood, IsGoodFor, IsInOrder, IsPlain, IsWaiter, IsWaiting, Kind, Knows, LockView, PackageView, Runs, Shown, Taken, Wants_lock, blocks_of, dite, ends_section, fits_granted, fits_in, fits_of, granted_lock, grants_adopted, has, is_running, last_of, locked_in, may_begin, next_lock, run_of, thread_in, ℕ_discrete}
+use Rattle.tc_journal.specs.Batch.{allows_of}
 use Rattle.tc_combiner.proofs.Owning.{place_here, place_other}
 
 taken_begins : (k limit run w : ℕ) (o : Option Block) → IfSome o (λ b. ends_section k b ≡ true) → may_begin k limit o run Taken w ≡ true
@@ -62,7 +47,7 @@ taken_good i l n m w image p q d of h r = granted_good l Taken n w image p q d.g
     (taken_allowed l.number l.journal.limit w (blocks_of l) (subst (λ (k : ℕ). IfSome (last_of (blocks_of l)) (λ b. ends_section k b ≡ true)) (sym d.rest.number) d.rest.ended))
 
 -- a thread that wants a lock runs
-pub wants_runs : (q : PackageView) (i : ℕ) → Wants q i → Runs q
+pub wants_runs : (q : PackageView) (i : ℕ) → Wants_lock q i → Runs q
 wants_runs q i w = elim (is_running q.context.guest.status) as (λ (b : Bool). is_running q.context.guest.status ≡ b → b ≡ true) [
   | true ↦ λ e. refl
   | false ↦ λ e. let f : Some i ≡ None = sym w ∙ ap (λ (x : Bool). if x then next_lock q.image (thread_in q.context) else None) e in let n : ⊥ = cc in absurd n

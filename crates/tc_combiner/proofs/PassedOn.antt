@@ -1,43 +1,11 @@
 -- What became of a released lock, from its parts.
 use Rattle.std.proofs.Common.{inl, inr, ◌&&◌, ◌≡◌, ◌<◌, ◌≤◌, ◌+◌, ℕ, true, false, List, [], ◌∷◌, ◌++◌, length, refl, sym, ap, ◌∙◌, subst, append-nil, Some, ◌≢◌, Bool, not, ◌==◌, if◌then◌else◌, arith, Option, None}
-use Rattle.std.proofs.lemmas.List.Elements.{All-cons, All-nil}
-use Rattle.tc_journal.specs.declared.block.Block.{Block}
-use Rattle.tc_journal.specs.declared.block.Kind.TheVariants.{Adopted, Granted}
-use Rattle.tc_isa.specs.declared.limits.TheConstants.{MAX_HELD}
-use Rattle.tc_elf.specs.Shown.{Shown}
-use Rattle.tc_segment.specs.View.{LockView, IsAtRest, blocks_of}
-use Rattle.tc_context.specs.View.{PackageView, Rests, IsAt, IsSoundPackage, IsLeft, IsNumber, MayPassTo, bare, granted_lock}
-use Rattle.tc_hall.specs.declared.board.Knows.{Knows}
-use Rattle.tc_hall.specs.declared.board.Terms.{Terms}
-use Rattle.tc_hall.specs.declared.board.Call.{Call}
-use Rattle.tc_hall.specs.declared.board.Call.TheVariants.{Free, Stopped}
-use Rattle.tc_hall.specs.declared.place.Place.TheVariants.{Ready}
-use Rattle.tc_hall.specs.Outs.{Item, Pack, Loose, Outs, outs, erase, unless}
-use Rattle.tc_hall.specs.PassView.{HallView, PassView}
-use Rattle.tc_hall.specs.Rule.{threads, locks, grants_adopted, locked_in}
-use Rattle.tc_hall.specs.Steps.{Takes, put_call}
+use Rattle.tc_combiner.proofs.Vocabulary.{Acted, Acts, Adopted, All-cons, All-nil, Asks, Block, Call, DidGrant, DidHand, DidLeave, DidPass, DidTakeOut, End, FollowedAs, Free, Granted, HallView, HandedAs, Hands, Home, IsAtRest, IsGood, IsLeft, IsNumber, IsReleased, IsSoundPackage, IsTaken, IsTurn, IsWaiter, Item, Kind, Knows, Leave, Left, LockView, Loose, MAX_HELD, MayAct, MayBringHome, MayGive, MayPassTo, MayRelease, Moves, Next, Outs, Owned, Owns, Pack, PackageView, PassView, Passed, Ready, Releases, Rests, SeatView, Shown, Shows, Stopped, Takes, Terms, Turn, Unlocked, Was_adopted, Was_granted, Was_stopped, adopts, and_parts, bare, blocks_of, ends_section, ends_thread, erase, granted_lock, grants_adopted, handed, has, is_only, is_passed, last_of, locked_in, locks, may_adopt, nat_tests, outs, passes_to, put_call, ready_in, run_of, saw, threads, turn_of, unless, unlocks}
+use Rattle.tc_context.specs.View.{IsAt}
 use Rattle.tc_nested.proofs.Allowing.{adopted, granted}
-use Rattle.tc_queue.specs.declared.turn.Turn.{Turn}
-use Rattle.tc_queue.specs.Lines.{SeatView, Next, Leave}
-use Rattle.tc_queue.specs.declared.turn.Departure.TheVariants.{Left}
-use Rattle.tc_queue.specs.Words.{IsTurn}
-use Rattle.tc_combiner.specs.declared.hands.Hands.{Hands}
-use Rattle.tc_combiner.specs.declared.passed.Passed.{Passed}
-use Rattle.tc_combiner.specs.declared.passed.Passed.TheVariants.{Home, Granted as Was_granted, Adopted as Was_adopted, Stopped as Was_stopped}
-use Rattle.tc_combiner.specs.Packages.{DidGrant, DidTakeOut, IsGood, IsWaiter}
-use Rattle.tc_combiner.specs.Walks.{Asks, Moves, Owned, Shows, ready_in, Owns, Acts, Acted, MayAct, MayBringHome, MayGive, saw, IsTaken}
-use Rattle.tc_combiner.specs.Release.{DidHand, DidPass, FollowedAs, HandedAs, IsReleased, adopts, handed, turn_of, MayRelease, DidLeave}
 use Rattle.tc_combiner.proofs.Acting.{acts_none, adds_then, acts_then, acts_by, acted_by, acted_sooner, same_outs}
-use Rattle.tc_journal.specs.Batch.{ends_thread, is_only, may_adopt, unlocks, last_of, run_of, ends_section, is_passed, passes_to}
-use Rattle.tc_journal.specs.declared.block.End.{End}
-use Rattle.tc_journal.specs.declared.block.End.TheVariants.{Unlocked}
-use Rattle.std.proofs.lemmas.Bool.{and_parts}
 use Rattle.tc_combiner.proofs.Owning.{granted_moves, owned_then, comes_out, taken_with, swap, rotate}
 use Rattle.tc_combiner.proofs.Packages.{waiter_good, good_order}
-use Rattle.std.proofs.lemmas.Bool.Decides.{nat_tests}
-use Rattle.tc_isa.specs.Sets.{has}
-use Rattle.tc_journal.specs.declared.block.Kind.{Kind}
-use Rattle.tc_nested.specs.Release.{Releases}
 
 -- ---- what the batch rule says
 

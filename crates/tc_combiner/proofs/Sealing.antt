@@ -2,18 +2,8 @@
 use Rattle.std.proofs.Common.{◌≡◌, ℕ, zero, suc, ◌==◌, Bool, true, false, if◌then◌else◌, List, [], ◌∷◌, get_or, refl, sym, ap, ◌∙◌, subst, Option, Some, None, is_some}
 use mathlib.Core.Option.{some, some-injective, some-ne-none}
 use lib.ListN.{get_elem?}
-use Rattle.tc_elf.specs.Shown.{Shown}
-use Rattle.tc_segment.specs.View.{LockView, kept}
-use Rattle.tc_context.specs.Ran.{DidRun}
-use Rattle.tc_context.specs.View.{PackageView, bare, with_seal}
-use Rattle.tc_hall.specs.declared.board.Knows.{Knows}
-use Rattle.tc_hall.specs.Outs.{Outs, Pack, IsOut, outs, erase, keep, unless}
-use Rattle.tc_hall.specs.Rule.{Has, locked_in}
-use Rattle.tc_hall.specs.Steps.{DidSeal, Seals}
+use Rattle.tc_combiner.proofs.Vocabulary.{DeskView, DidRun, DidSeal, Has, IsOut, Knows, LockView, MayCommit, Moves, Outs, Owns, Pack, PackageView, Seals, Shown, bare, erase, keep, kept, locked_in, outs, unless, with_seal}
 use Rattle.tc_hall.proofs.Outs.{is_there, same_outs}
-use Rattle.tc_combiner.specs.Settling.{MayCommit}
-use Rattle.tc_combiner.specs.View.{DeskView}
-use Rattle.tc_combiner.specs.Walks.{Moves, Owns}
 use Rattle.tc_combiner.proofs.Owning.{same_number}
 
 pub none_some : {A : Type 0} (o : Option A) (a : A) → o ≡ None → o ≡ Some a → ⊥

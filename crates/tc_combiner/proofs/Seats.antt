@@ -1,15 +1,8 @@
 -- A desk's seats, and the queues of a bench, by their places.
 use Rattle.std.proofs.Common.{◌≡◌, ◌≢◌, ℕ, zero, suc, ◌<◌, List, [], ◌∷◌, length, map, get_or, set, refl, sym, ap, ◌∙◌, subst, subst₂, arith, length-set, get_or-set_same, get_or-set_other, Vec}
 use Rattle.std.specs.Vec.{with_items}
-use Rattle.std.proofs.lemmas.List.{get_or_default, length-map, map-set, with_items_is}
-use native.Mathlib.Decide.{ℕ_discrete}
-use mathlib.Core.Logic.{dite}
-use Rattle.tc_hall.specs.declared.board.Terms.{Terms}
-use Rattle.tc_hall.specs.Rule.{locks, threads}
-use Rattle.tc_queue.specs.View.{QueueView}
-use Rattle.tc_combiner.specs.View.{AreSeats, IsSeatFor, no_seat}
-use Rattle.tc_combiner.specs.Release.{AreSameSeats, AtSeat, IsSameSeat, seat_at}
-use Rattle.tc_queue.specs.Lines.{SeatView}
+use Rattle.tc_combiner.proofs.Vocabulary.{AreSameSeats, AreSeats, AtSeat, IsSameSeat, IsSeatFor, QueueView, SeatView, Terms, dite, get_or_default, length-map, locks, no_seat, seat_at, threads, ℕ_discrete}
+use Rattle.std.proofs.lemmas.List.{map-set, with_items_is}
 
 module _ {A B : Type 0} where
   pub map_at : (f : A → B) (xs : List A) (i : ℕ) (d : A) → get_or (map f xs) i (f d) ≡ f (get_or xs i d)

@@ -1,33 +1,6 @@
 -- What the end of a package's last block says of the package.
 use Rattle.std.proofs.Common.{◌≡◌, ◌≢◌, ◌<◌, ◌≤◌, ◌+◌, ℕ, Bool, true, false, not, ◌&&◌, ◌||◌, ◌==◌, if◌then◌else◌, List, [], ◌∷◌, length, refl, sym, ap, ◌∙◌, subst, arith, Option, Some, None, is_some}
-use Rattle.std.proofs.lemmas.Bool.Decides.{nat_tests}
-use Rattle.tc_isa.specs.Sets.{has}
-use Rattle.tc_isa.specs.declared.limits.TheConstants.{MAX_HELD}
-use Rattle.tc_elf.specs.Shown.{Shown}
-use Rattle.tc_journal.specs.Batch.{last_of, ends_thread, ends_section}
-use Rattle.tc_journal.specs.declared.block.Block.{Block}
-use Rattle.tc_journal.specs.declared.block.End.{End}
-use Rattle.tc_journal.specs.declared.block.End.TheVariants.{Wants, Unlocked, Slept, Cut}
-use Rattle.tc_turn.specs.Turn.{next_lock}
-use Rattle.tc_segment.specs.View.{LockView}
-use Rattle.tc_context.specs.Whole.{thread_in}
-use Rattle.tc_context.specs.View.{PackageView, IsSoundPackage, IsAfter, HasBlock, WantIsLawful}
-use Rattle.tc_hall.specs.declared.board.Knows.{Knows}
-use Rattle.tc_hall.specs.declared.board.Terms.{Terms}
-use Rattle.tc_hall.specs.Rule.{locked_in, locks, threads}
-use Rattle.tc_hall.specs.declared.board.Call.{Call}
-use Rattle.tc_hall.specs.Outs.{Item}
-use Rattle.tc_hall.specs.PassView.{HallView}
-use Rattle.tc_queue.specs.Lines.{SeatView}
-use Rattle.tc_combiner.specs.declared.hands.Hands.{Hands}
-use Rattle.tc_combiner.specs.declared.hands.Rest.{Rest}
-use Rattle.tc_combiner.specs.declared.settled.Settled.{Settled}
-use Rattle.tc_combiner.specs.Packages.{HasHeldAnd, HasOnlyHeld, IsPlain, MayGoOn, Runs, Wants as Wants_lock}
-use Rattle.tc_combiner.specs.Walks.{IsAtHall, MayAct}
-use Rattle.tc_combiner.specs.Answers.{AcquiredAs, Acquires, Answers, HasReadied, MayAsk, MayPark}
-use Rattle.tc_combiner.specs.View.{DeskView, desk_of}
-use Rattle.tc_combiner.specs.Release.{MayRelease, MayUnlock, UnlockedAs, Unlocks, AreSameSeats, AtSeat, EndedAs, Ends, MayEnd, seat_at}
-use Rattle.tc_combiner.specs.Settling.{DidAcquire, DidEnd, DidUnlock, IsAfterBlock, Keeps, MaySettle, SettledAs}
+use Rattle.tc_combiner.proofs.Vocabulary.{AcquiredAs, Acquires, Answers, AreSameSeats, AtSeat, Block, Call, Cut, DeskView, DidAcquire, DidEnd, DidUnlock, End, EndedAs, Ends, HallView, Hands, HasBlock, HasHeldAnd, HasOnlyHeld, HasReadied, IsAfter, IsAfterBlock, IsAtHall, IsPlain, IsSoundPackage, Item, Keeps, Knows, LockView, MAX_HELD, MayAct, MayAsk, MayEnd, MayGoOn, MayPark, MayRelease, MaySettle, MayUnlock, PackageView, Rest, Runs, SeatView, Settled, SettledAs, Shown, Slept, Terms, Unlocked, UnlockedAs, Unlocks, WantIsLawful, Wants, Wants_lock, desk_of, ends_section, ends_thread, has, last_of, locked_in, locks, nat_tests, next_lock, seat_at, thread_in, threads}
 use Rattle.tc_combiner.proofs.PassedOn.{left_after}
 use Rattle.tc_combiner.proofs.Ending.{known_in}
 

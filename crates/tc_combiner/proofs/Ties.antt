@@ -7,7 +7,7 @@ use Rattle.tc_core.specs.Events.{is_enabled, effect, entered, left_by_all, has_l
 use Rattle.tc_core.specs.declared.event.Event.TheVariants.{Enter, Leave}
 use Rattle.tc_queue.specs.Calls.{enter_effect, leave_effect}
 use Rattle.tc_queue.specs.Laws as queue
-use Rattle.tc_combiner.specs.Ties.{line_of, EnterTie, LeaveTie}
+use Rattle.tc_combiner.proofs.Vocabulary.{EnterTie, LeaveTie, line_of}
 use Rattle.tc_combiner.proofs.Owning.{same_number}
 use Rattle.std.proofs.lemmas.Bool.{and_parts}
 

@@ -1,39 +1,11 @@
 -- What an unlock comes to, from its parts.
 use Rattle.std.proofs.Common.{◌≡◌, ◌≢◌, ◌<◌, ◌≤◌, ◌+◌, ◌⊎◌, inl, inr, ℕ, true, false, ◌&&◌, ◌==◌, List, [], ◌∷◌, ◌++◌, length, refl, sym, ap, ◌∙◌, subst, subst₂, arith, Option, Some, None, is_some, length-append}
-use Rattle.std.proofs.lemmas.Bool.{and_left, and_parts}
-use Rattle.std.proofs.lemmas.Bool.Decides.{nat_tests}
-use Rattle.std.proofs.lemmas.List.Elements.{All-cons, All-nil}
-use native.Mathlib.Decide.{ℕ_discrete}
-use mathlib.Core.Logic.{dite}
+use Rattle.tc_combiner.proofs.Vocabulary.{Acted, Acts, All-cons, All-nil, Block, Call, DidPass, DidTakeOut, Did_adopt, Did_stop, Goes, GoesOn, HallView, Hands, HasHeldAnd, HasNone, HasOnlyHeld, HoldsNone, Home, IsAside, IsAt, IsAtHall, IsGood, IsOut, IsPlain, IsSoundPackage, Item, Knows, LockView, MAX_HELD, MayAct, MayGive, MayGoOn, MayRelease, MayUnlock, Moves, Outs, Owned, Owns, Pack, PackageView, PassView, Passed, PassedAs, PutAllBack, PutsAside, Ready, Runs, SeatView, SetAside, Settled, Shown, TakesDown, Terms, UnlockedAs, Unlocks, Was_adopted, Was_granted, Was_stopped, WentOn, adopts, and_parts, back, dite, ends_section, erase, handed, has, is_only, is_running, last_of, locked_in, may_adopt, nat_tests, outs, packed, put_call, ready_in, threads, turn_of, unlocks, without_lock, ℕ_discrete}
+use Rattle.std.proofs.lemmas.Bool.{and_left}
 use Rattle.std.proofs.lemmas.Nat.Bits.{bit_at-zero, bit_at_or, bit_at-pow_other}
 use Rattle.std.specs.Int.{bit_at}
 use Rattle.std.specs.Prelude.{◌^◌, bit_or}
-use Rattle.tc_isa.specs.Sets.{has, with_lock}
-use Rattle.tc_isa.specs.declared.limits.TheConstants.{MAX_HELD}
-use Rattle.tc_journal.specs.Batch.{last_of, may_adopt, is_only, unlocks, ends_section}
-use Rattle.tc_elf.specs.Shown.{Shown}
-use Rattle.tc_journal.specs.declared.block.Block.{Block}
-use Rattle.tc_segment.specs.View.{LockView}
-use Rattle.tc_turn.specs.Turn.{is_running}
-use Rattle.tc_context.specs.View.{PackageView, IsSoundPackage, without_lock}
-use Rattle.tc_hall.specs.declared.board.Call.{Call}
-use Rattle.tc_hall.specs.declared.board.Knows.{Knows}
-use Rattle.tc_hall.specs.declared.board.Terms.{Terms}
-use Rattle.tc_hall.specs.declared.place.Place.TheVariants.{Ready}
-use Rattle.tc_hall.specs.PassView.{HallView, PassView}
-use Rattle.tc_hall.specs.Rule.{locked_in, threads}
-use Rattle.tc_hall.specs.Steps.{put_call}
-use Rattle.tc_queue.specs.Lines.{SeatView}
-use Rattle.tc_combiner.specs.declared.hands.Hands.{Hands}
-use Rattle.tc_combiner.specs.declared.passed.Passed.{Passed}
-use Rattle.tc_combiner.specs.declared.passed.Passed.TheVariants.{Home, Granted as Was_granted, Adopted as Was_adopted, Stopped as Was_stopped}
-use Rattle.tc_combiner.specs.declared.settled.Settled.{Settled}
-use Rattle.tc_combiner.specs.declared.settled.Settled.TheVariants.{GoesOn, Adopted as Did_adopt, Stopped as Did_stop}
-use Rattle.tc_hall.specs.Outs.{Outs, outs, erase, IsOut, Item, Pack}
-use Rattle.tc_combiner.specs.Packages.{DidTakeOut, HasHeldAnd, HasNone, HasOnlyHeld, HoldsNone, IsAside, IsGood, IsPlain, MayGoOn, Runs}
-use Rattle.tc_combiner.specs.Walks.{Moves, Owned, Owns, packed, ready_in, Acted, Acts, IsAt, IsAtHall, MayAct, MayGive, TakesDown}
-use Rattle.tc_combiner.specs.Answers.{Goes, PutAllBack, PutsAside, SetAside, WentOn, back}
-use Rattle.tc_combiner.specs.Release.{DidPass, MayRelease, MayUnlock, PassedAs, UnlockedAs, Unlocks, adopts, handed, turn_of}
+use Rattle.tc_isa.specs.Sets.{with_lock}
 use Rattle.tc_combiner.proofs.Acting.{adds_then, takes_none, takes_then}
 use Rattle.tc_combiner.proofs.Answering.{back_answers, keeps_answers, then_answers, then_at, wider}
 use Rattle.tc_combiner.proofs.Packages.{good_order, no_other, not_held, ungranted_fits, ungranted_plain}

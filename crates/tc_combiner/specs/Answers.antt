@@ -1,36 +1,17 @@
 -- What a desk's calls answer, with each call of the pass that was made.
 use Rattle.std.specs.Prelude.{◌⊎◌, ◌≡◌, ◌<◌, ℕ, ◌+◌, min, if◌then◌else◌, List, [], ◌∷◌, ◌++◌, Option, Some, None}
-use Rattle.tc_elf.specs.Shown.{Shown}
-use Rattle.tc_turn.specs.Turn.{is_running}
-use Rattle.tc_segment.specs.View.{LockView}
-use Rattle.tc_journal.specs.Batch.{last_of}
-use Rattle.tc_journal.specs.declared.block.End.TheVariants.{Slept}
-use Rattle.tc_context.specs.View.{PackageView, HasBlock, IsNumber, IsWaiting, with_turns}
-use Rattle.tc_context.specs.declared.package.TheConstants.{MAX_NUMBER}
-use Rattle.tc_hall.specs.declared.board.Call.{Call}
-use Rattle.tc_hall.specs.declared.board.Call.TheVariants.{Stopped}
-use Rattle.tc_hall.specs.declared.board.Terms.{Terms}
-use Rattle.tc_hall.specs.declared.place.Place.{Place}
-use Rattle.tc_hall.specs.declared.place.Place.TheVariants.{Ready, Waiting, Parked, Done}
-use Rattle.tc_hall.specs.Outs.{Item, Pack}
-use Rattle.tc_hall.specs.Rule.{locks, threads}
-use Rattle.tc_hall.specs.Steps.{put_call}
-use Rattle.tc_queue.specs.declared.turn.Turn.{Turn}
-use Rattle.tc_queue.specs.Lines.{SeatView, Enter, Link, First, Behind, with_line}
-use Rattle.tc_combiner.specs.declared.hands.Hands.{Hands}
-use Rattle.tc_combiner.specs.declared.settled.Settled.{Settled}
-use Rattle.tc_combiner.specs.declared.settled.Settled.TheVariants.{GoesOn, Adopted, Shipped, Parked as Did_park, Stopped as Was_stopped}
+use Rattle.tc_combiner.specs.Vocabulary.{Behind, Call, Did_adopt, Did_park, Did_stop, Done, Enter, First, GoesOn, Hands, HasBlock, IsNumber, IsWaiting, Item, Link, LockView, MAX_NUMBER, Pack, PackageView, Parked, Place, Ready, SeatView, Settled, Shipped, Shown, Slept, Stopped, Terms, Turn, Waiting, is_running, last_of, locks, put_call, threads, with_line, with_turns}
 use Rattle.tc_combiner.specs.Packages.{DidTake, HoldsNone, IsAside, IsGood, IsPlain, MayGoOn, Runs, Wants}
 use Rattle.tc_combiner.specs.Walks.{TakesDown, packed, Acted, Acts}
 
 abbrev pub carried : Settled → List Item
 carried (GoesOn q) = Pack q ∷ []
-carried (Adopted q) = Pack q ∷ []
+carried (Did_adopt q) = Pack q ∷ []
 carried r = []
 
 -- the list got the threads that these calls put as ready; it is empty where the run was stopped
 abbrev pub HasReadied : ℕ → Settled → List ℕ → List ℕ → List Call → Type 0
-HasReadied threads Was_stopped old new cs = new ≡ []
+HasReadied threads Did_stop old new cs = new ≡ []
 HasReadied threads r old new cs = TakesDown threads old new cs
 
 -- the hands had the package q and made these calls, with this answer
@@ -96,7 +77,7 @@ pub record DidFirst (k : Terms) (i n : ℕ) (q : PackageView) (h g : Hands) (r :
 abbrev pub EnteredAs : Shown → ℕ → ℕ → Turn → PackageView → SeatView → SeatView → Option PackageView → Option PackageView → List Call → Settled → Type 0
 EnteredAs image worker i u q s t a b cs (GoesOn r) = (t ≡ with_line s (Enter u First)) × FirstAs image worker i u.number q a b cs (Some r)
 EnteredAs image worker i u q s t a b cs Shipped = (mark : ℕ) × (t ≡ with_line (with_line s (Enter u (Behind mark))) (Link mark u)) × (cs ≡ put_call q (Waiting i) ∷ []) × (b ≡ a)
-EnteredAs image worker i u q s t a b cs Was_stopped = (t ≡ with_line s (Enter u First)) × FirstAs image worker i u.number q a b cs None
+EnteredAs image worker i u q s t a b cs Did_stop = (t ≡ with_line s (Enter u First)) × FirstAs image worker i u.number q a b cs None
 EnteredAs image worker i u q s t a b cs r = ⊥
 
 -- the package with its next number counted, and the turn of that number

@@ -1,3 +1,4 @@
+pub mod Vocabulary
 pub mod Packages
 pub mod Walks
 pub mod Answers

@@ -1,16 +1,6 @@
 -- What desks ask and say of packages.
 use Rattle.std.specs.Prelude.{◌≡◌, ◌≢◌, ℕ, ◌<◌, true, false, Some, None}
-use Rattle.tc_isa.specs.Sets.{has}
-use Rattle.tc_elf.specs.Shown.{Shown}
-use Rattle.tc_journal.specs.declared.block.Kind.{Kind}
-use Rattle.tc_journal.specs.declared.block.Kind.TheVariants.{Taken}
-use Rattle.tc_turn.specs.Turn.{is_running}
-use Rattle.tc_segment.specs.View.{LockView, IsAtRest}
-use Rattle.tc_context.specs.Locks.{IsPlaced}
-use Rattle.tc_context.specs.View.{PackageView, IsWaiting, fits_of, want_of, with_grant, without_lock}
-use Rattle.tc_hall.specs.declared.board.Knows.{Knows}
-use Rattle.tc_hall.specs.declared.board.Terms.{Terms}
-use Rattle.tc_hall.specs.Rule.{IsOwn, locked_in, threads}
+use Rattle.tc_combiner.specs.Vocabulary.{IsAtRest, IsOwn, IsPlaced, IsWaiting, Kind, Knows, LockView, PackageView, Shown, Taken, Terms, fits_of, has, is_running, locked_in, threads, want_of, with_grant, without_lock}
 
 -- no lock is in it but held ones and a granted one
 abbrev pub HasNoOther : PackageView → Type 0

@@ -1,34 +1,9 @@
 -- What became of a released lock, and of all locks of a thread that has ended, with each call of the pass that was made.
 use Rattle.std.specs.Prelude.{◌⊎◌, ◌≡◌, ℕ, Bool, true, false, List, [], ◌∷◌, ◌++◌, ◌<◌, Option, Some, None, is_some, ◌≢◌, ◌+◌, ◌≤◌, get_or, length}
-use Rattle.tc_elf.specs.Shown.{Shown}
-use Rattle.tc_journal.specs.Batch.{last_of, may_adopt, run_of, ends_thread}
-use Rattle.tc_journal.specs.declared.block.Block.{Block}
-use Rattle.tc_journal.specs.declared.block.Kind.{Kind}
-use Rattle.tc_journal.specs.declared.block.Kind.TheVariants.{Adopted, Granted}
-use Rattle.tc_segment.specs.View.{LockView, IsAtRest, blocks_of}
-use Rattle.tc_context.specs.View.{PackageView, number_in, without_lock, bare}
-use Rattle.tc_hall.specs.declared.board.Knows.{Knows}
-use Rattle.tc_hall.specs.declared.board.Terms.{Terms}
-use Rattle.tc_hall.specs.declared.board.Call.{Call}
-use Rattle.tc_hall.specs.declared.board.Call.TheVariants.{Free, Stopped}
-use Rattle.tc_hall.specs.declared.place.Place.TheVariants.{Ready, Done}
-use Rattle.tc_hall.specs.Rule.{locked_in, locks, threads}
-use Rattle.tc_nested.specs.Release.{Releases}
-use Rattle.tc_queue.specs.declared.turn.Turn.{Turn}
-use Rattle.tc_queue.specs.declared.turn.Departure.TheVariants.{Left}
-use Rattle.tc_queue.specs.Lines.{SeatView, Next, Leave}
-use Rattle.tc_hall.specs.Steps.{put_call}
-use Rattle.tc_combiner.specs.declared.hands.Hands.{Hands}
-use Rattle.tc_combiner.specs.declared.passed.Passed.{Passed}
-use Rattle.tc_combiner.specs.declared.passed.Passed.TheVariants.{Home, Granted as Was_granted, Adopted as Was_adopted, Stopped as Was_stopped}
-use Rattle.tc_combiner.specs.declared.settled.Settled.{Settled}
-use Rattle.tc_combiner.specs.declared.settled.Settled.TheVariants.{GoesOn, Adopted as Did_adopt, Stopped as Did_stop, Ended as Has_ended}
-use Rattle.tc_hall.specs.Outs.{Item, Pack}
+use Rattle.tc_combiner.specs.Vocabulary.{Adopted, Block, Call, Did_adopt, Did_stop, Done, Free, GoesOn, Granted, Hands, Has_ended, Home, IsAtRest, Item, Kind, Knows, Leave, Left, LockView, MAX_HELD, Next, Pack, PackageView, Passed, Ready, Releases, SeatView, Settled, Shown, Stopped, Terms, Turn, Was_adopted, Was_granted, Was_stopped, bare, blocks_of, ends_thread, has, last_of, locked_in, locks, locks_of, may_adopt, number_in, put_call, run_of, threads, without_lock}
 use Rattle.tc_combiner.specs.Packages.{DidGrant, DidTakeOut, HasHeldAnd, IsGood, IsWaiter, Runs, HasNone}
 use Rattle.tc_combiner.specs.Walks.{Asks, Shows, Acted}
 use Rattle.tc_combiner.specs.Answers.{Answers, WentOn, SetAside, back}
-use Rattle.tc_isa.specs.Sets.{has, locks_of}
-use Rattle.tc_isa.specs.declared.limits.TheConstants.{MAX_HELD}
 use Rattle.tc_combiner.specs.View.{no_seat}
 
 -- the batch rule lets the worker of the block adopt a waiter for the lock

@@ -1,30 +1,11 @@
 -- What `settle` asks of a package, and what becomes of it by the end of its last block.
 use Rattle.std.specs.Prelude.{◌≡◌, ◌≢◌, ℕ, ◌+◌, ◌-◌, ◌^◌, min, true, List, [], ◌∷◌, ◌++◌, length, slice_set, Option, Some, None, is_some}
-use Rattle.tc_isa.specs.Sets.{has}
-use Rattle.tc_elf.specs.Shown.{Shown}
-use Rattle.tc_journal.specs.Batch.{last_of}
-use Rattle.tc_journal.specs.declared.block.Block.{Block}
-use Rattle.tc_journal.specs.declared.block.End.{End}
-use Rattle.tc_journal.specs.declared.block.End.TheVariants.{Wants, Unlocked, Slept, Cut}
-use Rattle.tc_context.specs.Ran.{DidRun}
-use Rattle.tc_context.specs.View.{PackageView, AllowsPending, want_of}
-use Rattle.tc_hall.specs.declared.place.Place.TheVariants.{Parked}
-use Rattle.tc_hall.specs.declared.board.Call.{Call}
-use Rattle.tc_hall.specs.declared.board.Terms.{Terms}
-use Rattle.tc_hall.specs.Rule.{locked_in, threads}
-use Rattle.tc_hall.specs.Steps.{put_call, IsSamePass}
-use Rattle.tc_combiner.specs.declared.settled.Settled.{Settled}
-use Rattle.tc_combiner.specs.declared.settled.Settled.TheVariants.{GoesOn, Parked as Did_park}
+use Rattle.tc_combiner.specs.Vocabulary.{AllowsPending, Block, Call, Cut, DidRun, Did_park, End, GoesOn, Hands, IsSamePass, Pack, PackageView, Parked, PassView, Rest, SeatView, Settled, Shown, Slept, Terms, Unlocked, Wants, has, last_of, locked_in, put_call, threads, want_of}
 use Rattle.tc_combiner.specs.Packages.{HasOnlyHeld, IsAside, IsGoodFor}
 use Rattle.tc_combiner.specs.Walks.{Moves, Owned, Walks, packed, Asks, Acts, Adds}
-use Rattle.tc_combiner.specs.declared.hands.Hands.{Hands}
-use Rattle.tc_combiner.specs.declared.hands.Rest.{Rest}
-use Rattle.tc_hall.specs.PassView.{PassView}
-use Rattle.tc_queue.specs.Lines.{SeatView}
 use Rattle.tc_combiner.specs.Answers.{AcquiredAs, HasReadied, carried}
 use Rattle.tc_combiner.specs.Release.{UnlockedAs, turn_of, AreSameSeats, EndedAs, SeatsLeft, seat_at}
 use Rattle.tc_combiner.specs.View.{DeskView}
-use Rattle.tc_hall.specs.Outs.{Pack}
 
 -- the desk has the package in hand, apart from the one that is set aside
 abbrev pub IsInHand : DeskView → PackageView → Type 0

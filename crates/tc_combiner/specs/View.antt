@@ -1,12 +1,6 @@
 -- What contracts see of a desk, and when it fits a bench.
 use Rattle.std.specs.Prelude.{◌≡◌, ℕ, ◌<◌, ◌≤◌, List, [], length, get_or, map, Option, Some}
-use Rattle.tc_elf.specs.Shown.{Shown}
-use Rattle.tc_context.specs.View.{PackageView}
-use Rattle.tc_hall.specs.declared.board.Terms.{Terms}
-use Rattle.tc_hall.specs.Rule.{threads, locks}
-use Rattle.tc_hall.specs.PassView.{HallView, PassView}
-use Rattle.tc_queue.specs.View.{QueueView}
-use Rattle.tc_queue.specs.Lines.{SeatView, IsSeatOf}
+use Rattle.tc_combiner.specs.Vocabulary.{HallView, IsSeatOf, PackageView, PassView, QueueView, SeatView, Shown, Terms, locks, threads}
 use Rattle.tc_combiner.specs.Packages.{IsAside}
 use Rattle.tc_combiner.specs.Walks.{Owned, packed}
 

@@ -1,30 +1,6 @@
 -- What some calls of a pass and of a seat did: which calls, one by one, and how what is out changed; and what hands may do.
 use Rattle.std.specs.Prelude.{◌≡◌, ◌+◌, ℕ, List, [], ◌∷◌, ◌++◌, Option, Some, None, ◌==◌, ◌<◌, ◌≤◌, Bool, true, false, All, length, filter}
-use Rattle.tc_segment.specs.View.{LockView, IsAtRest}
-use Rattle.tc_context.specs.View.{PackageView, Rests, fits_of}
-use Rattle.tc_hall.specs.declared.board.Knows.{Knows}
-use Rattle.tc_hall.specs.declared.board.Call.{Call}
-use Rattle.tc_hall.specs.declared.board.Call.TheVariants.{Put, Stop, Stopped}
-use Rattle.tc_hall.specs.declared.place.Place.TheVariants.{Ready}
-use Rattle.tc_queue.specs.declared.turn.Turn.{Turn}
-use Rattle.tc_queue.specs.declared.turn.Departure.TheVariants.{Left}
-use Rattle.tc_queue.specs.View.{QueueView}
-use Rattle.tc_queue.specs.Lines.{SeatView, IsSeatOf, LineCall, Next, Leave}
-use Rattle.tc_queue.specs.Words.{IsTurn}
-use Rattle.tc_combiner.specs.declared.found.Found.{Found}
-use Rattle.tc_combiner.specs.declared.found.Found.TheVariants.{Nobody, Next as Next_is, Unknown}
-use Rattle.tc_hall.specs.Outs.{Called, Outs, outs, erase, IsOut, Item, Pack, Loose}
-use Rattle.tc_isa.specs.declared.limits.TheConstants.{MAX_HELD}
-use Rattle.tc_hall.specs.declared.board.Miss.{Miss}
-use Rattle.tc_hall.specs.declared.board.Terms.{Terms}
-use Rattle.tc_hall.specs.declared.place.Place.{Place}
-use Rattle.tc_hall.specs.PassView.{HallView, PassView}
-use Rattle.tc_hall.specs.Places.{IsInRange, code_of}
-use Rattle.tc_hall.specs.Rule.{threads, locks, IsInOrder, grants_adopted}
-use Rattle.tc_hall.specs.Steps.{IsSamePass}
-use Rattle.tc_combiner.specs.declared.attempt.Attempt.{Attempt}
-use Rattle.tc_combiner.specs.declared.attempt.Attempt.TheVariants.{Came, Refused, Stopped as Try_stopped}
-use Rattle.tc_combiner.specs.declared.hands.Hands.{Hands}
+use Rattle.tc_combiner.specs.Vocabulary.{Attempt, Call, Called, Came, Found, HallView, Hands, IsAtRest, IsInOrder, IsInRange, IsOut, IsSamePass, IsSeatOf, IsTurn, Item, Knows, Leave, Left, LineCall, LockView, Loose, MAX_HELD, Miss, Next, Next_is, Nobody, Outs, Pack, PackageView, PassView, Place, Put, QueueView, Ready, Refused, Rests, SeatView, Stop, Stopped, Terms, Try_stopped, Turn, Unknown, code_of, erase, fits_of, grants_adopted, locks, outs, threads}
 use Rattle.tc_combiner.specs.Packages.{IsAside}
 
 -- no call of these is a stop

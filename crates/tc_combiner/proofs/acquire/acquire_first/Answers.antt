@@ -1,9 +1,5 @@
 use Rattle.std.proofs.Common.{◌∷◌, refl, sym, ◌∙◌, subst, ℕ}
-use Rattle.tc_elf.specs.Shown.{Shown}
-use Rattle.tc_segment.specs.View.{IsAtRest}
-use Rattle.tc_context.specs.View.{IsWaiting}
-use Rattle.tc_hall.specs.Outs.{Pack}
-use Rattle.tc_combiner.specs.Walks.{packed}
+use Rattle.tc_combiner.proofs.Vocabulary.{IsAtRest, IsWaiting, Pack, Shown, packed}
 use Rattle.tc_combiner.proofs.Acting.{acts_by, at_after}
 use Rattle.tc_combiner.proofs.Acquiring.{stops_first, takes_first}
 use Rattle.tc_combiner.proofs.acquire.acquire_first.Goals as goal

@@ -1,7 +1,5 @@
 use Rattle.std.proofs.Common.{[], ap, if◌then◌else◌, refl, Some, None}
-use Rattle.tc_segment.specs.View.{kept}
-use Rattle.tc_hall.specs.declared.board.Call.TheVariants.{Free}
-use Rattle.tc_hall.specs.Outs.{Loose}
+use Rattle.tc_combiner.proofs.Vocabulary.{Free, Loose, kept}
 use Rattle.tc_hall.proofs.Outs.{is_there}
 use Rattle.tc_combiner.proofs.Acting.{acts_told}
 use Rattle.tc_combiner.proofs.Owning.{moves_in, same_number}

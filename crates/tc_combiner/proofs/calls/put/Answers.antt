@@ -1,8 +1,5 @@
 use Rattle.std.proofs.Common.{[], ap, if◌then◌else◌, refl, Some, None}
-use Rattle.tc_segment.specs.View.{kept}
-use Rattle.tc_context.specs.View.{bare}
-use Rattle.tc_hall.specs.Outs.{Pack, keep}
-use Rattle.tc_hall.specs.Steps.{put_call}
+use Rattle.tc_combiner.proofs.Vocabulary.{Pack, bare, keep, kept, put_call}
 use Rattle.tc_hall.proofs.Outs.{is_there}
 use Rattle.tc_combiner.proofs.Acting.{acts_told}
 use Rattle.tc_combiner.proofs.Owning.{moves_in, same_number}

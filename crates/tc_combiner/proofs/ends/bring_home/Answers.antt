@@ -1,5 +1,5 @@
 use Rattle.std.proofs.Common.{refl}
-use Rattle.tc_combiner.specs.Packages.{DidTakeOut}
+use Rattle.tc_combiner.proofs.Vocabulary.{DidTakeOut}
 use Rattle.tc_combiner.proofs.Acting.{acts_none}
 use Rattle.tc_combiner.proofs.PassedOn.{released_free, left_before, taken_free}
 use Rattle.tc_combiner.proofs.ends.bring_home.Goals as goal

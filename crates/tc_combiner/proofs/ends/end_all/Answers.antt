@@ -1,9 +1,5 @@
 use Rattle.std.proofs.Common.{◌<◌, Bool, get_or, refl, map, length, sym, ap, ◌∙◌, subst, subst₂, arith, rules}
-use Rattle.std.proofs.lemmas.List.{length-map}
-use Rattle.tc_hall.specs.Rule.{locks}
-use Rattle.tc_queue.specs.Lines.{SeatView}
-use Rattle.tc_combiner.specs.View.{no_seat}
-use Rattle.tc_combiner.specs.Release.{DidLeave, seat_at}
+use Rattle.tc_combiner.proofs.Vocabulary.{DidLeave, SeatView, length-map, locks, no_seat, seat_at}
 use Rattle.tc_combiner.proofs.Ending.{less_falls, none_left, leaves_first, leaves_more, left_all, few_more, lock_in_hall, may_next, may_release, seat_in}
 use Rattle.tc_combiner.proofs.Seats.{other_seats, seat_after, seat_before, seats_count}
 use Rattle.tc_combiner.proofs.ends.end_all.Goals as goal

@@ -1,5 +1,5 @@
 use Rattle.std.proofs.Common.{map}
-use Rattle.tc_combiner.specs.Release.{Ending}
+use Rattle.tc_combiner.proofs.Vocabulary.{Ending}
 use Rattle.tc_combiner.proofs.ends.end_all.Given as goal
 
 abbrev pub invariant-loop-lock : goal.invariant-loop-lock

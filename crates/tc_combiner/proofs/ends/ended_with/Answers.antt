@@ -1,7 +1,5 @@
 use Rattle.std.proofs.Common.{map, refl, ◌∙◌, subst, arith, Bool}
-use Rattle.tc_hall.specs.Outs.{Pack}
-use Rattle.tc_combiner.specs.Walks.{packed}
-use Rattle.tc_combiner.specs.Release.{DidLeaveAll}
+use Rattle.tc_combiner.proofs.Vocabulary.{DidLeaveAll, Pack, packed}
 use Rattle.tc_combiner.proofs.Ending.{at_end, emptied_plain, ends_done, ends_stopped, few_at_end, may_done}
 use Rattle.tc_combiner.proofs.Unlocking.{alone}
 use Rattle.tc_combiner.proofs.ends.ended_with.Goals as goal

@@ -1,8 +1,5 @@
 use Rattle.std.proofs.Common.{[], ◌∷◌, refl}
-use Rattle.tc_hall.specs.Rule.{threads}
-use Rattle.tc_hall.specs.Steps.{put_call}
-use Rattle.tc_hall.specs.declared.place.Place.TheVariants.{Parked}
-use Rattle.tc_combiner.specs.declared.settled.Settled.TheVariants.{Parked as Did_park}
+use Rattle.tc_combiner.proofs.Vocabulary.{Did_park, Parked, put_call, threads}
 use Rattle.tc_combiner.proofs.Answering.{keeps_answers, wider}
 use Rattle.tc_combiner.proofs.Acting.{takes_none}
 use Rattle.tc_combiner.proofs.ends.park.Goals as goal

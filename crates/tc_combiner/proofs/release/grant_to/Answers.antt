@@ -1,9 +1,5 @@
 use Rattle.std.proofs.Common.{◌≡◌, true, false, refl, sym, ap, ◌∙◌, subst, ◌∷◌, [], ◌++◌, ℕ}
-use Rattle.tc_elf.specs.Shown.{Shown}
-use Rattle.tc_journal.specs.declared.block.Kind.TheVariants.{Adopted, Granted}
-use Rattle.tc_segment.specs.View.{IsAtRest}
-use Rattle.tc_combiner.specs.Packages.{DidGrant}
-use Rattle.tc_combiner.specs.Release.{adopts}
+use Rattle.tc_combiner.proofs.Vocabulary.{Adopted, DidGrant, Granted, IsAtRest, Shown, adopts}
 use Rattle.tc_combiner.proofs.PassedOn.{adopts_is, adopts_was, passes_other, number_is, is_adopted, is_granted, may_put}
 use Rattle.std.proofs.lemmas.Bool.{false_from_ne_true}
 use Rattle.tc_combiner.proofs.release.grant_to.Goals as goal

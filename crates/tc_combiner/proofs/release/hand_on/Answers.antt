@@ -1,7 +1,5 @@
 use Rattle.std.proofs.Common.{refl, sym, ◌∙◌, subst, ℕ, [], ◌∷◌}
-use Rattle.tc_elf.specs.Shown.{Shown}
-use Rattle.tc_hall.specs.Outs.{Pack, Loose}
-use Rattle.tc_combiner.specs.Packages.{IsWaiter}
+use Rattle.tc_combiner.proofs.Vocabulary.{IsWaiter, Loose, Pack, Shown}
 use Rattle.tc_combiner.proofs.Acting.{may_still}
 use Rattle.tc_combiner.proofs.PassedOn.{came_apart, came, hand_sooner, is_stopped, may_free, released_still}
 use Rattle.tc_combiner.proofs.release.hand_on.Goals as goal

@@ -1,8 +1,5 @@
 use Rattle.std.proofs.Common.{◌<◌, ℕ, refl, sym, ◌∙◌, subst}
-use Rattle.tc_queue.specs.Words.{IsTurn}
-use Rattle.tc_context.specs.View.{bare}
-use Rattle.tc_hall.specs.Rule.{threads}
-use Rattle.tc_combiner.specs.Packages.{DidTakeOut}
+use Rattle.tc_combiner.proofs.Vocabulary.{DidTakeOut, IsTurn, bare, threads}
 use Rattle.tc_combiner.proofs.Acting.{same_outs}
 use Rattle.tc_combiner.proofs.PassedOn.{released_free, turn_is, is_beside, block_thread, is_released, goes_home, may_lock, passes, stops, taken_free}
 use Rattle.tc_combiner.proofs.release.pass_on.Goals as goal

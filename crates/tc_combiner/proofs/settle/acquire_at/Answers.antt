@@ -1,6 +1,5 @@
 use Rattle.std.proofs.Common.{◌<◌, length, arith}
-use Rattle.tc_queue.specs.Lines.{SeatView}
-use Rattle.tc_combiner.specs.Answers.{Acquires}
+use Rattle.tc_combiner.proofs.Vocabulary.{Acquires, SeatView}
 use Rattle.tc_combiner.proofs.Acquiring.{same_seat}
 use Rattle.tc_combiner.proofs.Seats.{at_one, at_seat}
 use Rattle.tc_combiner.proofs.settle.acquire_at.Goals as goal

@@ -1,18 +1,9 @@
 use Rattle.std.proofs.Common.{ℕ, List, [], ◌∷◌, refl, sym, ap, ◌∙◌, subst, map, arith, length, length-set}
-use Rattle.tc_journal.specs.declared.block.End.{End}
-use Rattle.tc_hall.specs.Outs.{Pack}
-use Rattle.tc_hall.specs.Rule.{threads}
-use Rattle.tc_combiner.specs.declared.settled.Settled.TheVariants.{GoesOn, Parked}
-use Rattle.tc_combiner.specs.Walks.{packed}
-use Rattle.tc_combiner.specs.Packages.{IsGood}
-use Rattle.tc_combiner.specs.Settling.{SettledAs}
-use Rattle.tc_combiner.specs.View.{desk_of}
-use Rattle.tc_elf.specs.Shown.{Shown}
+use Rattle.tc_combiner.proofs.Vocabulary.{Did_park, End, GoesOn, IsGood, Pack, Rest, SettledAs, Shown, desk_of, packed, threads}
 use Rattle.tc_combiner.proofs.Acting.{acts_none, takes_none}
 use Rattle.tc_combiner.proofs.Ending.{same_seats, seats_first}
 use Rattle.tc_combiner.proofs.Settling.{after_last, did_acquire, did_end, did_unlock, ended, keeps_of, may_ask, may_begin, may_continue, may_end, may_park, may_unlock, settled_end, some_block}
 use Rattle.tc_combiner.proofs.Unlocking.{going_good}
-use Rattle.tc_combiner.specs.declared.hands.Rest.{Rest}
 use Rattle.tc_combiner.proofs.settle.settle_with.Goals as goal
 
 pub last-block-requires : goal.last-block-requires
@@ -49,10 +40,10 @@ pub park-requires-clause-may : goal.park-requires-clause-may
 park-requires-clause-may g c = may_park c.args.shared.now.hall.now.terms c.args.hands.now.pass.knows.worker c.last-block.result c.args.«package» c.keeps.ensures.sound (after_last c.args.shared.now.hall.now.terms.image.value c.args.hands.now.pass.knows.worker c.args.end _ c.last-block.result c.args.«package» c.in-Slept.is c.requires.may c.last-block.ensures)
 
 pub returns-in-Slept-clause-settled : goal.returns-in-Slept-clause-settled
-returns-in-Slept-clause-settled g c = (c.last-block.result, c.last-block.ensures, subst (λ (x : End). SettledAs x c.args.«package» c.last-block.result (desk_of c.args.hands.now.pass (map g.Q.Waiters.seen c.args.seats.now) c.args.rest.now.sleepers c.args.rest.now.clock c.args.hands.now.aside c.args.hands.now.ready.items) (desk_of c.park.new.hands.pass (map g.Q.Waiters.seen c.args.seats.now) c.park.new.rest.sleepers c.park.new.rest.clock c.park.new.hands.aside c.park.new.hands.ready.items) Parked) (sym c.in-Slept.is) (record { seats = refl; aside = c.park.ensures.calls.aside; adds = c.park.ensures.calls.answers.acts.adds; sleeper = ap (λ (x : Rest). x.sleepers) c.park.ensures.sleeper }))
+returns-in-Slept-clause-settled g c = (c.last-block.result, c.last-block.ensures, subst (λ (x : End). SettledAs x c.args.«package» c.last-block.result (desk_of c.args.hands.now.pass (map g.Q.Waiters.seen c.args.seats.now) c.args.rest.now.sleepers c.args.rest.now.clock c.args.hands.now.aside c.args.hands.now.ready.items) (desk_of c.park.new.hands.pass (map g.Q.Waiters.seen c.args.seats.now) c.park.new.rest.sleepers c.park.new.rest.clock c.park.new.hands.aside c.park.new.hands.ready.items) Did_park) (sym c.in-Slept.is) (record { seats = refl; aside = c.park.ensures.calls.aside; adds = c.park.ensures.calls.answers.acts.adds; sleeper = ap (λ (x : Rest). x.sleepers) c.park.ensures.sleeper }))
 
 pub returns-in-Slept-clause-keeps : goal.returns-in-Slept-clause-keeps
-returns-in-Slept-clause-keeps g c = keeps_of c.args.shared.now.hall.now.terms _ c.args.«package» (map g.Q.Waiters.seen c.args.seats.now) (map g.Q.Waiters.seen c.args.seats.now) c.args.rest.now c.park.new.rest _ c.park.new.hands Parked c.clear.ensures c.park.ensures.calls.answers (seats_first (map g.Q.Waiters.seen c.args.seats.now)) (ap (λ (x : Rest). x.clock) c.park.ensures.sleeper) (ap (λ (x : Rest). length x.sleepers) c.park.ensures.sleeper ∙ length-set _ _ _)
+returns-in-Slept-clause-keeps g c = keeps_of c.args.shared.now.hall.now.terms _ c.args.«package» (map g.Q.Waiters.seen c.args.seats.now) (map g.Q.Waiters.seen c.args.seats.now) c.args.rest.now c.park.new.rest _ c.park.new.hands Did_park c.clear.ensures c.park.ensures.calls.answers (seats_first (map g.Q.Waiters.seen c.args.seats.now)) (ap (λ (x : Rest). x.clock) c.park.ensures.sleeper) (ap (λ (x : Rest). length x.sleepers) c.park.ensures.sleeper ∙ length-set _ _ _)
 
 pub returns-in-Cut-clause-settled : goal.returns-in-Cut-clause-settled
 returns-in-Cut-clause-settled g c =

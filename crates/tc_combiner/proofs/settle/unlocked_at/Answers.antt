@@ -1,6 +1,5 @@
 use Rattle.std.proofs.Common.{◌<◌, length, arith}
-use Rattle.tc_queue.specs.Lines.{SeatView}
-use Rattle.tc_combiner.specs.Release.{Unlocks}
+use Rattle.tc_combiner.proofs.Vocabulary.{SeatView, Unlocks}
 use Rattle.tc_combiner.proofs.Seats.{at_one, at_seat}
 use Rattle.tc_combiner.proofs.settle.unlocked_at.Goals as goal
 

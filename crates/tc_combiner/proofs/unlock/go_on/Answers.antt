@@ -1,7 +1,5 @@
 use Rattle.std.proofs.Common.{ℕ, [], ◌∷◌, ◌++◌, refl, ap, ◌∙◌}
-use Rattle.tc_hall.specs.Outs.{Pack}
-use Rattle.tc_combiner.specs.Walks.{packed}
-use Rattle.tc_combiner.specs.Packages.{HoldsNone}
+use Rattle.tc_combiner.proofs.Vocabulary.{HoldsNone, Pack, packed}
 use Rattle.tc_combiner.proofs.Acting.{acts_none}
 use Rattle.tc_combiner.proofs.Unlocking.{goes_other, goes_same, may_ready}
 use Rattle.tc_combiner.proofs.unlock.go_on.Goals as goal

@@ -1,5 +1,5 @@
 use Rattle.std.proofs.Common.{ℕ, [], ◌∷◌, ◌++◌, refl, sym, ap, ◌∙◌}
-use Rattle.tc_hall.specs.Outs.{Pack}
+use Rattle.tc_combiner.proofs.Vocabulary.{Pack}
 use Rattle.tc_combiner.proofs.Acting.{acts_none}
 use Rattle.tc_combiner.proofs.Unlocking.{may_ready, sets_alone, sets_behind}
 use Rattle.tc_combiner.proofs.Packages.{not_some}

@@ -1,7 +1,5 @@
 use Rattle.std.proofs.Common.{refl, arith}
-use Rattle.tc_hall.specs.Outs.{Pack}
-use Rattle.tc_combiner.specs.Walks.{packed}
-use Rattle.tc_combiner.specs.declared.passed.Passed.TheVariants.{Home, Granted as Was_granted, Stopped as Was_stopped}
+use Rattle.tc_combiner.proofs.Vocabulary.{Home, Pack, Was_granted, Was_stopped, packed}
 use Rattle.tc_combiner.proofs.Unlocking.{alone, at_then, goes_adopted, goes_granted, goes_home, goes_stopped, may_adopted, may_aside, may_go_on, may_then}
 use Rattle.tc_combiner.proofs.unlock.unlocked_with.Goals as goal
 

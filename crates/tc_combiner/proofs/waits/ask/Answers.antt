@@ -1,6 +1,5 @@
 use Rattle.std.proofs.Common.{refl, arith, ap, ◌∙◌, Option}
-use Rattle.tc_queue.specs.declared.turn.Turn.{Turn}
-use Rattle.tc_queue.specs.Lines.{Next, with_line}
+use Rattle.tc_combiner.proofs.Vocabulary.{Next, Turn, with_line}
 use Rattle.tc_combiner.proofs.Packages.{none_is}
 use Rattle.tc_combiner.proofs.Acting.{asked_found, asked_left}
 use Rattle.tc_combiner.proofs.waits.ask.Goals as goal

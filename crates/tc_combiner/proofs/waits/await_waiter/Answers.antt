@@ -1,6 +1,5 @@
 use Rattle.std.proofs.Common.{[], ◌∷◌}
-use Rattle.tc_hall.specs.Outs.{Pack}
-use Rattle.tc_combiner.specs.Packages.{IsWaiter}
+use Rattle.tc_combiner.proofs.Vocabulary.{IsWaiter, Pack}
 use Rattle.tc_combiner.proofs.Acting.{waits_came, waits_more, waits_none, waits_stopped}
 use Rattle.tc_combiner.proofs.waits.await_waiter.Goals as goal
 

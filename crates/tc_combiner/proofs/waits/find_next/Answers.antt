@@ -1,5 +1,5 @@
 use Rattle.std.proofs.Common.{ℕ, [], ◌+◌, arith, subst, Some, None}
-use Rattle.tc_combiner.specs.Walks.{saw, Asked}
+use Rattle.tc_combiner.proofs.Vocabulary.{Asked, saw}
 use Rattle.tc_combiner.proofs.Acting.{asked_last, asked_more, asks_next, acts_none, acts_then, tried_still, tries_more}
 use Rattle.tc_combiner.proofs.waits.find_next.Goals as goal
 

@@ -1,5 +1,5 @@
 use Rattle.std.proofs.Common.{[]}
-use Rattle.tc_combiner.specs.Walks.{Acts, LooksBetween, Asks}
+use Rattle.tc_combiner.proofs.Vocabulary.{Acts, Asks, LooksBetween}
 use Rattle.tc_combiner.proofs.waits.find_next.Given as goal
 
 abbrev pub invariant-loop : goal.invariant-loop

@@ -1,6 +1,5 @@
 use Rattle.std.proofs.Common.{[], ◌∷◌}
-use Rattle.tc_combiner.specs.Walks.{IsTaken}
-use Rattle.tc_hall.specs.Outs.{Loose}
+use Rattle.tc_combiner.proofs.Vocabulary.{IsTaken, Loose}
 use Rattle.tc_combiner.proofs.Acting.{waits_came, waits_more, waits_none, waits_stopped}
 use Rattle.tc_combiner.proofs.waits.take_home.Goals as goal
 

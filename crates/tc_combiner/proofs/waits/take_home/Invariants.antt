@@ -1,4 +1,4 @@
-use Rattle.tc_combiner.specs.Walks.{Waits}
+use Rattle.tc_combiner.proofs.Vocabulary.{Waits}
 use Rattle.tc_combiner.proofs.waits.take_home.Given as goal
 
 abbrev pub invariant-loop : goal.invariant-loop

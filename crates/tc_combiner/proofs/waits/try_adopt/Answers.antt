@@ -1,7 +1,5 @@
 use Rattle.std.proofs.Common.{true, false, sym, subst}
-use Rattle.tc_elf.specs.Shown.{Shown}
-use Rattle.tc_combiner.specs.Packages.{IsWaiter}
-use Rattle.tc_hall.specs.Outs.{Pack}
+use Rattle.tc_combiner.proofs.Vocabulary.{IsWaiter, Pack, Shown}
 use Rattle.tc_combiner.proofs.Acting.{acts_missed, acts_untold, misses, tried_claimed, tried_missed}
 use Rattle.tc_combiner.proofs.Owning.{moves_out}
 use Rattle.tc_combiner.proofs.Packages.{is_waiter}

@@ -1,5 +1,5 @@
 use Rattle.std.proofs.Common.{true, false}
-use Rattle.tc_hall.specs.Outs.{Loose}
+use Rattle.tc_combiner.proofs.Vocabulary.{Loose}
 use Rattle.tc_combiner.proofs.Acting.{acts_missed, acts_untold, misses, tried_taken, tried_missed}
 use Rattle.tc_combiner.proofs.Owning.{moves_out}
 use Rattle.tc_combiner.proofs.PassedOn.{is_taken}

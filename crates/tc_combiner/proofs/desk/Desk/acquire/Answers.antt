@@ -1,8 +1,5 @@
 use Rattle.std.proofs.Common.{◌≡◌, map, refl, sym, ap, ◌∙◌}
-use Rattle.tc_elf.specs.Shown.{Shown}
-use Rattle.tc_context.specs.View.{want_of}
-use Rattle.tc_combiner.specs.Settling.{DidAcquire}
-use Rattle.tc_combiner.specs.View.{BenchView, DeskView}
+use Rattle.tc_combiner.proofs.Vocabulary.{BenchView, DeskView, DidAcquire, Shown, want_of}
 use Rattle.tc_combiner.proofs.Fitting.{at_bench, has_seats, kept_back, may_want}
 use Rattle.tc_combiner.proofs.Settling.{did_acquire, keeps_of}
 use Rattle.tc_combiner.proofs.desk.Desk.acquire.Goals as goal

@@ -1,11 +1,6 @@
 use Rattle.std.proofs.Common.{[], ◌∷◌, map, refl, sym, ap, ◌∙◌, subst}
-use Rattle.tc_context.specs.View.{PackageView}
-use Rattle.tc_hall.specs.Outs.{Pack}
-use Rattle.tc_combiner.specs.Settling.{IsInHand, MayCommit, MovesSealed}
-use Rattle.tc_combiner.specs.Walks.{Moves, packed}
-use Rattle.tc_combiner.specs.View.{DeskView, FitsBench}
+use Rattle.tc_combiner.proofs.Vocabulary.{DeskView, FitsBench, IsInHand, Knows, MayCommit, Moves, MovesSealed, Pack, PackageView, packed}
 use Rattle.tc_combiner.proofs.Fitting.{fits_after}
-use Rattle.tc_hall.specs.declared.board.Knows.{Knows}
 use Rattle.tc_combiner.proofs.Ending.{seats_first}
 use Rattle.tc_combiner.proofs.Owning.{owned_changed}
 use Rattle.tc_combiner.proofs.Unlocking.{without_first}

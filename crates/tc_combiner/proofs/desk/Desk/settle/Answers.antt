@@ -1,7 +1,5 @@
 use Rattle.std.proofs.Common.{map, refl, sym, ap, ◌∙◌, subst}
-use Rattle.tc_elf.specs.Shown.{Shown}
-use Rattle.tc_combiner.specs.Settling.{HasSettled, MaySettle}
-use Rattle.tc_combiner.specs.View.{BenchView, DeskView}
+use Rattle.tc_combiner.proofs.Vocabulary.{BenchView, DeskView, HasSettled, MaySettle, Shown}
 use Rattle.tc_combiner.proofs.Fitting.{at_bench, has_seats, kept_back}
 use Rattle.tc_combiner.proofs.desk.Desk.settle.Goals as goal
 
