@@ -1,8 +1,8 @@
 -- What became of a package that wants a lock, from its parts.
 use Rattle.std.proofs.Common.{◌≡◌, ◌+◌, min, ℕ, List, [], ◌∷◌, ◌++◌, refl, sym, ap, ◌∙◌, subst, arith, Option, Some, None, if◌then◌else◌}
 use Rattle.tc_combiner.proofs.Vocabulary.{AcquiredAs, Acquires, Acts, Behind, Call, DidFirst, DidGrant, DidTake, Did_stop, Done, Enter, First, FirstAs, GoesOn, HallView, Hands, IsAtHall, IsAtRest, IsOut, IsSameSeat, IsWaiting, Item, Knows, Link, LockView, Loose, MAX_NUMBER, MayAsk, MayGive, MayGoOn, Pack, PackageView, PassView, PutAllBack, Ready, Runs, SeatView, Settled, Shipped, Shown, Taken, Terms, Turn, Waiting, Wants_lock, back, counted, locked_in, next_turn, outs, packed, place_back, put_call, ready_in, saw, threads, with_line, with_turns}
-use Rattle.tc_combiner.proofs.Acting.{adds_then, acts_then, acts_by, takes_none}
-use Rattle.tc_combiner.proofs.Owning.{counted_then, counted_owned, granted_with, takes_in}
+use Rattle.tc_combiner.proofs.Acting.{acts_by, acts_still, acts_then, adds_then, owned_by, takes_none}
+use Rattle.tc_combiner.proofs.Owning.{counts_in, granted_with, takes_in}
 use Rattle.tc_combiner.proofs.Answering.{keeps_answers, wider}
 use Rattle.tc_combiner.proofs.Packages.{no_other, taken_good, ungranted_fits, ungranted_plain}
 
@@ -50,10 +50,10 @@ stops_first k i n q h m g a e p = record {
 -- ---- with its number counted
 
 turned : (q p : PackageView) (n : ℕ) (xs ys : List Item) (ds : List Call) (v w : PassView) → p ≡ with_turns n q → Acts ds (Pack p ∷ xs) ys v w → Acts ds (Pack q ∷ xs) ys v w
-turned q p n xs ys ds v w e a = record { own = a.own; adds = a.adds; moves = counted_then v.knows w.knows q p n xs ys e a.moves }
+turned q p n xs ys ds v w e a = acts_then [] ds (Pack q ∷ xs) (Pack p ∷ xs) ys v v w (acts_still v (Pack q ∷ xs) (Pack p ∷ xs) (counts_in v.knows q p n xs e)) a
 
 pub at_counted : (hall : HallView) (q p : PackageView) (n : ℕ) (h : Hands) → p ≡ with_turns n q → IsAtHall hall (Pack q ∷ packed h.aside) h → IsAtHall hall (Pack p ∷ packed h.aside) h
-at_counted hall q p n h e y = record { own = y.own; image = y.image; out = counted_owned h.pass.knows q p n (packed h.aside) e y.out; aside = y.aside }
+at_counted hall q p n h e y = record { own = y.own; image = y.image; out = owned_by h.pass.knows h.pass.knows (Pack q ∷ packed h.aside) (Pack p ∷ packed h.aside) (counts_in h.pass.knows q p n (packed h.aside) e) y.out; aside = y.aside }
 
 -- the package p is q with its number counted, and u is the turn of that number
 pub record IsCounted (q p : PackageView) (u : Turn) : Type 0 where
@@ -74,7 +74,7 @@ module _ (hall : HallView) (i : ℕ) (u : Turn) (q p : PackageView) (s t : SeatV
   goes_on r line d = record {
     calls = d.calls;
     answers = keeps_answers hall d.calls q h g (GoesOn r) at (turned q p _ (packed h.aside) (Pack r ∷ packed g.aside) d.calls h.pass g.pass c.is d.acts) (takes_none (threads hall.terms) h.ready.items g.ready.items d.calls d.ready (ap ready_in d.became.0)) d.became.1;
-    acquired = (subst (λ (x : Turn). t ≡ with_line s (Enter x First)) c.turn line, first_as d.calls (Some r) d.became);
+    became = (subst (λ (x : Turn). t ≡ with_line s (Enter x First)) c.turn line, first_as d.calls (Some r) d.became);
   }
 
   pub stops_second : t ≡ with_line s (Enter u First) → DidFirst hall.terms i u.number p h g None → Acquires hall.terms i q s t h g Did_stop
@@ -85,7 +85,7 @@ module _ (hall : HallView) (i : ℕ) (u : Turn) (q p : PackageView) (s t : SeatV
       readied = d.ready;
       aside = λ b e. let f = d.became.1 in let n : ⊥ = cc in absurd n;
     };
-    acquired = (subst (λ (x : Turn). t ≡ with_line s (Enter x First)) c.turn line, first_as d.calls None d.became);
+    became = (subst (λ (x : Turn). t ≡ with_line s (Enter x First)) c.turn line, first_as d.calls None d.became);
   }
 
   pub ships : (mark : ℕ) (r : SeatView) → t ≡ with_line s (Enter u (Behind mark)) → r ≡ with_line t (Link mark u) → Acts (put_call p (Waiting i) ∷ []) (Pack p ∷ []) [] h.pass g.pass → g.ready.items ≡ h.ready.items → g.aside ≡ h.aside → Acquires hall.terms i q s r h g Shipped
@@ -94,7 +94,7 @@ module _ (hall : HallView) (i : ℕ) (u : Turn) (q p : PackageView) (s t : SeatV
     answers = keeps_answers hall (put_call p (Waiting i) ∷ []) q h g Shipped at
         (turned q p _ (packed h.aside) (packed g.aside) (put_call p (Waiting i) ∷ []) h.pass g.pass c.is (wider (put_call p (Waiting i) ∷ []) p h g n a))
         (takes_none (threads hall.terms) h.ready.items g.ready.items (put_call p (Waiting i) ∷ []) f refl) n;
-    acquired = (
+    became = (
       mark,
       subst (λ (x : Turn). r ≡ with_line (with_line s (Enter x (Behind mark))) (Link mark x)) c.turn (later ∙ ap (λ (z : SeatView). with_line z (Link mark u)) first),
       ap (λ (x : PackageView). put_call x (Waiting i) ∷ []) c.is,

@@ -1,6 +1,6 @@
 -- Calls of a pass, one after another, with each call that counts.
 use Rattle.std.proofs.Common.{◌≡◌, ◌≢◌, ◌==◌, ◌<◌, ◌≤◌, ◌+◌, ℕ, Bool, true, false, cond, arith, All, List, [], ◌∷◌, ◌++◌, length, length-append, filter, refl, sym, ap, ◌∙◌, subst, append_assoc, append-nil, Some, None, Option}
-use Rattle.tc_combiner.proofs.Vocabulary.{Acted, Acts, Adds, All-nil, AreAsked, Asked, Asks, Call, Called, Came, Departure, HallView, Hands, HaveNoStop, IsAt, IsSamePass, Item, Knows, Leave, LineCall, LockView, LooksEachTime, MAX_HELD, MayAct, Miss, Moves, Next, Owned, Owns, PackageView, PassView, Put, Ready, Refused, SawStopped, SeatView, Stop, Stopped, TakesDown, Terms, Tried, TriedAs, Try_stopped, Turn, WaitedAs, Waits, after_claim, after_miss, after_stopped, after_take, counts, nat_tests, outs, ready_in, saw, saw_if, threads, unanswered, with_line}
+use Rattle.tc_combiner.proofs.Vocabulary.{Acted, Acts, Adds, All-nil, AreAsked, Asked, Asks, Call, Called, Came, Departure, HallView, Hands, HaveNoStop, IsAt, IsSamePass, Item, Knows, Leave, LineCall, LooksEachTime, MAX_HELD, MayAct, Miss, Moves, Next, Owned, Owns, PackageView, PassView, Put, Ready, Refused, SawStopped, SeatView, Stop, Stopped, TakesDown, Terms, Tried, TriedAs, Try_stopped, Turn, WaitedAs, Waits, after_miss, after_stopped, counts, erase, nat_tests, outs, ready_in, saw, saw_if, threads, unanswered, with_line}
 use Rattle.std.proofs.lemmas.List.Elements.{filter-append, All-append}
 use Rattle.tc_combiner.proofs.Owning.{moves_none}
 
@@ -38,28 +38,19 @@ unanswered_then [] ds = omega arith
 unanswered_then (Next x None ∷ cs) ds = let e = unanswered_then cs ds in omega arith
 unanswered_then (c ∷ cs) ds = unanswered_then cs ds
 
-asked_line : (n k : ℕ) (s t r : SeatView) (c : LineCall) → Asked n s t → r ≡ with_line t c → unanswered (c ∷ []) ≡ k → Asked (n + k) s r
+pub asked_line : (n k : ℕ) (s t r : SeatView) (c : LineCall) → Asked n s t → r ≡ with_line t c → unanswered (c ∷ []) ≡ k → Asked (n + k) s r
 asked_line n k s t r c h e f = record {
   lines = h.lines ++ c ∷ [];
   calls = ap (λ (z : SeatView). z.calls) e ∙ (ap (λ (l : List LineCall). l ++ c ∷ []) h.calls ∙ append_assoc s.calls h.lines (c ∷ []));
   count = unanswered_then h.lines (c ∷ []) ∙ (ap (λ (m : ℕ). m + unanswered (c ∷ [])) h.count ∙ ap (λ (m : ℕ). n + m) f);
 }
 
-asked_none : (s : SeatView) → Asked 0 s s
+pub asked_none : (s : SeatView) → Asked 0 s s
 asked_none s = record { lines = []; calls = sym (append-nil s.calls); count = refl }
 
--- one question, and where it was not answered perhaps the leave
-pub asked_found : (s t : SeatView) (u x : Turn) → t ≡ with_line s (Next u (Some x)) → Asked 0 s t
-asked_found s t u x e = asked_line 0 0 s s t (Next u (Some x)) (asked_none s) e refl
-
+-- one question that was not answered, and the leave
 pub asked_left : (s m t : SeatView) (u : Turn) (a : Option Turn) (d : Departure) → m ≡ with_line s (Next u a) → a ≡ None → t ≡ with_line m (Leave u d) → Asked 1 s t
 asked_left s m t u a d e none f = asked_line 1 0 s m t (Leave u d) (asked_line 0 1 s s m (Next u a) (asked_none s) e (ap (λ (o : Option Turn). unanswered (Next u o ∷ [])) none)) f refl
-
-pub asked_more : (n : ℕ) (s t r : SeatView) (u : Turn) → Asked n s t → r ≡ with_line t (Next u None) → Asked (n + 1) s r
-asked_more n s t r u h e = asked_line n 1 s t r (Next u None) h e refl
-
-pub asked_last : (n : ℕ) (s t r : SeatView) (u x : Turn) → Asked n s t → r ≡ with_line t (Next u (Some x)) → Asked (n + 0) s r
-asked_last n s t r u x h e = asked_line n 0 s t r (Next u (Some x)) h e refl
 
 pub adds_then : (ds es : List Call) (v w x : Knows) → Adds ds v w → Adds es w x → Adds (ds ++ es) v x
 adds_then ds es v w x a b = record {
@@ -76,67 +67,49 @@ acts_then ds es xs ys zs p q r a b = record {
   moves = λ c us o. b.moves c us (a.moves c us o);
 }
 
+-- the hall made these calls, of which those count
+pub acts_told : (cs ds : List Call) (xs ys : List Item) (p q : PassView) → filter counts cs ≡ ds → HaveNoStop cs → IsSamePass p q → Called cs p.knows q.knows → Moves p.knows q.knows xs ys → Acts ds xs ys p q
+acts_told cs ds xs ys p q e n own told m = record { own = own; adds = record { calls = cs; told = told; stops = n; are = e }; moves = m }
+
+called_by : (cs : List Call) (v w x : Knows) → w ≡ x → Called cs v x → Called cs v w
+called_by cs v w x e c = subst (λ (z : Knows). Called cs v z) (sym e) c
+
+called_none : (v : Knows) → Called [] v v
+called_none v = record { image = refl; worker = refl; sealed = refl; joined = refl; calls = sym (append-nil v.calls) }
+
+-- where nothing was called
+pub acts_still : (p : PassView) (xs ys : List Item) → Moves p.knows p.knows xs ys → Acts [] xs ys p p
+acts_still p xs ys m = acts_told [] [] xs ys p p refl tt (refl, refl) (called_none p.knows) m
+
 pub acts_none : (p : PassView) (xs : List Item) → Acts [] xs xs p p
-acts_none p xs = record {
-  own = (refl, refl);
-  adds = record { calls = []; told = record { image = refl; worker = refl; sealed = refl; joined = refl; calls = sym (append-nil p.knows.calls) }; stops = tt; are = refl };
-  moves = λ c us o. o;
-}
+acts_none p xs = acts_still p xs xs (λ c us o. o)
 
 -- a call that moved nothing of what is in hand
 pub acts_by : (ds : List Call) (xs : List Item) (p q : PassView) → Acts ds [] [] p q → Acts ds xs xs p q
 acts_by ds xs p q a = record { own = a.own; adds = a.adds; moves = λ c us o. a.moves c (xs ++ us) o }
-
--- one call of the hall
-pub acts_told : (c : Call) (xs ys : List Item) (p q : PassView) → HaveNoStop (c ∷ []) → counts c ≡ true → IsSamePass p q → Called (c ∷ []) p.knows q.knows → Moves p.knows q.knows xs ys → Acts (c ∷ []) xs ys p q
-acts_told c xs ys p q n e own told m = record { own = own; adds = record { calls = c ∷ []; told = told; stops = n; are = ap (λ (b : Bool). cond b (c ∷ []) []) e }; moves = m }
-
-pub acts_untold : (ys : List Item) (p q : PassView) → IsSamePass p q → Called [] p.knows q.knows → Moves p.knows q.knows [] ys → Acts [] [] ys p q
-acts_untold ys p q own told m = record { own = own; adds = record { calls = []; told = told; stops = tt; are = refl }; moves = m }
-
-told_none : (v : Knows) (word found : ℕ) → Called [] v (after_miss v word found)
-told_none v word found = record { image = refl; worker = refl; sealed = refl; joined = refl; calls = sym (append-nil v.calls) }
-
-pub acts_missed : (word found : ℕ) (p q : PassView) → IsSamePass p q → q.knows ≡ after_miss p.knows word found → Acts [] [] [] p q
-acts_missed word found p q own e = acts_untold [] p q own (subst (λ (w : Knows). Called [] p.knows w) (sym e) (told_none p.knows word found)) (moves_none p.knows q.knows (ap outs e))
-
-told_stopped : (v : Knows) (word : ℕ) → Called (Stopped word ∷ []) v (after_stopped v word)
-told_stopped v word = record { image = refl; worker = refl; sealed = refl; joined = refl; calls = refl }
 
 saw_counts : (b : Bool) (word : ℕ) → (b ≡ true → word ≡ 1) → (b ≡ false → word ≢ 1) → filter counts (Stopped word ∷ []) ≡ saw_if b
 saw_counts true word one other = let e = one refl in ap (λ (n : ℕ). filter counts (Stopped n ∷ [])) e
 saw_counts false word one other = let ne = other refl in let e : (word == 1) ≡ false = grind (arith, nat_tests) in ap (λ (x : Bool). cond x (Stopped word ∷ []) []) e
 
 pub acts_looked : (b : Bool) (p q : PassView) → IsSamePass p q → SawStopped b p.knows q.knows → Acts (saw_if b) [] [] p q
-acts_looked b p q own s = record {
-  own = own;
-  adds = record {
-    calls = Stopped s.word ∷ [];
-    told = subst (λ (w : Knows). Called (Stopped s.word ∷ []) p.knows w) (sym s.now) (told_stopped p.knows s.word);
-    stops = tt;
-    are = saw_counts b s.word s.one s.other;
-  };
-  moves = moves_none p.knows q.knows (ap outs s.now);
-}
+acts_looked b p q own s = acts_told (Stopped s.word ∷ []) (saw_if b) [] [] p q (saw_counts b s.word s.one s.other) tt own
+    (called_by (Stopped s.word ∷ []) p.knows q.knows (after_stopped p.knows s.word) s.now (record { image = refl; worker = refl; sealed = refl; joined = refl; calls = refl }))
+    (moves_none p.knows q.knows (ap outs s.now))
 
 -- ---- steps that were refused, and calls
 
-tried_none : (v w : Knows) → w.missed ≡ v.missed → w.calls ≡ v.calls → Tried 0 0 v w
-tried_none v w m c = record { misses = []; missed = m ∙ sym (append-nil v.missed); each = refl; calls = []; added = c ∙ sym (append-nil v.calls); all = refl }
+-- a step that added neither
+pub tried_none : (v w x : Knows) → w ≡ x → x.missed ≡ v.missed → x.calls ≡ v.calls → Tried 0 0 v w
+tried_none v w x e m c = record { misses = []; missed = ap (λ (z : Knows). z.missed) e ∙ (m ∙ sym (append-nil v.missed)); each = refl; calls = []; added = ap (λ (z : Knows). z.calls) e ∙ (c ∙ sym (append-nil v.calls)); all = refl }
 
-pub tried_taken : (v w : Knows) (l : LockView) → w ≡ after_take v l → Tried 0 0 v w
-tried_taken v w l e = tried_none v w (ap (λ (x : Knows). x.missed) e) (ap (λ (x : Knows). x.calls) e)
-
-pub tried_claimed : (v w : Knows) (q : PackageView) → w ≡ after_claim v q → Tried 0 0 v w
-tried_claimed v w q e = tried_none v w (ap (λ (x : Knows). x.missed) e) (ap (λ (x : Knows). x.calls) e)
-
-pub tried_missed : (v w : Knows) (word found : ℕ) → w ≡ after_miss v word found → Tried 1 0 v w
-tried_missed v w word found e = record { misses = record { word = word; found = found } ∷ []; missed = ap (λ (x : Knows). x.missed) e; each = refl; calls = []; added = ap (λ (x : Knows). x.calls) e ∙ sym (append-nil v.calls); all = refl }
+pub tried_still : (v : Knows) → Tried 0 0 v v
+tried_still v = tried_none v v v refl refl refl
 
 pub tried_looked : (v w : Knows) (word : ℕ) → w ≡ after_stopped v word → Tried 0 1 v w
 tried_looked v w word e = record { misses = []; missed = ap (λ (x : Knows). x.missed) e ∙ sym (append-nil v.missed); each = refl; calls = Stopped word ∷ []; added = ap (λ (x : Knows). x.calls) e; all = refl }
 
-tried_then : (a b c d : ℕ) (v w x : Knows) → Tried a b v w → Tried c d w x → Tried (a + c) (b + d) v x
+pub tried_then : (a b c d : ℕ) (v w x : Knows) → Tried a b v w → Tried c d w x → Tried (a + c) (b + d) v x
 tried_then a b c d v w x h k = record {
   misses = h.misses ++ k.misses;
   missed = k.missed ∙ (ap (λ (l : List Miss). l ++ k.misses) h.missed ∙ append_assoc v.missed h.misses k.misses);
@@ -146,19 +119,12 @@ tried_then a b c d v w x h k = record {
   all = length-append h.calls k.calls ∙ (ap (λ (n : ℕ). n + length k.calls) h.all ∙ ap (λ (n : ℕ). b + n) k.all);
 }
 
-pub tried_still : (v : Knows) → Tried 0 0 v v
-tried_still v = tried_none v v refl refl
-
-pub tries_more : (m k : ℕ) (v w x : Knows) → Tried 0 m v w → Tried 0 k w x → Tried 0 (m + k) v x
-tries_more m k v w x h t = tried_then 0 m 0 k v w x h t
-
 -- a step that was refused, and the look at STOP behind it
-pub misses : (b x : Bool) (p q r : PassView) → b ≡ x → Acts [] [] [] p q → Tried 1 0 p.knows q.knows → Acts (saw_if b) [] [] q r → Tried 0 1 q.knows r.knows → Acts (saw_if x) [] [] p r × Tried 1 1 p.knows r.knows
-misses b x p q r e a t s l = (acts_then [] (saw_if x) [] [] [] p q r a (subst (λ (y : Bool). Acts (saw_if y) [] [] q r) e s), tried_then 1 0 0 1 p.knows q.knows r.knows t l)
-
--- the look alone
-pub looked : (b x : Bool) (p q : PassView) → b ≡ x → Acts (saw_if b) [] [] p q → Tried 0 1 p.knows q.knows → Acts (saw_if x) [] [] p q × Tried 0 1 p.knows q.knows
-looked b x p q e s l = (subst (λ (y : Bool). Acts (saw_if y) [] [] p q) e s, l)
+pub misses : (b x : Bool) (word found : ℕ) (p q r : PassView) → b ≡ x → IsSamePass p q → q.knows ≡ after_miss p.knows word found → Acts (saw_if b) [] [] q r → Tried 0 1 q.knows r.knows → Acts (saw_if x) [] [] p r × Tried 1 1 p.knows r.knows
+misses b x word found p q r e own miss s l =
+    let missed : Acts [] [] [] p q = acts_told [] [] [] [] p q refl tt own (called_by [] p.knows q.knows (after_miss p.knows word found) miss (record { image = refl; worker = refl; sealed = refl; joined = refl; calls = sym (append-nil p.knows.calls) })) (moves_none p.knows q.knows (ap outs miss)) in
+    let tried : Tried 1 0 p.knows q.knows = record { misses = record { word = word; found = found } ∷ []; missed = ap (λ (x : Knows). x.missed) miss; each = refl; calls = []; added = ap (λ (x : Knows). x.calls) miss ∙ sym (append-nil p.knows.calls); all = refl } in
+    (acts_then [] (saw_if x) [] [] [] p q r missed (subst (λ (y : Bool). Acts (saw_if y) [] [] q r) e s), tried_then 1 0 0 1 p.knows q.knows r.knows tried l)
 
 looks_then : (n : ℕ) (v w x : Knows) → LooksEachTime v w → Tried n n w x → LooksEachTime v x
 looks_then n v w x h t = (h.0 + n, tried_then h.0 h.0 n n v w x h.1 t)
@@ -204,6 +170,10 @@ owned_by v w xs ys m o = (o.0, subst (λ (l : List Item). Owns o.0 (outs w) l) (
 pub same_outs : (ds : List Call) (p q : PassView) → Acts ds [] [] p q → outs q.knows ≡ outs p.knows
 same_outs ds p q a = a.moves (outs p.knows) [] refl
 
+-- the first of these, where the rest counts as what is out besides
+pub alone : (hall : HallView) (x : Item) (xs : List Item) (p : PassView) (a : Option PackageView) → IsAt hall (x ∷ xs) p a → IsAt hall (x ∷ []) p a
+alone hall x xs p a m = record { own = m.own; image = m.image; out = (erase (outs p.knows) x, (m.out.1.0, refl)); aside = m.aside }
+
 -- where the pass is afterwards
 pub at_after : (hall : HallView) (ds : List Call) (xs ys : List Item) (p q : PassView) (a b : Option PackageView) → IsAt hall xs p a → Acts ds xs ys p q → b ≡ a → IsAt hall ys q b
 at_after hall ds xs ys p q a b m c e = record { own = c.own.0 ∙ m.own; image = c.adds.told.image ∙ m.image; out = owned_by p.knows q.knows xs ys c.moves m.out; aside = λ x f. m.aside x (sym e ∙ f) }
@@ -211,13 +181,6 @@ at_after hall ds xs ys p q a b m c e = record { own = c.own.0 ∙ m.own; image =
 -- the hands may act on, where they put no thread as ready
 pub may_still : (hall : HallView) (ds : List Call) (xs ys : List Item) (n : ℕ) (h g : Hands) → MayAct hall xs n h → Acts ds xs ys h.pass g.pass → g.ready.items ≡ h.ready.items → g.aside ≡ h.aside → MayAct hall ys n g
 may_still hall ds xs ys n h g m a r s = record { at = at_after hall ds xs ys h.pass g.pass h.aside g.aside m.at a s; room = subst (λ (l : List ℕ). length l + n ≤ MAX_HELD) (sym r) m.room }
-
--- a call that added nothing of note, and then hands that acted
-pub acted_sooner : (k : Terms) (ds : List Call) (xs ys zs : List Item) (h m g : Hands) → Acts [] xs ys h.pass m.pass → m.ready.items ≡ h.ready.items → Acted k ds ys zs m g → Acted k ds xs zs h g
-acted_sooner k ds xs ys zs h m g a r b = record {
-  acts = acts_then [] ds xs ys zs h.pass m.pass g.pass a b.acts;
-  readied = (b.readied.0 ∙ ap (λ (l : List ℕ). l ++ ready_in ds) r, b.readied.1);
-}
 
 -- calls that put no thread as ready
 pub acted_by : (k : Terms) (ds : List Call) (xs ys : List Item) (h g : Hands) → Acts ds xs ys h.pass g.pass → g.ready.items ≡ h.ready.items → ready_in ds ≡ [] → Acted k ds xs ys h g

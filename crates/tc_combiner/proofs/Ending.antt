@@ -1,7 +1,7 @@
 -- The locks of a thread that has ended, one after another.
-use Rattle.std.proofs.Common.{◌≡◌, ◌≢◌, ◌<◌, ◌≤◌, inl, inr, ⊎_elim, ℕ, zero, suc, ◌^◌, ◌+◌, ◌-◌, ◌*◌, Bool, true, false, not, ◌&&◌, ◌==◌, cond, List, [], ◌∷◌, ◌++◌, length, map, filter, get_or, refl, sym, ap, ◌∙◌, subst, subst₂, arith, append_assoc, append-nil, length-append, Option, Some, None, is_some, slice_index_or}
+use Rattle.std.proofs.Common.{◌≡◌, ◌≢◌, ◌<◌, ◌≤◌, inl, inr, ℕ, zero, suc, ◌^◌, ◌+◌, ◌-◌, ◌*◌, Bool, true, false, not, ◌&&◌, ◌==◌, cond, List, [], ◌∷◌, ◌++◌, length, map, filter, get_or, refl, sym, ap, ◌∙◌, subst, subst₂, arith, append_assoc, append-nil, Option, Some, None, is_some, slice_index_or}
 use Rattle.std.proofs.lemmas.Bool.{and_right, cond-false, cond-true, or_right}
-use Rattle.tc_combiner.proofs.Vocabulary.{Acts, AreSameSeats, AreSeats, Asks, Block, Call, DidLeave, DidLeaveAll, Did_stop, Done, Ending, Ends, Free, HallView, Hands, Has_ended, Home, IsAtHall, IsEmptied, IsInOrder, IsPlain, IsSeatFor, IsSoundPackage, Knows, LeftAs, LeftInOrder, LockView, MAX_HELD, MayAct, MayEnd, MayGive, MayRelease, OneLeft, Pack, PackageView, PutAllBack, QueueView, SeatView, SeatsLeft, Shown, Terms, Turn, Was_granted, Was_stopped, back, bare, dite, ends_section, ends_thread, has, is_running, last_of, locked_in, locks, nat_tests, no_seat, packed, put_call, ready_in, seat_at, threads, turn_of, unlocks, ℕ_discrete}
+use Rattle.tc_combiner.proofs.Vocabulary.{Acts, AreSameSeats, AreSeats, Asks, Block, Call, DidLeave, DidLeaveAll, Did_stop, Done, Ending, Ends, HallView, Hands, Has_ended, IsAtHall, IsEmptied, IsInOrder, IsPlain, IsSeatFor, IsSoundPackage, Knows, LeftAs, LeftInOrder, LockView, MAX_HELD, MayAct, MayEnd, MayGive, MayRelease, OneLeft, Pack, PackageView, PutAllBack, QueueView, SeatView, SeatsLeft, Shown, Terms, Turn, back, bare, dite, ends_thread, has, is_running, last_of, locked_in, locks, nat_tests, no_seat, packed, put_call, seat_at, threads, turn_of, unlocks, ℕ_discrete}
 use Rattle.std.proofs.lemmas.Bool.Decides.{eqb_tells}
 use Rattle.std.specs.List.{range_with_len}
 use Rattle.tc_isa.specs.Sets.{without_lock, locks_of}
@@ -12,10 +12,13 @@ use Rattle.std.specs.Prelude.{MatchOption}
 use Rattle.tc_turn.proofs.Few.{less_few}
 use Rattle.tc_combiner.proofs.Acting.{acted_none, acted_then, at_after, takes_none}
 use Rattle.tc_combiner.proofs.Answering.{back_answers, keeps_answers, then_answers, then_at, wider}
-use Rattle.tc_combiner.proofs.PassedOn.{few_followed, few_in, left_after}
+use Rattle.tc_combiner.proofs.PassedOn.{left_after}
 use Rattle.tc_combiner.proofs.Packages.{not_some, ungranted_fits, ungranted_plain}
 use Rattle.tc_combiner.proofs.Owning.{place_here, place_other}
 use Rattle.tc_combiner.proofs.Seats.{map_at, seat_before}
+
+but_lock : (x y z : Bool) → x ≡ z → (not x && y) ≡ (not z && y)
+but_lock x y z e = ap (λ b. not b && y) e
 
 left_in : (rest next i j : ℕ) → ((k : ℕ) → has next k ≡ (not (k == i) && has rest k)) → has next j ≡ true → (j ≢ i) × (has rest j ≡ true)
 left_in rest next i j e h = elim (j == i) as (λ (x : Bool). (j == i) ≡ x → (not x && has rest j) ≡ true → (j ≢ i) × (has rest j ≡ true)) [
@@ -24,10 +27,7 @@ left_in rest next i j e h = elim (j == i) as (λ (x : Bool). (j == i) ≡ x → 
 ] refl (sym (e j) ∙ h)
 
 gone_in : (rest next i j : ℕ) → ((k : ℕ) → has next k ≡ (not (k == i) && has rest k)) → has next j ≡ false → j ≢ i → has rest j ≡ false
-gone_in rest next i j e h ne = let f : (j == i) ≡ false = grind (arith, nat_tests) in sym (ap (λ (x : Bool). not x && has rest j) f) ∙ (sym (e j) ∙ h)
-
-releases_all : (b : Block) (i : ℕ) → ends_thread b.end ≡ true → ends_section i b ≡ true
-releases_all b i e = or_right (unlocks i b.end) (ends_thread b.end) e
+gone_in rest next i j e h ne = let f : (j == i) ≡ false = grind (arith, nat_tests) in sym (but_lock (j == i) (has rest j) false f) ∙ (sym (e j) ∙ h)
 
 pub known_in : (p : PackageView) (i : ℕ) (o : Option LockView) → IsSoundPackage p → locked_in p i ≡ o → is_some o ≡ true → i < length p.image.guards
 known_in p i None s e f = let n : ⊥ = cc in absurd n
@@ -52,24 +52,17 @@ pub none_left : (P : Type 0) (Q : ℕ → Type 0) (o : Option ℕ) → MatchOpti
 none_left P Q None h n = h
 none_left P Q (Some x) h n = absurd (n x refl)
 
--- the threads in the list and the locks that are left are MAX_HELD at most
-pub few_at_end : (v : Knows) (n : ℕ) (b : Block) (q : PackageView) → IsSoundPackage q → MayEnd v n b q → length (locks_of b.held) ≤ MAX_HELD
-few_at_end v n b q s m = (left_after q.image q b s.left m.last).few
-
 nothing_left : (j : ℕ) → has 0 j ≡ false
 nothing_left j = ap (λ (n : ℕ). n == 1) (bit_at-zero j)
 
-not_running : (q : PackageView) (b : Block) → IsSoundPackage q → last_of q.log ≡ Some b → ends_thread b.end ≡ true → is_running q.context.guest.status ≡ false
-not_running q b s e r = (left_after q.image q b s.left e).runs ∙ ap not r
-
 -- ---- the least of a set comes first
-
-both_kept : (v w : Bool) (x : ℕ) (xs ys : List ℕ) → v ≡ w → xs ≡ ys → cond v (x ∷ xs) xs ≡ cond w (x ∷ ys) ys
-both_kept v w x xs ys e f = λ j. cond (e j) (x ∷ f j) (f j)
 
 same_past : (p q : ℕ → Bool) (i a n : ℕ) → ((k : ℕ) → k ≢ i → q k ≡ p k) → i < a → filter p (range_with_len a n) ≡ filter q (range_with_len a n)
 same_past p q i a zero same low = refl
-same_past p q i a (suc n) same low = both_kept (p a) (q a) a _ _ (sym (same a (λ e. let z : ⊥ = omega arith in z))) (same_past p q i (a + 1) n same (omega arith))
+same_past p q i a (suc n) same low =
+    let e : p a ≡ q a = sym (same a (λ e. let z : ⊥ = omega arith in z)) in
+    let rest = same_past p q i (a + 1) n same (omega arith) in
+    λ j. cond (e j) (a ∷ rest j) (rest j)
 
 not_yet : (p : ℕ → Bool) (i a : ℕ) → ((k : ℕ) → p k ≡ true → i ≤ k) → a < i → p a ≡ false
 not_yet p i a least low = elim (p a) as (λ (x : Bool). p a ≡ x → x ≡ false) [
@@ -86,26 +79,13 @@ least_first p q i a (suc n) same out in_it least low high = elim (eqb_tells a i)
       cond-false (p a) _ _ off ∙ (least_first p q i (a + 1) n same out in_it least (omega arith) (omega arith) ∙ ap (λ (l : List ℕ). i ∷ l) (sym (cond-false (q a) _ _ (same a ne ∙ off))))
 ]
 
-other_lock : (x y : Bool) → x ≡ false → (not x && y) ≡ y
-other_lock x y e = ap (λ b. not b && y) e
-
-same_lock : (x y : Bool) → x ≡ true → (not x && y) ≡ false
-same_lock x y e = ap (λ b. not b && y) e
-
 locks_first : (rest next i : ℕ) → ((k : ℕ) → has next k ≡ (not (k == i) && has rest k)) → has rest i ≡ true → ((k : ℕ) → has rest k ≡ true → i ≤ k) → i < 32 → locks_of rest ≡ i ∷ locks_of next
 unfolding locks_of
 locks_first rest next i each waits least small = least_first (has rest) (has next) i 0 32
-    (λ k ne. each k ∙ other_lock (k == i) (has rest k) (grind (arith, nat_tests)))
-    (each i ∙ same_lock (i == i) (has rest i) (grind (arith, nat_tests))) waits least (omega arith) (omega arith)
-
-no_locks : locks_of 0 ≡ []
-unfolding locks_of
-no_locks = refl
+    (λ k ne. each k ∙ but_lock (k == i) (has rest k) false (grind (arith, nat_tests)))
+    (each i ∙ but_lock (i == i) (has rest i) true (grind (arith, nat_tests))) waits least (omega arith) (omega arith)
 
 -- ---- one lock more
-
-still_out : (rest next i j : ℕ) → ((k : ℕ) → has next k ≡ (not (k == i) && has rest k)) → has rest j ≡ false → has next j ≡ false
-still_out rest next i j each f = each j ∙ and_right (not (j == i)) (has rest j) f
 
 same_turn : (p q : PackageView) (i : ℕ) → bare p ≡ bare q → p.numbers ≡ q.numbers → turn_of p i ≡ turn_of q i
 same_turn p q i same numbers = λ j. record { thread = (same j).context.thread; number = slice_index_or (numbers j) i 0 }
@@ -153,7 +133,7 @@ leaves_more k b q p r rest next i ss ts us h g m was is y waits least small each
       (λ (s : j ≡ i). subst (λ (n : ℕ). Asks (turn_of q n) (seat_at ss n) (seat_at us n)) (sym s) (subst₂ (λ (u : Turn) (a : SeatView). Asks u a (seat_at us i)) (same_turn p q i y.same y.numbers) (y.wait i waits) d.asks))
       (λ (ne : j ≢ i). subst (λ (a : SeatView). Asks (turn_of q j) (seat_at ss j) a) (sym (others j ne)) (y.asks j held (gone_in rest next i j each f ne)));
   order = λ vs es end agree l.
-      let here : seat_at vs i ≡ seat_at us i = agree i (each i ∙ same_lock (i == i) (has rest i) (grind (arith, nat_tests))) in
+      let here : seat_at vs i ≡ seat_at us i = agree i (each i ∙ but_lock (i == i) (has rest i) true (grind (arith, nat_tests))) in
       let x : OneLeft k.image.value b q i (seat_at ss i) (seat_at vs i) was = record {
         state = d.state;
         here = sym (y.left i waits) ∙ d.taken.was;
@@ -163,17 +143,18 @@ leaves_more k b q p r rest next i ss ts us h g m was is y waits least small each
       } in
       let all : LeftInOrder k.image.value b q ss vs (locks_of rest) (d.calls ++ es) was end = subst (λ (n : List ℕ). LeftInOrder k.image.value b q ss vs n (d.calls ++ es) was end) (sym (locks_first rest next i each waits least small)) (x, es, refl, l) in
       subst (λ (c : List Call). LeftInOrder k.image.value b q ss vs (locks_of b.held) c false end) (sym (append_assoc y.calls d.calls es))
-      (y.order vs (d.calls ++ es) end (λ j f. agree j (still_out rest next i j each f) ∙ others j (λ e. let z : has rest i ≡ false = ap (has rest) (sym e) ∙ f in let n : ⊥ = cc in n)) all);
+      (y.order vs (d.calls ++ es) end (λ j f. agree j (each j ∙ and_right (not (j == i)) (has rest j) f) ∙ others j (λ e. let z : has rest i ≡ false = ap (has rest) (sym e) ∙ f in let n : ⊥ = cc in n)) all);
 }
 
 pub left_all : (k : Terms) (b : Block) (q p : PackageView) (rest : ℕ) (ss ts : List SeatView) (h g : Hands) (now : Bool) → rest ≡ 0 → Ending k b q p rest ss ts h g now → DidLeaveAll k b q p ss ts h g now
+unfolding locks_of
 left_all k b q p rest ss ts h g now none y0 = let y : Ending k b q p 0 ss ts h g now = subst (λ (n : ℕ). Ending k b q p n ss ts h g now) none y0 in record {
   calls = y.calls;
   acted = y.acted;
   aside = y.aside;
   emptied = record { same = y.same; granted = y.granted; free = λ j. y.gone j (nothing_left j) };
   seats = record { count = y.count; others = y.others; asks = λ j held. y.asks j held (nothing_left j) };
-  order = subst (λ (c : List Call). LeftInOrder k.image.value b q ss ts (locks_of b.held) c false now) (append-nil y.calls) (y.order ts [] now (λ j f. refl) (subst (λ (n : List ℕ). LeftInOrder k.image.value b q ss ts n [] now now) (sym no_locks) (refl, refl)));
+  order = subst (λ (c : List Call). LeftInOrder k.image.value b q ss ts (locks_of b.held) c false now) (append-nil y.calls) (y.order ts [] now (λ j f. refl) (refl, refl));
 }
 
 -- ---- what the next may ask
@@ -189,7 +170,7 @@ may_release k b q p rest i ss ts h g now m y waits low = record {
   settled = ap (λ (c : PackageView). c.pending) y.same ∙ m.settled;
   granted = y.granted ∙ m.granted;
   last = ap (λ (c : PackageView). last_of c.log) y.same ∙ m.last;
-  released = (y.within i waits, releases_all b i m.ended);
+  released = (y.within i waits, or_right (unlocks i b.end) (ends_thread b.end) m.ended);
   worker = m.worker ∙ sym y.acted.acts.adds.told.worker;
   here = ap is_some (y.left i waits) ∙ (m.locks i ∙ y.within i waits);
 }
@@ -202,19 +183,6 @@ lock_in_hall hall n m b q p rest i ss ts h g now a e y s waits =
 module _ {S X : Type 0} where
   pub seat_in : (seen : S → SeatView) (queue : X → QueueView) (k : Terms) (qs : List X) (ss ts : List S) (i : ℕ) (x : X) (s : S) → s ≡ get_or ts i s → AreSeats k (map queue qs) (map seen ss) → seat_at (map seen ts) i ≡ seat_at (map seen ss) i → i < locks k → i < length ts → IsSeatFor (threads k) (queue (get_or qs i x)) (seen (get_or ts i s))
   seat_in seen queue k qs ss ts i x s is of same low deep = subst₂ (λ (a : QueueView) (b : SeatView). IsSeatFor (threads k) a b) (map_at queue qs i x) (sym same ∙ (seat_before seen ts i s no_seat deep is ∙ ap seen is)) (of i (queue x) no_seat low)
-
--- one thread at most was put as ready
-few_left : (image : Shown) (l : LockView) (b : Block) (own : Turn) (s t : SeatView) (cs : List Call) (was is : Bool) → LeftAs image l b own s t cs was is → length (ready_in cs) ≤ 1
-few_left image l b own s t cs false false h = ⊎_elim (λ y. few_followed image l b own s t cs Home y) (λ y. few_followed image l b own s t cs Was_granted y) h
-few_left image l b own s t cs false true h = few_followed image l b own s t cs Was_stopped h
-few_left image l b own s t cs true false h = absurd h
-few_left image l b own s t cs true true h = few_in cs (Free l.number ∷ []) h.1 (omega arith)
-
-pub few_more : (k : Terms) (i : ℕ) (b : Block) (q p : PackageView) (s t : SeatView) (h g : Hands) (was is : Bool) → DidLeave k i b q p s t h g was is → length g.ready.items ≤ length h.ready.items + 1
-few_more k i b q p s t h g was is d =
-    let few = few_left k.image.value d.state b (turn_of q i) s t d.calls was is d.became in
-    let all : length g.ready.items ≡ length h.ready.items + length (ready_in d.calls) = ap (λ (l : List ℕ). length l) d.acted.readied.0 ∙ length-append h.ready.items (ready_in d.calls) in
-    omega arith
 
 -- ---- once all of them were passed on
 
@@ -229,7 +197,7 @@ emptied_plain v n b q p m h = record {
 
 emptied_order : (v : Knows) (n : ℕ) (b : Block) (q p : PackageView) → MayEnd v n b q → IsSoundPackage q → IsEmptied q p → IsInOrder 2 p
 emptied_order v n b q p m s h = record {
-  ended = λ e. (ap (λ (c : PackageView). is_running c.context.guest.status) h.same ∙ not_running q b s m.last m.ended, λ i. h.free i);
+  ended = λ e. (ap (λ (c : PackageView). is_running c.context.guest.status) h.same ∙ (left_after q.image q b s.left m.last).runs ∙ ap not m.ended, λ i. h.free i);
   runs = λ ne. absurd (ne refl);
   own = λ i l e. let g = h.free i in let k : ⊥ = cc in absurd k;
   waits = λ i e. let k : ⊥ = omega arith in absurd k;
@@ -251,21 +219,25 @@ module _ (hall : HallView) (b : Block) (q p : PackageView) (ss ts : List SeatVie
   }
 
   pub ends_done : (g : Hands) → DidLeaveAll hall.terms b q p ss ts h m false → Acts (put_call p Done ∷ []) (Pack p ∷ []) [] m.pass g.pass → g.ready.items ≡ m.ready.items → g.aside ≡ m.aside → Ends hall.terms b q ss ts h g Has_ended
-  ends_done g d a e f = record {
-    calls = d.calls ++ put_call p Done ∷ [];
-    answers = then_answers hall.terms d.calls (put_call p Done ∷ []) q p h m g Has_ended d.acted d.aside
-        (keeps_answers hall (put_call p Done ∷ []) p m g Has_ended (at_end false d) (wider (put_call p Done ∷ []) p m g f a) (takes_none (threads hall.terms) m.ready.items g.ready.items (put_call p Done ∷ []) e refl) f);
-    seats = d.seats;
-    ended = (p, d.calls, refl, d.emptied, d.order, f ∙ d.aside);
-  }
+  ends_done g d a e f = (
+    d.seats,
+    record {
+      calls = d.calls ++ put_call p Done ∷ [];
+      answers = then_answers hall.terms d.calls (put_call p Done ∷ []) q p h m g Has_ended d.acted d.aside
+          (keeps_answers hall (put_call p Done ∷ []) p m g Has_ended (at_end false d) (wider (put_call p Done ∷ []) p m g f a) (takes_none (threads hall.terms) m.ready.items g.ready.items (put_call p Done ∷ []) e refl) f);
+      became = (p, d.calls, refl, d.emptied, d.order, f ∙ d.aside);
+    },
+  )
 
   pub ends_stopped : (g : Hands) → DidLeaveAll hall.terms b q p ss ts h m true → PutAllBack p m g → Ends hall.terms b q ss ts h g Did_stop
-  ends_stopped g d a = record {
-    calls = d.calls ++ back p m.aside;
-    answers = then_answers hall.terms d.calls (back p m.aside) q p h m g Did_stop d.acted d.aside (back_answers hall.terms p m g a);
-    seats = d.seats;
-    ended = (p, d.calls, ap (λ (o : Option PackageView). d.calls ++ back p o) d.aside, d.emptied, d.order, a.aside);
-  }
+  ends_stopped g d a = (
+    d.seats,
+    record {
+      calls = d.calls ++ back p m.aside;
+      answers = then_answers hall.terms d.calls (back p m.aside) q p h m g Did_stop d.acted d.aside (back_answers hall.terms p m g a);
+      became = (p, d.calls, ap (λ (o : Option PackageView). d.calls ++ back p o) d.aside, d.emptied, d.order, a.aside);
+    },
+  )
 
 pub same_seats : (b : Block) (q : PackageView) (ss ts : List SeatView) → SeatsLeft b q ss ts → AreSameSeats ss ts
 same_seats b q ss ts h = record {

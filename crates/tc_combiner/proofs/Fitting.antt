@@ -1,6 +1,6 @@
 -- A desk that fits a bench still fits it after its calls.
 use Rattle.std.proofs.Common.{◌≡◌, ◌<◌, ◌≤◌, ℕ, List, length, get_or, map, Vec, sym, ap, ◌∙◌, subst, subst₂, ◌∷◌, ◌++◌, arith, Option, Some}
-use Rattle.tc_combiner.proofs.Vocabulary.{AreSameSeats, AreSeats, BenchView, DeskView, Did_adopt, FitsBench, GoesOn, Hands, HasSeats, IsAside, IsAt, IsInHand, IsSamePass, IsSeatFor, IsSoundPackage, Item, Keeps, Knows, MayAcquire, MayAsk, Moves, Owned, Pack, PackageView, PassView, QueueView, Rest, SeatView, Settled, Shown, TellsReady, WantIsLawful, Works, carried, desk_of, get_or_default, length-map, locks, no_seat, packed, seat_at, threads, want_of}
+use Rattle.tc_combiner.proofs.Vocabulary.{AreSameSeats, AreSeats, BenchView, DeskView, Did_adopt, FitsBench, GoesOn, Hands, HasSeats, IsAside, IsAt, IsInHand, IsSamePass, IsSeatFor, IsSoundPackage, Item, Keeps, KeepsParts, Knows, MayAcquire, MayAsk, Owned, Pack, PackageView, PassView, QueueView, Rest, SeatView, Settled, Shown, WantIsLawful, carried, desk_of, get_or_default, length-map, locks, no_seat, packed, seat_at, threads, want_of}
 use Rattle.tc_combiner.proofs.Acting.{owned_by}
 use Rattle.tc_combiner.proofs.Answering.{walks_of}
 use Rattle.tc_combiner.proofs.Unlocking.{without_first}
@@ -37,30 +37,26 @@ aside_out w (GoesOn q) xs o = without_first w (Pack q) xs o
 aside_out w (Did_adopt q) xs o = without_first w (Pack q) xs o
 aside_out w r xs o = o
 
--- what the calls of a desk that had the package q keep, as its public clauses say it
-abbrev pub Kept : BenchView → PackageView → DeskView → DeskView → Settled → Type 0
-Kept b q d e r = Works d e × Moves d.pass.knows e.pass.knows (Pack q ∷ packed d.aside) (carried r ++ packed e.aside) × TellsReady b.hall.terms r d e × FitsBench b e
-
-pub kept : (b : BenchView) (q : PackageView) (ss ts : List SeatView) (x y : Rest) (p : PassView) (a : Option PackageView) (g : Hands) (hs : List ℕ) (r : Settled) → FitsBench b (desk_of p ss x.sleepers x.clock a hs) → Owned p.knows (Pack q ∷ packed a) → Keeps b.hall.terms q ss ts x y p a g r → Kept b q (desk_of p ss x.sleepers x.clock a hs) (desk_of g.pass ts y.sleepers y.clock g.aside g.ready.items) r
-kept b q ss ts x y p a g hs r fits hand k = (
-  record { own = k.acts.own; walks = walks_of k.calls p.knows g.pass.knows k.acts.adds; now = k.clock; room = k.room },
-  k.acts.moves,
-  (k.calls, k.acts.adds, k.readied),
-  fits_after b p g.pass ss ts x.sleepers y.sleepers x.clock y.clock a g.aside hs g.ready.items fits k.acts.own k.acts.adds.told.image k.seats k.room k.aside (aside_out g.pass.knows r (packed g.aside) (owned_by p.knows g.pass.knows (Pack q ∷ packed a) (carried r ++ packed g.aside) k.acts.moves hand)),
-)
+pub kept : (b : BenchView) (q : PackageView) (ss ts : List SeatView) (x y : Rest) (p : PassView) (a : Option PackageView) (g : Hands) (hs : List ℕ) (r : Settled) → FitsBench b (desk_of p ss x.sleepers x.clock a hs) → Owned p.knows (Pack q ∷ packed a) → KeepsParts b.hall.terms q ss ts x y p a g r → Keeps b q (desk_of p ss x.sleepers x.clock a hs) (desk_of g.pass ts y.sleepers y.clock g.aside g.ready.items) r
+kept b q ss ts x y p a g hs r fits hand k = record {
+  works = record { own = k.acts.own; walks = walks_of k.calls p.knows g.pass.knows k.acts.adds; now = k.clock; room = k.room };
+  moves = k.acts.moves;
+  readied = (k.calls, k.acts.adds, k.readied);
+  fits = fits_after b p g.pass ss ts x.sleepers y.sleepers x.clock y.clock a g.aside hs g.ready.items fits k.acts.own k.acts.adds.told.image k.seats k.room k.aside (aside_out g.pass.knows r (packed g.aside) (owned_by p.knows g.pass.knows (Pack q ∷ packed a) (carried r ++ packed g.aside) k.acts.moves hand));
+}
 
 -- so it is of the desk whose parts these are, and what else was done with these parts was done with the desk
 module _ {S Z : Type 0} (seen : S → SeatView) (v : Vec S Z) (xs ts : List S) (e : xs ≡ v.items) where
-  pub kept_back : (P : DeskView → DeskView → Type 0) (b b' : BenchView) (q : PackageView) (x y : Rest) (h g : Hands) (d : DeskView) (r : Settled) → b ≡ b' → desk_of h.pass (map seen v.items) x.sleepers x.clock h.aside h.ready.items ≡ d → FitsBench b' d → IsInHand d q → Keeps b.hall.terms q (map seen xs) (map seen ts) x y h.pass h.aside g r
+  pub kept_back : (P : DeskView → DeskView → Type 0) (b b' : BenchView) (q : PackageView) (x y : Rest) (h g : Hands) (d : DeskView) (r : Settled) → b ≡ b' → desk_of h.pass (map seen v.items) x.sleepers x.clock h.aside h.ready.items ≡ d → FitsBench b' d → IsInHand d q → KeepsParts b.hall.terms q (map seen xs) (map seen ts) x y h.pass h.aside g r
       → P (desk_of h.pass (map seen xs) x.sleepers x.clock h.aside h.ready.items) (desk_of g.pass (map seen ts) y.sleepers y.clock g.aside g.ready.items)
-      → Kept b' q d (desk_of g.pass (map seen (with_items v ts).items) y.sleepers y.clock g.aside g.ready.items) r × P d (desk_of g.pass (map seen (with_items v ts).items) y.sleepers y.clock g.aside g.ready.items)
+      → Keeps b' q d (desk_of g.pass (map seen (with_items v ts).items) y.sleepers y.clock g.aside g.ready.items) r × P d (desk_of g.pass (map seen (with_items v ts).items) y.sleepers y.clock g.aside g.ready.items)
   kept_back P b b' q x y h g d r bench is fits hand keeps did =
       let after : List S → DeskView = λ zs. desk_of g.pass (map seen zs) y.sleepers y.clock g.aside g.ready.items in
       let before : DeskView = desk_of h.pass (map seen xs) x.sleepers x.clock h.aside h.ready.items in
       let same : before ≡ d = ap (λ zs. desk_of h.pass (map seen zs) x.sleepers x.clock h.aside h.ready.items) e ∙ is in
-      let all : Kept b q before (after ts) r = kept b q (map seen xs) (map seen ts) x y h.pass h.aside g h.ready.items r (subst₂ FitsBench (sym bench) (sym same) fits) (subst (λ (z : DeskView). IsInHand z q) (sym same) hand) keeps in
-      subst (λ zs. Kept b' q d (after zs) r × P d (after zs)) (sym (written_back seen v xs ts e keeps.seats))
-      (subst₂ (λ (c : BenchView) (z : DeskView). Kept c q z (after ts) r × P z (after ts)) bench same (all, did))
+      let all : Keeps b q before (after ts) r = kept b q (map seen xs) (map seen ts) x y h.pass h.aside g h.ready.items r (subst₂ FitsBench (sym bench) (sym same) fits) (subst (λ (z : DeskView). IsInHand z q) (sym same) hand) keeps in
+      subst (λ zs. Keeps b' q d (after zs) r × P d (after zs)) (sym (written_back seen v xs ts e keeps.seats))
+      (subst₂ (λ (c : BenchView) (z : DeskView). Keeps c q z (after ts) r × P z (after ts)) bench same (all, did))
 
 -- the package may ask for the lock that it wants
 pub may_want : (b b' : BenchView) (d : DeskView) (q : PackageView) (i : ℕ) (o : Option ℕ) → b ≡ b' → FitsBench b' d → MayAcquire b'.image q → IsSoundPackage q → WantIsLawful q → o ≡ want_of b.image q.context → o ≡ Some i → MayAsk b.hall.terms i q

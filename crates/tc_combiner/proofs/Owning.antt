@@ -1,6 +1,6 @@
 -- What is out, split among those who have it in hand.
 use Rattle.std.proofs.Common.{◌≡◌, ◌≢◌, ℕ, ◌==◌, Bool, true, false, if◌then◌else◌, List, [], ◌∷◌, ◌++◌, refl, sym, ap, ◌∙◌, subst, arith, Option, Some, None}
-use Rattle.tc_combiner.proofs.Vocabulary.{DidGrant, DidTakeOut, IsOut, IsPlaced, Item, Kind, Knows, LockView, Loose, Moves, Outs, Owned, Owns, Pack, PackageView, Within, bare, erase, keep, kept, locked_in, minus, nat_tests, outs, part, unless, with_turns}
+use Rattle.tc_combiner.proofs.Vocabulary.{DidGrant, DidTakeOut, IsOut, IsPlaced, Item, Kind, Knows, LockView, Loose, Moves, Outs, Owns, Pack, PackageView, Within, bare, erase, keep, kept, locked_in, minus, nat_tests, outs, part, unless, with_turns}
 
 module _ {A : Type 0} where
   -- a, or else d
@@ -78,26 +78,21 @@ pub record AreApart (a d : Outs) : Type 0 where
   pub contexts : (u : ℕ) (c : PackageView) → d.context u ≡ Some c → a.context u ≡ None
   pub locks : (i : ℕ) (l : LockView) → d.lock i ≡ Some l → a.lock i ≡ None
 
-either_left : {A : Type 0} (a d : Option A) (c : A) → a ≡ Some c → either a d ≡ Some c
-either_left None d c e = let n : ⊥ = cc in absurd n
-either_left (Some a) d c e = e
-
-either_right : {A : Type 0} (a d : Option A) → a ≡ None → either a d ≡ d
-either_right None d e = refl
-either_right (Some a) d e = let n : ⊥ = cc in absurd n
+either_at : {A : Type 0} (a b d : Option A) → a ≡ b → either a d ≡ either b d
+either_at a b d e = ap (λ (z : Option _). either z d) e
 
 pub parted : (b o : Outs) (x y z : Item) (zs : List Item) → Joins (part x) (part y) (part z) → AreApart (part x) (part y) → Owns b o (z ∷ zs) → Owns b o (x ∷ y ∷ zs)
 parted b o x y z zs j p h =
     let fx = part x in
     let fy = part y in (
       record {
-        contexts = λ u c e. h.0.contexts u c (j.contexts u ∙ either_left (fx.context u) (fy.context u) c e);
-        locks = λ i c e. h.0.locks i c (j.locks i ∙ either_left (fx.lock i) (fy.lock i) c e);
+        contexts = λ u c e. h.0.contexts u c (j.contexts u ∙ either_at (fx.context u) (Some c) (fy.context u) e);
+        locks = λ i c e. h.0.locks i c (j.locks i ∙ either_at (fx.lock i) (Some c) (fy.lock i) e);
       },
       (
         record {
-          contexts = λ u c e. unless_free (fx.context u) (o.context u) (p.contexts u c e) ∙ h.0.contexts u c (j.contexts u ∙ (either_right (fx.context u) (fy.context u) (p.contexts u c e) ∙ e));
-          locks = λ i c e. unless_free (fx.lock i) (o.lock i) (p.locks i c e) ∙ h.0.locks i c (j.locks i ∙ (either_right (fx.lock i) (fy.lock i) (p.locks i c e) ∙ e));
+          contexts = λ u c e. unless_free (fx.context u) (o.context u) (p.contexts u c e) ∙ h.0.contexts u c (j.contexts u ∙ (either_at (fx.context u) None (fy.context u) (p.contexts u c e) ∙ e));
+          locks = λ i c e. unless_free (fx.lock i) (o.lock i) (p.locks i c e) ∙ h.0.locks i c (j.locks i ∙ (either_at (fx.lock i) None (fy.lock i) (p.locks i c e) ∙ e));
         },
         subst (λ (w : Outs). Owns b w zs) (sym (minus_join o (part x) (part y) (part z) j)) h.1,
       ),
@@ -182,26 +177,14 @@ taken_with i l p q d = record {
 }
 
 -- the count of a package's turns is no part of what is out
-pub counted : (v : Knows) (p : PackageView) (n : ℕ) → Moves v v (Pack p ∷ []) (Pack (with_turns n p) ∷ [])
-counted v p n b zs o = (record { contexts = o.0.contexts; locks = o.0.locks }, o.1)
+pub counts_in : (v : Knows) (p q : PackageView) (n : ℕ) (xs : List Item) → q ≡ with_turns n p → Moves v v (Pack p ∷ xs) (Pack q ∷ xs)
+counts_in v p q n xs e b zs o = subst (λ (z : PackageView). Owns b (outs v) (Pack z ∷ (xs ++ zs))) (sym e) (record { contexts = o.0.contexts; locks = o.0.locks }, o.1)
 
 pub takes_in : (v w : Knows) (l : LockView) (p q : PackageView) → Moves v w [] (Loose l ∷ []) → IsWith l p q → Moves v w (Pack p ∷ []) (Pack q ∷ [])
 takes_in v w l p q m h b zs o = goes_in w l p q h b zs (swap b (outs w) (Loose l) (Pack p) zs (m b (Pack p ∷ zs) o))
 
-pub counted_then : (v w : Knows) (p q : PackageView) (n : ℕ) (xs ys : List Item) → q ≡ with_turns n p → Moves v w (Pack q ∷ xs) ys → Moves v w (Pack p ∷ xs) ys
-counted_then v w p q n xs ys e m b zs o = subst (λ (z : PackageView). Owns b (outs v) (Pack z ∷ (xs ++ zs)) → Owns b (outs w) (ys ++ zs)) e (m b zs) (counted v p n b (xs ++ zs) o)
-
-pub counted_owned : (v : Knows) (p q : PackageView) (n : ℕ) (xs : List Item) → q ≡ with_turns n p → Owned v (Pack p ∷ xs) → Owned v (Pack q ∷ xs)
-counted_owned v p q n xs e o = subst (λ (z : PackageView). Owned v (Pack z ∷ xs)) (sym e) (o.0, (record { contexts = o.1.0.contexts; locks = o.1.0.locks }, o.1.1))
-
-pub owned_changed : (v w : Knows) (x y : Item) (xs : List Item) → Moves v w (x ∷ []) (y ∷ []) → Owned v (x ∷ xs) → Owned w (y ∷ xs)
-owned_changed v w x y xs m o = (o.0, m o.0 xs o.1)
-
 pub granted_moves : (v : Knows) (l : LockView) (k : Kind) (n : ℕ) (p q : PackageView) → DidGrant l k n p q → locked_in p l.number ≡ None → Moves v v (Pack p ∷ Loose l ∷ []) (Pack q ∷ [])
 granted_moves v l k n p q d free = goes_in v l p q (granted_with l k n p q d free)
-
-pub owned_then : (v w : Knows) (xs ys : List Item) → Owned v (xs ++ []) → Moves v w xs ys → Owned w (ys ++ [])
-owned_then v w xs ys o m = (o.0, m o.0 [] o.1)
 
 -- the last of these comes first
 pub rotate : (b o : Outs) (x : Item) (ys zs : List Item) → Owns b o (ys ++ (x ∷ zs)) → Owns b o (x ∷ (ys ++ zs))

@@ -12,25 +12,11 @@ pub taken_allowed : (k limit w : ℕ) (bs : List Block) → IfSome (last_of bs) 
 unfolding allows_of
 taken_allowed k limit w bs h = taken_begins k limit (run_of k bs) w (last_of bs) h
 
-ungranted : (g : Option Grant) (i : ℕ) → g ≡ None → granted_lock g ≡ Some i → ⊥
-ungranted None i e f = cc
-ungranted (Some g) i e f = cc
-
 pub only_held : (p : PackageView) → HasNoOther p → p.granted ≡ None → HasOnlyHeld p
-only_held p h free i l e = ⊎_elim (λ y. y) (λ y. absurd (ungranted p.granted i free y)) (h i l e)
+only_held p h free i l e = ⊎_elim (λ y. y) (λ y. let f : granted_lock p.granted ≡ None = ap granted_lock free in let n : ⊥ = cc in absurd n) (h i l e)
 
 pub no_other : (p : PackageView) → HasOnlyHeld p → HasNoOther p
 no_other p h i l e = inl (h i l e)
-
-pub granted_no_other : (l : LockView) (k : Kind) (n : ℕ) (p q : PackageView) → DidGrant l k n p q → HasOnlyHeld p → HasNoOther q
-granted_no_other l k n p q d h i m e = dite (ℕ_discrete i l.number)
-    (λ (s : i ≡ l.number). inr (ap (λ (c : PackageView). granted_lock c.granted) d.is ∙ ap (λ (j : ℕ). Some j) (sym s)))
-    (λ (ne : i ≢ l.number). inl (ap (λ (c : PackageView). has c.context.guest.held i) d.is ∙ h i m (sym (place_other l.number (Some l) p q d.locks i ne) ∙ e)))
-
-pub granted_fits : (l : LockView) (k : Kind) (n w : ℕ) (p q : PackageView) → DidGrant l k n p q → allows_of l.number l.journal.limit (blocks_of l) k w ≡ true → fits_of q w ≡ true
-granted_fits l k n w p q d a =
-    ap (λ (g : Option Grant). fits_granted q.context g w) (ap (λ (c : PackageView). c.granted) d.is)
-    ∙ (ap (λ (o : Option LockView). fits_in o l.number k w) (place_here l.number (Some l) p q d.locks) ∙ a)
 
 pub granted_good : (l : LockView) (k : Kind) (n w : ℕ) (image : Shown) (p q : PackageView) → DidGrant l k n p q → p.image ≡ image → p.pending ≡ None → Runs p → HasOnlyHeld p
     → allows_of l.number l.journal.limit (blocks_of l) k w ≡ true → IsGood q image w
@@ -38,8 +24,11 @@ granted_good l k n w image p q d of s r h a = record {
   of = ap (λ (c : PackageView). c.image) d.is ∙ of;
   settled = ap (λ (c : PackageView). c.pending) d.is ∙ s;
   runs = ap (λ (c : PackageView). is_running c.context.guest.status) d.is ∙ r;
-  locks = granted_no_other l k n p q d h;
-  fits = granted_fits l k n w p q d a;
+  locks = λ i m e. dite (ℕ_discrete i l.number)
+      (λ (s : i ≡ l.number). inr (ap (λ (c : PackageView). granted_lock c.granted) d.is ∙ ap (λ (j : ℕ). Some j) (sym s)))
+      (λ (ne : i ≢ l.number). inl (ap (λ (c : PackageView). has c.context.guest.held i) d.is ∙ h i m (sym (place_other l.number (Some l) p q d.locks i ne) ∙ e)));
+  fits = ap (λ (g : Option Grant). fits_granted q.context g w) (ap (λ (c : PackageView). c.granted) d.is)
+      ∙ (ap (λ (o : Option LockView). fits_in o l.number k w) (place_here l.number (Some l) p q d.locks) ∙ a);
 }
 
 pub taken_good : (i : ℕ) (l : LockView) (n m w : ℕ) (image : Shown) (p q : PackageView) → DidTake i l n p q → p.image ≡ image → IsPlain m p → Runs p → IsGood q image w

@@ -1,6 +1,6 @@
 -- What the end of a package's last block says of the package.
 use Rattle.std.proofs.Common.{◌≡◌, ◌≢◌, ◌<◌, ◌≤◌, ◌+◌, ℕ, Bool, true, false, not, ◌&&◌, ◌||◌, ◌==◌, if◌then◌else◌, List, [], ◌∷◌, length, refl, sym, ap, ◌∙◌, subst, arith, Option, Some, None, is_some}
-use Rattle.tc_combiner.proofs.Vocabulary.{AcquiredAs, Acquires, Answers, AreSameSeats, AtSeat, Block, Call, Cut, DeskView, DidAcquire, DidEnd, DidUnlock, End, EndedAs, Ends, HallView, Hands, HasBlock, HasHeldAnd, HasOnlyHeld, HasReadied, IsAfter, IsAfterBlock, IsAtHall, IsPlain, IsSoundPackage, Item, Keeps, Knows, LockView, MAX_HELD, MayAct, MayAsk, MayEnd, MayGoOn, MayPark, MayRelease, MaySettle, MayUnlock, PackageView, Rest, Runs, SeatView, Settled, SettledAs, Shown, Slept, Terms, Unlocked, UnlockedAs, Unlocks, WantIsLawful, Wants, Wants_lock, desk_of, ends_section, ends_thread, has, last_of, locked_in, locks, nat_tests, next_lock, seat_at, thread_in, threads}
+use Rattle.tc_combiner.proofs.Vocabulary.{AcquiredAs, Acquires, Answers, AreSameSeats, AtSeat, Block, Call, Cut, DeskView, DidAcquire, DidEnd, DidUnlock, End, EndedAs, Ends, HallView, Hands, HasBlock, HasHeldAnd, HasOnlyHeld, HasReadied, IsAfter, IsAfterBlock, IsAtHall, IsPlain, IsSoundPackage, Item, KeepsParts, Knows, LockView, MAX_HELD, MayAct, MayAsk, MayEnd, MayGoOn, MayPark, MayRelease, MaySettle, MayUnlock, PackageView, Rest, Runs, SeatView, Settled, SettledAs, Shown, Slept, Terms, Unlocked, UnlockedAs, Unlocks, WantIsLawful, Wants, Wants_lock, desk_of, ends_section, ends_thread, has, last_of, locked_in, locks, nat_tests, next_lock, seat_at, thread_in, threads}
 use Rattle.tc_combiner.proofs.PassedOn.{left_after}
 use Rattle.tc_combiner.proofs.Ending.{known_in}
 
@@ -8,12 +8,12 @@ and_true : (x : Bool) → (x && not false) ≡ x
 and_true true = refl
 and_true false = refl
 
-same_block : (a b : Block) → Some a ≡ Some b → a ≡ b
-same_block a b e = cc
-
 -- the package's last block is the one that the caller knows of
 pub after_last : (image : Shown) (worker : ℕ) (end this : End) (b : Block) (q : PackageView) → end ≡ this → MaySettle image worker end q → last_of q.log ≡ Some b → IsAfterBlock image worker this b q
-after_last image worker end this b q is m e = subst (λ (x : End). IsAfterBlock image worker x b q) is (subst (λ (x : Block). IsAfterBlock image worker end x q) (same_block m.0 b (sym m.1.last ∙ e)) m.1)
+after_last image worker end this b q is m e =
+    let last : Some m.0 ≡ Some b = sym m.1.last ∙ e in
+    let same : m.0 ≡ b = cc in
+    subst (λ (x : End). IsAfterBlock image worker x b q) is (subst (λ (x : Block). IsAfterBlock image worker end x q) same m.1)
 
 pub some_block : (bs : List Block) (b : Block) → last_of bs ≡ Some b → 0 < length bs
 some_block [] b e = let n : ⊥ = cc in absurd n
@@ -79,40 +79,31 @@ module _ (k : Terms) (worker : ℕ) (end : End) (b : Block) (q : PackageView) (s
   }
 
 -- which sections a block ends, by its end
+ends_as : (i : ℕ) (b : Block) (x : End) → b.end ≡ x → ends_section i b ≡ ends_section i (record b { end = x })
+ends_as i b x e = ap (λ (y : End). ends_section i (record b { end = y })) e
+
 pub wants_ends : (i j : ℕ) (b : Block) → b.end ≡ Wants j → ends_section i b ≡ false
-wants_ends i j b e = ap (λ (x : End). ends_section i (record b { end = x })) e
-
-pub slept_ends : (i : ℕ) (b : Block) → b.end ≡ Slept → ends_section i b ≡ false
-slept_ends i b e = ap (λ (x : End). ends_section i (record b { end = x })) e
-
-pub cut_ends : (i : ℕ) (b : Block) → b.end ≡ Cut → ends_section i b ≡ false
-cut_ends i b e = ap (λ (x : End). ends_section i (record b { end = x })) e
+wants_ends i j b e = ends_as i b (Wants j) e
 
 pub unlocked_ends : (i : ℕ) (b : Block) → b.end ≡ Unlocked i → ends_section i b ≡ true
-unlocked_ends i b e = ap (λ (x : End). ends_section i (record b { end = x })) e ∙ (let t : ((i == i) || false) ≡ true = grind (arith, nat_tests) in t)
+unlocked_ends i b e = ends_as i b (Unlocked i) e ∙ (let t : ((i == i) || false) ≡ true = grind (arith, nat_tests) in t)
 
 pub unlocked_other : (i j : ℕ) (b : Block) → b.end ≡ Unlocked i → j ≢ i → ends_section j b ≡ false
-unlocked_other i j b e ne = ap (λ (x : End). ends_section j (record b { end = x })) e ∙ (let t : ((i == j) || false) ≡ false = (let n : (i == j) ≡ false = (let m : i ≢ j = (λ y. ne (sym y)) in grind (arith, nat_tests)) in ap (λ (z : Bool). z || false) n) in t)
+unlocked_other i j b e ne = ends_as j b (Unlocked i) e ∙ (let t : ((i == j) || false) ≡ false = (let n : (i == j) ≡ false = (let m : i ≢ j = (λ y. ne (sym y)) in grind (arith, nat_tests)) in ap (λ (z : Bool). z || false) n) in t)
 
 -- the lock that it wants
 pub wants_lock : (image : Shown) (worker i : ℕ) (b : Block) (q : PackageView) → IsSoundPackage q → IsAfterBlock image worker (Wants i) b q → Runs q → Wants_lock q i
 wants_lock image worker i b q s m r = ap (λ (x : Bool). if x then next_lock q.image (thread_in q.context) else None) r ∙ (after_of image worker (Wants i) b q s m).next i m.end_is
 
-pub slept_block : (image : Shown) (worker : ℕ) (b : Block) (q : PackageView) → IsAfterBlock image worker Slept b q → HasBlock (λ b. b.end ≡ Slept) (last_of q.log)
-slept_block image worker b q m = subst (λ (o : Option Block). HasBlock (λ b. b.end ≡ Slept) o) (sym m.last) m.end_is
-
-pub wanted_known : (k : Terms) (worker i : ℕ) (b : Block) (q : PackageView) → IsSoundPackage q → WantIsLawful q → IsAfterBlock k.image.value worker (Wants i) b q → i < locks k
-wanted_known k worker i b q s law m = subst (λ (x : Shown). i < length x.guards) m.of (law i (wants_lock k.image.value worker i b q s m (runs_on k worker (Wants i) b q s m refl))).known
-
 -- ---- what may be done with the package, by the end of its last block
 
 module _ (k : Terms) (worker : ℕ) (b : Block) (q : PackageView) (s : IsSoundPackage q) where
   pub may_ask : (i : ℕ) → WantIsLawful q → IsAfterBlock k.image.value worker (Wants i) b q → MayAsk k i q
-  may_ask i law m = record {
-    lock = wanted_known k worker i b q s law m;
+  may_ask i law m = let want = wants_lock k.image.value worker i b q s m (runs_on k worker (Wants i) b q s m refl) in record {
+    lock = subst (λ (x : Shown). i < length x.guards) m.of (law i want).known;
     of = m.of;
     plain = plain_on k worker (Wants i) b q s m (λ j. wants_ends j i b m.end_is) refl;
-    want = wants_lock k.image.value worker i b q s m (runs_on k worker (Wants i) b q s m refl);
+    want = want;
   }
 
   pub may_unlock : (v : Knows) (i : ℕ) → v.image ≡ k.image.value → v.worker ≡ worker → IsAfterBlock k.image.value worker (Unlocked i) b q → MayUnlock k v i b q
@@ -125,17 +116,17 @@ module _ (k : Terms) (worker : ℕ) (b : Block) (q : PackageView) (s : IsSoundPa
 
   pub may_park : IsAfterBlock k.image.value worker Slept b q → MayPark k q
   may_park m = record {
-    plain = plain_on k worker Slept b q s m (λ i. slept_ends i b m.end_is) refl;
+    plain = plain_on k worker Slept b q s m (λ i. ends_as i b Slept m.end_is) refl;
     runs = runs_on k worker Slept b q s m refl;
-    slept = slept_block k.image.value worker b q m;
+    slept = subst (λ (o : Option Block). HasBlock (λ b. b.end ≡ Slept) o) (sym m.last) m.end_is;
   }
 
   pub may_continue : IsAfterBlock k.image.value worker Cut b q → MayGoOn k q
-  may_continue m = record { of = m.of; plain = plain_on k worker Cut b q s m (λ i. cut_ends i b m.end_is) refl; runs = runs_on k worker Cut b q s m refl }
+  may_continue m = record { of = m.of; plain = plain_on k worker Cut b q s m (λ i. ends_as i b Cut m.end_is) refl; runs = runs_on k worker Cut b q s m refl }
 
 -- ---- what was done with it, in the words of a desk
 
-pub keeps_of : (k : Terms) (cs : List Call) (q : PackageView) (ss ts : List SeatView) (x y : Rest) (h g : Hands) (r : Settled) → h.ready.items ≡ [] → Answers k cs q h g r → AreSameSeats ss ts → y.clock ≡ x.clock → length y.sleepers ≡ length x.sleepers → Keeps k q ss ts x y h.pass h.aside g r
+pub keeps_of : (k : Terms) (cs : List Call) (q : PackageView) (ss ts : List SeatView) (x y : Rest) (h g : Hands) (r : Settled) → h.ready.items ≡ [] → Answers k cs q h g r → AreSameSeats ss ts → y.clock ≡ x.clock → length y.sleepers ≡ length x.sleepers → KeepsParts k q ss ts x y h.pass h.aside g r
 keeps_of k cs q ss ts x y h g r none a same clock room = record {
   calls = cs;
   acts = a.acts;
@@ -152,25 +143,25 @@ module _ (k : Terms) (q : PackageView) (ss ts : List SeatView) (sl : List (Optio
     same = record { others = a.others; sleepers = refl };
     calls = a.here.calls;
     adds = a.here.answers.acts.adds;
-    acquired = subst (λ (x : Shown). AcquiredAs x h.pass.knows.worker i q (seat_at ss i) (seat_at ts i) h.aside g.aside a.here.calls r) (sym image) a.here.acquired;
+    acquired = subst (λ (x : Shown). AcquiredAs x h.pass.knows.worker i q (seat_at ss i) (seat_at ts i) h.aside g.aside a.here.calls r) (sym image) a.here.became;
   }
 
   pub did_unlock : (i : ℕ) (b : Block) (r : Settled) → AtSeat i ss ts (λ s t. Unlocks k i b q s t h g r) → DidUnlock i q b (desk_of h.pass ss sl now h.aside hs) (desk_of g.pass ts sl now g.aside g.ready.items) r
   did_unlock i b r a = record {
     same = record { others = a.others; sleepers = refl };
-    asks = a.here.asks;
-    calls = a.here.calls;
-    adds = a.here.answers.acts.adds;
-    unlocked = subst (λ (x : Shown). UnlockedAs x h.pass.knows.worker i q b (seat_at ss i) (seat_at ts i) h.aside g.aside a.here.calls r) (sym image) a.here.unlocked;
+    asks = a.here.0;
+    calls = a.here.1.calls;
+    adds = a.here.1.answers.acts.adds;
+    unlocked = subst (λ (x : Shown). UnlockedAs x h.pass.knows.worker i q b (seat_at ss i) (seat_at ts i) h.aside g.aside a.here.1.calls r) (sym image) a.here.1.became;
   }
 
   pub did_end : (b : Block) (r : Settled) → Ends k b q ss ts h g r → DidEnd q b (desk_of h.pass ss sl now h.aside hs) (desk_of g.pass ts sl now g.aside g.ready.items) r
   did_end b r a = record {
     sleepers = refl;
-    seats = a.seats;
-    calls = a.calls;
-    adds = a.answers.acts.adds;
-    ended = subst (λ (x : Shown). EndedAs x q b ss ts h.aside g.aside a.calls r) (sym image) a.ended;
+    seats = a.0;
+    calls = a.1.calls;
+    adds = a.1.answers.acts.adds;
+    ended = subst (λ (x : Shown). EndedAs x q b ss ts h.aside g.aside a.1.calls r) (sym image) a.1.became;
   }
 
 pub settled_end : (x : End) (q : PackageView) (b : Block) (d e : DeskView) (r : Settled) → ends_thread x ≡ true → DidEnd q b d e r → SettledAs x q b d e r

@@ -1,7 +1,7 @@
 -- What an unlock comes to, from its parts.
-use Rattle.std.proofs.Common.{◌≡◌, ◌≢◌, ◌<◌, ◌≤◌, ◌+◌, ◌⊎◌, inl, inr, ℕ, true, false, ◌&&◌, ◌==◌, List, [], ◌∷◌, ◌++◌, length, refl, sym, ap, ◌∙◌, subst, subst₂, arith, Option, Some, None, is_some, length-append}
-use Rattle.tc_combiner.proofs.Vocabulary.{Acted, Acts, All-cons, All-nil, Block, Call, DidPass, DidTakeOut, Did_adopt, Did_stop, Goes, GoesOn, HallView, Hands, HasHeldAnd, HasNone, HasOnlyHeld, HoldsNone, Home, IsAside, IsAt, IsAtHall, IsGood, IsOut, IsPlain, IsSoundPackage, Item, Knows, LockView, MAX_HELD, MayAct, MayGive, MayGoOn, MayRelease, MayUnlock, Moves, Outs, Owned, Owns, Pack, PackageView, PassView, Passed, PassedAs, PutAllBack, PutsAside, Ready, Runs, SeatView, SetAside, Settled, Shown, TakesDown, Terms, UnlockedAs, Unlocks, Was_adopted, Was_granted, Was_stopped, WentOn, adopts, and_parts, back, dite, ends_section, erase, handed, has, is_only, is_running, last_of, locked_in, may_adopt, nat_tests, outs, packed, put_call, ready_in, threads, turn_of, unlocks, without_lock, ℕ_discrete}
-use Rattle.std.proofs.lemmas.Bool.{and_left}
+use Rattle.std.proofs.Common.{not, ◌≡◌, ◌≢◌, ◌<◌, ◌≤◌, ◌+◌, ◌⊎◌, inl, inr, ℕ, true, false, ◌&&◌, ◌==◌, List, [], ◌∷◌, ◌++◌, length, refl, sym, ap, ◌∙◌, subst, subst₂, arith, Option, Some, None, is_some}
+use Rattle.tc_combiner.proofs.Vocabulary.{Acted, Acts, All-cons, All-nil, Block, Call, DidPass, DidTakeOut, Did_adopt, Did_stop, Goes, GoesOn, HallView, Hands, HasHeldAnd, HasNone, HasOnlyHeld, HoldsNone, Home, IsAside, IsAtHall, IsGood, IsOut, IsPlain, IsSoundPackage, Item, Knows, LockView, MAX_HELD, MayAct, MayGive, MayGoOn, MayRelease, MayUnlock, Moves, Outs, Owned, Owns, Pack, PackageView, Passed, PassedAs, PutAllBack, PutsAside, Ready, Runs, SeatView, SetAside, Settled, Shown, TakesDown, Terms, UnlockedAs, Unlocks, Was_adopted, Was_granted, Was_stopped, WentOn, adopts, and_parts, back, dite, ends_section, erase, handed, has, is_only, is_running, last_of, locked_in, may_adopt, nat_tests, outs, packed, put_call, threads, turn_of, unlocks, without_lock, ℕ_discrete}
+use Rattle.std.proofs.lemmas.Bool.{and_left, and_right}
 use Rattle.std.proofs.lemmas.Nat.Bits.{bit_at-zero, bit_at_or, bit_at-pow_other}
 use Rattle.std.specs.Int.{bit_at}
 use Rattle.std.specs.Prelude.{◌^◌, bit_or}
@@ -9,16 +9,16 @@ use Rattle.tc_isa.specs.Sets.{with_lock}
 use Rattle.tc_combiner.proofs.Acting.{adds_then, takes_none, takes_then}
 use Rattle.tc_combiner.proofs.Answering.{back_answers, keeps_answers, then_answers, then_at, wider}
 use Rattle.tc_combiner.proofs.Packages.{good_order, no_other, not_held, ungranted_fits, ungranted_plain}
-use Rattle.tc_combiner.proofs.PassedOn.{few_followed, given_up, left_after}
-use Rattle.tc_combiner.proofs.Owning.{swap, rotate, place_here, place_other}
+use Rattle.tc_combiner.proofs.PassedOn.{few_followed, few_more, left_after}
+use Rattle.tc_combiner.proofs.Owning.{place_here, place_other, rotate, swap}
 
 left_only_held : (i : ℕ) (l : LockView) (q p : PackageView) → DidTakeOut i l q p → HasHeldAnd i q → HasOnlyHeld p
 left_only_held i l q p d h j m e = dite (ℕ_discrete j i)
     (λ (s : j ≡ i). let f : locked_in p i ≡ Some m = ap (locked_in p) (sym s) ∙ e in let g = place_here i None q p d.locks in let n : ⊥ = cc in absurd n)
     (λ (ne : j ≢ i). ap (λ (c : PackageView). has c.context.guest.held j) d.is ∙ h j m (sym (place_other i None q p d.locks j ne) ∙ e) ne)
 
-still_runs : (q p : PackageView) (i : ℕ) → p ≡ without_lock i q → Runs q → Runs p
-still_runs q p i e r = ap (λ (c : PackageView). is_running c.context.guest.status) e ∙ r
+still_runs : (i : ℕ) (l : LockView) (q p : PackageView) → DidTakeOut i l q p → Runs q → Runs p
+still_runs i l q p d r = ap (λ (c : PackageView). is_running c.context.guest.status) d.is ∙ r
 
 -- the package without the lock that it released
 pub left_plain : (v : Knows) (k : Terms) (i : ℕ) (b : Block) (l : LockView) (q p : PackageView) → DidTakeOut i l q p → MayRelease k v i b q → Runs q → HasHeldAnd i q → IsPlain (threads k) p
@@ -27,14 +27,8 @@ left_plain v k i b l q p d m r h = record {
   settled = ap (λ (c : PackageView). c.pending) d.is ∙ m.settled;
   granted = ap (λ (c : PackageView). c.granted) d.is ∙ m.granted;
   locks = left_only_held i l q p d h;
-  ended = λ e. let y = still_runs q p i d.is r in let n : ⊥ = cc in absurd n;
+  ended = λ e. let y = still_runs i l q p d r in let n : ⊥ = cc in absurd n;
 }
-
-pub left_runs : (i : ℕ) (l : LockView) (q p : PackageView) → DidTakeOut i l q p → Runs q → Runs p
-left_runs i l q p d r = still_runs q p i d.is r
-
-pub left_of : (i : ℕ) (l : LockView) (q p : PackageView) → DidTakeOut i l q p → p.image ≡ q.image
-left_of i l q p d = ap (λ (c : PackageView). c.image) d.is
 
 -- ---- a package behind which a waiter is adopted holds no lock
 
@@ -49,7 +43,7 @@ pub alone_holds : (q : PackageView) (b : Block) (i run limit : ℕ) → IsSoundP
 alone_holds q b i run limit s e r a j =
     let held = (left_after q.image q b s.left e).held j in
     dite (ℕ_discrete j i)
-    (λ (y : j ≡ i). held ∙ given_up (has b.held j) (ends_section j b) (ap (λ (k : ℕ). ends_section k b) y ∙ r))
+    (λ (y : j ≡ i). held ∙ and_right (has b.held j) (not (ends_section j b)) (ap not (ap (λ (k : ℕ). ends_section k b) y ∙ r)))
     (λ (ne : j ≢ i). held ∙ and_left (has b.held j) _ (ap (λ (h : ℕ). has h j) (adopts_only b i run limit a) ∙ with_other i j ne))
 
 none_in : (p : PackageView) → HasOnlyHeld p → HoldsNone p → HasNone p
@@ -58,9 +52,9 @@ none_in p h n j = not_held p j h (n j)
 -- the package without the lock may go on, and be set aside where a waiter was adopted behind it
 pub may_go_on : (v : Knows) (k : Terms) (i : ℕ) (b : Block) (l : LockView) (q p : PackageView) → MayUnlock k v i b q → v.image ≡ k.image.value → DidTakeOut i l q p → MayGoOn k p
 may_go_on v k i b l q p m image d = record {
-  of = left_of i l q p d ∙ (m.release.of ∙ image);
+  of = ap (λ (c : PackageView). c.image) d.is ∙ (m.release.of ∙ image);
   plain = left_plain v k i b l q p d m.release m.runs m.locks_in;
-  runs = left_runs i l q p d m.runs;
+  runs = still_runs i l q p d m.runs;
 }
 
 pub may_aside : (v : Knows) (k : Terms) (i : ℕ) (b : Block) (l : LockView) (q p : PackageView) → IsSoundPackage q → MayUnlock k v i b q → v.image ≡ k.image.value → DidTakeOut i l q p → adopts l b ≡ true → IsAside k p
@@ -98,10 +92,6 @@ add_nil b o (x ∷ xs) h = (h.0, add_nil b (erase o x) xs h.1)
 pub without_first : (w : Knows) (x : Item) (xs : List Item) → Owned w (x ∷ xs) → Owned w xs
 without_first w x xs o = beneath o.0 (outs w) x xs (unrotate o.0 (outs w) x xs [] (o.1.0, add_nil o.0 (erase (outs w) x) xs o.1.1))
 
--- the first of these, where the rest counts as what is out besides
-pub alone : (hall : HallView) (x : Item) (xs : List Item) (p : PassView) (a : Option PackageView) → IsAt hall (x ∷ xs) p a → IsAt hall (x ∷ []) p a
-alone hall x xs p a m = record { own = m.own; image = m.image; out = (erase (outs p.knows) x, (m.out.1.0, refl)); aside = m.aside }
-
 pub adopts_owned : (v w : Knows) (q p r : Item) (os : List Item) → Moves v w (q ∷ []) (p ∷ r ∷ []) → Owned v (q ∷ os) → Owned w (p ∷ os)
 adopts_owned v w q p r os m o =
     let one : Owns o.0 (outs w) (p ∷ r ∷ (os ++ [])) = m o.0 (os ++ []) (add_nil o.0 (outs v) (q ∷ os) o.1) in
@@ -116,10 +106,7 @@ went_unlocks image worker i q b s t a c ds es r k g = absurd g
 
 module _ (hall : HallView) (i : ℕ) (b : Block) (q p : PackageView) (s t : SeatView) (h m : Hands) (hands : MayAct hall (Pack q ∷ packed h.aside) 2 h) where
   room_after : (r : Passed) → DidPass hall.terms i b q p s t h m r → length m.ready.items + 1 ≤ MAX_HELD
-  room_after r d =
-      let few = few_followed hall.terms.image.value d.state b (turn_of q i) s t d.calls r d.became in
-      let all : length m.ready.items ≡ length h.ready.items + length (ready_in d.calls) = ap (λ (l : List ℕ). length l) d.acted.readied.0 ∙ length-append h.ready.items (ready_in d.calls) in
-      let room = hands.room in omega arith
+  room_after r d = let more = few_more d (few_followed hall.terms.image.value d.state b (turn_of q i) s t d.calls r d.became) in let room = hands.room in omega arith
 
   pub at_then : (r : Passed) → handed r ≡ [] → DidPass hall.terms i b q p s t h m r → IsAtHall hall (Pack p ∷ packed m.aside) m
   at_then r e d = then_at hall d.calls q p h m hands.at (subst (λ (xs : List Item). Acted hall.terms d.calls (Pack q ∷ []) (Pack p ∷ xs) h m) e d.acted) d.aside
@@ -140,15 +127,17 @@ module _ (hall : HallView) (i : ℕ) (b : Block) (q p : PackageView) (s t : Seat
 
   -- the lock went home or was granted, and the package goes on
   goes : (g : Hands) (o : Passed) (r : Settled) → handed o ≡ [] → (d : DidPass hall.terms i b q p s t h m o) → PassedAs hall.terms.image.value i q b s t d.calls Home ⊎ PassedAs hall.terms.image.value i q b s t d.calls Was_granted → Goes hall.terms p m g r → Unlocks hall.terms i b q s t h g r
-  goes g o r e d k f = record {
-    calls = d.calls ++ f.calls;
-    answers = then_answers hall.terms d.calls f.calls q p h m g r (subst (λ (xs : List Item). Acted hall.terms d.calls (Pack q ∷ []) (Pack p ∷ xs) h m) e d.acted) d.aside f.answers;
-    asks = d.asks;
-    unlocked = went_unlocks hall.terms.image.value h.pass.knows.worker i q b s t h.aside g.aside d.calls f.calls r k
-        (subst (λ (n : ℕ). WentOn hall.terms.image.value n (without_lock i q) h.aside g.aside f.calls r) d.acted.acts.adds.told.worker
-        (subst (λ (y : PackageView). WentOn hall.terms.image.value m.pass.knows.worker y h.aside g.aside f.calls r) d.taken.is
-        (subst (λ (a : Option PackageView). WentOn hall.terms.image.value m.pass.knows.worker p a g.aside f.calls r) d.aside f.went)));
-  }
+  goes g o r e d k f = (
+    d.asks,
+    record {
+      calls = d.calls ++ f.calls;
+      answers = then_answers hall.terms d.calls f.calls q p h m g r (subst (λ (xs : List Item). Acted hall.terms d.calls (Pack q ∷ []) (Pack p ∷ xs) h m) e d.acted) d.aside f.answers;
+      became = went_unlocks hall.terms.image.value h.pass.knows.worker i q b s t h.aside g.aside d.calls f.calls r k
+          (subst (λ (n : ℕ). WentOn hall.terms.image.value n (without_lock i q) h.aside g.aside f.calls r) d.acted.acts.adds.told.worker
+          (subst (λ (y : PackageView). WentOn hall.terms.image.value m.pass.knows.worker y h.aside g.aside f.calls r) d.taken.is
+          (subst (λ (a : Option PackageView). WentOn hall.terms.image.value m.pass.knows.worker p a g.aside f.calls r) d.aside f.became)));
+    },
+  )
 
   pub goes_home : (g : Hands) (r : Settled) → DidPass hall.terms i b q p s t h m Home → Goes hall.terms p m g r → Unlocks hall.terms i b q s t h g r
   goes_home g r d f = goes g Home r refl d (inl (d.state, d.taken.was, d.became)) f
@@ -158,40 +147,44 @@ module _ (hall : HallView) (i : ℕ) (b : Block) (q p : PackageView) (s t : Seat
 
   pub goes_adopted : (g : Hands) (x : PackageView) → b.worker ≡ h.pass.knows.worker → DidPass hall.terms i b q p s t h m (Was_adopted x) → PutsAside hall.terms p m g → Unlocks hall.terms i b q s t h g (Did_adopt x)
   goes_adopted g x same d f =
-      let c : Acts f.calls (Pack p ∷ packed h.aside) (packed g.aside) m.pass g.pass = subst (λ (o : Option PackageView). Acts f.calls (Pack p ∷ packed o) (packed g.aside) m.pass g.pass) d.aside f.acted.acts in record {
-        calls = d.calls ++ f.calls;
-        answers = record {
-          acts = record {
-            own = (c.own.0 ∙ d.acted.acts.own.0, c.own.1 ∙ d.acted.acts.own.1);
-            adds = adds_then d.calls f.calls h.pass.knows m.pass.knows g.pass.knows d.acted.acts.adds c.adds;
-            moves = adopts_waiter h.pass.knows m.pass.knows g.pass.knows (Pack q) (Pack p) (Pack x) (packed h.aside) (packed g.aside) d.acted.acts.moves c.moves;
+      let c : Acts f.calls (Pack p ∷ packed h.aside) (packed g.aside) m.pass g.pass = subst (λ (o : Option PackageView). Acts f.calls (Pack p ∷ packed o) (packed g.aside) m.pass g.pass) d.aside f.acted.acts in (
+        d.asks,
+        record {
+          calls = d.calls ++ f.calls;
+          answers = record {
+            acts = record {
+              own = (c.own.0 ∙ d.acted.acts.own.0, c.own.1 ∙ d.acted.acts.own.1);
+              adds = adds_then d.calls f.calls h.pass.knows m.pass.knows g.pass.knows d.acted.acts.adds c.adds;
+              moves = adopts_waiter h.pass.knows m.pass.knows g.pass.knows (Pack q) (Pack p) (Pack x) (packed h.aside) (packed g.aside) d.acted.acts.moves c.moves;
+            };
+            readied = takes_then (threads hall.terms) h.ready.items m.ready.items g.ready.items d.calls f.calls d.acted.readied f.acted.readied;
+            aside = f.aside;
           };
-          readied = takes_then (threads hall.terms) h.ready.items m.ready.items g.ready.items d.calls f.calls d.acted.readied f.acted.readied;
-          aside = f.aside;
-        };
-        asks = d.asks;
-        unlocked = (
-          d.calls,
-          f.calls,
-          refl,
-          (d.state, d.taken.was, d.became),
-          subst (λ (y : PackageView). SetAside y h.aside g.aside f.calls) d.taken.is (subst (λ (a : Option PackageView). SetAside p a g.aside f.calls) d.aside f.set),
-          subst (λ (n : ℕ). IsGood x hall.terms.image.value n) same d.became.2.2,
-        );
-      }
+          became = (
+            d.calls,
+            f.calls,
+            refl,
+            (d.state, d.taken.was, d.became),
+            subst (λ (y : PackageView). SetAside y h.aside g.aside f.calls) d.taken.is (subst (λ (a : Option PackageView). SetAside p a g.aside f.calls) d.aside f.set),
+            subst (λ (n : ℕ). IsGood x hall.terms.image.value n) same d.became.2.2,
+          );
+        },
+      )
 
   pub goes_stopped : (g : Hands) → DidPass hall.terms i b q p s t h m Was_stopped → PutAllBack p m g → Unlocks hall.terms i b q s t h g Did_stop
-  goes_stopped g d a = record {
-    calls = d.calls ++ back p m.aside;
-    answers = then_answers hall.terms d.calls (back p m.aside) q p h m g Did_stop d.acted d.aside (back_answers hall.terms p m g a);
-    asks = d.asks;
-    unlocked = (
-      d.calls,
-      ap (λ (o : Option PackageView). d.calls ++ back p o) d.aside ∙ ap (λ (y : PackageView). d.calls ++ back y h.aside) d.taken.is,
-      (d.state, d.taken.was, d.became),
-      a.aside,
-    );
-  }
+  goes_stopped g d a = (
+    d.asks,
+    record {
+      calls = d.calls ++ back p m.aside;
+      answers = then_answers hall.terms d.calls (back p m.aside) q p h m g Did_stop d.acted d.aside (back_answers hall.terms p m g a);
+      became = (
+        d.calls,
+        ap (λ (o : Option PackageView). d.calls ++ back p o) d.aside ∙ ap (λ (y : PackageView). d.calls ++ back y h.aside) d.taken.is,
+        (d.state, d.taken.was, d.became),
+        a.aside,
+      );
+    },
+  )
 
 -- ---- a package that goes on, or is set aside
 
@@ -213,7 +206,7 @@ module _ (hall : HallView) (q : PackageView) (h g : Hands) (hands : MayAct hall 
   goes_same m a e f none = record {
     calls = [];
     answers = keeps_answers hall [] q h g (GoesOn q) hands.at (subst (λ (o : Option PackageView). Acts [] (Pack q ∷ packed h.aside) (Pack q ∷ packed o) h.pass g.pass) (sym f) a) (takes_none (threads hall.terms) h.ready.items g.ready.items [] e refl) f;
-    went = (going_good hall.terms h.pass.knows.worker q m, inl (refl, f, none, refl));
+    became = (going_good hall.terms h.pass.knows.worker q m, inl (refl, f, none, refl));
   }
 
   takes_one : MayGoOn hall.terms q → g.ready.items ≡ h.ready.items ++ q.context.thread ∷ [] → TakesDown (threads hall.terms) h.ready.items g.ready.items (put_call q Ready ∷ [])
@@ -228,7 +221,7 @@ module _ (hall : HallView) (q : PackageView) (h g : Hands) (hands : MayAct hall 
           readied = takes_one m e;
           aside = λ b f. let n : ⊥ = cc in absurd n;
         };
-        went = (going_good hall.terms h.pass.knows.worker o (record { of = other.of; plain = other.plain; runs = other.runs }), inr (is, none, gone, refl));
+        became = (going_good hall.terms h.pass.knows.worker o (record { of = other.of; plain = other.plain; runs = other.runs }), inr (is, none, gone, refl));
       }
 
   sets_later : (a c : Option PackageView) → is_some a ≡ true → c ≡ a → SetAside q a c (put_call q Ready ∷ [])

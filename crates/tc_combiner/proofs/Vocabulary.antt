@@ -16,10 +16,10 @@ pub use Rattle.tc_queue.specs.declared.turn.Departure.{Departure}
 pub use Rattle.tc_hall.specs.Outs.{Within, keep, minus, part, unless}
 pub use Rattle.tc_hall.specs.Rule.{Has}
 pub use Rattle.tc_hall.specs.Steps.{DidSeal, Gets, SawStopped, Seals, Takes, after_claim, after_miss, after_stopped, after_take}
-pub use Rattle.tc_combiner.specs.Answers.{AcquiredAs, Acquires, Answers, DidFirst, FirstAs, Goes, HasReadied, MayAsk, MayPark, PutAllBack, PutsAside, SetAside, WentOn, back, carried, counted, next_turn, place_back}
+pub use Rattle.tc_combiner.specs.Answers.{AcquiredAs, Acquires, Answers, DidFirst, Does, FirstAs, Goes, HasReadied, MayAsk, MayPark, PutAllBack, PutsAside, SetAside, WentOn, back, carried, counted, next_turn, place_back}
 pub use Rattle.tc_combiner.specs.Packages.{DidGrant, DidTake, DidTakeOut, HasHeldAnd, HasNoOther, HasNone, HasOnlyHeld, HoldsNone, IsAside, IsGood, IsGoodFor, IsPlain, IsWaiter, MayGoOn, Runs, Wants as Wants_lock}
-pub use Rattle.tc_combiner.specs.Release.{AreSameSeats, AtSeat, DidHand, DidLeave, DidLeaveAll, DidPass, EndedAs, Ending, Ends, FollowedAs, HandedAs, IsEmptied, IsReleased, IsSameSeat, LeftAs, LeftInOrder, MayEnd, MayRelease, MayUnlock, OneLeft, PassedAs, SeatsLeft, UnlockedAs, Unlocks, adopts, handed, seat_at, turn_of}
-pub use Rattle.tc_combiner.specs.Settling.{DidAcquire, DidEnd, DidUnlock, HasSettled, IsAfterBlock, IsInHand, Keeps, MayAcquire, MayCommit, MaySettle, MovesSealed, SettledAs, TellsReady, Works}
+pub use Rattle.tc_combiner.specs.Release.{AreSameSeats, AtSeat, DidHand, DidLeave, DidLeaveAll, DidPass, EndedAs, Ending, Ends, FollowedAs, GaveUp, HandedAs, IsEmptied, IsReleased, IsSameSeat, LeftAs, LeftInOrder, MayEnd, MayHandOn, MayPassOn, MayRelease, MayUnlock, OneLeft, PassedAs, SeatsLeft, UnlockedAs, Unlocks, adopts, handed, seat_at, turn_of}
+pub use Rattle.tc_combiner.specs.Settling.{DidAcquire, DidEnd, DidUnlock, HasSettled, IsAfterBlock, IsInHand, Keeps, KeepsParts, MayAcquire, MayCommit, MaySettle, MovesSealed, SettledAs, TellsReady, Works}
 pub use Rattle.tc_combiner.specs.Ties.{EnterTie, LeaveTie, line_of}
 pub use Rattle.tc_combiner.specs.View.{AreSeats, BenchView, DeskView, FitsBench, HasSeats, IsSeatFor, desk_of, no_seat}
 pub use Rattle.tc_combiner.specs.Walks.{Acted, Acts, Adds, AreAsked, Asked, Asks, HasSeenStop, HaveNoStop, IsAt, IsAtHall, IsTaken, LooksBetween, LooksEachTime, MayAct, MayBringHome, MayGive, Moves, Owned, Owns, Shows, TakesDown, Tried, TriedAs, WaitedAs, Waits, Walks, counts, packed, ready_in, saw, saw_if, unanswered}

@@ -20,6 +20,12 @@ pub record Answers (k : Terms) (cs : List Call) (q : PackageView) (h g : Hands) 
   pub readied : HasReadied (threads k) r h.ready.items g.ready.items cs
   pub aside : (a : PackageView) → g.aside ≡ Some a → IsAside k a
 
+-- so, with calls of which How says what became of the package
+pub record Does (k : Terms) (q : PackageView) (h g : Hands) (r : Settled) (How : List Call → Type 0) : Type 0 where
+  pub calls : List Call
+  pub answers : Answers k calls q h g r
+  pub became : How calls
+
 -- ---- packages that are put back
 
 abbrev pub place_back : PackageView → Place
@@ -72,14 +78,6 @@ pub record DidFirst (k : Terms) (i n : ℕ) (q : PackageView) (h g : Hands) (r :
   pub ready : KeepsReady r h.ready.items g.ready.items
   pub became : FirstAs k.image.value h.pass.knows.worker i n q h.aside g.aside calls r
 
--- the package q entered the line of lock i with the turn u, with these calls and no others: it stood first, and the lock was
--- granted as Taken under the turn's number; or it stood behind another, was put as waiting with all its locks, and linked
-abbrev pub EnteredAs : Shown → ℕ → ℕ → Turn → PackageView → SeatView → SeatView → Option PackageView → Option PackageView → List Call → Settled → Type 0
-EnteredAs image worker i u q s t a b cs (GoesOn r) = (t ≡ with_line s (Enter u First)) × FirstAs image worker i u.number q a b cs (Some r)
-EnteredAs image worker i u q s t a b cs Shipped = (mark : ℕ) × (t ≡ with_line (with_line s (Enter u (Behind mark))) (Link mark u)) × (cs ≡ put_call q (Waiting i) ∷ []) × (b ≡ a)
-EnteredAs image worker i u q s t a b cs Did_stop = (t ≡ with_line s (Enter u First)) × FirstAs image worker i u.number q a b cs None
-EnteredAs image worker i u q s t a b cs r = ⊥
-
 -- the package with its next number counted, and the turn of that number
 abbrev pub counted : PackageView → PackageView
 counted q = with_turns (min (q.turns + 1) MAX_NUMBER) q
@@ -87,15 +85,17 @@ counted q = with_turns (min (q.turns + 1) MAX_NUMBER) q
 abbrev pub next_turn : PackageView → Turn
 next_turn q = record { thread = q.context.thread; number = min (q.turns + 1) MAX_NUMBER }
 
--- what became of the package q, which wants lock i
+-- the package q entered the line of lock i with its next turn, with these calls and no others: it stood first, and the lock was
+-- granted as Taken under the turn's number; or it stood behind another, was put as waiting with all its locks, and linked
 abbrev pub AcquiredAs : Shown → ℕ → ℕ → PackageView → SeatView → SeatView → Option PackageView → Option PackageView → List Call → Settled → Type 0
-AcquiredAs image worker i q s t a b cs r = EnteredAs image worker i (next_turn q) (counted q) s t a b cs r
+AcquiredAs image worker i q s t a b cs (GoesOn r) = (t ≡ with_line s (Enter (next_turn q) First)) × FirstAs image worker i (next_turn q).number (counted q) a b cs (Some r)
+AcquiredAs image worker i q s t a b cs Shipped = (mark : ℕ) × (t ≡ with_line (with_line s (Enter (next_turn q) (Behind mark))) (Link mark (next_turn q))) × (cs ≡ put_call (counted q) (Waiting i) ∷ []) × (b ≡ a)
+AcquiredAs image worker i q s t a b cs Did_stop = (t ≡ with_line s (Enter (next_turn q) First)) × FirstAs image worker i (next_turn q).number (counted q) a b cs None
+AcquiredAs image worker i q s t a b cs r = ⊥
 
--- what was done for it
-pub record Acquires (k : Terms) (i : ℕ) (q : PackageView) (s t : SeatView) (h g : Hands) (r : Settled) : Type 0 where
-  pub calls : List Call
-  pub answers : Answers k calls q h g r
-  pub acquired : AcquiredAs k.image.value h.pass.knows.worker i q s t h.aside g.aside calls r
+-- what was done for a package that wants lock i
+abbrev pub Acquires : Terms → ℕ → PackageView → SeatView → SeatView → Hands → Hands → Settled → Type 0
+Acquires k i q s t h g r = Does k q h g r (λ cs. AcquiredAs k.image.value h.pass.knows.worker i q s t h.aside g.aside cs r)
 
 -- ---- a package that sleeps
 
@@ -115,10 +115,8 @@ abbrev pub WentOn : Shown → ℕ → PackageView → Option PackageView → Opt
 WentOn image worker q a b cs (GoesOn r) = IsGood r image worker × (((r ≡ q) × (b ≡ a) × (HoldsNone q → a ≡ None) × (cs ≡ [])) ⊎ ((a ≡ Some r) × HoldsNone q × (b ≡ None) × (cs ≡ put_call q Ready ∷ [])))
 WentOn image worker q a b cs r = ⊥
 
-pub record Goes (k : Terms) (q : PackageView) (h g : Hands) (r : Settled) : Type 0 where
-  pub calls : List Call
-  pub answers : Answers k calls q h g r
-  pub went : WentOn k.image.value h.pass.knows.worker q h.aside g.aside calls r
+abbrev pub Goes : Terms → PackageView → Hands → Hands → Settled → Type 0
+Goes k q h g r = Does k q h g r (λ cs. WentOn k.image.value h.pass.knows.worker q h.aside g.aside cs r)
 
 -- the package q is set aside, or it was handed back as ready where one is set aside already
 abbrev pub SetAside : PackageView → Option PackageView → Option PackageView → List Call → Type 0

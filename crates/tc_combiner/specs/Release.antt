@@ -1,9 +1,9 @@
 -- What became of a released lock, and of all locks of a thread that has ended, with each call of the pass that was made.
 use Rattle.std.specs.Prelude.{◌⊎◌, ◌≡◌, ℕ, Bool, true, false, List, [], ◌∷◌, ◌++◌, ◌<◌, Option, Some, None, is_some, ◌≢◌, ◌+◌, ◌≤◌, get_or, length}
-use Rattle.tc_combiner.specs.Vocabulary.{Adopted, Block, Call, Did_adopt, Did_stop, Done, Free, GoesOn, Granted, Hands, Has_ended, Home, IsAtRest, Item, Kind, Knows, Leave, Left, LockView, MAX_HELD, Next, Pack, PackageView, Passed, Ready, Releases, SeatView, Settled, Shown, Stopped, Terms, Turn, Was_adopted, Was_granted, Was_stopped, bare, blocks_of, ends_thread, has, last_of, locked_in, locks, locks_of, may_adopt, number_in, put_call, run_of, threads, without_lock}
+use Rattle.tc_combiner.specs.Vocabulary.{Adopted, Block, Call, Did_adopt, Did_stop, Done, Free, GoesOn, Granted, HallView, Hands, Has_ended, Home, IsAtRest, IsTurn, Item, Kind, Knows, Leave, Left, LockView, MAX_HELD, Next, Pack, PackageView, Passed, Ready, Releases, SeatView, Settled, Shown, Stopped, Terms, Turn, Was_adopted, Was_granted, Was_stopped, bare, blocks_of, ends_thread, has, last_of, locked_in, locks, locks_of, may_adopt, number_in, put_call, run_of, threads, without_lock}
 use Rattle.tc_combiner.specs.Packages.{DidGrant, DidTakeOut, HasHeldAnd, IsGood, IsWaiter, Runs, HasNone}
-use Rattle.tc_combiner.specs.Walks.{Asks, Shows, Acted}
-use Rattle.tc_combiner.specs.Answers.{Answers, WentOn, SetAside, back}
+use Rattle.tc_combiner.specs.Walks.{Asks, Shows, Acted, MayAct}
+use Rattle.tc_combiner.specs.Answers.{Does, WentOn, SetAside, back}
 use Rattle.tc_combiner.specs.View.{no_seat}
 
 -- the batch rule lets the worker of the block adopt a waiter for the lock
@@ -35,6 +35,17 @@ pub record MayUnlock (k : Terms) (v : Knows) (i : ℕ) (b : Block) (q : PackageV
   pub release : MayRelease k v i b q
   pub runs : Runs q
   pub locks_in : HasHeldAnd i q
+
+-- the hands have the package q out, and may pass on its lock i, which its block b released
+pub record MayPassOn (hall : HallView) (i : ℕ) (b : Block) (q : PackageView) (h : Hands) : Type 0 where
+  pub hands : MayAct hall (Pack q ∷ []) 1 h
+  pub release : MayRelease hall.terms h.pass.knows i b q
+
+-- the hands have xs out, and may hand on the lock l, which the block b released, to the turn u
+pub record MayHandOn (hall : HallView) (l : LockView) (b : Block) (u : Turn) (xs : List Item) (h : Hands) : Type 0 where
+  pub hands : MayAct hall xs 1 h
+  pub released : IsReleased hall.terms h.pass.knows b l
+  pub turn : IsTurn (threads hall.terms) u
 
 abbrev pub handed : Passed → List Item
 handed (Was_adopted q) = Pack q ∷ []
@@ -71,15 +82,20 @@ pub record DidHand (k : Terms) (l : LockView) (b : Block) (u : Turn) (xs : List 
   pub aside : g.aside ≡ h.aside
   pub became : HandedAs k.image.value l b u calls r
 
--- what was done with lock i of the package q, which its block b released; q is p then
-pub record DidPass (k : Terms) (i : ℕ) (b : Block) (q p : PackageView) (s t : SeatView) (h g : Hands) (r : Passed) : Type 0 where
+-- lock i came out of the package q, which is p then, and xs is in hand besides; How: what became of the lock that came out, with
+-- these calls and no others
+pub record GaveUp (k : Terms) (i : ℕ) (q p : PackageView) (xs : List Item) (s t : SeatView) (h g : Hands) (How : LockView → List Call → Type 0) : Type 0 where
   pub calls : List Call
-  pub acted : Acted k calls (Pack q ∷ []) (Pack p ∷ handed r) h g
+  pub acted : Acted k calls (Pack q ∷ []) (Pack p ∷ xs) h g
   pub aside : g.aside ≡ h.aside
   pub state : LockView
   pub taken : DidTakeOut i state q p
   pub asks : Asks (turn_of q i) s t
-  pub became : FollowedAs k.image.value state b (turn_of q i) s t calls r
+  pub became : How state calls
+
+-- so lock i, which the block b of the package q released
+abbrev pub DidPass : Terms → ℕ → Block → PackageView → PackageView → SeatView → SeatView → Hands → Hands → Passed → Type 0
+DidPass k i b q p s t h g r = GaveUp k i q p (handed r) s t h g (λ l cs. FollowedAs k.image.value l b (turn_of q i) s t cs r)
 
 -- package q released lock i by its block b
 abbrev pub PassedAs : Shown → ℕ → PackageView → Block → SeatView → SeatView → List Call → Passed → Type 0
@@ -94,11 +110,8 @@ UnlockedAs image worker i q b s t a c cs Did_stop = (ds : List Call) × (cs ≡ 
 UnlockedAs image worker i q b s t a c cs r = ⊥
 
 -- what was done at the unlock
-pub record Unlocks (k : Terms) (i : ℕ) (b : Block) (q : PackageView) (s t : SeatView) (h g : Hands) (r : Settled) : Type 0 where
-  pub calls : List Call
-  pub answers : Answers k calls q h g r
-  pub asks : Asks (turn_of q i) s t
-  pub unlocked : UnlockedAs k.image.value h.pass.knows.worker i q b s t h.aside g.aside calls r
+abbrev pub Unlocks : Terms → ℕ → Block → PackageView → SeatView → SeatView → Hands → Hands → Settled → Type 0
+Unlocks k i b q s t h g r = Asks (turn_of q i) s t × Does k q h g r (λ cs. UnlockedAs k.image.value h.pass.knows.worker i q b s t h.aside g.aside cs r)
 
 abbrev pub seat_at : List SeatView → ℕ → SeatView
 seat_at ss j = get_or ss j no_seat
@@ -137,15 +150,9 @@ LeftAs image l b own s t cs false true = FollowedAs image l b own s t cs Was_sto
 LeftAs image l b own s t cs true false = ⊥
 LeftAs image l b own s t cs true true = (t ≡ s) × (cs ≡ Free l.number ∷ [])
 
--- what was done with lock i of the package q, whose thread ended with the block b; q is p then
-pub record DidLeave (k : Terms) (i : ℕ) (b : Block) (q p : PackageView) (s t : SeatView) (h g : Hands) (was is : Bool) : Type 0 where
-  pub calls : List Call
-  pub acted : Acted k calls (Pack q ∷ []) (Pack p ∷ []) h g
-  pub aside : g.aside ≡ h.aside
-  pub state : LockView
-  pub taken : DidTakeOut i state q p
-  pub asks : Asks (turn_of q i) s t
-  pub became : LeftAs k.image.value state b (turn_of q i) s t calls was is
+-- so lock i of the package q, whose thread ended with the block b
+abbrev pub DidLeave : Terms → ℕ → Block → PackageView → PackageView → SeatView → SeatView → Hands → Hands → Bool → Bool → Type 0
+DidLeave k i b q p s t h g was is = GaveUp k i q p [] s t h g (λ l cs. LeftAs k.image.value l b (turn_of q i) s t cs was is)
 
 -- ---- all of its locks
 
@@ -191,11 +198,8 @@ EndedAs image q b ss ts a c cs Did_stop = (p : PackageView) × (ds : List Call) 
 EndedAs image q b ss ts a c cs r = ⊥
 
 -- what was done at the thread's end
-pub record Ends (k : Terms) (b : Block) (q : PackageView) (ss ts : List SeatView) (h g : Hands) (r : Settled) : Type 0 where
-  pub calls : List Call
-  pub answers : Answers k calls q h g r
-  pub seats : SeatsLeft b q ss ts
-  pub ended : EndedAs k.image.value q b ss ts h.aside g.aside calls r
+abbrev pub Ends : Terms → Block → PackageView → List SeatView → List SeatView → Hands → Hands → Settled → Type 0
+Ends k b q ss ts h g r = SeatsLeft b q ss ts × Does k q h g r (λ cs. EndedAs k.image.value q b ss ts h.aside g.aside cs r)
 
 -- ---- in between
 

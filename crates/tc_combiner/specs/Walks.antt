@@ -34,10 +34,6 @@ Owns b o (x ∷ xs) = IsOut o x × Owns b (erase o x) xs
 abbrev pub Moves : Knows → Knows → List Item → List Item → Type 0
 Moves v w xs ys = (b : Outs) (zs : List Item) → Owns b (outs v) (xs ++ zs) → Owns b (outs w) (ys ++ zs)
 
-abbrev pub loose : Option LockView → List Item
-loose None = []
-loose (Some l) = Loose l ∷ []
-
 abbrev pub packed : Option PackageView → List Item
 packed None = []
 packed (Some q) = Pack q ∷ []

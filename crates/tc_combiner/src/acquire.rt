@@ -1,8 +1,8 @@
 //! What `acquire` does, and how packages are put back where the run was stopped.
 
-ghost use Rattle.std.specs.Prelude.{◌≡◌, ◌<◌, ◌++◌, [], ◌∷◌};
+ghost use Rattle.std.specs.Prelude.{◌≡◌, ◌<◌, [], ◌∷◌};
 ghost use Rattle.tc_turn.specs.Turn.{is_running};
-ghost use Rattle.tc_hall.specs.Rule.{threads, locks};
+ghost use Rattle.tc_hall.specs.Rule.{threads};
 ghost use Rattle.tc_hall.specs.Steps.{put_call};
 ghost use Rattle.tc_hall.specs.Outs.{outs, IsOut, Pack};
 ghost use Rattle.tc_combiner.specs.Packages.{IsPlain};

@@ -1,18 +1,15 @@
 //! Desks and benches.
 
-ghost use Rattle.std.specs.Prelude.{ℕ, ◌≡◌, ◌≢◌, ◌<◌, ◌≤◌, ◌+◌, ◌-◌, ◌^◌, ◌++◌, [], ◌∷◌, None, Some, min, length, map};
+ghost use Rattle.std.specs.Prelude.{◌≡◌, ◌<◌, ◌≤◌, ◌+◌, ◌-◌, ◌^◌, [], None, Some, min, length, map};
 ghost use Rattle.std.specs.Borrow.{Lends, sem};
 ghost use Rattle.tc_isa.specs.declared.limits.TheConstants.{MAX_HELD};
-ghost use Rattle.tc_context.specs.View.{PackageView, with_seal};
+ghost use Rattle.tc_context.specs.View.{with_seal};
 ghost use Rattle.tc_hall.specs.contracts.pass.Pass.{the_row as pass_row};
 ghost use Rattle.tc_park.specs.contracts.sleepers.Sleepers.{the_row as sleepers_row};
 ghost use Rattle.tc_combiner.specs.contracts.desk.Desk.{the_row};
-ghost use Rattle.tc_hall.specs.Outs.{Pack};
 ghost use Rattle.tc_hall.specs.Steps.{DidSeal, IsSamePass};
-ghost use Rattle.tc_combiner.specs.Walks.{Moves, packed};
-ghost use Rattle.tc_combiner.specs.Answers.{carried};
 ghost use Rattle.tc_combiner.specs.View.{FitsBench, desk_of};
-ghost use Rattle.tc_combiner.specs.Settling.{HasAcquired, HasSettled, IsInHand, MayAcquire, MayCommit, MaySettle, MovesSealed, TellsReady, Works};
+ghost use Rattle.tc_combiner.specs.Settling.{HasAcquired, HasSettled, IsInHand, Keeps, MayAcquire, MayCommit, MaySettle, MovesSealed};
 
 use crate::hands::{Hands, Rest, Shared};
 use crate::ready::ReadyList;
@@ -139,12 +136,8 @@ impl<Q: Waiters> Desk<Q> {
         requires fits { FitsBench bench.now self.old }
         requires hand { IsInHand self.old «package» }
         requires may { MayAcquire bench.now.image «package» }
-        ensures works { Works self.old self.new }
-        ensures moves { Moves self.old.pass.knows self.new.pass.knows
-            (Pack «package» ∷ packed self.old.aside) (carried result ++ packed self.new.aside) }
-        ensures readied { TellsReady bench.now.hall.terms result self.old self.new }
+        ensures keeps { Keeps bench.now «package» self.old self.new result }
         ensures acquired { HasAcquired «package» self.old self.new result }
-        ensures fits { FitsBench bench.now self.new }
     {
         self.hands.ready.clear();
         package.keeps();
@@ -178,12 +171,8 @@ impl<Q: Waiters> Desk<Q> {
         requires fits { FitsBench bench.now self.old }
         requires hand { IsInHand self.old «package» }
         requires may { MaySettle bench.now.image self.old.pass.knows.worker end «package» }
-        ensures works { Works self.old self.new }
-        ensures moves { Moves self.old.pass.knows self.new.pass.knows
-            (Pack «package» ∷ packed self.old.aside) (carried result ++ packed self.new.aside) }
-        ensures readied { TellsReady bench.now.hall.terms result self.old self.new }
+        ensures keeps { Keeps bench.now «package» self.old self.new result }
         ensures settled { HasSettled end «package» self.old self.new result }
-        ensures fits { FitsBench bench.now self.new }
     {
         let shared = Shared {
             hall: bench.hall,

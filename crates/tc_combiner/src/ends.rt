@@ -4,12 +4,12 @@ ghost use Rattle.std.specs.Prelude.{◌≡◌, ◌<◌, ◌≤◌, ◌-◌, ◌+
 ghost use Rattle.tc_isa.specs.Sets.{locks_of};
 ghost use Rattle.tc_isa.specs.declared.limits.TheConstants.{MAX_HELD};
 ghost use Rattle.tc_journal.specs.Batch.{ends_thread};
-ghost use Rattle.tc_hall.specs.Rule.{threads, locks};
+ghost use Rattle.tc_hall.specs.Rule.{threads};
 ghost use Rattle.tc_queue.specs.Lines.{SeatView};
 ghost use Rattle.tc_hall.specs.Outs.{Pack};
 ghost use Rattle.tc_combiner.specs.Walks.{packed, IsAtHall, MayAct};
 ghost use Rattle.tc_combiner.specs.Answers.{MayPark, Parks};
-ghost use Rattle.tc_combiner.specs.Release.{MayRelease, DidLeave, DidLeaveAll, Ends, MayEnd};
+ghost use Rattle.tc_combiner.specs.Release.{MayPassOn, DidLeave, DidLeaveAll, Ends, MayEnd};
 ghost use Rattle.tc_combiner.specs.View.{HasSeats, IsSeatFor};
 
 use crate::acquire::put_all_back;
@@ -45,9 +45,7 @@ pub(crate) fn park(hall: &Hall, hands: &mut Hands, rest: &mut Rest, package: Pac
 
 // Brings home one lock of a thread that has ended, where the run was stopped before.
 fn bring_home(hall: &Hall, hands: &mut Hands, package: &mut Package, released: Released<'_>)
-    requires hands { MayAct hall.now (Pack «package».old ∷ []) 1 hands.old }
-    requires may { MayRelease hall.now.terms hands.old.pass.knows released.lock
-        released.block.now «package».old }
+    requires { MayPassOn hall.now released.lock released.block.now «package».old hands.old }
     ensures { (s : SeatView) → DidLeave hall.now.terms released.entry.lock released.entry.block.now
         «package».old «package».new s s hands.old hands.new true true }
 {
@@ -66,9 +64,7 @@ fn end_one<R: Wait, Q: Waiters>(
     package: &mut Package,
     released: Released<'_>,
 ) -> bool
-    requires hands { MayAct hall.now (Pack «package».old ∷ []) 1 hands.old }
-    requires may { MayRelease hall.now.terms hands.old.pass.knows released.lock
-        released.block.now «package».old }
+    requires may { MayPassOn hall.now released.lock released.block.now «package».old hands.old }
     requires ended { ends_thread released.block.now.end ≡ true }
     requires seat { IsSeatFor (threads hall.now.terms) (Q.queue queue.now) (Q.seen seat.old) }
     ensures { DidLeave hall.now.terms released.entry.lock released.entry.block.now «package».old «package».new

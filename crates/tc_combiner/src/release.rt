@@ -1,13 +1,11 @@
 //! What becomes of a released lock.
 
-ghost use Rattle.std.specs.Prelude.{ℕ, ◌≡◌, ◌≢◌, ◌<◌, [], ◌∷◌, Some};
+ghost use Rattle.std.specs.Prelude.{◌≡◌, ◌≢◌, ◌<◌, [], ◌∷◌, Some};
 ghost use Rattle.tc_context.specs.View.{PackageView};
-ghost use Rattle.tc_hall.specs.Rule.{threads, locks};
-ghost use Rattle.tc_queue.specs.Words.{IsTurn};
+ghost use Rattle.tc_hall.specs.Rule.{threads};
 ghost use Rattle.tc_hall.specs.Outs.{outs, Pack, Loose};
 ghost use Rattle.tc_combiner.specs.Packages.{IsWaiter};
-ghost use Rattle.tc_combiner.specs.Release.{DidHand, DidPass, IsReleased, MayRelease};
-ghost use Rattle.tc_combiner.specs.Walks.{MayAct};
+ghost use Rattle.tc_combiner.specs.Release.{DidHand, DidPass, MayHandOn, MayPassOn};
 ghost use Rattle.tc_combiner.specs.View.{IsSeatFor};
 
 use crate::calls;
@@ -33,11 +31,9 @@ fn grant_to(
     block: &Block,
     next: Turn,
 ) -> Passed
-    requires hands { MayAct hall.now (Pack waiter ∷ Loose state ∷ []) 1 hands.old }
+    requires may { MayHandOn hall.now state block.now next (Pack waiter ∷ Loose state ∷ []) hands.old }
     requires waiter { IsWaiter next.thread state.number hall.now.terms.image.value waiter }
-    requires turn { IsTurn (threads hall.now.terms) next }
     requires other { block.now.thread ≢ next.thread }
-    requires released { IsReleased hall.now.terms hands.old.pass.knows block.now state }
     ensures { DidHand hall.now.terms state block.now next
         (Pack waiter ∷ Loose state ∷ []) hands.old hands.new result }
 {
@@ -61,11 +57,9 @@ fn hand_on<R: Wait>(
     block: &Block,
     next: Turn,
 ) -> Passed
-    requires hands { MayAct hall.now (Loose state ∷ []) 1 hands.old }
-    requires turn { IsTurn (threads hall.now.terms) next }
+    requires may { MayHandOn hall.now state block.now next (Loose state ∷ []) hands.old }
     requires beside { (q : PackageView)
         × ((outs hands.old.pass.knows).context block.now.thread ≡ Some q) }
-    requires released { IsReleased hall.now.terms hands.old.pass.knows block.now state }
     ensures { DidHand hall.now.terms state block.now next
         (Loose state ∷ []) hands.old hands.new result }
 {
@@ -89,9 +83,7 @@ pub(crate) fn pass_on<R: Wait, Q: Waiters>(
     package: &mut Package,
     released: Released<'_>,
 ) -> Passed
-    requires hands { MayAct hall.now (Pack «package».old ∷ []) 1 hands.old }
-    requires may { MayRelease hall.now.terms hands.old.pass.knows released.lock
-        released.block.now «package».old }
+    requires may { MayPassOn hall.now released.lock released.block.now «package».old hands.old }
     requires seat { IsSeatFor (threads hall.now.terms) (Q.queue queue.now) (Q.seen seat.old) }
     ensures { DidPass hall.now.terms released.entry.lock released.entry.block.now «package».old «package».new
         (Q.seen seat.old) (Q.seen seat.new) hands.old hands.new result }

@@ -1,13 +1,13 @@
 //! What `settle` does, by the end of the block, over the parts of a desk.
 
-ghost use Rattle.std.specs.Prelude.{◌≡◌, ◌≤◌, ◌∷◌, length, map};
+ghost use Rattle.std.specs.Prelude.{◌≤◌, ◌∷◌, length, map};
 ghost use Rattle.tc_hall.specs.Outs.{Pack};
-ghost use Rattle.tc_hall.specs.Rule.{threads, locks};
+ghost use Rattle.tc_hall.specs.Rule.{threads};
 ghost use Rattle.tc_combiner.specs.Walks.{packed, IsAtHall, MayAct};
 ghost use Rattle.tc_combiner.specs.Answers.{Acquires, MayAsk};
 ghost use Rattle.tc_combiner.specs.Release.{MayUnlock, Unlocks, AtSeat};
 ghost use Rattle.tc_combiner.specs.View.{desk_of, HasSeats};
-ghost use Rattle.tc_combiner.specs.Settling.{HasSettled, Keeps, MaySettle};
+ghost use Rattle.tc_combiner.specs.Settling.{HasSettled, KeepsParts, MaySettle};
 
 use crate::acquire::acquire_with;
 use crate::ends::{ended_with, park};
@@ -77,7 +77,7 @@ pub(crate) fn settle_with<R: Wait, Q: Waiters>(
     requires seats { HasSeats Q.queue Q.seen shared.now.hall.now.terms shared.now.queues.now seats.old }
     requires room { threads shared.now.hall.now.terms ≤ length rest.old.sleepers }
     requires may { MaySettle shared.now.hall.now.terms.image.value hands.old.pass.knows.worker end «package» }
-    ensures keeps { Keeps shared.now.hall.now.terms «package» (map Q.seen seats.old) (map Q.seen seats.new)
+    ensures keeps { KeepsParts shared.now.hall.now.terms «package» (map Q.seen seats.old) (map Q.seen seats.new)
         rest.old rest.new hands.old.pass hands.old.aside hands.new result }
     ensures settled { HasSettled end «package»
         (desk_of hands.old.pass (map Q.seen seats.old) rest.old.sleepers rest.old.clock

@@ -15,7 +15,7 @@ use Rattle.tc_combiner.specs.declared.settled.Settled.{Settled}
 use Rattle.tc_combiner.specs.declared.settled.Settled.TheVariants.{GoesOn, Adopted, Stopped as Was_stopped}
 use Rattle.tc_combiner.specs.Answers.{carried}
 use Rattle.tc_combiner.specs.Packages.{IsGoodFor}
-use Rattle.tc_combiner.specs.Settling.{DidAcquire, DidUnlock, DidEnd, HasAcquired, HasSettled, SettledAs, Works}
+use Rattle.tc_combiner.specs.Settling.{DidAcquire, DidUnlock, DidEnd, HasAcquired, HasSettled, Keeps, SettledAs, Works}
 use Rattle.tc_combiner.specs.View.{BenchView, DeskView, FitsBench}
 use Rattle.tc_combiner.specs.Walks.{Moves, Owned, Owns, packed}
 use Rattle.tc_combiner.proofs.Answering.{good_after}
@@ -263,11 +263,11 @@ answered b v e (Adopted p) fits count out a = record { fits = fits; sleepers = c
 answered b v e Was_stopped fits count out a = (left_none e a.1 out, stop_shown v e.pass.knows a.0)
 answered b v e r fits count out a = record { fits = fits; sleepers = count; out = out; fit = tt }
 
-pub after_acquire : (b : BenchView) (q : PackageView) (d e : DeskView) (s : Settled) → IsAtDesk b (Some q) d → Works d e → FitsBench b e → Moves d.pass.knows e.pass.knows (Pack q ∷ packed d.aside) (carried s ++ packed e.aside) → HasAcquired q d e s → IsStep b e (step_of s)
-after_acquire b q d e s h works fits moves did = answered b d.pass.knows e s fits (works.room ∙ h.sleepers) (moved d.pass.knows e.pass.knows (Pack q ∷ packed d.aside) (carried s ++ packed e.aside) moves h.out) (acquired did.0 q d e s did.2)
+pub after_acquire : (b : BenchView) (q : PackageView) (d e : DeskView) (s : Settled) → IsAtDesk b (Some q) d → Keeps b q d e s → HasAcquired q d e s → IsStep b e (step_of s)
+after_acquire b q d e s h keeps did = answered b d.pass.knows e s keeps.fits (keeps.works.room ∙ h.sleepers) (moved d.pass.knows e.pass.knows (Pack q ∷ packed d.aside) (carried s ++ packed e.aside) keeps.moves h.out) (acquired did.0 q d e s did.2)
 
-pub after_settle : (b : BenchView) (end : End) (q : PackageView) (d e : DeskView) (s : Settled) → HasSealed b end q d → Works d e → FitsBench b e → Moves d.pass.knows e.pass.knows (Pack q ∷ packed d.aside) (carried s ++ packed e.aside) → HasSettled end q d e s → IsStep b e (step_of s)
-after_settle b end q d e s h works fits moves did = answered b d.pass.knows e s fits (works.room ∙ h.sleepers) (moved d.pass.knows e.pass.knows (Pack q ∷ packed d.aside) (carried s ++ packed e.aside) moves h.out) (settled_answer end q did.0 d e s did.2)
+pub after_settle : (b : BenchView) (end : End) (q : PackageView) (d e : DeskView) (s : Settled) → HasSealed b end q d → Keeps b q d e s → HasSettled end q d e s → IsStep b e (step_of s)
+after_settle b end q d e s h keeps did = answered b d.pass.knows e s keeps.fits (keeps.works.room ∙ h.sleepers) (moved d.pass.knows e.pass.knows (Pack q ∷ packed d.aside) (carried s ++ packed e.aside) keeps.moves h.out) (settled_answer end q did.0 d e s did.2)
 
 -- ---- a worker's end
 

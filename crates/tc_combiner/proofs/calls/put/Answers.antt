@@ -1,4 +1,4 @@
-use Rattle.std.proofs.Common.{[], ap, if◌then◌else◌, refl, Some, None}
+use Rattle.std.proofs.Common.{[], ◌∷◌, ap, if◌then◌else◌, refl, Some, None}
 use Rattle.tc_combiner.proofs.Vocabulary.{Pack, bare, keep, kept, put_call}
 use Rattle.tc_hall.proofs.Outs.{is_there}
 use Rattle.tc_combiner.proofs.Acting.{acts_told}
@@ -15,4 +15,4 @@ put-requires-clause-ready c = record {
 }
 
 pub returns : goal.returns
-returns c = acts_told (put_call c.args.«package» c.args.place) _ [] c.args.pass.now c.put.new.pass tt refl c.put.ensures.own c.put.ensures.put.called (moves_in c.args.pass.now.knows c.put.new.pass.knows (Pack c.args.«package») c.put.ensures.put.rest)
+returns c = acts_told (put_call c.args.«package» c.args.place ∷ []) (put_call c.args.«package» c.args.place ∷ []) _ [] c.args.pass.now c.put.new.pass refl tt c.put.ensures.own c.put.ensures.put.called (moves_in c.args.pass.now.knows c.put.new.pass.knows (Pack c.args.«package») c.put.ensures.put.rest)

@@ -1,20 +1,21 @@
-use Rattle.std.proofs.Common.{refl}
-use Rattle.tc_combiner.proofs.Vocabulary.{DidTakeOut}
+use Rattle.std.proofs.Common.{List, [], append-nil, refl, sym, true}
+use Rattle.tc_combiner.proofs.Vocabulary.{Call, DidTakeOut, LeftAs, LockView, Turn, turn_of}
 use Rattle.tc_combiner.proofs.Acting.{acts_none}
-use Rattle.tc_combiner.proofs.PassedOn.{released_free, left_before, taken_free}
+use Rattle.tc_combiner.proofs.PassedOn.{frees, released_free, taken_free}
 use Rattle.tc_combiner.proofs.ends.bring_home.Goals as goal
 
 pub take_out-state-requires-clause-released : goal.take_out-state-requires-clause-released
-take_out-state-requires-clause-released c = released_free c.args.«package».now c.args.released.block.now c.args.released.lock c.keeps.ensures.sound c.requires.may.last c.requires.may.released
+take_out-state-requires-clause-released c = released_free c.args.«package».now c.args.released.block.now c.args.released.lock c.keeps.ensures.sound c.requires.release.last c.requires.release.released
 
 pub free-requires : goal.free-requires
 free-requires c =
     let d : DidTakeOut c.args.released.lock c.take_out-state.result c.args.«package».now c.take_out-state.new.self = record { was = c.take_out-state.ensures.lock; is = c.take_out-state.ensures.is; locks = c.take_out-state.ensures.locks; rest = c.take_out-state.ensures.rest } in record {
       own = c.requires.hands.at.own;
-      may = taken_free c.args.hall.now.terms _ c.args.released.lock c.take_out-state.result c.args.«package».now c.take_out-state.new.self c.args.hands.now.pass c.args.hands.now.pass d c.requires.may.lock c.requires.hands.at.out (acts_none c.args.hands.now.pass _);
+      may = taken_free c.args.hall.now.terms _ c.args.released.lock c.take_out-state.result c.args.«package».now c.take_out-state.new.self c.args.hands.now.pass c.args.hands.now.pass d c.requires.release.lock c.requires.hands.at.out (acts_none c.args.hands.now.pass _);
     }
 
 pub returns : goal.returns
 returns c =
     let d : DidTakeOut c.args.released.lock c.take_out-state.result c.args.«package».now c.take_out-state.new.self = record { was = c.take_out-state.ensures.lock; is = c.take_out-state.ensures.is; locks = c.take_out-state.ensures.locks; rest = c.take_out-state.ensures.rest } in
-    λ s. left_before c.args.hall.now.terms c.args.released.lock c.args.released.block.now c.take_out-state.result c.args.«package».now c.take_out-state.new.self s c.args.hands.now _ d c.free.ensures refl refl
+    λ s. frees c.args.hall.now.terms [] c.args.released.lock c.take_out-state.result (turn_of c.args.«package».now c.args.released.lock) c.args.«package».now c.take_out-state.new.self s s c.args.hands.now _ c.args.hands.now.pass
+    (λ (u : Turn) (l : LockView) (cs : List Call). LeftAs c.args.hall.now.terms.image.value l c.args.released.block.now u s s cs true true) d refl (record { table = refl; threads = refl; lines = []; calls = sym (append-nil s.calls); asked = tt }) (acts_none c.args.hands.now.pass []) c.free.ensures refl refl refl (refl, refl)

@@ -1,7 +1,8 @@
 use Rattle.std.proofs.Common.{◌<◌, Bool, get_or, refl, map, length, sym, ap, ◌∙◌, subst, subst₂, arith, rules}
 use Rattle.tc_combiner.proofs.Vocabulary.{DidLeave, SeatView, length-map, locks, no_seat, seat_at}
-use Rattle.tc_combiner.proofs.Ending.{less_falls, none_left, leaves_first, leaves_more, left_all, few_more, lock_in_hall, may_next, may_release, seat_in}
+use Rattle.tc_combiner.proofs.Ending.{less_falls, none_left, leaves_first, leaves_more, left_all, lock_in_hall, may_next, may_release, seat_in}
 use Rattle.tc_combiner.proofs.Seats.{other_seats, seat_after, seat_before, seats_count}
+use Rattle.tc_combiner.proofs.PassedOn.{few_left, few_more}
 use Rattle.tc_combiner.proofs.ends.end_all.Goals as goal
 
 pub loop-lock-init : goal.loop-lock-init
@@ -27,11 +28,11 @@ bounds-seats-lock g c =
     let low : c.in-Some.lock < locks c.args.shared.now.hall.now.terms = lock_in_hall c.args.shared.now.hall.now _ _ c.args.block.now c.args.«package».now c.loop-lock.«package» c.loop-lock.rest c.in-Some.lock (map g.Q.Waiters.seen c.args.seats.now) (map g.Q.Waiters.seen c.loop-lock.seats) c.args.hands.now c.loop-lock.hands c.loop-lock.stopped c.requires.hands c.requires.may c.loop-lock.invariant c.keeps.ensures.sound c.in-Some.ensures.value.0 in
     let size = c.requires.seats.seats in let count = c.loop-lock.invariant.count in let old = length-map c.args.seats.now g.Q.Waiters.seen in let new = length-map c.loop-lock.seats g.Q.Waiters.seen in omega arith
 
-pub end_one-stopped-requires-clause-hands : goal.end_one-stopped-requires-clause-hands
-end_one-stopped-requires-clause-hands g c = λ κs b. may_next c.args.shared.now.hall.now c.args.block.now c.args.«package».now c.loop-lock.«package» c.loop-lock.rest c.less-rest.result c.in-Some.lock _ (map g.Q.Waiters.seen c.args.seats.now) (map g.Q.Waiters.seen c.loop-lock.seats) c.args.hands.now c.loop-lock.hands c.loop-lock.stopped c.requires.hands c.loop-lock.invariant c.in-Some.ensures.value.0 c.in-Some.ensures.bound c.less-rest.ensures.each
-
 pub end_one-stopped-requires-clause-may : goal.end_one-stopped-requires-clause-may
-end_one-stopped-requires-clause-may g c = λ κs b. may_release c.args.shared.now.hall.now.terms c.args.block.now c.args.«package».now c.loop-lock.«package» c.loop-lock.rest c.in-Some.lock (map g.Q.Waiters.seen c.args.seats.now) (map g.Q.Waiters.seen c.loop-lock.seats) c.args.hands.now c.loop-lock.hands c.loop-lock.stopped c.requires.may c.loop-lock.invariant c.in-Some.ensures.value.0 (lock_in_hall c.args.shared.now.hall.now _ _ c.args.block.now c.args.«package».now c.loop-lock.«package» c.loop-lock.rest c.in-Some.lock (map g.Q.Waiters.seen c.args.seats.now) (map g.Q.Waiters.seen c.loop-lock.seats) c.args.hands.now c.loop-lock.hands c.loop-lock.stopped c.requires.hands c.requires.may c.loop-lock.invariant c.keeps.ensures.sound c.in-Some.ensures.value.0)
+end_one-stopped-requires-clause-may g c = λ κs b. record {
+  hands = may_next c.args.shared.now.hall.now c.args.block.now c.args.«package».now c.loop-lock.«package» c.loop-lock.rest c.less-rest.result c.in-Some.lock _ (map g.Q.Waiters.seen c.args.seats.now) (map g.Q.Waiters.seen c.loop-lock.seats) c.args.hands.now c.loop-lock.hands c.loop-lock.stopped c.requires.hands c.loop-lock.invariant c.in-Some.ensures.value.0 c.in-Some.ensures.bound c.less-rest.ensures.each;
+  release = may_release c.args.shared.now.hall.now.terms c.args.block.now c.args.«package».now c.loop-lock.«package» c.loop-lock.rest c.in-Some.lock (map g.Q.Waiters.seen c.args.seats.now) (map g.Q.Waiters.seen c.loop-lock.seats) c.args.hands.now c.loop-lock.hands c.loop-lock.stopped c.requires.may c.loop-lock.invariant c.in-Some.ensures.value.0 (lock_in_hall c.args.shared.now.hall.now _ _ c.args.block.now c.args.«package».now c.loop-lock.«package» c.loop-lock.rest c.in-Some.lock (map g.Q.Waiters.seen c.args.seats.now) (map g.Q.Waiters.seen c.loop-lock.seats) c.args.hands.now c.loop-lock.hands c.loop-lock.stopped c.requires.hands c.requires.may c.loop-lock.invariant c.keeps.ensures.sound c.in-Some.ensures.value.0);
+}
 
 pub end_one-stopped-requires-clause-seat : goal.end_one-stopped-requires-clause-seat
 end_one-stopped-requires-clause-seat g c = λ κs b.
@@ -52,7 +53,7 @@ loop-lock-preserved g c =
     (sym (seat_after g.Q.Waiters.seen c.loop-lock.seats c.in-Some.lock c.end_one-stopped.new.seat no_seat deep)) e)
     (seats_count g.Q.Waiters.seen c.loop-lock.seats c.in-Some.lock c.end_one-stopped.new.seat)
     (λ j ne. other_seats g.Q.Waiters.seen c.loop-lock.seats c.in-Some.lock j c.end_one-stopped.new.seat no_seat ne)
-    (few_more c.args.shared.now.hall.now.terms c.in-Some.lock c.args.block.now c.loop-lock.«package» c.end_one-stopped.new.«package» _ _ c.loop-lock.hands c.end_one-stopped.new.hands c.loop-lock.stopped c.end_one-stopped.result e)
+    (few_more e (few_left c.args.shared.now.hall.now.terms.image.value e.state c.args.block.now _ _ _ e.calls _ _ e.became))
 
 pub returns : goal.returns
 returns g c = left_all c.args.shared.now.hall.now.terms c.args.block.now c.args.«package».now c.loop-lock.«package» c.loop-lock.rest (map g.Q.Waiters.seen c.args.seats.now) (map g.Q.Waiters.seen c.loop-lock.seats) c.args.hands.now c.loop-lock.hands c.loop-lock.stopped (none_left _ _ c.first_release.result c.first_release.ensures.value c.in_default.not-Some) c.loop-lock.invariant
@@ -60,7 +61,7 @@ returns g c = left_all c.args.shared.now.hall.now.terms c.args.block.now c.args.
 pub bring_home-requires : goal.bring_home-requires
 bring_home-requires g c = record {
   hands = may_next c.args.shared.now.hall.now c.args.block.now c.args.«package».now c.loop-lock.«package» c.loop-lock.rest c.less-rest.result c.in-Some.lock _ (map g.Q.Waiters.seen c.args.seats.now) (map g.Q.Waiters.seen c.loop-lock.seats) c.args.hands.now c.loop-lock.hands c.loop-lock.stopped c.requires.hands c.loop-lock.invariant c.in-Some.ensures.value.0 c.in-Some.ensures.bound c.less-rest.ensures.each;
-  may = may_release c.args.shared.now.hall.now.terms c.args.block.now c.args.«package».now c.loop-lock.«package» c.loop-lock.rest c.in-Some.lock (map g.Q.Waiters.seen c.args.seats.now) (map g.Q.Waiters.seen c.loop-lock.seats) c.args.hands.now c.loop-lock.hands c.loop-lock.stopped c.requires.may c.loop-lock.invariant c.in-Some.ensures.value.0 (lock_in_hall c.args.shared.now.hall.now _ _ c.args.block.now c.args.«package».now c.loop-lock.«package» c.loop-lock.rest c.in-Some.lock (map g.Q.Waiters.seen c.args.seats.now) (map g.Q.Waiters.seen c.loop-lock.seats) c.args.hands.now c.loop-lock.hands c.loop-lock.stopped c.requires.hands c.requires.may c.loop-lock.invariant c.keeps.ensures.sound c.in-Some.ensures.value.0);
+  release = may_release c.args.shared.now.hall.now.terms c.args.block.now c.args.«package».now c.loop-lock.«package» c.loop-lock.rest c.in-Some.lock (map g.Q.Waiters.seen c.args.seats.now) (map g.Q.Waiters.seen c.loop-lock.seats) c.args.hands.now c.loop-lock.hands c.loop-lock.stopped c.requires.may c.loop-lock.invariant c.in-Some.ensures.value.0 (lock_in_hall c.args.shared.now.hall.now _ _ c.args.block.now c.args.«package».now c.loop-lock.«package» c.loop-lock.rest c.in-Some.lock (map g.Q.Waiters.seen c.args.seats.now) (map g.Q.Waiters.seen c.loop-lock.seats) c.args.hands.now c.loop-lock.hands c.loop-lock.stopped c.requires.hands c.requires.may c.loop-lock.invariant c.keeps.ensures.sound c.in-Some.ensures.value.0);
 }
 
 pub loop-lock-preserved-then-stopped : goal.loop-lock-preserved-then-stopped
@@ -68,7 +69,7 @@ loop-lock-preserved-then-stopped g c =
     let e = subst (λ (b : Bool). DidLeave c.args.shared.now.hall.now.terms c.in-Some.lock c.args.block.now c.loop-lock.«package» c.bring_home.new.«package» (seat_at (map g.Q.Waiters.seen c.loop-lock.seats) c.in-Some.lock) (seat_at (map g.Q.Waiters.seen c.loop-lock.seats) c.in-Some.lock) c.loop-lock.hands c.bring_home.new.hands b b) (sym c.if-stopped.true) (c.bring_home.ensures (seat_at (map g.Q.Waiters.seen c.loop-lock.seats) c.in-Some.lock)) in
     leaves_more c.args.shared.now.hall.now.terms c.args.block.now c.args.«package».now c.loop-lock.«package» c.bring_home.new.«package» c.loop-lock.rest c.less-rest.result c.in-Some.lock (map g.Q.Waiters.seen c.args.seats.now) (map g.Q.Waiters.seen c.loop-lock.seats) (map g.Q.Waiters.seen c.loop-lock.seats) c.args.hands.now c.loop-lock.hands c.bring_home.new.hands c.loop-lock.stopped c.loop-lock.stopped c.loop-lock.invariant c.in-Some.ensures.value.0 c.in-Some.ensures.value.1 c.in-Some.ensures.bound c.less-rest.ensures.each
     e refl (λ j ne. refl)
-    (few_more c.args.shared.now.hall.now.terms c.in-Some.lock c.args.block.now c.loop-lock.«package» c.bring_home.new.«package» _ _ c.loop-lock.hands c.bring_home.new.hands c.loop-lock.stopped c.loop-lock.stopped e)
+    (few_more e (few_left c.args.shared.now.hall.now.terms.image.value e.state c.args.block.now _ _ _ e.calls _ _ e.became))
 
 pub loop-lock-smaller-then-stopped : goal.loop-lock-smaller-then-stopped
 loop-lock-smaller-then-stopped g c = less_falls c.loop-lock.rest c.in-Some.lock c.less-rest.result c.less-rest.ensures.value c.in-Some.ensures.value.0

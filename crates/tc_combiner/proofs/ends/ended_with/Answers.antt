@@ -1,12 +1,13 @@
 use Rattle.std.proofs.Common.{map, refl, ◌∙◌, subst, arith, Bool}
 use Rattle.tc_combiner.proofs.Vocabulary.{DidLeaveAll, Pack, packed}
-use Rattle.tc_combiner.proofs.Ending.{at_end, emptied_plain, ends_done, ends_stopped, few_at_end, may_done}
-use Rattle.tc_combiner.proofs.Unlocking.{alone}
+use Rattle.tc_combiner.proofs.Ending.{at_end, emptied_plain, ends_done, ends_stopped, may_done}
+use Rattle.tc_combiner.proofs.Acting.{alone}
+use Rattle.tc_combiner.proofs.PassedOn.{left_after}
 use Rattle.tc_combiner.proofs.ends.ended_with.Goals as goal
 
 pub end_all-requires-clause-hands : goal.end_all-requires-clause-hands
 end_all-requires-clause-hands g c κs within =
-    let few = few_at_end c.args.hands.now.pass.knows _ c.args.block.now c.args.«package» c.keeps.ensures.sound c.requires.may in
+    let few = (left_after c.args.«package».image c.args.«package» c.args.block.now c.keeps.ensures.sound.left c.requires.may.last).few in
     record { at = alone c.args.shared.now.hall.now (Pack c.args.«package») (packed c.args.hands.now.aside) c.args.hands.now.pass c.args.hands.now.aside c.requires.hands.at; room = (let r = c.requires.hands.room in omega arith) }
 
 pub put_all_back-requires-clause-hands : goal.put_all_back-requires-clause-hands

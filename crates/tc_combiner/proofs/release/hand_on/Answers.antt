@@ -8,17 +8,19 @@ pub grant_to-requires : goal.grant_to-requires
 grant_to-requires g c =
     let e = c.in-Some.ensures {u = tt} in
     let w = e.2 in record {
-      hands = may_still c.args.hall.now [] (Loose c.args.state ∷ []) (Pack c.in-Some.waiter ∷ Loose c.args.state ∷ []) 1 c.args.hands.now _ c.requires.hands (came c.args.state c.in-Some.waiter c.args.hands.now.pass c.await_waiter.new.pass e.0) refl refl;
-      waiter = subst (λ (x : Shown). IsWaiter c.args.next.thread c.args.state.number x c.in-Some.waiter) (e.0.adds.told.image ∙ c.requires.hands.at.image) (subst (λ (i : ℕ). IsWaiter c.args.next.thread i c.await_waiter.new.pass.knows.image c.in-Some.waiter) c.number-lock.ensures.is w);
-      turn = c.requires.turn;
+      may = record {
+        hands = may_still c.args.hall.now [] (Loose c.args.state ∷ []) (Pack c.in-Some.waiter ∷ Loose c.args.state ∷ []) 1 c.args.hands.now _ c.requires.may.hands (came c.args.state c.in-Some.waiter c.args.hands.now.pass c.await_waiter.new.pass e.0) refl refl;
+        released = released_still [] [] (Pack c.in-Some.waiter ∷ []) c.args.hands.now.pass c.await_waiter.new.pass c.args.block.now c.args.state e.0 c.requires.may.released;
+        turn = c.requires.may.turn;
+      };
+      waiter = subst (λ (x : Shown). IsWaiter c.args.next.thread c.args.state.number x c.in-Some.waiter) (e.0.adds.told.image ∙ c.requires.may.hands.at.image) (subst (λ (i : ℕ). IsWaiter c.args.next.thread i c.await_waiter.new.pass.knows.image c.in-Some.waiter) c.number-lock.ensures.is w);
       other = λ f. came_apart c.args.hands.now.pass.knows c.await_waiter.new.pass.knows c.in-Some.waiter c.requires.beside.0 c.args.block.now.thread e.0.moves c.requires.beside.1 (f ∙ sym w.thread);
-      released = released_still [] [] (Pack c.in-Some.waiter ∷ []) c.args.hands.now.pass c.await_waiter.new.pass c.args.block.now c.args.state e.0 c.requires.released;
     }
 
 pub free-requires : goal.free-requires
 free-requires g c = record {
-  own = (c.in-None.ensures {u = tt}).0.own.0 ∙ c.requires.hands.at.own;
-  may = may_free c.args.hall.now.terms _ c.args.state c.args.hands.now.pass c.await_waiter.new.pass c.requires.released.lock c.requires.released.rest.ended c.requires.hands.at.out (c.in-None.ensures {u = tt}).0;
+  own = (c.in-None.ensures {u = tt}).0.own.0 ∙ c.requires.may.hands.at.own;
+  may = may_free c.args.hall.now.terms _ c.args.state c.args.hands.now.pass c.await_waiter.new.pass c.requires.may.released.lock c.requires.may.released.rest.ended c.requires.may.hands.at.out (c.in-None.ensures {u = tt}).0;
 }
 
 pub returns-in-Some : goal.returns-in-Some

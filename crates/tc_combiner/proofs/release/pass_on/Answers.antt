@@ -1,42 +1,44 @@
-use Rattle.std.proofs.Common.{◌<◌, ℕ, refl, sym, ◌∙◌, subst}
-use Rattle.tc_combiner.proofs.Vocabulary.{DidTakeOut, IsTurn, bare, threads}
+use Rattle.std.proofs.Common.{List, [], ◌<◌, ℕ, refl, sym, ◌∙◌, subst}
+use Rattle.tc_combiner.proofs.Vocabulary.{Call, DidTakeOut, FollowedAs, Home, IsTurn, LockView, Turn, Was_stopped, bare, saw, threads}
 use Rattle.tc_combiner.proofs.Acting.{same_outs}
-use Rattle.tc_combiner.proofs.PassedOn.{released_free, turn_is, is_beside, block_thread, is_released, goes_home, may_lock, passes, stops, taken_free}
+use Rattle.tc_combiner.proofs.PassedOn.{block_thread, frees, is_beside, is_released, may_lock, passes, released_free, taken_free, turn_is}
 use Rattle.tc_combiner.proofs.release.pass_on.Goals as goal
 
 pub take_out-state-requires-clause-released : goal.take_out-state-requires-clause-released
-take_out-state-requires-clause-released g c = released_free c.args.«package».now c.args.released.block.now c.args.released.lock c.keeps.ensures.sound c.requires.may.last c.requires.may.released
+take_out-state-requires-clause-released g c = released_free c.args.«package».now c.args.released.block.now c.args.released.lock c.keeps.ensures.sound c.requires.may.release.last c.requires.may.release.released
 
 pub find_next-requires-clause-asks : goal.find_next-requires-clause-asks
 find_next-requires-clause-asks g c = λ κs b. record {
   seat = c.requires.seat.of;
-  turn = turn_is _ _ _ (subst (λ (n : ℕ). c.thread.result < n) (sym c.requires.seat.made) (subst (λ (t : ℕ). t < threads c.args.hall.now.terms) (sym c.thread.ensures) c.requires.may.thread)) c.number_of.ensures.number;
+  turn = turn_is _ _ _ (subst (λ (n : ℕ). c.thread.result < n) (sym c.requires.seat.made) (subst (λ (t : ℕ). t < threads c.args.hall.now.terms) (sym c.thread.ensures) c.requires.may.release.thread)) c.number_of.ensures.number;
 }
 
 pub hand_on-requires : goal.hand_on-requires
 hand_on-requires g c =
     let d : DidTakeOut c.args.released.lock c.take_out-state.result c.args.«package».now c.take_out-state.new.self = record { was = c.take_out-state.ensures.lock; is = c.take_out-state.ensures.is; locks = c.take_out-state.ensures.locks; rest = c.take_out-state.ensures.rest } in
     let e = c.in-Next.ensures {u = tt} in record {
-      hands = may_lock c.args.hall.now 1 c.args.released.lock c.take_out-state.result c.args.«package».now c.take_out-state.new.self c.args.hands.now _ d e.acts refl refl c.requires.hands;
-      turn = subst (λ (n : ℕ). IsTurn n c.in-Next.next) (c.requires.seat.of.1 ∙ c.requires.seat.made) e.found.1;
-      beside = (bare c.args.«package».now, is_beside c.args.hands.now.pass.knows c.find_next.new.pass.knows c.args.«package».now c.args.released.block.now.thread c.requires.hands.at.out (same_outs _ c.args.hands.now.pass c.find_next.new.pass e.acts) (block_thread c.args.«package».now c.args.released.block.now c.keeps.ensures.sound c.requires.may.last));
-      released = is_released c.args.hall.now.terms c.args.hands.now.pass.knows c.find_next.new.pass.knows c.args.released.lock c.args.released.block.now c.take_out-state.result c.args.«package».now c.keeps.ensures.sound c.requires.may e.acts.adds.told.image e.acts.adds.told.worker d.was d.rest;
+      may = record {
+        hands = may_lock c.args.hall.now 1 c.args.released.lock c.take_out-state.result c.args.«package».now c.take_out-state.new.self c.args.hands.now _ d e.acts refl refl c.requires.may.hands;
+        released = is_released c.args.hall.now.terms c.args.hands.now.pass.knows c.find_next.new.pass.knows c.args.released.lock c.args.released.block.now c.take_out-state.result c.args.«package».now c.keeps.ensures.sound c.requires.may.release e.acts.adds.told.image e.acts.adds.told.worker d.was d.rest;
+        turn = subst (λ (n : ℕ). IsTurn n c.in-Next.next) (c.requires.seat.of.1 ∙ c.requires.seat.made) e.found.1;
+      };
+      beside = (bare c.args.«package».now, is_beside c.args.hands.now.pass.knows c.find_next.new.pass.knows c.args.«package».now c.args.released.block.now.thread c.requires.may.hands.at.out (same_outs _ c.args.hands.now.pass c.find_next.new.pass e.acts) (block_thread c.args.«package».now c.args.released.block.now c.keeps.ensures.sound c.requires.may.release.last));
     }
 
 pub free-requires : goal.free-requires
 free-requires g c =
     let d : DidTakeOut c.args.released.lock c.take_out-state.result c.args.«package».now c.take_out-state.new.self = record { was = c.take_out-state.ensures.lock; is = c.take_out-state.ensures.is; locks = c.take_out-state.ensures.locks; rest = c.take_out-state.ensures.rest } in
     let e = c.in-Nobody.ensures {u = tt} in record {
-      own = c.find_next.ensures.acts.own.0 ∙ c.requires.hands.at.own;
-      may = taken_free c.args.hall.now.terms _ c.args.released.lock c.take_out-state.result c.args.«package».now c.take_out-state.new.self c.args.hands.now.pass c.find_next.new.pass d c.requires.may.lock c.requires.hands.at.out e.acts;
+      own = c.find_next.ensures.acts.own.0 ∙ c.requires.may.hands.at.own;
+      may = taken_free c.args.hall.now.terms _ c.args.released.lock c.take_out-state.result c.args.«package».now c.take_out-state.new.self c.args.hands.now.pass c.find_next.new.pass d c.requires.may.release.lock c.requires.may.hands.at.out e.acts;
     }
 
 pub free-requires-in-Unknown : goal.free-requires-in-Unknown
 free-requires-in-Unknown g c =
     let d : DidTakeOut c.args.released.lock c.take_out-state.result c.args.«package».now c.take_out-state.new.self = record { was = c.take_out-state.ensures.lock; is = c.take_out-state.ensures.is; locks = c.take_out-state.ensures.locks; rest = c.take_out-state.ensures.rest } in
     let e = c.in-Unknown.ensures {u = tt} in record {
-      own = c.find_next.ensures.acts.own.0 ∙ c.requires.hands.at.own;
-      may = taken_free c.args.hall.now.terms _ c.args.released.lock c.take_out-state.result c.args.«package».now c.take_out-state.new.self c.args.hands.now.pass c.find_next.new.pass d c.requires.may.lock c.requires.hands.at.out e.acts;
+      own = c.find_next.ensures.acts.own.0 ∙ c.requires.may.hands.at.own;
+      may = taken_free c.args.hall.now.terms _ c.args.released.lock c.take_out-state.result c.args.«package».now c.take_out-state.new.self c.args.hands.now.pass c.find_next.new.pass d c.requires.may.release.lock c.requires.may.hands.at.out e.acts;
     }
 
 pub returns-in-Next : goal.returns-in-Next
@@ -49,10 +51,12 @@ pub returns-in-Nobody : goal.returns-in-Nobody
 returns-in-Nobody g c =
     let d : DidTakeOut c.args.released.lock c.take_out-state.result c.args.«package».now c.take_out-state.new.self = record { was = c.take_out-state.ensures.lock; is = c.take_out-state.ensures.is; locks = c.take_out-state.ensures.locks; rest = c.take_out-state.ensures.rest } in
     let e = c.in-Nobody.ensures {u = tt} in
-    goes_home c.args.hall.now.terms c.args.released.lock c.args.released.block.now c.take_out-state.result _ c.args.«package».now c.take_out-state.new.self (g.Q.Waiters.seen c.args.seat.now) (g.Q.Waiters.seen c.find_next.new.seat) c.args.hands.now _ c.find_next.new.pass d (let f = c.thread.ensures in let h = c.number_of.ensures.is in cc) e.asks e.found e.acts c.free.ensures refl refl
+    frees c.args.hall.now.terms [] c.args.released.lock c.take_out-state.result _ c.args.«package».now c.take_out-state.new.self (g.Q.Waiters.seen c.args.seat.now) (g.Q.Waiters.seen c.find_next.new.seat) c.args.hands.now _ c.find_next.new.pass
+    (λ (u : Turn) (l : LockView) (cs : List Call). FollowedAs c.args.hall.now.terms.image.value l c.args.released.block.now u (g.Q.Waiters.seen c.args.seat.now) (g.Q.Waiters.seen c.find_next.new.seat) cs Home) d (let f = c.thread.ensures in let h = c.number_of.ensures.is in cc) e.asks e.acts c.free.ensures refl refl refl (e.found, refl)
 
 pub returns-in-Unknown : goal.returns-in-Unknown
 returns-in-Unknown g c =
     let d : DidTakeOut c.args.released.lock c.take_out-state.result c.args.«package».now c.take_out-state.new.self = record { was = c.take_out-state.ensures.lock; is = c.take_out-state.ensures.is; locks = c.take_out-state.ensures.locks; rest = c.take_out-state.ensures.rest } in
     let e = c.in-Unknown.ensures {u = tt} in
-    stops c.args.hall.now.terms c.args.released.lock c.args.released.block.now c.take_out-state.result _ c.args.«package».now c.take_out-state.new.self (g.Q.Waiters.seen c.args.seat.now) (g.Q.Waiters.seen c.find_next.new.seat) c.args.hands.now _ c.find_next.new.pass d (let f = c.thread.ensures in let h = c.number_of.ensures.is in cc) e.asks e.acts c.free-in-Unknown.ensures refl refl
+    frees c.args.hall.now.terms saw c.args.released.lock c.take_out-state.result _ c.args.«package».now c.take_out-state.new.self (g.Q.Waiters.seen c.args.seat.now) (g.Q.Waiters.seen c.find_next.new.seat) c.args.hands.now _ c.find_next.new.pass
+    (λ (u : Turn) (l : LockView) (cs : List Call). FollowedAs c.args.hall.now.terms.image.value l c.args.released.block.now u (g.Q.Waiters.seen c.args.seat.now) (g.Q.Waiters.seen c.find_next.new.seat) cs Was_stopped) d (let f = c.thread.ensures in let h = c.number_of.ensures.is in cc) e.asks e.acts c.free-in-Unknown.ensures refl refl refl refl

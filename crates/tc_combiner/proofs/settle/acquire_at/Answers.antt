@@ -12,4 +12,4 @@ returns g c =
     let low = c.requires.may.lock in
     let count = c.requires.seats.seats in
     let deep : c.args.lock < length c.args.seats.now = omega arith in
-    at_seat g.Q.Waiters.seen (λ (s t : SeatView). Acquires c.args.shared.now.hall.now.terms c.args.lock c.args.«package» s t c.args.hands.now c.acquire_with.new.hands c.acquire_with.result) c.args.seats.now c.args.lock c.index-seats-lock.result c.acquire_with.new.seat deep c.index-seats-lock.is (same_seat _ _ c.args.lock c.args.«package» _ _ _ _ c.acquire_with.ensures.calls c.acquire_with.result c.acquire_with.ensures.acquired) c.acquire_with.ensures
+    at_seat g.Q.Waiters.seen (λ (s t : SeatView). Acquires c.args.shared.now.hall.now.terms c.args.lock c.args.«package» s t c.args.hands.now c.acquire_with.new.hands c.acquire_with.result) c.args.seats.now c.args.lock c.index-seats-lock.result c.acquire_with.new.seat deep c.index-seats-lock.is (same_seat _ _ c.args.lock c.args.«package» _ _ _ _ c.acquire_with.ensures.calls c.acquire_with.result c.acquire_with.ensures.became) c.acquire_with.ensures

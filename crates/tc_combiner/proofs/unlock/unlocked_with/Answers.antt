@@ -1,10 +1,14 @@
 use Rattle.std.proofs.Common.{refl, arith}
 use Rattle.tc_combiner.proofs.Vocabulary.{Home, Pack, Was_granted, Was_stopped, packed}
-use Rattle.tc_combiner.proofs.Unlocking.{alone, at_then, goes_adopted, goes_granted, goes_home, goes_stopped, may_adopted, may_aside, may_go_on, may_then}
+use Rattle.tc_combiner.proofs.Unlocking.{at_then, goes_adopted, goes_granted, goes_home, goes_stopped, may_adopted, may_aside, may_go_on, may_then}
+use Rattle.tc_combiner.proofs.Acting.{alone}
 use Rattle.tc_combiner.proofs.unlock.unlocked_with.Goals as goal
 
-pub pass_on-requires-clause-hands : goal.pass_on-requires-clause-hands
-pass_on-requires-clause-hands g c = λ κs b. record { at = alone c.args.hall.now (Pack c.args.«package») (packed c.args.hands.now.aside) c.args.hands.now.pass c.args.hands.now.aside c.requires.hands.at; room = (let r = c.requires.hands.room in omega arith) }
+pub pass_on-requires-clause-may : goal.pass_on-requires-clause-may
+pass_on-requires-clause-may g c = λ κs b. record {
+  hands = record { at = alone c.args.hall.now (Pack c.args.«package») (packed c.args.hands.now.aside) c.args.hands.now.pass c.args.hands.now.aside c.requires.hands.at; room = (let r = c.requires.hands.room in omega arith) };
+  release = c.requires.may.release;
+}
 
 pub go_on-requires : goal.go_on-requires
 go_on-requires g c =

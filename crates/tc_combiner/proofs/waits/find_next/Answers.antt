@@ -1,6 +1,6 @@
-use Rattle.std.proofs.Common.{ℕ, [], ◌+◌, arith, subst, Some, None}
-use Rattle.tc_combiner.proofs.Vocabulary.{Asked, saw}
-use Rattle.tc_combiner.proofs.Acting.{asked_last, asked_more, asks_next, acts_none, acts_then, tried_still, tries_more}
+use Rattle.std.proofs.Common.{ℕ, [], ◌+◌, arith, refl, subst, Some, None}
+use Rattle.tc_combiner.proofs.Vocabulary.{Next, Asked, saw}
+use Rattle.tc_combiner.proofs.Acting.{asked_line, asks_next, acts_none, acts_then, tried_still, tried_then}
 use Rattle.tc_combiner.proofs.waits.find_next.Goals as goal
 
 pub returns-in_default-clause-looks : goal.returns-in_default-clause-looks
@@ -20,7 +20,7 @@ loop-init g c = (
 pub loop-preserved : goal.loop-preserved
 loop-preserved g c =
     let e = c.in-Refused.ensures {u = tt} in
-    (tt, tt, acts_then [] [] [] [] [] c.args.pass.now c.loop.pass c.try_next.new.pass c.loop.invariant.2 e.tried.0, asks_next c.args.own (g.Q.Waiters.seen c.args.seat.now) (g.Q.Waiters.seen c.loop.seat) (g.Q.Waiters.seen c.try_next.new.seat) None c.loop.invariant.3 e.line, (c.loop.invariant.4.0 + 1, asked_more (c.loop.invariant.4.0 + 1) (g.Q.Waiters.seen c.args.seat.now) (g.Q.Waiters.seen c.loop.seat) (g.Q.Waiters.seen c.try_next.new.seat) c.args.own c.loop.invariant.4.1 e.line, tries_more c.loop.invariant.4.0 1 c.args.pass.now.knows c.loop.pass.knows c.try_next.new.pass.knows c.loop.invariant.4.2 e.tried.1))
+    (tt, tt, acts_then [] [] [] [] [] c.args.pass.now c.loop.pass c.try_next.new.pass c.loop.invariant.2 e.tried.0, asks_next c.args.own (g.Q.Waiters.seen c.args.seat.now) (g.Q.Waiters.seen c.loop.seat) (g.Q.Waiters.seen c.try_next.new.seat) None c.loop.invariant.3 e.line, (c.loop.invariant.4.0 + 1, asked_line (c.loop.invariant.4.0 + 1) 1 (g.Q.Waiters.seen c.args.seat.now) (g.Q.Waiters.seen c.loop.seat) (g.Q.Waiters.seen c.try_next.new.seat) (Next c.args.own None) c.loop.invariant.4.1 e.line refl, tried_then 0 c.loop.invariant.4.0 0 1 c.args.pass.now.knows c.loop.pass.knows c.try_next.new.pass.knows c.loop.invariant.4.2 e.tried.1))
 
 pub returns-in-Stopped-clause-acts : goal.returns-in-Stopped-clause-acts
 returns-in-Stopped-clause-acts g c = let e = c.in-Stopped.ensures {u = tt} in acts_then [] saw [] [] [] c.args.pass.now c.loop.pass c.try_next.new.pass c.loop.invariant.2 e.tried.0
@@ -31,7 +31,7 @@ returns-in-Stopped-clause-asks g c = let e = c.in-Stopped.ensures {u = tt} in as
 pub returns-in-Stopped-clause-looks : goal.returns-in-Stopped-clause-looks
 returns-in-Stopped-clause-looks g c =
     let e = c.in-Stopped.ensures {u = tt} in
-    ((c.loop.invariant.4.0 + 1) + 1, c.loop.invariant.4.0 + 1, asked_more (c.loop.invariant.4.0 + 1) (g.Q.Waiters.seen c.args.seat.now) (g.Q.Waiters.seen c.loop.seat) (g.Q.Waiters.seen c.try_next.new.seat) c.args.own c.loop.invariant.4.1 e.line, tries_more c.loop.invariant.4.0 1 c.args.pass.now.knows c.loop.pass.knows c.try_next.new.pass.knows c.loop.invariant.4.2 e.tried.1, omega arith, omega arith)
+    ((c.loop.invariant.4.0 + 1) + 1, c.loop.invariant.4.0 + 1, asked_line (c.loop.invariant.4.0 + 1) 1 (g.Q.Waiters.seen c.args.seat.now) (g.Q.Waiters.seen c.loop.seat) (g.Q.Waiters.seen c.try_next.new.seat) (Next c.args.own None) c.loop.invariant.4.1 e.line refl, tried_then 0 c.loop.invariant.4.0 0 1 c.args.pass.now.knows c.loop.pass.knows c.try_next.new.pass.knows c.loop.invariant.4.2 e.tried.1, omega arith, omega arith)
 
 pub returns-in-Came-clause-acts : goal.returns-in-Came-clause-acts
 returns-in-Came-clause-acts g c = let e = c.in-Came.ensures {u = tt} in acts_then [] [] [] [] [] c.args.pass.now c.loop.pass c.try_next.new.pass c.loop.invariant.2 e.tried.0
@@ -42,4 +42,4 @@ returns-in-Came-clause-asks g c = let e = c.in-Came.ensures {u = tt} in asks_nex
 pub returns-in-Came-clause-looks : goal.returns-in-Came-clause-looks
 returns-in-Came-clause-looks g c =
     let e = c.in-Came.ensures {u = tt} in
-    ((c.loop.invariant.4.0 + 1) + 0, c.loop.invariant.4.0 + 0, asked_last (c.loop.invariant.4.0 + 1) (g.Q.Waiters.seen c.args.seat.now) (g.Q.Waiters.seen c.loop.seat) (g.Q.Waiters.seen c.try_next.new.seat) c.args.own c.in-Came.next c.loop.invariant.4.1 e.line, tries_more c.loop.invariant.4.0 0 c.args.pass.now.knows c.loop.pass.knows c.try_next.new.pass.knows c.loop.invariant.4.2 e.tried.1, omega arith, omega arith)
+    ((c.loop.invariant.4.0 + 1) + 0, c.loop.invariant.4.0 + 0, asked_line (c.loop.invariant.4.0 + 1) 0 (g.Q.Waiters.seen c.args.seat.now) (g.Q.Waiters.seen c.loop.seat) (g.Q.Waiters.seen c.try_next.new.seat) (Next c.args.own (Some c.in-Came.next)) c.loop.invariant.4.1 e.line refl, tried_then 0 c.loop.invariant.4.0 0 0 c.args.pass.now.knows c.loop.pass.knows c.try_next.new.pass.knows c.loop.invariant.4.2 e.tried.1, omega arith, omega arith)

@@ -1,6 +1,6 @@
-use Rattle.std.proofs.Common.{true, false, sym, subst}
+use Rattle.std.proofs.Common.{[], true, false, refl, sym, subst}
 use Rattle.tc_combiner.proofs.Vocabulary.{IsWaiter, Pack, Shown}
-use Rattle.tc_combiner.proofs.Acting.{acts_missed, acts_untold, misses, tried_claimed, tried_missed}
+use Rattle.tc_combiner.proofs.Acting.{acts_told, misses, tried_none}
 use Rattle.tc_combiner.proofs.Owning.{moves_out}
 use Rattle.tc_combiner.proofs.Packages.{is_waiter}
 use Rattle.tc_combiner.proofs.waits.try_adopt.Goals as goal
@@ -8,13 +8,13 @@ use Rattle.tc_combiner.proofs.waits.try_adopt.Goals as goal
 pub returns-in-Ok : goal.returns-in-Ok
 returns-in-Ok c =
     let r = c.in-Ok.ensures.result in (
-      acts_untold _ c.args.pass.now c.adopt.new.pass c.adopt.ensures.own r.called (moves_out c.args.pass.now.knows c.adopt.new.pass.knows (Pack c.in-Ok.waiter) r.came.out r.came.before),
-      tried_claimed c.args.pass.now.knows c.adopt.new.pass.knows c.in-Ok.waiter r.now,
+      acts_told [] [] [] _ c.args.pass.now c.adopt.new.pass refl tt c.adopt.ensures.own r.called (moves_out c.args.pass.now.knows c.adopt.new.pass.knows (Pack c.in-Ok.waiter) r.came.out r.came.before),
+      tried_none c.args.pass.now.knows c.adopt.new.pass.knows _ r.now refl refl,
       subst (λ (x : Shown). IsWaiter c.args.t c.args.lock x c.in-Ok.waiter) (sym r.called.image) (is_waiter c.args.t c.args.lock c.in-Ok.waiter c.args.pass.now.knows c.adopt.new.pass.knows r c.in-Ok.ensures.waiting),
     )
 
 pub returns-then-stopped : goal.returns-then-stopped
-returns-then-stopped c = misses _ true c.args.pass.now c.adopt.new.pass c.stopped.new.pass c.if-stopped.true (acts_missed _ _ c.args.pass.now c.adopt.new.pass c.adopt.ensures.own c.in-Err.ensures.result.1) (tried_missed c.args.pass.now.knows c.adopt.new.pass.knows _ _ c.in-Err.ensures.result.1) c.stopped.ensures.acts c.stopped.ensures.tried
+returns-then-stopped c = misses _ true _ _ c.args.pass.now c.adopt.new.pass c.stopped.new.pass c.if-stopped.true c.adopt.ensures.own c.in-Err.ensures.result.1 c.stopped.ensures.acts c.stopped.ensures.tried
 
 pub returns-else-stopped : goal.returns-else-stopped
-returns-else-stopped c = misses _ false c.args.pass.now c.adopt.new.pass c.stopped.new.pass c.if-stopped.false (acts_missed _ _ c.args.pass.now c.adopt.new.pass c.adopt.ensures.own c.in-Err.ensures.result.1) (tried_missed c.args.pass.now.knows c.adopt.new.pass.knows _ _ c.in-Err.ensures.result.1) c.stopped.ensures.acts c.stopped.ensures.tried
+returns-else-stopped c = misses _ false _ _ c.args.pass.now c.adopt.new.pass c.stopped.new.pass c.if-stopped.false c.adopt.ensures.own c.in-Err.ensures.result.1 c.stopped.ensures.acts c.stopped.ensures.tried

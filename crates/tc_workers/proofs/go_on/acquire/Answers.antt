@@ -12,5 +12,5 @@ returns-clause-steps g c =
     let at : IsAtDesk b (Some q) c.worker.inside.desk = subst (λ (w : WorkerView). IsAtDesk b (Some q) w.desk) (sym c.worker.view_is) c.requires.work.desk in
     let after : IsStep b c.acquire-settled.new.self c.conclude.result = subst (λ (s : Step). IsStep b c.acquire-settled.new.self s) (sym c.conclude.ensures.step)
     (after_acquire b q c.number-number.new.desk c.acquire-settled.new.self c.acquire-settled.result
-    (subst (λ (d : DeskView). IsAtDesk b (Some q) d) (sym c.number-number.ensures.same) at) c.acquire-settled.ensures.works c.acquire-settled.ensures.fits c.acquire-settled.ensures.moves c.acquire-settled.ensures.acquired) in
+    (subst (λ (d : DeskView). IsAtDesk b (Some q) d) (sym c.number-number.ensures.same) at) c.acquire-settled.ensures.keeps c.acquire-settled.ensures.acquired) in
     search rules

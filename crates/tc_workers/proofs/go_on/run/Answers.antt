@@ -31,10 +31,10 @@ pub conclude-requires-clause-known : goal.conclude-requires-clause-known
 conclude-requires-clause-known g c κs within =
     let room : c.worker.inside.ready.threads ≡ threads c.args.bench.now.hall.terms = ap (λ (w : WorkerView). w.ready.threads) c.worker.view_is ∙ c.requires.work.ready in
     subst (λ (l : List ℕ). All (λ t. t < c.worker.inside.ready.threads) l) (sym c.handed-handed.ensures.threads)
-    (subst (λ (n : ℕ). All (λ t. t < n) c.settle-settled.new.self.handed) (sym room) (handed_known c.args.bench.now.hall.terms c.settle-settled.result c.seal_block.new.desk c.settle-settled.new.self c.settle-settled.ensures.readied))
+    (subst (λ (n : ℕ). All (λ t. t < n) c.settle-settled.new.self.handed) (sym room) (handed_known c.args.bench.now.hall.terms c.settle-settled.result c.seal_block.new.desk c.settle-settled.new.self c.settle-settled.ensures.keeps.readied))
 
 pub returns-in-Ok-clause-steps : goal.returns-in-Ok-clause-steps
 returns-in-Ok-clause-steps g c =
     let after : IsStep c.args.bench.now c.settle-settled.new.self c.conclude.result = subst (λ (s : Step). IsStep c.args.bench.now c.settle-settled.new.self s) (sym c.conclude.ensures.step)
-    (after_settle c.args.bench.now c.in-Ok.end c.seal_block.new.«package» c.seal_block.new.desk c.settle-settled.new.self c.settle-settled.result c.in-Ok.ensures.sealed c.settle-settled.ensures.works c.settle-settled.ensures.fits c.settle-settled.ensures.moves c.settle-settled.ensures.settled) in
+    (after_settle c.args.bench.now c.in-Ok.end c.seal_block.new.«package» c.seal_block.new.desk c.settle-settled.new.self c.settle-settled.result c.in-Ok.ensures.sealed c.settle-settled.ensures.keeps c.settle-settled.ensures.settled) in
     search rules

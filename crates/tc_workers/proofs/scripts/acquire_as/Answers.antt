@@ -21,4 +21,4 @@ go_on_as-requires-clause-step g c =
     let s = c.acquire-settled.result in
     let done = c.acquire-settled.ensures in
     let sealed : HasSealed b (Wants c.in-Wants.lock) q d = subst (λ (x : End). HasSealed b x q d) c.in-Wants.is c.in_hand-package.ensures.sealed in
-    after_settle b (Wants c.in-Wants.lock) q d e s sealed done.works done.fits done.moves (acquire_settles b c.in-Wants.lock q d e s c.keeps.ensures.sound sealed done.acquired)
+    after_settle b (Wants c.in-Wants.lock) q d e s sealed done.keeps (acquire_settles b c.in-Wants.lock q d e s c.keeps.ensures.sound sealed done.acquired)

@@ -20,4 +20,4 @@ returns g c =
     let keeps = keeps_of c.bench.inside.hall.now.terms _ c.args.«package» _ _ c.self.inside.rest c.self.inside.rest _ c.acquire_at.new.hands c.acquire_at.result c.clear.ensures c.acquire_at.ensures.here.answers c.acquire_at.ensures.same refl refl in
     let did = did_acquire c.bench.inside.hall.now.terms c.args.«package» _ _ c.self.inside.rest.sleepers c.self.inside.rest.clock c.self.inside.hands.ready.items _ c.acquire_at.new.hands image c.in-Some.lock c.acquire_at.result c.acquire_at.ensures in
     let end = kept_back g.Q.Waiters.seen c.self.inside.seats c.as_mut_slice.result.now c.acquire_at.new.seats c.as_mut_slice.ensures.value (λ (d e : DeskView). DidAcquire c.in-Some.lock c.args.«package» d e c.acquire_at.result) _ c.args.bench.now c.args.«package» c.self.inside.rest c.self.inside.rest c.self.inside.hands c.acquire_at.new.hands c.args.self.now c.acquire_at.result c.bench.view_is c.self.view_is c.requires.fits c.requires.hand keeps did in
-    record { works = end.0.0; moves = end.0.1; readied = end.0.2; fits = end.0.3; acquired = (c.in-Some.lock, ap (λ (x : Shown). want_of x c.args.«package».context) of ∙ (sym c.want.ensures ∙ c.in-Some.is), end.1) }
+    record { keeps = end.0; acquired = (c.in-Some.lock, ap (λ (x : Shown). want_of x c.args.«package».context) of ∙ (sym c.want.ensures ∙ c.in-Some.is), end.1) }
