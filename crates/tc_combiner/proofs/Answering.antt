@@ -1,6 +1,6 @@
 -- What the hands answer: one after another, and with packages put back.
 use Rattle.std.proofs.Common.{◌≡◌, ℕ, List, [], ◌∷◌, ◌++◌, sym, ◌∙◌, subst, Option}
-use Rattle.tc_combiner.proofs.Vocabulary.{Acted, Acts, Adds, Answers, Call, Did_stop, HallView, Hands, HasReadied, IsAt, IsAtHall, IsGood, IsGoodFor, Item, Knows, Pack, PackageView, PassView, PutAllBack, Settled, Shown, TakesDown, Terms, Walks, back, carried, packed, threads}
+use Rattle.tc_combiner.proofs.Vocabulary.{Acted, Acts, Adds, Answers, Call, Did_stop, HallView, Hands, HasReadied, IsAt, IsAtHall, IsGood, IsGoodFor, Item, Knows, Pack, PackageView, PassView, PutAllBack, Settled, Shown, TakesDown, Terms, back, carried, packed, threads}
 use Rattle.tc_combiner.proofs.Acting.{acts_then, at_after, takes_then}
 
 -- ---- the threads that were put as ready
@@ -44,9 +44,6 @@ back_answers k q h g a = record {
 }
 
 -- ---- in the words of a desk
-
-pub walks_of : (cs : List Call) (v w : Knows) → Adds cs v w → Walks v w
-walks_of cs v w a = record { calls = a.calls; told = a.told; stops = a.stops }
 
 -- what is good for the pass before is so afterwards
 pub good_after : (cs : List Call) (v w : Knows) (q : PackageView) → Adds cs v w → IsGood q v.image v.worker → IsGoodFor w q

@@ -1,7 +1,7 @@
 -- The locks of a thread that has ended, one after another.
 use Rattle.std.proofs.Common.{◌≡◌, ◌≢◌, ◌<◌, ◌≤◌, inl, inr, ℕ, zero, suc, ◌^◌, ◌+◌, ◌-◌, ◌*◌, Bool, true, false, not, ◌&&◌, ◌==◌, cond, List, [], ◌∷◌, ◌++◌, length, map, filter, get_or, refl, sym, ap, ◌∙◌, subst, subst₂, arith, append_assoc, append-nil, Option, Some, None, is_some, slice_index_or}
 use Rattle.std.proofs.lemmas.Bool.{and_right, cond-false, cond-true, or_right}
-use Rattle.tc_combiner.proofs.Vocabulary.{Acts, AreSameSeats, AreSeats, Asks, Block, Call, DidLeave, DidLeaveAll, Did_stop, Done, Ending, Ends, HallView, Hands, Has_ended, IsAtHall, IsEmptied, IsInOrder, IsPlain, IsSeatFor, IsSoundPackage, Knows, LeftAs, LeftInOrder, LockView, MAX_HELD, MayAct, MayEnd, MayGive, MayRelease, OneLeft, Pack, PackageView, PutAllBack, QueueView, SeatView, SeatsLeft, Shown, Terms, Turn, back, bare, dite, ends_thread, has, is_running, last_of, locked_in, locks, nat_tests, no_seat, packed, put_call, seat_at, threads, turn_of, unlocks, ℕ_discrete}
+use Rattle.tc_combiner.proofs.Vocabulary.{Acts, AreSameSeats, AreSeats, Asks, Block, Call, DidLeave, DidLeaveAll, Did_stop, Done, Ending, Ends, HallView, Hands, Has_ended, IsAtHall, IsEmptied, IsInOrder, IsPlain, IsSeatFor, IsSoundPackage, Knows, LeftAs, LeftInOrder, LockView, MAX_HELD, MayAct, MayEnd, MayGive, MayRelease, OneLeft, Pack, PackageView, PutAllBack, QueueView, SeatView, SeatsLeft, Terms, Turn, back, bare, dite, ends_thread, has, is_running, last_of, locked_in, locks, nat_tests, no_seat, packed, put_call, seat_at, threads, turn_of, unlocks, ℕ_discrete}
 use Rattle.std.proofs.lemmas.Bool.Decides.{eqb_tells}
 use Rattle.std.specs.List.{range_with_len}
 use Rattle.tc_isa.specs.Sets.{without_lock, locks_of}
@@ -162,9 +162,9 @@ left_all k b q p rest ss ts h g now none y0 = let y : Ending k b q p 0 ss ts h g
 pub may_next : (hall : HallView) (b : Block) (q p : PackageView) (rest next i n : ℕ) (ss ts : List SeatView) (h g : Hands) (now : Bool) → MayAct hall (Pack q ∷ []) n h → Ending hall.terms b q p rest ss ts h g now → has rest i ≡ true → i < 32 → ((j : ℕ) → has next j ≡ (not (j == i) && has rest j)) → MayAct hall (Pack p ∷ []) 1 g
 may_next hall b q p rest next i n ss ts h g now m y waits small each = record { at = at_after hall y.calls (Pack q ∷ []) (Pack p ∷ []) h.pass g.pass h.aside g.aside m.at y.acted.acts y.aside; room = (let less = less_few rest next i each waits small in let old = y.room in omega arith) }
 
-pub may_release : (k : Terms) (b : Block) (q p : PackageView) (rest i : ℕ) (ss ts : List SeatView) (h g : Hands) (now : Bool) → MayEnd h.pass.knows (threads k) b q → Ending k b q p rest ss ts h g now → has rest i ≡ true → i < locks k → MayRelease k g.pass.knows i b p
-may_release k b q p rest i ss ts h g now m y waits low = record {
-  lock = low;
+pub may_release : (k : Terms) (b : Block) (q p : PackageView) (rest i : ℕ) (ss ts : List SeatView) (h g : Hands) (now : Bool) → MayEnd k h.pass.knows b q → Ending k b q p rest ss ts h g now → has rest i ≡ true → MayRelease k g.pass.knows i b p
+may_release k b q p rest i ss ts h g now m y waits = record {
+  lock = m.known i (y.within i waits);
   of = ap (λ (c : PackageView). c.image) y.same ∙ (m.of ∙ sym y.acted.acts.adds.told.image);
   thread = subst (λ (t : ℕ). t < threads k) (sym (ap (λ (c : PackageView). c.context.thread) y.same)) m.thread;
   settled = ap (λ (c : PackageView). c.pending) y.same ∙ m.settled;
@@ -175,28 +175,23 @@ may_release k b q p rest i ss ts h g now m y waits low = record {
   here = ap is_some (y.left i waits) ∙ (m.locks i ∙ y.within i waits);
 }
 
-pub lock_in_hall : (hall : HallView) (n m : ℕ) (b : Block) (q p : PackageView) (rest i : ℕ) (ss ts : List SeatView) (h g : Hands) (now : Bool) → MayAct hall (Pack q ∷ []) m h → MayEnd h.pass.knows n b q → Ending hall.terms b q p rest ss ts h g now → IsSoundPackage p → has rest i ≡ true → i < locks hall.terms
-lock_in_hall hall n m b q p rest i ss ts h g now a e y s waits =
-    subst (λ (x : Shown). i < length x.guards) (ap (λ (c : PackageView). c.image) y.same ∙ (e.of ∙ a.at.image))
-    (known_in p i (locked_in p i) s refl (ap is_some (y.left i waits) ∙ (e.locks i ∙ y.within i waits)))
-
 module _ {S X : Type 0} where
   pub seat_in : (seen : S → SeatView) (queue : X → QueueView) (k : Terms) (qs : List X) (ss ts : List S) (i : ℕ) (x : X) (s : S) → s ≡ get_or ts i s → AreSeats k (map queue qs) (map seen ss) → seat_at (map seen ts) i ≡ seat_at (map seen ss) i → i < locks k → i < length ts → IsSeatFor (threads k) (queue (get_or qs i x)) (seen (get_or ts i s))
   seat_in seen queue k qs ss ts i x s is of same low deep = subst₂ (λ (a : QueueView) (b : SeatView). IsSeatFor (threads k) a b) (map_at queue qs i x) (sym same ∙ (seat_before seen ts i s no_seat deep is ∙ ap seen is)) (of i (queue x) no_seat low)
 
 -- ---- once all of them were passed on
 
-pub emptied_plain : (v : Knows) (n : ℕ) (b : Block) (q p : PackageView) → MayEnd v n b q → IsEmptied q p → IsPlain n p
-emptied_plain v n b q p m h = record {
-  thread = subst (λ (t : ℕ). t < n) (sym (ap (λ (c : PackageView). c.context.thread) h.same)) m.thread;
+pub emptied_plain : (k : Terms) (v : Knows) (b : Block) (q p : PackageView) → MayEnd k v b q → IsEmptied q p → IsPlain (threads k) p
+emptied_plain k v b q p m h = record {
+  thread = subst (λ (t : ℕ). t < threads k) (sym (ap (λ (c : PackageView). c.context.thread) h.same)) m.thread;
   settled = ap (λ (c : PackageView). c.pending) h.same ∙ m.settled;
   granted = h.granted ∙ m.granted;
-  locks = λ i l e. let g = h.free i in let k : ⊥ = cc in absurd k;
+  locks = λ i l e. let g = h.free i in let n : ⊥ = cc in absurd n;
   ended = λ e i. h.free i;
 }
 
-emptied_order : (v : Knows) (n : ℕ) (b : Block) (q p : PackageView) → MayEnd v n b q → IsSoundPackage q → IsEmptied q p → IsInOrder 2 p
-emptied_order v n b q p m s h = record {
+emptied_order : (k : Terms) (v : Knows) (b : Block) (q p : PackageView) → MayEnd k v b q → IsSoundPackage q → IsEmptied q p → IsInOrder 2 p
+emptied_order t v b q p m s h = record {
   ended = λ e. (ap (λ (c : PackageView). is_running c.context.guest.status) h.same ∙ (left_after q.image q b s.left m.last).runs ∙ ap not m.ended, λ i. h.free i);
   runs = λ ne. absurd (ne refl);
   own = λ i l e. let g = h.free i in let k : ⊥ = cc in absurd k;
@@ -204,40 +199,34 @@ emptied_order v n b q p m s h = record {
   ready = λ g e. let f : p.granted ≡ None = h.granted ∙ m.granted in let k : ⊥ = cc in absurd k;
 }
 
-module _ (hall : HallView) (b : Block) (q p : PackageView) (ss ts : List SeatView) (h m : Hands) (may : MayEnd h.pass.knows (threads hall.terms) b q) (hands : MayAct hall (Pack q ∷ packed h.aside) MAX_HELD h) where
+module _ (hall : HallView) (b : Block) (q p : PackageView) (ss ts : List SeatView) (h m : Hands) (may : MayEnd hall.terms h.pass.knows b q) (hands : MayAct hall (Pack q ∷ packed h.aside) MAX_HELD h) where
   pub at_end : (end : Bool) → DidLeaveAll hall.terms b q p ss ts h m end → IsAtHall hall (Pack p ∷ packed m.aside) m
   at_end end d = then_at hall d.calls q p h m hands.at d.acted d.aside
 
   pub may_done : (end : Bool) → IsSoundPackage q → DidLeaveAll hall.terms b q p ss ts h m end → MayGive hall.terms m.pass.knows Done p
   may_done end s d = record {
-    thread = (emptied_plain h.pass.knows (threads hall.terms) b q p may d.emptied).thread;
+    thread = (emptied_plain hall.terms h.pass.knows b q p may d.emptied).thread;
     place = tt;
     out = (at_end end d).out.1.0;
-    order = emptied_order h.pass.knows (threads hall.terms) b q p may s d.emptied;
+    order = emptied_order hall.terms h.pass.knows b q p may s d.emptied;
     plain = ungranted_plain p (d.emptied.granted ∙ may.granted);
     fits = ungranted_fits p m.pass.knows.worker (d.emptied.granted ∙ may.granted);
   }
 
   pub ends_done : (g : Hands) → DidLeaveAll hall.terms b q p ss ts h m false → Acts (put_call p Done ∷ []) (Pack p ∷ []) [] m.pass g.pass → g.ready.items ≡ m.ready.items → g.aside ≡ m.aside → Ends hall.terms b q ss ts h g Has_ended
-  ends_done g d a e f = (
-    d.seats,
-    record {
-      calls = d.calls ++ put_call p Done ∷ [];
-      answers = then_answers hall.terms d.calls (put_call p Done ∷ []) q p h m g Has_ended d.acted d.aside
-          (keeps_answers hall (put_call p Done ∷ []) p m g Has_ended (at_end false d) (wider (put_call p Done ∷ []) p m g f a) (takes_none (threads hall.terms) m.ready.items g.ready.items (put_call p Done ∷ []) e refl) f);
-      became = (p, d.calls, refl, d.emptied, d.order, f ∙ d.aside);
-    },
-  )
+  ends_done g d a e f = record {
+    calls = d.calls ++ put_call p Done ∷ [];
+    answers = then_answers hall.terms d.calls (put_call p Done ∷ []) q p h m g Has_ended d.acted d.aside
+        (keeps_answers hall (put_call p Done ∷ []) p m g Has_ended (at_end false d) (wider (put_call p Done ∷ []) p m g f a) (takes_none (threads hall.terms) m.ready.items g.ready.items (put_call p Done ∷ []) e refl) f);
+    became = (d.seats, (p, d.calls, refl, d.emptied, d.order, f ∙ d.aside));
+  }
 
   pub ends_stopped : (g : Hands) → DidLeaveAll hall.terms b q p ss ts h m true → PutAllBack p m g → Ends hall.terms b q ss ts h g Did_stop
-  ends_stopped g d a = (
-    d.seats,
-    record {
-      calls = d.calls ++ back p m.aside;
-      answers = then_answers hall.terms d.calls (back p m.aside) q p h m g Did_stop d.acted d.aside (back_answers hall.terms p m g a);
-      became = (p, d.calls, ap (λ (o : Option PackageView). d.calls ++ back p o) d.aside, d.emptied, d.order, a.aside);
-    },
-  )
+  ends_stopped g d a = record {
+    calls = d.calls ++ back p m.aside;
+    answers = then_answers hall.terms d.calls (back p m.aside) q p h m g Did_stop d.acted d.aside (back_answers hall.terms p m g a);
+    became = (d.seats, (p, d.calls, ap (λ (o : Option PackageView). d.calls ++ back p o) d.aside, d.emptied, d.order, a.aside));
+  }
 
 pub same_seats : (b : Block) (q : PackageView) (ss ts : List SeatView) → SeatsLeft b q ss ts → AreSameSeats ss ts
 same_seats b q ss ts h = record {

@@ -2,7 +2,6 @@
 use Rattle.std.proofs.Common.{◌≡◌, ◌<◌, ◌≤◌, ℕ, List, length, get_or, map, Vec, sym, ap, ◌∙◌, subst, subst₂, ◌∷◌, ◌++◌, arith, Option, Some}
 use Rattle.tc_combiner.proofs.Vocabulary.{AreSameSeats, AreSeats, BenchView, DeskView, Did_adopt, FitsBench, GoesOn, Hands, HasSeats, IsAside, IsAt, IsInHand, IsSamePass, IsSeatFor, IsSoundPackage, Item, Keeps, KeepsParts, Knows, MayAcquire, MayAsk, Owned, Pack, PackageView, PassView, QueueView, Rest, SeatView, Settled, Shown, WantIsLawful, carried, desk_of, get_or_default, length-map, locks, no_seat, packed, seat_at, threads, want_of}
 use Rattle.tc_combiner.proofs.Acting.{owned_by}
-use Rattle.tc_combiner.proofs.Answering.{walks_of}
 use Rattle.tc_combiner.proofs.Unlocking.{without_first}
 use Rattle.tc_combiner.proofs.Packages.{wants_runs}
 use Rattle.std.specs.Vec.{with_items}
@@ -39,7 +38,7 @@ aside_out w r xs o = o
 
 pub kept : (b : BenchView) (q : PackageView) (ss ts : List SeatView) (x y : Rest) (p : PassView) (a : Option PackageView) (g : Hands) (hs : List ℕ) (r : Settled) → FitsBench b (desk_of p ss x.sleepers x.clock a hs) → Owned p.knows (Pack q ∷ packed a) → KeepsParts b.hall.terms q ss ts x y p a g r → Keeps b q (desk_of p ss x.sleepers x.clock a hs) (desk_of g.pass ts y.sleepers y.clock g.aside g.ready.items) r
 kept b q ss ts x y p a g hs r fits hand k = record {
-  works = record { own = k.acts.own; walks = walks_of k.calls p.knows g.pass.knows k.acts.adds; now = k.clock; room = k.room };
+  works = record { own = k.acts.own; now = k.clock; room = k.room };
   moves = k.acts.moves;
   readied = (k.calls, k.acts.adds, k.readied);
   fits = fits_after b p g.pass ss ts x.sleepers y.sleepers x.clock y.clock a g.aside hs g.ready.items fits k.acts.own k.acts.adds.told.image k.seats k.room k.aside (aside_out g.pass.knows r (packed g.aside) (owned_by p.knows g.pass.knows (Pack q ∷ packed a) (carried r ++ packed g.aside) k.acts.moves hand));

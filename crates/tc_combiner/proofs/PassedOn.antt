@@ -1,6 +1,6 @@
 -- What became of a released lock, from its parts.
-use Rattle.std.proofs.Common.{⊎_elim, length-append, ◌&&◌, ◌≡◌, ◌<◌, ◌≤◌, ◌+◌, ℕ, true, false, List, [], ◌∷◌, ◌++◌, length, refl, sym, ap, ◌∙◌, subst, Some, ◌≢◌, Bool, not, ◌==◌, if◌then◌else◌, arith, Option, None}
-use Rattle.tc_combiner.proofs.Vocabulary.{Acts, Adopted, All-cons, All-nil, Asks, Block, Call, DidGrant, DidHand, DidPass, DidTakeOut, End, FollowedAs, Free, GaveUp, Granted, HallView, HandedAs, Hands, Home, IsAtRest, IsLeft, IsNumber, IsReleased, IsSoundPackage, IsTaken, IsTurn, IsWaiter, Item, Kind, Knows, LeftAs, LockView, Loose, MayAct, MayBringHome, MayGive, MayHandOn, MayPassTo, MayRelease, Moves, Next, Outs, Owned, Owns, Pack, PackageView, PassView, Passed, Ready, Releases, Rests, SeatView, Shown, Shows, Takes, Terms, Turn, Unlocked, Was_adopted, Was_granted, Was_stopped, adopts, and_parts, bare, blocks_of, ends_section, ends_thread, granted_lock, grants_adopted, handed, has, is_only, is_passed, last_of, locked_in, locks, may_adopt, nat_tests, outs, passes_to, put_call, ready_in, run_of, saw, threads, turn_of, unless, unlocks}
+use Rattle.std.proofs.Common.{inr, ⊎_elim, length-append, ◌&&◌, ◌≡◌, ◌<◌, ◌≤◌, ◌+◌, ℕ, true, false, List, [], ◌∷◌, ◌++◌, length, refl, sym, ap, ◌∙◌, subst, Some, ◌≢◌, Bool, not, ◌==◌, if◌then◌else◌, arith, Option, None}
+use Rattle.tc_combiner.proofs.Vocabulary.{Acts, Adopted, All-cons, All-nil, Asks, Block, Call, DidGrant, DidHand, DidPass, DidTakeOut, End, FollowedAs, Free, GaveUp, Gone, Granted, HallView, HandedAs, Hands, IsAtRest, IsLeft, IsNumber, IsReleased, IsSoundPackage, IsTaken, IsTurn, IsWaiter, Item, Kind, Knows, LeftAs, LockView, Loose, MayAct, MayBringHome, MayGive, MayHandOn, MayPassTo, MayRelease, Moves, Next, Outs, Owned, Owns, Pack, PackageView, PassView, Passed, Ready, Releases, Rests, SeatView, Shown, Shows, Takes, Terms, Turn, Unlocked, Was_adopted, Was_stopped, adopts, and_parts, bare, blocks_of, ends_section, ends_thread, granted_lock, grants_adopted, handed, has, is_only, is_passed, last_of, locked_in, locks, may_adopt, nat_tests, outs, passes_to, put_call, ready_in, run_of, saw, threads, turn_of, unless, unlocks}
 use Rattle.tc_context.specs.View.{IsAt}
 use Rattle.std.proofs.lemmas.Bool.{and_right}
 use Rattle.tc_nested.proofs.Allowing.{adopted, granted}
@@ -81,13 +81,12 @@ few_none : (cs ds : List Call) → cs ≡ ds → ready_in ds ≡ [] → length (
 few_none cs ds e none = let n : length (ready_in cs) ≡ 0 = ap (λ (c : List Call). length (ready_in c)) e ∙ ap length none in omega arith
 
 pub few_followed : (image : Shown) (l : LockView) (b : Block) (own : Turn) (s t : SeatView) (cs : List Call) (r : Passed) → FollowedAs image l b own s t cs r → length (ready_in cs) ≤ 1
-few_followed image l b own s t cs Home h = few_none cs _ h.1 refl
-few_followed image l b own s t cs Was_granted h = let n : length (ready_in cs) ≡ 1 = ap (λ (c : List Call). length (ready_in c)) h.2.3 in omega arith
+few_followed image l b own s t cs Gone h = ⊎_elim (λ y. few_none cs _ y.1 refl) (λ y. let n : length (ready_in cs) ≡ 1 = ap (λ (c : List Call). length (ready_in c)) y.2.3 in omega arith) h
 few_followed image l b own s t cs (Was_adopted q) h = few_none cs _ h.2.3 refl
 few_followed image l b own s t cs Was_stopped h = few_none cs _ h refl
 
 pub few_left : (image : Shown) (l : LockView) (b : Block) (own : Turn) (s t : SeatView) (cs : List Call) (was is : Bool) → LeftAs image l b own s t cs was is → length (ready_in cs) ≤ 1
-few_left image l b own s t cs false false h = ⊎_elim (λ y. few_followed image l b own s t cs Home y) (λ y. few_followed image l b own s t cs Was_granted y) h
+few_left image l b own s t cs false false h = few_followed image l b own s t cs Gone h
 few_left image l b own s t cs false true h = few_followed image l b own s t cs Was_stopped h
 few_left image l b own s t cs true false h = absurd h
 few_left image l b own s t cs true true h = few_none cs _ h.1 refl
@@ -125,7 +124,7 @@ may_put hall b l u w q h m i d a =
     }
 
 pub is_granted : (k : Terms) (b : Block) (l : LockView) (u : Turn) (w q : PackageView) (h g : Hands) → IsWaiter u.thread l.number k.image.value w → IsTurn (threads k) u → DidGrant l Granted u.number w q → adopts l b ≡ false
-    → Acts (put_call q Ready ∷ []) (Pack q ∷ []) [] h.pass g.pass → g.ready.items ≡ h.ready.items ++ q.context.thread ∷ [] → g.aside ≡ h.aside → DidHand k l b u (Pack w ∷ Loose l ∷ []) h g Was_granted
+    → Acts (put_call q Ready ∷ []) (Pack q ∷ []) [] h.pass g.pass → g.ready.items ≡ h.ready.items ++ q.context.thread ∷ [] → g.aside ≡ h.aside → DidHand k l b u (Pack w ∷ Loose l ∷ []) h g Gone
 is_granted k b l u w q h g i t d a p e s = record {
   calls = put_call q Ready ∷ [];
   acted = record {
@@ -178,8 +177,7 @@ may_lock hall n i l q p h m d a e s y =
     record { at = alone hall (Loose l) (Pack p ∷ []) m.pass m.aside z.at; room = z.room }
 
 pub followed : (image : Shown) (l : LockView) (b : Block) (own u : Turn) (s t : SeatView) (cs : List Call) (r : Passed) → Shows s.calls t.calls (Next own (Some u)) → HandedAs image l b u cs r → FollowedAs image l b own s t cs r
-followed image l b own u s t cs Home k h = absurd h
-followed image l b own u s t cs Was_granted k h = (u, k, h)
+followed image l b own u s t cs Gone k h = inr (u, k, h)
 followed image l b own u s t cs (Was_adopted q) k h = (u, k, h)
 followed image l b own u s t cs Was_stopped k h = h
 

@@ -66,7 +66,7 @@ module _ (k : Terms) (worker : ℕ) (end : End) (b : Block) (q : PackageView) (s
     here = m.locks i ∙ e;
   }
 
-  pub may_end : (v : Knows) → v.image ≡ k.image.value → v.worker ≡ worker → ends_thread end ≡ true → MayEnd v (threads k) b q
+  pub may_end : (v : Knows) → v.image ≡ k.image.value → v.worker ≡ worker → ends_thread end ≡ true → MayEnd k v b q
   may_end v image is e = record {
     of = m.of ∙ sym image;
     thread = thread_known;
@@ -76,6 +76,7 @@ module _ (k : Terms) (worker : ℕ) (end : End) (b : Block) (q : PackageView) (s
     ended = ap ends_thread m.end_is ∙ e;
     worker = m.worker_is ∙ sym is;
     locks = m.locks;
+    known = lock_in_range;
   }
 
 -- which sections a block ends, by its end
@@ -149,19 +150,19 @@ module _ (k : Terms) (q : PackageView) (ss ts : List SeatView) (sl : List (Optio
   pub did_unlock : (i : ℕ) (b : Block) (r : Settled) → AtSeat i ss ts (λ s t. Unlocks k i b q s t h g r) → DidUnlock i q b (desk_of h.pass ss sl now h.aside hs) (desk_of g.pass ts sl now g.aside g.ready.items) r
   did_unlock i b r a = record {
     same = record { others = a.others; sleepers = refl };
-    asks = a.here.0;
-    calls = a.here.1.calls;
-    adds = a.here.1.answers.acts.adds;
-    unlocked = subst (λ (x : Shown). UnlockedAs x h.pass.knows.worker i q b (seat_at ss i) (seat_at ts i) h.aside g.aside a.here.1.calls r) (sym image) a.here.1.became;
+    asks = a.here.became.0;
+    calls = a.here.calls;
+    adds = a.here.answers.acts.adds;
+    unlocked = subst (λ (x : Shown). UnlockedAs x h.pass.knows.worker i q b (seat_at ss i) (seat_at ts i) h.aside g.aside a.here.calls r) (sym image) a.here.became.1;
   }
 
   pub did_end : (b : Block) (r : Settled) → Ends k b q ss ts h g r → DidEnd q b (desk_of h.pass ss sl now h.aside hs) (desk_of g.pass ts sl now g.aside g.ready.items) r
   did_end b r a = record {
     sleepers = refl;
-    seats = a.0;
-    calls = a.1.calls;
-    adds = a.1.answers.acts.adds;
-    ended = subst (λ (x : Shown). EndedAs x q b ss ts h.aside g.aside a.1.calls r) (sym image) a.1.became;
+    seats = a.became.0;
+    calls = a.calls;
+    adds = a.answers.acts.adds;
+    ended = subst (λ (x : Shown). EndedAs x q b ss ts h.aside g.aside a.calls r) (sym image) a.became.1;
   }
 
 pub settled_end : (x : End) (q : PackageView) (b : Block) (d e : DeskView) (r : Settled) → ends_thread x ≡ true → DidEnd q b d e r → SettledAs x q b d e r

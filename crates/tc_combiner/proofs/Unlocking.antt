@@ -1,6 +1,6 @@
 -- What an unlock comes to, from its parts.
-use Rattle.std.proofs.Common.{not, ◌≡◌, ◌≢◌, ◌<◌, ◌≤◌, ◌+◌, ◌⊎◌, inl, inr, ℕ, true, false, ◌&&◌, ◌==◌, List, [], ◌∷◌, ◌++◌, length, refl, sym, ap, ◌∙◌, subst, subst₂, arith, Option, Some, None, is_some}
-use Rattle.tc_combiner.proofs.Vocabulary.{Acted, Acts, All-cons, All-nil, Block, Call, DidPass, DidTakeOut, Did_adopt, Did_stop, Goes, GoesOn, HallView, Hands, HasHeldAnd, HasNone, HasOnlyHeld, HoldsNone, Home, IsAside, IsAtHall, IsGood, IsOut, IsPlain, IsSoundPackage, Item, Knows, LockView, MAX_HELD, MayAct, MayGive, MayGoOn, MayRelease, MayUnlock, Moves, Outs, Owned, Owns, Pack, PackageView, Passed, PassedAs, PutAllBack, PutsAside, Ready, Runs, SeatView, SetAside, Settled, Shown, TakesDown, Terms, UnlockedAs, Unlocks, Was_adopted, Was_granted, Was_stopped, WentOn, adopts, and_parts, back, dite, ends_section, erase, handed, has, is_only, is_running, last_of, locked_in, may_adopt, nat_tests, outs, packed, put_call, threads, turn_of, unlocks, without_lock, ℕ_discrete}
+use Rattle.std.proofs.Common.{not, ◌≡◌, ◌≢◌, ◌<◌, ◌≤◌, ◌+◌, inl, inr, ℕ, true, false, ◌&&◌, ◌==◌, List, [], ◌∷◌, ◌++◌, length, refl, sym, ap, ◌∙◌, subst, subst₂, arith, Option, Some, None, is_some}
+use Rattle.tc_combiner.proofs.Vocabulary.{Acted, Acts, All-cons, All-nil, Block, Call, DidPass, DidTakeOut, Did_adopt, Did_stop, Goes, GoesOn, Gone, HallView, Hands, HasHeldAnd, HasNone, HasOnlyHeld, HoldsNone, IsAside, IsAtHall, IsGood, IsOut, IsPlain, IsSoundPackage, Item, Knows, LockView, MAX_HELD, MayAct, MayGive, MayGoOn, MayRelease, MayUnlock, Moves, Outs, Owned, Owns, Pack, PackageView, Passed, PassedAs, PutAllBack, PutsAside, Ready, Runs, SeatView, SetAside, Settled, Shown, TakesDown, Terms, UnlockedAs, Unlocks, Was_adopted, Was_stopped, WentOn, adopts, and_parts, back, dite, ends_section, erase, handed, has, is_only, is_running, last_of, locked_in, may_adopt, nat_tests, outs, packed, put_call, threads, turn_of, unlocks, without_lock, ℕ_discrete}
 use Rattle.std.proofs.lemmas.Bool.{and_left, and_right}
 use Rattle.std.proofs.lemmas.Nat.Bits.{bit_at-zero, bit_at_or, bit_at-pow_other}
 use Rattle.std.specs.Int.{bit_at}
@@ -63,9 +63,7 @@ may_aside v k i b l q p sound m image d a =
     let number = (sound.stored i l d.was).number in
     let holds : HoldsNone q = alone_holds q b l.number _ _ sound m.release.last (subst (λ (j : ℕ). ends_section j b ≡ true) (sym number) m.release.released.1) a in
     record {
-      plain = g.plain;
-      of = g.of;
-      runs = g.runs;
+      goes = g;
       free = none_in p g.plain.locks (λ j. ap (λ (c : PackageView). has c.context.guest.held j) d.is ∙ holds j);
     }
 
@@ -100,7 +98,7 @@ adopts_owned v w q p r os m o =
 
 -- ---- what an unlock comes to
 
-went_unlocks : (image : Shown) (worker i : ℕ) (q : PackageView) (b : Block) (s t : SeatView) (a c : Option PackageView) (ds es : List Call) (r : Settled) → PassedAs image i q b s t ds Home ⊎ PassedAs image i q b s t ds Was_granted → WentOn image worker (without_lock i q) a c es r → UnlockedAs image worker i q b s t a c (ds ++ es) r
+went_unlocks : (image : Shown) (worker i : ℕ) (q : PackageView) (b : Block) (s t : SeatView) (a c : Option PackageView) (ds es : List Call) (r : Settled) → PassedAs image i q b s t ds Gone → WentOn image worker (without_lock i q) a c es r → UnlockedAs image worker i q b s t a c (ds ++ es) r
 went_unlocks image worker i q b s t a c ds es (GoesOn r) k g = (ds, es, refl, k, g)
 went_unlocks image worker i q b s t a c ds es r k g = absurd g
 
@@ -126,65 +124,40 @@ module _ (hall : HallView) (i : ℕ) (b : Block) (q p : PackageView) (s t : Seat
   }
 
   -- the lock went home or was granted, and the package goes on
-  goes : (g : Hands) (o : Passed) (r : Settled) → handed o ≡ [] → (d : DidPass hall.terms i b q p s t h m o) → PassedAs hall.terms.image.value i q b s t d.calls Home ⊎ PassedAs hall.terms.image.value i q b s t d.calls Was_granted → Goes hall.terms p m g r → Unlocks hall.terms i b q s t h g r
-  goes g o r e d k f = (
-    d.asks,
-    record {
-      calls = d.calls ++ f.calls;
-      answers = then_answers hall.terms d.calls f.calls q p h m g r (subst (λ (xs : List Item). Acted hall.terms d.calls (Pack q ∷ []) (Pack p ∷ xs) h m) e d.acted) d.aside f.answers;
-      became = went_unlocks hall.terms.image.value h.pass.knows.worker i q b s t h.aside g.aside d.calls f.calls r k
-          (subst (λ (n : ℕ). WentOn hall.terms.image.value n (without_lock i q) h.aside g.aside f.calls r) d.acted.acts.adds.told.worker
-          (subst (λ (y : PackageView). WentOn hall.terms.image.value m.pass.knows.worker y h.aside g.aside f.calls r) d.taken.is
-          (subst (λ (a : Option PackageView). WentOn hall.terms.image.value m.pass.knows.worker p a g.aside f.calls r) d.aside f.became)));
-    },
-  )
-
-  pub goes_home : (g : Hands) (r : Settled) → DidPass hall.terms i b q p s t h m Home → Goes hall.terms p m g r → Unlocks hall.terms i b q s t h g r
-  goes_home g r d f = goes g Home r refl d (inl (d.state, d.taken.was, d.became)) f
-
-  pub goes_granted : (g : Hands) (r : Settled) → DidPass hall.terms i b q p s t h m Was_granted → Goes hall.terms p m g r → Unlocks hall.terms i b q s t h g r
-  goes_granted g r d f = goes g Was_granted r refl d (inr (d.state, d.taken.was, d.became)) f
+  pub goes : (g : Hands) (r : Settled) → DidPass hall.terms i b q p s t h m Gone → Goes hall.terms p m g r → Unlocks hall.terms i b q s t h g r
+  goes g r d f =
+      let went : WentOn hall.terms.image.value h.pass.knows.worker (without_lock i q) h.aside g.aside f.calls r = subst (λ (n : ℕ). WentOn hall.terms.image.value n (without_lock i q) h.aside g.aside f.calls r) d.acted.acts.adds.told.worker
+      (subst₂ (λ (y : PackageView) (a : Option PackageView). WentOn hall.terms.image.value m.pass.knows.worker y a g.aside f.calls r) d.taken.is d.aside f.became) in record {
+        calls = d.calls ++ f.calls;
+        answers = then_answers hall.terms d.calls f.calls q p h m g r d.acted d.aside f.answers;
+        became = (d.asks, went_unlocks hall.terms.image.value h.pass.knows.worker i q b s t h.aside g.aside d.calls f.calls r (d.state, d.taken.was, d.became) went);
+      }
 
   pub goes_adopted : (g : Hands) (x : PackageView) → b.worker ≡ h.pass.knows.worker → DidPass hall.terms i b q p s t h m (Was_adopted x) → PutsAside hall.terms p m g → Unlocks hall.terms i b q s t h g (Did_adopt x)
   goes_adopted g x same d f =
-      let c : Acts f.calls (Pack p ∷ packed h.aside) (packed g.aside) m.pass g.pass = subst (λ (o : Option PackageView). Acts f.calls (Pack p ∷ packed o) (packed g.aside) m.pass g.pass) d.aside f.acted.acts in (
-        d.asks,
-        record {
-          calls = d.calls ++ f.calls;
-          answers = record {
-            acts = record {
-              own = (c.own.0 ∙ d.acted.acts.own.0, c.own.1 ∙ d.acted.acts.own.1);
-              adds = adds_then d.calls f.calls h.pass.knows m.pass.knows g.pass.knows d.acted.acts.adds c.adds;
-              moves = adopts_waiter h.pass.knows m.pass.knows g.pass.knows (Pack q) (Pack p) (Pack x) (packed h.aside) (packed g.aside) d.acted.acts.moves c.moves;
-            };
-            readied = takes_then (threads hall.terms) h.ready.items m.ready.items g.ready.items d.calls f.calls d.acted.readied f.acted.readied;
-            aside = f.aside;
+      let c : Acts f.calls (Pack p ∷ packed h.aside) (packed g.aside) m.pass g.pass = subst (λ (o : Option PackageView). Acts f.calls (Pack p ∷ packed o) (packed g.aside) m.pass g.pass) d.aside f.acted.acts in
+      let set : SetAside (without_lock i q) h.aside g.aside f.calls = subst₂ (λ (y : PackageView) (a : Option PackageView). SetAside y a g.aside f.calls) d.taken.is d.aside f.set in
+      let good : IsGood x hall.terms.image.value h.pass.knows.worker = subst (λ (n : ℕ). IsGood x hall.terms.image.value n) same d.became.2.2 in record {
+        calls = d.calls ++ f.calls;
+        answers = record {
+          acts = record {
+            own = (c.own.0 ∙ d.acted.acts.own.0, c.own.1 ∙ d.acted.acts.own.1);
+            adds = adds_then d.calls f.calls h.pass.knows m.pass.knows g.pass.knows d.acted.acts.adds c.adds;
+            moves = adopts_waiter h.pass.knows m.pass.knows g.pass.knows (Pack q) (Pack p) (Pack x) (packed h.aside) (packed g.aside) d.acted.acts.moves c.moves;
           };
-          became = (
-            d.calls,
-            f.calls,
-            refl,
-            (d.state, d.taken.was, d.became),
-            subst (λ (y : PackageView). SetAside y h.aside g.aside f.calls) d.taken.is (subst (λ (a : Option PackageView). SetAside p a g.aside f.calls) d.aside f.set),
-            subst (λ (n : ℕ). IsGood x hall.terms.image.value n) same d.became.2.2,
-          );
-        },
-      )
+          readied = takes_then (threads hall.terms) h.ready.items m.ready.items g.ready.items d.calls f.calls d.acted.readied f.acted.readied;
+          aside = f.aside;
+        };
+        became = (d.asks, (d.calls, f.calls, refl, (d.state, d.taken.was, d.became), set, good));
+      }
 
   pub goes_stopped : (g : Hands) → DidPass hall.terms i b q p s t h m Was_stopped → PutAllBack p m g → Unlocks hall.terms i b q s t h g Did_stop
-  goes_stopped g d a = (
-    d.asks,
-    record {
-      calls = d.calls ++ back p m.aside;
-      answers = then_answers hall.terms d.calls (back p m.aside) q p h m g Did_stop d.acted d.aside (back_answers hall.terms p m g a);
-      became = (
-        d.calls,
-        ap (λ (o : Option PackageView). d.calls ++ back p o) d.aside ∙ ap (λ (y : PackageView). d.calls ++ back y h.aside) d.taken.is,
-        (d.state, d.taken.was, d.became),
-        a.aside,
-      );
-    },
-  )
+  goes_stopped g d a =
+      let same : d.calls ++ back p m.aside ≡ d.calls ++ back (without_lock i q) h.aside = λ j. d.calls ++ back (d.taken.is j) (d.aside j) in record {
+        calls = d.calls ++ back p m.aside;
+        answers = then_answers hall.terms d.calls (back p m.aside) q p h m g Did_stop d.acted d.aside (back_answers hall.terms p m g a);
+        became = (d.asks, (d.calls, same, (d.state, d.taken.was, d.became), a.aside));
+      }
 
 -- ---- a package that goes on, or is set aside
 
@@ -221,7 +194,7 @@ module _ (hall : HallView) (q : PackageView) (h g : Hands) (hands : MayAct hall 
           readied = takes_one m e;
           aside = λ b f. let n : ⊥ = cc in absurd n;
         };
-        became = (going_good hall.terms h.pass.knows.worker o (record { of = other.of; plain = other.plain; runs = other.runs }), inr (is, none, gone, refl));
+        became = (going_good hall.terms h.pass.knows.worker o other.goes, inr (is, none, gone, refl));
       }
 
   sets_later : (a c : Option PackageView) → is_some a ≡ true → c ≡ a → SetAside q a c (put_call q Ready ∷ [])
@@ -235,7 +208,7 @@ module _ (hall : HallView) (q : PackageView) (h g : Hands) (hands : MayAct hall 
   pub sets_behind : IsAside hall.terms q → is_some h.aside ≡ true → g.aside ≡ h.aside → Acts (put_call q Ready ∷ []) (Pack q ∷ []) [] h.pass g.pass → g.ready.items ≡ h.ready.items ++ q.context.thread ∷ [] → PutsAside hall.terms q h g
   sets_behind i some f a e = record {
     calls = put_call q Ready ∷ [];
-    acted = record { acts = wider (put_call q Ready ∷ []) q h g f a; readied = takes_one (record { of = i.of; plain = i.plain; runs = i.runs }) e };
+    acted = record { acts = wider (put_call q Ready ∷ []) q h g f a; readied = takes_one i.goes e };
     set = sets_later h.aside g.aside some f;
     aside = λ b x. hands.at.aside b (sym f ∙ x);
   }

@@ -53,9 +53,7 @@ pub record MayGoOn (k : Terms) (q : PackageView) : Type 0 where
 
 -- one that may be set aside there
 pub record IsAside (k : Terms) (a : PackageView) : Type 0 where
-  pub plain : IsPlain (threads k) a
-  pub of : a.image ≡ k.image.value
-  pub runs : Runs a
+  pub goes : MayGoOn k a
   pub free : HasNone a
 
 -- a package of thread t that waits for lock i

@@ -1,6 +1,6 @@
 -- What became of a released lock, and of all locks of a thread that has ended, with each call of the pass that was made.
 use Rattle.std.specs.Prelude.{◌⊎◌, ◌≡◌, ℕ, Bool, true, false, List, [], ◌∷◌, ◌++◌, ◌<◌, Option, Some, None, is_some, ◌≢◌, ◌+◌, ◌≤◌, get_or, length}
-use Rattle.tc_combiner.specs.Vocabulary.{Adopted, Block, Call, Did_adopt, Did_stop, Done, Free, GoesOn, Granted, HallView, Hands, Has_ended, Home, IsAtRest, IsTurn, Item, Kind, Knows, Leave, Left, LockView, MAX_HELD, Next, Pack, PackageView, Passed, Ready, Releases, SeatView, Settled, Shown, Stopped, Terms, Turn, Was_adopted, Was_granted, Was_stopped, bare, blocks_of, ends_thread, has, last_of, locked_in, locks, locks_of, may_adopt, number_in, put_call, run_of, threads, without_lock}
+use Rattle.tc_combiner.specs.Vocabulary.{Adopted, Block, Call, Did_adopt, Did_stop, Done, Free, GoesOn, Granted, HallView, Hands, Gone, Has_ended, IsAtRest, IsTurn, Item, Kind, Knows, Leave, Left, LockView, MAX_HELD, Next, Pack, PackageView, Passed, Ready, Releases, SeatView, Settled, Shown, Stopped, Terms, Turn, Was_adopted, Was_stopped, bare, blocks_of, ends_thread, has, last_of, locked_in, locks, locks_of, may_adopt, number_in, put_call, run_of, threads, without_lock}
 use Rattle.tc_combiner.specs.Packages.{DidGrant, DidTakeOut, HasHeldAnd, IsGood, IsWaiter, Runs, HasNone}
 use Rattle.tc_combiner.specs.Walks.{Asks, Shows, Acted, MayAct}
 use Rattle.tc_combiner.specs.Answers.{Does, WentOn, SetAside, back}
@@ -59,15 +59,13 @@ pub record IsHanded (k : Kind) (l : LockView) (u : Turn) (image : Shown) (q : Pa
 
 -- the turn u is next after the block b released l: with these calls and no others
 abbrev pub HandedAs : Shown → LockView → Block → Turn → List Call → Passed → Type 0
-HandedAs image l b u cs Was_granted = (q : PackageView) × IsHanded Granted l u image q × (adopts l b ≡ false) × (cs ≡ put_call q Ready ∷ [])
+HandedAs image l b u cs Gone = (q : PackageView) × IsHanded Granted l u image q × (adopts l b ≡ false) × (cs ≡ put_call q Ready ∷ [])
 HandedAs image l b u cs (Was_adopted q) = IsHanded Adopted l u image q × (adopts l b ≡ true) × IsGood q image b.worker × (cs ≡ [])
 HandedAs image l b u cs Was_stopped = cs ≡ Stopped 1 ∷ Free l.number ∷ []
-HandedAs image l b u cs Home = ⊥
 
 -- the lock l of the turn own went to the turn behind it, or home where there is none
 abbrev pub FollowedAs : Shown → LockView → Block → Turn → SeatView → SeatView → List Call → Passed → Type 0
-FollowedAs image l b own s t cs Home = Shows s.calls t.calls (Leave own Left) × (cs ≡ Free l.number ∷ [])
-FollowedAs image l b own s t cs Was_granted = (u : Turn) × Shows s.calls t.calls (Next own (Some u)) × HandedAs image l b u cs Was_granted
+FollowedAs image l b own s t cs Gone = (Shows s.calls t.calls (Leave own Left) × (cs ≡ Free l.number ∷ [])) ⊎ ((u : Turn) × Shows s.calls t.calls (Next own (Some u)) × HandedAs image l b u cs Gone)
 FollowedAs image l b own s t cs (Was_adopted q) = (u : Turn) × Shows s.calls t.calls (Next own (Some u)) × HandedAs image l b u cs (Was_adopted q)
 FollowedAs image l b own s t cs Was_stopped = cs ≡ Stopped 1 ∷ Free l.number ∷ []
 
@@ -104,14 +102,14 @@ PassedAs image i q b s t cs r = (l : LockView) × (locked_in q i ≡ Some l) × 
 -- how a block's unlock of lock i was settled, with these calls and no others: what became of the lock, and then of the package
 -- q without it
 abbrev pub UnlockedAs : Shown → ℕ → ℕ → PackageView → Block → SeatView → SeatView → Option PackageView → Option PackageView → List Call → Settled → Type 0
-UnlockedAs image worker i q b s t a c cs (GoesOn r) = (ds es : List Call) × (cs ≡ ds ++ es) × (PassedAs image i q b s t ds Home ⊎ PassedAs image i q b s t ds Was_granted) × WentOn image worker (without_lock i q) a c es (GoesOn r)
+UnlockedAs image worker i q b s t a c cs (GoesOn r) = (ds es : List Call) × (cs ≡ ds ++ es) × PassedAs image i q b s t ds Gone × WentOn image worker (without_lock i q) a c es (GoesOn r)
 UnlockedAs image worker i q b s t a c cs (Did_adopt r) = (ds es : List Call) × (cs ≡ ds ++ es) × PassedAs image i q b s t ds (Was_adopted r) × SetAside (without_lock i q) a c es × IsGood r image worker
 UnlockedAs image worker i q b s t a c cs Did_stop = (ds : List Call) × (cs ≡ ds ++ back (without_lock i q) a) × PassedAs image i q b s t ds Was_stopped × (c ≡ None)
 UnlockedAs image worker i q b s t a c cs r = ⊥
 
 -- what was done at the unlock
 abbrev pub Unlocks : Terms → ℕ → Block → PackageView → SeatView → SeatView → Hands → Hands → Settled → Type 0
-Unlocks k i b q s t h g r = Asks (turn_of q i) s t × Does k q h g r (λ cs. UnlockedAs k.image.value h.pass.knows.worker i q b s t h.aside g.aside cs r)
+Unlocks k i b q s t h g r = Does k q h g r (λ cs. Asks (turn_of q i) s t × UnlockedAs k.image.value h.pass.knows.worker i q b s t h.aside g.aside cs r)
 
 abbrev pub seat_at : List SeatView → ℕ → SeatView
 seat_at ss j = get_or ss j no_seat
@@ -130,22 +128,24 @@ pub record AtSeat (i : ℕ) (ss ts : List SeatView) (P : SeatView → SeatView �
   pub others : (j : ℕ) → j ≢ i → seat_at ts j ≡ seat_at ss j
   pub here : P (seat_at ss i) (seat_at ts i)
 
--- the thread of package q has ended with the block b, a block of this pass, and the locks in it are those of that block
-pub record MayEnd (v : Knows) (threads : ℕ) (b : Block) (q : PackageView) : Type 0 where
+-- the thread of package q, one of the hall, has ended with the block b, a block of this pass, and the locks in it are those of that
+-- block, of the hall too
+pub record MayEnd (k : Terms) (v : Knows) (b : Block) (q : PackageView) : Type 0 where
   pub of : q.image ≡ v.image
-  pub thread : q.context.thread < threads
+  pub thread : q.context.thread < threads k
   pub settled : q.pending ≡ None
   pub granted : q.granted ≡ None
   pub last : last_of q.log ≡ Some b
   pub ended : ends_thread b.end ≡ true
   pub worker : b.worker ≡ v.worker
+  pub known : (i : ℕ) → has b.held i ≡ true → i < locks k
   pub locks : (i : ℕ) → is_some (locked_in q i) ≡ has b.held i
 
 -- ---- one lock
 
 -- the lock l of an ended thread, whose turn there is own; was, is: whether the run was stopped before, and is now
 abbrev pub LeftAs : Shown → LockView → Block → Turn → SeatView → SeatView → List Call → Bool → Bool → Type 0
-LeftAs image l b own s t cs false false = FollowedAs image l b own s t cs Home ⊎ FollowedAs image l b own s t cs Was_granted
+LeftAs image l b own s t cs false false = FollowedAs image l b own s t cs Gone
 LeftAs image l b own s t cs false true = FollowedAs image l b own s t cs Was_stopped
 LeftAs image l b own s t cs true false = ⊥
 LeftAs image l b own s t cs true true = (t ≡ s) × (cs ≡ Free l.number ∷ [])
@@ -199,7 +199,7 @@ EndedAs image q b ss ts a c cs r = ⊥
 
 -- what was done at the thread's end
 abbrev pub Ends : Terms → Block → PackageView → List SeatView → List SeatView → Hands → Hands → Settled → Type 0
-Ends k b q ss ts h g r = SeatsLeft b q ss ts × Does k q h g r (λ cs. EndedAs k.image.value q b ss ts h.aside g.aside cs r)
+Ends k b q ss ts h g r = Does k q h g r (λ cs. SeatsLeft b q ss ts × EndedAs k.image.value q b ss ts h.aside g.aside cs r)
 
 -- ---- in between
 

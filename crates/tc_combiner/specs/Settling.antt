@@ -2,7 +2,7 @@
 use Rattle.std.specs.Prelude.{◌≡◌, ◌≢◌, ℕ, ◌+◌, ◌-◌, ◌^◌, min, true, List, [], ◌∷◌, ◌++◌, length, slice_set, Option, Some, None, is_some}
 use Rattle.tc_combiner.specs.Vocabulary.{AllowsPending, Block, Call, Cut, DidRun, Did_park, End, GoesOn, Hands, IsSamePass, Pack, PackageView, Parked, PassView, Rest, SeatView, Settled, Shown, Slept, Terms, Unlocked, Wants, has, last_of, locked_in, put_call, threads, want_of}
 use Rattle.tc_combiner.specs.Packages.{HasOnlyHeld, IsAside, IsGoodFor}
-use Rattle.tc_combiner.specs.Walks.{Moves, Owned, Walks, packed, Asks, Acts, Adds}
+use Rattle.tc_combiner.specs.Walks.{Moves, Owned, packed, Asks, Acts, Adds}
 use Rattle.tc_combiner.specs.Answers.{AcquiredAs, HasReadied, carried}
 use Rattle.tc_combiner.specs.Release.{UnlockedAs, turn_of, AreSameSeats, EndedAs, SeatsLeft, seat_at}
 use Rattle.tc_combiner.specs.View.{BenchView, DeskView, FitsBench}
@@ -11,11 +11,9 @@ use Rattle.tc_combiner.specs.View.{BenchView, DeskView, FitsBench}
 abbrev pub IsInHand : DeskView → PackageView → Type 0
 IsInHand d q = Owned d.pass.knows (Pack q ∷ packed d.aside)
 
--- what the calls of a desk keep: it has its pass, to whose list calls were added, none of them a stop, its clock, and its
--- places for sleepers
+-- a desk has its pass, its clock, and its places for sleepers
 pub record Works (d e : DeskView) : Type 0 where
   pub own : IsSamePass d.pass e.pass
-  pub walks : Walks d.pass.knows e.pass.knows
   pub now : e.now ≡ d.now
   pub room : length e.sleepers ≡ length d.sleepers
 

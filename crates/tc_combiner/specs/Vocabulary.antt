@@ -39,6 +39,6 @@ pub use Rattle.tc_combiner.specs.declared.found.Found.TheVariants.{Next as Next_
 pub use Rattle.tc_combiner.specs.declared.hands.Hands.{Hands}
 pub use Rattle.tc_combiner.specs.declared.hands.Rest.{Rest}
 pub use Rattle.tc_combiner.specs.declared.passed.Passed.{Passed}
-pub use Rattle.tc_combiner.specs.declared.passed.Passed.TheVariants.{Adopted as Was_adopted, Granted as Was_granted, Home, Stopped as Was_stopped}
+pub use Rattle.tc_combiner.specs.declared.passed.Passed.TheVariants.{Adopted as Was_adopted, Gone, Stopped as Was_stopped}
 pub use Rattle.tc_combiner.specs.declared.settled.Settled.{Settled}
 pub use Rattle.tc_combiner.specs.declared.settled.Settled.TheVariants.{Adopted as Did_adopt, Ended as Has_ended, GoesOn, Parked as Did_park, Shipped, Stopped as Did_stop}

@@ -9,12 +9,6 @@ HaveNoStop [] = Unit {0}
 HaveNoStop (Stop ∷ cs) = ⊥
 HaveNoStop (c ∷ cs) = HaveNoStop cs
 
--- calls were added, none of them a stop; image, worker, sealed blocks and joined passes stay
-pub record Walks (v w : Knows) : Type 0 where
-  pub calls : List Call
-  pub told : Called calls v w
-  pub stops : HaveNoStop calls
-
 -- ys has the entry c behind what xs has
 pub record Shows {A : Type 0} (xs ys : List A) (c : A) : Type 0 where
   pub front : List A

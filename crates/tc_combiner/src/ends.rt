@@ -71,8 +71,7 @@ fn end_one<R: Wait, Q: Waiters>(
         (Q.seen seat.old) (Q.seen seat.new) hands.old hands.new false result }
 {
     match pass_on(rt, hall, hands, queue, seat, package, released) {
-        Passed::Home => false,
-        Passed::Granted => false,
+        Passed::Gone => false,
         Passed::Adopted(_) => unreachable!(),
         Passed::Stopped => true,
     }
@@ -89,7 +88,7 @@ fn end_all<R: Wait, Q: Waiters>(
 ) -> bool
     requires hands { MayAct shared.now.hall.now (Pack «package».old ∷ [])
         (length (locks_of block.now.held)) hands.old }
-    requires may { MayEnd hands.old.pass.knows (threads shared.now.hall.now.terms) block.now «package».old }
+    requires may { MayEnd shared.now.hall.now.terms hands.old.pass.knows block.now «package».old }
     requires seats { HasSeats Q.queue Q.seen shared.now.hall.now.terms shared.now.queues.now seats.old }
     ensures { DidLeaveAll shared.now.hall.now.terms block.now «package».old «package».new
         (map Q.seen seats.old) (map Q.seen seats.new) hands.old hands.new result }
@@ -121,7 +120,7 @@ pub(crate) fn ended_with<R: Wait, Q: Waiters>(
     block: &Block,
 ) -> Settled
     requires hands { MayAct shared.now.hall.now (Pack «package» ∷ packed hands.old.aside) MAX_HELD hands.old }
-    requires may { MayEnd hands.old.pass.knows (threads shared.now.hall.now.terms) block.now «package» }
+    requires may { MayEnd shared.now.hall.now.terms hands.old.pass.knows block.now «package» }
     requires seats { HasSeats Q.queue Q.seen shared.now.hall.now.terms shared.now.queues.now seats.old }
     ensures { Ends shared.now.hall.now.terms block.now «package» (map Q.seen seats.old) (map Q.seen seats.new)
         hands.old hands.new result }

@@ -13,10 +13,8 @@ pub(crate) struct Released<'a> {
 /// What became of a released lock.
 #[derive(Drop)]
 pub(crate) enum Passed {
-    /// It is home.
-    Home,
-    /// It was granted to a waiter, which is ready.
-    Granted,
+    /// It is home, or was granted to a waiter, which is ready.
+    Gone,
     /// It was granted to a waiter, which the worker has in hand.
     Adopted(Package),
     /// The run was stopped, and the lock is home.

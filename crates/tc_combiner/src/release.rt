@@ -45,7 +45,7 @@ fn grant_to(
     waiter.grant(state, Kind::Granted, next.number);
     hands.ready.push(waiter.thread());
     calls::put(hall, &mut hands.pass, waiter, Place::Ready);
-    Passed::Granted
+    Passed::Gone
 }
 
 // Grants a released lock to the turn behind, once its package waits.
@@ -98,7 +98,7 @@ pub(crate) fn pass_on<R: Wait, Q: Waiters>(
         Found::Next(next) => hand_on(rt, hall, hands, state, released.block, next),
         Found::Nobody => {
             calls::free(hall, &mut hands.pass, state);
-            Passed::Home
+            Passed::Gone
         }
         Found::Unknown => {
             calls::free(hall, &mut hands.pass, state);

@@ -83,8 +83,7 @@ pub(crate) fn unlocked_with<R: Wait, Q: Waiters>(
 {
     package.keeps();
     match pass_on(rt, hall, hands, queue, seat, &mut package, released) {
-        Passed::Home => go_on(hall, hands, package),
-        Passed::Granted => go_on(hall, hands, package),
+        Passed::Gone => go_on(hall, hands, package),
         Passed::Adopted(waiter) => {
             set_aside(hall, hands, package);
             Settled::Adopted(waiter)

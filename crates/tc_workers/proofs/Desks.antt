@@ -15,7 +15,7 @@ use Rattle.tc_combiner.specs.declared.settled.Settled.{Settled}
 use Rattle.tc_combiner.specs.declared.settled.Settled.TheVariants.{GoesOn, Adopted, Stopped as Was_stopped}
 use Rattle.tc_combiner.specs.Answers.{carried}
 use Rattle.tc_combiner.specs.Packages.{IsGoodFor}
-use Rattle.tc_combiner.specs.Settling.{DidAcquire, DidUnlock, DidEnd, HasAcquired, HasSettled, Keeps, SettledAs, Works}
+use Rattle.tc_combiner.specs.Settling.{DidAcquire, DidUnlock, DidEnd, HasAcquired, HasSettled, Keeps, SettledAs}
 use Rattle.tc_combiner.specs.View.{BenchView, DeskView, FitsBench}
 use Rattle.tc_combiner.specs.Walks.{Moves, Owned, Owns, packed}
 use Rattle.tc_combiner.proofs.Answering.{good_after}
@@ -249,9 +249,6 @@ settled_answer (Unlocked i) q x d e s h = unlocked i q x d e s h
 settled_answer Slept q x d e s h = slept q x d e s h
 settled_answer Cut q x d e s h = cut q x d e s h
 settled_answer end q x d e s h = ended q x d e s h
-
-pub works_still : (d e : DeskView) → Works d e → IsStill d.pass e.pass
-works_still d e h = record { own = h.own; image = h.walks.told.image; worker = h.walks.told.worker; joined = h.walks.told.joined }
 
 left_none : (e : DeskView) → e.aside ≡ None → HasOut e.pass.knows (packed e.aside) → HasLeft e
 left_none e gone out = record { aside = gone; out = out_aside e.pass.knows e.aside None gone out }

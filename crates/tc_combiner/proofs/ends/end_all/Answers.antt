@@ -1,6 +1,6 @@
 use Rattle.std.proofs.Common.{◌<◌, Bool, get_or, refl, map, length, sym, ap, ◌∙◌, subst, subst₂, arith, rules}
 use Rattle.tc_combiner.proofs.Vocabulary.{DidLeave, SeatView, length-map, locks, no_seat, seat_at}
-use Rattle.tc_combiner.proofs.Ending.{less_falls, none_left, leaves_first, leaves_more, left_all, lock_in_hall, may_next, may_release, seat_in}
+use Rattle.tc_combiner.proofs.Ending.{less_falls, none_left, leaves_first, leaves_more, left_all, may_next, may_release, seat_in}
 use Rattle.tc_combiner.proofs.Seats.{other_seats, seat_after, seat_before, seats_count}
 use Rattle.tc_combiner.proofs.PassedOn.{few_left, few_more}
 use Rattle.tc_combiner.proofs.ends.end_all.Goals as goal
@@ -10,33 +10,33 @@ loop-lock-init g c = leaves_first c.args.shared.now.hall.now c.args.block.now c.
 
 pub offset_bounds-shared-lock : goal.offset_bounds-shared-lock
 offset_bounds-shared-lock g c =
-    let low : c.in-Some.lock < locks c.args.shared.now.hall.now.terms = lock_in_hall c.args.shared.now.hall.now _ _ c.args.block.now c.args.«package».now c.loop-lock.«package» c.loop-lock.rest c.in-Some.lock (map g.Q.Waiters.seen c.args.seats.now) (map g.Q.Waiters.seen c.loop-lock.seats) c.args.hands.now c.loop-lock.hands c.loop-lock.stopped c.requires.hands c.requires.may c.loop-lock.invariant c.keeps.ensures.sound c.in-Some.ensures.value.0 in
+    let low : c.in-Some.lock < locks c.args.shared.now.hall.now.terms = c.requires.may.known c.in-Some.lock (c.loop-lock.invariant.within c.in-Some.lock c.in-Some.ensures.value.0) in
     let deep : c.in-Some.lock < length c.args.shared.now.queues.now = (let size = c.requires.seats.queues in omega arith) in search (rules, deep)
 
 pub bounds-shared-lock : goal.bounds-shared-lock
 bounds-shared-lock g c =
-    let low : c.in-Some.lock < locks c.args.shared.now.hall.now.terms = lock_in_hall c.args.shared.now.hall.now _ _ c.args.block.now c.args.«package».now c.loop-lock.«package» c.loop-lock.rest c.in-Some.lock (map g.Q.Waiters.seen c.args.seats.now) (map g.Q.Waiters.seen c.loop-lock.seats) c.args.hands.now c.loop-lock.hands c.loop-lock.stopped c.requires.hands c.requires.may c.loop-lock.invariant c.keeps.ensures.sound c.in-Some.ensures.value.0 in
+    let low : c.in-Some.lock < locks c.args.shared.now.hall.now.terms = c.requires.may.known c.in-Some.lock (c.loop-lock.invariant.within c.in-Some.lock c.in-Some.ensures.value.0) in
     let size = c.requires.seats.queues in omega arith
 
 pub offset_bounds-seats-lock : goal.offset_bounds-seats-lock
 offset_bounds-seats-lock g c =
-    let low : c.in-Some.lock < locks c.args.shared.now.hall.now.terms = lock_in_hall c.args.shared.now.hall.now _ _ c.args.block.now c.args.«package».now c.loop-lock.«package» c.loop-lock.rest c.in-Some.lock (map g.Q.Waiters.seen c.args.seats.now) (map g.Q.Waiters.seen c.loop-lock.seats) c.args.hands.now c.loop-lock.hands c.loop-lock.stopped c.requires.hands c.requires.may c.loop-lock.invariant c.keeps.ensures.sound c.in-Some.ensures.value.0 in
+    let low : c.in-Some.lock < locks c.args.shared.now.hall.now.terms = c.requires.may.known c.in-Some.lock (c.loop-lock.invariant.within c.in-Some.lock c.in-Some.ensures.value.0) in
     let deep : c.in-Some.lock < length c.loop-lock.seats = (let size = c.requires.seats.seats in let count = c.loop-lock.invariant.count in let old = length-map c.args.seats.now g.Q.Waiters.seen in let new = length-map c.loop-lock.seats g.Q.Waiters.seen in omega arith) in search (rules, deep)
 
 pub bounds-seats-lock : goal.bounds-seats-lock
 bounds-seats-lock g c =
-    let low : c.in-Some.lock < locks c.args.shared.now.hall.now.terms = lock_in_hall c.args.shared.now.hall.now _ _ c.args.block.now c.args.«package».now c.loop-lock.«package» c.loop-lock.rest c.in-Some.lock (map g.Q.Waiters.seen c.args.seats.now) (map g.Q.Waiters.seen c.loop-lock.seats) c.args.hands.now c.loop-lock.hands c.loop-lock.stopped c.requires.hands c.requires.may c.loop-lock.invariant c.keeps.ensures.sound c.in-Some.ensures.value.0 in
+    let low : c.in-Some.lock < locks c.args.shared.now.hall.now.terms = c.requires.may.known c.in-Some.lock (c.loop-lock.invariant.within c.in-Some.lock c.in-Some.ensures.value.0) in
     let size = c.requires.seats.seats in let count = c.loop-lock.invariant.count in let old = length-map c.args.seats.now g.Q.Waiters.seen in let new = length-map c.loop-lock.seats g.Q.Waiters.seen in omega arith
 
 pub end_one-stopped-requires-clause-may : goal.end_one-stopped-requires-clause-may
 end_one-stopped-requires-clause-may g c = λ κs b. record {
   hands = may_next c.args.shared.now.hall.now c.args.block.now c.args.«package».now c.loop-lock.«package» c.loop-lock.rest c.less-rest.result c.in-Some.lock _ (map g.Q.Waiters.seen c.args.seats.now) (map g.Q.Waiters.seen c.loop-lock.seats) c.args.hands.now c.loop-lock.hands c.loop-lock.stopped c.requires.hands c.loop-lock.invariant c.in-Some.ensures.value.0 c.in-Some.ensures.bound c.less-rest.ensures.each;
-  release = may_release c.args.shared.now.hall.now.terms c.args.block.now c.args.«package».now c.loop-lock.«package» c.loop-lock.rest c.in-Some.lock (map g.Q.Waiters.seen c.args.seats.now) (map g.Q.Waiters.seen c.loop-lock.seats) c.args.hands.now c.loop-lock.hands c.loop-lock.stopped c.requires.may c.loop-lock.invariant c.in-Some.ensures.value.0 (lock_in_hall c.args.shared.now.hall.now _ _ c.args.block.now c.args.«package».now c.loop-lock.«package» c.loop-lock.rest c.in-Some.lock (map g.Q.Waiters.seen c.args.seats.now) (map g.Q.Waiters.seen c.loop-lock.seats) c.args.hands.now c.loop-lock.hands c.loop-lock.stopped c.requires.hands c.requires.may c.loop-lock.invariant c.keeps.ensures.sound c.in-Some.ensures.value.0);
+  release = may_release c.args.shared.now.hall.now.terms c.args.block.now c.args.«package».now c.loop-lock.«package» c.loop-lock.rest c.in-Some.lock (map g.Q.Waiters.seen c.args.seats.now) (map g.Q.Waiters.seen c.loop-lock.seats) c.args.hands.now c.loop-lock.hands c.loop-lock.stopped c.requires.may c.loop-lock.invariant c.in-Some.ensures.value.0;
 }
 
 pub end_one-stopped-requires-clause-seat : goal.end_one-stopped-requires-clause-seat
 end_one-stopped-requires-clause-seat g c = λ κs b.
-    let low : c.in-Some.lock < locks c.args.shared.now.hall.now.terms = lock_in_hall c.args.shared.now.hall.now _ _ c.args.block.now c.args.«package».now c.loop-lock.«package» c.loop-lock.rest c.in-Some.lock (map g.Q.Waiters.seen c.args.seats.now) (map g.Q.Waiters.seen c.loop-lock.seats) c.args.hands.now c.loop-lock.hands c.loop-lock.stopped c.requires.hands c.requires.may c.loop-lock.invariant c.keeps.ensures.sound c.in-Some.ensures.value.0 in
+    let low : c.in-Some.lock < locks c.args.shared.now.hall.now.terms = c.requires.may.known c.in-Some.lock (c.loop-lock.invariant.within c.in-Some.lock c.in-Some.ensures.value.0) in
     seat_in g.Q.Waiters.seen g.Q.Waiters.queue c.args.shared.now.hall.now.terms c.args.shared.now.queues.now c.args.seats.now c.loop-lock.seats c.in-Some.lock c.index-shared-lock.result c.index-seats-lock.result c.index-seats-lock.is c.requires.seats.of (c.loop-lock.invariant.wait c.in-Some.lock c.in-Some.ensures.value.0) low (let size = c.requires.seats.seats in let count = c.loop-lock.invariant.count in let old = length-map c.args.seats.now g.Q.Waiters.seen in let new = length-map c.loop-lock.seats g.Q.Waiters.seen in omega arith)
 
 pub loop-lock-smaller : goal.loop-lock-smaller
@@ -44,7 +44,7 @@ loop-lock-smaller g c = less_falls c.loop-lock.rest c.in-Some.lock c.less-rest.r
 
 pub loop-lock-preserved : goal.loop-lock-preserved
 loop-lock-preserved g c =
-    let low : c.in-Some.lock < locks c.args.shared.now.hall.now.terms = lock_in_hall c.args.shared.now.hall.now _ _ c.args.block.now c.args.«package».now c.loop-lock.«package» c.loop-lock.rest c.in-Some.lock (map g.Q.Waiters.seen c.args.seats.now) (map g.Q.Waiters.seen c.loop-lock.seats) c.args.hands.now c.loop-lock.hands c.loop-lock.stopped c.requires.hands c.requires.may c.loop-lock.invariant c.keeps.ensures.sound c.in-Some.ensures.value.0 in
+    let low : c.in-Some.lock < locks c.args.shared.now.hall.now.terms = c.requires.may.known c.in-Some.lock (c.loop-lock.invariant.within c.in-Some.lock c.in-Some.ensures.value.0) in
     let deep : c.in-Some.lock < length c.loop-lock.seats = (let size = c.requires.seats.seats in let count = c.loop-lock.invariant.count in let old = length-map c.args.seats.now g.Q.Waiters.seen in let new = length-map c.loop-lock.seats g.Q.Waiters.seen in omega arith) in
     let e = subst (λ (b : Bool). DidLeave c.args.shared.now.hall.now.terms c.in-Some.lock c.args.block.now c.loop-lock.«package» c.end_one-stopped.new.«package» (g.Q.Waiters.seen (get_or c.loop-lock.seats c.in-Some.lock c.index-seats-lock.result)) (g.Q.Waiters.seen c.end_one-stopped.new.seat) c.loop-lock.hands c.end_one-stopped.new.hands b c.end_one-stopped.result) (sym c.if-stopped.false) c.end_one-stopped.ensures in
     leaves_more c.args.shared.now.hall.now.terms c.args.block.now c.args.«package».now c.loop-lock.«package» c.end_one-stopped.new.«package» c.loop-lock.rest c.less-rest.result c.in-Some.lock (map g.Q.Waiters.seen c.args.seats.now) (map g.Q.Waiters.seen c.loop-lock.seats) _ c.args.hands.now c.loop-lock.hands c.end_one-stopped.new.hands c.loop-lock.stopped c.end_one-stopped.result c.loop-lock.invariant c.in-Some.ensures.value.0 c.in-Some.ensures.value.1 c.in-Some.ensures.bound c.less-rest.ensures.each
@@ -61,7 +61,7 @@ returns g c = left_all c.args.shared.now.hall.now.terms c.args.block.now c.args.
 pub bring_home-requires : goal.bring_home-requires
 bring_home-requires g c = record {
   hands = may_next c.args.shared.now.hall.now c.args.block.now c.args.«package».now c.loop-lock.«package» c.loop-lock.rest c.less-rest.result c.in-Some.lock _ (map g.Q.Waiters.seen c.args.seats.now) (map g.Q.Waiters.seen c.loop-lock.seats) c.args.hands.now c.loop-lock.hands c.loop-lock.stopped c.requires.hands c.loop-lock.invariant c.in-Some.ensures.value.0 c.in-Some.ensures.bound c.less-rest.ensures.each;
-  release = may_release c.args.shared.now.hall.now.terms c.args.block.now c.args.«package».now c.loop-lock.«package» c.loop-lock.rest c.in-Some.lock (map g.Q.Waiters.seen c.args.seats.now) (map g.Q.Waiters.seen c.loop-lock.seats) c.args.hands.now c.loop-lock.hands c.loop-lock.stopped c.requires.may c.loop-lock.invariant c.in-Some.ensures.value.0 (lock_in_hall c.args.shared.now.hall.now _ _ c.args.block.now c.args.«package».now c.loop-lock.«package» c.loop-lock.rest c.in-Some.lock (map g.Q.Waiters.seen c.args.seats.now) (map g.Q.Waiters.seen c.loop-lock.seats) c.args.hands.now c.loop-lock.hands c.loop-lock.stopped c.requires.hands c.requires.may c.loop-lock.invariant c.keeps.ensures.sound c.in-Some.ensures.value.0);
+  release = may_release c.args.shared.now.hall.now.terms c.args.block.now c.args.«package».now c.loop-lock.«package» c.loop-lock.rest c.in-Some.lock (map g.Q.Waiters.seen c.args.seats.now) (map g.Q.Waiters.seen c.loop-lock.seats) c.args.hands.now c.loop-lock.hands c.loop-lock.stopped c.requires.may c.loop-lock.invariant c.in-Some.ensures.value.0;
 }
 
 pub loop-lock-preserved-then-stopped : goal.loop-lock-preserved-then-stopped

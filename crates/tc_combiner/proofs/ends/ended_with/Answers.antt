@@ -14,7 +14,7 @@ pub put_all_back-requires-clause-hands : goal.put_all_back-requires-clause-hands
 put_all_back-requires-clause-hands g c = at_end c.args.shared.now.hall.now c.args.block.now c.args.«package» c.end_all.new.«package» (map g.Q.Waiters.seen c.args.seats.now) (map g.Q.Waiters.seen c.end_all.new.seats) c.args.hands.now c.end_all.new.hands c.requires.may c.requires.hands c.end_all.result c.end_all.ensures
 
 pub put_all_back-requires-clause-plain : goal.put_all_back-requires-clause-plain
-put_all_back-requires-clause-plain g c = emptied_plain c.args.hands.now.pass.knows _ c.args.block.now c.args.«package» c.end_all.new.«package» c.requires.may c.end_all.ensures.emptied
+put_all_back-requires-clause-plain g c = emptied_plain _ c.args.hands.now.pass.knows c.args.block.now c.args.«package» c.end_all.new.«package» c.requires.may c.end_all.ensures.emptied
 
 pub put-requires : goal.put-requires
 put-requires g c = record { own = c.end_all.ensures.acted.acts.own.0 ∙ c.requires.hands.at.own; may = may_done c.args.shared.now.hall.now c.args.block.now c.args.«package» c.end_all.new.«package» (map g.Q.Waiters.seen c.args.seats.now) (map g.Q.Waiters.seen c.end_all.new.seats) c.args.hands.now c.end_all.new.hands c.requires.may c.requires.hands c.end_all.result c.keeps.ensures.sound c.end_all.ensures }

@@ -1,5 +1,5 @@
-use Rattle.std.proofs.Common.{List, [], ◌<◌, ℕ, refl, sym, ◌∙◌, subst}
-use Rattle.tc_combiner.proofs.Vocabulary.{Call, DidTakeOut, FollowedAs, Home, IsTurn, LockView, Turn, Was_stopped, bare, saw, threads}
+use Rattle.std.proofs.Common.{inl, List, [], ◌<◌, ℕ, refl, sym, ◌∙◌, subst}
+use Rattle.tc_combiner.proofs.Vocabulary.{Call, DidTakeOut, FollowedAs, Gone, IsTurn, LockView, Turn, Was_stopped, bare, saw, threads}
 use Rattle.tc_combiner.proofs.Acting.{same_outs}
 use Rattle.tc_combiner.proofs.PassedOn.{block_thread, frees, is_beside, is_released, may_lock, passes, released_free, taken_free, turn_is}
 use Rattle.tc_combiner.proofs.release.pass_on.Goals as goal
@@ -52,7 +52,7 @@ returns-in-Nobody g c =
     let d : DidTakeOut c.args.released.lock c.take_out-state.result c.args.«package».now c.take_out-state.new.self = record { was = c.take_out-state.ensures.lock; is = c.take_out-state.ensures.is; locks = c.take_out-state.ensures.locks; rest = c.take_out-state.ensures.rest } in
     let e = c.in-Nobody.ensures {u = tt} in
     frees c.args.hall.now.terms [] c.args.released.lock c.take_out-state.result _ c.args.«package».now c.take_out-state.new.self (g.Q.Waiters.seen c.args.seat.now) (g.Q.Waiters.seen c.find_next.new.seat) c.args.hands.now _ c.find_next.new.pass
-    (λ (u : Turn) (l : LockView) (cs : List Call). FollowedAs c.args.hall.now.terms.image.value l c.args.released.block.now u (g.Q.Waiters.seen c.args.seat.now) (g.Q.Waiters.seen c.find_next.new.seat) cs Home) d (let f = c.thread.ensures in let h = c.number_of.ensures.is in cc) e.asks e.acts c.free.ensures refl refl refl (e.found, refl)
+    (λ (u : Turn) (l : LockView) (cs : List Call). FollowedAs c.args.hall.now.terms.image.value l c.args.released.block.now u (g.Q.Waiters.seen c.args.seat.now) (g.Q.Waiters.seen c.find_next.new.seat) cs Gone) d (let f = c.thread.ensures in let h = c.number_of.ensures.is in cc) e.asks e.acts c.free.ensures refl refl refl (inl (e.found, refl))
 
 pub returns-in-Unknown : goal.returns-in-Unknown
 returns-in-Unknown g c =

@@ -31,7 +31,7 @@ pub returns-in-Unlocked-clause-settled : goal.returns-in-Unlocked-clause-settled
 returns-in-Unlocked-clause-settled g c = (c.last-block.result, c.last-block.ensures, subst (λ (x : End). SettledAs x c.args.«package» c.last-block.result (desk_of c.args.hands.now.pass (map g.Q.Waiters.seen c.args.seats.now) c.args.rest.now.sleepers c.args.rest.now.clock c.args.hands.now.aside c.args.hands.now.ready.items) (desk_of c.unlocked_at.new.hands.pass (map g.Q.Waiters.seen c.unlocked_at.new.seats) c.args.rest.now.sleepers c.args.rest.now.clock c.unlocked_at.new.hands.aside c.unlocked_at.new.hands.ready.items) c.unlocked_at.result) (sym c.in-Unlocked.is) (did_unlock c.args.shared.now.hall.now.terms c.args.«package» (map g.Q.Waiters.seen c.args.seats.now) (map g.Q.Waiters.seen c.unlocked_at.new.seats) c.args.rest.now.sleepers c.args.rest.now.clock c.args.hands.now.ready.items _ c.unlocked_at.new.hands c.requires.hands.image c.in-Unlocked.lock c.last-block.result c.unlocked_at.result c.unlocked_at.ensures))
 
 pub returns-in-Unlocked-clause-keeps : goal.returns-in-Unlocked-clause-keeps
-returns-in-Unlocked-clause-keeps g c = keeps_of c.args.shared.now.hall.now.terms _ c.args.«package» (map g.Q.Waiters.seen c.args.seats.now) (map g.Q.Waiters.seen c.unlocked_at.new.seats) c.args.rest.now c.args.rest.now _ c.unlocked_at.new.hands c.unlocked_at.result c.clear.ensures c.unlocked_at.ensures.here.1.answers c.unlocked_at.ensures.same refl refl
+returns-in-Unlocked-clause-keeps g c = keeps_of c.args.shared.now.hall.now.terms _ c.args.«package» (map g.Q.Waiters.seen c.args.seats.now) (map g.Q.Waiters.seen c.unlocked_at.new.seats) c.args.rest.now c.args.rest.now _ c.unlocked_at.new.hands c.unlocked_at.result c.clear.ensures c.unlocked_at.ensures.here.answers c.unlocked_at.ensures.same refl refl
 
 pub park-requires-clause-hands : goal.park-requires-clause-hands
 park-requires-clause-hands g c = c.requires.hands
@@ -71,4 +71,4 @@ pub returns-in_default-clause-settled : goal.returns-in_default-clause-settled
 returns-in_default-clause-settled g c = (c.last-block.result, c.last-block.ensures, settled_end c.args.end c.args.«package» c.last-block.result _ _ c.ended_with.result (ended c.args.end c.in_default.not-Wants c.in_default.not-Unlocked c.in_default.not-Slept c.in_default.not-Cut) (did_end c.args.shared.now.hall.now.terms c.args.«package» (map g.Q.Waiters.seen c.args.seats.now) (map g.Q.Waiters.seen c.ended_with.new.seats) c.args.rest.now.sleepers c.args.rest.now.clock c.args.hands.now.ready.items _ c.ended_with.new.hands c.requires.hands.image c.last-block.result c.ended_with.result c.ended_with.ensures))
 
 pub returns-in_default-clause-keeps : goal.returns-in_default-clause-keeps
-returns-in_default-clause-keeps g c = keeps_of c.args.shared.now.hall.now.terms _ c.args.«package» (map g.Q.Waiters.seen c.args.seats.now) (map g.Q.Waiters.seen c.ended_with.new.seats) c.args.rest.now c.args.rest.now _ c.ended_with.new.hands c.ended_with.result c.clear.ensures c.ended_with.ensures.1.answers (same_seats c.last-block.result c.args.«package» (map g.Q.Waiters.seen c.args.seats.now) (map g.Q.Waiters.seen c.ended_with.new.seats) c.ended_with.ensures.0) refl refl
+returns-in_default-clause-keeps g c = keeps_of c.args.shared.now.hall.now.terms _ c.args.«package» (map g.Q.Waiters.seen c.args.seats.now) (map g.Q.Waiters.seen c.ended_with.new.seats) c.args.rest.now c.args.rest.now _ c.ended_with.new.hands c.ended_with.result c.clear.ensures c.ended_with.ensures.answers (same_seats c.last-block.result c.args.«package» (map g.Q.Waiters.seen c.args.seats.now) (map g.Q.Waiters.seen c.ended_with.new.seats) c.ended_with.ensures.became.0) refl refl

@@ -6,7 +6,7 @@ use Rattle.tc_combiner.proofs.Packages.{not_some}
 use Rattle.tc_combiner.proofs.unlock.set_aside.Goals as goal
 
 pub put-requires : goal.put-requires
-put-requires c = record { own = c.requires.hands.at.own; may = may_ready c.args.hall.now.terms c.args.hands.now.pass.knows c.args.«package» (record { of = c.requires.may.of; plain = c.requires.may.plain; runs = c.requires.may.runs }) c.requires.hands.at.out.1.0 }
+put-requires c = record { own = c.requires.hands.at.own; may = may_ready c.args.hall.now.terms c.args.hands.now.pass.knows c.args.«package» c.requires.may.goes c.requires.hands.at.out.1.0 }
 
 pub returns-then-is_some : goal.returns-then-is_some
 returns-then-is_some c = sets_behind c.args.hall.now c.args.«package» c.args.hands.now _ c.requires.hands c.requires.may (sym c.is_some.ensures ∙ c.if-is_some.true) refl c.put.ensures (c.push.ensures.items ∙ ap (λ (t : ℕ). c.args.hands.now.ready.items ++ t ∷ []) c.thread.ensures)

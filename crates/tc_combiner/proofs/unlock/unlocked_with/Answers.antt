@@ -1,6 +1,6 @@
 use Rattle.std.proofs.Common.{refl, arith}
-use Rattle.tc_combiner.proofs.Vocabulary.{Home, Pack, Was_granted, Was_stopped, packed}
-use Rattle.tc_combiner.proofs.Unlocking.{at_then, goes_adopted, goes_granted, goes_home, goes_stopped, may_adopted, may_aside, may_go_on, may_then}
+use Rattle.tc_combiner.proofs.Vocabulary.{Gone, Pack, Was_stopped, packed}
+use Rattle.tc_combiner.proofs.Unlocking.{at_then, goes, goes_adopted, goes_stopped, may_adopted, may_aside, may_go_on, may_then}
 use Rattle.tc_combiner.proofs.Acting.{alone}
 use Rattle.tc_combiner.proofs.unlock.unlocked_with.Goals as goal
 
@@ -12,15 +12,8 @@ pass_on-requires-clause-may g c = λ κs b. record {
 
 pub go_on-requires : goal.go_on-requires
 go_on-requires g c =
-    let d = c.in-Home.ensures {u = tt} in record {
-      hands = may_then c.args.hall.now c.args.released.lock c.args.released.block.now c.args.«package» c.pass_on.new.«package» (g.Q.Waiters.seen c.args.seat.now) (g.Q.Waiters.seen c.pass_on.new.seat) c.args.hands.now c.pass_on.new.hands c.requires.hands Home refl d;
-      may = may_go_on c.args.hands.now.pass.knows c.args.hall.now.terms c.args.released.lock c.args.released.block.now d.state c.args.«package» c.pass_on.new.«package» c.requires.may c.requires.hands.at.image d.taken;
-    }
-
-pub go_on-requires-in-Granted : goal.go_on-requires-in-Granted
-go_on-requires-in-Granted g c =
-    let d = c.in-Granted.ensures {u = tt} in record {
-      hands = may_then c.args.hall.now c.args.released.lock c.args.released.block.now c.args.«package» c.pass_on.new.«package» (g.Q.Waiters.seen c.args.seat.now) (g.Q.Waiters.seen c.pass_on.new.seat) c.args.hands.now c.pass_on.new.hands c.requires.hands Was_granted refl d;
+    let d = c.in-Gone.ensures {u = tt} in record {
+      hands = may_then c.args.hall.now c.args.released.lock c.args.released.block.now c.args.«package» c.pass_on.new.«package» (g.Q.Waiters.seen c.args.seat.now) (g.Q.Waiters.seen c.pass_on.new.seat) c.args.hands.now c.pass_on.new.hands c.requires.hands Gone refl d;
       may = may_go_on c.args.hands.now.pass.knows c.args.hall.now.terms c.args.released.lock c.args.released.block.now d.state c.args.«package» c.pass_on.new.«package» c.requires.may c.requires.hands.at.image d.taken;
     }
 
@@ -38,11 +31,8 @@ put_all_back-requires g c =
       plain = (may_go_on c.args.hands.now.pass.knows c.args.hall.now.terms c.args.released.lock c.args.released.block.now d.state c.args.«package» c.pass_on.new.«package» c.requires.may c.requires.hands.at.image d.taken).plain;
     }
 
-pub returns-in-Home : goal.returns-in-Home
-returns-in-Home g c = goes_home c.args.hall.now c.args.released.lock c.args.released.block.now c.args.«package» c.pass_on.new.«package» (g.Q.Waiters.seen c.args.seat.now) (g.Q.Waiters.seen c.pass_on.new.seat) c.args.hands.now c.pass_on.new.hands c.requires.hands c.go_on.new.hands c.go_on.result (c.in-Home.ensures {u = tt}) c.go_on.ensures
-
-pub returns-in-Granted : goal.returns-in-Granted
-returns-in-Granted g c = goes_granted c.args.hall.now c.args.released.lock c.args.released.block.now c.args.«package» c.pass_on.new.«package» (g.Q.Waiters.seen c.args.seat.now) (g.Q.Waiters.seen c.pass_on.new.seat) c.args.hands.now c.pass_on.new.hands c.requires.hands c.go_on-in-Granted.new.hands c.go_on-in-Granted.result (c.in-Granted.ensures {u = tt}) c.go_on-in-Granted.ensures
+pub returns-in-Gone : goal.returns-in-Gone
+returns-in-Gone g c = goes c.args.hall.now c.args.released.lock c.args.released.block.now c.args.«package» c.pass_on.new.«package» (g.Q.Waiters.seen c.args.seat.now) (g.Q.Waiters.seen c.pass_on.new.seat) c.args.hands.now c.pass_on.new.hands c.requires.hands c.go_on.new.hands c.go_on.result (c.in-Gone.ensures {u = tt}) c.go_on.ensures
 
 pub returns-in-Adopted : goal.returns-in-Adopted
 returns-in-Adopted g c = goes_adopted c.args.hall.now c.args.released.lock c.args.released.block.now c.args.«package» c.pass_on.new.«package» (g.Q.Waiters.seen c.args.seat.now) (g.Q.Waiters.seen c.pass_on.new.seat) c.args.hands.now c.pass_on.new.hands c.requires.hands c.set_aside.new.hands c.in-Adopted.waiter c.requires.may.release.worker (c.in-Adopted.ensures {u = tt}) c.set_aside.ensures
