@@ -1,10 +1,10 @@
 -- What became of a package that wants a lock, from its parts.
 use Rattle.std.proofs.Common.{◌≡◌, ◌+◌, min, ℕ, List, [], ◌∷◌, ◌++◌, refl, sym, ap, ◌∙◌, subst, arith, Option, Some, None, if◌then◌else◌}
-use Rattle.tc_combiner.proofs.Vocabulary.{AcquiredAs, Acquires, Acts, Behind, Call, DidFirst, DidGrant, DidTake, Did_stop, Done, Enter, First, FirstAs, GoesOn, HallView, Hands, IsAtHall, IsAtRest, IsOut, IsSameSeat, IsWaiting, Item, Knows, Link, LockView, Loose, MAX_NUMBER, MayAsk, MayGive, MayGoOn, Pack, PackageView, PassView, PutAllBack, Ready, Runs, SeatView, Settled, Shipped, Shown, Taken, Terms, Turn, Waiting, Wants_lock, back, counted, locked_in, next_turn, outs, packed, place_back, put_call, ready_in, saw, threads, with_line, with_turns}
+use Rattle.tc_combiner.proofs.Vocabulary.{AcquiredAs, Acquires, Acts, Behind, Call, DidFirst, DidGrant, DidTake, Did_stop, Done, Enter, First, FirstAs, GoesOn, HallView, Hands, IsAtHall, IsAtRest, IsSameSeat, IsWaiting, Item, Link, LockView, Loose, MAX_NUMBER, MayAsk, MayGive, MayGoOn, Pack, PackageView, PassView, PutAllBack, Ready, Runs, SeatView, Settled, Shipped, Shown, Taken, Terms, Turn, Waiting, Wants_lock, back, counted, locked_in, next_turn, packed, place_back, put_call, ready_in, saw, threads, with_line, with_turns}
 use Rattle.tc_combiner.proofs.Acting.{acts_by, acts_still, acts_then, adds_then, owned_by, takes_none}
 use Rattle.tc_combiner.proofs.Owning.{counts_in, granted_with, takes_in}
 use Rattle.tc_combiner.proofs.Answering.{keeps_answers, wider}
-use Rattle.tc_combiner.proofs.Packages.{no_other, taken_good, ungranted_fits, ungranted_plain}
+use Rattle.tc_combiner.proofs.Packages.{no_other, plain_gives, taken_good, wants_runs}
 
 -- ---- packages that are put back
 
@@ -106,21 +106,14 @@ module _ (hall : HallView) (i : ℕ) (u : Turn) (q p : PackageView) (s t : SeatV
 pub still_asks : (k : Terms) (i : ℕ) (q p : PackageView) (n : ℕ) → p ≡ with_turns n q → MayAsk k i q → MayAsk k i p
 still_asks k i q p n e m = subst (λ (x : PackageView). MayAsk k i x) (sym e) (record { lock = m.lock; of = m.of; plain = record { thread = m.plain.thread; settled = m.plain.settled; granted = m.plain.granted; locks = m.plain.locks; ended = m.plain.ended }; want = m.want })
 
-pub may_wait : (k : Terms) (v : Knows) (i : ℕ) (q : PackageView) → MayAsk k i q → Runs q → IsOut (outs v) (Pack q) → MayGive k v (Waiting i) q
-may_wait k v i q m runs out = record {
-  thread = m.plain.thread;
-  place = m.lock;
-  out = out;
-  order = record {
-    ended = λ e. let n : ⊥ = omega arith in absurd n;
-    runs = λ ne. runs;
-    own = no_other q m.plain.locks;
-    waits = λ j e. let same : i ≡ j = omega arith in subst (λ (x : ℕ). Wants_lock q x) same m.want;
-    ready = λ g e. let f = m.plain.granted in let n : ⊥ = cc in absurd n;
-  };
-  plain = ungranted_plain q m.plain.granted;
-  fits = ungranted_fits q v.worker m.plain.granted;
-}
+pub may_wait : (hall : HallView) (i : ℕ) (q : PackageView) (h : Hands) → IsAtHall hall (Pack q ∷ packed h.aside) h → MayAsk hall.terms i q → MayGive hall h.pass (Waiting i) q
+may_wait hall i q h at m = plain_gives hall (Waiting i) q (packed h.aside) h.pass h.aside at m.plain m.lock (record {
+  ended = λ e. let n : ⊥ = omega arith in absurd n;
+  runs = λ ne. wants_runs q i m.want;
+  own = no_other q m.plain.locks;
+  waits = λ j e. let same : i ≡ j = omega arith in subst (λ (x : ℕ). Wants_lock q x) same m.want;
+  ready = λ g e. let f = m.plain.granted in let n : ⊥ = cc in absurd n;
+})
 
 on_line : (s t r : SeatView) → t ≡ r → IsSameSeat s r → IsSameSeat s t
 on_line s t r e h = subst (λ (x : SeatView). IsSameSeat s x) (sym e) h

@@ -1,8 +1,8 @@
 -- Calls of a pass, one after another, with each call that counts.
 use Rattle.std.proofs.Common.{◌≡◌, ◌≢◌, ◌==◌, ◌<◌, ◌≤◌, ◌+◌, ℕ, Bool, true, false, cond, arith, All, List, [], ◌∷◌, ◌++◌, length, length-append, filter, refl, sym, ap, ◌∙◌, subst, append_assoc, append-nil, Some, None, Option}
-use Rattle.tc_combiner.proofs.Vocabulary.{Acted, Acts, Adds, All-nil, AreAsked, Asked, Asks, Call, Called, Came, Departure, HallView, Hands, HaveNoStop, IsAt, IsSamePass, Item, Knows, Leave, LineCall, LooksEachTime, MAX_HELD, MayAct, Miss, Moves, Next, Owned, Owns, PackageView, PassView, Put, Ready, Refused, SawStopped, SeatView, Stop, Stopped, TakesDown, Terms, Tried, TriedAs, Try_stopped, Turn, WaitedAs, Waits, after_miss, after_stopped, counts, erase, nat_tests, outs, ready_in, saw, saw_if, threads, unanswered, with_line}
+use Rattle.tc_combiner.proofs.Vocabulary.{Acted, Acts, Adds, All-nil, AreAsked, Asked, Asks, Call, Called, Came, Departure, HallView, Hands, HaveNoStop, IsAt, IsSamePass, Item, Knows, Leave, LineCall, MAX_HELD, MayAct, Miss, Moves, Next, Owned, Owns, PackageView, PassView, Put, Ready, Refused, SawStopped, SeatView, Stop, Stopped, TakesDown, Terms, Tried, TriedAs, Try_stopped, Turn, WaitedAs, Waits, after_miss, after_stopped, counts, erase, nat_tests, outs, ready_in, saw, saw_if, threads, unanswered, with_line}
 use Rattle.std.proofs.lemmas.List.Elements.{filter-append, All-append}
-use Rattle.tc_combiner.proofs.Owning.{moves_none}
+use Rattle.tc_combiner.proofs.Owning.{moves_none, rotate, unrotate}
 
 pub no_stops : (cs ds : List Call) → HaveNoStop cs → HaveNoStop ds → HaveNoStop (cs ++ ds)
 no_stops [] ds p q = q
@@ -71,15 +71,9 @@ acts_then ds es xs ys zs p q r a b = record {
 pub acts_told : (cs ds : List Call) (xs ys : List Item) (p q : PassView) → filter counts cs ≡ ds → HaveNoStop cs → IsSamePass p q → Called cs p.knows q.knows → Moves p.knows q.knows xs ys → Acts ds xs ys p q
 acts_told cs ds xs ys p q e n own told m = record { own = own; adds = record { calls = cs; told = told; stops = n; are = e }; moves = m }
 
-called_by : (cs : List Call) (v w x : Knows) → w ≡ x → Called cs v x → Called cs v w
-called_by cs v w x e c = subst (λ (z : Knows). Called cs v z) (sym e) c
-
-called_none : (v : Knows) → Called [] v v
-called_none v = record { image = refl; worker = refl; sealed = refl; joined = refl; calls = sym (append-nil v.calls) }
-
 -- where nothing was called
 pub acts_still : (p : PassView) (xs ys : List Item) → Moves p.knows p.knows xs ys → Acts [] xs ys p p
-acts_still p xs ys m = acts_told [] [] xs ys p p refl tt (refl, refl) (called_none p.knows) m
+acts_still p xs ys m = acts_told [] [] xs ys p p refl tt (refl, refl) (record { image = refl; worker = refl; sealed = refl; joined = refl; calls = sym (append-nil p.knows.calls) }) m
 
 pub acts_none : (p : PassView) (xs : List Item) → Acts [] xs xs p p
 acts_none p xs = acts_still p xs xs (λ c us o. o)
@@ -88,13 +82,17 @@ acts_none p xs = acts_still p xs xs (λ c us o. o)
 pub acts_by : (ds : List Call) (xs : List Item) (p q : PassView) → Acts ds [] [] p q → Acts ds xs xs p q
 acts_by ds xs p q a = record { own = a.own; adds = a.adds; moves = λ c us o. a.moves c (xs ++ us) o }
 
+-- with one thing in hand besides
+pub acts_beside : (ds : List Call) (x : Item) (xs ys : List Item) (p q : PassView) → Acts ds xs ys p q → Acts ds (x ∷ xs) (x ∷ ys) p q
+acts_beside ds x xs ys p q a = record { own = a.own; adds = a.adds; moves = λ c us o. rotate c (outs q.knows) x ys us (a.moves c (x ∷ us) (unrotate c (outs p.knows) x xs us o)) }
+
 saw_counts : (b : Bool) (word : ℕ) → (b ≡ true → word ≡ 1) → (b ≡ false → word ≢ 1) → filter counts (Stopped word ∷ []) ≡ saw_if b
 saw_counts true word one other = let e = one refl in ap (λ (n : ℕ). filter counts (Stopped n ∷ [])) e
 saw_counts false word one other = let ne = other refl in let e : (word == 1) ≡ false = grind (arith, nat_tests) in ap (λ (x : Bool). cond x (Stopped word ∷ []) []) e
 
 pub acts_looked : (b : Bool) (p q : PassView) → IsSamePass p q → SawStopped b p.knows q.knows → Acts (saw_if b) [] [] p q
 acts_looked b p q own s = acts_told (Stopped s.word ∷ []) (saw_if b) [] [] p q (saw_counts b s.word s.one s.other) tt own
-    (called_by (Stopped s.word ∷ []) p.knows q.knows (after_stopped p.knows s.word) s.now (record { image = refl; worker = refl; sealed = refl; joined = refl; calls = refl }))
+    (subst (λ (w : Knows). Called (Stopped s.word ∷ []) p.knows w) (sym s.now) (record { image = refl; worker = refl; sealed = refl; joined = refl; calls = refl }))
     (moves_none p.knows q.knows (ap outs s.now))
 
 -- ---- steps that were refused, and calls
@@ -122,25 +120,22 @@ tried_then a b c d v w x h k = record {
 -- a step that was refused, and the look at STOP behind it
 pub misses : (b x : Bool) (word found : ℕ) (p q r : PassView) → b ≡ x → IsSamePass p q → q.knows ≡ after_miss p.knows word found → Acts (saw_if b) [] [] q r → Tried 0 1 q.knows r.knows → Acts (saw_if x) [] [] p r × Tried 1 1 p.knows r.knows
 misses b x word found p q r e own miss s l =
-    let missed : Acts [] [] [] p q = acts_told [] [] [] [] p q refl tt own (called_by [] p.knows q.knows (after_miss p.knows word found) miss (record { image = refl; worker = refl; sealed = refl; joined = refl; calls = sym (append-nil p.knows.calls) })) (moves_none p.knows q.knows (ap outs miss)) in
+    let missed : Acts [] [] [] p q = acts_told [] [] [] [] p q refl tt own (subst (λ (w : Knows). Called [] p.knows w) (sym miss) (record { image = refl; worker = refl; sealed = refl; joined = refl; calls = sym (append-nil p.knows.calls) })) (moves_none p.knows q.knows (ap outs miss)) in
     let tried : Tried 1 0 p.knows q.knows = record { misses = record { word = word; found = found } ∷ []; missed = ap (λ (x : Knows). x.missed) miss; each = refl; calls = []; added = ap (λ (x : Knows). x.calls) miss ∙ sym (append-nil p.knows.calls); all = refl } in
     (acts_then [] (saw_if x) [] [] [] p q r missed (subst (λ (y : Bool). Acts (saw_if y) [] [] q r) e s), tried_then 1 0 0 1 p.knows q.knows r.knows tried l)
-
-looks_then : (n : ℕ) (v w x : Knows) → LooksEachTime v w → Tried n n w x → LooksEachTime v x
-looks_then n v w x h t = (h.0 + n, tried_then h.0 h.0 n n v w x h.1 t)
 
 pub waits_none : (p : PassView) → Waits p p
 waits_none p = (acts_none p [], (0, tried_still p.knows))
 
-module _ {A : Type 0} (items : A → List Item) (is : Knows → A → Type 0) (p q r : PassView) (h : Waits p q) where
+module _ {A : Type 0} (items : A → List Item) (is : PassView → A → Type 0) (p q r : PassView) (h : Waits p q) where
   pub waits_more : TriedAs 1 items is q r Refused → Waits p r
-  waits_more t = (acts_then [] [] [] [] [] p q r h.0 t.0, looks_then 1 p.knows q.knows r.knows h.1 t.1)
+  waits_more t = (acts_then [] [] [] [] [] p q r h.0 t.0, (h.1.0 + 1, tried_then h.1.0 h.1.0 1 1 p.knows q.knows r.knows h.1.1 t.1))
 
   pub waits_stopped : TriedAs 1 items is q r Try_stopped → WaitedAs items is p r None
-  waits_stopped t = (acts_then [] saw [] [] [] p q r h.0 t.0, looks_then 1 p.knows q.knows r.knows h.1 t.1)
+  waits_stopped t = (acts_then [] saw [] [] [] p q r h.0 t.0, (h.1.0 + 1, tried_then h.1.0 h.1.0 1 1 p.knows q.knows r.knows h.1.1 t.1))
 
   pub waits_came : (a : A) → TriedAs 1 items is q r (Came a) → WaitedAs items is p r (Some a)
-  waits_came a t = (acts_then [] [] [] [] (items a) p q r h.0 t.0, looks_then 0 p.knows q.knows r.knows h.1 t.1, t.2)
+  waits_came a t = (acts_then [] [] [] [] (items a) p q r h.0 t.0, (h.1.0 + 0, tried_then h.1.0 h.1.0 0 0 p.knows q.knows r.knows h.1.1 t.1), t.2)
 
 pub ready_append : (cs ds : List Call) → ready_in (cs ++ ds) ≡ ready_in cs ++ ready_in ds
 ready_append [] ds = refl
@@ -185,9 +180,6 @@ may_still hall ds xs ys n h g m a r s = record { at = at_after hall ds xs ys h.p
 -- calls that put no thread as ready
 pub acted_by : (k : Terms) (ds : List Call) (xs ys : List Item) (h g : Hands) → Acts ds xs ys h.pass g.pass → g.ready.items ≡ h.ready.items → ready_in ds ≡ [] → Acted k ds xs ys h g
 acted_by k ds xs ys h g a r none = record { acts = a; readied = takes_none (threads k) h.ready.items g.ready.items ds r none }
-
-pub acted_none : (k : Terms) (xs : List Item) (h : Hands) → Acted k [] xs xs h h
-acted_none k xs h = acted_by k [] xs xs h h (acts_none h.pass xs) refl refl
 
 pub acted_then : (k : Terms) (ds es : List Call) (xs ys zs : List Item) (h m g : Hands) → Acted k ds xs ys h m → Acted k es ys zs m g → Acted k (ds ++ es) xs zs h g
 acted_then k ds es xs ys zs h m g a b = record { acts = acts_then ds es xs ys zs h.pass m.pass g.pass a.acts b.acts; readied = takes_then (threads k) h.ready.items m.ready.items g.ready.items ds es a.readied b.readied }

@@ -1,7 +1,7 @@
 -- The locks of a thread that has ended, one after another.
 use Rattle.std.proofs.Common.{◌≡◌, ◌≢◌, ◌<◌, ◌≤◌, inl, inr, ℕ, zero, suc, ◌^◌, ◌+◌, ◌-◌, ◌*◌, Bool, true, false, not, ◌&&◌, ◌==◌, cond, List, [], ◌∷◌, ◌++◌, length, map, filter, get_or, refl, sym, ap, ◌∙◌, subst, subst₂, arith, append_assoc, append-nil, Option, Some, None, is_some, slice_index_or}
 use Rattle.std.proofs.lemmas.Bool.{and_right, cond-false, cond-true, or_right}
-use Rattle.tc_combiner.proofs.Vocabulary.{Acts, AreSameSeats, AreSeats, Asks, Block, Call, DidLeave, DidLeaveAll, Did_stop, Done, Ending, Ends, HallView, Hands, Has_ended, IsAtHall, IsEmptied, IsInOrder, IsPlain, IsSeatFor, IsSoundPackage, Knows, LeftAs, LeftInOrder, LockView, MAX_HELD, MayAct, MayEnd, MayGive, MayRelease, OneLeft, Pack, PackageView, PutAllBack, QueueView, SeatView, SeatsLeft, Terms, Turn, back, bare, dite, ends_thread, has, is_running, last_of, locked_in, locks, nat_tests, no_seat, packed, put_call, seat_at, threads, turn_of, unlocks, ℕ_discrete}
+use Rattle.tc_combiner.proofs.Vocabulary.{Acts, AreSameSeats, AreSeats, Asks, AtSeat, Block, Call, DidLeave, DidLeaveAll, Did_stop, Done, Ending, Ends, HallView, Hands, Has_ended, IsAtHall, IsEmptied, IsInOrder, IsPlain, IsSeatFor, IsSoundPackage, Knows, LeftAs, LeftInOrder, LockView, MAX_HELD, MayAct, MayEnd, MayGive, MayRelease, OneLeft, Pack, PackageView, PutAllBack, QueueView, SeatView, SeatsLeft, Terms, Turn, back, bare, dite, ends_thread, has, is_running, last_of, locked_in, locks, nat_tests, no_seat, packed, put_call, seat_at, threads, turn_of, unlocks, ℕ_discrete}
 use Rattle.std.proofs.lemmas.Bool.Decides.{eqb_tells}
 use Rattle.std.specs.List.{range_with_len}
 use Rattle.tc_isa.specs.Sets.{without_lock, locks_of}
@@ -10,10 +10,10 @@ use Rattle.std.proofs.lemmas.Nat.{pow_pos}
 use Rattle.std.proofs.lemmas.Nat.Bits.{bit_at-zero}
 use Rattle.std.specs.Prelude.{MatchOption}
 use Rattle.tc_turn.proofs.Few.{less_few}
-use Rattle.tc_combiner.proofs.Acting.{acted_none, acted_then, at_after, takes_none}
+use Rattle.tc_combiner.proofs.Acting.{acted_by, acted_then, acts_none, at_after, takes_none}
 use Rattle.tc_combiner.proofs.Answering.{back_answers, keeps_answers, then_answers, then_at, wider}
-use Rattle.tc_combiner.proofs.PassedOn.{left_after}
-use Rattle.tc_combiner.proofs.Packages.{not_some, ungranted_fits, ungranted_plain}
+use Rattle.tc_combiner.proofs.PassedOn.{few_left, few_more, left_after}
+use Rattle.tc_combiner.proofs.Packages.{not_some, plain_gives}
 use Rattle.tc_combiner.proofs.Owning.{place_here, place_other}
 use Rattle.tc_combiner.proofs.Seats.{map_at, seat_before}
 
@@ -97,7 +97,7 @@ left_was k b q p r i s z t y h g was is same numbers first last d = subst (λ (u
 pub leaves_first : (hall : HallView) (b : Block) (q : PackageView) (ss : List SeatView) (h : Hands) → MayAct hall (Pack q ∷ []) (length (locks_of b.held)) h → ((j : ℕ) → is_some (locked_in q j) ≡ has b.held j) → Ending hall.terms b q q b.held ss ss h h false
 leaves_first hall b q ss h m locks = record {
   calls = [];
-  acted = acted_none hall.terms (Pack q ∷ []) h;
+  acted = acted_by hall.terms [] (Pack q ∷ []) (Pack q ∷ []) h h (acts_none h.pass (Pack q ∷ [])) refl refl;
   aside = refl;
   room = m.room;
   same = refl;
@@ -114,37 +114,39 @@ leaves_first hall b q ss h m locks = record {
 }
 
 pub leaves_more : (k : Terms) (b : Block) (q p r : PackageView) (rest next i : ℕ) (ss ts us : List SeatView) (h g m : Hands) (was is : Bool) → Ending k b q p rest ss ts h g was → has rest i ≡ true → ((j : ℕ) → has rest j ≡ true → i ≤ j) → i < 32 → ((j : ℕ) → has next j ≡ (not (j == i) && has rest j))
-    → DidLeave k i b p r (seat_at ts i) (seat_at us i) g m was is → length us ≡ length ts → ((j : ℕ) → j ≢ i → seat_at us j ≡ seat_at ts j) → length m.ready.items ≤ length g.ready.items + 1 → Ending k b q r next ss us h m is
-leaves_more k b q p r rest next i ss ts us h g m was is y waits least small each d count others few = record {
-  calls = y.calls ++ d.calls;
-  acted = acted_then k y.calls d.calls (Pack q ∷ []) (Pack p ∷ []) (Pack r ∷ []) h g m y.acted d.acted;
-  aside = d.aside ∙ y.aside;
-  room = let less = less_few rest next i each waits small in let old = y.room in omega arith;
-  same = ap bare d.taken.is ∙ y.same;
-  granted = ap (λ (c : PackageView). c.granted) d.taken.is ∙ y.granted;
-  numbers = ap (λ (c : PackageView). c.numbers) d.taken.is ∙ y.numbers;
-  within = λ j f. y.within j (left_in rest next i j each f).1;
-  left = λ j f. let z = left_in rest next i j each f in place_other i None p r d.taken.locks j z.0 ∙ y.left j z.1;
-  gone = λ j f. dite (ℕ_discrete j i) (λ (s : j ≡ i). ap (locked_in r) s ∙ place_here i None p r d.taken.locks) (λ (ne : j ≢ i). place_other i None p r d.taken.locks j ne ∙ y.gone j (gone_in rest next i j each f ne));
-  count = count ∙ y.count;
-  others = λ j f. others j (λ e. let z : has b.held i ≡ true = y.within i waits in let w : has b.held i ≡ false = ap (has b.held) (sym e) ∙ f in let n : ⊥ = cc in n) ∙ y.others j f;
-  wait = λ j f. let z = left_in rest next i j each f in others j z.0 ∙ y.wait j z.1;
-  asks = λ j held f. dite (ℕ_discrete j i)
-      (λ (s : j ≡ i). subst (λ (n : ℕ). Asks (turn_of q n) (seat_at ss n) (seat_at us n)) (sym s) (subst₂ (λ (u : Turn) (a : SeatView). Asks u a (seat_at us i)) (same_turn p q i y.same y.numbers) (y.wait i waits) d.asks))
-      (λ (ne : j ≢ i). subst (λ (a : SeatView). Asks (turn_of q j) (seat_at ss j) a) (sym (others j ne)) (y.asks j held (gone_in rest next i j each f ne)));
-  order = λ vs es end agree l.
-      let here : seat_at vs i ≡ seat_at us i = agree i (each i ∙ but_lock (i == i) (has rest i) true (grind (arith, nat_tests))) in
-      let x : OneLeft k.image.value b q i (seat_at ss i) (seat_at vs i) was = record {
-        state = d.state;
-        here = sym (y.left i waits) ∙ d.taken.was;
-        calls = d.calls;
-        stopped = is;
-        became = left_was k b q p r i (seat_at ss i) (seat_at ts i) (seat_at us i) (seat_at vs i) g m was is y.same y.numbers (y.wait i waits) here d;
-      } in
-      let all : LeftInOrder k.image.value b q ss vs (locks_of rest) (d.calls ++ es) was end = subst (λ (n : List ℕ). LeftInOrder k.image.value b q ss vs n (d.calls ++ es) was end) (sym (locks_first rest next i each waits least small)) (x, es, refl, l) in
-      subst (λ (c : List Call). LeftInOrder k.image.value b q ss vs (locks_of b.held) c false end) (sym (append_assoc y.calls d.calls es))
-      (y.order vs (d.calls ++ es) end (λ j f. agree j (each j ∙ and_right (not (j == i)) (has rest j) f) ∙ others j (λ e. let z : has rest i ≡ false = ap (has rest) (sym e) ∙ f in let n : ⊥ = cc in n)) all);
-}
+    → AtSeat i ts us (λ s t. DidLeave k i b p r s t g m was is) → Ending k b q r next ss us h m is
+leaves_more k b q p r rest next i ss ts us h g m was is y waits least small each at =
+    let d = at.here in
+    let few = few_more d (few_left k.image.value d.state b (turn_of p i) (seat_at ts i) (seat_at us i) d.calls was is d.became) in record {
+      calls = y.calls ++ d.calls;
+      acted = acted_then k y.calls d.calls (Pack q ∷ []) (Pack p ∷ []) (Pack r ∷ []) h g m y.acted d.acted;
+      aside = d.aside ∙ y.aside;
+      room = let less = less_few rest next i each waits small in let old = y.room in omega arith;
+      same = ap bare d.taken.is ∙ y.same;
+      granted = ap (λ (c : PackageView). c.granted) d.taken.is ∙ y.granted;
+      numbers = ap (λ (c : PackageView). c.numbers) d.taken.is ∙ y.numbers;
+      within = λ j f. y.within j (left_in rest next i j each f).1;
+      left = λ j f. let z = left_in rest next i j each f in place_other i None p r d.taken.locks j z.0 ∙ y.left j z.1;
+      gone = λ j f. dite (ℕ_discrete j i) (λ (s : j ≡ i). ap (locked_in r) s ∙ place_here i None p r d.taken.locks) (λ (ne : j ≢ i). place_other i None p r d.taken.locks j ne ∙ y.gone j (gone_in rest next i j each f ne));
+      count = at.same.count ∙ y.count;
+      others = λ j f. at.others j (λ e. let z : has b.held i ≡ true = y.within i waits in let w : has b.held i ≡ false = ap (has b.held) (sym e) ∙ f in let n : ⊥ = cc in n) ∙ y.others j f;
+      wait = λ j f. let z = left_in rest next i j each f in at.others j z.0 ∙ y.wait j z.1;
+      asks = λ j held f. dite (ℕ_discrete j i)
+          (λ (s : j ≡ i). subst (λ (n : ℕ). Asks (turn_of q n) (seat_at ss n) (seat_at us n)) (sym s) (subst₂ (λ (u : Turn) (a : SeatView). Asks u a (seat_at us i)) (same_turn p q i y.same y.numbers) (y.wait i waits) d.asks))
+          (λ (ne : j ≢ i). subst (λ (a : SeatView). Asks (turn_of q j) (seat_at ss j) a) (sym (at.others j ne)) (y.asks j held (gone_in rest next i j each f ne)));
+      order = λ vs es end agree l.
+          let here : seat_at vs i ≡ seat_at us i = agree i (each i ∙ but_lock (i == i) (has rest i) true (grind (arith, nat_tests))) in
+          let x : OneLeft k.image.value b q i (seat_at ss i) (seat_at vs i) was = record {
+            state = d.state;
+            here = sym (y.left i waits) ∙ d.taken.was;
+            calls = d.calls;
+            stopped = is;
+            became = left_was k b q p r i (seat_at ss i) (seat_at ts i) (seat_at us i) (seat_at vs i) g m was is y.same y.numbers (y.wait i waits) here d;
+          } in
+          let all : LeftInOrder k.image.value b q ss vs (locks_of rest) (d.calls ++ es) was end = subst (λ (n : List ℕ). LeftInOrder k.image.value b q ss vs n (d.calls ++ es) was end) (sym (locks_first rest next i each waits least small)) (x, es, refl, l) in
+          subst (λ (c : List Call). LeftInOrder k.image.value b q ss vs (locks_of b.held) c false end) (sym (append_assoc y.calls d.calls es))
+          (y.order vs (d.calls ++ es) end (λ j f. agree j (each j ∙ and_right (not (j == i)) (has rest j) f) ∙ at.others j (λ e. let z : has rest i ≡ false = ap (has rest) (sym e) ∙ f in let n : ⊥ = cc in n)) all);
+    }
 
 pub left_all : (k : Terms) (b : Block) (q p : PackageView) (rest : ℕ) (ss ts : List SeatView) (h g : Hands) (now : Bool) → rest ≡ 0 → Ending k b q p rest ss ts h g now → DidLeaveAll k b q p ss ts h g now
 unfolding locks_of
@@ -203,15 +205,8 @@ module _ (hall : HallView) (b : Block) (q p : PackageView) (ss ts : List SeatVie
   pub at_end : (end : Bool) → DidLeaveAll hall.terms b q p ss ts h m end → IsAtHall hall (Pack p ∷ packed m.aside) m
   at_end end d = then_at hall d.calls q p h m hands.at d.acted d.aside
 
-  pub may_done : (end : Bool) → IsSoundPackage q → DidLeaveAll hall.terms b q p ss ts h m end → MayGive hall.terms m.pass.knows Done p
-  may_done end s d = record {
-    thread = (emptied_plain hall.terms h.pass.knows b q p may d.emptied).thread;
-    place = tt;
-    out = (at_end end d).out.1.0;
-    order = emptied_order hall.terms h.pass.knows b q p may s d.emptied;
-    plain = ungranted_plain p (d.emptied.granted ∙ may.granted);
-    fits = ungranted_fits p m.pass.knows.worker (d.emptied.granted ∙ may.granted);
-  }
+  pub may_done : (end : Bool) → IsSoundPackage q → DidLeaveAll hall.terms b q p ss ts h m end → MayGive hall m.pass Done p
+  may_done end s d = plain_gives hall Done p (packed m.aside) m.pass m.aside (at_end end d) (emptied_plain hall.terms h.pass.knows b q p may d.emptied) tt (emptied_order hall.terms h.pass.knows b q p may s d.emptied)
 
   pub ends_done : (g : Hands) → DidLeaveAll hall.terms b q p ss ts h m false → Acts (put_call p Done ∷ []) (Pack p ∷ []) [] m.pass g.pass → g.ready.items ≡ m.ready.items → g.aside ≡ m.aside → Ends hall.terms b q ss ts h g Has_ended
   ends_done g d a e f = record {

@@ -2,10 +2,10 @@
 use Rattle.std.proofs.Common.{◌≡◌, ◌<◌, ◌≤◌, ℕ, List, length, get_or, map, Vec, sym, ap, ◌∙◌, subst, subst₂, ◌∷◌, ◌++◌, arith, Option, Some}
 use Rattle.tc_combiner.proofs.Vocabulary.{AreSameSeats, AreSeats, BenchView, DeskView, Did_adopt, FitsBench, GoesOn, Hands, HasSeats, IsAside, IsAt, IsInHand, IsSamePass, IsSeatFor, IsSoundPackage, Item, Keeps, KeepsParts, Knows, MayAcquire, MayAsk, Owned, Pack, PackageView, PassView, QueueView, Rest, SeatView, Settled, Shown, WantIsLawful, carried, desk_of, get_or_default, length-map, locks, no_seat, packed, seat_at, threads, want_of}
 use Rattle.tc_combiner.proofs.Acting.{owned_by}
-use Rattle.tc_combiner.proofs.Unlocking.{without_first}
 use Rattle.tc_combiner.proofs.Packages.{wants_runs}
 use Rattle.std.specs.Vec.{with_items}
 use Rattle.tc_combiner.proofs.Seats.{written_back}
+use Rattle.tc_combiner.proofs.Owning.{without_first}
 
 -- the seats are still of their queues
 pub still_seats : (b : BenchView) (ss ts : List SeatView) → length ss ≡ locks b.hall.terms → AreSeats b.hall.terms b.queues ss → AreSameSeats ss ts → AreSeats b.hall.terms b.queues ts

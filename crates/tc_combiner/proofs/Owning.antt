@@ -1,6 +1,6 @@
 -- What is out, split among those who have it in hand.
 use Rattle.std.proofs.Common.{◌≡◌, ◌≢◌, ℕ, ◌==◌, Bool, true, false, if◌then◌else◌, List, [], ◌∷◌, ◌++◌, refl, sym, ap, ◌∙◌, subst, arith, Option, Some, None}
-use Rattle.tc_combiner.proofs.Vocabulary.{DidGrant, DidTakeOut, IsOut, IsPlaced, Item, Kind, Knows, LockView, Loose, Moves, Outs, Owns, Pack, PackageView, Within, bare, erase, keep, kept, locked_in, minus, nat_tests, outs, part, unless, with_turns}
+use Rattle.tc_combiner.proofs.Vocabulary.{DidGrant, DidTakeOut, IsOut, IsPlaced, Item, Kind, Knows, LockView, Loose, Moves, Outs, Owned, Owns, Pack, PackageView, Within, bare, erase, keep, kept, locked_in, minus, nat_tests, outs, part, unless, with_turns}
 
 module _ {A : Type 0} where
   -- a, or else d
@@ -186,7 +186,19 @@ takes_in v w l p q m h b zs o = goes_in w l p q h b zs (swap b (outs w) (Loose l
 pub granted_moves : (v : Knows) (l : LockView) (k : Kind) (n : ℕ) (p q : PackageView) → DidGrant l k n p q → locked_in p l.number ≡ None → Moves v v (Pack p ∷ Loose l ∷ []) (Pack q ∷ [])
 granted_moves v l k n p q d free = goes_in v l p q (granted_with l k n p q d free)
 
--- the last of these comes first
+-- one of these that stood last comes first, and one that stood first comes last
 pub rotate : (b o : Outs) (x : Item) (ys zs : List Item) → Owns b o (ys ++ (x ∷ zs)) → Owns b o (x ∷ (ys ++ zs))
 rotate b o x [] zs h = h
 rotate b o x (y ∷ ys) zs h = swap b o y x (ys ++ zs) (h.0, rotate b (erase o y) x ys zs h.1)
+
+pub unrotate : (b o : Outs) (x : Item) (ys zs : List Item) → Owns b o (x ∷ (ys ++ zs)) → Owns b o (ys ++ (x ∷ zs))
+unrotate b o x [] zs h = h
+unrotate b o x (y ∷ ys) zs h = let k = swap b o x y (ys ++ zs) h in (k.0, unrotate b (erase o y) x ys zs k.1)
+
+-- the first may count as what is out besides
+without : (b o : Outs) (x : Item) (xs : List Item) → Owns b o (x ∷ xs) → (c : Outs) × Owns c o xs
+without b o x [] h = (o, refl)
+without b o x (y ∷ ys) h = let k = swap b o x y ys h in let r = without b (erase o y) x ys k.1 in (r.0, (k.0, r.1))
+
+pub without_first : (w : Knows) (x : Item) (xs : List Item) → Owned w (x ∷ xs) → Owned w xs
+without_first w x xs o = without o.0 (outs w) x xs o.1

@@ -1,6 +1,6 @@
 -- Packages that were granted a lock, and packages that are put.
-use Rattle.std.proofs.Common.{◌≡◌, ◌≢◌, inl, inr, ⊎_elim, ℕ, ◌+◌, Bool, true, false, if◌then◌else◌, List, refl, sym, ap, ◌∙◌, subst, arith, Option, Some, None, IfSome, is_some}
-use Rattle.tc_combiner.proofs.Vocabulary.{Block, DidGrant, DidTake, Gets, Grant, HasNoOther, HasOnlyHeld, IsGood, IsGoodFor, IsInOrder, IsPlain, IsWaiter, IsWaiting, Kind, Knows, LockView, PackageView, Runs, Shown, Taken, Wants_lock, blocks_of, dite, ends_section, fits_granted, fits_in, fits_of, granted_lock, grants_adopted, has, is_running, last_of, locked_in, may_begin, next_lock, run_of, thread_in, ℕ_discrete}
+use Rattle.std.proofs.Common.{◌∷◌, ◌≡◌, ◌≢◌, inl, inr, ⊎_elim, ℕ, ◌+◌, Bool, true, false, if◌then◌else◌, List, refl, sym, ap, ◌∙◌, subst, arith, Option, Some, None, IfSome, is_some}
+use Rattle.tc_combiner.proofs.Vocabulary.{Block, DidGrant, DidTake, Gets, Grant, HallView, HasNoOther, HasOnlyHeld, IsAt, IsGood, IsGoodFor, IsInOrder, IsInRange, IsPlain, IsWaiter, IsWaiting, Item, Kind, Knows, LockView, MayGive, Pack, PackageView, PassView, Place, Runs, Shown, Taken, Wants_lock, blocks_of, code_of, dite, ends_section, fits_granted, fits_in, fits_of, granted_lock, grants_adopted, has, is_running, last_of, locks, may_begin, next_lock, run_of, thread_in, threads, ℕ_discrete}
 use Rattle.tc_journal.specs.Batch.{allows_of}
 use Rattle.tc_combiner.proofs.Owning.{place_here, place_other}
 
@@ -50,10 +50,6 @@ pub not_some : {A : Type 0} (o : Option A) → is_some o ≡ false → o ≡ Non
 not_some None e = refl
 not_some (Some a) e = let n : ⊥ = cc in absurd n
 
--- a package that wants a lock does not hold it, so it has no state of it
-pub not_held : (p : PackageView) (i : ℕ) → HasOnlyHeld p → has p.context.guest.held i ≡ false → locked_in p i ≡ None
-not_held p i h free = none_is (locked_in p i) (λ l e. let y = h i l e in let n : ⊥ = cc in n)
-
 pub waiter_good : (l : LockView) (k : Kind) (t n w : ℕ) (image : Shown) (p q : PackageView) → IsWaiter t l.number image p → DidGrant l k n p q → allows_of l.number l.journal.limit (blocks_of l) k w ≡ true → IsGood q image w
 waiter_good l k t n w image p q h d a = granted_good l k n w image p q d h.of h.waits.pending h.runs (only_held p h.locks h.waits.granted) a
 
@@ -76,5 +72,6 @@ plain_good n q v h r e = record { of = e; settled = h.settled; runs = r; locks =
 pub is_waiter : (t i : ℕ) (q : PackageView) (v w : Knows) → Gets (256 + i) t q v w → IsWaiting q i → IsWaiter t i v.image q
 is_waiter t i q v w g waits = record { thread = g.thread; of = g.of; waits = waits; runs = g.order.runs (λ e. let n : ⊥ = omega arith in n); locks = g.order.own }
 
-pub ungranted_plain : (q : PackageView) → q.granted ≡ None → grants_adopted q.granted ≡ false
-ungranted_plain q e = ap grants_adopted e
+-- a plain package that is out may be put where its order allows
+pub plain_gives : (hall : HallView) (to : Place) (q : PackageView) (xs : List Item) (p : PassView) (a : Option PackageView) → IsAt hall (Pack q ∷ xs) p a → IsPlain (threads hall.terms) q → IsInRange (locks hall.terms) to → IsInOrder (code_of to) q → MayGive hall p to q
+plain_gives hall to q xs p a at m place order = record { own = at.own; thread = m.thread; place = place; out = at.out.1.0; order = order; plain = ap grants_adopted m.granted; fits = ungranted_fits q p.knows.worker m.granted }

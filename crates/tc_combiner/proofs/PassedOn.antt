@@ -1,11 +1,11 @@
 -- What became of a released lock, from its parts.
 use Rattle.std.proofs.Common.{inr, ⊎_elim, length-append, ◌&&◌, ◌≡◌, ◌<◌, ◌≤◌, ◌+◌, ℕ, true, false, List, [], ◌∷◌, ◌++◌, length, refl, sym, ap, ◌∙◌, subst, Some, ◌≢◌, Bool, not, ◌==◌, if◌then◌else◌, arith, Option, None}
-use Rattle.tc_combiner.proofs.Vocabulary.{Acts, Adopted, All-cons, All-nil, Asks, Block, Call, DidGrant, DidHand, DidPass, DidTakeOut, End, FollowedAs, Free, GaveUp, Gone, Granted, HallView, HandedAs, Hands, IsAtRest, IsLeft, IsNumber, IsReleased, IsSoundPackage, IsTaken, IsTurn, IsWaiter, Item, Kind, Knows, LeftAs, LockView, Loose, MayAct, MayBringHome, MayGive, MayHandOn, MayPassTo, MayRelease, Moves, Next, Outs, Owned, Owns, Pack, PackageView, PassView, Passed, Ready, Releases, Rests, SeatView, Shown, Shows, Takes, Terms, Turn, Unlocked, Was_adopted, Was_stopped, adopts, and_parts, bare, blocks_of, ends_section, ends_thread, granted_lock, grants_adopted, handed, has, is_only, is_passed, last_of, locked_in, locks, may_adopt, nat_tests, outs, passes_to, put_call, ready_in, run_of, saw, threads, turn_of, unless, unlocks}
-use Rattle.tc_context.specs.View.{IsAt}
+use Rattle.tc_combiner.proofs.Vocabulary.{Acts, Adopted, All-cons, All-nil, Asks, Block, Call, DidGrant, DidHand, DidPass, DidTakeOut, End, FollowedAs, Free, GaveUp, Gone, Granted, HallView, HandedAs, Hands, IsAt, IsAtRest, IsLeft, IsNumber, IsReleased, IsSoundPackage, IsTaken, IsTurn, IsWaiter, Item, Kind, Knows, LeftAs, LockView, Loose, MayAct, MayBringHome, MayGive, MayHandOn, MayPassTo, MayRelease, Moves, Next, Outs, Owned, Owns, Pack, PackageView, PassView, Passed, Ready, Releases, Rests, SeatView, Shown, Shows, Takes, Terms, Turn, Unlocked, Was_adopted, Was_stopped, adopts, and_parts, bare, blocks_of, ends_section, ends_thread, granted_lock, grants_adopted, handed, has, is_only, is_passed, last_of, locked_in, locks, may_adopt, nat_tests, outs, passes_to, put_call, ready_in, run_of, saw, threads, turn_of, unless, unlocks}
+use Rattle.tc_context.specs.View.{IsAt as IsKeptAt}
 use Rattle.std.proofs.lemmas.Bool.{and_right}
 use Rattle.tc_nested.proofs.Allowing.{adopted, granted}
-use Rattle.tc_combiner.proofs.Acting.{acted_by, acted_then, acts_by, acts_still, acts_then, alone, may_still, owned_by}
-use Rattle.tc_combiner.proofs.Owning.{granted_moves, comes_out, taken_with, swap, rotate}
+use Rattle.tc_combiner.proofs.Acting.{acted_by, acted_then, acts_beside, acts_by, acts_still, acts_then, may_still, owned_by}
+use Rattle.tc_combiner.proofs.Owning.{comes_out, granted_moves, taken_with, without_first}
 use Rattle.tc_combiner.proofs.Packages.{waiter_good, good_order}
 
 -- ---- what the batch rule says
@@ -53,7 +53,7 @@ released_free q b i s e r = (left_after q.image q b s.left e).held i ∙ and_rig
 pub is_released : (k : Terms) (v w : Knows) (i : ℕ) (b : Block) (l : LockView) (q : PackageView) → IsSoundPackage q → MayRelease k v i b q → w.image ≡ v.image → w.worker ≡ v.worker → locked_in q i ≡ Some l → IsAtRest q.image i l → IsReleased k w b l
 is_released k v w i b l q s h image worker was rest =
     let stored = s.stored i l was in
-    let at = subst (λ (p : Option Block). IsAt p q i l) h.settled stored.at in
+    let at = subst (λ (p : Option Block). IsKeptAt p q i l) h.settled stored.at in
     let none : granted_lock q.granted ≢ Some i = (λ e. let f : granted_lock q.granted ≡ None = ap granted_lock h.granted in let z : ⊥ = cc in z) in
     record {
       lock = subst (λ (j : ℕ). j < locks k) (sym rest.number) h.lock;
@@ -67,13 +67,12 @@ pub still_rests : (image : Shown) (i : ℕ) (l : LockView) → IsAtRest image i 
 still_rests image i l h = subst (λ (k : ℕ). Rests k l) (sym h.number) h.ended
 
 -- the lock came out of its package, beside what was called
-pub came_out : (es : List Call) (i : ℕ) (l : LockView) (q p : PackageView) (v w : PassView) → DidTakeOut i l q p → Acts es [] [] v w → Acts es (Pack q ∷ []) (Loose l ∷ Pack p ∷ []) v w
-came_out es i l q p v w d a = record { own = a.own; adds = a.adds; moves = λ b zs o. a.moves b (Loose l ∷ Pack p ∷ zs) (swap b (outs v.knows) (Pack p) (Loose l) zs (comes_out v.knows l q p (taken_with i l q p d) b zs o)) }
+pub came_out : (es : List Call) (i : ℕ) (l : LockView) (q p : PackageView) (v w : PassView) → DidTakeOut i l q p → Acts es [] [] v w → Acts es (Pack q ∷ []) (Pack p ∷ Loose l ∷ []) v w
+came_out es i l q p v w d a = record { own = a.own; adds = a.adds; moves = λ b zs o. a.moves b (Pack p ∷ Loose l ∷ zs) (comes_out v.knows l q p (taken_with i l q p d) b zs o) }
 
 -- and then went on
 out_then : (es ds : List Call) (i : ℕ) (l : LockView) (q p : PackageView) (ys : List Item) (v w x : PassView) → DidTakeOut i l q p → Acts es [] [] v w → Acts ds (Loose l ∷ []) ys w x → Acts (es ++ ds) (Pack q ∷ []) (Pack p ∷ ys) v x
-out_then es ds i l q p ys v w x d a b = acts_then es ds (Pack q ∷ []) (Loose l ∷ Pack p ∷ []) (Pack p ∷ ys) v w x (came_out es i l q p v w d a)
-    (record { own = b.own; adds = b.adds; moves = λ c us o. rotate c (outs x.knows) (Pack p) ys us (b.moves c (Pack p ∷ us) o) })
+out_then es ds i l q p ys v w x d a b = acts_then es ds (Pack q ∷ []) (Pack p ∷ Loose l ∷ []) (Pack p ∷ ys) v w x (came_out es i l q p v w d a) (acts_beside ds (Pack p) (Loose l ∷ []) ys w x b)
 
 -- ---- one thread at most was put as ready
 
@@ -111,10 +110,11 @@ is_adopted k b l u w q h i r d a = record {
 known_waiter : (k : Terms) (l : LockView) (u : Turn) (w q : PackageView) → IsWaiter u.thread l.number k.image.value w → IsTurn (threads k) u → DidGrant l Granted u.number w q → q.context.thread < threads k
 known_waiter k l u w q i t d = subst (λ (n : ℕ). n < threads k) (sym (ap (λ (c : PackageView). c.context.thread) d.is ∙ i.thread)) t.thread
 
-pub may_put : (hall : HallView) (b : Block) (l : LockView) (u : Turn) (w q : PackageView) (h : Hands) → MayHandOn hall l b u (Pack w ∷ Loose l ∷ []) h → IsWaiter u.thread l.number hall.terms.image.value w → DidGrant l Granted u.number w q → adopts l b ≡ false → MayGive hall.terms h.pass.knows Ready q
+pub may_put : (hall : HallView) (b : Block) (l : LockView) (u : Turn) (w q : PackageView) (h : Hands) → MayHandOn hall l b u (Pack w ∷ Loose l ∷ []) h → IsWaiter u.thread l.number hall.terms.image.value w → DidGrant l Granted u.number w q → adopts l b ≡ false → MayGive hall h.pass Ready q
 may_put hall b l u w q h m i d a =
     let r = m.released in
     let g = waiter_good l Granted u.thread u.number h.pass.knows.worker hall.terms.image.value w q i d (granted l.number l.journal.limit (blocks_of l) b h.pass.knows.worker r.last r.released a) in record {
+      own = m.hands.at.own;
       thread = known_waiter hall.terms l u w q i m.turn d;
       place = tt;
       out = (owned_by h.pass.knows h.pass.knows (Pack w ∷ Loose l ∷ []) (Pack q ∷ []) (granted_moves h.pass.knows l Granted u.number w q d i.waits.absent) m.hands.at.out).1.0;
@@ -158,8 +158,8 @@ hand_sooner k l b u xs ys h m g r a e s d = record {
 }
 
 -- the lock goes home, where it is still out
-pub may_free : (k : Terms) (ds : List Call) (l : LockView) (p q : PassView) → l.number < locks k → Rests l.number l → Owned p.knows (Loose l ∷ []) → Acts ds [] [] p q → MayBringHome k q.knows l
-may_free k ds l p q small rests o a = record { lock = small; out = (a.moves o.0 (Loose l ∷ []) o.1).0; rests = rests }
+pub may_free : (hall : HallView) (ds : List Call) (l : LockView) (p q : PassView) (b : Option PackageView) → l.number < locks hall.terms → Rests l.number l → IsAt hall (Loose l ∷ []) p b → Acts ds [] [] p q → MayBringHome hall q l
+may_free hall ds l p q b small rests at a = record { own = a.own.0 ∙ at.own; lock = small; out = (a.moves at.out.0 (Loose l ∷ []) at.out.1).0; rests = rests }
 
 pub is_stopped : (k : Terms) (l : LockView) (b : Block) (u : Turn) (h g : Hands) (m : PassView) → Acts saw [] [] h.pass m → Acts (Free l.number ∷ []) (Loose l ∷ []) [] m g.pass → g.ready.items ≡ h.ready.items → g.aside ≡ h.aside → DidHand k l b u (Loose l ∷ []) h g Was_stopped
 is_stopped k l b u h g m a f e s = record {
@@ -173,8 +173,8 @@ is_stopped k l b u h g m a f e s = record {
 
 pub may_lock : (hall : HallView) (n i : ℕ) (l : LockView) (q p : PackageView) (h m : Hands) → DidTakeOut i l q p → Acts [] [] [] h.pass m.pass → m.ready.items ≡ h.ready.items → m.aside ≡ h.aside → MayAct hall (Pack q ∷ []) n h → MayAct hall (Loose l ∷ []) n m
 may_lock hall n i l q p h m d a e s y =
-    let z = may_still hall [] (Pack q ∷ []) (Loose l ∷ Pack p ∷ []) n h m y (came_out [] i l q p h.pass m.pass d a) e s in
-    record { at = alone hall (Loose l) (Pack p ∷ []) m.pass m.aside z.at; room = z.room }
+    let z = may_still hall [] (Pack q ∷ []) (Pack p ∷ Loose l ∷ []) n h m y (came_out [] i l q p h.pass m.pass d a) e s in
+    record { at = record { own = z.at.own; image = z.at.image; out = without_first m.pass.knows (Pack p) (Loose l ∷ []) z.at.out; aside = z.at.aside }; room = z.room }
 
 pub followed : (image : Shown) (l : LockView) (b : Block) (own u : Turn) (s t : SeatView) (cs : List Call) (r : Passed) → Shows s.calls t.calls (Next own (Some u)) → HandedAs image l b u cs r → FollowedAs image l b own s t cs r
 followed image l b own u s t cs Gone k h = inr (u, k, h)
@@ -206,19 +206,18 @@ frees k es i l own q p s t h g m How d same asks a f e n none how = record {
   became = subst (λ (u : Turn). How u l (es ++ Free l.number ∷ [])) same how;
 }
 
-pub is_taken : (k : Terms) (i : ℕ) (l : LockView) (p q : PassView) → i < locks k → Takes i l p.knows q.knows → IsTaken k i q.knows l
-is_taken k i l p q small t =
+pub is_taken : (hall : HallView) (i : ℕ) (l : LockView) (p q : PassView) → q.table ≡ hall.table → i < locks hall.terms → Takes i l p.knows q.knows → IsTaken hall i q l
+is_taken hall i l p q own small t =
     let rest : IsAtRest q.knows.image i l = subst (λ (x : Shown). IsAtRest x i l) (sym t.called.image) t.rest in
-    (rest, record { lock = subst (λ (n : ℕ). n < locks k) (sym rest.number) small; out = t.came.out; rests = still_rests q.knows.image i l rest })
+    (rest, record { own = own; lock = subst (λ (n : ℕ). n < locks hall.terms) (sym rest.number) small; out = t.came.out; rests = still_rests q.knows.image i l rest })
 
-pub taken_free : (k : Terms) (ds : List Call) (i : ℕ) (l : LockView) (q p : PackageView) (v w : PassView) → DidTakeOut i l q p → i < locks k → Owned v.knows (Pack q ∷ []) → Acts ds [] [] v w → MayBringHome k w.knows l
-taken_free k ds i l q p v w d small o a = record {
-  lock = subst (λ (n : ℕ). n < locks k) (sym d.rest.number) small;
-  out = (owned_by v.knows w.knows (Pack q ∷ []) (Loose l ∷ Pack p ∷ []) (came_out ds i l q p v w d a).moves o).1.0;
+pub taken_free : (hall : HallView) (ds : List Call) (i : ℕ) (l : LockView) (q p : PackageView) (v w : PassView) (a : Option PackageView) → DidTakeOut i l q p → i < locks hall.terms → IsAt hall (Pack q ∷ []) v a → Acts ds [] [] v w → MayBringHome hall w l
+taken_free hall ds i l q p v w a d small at b = record {
+  own = b.own.0 ∙ at.own;
+  lock = subst (λ (n : ℕ). n < locks hall.terms) (sym d.rest.number) small;
+  out = (without_first w.knows (Pack p) (Loose l ∷ []) (owned_by v.knows w.knows (Pack q ∷ []) (Pack p ∷ Loose l ∷ []) (came_out ds i l q p v w d b).moves at.out)).1.0;
   rests = still_rests q.image i l d.rest;
 }
-
--- ---- of a thread that has ended
 
 no_unlock : (i : ℕ) (e : End) → ends_thread e ≡ true → unlocks i e ≡ false
 no_unlock i (Unlocked k) h = let n : ⊥ = cc in absurd n

@@ -24,12 +24,6 @@ module _ {S : Type 0} where
   pub seats_count : (seen : S → SeatView) (ss : List S) (i : ℕ) (t : S) → length (map seen (set ss i t)) ≡ length (map seen ss)
   seats_count seen ss i t = ap length (map-set seen ss i t) ∙ length-set (map seen ss) i (seen t)
 
-module _ {S X : Type 0} where
-  -- the seat and the queue at one place
-  pub at_one : (seen : S → SeatView) (queue : X → QueueView) (k : Terms) (qs : List X) (ss : List S) (i : ℕ) (x : X) (s : S) → AreSeats k (map queue qs) (map seen ss) → i < locks k → IsSeatFor (threads k) (queue (get_or qs i x)) (seen (get_or ss i s))
-  at_one seen queue k qs ss i x s of low = subst₂ (λ (a : QueueView) (b : SeatView). IsSeatFor (threads k) a b) (map_at queue qs i x) (map_at seen ss i s) (of i (queue x) (seen s) low)
-
-module _ {S : Type 0} where
   -- a seat of the same queue stands where it stood
   pub seats_set : (seen : S → SeatView) (ss : List S) (i : ℕ) (s t : S) → i < length ss → s ≡ get_or ss i s → IsSameSeat (seen (get_or ss i s)) (seen t) → AreSameSeats (map seen ss) (map seen (set ss i t))
   seats_set seen ss i s t deep is same = record {
@@ -40,12 +34,6 @@ module _ {S : Type 0} where
         (λ (ne : j ≢ i). let e = other_seats seen ss i j t no_seat ne in (ap (λ (x : SeatView). x.table) e, ap (λ (x : SeatView). x.threads) e));
   }
 
-module _ {S Z : Type 0} where
-  -- the seats as they were written back
-  pub written_back : (seen : S → SeatView) (v : Vec S Z) (xs ts : List S) → xs ≡ v.items → AreSameSeats (map seen xs) (map seen ts) → (with_items v ts).items ≡ ts
-  written_back seen v xs ts e same = with_items_is v ts (sym (length-map ts seen) ∙ (same.count ∙ (length-map xs seen ∙ (ap length e ∙ sym v.ok.0))))
-
-module _ {S : Type 0} where
   -- what was done at one seat
   pub at_seat : (seen : S → SeatView) (P : SeatView → SeatView → Type 0) (ss : List S) (i : ℕ) (s t : S) → i < length ss → s ≡ get_or ss i s → IsSameSeat (seen (get_or ss i s)) (seen t) → P (seen (get_or ss i s)) (seen t) → AtSeat i (map seen ss) (map seen (set ss i t)) P
   at_seat seen P ss i s t deep is same h =
@@ -55,3 +43,13 @@ module _ {S : Type 0} where
         others = λ j ne. other_seats seen ss i j t no_seat ne;
         here = subst₂ P (sym before) (sym after) h;
       }
+
+module _ {S X : Type 0} where
+  -- the seat and the queue at one place
+  pub at_one : (seen : S → SeatView) (queue : X → QueueView) (k : Terms) (qs : List X) (ss : List S) (i : ℕ) (x : X) (s : S) → AreSeats k (map queue qs) (map seen ss) → i < locks k → IsSeatFor (threads k) (queue (get_or qs i x)) (seen (get_or ss i s))
+  at_one seen queue k qs ss i x s of low = subst₂ (λ (a : QueueView) (b : SeatView). IsSeatFor (threads k) a b) (map_at queue qs i x) (map_at seen ss i s) (of i (queue x) (seen s) low)
+
+module _ {S Z : Type 0} where
+  -- the seats as they were written back
+  pub written_back : (seen : S → SeatView) (v : Vec S Z) (xs ts : List S) → xs ≡ v.items → AreSameSeats (map seen xs) (map seen ts) → (with_items v ts).items ≡ ts
+  written_back seen v xs ts e same = with_items_is v ts (sym (length-map ts seen) ∙ (same.count ∙ (length-map xs seen ∙ (ap length e ∙ sym v.ok.0))))

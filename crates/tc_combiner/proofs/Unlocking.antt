@@ -1,16 +1,16 @@
 -- What an unlock comes to, from its parts.
 use Rattle.std.proofs.Common.{not, ◌≡◌, ◌≢◌, ◌<◌, ◌≤◌, ◌+◌, inl, inr, ℕ, true, false, ◌&&◌, ◌==◌, List, [], ◌∷◌, ◌++◌, length, refl, sym, ap, ◌∙◌, subst, subst₂, arith, Option, Some, None, is_some}
-use Rattle.tc_combiner.proofs.Vocabulary.{Acted, Acts, All-cons, All-nil, Block, Call, DidPass, DidTakeOut, Did_adopt, Did_stop, Goes, GoesOn, Gone, HallView, Hands, HasHeldAnd, HasNone, HasOnlyHeld, HoldsNone, IsAside, IsAtHall, IsGood, IsOut, IsPlain, IsSoundPackage, Item, Knows, LockView, MAX_HELD, MayAct, MayGive, MayGoOn, MayRelease, MayUnlock, Moves, Outs, Owned, Owns, Pack, PackageView, Passed, PassedAs, PutAllBack, PutsAside, Ready, Runs, SeatView, SetAside, Settled, Shown, TakesDown, Terms, UnlockedAs, Unlocks, Was_adopted, Was_stopped, WentOn, adopts, and_parts, back, dite, ends_section, erase, handed, has, is_only, is_running, last_of, locked_in, may_adopt, nat_tests, outs, packed, put_call, threads, turn_of, unlocks, without_lock, ℕ_discrete}
+use Rattle.tc_combiner.proofs.Vocabulary.{Acted, Acts, All-cons, All-nil, Block, Call, DidPass, DidTakeOut, Did_adopt, Did_stop, Goes, GoesOn, Gone, HallView, Hands, HasHeldAnd, HasNone, HasOnlyHeld, HoldsNone, IsAside, IsAt, IsAtHall, IsGood, IsPlain, IsSoundPackage, Item, Knows, LockView, MAX_HELD, MayAct, MayGive, MayGoOn, MayRelease, MayUnlock, Owned, Pack, PackageView, PassView, Passed, PassedAs, PutAllBack, PutsAside, Ready, Runs, SeatView, SetAside, Settled, Shown, TakesDown, Terms, UnlockedAs, Unlocks, Was_adopted, Was_stopped, WentOn, adopts, and_parts, back, dite, ends_section, handed, has, is_only, is_running, last_of, locked_in, may_adopt, nat_tests, outs, packed, put_call, threads, turn_of, unlocks, without_lock, ℕ_discrete}
 use Rattle.std.proofs.lemmas.Bool.{and_left, and_right}
 use Rattle.std.proofs.lemmas.Nat.Bits.{bit_at-zero, bit_at_or, bit_at-pow_other}
 use Rattle.std.specs.Int.{bit_at}
 use Rattle.std.specs.Prelude.{◌^◌, bit_or}
 use Rattle.tc_isa.specs.Sets.{with_lock}
-use Rattle.tc_combiner.proofs.Acting.{adds_then, takes_none, takes_then}
+use Rattle.tc_combiner.proofs.Acting.{acts_beside, acts_then, at_after, takes_none, takes_then}
 use Rattle.tc_combiner.proofs.Answering.{back_answers, keeps_answers, then_answers, then_at, wider}
-use Rattle.tc_combiner.proofs.Packages.{good_order, no_other, not_held, ungranted_fits, ungranted_plain}
+use Rattle.tc_combiner.proofs.Packages.{good_order, no_other, none_is, plain_gives, ungranted_fits}
 use Rattle.tc_combiner.proofs.PassedOn.{few_followed, few_more, left_after}
-use Rattle.tc_combiner.proofs.Owning.{place_here, place_other, rotate, swap}
+use Rattle.tc_combiner.proofs.Owning.{place_here, place_other, swap, without_first}
 
 left_only_held : (i : ℕ) (l : LockView) (q p : PackageView) → DidTakeOut i l q p → HasHeldAnd i q → HasOnlyHeld p
 left_only_held i l q p d h j m e = dite (ℕ_discrete j i)
@@ -47,7 +47,7 @@ alone_holds q b i run limit s e r a j =
     (λ (ne : j ≢ i). held ∙ and_left (has b.held j) _ (ap (λ (h : ℕ). has h j) (adopts_only b i run limit a) ∙ with_other i j ne))
 
 none_in : (p : PackageView) → HasOnlyHeld p → HoldsNone p → HasNone p
-none_in p h n j = not_held p j h (n j)
+none_in p h n j = none_is (locked_in p j) (λ l e. let y = h j l e in let z = n j in let n : ⊥ = cc in n)
 
 -- the package without the lock may go on, and be set aside where a waiter was adopted behind it
 pub may_go_on : (v : Knows) (k : Terms) (i : ℕ) (b : Block) (l : LockView) (q p : PackageView) → MayUnlock k v i b q → v.image ≡ k.image.value → DidTakeOut i l q p → MayGoOn k p
@@ -67,35 +67,6 @@ may_aside v k i b l q p sound m image d a =
       free = none_in p g.plain.locks (λ j. ap (λ (c : PackageView). has c.context.guest.held j) d.is ∙ holds j);
     }
 
--- the first of these comes last
-unrotate : (b o : Outs) (x : Item) (ys zs : List Item) → Owns b o (x ∷ (ys ++ zs)) → Owns b o (ys ++ (x ∷ zs))
-unrotate b o x [] zs h = h
-unrotate b o x (y ∷ ys) zs h = let k = swap b o x y (ys ++ zs) h in (k.0, unrotate b (erase o y) x ys zs k.1)
-
--- the waiter is kept in hand while the package is set aside
-pub adopts_waiter : (v w x : Knows) (q p r : Item) (os cs : List Item) → Moves v w (q ∷ []) (p ∷ r ∷ []) → Moves w x (p ∷ os) cs → Moves v x (q ∷ os) (r ∷ cs)
-adopts_waiter v w x q p r os cs m n b zs o =
-    let one : Owns b (outs w) (p ∷ r ∷ (os ++ zs)) = m b (os ++ zs) o in
-    rotate b (outs x) r cs zs (n b (r ∷ zs) (one.0, unrotate b (erase (outs w) p) r os zs one.1))
-
--- the last of these may count as what is out besides
-beneath : (b o : Outs) (r : Item) (xs : List Item) → Owns b o (xs ++ (r ∷ [])) → (c : Outs) × Owns c o xs
-beneath b o r [] h = (o, refl)
-beneath b o r (x ∷ xs) h = let k = beneath b (erase o x) r xs h.1 in (k.0, (h.0, k.1))
-
-add_nil : (b o : Outs) (xs : List Item) → Owns b o xs → Owns b o (xs ++ [])
-add_nil b o [] h = h
-add_nil b o (x ∷ xs) h = (h.0, add_nil b (erase o x) xs h.1)
-
-pub without_first : (w : Knows) (x : Item) (xs : List Item) → Owned w (x ∷ xs) → Owned w xs
-without_first w x xs o = beneath o.0 (outs w) x xs (unrotate o.0 (outs w) x xs [] (o.1.0, add_nil o.0 (erase (outs w) x) xs o.1.1))
-
-pub adopts_owned : (v w : Knows) (q p r : Item) (os : List Item) → Moves v w (q ∷ []) (p ∷ r ∷ []) → Owned v (q ∷ os) → Owned w (p ∷ os)
-adopts_owned v w q p r os m o =
-    let one : Owns o.0 (outs w) (p ∷ r ∷ (os ++ [])) = m o.0 (os ++ []) (add_nil o.0 (outs v) (q ∷ os) o.1) in
-    let two = beneath o.0 (erase (outs w) p) r os (unrotate o.0 (erase (outs w) p) r os [] one.1) in
-    (two.0, (one.0, two.1))
-
 -- ---- what an unlock comes to
 
 went_unlocks : (image : Shown) (worker i : ℕ) (q : PackageView) (b : Block) (s t : SeatView) (a c : Option PackageView) (ds es : List Call) (r : Settled) → PassedAs image i q b s t ds Gone → WentOn image worker (without_lock i q) a c es r → UnlockedAs image worker i q b s t a c (ds ++ es) r
@@ -112,16 +83,15 @@ module _ (hall : HallView) (i : ℕ) (b : Block) (q p : PackageView) (s t : Seat
   pub may_then : (r : Passed) → handed r ≡ [] → DidPass hall.terms i b q p s t h m r → MayAct hall (Pack p ∷ packed m.aside) 1 m
   may_then r e d = record { at = at_then r e d; room = room_after r d }
 
+  -- the waiter that is adopted comes first, before the package that is set aside
+  adopts_beside : (x : PackageView) (d : DidPass hall.terms i b q p s t h m (Was_adopted x)) → Acts d.calls (Pack q ∷ packed h.aside) (Pack x ∷ Pack p ∷ packed h.aside) h.pass m.pass
+  adopts_beside x d = record { own = d.acted.acts.own; adds = d.acted.acts.adds; moves = λ c zs o. swap c (outs m.pass.knows) (Pack p) (Pack x) (packed h.aside ++ zs) (d.acted.acts.moves c (packed h.aside ++ zs) o) }
+
   pub may_adopted : (x : PackageView) → DidPass hall.terms i b q p s t h m (Was_adopted x) → MayAct hall (Pack p ∷ packed m.aside) 1 m
-  may_adopted x d = record {
-    at = record {
-      own = d.acted.acts.own.0 ∙ hands.at.own;
-      image = d.acted.acts.adds.told.image ∙ hands.at.image;
-      out = subst (λ (o : Option PackageView). Owned m.pass.knows (Pack p ∷ packed o)) (sym d.aside) (adopts_owned h.pass.knows m.pass.knows (Pack q) (Pack p) (Pack x) (packed h.aside) d.acted.acts.moves hands.at.out);
-      aside = λ a e. hands.at.aside a (sym d.aside ∙ e);
-    };
-    room = room_after (Was_adopted x) d;
-  }
+  may_adopted x d =
+      let y = at_after hall d.calls (Pack q ∷ packed h.aside) (Pack x ∷ Pack p ∷ packed h.aside) h.pass m.pass h.aside m.aside hands.at (adopts_beside x d) d.aside in
+      let out : Owned m.pass.knows (Pack p ∷ packed m.aside) = subst (λ (o : Option PackageView). Owned m.pass.knows (Pack p ∷ packed o)) (sym d.aside) (without_first m.pass.knows (Pack x) (Pack p ∷ packed h.aside) y.out) in
+      record { at = record { own = y.own; image = y.image; out = out; aside = y.aside }; room = room_after (Was_adopted x) d }
 
   -- the lock went home or was granted, and the package goes on
   pub goes : (g : Hands) (r : Settled) → DidPass hall.terms i b q p s t h m Gone → Goes hall.terms p m g r → Unlocks hall.terms i b q s t h g r
@@ -140,11 +110,7 @@ module _ (hall : HallView) (i : ℕ) (b : Block) (q p : PackageView) (s t : Seat
       let good : IsGood x hall.terms.image.value h.pass.knows.worker = subst (λ (n : ℕ). IsGood x hall.terms.image.value n) same d.became.2.2 in record {
         calls = d.calls ++ f.calls;
         answers = record {
-          acts = record {
-            own = (c.own.0 ∙ d.acted.acts.own.0, c.own.1 ∙ d.acted.acts.own.1);
-            adds = adds_then d.calls f.calls h.pass.knows m.pass.knows g.pass.knows d.acted.acts.adds c.adds;
-            moves = adopts_waiter h.pass.knows m.pass.knows g.pass.knows (Pack q) (Pack p) (Pack x) (packed h.aside) (packed g.aside) d.acted.acts.moves c.moves;
-          };
+          acts = acts_then d.calls f.calls (Pack q ∷ packed h.aside) (Pack x ∷ Pack p ∷ packed h.aside) (Pack x ∷ packed g.aside) h.pass m.pass g.pass (adopts_beside x d) (acts_beside f.calls (Pack x) (Pack p ∷ packed h.aside) (packed g.aside) m.pass g.pass c);
           readied = takes_then (threads hall.terms) h.ready.items m.ready.items g.ready.items d.calls f.calls d.acted.readied f.acted.readied;
           aside = f.aside;
         };
@@ -164,15 +130,8 @@ module _ (hall : HallView) (i : ℕ) (b : Block) (q p : PackageView) (s t : Seat
 pub going_good : (k : Terms) (w : ℕ) (q : PackageView) → MayGoOn k q → IsGood q k.image.value w
 going_good k w q m = record { of = m.of; settled = m.plain.settled; runs = m.runs; locks = no_other q m.plain.locks; fits = ungranted_fits q w m.plain.granted }
 
-pub may_ready : (k : Terms) (v : Knows) (q : PackageView) → MayGoOn k q → IsOut (outs v) (Pack q) → MayGive k v Ready q
-may_ready k v q m out = record {
-  thread = m.plain.thread;
-  place = tt;
-  out = out;
-  order = good_order q k.image.value v.worker (going_good k v.worker q m);
-  plain = ungranted_plain q m.plain.granted;
-  fits = ungranted_fits q v.worker m.plain.granted;
-}
+pub may_ready : (hall : HallView) (q : PackageView) (xs : List Item) (p : PassView) (a : Option PackageView) → IsAt hall (Pack q ∷ xs) p a → MayGoOn hall.terms q → MayGive hall p Ready q
+may_ready hall q xs p a at m = plain_gives hall Ready q xs p a at m.plain tt (good_order q hall.terms.image.value p.knows.worker (going_good hall.terms p.knows.worker q m))
 
 module _ (hall : HallView) (q : PackageView) (h g : Hands) (hands : MayAct hall (Pack q ∷ packed h.aside) 1 h) where
   pub goes_same : MayGoOn hall.terms q → Acts [] (Pack q ∷ packed h.aside) (Pack q ∷ packed h.aside) h.pass g.pass → g.ready.items ≡ h.ready.items → g.aside ≡ h.aside → (HoldsNone q → h.aside ≡ None) → Goes hall.terms q h g (GoesOn q)

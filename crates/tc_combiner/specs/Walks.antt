@@ -125,24 +125,25 @@ came_of (Came a) = Some a
 came_of r = None
 
 -- one try: it came, with these items, and nothing was looked at; or so many steps were refused, and then STOP was looked at once
-abbrev pub TriedAs : {A : Type 0} → ℕ → (A → List Item) → (Knows → A → Type 0) → PassView → PassView → Attempt A → Type 0
-TriedAs n items is p q (Came a) = Acts [] [] (items a) p q × Tried 0 0 p.knows q.knows × is q.knows a
+abbrev pub TriedAs : {A : Type 0} → ℕ → (A → List Item) → (PassView → A → Type 0) → PassView → PassView → Attempt A → Type 0
+TriedAs n items is p q (Came a) = Acts [] [] (items a) p q × Tried 0 0 p.knows q.knows × is q a
 TriedAs n items is p q Refused = Acts [] [] [] p q × Tried n 1 p.knows q.knows
 TriedAs n items is p q Try_stopped = Acts saw [] [] p q × Tried n 1 p.knows q.knows
 
--- the lock may go home
-pub record MayBringHome (k : Terms) (v : Knows) (l : LockView) : Type 0 where
-  pub lock : l.number < locks k
-  pub out : IsOut (outs v) (Loose l)
+-- the lock may go home in the pass, one of this hall
+pub record MayBringHome (hall : HallView) (p : PassView) (l : LockView) : Type 0 where
+  pub own : p.table ≡ hall.table
+  pub lock : l.number < locks hall.terms
+  pub out : IsOut (outs p.knows) (Loose l)
   pub rests : Rests l.number l
 
 -- a lock that was taken from its home: it is as it was left there, and may go home
-abbrev pub IsTaken : Terms → ℕ → Knows → LockView → Type 0
-IsTaken k i v l = IsAtRest v.image i l × MayBringHome k v l
+abbrev pub IsTaken : HallView → ℕ → PassView → LockView → Type 0
+IsTaken hall i p l = IsAtRest p.knows.image i l × MayBringHome hall p l
 
 -- tries until it came, with these items, or until the run was stopped
-abbrev pub WaitedAs : {A : Type 0} → (A → List Item) → (Knows → A → Type 0) → PassView → PassView → Option A → Type 0
-WaitedAs items is p q (Some a) = Acts [] [] (items a) p q × LooksEachTime p.knows q.knows × is q.knows a
+abbrev pub WaitedAs : {A : Type 0} → (A → List Item) → (PassView → A → Type 0) → PassView → PassView → Option A → Type 0
+WaitedAs items is p q (Some a) = Acts [] [] (items a) p q × LooksEachTime p.knows q.knows × is q a
 WaitedAs items is p q None = Acts saw [] [] p q × LooksEachTime p.knows q.knows
 
 -- tries so far, none of which came
@@ -157,14 +158,15 @@ LooksAfterFirst s t v w = (n m : ℕ) × Asked n s t × Tried 0 m v w × (m ≤ 
 abbrev pub LooksBetween : SeatView → SeatView → Knows → Knows → Type 0
 LooksBetween s t v w = (m : ℕ) × Asked (m + 1) s t × Tried 0 m v w
 
--- the package may be put at the place
-pub record MayGive (k : Terms) (v : Knows) (to : Place) (q : PackageView) : Type 0 where
-  pub thread : q.context.thread < threads k
-  pub place : IsInRange (locks k) to
-  pub out : IsOut (outs v) (Pack q)
+-- the package may be put at the place in the pass, one of this hall
+pub record MayGive (hall : HallView) (p : PassView) (to : Place) (q : PackageView) : Type 0 where
+  pub own : p.table ≡ hall.table
+  pub thread : q.context.thread < threads hall.terms
+  pub place : IsInRange (locks hall.terms) to
+  pub out : IsOut (outs p.knows) (Pack q)
   pub order : IsInOrder (code_of to) q
   pub plain : grants_adopted q.granted ≡ false
-  pub fits : fits_of q v.worker ≡ true
+  pub fits : fits_of q p.knows.worker ≡ true
 
 -- a pass of this hall has these items out, and a may be set aside there
 pub record IsAt (hall : HallView) (xs : List Item) (p : PassView) (a : Option PackageView) : Type 0 where

@@ -14,16 +14,14 @@ use tc_hall::place::Place;
 use tc_segment::state::LockState;
 
 pub(crate) fn put(hall: &Hall, pass: &mut Pass, package: Package, place: Place)
-    requires own { pass.old.table ≡ hall.now.table }
-    requires may { MayGive hall.now.terms pass.old.knows place «package» }
+    requires { MayGive hall.now pass.old place «package» }
     ensures { Acts (put_call «package» place ∷ []) (Pack «package» ∷ []) [] pass.old pass.new }
 {
     hall.put(pass, package, place);
 }
 
 pub(crate) fn free(hall: &Hall, pass: &mut Pass, lock: LockState)
-    requires own { pass.old.table ≡ hall.now.table }
-    requires may { MayBringHome hall.now.terms pass.old.knows lock }
+    requires { MayBringHome hall.now pass.old lock }
     ensures { Acts (Free lock.number ∷ []) (Loose lock ∷ []) [] pass.old pass.new }
 {
     hall.free(pass, lock);

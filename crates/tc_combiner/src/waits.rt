@@ -24,7 +24,7 @@ use tc_segment::state::LockState;
 fn try_take(hall: &Hall, pass: &mut Pass, lock: u32) -> Attempt<LockState>
     requires own { pass.old.table ≡ hall.now.table }
     requires place { lock < locks hall.now.terms }
-    ensures { TriedAs 1 (λ l. Loose l ∷ []) (IsTaken hall.now.terms lock) pass.old pass.new result }
+    ensures { TriedAs 1 (λ l. Loose l ∷ []) (IsTaken hall.now lock) pass.old pass.new result }
 {
     match hall.take(pass, lock) {
         Ok(state) => Attempt::Came(state),
@@ -41,7 +41,7 @@ fn try_take(hall: &Hall, pass: &mut Pass, lock: u32) -> Attempt<LockState>
 fn try_adopt(hall: &Hall, pass: &mut Pass, t: u32, lock: u32) -> Attempt<Package>
     requires own { pass.old.table ≡ hall.now.table }
     requires places { (t < threads hall.now.terms) × (lock < locks hall.now.terms) }
-    ensures { TriedAs 1 (λ q. Pack q ∷ []) (λ v q. IsWaiter t lock v.image q) pass.old pass.new result }
+    ensures { TriedAs 1 (λ q. Pack q ∷ []) (λ p q. IsWaiter t lock p.knows.image q) pass.old pass.new result }
 {
     match hall.adopt(pass, t, lock) {
         Ok(waiter) => Attempt::Came(waiter),
@@ -66,7 +66,7 @@ fn try_next<R: Wait, Q: Waiters>(
     requires own { pass.old.table ≡ hall.now.table }
     requires asks { MayCall (Q.queue queue.now) (Q.seen seat.old) own }
     ensures line { Q.seen seat.new ≡ with_line (Q.seen seat.old) (Next own (came_of result)) }
-    ensures tried { TriedAs 0 (λ u. []) (λ v u. IsTurn (Q.queue queue.now).threads u) pass.old pass.new result }
+    ensures tried { TriedAs 0 (λ u. []) (λ p u. IsTurn (Q.queue queue.now).threads u) pass.old pass.new result }
 {
     match queue.next(rt, seat, own) {
         Some(next) => Attempt::Came(next),
@@ -88,7 +88,7 @@ pub(crate) fn take_home<R: Wait>(
 ) -> Option<LockState>
     requires own { pass.old.table ≡ hall.now.table }
     requires place { lock < locks hall.now.terms }
-    ensures { WaitedAs (λ l. Loose l ∷ []) (IsTaken hall.now.terms lock) pass.old pass.new result }
+    ensures { WaitedAs (λ l. Loose l ∷ []) (IsTaken hall.now lock) pass.old pass.new result }
 {
     let pause = Backoff::new();
     for _ in rt.forever() {
@@ -111,7 +111,7 @@ pub(crate) fn await_waiter<R: Wait>(
 ) -> Option<Package>
     requires own { pass.old.table ≡ hall.now.table }
     requires places { (t < threads hall.now.terms) × (lock < locks hall.now.terms) }
-    ensures { WaitedAs (λ q. Pack q ∷ []) (λ v q. IsWaiter t lock v.image q) pass.old pass.new result }
+    ensures { WaitedAs (λ q. Pack q ∷ []) (λ p q. IsWaiter t lock p.knows.image q) pass.old pass.new result }
 {
     let pause = Backoff::new();
     for _ in rt.forever() {

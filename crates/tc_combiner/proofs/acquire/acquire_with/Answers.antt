@@ -1,13 +1,12 @@
 use Rattle.std.proofs.Common.{refl}
 use Rattle.tc_combiner.proofs.Acquiring.{at_counted, goes_on, is_counted, may_wait, ships, still_asks, stops_second}
-use Rattle.tc_combiner.proofs.Packages.{wants_runs}
 use Rattle.tc_combiner.proofs.acquire.acquire_with.Goals as goal
 
 pub acquire_first-requires-clause-hands : goal.acquire_first-requires-clause-hands
 acquire_first-requires-clause-hands g c = at_counted c.args.hall.now c.args.«package» c.next_number.new.self c.next_number.result c.args.hands.now c.next_number.ensures.rest c.requires.hands
 
-pub put-requires-clause-may : goal.put-requires-clause-may
-put-requires-clause-may g c = may_wait c.args.hall.now.terms c.args.hands.now.pass.knows c.args.lock c.next_number.new.self (still_asks c.args.hall.now.terms c.args.lock c.args.«package» c.next_number.new.self c.next_number.result c.next_number.ensures.rest c.requires.may) (wants_runs c.next_number.new.self c.args.lock (still_asks c.args.hall.now.terms c.args.lock c.args.«package» c.next_number.new.self c.next_number.result c.next_number.ensures.rest c.requires.may).want) (at_counted c.args.hall.now c.args.«package» c.next_number.new.self c.next_number.result c.args.hands.now c.next_number.ensures.rest c.requires.hands).out.1.0
+pub put-requires : goal.put-requires
+put-requires g c = may_wait c.args.hall.now c.args.lock c.next_number.new.self c.args.hands.now (at_counted c.args.hall.now c.args.«package» c.next_number.new.self c.next_number.result c.args.hands.now c.next_number.ensures.rest c.requires.hands) (still_asks c.args.hall.now.terms c.args.lock c.args.«package» c.next_number.new.self c.next_number.result c.next_number.ensures.rest c.requires.may)
 
 pub returns-in-Some : goal.returns-in-Some
 returns-in-Some g c = goes_on c.args.hall.now c.args.lock _ c.args.«package» c.next_number.new.self (g.Q.Waiters.seen c.args.seat.now) (g.Q.Waiters.seen c.enter.new.seat) c.args.hands.now c.acquire_first.new.hands (is_counted c.args.«package» c.next_number.new.self c.next_number.result c.thread.result c.next_number.ensures.is c.next_number.ensures.rest c.thread.ensures) c.requires.hands c.in-Some.«package» (c.in-First.ensures {u = tt}).call (c.in-Some.ensures {u = tt})

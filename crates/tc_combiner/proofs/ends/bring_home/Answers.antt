@@ -9,10 +9,8 @@ take_out-state-requires-clause-released c = released_free c.args.«package».now
 
 pub free-requires : goal.free-requires
 free-requires c =
-    let d : DidTakeOut c.args.released.lock c.take_out-state.result c.args.«package».now c.take_out-state.new.self = record { was = c.take_out-state.ensures.lock; is = c.take_out-state.ensures.is; locks = c.take_out-state.ensures.locks; rest = c.take_out-state.ensures.rest } in record {
-      own = c.requires.hands.at.own;
-      may = taken_free c.args.hall.now.terms _ c.args.released.lock c.take_out-state.result c.args.«package».now c.take_out-state.new.self c.args.hands.now.pass c.args.hands.now.pass d c.requires.release.lock c.requires.hands.at.out (acts_none c.args.hands.now.pass _);
-    }
+    let d : DidTakeOut c.args.released.lock c.take_out-state.result c.args.«package».now c.take_out-state.new.self = record { was = c.take_out-state.ensures.lock; is = c.take_out-state.ensures.is; locks = c.take_out-state.ensures.locks; rest = c.take_out-state.ensures.rest } in
+    taken_free c.args.hall.now _ c.args.released.lock c.take_out-state.result c.args.«package».now c.take_out-state.new.self c.args.hands.now.pass c.args.hands.now.pass c.args.hands.now.aside d c.requires.release.lock c.requires.hands.at (acts_none c.args.hands.now.pass [])
 
 pub returns : goal.returns
 returns c =

@@ -1,8 +1,7 @@
-use Rattle.std.proofs.Common.{◌<◌, Bool, get_or, refl, map, length, sym, ap, ◌∙◌, subst, subst₂, arith, rules}
-use Rattle.tc_combiner.proofs.Vocabulary.{DidLeave, SeatView, length-map, locks, no_seat, seat_at}
-use Rattle.tc_combiner.proofs.Ending.{less_falls, none_left, leaves_first, leaves_more, left_all, may_next, may_release, seat_in}
-use Rattle.tc_combiner.proofs.Seats.{other_seats, seat_after, seat_before, seats_count}
-use Rattle.tc_combiner.proofs.PassedOn.{few_left, few_more}
+use Rattle.std.proofs.Common.{◌<◌, Bool, get_or, refl, map, length, sym, subst, arith, rules}
+use Rattle.tc_combiner.proofs.Vocabulary.{DidLeave, SeatView, length-map, locks, seat_at}
+use Rattle.tc_combiner.proofs.Ending.{leaves_first, leaves_more, left_all, less_falls, may_next, may_release, none_left, seat_in, seats_first}
+use Rattle.tc_combiner.proofs.Seats.{at_seat}
 use Rattle.tc_combiner.proofs.ends.end_all.Goals as goal
 
 pub loop-lock-init : goal.loop-lock-init
@@ -48,12 +47,7 @@ loop-lock-preserved g c =
     let deep : c.in-Some.lock < length c.loop-lock.seats = (let size = c.requires.seats.seats in let count = c.loop-lock.invariant.count in let old = length-map c.args.seats.now g.Q.Waiters.seen in let new = length-map c.loop-lock.seats g.Q.Waiters.seen in omega arith) in
     let e = subst (λ (b : Bool). DidLeave c.args.shared.now.hall.now.terms c.in-Some.lock c.args.block.now c.loop-lock.«package» c.end_one-stopped.new.«package» (g.Q.Waiters.seen (get_or c.loop-lock.seats c.in-Some.lock c.index-seats-lock.result)) (g.Q.Waiters.seen c.end_one-stopped.new.seat) c.loop-lock.hands c.end_one-stopped.new.hands b c.end_one-stopped.result) (sym c.if-stopped.false) c.end_one-stopped.ensures in
     leaves_more c.args.shared.now.hall.now.terms c.args.block.now c.args.«package».now c.loop-lock.«package» c.end_one-stopped.new.«package» c.loop-lock.rest c.less-rest.result c.in-Some.lock (map g.Q.Waiters.seen c.args.seats.now) (map g.Q.Waiters.seen c.loop-lock.seats) _ c.args.hands.now c.loop-lock.hands c.end_one-stopped.new.hands c.loop-lock.stopped c.end_one-stopped.result c.loop-lock.invariant c.in-Some.ensures.value.0 c.in-Some.ensures.value.1 c.in-Some.ensures.bound c.less-rest.ensures.each
-    (subst₂ (λ (s t : SeatView). DidLeave c.args.shared.now.hall.now.terms c.in-Some.lock c.args.block.now c.loop-lock.«package» c.end_one-stopped.new.«package» s t c.loop-lock.hands c.end_one-stopped.new.hands c.loop-lock.stopped c.end_one-stopped.result)
-    (sym (seat_before g.Q.Waiters.seen c.loop-lock.seats c.in-Some.lock c.index-seats-lock.result no_seat deep c.index-seats-lock.is ∙ ap g.Q.Waiters.seen c.index-seats-lock.is))
-    (sym (seat_after g.Q.Waiters.seen c.loop-lock.seats c.in-Some.lock c.end_one-stopped.new.seat no_seat deep)) e)
-    (seats_count g.Q.Waiters.seen c.loop-lock.seats c.in-Some.lock c.end_one-stopped.new.seat)
-    (λ j ne. other_seats g.Q.Waiters.seen c.loop-lock.seats c.in-Some.lock j c.end_one-stopped.new.seat no_seat ne)
-    (few_more e (few_left c.args.shared.now.hall.now.terms.image.value e.state c.args.block.now _ _ _ e.calls _ _ e.became))
+    (at_seat g.Q.Waiters.seen (λ (s t : SeatView). DidLeave c.args.shared.now.hall.now.terms c.in-Some.lock c.args.block.now c.loop-lock.«package» c.end_one-stopped.new.«package» s t c.loop-lock.hands c.end_one-stopped.new.hands c.loop-lock.stopped c.end_one-stopped.result) c.loop-lock.seats c.in-Some.lock c.index-seats-lock.result c.end_one-stopped.new.seat deep c.index-seats-lock.is (e.asks.table, e.asks.threads) e)
 
 pub returns : goal.returns
 returns g c = left_all c.args.shared.now.hall.now.terms c.args.block.now c.args.«package».now c.loop-lock.«package» c.loop-lock.rest (map g.Q.Waiters.seen c.args.seats.now) (map g.Q.Waiters.seen c.loop-lock.seats) c.args.hands.now c.loop-lock.hands c.loop-lock.stopped (none_left _ _ c.first_release.result c.first_release.ensures.value c.in_default.not-Some) c.loop-lock.invariant
@@ -68,8 +62,7 @@ pub loop-lock-preserved-then-stopped : goal.loop-lock-preserved-then-stopped
 loop-lock-preserved-then-stopped g c =
     let e = subst (λ (b : Bool). DidLeave c.args.shared.now.hall.now.terms c.in-Some.lock c.args.block.now c.loop-lock.«package» c.bring_home.new.«package» (seat_at (map g.Q.Waiters.seen c.loop-lock.seats) c.in-Some.lock) (seat_at (map g.Q.Waiters.seen c.loop-lock.seats) c.in-Some.lock) c.loop-lock.hands c.bring_home.new.hands b b) (sym c.if-stopped.true) (c.bring_home.ensures (seat_at (map g.Q.Waiters.seen c.loop-lock.seats) c.in-Some.lock)) in
     leaves_more c.args.shared.now.hall.now.terms c.args.block.now c.args.«package».now c.loop-lock.«package» c.bring_home.new.«package» c.loop-lock.rest c.less-rest.result c.in-Some.lock (map g.Q.Waiters.seen c.args.seats.now) (map g.Q.Waiters.seen c.loop-lock.seats) (map g.Q.Waiters.seen c.loop-lock.seats) c.args.hands.now c.loop-lock.hands c.bring_home.new.hands c.loop-lock.stopped c.loop-lock.stopped c.loop-lock.invariant c.in-Some.ensures.value.0 c.in-Some.ensures.value.1 c.in-Some.ensures.bound c.less-rest.ensures.each
-    e refl (λ j ne. refl)
-    (few_more e (few_left c.args.shared.now.hall.now.terms.image.value e.state c.args.block.now _ _ _ e.calls _ _ e.became))
+    (record { same = seats_first (map g.Q.Waiters.seen c.loop-lock.seats); others = λ j ne. refl; here = e })
 
 pub loop-lock-smaller-then-stopped : goal.loop-lock-smaller-then-stopped
 loop-lock-smaller-then-stopped g c = less_falls c.loop-lock.rest c.in-Some.lock c.less-rest.result c.less-rest.ensures.value c.in-Some.ensures.value.0

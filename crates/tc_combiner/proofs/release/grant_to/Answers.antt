@@ -31,10 +31,8 @@ returns-in-Adopt c =
 pub put-requires : goal.put-requires
 put-requires c =
     let d : DidGrant c.args.state Granted c.args.next.number c.args.waiter c.grant-2.new.self = record { is = c.grant-2.ensures.is; locks = c.grant-2.ensures.locks } in
-    let may_not : adopts c.args.state c.args.block.now ≡ false = false_from_ne_true _ (λ m. c.in_default.not-Adopt (c.plan.ensures.adopt.1 (refl, adopts_as c.args.block.now c.args.state _ _ _ c.number-lock.ensures.is c.run.ensures c.limit.ensures ∙ m))) in record {
-      own = c.requires.may.hands.at.own;
-      may = may_put c.args.hall.now c.args.block.now c.args.state c.args.next c.args.waiter c.grant-2.new.self c.args.hands.now c.requires.may c.requires.waiter d may_not;
-    }
+    let may_not : adopts c.args.state c.args.block.now ≡ false = false_from_ne_true _ (λ m. c.in_default.not-Adopt (c.plan.ensures.adopt.1 (refl, adopts_as c.args.block.now c.args.state _ _ _ c.number-lock.ensures.is c.run.ensures c.limit.ensures ∙ m))) in
+    may_put c.args.hall.now c.args.block.now c.args.state c.args.next c.args.waiter c.grant-2.new.self c.args.hands.now c.requires.may c.requires.waiter d may_not
 
 pub returns : goal.returns
 returns c =

@@ -18,10 +18,7 @@ grant_to-requires g c =
     }
 
 pub free-requires : goal.free-requires
-free-requires g c = record {
-  own = (c.in-None.ensures {u = tt}).0.own.0 ∙ c.requires.may.hands.at.own;
-  may = may_free c.args.hall.now.terms _ c.args.state c.args.hands.now.pass c.await_waiter.new.pass c.requires.may.released.lock c.requires.may.released.rest.ended c.requires.may.hands.at.out (c.in-None.ensures {u = tt}).0;
-}
+free-requires g c = may_free c.args.hall.now _ c.args.state c.args.hands.now.pass c.await_waiter.new.pass c.args.hands.now.aside c.requires.may.released.lock c.requires.may.released.rest.ended c.requires.may.hands.at (c.in-None.ensures {u = tt}).0
 
 pub returns-in-Some : goal.returns-in-Some
 returns-in-Some g c = hand_sooner c.args.hall.now.terms c.args.state c.args.block.now c.args.next (Loose c.args.state ∷ []) (Pack c.in-Some.waiter ∷ Loose c.args.state ∷ []) c.args.hands.now _ c.grant_to.new.hands c.grant_to.result (came c.args.state c.in-Some.waiter c.args.hands.now.pass c.await_waiter.new.pass (c.in-Some.ensures {u = tt}).0) refl refl c.grant_to.ensures

@@ -28,18 +28,14 @@ hand_on-requires g c =
 pub free-requires : goal.free-requires
 free-requires g c =
     let d : DidTakeOut c.args.released.lock c.take_out-state.result c.args.«package».now c.take_out-state.new.self = record { was = c.take_out-state.ensures.lock; is = c.take_out-state.ensures.is; locks = c.take_out-state.ensures.locks; rest = c.take_out-state.ensures.rest } in
-    let e = c.in-Nobody.ensures {u = tt} in record {
-      own = c.find_next.ensures.acts.own.0 ∙ c.requires.may.hands.at.own;
-      may = taken_free c.args.hall.now.terms _ c.args.released.lock c.take_out-state.result c.args.«package».now c.take_out-state.new.self c.args.hands.now.pass c.find_next.new.pass d c.requires.may.release.lock c.requires.may.hands.at.out e.acts;
-    }
+    let e = c.in-Nobody.ensures {u = tt} in
+    taken_free c.args.hall.now _ c.args.released.lock c.take_out-state.result c.args.«package».now c.take_out-state.new.self c.args.hands.now.pass c.find_next.new.pass c.args.hands.now.aside d c.requires.may.release.lock c.requires.may.hands.at e.acts
 
 pub free-requires-in-Unknown : goal.free-requires-in-Unknown
 free-requires-in-Unknown g c =
     let d : DidTakeOut c.args.released.lock c.take_out-state.result c.args.«package».now c.take_out-state.new.self = record { was = c.take_out-state.ensures.lock; is = c.take_out-state.ensures.is; locks = c.take_out-state.ensures.locks; rest = c.take_out-state.ensures.rest } in
-    let e = c.in-Unknown.ensures {u = tt} in record {
-      own = c.find_next.ensures.acts.own.0 ∙ c.requires.may.hands.at.own;
-      may = taken_free c.args.hall.now.terms _ c.args.released.lock c.take_out-state.result c.args.«package».now c.take_out-state.new.self c.args.hands.now.pass c.find_next.new.pass d c.requires.may.release.lock c.requires.may.hands.at.out e.acts;
-    }
+    let e = c.in-Unknown.ensures {u = tt} in
+    taken_free c.args.hall.now _ c.args.released.lock c.take_out-state.result c.args.«package».now c.take_out-state.new.self c.args.hands.now.pass c.find_next.new.pass c.args.hands.now.aside d c.requires.may.release.lock c.requires.may.hands.at e.acts
 
 pub returns-in-Next : goal.returns-in-Next
 returns-in-Next g c =

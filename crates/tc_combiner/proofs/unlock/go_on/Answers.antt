@@ -11,7 +11,7 @@ pub returns-in-None : goal.returns-in-None
 returns-in-None c = goes_same c.args.hall.now c.args.«package» c.args.hands.now _ c.requires.hands c.requires.may (acts_none c.args.hands.now.pass (Pack c.args.«package» ∷ packed c.args.hands.now.aside)) refl (cc) (λ n. cc)
 
 pub put-requires : goal.put-requires
-put-requires c = record { own = c.requires.hands.at.own; may = may_ready c.args.hall.now.terms c.args.hands.now.pass.knows c.args.«package» c.requires.may c.requires.hands.at.out.1.0 }
+put-requires c = may_ready c.args.hall.now c.args.«package» (packed c.args.hands.now.aside) c.args.hands.now.pass c.args.hands.now.aside c.requires.hands.at c.requires.may
 
 pub returns-in-Some : goal.returns-in-Some
 returns-in-Some c =

@@ -1,12 +1,12 @@
 use Rattle.std.proofs.Common.{ℕ, [], ◌∷◌, ◌++◌, refl, sym, ap, ◌∙◌}
-use Rattle.tc_combiner.proofs.Vocabulary.{Pack}
+use Rattle.tc_combiner.proofs.Vocabulary.{Pack, packed}
 use Rattle.tc_combiner.proofs.Acting.{acts_none}
 use Rattle.tc_combiner.proofs.Unlocking.{may_ready, sets_alone, sets_behind}
 use Rattle.tc_combiner.proofs.Packages.{not_some}
 use Rattle.tc_combiner.proofs.unlock.set_aside.Goals as goal
 
 pub put-requires : goal.put-requires
-put-requires c = record { own = c.requires.hands.at.own; may = may_ready c.args.hall.now.terms c.args.hands.now.pass.knows c.args.«package» c.requires.may.goes c.requires.hands.at.out.1.0 }
+put-requires c = may_ready c.args.hall.now c.args.«package» (packed c.args.hands.now.aside) c.args.hands.now.pass c.args.hands.now.aside c.requires.hands.at c.requires.may.goes
 
 pub returns-then-is_some : goal.returns-then-is_some
 returns-then-is_some c = sets_behind c.args.hall.now c.args.«package» c.args.hands.now _ c.requires.hands c.requires.may (sym c.is_some.ensures ∙ c.if-is_some.true) refl c.put.ensures (c.push.ensures.items ∙ ap (λ (t : ℕ). c.args.hands.now.ready.items ++ t ∷ []) c.thread.ensures)

@@ -2,8 +2,8 @@ use Rattle.std.proofs.Common.{[], ◌∷◌, map, refl, sym, ap, ◌∙◌, subs
 use Rattle.tc_combiner.proofs.Vocabulary.{DeskView, FitsBench, IsInHand, Knows, MayCommit, Moves, MovesSealed, Pack, PackageView, desk_of, packed}
 use Rattle.tc_combiner.proofs.Fitting.{fits_after}
 use Rattle.tc_combiner.proofs.Ending.{seats_first}
-use Rattle.tc_combiner.proofs.Unlocking.{without_first}
 use Rattle.tc_combiner.proofs.Sealing.{may_seal, sealed_moves}
+use Rattle.tc_combiner.proofs.Owning.{without_first}
 use Rattle.tc_combiner.proofs.desk.Desk.commit.Goals as goal
 
 pub commit-stamp-requires-clause-ready : goal.commit-stamp-requires-clause-ready
