@@ -1,7 +1,7 @@
 -- What became of a package that wants a lock, from its parts.
 use Rattle.std.proofs.Common.{◌≡◌, ◌+◌, min, ℕ, List, [], ◌∷◌, ◌++◌, refl, sym, ap, ◌∙◌, subst, arith, Option, Some, None, if◌then◌else◌}
 use Rattle.tc_combiner.proofs.Vocabulary.{AcquiredAs, Acquires, Acts, Behind, Call, DidFirst, DidGrant, DidTake, Did_stop, Done, Enter, First, FirstAs, GoesOn, HallView, Hands, IsAtHall, IsAtRest, IsSameSeat, IsWaiting, Item, Link, LockView, Loose, MAX_NUMBER, MayAsk, MayGive, MayGoOn, Pack, PackageView, PassView, PutAllBack, Ready, Runs, SeatView, Settled, Shipped, Shown, Taken, Terms, Turn, Waiting, Wants_lock, back, counted, locked_in, next_turn, packed, place_back, put_call, ready_in, saw, threads, with_line, with_turns}
-use Rattle.tc_combiner.proofs.Acting.{acts_by, acts_still, acts_then, adds_then, owned_by, takes_none}
+use Rattle.tc_combiner.proofs.Acting.{acts_by, acts_still, acts_then, owned_by, takes_none}
 use Rattle.tc_combiner.proofs.Owning.{counts_in, granted_with, takes_in}
 use Rattle.tc_combiner.proofs.Answering.{keeps_answers, wider}
 use Rattle.tc_combiner.proofs.Packages.{no_other, plain_gives, taken_good, wants_runs}
@@ -11,28 +11,20 @@ use Rattle.tc_combiner.proofs.Packages.{no_other, plain_gives, taken_good, wants
 pub puts_both : (q o : PackageView) (h g : Hands) (m : PassView) → h.aside ≡ Some o → Runs o → g.aside ≡ None → g.ready.items ≡ [] → Acts (put_call q (place_back q) ∷ []) (Pack q ∷ []) [] h.pass m → Acts (put_call o (place_back o) ∷ []) (Pack o ∷ []) [] m g.pass → PutAllBack q h g
 puts_both q o h g m e runs none same a b =
     let ready : place_back o ≡ Ready = ap (λ x. if x then Ready else Done) runs in
-    let c : Acts (put_call o Ready ∷ []) (Pack o ∷ []) [] m g.pass = subst (λ x. Acts (put_call o x ∷ []) (Pack o ∷ []) [] m g.pass) ready b in record {
-      acts = subst (λ (x : Option PackageView). Acts (back q x) (Pack q ∷ packed x) [] h.pass g.pass) (sym e) (record {
-        own = (c.own.0 ∙ a.own.0, c.own.1 ∙ a.own.1);
-        adds = adds_then (put_call q (place_back q) ∷ []) (put_call o Ready ∷ []) h.pass.knows m.knows g.pass.knows a.adds c.adds;
-        moves = λ d us w. c.moves d us (a.moves d (Pack o ∷ us) w);
-      });
-      aside = none;
-      ready = same;
-    }
+    let first : Acts (put_call q (place_back q) ∷ []) (Pack q ∷ Pack o ∷ []) (Pack o ∷ []) h.pass m = record { own = a.own; adds = a.adds; moves = λ d us w. a.moves d (Pack o ∷ us) w } in
+    let other : Acts (put_call o Ready ∷ []) (Pack o ∷ []) [] m g.pass = subst (λ x. Acts (put_call o x ∷ []) (Pack o ∷ []) [] m g.pass) ready b in
+    let both = acts_then (put_call q (place_back q) ∷ []) (put_call o Ready ∷ []) (Pack q ∷ Pack o ∷ []) (Pack o ∷ []) [] h.pass m g.pass first other in
+    record { acts = subst (λ (x : Option PackageView). Acts (back q x) (Pack q ∷ packed x) [] h.pass g.pass) (sym e) both; aside = none; ready = same }
 
 -- ---- the first of its line
 
 pub takes_first : (k : Terms) (i n : ℕ) (l : LockView) (q r : PackageView) (h g : Hands) → IsAtRest q.image i l → DidGrant l Taken n q r → IsWaiting q i → MayGoOn k q → Acts [] [] (Loose l ∷ []) h.pass g.pass → g.ready.items ≡ h.ready.items → g.aside ≡ h.aside → DidFirst k i n q h g (Some r)
 takes_first k i n l q r h g rest d waits m a same keeps =
     let free : locked_in q l.number ≡ None = subst (λ (j : ℕ). locked_in q j ≡ None) (sym rest.number) waits.absent in
-    let t : DidTake i l n q r = record { rest = rest; grant = d } in record {
+    let t : DidTake i l n q r = record { rest = rest; grant = d } in
+    let acts : Acts [] (Pack q ∷ packed h.aside) (Pack r ∷ packed h.aside) h.pass g.pass = record { own = a.own; adds = a.adds; moves = λ b zs o. takes_in h.pass.knows g.pass.knows l q r a.moves (granted_with l Taken n q r d free) b (packed h.aside ++ zs) o } in record {
       calls = [];
-      acts = subst (λ (x : Option PackageView). Acts [] (Pack q ∷ packed h.aside) (Pack r ∷ packed x) h.pass g.pass) (sym keeps) (record {
-        own = a.own;
-        adds = a.adds;
-        moves = λ b zs o. takes_in h.pass.knows g.pass.knows l q r a.moves (granted_with l Taken n q r d free) b (packed h.aside ++ zs) o;
-      });
+      acts = subst (λ (x : Option PackageView). Acts [] (Pack q ∷ packed h.aside) (Pack r ∷ packed x) h.pass g.pass) (sym keeps) acts;
       ready = same;
       became = (refl, keeps, (l, t), taken_good i l n _ h.pass.knows.worker k.image.value q r t m.of m.plain m.runs);
     }

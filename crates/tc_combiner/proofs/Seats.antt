@@ -21,13 +21,10 @@ module _ {S : Type 0} where
   pub other_seats : (seen : S → SeatView) (ss : List S) (i j : ℕ) (t : S) (d : SeatView) → j ≢ i → get_or (map seen (set ss i t)) j d ≡ get_or (map seen ss) j d
   other_seats seen ss i j t d ne = ap (λ (l : List SeatView). get_or l j d) (map-set seen ss i t) ∙ get_or-set_other (map seen ss) i j (seen t) d ne
 
-  pub seats_count : (seen : S → SeatView) (ss : List S) (i : ℕ) (t : S) → length (map seen (set ss i t)) ≡ length (map seen ss)
-  seats_count seen ss i t = ap length (map-set seen ss i t) ∙ length-set (map seen ss) i (seen t)
-
   -- a seat of the same queue stands where it stood
   pub seats_set : (seen : S → SeatView) (ss : List S) (i : ℕ) (s t : S) → i < length ss → s ≡ get_or ss i s → IsSameSeat (seen (get_or ss i s)) (seen t) → AreSameSeats (map seen ss) (map seen (set ss i t))
   seats_set seen ss i s t deep is same = record {
-    count = seats_count seen ss i t;
+    count = ap length (map-set seen ss i t) ∙ length-set (map seen ss) i (seen t);
     each = λ j. dite (ℕ_discrete j i)
         (λ (e : j ≡ i). subst (λ (n : ℕ). IsSameSeat (seat_at (map seen ss) n) (seat_at (map seen (set ss i t)) n)) (sym e)
         (subst₂ (λ (a b : SeatView). IsSameSeat a b) (sym (seat_before seen ss i s no_seat deep is ∙ ap seen is)) (sym (seat_after seen ss i t no_seat deep)) same))

@@ -3,9 +3,3 @@ use Rattle.tc_combiner.proofs.ends.end_one.Goals as goal
 
 pub unreachable-requires : goal.unreachable-requires
 unreachable-requires g c = none_adopted c.args.hall.now.terms c.args.released.lock c.args.released.block.now c.args.«package».now c.pass_on.new.«package» (g.Q.Waiters.seen c.args.seat.now) (g.Q.Waiters.seen c.pass_on.new.seat) c.args.hands.now c.pass_on.new.hands _ c.requires.ended (c.in-Adopted.ensures {u = tt})
-
-pub returns-in-Gone : goal.returns-in-Gone
-returns-in-Gone g c = c.in-Gone.ensures {u = tt}
-
-pub returns-in-Stopped : goal.returns-in-Stopped
-returns-in-Stopped g c = c.in-Stopped.ensures {u = tt}

@@ -9,9 +9,6 @@ use Rattle.tc_combiner.proofs.settle.settle_with.Goals as goal
 pub last-block-requires : goal.last-block-requires
 last-block-requires g c = some_block c.args.«package».log c.requires.may.0 c.requires.may.1.last
 
-pub acquire_at-requires-clause-hands : goal.acquire_at-requires-clause-hands
-acquire_at-requires-clause-hands g c = λ κs b. c.requires.hands
-
 pub acquire_at-requires-clause-may : goal.acquire_at-requires-clause-may
 acquire_at-requires-clause-may g c = λ κs b. may_ask c.args.shared.now.hall.now.terms c.args.hands.now.pass.knows.worker c.last-block.result c.args.«package» c.keeps.ensures.sound c.in-Wants.lock c.keeps.ensures.want (after_last c.args.shared.now.hall.now.terms.image.value c.args.hands.now.pass.knows.worker c.args.end _ c.last-block.result c.args.«package» c.in-Wants.is c.requires.may c.last-block.ensures)
 
@@ -32,9 +29,6 @@ returns-in-Unlocked-clause-settled g c = (c.last-block.result, c.last-block.ensu
 
 pub returns-in-Unlocked-clause-keeps : goal.returns-in-Unlocked-clause-keeps
 returns-in-Unlocked-clause-keeps g c = keeps_of c.args.shared.now.hall.now.terms _ c.args.«package» (map g.Q.Waiters.seen c.args.seats.now) (map g.Q.Waiters.seen c.unlocked_at.new.seats) c.args.rest.now c.args.rest.now _ c.unlocked_at.new.hands c.unlocked_at.result c.clear.ensures c.unlocked_at.ensures.here.answers c.unlocked_at.ensures.same refl refl
-
-pub park-requires-clause-hands : goal.park-requires-clause-hands
-park-requires-clause-hands g c = c.requires.hands
 
 pub park-requires-clause-may : goal.park-requires-clause-may
 park-requires-clause-may g c = may_park c.args.shared.now.hall.now.terms c.args.hands.now.pass.knows.worker c.last-block.result c.args.«package» c.keeps.ensures.sound (after_last c.args.shared.now.hall.now.terms.image.value c.args.hands.now.pass.knows.worker c.args.end _ c.last-block.result c.args.«package» c.in-Slept.is c.requires.may c.last-block.ensures)
