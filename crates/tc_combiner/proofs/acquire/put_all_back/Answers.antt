@@ -1,6 +1,12 @@
-use Rattle.std.proofs.Common.{sym, ◌∙◌}
+use Rattle.std.proofs.Common.{Option, subst, sym, ◌∙◌}
+use Rattle.tc_combiner.proofs.Vocabulary.{Owns, PackageView, outs, packed}
 use Rattle.tc_combiner.proofs.Acquiring.{puts_both}
 use Rattle.tc_combiner.proofs.acquire.put_all_back.Goals as goal
+
+pub put_back-requires-in-Some-clause-out : goal.put_back-requires-in-Some-clause-out
+put_back-requires-in-Some-clause-out c =
+    let o = c.requires.hands.out in
+    (subst (λ (x : Option PackageView). Owns o.0 (outs c.put_back.new.pass.knows) (packed x)) (sym c.take.ensures.value ∙ c.in-Some.is) (c.put_back.ensures.moves o.0 (packed c.args.hands.now.aside) o.1)).0
 
 pub put_back-requires-in-Some-clause-plain : goal.put_back-requires-in-Some-clause-plain
 put_back-requires-in-Some-clause-plain c = (c.requires.hands.aside c.in-Some.other (cc)).goes.plain
