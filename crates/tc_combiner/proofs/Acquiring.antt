@@ -107,11 +107,8 @@ may_wait hall i q h at m = plain_gives hall (Waiting i) q (packed h.aside) h.pas
   ready = λ g e. let f = m.plain.granted in let n : ⊥ = cc in absurd n;
 })
 
-on_line : (s t r : SeatView) → t ≡ r → IsSameSeat s r → IsSameSeat s t
-on_line s t r e h = subst (λ (x : SeatView). IsSameSeat s x) (sym e) h
-
 pub same_seat : (image : Shown) (worker i : ℕ) (q : PackageView) (s t : SeatView) (a b : Option PackageView) (cs : List Call) (r : Settled) → AcquiredAs image worker i q s t a b cs r → IsSameSeat s t
-same_seat image worker i q s t a b cs (GoesOn r) h = on_line s t _ h.0 (refl, refl)
-same_seat image worker i q s t a b cs Shipped h = on_line s t _ h.1 (refl, refl)
-same_seat image worker i q s t a b cs Did_stop h = on_line s t _ h.0 (refl, refl)
+same_seat image worker i q s t a b cs (GoesOn r) h = subst (λ (x : SeatView). IsSameSeat s x) (sym h.0) (refl, refl)
+same_seat image worker i q s t a b cs Shipped h = subst (λ (x : SeatView). IsSameSeat s x) (sym h.1) (refl, refl)
+same_seat image worker i q s t a b cs Did_stop h = subst (λ (x : SeatView). IsSameSeat s x) (sym h.0) (refl, refl)
 same_seat image worker i q s t a b cs r h = absurd h

@@ -1,6 +1,6 @@
 -- Calls of a pass, one after another, with each call that counts.
 use Rattle.std.proofs.Common.{◌≡◌, ◌≢◌, ◌==◌, ◌<◌, ◌≤◌, ◌+◌, ℕ, Bool, true, false, cond, arith, All, List, [], ◌∷◌, ◌++◌, length, length-append, filter, refl, sym, ap, ◌∙◌, subst, append_assoc, append-nil, Some, None, Option}
-use Rattle.tc_combiner.proofs.Vocabulary.{Acted, Acts, Adds, All-nil, AreAsked, Asked, Asks, Call, Called, Came, Departure, HallView, Hands, HaveNoStop, IsAt, IsSamePass, Item, Knows, Leave, LineCall, MAX_HELD, MayAct, Miss, Moves, Next, Owned, Owns, PackageView, PassView, Put, Ready, Refused, SawStopped, SeatView, Stop, Stopped, TakesDown, Terms, Tried, TriedAs, Try_stopped, Turn, WaitedAs, Waits, after_miss, after_stopped, counts, erase, nat_tests, outs, ready_in, saw, saw_if, threads, unanswered, with_line}
+use Rattle.tc_combiner.proofs.Vocabulary.{Acted, Acts, All-nil, AreAsked, AskedTimes, Asks, Call, Called, Came, Departure, HallView, Hands, HaveNoStop, IsAt, IsSamePass, Item, Knows, Leave, LineCall, MAX_HELD, MayAct, Miss, Moves, Next, Owned, Owns, PackageView, PassView, Put, Ready, Refused, SawStopped, SeatView, Stop, Stopped, TakesDown, Terms, Tried, TriedAs, Try_stopped, Turn, WaitedAs, Waits, after_miss, after_stopped, counts, erase, nat_tests, outs, ready_in, saw, saw_if, threads, unanswered, with_line}
 use Rattle.std.proofs.lemmas.List.Elements.{filter-append, All-append}
 use Rattle.tc_combiner.proofs.Owning.{moves_none, rotate, unrotate}
 
@@ -18,52 +18,44 @@ told_then cs ds v w x a b = record {
   calls = b.calls ∙ (ap (λ (l : List Call). l ++ ds) a.calls ∙ append_assoc v.calls cs ds);
 }
 
-asked_one : (u : Turn) (cs : List LineCall) (a : Option Turn) → AreAsked u cs → AreAsked u (cs ++ Next u a ∷ [])
-asked_one u [] a h = (refl, tt)
-asked_one u (Next x e ∷ cs) a h = (h.0, asked_one u cs a h.1)
-asked_one u (Leave x e ∷ cs) a h = (h.0, asked_one u cs a h.1)
-asked_one u (c ∷ cs) a h = absurd h
-
-pub asks_next : (u : Turn) (s t r : SeatView) (a : Option Turn) → Asks u s t → r ≡ with_line t (Next u a) → Asks u s r
-asks_next u s t r a k e = subst (λ (z : SeatView). Asks u s z) (sym e) (record {
-  table = k.table;
-  threads = k.threads;
-  lines = k.lines ++ Next u a ∷ [];
-  calls = ap (λ (l : List LineCall). l ++ Next u a ∷ []) k.calls ∙ append_assoc s.calls k.lines (Next u a ∷ []);
-  asked = asked_one u k.lines a k.asked;
-})
+asked_then : (u : Turn) (cs ds : List LineCall) → AreAsked u cs → AreAsked u ds → AreAsked u (cs ++ ds)
+asked_then u [] ds h k = k
+asked_then u (Next x e ∷ cs) ds h k = (h.0, asked_then u cs ds h.1 k)
+asked_then u (Leave x e ∷ cs) ds h k = (h.0, asked_then u cs ds h.1 k)
+asked_then u (c ∷ cs) ds h k = absurd h
 
 unanswered_then : (cs ds : List LineCall) → unanswered (cs ++ ds) ≡ unanswered cs + unanswered ds
 unanswered_then [] ds = omega arith
 unanswered_then (Next x None ∷ cs) ds = let e = unanswered_then cs ds in omega arith
 unanswered_then (c ∷ cs) ds = unanswered_then cs ds
 
-pub asked_line : (n k : ℕ) (s t r : SeatView) (c : LineCall) → Asked n s t → r ≡ with_line t c → unanswered (c ∷ []) ≡ k → Asked (n + k) s r
-asked_line n k s t r c h e f = record {
-  lines = h.lines ++ c ∷ [];
-  calls = ap (λ (z : SeatView). z.calls) e ∙ (ap (λ (l : List LineCall). l ++ c ∷ []) h.calls ∙ append_assoc s.calls h.lines (c ∷ []));
-  count = unanswered_then h.lines (c ∷ []) ∙ (ap (λ (m : ℕ). m + unanswered (c ∷ [])) h.count ∙ ap (λ (m : ℕ). n + m) f);
-}
+pub asked_line : (n k : ℕ) (u : Turn) (s t r : SeatView) (c : LineCall) → AskedTimes n u s t → r ≡ with_line t c → AreAsked u (c ∷ []) → unanswered (c ∷ []) ≡ k → AskedTimes (n + k) u s r
+asked_line n k u s t r c h e mine f =
+    let asks : Asks u s r = record {
+      threads = ap (λ (z : SeatView). z.threads) e ∙ h.0.threads;
+      table = ap (λ (z : SeatView). z.table) e ∙ h.0.table;
+      lines = h.0.lines ++ c ∷ [];
+      calls = ap (λ (z : SeatView). z.calls) e ∙ (ap (λ (l : List LineCall). l ++ c ∷ []) h.0.calls ∙ append_assoc s.calls h.0.lines (c ∷ []));
+      asked = asked_then u h.0.lines (c ∷ []) h.0.asked mine;
+    } in
+    (asks, unanswered_then h.0.lines (c ∷ []) ∙ (ap (λ (m : ℕ). m + unanswered (c ∷ [])) h.1 ∙ ap (λ (m : ℕ). n + m) f))
 
-pub asked_none : (s : SeatView) → Asked 0 s s
-asked_none s = record { lines = []; calls = sym (append-nil s.calls); count = refl }
+pub asked_none : (u : Turn) (s : SeatView) → AskedTimes 0 u s s
+asked_none u s = (record { threads = refl; table = refl; lines = []; calls = sym (append-nil s.calls); asked = tt }, refl)
 
 -- one question that was not answered, and the leave
-pub asked_left : (s m t : SeatView) (u : Turn) (a : Option Turn) (d : Departure) → m ≡ with_line s (Next u a) → a ≡ None → t ≡ with_line m (Leave u d) → Asked 1 s t
-asked_left s m t u a d e none f = asked_line 1 0 s m t (Leave u d) (asked_line 0 1 s s m (Next u a) (asked_none s) e (ap (λ (o : Option Turn). unanswered (Next u o ∷ [])) none)) f refl
-
-pub adds_then : (ds es : List Call) (v w x : Knows) → Adds ds v w → Adds es w x → Adds (ds ++ es) v x
-adds_then ds es v w x a b = record {
-  calls = a.calls ++ b.calls;
-  told = told_then a.calls b.calls v w x a.told b.told;
-  stops = no_stops a.calls b.calls a.stops b.stops;
-  are = filter-append counts a.calls b.calls ∙ (ap (λ (l : List Call). l ++ filter counts b.calls) a.are ∙ ap (λ (l : List Call). ds ++ l) b.are);
-}
+pub asked_left : (s m t : SeatView) (u : Turn) (a : Option Turn) (d : Departure) → m ≡ with_line s (Next u a) → a ≡ None → t ≡ with_line m (Leave u d) → AskedTimes 1 u s t
+asked_left s m t u a d e none f = asked_line 1 0 u s m t (Leave u d) (asked_line 0 1 u s s m (Next u a) (asked_none u s) e (refl, tt) (ap (λ (o : Option Turn). unanswered (Next u o ∷ [])) none)) f (refl, tt) refl
 
 pub acts_then : (ds es : List Call) (xs ys zs : List Item) (p q r : PassView) → Acts ds xs ys p q → Acts es ys zs q r → Acts (ds ++ es) xs zs p r
 acts_then ds es xs ys zs p q r a b = record {
   own = (b.own.0 ∙ a.own.0, b.own.1 ∙ a.own.1);
-  adds = adds_then ds es p.knows q.knows r.knows a.adds b.adds;
+  adds = record {
+    calls = a.adds.calls ++ b.adds.calls;
+    told = told_then a.adds.calls b.adds.calls p.knows q.knows r.knows a.adds.told b.adds.told;
+    stops = no_stops a.adds.calls b.adds.calls a.adds.stops b.adds.stops;
+    are = filter-append counts a.adds.calls b.adds.calls ∙ (ap (λ (l : List Call). l ++ filter counts b.adds.calls) a.adds.are ∙ ap (λ (l : List Call). ds ++ l) b.adds.are);
+  };
   moves = λ c us o. b.moves c us (a.moves c us o);
 }
 

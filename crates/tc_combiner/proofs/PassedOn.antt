@@ -223,9 +223,11 @@ no_unlock : (i : ℕ) (e : End) → ends_thread e ≡ true → unlocks i e ≡ f
 no_unlock i (Unlocked k) h = let n : ⊥ = cc in absurd n
 no_unlock i end h = refl
 
-no_adopt : (b : Block) (i run limit : ℕ) → ends_thread b.end ≡ true → may_adopt b i run limit ≡ true → ⊥
-no_adopt b i run limit e m = let k = (and_parts (unlocks i b.end) _ (and_parts (unlocks i b.end && is_only b.held i) _ m).0).0 in let f = no_unlock i b.end e in cc
-
 -- nobody is adopted behind it
 pub none_adopted : (k : Terms) (i : ℕ) (b : Block) (q p : PackageView) (s t : SeatView) (h g : Hands) (r : PackageView) → ends_thread b.end ≡ true → DidPass k i b q p s t h g (Was_adopted r) → ⊥
-none_adopted k i b q p s t h g r e d = no_adopt b d.state.number _ _ e d.became.2.1
+none_adopted k i b q p s t h g r e d =
+    let n : ℕ = d.state.number in
+    let both = and_parts (unlocks n b.end && is_only b.held n) _ d.became.2.1 in
+    let unlock = (and_parts (unlocks n b.end) _ both.0).0 in
+    let f = no_unlock n b.end e in
+    cc

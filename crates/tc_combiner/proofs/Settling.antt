@@ -1,6 +1,6 @@
 -- What the end of a package's last block says of the package.
 use Rattle.std.proofs.Common.{◌≡◌, ◌≢◌, ◌<◌, ◌≤◌, ◌+◌, ℕ, Bool, true, false, not, ◌&&◌, ◌||◌, ◌==◌, if◌then◌else◌, List, [], ◌∷◌, length, refl, sym, ap, ◌∙◌, subst, arith, Option, Some, None, is_some}
-use Rattle.tc_combiner.proofs.Vocabulary.{AcquiredAs, Acquires, Answers, AreSameSeats, AtSeat, Block, Call, Cut, DeskView, DidAcquire, DidEnd, DidUnlock, End, EndedAs, Ends, HallView, Hands, HasBlock, HasHeldAnd, HasOnlyHeld, HasReadied, IsAfter, IsAfterBlock, IsAtHall, IsPlain, IsSoundPackage, Item, KeepsParts, Knows, LockView, MAX_HELD, MayAct, MayAsk, MayEnd, MayGoOn, MayPark, MayRelease, MaySettle, MayUnlock, PackageView, Rest, Runs, SeatView, Settled, SettledAs, Shown, Slept, Terms, Unlocked, UnlockedAs, Unlocks, WantIsLawful, Wants, Wants_lock, desk_of, ends_section, ends_thread, has, last_of, locked_in, locks, nat_tests, next_lock, seat_at, thread_in, threads}
+use Rattle.tc_combiner.proofs.Vocabulary.{AcquiredAs, Acquires, Answers, AreSameSeats, AtSeat, Block, Call, Cut, DeskView, DidAcquire, DidEnd, DidUnlock, End, EndedAs, Ends, HallView, Hands, HasBlock, HasReadied, IsAfter, IsAfterBlock, IsAtHall, IsPlain, IsSoundPackage, Item, KeepsParts, Knows, LockView, MAX_HELD, MayAct, MayAsk, MayEnd, MayGoOn, MayPark, MayRelease, MaySettle, MayUnlock, PackageView, Rest, Runs, SeatView, Settled, SettledAs, Shown, Slept, Terms, Unlocked, UnlockedAs, Unlocks, WantIsLawful, Wants, Wants_lock, desk_of, ends_section, ends_thread, has, last_of, locked_in, locks, nat_tests, next_lock, seat_at, thread_in, threads}
 use Rattle.tc_combiner.proofs.PassedOn.{left_after}
 use Rattle.tc_combiner.proofs.Ending.{known_in}
 
@@ -35,20 +35,14 @@ module _ (k : Terms) (worker : ℕ) (end : End) (b : Block) (q : PackageView) (s
   in_block : (i : ℕ) (l : LockView) → locked_in q i ≡ Some l → has b.held i ≡ true
   in_block i l e = sym (m.locks i) ∙ ap is_some e
 
-  only_held_on : ((i : ℕ) → ends_section i b ≡ false) → HasOnlyHeld q
-  only_held_on never i l e = held_is i (never i) ∙ in_block i l e
-
   plain_on : ((i : ℕ) → ends_section i b ≡ false) → ends_thread end ≡ false → IsPlain (threads k) q
   plain_on never e = record {
     thread = thread_known;
     settled = m.settled;
     granted = m.granted;
-    locks = only_held_on never;
+    locks = λ i l e. held_is i (never i) ∙ in_block i l e;
     ended = λ f. let r = runs_on e in let n : ⊥ = cc in absurd n;
   }
-
-  held_and : (i : ℕ) → ((j : ℕ) → j ≢ i → ends_section j b ≡ false) → HasHeldAnd i q
-  held_and i never j l e ne = held_is j (never j ne) ∙ in_block j l e
 
   lock_in_range : (i : ℕ) → has b.held i ≡ true → i < locks k
   lock_in_range i e = subst (λ (x : Shown). i < length x.guards) m.of (known_in q i (locked_in q i) s refl (m.locks i ∙ e))
@@ -112,7 +106,7 @@ module _ (k : Terms) (worker : ℕ) (b : Block) (q : PackageView) (s : IsSoundPa
       let has = (after_of k.image.value worker (Unlocked i) b q s m).released i m.end_is in record {
         release = may_release k worker (Unlocked i) b q s m v i image is has (unlocked_ends i b m.end_is);
         runs = runs_on k worker (Unlocked i) b q s m refl;
-        locks_in = held_and k worker (Unlocked i) b q s m i (λ j ne. unlocked_other i j b m.end_is ne);
+        locks_in = λ j l e ne. held_is k worker (Unlocked i) b q s m j (unlocked_other i j b m.end_is ne) ∙ in_block k worker (Unlocked i) b q s m j l e;
       }
 
   pub may_park : IsAfterBlock k.image.value worker Slept b q → MayPark k q

@@ -22,4 +22,4 @@ pub use Rattle.tc_combiner.specs.Release.{AreSameSeats, AtSeat, DidHand, DidLeav
 pub use Rattle.tc_combiner.specs.Settling.{DidAcquire, DidEnd, DidUnlock, HasSettled, IsAfterBlock, IsInHand, Keeps, KeepsParts, MayAcquire, MayCommit, MaySettle, MovesSealed, SettledAs}
 pub use Rattle.tc_combiner.specs.Ties.{EnterTie, LeaveTie, line_of}
 pub use Rattle.tc_combiner.specs.View.{AreSeats, BenchView, DeskView, FitsBench, HasSeats, IsSeatFor, desk_of, no_seat}
-pub use Rattle.tc_combiner.specs.Walks.{Acted, Acts, Adds, AreAsked, Asked, Asks, HasSeenStop, HaveNoStop, IsAt, IsAtHall, IsTaken, LooksBetween, MayAct, MayBringHome, MayGive, Moves, Owned, Owns, Shows, TakesDown, Tried, TriedAs, WaitedAs, Waits, counts, packed, ready_in, saw, saw_if, unanswered}
+pub use Rattle.tc_combiner.specs.Walks.{Acted, Acts, Adds, AreAsked, AskedTimes, Asks, HasSeenStop, HaveNoStop, IsAt, IsAtHall, IsTaken, LooksBetween, MayAct, MayBringHome, MayGive, Moves, Owned, Owns, Shows, TakesDown, Tried, TriedAs, WaitedAs, Waits, counts, packed, ready_in, saw, saw_if, unanswered}

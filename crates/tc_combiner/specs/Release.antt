@@ -80,8 +80,7 @@ pub record DidHand (k : Terms) (l : LockView) (b : Block) (u : Turn) (xs : List 
   pub aside : g.aside ≡ h.aside
   pub became : HandedAs k.image.value l b u calls r
 
--- lock i came out of the package q, which is p then, and xs is in hand besides; How: what became of the lock that came out, with
--- these calls and no others
+-- lock i came out of the package q, which is p then, with xs in hand besides; How: what became of it, with these calls and no others
 pub record GaveUp (k : Terms) (i : ℕ) (q p : PackageView) (xs : List Item) (s t : SeatView) (h g : Hands) (How : LockView → List Call → Type 0) : Type 0 where
   pub calls : List Call
   pub acted : Acted k calls (Pack q ∷ []) (Pack p ∷ xs) h g
@@ -99,8 +98,7 @@ DidPass k i b q p s t h g r = GaveUp k i q p (handed r) s t h g (λ l cs. Follow
 abbrev pub PassedAs : Shown → ℕ → PackageView → Block → SeatView → SeatView → List Call → Passed → Type 0
 PassedAs image i q b s t cs r = (l : LockView) × (locked_in q i ≡ Some l) × FollowedAs image l b (turn_of q i) s t cs r
 
--- how a block's unlock of lock i was settled, with these calls and no others: what became of the lock, and then of the package
--- q without it
+-- how an unlock of lock i was settled, with these calls and no others: what became of the lock, and then of package q without it
 abbrev pub UnlockedAs : Shown → ℕ → ℕ → PackageView → Block → SeatView → SeatView → Option PackageView → Option PackageView → List Call → Settled → Type 0
 UnlockedAs image worker i q b s t a c cs (GoesOn r) = (ds es : List Call) × (cs ≡ ds ++ es) × PassedAs image i q b s t ds Gone × WentOn image worker (without_lock i q) a c es (GoesOn r)
 UnlockedAs image worker i q b s t a c cs (Did_adopt r) = (ds es : List Call) × (cs ≡ ds ++ es) × PassedAs image i q b s t ds (Was_adopted r) × SetAside (without_lock i q) a c es × IsGood r image worker
@@ -128,8 +126,7 @@ pub record AtSeat (i : ℕ) (ss ts : List SeatView) (P : SeatView → SeatView �
   pub others : (j : ℕ) → j ≢ i → seat_at ts j ≡ seat_at ss j
   pub here : P (seat_at ss i) (seat_at ts i)
 
--- the thread of package q, one of the hall, has ended with the block b, a block of this pass, and the locks in it are those of that
--- block, of the hall too
+-- the thread of package q ended with the block b, a block of this pass; the locks in it are those of b, and all are of the hall
 pub record MayEnd (k : Terms) (v : Knows) (b : Block) (q : PackageView) : Type 0 where
   pub of : q.image ≡ v.image
   pub thread : q.context.thread < threads k

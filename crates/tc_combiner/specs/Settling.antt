@@ -21,16 +21,14 @@ pub record Works (d e : DeskView) : Type 0 where
 abbrev pub TellsReady : Terms → Settled → DeskView → DeskView → Type 0
 TellsReady k r d e = (cs : List Call) × Adds cs d.pass.knows e.pass.knows × HasReadied (threads k) r [] e.handed cs
 
--- what a call of a desk that had the package q keeps and tells; whoever had its packages out, apart from anything else, has out
--- what the answer carries and what is set aside then
+-- what a call of a desk with the package q in hand keeps, moves and tells: out then are what it answers and what is set aside
 pub record Keeps (b : BenchView) (q : PackageView) (d e : DeskView) (r : Settled) : Type 0 where
   pub works : Works d e
   pub moves : Moves d.pass.knows e.pass.knows (Pack q ∷ packed d.aside) (carried r ++ packed e.aside)
   pub readied : TellsReady b.hall.terms r d e
   pub fits : FitsBench b e
 
--- what such a call does with the parts of a desk; x, y: its rest before and after; p, a: its pass and what was set aside; g: its
--- hands now
+-- so it is with the parts of a desk; x, y: its rest; p, a: its pass and what was set aside; g: its hands now
 pub record KeepsParts (k : Terms) (q : PackageView) (ss ts : List SeatView) (x y : Rest) (p : PassView) (a : Option PackageView) (g : Hands) (r : Settled) : Type 0 where
   pub calls : List Call
   pub acts : Acts calls (Pack q ∷ packed a) (carried r ++ packed g.aside) p g.pass

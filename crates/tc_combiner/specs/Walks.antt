@@ -59,11 +59,9 @@ unanswered [] = 0
 unanswered (Next x None ∷ cs) = unanswered cs + 1
 unanswered (c ∷ cs) = unanswered cs
 
--- the seat asked for a turn and was not answered so many times
-pub record Asked (times : ℕ) (s t : SeatView) : Type 0 where
-  pub lines : List LineCall
-  pub calls : t.calls ≡ s.calls ++ lines
-  pub count : unanswered lines ≡ times
+-- so it asked, and was not answered so many times
+abbrev pub AskedTimes : ℕ → Turn → SeatView → SeatView → Type 0
+AskedTimes n u s t = (a : Asks u s t) × (unanswered a.lines ≡ n)
 
 -- who stands behind the turn, as the seat shows it
 abbrev pub AskedAs : Turn → SeatView → SeatView → Found → Type 0
@@ -80,8 +78,7 @@ abbrev pub counts : Call → Bool
 counts (Stopped x) = x == 1
 counts c = true
 
--- of the calls that were added, none of them a stop, these count, in this order; image, worker, sealed blocks and joined passes
--- stay
+-- these of the added calls count, in this order, and none is a stop; image, worker, sealed blocks and joined passes stay
 pub record Adds (ds : List Call) (v w : Knows) : Type 0 where
   pub calls : List Call
   pub told : Called calls v w
@@ -151,12 +148,12 @@ abbrev pub Waits : PassView → PassView → Type 0
 Waits p q = Acts [] [] [] p q × LooksEachTime p.knows q.knows
 
 -- after the first question each that was not answered was followed by one call
-abbrev pub LooksAfterFirst : SeatView → SeatView → Knows → Knows → Type 0
-LooksAfterFirst s t v w = (n m : ℕ) × Asked n s t × Tried 0 m v w × (m ≤ n) × (n ≤ m + 1)
+abbrev pub LooksAfterFirst : Turn → SeatView → SeatView → Knows → Knows → Type 0
+LooksAfterFirst u s t v w = (n m : ℕ) × AskedTimes n u s t × Tried 0 m v w × (m ≤ n) × (n ≤ m + 1)
 
 -- so it was before each look
-abbrev pub LooksBetween : SeatView → SeatView → Knows → Knows → Type 0
-LooksBetween s t v w = (m : ℕ) × Asked (m + 1) s t × Tried 0 m v w
+abbrev pub LooksBetween : Turn → SeatView → SeatView → Knows → Knows → Type 0
+LooksBetween u s t v w = (m : ℕ) × AskedTimes (m + 1) u s t × Tried 0 m v w
 
 -- the package may be put at the place in the pass, one of this hall
 pub record MayGive (hall : HallView) (p : PassView) (to : Place) (q : PackageView) : Type 0 where

@@ -6,7 +6,7 @@ ghost use Rattle.tc_hall.specs.Outs.{Pack, Loose};
 ghost use Rattle.tc_queue.specs.Lines.{MayCall, Next, with_line};
 ghost use Rattle.tc_queue.specs.Words.{IsTurn};
 ghost use Rattle.tc_combiner.specs.Packages.{IsWaiter};
-ghost use Rattle.tc_combiner.specs.Walks.{Asked, Asks, AskedAs, Acts, LooksAfterFirst, IsTaken, TriedAs, WaitedAs, came_of, saw_at_unknown};
+ghost use Rattle.tc_combiner.specs.Walks.{AskedAs, AskedTimes, Acts, LooksAfterFirst, IsTaken, TriedAs, WaitedAs, came_of, saw_at_unknown};
 ghost use Rattle.tc_combiner.specs.declared.found.Found.TheVariants.{Unknown};
 
 use crate::attempt::Attempt;
@@ -127,9 +127,8 @@ pub(crate) fn await_waiter<R: Wait>(
 // Asks once for the turn behind, and leaves where there is none.
 fn ask<R: Wait, Q: Waiters>(rt: &R, queue: &Q, seat: &mut Q::Seat, own: Turn) -> Found
     requires asks { MayCall (Q.queue queue.now) (Q.seen seat.old) own }
-    ensures asks { Asks own (Q.seen seat.old) (Q.seen seat.new) }
     ensures found { AskedAs own (Q.seen seat.old) (Q.seen seat.new) result }
-    ensures once { (n : ℕ) × Asked n (Q.seen seat.old) (Q.seen seat.new) × (n ≤ 1)
+    ensures once { (n : ℕ) × AskedTimes n own (Q.seen seat.old) (Q.seen seat.new) × (n ≤ 1)
         × (result ≡ Unknown → n ≡ 1) }
 {
     if let Some(next) = queue.next(rt, seat, own) {
@@ -153,9 +152,8 @@ pub(crate) fn find_next<R: Wait, Q: Waiters>(
     requires own { pass.old.table ≡ hall.now.table }
     requires asks { MayCall (Q.queue queue.now) (Q.seen seat.old) own }
     ensures acts { Acts (saw_at_unknown result) [] [] pass.old pass.new }
-    ensures asks { Asks own (Q.seen seat.old) (Q.seen seat.new) }
     ensures found { AskedAs own (Q.seen seat.old) (Q.seen seat.new) result }
-    ensures looks { LooksAfterFirst (Q.seen seat.old) (Q.seen seat.new)
+    ensures looks { LooksAfterFirst own (Q.seen seat.old) (Q.seen seat.new)
         pass.old.knows pass.new.knows }
 {
     match ask(rt, queue, seat, own) {

@@ -1,9 +1,10 @@
 use Rattle.std.proofs.Common.{ℕ, List, [], ◌∷◌, refl, sym, ap, ◌∙◌, subst, map, arith, length, length-set}
-use Rattle.tc_combiner.proofs.Vocabulary.{Did_park, End, GoesOn, IsGood, Pack, Rest, SettledAs, Shown, desk_of, packed, threads}
+use Rattle.tc_combiner.proofs.Vocabulary.{Did_park, End, GoesOn, Hands, IsGood, Pack, Rest, SettledAs, Shown, desk_of, packed, threads}
 use Rattle.tc_combiner.proofs.Acting.{acts_none, takes_none}
 use Rattle.tc_combiner.proofs.Ending.{same_seats, seats_first}
 use Rattle.tc_combiner.proofs.Settling.{after_last, did_acquire, did_end, did_unlock, ended, keeps_of, may_ask, may_begin, may_continue, may_end, may_park, may_unlock, settled_end, some_block}
 use Rattle.tc_combiner.proofs.Unlocking.{going_good}
+use Rattle.tc_combiner.proofs.Answering.{keeps_answers}
 use Rattle.tc_combiner.proofs.settle.settle_with.Goals as goal
 
 pub last-block-requires : goal.last-block-requires
@@ -45,15 +46,10 @@ returns-in-Cut-clause-settled g c =
     (c.last-block.result, c.last-block.ensures, subst (λ (x : End). SettledAs x c.args.«package» c.last-block.result (desk_of c.args.hands.now.pass (map g.Q.Waiters.seen c.args.seats.now) c.args.rest.now.sleepers c.args.rest.now.clock c.args.hands.now.aside c.args.hands.now.ready.items) (desk_of c.args.hands.now.pass (map g.Q.Waiters.seen c.args.seats.now) c.args.rest.now.sleepers c.args.rest.now.clock c.args.hands.now.aside c.clear.new.self.items) (GoesOn c.args.«package»)) (sym c.in-Cut.is) (refl, ap (λ (hs : List ℕ). desk_of c.args.hands.now.pass (map g.Q.Waiters.seen c.args.seats.now) c.args.rest.now.sleepers c.args.rest.now.clock c.args.hands.now.aside hs) c.clear.ensures, subst (λ (x : Shown). IsGood c.args.«package» x c.args.hands.now.pass.knows.worker) (sym c.requires.hands.image) good))
 
 pub returns-in-Cut-clause-keeps : goal.returns-in-Cut-clause-keeps
-returns-in-Cut-clause-keeps g c = record {
-  calls = [];
-  acts = acts_none c.args.hands.now.pass (Pack c.args.«package» ∷ packed c.args.hands.now.aside);
-  readied = takes_none (threads c.args.shared.now.hall.now.terms) [] c.clear.new.self.items [] c.clear.ensures refl;
-  aside = c.requires.hands.aside;
-  seats = seats_first (map g.Q.Waiters.seen c.args.seats.now);
-  clock = refl;
-  room = refl;
-}
+returns-in-Cut-clause-keeps g c =
+    let h : Hands = record c.args.hands.now { ready = c.clear.new.self } in
+    let answers = keeps_answers c.args.shared.now.hall.now [] c.args.«package» h h (GoesOn c.args.«package») c.requires.hands (acts_none c.args.hands.now.pass (Pack c.args.«package» ∷ packed c.args.hands.now.aside)) (takes_none (threads c.args.shared.now.hall.now.terms) c.clear.new.self.items c.clear.new.self.items [] refl refl) refl in
+    keeps_of c.args.shared.now.hall.now.terms [] c.args.«package» (map g.Q.Waiters.seen c.args.seats.now) (map g.Q.Waiters.seen c.args.seats.now) c.args.rest.now c.args.rest.now h h (GoesOn c.args.«package») c.clear.ensures answers (seats_first (map g.Q.Waiters.seen c.args.seats.now)) refl refl
 
 pub ended_with-requires-clause-hands : goal.ended_with-requires-clause-hands
 ended_with-requires-clause-hands g c = λ κs b. may_begin c.args.shared.now.hall.now _ _ _ c.requires.hands c.clear.ensures (omega arith)
