@@ -103,7 +103,7 @@ one_back v w q xs h e = subst (λ (o : Outs). Owns nothing o xs) (sym e) h.1
 -- one that is set aside may be put back
 pub aside_good : (b : BenchView) (d : DeskView) (q : PackageView) → FitsBench b d → d.aside ≡ Some q → IsGoodFor d.pass.knows q
 aside_good b d q h e =
-    let a = h.aside q e in
+    let a = (h.aside q e).goes in
     plain_good (threads b.hall.terms) q d.pass.knows a.plain a.runs (a.of ∙ (h.hall ∙ sym h.image))
 
 pub out_aside : (v : Knows) (a b : Option PackageView) → a ≡ b → HasOut v (packed a) → HasOut v (packed b)
