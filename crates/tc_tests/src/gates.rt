@@ -239,7 +239,7 @@ fn is_wish(last: Option<Point>, thread: u32) -> bool {
 /// a lock. None: it has shipped another one.
 fn shipments(reports: &[Report], worker: u32) -> Option<usize> {
     let mut last = None;
-    let mut count = 0;
+    let mut count: usize = 0;
     for (by, point) in reports {
         if *by != worker {
             continue;
