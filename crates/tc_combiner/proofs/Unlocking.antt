@@ -160,10 +160,6 @@ module _ (hall : HallView) (q : PackageView) (h g : Hands) (hands : MayAct hall 
   sets_later None c e f = let n : ⊥ = cc in absurd n
   sets_later (Some x) c e f = (f, refl)
 
-  sets_first : (a c : Option PackageView) → a ≡ None → c ≡ Some q → SetAside q a c []
-  sets_first None c e f = (f, refl)
-  sets_first (Some x) c e f = let n : ⊥ = cc in absurd n
-
   pub sets_behind : IsAside hall.terms q → is_some h.aside ≡ true → g.aside ≡ h.aside → Acts (put_call q Ready ∷ []) (Pack q ∷ []) [] h.pass g.pass → g.ready.items ≡ h.ready.items ++ q.context.thread ∷ [] → PutsAside hall.terms q h g
   sets_behind i some f a e = record {
     calls = put_call q Ready ∷ [];
@@ -176,6 +172,6 @@ module _ (hall : HallView) (q : PackageView) (h g : Hands) (hands : MayAct hall 
   sets_alone i none f a e = record {
     calls = [];
     acted = record { acts = subst₂ (λ (x y : Option PackageView). Acts [] (Pack q ∷ packed x) (packed y) h.pass g.pass) (sym none) (sym f) a; readied = takes_none (threads hall.terms) h.ready.items g.ready.items [] e refl };
-    set = sets_first h.aside g.aside none f;
+    set = subst (λ (x : Option PackageView). SetAside q x g.aside []) (sym none) (f, refl);
     aside = λ b x. let y : Some q ≡ Some b = sym f ∙ x in let z : q ≡ b = cc in subst (λ (c : PackageView). IsAside hall.terms c) z i;
   }
