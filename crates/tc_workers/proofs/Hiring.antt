@@ -1,25 +1,27 @@
 -- Workers that have not begun.
-use Rattle.std.proofs.Common.{◌≡◌, ℕ, zero, suc, ◌+◌, ◌-◌, ◌<◌, List, [], ◌∷◌, ◌++◌, All, length, replicate, get_or, refl, sym, ap, ◌∙◌, subst, ⊎_elim, arith, Option, None, length-append}
+use Rattle.std.proofs.Common.{◌≡◌, ℕ, zero, suc, ◌+◌, ◌-◌, ◌<◌, List, [], ◌∷◌, ◌++◌, All, length, replicate, get_or, refl, sym, ap, ◌∙◌, subst, ⊎_elim, arith, Option, Some, None, length-append}
 use mathlib.Core.Option.{some}
 use lib.ListN.{get_elem?, length-replicate}
-use Rattle.atomic_table.specs.Seated.{TableId}
 use Rattle.atomic_table.proofs.Lists.{at_longer, at_last}
 use Rattle.tc_elf.specs.Shown.{Shown}
 use Rattle.tc_mutex_spec.proofs.ListLaws.{there}
 use Rattle.tc_queue.specs.Lines.{SeatView}
 use Rattle.tc_hall.specs.declared.board.Knows.{Knows}
 use Rattle.tc_hall.specs.Made.{AreDealt}
-use Rattle.tc_hall.specs.Outs.{outs}
+use Rattle.tc_hall.specs.Outs.{nothing, outs}
 use Rattle.tc_hall.specs.PassView.{PassView}
 use Rattle.tc_hall.specs.Rule.{threads, locks}
 use Rattle.tc_hall.specs.Steps.{IsNew}
 use Rattle.tc_hall.proofs.Outs.{same_outs}
 use Rattle.tc_hall.proofs.Telling.{snoc_at}
+use Rattle.std.proofs.lemmas.List.Elements.{All-pop}
 use Rattle.std.proofs.lemmas.Option.{slice_get-get_or}
+use Rattle.tc_ready.proofs.Crews.{last_all}
 use Rattle.tc_ready.specs.ReadyView.{ReadyView, AreCrew}
-use Rattle.tc_combiner.specs.View.{BenchView, AreSeats, desk_of}
-use Rattle.tc_workers.specs.Worker.{WorkerView, nothing}
-use Rattle.tc_workers.specs.Crew.{AreHired, AreSeatsOf, IsBench, IsDealt, IsHired, AreAtWork}
+use Rattle.tc_combiner.specs.View.{BenchView, AreSeats, FitsBench, desk_of}
+use Rattle.tc_workers.specs.Worker.{IsSeated, worker_of}
+use Rattle.tc_workers.specs.Crew.{AreForHire, AreHired, AreSeatsOf, IsBench, IsForHire, IsHired, AreAtWork}
+use Rattle.tc_workers.specs.declared.worker.Worker.{Worker}
 
 none_at : {A : Type 0} (n u : ℕ) → get_or {A = Option A} (replicate n None) u None ≡ None
 none_at zero u = refl
@@ -38,87 +40,93 @@ at_itself [] i d h = absurd (omega arith)
 at_itself (x ∷ xs) zero d h = refl
 at_itself (x ∷ xs) (suc i) d h = at_itself xs i d (omega arith)
 
--- the places of the locks of a bench
-module _ (b : BenchView) (is : IsBench b) where
-  pub locks_are : locks b.hall.terms ≡ length b.image.guards
-  locks_are = ap (λ (x : Shown). length x.guards) is.hall
-
-  pub threads_are : threads b.hall.terms ≡ length b.image.entries
-  threads_are = ap (λ (x : Shown). length x.entries) is.hall
-
-  all_seats : (ss : List SeatView) → AreSeatsOf b.queues ss → AreSeats b.hall.terms b.queues ss
-  all_seats ss of i q s h = let l = locks_are in let c = is.queues.count in let d = of.count in record {
-    of = of.each i (get_or b.queues i q) (get_or ss i s) (at_itself b.queues i q (omega arith)) (at_itself ss i s (omega arith));
-    made = is.queues.made i (get_or b.queues i q) (at_itself b.queues i q (omega arith)) ∙ sym threads_are;
-  }
-
-  -- a worker with a new pass
-  pub new_worker : (p : PassView) (ss : List SeatView) (r : ReadyView) (sleepers : List (Option ℕ)) (n : ℕ) → IsDealt b p → AreSeatsOf b.queues ss → r.threads ≡ threads b.hall.terms → n ≡ length b.image.entries → sleepers ≡ replicate n None → IsHired b p.knows.worker (record { desk = desk_of p ss sleepers 0 None []; ready = r })
-  new_worker p ss r sleepers n dealt of made few asleep = let rooms : length sleepers ≡ threads b.hall.terms = ap (λ (l : List (Option ℕ)). length l) asleep ∙ (length-replicate n None ∙ (few ∙ sym threads_are)) in record {
-    work = record {
-      desk = record {
-        fits = record {
-          hall = is.hall;
-          own = dealt.own;
-          image = dealt.new.of;
-          count = is.queues.count ∙ sym locks_are;
-          seats = of.count ∙ (is.queues.count ∙ sym locks_are);
-          of = all_seats ss of;
-          sleepers = omega arith;
-          aside = λ a e. absurd (cc e);
-          out = (outs p.knows, refl);
-        };
-        sleepers = rooms;
-        out = new_out b.image (length b.image.entries) (length b.image.guards) p.knows.worker p.knows dealt.new;
-        fit = tt;
-      };
-      ready = made;
-    };
-    worker = refl;
-  }
-
--- the last pass, and the others
-pub dealt_last : (image : Shown) (n m k : ℕ) (z : TableId) (ps qs : List PassView) (p : PassView) → AreDealt image n m k z ps → ps ≡ qs ++ p ∷ [] → AreDealt image n m (length qs) z qs × ((p.table ≡ z) × IsNew image n m (length qs) p.knows)
-dealt_last image n m k z ps qs p all is = (
-  record { count = refl; each = λ i r e. all.each i r (ap (λ (l : List PassView). get_elem? l i) is ∙ at_longer qs (p ∷ []) i r e) },
-  all.each (length qs) p (ap (λ (l : List PassView). get_elem? l (length qs)) is ∙ at_last qs p (length qs) refl),
-)
-
--- its worker has its number
-pub dealt_worker : (image : Shown) (n m i : ℕ) (v : Knows) → IsNew image n m i v → v.worker ≡ i
-dealt_worker image n m i v new = ap (λ (w : Knows). w.worker) new.now
-
-pub dealt_as : (b : BenchView) (i : ℕ) (p : PassView) → p.table ≡ b.hall.table → IsNew b.image (length b.image.entries) (length b.image.guards) i p.knows → IsDealt b p
-dealt_as b i p own new = record {
-  own = own;
-  new = subst (λ (j : ℕ). IsNew b.image (length b.image.entries) (length b.image.guards) j p.knows) (sym (dealt_worker b.image (length b.image.entries) (length b.image.guards) i p.knows new)) new;
-}
-
 -- a list is one longer than without its last
 pub one_longer : {A : Type 0} (xs ys : List A) (x : A) → xs ≡ ys ++ x ∷ [] → length xs ≡ length ys + 1
 one_longer xs ys x is = ap (λ l. length l) is ∙ length-append ys (x ∷ [])
 
--- one worker more
-pub hired_more : (b : BenchView) (count k number : ℕ) (ws vs : List WorkerView) (w : WorkerView) → AreHired b count k ws → IsHired b number w → number + k + 1 ≡ count → vs ≡ ws ++ w ∷ [] → AreHired b count (k + 1) vs
-hired_more b count k number ws vs w old new sum is = subst (AreHired b count (k + 1)) (sym is) record {
-  all = let l = length-append ws (w ∷ []) in let a = old.all in omega arith;
-  each = λ i other v e same. ⊎_elim
-      (λ (h : get_elem? ws i ≡ some v). old.each i other v h same)
-      (λ (h : (i ≡ length ws) × (w ≡ v)). let a = old.all in let at = h.0 in let n : number ≡ other = omega arith in subst (λ (z : ℕ × WorkerView). IsHired b z.0 z.1) (λ j. (n j, h.1 j)) new)
-      (snoc_at ws w v i e);
+-- a worker with a new pass
+module _ (b : BenchView) (p : PassView) (ss : List SeatView) (r : ReadyView) (h : IsForHire b p ss r) where
+  locks_are : locks b.hall.terms ≡ length b.image.guards
+  locks_are = ap (λ (x : Shown). length x.guards) h.bench.hall
+
+  threads_are : threads b.hall.terms ≡ length b.image.entries
+  threads_are = ap (λ (x : Shown). length x.entries) h.bench.hall
+
+  all_seats : AreSeats b.hall.terms b.queues ss
+  all_seats i q s low = let l = locks_are in let c = h.bench.queues.count in let d = h.seats.count in let at = at_itself b.queues i q (omega arith) in record {
+    of = h.seats.each i (get_or b.queues i q) (get_or ss i s) at (at_itself ss i s (omega arith));
+    made = h.bench.queues.made i (get_or b.queues i q) at ∙ sym threads_are;
+  }
+
+  pub new_worker : {Q S P : Type 0} (sleepers : List (Option ℕ)) (n : ℕ) → n ≡ length b.image.entries → sleepers ≡ replicate n None → IsHired {Q = Q} {S = S} {P = P} b p.knows.worker (worker_of (desk_of p ss sleepers 0 None []) r)
+  new_worker sleepers n few asleep =
+      let rooms : length sleepers ≡ threads b.hall.terms = ap (λ (l : List (Option ℕ)). length l) asleep ∙ (length-replicate n None ∙ (few ∙ sym threads_are)) in
+      let count = h.bench.queues.count ∙ sym locks_are in
+      let fits : FitsBench b (desk_of p ss sleepers 0 None []) = record {
+        hall = h.bench.hall;
+        own = h.own;
+        image = h.new.of;
+        count = count;
+        seats = h.seats.count ∙ count;
+        of = all_seats;
+        sleepers = omega arith;
+        aside = λ a e. absurd (cc e);
+        out = (outs p.knows, refl);
+      } in
+      let seat : IsSeated b [] (desk_of p ss sleepers 0 None []) = record { fits = fits; sleepers = rooms; out = new_out b.image (length b.image.entries) (length b.image.guards) p.knows.worker p.knows h.new } in
+      record { work = record { desk = record { seat = seat; fit = tt }; ready = h.ready }; worker = refl }
+
+-- the last one that is for hire, and the others
+pub last_hired : {X : Type 0} (b : BenchView) (seen : X → List SeatView) (ps qs : List PassView) (xs ys : List X) (rs us : List ReadyView) (p : PassView) (x : X) (r : ReadyView) → AreForHire b seen ps xs rs → ps ≡ qs ++ p ∷ [] → xs ≡ ys ++ x ∷ [] → rs ≡ us ++ r ∷ []
+    → AreForHire b seen qs ys us × IsForHire b p (seen x) r × (p.knows.worker ≡ length qs)
+last_hired {X = X} b seen ps qs xs ys rs us p x r h pass row ready =
+    let last = h.passes.each (length qs) p (ap (λ (l : List PassView). get_elem? l (length qs)) pass ∙ at_last qs p (length qs) refl) in
+    let number : p.knows.worker ≡ length qs = ap (λ (w : Knows). w.worker) last.1.now in
+    let fewer = one_longer ps qs p pass in
+    let rows = one_longer xs ys x row in
+    let members = one_longer rs us r ready in
+    let seats = h.seats.0 in
+    let crew = h.ready.0 in (
+      record {
+        bench = h.bench;
+        passes = record { count = refl; each = λ i q e. h.passes.each i q (ap (λ (l : List PassView). get_elem? l i) pass ∙ at_longer qs (p ∷ []) i q e) };
+        seats = (omega arith, (All-pop (λ (y : X). AreSeatsOf b.queues (seen y)) xs ys (Some x) row h.seats.1).0);
+        ready = (omega arith, (All-pop (λ (u : ReadyView). u.threads ≡ threads b.hall.terms) rs us (Some r) ready h.ready.1).0);
+      },
+      record {
+        bench = h.bench;
+        own = last.0;
+        new = subst (λ (j : ℕ). IsNew b.image (length b.image.entries) (length b.image.guards) j p.knows) (sym number) last.1;
+        seats = last_all (λ (y : X). AreSeatsOf b.queues (seen y)) ys xs x row h.seats.1;
+        ready = last_all (λ (u : ReadyView). u.threads ≡ threads b.hall.terms) us rs r ready h.ready.1;
+      },
+      number,
+    )
+
+module _ {Q S P : Type 0} where
+  -- one worker more
+  pub hired_more : (b : BenchView) (count k number : ℕ) (ws vs : List (Worker Q S P)) (w : Worker Q S P) → AreHired b count k ws → IsHired b number w → number + k + 1 ≡ count → vs ≡ ws ++ w ∷ [] → AreHired b count (k + 1) vs
+  hired_more b count k number ws vs w old new sum is = subst (AreHired b count (k + 1)) (sym is) record {
+    all = let l = length-append ws (w ∷ []) in let a = old.all in omega arith;
+    each = λ i other v e same. ⊎_elim
+        (λ (h : get_elem? ws i ≡ some v). old.each i other v h same)
+        (λ (h : (i ≡ length ws) × (w ≡ v)). let a = old.all in let at = h.0 in let n : number ≡ other = omega arith in subst (λ (z : ℕ × Worker Q S P). IsHired b z.0 z.1) (λ j. (n j, h.1 j)) new)
+        (snoc_at ws w v i e);
+  }
+
+  pub none_hired : (b : BenchView) (count : ℕ) (ws : List (Worker Q S P)) → ws ≡ [] → AreHired b count 0 ws
+  none_hired b count ws is = subst (AreHired b count 0) (sym is) record { all = refl; each = λ i number w e. let low = (there [] i w w e).0 in absurd (omega arith) }
+
+  -- all of them are at work
+  pub at_work : (b : BenchView) (n : ℕ) (ws : List (Worker Q S P)) → AreHired b n n ws → AreAtWork b ws
+  at_work b n ws all i w e = let h = there ws i w w e in let low = h.0 in let a = all.all in (all.each i (n - 1 - i) w e (omega arith)).work
+
+-- all of a hall are for hire, with the rows and the ready threads of as many workers
+pub for_hire : {X : Type 0} (b : BenchView) (seen : X → List SeatView) (workers n room : ℕ) (ps : List PassView) (xs : List X) (rs : List ReadyView) → IsBench b → AreDealt b.image (length b.image.entries) (length b.image.guards) workers b.hall.table ps
+    → length xs ≡ workers → All (λ row. AreSeatsOf b.queues (seen row)) xs → AreCrew workers n room rs → n ≡ threads b.hall.terms → AreForHire b seen ps xs rs
+for_hire b seen workers n room ps xs rs bench dealt count rows crew same = record {
+  bench = bench;
+  passes = record { count = refl; each = dealt.each };
+  seats = (count ∙ sym dealt.count, rows);
+  ready = (crew.count.0 ∙ sym dealt.count, λ k d lt. ap (λ (r : ReadyView). r.threads) (crew.each k (get_or rs k d) (slice_get-get_or rs k d lt)) ∙ same);
 }
-
-pub none_hired : (b : BenchView) (count : ℕ) (ws : List WorkerView) → ws ≡ [] → AreHired b count 0 ws
-none_hired b count ws is = subst (AreHired b count 0) (sym is) record { all = refl; each = λ i number w e. absurd (nowhere i w e) }
-  where
-    nowhere : (i : ℕ) (w : WorkerView) → get_elem? [] i ≡ some w → ⊥
-    nowhere zero w e = cc e
-    nowhere (suc i) w e = cc e
-
--- all of them are at work
-pub at_work : (b : BenchView) (n : ℕ) (ws : List WorkerView) → AreHired b n n ws → AreAtWork b ws
-at_work b n ws all i w e = let h = there ws i w w e in let low = h.0 in let a = all.all in (all.each i (n - 1 - i) w e (omega arith)).work
-
--- the workers of a crew are all for so many threads
-pub crew_threads : (workers n room : ℕ) (rs : List ReadyView) → AreCrew workers n room rs → All (λ r. r.threads ≡ n) rs
-crew_threads workers n room rs crew k d lt = ap (λ (r : ReadyView). r.threads) (crew.each k (get_or rs k d) (slice_get-get_or rs k d lt))

@@ -1,114 +1,98 @@
 -- Packages that are put back where the run was stopped.
-use Rattle.std.proofs.Common.{◌≡◌, Bool, true, List, [], ◌∷◌, ◌++◌, append-nil, Option, Some, None, refl, sym, ap, ◌∙◌, subst}
+use Rattle.std.proofs.Common.{◌≡◌, Bool, true, [], ◌∷◌, ◌++◌, Option, Some, None, refl, sym, ap, ◌∙◌, subst, subst₂}
+use Rattle.tc_elf.specs.Shown.{Shown}
+use Rattle.std.specs.Prelude.{ℕ}
 use Rattle.tc_context.specs.View.{PackageView}
-use Rattle.tc_hall.specs.declared.board.Call.{Call}
 use Rattle.tc_hall.specs.declared.board.Call.TheVariants.{Stop, Stopped as Seen}
-use Rattle.tc_hall.specs.declared.board.Knows.{Knows}
 use Rattle.tc_hall.specs.declared.place.Place.TheVariants.{Ready}
-use Rattle.tc_hall.specs.Outs.{Called, Item}
+use Rattle.tc_hall.specs.Outs.{Called, Outs, Pack, nothing}
 use Rattle.tc_hall.specs.PassView.{PassView}
-use Rattle.tc_hall.specs.Steps.{Gave, HasStop, IsSamePass, SawStopped, after_stop, put_call, with_call}
+use Rattle.tc_hall.specs.Steps.{Gave, HasStop, IsSamePass, MayPut, after_stop, put_call}
 use Rattle.tc_combiner.specs.View.{BenchView, DeskView}
-use Rattle.tc_combiner.specs.Walks.{packed}
+use Rattle.tc_combiner.specs.Walks.{Owns, packed}
 use Rattle.tc_combiner.proofs.Acting.{told_then}
 use Rattle.tc_workers.specs.GoOn.{GivesUp}
-use Rattle.tc_workers.specs.Search.{SawStop}
-use Rattle.tc_workers.specs.Worker.{DidLeave, DidPutBack, HasClaimed, HasOut, IsAtDesk, IsFit, IsStep, IsStill, IsUnmoved, MayGoBack, MayLeave, MayPutBack, put_back}
-use Rattle.tc_workers.specs.declared.step.Step.TheVariants.{Stopped}
-use Rattle.tc_workers.proofs.Desks.{aside_good, at_still, back_still, fits_still, good_back, misfit_out, none_out, one_back, with_pass}
-use Rattle.tc_workers.proofs.Passes.{still_called, still_same, still_then, stop_later, stop_seen}
+use Rattle.tc_workers.specs.Worker.{DidLeave, DidPutBack, IsAtDesk, IsSeated, IsStill, IsUnmoved, LookedAtStop, MayAllGoBack, MayLeave, put_back}
+use Rattle.tc_workers.proofs.Desks.{at_still, fit_back, out_alone, seat_still, seated, still_holds, taken_back, with_pass}
+use Rattle.tc_workers.proofs.Passes.{no_call, one_call, still_called, still_same, still_then, stop_later, stop_shown, stop_told, unmoved_call}
+use Rattle.tc_workers.proofs.Running.{may_put}
 
--- ---- calls
+-- ---- one package, and the one that is set aside
 
-no_call : (v : Knows) → Called [] v v
-no_call v = record { image = refl; worker = refl; sealed = refl; joined = refl; calls = sym (append-nil v.calls) }
+pub back_none : (b : BenchView) (d : DeskView) (o : Option PackageView) → MayLeave b o d → o ≡ None → DidPutBack b o d d
+back_none b d o may none = subst (λ (x : Option PackageView). MayLeave b x d → DidPutBack b x d d) (sym none) (λ m. record { still = still_same d.pass; told = no_call d.pass.knows; may = m; rest = refl }) may
 
-one_call : (v w : Knows) (c : Call) → w ≡ with_call v c → Called (c ∷ []) v w
-one_call v w c e = record { image = ap (λ (x : Knows). x.image) e; worker = ap (λ (x : Knows). x.worker) e; sealed = ap (λ (x : Knows). x.sealed) e; joined = ap (λ (x : Knows). x.joined) e; calls = ap (λ (x : Knows). x.calls) e }
+module _ (b : BenchView) (d : DeskView) (h : Option PackageView) (q : PackageView) (o : PassView) (may : MayLeave b h d) (hand : h ≡ Some q) (is : o ≡ d.pass) where
+  leaves : MayLeave b (Some q) d
+  leaves = subst (λ (x : Option PackageView). MayLeave b x d) hand may
 
-pub saw_stop : (answer : Bool) (v w : Knows) → SawStopped answer v w → answer ≡ true → HasStop w
-saw_stop answer v w s e = stop_seen v w s.word s.now (s.one e)
+  pub may_put_back : MayPut Ready o.knows q
+  may_put_back = subst (λ (z : PassView). MayPut Ready z.knows q) (sym is) (may_put d.pass.knows q leaves.seat.out.0 leaves.may leaves.stop)
 
-pub saw_told : (answer : Bool) (v w : Knows) → SawStopped answer v w → answer ≡ true → Called (Seen 1 ∷ []) v w
-saw_told answer v w s e = subst (λ n. Called (Seen n ∷ []) v w) (s.one e) (one_call v w (Seen s.word) s.now)
+  pub back_some : (p : PassView) → IsSamePass o p → Gave Ready q o.knows p.knows → DidPutBack b h d (with_pass d p)
+  back_some p own gave =
+      let did = subst (λ (z : PassView). IsSamePass z p × Gave Ready q z.knows p.knows) is (own, gave) in
+      let still = still_called (put_call q Ready ∷ []) d.pass p did.0 did.1.called in
+      let seat = seated b (Pack q ∷ []) [] d p d.sleepers d.now d.aside leaves.seat still refl (λ c e. e) (subst (λ (z : Outs). Owns nothing z (packed d.aside)) (sym did.1.rest) leaves.seat.out.1) in
+      let stop = stop_later d.pass.knows p.knows (put_call q Ready ∷ []) did.1.called.calls leaves.stop in
+      subst (λ (x : Option PackageView). DidPutBack b x d (with_pass d p)) (sym hand) record { still = still; told = did.1.called; may = record { seat = seat; may = tt; stop = stop }; rest = refl }
 
--- ---- one package
+pub may_aside : (b : BenchView) (d e : DeskView) (o : Option PackageView) → MayLeave b None d → o ≡ d.aside → e ≡ record d { aside = None } → MayLeave b o e
+may_aside b d e o may given rest =
+    let at : IsAtDesk b o e = taken_back b d e o (record { seat = may.seat; fit = tt }) given rest in
+    record { seat = at.seat; may = fit_back e.pass.knows.image e.pass.knows.worker o at.fit; stop = subst (λ (z : DeskView). HasStop z.pass.knows) (sym rest) may.stop }
 
-pub back_none : (p : PassView) → DidPutBack None p p
-back_none p = record { still = still_same p; told = no_call p.knows; rest = λ xs h. h }
-
-pub back_some : (q : PackageView) (p r : PassView) → IsSamePass p r → Gave Ready q p.knows r.knows → DidPutBack (Some q) p r
-back_some q p r own g = record { still = still_called (put_call q Ready ∷ []) p r own g.called; told = g.called; rest = λ xs h. one_back p.knows r.knows q xs h g.rest }
-
-may_back : (v : Knows) (hand : Option PackageView) (xs : List Item) → HasOut v (packed hand ++ xs) → ((q : PackageView) → hand ≡ Some q → MayGoBack v q) → HasStop v → MayPutBack v hand
-may_back v None xs out may stop = tt
-may_back v (Some q) xs out may stop = (out.0, may q refl, stop)
-
--- ---- all that the desk has
-
-module _ (b : BenchView) (hand : Option PackageView) (d : DeskView) (h : MayLeave b hand d) where
-  pub may_hand : MayPutBack d.pass.knows hand
-  may_hand = may_back d.pass.knows hand (packed d.aside) h.out h.may h.stop
-
-  aside_out : (p : PassView) → DidPutBack hand d.pass p → HasOut p.knows (packed d.aside ++ [])
-  aside_out p did = subst (λ (l : List Item). HasOut p.knows l) (sym (append-nil (packed d.aside))) (did.rest (packed d.aside) h.out)
-
-  pub may_aside : (p : PassView) → DidPutBack hand d.pass p → MayPutBack p.knows d.aside
-  may_aside p did = may_back p.knows d.aside [] (aside_out p did)
-      (λ q e. back_still d.pass.knows p.knows q did.still.image did.still.worker (good_back d.pass.knows q (aside_good b d q h.fits e)))
-      (stop_later d.pass.knows p.knows (put_back hand) did.told.calls h.stop)
-
-  pub has_left : (p r : PassView) → DidPutBack hand d.pass p → DidPutBack d.aside p r → DidLeave hand d (record d { pass = r; aside = None })
-  has_left p r did back = record {
-    still = still_then d.pass p r did.still back.still;
-    told = told_then (put_back hand) (put_back d.aside) d.pass.knows p.knows r.knows did.told back.told;
-    left = record { aside = refl; out = back.rest [] (aside_out p did) };
-  }
-
-  pub left_step : (e : DeskView) → DidLeave hand d e → IsStep b e Stopped
-  left_step e did = (did.left, stop_later d.pass.knows e.pass.knows (put_back hand ++ put_back d.aside) did.told.calls h.stop)
-
--- what is in hand may be put back, once the stop was made or seen
-pub leave_hand : (b : BenchView) (hand : Option PackageView) (d : DeskView) (p : PassView) → IsAtDesk b hand d → IsUnmoved d.pass p → HasStop p.knows → MayLeave b hand (with_pass d p)
-leave_hand b hand d p h u stop =
-    let at : IsAtDesk b hand (with_pass d p) = at_still b hand d p h u in record {
-      fits = at.fits;
-      out = at.out;
-      may = λ q e. good_back p.knows q (subst (λ (o : Option PackageView). IsFit p.knows o) e at.fit);
-      stop = stop;
+pub has_left : (b : BenchView) (hand o : Option PackageView) (d e g f : DeskView) → DidPutBack b hand d e → o ≡ e.aside → g ≡ record e { aside = None } → DidPutBack b o g f → DidLeave hand d f
+has_left b hand o d e g f did given rest last =
+    let back : DidPutBack b d.aside (record e { aside = None }) f = subst₂ (λ (x : Option PackageView) (z : DeskView). DidPutBack b x z f) (given ∙ ap (λ (z : DeskView). z.aside) did.rest) rest last in
+    let none : f.aside ≡ None = ap (λ (z : DeskView). z.aside) back.rest in record {
+      still = still_then d.pass e.pass f.pass did.still back.still;
+      told = told_then (put_back hand) (put_back d.aside) d.pass.knows e.pass.knows f.pass.knows did.told back.told;
+      left = record { aside = none; out = out_alone f.pass.knows [] f.aside none back.may.seat.out };
+      stop = back.may.stop;
     }
 
--- so may a package that was claimed and does not fit
-pub leave_claimed : (b : BenchView) (d : DeskView) (p : PassView) (q : PackageView) → HasClaimed b q d → IsUnmoved d.pass p → HasStop p.knows → MayLeave b (Some q) (with_pass d p)
-leave_claimed b d p q h u stop = record {
-  fits = fits_still b d p h.fits u.still (none_out p.knows d.aside h.aside);
-  out = misfit_out b d p q h u.out;
-  may = λ r e. let is : q ≡ r = cc in subst (λ (z : PackageView). MayGoBack p.knows z) is (back_still d.pass.knows p.knows q u.still.image u.still.worker h.claimed.back);
-  stop = stop;
-}
+-- ---- where a stop was seen
 
-pub claimed_back : (b : BenchView) (d e : DeskView) (p : PassView) (q : PackageView) → HasClaimed b q d → Called (Seen 1 ∷ []) d.pass.knows p.knows → DidLeave (Some q) (with_pass d p) e → SawStop q d.pass.knows e.pass.knows
-claimed_back b d e p q h saw did = told_then (Seen 1 ∷ []) (put_back (Some q)) d.pass.knows p.knows e.pass.knows saw (subst (λ (o : Option PackageView). Called (put_back (Some q) ++ put_back o) p.knows e.pass.knows) h.aside did.told)
+pub at_looked : (b : BenchView) (hand : Option PackageView) (d e : DeskView) (saw : Bool) → IsAtDesk b hand d → LookedAtStop saw d e → IsAtDesk b hand e
+at_looked b hand d e saw h l = subst (IsAtDesk b hand) (sym l.rest) (at_still b hand d e.pass h (unmoved_call d.pass e.pass (Seen l.saw.word) l.own l.saw.now))
 
--- a stop was made
-pub made_told : (v w : Knows) → w ≡ after_stop v → Called (Stop ∷ []) v w
-made_told v w e = one_call v w Stop e
+pub saw_told : (d e : DeskView) (saw : Bool) → LookedAtStop saw d e → saw ≡ true → Called (Seen 1 ∷ []) d.pass.knows e.pass.knows
+saw_told d e saw l seen = subst (λ n. Called (Seen n ∷ []) d.pass.knows e.pass.knows) (l.saw.one seen) (one_call d.pass.knows e.pass.knows (Seen l.saw.word) l.saw.now)
 
-pub gave_up : (d e : DeskView) (p : PassView) (q : PackageView) → p.knows ≡ after_stop d.pass.knows → DidLeave (Some q) (with_pass d p) e → GivesUp q d e
-gave_up d e p q made did = record { told = told_then (Stop ∷ []) (put_back (Some q) ++ put_back d.aside) d.pass.knows p.knows e.pass.knows (made_told d.pass.knows p.knows made) did.told }
+-- what is in hand may be put back
+pub may_leave : (b : BenchView) (hand : Option PackageView) (d e : DeskView) (saw : Bool) → IsSeated b (packed hand) d → MayAllGoBack d.pass.knows.image d.pass.knows.worker hand → LookedAtStop saw d e → saw ≡ true → MayLeave b hand e
+may_leave b hand d e saw seat may l seen =
+    let unmoved = unmoved_call d.pass e.pass (Seen l.saw.word) l.own l.saw.now in record {
+      seat = subst (IsSeated b (packed hand)) (sym l.rest) (seat_still b (packed hand) d e.pass seat unmoved);
+      may = still_holds (λ (i : Shown) (w : ℕ). MayAllGoBack i w hand) d.pass e.pass unmoved.still may;
+      stop = stop_shown d.pass.knows e.pass.knows record { front = []; back = []; is = (saw_told d e saw l seen).calls };
+    }
 
-pub gave_up_from : (d0 d e : DeskView) (q : PackageView) → d0 ≡ d → GivesUp q d0 e → GivesUp q d e
-gave_up_from d0 d e q same did = subst (λ (z : DeskView). GivesUp q z e) same did
+-- and was
+pub left_told : (hand : Option PackageView) (d e f : DeskView) (saw : Bool) → LookedAtStop saw d e → saw ≡ true → DidLeave hand e f → Called (Seen 1 ∷ put_back hand ++ put_back d.aside) d.pass.knows f.pass.knows
+left_told hand d e f saw l seen did = told_then (Seen 1 ∷ []) (put_back hand ++ put_back d.aside) d.pass.knows e.pass.knows f.pass.knows (saw_told d e saw l seen)
+    (subst (λ (o : Option PackageView). Called (put_back hand ++ put_back o) e.pass.knows f.pass.knows) (ap (λ (z : DeskView). z.aside) l.rest) did.told)
 
--- ---- by the names of the calls
+pub left_still : (hand : Option PackageView) (d e f : DeskView) (saw : Bool) → LookedAtStop saw d e → DidLeave hand e f → IsStill d.pass f.pass
+left_still hand d e f saw l did = still_then d.pass e.pass f.pass (unmoved_call d.pass e.pass (Seen l.saw.word) l.own l.saw.now).still did.still
 
--- the desk saw the stop
-module _ (b : BenchView) (d : DeskView) (o p : PassView) (is : o ≡ d.pass) (u : IsUnmoved o p) where
-  pub here_unmoved : IsUnmoved d.pass p
-  here_unmoved = subst (λ (z : PassView). IsUnmoved z p) is u
+-- ---- where a stop was made
 
-  pub may_leave : (hand : Option PackageView) → IsAtDesk b hand d → HasStop p.knows → MayLeave b hand (with_pass d p)
-  may_leave hand at stop = leave_hand b hand d p at here_unmoved stop
+module _ (b : BenchView) (d : DeskView) (o p : PassView) (q : PackageView) (is : o ≡ d.pass) (same : IsSamePass o p) (now : p.knows ≡ after_stop o.knows) where
+  unmoved : IsUnmoved d.pass p
+  unmoved = subst (λ (z : PassView). IsUnmoved z p) is (unmoved_call o p Stop same now)
 
-  pub may_leave_claimed : (q : PackageView) (e : DeskView) → HasClaimed b q e → d ≡ e → HasStop p.knows → MayLeave b (Some q) (with_pass d p)
-  may_leave_claimed q e claimed was stop = leave_claimed b d p q (subst (λ (z : DeskView). HasClaimed b q z) (sym was) claimed) here_unmoved stop
+  made : Called (Stop ∷ []) d.pass.knows p.knows
+  made = one_call d.pass.knows p.knows Stop (subst (λ (z : PassView). p.knows ≡ after_stop z.knows) is now)
+
+  pub may_give_up : IsAtDesk b (Some q) d → MayLeave b (Some q) (with_pass d p)
+  may_give_up h = let at = at_still b (Some q) d p h unmoved in
+      record { seat = at.seat; may = fit_back p.knows.image p.knows.worker (Some q) at.fit; stop = stop_told d.pass.knows p.knows [] made.calls }
+
+  pub gave_up : (e : DeskView) → DidLeave (Some q) (with_pass d p) e → GivesUp q d e
+  gave_up e did = record {
+    still = still_then d.pass p e.pass unmoved.still did.still;
+    left = did.left;
+    told = told_then (Stop ∷ []) (put_back (Some q) ++ put_back d.aside) d.pass.knows p.knows e.pass.knows made did.told;
+  }

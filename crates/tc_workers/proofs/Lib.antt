@@ -2,13 +2,9 @@ pub mod Passes
 pub mod Running
 pub mod Desks
 pub mod Leaving
-pub mod Sealing
 pub mod Turning
-pub mod Searching
-pub mod Offering
 pub mod Crossing
 pub mod Hiring
 pub mod Joining
 pub mod Rows
-pub mod Wholes
 pub mod Playing

@@ -5,23 +5,25 @@ use Rattle.tc_journal.specs.Batch.{ends_section, ends_thread}
 use Rattle.tc_journal.specs.declared.block.Block.{Block}
 use Rattle.tc_journal.specs.declared.block.End.{End}
 use Rattle.tc_journal.specs.declared.block.End.TheVariants.{Wants}
-use Rattle.tc_context.specs.View.{PackageView, IsAfter, IsSoundPackage, want_of}
+use Rattle.tc_context.specs.View.{PackageView, IsAfter, IsSoundPackage}
+use Rattle.tc_hall.specs.declared.board.Call.{Call}
 use Rattle.tc_hall.specs.PassView.{PassView}
-use Rattle.tc_combiner.specs.declared.settled.Settled.{Settled}
+use Rattle.tc_hall.specs.Steps.{IsSamePass, with_call}
 use Rattle.tc_combiner.specs.Packages.{Runs}
-use Rattle.tc_combiner.specs.Settling.{DidAcquire, HasAcquired, HasSettled, IsAfterBlock, MayAcquire}
+use Rattle.tc_combiner.specs.Settling.{IsAfterBlock, MayAcquire}
 use Rattle.tc_combiner.specs.View.{BenchView, DeskView, FitsBench}
 use Rattle.tc_combiner.proofs.Settling.{after_of, wants_ends, wants_lock}
 use Rattle.tc_workers.specs.declared.step.Step.{Step}
 use Rattle.tc_workers.specs.declared.step.Step.TheVariants.{On}
 use Rattle.tc_workers.specs.Worker.{HasSealed, IsAtDesk, IsStep, IsUnmoved}
 use Rattle.tc_workers.specs.Scripts.{IsPlaying}
-use Rattle.tc_workers.proofs.Desks.{aside_taken, at_still, other_sleepers, with_pass}
+use Rattle.tc_workers.proofs.Desks.{at_still, other_sleepers, with_pass}
+use Rattle.tc_workers.proofs.Passes.{unmoved_call}
 
 pub at_bench : (b : BenchView) (d : DeskView) (hand : Option PackageView) (end : Option End) → IsPlaying b d hand end → FitsBench b d
-at_bench b d hand None p = p.fits
+at_bench b d hand None p = p.seat.fits
 at_bench b d None (Some x) p = absurd p
-at_bench b d (Some q) (Some x) p = p.fits
+at_bench b d (Some q) (Some x) p = p.seat.fits
 
 -- no block waits to be settled
 pub at_desk : (b : BenchView) (d : DeskView) (hand h : Option PackageView) (end : Option End) → IsPlaying b d hand end → end ≡ None → hand ≡ h → IsAtDesk b h d
@@ -43,20 +45,17 @@ has_sealed b d (Some r) (Some y) q x p e f = subst (λ (z : Option End). IsPlayi
 pub goes_on : (b : BenchView) (d : DeskView) (s t : Step) (hand : Option PackageView) → IsStep b d s → t ≡ s → t ≡ On hand → IsAtDesk b hand d
 goes_on b d s t hand h e f = subst (λ (z : Step). IsStep b d z) f (subst (λ (z : Step). IsStep b d z) (sym e) h)
 
--- the package that was set aside is in hand
-pub taken_back : (b : BenchView) (d e : DeskView) (hand : Option PackageView) (end : Option End) (q : PackageView) → IsPlaying b d hand end → end ≡ None → hand ≡ None → d.aside ≡ Some q → e ≡ record d { aside = None } → IsPlaying b e (Some q) end
-taken_back b d e hand end q p none empty aside is =
-    let r : Some q ≡ Some q = refl in
-    playing b e (Some q) (Some q) end (subst (λ (z : DeskView). IsAtDesk b (Some q) z) (sym is) (aside_taken b d q (at_desk b d hand None end p none empty) aside)) none r
-
 -- the clock was moved, and a sleeper was woken
 pub woken : (b : BenchView) (d m : DeskView) (hand : Option PackageView) (end : Option End) (sleepers : List (Option ℕ)) (now : ℕ) → IsPlaying b d hand end → end ≡ None → hand ≡ None → m ≡ record d { now = now } → length sleepers ≡ length d.sleepers → IsPlaying b (record m { sleepers = sleepers }) hand end
 woken b d m hand end sleepers now p e f is same =
     playing b (record m { sleepers = sleepers }) hand None end (subst (λ (z : DeskView). IsAtDesk b None (record z { sleepers = sleepers })) (sym is) (other_sleepers b d sleepers now (at_desk b d hand None end p e f) same)) e f
 
 -- the pass made calls, and has out what it had
-pub looked_on : (b : BenchView) (d : DeskView) (q : PassView) (hand : Option PackageView) (end : Option End) → IsPlaying b d hand end → end ≡ None → IsUnmoved d.pass q → IsPlaying b (with_pass d q) hand end
-looked_on b d q hand end p e u = let r : hand ≡ hand = refl in playing b (with_pass d q) hand hand end (at_still b hand d q (at_desk b d hand hand end p e r) u) e r
+pub looked_on : (b : BenchView) (d : DeskView) (o q : PassView) (hand : Option PackageView) (end : Option End) (c : Call) → IsPlaying b d hand end → end ≡ None → o ≡ d.pass → IsSamePass o q → q.knows ≡ with_call o.knows c → IsPlaying b (with_pass d q) hand end
+looked_on b d o q hand end c p e is own now =
+    let r : hand ≡ hand = refl in
+    let u = subst (λ (z : PassView). IsUnmoved z q) is (unmoved_call o q c own now) in
+    playing b (with_pass d q) hand hand end (at_still b hand d q (at_desk b d hand hand end p e r) u) e r
 
 -- a package whose last block wanted a lock may acquire it
 pub may_acquire : (b : BenchView) (i : ℕ) (q : PackageView) (d : DeskView) → IsSoundPackage q → HasSealed b (Wants i) q d → MayAcquire b.image q
@@ -74,15 +73,3 @@ may_acquire b i q d sound sealed =
           after.held j ∙ (λ t. has_it t && not (goes_on t));
       wants = ap is_some (wants_lock b.image d.pass.knows.worker i x q sound m runs);
     }
-
-same_lock : (i j : ℕ) (o : Option ℕ) → o ≡ Some i → o ≡ Some j → j ≡ i
-same_lock i j o e f = cc
-
--- to acquire it settles that block
-pub acquire_settles : (b : BenchView) (i : ℕ) (q : PackageView) (d e : DeskView) (s : Settled) → IsSoundPackage q → HasSealed b (Wants i) q d → HasAcquired q d e s → HasSettled (Wants i) q d e s
-acquire_settles b i q d e s sound sealed did =
-    let x : Block = sealed.may.0 in
-    let m : IsAfterBlock b.image d.pass.knows.worker (Wants i) x q = sealed.may.1 in
-    let after : IsAfter q.image q.context x = after_of b.image d.pass.knows.worker (Wants i) x q sound m in
-    let wants = wants_lock b.image d.pass.knows.worker i x q sound m (after.runs ∙ ap not (ap ends_thread m.end_is)) in
-    (x, m.last, subst (λ (j : ℕ). DidAcquire j q d e s) (same_lock i did.0 (want_of q.image q.context) wants did.1) did.2)

@@ -1,14 +1,15 @@
 -- Rows of seats, while queues are made.
-use Rattle.std.proofs.Common.{◌≡◌, ◌≢◌, ℕ, zero, suc, ◌+◌, ◌<◌, ◌≤◌, List, [], ◌∷◌, ◌++◌, All, length, map, set, get_or, refl, sym, ap, ◌∙◌, subst, ⊎_elim, arith, length-append}
+use Rattle.std.proofs.Common.{◌≡◌, ◌≢◌, ℕ, ◌+◌, ◌<◌, ◌≤◌, List, [], ◌∷◌, ◌++◌, All, length, map, set, get_or, refl, sym, ap, ◌∙◌, subst, ⊎_elim, arith, length-append}
 use Rattle.std.proofs.lemmas.List.{map-append, length-set}
 use mathlib.Core.Option.{some, some-injective}
 use lib.ListN.{get_elem?}
 use Rattle.atomic_table.proofs.Lists.{at_longer, at_last}
 use Rattle.tc_mutex_spec.proofs.ListLaws.{there, set_at, at_place}
+use Rattle.tc_elf.specs.Shown.{Shown}
 use Rattle.tc_queue.specs.Lines.{SeatView, IsSeatOf}
 use Rattle.tc_queue.specs.View.{QueueView}
 use Rattle.tc_hall.proofs.Telling.{snoc_at}
-use Rattle.tc_workers.specs.Crew.{AreSeatsOf}
+use Rattle.tc_workers.specs.Crew.{AreLines, AreSeatsOf}
 use Rattle.tc_workers.specs.Rows.{AreDealtOut}
 use Rattle.tc_workers.proofs.Hiring.{at_itself}
 
@@ -33,11 +34,7 @@ abbrev pub AreRows : {X S : Type 0} → (X → List S) → (S → SeatView) → 
 AreRows items seen qs rows = All (λ row. AreSeatsOf qs (map seen (items row))) rows
 
 pub no_seats : {X S : Type 0} (items : X → List S) (seen : S → SeatView) (qs : List QueueView) (rows : List X) → qs ≡ [] → All (λ row. items row ≡ []) rows → AreRows items seen qs rows
-no_seats items seen qs rows none all k d lt = subst (λ (z : List QueueView × List SeatView). AreSeatsOf z.0 z.1) (λ i. (sym none i, map seen (sym (all k d lt) i))) record { count = refl; each = λ i q s e f. absurd (nowhere i q e) }
-  where
-    nowhere : (i : ℕ) (q : QueueView) → get_elem? [] i ≡ some q → ⊥
-    nowhere zero q e = cc e
-    nowhere (suc i) q e = cc e
+no_seats items seen qs rows none all k d lt = subst (λ (z : List QueueView × List SeatView). AreSeatsOf z.0 z.1) (λ i. (sym none i, map seen (sym (all k d lt) i))) record { count = refl; each = λ i q s e f. let low = (there [] i q q e).0 in absurd (omega arith) }
 
 -- ---- seats that are dealt out, from the last one on
 
@@ -119,3 +116,6 @@ queues_more n qs more q all new is i r e = ⊎_elim
 pub map_same : {A : Type 0} (xs : List A) → map (λ (x : A). x) xs ≡ xs
 map_same [] = refl
 map_same (x ∷ xs) = ap (λ l. x ∷ l) (map_same xs)
+
+pub same_lines : {X : Type 0} (image : Shown) (workers : ℕ) (qs rs : List QueueView) (seen : X → List SeatView) (xs : List X) → AreLines image workers qs seen xs → rs ≡ qs → AreLines image workers rs seen xs
+same_lines image workers qs rs seen xs lines same = subst (λ (l : List QueueView). AreLines image workers l seen xs) (sym same) lines

@@ -20,17 +20,17 @@ use Rattle.tc_context.proofs.Staging.{lock_was, some_of}
 use Rattle.tc_context.proofs.Running.{seal_last, seal_set}
 use Rattle.tc_hall.specs.declared.board.Knows.{Knows}
 use Rattle.tc_hall.specs.declared.place.Place.TheVariants.{Ready}
-use Rattle.tc_hall.specs.Outs.{Outs, Item, Pack, Within, IsOut, outs, keep, minus, part}
+use Rattle.tc_hall.specs.Outs.{Outs, Item, Pack, Within, IsOut, outs, keep, minus, nothing, part}
 use Rattle.tc_hall.specs.Rule.{locked_in}
 use Rattle.tc_hall.specs.Steps.{HasStop, IsFree, MayPut}
-use Rattle.tc_hall.proofs.Outs.{is_there, same_outs}
+use Rattle.tc_hall.proofs.Outs.{has_out, lock_out, same_outs}
 use Rattle.tc_combiner.specs.Packages.{HasNoOther, IsGoodFor, Runs}
 use Rattle.tc_combiner.specs.Settling.{MayCommit, MaySettle}
 use Rattle.tc_combiner.specs.View.{DeskView}
 use Rattle.tc_combiner.specs.Walks.{Owns, packed}
 use Rattle.tc_combiner.proofs.Owning.{same_number}
 use Rattle.tc_combiner.proofs.Sealing.{found, none_some}
-use Rattle.tc_workers.specs.Worker.{HasOut, MayGoBack, nothing}
+use Rattle.tc_workers.specs.Worker.{HasOut, MayGoBack}
 
 -- ---- what is out
 
@@ -66,12 +66,10 @@ module _ (p q : PackageView) (r : IsRoomier p q) where
     of = ap (λ (c : PackageView). c.image) r.rest ∙ h.of;
     settled = ap (λ (c : PackageView). c.pending) r.rest ∙ h.settled;
     runs = ap (λ (c : PackageView). is_running c.context.guest.status) r.rest ∙ h.runs;
-    locks = λ i l e.
-        (let x = lock_was (locked_in p i) (locked_in q i) l (r.locks i) e in
-        ⊎_elim
+    locks = λ i l e. let x = lock_was (locked_in p i) (locked_in q i) l (r.locks i) e in ⊎_elim
         (λ (z : has p.context.guest.held i ≡ true). inl (ap (λ (c : PackageView). has c.context.guest.held i) r.rest ∙ z))
         (λ (z : granted_lock p.granted ≡ Some i). inr (ap granted_lock r.granted ∙ z))
-        (h.locks i x.0 x.1));
+        (h.locks i x.0 x.1);
     fits = ap (λ (o : Option Grant). fits_granted q.context o v.worker) r.granted ∙ (roomier_fits v.worker p.granted ∙ h.fits);
   }
 
@@ -121,13 +119,9 @@ of_block held (Some k) i h = ⊎_elim
     (eqb_tells i k)
 
 module _ (image : Shown) (p : PackageView) (is : p.image ≡ image) (sound : IsSoundPackage p) (own : HasNoOther p) (runs : Runs p) (want : WantIsGranted image p) where
-  granted_next : (i : ℕ) (o : Option Grant) → MayTake p.image p.context o → granted_lock o ≡ Some i → next_lock image (thread_in p.context) ≡ Some i
-  granted_next i None may e = absurd (none_some None i refl e)
-  granted_next i (Some g) may e = ap (λ (x : Shown). next_lock x (thread_in p.context)) (sym is) ∙ (may.next ∙ e)
-
-  granted_here : (i : ℕ) (o : Option Grant) → MayTake p.image p.context o → granted_lock o ≡ Some i → set_of p.context i ≡ true
-  granted_here i None may e = absurd (none_some None i refl e)
-  granted_here i (Some g) may e = (let same : g.lock ≡ i = cc e in subst (λ (j : ℕ). set_of p.context j ≡ true) same may.here)
+  granted_tells : (i : ℕ) (o : Option Grant) → MayTake p.image p.context o → granted_lock o ≡ Some i → (next_lock image (thread_in p.context) ≡ Some i) × (set_of p.context i ≡ true)
+  granted_tells i None may e = absurd (none_some None i refl e)
+  granted_tells i (Some g) may e = (let same : g.lock ≡ i = cc e in (ap (λ (x : Shown). next_lock x (thread_in p.context)) (sym is) ∙ (may.next ∙ e), subst (λ (j : ℕ). set_of p.context j ≡ true) same may.here))
 
   -- the locks in the package are those of its next block
   block_has : (i : ℕ) → set_of p.context i ≡ block_locks image p.context i
@@ -135,10 +129,10 @@ module _ (image : Shown) (p : PackageView) (is : p.image ≡ image) (sound : IsS
       (λ here.
       let l = some_of (lock_in p.context.locks i) here in
       in_block (has p.context.guest.held) (next_lock image (thread_in p.context)) i
-      (⊎_elim (λ (e : has p.context.guest.held i ≡ true). inl e) (λ (e : granted_lock p.granted ≡ Some i). inr (granted_next i p.granted sound.grant e)) (own i l.0 l.1)))
+      (⊎_elim (λ (e : has p.context.guest.held i ≡ true). inl e) (λ (e : granted_lock p.granted ≡ Some i). inr (granted_tells i p.granted sound.grant e).0) (own i l.0 l.1)))
       (λ mine. ⊎_elim
       (λ (e : has p.context.guest.held i ≡ true). sound.held i e)
-      (λ (e : next_lock image (thread_in p.context) ≡ Some i). granted_here i p.granted sound.grant (want i (ap (λ (b : Bool). if b then next_lock image (thread_in p.context) else None) runs ∙ e)))
+      (λ (e : next_lock image (thread_in p.context) ≡ Some i). (granted_tells i p.granted sound.grant (want i (ap (λ (b : Bool). if b then next_lock image (thread_in p.context) else None) runs ∙ e))).1)
       (of_block (has p.context.guest.held) (next_lock image (thread_in p.context)) i mine))
 
   pub may_settle : (worker stamp : ℕ) (end : End) (n : PackageView) → DidRun image p n → HasBlock (λ b. b.end ≡ end) n.pending → MaySettle image worker end (with_seal stamp worker n)
@@ -159,17 +153,11 @@ module _ (image : Shown) (p : PackageView) (is : p.image ≡ image) (sound : IsS
 -- ---- going back
 
 -- a package that is out may be put as ready, since the run was stopped
-pub may_put : (v : Knows) (q : PackageView) → IsOut (outs v) (Pack q) → MayGoBack v q → HasStop v → MayPut Ready v q
+pub may_put : (v : Knows) (q : PackageView) → IsOut (outs v) (Pack q) → MayGoBack v.image v.worker q → HasStop v → MayPut Ready v q
 may_put v q out may stop = record {
-  has = is_there v.packages q.context.thread (bare q) (out.contexts q.context.thread (bare q) (ap (λ (b : Bool). if b then Some (bare q) else None) (same_number q.context.thread)));
-  locks = λ i l e. is_there v.locks i (kept l) (out.locks i (kept l) (ap keep e));
-  order = record {
-    ended = λ e. absurd (omega (arith, e));
-    runs = λ ne. may.runs;
-    own = may.locks;
-    waits = λ i e. absurd (omega (arith, e));
-    ready = λ g e. refl;
-  };
+  has = has_out v q out;
+  locks = lock_out v q out;
+  order = record { ended = λ e. absurd (omega (arith, e)); runs = λ ne. may.runs; own = may.locks; waits = λ i e. absurd (omega (arith, e)); ready = λ g e. refl };
   stop = λ e. stop;
   fits = may.fits;
 }

@@ -1,34 +1,104 @@
--- The steps of a worker, one after another.
-use Rattle.std.proofs.Common.{◌≡◌, Bool, false, Option, None, refl, subst}
+-- The steps of a worker: what comes of its search, its offers, and its end.
+use Rattle.std.proofs.Common.{◌≡◌, ◌≢◌, ℕ, ◌<◌, Bool, true, false, List, [], ◌∷◌, ◌++◌, All, length, map, Option, Some, None, refl, sym, ap, ◌∙◌, arith, append_assoc, append-nil, subst}
+use Rattle.std.proofs.lemmas.List.{map-append}
+use Rattle.std.proofs.Math.Nat.{le-min, min-le_left, min-le_right, mul-le-mul_left}
+use Rattle.std.specs.Prelude.{MatchBool, ◌≤◌, ◌+◌, ◌*◌, ◌/◌, min}
 use Rattle.tc_context.specs.View.{PackageView}
+use Rattle.tc_hall.specs.declared.board.Call.{Call}
+use Rattle.tc_hall.specs.declared.board.Knows.{Knows}
+use Rattle.tc_hall.specs.declared.board.Terms.{Terms}
+use Rattle.tc_hall.specs.declared.place.Origin.{Origin}
 use Rattle.tc_hall.specs.PassView.{PassView}
-use Rattle.tc_hall.specs.Steps.{IsSamePass, SawStopped, after_stopped}
-use Rattle.tc_ready.specs.ReadyView.{ReadyView}
+use Rattle.tc_hall.specs.Places.{origin_code}
+use Rattle.tc_hall.specs.Rule.{threads}
+use Rattle.tc_hall.specs.Steps.{Gets, HasSeenAll, HasStop}
+use Rattle.tc_ready.specs.ReadyView.{Offered, ReadyView}
+use Rattle.tc_ready.specs.Rule.{offer, thread_of}
+use Rattle.tc_combiner.specs.declared.settled.Settled.{Settled}
+use Rattle.tc_combiner.specs.declared.settled.Settled.TheVariants.{Stopped as Was_stopped}
+use Rattle.tc_combiner.specs.Settling.{TellsReady}
 use Rattle.tc_combiner.specs.View.{BenchView, DeskView}
-use Rattle.tc_workers.specs.Turns.{SawNoStop, Steps, TakesStep, more, none}
-use Rattle.tc_workers.specs.Worker.{WorkerView, IsAtWork, IsStill, IsUnmoved, worker_of}
-use Rattle.tc_workers.specs.declared.step.Step.TheVariants.{On}
-use Rattle.tc_workers.proofs.Desks.{at_still, with_pass}
-use Rattle.tc_workers.proofs.Leaving.{here_unmoved}
+use Rattle.tc_combiner.specs.Walks.{TakesDown}
+use Rattle.tc_workers.specs.GoOn.{CanHave, HasOffered}
+use Rattle.tc_workers.specs.Search.{Finds, IsSearch, IsTakenUp, IsTry}
+use Rattle.tc_workers.specs.Turns.{HasWorked, IsFinished, Proceeds, Steps, TakesStep, last_step, proceeds}
+use Rattle.tc_workers.specs.Worker.{HasLeft, IsAtDesk, IsAtWork, IsStill, LookedAtStop, WorkerSteps, worker_of}
+use Rattle.tc_workers.specs.declared.step.Step.{Step}
+use Rattle.tc_workers.specs.declared.step.Step.TheVariants.{On, AllDone, Stopped}
+use Rattle.tc_workers.specs.declared.worker.Worker.{Worker}
+use Rattle.tc_workers.proofs.Leaving.{at_looked}
+use Rattle.tc_workers.proofs.Passes.{still_then}
+use Rattle.tc_workers.proofs.Running.{is_free}
 
-pub no_stop : (d : DeskView) (r : ReadyView) (o p : PassView) (answer : Bool) → o ≡ d.pass → IsStill o p → SawStopped answer o.knows p.knows → answer ≡ false → SawNoStop (worker_of d r) (worker_of (with_pass d p) r)
-no_stop d r o p answer is still saw went = record {
-  pass = p;
-  same = subst (λ (z : PassView). IsSamePass z p) is still.own;
-  word = saw.word;
-  other = saw.other went;
-  looked = subst (λ (z : PassView). p.knows ≡ after_stopped z.knows saw.word) is saw.now;
-  rest = refl;
+-- the package that a try gave was taken up
+pub taken_up : (from : Origin) (t : ℕ) (v : Knows) (d e : DeskView) (q : PackageView) (s : Step) → Gets (origin_code from) t q v d.pass.knows → IsTakenUp d e q s → IsTry from t v e.pass.knows s
+taken_up from t v d e q (On None) g h = absurd h
+taken_up from t v d e q (On (Some p)) g h = subst (λ (x : PackageView). Gets (origin_code from) t x v e.pass.knows) (sym h.0) (subst (λ (x : DeskView). Gets (origin_code from) t q v x.pass.knows) (sym h.1) g)
+taken_up from t v d e q AllDone g h = absurd h
+taken_up from t v d e q Stopped g h = (q, d.pass.knows, g, h)
+
+-- nothing was set aside
+pub found_alone : {Q S P : Type 0} (b : BenchView) (x z : Worker Q S P) (e : DeskView) (s : Step) → x.desk.aside ≡ None → e ≡ record x.desk { aside = None } → IsSearch (threads b.hall.terms) (worker_of e x.ready) z s → Finds b x.desk.aside x z s
+found_alone b x z e s alone rest h = subst (λ (o : Option PackageView). Finds b o x z s) (sym alone)
+    (subst (λ (o : Option PackageView). IsSearch (threads b.hall.terms) (worker_of (record x.desk { aside = o }) x.ready) z s) (sym alone) (subst (λ (d : DeskView). IsSearch (threads b.hall.terms) (worker_of d x.ready) z s) rest h))
+
+-- it goes on with what it has in hand, since it saw no stop
+pub at_work_looked : {Q S P : Type 0} (b : BenchView) (hand h : Option PackageView) (x : Worker Q S P) (e : DeskView) (saw : Bool) → IsAtWork b hand x → hand ≡ h → LookedAtStop saw x.desk e → IsAtWork {Q = Q} {S = S} {P = P} b h (worker_of e x.ready)
+at_work_looked b hand h x e saw work is l = record { desk = at_looked b h x.desk e saw (subst (λ (o : Option PackageView). IsAtDesk b o x.desk) is work.desk) l; ready = work.ready }
+
+pub went_on : {Q S P : Type 0} (b : BenchView) (hand h : Option PackageView) (x z : Worker Q S P) (e : DeskView) (saw : Bool) (s : Step) → LookedAtStop saw x.desk e → saw ≡ false → hand ≡ h → Proceeds b h (worker_of e x.ready) z s → TakesStep b hand x z s
+went_on b hand h x z e saw s l went is go = subst (λ (o : Option PackageView). TakesStep b o x z s) (sym is) (proceeds (worker_of e x.ready) (record { desk = subst (λ (a : Bool). LookedAtStop a x.desk e) went l; ready = refl }) go)
+
+finished : (k : Terms) (p q : PassView) (e : DeskView) (a : Bool) → IsStill p e.pass → HasLeft e → (a ≡ true → HasSeenAll (threads k) e.pass.knows) → (a ≡ false → HasStop e.pass.knows) → q ≡ e.pass → IsFinished k p q a
+finished k p q e a still left done stopped is = subst (λ (x : PassView). IsFinished k p x a) (sym is) record { still = still; free = is_free e.pass.knows left.out; done = done; stopped = stopped }
+
+-- after a last step
+pub ended : {Q S P : Type 0} (b : BenchView) (x y z : Worker Q S P) (hand : Option PackageView) (p : PassView) (a : Bool) → IsStill x.desk.pass y.desk.pass → Steps b x hand y → WorkerSteps b y z (last_step a) → TakesStep b hand y z (last_step a) → p ≡ z.desk.pass → IsFinished b.hall.terms x.desk.pass p a × HasWorked b x p a
+ended b x y z hand p true still steps did last is = (finished b.hall.terms x.desk.pass p z.desk true (still_then x.desk.pass y.desk.pass z.desk.pass still did.desk.still) did.desk.after.0 (λ t. did.desk.after.1) (λ t. absurd (cc)) is, record { hand = hand; y = y; steps = steps; z = z; last = last; pass = is })
+ended b x y z hand p false still steps did last is = (finished b.hall.terms x.desk.pass p z.desk false (still_then x.desk.pass y.desk.pass z.desk.pass still did.desk.still) did.desk.after.0 (λ t. absurd (cc)) (λ t. did.desk.after.1) is, record { hand = hand; y = y; steps = steps; z = z; last = last; pass = is })
+
+-- ---- offers, one after another, and room for them
+
+pub offers_none : (r : ReadyView) → HasOffered [] r r
+offers_none r = record { threads = refl; room = refl; offered = []; rest = []; parts = refl; given = sym (append-nil (map thread_of r.given)); full = λ ne. absurd (ne refl) }
+
+none_left : (rest : List ℕ) → (rest ≢ [] → ⊥) → rest ≡ []
+none_left [] h = refl
+none_left (t ∷ ts) h = absurd (h (λ e. let n : ⊥ = cc in n))
+
+pub offers_more : (ts : List ℕ) (t : ℕ) (b : Bool) (r s u : ReadyView) → HasOffered ts r s → MatchBool b ((length s.given < s.room) × Offered t s u) ((length s.given ≡ s.room) × (u ≡ s)) → HasOffered (ts ++ t ∷ []) r u
+offers_more ts t true r s u h m =
+    let low : length s.given < s.room = m.0 in
+    let whole : h.rest ≡ [] = none_left h.rest (λ ne. let f : length s.given ≡ r.room = h.full ne in let e : s.room ≡ r.room = h.room in let n : ⊥ = omega arith in n) in
+    record {
+      threads = ap (λ (x : ReadyView). x.threads) m.1 ∙ h.threads;
+      room = ap (λ (x : ReadyView). x.room) m.1 ∙ h.room;
+      offered = h.offered ++ t ∷ [];
+      rest = [];
+      parts = ap (λ (l : List ℕ). l ++ t ∷ []) (h.parts ∙ (ap (λ (l : List ℕ). h.offered ++ l) whole ∙ append-nil h.offered)) ∙ sym (append-nil (h.offered ++ t ∷ []));
+      given = ap (λ (x : ReadyView). map thread_of x.given) m.1 ∙ (map-append thread_of s.given (offer (length s.given) t ∷ []) ∙ (ap (λ (l : List ℕ). l ++ t ∷ []) h.given ∙ append_assoc (map thread_of r.given) h.offered (t ∷ [])));
+      full = λ ne. absurd (ne refl);
+    }
+offers_more ts t false r s u h m = record {
+  threads = ap (λ (x : ReadyView). x.threads) m.1 ∙ h.threads;
+  room = ap (λ (x : ReadyView). x.room) m.1 ∙ h.room;
+  offered = h.offered;
+  rest = h.rest ++ t ∷ [];
+  parts = ap (λ (l : List ℕ). l ++ t ∷ []) h.parts ∙ append_assoc h.offered h.rest (t ∷ []);
+  given = ap (λ (x : ReadyView). map thread_of x.given) m.1 ∙ h.given;
+  full = λ ne. ap (λ (x : ReadyView). length x.given) m.1 ∙ (m.0 ∙ h.room);
 }
 
-pub at_work_still : (b : BenchView) (hand : Option PackageView) (w : WorkerView) (o p : PassView) → IsAtWork b hand w → o ≡ w.desk.pass → IsUnmoved o p → IsAtWork b hand (worker_of (with_pass w.desk p) w.ready)
-at_work_still b hand w o p h is u = record {
-  desk = at_still b hand w.desk p h.desk (here_unmoved b w.desk o p is u);
-  ready = h.ready;
-}
+took_down : (n : ℕ) (ts : List ℕ) (cs : List Call) → TakesDown n [] ts cs → All (λ t. t < n) ts
+took_down n ts cs h = subst (λ (l : List ℕ). All (λ t. t < n) l) (sym h.0) h.1
 
-pub no_steps : (b : BenchView) (x : WorkerView) → Steps b x None x
-no_steps b x = none
+pub handed_known : (k : Terms) (r : Settled) (d e : DeskView) → TellsReady k r d e → All (λ t. t < threads k) e.handed
+handed_known k Was_stopped d e h = subst (λ (l : List ℕ). All (λ t. t < threads k) l) (sym h.2) (λ i x deep. absurd (omega arith))
+handed_known k r d e h = took_down (threads k) e.handed h.0 h.2
 
-pub one_more : (b : BenchView) (x : WorkerView) (hand next : Option PackageView) (y z : WorkerView) → Steps b x hand y → TakesStep b hand y z (On next) → Steps b x next z
-one_more b x hand next y z steps last = more hand next y z steps last
+pub room_enough : (threads fuel sections : ℕ) → CanHave fuel sections → min (threads * sections) 4096 ≤ min (threads * (fuel / 2 + 2)) 4096
+room_enough threads fuel sections can =
+    let few : sections ≤ fuel / 2 + 2 = omega arith in
+    let all : threads * sections ≤ threads * (fuel / 2 + 2) = mul-le-mul_left threads few in
+    let least = min-le_left (threads * sections) 4096 in
+    le-min (omega arith) (min-le_right (threads * sections) 4096)

@@ -1,16 +1,19 @@
 -- The workers of a run at one bench, while they are made and when all have ended.
-use Rattle.std.specs.Prelude.{◌≡◌, ◌⊎◌, ℕ, ◌+◌, Bool, true, List, length, None}
+use Rattle.std.specs.Prelude.{◌≡◌, ◌⊎◌, ℕ, ◌+◌, Bool, true, List, All, length, None}
 use mathlib.Core.Option.{some}
 use lib.ListN.{get_elem?}
 use Rattle.tc_elf.specs.Shown.{Shown}
 use Rattle.tc_hall.specs.declared.board.Knows.{Knows}
+use Rattle.tc_hall.specs.Made.{AreDealt}
 use Rattle.tc_hall.specs.PassView.{HallView, PassView}
 use Rattle.tc_hall.specs.Rule.{threads}
 use Rattle.tc_hall.specs.Steps.{HasAll, HasSeenAll, IsFree, IsNew}
 use Rattle.tc_queue.specs.Lines.{SeatView, IsSeatOf}
 use Rattle.tc_queue.specs.View.{QueueView}
+use Rattle.tc_ready.specs.ReadyView.{ReadyView}
 use Rattle.tc_combiner.specs.View.{BenchView}
-use Rattle.tc_workers.specs.Worker.{WorkerView, IsAtWork}
+use Rattle.tc_workers.specs.Worker.{IsAtWork}
+use Rattle.tc_workers.specs.declared.worker.Worker.{Worker}
 
 -- one queue for each lock of the image, each made for exactly its number of threads
 pub record AreQueues (image : Shown) (queues : List QueueView) : Type 0 where
@@ -27,45 +30,61 @@ pub record IsBench (b : BenchView) : Type 0 where
   pub hall : b.hall.terms.image.value ≡ b.image
   pub queues : AreQueues b.image b.queues
 
--- the pass is one of the bench's hall, and has done nothing
-pub record IsDealt (b : BenchView) (p : PassView) : Type 0 where
+-- one queue for each lock of the image, and for each worker a row with one seat of each
+pub record AreLines {X : Type 0} (image : Shown) (workers : ℕ) (qs : List QueueView) (seen : X → List SeatView) (xs : List X) : Type 0 where
+  pub queues : AreQueues image qs
+  pub count : length xs ≡ workers
+  pub rows : All (λ row. AreSeatsOf qs (seen row)) xs
+
+-- a pass of the bench's hall, which has done nothing, with seats and ready threads for its worker
+pub record IsForHire (b : BenchView) (p : PassView) (ss : List SeatView) (r : ReadyView) : Type 0 where
+  pub bench : IsBench b
   pub own : p.table ≡ b.hall.table
   pub new : IsNew b.image (length b.image.entries) (length b.image.guards) p.knows.worker p.knows
+  pub seats : AreSeatsOf b.queues ss
+  pub ready : r.threads ≡ threads b.hall.terms
+
+-- the passes of the first workers, who have not begun, and for each a row of seats and its ready threads
+pub record AreForHire {X : Type 0} (b : BenchView) (seen : X → List SeatView) (ps : List PassView) (xs : List X) (rs : List ReadyView) : Type 0 where
+  pub bench : IsBench b
+  pub passes : AreDealt b.image (length b.image.entries) (length b.image.guards) (length ps) b.hall.table ps
+  pub seats : (length xs ≡ length ps) × All (λ row. AreSeatsOf b.queues (seen row)) xs
+  pub ready : (length rs ≡ length ps) × All (λ r. r.threads ≡ threads b.hall.terms) rs
 
 -- the worker of this number, who has not begun
-pub record IsHired (b : BenchView) (number : ℕ) (w : WorkerView) : Type 0 where
+pub record IsHired {Q S P : Type 0} (b : BenchView) (number : ℕ) (w : Worker Q S P) : Type 0 where
   pub work : IsAtWork b None w
   pub worker : w.desk.pass.knows.worker ≡ number
 
 -- so many of the workers of a run with this number of them, the one with the greatest number first
-pub record AreHired (b : BenchView) (count some_of : ℕ) (ws : List WorkerView) : Type 0 where
+pub record AreHired {Q S P : Type 0} (b : BenchView) (count some_of : ℕ) (ws : List (Worker Q S P)) : Type 0 where
   pub all : length ws ≡ some_of
-  pub each : (i number : ℕ) (w : WorkerView) → get_elem? ws i ≡ some w → number + i + 1 ≡ count → IsHired b number w
+  pub each : (i number : ℕ) (w : Worker Q S P) → get_elem? ws i ≡ some w → number + i + 1 ≡ count → IsHired b number w
 
 -- the pass is that of the worker with this number, or that worker's was joined into it
 abbrev pub Counts : Knows → ℕ → Type 0
 Counts v u = (u ≡ v.worker) ⊎ ((e : ℕ) × (get_elem? v.joined e ≡ some u))
 
 -- the pass of each of these workers is this one, or was joined into it
-abbrev pub CountsAll : Knows → List WorkerView → Type 0
-CountsAll v ws = (i : ℕ) (w : WorkerView) → get_elem? ws i ≡ some w → Counts v w.desk.pass.knows.worker
+abbrev pub CountsAll : {Q S P : Type 0} → Knows → List (Worker Q S P) → Type 0
+CountsAll {Q = Q} {S = S} {P = P} v ws = (i : ℕ) (w : Worker Q S P) → get_elem? ws i ≡ some w → Counts v w.desk.pass.knows.worker
 
 -- these workers are at work, with nothing in hand
-abbrev pub AreAtWork : BenchView → List WorkerView → Type 0
-AreAtWork b ws = (i : ℕ) (w : WorkerView) → get_elem? ws i ≡ some w → IsAtWork b None w
+abbrev pub AreAtWork : {Q S P : Type 0} → BenchView → List (Worker Q S P) → Type 0
+AreAtWork {Q = Q} {S = S} {P = P} b ws = (i : ℕ) (w : Worker Q S P) → get_elem? ws i ≡ some w → IsAtWork b None w
 
--- all of them have ended: the pass, into which all others were joined, has nothing out, and it has seen each thread done
--- where they say so
-pub record HaveFinished (b : BenchView) (ws : List WorkerView) (p : PassView) (all_done : Bool) : Type 0 where
-  pub own : p.table ≡ b.hall.table
-  pub all : CountsAll p.knows ws
-  pub free : IsFree p.knows
-  pub done : all_done ≡ true → HasSeenAll (threads b.hall.terms) p.knows
-
--- the workers of a run in this hall, so many of them, have ended: the pass of each is this one or was joined into it, and it has
--- nothing out, and has seen each thread done where they say so
-pub record HasRun (hall : HallView) (count : ℕ) (p : PassView) (all_done : Bool) : Type 0 where
+-- the workers of this pass of the hall have ended: nothing is out with it, and it has seen each thread done where they say so
+pub record HasEnded (hall : HallView) (p : PassView) (all_done : Bool) : Type 0 where
   pub own : p.table ≡ hall.table
-  pub all : HasAll count p.knows
   pub free : IsFree p.knows
   pub done : all_done ≡ true → HasSeenAll (threads hall.terms) p.knows
+
+-- all of these have: the pass of each is this one or was joined into it
+pub record HaveFinished {Q S P : Type 0} (b : BenchView) (ws : List (Worker Q S P)) (p : PassView) (all_done : Bool) : Type 0 where
+  pub all : CountsAll p.knows ws
+  pub end : HasEnded b.hall p all_done
+
+-- all workers of a run in this hall have, so many of them
+pub record HasRun (hall : HallView) (count : ℕ) (p : PassView) (all_done : Bool) : Type 0 where
+  pub all : HasAll count p.knows
+  pub end : HasEnded hall p all_done

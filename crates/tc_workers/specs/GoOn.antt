@@ -1,5 +1,6 @@
 -- What a worker does with a package in hand, and what it comes to.
-use Rattle.std.specs.Prelude.{◌≡◌, ℕ, ◌∷◌, ◌++◌, true, is_some, Some, None}
+use Rattle.std.specs.Prelude.{◌≡◌, ◌≢◌, ℕ, ◌≤◌, ◌+◌, ◌*◌, List, [], ◌∷◌, ◌++◌, length, map, true, is_some, Some, None}
+use Rattle.tc_isa.specs.declared.limits.TheConstants.{MAX_HELD}
 use Rattle.tc_elf.specs.Shown.{Shown}
 use Rattle.tc_journal.specs.declared.block.Block.{Block}
 use Rattle.tc_journal.specs.declared.block.End.{End}
@@ -8,15 +9,40 @@ use Rattle.tc_context.specs.View.{PackageView, HasBlock, IsRoomier, IsSoundPacka
 use Rattle.tc_hall.specs.declared.board.Call.TheVariants.{Stop}
 use Rattle.tc_hall.specs.Outs.{Called}
 use Rattle.tc_hall.specs.Steps.{DidSeal}
+use Rattle.tc_ready.specs.Rule.{thread_of}
+use Rattle.tc_ready.specs.ReadyView.{ReadyView}
 use Rattle.tc_combiner.specs.declared.settled.Settled.{Settled}
+use Rattle.tc_combiner.specs.declared.settled.Settled.TheVariants.{GoesOn as Did_go_on, Adopted, Stopped as Was_stopped}
 use Rattle.tc_combiner.specs.Packages.{Runs}
 use Rattle.tc_combiner.specs.Settling.{HasAcquired, HasSettled}
 use Rattle.tc_combiner.specs.View.{DeskView}
-use Rattle.tc_workers.specs.Offers.{HasOffered}
-use Rattle.tc_workers.specs.Settled.{step_of}
-use Rattle.tc_workers.specs.Worker.{WorkerView, put_back}
+use Rattle.tc_workers.specs.Worker.{HasLeft, IsStill, put_back}
 use Rattle.tc_workers.specs.declared.step.Step.{Step}
-use Rattle.tc_workers.specs.declared.step.Step.TheVariants.{Stopped}
+use Rattle.tc_workers.specs.declared.step.Step.TheVariants.{On, Stopped}
+use Rattle.tc_workers.specs.declared.worker.Worker.{Worker}
+
+-- ---- by the desk's answer
+
+abbrev pub step_of : Settled → Step
+step_of (Did_go_on q) = On (Some q)
+step_of (Adopted q) = On (Some q)
+step_of Was_stopped = Stopped
+step_of r = On None
+
+-- these threads were offered, in order; some of the last were not only where the room for offers is used up
+pub record HasOffered (ts : List ℕ) (r s : ReadyView) : Type 0 where
+  pub threads : s.threads ≡ r.threads
+  pub room : s.room ≡ r.room
+  pub offered : List ℕ
+  pub rest : List ℕ
+  pub parts : ts ≡ offered ++ rest
+  pub given : map thread_of s.given ≡ map thread_of r.given ++ offered
+  pub full : rest ≢ [] → length s.given ≡ r.room
+
+-- a thread with this fuel can have so many sections: each has a turn at its beginning and one at its end, but for the last
+-- ones, which the thread's end may end
+abbrev pub CanHave : ℕ → ℕ → Type 0
+CanHave fuel sections = 2 * sections ≤ fuel + MAX_HELD
 
 -- ---- a lock that is not granted
 
@@ -69,11 +95,13 @@ pub record RunsBlock (image : Shown) (p : PackageView) (d e : DeskView) (s : Ste
 
 -- there was no memory for a block of the package: a stop was made, and then all was put back
 pub record GivesUp (p : PackageView) (d e : DeskView) : Type 0 where
+  pub still : IsStill d.pass e.pass
+  pub left : HasLeft e
   pub told : Called (Stop ∷ put_back (Some p) ++ put_back d.aside) d.pass.knows e.pass.knows
 
 -- the package's next lock was asked for; or that lock was granted, and a block was run, or there was no memory for one (the
 -- package may have got some room). The threads that were put as ready were offered
-pub data GoesOn (image : Shown) (p : PackageView) (x z : WorkerView) (s : Step) : Type 0 where
+pub data GoesOn {Q S P : Type 0} (image : Shown) (p : PackageView) (x z : Worker Q S P) (s : Step) : Type 0 where
   acquires : Acquires p x.desk z.desk s → HasOffered z.desk.handed x.ready z.ready → GoesOn image p x z s
   runs : WantIsGranted image p → RunsBlock image p x.desk z.desk s → HasOffered z.desk.handed x.ready z.ready → GoesOn image p x z s
   gives_up : WantIsGranted image p → (q : PackageView) → IsRoomier p q → GivesUp q x.desk z.desk → s ≡ Stopped → z.ready ≡ x.ready → GoesOn image p x z s

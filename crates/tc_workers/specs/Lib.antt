@@ -1,11 +1,8 @@
 pub mod Worker
 pub mod Search
-pub mod Finished
-pub mod Settled
 pub mod GoOn
 pub mod Turns
 pub mod Crew
 pub mod Rows
 pub mod Run
 pub mod Scripts
-pub mod Offers

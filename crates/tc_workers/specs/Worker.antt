@@ -1,38 +1,31 @@
--- What contracts see of a worker, and what holds of one at work.
-use Rattle.std.specs.Prelude.{◌≡◌, ◌≢◌, ℕ, ◌+◌, ◌<◌, true, false, List, [], ◌∷◌, ◌++◌, All, length, Option, Some, None}
+-- What holds of a worker at work, and of its desk.
+use Rattle.std.specs.Prelude.{◌≡◌, ◌≢◌, ℕ, ◌<◌, Bool, true, false, List, [], ◌∷◌, ◌++◌, All, length, Option, Some, None}
 use mathlib.Core.Option.{some}
 use lib.ListN.{get_elem?}
+use Rattle.tc_elf.specs.Shown.{Shown}
 use Rattle.tc_journal.specs.declared.block.End.{End}
 use Rattle.tc_context.specs.View.{PackageView, fits_of}
 use Rattle.tc_hall.specs.declared.board.Call.{Call}
 use Rattle.tc_hall.specs.declared.board.Knows.{Knows}
 use Rattle.tc_hall.specs.declared.place.Place.TheVariants.{Ready}
-use Rattle.tc_hall.specs.Outs.{Called, IsOut, Outs, outs, Item, Pack}
+use Rattle.tc_hall.specs.Outs.{Called, outs, nothing, Item, Pack}
 use Rattle.tc_hall.specs.PassView.{PassView}
 use Rattle.tc_hall.specs.Rule.{threads, grants_adopted}
-use Rattle.tc_hall.specs.Places.{origin_code}
-use Rattle.tc_hall.specs.Steps.{IsSamePass, Missed, HasSeenAll, HasStop, put_call}
-use Rattle.tc_hall.specs.declared.place.Origin.{Origin}
+use Rattle.tc_hall.specs.Steps.{IsSamePass, HasSeenAll, HasStop, SawStopped, after_look, put_call}
 use Rattle.tc_ready.specs.ReadyView.{ReadyView}
 use Rattle.tc_ready.specs.Scan.{Looked}
-use Rattle.tc_combiner.specs.Packages.{HasNoOther, IsGoodFor, Runs}
+use Rattle.tc_combiner.specs.Packages.{HasNoOther, IsGood, Runs}
 use Rattle.tc_combiner.specs.Walks.{Owns, packed}
 use Rattle.tc_combiner.specs.View.{BenchView, DeskView, FitsBench}
 use Rattle.tc_combiner.specs.Settling.{MaySettle}
 use Rattle.tc_workers.specs.declared.step.Step.{Step}
 use Rattle.tc_workers.specs.declared.step.Step.TheVariants.{On, AllDone, Stopped}
+use Rattle.tc_workers.specs.declared.worker.Worker.{Worker}
 
-pub record WorkerView : Type 0 where
-  pub desk : DeskView
-  pub ready : ReadyView
-
-abbrev pub worker_of : DeskView → ReadyView → WorkerView
+abbrev pub worker_of : {Q S P : Type 0} → DeskView → ReadyView → Worker Q S P
 worker_of d r = record { desk = d; ready = r }
 
 -- ---- what is out with a pass
-
-abbrev pub nothing : Outs
-nothing = record { context = λ u. None; lock = λ i. None }
 
 -- these are out, each apart from the others, and nothing else
 abbrev pub HasOut : Knows → List Item → Type 0
@@ -52,28 +45,22 @@ pub record IsUnmoved (p q : PassView) : Type 0 where
 
 -- ---- packages in hand
 
+-- what a worker has in hand is fit to run
+abbrev pub IsFit : Shown → ℕ → Option PackageView → Type 0
+IsFit image worker None = Unit {0}
+IsFit image worker (Some q) = IsGood q image worker
+
 -- one that may be put back where the run was stopped: it fits the worker, unless its grant is Adopted
-pub record MayGoBack (v : Knows) (q : PackageView) : Type 0 where
-  pub of : q.image ≡ v.image
+pub record MayGoBack (image : Shown) (worker : ℕ) (q : PackageView) : Type 0 where
+  pub of : q.image ≡ image
   pub settled : q.pending ≡ None
   pub runs : Runs q
   pub locks : HasNoOther q
-  pub fits : grants_adopted q.granted ≡ false → fits_of q v.worker ≡ true
+  pub fits : grants_adopted q.granted ≡ false → fits_of q worker ≡ true
 
--- the pass took a package that did not fit its worker
-pub record HasMisfit (v : Knows) : Type 0 where
-  pub thread : ℕ
-  pub noted : get_elem? v.misfits thread ≡ some true
-
--- one that was claimed: one that does not fit the worker is noted as such
-pub record IsClaimed (v : Knows) (q : PackageView) : Type 0 where
-  pub back : MayGoBack v q
-  pub misfit : fits_of q v.worker ≡ false → HasMisfit v
-
--- a claim showed that the thread was not there
-pub record HasMissed (from : Origin) (t : ℕ) (v w : Knows) : Type 0 where
-  pub word : ℕ
-  pub missed : Missed (origin_code from) (t + 2) word v w
+abbrev pub MayAllGoBack : Shown → ℕ → Option PackageView → Type 0
+MayAllGoBack image worker None = Unit {0}
+MayAllGoBack image worker (Some q) = MayGoBack image worker q
 
 -- the first n threads were looked at in order, and each had ended
 pub record SawEnded (n : ℕ) (v w : Knows) : Type 0 where
@@ -81,48 +68,46 @@ pub record SawEnded (n : ℕ) (v w : Knows) : Type 0 where
   pub count : length words ≡ n
   pub ended : All (λ x. x ≡ 2) words
   pub looked : Looked words v w
+  pub seen : HasSeenAll n w
 
--- the threads were looked at in order, and each had ended, up to the first that was seen not to have
+-- so it was up to one of the threads, which was seen not to have ended
 pub record SawOneLeft (threads : ℕ) (v w : Knows) : Type 0 where
-  pub words : List ℕ
+  pub thread : ℕ
+  pub known : thread < threads
+  pub between : Knows
+  pub ended : SawEnded thread v between
   pub word : ℕ
-  pub known : length words < threads
-  pub ended : All (λ x. x ≡ 2) words
   pub left : word ≢ 2
-  pub looked : Looked (words ++ word ∷ []) v w
-
--- what a worker has in hand is fit to run
-abbrev pub IsFit : Knows → Option PackageView → Type 0
-IsFit v None = Unit {0}
-IsFit v (Some q) = IsGoodFor v q
+  pub looked : w ≡ after_look between thread word
 
 -- ---- a worker at its desk
 
--- a desk at the bench: nothing is out but the package in hand, where there is one, and the one that is set aside
-pub record IsAtDesk (b : BenchView) (hand : Option PackageView) (d : DeskView) : Type 0 where
+-- a desk at the bench: nothing is out but these and the package that is set aside
+pub record IsSeated (b : BenchView) (xs : List Item) (d : DeskView) : Type 0 where
   pub fits : FitsBench b d
   pub sleepers : length d.sleepers ≡ threads b.hall.terms
-  pub out : HasOut d.pass.knows (packed hand ++ packed d.aside)
-  pub fit : IsFit d.pass.knows hand
+  pub out : HasOut d.pass.knows (xs ++ packed d.aside)
+
+-- one with this package in hand, where there is one
+pub record IsAtDesk (b : BenchView) (hand : Option PackageView) (d : DeskView) : Type 0 where
+  pub seat : IsSeated b (packed hand) d
+  pub fit : IsFit d.pass.knows.image d.pass.knows.worker hand
 
 -- a desk with nothing in hand and nothing set aside
 pub record IsIdle (b : BenchView) (d : DeskView) : Type 0 where
   pub desk : IsAtDesk b None d
   pub free : d.aside ≡ None
 
--- a package was claimed, and nothing else is out
+-- a package was claimed, and nothing else is out; one that does not fit the worker is noted as such
 pub record HasClaimed (b : BenchView) (q : PackageView) (d : DeskView) : Type 0 where
-  pub fits : FitsBench b d
-  pub sleepers : length d.sleepers ≡ threads b.hall.terms
-  pub aside : d.aside ≡ None
-  pub out : HasOut d.pass.knows (Pack q ∷ [])
-  pub claimed : IsClaimed d.pass.knows q
+  pub seat : IsSeated b (Pack q ∷ []) d
+  pub free : d.aside ≡ None
+  pub back : MayGoBack d.pass.knows.image d.pass.knows.worker q
+  pub misfit : fits_of q d.pass.knows.worker ≡ false → (t : ℕ) × (get_elem? d.pass.knows.misfits t ≡ some true)
 
 -- the block of a package in hand was sealed, and ended so
 pub record HasSealed (b : BenchView) (end : End) (q : PackageView) (d : DeskView) : Type 0 where
-  pub fits : FitsBench b d
-  pub sleepers : length d.sleepers ≡ threads b.hall.terms
-  pub out : HasOut d.pass.knows (Pack q ∷ packed d.aside)
+  pub seat : IsSeated b (Pack q ∷ []) d
   pub may : MaySettle b.image d.pass.knows.worker end q
 
 -- all was put back
@@ -130,34 +115,37 @@ pub record HasLeft (d : DeskView) : Type 0 where
   pub aside : d.aside ≡ None
   pub out : HasOut d.pass.knows []
 
+-- the desk looked at STOP, saw a stop or none, and did nothing else
+pub record LookedAtStop (yes : Bool) (d e : DeskView) : Type 0 where
+  pub own : IsSamePass d.pass e.pass
+  pub saw : SawStopped yes d.pass.knows e.pass.knows
+  pub rest : e ≡ record d { pass = e.pass }
+
 -- ---- packages that are put back, since the run was stopped
 
 abbrev pub put_back : Option PackageView → List Call
 put_back None = []
 put_back (Some q) = put_call q Ready ∷ []
 
-abbrev pub MayPutBack : Knows → Option PackageView → Type 0
-MayPutBack v None = Unit {0}
-MayPutBack v (Some q) = IsOut (outs v) (Pack q) × MayGoBack v q × HasStop v
-
--- the package was put back, where there was one: of what was out it alone is not
-pub record DidPutBack (o : Option PackageView) (p q : PassView) : Type 0 where
-  pub still : IsStill p q
-  pub told : Called (put_back o) p.knows q.knows
-  pub rest : (xs : List Item) → HasOut p.knows (packed o ++ xs) → HasOut q.knows xs
-
 -- the desk may put back this package, where there is one, and the one that is set aside: nothing else is out
 pub record MayLeave (b : BenchView) (hand : Option PackageView) (d : DeskView) : Type 0 where
-  pub fits : FitsBench b d
-  pub out : HasOut d.pass.knows (packed hand ++ packed d.aside)
-  pub may : (q : PackageView) → hand ≡ Some q → MayGoBack d.pass.knows q
+  pub seat : IsSeated b (packed hand) d
+  pub may : MayAllGoBack d.pass.knows.image d.pass.knows.worker hand
   pub stop : HasStop d.pass.knows
 
--- it put them back, and did nothing else
+-- the package was put back, where there was one, and nothing else was done
+pub record DidPutBack (b : BenchView) (o : Option PackageView) (d e : DeskView) : Type 0 where
+  pub still : IsStill d.pass e.pass
+  pub told : Called (put_back o) d.pass.knows e.pass.knows
+  pub may : MayLeave b None e
+  pub rest : e ≡ record d { pass = e.pass }
+
+-- it and the one that is set aside were put back, and nothing else was done
 pub record DidLeave (hand : Option PackageView) (d e : DeskView) : Type 0 where
   pub still : IsStill d.pass e.pass
   pub told : Called (put_back hand ++ put_back d.aside) d.pass.knows e.pass.knows
   pub left : HasLeft e
+  pub stop : HasStop e.pass.knows
 
 -- after a step: it is at its desk with what it has in hand; or it has left, and has seen every thread Done, or that a stop was
 -- made
@@ -172,11 +160,11 @@ pub record DeskSteps (b : BenchView) (d e : DeskView) (s : Step) : Type 0 where
   pub after : IsStep b e s
 
 -- the worker did it, who may try as many threads as before
-pub record WorkerSteps (b : BenchView) (x z : WorkerView) (s : Step) : Type 0 where
+pub record WorkerSteps {Q S P : Type 0} (b : BenchView) (x z : Worker Q S P) (s : Step) : Type 0 where
   pub desk : DeskSteps b x.desk z.desk s
   pub ready : z.ready.threads ≡ x.ready.threads
 
 -- a worker at the bench, with this package in hand, where there is one
-pub record IsAtWork (b : BenchView) (hand : Option PackageView) (w : WorkerView) : Type 0 where
+pub record IsAtWork {Q S P : Type 0} (b : BenchView) (hand : Option PackageView) (w : Worker Q S P) : Type 0 where
   pub desk : IsAtDesk b hand w.desk
   pub ready : w.ready.threads ≡ threads b.hall.terms

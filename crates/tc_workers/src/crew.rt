@@ -1,12 +1,10 @@
 //! All workers of a run, beside one another.
 
-ghost use Rattle.std.specs.Prelude.{◌≡◌, ◌<◌, None, All, IfOk, length, map};
+ghost use Rattle.std.specs.Prelude.{◌<◌, None, IfOk, length, map};
 ghost use denote.Param.Send.{IsSend, IsSync};
-ghost use Rattle.tc_hall.specs.Made.{AreDealt};
-ghost use Rattle.tc_hall.specs.Rule.{threads};
 ghost use Rattle.tc_workers.specs.Worker.{IsAtWork};
-ghost use Rattle.tc_workers.specs.Finished.{IsFinished};
-ghost use Rattle.tc_workers.specs.Crew.{AreAtWork, AreHired, AreSeatsOf, HaveFinished, IsBench, IsDealt, IsHired};
+ghost use Rattle.tc_workers.specs.Turns.{IsFinished};
+ghost use Rattle.tc_workers.specs.Crew.{AreAtWork, AreForHire, AreHired, HaveFinished, IsForHire, IsHired};
 
 use crate::finished::Finished;
 use crate::gate::Gate;
@@ -30,10 +28,7 @@ fn hire_one<Q: Waiters>(
     seats: Vec<Q::Seat>,
     ready: Ready,
 ) -> Result<Worker<Q>, AllocError>
-    requires bench { IsBench bench.now }
-    requires pass { IsDealt bench.now pass }
-    requires seats { AreSeatsOf bench.now.queues (map Q.seen seats.items) }
-    requires ready { ready.threads ≡ threads bench.now.hall.terms }
+    requires { IsForHire bench.now pass (map Q.seen seats.items) ready }
     ensures { IfOk result (λ w. IsHired bench.now pass.knows.worker w) }
 {
     let sleepers = Sleepers::new(alloc, bench.image.threads())?;
@@ -49,13 +44,8 @@ pub(crate) fn hire<Q: Waiters>(
     mut seats: Vec<Vec<Q::Seat>>,
     mut crew: Vec<Ready>,
 ) -> Result<Vec<Worker<Q>>, AllocError>
-    requires bench { IsBench bench.now }
-    requires passes { AreDealt bench.now.image (length bench.now.image.entries)
-        (length bench.now.image.guards) (length passes.items) bench.now.hall.table passes.items }
-    requires seats { (length seats.items ≡ length passes.items)
-        × All (λ row. AreSeatsOf bench.now.queues (map Q.seen row.items)) seats.items }
-    requires crew { (length crew.items ≡ length passes.items)
-        × All (λ r. r.threads ≡ threads bench.now.hall.terms) crew.items }
+    requires { AreForHire bench.now (λ row. map Q.seen row.items) passes.items seats.items
+        crew.items }
     ensures { IfOk result (λ ws. AreHired bench.now (length passes.items) (length passes.items)
         ws.items) }
 {

@@ -1,10 +1,10 @@
 //! How a worker with nothing in hand finds a package.
 
-ghost use Rattle.std.specs.Prelude.{◌≡◌, ◌<◌, None, IfSome, MatchOption};
+ghost use Rattle.std.specs.Prelude.{◌≡◌, ◌<◌, None};
 ghost use Rattle.tc_hall.specs.Rule.{threads};
 ghost use Rattle.tc_park.specs.Order.{NoneSleeps};
-ghost use Rattle.tc_workers.specs.Search.{Finds, FoundNothing, IsChoice, IsPause, IsSearch, IsTakenUp, IsTry};
-ghost use Rattle.tc_workers.specs.Worker.{DeskSteps, HasClaimed, IsAtWork, IsIdle, IsStill, WorkerSteps};
+ghost use Rattle.tc_workers.specs.Search.{Chooses, Finds, IsPause, IsSearch, IsTakenUp, IsTry, MaySearch};
+ghost use Rattle.tc_workers.specs.Worker.{DeskSteps, HasClaimed, IsAtWork, IsIdle, WorkerSteps};
 
 use crate::calls;
 use crate::gate::{Gate, Point};
@@ -35,7 +35,7 @@ fn take_up<Q: Waiters>(bench: &Bench<'_, Q>, desk: &mut Desk<Q>, package: Packag
     if package.fits(number(desk)) {
         return Step::On(Some(package));
     }
-    if calls::stopped(bench.hall, desk.pass()) {
+    if calls::stopped(bench, desk) {
         leave(bench, desk, Some(package));
         return Step::Stopped;
     }
@@ -55,12 +55,12 @@ pub fn claim<G: Gate, Q: Waiters>(
     ensures steps { DeskSteps bench.now desk.old desk.new result }
     ensures tried { IsTry from t desk.old.pass.knows desk.new.pass.knows result }
 {
-    match calls::claim(bench.hall, desk.pass(), t, from) {
-        None => Step::On(None),
-        Some(package) => {
+    match bench.hall.claim(desk.pass(), t, from) {
+        Ok(package) => {
             gate.at(number(desk), Point::Claimed(t));
             take_up(bench, desk, package)
         }
+        Err(_) => Step::On(None),
     }
 }
 
@@ -96,15 +96,8 @@ fn idle<Q: Waiters>(bench: &Bench<'_, Q>, pause: &Backoff, desk: &mut Desk<Q>) -
 
 // The thread that the worker tries next, and where: a sleeper that is due, else one that is ready.
 fn choose<Q: Waiters>(bench: &Bench<'_, Q>, worker: &mut Worker<Q>) -> Option<(u32, Origin)>
-    requires idle { IsIdle bench.now worker.old.desk }
-    requires ready { worker.old.ready.threads ≡ threads bench.now.hall.terms }
-    ensures still { IsStill worker.old.desk.pass worker.new.desk.pass }
-    ensures idle { IsIdle bench.now worker.new.desk }
-    ensures ready { worker.new.ready.threads ≡ worker.old.ready.threads }
-    ensures thread { IfSome result (λ c. c.0 < threads bench.now.hall.terms) }
-    ensures choice { MatchOption result
-        (FoundNothing (threads bench.now.hall.terms) worker.old worker.new)
-        (λ c. IsChoice c.1 c.0 worker.old worker.new) }
+    requires { MaySearch bench.now worker.old }
+    ensures { Chooses bench.now worker.old worker.new result }
 {
     let now = worker.desk.now();
     if let Some(t) = worker.desk.sleepers().due(now) {
@@ -121,8 +114,7 @@ fn seek<G: Gate, Q: Waiters>(
     pause: &Backoff,
     worker: &mut Worker<Q>,
 ) -> Step
-    requires idle { IsIdle bench.now worker.old.desk }
-    requires ready { worker.old.ready.threads ≡ threads bench.now.hall.terms }
+    requires { MaySearch bench.now worker.old }
     ensures steps { WorkerSteps bench.now worker.old worker.new result }
     ensures search { IsSearch (threads bench.now.hall.terms) worker.old worker.new result }
 {

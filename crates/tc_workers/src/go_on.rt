@@ -3,12 +3,9 @@
 ghost use Rattle.std.specs.Prelude.{◌≡◌, ◌<◌, Some, None, All, MatchBool, MatchResult};
 ghost use Rattle.tc_context.specs.View.{IsRoomier, WantIsGranted};
 ghost use Rattle.tc_hall.specs.Rule.{threads};
-ghost use Rattle.tc_workers.specs.Worker.{DeskSteps, HasLeft, HasSealed, IsAtDesk, IsAtWork, IsStill, WorkerSteps};
-ghost use Rattle.tc_workers.specs.Settled.{step_of};
-ghost use Rattle.tc_workers.specs.GoOn.{Acquires, AsksForLock, GivesUp, GoesOn, HasRunBlock, MayRun, RanOne};
-ghost use Rattle.tc_workers.specs.Offers.{HasOffered};
+ghost use Rattle.tc_workers.specs.Worker.{DeskSteps, HasSealed, IsAtDesk, IsAtWork, IsStill, WorkerSteps};
+ghost use Rattle.tc_workers.specs.GoOn.{Acquires, AsksForLock, GivesUp, GoesOn, HasOffered, HasRunBlock, MayRun, RanOne, step_of};
 
-use crate::calls;
 use crate::find::number;
 use crate::gate::{Gate, Point};
 use crate::leave::leave;
@@ -144,11 +141,9 @@ pub fn seal_block<Q: Waiters>(
 // Memory was refused: stops the others first, and then puts all back.
 fn give_up<Q: Waiters>(bench: &Bench<'_, Q>, desk: &mut Desk<Q>, package: Package)
     requires work { IsAtDesk bench.now (Some «package») desk.old }
-    ensures still { IsStill desk.old.pass desk.new.pass }
-    ensures left { HasLeft desk.new }
-    ensures gives_up { GivesUp «package» desk.old desk.new }
+    ensures { GivesUp «package» desk.old desk.new }
 {
-    calls::stop(bench.hall, desk.pass());
+    bench.hall.stop(desk.pass());
     leave(bench, desk, Some(package));
 }
 

@@ -1,18 +1,29 @@
 //! How a worker leaves where the run was stopped.
 
-ghost use Rattle.tc_workers.specs.Worker.{DidLeave, MayLeave};
+ghost use Rattle.tc_workers.specs.Worker.{DidLeave, DidPutBack, MayLeave};
 
-use crate::calls;
 use tc_combiner::{Bench, Desk};
 use tc_context::package::Package;
+use tc_hall::place::Place;
 use tc_queue::Waiters;
+
+// Puts a package back as ready, where there is one.
+fn put_back<Q: Waiters>(bench: &Bench<'_, Q>, desk: &mut Desk<Q>, package: Option<Package>)
+    requires { MayLeave bench.now «package» desk.old }
+    ensures { DidPutBack bench.now «package» desk.old desk.new }
+{
+    if let Some(package) = package {
+        package.keeps();
+        bench.hall.put(desk.pass(), package, Place::Ready);
+    }
+}
 
 /// Puts back the package in hand, where there is one, and the one that is set aside.
 pub fn leave<Q: Waiters>(bench: &Bench<'_, Q>, desk: &mut Desk<Q>, hand: Option<Package>)
     requires { MayLeave bench.now hand desk.old }
     ensures { DidLeave hand desk.old desk.new }
 {
-    calls::put_back(bench.hall, desk.pass(), hand);
+    put_back(bench, desk, hand);
     let aside = desk.back();
-    calls::put_back(bench.hall, desk.pass(), aside);
+    put_back(bench, desk, aside);
 }

@@ -3,12 +3,12 @@
 //! A worker has a desk and its ready threads. It takes a package, runs a block of it and settles it,
 //! again and again; it ends where it has seen every thread Done, or where the run is stopped.
 //!
-//! - `specs/Worker.antt`: workers as contracts see them, and what holds of one at work.
-//!   `specs/Search.antt`: what a search for a package comes to, and why. `specs/GoOn.antt`: what is
-//!   done with a package in hand. `specs/Settled.antt`: what a worker does after its desk's answer.
-//!   `specs/Offers.antt`: the threads that it offers. `specs/Finished.antt`: what a worker's end gives.
-//!   `specs/Crew.antt`: a crew of workers and their queues. `specs/Run.antt`: what a whole run gives.
-//!   `specs/Scripts.antt`: a desk that is driven by hand, for tests.
+//! - `specs/Worker.antt`: what holds of a worker at work. `specs/Search.antt`: what a search for a
+//!   package comes to, and why. `specs/GoOn.antt`: what is done with a package in hand, what a worker
+//!   does after its desk's answer, and the threads that it offers. `specs/Turns.antt`: its steps, and
+//!   its end. `specs/Crew.antt`: a crew of workers and their queues. `specs/Rows.antt`: rows of seats.
+//!   `specs/Run.antt`: what a whole run gives. `specs/Scripts.antt`: a desk that is driven by hand, for
+//!   tests.
 //! - `gate`: whom a worker tells how far it is. `worker`: workers. `work`: a worker's steps, in their
 //!   order. `find`, `go_on`, `leave`: how it finds a package, goes on with one, and leaves. `calls`:
 //!   the calls of the hall, as workers make them. `step`, `finished`: what a step and the end give.

@@ -2,7 +2,7 @@
 
 ghost use Rattle.std.specs.Prelude.{◌≡◌, ◌≤◌, [], All, IfOk, OnOk, length, map};
 ghost use Rattle.tc_queue.specs.Lines.{seat_as};
-ghost use Rattle.tc_workers.specs.Crew.{AreQueues, AreSeatsOf};
+ghost use Rattle.tc_workers.specs.Crew.{AreLines};
 ghost use Rattle.tc_workers.specs.Rows.{AreDealtOut};
 
 use std::alloc::{AllocError, Global};
@@ -52,10 +52,8 @@ pub(crate) fn line_up(
     workers: u32,
 ) -> Result<Lines<Queue>, AllocError>
     requires { 1 ≤ workers }
-    ensures queues { IfOk result (λ lines. AreQueues image.now lines.queues.items) }
-    ensures count { IfOk result (λ lines. length lines.rows.items ≡ workers) }
-    ensures rows { IfOk result (λ lines. All
-        (λ row. AreSeatsOf lines.queues.items (map seat_as row.items)) lines.rows.items) }
+    ensures { IfOk result (λ lines. AreLines image.now workers lines.queues.items
+        (λ row. map seat_as row.items) lines.rows.items) }
 {
     let mut queues = Vec::with_capacity(alloc, image.guards() as usize)?;
     let mut rows = empty_rows(alloc, workers)?;

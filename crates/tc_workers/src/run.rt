@@ -1,14 +1,11 @@
 //! Whole runs.
 
-ghost use Rattle.std.specs.Prelude.{◌≡◌, ℕ, ◌<◌, ◌≤◌, ◌*◌, All, IfOk, length, map, min};
+ghost use Rattle.std.specs.Prelude.{ℕ, ◌<◌, ◌≤◌, ◌*◌, IfOk, length, map, min};
 ghost use Rattle.tc_isa.specs.declared.limits.TheConstants.{MAX_FUEL};
 ghost use Rattle.tc_elf.specs.declared.limits.TheConstants.{MAX_THREADS};
-ghost use Rattle.tc_hall.specs.Made.{AreDealt};
-ghost use Rattle.tc_hall.specs.Rule.{threads};
 ghost use Rattle.tc_hall.specs.Steps.{IsEnd};
-ghost use Rattle.tc_ready.specs.declared.limits.TheConstants.{MAX_ROOM};
-ghost use Rattle.tc_workers.specs.Crew.{AreQueues, AreSeatsOf, HasRun, IsBench};
-ghost use Rattle.tc_workers.specs.Offers.{CanHave};
+ghost use Rattle.tc_workers.specs.Crew.{AreForHire, AreLines, HasRun};
+ghost use Rattle.tc_workers.specs.GoOn.{CanHave};
 ghost use Rattle.tc_workers.specs.Run.{IsWholeRun};
 
 use crate::crew::{hire, together};
@@ -42,7 +39,6 @@ fn room_of(threads: u32, fuel: u32) -> u32
         → min (threads * sections) 4096 ≤ result }
     ensures few { result ≤ 4096 }
     ensures least { 1 ≤ result }
-    ensures most { result ≤ MAX_ROOM }
 {
     (threads * (fuel / 2 + 2)).min(MAX_OFFERS)
 }
@@ -73,14 +69,9 @@ fn run_at<R: Threads + Wait + Sync, Q: Waiters, G: Gate>(
 ) -> Result<Finished, AllocError>
 where
     Q::Place: Send,
-    requires bench { IsBench bench.now }
     requires some { 0 < length passes.items }
-    requires passes { AreDealt bench.now.image (length bench.now.image.entries)
-        (length bench.now.image.guards) (length passes.items) bench.now.hall.table passes.items }
-    requires seats { (length seats.items ≡ length passes.items)
-        × All (λ row. AreSeatsOf bench.now.queues (map Q.seen row.items)) seats.items }
-    requires ready { (length ready.items ≡ length passes.items)
-        × All (λ r. r.threads ≡ threads bench.now.hall.terms) ready.items }
+    requires hire { AreForHire bench.now (λ row. map Q.seen row.items) passes.items seats.items
+        ready.items }
     ensures { IfOk result (λ f. HasRun bench.now.hall (length passes.items) f.pass f.all_done) }
 {
     let crew = hire(alloc, bench, passes, seats, ready)?;
@@ -104,10 +95,8 @@ pub fn run_with<R: Threads + Wait + Sync, Q: Waiters + Drop, G: Gate>(
 ) -> Result<Closed, AllocError>
 where
     Q::Place: Send,
-    requires queues { AreQueues image.now (map Q.queue queues.items) }
-    requires count { length seats.items ≡ options.workers }
-    requires seats { All
-        (λ row. AreSeatsOf (map Q.queue queues.items) (map Q.seen row.items)) seats.items }
+    requires { AreLines image.now options.workers (map Q.queue queues.items)
+        (λ row. map Q.seen row.items) seats.items }
     ensures { IfOk result (λ closed. IsWholeRun image.now options closed) }
 {
     let (fuel, workers) = (options.fuel, options.workers);

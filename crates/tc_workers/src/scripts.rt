@@ -4,8 +4,8 @@
 
 ghost use Rattle.std.specs.Prelude.{◌≡◌, ◌<◌, None, All, IfOk, OnOk};
 ghost use Rattle.tc_workers.specs.Crew.{AreAtWork};
-ghost use Rattle.tc_workers.specs.Scripts.{IsPlaying};
-ghost use Rattle.tc_workers.specs.Settled.{step_of};
+ghost use Rattle.tc_workers.specs.Scripts.{IsAtHall, IsPlaying};
+ghost use Rattle.tc_workers.specs.GoOn.{step_of};
 ghost use Rattle.tc_workers.specs.Worker.{HasSealed, IsStep};
 
 use crate::crew::hire;
@@ -14,7 +14,7 @@ use crate::gate::Open;
 use crate::go_on::{next, seal_block, wants_lock};
 use crate::lines::{Lines, line_up};
 use crate::step::Step;
-use crate::stops::{Vain, stop_behind, wait_in_vain};
+use crate::stops::{Vain, keeper_of, stop_behind, wait_in_vain};
 use crate::worker::Worker;
 use std::alloc::{AllocError, Global};
 use std::process::Abort;
@@ -28,6 +28,7 @@ use tc_elf::image::Image;
 use tc_elf::limits::MAX_THREADS;
 use tc_elf::load::load;
 use tc_hall::hall::Hall;
+use tc_hall::pass::Pass;
 use tc_hall::place::Origin;
 use tc_isa::limits::{MAX_BATCH, MAX_WORKERS};
 use tc_isa::reg::Reg;
@@ -376,16 +377,10 @@ pub(crate) fn follow<R: Abort + Wait>(
 }
 
 /// Takes each lock that is at home, and compares the bytes of its guard, and whether it is broken.
-fn check_guards<R: Abort>(
-    rt: &R,
-    bench: &Bench<'_, Queue>,
-    player: &mut Player,
-    script: &Script<'_>,
-)
-    requires { IsPlaying bench.now player.old.desk player.old.hand player.old.end }
+fn check_guards<R: Abort>(rt: &R, bench: &Bench<'_, Queue>, pass: &mut Pass, script: &Script<'_>)
+    requires { IsAtHall bench.now pass.old }
 {
     assert_eq!(rt; bench.image.guards() as usize, script.bytes.len());
-    let pass = player.desk.pass();
     for lock in 0..bench.image.guards() {
         match (bench.hall.take(pass, lock), script.bytes[lock as usize]) {
             (Ok(state), Some(bytes)) => {
@@ -415,14 +410,17 @@ fn compare<R: Abort>(
     alloc: Global,
     bench: &Bench<'_, Queue>,
     script: &Script<'_>,
-    players: &mut Vec<Player>,
+    mut players: Vec<Player>,
     history: &[Block],
 ) -> Result<(), Fail>
-    requires { All (λ p. IsPlaying bench.now p.desk p.hand p.end) players.old.items }
+    requires { All (λ p. IsPlaying bench.now p.desk p.hand p.end) players.items }
 {
     check_history(rt, alloc, history, script.history)?;
-    assert!(rt; !players.is_empty());
-    check_guards(rt, bench, &mut players[0], script);
+    let Some(last) = players.pop() else {
+        panic!(rt; "there is a desk")
+    };
+    let (mut pass, _) = keeper_of(rt, bench, last);
+    check_guards(rt, bench, &mut pass, script);
     Ok(())
 }
 
@@ -448,7 +446,7 @@ fn perform<R: Abort + Threads + Wait + Sync>(
         wait_in_vain(rt, bench, vain, players);
         return Ok(());
     }
-    compare(rt, alloc, bench, script, &mut players, &history)
+    compare(rt, alloc, bench, script, players, &history)
 }
 
 /// Plays a script to its end.

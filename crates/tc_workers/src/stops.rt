@@ -93,7 +93,11 @@ fn keep<R: Abort, Q: Waiters>(
 }
 
 /// Ends a desk: its pass, and its seats.
-fn keeper_of<R: Abort>(rt: &R, bench: &Bench<'_, Queue>, player: Player) -> (Pass, Vec<QueueSeat>)
+pub(crate) fn keeper_of<R: Abort>(
+    rt: &R,
+    bench: &Bench<'_, Queue>,
+    player: Player,
+) -> (Pass, Vec<QueueSeat>)
     requires { IsPlaying bench.now player.desk player.hand player.end }
     ensures { IsKeeper bench.now result.0 (map seat_as result.1.items) }
 {
@@ -203,14 +207,16 @@ fn spare<R: Abort>(rt: &R, bench: &Bench<'_, Queue>, crew: &mut Vec<Worker<Queue
     ensures own { IsAtHall bench.now result }
     ensures rest { AreAtWork bench.now crew.new.items }
 {
-    let _ = bench;
     let Some(worker) = crew.pop() else {
         panic!(rt; "there is a worker")
     };
-    let Worker { mut desk, ready: _ } = worker;
-    assert!(rt; desk.back().is_none());
-    let (pass, _) = desk.finish();
-    pass
+    let Worker { desk, ready: _ } = worker;
+    let player = Player {
+        desk,
+        hand: None,
+        end: None,
+    };
+    keeper_of(rt, bench, player).0
 }
 
 /// Checks that no package is out.

@@ -2,8 +2,7 @@
 
 ghost use Rattle.std.specs.Prelude.{◌≡◌, None};
 ghost use Rattle.tc_workers.specs.Worker.{HasLeft, IsAtWork, WorkerSteps};
-ghost use Rattle.tc_workers.specs.Finished.{IsFinished};
-ghost use Rattle.tc_workers.specs.Turns.{HasWorked, TakesStep};
+ghost use Rattle.tc_workers.specs.Turns.{HasWorked, IsFinished, TakesStep};
 
 use crate::calls;
 use crate::find::find;
@@ -33,7 +32,7 @@ fn take_step<R: Wait, G: Gate, Q: Waiters>(
     ensures steps { WorkerSteps bench.now worker.old worker.new result }
     ensures takes { TakesStep bench.now hand worker.old worker.new result }
 {
-    if calls::stopped(bench.hall, worker.desk.pass()) {
+    if calls::stopped(bench, &mut worker.desk) {
         leave(bench, &mut worker.desk, hand);
         return Step::Stopped;
     }

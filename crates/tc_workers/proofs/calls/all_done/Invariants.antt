@@ -1,6 +1,5 @@
-use Rattle.tc_hall.specs.Steps.{HasSeenAll}
 use Rattle.tc_workers.specs.Worker.{IsUnmoved, SawEnded}
 use Rattle.tc_workers.proofs.calls.all_done.Given as goal
 
 abbrev pub invariant-loop-t : goal.invariant-loop-t
-invariant-loop-t l = IsUnmoved l.initial.pass l.pass × HasSeenAll l.t l.pass.knows × SawEnded l.t l.initial.pass.knows l.pass.knows
+invariant-loop-t l = IsUnmoved l.initial.pass l.pass × SawEnded l.t l.initial.pass.knows l.pass.knows

@@ -37,8 +37,6 @@ join-own-requires-send-A g t c κs within = search (sendable, finished_send)
 pub join-own-requires-after_bounds : goal.join-own-requires-after_bounds
 join-own-requires-after_bounds g t c κs within =
     let both = at_work_last c.args.bench.now c.pop.new.self.items c.args.crew.items c.in-Some.worker c.requires.work c.in-Some.ensures.items in
-    let work = both.0 in
-    let others = both.1 in
     let some : 0 < length c.pop.new.self.items = search rules in
     search (rules, sendable) depth 20
 
@@ -48,7 +46,7 @@ join-requires-clause-own g t c =
     let work = (at_work_last c.args.bench.now c.pop.new.self.items c.args.crew.items c.in-Some.worker c.requires.work c.in-Some.ensures.items).0 in
     let own = c.join-own.ensures.first in
     let rest = c.join-own.ensures.second in
-    ((own.still.own.0 ∙ work.desk.fits.own) ∙ sym table, rest.own ∙ sym table)
+    ((own.still.own.0 ∙ work.desk.seat.fits.own) ∙ sym table, rest.end.own ∙ sym table)
 
 pub returns : goal.returns
 returns g t c =

@@ -1,13 +1,15 @@
-use Rattle.std.proofs.Common.{Some, sym, subst}
+use Rattle.std.proofs.Common.{None, sym, subst}
 use Rattle.tc_hall.specs.PassView.{PassView}
-use Rattle.tc_combiner.specs.View.{DeskView}
-use Rattle.tc_workers.specs.Worker.{HasClaimed, IsStill}
-use Rattle.tc_workers.proofs.Desks.{one_claimed}
+use Rattle.tc_workers.specs.Worker.{HasClaimed, IsUnmoved}
+use Rattle.tc_workers.proofs.Desks.{at_still, one_claimed}
+use Rattle.tc_workers.proofs.Passes.{unmoved_missed}
 use Rattle.tc_workers.proofs.find.claim.Goals as goal
 
 pub take_up-requires-clause-claimed : goal.take_up-requires-clause-claimed
-take_up-requires-clause-claimed g c κs within =
-    let still = subst (λ (p : PassView). IsStill p c.claim.new.pass) c.pass.ensures.value c.claim.ensures.still in
-    let got = (c.in-Some.ensures {u = tt}).result in
-    subst (λ (z : DeskView). HasClaimed c.args.bench.now c.in-Some.package z) (sym c.number.ensures.same)
-    (one_claimed c.args.bench.now c.args.desk.now c.claim.new.pass c.in-Some.package c.requires.idle.desk c.requires.idle.free still got.0 got.1)
+take_up-requires-clause-claimed g c κs within = subst (HasClaimed c.args.bench.now c.in-Ok.«package») (sym c.number.ensures.same)
+    (one_claimed c.args.bench.now c.args.desk.now c.pass.result.now c.claim.new.pass c.in-Ok.«package» c.args.from c.args.t c.requires.idle c.pass.ensures.value c.claim.ensures.own c.in-Ok.ensures.result)
+
+pub returns-in-Err-clause-steps : goal.returns-in-Err-clause-steps
+returns-in-Err-clause-steps g c =
+    let u = subst (λ (p : PassView). IsUnmoved p c.claim.new.pass) c.pass.ensures.value (unmoved_missed c.pass.result.now c.claim.new.pass _ _ c.claim.ensures.own c.in-Err.ensures.result.1) in
+    record { still = u.still; after = at_still c.args.bench.now None c.args.desk.now c.claim.new.pass c.requires.idle.desk u }

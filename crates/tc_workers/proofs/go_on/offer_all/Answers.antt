@@ -1,7 +1,7 @@
 use Rattle.std.proofs.Common.{ℕ, List, get_or, take, sym, subst}
 use Rattle.std.proofs.lemmas.List.{take_more}
-use Rattle.tc_workers.specs.Offers.{HasOffered}
-use Rattle.tc_workers.proofs.Offering.{offers_more}
+use Rattle.tc_workers.specs.GoOn.{HasOffered}
+use Rattle.tc_workers.proofs.Turning.{offers_more}
 use Rattle.tc_workers.proofs.go_on.offer_all.Goals as goal
 
 pub loop-t-preserved : goal.loop-t-preserved

@@ -1,5 +1,5 @@
 use Rattle.std.proofs.Common.{take}
-use Rattle.tc_workers.specs.Offers.{HasOffered}
+use Rattle.tc_workers.specs.GoOn.{HasOffered}
 use Rattle.tc_workers.proofs.go_on.offer_all.Given as goal
 
 abbrev pub invariant-loop-t : goal.invariant-loop-t

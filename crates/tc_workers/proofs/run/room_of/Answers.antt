@@ -1,5 +1,5 @@
 use Rattle.std.proofs.Common.{ℕ, ◌≤◌, ◌*◌, min, sym, subst}
-use Rattle.tc_workers.proofs.Offering.{room_enough}
+use Rattle.tc_workers.proofs.Turning.{room_enough}
 use Rattle.tc_workers.proofs.run.room_of.Goals as goal
 
 pub returns-clause-enough : goal.returns-clause-enough

@@ -1,9 +1,8 @@
 use Rattle.std.proofs.Common.{subst}
 use Rattle.tc_journal.specs.declared.block.End.{End}
-use Rattle.tc_journal.specs.declared.block.End.TheVariants.{Wants}
 use Rattle.tc_workers.specs.Worker.{HasSealed}
-use Rattle.tc_workers.proofs.Desks.{after_settle}
-use Rattle.tc_workers.proofs.Playing.{acquire_settles, may_acquire}
+use Rattle.tc_workers.proofs.Desks.{after_acquire}
+use Rattle.tc_workers.proofs.Playing.{may_acquire}
 use Rattle.tc_workers.proofs.scripts.acquire_as.Goals as goal
 
 pub acquire-settled-requires-clause-may : goal.acquire-settled-requires-clause-may
@@ -14,11 +13,5 @@ acquire-settled-requires-clause-may g c κs within =
 
 pub go_on_as-requires-clause-step : goal.go_on_as-requires-clause-step
 go_on_as-requires-clause-step g c =
-    let b = c.args.bench.now in
-    let q = c.in_hand-package.result.0 in
-    let d = c.in_hand-package.new.player.desk in
-    let e = c.acquire-settled.new.self in
-    let s = c.acquire-settled.result in
     let done = c.acquire-settled.ensures in
-    let sealed : HasSealed b (Wants c.in-Wants.lock) q d = subst (λ (x : End). HasSealed b x q d) c.in-Wants.is c.in_hand-package.ensures.sealed in
-    after_settle b (Wants c.in-Wants.lock) q d e s sealed done.keeps (acquire_settles b c.in-Wants.lock q d e s c.keeps.ensures.sound sealed done.acquired)
+    after_acquire c.args.bench.now c.in_hand-package.result.0 c.in_hand-package.new.player.desk c.acquire-settled.new.self c.acquire-settled.result done.keeps c.in_hand-package.ensures.sealed.seat done.acquired

@@ -1,8 +1,7 @@
-use Rattle.std.proofs.Common.{List, All, None, sym, subst}
+use Rattle.std.proofs.Common.{List, All, sym, subst}
 use Rattle.std.proofs.lemmas.List.Elements.{All-push}
 use Rattle.tc_workers.specs.declared.scripts.Player.{Player}
 use Rattle.tc_workers.specs.Scripts.{IsPlaying}
-use Rattle.tc_workers.specs.Worker.{WorkerView, IsAtDesk}
 use Rattle.tc_workers.proofs.Joining.{at_work_last}
 use Rattle.tc_workers.proofs.scripts.players.Goals as goal
 
@@ -12,5 +11,5 @@ loop-worker-preserved c =
     let P = λ (p : Player). IsPlaying c.args.bench.now p.desk p.hand p.end in record {
       work = work.1;
       playing = subst (λ (ps : List Player). All P ps) (sym c.in_ok-push.ensures.items)
-          (All-push P c.loop-worker.players.items _ c.loop-worker.invariant.playing (subst (λ (w : WorkerView). IsAtDesk c.args.bench.now None w.desk) (sym c.worker.view_is) work.0.desk));
+          (All-push P c.loop-worker.players.items _ c.loop-worker.invariant.playing work.0.desk);
     }

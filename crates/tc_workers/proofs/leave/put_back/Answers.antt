@@ -1,0 +1,8 @@
+use Rattle.tc_workers.proofs.Leaving.{back_some, may_put_back}
+use Rattle.tc_workers.proofs.leave.put_back.Goals as goal
+
+pub put-requires-clause-ready : goal.put-requires-clause-ready
+put-requires-clause-ready g c = may_put_back c.args.bench.now c.args.desk.now c.args.«package» c.in-Some.«package» c.pass.result.now c.requires c.in-Some.is c.pass.ensures.value
+
+pub returns-in-Some : goal.returns-in-Some
+returns-in-Some g c = back_some c.args.bench.now c.args.desk.now c.args.«package» c.in-Some.«package» c.pass.result.now c.requires c.in-Some.is c.pass.ensures.value c.put.new.pass c.put.ensures.own c.put.ensures.put
