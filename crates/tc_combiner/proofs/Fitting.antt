@@ -1,6 +1,6 @@
 -- A desk that fits a bench still fits it after its calls.
 use Rattle.std.proofs.Common.{◌≡◌, ◌<◌, ◌≤◌, ℕ, List, length, get_or, map, Vec, sym, ap, ◌∙◌, subst, subst₂, ◌∷◌, ◌++◌, arith, Option, Some}
-use Rattle.tc_combiner.proofs.Vocabulary.{AreSameSeats, AreSeats, BenchView, DeskView, Did_adopt, FitsBench, GoesOn, Hands, HasSeats, IsAside, IsAt, IsInHand, IsSamePass, IsSeatFor, IsSoundPackage, Item, Keeps, KeepsParts, Knows, MayAcquire, MayAsk, Owned, Pack, PackageView, PassView, QueueView, Rest, SeatView, Settled, Shown, WantIsLawful, carried, desk_of, get_or_default, length-map, locks, no_seat, packed, seat_at, threads, want_of}
+use Rattle.tc_combiner.proofs.Vocabulary.{AreSameSeats, AreSeats, BenchView, DeskView, Did_adopt, FitsBench, GoesOn, Hands, HasSeats, IsAside, IsAt, IsInHand, IsSamePass, IsSeatFor, IsSoundPackage, Item, Keeps, KeepsParts, Knows, MayAcquire, MayAsk, Owned, Pack, PackageView, PassView, QueueView, Rest, SeatView, Settled, Shown, WantIsLawful, Wants_lock, carried, desk_of, get_or_default, length-map, locks, no_seat, packed, seat_at, threads, want_of}
 use Rattle.tc_combiner.proofs.Acting.{owned_by}
 use Rattle.tc_combiner.proofs.Packages.{wants_runs}
 use Rattle.std.specs.Vec.{with_items}
@@ -58,11 +58,10 @@ module _ {S Z : Type 0} (seen : S → SeatView) (v : Vec S Z) (xs ts : List S) (
       (subst₂ (λ (c : BenchView) (z : DeskView). Keeps c q z (after ts) r × P z (after ts)) bench same (all, did))
 
 -- the package may ask for the lock that it wants
-pub may_want : (b b' : BenchView) (d : DeskView) (q : PackageView) (i : ℕ) (o : Option ℕ) → b ≡ b' → FitsBench b' d → MayAcquire b'.image q → IsSoundPackage q → WantIsLawful q → o ≡ want_of b.image q.context → o ≡ Some i → MayAsk b.hall.terms i q
-may_want b b' d q i o bench fits m sound law is e =
+pub may_want : (b b' : BenchView) (d : DeskView) (q : PackageView) (i : ℕ) → b ≡ b' → FitsBench b' d → MayAcquire b'.image q → IsSoundPackage q → WantIsLawful q → Wants_lock q i → MayAsk b.hall.terms i q
+may_want b b' d q i bench fits m sound law want =
     let h : FitsBench b d = subst (λ (x : BenchView). FitsBench x d) (sym bench) fits in
-    let of : q.image ≡ b.image = m.of ∙ sym (ap (λ (x : BenchView). x.image) bench) in
-    let want : want_of q.image q.context ≡ Some i = ap (λ (x : Shown). want_of x q.context) of ∙ (sym is ∙ e) in record {
+    let of : q.image ≡ b.image = m.of ∙ sym (ap (λ (x : BenchView). x.image) bench) in record {
       lock = subst (λ (x : Shown). i < length x.guards) (of ∙ sym h.hall) (law i want).known;
       of = of ∙ sym h.hall;
       plain = record {

@@ -8,6 +8,7 @@ ghost use Rattle.tc_hall.specs.contracts.pass.Pass.{the_row as pass_row};
 ghost use Rattle.tc_park.specs.contracts.sleepers.Sleepers.{the_row as sleepers_row};
 ghost use Rattle.tc_combiner.specs.contracts.desk.Desk.{the_row};
 ghost use Rattle.tc_hall.specs.Steps.{DidSeal, IsSamePass};
+ghost use Rattle.tc_combiner.specs.Packages.{Wants};
 ghost use Rattle.tc_combiner.specs.View.{FitsBench, desk_of};
 ghost use Rattle.tc_combiner.specs.Settling.{HasAcquired, HasSettled, IsInHand, Keeps, MayAcquire, MayCommit, MaySettle, MovesSealed};
 
@@ -139,12 +140,30 @@ impl<Q: Waiters> Desk<Q> {
         ensures keeps { Keeps bench.now «package» self.old self.new result }
         ensures acquired { HasAcquired «package» self.old self.new result }
     {
+        package.keeps();
+        match package.want(bench.image) {
+            Some(lock) => self.acquire_lock(rt, bench, package, lock),
+            None => unreachable!(),
+        }
+    }
+
+    /// Does what `acquire` does, for a caller who has asked the package which lock it wants.
+    pub fn acquire_lock<R: Wait>(
+        &mut self,
+        rt: &R,
+        bench: &Bench<'_, Q>,
+        package: Package,
+        lock: u32,
+    ) -> Settled
+        requires fits { FitsBench bench.now self.old }
+        requires hand { IsInHand self.old «package» }
+        requires may { MayAcquire bench.now.image «package» }
+        requires wants { Wants «package» lock }
+        ensures keeps { Keeps bench.now «package» self.old self.new result }
+        ensures acquired { HasAcquired «package» self.old self.new result }
+    {
         self.hands.ready.clear();
         package.keeps();
-        let lock = match package.want(bench.image) {
-            Some(lock) => lock,
-            None => unreachable!(),
-        };
         let shared = Shared {
             hall: bench.hall,
             queues: bench.queues,
