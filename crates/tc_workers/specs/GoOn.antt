@@ -1,11 +1,11 @@
 -- What a worker does with a package in hand, and what it comes to.
-use Rattle.std.specs.Prelude.{◌≡◌, ◌≢◌, ℕ, ◌≤◌, ◌+◌, ◌*◌, List, [], ◌∷◌, ◌++◌, length, map, true, is_some, Some, None}
+use Rattle.std.specs.Prelude.{◌≡◌, ◌≢◌, ℕ, ◌≤◌, ◌+◌, ◌*◌, List, [], ◌∷◌, ◌++◌, length, map, Some, None}
 use Rattle.tc_isa.specs.declared.limits.TheConstants.{MAX_HELD}
 use Rattle.tc_elf.specs.Shown.{Shown}
 use Rattle.tc_journal.specs.declared.block.Block.{Block}
 use Rattle.tc_journal.specs.declared.block.End.{End}
 use Rattle.tc_context.specs.Ran.{DidRun}
-use Rattle.tc_context.specs.View.{PackageView, HasBlock, IsRoomier, IsSoundPackage, WantIsGranted, want_of, with_seal}
+use Rattle.tc_context.specs.View.{PackageView, HasBlock, IsRoomier, IsSoundPackage, WantIsGranted, with_seal}
 use Rattle.tc_hall.specs.declared.board.Call.TheVariants.{Stop}
 use Rattle.tc_hall.specs.Outs.{Called}
 use Rattle.tc_hall.specs.Steps.{DidSeal}
@@ -13,7 +13,7 @@ use Rattle.tc_ready.specs.Rule.{thread_of}
 use Rattle.tc_ready.specs.ReadyView.{ReadyView}
 use Rattle.tc_combiner.specs.declared.settled.Settled.{Settled}
 use Rattle.tc_combiner.specs.declared.settled.Settled.TheVariants.{GoesOn as Did_go_on, Adopted, Stopped as Was_stopped}
-use Rattle.tc_combiner.specs.Packages.{Runs}
+use Rattle.tc_combiner.specs.Packages.{Runs, Wants}
 use Rattle.tc_combiner.specs.Settling.{HasAcquired, HasSettled}
 use Rattle.tc_combiner.specs.View.{DeskView}
 use Rattle.tc_workers.specs.Worker.{HasLeft, IsStill, put_back}
@@ -46,14 +46,15 @@ CanHave fuel sections = 2 * sections ≤ fuel + MAX_HELD
 
 -- ---- a lock that is not granted
 
--- the package wants a lock, and has none granted
-pub record AsksForLock (p : PackageView) : Type 0 where
-  pub wants : is_some (want_of p.image p.context) ≡ true
+-- the package wants this lock, and has none granted
+pub record AsksForLock (p : PackageView) (lock : ℕ) : Type 0 where
+  pub wants : Wants p lock
   pub free : p.granted ≡ None
 
 -- the desk was asked for the lock that the package wants, and the step is by its answer
 pub record Acquires (p : PackageView) (d e : DeskView) (s : Step) : Type 0 where
-  pub asks : AsksForLock p
+  pub lock : ℕ
+  pub asks : AsksForLock p lock
   pub answer : Settled
   pub acquired : HasAcquired p d e answer
   pub step : s ≡ step_of answer

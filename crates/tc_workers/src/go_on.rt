@@ -1,6 +1,6 @@
 //! How a worker goes on with a package.
 
-ghost use Rattle.std.specs.Prelude.{◌≡◌, ◌<◌, Some, None, All, MatchBool, MatchResult};
+ghost use Rattle.std.specs.Prelude.{◌≡◌, ◌<◌, Some, None, All, MatchOption, MatchResult};
 ghost use Rattle.tc_context.specs.View.{IsRoomier, WantIsGranted};
 ghost use Rattle.tc_hall.specs.Rule.{threads};
 ghost use Rattle.tc_workers.specs.Worker.{DeskSteps, HasSealed, IsAtDesk, IsAtWork, IsStill, WorkerSteps};
@@ -20,17 +20,17 @@ use tc_journal::block::End;
 use tc_queue::Waiters;
 use tc_ready::Ready;
 
-/// Whether the package wants a lock that is not granted to it.
-pub fn wants_lock(package: &Package, image: &Image) -> bool
+/// The lock that the package wants, where it is not granted to it.
+pub fn wanted_lock(package: &Package, image: &Image) -> Option<u32>
     requires { «package».now.image ≡ image.now }
-    ensures { MatchBool result (AsksForLock «package».now)
-        (WantIsGranted image.now «package».now) }
+    ensures { MatchOption result (WantIsGranted image.now «package».now)
+        (AsksForLock «package».now) }
 {
     package.keeps();
     if package.granted().is_some() {
-        return false;
+        return None;
     }
-    package.want(image).is_some()
+    package.want(image)
 }
 
 /// What the worker does after its desk's answer.
@@ -86,23 +86,24 @@ fn conclude<G: Gate>(
     next(settled)
 }
 
-// Takes the lock that the package wants, or ships the package.
+// Takes this lock, which the package wants, or ships the package.
 fn acquire<R: Wait, G: Gate, Q: Waiters>(
     rt: &R,
     bench: &Bench<'_, Q>,
     gate: &G,
     worker: &mut Worker<Q>,
     package: Package,
+    lock: u32,
 ) -> Step
     requires work { IsAtWork bench.now (Some «package») worker.old }
-    requires wants { AsksForLock «package» }
+    requires wants { AsksForLock «package» lock }
     ensures steps { DeskSteps bench.now worker.old.desk worker.new.desk result }
     ensures acquires { Acquires «package» worker.old.desk worker.new.desk result }
     ensures offered { HasOffered worker.new.desk.handed worker.old.ready worker.new.ready }
 {
     let t = package.thread();
     let number = number(&mut worker.desk);
-    let settled = worker.desk.acquire(rt, bench, package);
+    let settled = worker.desk.acquire_lock(rt, bench, package, lock);
     let handed = worker.desk.handed();
     conclude(gate, number, t, handed, &mut worker.ready, settled)
 }
@@ -188,8 +189,8 @@ pub fn go_on<R: Wait, G: Gate, Q: Waiters>(
     ensures steps { WorkerSteps bench.now worker.old worker.new result }
     ensures goes_on { GoesOn bench.now.image «package» worker.old worker.new result }
 {
-    if wants_lock(&package, bench.image) {
-        return acquire(rt, bench, gate, worker, package);
+    match wanted_lock(&package, bench.image) {
+        Some(lock) => acquire(rt, bench, gate, worker, package, lock),
+        None => run(rt, bench, gate, worker, package),
     }
-    run(rt, bench, gate, worker, package)
 }

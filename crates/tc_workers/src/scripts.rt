@@ -11,7 +11,7 @@ ghost use Rattle.tc_workers.specs.Worker.{HasSealed, IsStep};
 use crate::crew::hire;
 use crate::find::claim;
 use crate::gate::Open;
-use crate::go_on::{next, seal_block, wants_lock};
+use crate::go_on::{next, seal_block, wanted_lock};
 use crate::lines::{Lines, line_up};
 use crate::step::Step;
 use crate::stops::{Vain, keeper_of, stop_behind, wait_in_vain};
@@ -123,7 +123,7 @@ fn run_block<R: Abort>(rt: &R, bench: &Bench<'_, Queue>, player: &mut Player) ->
     let Some(mut package) = player.hand.take() else {
         panic!(rt; "no package is in hand")
     };
-    assert!(rt; !wants_lock(&package, bench.image));
+    assert!(rt; wanted_lock(&package, bench.image).is_none());
     let Ok(end) = seal_block(bench, &mut player.desk, &mut package) else {
         panic!(rt; "there is memory for a block")
     };

@@ -8,8 +8,8 @@ pub returns-clause-steps : goal.returns-clause-steps
 returns-clause-steps g c =
     let b = c.args.bench.now in
     let q = c.args.«package» in
-    let e = c.acquire-settled.new.self in
-    let did = c.acquire-settled.ensures in
+    let e = c.acquire_lock-settled.new.self in
+    let did = c.acquire_lock-settled.ensures in
     let at = subst (IsAtDesk b (Some q)) (sym c.number-number.ensures.same) c.requires.work.desk in
-    let after = subst (λ (s : Step). IsStep b e s) (sym c.conclude.ensures.step) (after_acquire b q c.number-number.new.desk e c.acquire-settled.result did.keeps at.seat did.acquired) in
+    let after = subst (λ (s : Step). IsStep b e s) (sym c.conclude.ensures.step) (after_acquire b q c.number-number.new.desk e c.acquire_lock-settled.result did.keeps at.seat did.acquired) in
     search rules
