@@ -75,6 +75,13 @@ def hot_lock():
     return elf(base + for_ever(lock(0) + add_one(8) + unlock(0)), 1)
 
 
+def own_locks():
+    """The same, but each thread has a lock of its own: the one with its number."""
+    base = [encode("addi", 9, 10, 0), encode("slli", 8, 9, 6), encode("lui", 7, DATA), encode("add", 8, 8, 7)]
+    taken, given = ([encode("addi", 10, 9, 0), *lock_or_unlock(0)[1:]] for lock_or_unlock in (lock, unlock))
+    return elf(base + for_ever(taken + add_one(8) + given), THREADS)
+
+
 def nested_locks():
     """Four locks, taken one in the other and given up again."""
     taken = [one for number in range(4) for one in lock(number)]
@@ -121,6 +128,6 @@ def many_ranges():
 
 
 GUESTS = {guest.__name__.replace("_", "-"): guest for guest in (
-    arithmetic, memory, hot_lock, nested_locks, sleeps, shortest_blocks, longest_history, many_ranges)}
+    arithmetic, memory, hot_lock, own_locks, nested_locks, sleeps, shortest_blocks, longest_history, many_ranges)}
 GUESTS.update({f"{size}-image": functools.partial(image, kibibytes)
                for size, kibibytes in (("quarter", 240), ("half", 480), ("large", 960))})

@@ -1,9 +1,15 @@
-"""One run of the program, and what it took."""
+"""One run of the program, or of another one beside it, and what it took."""
 import os
+import shutil
+import subprocess
 import time
+from pathlib import Path
 from typing import NamedTuple
 
 import program
+import tool
+
+HERE = Path(__file__).resolve().parent
 
 
 class Took(NamedTuple):
@@ -13,14 +19,49 @@ class Took(NamedTuple):
     peak: int
 
 
-def run(words, given, written):
-    """Runs the program over open files, each from its place on: its status, and what it took."""
+def add_word(parser):
+    """The word for another program than the built one, of all scripts here."""
+    parser.add_argument("-p", dest="program", metavar="PROGRAM", type=Path,
+                        help="the program that is measured (the one that ./tclocks-build has built)")
+
+
+def choose(asked):
+    """Measures the program that was asked for. Trouble where it is not there, or was not built."""
+    if asked.program is None:
+        program.need()
+    elif not (asked.program.is_file() and os.access(asked.program, os.X_OK)):
+        raise tool.Trouble(tool.INPUT, f"{asked.program}: there is no such program")
+    else:
+        program.PATH = asked.program.absolute()
+
+
+def compiled(source, folder, *words):
+    """A source of this folder, compiled into another one: its path."""
+    if not shutil.which("cc"):
+        raise tool.Trouble(tool.INPUT, "this needs a C compiler, and cc is not on the PATH")
+    made = Path(folder) / Path(source).stem
+    done = subprocess.run(["cc", "-O2", *words, "-o", made, HERE / source], stdout=subprocess.PIPE, stderr=subprocess.STDOUT,
+                          check=False)
+    if done.returncode:
+        said = done.stdout.decode(errors="replace").splitlines() or [f"status {done.returncode}"]
+        raise tool.Trouble(tool.INPUT, f"cc does not compile bench/{source}: {said[0]}")
+    return made
+
+
+def run(words, given, written, path=None, surroundings=None):
+    """Runs the program, or the one at a path, over open files, each from its place on: its status, and what it
+    took. Surroundings are more variables of the environment."""
+    path = path or program.PATH
+    variables = {**os.environ, **(surroundings or {})}
     began = time.perf_counter()
     number = os.fork()  # whose memory is counted as the program's before it is one: so as little as can be
     if number == 0:
-        os.dup2(given.fileno(), 0)
-        os.dup2(written.fileno(), 1)
-        os.execv(program.PATH, [*map(str, (program.PATH, *words))])
+        try:
+            os.dup2(given.fileno(), 0)
+            os.dup2(written.fileno(), 1)
+            os.execve(path, [*map(str, (path, *words))], variables)
+        finally:
+            os._exit(tool.INPUT)  # it is no program that runs here: a copy of this process goes no further
     _, ended, usage = os.wait4(number, 0)
     seconds = time.perf_counter() - began
     status = os.WEXITSTATUS(ended) if os.WIFEXITED(ended) else -os.WTERMSIG(ended)
