@@ -6,7 +6,8 @@ import struct
 import sys
 from pathlib import Path
 
-sys.path.insert(1, str(Path(__file__).resolve().parent.parent / "guests"))
+FOLDER = Path(__file__).resolve().parent.parent / "guests"
+sys.path.insert(1, str(FOLDER))
 import elf32
 import limits
 from made import call
@@ -131,3 +132,8 @@ GUESTS = {guest.__name__.replace("_", "-"): guest for guest in (
     arithmetic, memory, hot_lock, own_locks, nested_locks, sleeps, shortest_blocks, longest_history, many_ranges)}
 GUESTS.update({f"{size}-image": functools.partial(image, kibibytes)
                for size, kibibytes in (("quarter", 240), ("half", 480), ("large", 960))})
+
+
+def file_of(name):
+    """The file of a guest of the bench, or of one of guests/."""
+    return GUESTS[name]() if name in GUESTS else (FOLDER / f"{name}.elf").read_bytes()

@@ -1,5 +1,6 @@
 """One run of the program, or of another one beside it, and what it took."""
 import os
+import re
 import shutil
 import subprocess
 import time
@@ -10,6 +11,7 @@ import program
 import tool
 
 HERE = Path(__file__).resolve().parent
+TURNS = re.compile(rb"^block \d+ thread \d+ turns (\d+) ")
 
 
 class Took(NamedTuple):
@@ -52,17 +54,26 @@ def run(words, given, written, path=None, surroundings=None):
     """Runs the program, or the one at a path, over open files, each from its place on: its status, and what it
     took. Surroundings are more variables of the environment."""
     path = path or program.PATH
-    variables = {**os.environ, **(surroundings or {})}
+    streams = [(os.POSIX_SPAWN_DUP2, file.fileno(), number) for number, file in enumerate((given, written))]
     began = time.perf_counter()
-    number = os.fork()  # whose memory is counted as the program's before it is one: so as little as can be
-    if number == 0:
-        try:
-            os.dup2(given.fileno(), 0)
-            os.dup2(written.fileno(), 1)
-            os.execve(path, [*map(str, (path, *words))], variables)
-        finally:
-            os._exit(tool.INPUT)  # it is no program that runs here: a copy of this process goes no further
+    try:
+        number = os.posix_spawn(path, [*map(str, (path, *words))], {**os.environ, **(surroundings or {})}, file_actions=streams)
+    except OSError as error:
+        raise tool.Trouble(tool.INPUT, f"{path}: {error.strerror}") from None
     _, ended, usage = os.wait4(number, 0)
     seconds = time.perf_counter() - began
     status = os.WEXITSTATUS(ended) if os.WIFEXITED(ended) else -os.WTERMSIG(ended)
     return status, Took(seconds, usage.ru_utime + usage.ru_stime, usage.ru_maxrss * 1024)
+
+
+def counts(report):
+    """The turns and the blocks of a report, a file, and its bytes."""
+    report.seek(0)
+    turns = blocks = size = 0
+    for line in report:
+        size += len(line)
+        found = TURNS.match(line)
+        if found:
+            turns += int(found.group(1))
+            blocks += 1
+    return turns, blocks, size

@@ -1,4 +1,5 @@
-"""Tables of the form that bench/README.md has them in."""
+"""Tables of the form that bench/README.md has them in, and lines that tell of them."""
+import statistics
 
 
 def row(cells):
@@ -8,3 +9,10 @@ def row(cells):
 def head(columns):
     row(columns)
     print("|---" * len(columns) + "|", flush=True)
+
+
+def spread(ratios):
+    """The least, the greatest and the middle one of ratios, which are by name."""
+    names = sorted(ratios, key=ratios.get)
+    return (f"{ratios[names[0]]:.2f} ({names[0]}) to {ratios[names[-1]]:.2f} ({names[-1]}), median "
+            f"{statistics.median(ratios.values()):.2f}")
