@@ -1,11 +1,12 @@
-"""The script that measures, as far as it needs no program."""
+"""The scripts that measure, as far as they need no program."""
 import csv
 import pathlib
 import shutil
 import subprocess
 import sys
+import unittest
 
-from common import GUESTS, TEMPORARY, Case, elf, run, with_program
+from common import GUESTS, TEMPORARY, Case, elf, run, saved, with_program
 import guestfile
 
 BENCH = pathlib.Path(__file__).resolve().parent.parent.parent / "bench"
@@ -44,10 +45,19 @@ class Bench(Case):
         copy = TEMPORARY / "checkout"
         shutil.copytree(BENCH, copy / "bench", ignore=shutil.ignore_patterns("__pycache__"))
         shutil.copytree(BENCH.parent / "guests", copy / "guests", ignore=shutil.ignore_patterns("__pycache__", "out", "tests"))
-        for name, words in (("run", ("sleeps",)), ("nodes", ("4", "100", "8")), ("replay", ("sleeps",))):
+        for name, words in (("run", ("sleeps",)), ("nodes", ("4", "100", "8")), ("replay", ("sleeps",)), ("peer", ()),
+                            ("several", ()), ("together", ())):
             done = bench(*words, script=copy / "bench" / name)
             self.one_line(done, 2)
             self.says("./tclocks-build", done)
+
+    def test_another_program_that_is_not_there(self):
+        for name, words in (("run", ()), ("nodes", ("4", "100", "8")), ("replay", ()), ("peer", ()), ("several", ()),
+                            ("together", ())):
+            for path in "/no/such/file", "/", __file__:
+                done = bench(*words, "-p", path, script=BENCH / name)
+                self.one_line(done, 2)
+                self.says(f"bench/{name}: {path}: there is no such program", done)
 
 
 class Nodes(Case):
@@ -81,14 +91,20 @@ exec {GUESTS}/run - "$@" --seed 1 $orders 2>/dev/null
                           for row in csv.DictReader(swept.stdout.decode().splitlines())])
 
 
-# A program that is made up: it answers by the model, and to `replay` of so much fuel with another report.
+# A program that is made up: it answers by the model, and to `replay` of so much fuel with another report. It has as
+# many workers as it gets threads.
 MADE_UP = f"""#!{sys.executable}
-import sys
+import sys, threading
 sys.path.insert(0, {str(GUESTS)!r})
 import delegation, model, rejecting
 form, *numbers = sys.argv[1:]
 given, numbers = sys.stdin.buffer.read(), [*map(int, numbers)]
 if form == "run":
+    try:
+        for worker in range(1, numbers[0]):
+            threading.Thread(target=int).start()
+    except RuntimeError:
+        numbers[0] = worker
     run, blocks = delegation.delegated(model.Guest(given), numbers[1], numbers[0], numbers[2])
     status, text = 0, "\\n".join(run.lines(blocks)) + "\\n"
 else:
@@ -120,6 +136,104 @@ class Replay(Case):
         text = run("run", "-", "1", "20", "0", "--seed", "0", given=guests_file("hot-lock")).stdout.decode()
         history = "".join(line for line in text.splitlines(keepends=True) if line.startswith("block "))
         self.assertEqual(lines[2][1:3], [f"{history.count(chr(10)):,}", f"{len(history):,}"])
+
+
+def rows(done):
+    """The cells of a table's lines, and the lines behind it."""
+    lines = done.stdout.decode().splitlines()
+    return ([[cell.strip() for cell in line.split("|")[1:-1]] for line in lines if line.startswith("|")],
+            [line for line in lines if line and not line.startswith("|")])
+
+
+@unittest.skipUnless(shutil.which("cc"), "there is no C compiler")
+class Peer(Case):
+    def setUp(self):
+        self.made_up = saved("peer-program", MADE_UP)
+        pathlib.Path(self.made_up).chmod(0o755)
+
+    def peer(self, *words):
+        return bench("-p", self.made_up, "-r", "1", *words, script=BENCH / "peer")
+
+    def test_guests_run_as_by_the_model(self):
+        """The model takes the peer's history, and comes to the same report."""
+        names = ["own-locks", "nested-locks", "sleeps", "memory"]
+        done = self.peer("-f", "100", *names)
+        self.assertEqual((done.returncode, done.stderr), (0, b""), done.stdout)
+        table, told = rows(done)
+        self.assertEqual([row[:2] for row in table[2:]], [[name, "1,616"] for name in names])  # 16 threads: 100 turns and a spent one
+        self.assertEqual(len(told), 1)
+        self.assertTrue(told[0].startswith("Of 4 guests of bench/, "))
+
+    def test_what_is_known_of_guests_holds(self):
+        done = self.peer("-f", "20000", "counter", "faults")
+        self.assertEqual((done.returncode, done.stderr), (0, b""), done.stdout)
+        self.assertEqual([row[1] for row in rows(done)[0][2:]], ["6,848", "62"])
+
+    def test_another_report(self):
+        done = self.peer("-f", "13", "hot-lock", "sleeps")
+        self.assertEqual((done.returncode, done.stderr), (3, b""))
+        for name in "hot-lock", "sleeps":
+            self.says(f"{name}: replay prints another report of the peer's history than the peer", done)
+
+    def test_words(self):
+        self.says("usage: bench/peer", bench("--help", script=BENCH / "peer"))
+        for words in (("nobody",), ("-f", "0"), ("-r", "0"), ("-c", "9999"), ("-w", "1")):
+            self.one_line(bench(*words, script=BENCH / "peer"), 1)
+
+    def test_the_peer_refuses(self):
+        peer = TEMPORARY / "peer"
+        subprocess.run(["cc", "-O2", "-pthread", "-o", peer, BENCH / "peer.c"], check=True)
+        file = pathlib.Path(elf("counter")).read_bytes()
+        for given in b"", file[:80], bytes(100):
+            done = subprocess.run([peer, "100"], input=given, stdout=subprocess.PIPE, stderr=subprocess.PIPE, check=False)
+            self.assertEqual((done.returncode, done.stdout, done.stderr), (3, b"", b"peer: this is no guest\n"))
+        done = subprocess.run([peer], stdout=subprocess.PIPE, stderr=subprocess.PIPE, check=False)
+        self.assertEqual((done.returncode, done.stderr), (1, b"peer: usage: peer FUEL [history] < GUEST\n"))
+
+
+class Several(Case):
+    def test_words(self):
+        self.says("usage: bench/several", bench("--help", script=BENCH / "several"))
+        for words in (("nobody",), ("-f", "0"), ("-w", "1,"), ("-w", "9"), ("-b", "257"), ("-r", "0")):
+            self.one_line(bench(*words, script=BENCH / "several"), 1)
+
+    def test_the_table(self):
+        made_up = saved("several-program", MADE_UP)
+        pathlib.Path(made_up).chmod(0o755)
+        done = bench("-p", made_up, "-r", "1", "-f", "20", "-w", "2,1", "hot-lock", "own-locks", script=BENCH / "several")
+        self.assertEqual((done.returncode, done.stderr), (0, b""), done.stdout)
+        table, told = rows(done)
+        self.assertEqual(table[0], ["Guest", "Seconds: 1 worker", "2 workers", "Processor: 1 worker", "2 workers",
+                                    "Seconds, 2 workers to 1 worker", "Processor, 2 workers to 1 worker"])
+        self.assertEqual([(row[0], len(row)) for row in table[2:]], [("hot-lock", 7), ("own-locks", 7)])
+        self.assertEqual(len(told), 1)
+
+
+@unittest.skipUnless(shutil.which("cc"), "there is no C compiler")
+class Together(Case):
+    def test_words(self):
+        self.says("usage: bench/together", bench("--help", script=BENCH / "together"))
+        for words in (("nobody",), ("-w", "1"), ("-w", "4,"), ("-r", "0")):
+            self.one_line(bench(*words, script=BENCH / "together"), 1)
+
+    def test_the_table(self):
+        made_up = saved("together-program", MADE_UP)
+        pathlib.Path(made_up).chmod(0o755)
+        done = bench("-p", made_up, "-r", "2", "-w", "2,3", "buffer", script=BENCH / "together")
+        self.assertEqual((done.returncode, done.stderr), (0, b""), done.stdout)
+        table, told = rows(done)
+        self.assertEqual([row[:5] for row in table[2:]], [
+            ["buffer", workers, threads, "2", "0" if threads == "none" else "2"]
+            for workers in ("2", "3") for threads in ("all", "one", "none")])
+        self.assertEqual([line.partition(" of 4 runs ended with status 0; ")[0] for line in told],
+                         [f"Threads of the host: {threads}. All" for threads in ("all", "one", "none")])
+
+    def test_a_program_whose_threads_can_not_be_refused(self):
+        made_up = saved("alone-program", MADE_UP.replace("range(1, numbers[0])", "()"))
+        pathlib.Path(made_up).chmod(0o755)
+        done = bench("-p", made_up, "-r", "1", "-w", "2", "buffer", script=BENCH / "together")
+        self.one_line(done, 2)
+        self.says("no thread could be refused", done)
 
 
 def guests_file(name):
