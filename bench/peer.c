@@ -240,7 +240,7 @@ static uint32_t product(unsigned kind, uint32_t a, uint32_t b)
 	}
 }
 
-/* The bytes of an access; NULL where it faults. */
+/* The bytes of an access; NULL where it faults. It faults by LOAD or by STORE where nothing has it. */
 static uint8_t *access_to(struct thread *thread, uint32_t address, uint32_t width, enum fault outside)
 {
 	thread->fault = WIDTH;
