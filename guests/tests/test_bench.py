@@ -180,6 +180,13 @@ class Peer(Case):
         for words in (("nobody",), ("-f", "0"), ("-r", "0"), ("-c", "9999"), ("-w", "1")):
             self.one_line(bench(*words, script=BENCH / "peer"), 1)
 
+    def test_without_a_compiler(self):
+        for name in "peer", "together":
+            done = subprocess.run([sys.executable, BENCH / name, "-p", self.made_up], env={"PATH": "/no/such/folder"},
+                                  stdout=subprocess.PIPE, stderr=subprocess.PIPE, check=False)
+            self.one_line(done, 2)
+            self.says("cc is not on the PATH", done)
+
     def test_the_peer_refuses(self):
         peer = TEMPORARY / "peer"
         subprocess.run(["cc", "-O2", "-pthread", "-o", peer, BENCH / "peer.c"], check=True)
