@@ -18,22 +18,24 @@ pub(crate) const LINES: usize = 16;
 /// How many bytes a buffer takes: room for so many lines.
 pub(crate) const ROOM: usize = 3_840;
 
-/// What is written of some lines, which is text. A contract sees its bytes.
+/// What is written of some lines, which is text. A contract sees its bytes. The array is the caller's,
+/// so that where the text starts is kept in a register while a line is put.
 #[derive(Drop)]
-pub(crate) struct Buffer {
-    bytes: [u8; ROOM],
+pub(crate) struct Buffer<'a> {
+    bytes: &'a mut [u8; ROOM],
     start: usize,
 }
 
-impl Model for Buffer {
-    ghost use Rattle.std.specs.Prelude.{ℕ, List, ◌≤◌, drop, IsUtf8};
+impl<'a> Model for Buffer<'a> {
+    ghost use Rattle.std.specs.Prelude.{◌≡◌, ℕ, List, ◌≤◌, length, drop, IsUtf8};
     ghost use Rattle.tc_journal.specs.declared.buffer.TheConstants.{ROOM};
 
     ghost Value = { List ℕ };
 
-    ghost view = { λ b. drop b.start b.bytes };
+    ghost view = { λ b. drop b.start b.bytes.now };
 
-    ghost invariant = { λ b. (b.start ≤ ROOM) × ∥ IsUtf8 (drop b.start b.bytes) ∥₁ };
+    ghost invariant = { λ b. (length b.bytes.now ≡ ROOM) × (b.start ≤ ROOM)
+        × ∥ IsUtf8 (drop b.start b.bytes.now) ∥₁ };
 }
 
 /// The two digits of each byte, byte after byte.
@@ -72,22 +74,27 @@ fn write_text(bytes: &mut [u8], at: usize, text: &[u8])
     }
 }
 
-impl Buffer {
-    /// A buffer with nothing written.
-    pub fn new() -> Buffer
+/// Writes the digits of a number so that they end at a place, and returns where they start. Most
+/// numbers of a line have one digit, so these come first.
+#[inline(always)]
+fn write_number(number: u64, bytes: &mut [u8], end: usize) -> usize
+    requires { (length (decimal number) ≤ end) × (end ≤ length bytes.old) }
+    ensures start { result + length (decimal number) ≡ end }
+    ensures written { drop result bytes.new ≡ decimal number ++ drop end bytes.old }
+{
+    if number < 10 {
+        bytes[end - 1] = b'0' + number as u8;
+        return end - 1;
+    }
+    write_digits(number, bytes, end)
+}
+
+impl<'a> Buffer<'a> {
+    /// A buffer with nothing written, of this room.
+    pub fn new(bytes: &'a mut [u8; ROOM]) -> Buffer<'a>
         ensures { result ≡ [] }
     {
-        Buffer {
-            bytes: [0; ROOM],
-            start: ROOM,
-        }
-    }
-
-    /// Takes away all that is written.
-    pub fn clear(&mut self)
-        ensures { self.new ≡ [] }
-    {
-        self.start = ROOM;
+        Buffer { bytes, start: ROOM }
     }
 
     /// Puts a text in front.
@@ -97,11 +104,12 @@ impl Buffer {
         ensures len { length self.new ≡ length text.now + length self.old }
     {
         let at = self.start - text.len();
-        write_text(&mut self.bytes, at, text.as_bytes());
+        write_text(self.bytes, at, text.as_bytes());
         self.start = at;
     }
 
     /// Puts a number in front.
+    #[inline(always)]
     pub fn put_number(&mut self, number: u64)
         requires { 20 + length self.old ≤ ROOM }
         ensures value { self.new ≡ decimal number ++ self.old }
@@ -109,7 +117,8 @@ impl Buffer {
         ensures word { number < 2 ^ 32 → length self.new ≤ 10 + length self.old }
         ensures lock { number < 100 → length self.new ≤ 2 + length self.old }
     {
-        self.start = write_digits(number, &mut self.bytes, self.start);
+        let end = self.start;
+        self.start = write_number(number, self.bytes, end);
     }
 
     /// Puts a byte in front, as two digits.
@@ -119,7 +128,7 @@ impl Buffer {
         ensures len { length self.new ≡ 2 + length self.old }
     {
         let at = self.start - 2;
-        write_byte(&mut self.bytes, at, byte);
+        write_byte(self.bytes, at, byte);
         self.start = at;
     }
 
@@ -138,9 +147,10 @@ impl Buffer {
 
     /// What is written. What was put in front each time is a text, so this is one too: that is proved
     /// of each call and tested by none, which would go over each line once more.
-    pub fn as_str(&self) -> &str
-        ensures { result.now ≡ self.now }
+    pub fn into_str(self) -> &'a str
+        ensures { result.now ≡ self.entry }
     {
-        unsafe { from_utf8_unchecked(&self.bytes[self.start..]) }
+        let Buffer { bytes, start } = self;
+        unsafe { from_utf8_unchecked(&bytes[start..]) }
     }
 }

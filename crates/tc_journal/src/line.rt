@@ -11,7 +11,8 @@ use std::alloc::AllocError;
 use tc_isa::held::Held;
 
 /// Puts the numbers of a set of locks in front, in ascending order with commas between, or a dash.
-fn put_held(line: &mut Buffer, held: Held)
+#[inline(always)]
+fn put_held(line: &mut Buffer<'_>, held: Held)
     requires { 120 + length line.old ≤ ROOM }
     ensures value { line.new ≡ spec.numbers_text (locks_of held) ++ line.old }
     ensures len { length line.new ≤ 100 + length line.old }
@@ -19,20 +20,18 @@ fn put_held(line: &mut Buffer, held: Held)
     let Some(greatest) = held.greatest() else {
         return line.put_str("-");
     };
-    let least = held.least().unwrap_or(0);
     line.put_number(u64::from(greatest));
-    let mut lock = greatest;
-    while lock > least {
-        lock -= 1;
-        if held.has(lock) {
-            line.put_str(",");
-            line.put_number(u64::from(lock));
-        }
+    let mut left = held.less(greatest);
+    while let Some(lock) = left.greatest() {
+        line.put_str(",");
+        line.put_number(u64::from(lock));
+        left = left.less(lock);
     }
 }
 
 /// Puts a kind in front.
-fn put_kind(line: &mut Buffer, kind: Kind)
+#[inline(always)]
+fn put_kind(line: &mut Buffer<'_>, kind: Kind)
     requires { 7 + length line.old ≤ ROOM }
     ensures value { line.new ≡ spec.kind_text kind ++ line.old }
     ensures len { length line.new ≤ 7 + length line.old }
@@ -47,7 +46,8 @@ fn put_kind(line: &mut Buffer, kind: Kind)
 }
 
 /// Puts an end in front.
-fn put_end(line: &mut Buffer, end: End)
+#[inline(always)]
+fn put_end(line: &mut Buffer<'_>, end: End)
     requires { 29 + length line.old ≤ ROOM }
     ensures value { line.new ≡ spec.end_text end ++ line.old }
     ensures len { length line.new ≤ 19 + length line.old }
@@ -73,7 +73,8 @@ fn put_end(line: &mut Buffer, end: End)
 }
 
 /// Puts the part of a line that tells a pc in front, where one is told.
-fn put_pc(line: &mut Buffer, pc: Option<u32>)
+#[inline(always)]
+fn put_pc(line: &mut Buffer<'_>, pc: Option<u32>)
     requires { 12 + length line.old ≤ ROOM }
     ensures value { line.new ≡ spec.pc_text pc ++ line.old }
     ensures len { length line.new ≤ 12 + length line.old }
@@ -85,7 +86,8 @@ fn put_pc(line: &mut Buffer, pc: Option<u32>)
 }
 
 /// Puts the line of a block in front, with this pc, or with none in the old form.
-pub(crate) fn put_line(line: &mut Buffer, block: &Block, pc: Option<u32>)
+#[inline(always)]
+pub(crate) fn put_line(line: &mut Buffer<'_>, block: &Block, pc: Option<u32>)
     requires { LINE + length line.old ≤ ROOM }
     ensures value { line.new ≡ spec.told_line (record { block = without_pc block.now; pc = pc }) ++ line.old }
     ensures len { length line.new ≤ LINE + length line.old }
@@ -109,7 +111,7 @@ pub(crate) fn put_line(line: &mut Buffer, block: &Block, pc: Option<u32>)
 }
 
 /// Puts the lines of a few blocks in front, the last one first.
-fn put_lines(lines: &mut Buffer, blocks: &[&Block])
+fn put_lines(lines: &mut Buffer<'_>, blocks: &[&Block])
     requires empty { lines.old ≡ [] }
     requires few { length blocks.now ≤ LINES }
     ensures { lines.new ≡ spec.history_text (map (λ b. b.now) blocks.now) }
@@ -128,14 +130,14 @@ pub fn push_lent(text: &mut String, history: &[&Block]) -> Result<(), AllocError
         (string_bytes text.new ≡ string_bytes text.old
         ++ spec.history_text (map (λ b. b.now) history.now)) }
 {
-    let mut lines = Buffer::new();
+    let mut room = [0; ROOM];
     let mut done = 0;
     while done < history.len() {
         let from = done;
         done += LINES.min(history.len() - from);
-        lines.clear();
+        let mut lines = Buffer::new(&mut room);
         put_lines(&mut lines, &history[from..done]);
-        text.push_str(lines.as_str())?;
+        text.push_str(lines.into_str())?;
     }
     Ok(())
 }

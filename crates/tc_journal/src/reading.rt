@@ -8,7 +8,7 @@ ghost use Rattle.tc_journal.specs.declared.block.BlockV1.{BlockV1 as BlockV1Valu
 ghost use Rattle.tc_journal.specs.declared.reading.BadText.TheVariants.{OutOfMemory};
 
 use crate::block::{Block, BlockV1};
-use crate::buffer::Buffer;
+use crate::buffer::{Buffer, ROOM};
 use crate::form::Form;
 use crate::line::put_line;
 use crate::spelling::block_at_front;
@@ -34,7 +34,11 @@ impl From<AllocError> for BadText {
 
 /// The block of a history with this stamp whose line stands at the front of a text, and what is
 /// behind that line. The line is written once more, to be compared.
-fn first_block<'a, B: Form>(line: &mut Buffer, text: &'a [u8], stamp: u64) -> Option<(B, &'a [u8])>
+fn first_block<'a, B: Form>(
+    room: &mut [u8; ROOM],
+    text: &'a [u8],
+    stamp: u64,
+) -> Option<(B, &'a [u8])>
     ensures some { IfSome result
         (λ r. (begins : BeginsWith text.now stamp (B.told r.0)) × (begins.more ≡ r.1.now)) }
     ensures every { (b : B) → BeginsWith text.now stamp (B.told b)
@@ -45,9 +49,9 @@ fn first_block<'a, B: Form>(line: &mut Buffer, text: &'a [u8], stamp: u64) -> Op
     if block.stamp != stamp {
         return None;
     }
-    line.clear();
-    put_line(line, &block, has_pc.then_some(block.pc));
-    let behind = text.strip_prefix(line.as_str().as_bytes())?;
+    let mut line = Buffer::new(room);
+    put_line(&mut line, &block, has_pc.then_some(block.pc));
+    let behind = text.strip_prefix(line.into_str().as_bytes())?;
     Some((B::of(block), behind))
 }
 
@@ -61,11 +65,11 @@ fn read_lines<B: Form>(alloc: Global, bytes: &[u8]) -> Result<Vec<B>, BadText>
         → IsErrOf result (BadText.Line n) ⊎ IsErrOf result BadText.OutOfMemory }
 {
     let mut blocks = Vec::new(alloc);
-    let mut line = Buffer::new();
+    let mut room = [0; ROOM];
     let mut rest = bytes;
     while !rest.is_empty() {
         let stamp = blocks.len() as u64;
-        let Some((block, behind)) = first_block(&mut line, rest, stamp) else {
+        let Some((block, behind)) = first_block(&mut room, rest, stamp) else {
             return Err(BadText::Line(stamp + 1));
         };
         if blocks.push(block).is_err() {

@@ -5,9 +5,13 @@ use Rattle.tc_journal.proofs.buffer.Buffer.put_byte.Goals as goal
 
 pub invariant_of-self : goal.invariant_of-self
 invariant_of-self c =
-    let start = start_of c.self.inside.start c.self.inside.bytes c.args.self.now (omega arith) c.self.invariant.0 c.self.view_is in
+    let start = start_of c.self.inside.start c.self.inside.bytes.now c.args.self.now c.self.invariant.0 c.self.invariant.1 c.self.view_is in
     let at : c.self.inside.start - 2 + 2 ≡ c.self.inside.start = omega (arith, start) in (
       omega arith,
-      text_in_front (hex2 c.args.byte) (drop c.self.inside.start c.self.inside.bytes) _ (IsUtf8-hex2 c.args.byte (omega (arith, c.ranges.byte))) c.self.invariant.1
-          (c.write_byte.ensures ∙ ap (λ n. hex2 c.args.byte ++ drop n c.self.inside.bytes) at),
+      omega arith,
+      text_in_front (hex2 c.args.byte) (drop c.self.inside.start c.self.inside.bytes.now) _ (IsUtf8-hex2 c.args.byte (omega (arith, c.ranges.byte))) c.self.invariant.2
+          (c.write_byte.ensures ∙ ap (λ n. hex2 c.args.byte ++ drop n c.self.inside.bytes.now) at),
     )
+
+pub overflow_sub-at : goal.overflow_sub-at
+overflow_sub-at c = omega (arith, start_of c.self.inside.start c.self.inside.bytes.now c.args.self.now c.self.invariant.0 c.self.invariant.1 c.self.view_is)
