@@ -128,7 +128,7 @@ sound_noted ws l sound was = record {
   passes = sound.passes;
 }
 
-last_at : (es : List Entry) (e : Entry) (n : ℕ) → n ≡ length es → slice_get (es ++ e ∷ []) n ≡ Some e
+pub last_at : (es : List Entry) (e : Entry) (n : ℕ) → n ≡ length es → slice_get (es ++ e ∷ []) n ≡ Some e
 last_at es e n is = ap (slice_get (es ++ e ∷ [])) is ∙ slice_get-get_or (es ++ e ∷ []) (length es) e (omega (arith, length-append es (e ∷ []))) ∙ ap Some (get_or-append_seam es e [] e)
 
 pub not_open : (f : Opening → Opened) (o : Option Opening) → option_map f o ≡ None → o ≡ None

@@ -1,6 +1,7 @@
 pub mod Journals
 pub mod Packing
 pub mod Keeping
+pub mod Opening
 pub mod Sealing
 pub mod Inside
 pub mod Resting

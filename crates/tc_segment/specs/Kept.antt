@@ -57,11 +57,16 @@ pub record Fits (edges : List ℕ) (words : List ℕ) (r : Record) : Type 0 wher
   pub order : r.from ≤ r.to
   pub inside : r.to ≤ length words
 
--- the records are as they were, in no less room, and where this went well, so many more have room
-pub record HasMadeRoom {E : Type 0} (more : ℕ) (old new : Vec Record Global) (went : Result (Unit {0}) E) : Type 0 where
+-- the items are as they were, in no less room, and where this went well, so many more have room
+pub record HasMadeRoom {X E : Type 0} (more : ℕ) (old new : Vec X Global) (went : Result (Unit {0}) E) : Type 0 where
   pub items : new.items ≡ old.items
   pub capacity : vec_capacity old ≤ vec_capacity new
   pub ok : OnOk went (vec_len new + more ≤ vec_capacity new)
+
+-- and so have so many words, at places that are numbers of 32 bits
+pub record HasWordRoom {E : Type 0} (more : ℕ) (old new : Vec ℕ Global) (went : Result (Unit {0}) E) : Type 0 where
+  pub made : HasMadeRoom more old new went
+  pub places : OnOk went (vec_len new + more < 2 ^ 32)
 
 abbrev pub AllFit : List ℕ → List ℕ → List Record → Type 0
 AllFit edges words [] = Unit {0}

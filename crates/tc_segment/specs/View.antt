@@ -1,5 +1,5 @@
 -- A lock state, as contracts see it.
-use Rattle.std.specs.Prelude.{◌≡◌, ℕ, ◌+◌, ◌-◌, ◌^◌, ◌<◌, ◌≤◌, min, Bool, true, false, not, ◌||◌, List, [], ◌∷◌, ◌++◌, map, length, Option, Some, None, IfSome, option_map, is_some, if◌then◌else◌}
+use Rattle.std.specs.Prelude.{◌≡◌, ℕ, ◌+◌, ◌-◌, ◌^◌, ◌<◌, ◌≤◌, min, Bool, true, false, not, ◌||◌, List, [], ◌∷◌, ◌++◌, map, length, slice_get, Option, Some, None, IfSome, option_map, is_some, if◌then◌else◌}
 use Rattle.tc_isa.specs.Registers.{Registers}
 use Rattle.tc_isa.specs.declared.limits.TheConstants.{MAX_BATCH}
 use Rattle.tc_isa.specs.declared.held.TheConstants.Held.{PLACES}
@@ -54,6 +54,17 @@ with_closed sealed (Some e) = sealed ++ e ∷ []
 -- all entries: the last one may not be sealed yet
 abbrev pub entries : Journal → List Entry
 entries j = with_closed j.sealed j.closed
+
+abbrev pub finish_in : Entry → Registers
+finish_in e = e.finish
+
+-- the registers of the thread behind the last entry, which may not be sealed yet
+abbrev pub last_finish : List Entry → Option Entry → Option Registers
+last_finish sealed None = option_map finish_in (slice_get sealed (length sealed - 1))
+last_finish sealed (Some e) = Some e.finish
+
+abbrev pub EndedAt : Registers → Journal → Type 0
+EndedAt regs j = last_finish j.sealed j.closed ≡ Some regs
 
 -- the blocks that were sealed
 abbrev pub blocks_of : LockView → List Block

@@ -8,7 +8,8 @@
 //!
 //! - `state`: a lock state with its calls. `entry`: an entry that it lends.
 //! - `packed`: registers in few words, packed once for all locks of a block.
-//! - `at_rest`: what a lock at rest is. `record`: how entries are kept, `edges`: how their registers are.
+//! - `at_rest`: what a lock at rest is. `record`: how entries are kept, `edges`: how their registers are,
+//!   `room`: how there comes to be room for more.
 #![tactic(auto)]
 
 pub mod at_rest;
@@ -16,6 +17,7 @@ mod edges;
 pub mod entry;
 pub mod packed;
 mod record;
+mod room;
 pub mod state;
 #[cfg(test)]
 mod tests;

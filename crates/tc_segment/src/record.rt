@@ -2,12 +2,11 @@
 
 ghost use Rattle.std.specs.Prelude.{◌≡◌, ◌≤◌, length, map, take};
 ghost use Rattle.tc_journal.specs.Batch.{last_of};
-ghost use Rattle.tc_segment.specs.Kept.{block_of, shown, sealed_record, Fits, HasMadeRoom};
+ghost use Rattle.tc_segment.specs.Kept.{block_of, shown, sealed_record, Fits};
 ghost use Rattle.tc_segment.specs.Lent.{entry_lent};
 
 use crate::edges::Edges;
 use crate::entry::Entry;
-use std::alloc::AllocError;
 use tc_journal::block::Block;
 
 /// An entry whose registers and foreign words stand at these places.
@@ -63,18 +62,4 @@ pub(crate) fn last_block(records: &[Record], sealed: usize) -> Option<Block>
         0 => None,
         _ => Some(records[sealed - 1].block),
     }
-}
-
-/// By how many records a journal grows at least. What is not written yet takes no memory of the
-/// host, and a large vector grows without a copy.
-const GROWTH: usize = 4_096;
-
-/// Makes room for two records more.
-pub(crate) fn make_room(records: &mut Vec<Record>) -> Result<(), AllocError>
-    ensures { HasMadeRoom 2 records.old records.new result }
-{
-    if records.capacity() - records.len() >= 2 {
-        return Ok(());
-    }
-    records.reserve(GROWTH)
 }

@@ -6,12 +6,13 @@ ghost use Rattle.tc_elf.specs.Places.{in_guard};
 ghost use Rattle.tc_exec.specs.Told.{IsWidth};
 ghost use Rattle.tc_journal.specs.Batch.{run_of};
 ghost use Rattle.tc_segment.specs.Lent.{entry_lent};
-ghost use Rattle.tc_segment.specs.View.{CanStart, IsSoundLock, allows_in, passes_in, number_of_guard, ClosesWith, MayFollow, MayPass, lock_of, guard_of, with_store, with_section, with_break, with_end, with_journal, opened_at, noted, closed_with, sealed_as, with_room, strict_as, blocks_of, entries, fresh_state};
+ghost use Rattle.tc_segment.specs.View.{CanStart, IsSoundLock, allows_in, passes_in, number_of_guard, ClosesWith, MayFollow, MayPass, lock_of, guard_of, with_store, with_section, with_break, with_end, with_journal, EndedAt, opened_at, noted, closed_with, sealed_as, with_room, strict_as, blocks_of, entries, fresh_state};
 
 use crate::edges::Edges;
 use crate::entry::Entry;
 use crate::packed::{MOST_WORDS, Packed};
-use crate::record::{Opening, Record, last_block, make_room};
+use crate::record::{Opening, Record, last_block};
+use crate::room::{make_records, make_words};
 use std::alloc::{AllocError, Global};
 use std::marker::Model;
 use std::snapshot::Snapshot;
@@ -228,13 +229,9 @@ impl LockState {
     {
         let contents = &mut *self.contents;
         // One more beside one that is open, with the registers before and after each.
-        make_room(&mut contents.records)?;
+        make_records(&mut contents.records)?;
         contents.edges.reserve(3 * MOST_WORDS)?;
-        let most = u32::MAX as usize;
-        if turns > most - contents.words.len() {
-            return Err(AllocError);
-        }
-        contents.words.reserve(turns)?;
+        make_words(&mut contents.words, turns)?;
         contents.entry_room = 1;
         contents.word_room = turns;
         Ok(())
@@ -259,12 +256,30 @@ impl LockState {
         ensures { self.new ≡ with_journal (opened_at (lock_of self.old) start.now fuel) self.old }
     {
         let contents = &mut *self.contents;
-        let start = contents.edges.place_of(start);
+        let start = contents.edges.note(start);
         contents.opened = Some(Opening {
             fuel,
             start,
             from: contents.words.len() as u32,
         });
+        contents.entry_room -= 1;
+    }
+
+    /// Like `open_entry`, where the last entry ended with these registers, as it did where the block
+    /// goes on with a section. They are not noted again.
+    pub fn open_on(&mut self, start: &Regs, fuel: u32)
+        requires opened { self.old.journal.opened ≡ None }
+        requires closed { self.old.journal.closed ≡ None }
+        requires room { 0 < self.old.journal.entry_room }
+        requires on { EndedAt start.now self.old.journal }
+        ensures { self.new ≡ with_journal (opened_at (lock_of self.old) start.now fuel) self.old }
+    {
+        let _ = start;
+        let contents = &mut *self.contents;
+        let last = contents.records.len() - 1;
+        let start = contents.records[last].finish;
+        let from = contents.words.len() as u32;
+        contents.opened = Some(Opening { fuel, start, from });
         contents.entry_room -= 1;
     }
 
@@ -346,7 +361,7 @@ impl LockState {
         let Some(opening) = contents.opened else {
             return;
         };
-        let finish = contents.edges.place_of(end);
+        let finish = contents.edges.note(end);
         let record = Record {
             block: *block,
             fuel: opening.fuel,

@@ -42,7 +42,7 @@ returns c =
     let a = c.deref_mut-contents.result.now in
     let block = c.args.block.now in
     let finish = c.args.end.now in
-    let place = c.place_of-finish.ensures in
+    let place = c.note-finish.ensures in
     let broken : c.if-ends_thread.broken ≡ (ends_thread block.end || a.broken) = elim c.if-ends_thread.branch [
       | then-ends_thread w ↦ w.broken-is ∙ w.if-ends_thread.true ∙ ap (λ b. b || a.broken) (sym w.if-ends_thread.true ∙ c.ends_thread.ensures)
       | else-ends_thread w ↦ w.broken-is ∙ ap (λ b. b || a.broken) (sym w.if-ends_thread.false ∙ c.ends_thread.ensures)
@@ -60,7 +60,7 @@ invariant_of-self-2 c =
     let o = c.in-Some.opening in
     let block = c.args.block.now in
     let finish = c.args.end.now in
-    let place = c.place_of-finish.ensures in
+    let place = c.note-finish.ensures in
     let to : c.len.result ≡ length a.words.items = c.len.ensures ∙ a.words.ok.0 in
     let old = map (shown a.edges.words a.words.items) a.records.items in
     let p = shown_open (replayed a.of.value a.number (mutex_at_start a.of.value a.number) old) a.edges.words a.words.items o in
@@ -78,14 +78,14 @@ invariant_of-self-2 c =
     let from = fits.1 in
     let one : count a.opened ≡ 1 = ap (λ (x : Option Opening). count x) c.in-Some.is in
     let items = c.push_reserved.ensures.items in
-    let r = record_of block o c.place_of-finish.result c.len.result in
+    let r = record_of block o c.note-finish.result c.len.result in
     let grown : length c.push_reserved.new.self.items ≡ length a.records.items + 1 = ap length items ∙ length-append a.records.items (r ∷ []) in
     let blocks = ap (λ (x : Journal). run_of a.number (map block_in x.sealed)) (sym j) in
     record {
       sound = subst (λ (l : LockView). IsSoundLock l) (λ i. record { number = a.number; bytes = a.bytes.items; broken = sym broken i; sections = a.sections; journal = sym j i }) (sound_closed block finish (view_of a) p k.sound was closes);
       start = k.start;
-      records = subst (λ rs. AllFit c.place_of-finish.new.self.words a.words.items rs) (sym items)
-          (fits_end c.place_of-finish.new.self.words a.words.items a.records.items r (fits_grown (edges_more a.edges.words _ a.words.items place.more) a.records.items k.records)
+      records = subst (λ rs. AllFit c.note-finish.new.self.words a.words.items rs) (sym items)
+          (fits_end c.note-finish.new.self.words a.words.items a.records.items r (fits_grown (edges_more a.edges.words _ a.words.items place.more) a.records.items k.records)
           (record { start = place.more.places o.start start; finish = place_of-stands place.place; order = omega (arith, to); inside = omega (arith, to) }));
       sealed = (let h = k.sealed in omega (arith, grown));
       closed = omega (arith, grown, none, len);
