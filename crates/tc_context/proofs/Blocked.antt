@@ -87,10 +87,12 @@ pub record Begins (image : Shown) (old : Context) (held : ℕ) (locks : List (Op
   pub opens : Changed (opened_in (has held) old.guest.regs old.guest.fuel) old.locks locks
 
 pub begins_from : (image : Shown) (old : Context) (held : ℕ) (locks : List (Option LockView)) {was fuel : ℕ} {takes : Option ℕ} {regs : Registers} → takes ≡ next_lock image (thread_in old) → was ≡ old.guest.held → regs ≡ old.guest.regs → fuel ≡ old.guest.fuel
-    → ((k : ℕ) → has held k ≡ locks_of_block (has was) takes k) → Changed (opened_in (has held) regs fuel) old.locks locks → Begins image old held locks
-begins_from image old held locks next before start left is opens = record {
+    → ((k : ℕ) → has held k ≡ locks_of_block (has was) takes k) → Changed (opened_in (locks_of_block (has was) takes) regs fuel) old.locks locks → Begins image old held locks
+begins_from image old held locks {was} {fuel} {takes} {regs} next before start left is opens = record {
   is = λ k. is k ∙ (λ i. locks_of_block (has (before i)) (next i) k);
-  opens = subst (λ (x : Registers × ℕ). Changed (opened_in (has held) x.0 x.1) old.locks locks) (λ i. (start i, left i)) opens;
+  opens = λ k.
+      subst (λ (x : Registers × ℕ). Changed (opened_in (locks_of_block (has was) takes) x.0 x.1) old.locks locks) (λ i. (start i, left i)) opens k
+      ∙ ap (λ b. option_map (λ l. when_in b (with_journal (opened_at (lock_of l) old.guest.regs old.guest.fuel)) l) (lock_in old.locks k)) (sym (is k));
 }
 
 module _ {image decoded : Shown} {kind : Kind} {takes : Option ℕ} {old : Context} (may : MayRunBlock image decoded kind takes old) {held : ℕ} {locks : List (Option LockView)} (begins : Begins image old held locks) where

@@ -4,4 +4,5 @@ pub mod Moved
 pub mod Partway
 pub mod Blocked
 pub mod Staging
+pub mod Ended
 pub mod Running

@@ -1,6 +1,6 @@
 -- What running a block makes of a package, and sealing it.
 use Rattle.std.proofs.Common.{◌≡◌, ℕ, ◌-◌, ◌<◌, ◌≤◌, Bool, true, false, not, ◌||◌, ◌&&◌, ◌==◌, List, [], ◌∷◌, ◌++◌, map, length, refl, sym, ap, subst, ◌∙◌, inl, inr, set, arith, Option, Some, None, is_some, if◌then◌else◌, IfSome, slice_get, length-set}
-use Rattle.tc_context.proofs.Vocabulary.{option_map, has, Shown, is_section, begins, is_lock, takes_of, last_of, may_go_on, ends_section, passes_to, Block, Thread, is_running, next_lock, LockView, IsStrict, Journal, block_in, blocks_of, with_journal, sealed_block, sealed_entry, sealed_list, sealed_as, Context, lock_in, AreOf, slot_of, when_in, Changed, sealed_all, sealed_in, EachHeld, CanSeal, thread_in, whole, set_of, journal_in, journal_at, CanGo, RunsAs, entry_of, with_entry, entered, Journals, IsReady, AreReady, PackageView, granted_lock, kind_of, waiting_in, IsReserved, IsPending, IsStored, IsAfter, IsLeft, IsGranted, MayTake, IsSoundPackage, Allows, fits_in, fits_granted, fits_of, WantIsGranted, IsIdle, IsAt, EndsWith, sealed_log, with_seal}
+use Rattle.tc_context.proofs.Vocabulary.{option_map, has, Shown, is_section, begins, is_lock, takes_of, last_of, may_go_on, ends_section, passes_to, Block, Thread, is_running, next_lock, LockView, IsStrict, Journal, last_finish, block_in, blocks_of, with_journal, sealed_block, sealed_entry, sealed_list, sealed_as, Context, lock_in, AreOf, slot_of, when_in, Changed, sealed_all, sealed_in, EachHeld, CanSeal, thread_in, whole, set_of, AreEnded, journal_in, journal_at, CanGo, RunsAs, entry_of, with_entry, entered, Journals, IsReady, AreReady, PackageView, granted_lock, kind_of, waiting_in, IsReserved, IsPending, IsStored, IsAfter, IsLeft, IsGranted, MayTake, IsSoundPackage, Allows, fits_in, fits_granted, fits_of, WantIsGranted, IsIdle, IsAt, EndsWith, sealed_log, with_seal}
 use Rattle.std.proofs.lemmas.Bool.Decides.{eqb_tells}
 use Rattle.tc_journal.specs.Batch.{allows_of, passes_on, may_follow}
 use Rattle.tc_turn.specs.declared.status.Status.TheVariants.{Running}
@@ -209,6 +209,14 @@ module _ (image : Shown) (p : PackageView) (m : MayRun image p) where
       log = last_is;
       alone = λ h. refl;
     }
+
+    -- the last entry of each lock that the thread still holds is the block's
+    pub ran_ended : AreEnded new
+    ran_ended k l found h =
+        let x = was k l found in
+        let e = entry_of image k (whole p.context) b in
+        let entry : l.journal ≡ with_entry e x.0.journal = x.2 ∙ ap (λ v. entered v e x.0.journal) (held_locks k h) in
+        ap (λ (j : Journal). last_finish j.sealed j.closed) entry ∙ ap (λ n. Some ((reach image (whole p.context) n b.turns).threads n).regs) thread ∙ sym (ap (λ (d : Thread). Some d.regs) thread_is)
 
     -- the pending block is shown as the last one of the log
     abbrev shown : PackageView

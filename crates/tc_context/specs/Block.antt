@@ -15,7 +15,7 @@ use Rattle.tc_turn.specs.Turn.{next_lock, thread_at_start}
 use Rattle.tc_context.specs.declared.context.Context.{Context}
 use Rattle.tc_context.specs.declared.context.Ran.{Ran}
 use Rattle.tc_context.specs.declared.context.Turns.{Turns}
-use Rattle.tc_context.specs.Whole.{thread_in, CanGo, RunsAs, Journals}
+use Rattle.tc_context.specs.Whole.{thread_in, CanGo, RunsAs, Journals, AreEnded}
 use Rattle.tc_context.specs.Locks.{lock_in}
 use Rattle.tc_context.specs.Middle.{AreNoted, AreReady, MayTurn}
 use Rattle.tc_context.specs.Ran.{slept_in}
@@ -55,6 +55,7 @@ pub record MayRunBlock (image decoded : Shown) (kind : Kind) (lock : Option ℕ)
   pub go : CanGo image p
   pub takes : lock ≡ next_lock image (thread_in p)
   pub ready : AreReady image p
+  pub ended : AreEnded p
   pub section : is_section kind ≡ is_some (next_lock image (thread_in p))
 
 -- the block that ran, the entries of its locks, the number of its SLEEP, and the lock that the next turn takes

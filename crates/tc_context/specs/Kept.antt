@@ -8,7 +8,7 @@ use Rattle.tc_journal.specs.declared.block.Block.{Block}
 use Rattle.tc_segment.specs.View.{sealed_block}
 use Rattle.tc_turn.specs.Turn.{next_lock}
 use Rattle.tc_context.specs.declared.package.Contents.{Contents}
-use Rattle.tc_context.specs.Whole.{thread_in, set_of}
+use Rattle.tc_context.specs.Whole.{thread_in, set_of, AreEnded}
 use Rattle.tc_context.specs.View.{PackageView, IsSoundPackage}
 
 -- the last block of a log, where that isn't sealed yet
@@ -35,6 +35,7 @@ pub record KeptPackage (a : Contents) : Type 0 where
   pub present : (k : ℕ) → set_of a.context k ≡ has a.present k
   pub pending : is_some (pending_in a.pending a.log.items) ≡ a.pending
   pub log : vec_len a.log + a.log_room ≤ vec_capacity a.log
+  pub ended : AreEnded a.context
   pub edge : a.edge.packed ≡ true → a.edge.regs ≡ a.context.guest.regs
 
 -- the last block of a log has this stamp and worker now, and these are its locks

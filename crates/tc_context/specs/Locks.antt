@@ -17,7 +17,7 @@ use Rattle.tc_journal.specs.declared.block.Block.{Block}
 use Rattle.tc_turn.specs.Turn.{Mutex}
 use Rattle.tc_turn.specs.Replay.{takes_word}
 use Rattle.tc_mutex_spec.specs.Slow.{no_mutex}
-use Rattle.tc_segment.specs.View.{LockView, Journal, ClosesWith, MayFollow, MayPass, kept, lock_of, guard_of, with_store, with_section, with_break, with_end, with_journal, opened_at, noted, closed_with, sealed_as, with_room}
+use Rattle.tc_segment.specs.View.{LockView, Journal, EndedAt, ClosesWith, MayFollow, MayPass, kept, lock_of, guard_of, with_store, with_section, with_break, with_end, with_journal, opened_at, noted, closed_with, sealed_as, with_room}
 
 abbrev pub slot_of : Option (Option LockView) → Option LockView
 slot_of None = None
@@ -57,6 +57,11 @@ pub record IsReady (j : Journal) : Type 0 where
   pub closed : j.closed ≡ None
   pub entry : 0 < j.entry_room
   pub words : MAX_TURNS ≤ j.word_room
+
+-- and its last entry ended with these registers
+pub record MayGoOn (regs : Registers) (l : LockView) : Type 0 where
+  pub ready : IsReady l.journal
+  pub ended : EndedAt regs l.journal
 
 -- the open entry may be that of this block, which ended so
 pub record CanClose (image : Shown) (block : Block) (finish : Registers) (l : LockView) : Type 0 where

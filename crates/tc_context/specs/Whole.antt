@@ -13,8 +13,8 @@ use Rattle.tc_mutex_spec.specs.Machine.{State}
 use Rattle.tc_mutex_spec.specs.Locality.{Agree, Apart}
 use Rattle.tc_mutex_spec.specs.Blocks.{locks_of_block, Runs}
 pub use Rattle.tc_mutex_spec.specs.Entries.{entry_of}
-use Rattle.tc_segment.specs.View.{LockView, Journal}
-use Rattle.tc_context.specs.Locks.{lock_in, mutex_or, when_in, AreOf}
+use Rattle.tc_segment.specs.View.{LockView, Journal, EndedAt}
+use Rattle.tc_context.specs.Locks.{lock_in, mutex_or, when_in, AreOf, EachHeld}
 use Rattle.tc_context.specs.declared.context.Context.{Context}
 
 abbrev pub thread_in : Context → Thread
@@ -86,3 +86,7 @@ entered b e j = when_in b (with_entry e) j
 pub record Journals (image : Shown) (old new : Context) (b : Block) : Type 0 where
   pub held : (k : ℕ) → has b.held k ≡ block_locks image old k
   pub entries : (k : ℕ) → journal_at new k ≡ option_map (entered (has b.held k) (entry_of image k (whole old) b)) (journal_at old k)
+
+-- the last entry of each lock that the thread holds ended with the registers that the thread has
+abbrev pub AreEnded : Context → Type 0
+AreEnded p = EachHeld (has p.guest.held) (λ l. EndedAt p.guest.regs l.journal) p.locks

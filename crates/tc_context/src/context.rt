@@ -294,13 +294,15 @@ impl Context {
         ensures packed { edge.new.packed ≡ true → edge.new.regs ≡ self.new.guest.regs }
         ensures log { IsLogWith result.block log.old log.new }
     {
-        let held = block_held(self.guest.held(), takes);
+        let on = self.guest.held();
+        let held = block_held(on, takes);
         let thread = self.thread;
         prove!(held.bits() <= u32::MAX);
         prove!(thread <= u32::MAX);
         let fuel = self.guest.fuel();
+        let start = self.guest.regs();
         self.locks
-            .open_entries(held, &mut edge.regs, edge.packed, self.guest.regs(), fuel);
+            .open_entries(on, takes, &mut edge.regs, edge.packed, start, fuel);
         let pc = self.guest.regs().pc();
         let turns = self.turns(image, code, held, takes);
         let block = Block {

@@ -1,6 +1,6 @@
 //! The lock states that a package has.
 
-ghost use Rattle.std.specs.Prelude.{◌≡◌, ℕ, ◌<◌, ◌≤◌, [], ◌∷◌, true, false, is_some, length, set, Some, None, IfOk, OnOk, OnErr};
+ghost use Rattle.std.specs.Prelude.{◌≡◌, ℕ, ◌<◌, ◌≤◌, [], ◌∷◌, true, false, is_some, length, set, Some, None, IfOk, IfSome, OnOk, OnErr};
 ghost use Rattle.std.specs.Option.{option_map};
 ghost use Rattle.tc_isa.specs.Sets.{has};
 ghost use Rattle.tc_isa.specs.declared.limits.TheConstants.{MAX_TURNS};
@@ -9,8 +9,9 @@ ghost use Rattle.tc_elf.specs.Places.{in_guard};
 ghost use Rattle.tc_exec.specs.Told.{IsWidth};
 ghost use Rattle.tc_turn.specs.Replay.{takes_word as takes};
 ghost use Rattle.tc_segment.specs.View.{closed_with, guard_of, lock_of, noted, opened_at, sealed_as, with_break, with_end, with_journal, with_room, with_section, with_store};
+ghost use Rattle.tc_mutex_spec.specs.Blocks.{locks_of_block};
 ghost use Rattle.tc_context.specs.Locks.{lock_in, turned, put_in, TurnReady, PutReady, TurnFits, StoreFits};
-ghost use Rattle.tc_context.specs.Locks.{Changed, HoldsAt, EachHeld, EachLock, IsReady, CanClose, CanSeal, IsPlaced, SameLocks, at_place, when_in};
+ghost use Rattle.tc_context.specs.Locks.{Changed, HoldsAt, EachHeld, EachLock, IsReady, MayGoOn, CanClose, CanSeal, IsPlaced, SameLocks, at_place, when_in};
 ghost use Rattle.tc_context.specs.Locks.{broken_in, opened_in, noted_in, closed_in, sealed_in, roomy_in};
 
 use std::alloc::{AllocError, Global};
@@ -140,34 +141,48 @@ impl LockSet {
         }
     }
 
-    fn open_each(&mut self, held: Held, start: &Packed, fuel: u32)
-        requires { EachHeld (has held) (λ l. IsReady l.journal) self.old }
+    fn open_on(&mut self, lock: u32, start: &Regs, fuel: u32)
+        requires { HoldsAt lock (MayGoOn start.now) self.old }
+        ensures { Changed (at_place lock (λ l. with_journal (opened_at (lock_of l) start.now fuel) l))
+            self.old self.new }
+    {
+        if let Some(state) = &mut self.places[lock as usize] {
+            state.open_on(start, fuel);
+        }
+    }
+
+    fn open_held(&mut self, held: Held, start: &Regs, fuel: u32)
+        requires { EachHeld (has held) (MayGoOn start.now) self.old }
         ensures { Changed (opened_in (has held) start.now fuel) self.old self.new }
     {
         let mut left = held;
         while let Some(lock) = left.least() {
-            self.open_one(lock, start, fuel);
+            self.open_on(lock, start, fuel);
             left = left.less(lock);
         }
     }
 
-    /// Opens an entry in each of these locks. The registers are packed once for all of them, in
-    /// `edge`, and not at all where there is no lock, or where they are `packed` there already.
+    /// Opens an entry in each of these locks, which the thread holds, and in that which its first
+    /// turn takes. Only for that one the registers are packed, in `edge`, unless they are `packed`
+    /// there already.
     pub(crate) fn open_entries(
         &mut self,
         held: Held,
+        takes: Option<u32>,
         edge: &mut Packed,
         packed: bool,
         start: &Regs,
         fuel: u32,
     )
         requires packed { packed ≡ true → edge.old ≡ start.now }
-        requires ready { EachHeld (has held) (λ l. IsReady l.journal) self.old }
-        ensures { Changed (opened_in (has held) start.now fuel) self.old self.new }
+        requires held { EachHeld (has held) (MayGoOn start.now) self.old }
+        requires takes { IfSome takes (λ lock. (has held lock ≡ false) × HoldsAt lock (λ l. IsReady l.journal) self.old) }
+        ensures { Changed (opened_in (locks_of_block (has held) takes) start.now fuel) self.old self.new }
     {
-        if !is_empty(held) {
+        self.open_held(held, start, fuel);
+        if let Some(lock) = takes {
             pack(edge, packed, start);
-            self.open_each(held, edge, fuel);
+            self.open_one(lock, edge, fuel);
         }
     }
 

@@ -1,6 +1,7 @@
 use Rattle.std.proofs.Common.{◌==◌, ◌∙◌, ap, sym, subst, set, arith, Some, slice_index_or, if◌then◌else◌}
 use Rattle.tc_context.proofs.Vocabulary.{IsAtRest, PackageView, IsSoundPackage, IsWaiting, MayPassTo, number_in, view_of}
 use Rattle.tc_mutex_spec.proofs.ListLaws.{get_or-set}
+use Rattle.tc_context.proofs.Ended.{ended_placed}
 use Rattle.tc_context.proofs.Staging.{shows, granted_sound, set_with, wanted}
 use Rattle.tc_context.proofs.package.Package.grant.Goals as goal
 
@@ -9,14 +10,16 @@ invariant_of-self c =
     let s = shows c.deref_mut-contents.ensures.value c.self.view_is c.self.invariant in
     let p = view_of c.deref_mut-contents.result.now in
     let n = c.number.ensures.is in
+    let waiting = subst (λ v. IsWaiting v c.args.lock.number) (sym s.is) c.requires.waiting in
     record {
       sound = subst IsSoundPackage (λ i. record p {
         context = record { thread = p.context.thread; guest = p.context.guest; locks = sym c.put_in.ensures.is i };
         granted = Some (record { lock = sym n i; kind = c.args.kind });
         numbers = set p.numbers (sym n i) c.args.number;
-      }) (granted_sound p c.args.lock c.args.kind c.args.number s.kept.sound (subst (λ v. IsWaiting v c.args.lock.number) (sym s.is) c.requires.waiting)
+      }) (granted_sound p c.args.lock c.args.kind c.args.number s.kept.sound waiting
           (subst (λ (v : PackageView). IsAtRest v.image c.args.lock.number c.args.lock) (sym s.is) c.requires.rest) c.requires.kind (subst (λ (v : PackageView). MayPassTo c.args.lock c.args.kind v.context.thread) (sym s.is) c.requires.passes) c.requires.number);
       code = s.kept.code;
+      ended = ended_placed p.context _ c.args.lock.number (Some c.args.lock) c.put_in.ensures.locks (wanted p s.kept.sound c.args.lock.number waiting.want).free s.kept.ended;
       edge = s.kept.edge;
       next = s.kept.next;
       present = set_with c.args.lock.number _ c.args.lock p.context.locks _ c.deref_mut-contents.result.now.present _ n c.put_in.ensures.locks c.plus-contents.ensures.each s.kept.present;

@@ -10,6 +10,7 @@ invariant_of-self c =
     record {
       sound = sound_rooms p p.context.locks p.log_room _ s.kept.sound.places.0 (λ k. refl) s.kept.sound;
       code = s.kept.code;
+      ended = s.kept.ended;
       edge = s.kept.edge;
       next = s.kept.next;
       present = s.kept.present;

@@ -1,5 +1,6 @@
 use Rattle.std.proofs.Common.{◌≡◌, List, length, arith, ap, subst, sym, ◌∙◌, is_some}
 use Rattle.tc_context.proofs.Vocabulary.{has, Block, IsSoundPackage, view_of, pending_in}
+use Rattle.tc_context.proofs.Ended.{ended_rooms}
 use Rattle.tc_context.proofs.Staging.{shows, with_rooms, same_locks, same_set, changed_set, sound_rooms}
 use Rattle.tc_context.proofs.package.Package.reserve.Goals as goal
 
@@ -11,6 +12,7 @@ invariant_of-self-in_err-made c =
       sound = subst (λ (g : List Block). IsSoundPackage (record (with_rooms p c.reserve-made.new.self p.log_room p.turns) { pending = pending_in c.deref_mut-contents.result.now.pending g; log = g })) (sym c.make_room.ensures.same.items)
           (sound_rooms p c.reserve-made.new.self p.log_room p.turns c.bound.ensures.places c.in_err-made.ensures.err s.kept.sound);
       code = s.kept.code;
+      ended = ended_rooms p.context c.reserve-made.new.self c.in_err-made.ensures.err s.kept.ended;
       edge = s.kept.edge;
       next = s.kept.next;
       present = λ k. same_set p.context.locks c.reserve-made.new.self c.in_err-made.ensures.err k ∙ s.kept.present k;
@@ -26,6 +28,7 @@ invariant_of-self-2 c =
       sound = subst (λ (g : List Block). IsSoundPackage (record (with_rooms p c.reserve-made.new.self 1 p.turns) { pending = pending_in c.deref_mut-contents.result.now.pending g; log = g })) (sym c.make_room.ensures.same.items)
           (sound_rooms p c.reserve-made.new.self 1 p.turns c.bound.ensures.places (same_locks (has c.deref_mut-contents.result.now.present) p.context.locks c.reserve-made.new.self c.in_ok-made.ensures.ok) s.kept.sound);
       code = s.kept.code;
+      ended = ended_rooms p.context c.reserve-made.new.self (same_locks (has c.deref_mut-contents.result.now.present) p.context.locks c.reserve-made.new.self c.in_ok-made.ensures.ok) s.kept.ended;
       edge = s.kept.edge;
       next = s.kept.next;
       present = λ k. changed_set _ p.context.locks c.reserve-made.new.self c.in_ok-made.ensures.ok k ∙ s.kept.present k;

@@ -1,7 +1,7 @@
 use Rattle.std.proofs.Common.{◌∙◌, ◌<◌, ap, sym, subst, arith}
 use Rattle.tc_context.proofs.Vocabulary.{is_section, next_lock, PackageView, IsSoundPackage, IsReserved, kind_of, view_of, thread_in}
 use Rattle.tc_context.proofs.Staging.{shows}
-use Rattle.tc_context.proofs.Running.{MayRun, ready_from, can_go, kind_section, ran_sound, pending_shown, did_run}
+use Rattle.tc_context.proofs.Running.{MayRun, ready_from, can_go, kind_section, ran_sound, ran_ended, pending_shown, did_run}
 use Rattle.tc_context.proofs.package.Package.run_block.Goals as goal
 
 pub run_block-ran-requires : goal.run_block-ran-requires
@@ -17,6 +17,7 @@ run_block-ran-requires c =
         go = can_go image p may;
         takes = s.kept.next ∙ ap (λ x. next_lock x (thread_in p.context)) may.is;
         ready = ready_from image p may (subst IsReserved (sym s.is) c.requires.reserved);
+        ended = s.kept.ended;
         section = ap is_section (c.next_kind-kind.ensures ∙ ap (λ (v : PackageView). kind_of v.granted v.log) (sym s.is)) ∙ kind_section image p may;
       };
       packed = s.kept.edge;
@@ -40,6 +41,7 @@ invariant_of-self c =
       present = λ k. e.runs.keeps.set k ∙ s.kept.present k;
       pending = pending_shown image p may ran.new.self ran.result.block ran.new.log.items ran.result.slept c.bound.ensures.places e.runs e.journals e.thread kind ran.ensures.log.items;
       log = (let h = s.kept.log in omega (arith, room, ran.ensures.log.len, ran.ensures.log.capacity));
+      ended = ran_ended image p may ran.new.self ran.result.block ran.new.log.items ran.result.slept c.bound.ensures.places e.runs e.journals e.thread kind ran.ensures.log.items;
       edge = ran.ensures.packed;
     }
 

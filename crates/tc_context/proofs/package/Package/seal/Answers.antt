@@ -1,6 +1,7 @@
 use Rattle.std.proofs.Common.{◌∙◌, refl, ap, sym, subst, arith, is_some}
 use Rattle.tc_context.proofs.Vocabulary.{has, PackageView, IsSoundPackage, Allows, with_seal, view_of}
 use Rattle.tc_context.proofs.Staging.{shows, changed_set}
+use Rattle.tc_context.proofs.Ended.{ended_sealed}
 use Rattle.tc_context.proofs.Running.{pending_last, may_seal, sealed_sound, seal_is}
 use Rattle.tc_context.proofs.package.Package.seal.Goals as goal
 
@@ -31,6 +32,7 @@ invariant_of-self c =
     record {
       sound = subst IsSoundPackage (sym is) (sealed_sound p l.block c.args.stamp c.args.worker s.kept.sound l.pending);
       code = s.kept.code;
+      ended = ended_sealed (has c.seal_last-held.result) c.args.stamp c.args.worker p.context c.seal.new.self c.seal.ensures s.kept.ended;
       edge = s.kept.edge;
       next = s.kept.next;
       present = λ k. changed_set _ p.context.locks c.seal.new.self c.seal.ensures k ∙ s.kept.present k;

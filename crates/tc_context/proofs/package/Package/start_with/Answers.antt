@@ -1,4 +1,4 @@
-use Rattle.std.proofs.Common.{refl, arith, ap, subst, sym, ◌∙◌, ◌==◌, is_some}
+use Rattle.std.proofs.Common.{refl, arith, ap, subst, sym, ◌∙◌, ◌≡◌, ◌==◌, None, Some, is_some}
 use Rattle.std.proofs.lemmas.Nat.Bits.{bit_at-zero}
 use Rattle.tc_context.proofs.Vocabulary.{has, next_lock, thread_in, KeptPackage}
 use Rattle.tc_context.proofs.Staging.{fresh_sound}
@@ -23,6 +23,7 @@ invariant_of-result c = subst KeptPackage (sym c.in_ok-new.ensures.ok) (record {
   present = λ k. ap is_some (c.in_ok-context.ensures.locks k) ∙ sym (ap (λ n. has n k) c.none.ensures ∙ ap (λ b. b == 1) (bit_at-zero k));
   code = c.in_ok-clone.ensures.cases ∙ c.requires.code ∙ sym c.of.ensures;
   pending = refl;
+  ended = λ k l found h. absurd (let f : None ≡ Some l = sym (c.in_ok-context.ensures.locks k) ∙ found in cc);
   edge = λ no. absurd (cc);
   log = omega (arith, c.new.ensures.len, c.new.ensures.capacity);
 })

@@ -1,0 +1,95 @@
+-- The registers behind the last entry of each lock that a thread holds, with which the thread goes on.
+use Rattle.std.proofs.Common.{◌≡◌, ℕ, ◌-◌, ◌≤◌, Bool, true, false, ◌||◌, ◌==◌, List, [], ◌∷◌, ◌++◌, length, length-append, refl, sym, ap, subst, ◌∙◌, arith, inl, inr, Option, Some, None, IfSome, if◌then◌else◌}
+use Rattle.tc_context.proofs.Vocabulary.{option_map, has, Shown, next_lock, LockView, EndedAt, finish_in, last_finish, lock_of, opened_at, sealed_as, sealed_entry, sealed_list, with_journal, Context, AreEnded, lock_in, EachHeld, HoldsAt, IsReady, MayGoOn, IsPlaced, SameLocks, Changed, at_place, opened_in, sealed_in, when_in, thread_in, journal_in, AreReady}
+use Rattle.std.proofs.lemmas.Bool.Decides.{eqb_tells}
+use Rattle.tc_isa.specs.Registers.{Registers}
+use Rattle.tc_turn.specs.Replay.{Entry}
+use Rattle.tc_turn.specs.Turn.{plus_lock}
+use Rattle.tc_turn.proofs.Turns.{next_free, next_known}
+use Rattle.tc_mutex_spec.specs.Blocks.{locks_of_block}
+use Rattle.tc_mutex_spec.proofs.BlocksAlike.{eq_self}
+use Rattle.tc_mutex_spec.proofs.OptionLaws.{map_some, option_map-id}
+use Rattle.tc_segment.proofs.Keeping.{last_at}
+use Rattle.tc_context.proofs.LockList.{when_field, with_locks}
+use Rattle.tc_context.proofs.Staging.{false_true, lock_was}
+
+abbrev finish_of : LockView → Option Registers
+finish_of l = last_finish l.journal.sealed l.journal.closed
+
+-- ---- the locks that a block opens
+
+held_in : (held : ℕ → Bool) (o : Option ℕ) (k : ℕ) → held k ≡ true → locks_of_block held o k ≡ true
+held_in held None k h = h
+held_in held (Some n) k h = elim (k == n) as (λ b. (b || held k) ≡ true) [ true ↦ refl | false ↦ h ]
+
+-- those that the thread holds may go on
+pub held_ready : (image : Shown) (p : Context) (held : ℕ) (regs : Registers) → held ≡ p.guest.held → regs ≡ p.guest.regs → AreReady image p → AreEnded p → EachHeld (has held) (MayGoOn regs) p.locks
+held_ready image p held regs is at ready ended k l found h =
+    let mine : has p.guest.held k ≡ true = ap (λ n. has n k) (sym is) ∙ h in
+    record {
+      ready = ready k l.journal (ap (option_map journal_in) found) (held_in (has p.guest.held) (next_lock image (thread_in p)) k mine);
+      ended = subst (λ r. EndedAt r l.journal) (sym at) (ended k l found mine);
+    }
+
+-- and that which its first turn takes is another one, which is ready
+pub taken_ready : (image : Shown) (p : Context) (held : ℕ) (o : Option ℕ) → length image.guards ≤ 32 → o ≡ next_lock image (thread_in p) → held ≡ p.guest.held → AreReady image p
+    → IfSome o (λ lock. (has held lock ≡ false) × HoldsAt lock (λ l. IsReady l.journal) p.locks)
+taken_ready image p held o few next is ready = subst (λ x. IfSome x (λ lock. (has held lock ≡ false) × HoldsAt lock (λ l. IsReady l.journal) p.locks)) (sym next) (by (next_lock image (thread_in p)) refl)
+  where
+    by : (x : Option ℕ) → next_lock image (thread_in p) ≡ x → IfSome x (λ lock. (has held lock ≡ false) × HoldsAt lock (λ l. IsReady l.journal) p.locks)
+    by None e = tt
+    by (Some k) e = (
+      ap (λ n. has n k) is ∙ next_free image (thread_in p) k e,
+      record {
+        place = (let known = next_known image (thread_in p) k e in omega (arith, known, few));
+        lock = λ l found. ready k l.journal (ap (option_map journal_in) found) (ap (λ n. locks_of_block (has p.guest.held) n k) e ∙ ap (λ b. b || has p.guest.held k) (eq_self k));
+      },
+    )
+
+-- an entry is opened, or none
+abbrev opened_when : Registers → ℕ → Bool → LockView → LockView
+opened_when start fuel b l = when_in b (with_journal (opened_at (lock_of l) start fuel)) l
+
+-- it still is with the others opened
+pub still_ready : (P : LockView → Type 0) (held : ℕ → Bool) (lock : ℕ) (start : Registers) (fuel : ℕ) (old mid : List (Option LockView)) → held lock ≡ false → Changed (opened_in held start fuel) old mid → HoldsAt lock P old → HoldsAt lock P mid
+still_ready P held lock start fuel old mid free first at =
+    let same = first lock ∙ ap (λ b. option_map (opened_when start fuel b) (lock_in old lock)) free ∙ option_map-id (λ l. l) (lock_in old lock) (λ l. refl) in
+    record { place = at.place; lock = λ l found. at.lock l (sym same ∙ found) }
+
+-- with both, each lock of the block is open
+pub opened_both : (held : ℕ → Bool) (lock : ℕ) (start : Registers) (fuel : ℕ) (old mid new : List (Option LockView)) → held lock ≡ false → Changed (opened_in held start fuel) old mid
+    → Changed (at_place lock (λ l. with_journal (opened_at (lock_of l) start fuel) l)) mid new → Changed (opened_in (plus_lock held lock) start fuel) old new
+opened_both held lock start fuel old mid new free first second k =
+    let g : LockView → LockView = (λ l. with_journal (opened_at (lock_of l) start fuel) l) in
+    second k ∙ (elim (eqb_tells k lock) [
+      | inl h ↦ ap (λ b. option_map (λ l. when_in b g l) (lock_in mid k)) h.0
+          ∙ ap (option_map g) (first k ∙ ap (λ b. option_map (opened_when start fuel b) (lock_in old k)) (ap held h.1 ∙ free) ∙ option_map-id (λ l. l) (lock_in old k) (λ l. refl))
+          ∙ sym (ap (λ b. option_map (opened_when start fuel (b || held k)) (lock_in old k)) h.0)
+      | inr h ↦ ap (λ b. option_map (λ l. when_in b g l) (lock_in mid k)) h.0 ∙ option_map-id (λ l. l) (lock_in mid k) (λ l. refl) ∙ first k
+          ∙ sym (ap (λ b. option_map (opened_when start fuel (b || held k)) (lock_in old k)) h.0)
+    ])
+
+-- ---- what leaves the last entries
+
+-- rooms
+pub ended_rooms : (p : Context) (locks : List (Option LockView)) → SameLocks p.locks locks → AreEnded p → AreEnded (with_locks p locks)
+ended_rooms p locks same ended k l found h = (let x = lock_was (lock_in p.locks k) (lock_in locks k) l (same k) found in ap finish_of x.2 ∙ ended k x.0 x.1 h)
+
+-- a lock that the thread doesn't hold
+pub ended_placed : (p : Context) (locks : List (Option LockView)) (n : ℕ) (o : Option LockView) → IsPlaced n o p.locks locks → has p.guest.held n ≡ false → AreEnded p → AreEnded (with_locks p locks)
+ended_placed p locks n o placed free ended k l found h = elim (eqb_tells k n) [
+  | inl e ↦ absurd (false_true _ (ap (has p.guest.held) e.1 ∙ free) h)
+  | inr e ↦ ended k l (sym (placed k ∙ ap (λ b. if b then o else lock_in p.locks k) e.0) ∙ found) h
+]
+
+sealed_last : (stamp worker : ℕ) (sealed : List Entry) (closed : Option Entry) → last_finish (sealed_list stamp worker sealed closed) None ≡ last_finish sealed closed
+sealed_last stamp worker sealed None = refl
+sealed_last stamp worker sealed (Some e) =
+    let x = sealed_entry stamp worker e in
+    ap (option_map finish_in) (last_at sealed x (length (sealed ++ x ∷ []) - 1) (omega (arith, length-append sealed (x ∷ []))))
+
+-- the seal
+pub ended_sealed : (held : ℕ → Bool) (stamp worker : ℕ) (p : Context) (locks : List (Option LockView)) → Changed (sealed_in held stamp worker) p.locks locks → AreEnded p → AreEnded (with_locks p locks)
+ended_sealed held stamp worker p locks changed ended k l found h =
+    let x = map_some (sealed_in held stamp worker k) (lock_in p.locks k) l (sym (changed k) ∙ found) in
+    ap finish_of x.2 ∙ when_field finish_of (held k) (with_journal (sealed_as stamp worker)) x.0 (sealed_last stamp worker x.0.journal.sealed x.0.journal.closed) ∙ ended k x.0 x.1 h
