@@ -79,9 +79,9 @@ impl GuestThread {
         }
     }
 
-    /// Does at most so many such turns, all but what they take of the fuel. It is never inlined, so
-    /// that its loop has the registers of the host for itself.
-    #[inline(never)]
+    /// Does at most so many such turns, all but what they take of the fuel. It stands in its caller,
+    /// since a call of it costs more than such a turn, and many blocks have but a few.
+    #[inline(always)]
     fn run_stretch(
         &mut self,
         image: &Image,
