@@ -30,6 +30,8 @@ use Rattle.tc_core.specs.Core.{Core}
 use Rattle.tc_core.specs.Stories.{AreEnabled}
 use Rattle.tc_core.specs.declared.event.Event.TheVariants.{Commit}
 use Rattle.tc_core.specs.declared.place.ThreadPlace.TheVariants.{At}
+use Rattle.tc_hall.specs.declared.board.TheConstants.{CLOCK}
+use Rattle.tc_hall.specs.Places.{slot_word}
 use Rattle.tc_hall.specs.declared.board.Knows.{Knows}
 use Rattle.tc_hall.specs.declared.board.Terms.{Terms}
 use Rattle.tc_hall.specs.declared.board.Cargo.TheVariants.{Package}
@@ -172,7 +174,7 @@ module _ (k : Terms) (m : Moment k) (q : PackageView) (b : Block) (new : ℕ) (o
   w = after_seal m.view b q
 
   abbrev s' : Hall
-  s' = record { words = set m.state.words 0 new; homes = m.state.homes; views = set m.state.views m.id w }
+  s' = record { words = set m.state.words CLOCK new; homes = m.state.homes; views = set m.state.views m.id w }
 
   wide : length m.view.locks ≡ locks k
   wide = m.rule.locks_placed.sized m.id m.view m.pass m.live
@@ -212,7 +214,7 @@ module _ (k : Terms) (m : Moment k) (q : PackageView) (b : Block) (new : ℕ) (o
 
   pub commit_shown : IsShown k s' o'
   commit_shown = record {
-    place = λ u bu. now.place u ∙ (was.place u bu ∙ ap place_shown (sym (get_or-set_other m.state.words 0 (u + 2) new 0 (λ z. omega arith))));
+    place = λ u bu. now.place u ∙ (was.place u bu ∙ ap place_shown (sym (get_or-set_other m.state.words CLOCK (slot_word u) new 0 (λ z. omega arith))));
     thread = commit_thread;
     lock = commit_lock;
   }
@@ -338,6 +340,6 @@ commit_tie k m q a = record {
   asks = λ c seen given. subst (λ (z : ℕ × Block). RunsThrough k m.view.worker z.0 z.1.turns z.1.end c) (λ i. (sym (thread_is k m q a) i, block_is k m q a i)) (runs_here k m q a c seen);
   shows = λ c seen given.
       subst (λ (z : ℕ × Block). AreEnabled k.image.value (machine_limits k) c (turns_by m.view.worker z.0 z.1.turns ++ Commit m.view.worker z.0 ∷ [])
-      → Shows k (after m.state m.id (commit_effect m.view (slice_index m.state.words 0) a.ran.block q)) (after_events k c (turns_by m.view.worker z.0 z.1.turns ++ Commit m.view.worker z.0 ∷ [])))
-      (λ i. (sym (thread_is k m q a) i, block_is k m q a i)) (shows_after k m q a c seen (slice_index m.state.words 0));
+      → Shows k (after m.state m.id (commit_effect m.view (slice_index m.state.words CLOCK) a.ran.block q)) (after_events k c (turns_by m.view.worker z.0 z.1.turns ++ Commit m.view.worker z.0 ∷ [])))
+      (λ i. (sym (thread_is k m q a) i, block_is k m q a i)) (shows_after k m q a c seen (slice_index m.state.words CLOCK));
 }

@@ -1,5 +1,5 @@
 -- After each order of operations every word is one of those that it may be.
-use Rattle.std.proofs.Common.{◌≡◌, ◌≢◌, ℕ, ◌+◌, ◌<◌, ◌≤◌, List, [], ◌∷◌, length, replicate, set, sym, refl, ap, ◌∙◌, subst, arith, slice_index, length-set, get_or-set_other, get_or-set_same}
+use Rattle.std.proofs.Common.{◌≡◌, ◌≢◌, ℕ, ◌+◌, ◌*◌, ◌<◌, ◌≤◌, List, [], ◌∷◌, length, replicate, set, sym, refl, ap, ◌∙◌, subst, arith, slice_index, length-set, get_or-set_other, get_or-set_same}
 use Rattle.std.proofs.lemmas.List.{get_or-replicate}
 use mathlib.Core.Logic.{dite}
 use mathlib.Core.Option.{some}
@@ -7,10 +7,11 @@ use native.Mathlib.Decide.{ℕ_discrete}
 use lib.ListN.{get_elem?, length-replicate}
 use lib.Seq.{set-get_or}
 use Rattle.tc_context.specs.View.{bare}
+use Rattle.tc_hall.specs.declared.board.TheConstants.{LINE, CLOCK, STOP}
 use Rattle.tc_hall.specs.declared.place.Place.TheVariants.{Ready}
 use Rattle.tc_hall.specs.declared.board.Knows.{Knows}
 use Rattle.tc_hall.specs.declared.board.Terms.{Terms}
-use Rattle.tc_hall.specs.Places.{code_of}
+use Rattle.tc_hall.specs.Places.{code_of, slot_word}
 use Rattle.tc_hall.specs.Rule.{threads, locks, KeptHall}
 use Rattle.tc_hall.specs.Effects.{Hall}
 use Rattle.tc_hall.specs.Order.{Operation, claim, take, miss, commit, put, free, look, stop, stopped, reach, lay, split, join, MayDo, Made, after_operation, hall_after, IsLegal, IsOpening, IsThreadWord, put_at, out_with, AreExact, HasExactWords}
@@ -24,12 +25,14 @@ set_word P ws i n j below was now = dite (ℕ_discrete j i)
     (λ (ne : j ≢ i). subst P (sym (get_or-set_other ws i j n 0 (λ e. ne (omega arith)))) was)
 
 module _ (k : Terms) where
-  word_set : (ws : List ℕ) (i n : ℕ) → AreExact k ws → ((t : ℕ) → t < threads k → i ≡ t + 2 → IsThreadWord k n) → ((l : ℕ) → l < locks k → i ≡ threads k + 2 + l → n ≤ 1) → (i ≡ 1 → n ≤ 1) → AreExact k (set ws i n)
-  word_set ws i n exact for_thread for_lock for_stop = record {
+  -- a word at the start of a cache line is set
+  word_set : (ws : List ℕ) (i n line : ℕ) → i ≡ LINE * line → AreExact k ws → ((t : ℕ) → t < threads k → i ≡ slot_word t → IsThreadWord k n) → ((l : ℕ) → l < locks k → i ≡ slot_word (threads k + l) → n ≤ 1) → (i ≡ STOP → n ≤ 1) → AreExact k (set ws i n)
+  word_set ws i n line starts exact for_thread for_lock for_stop = record {
     count = length-set ws i n ∙ exact.count;
-    of_threads = λ t below. set_word (IsThreadWord k) ws i n (t + 2) (omega (arith, exact.count)) (exact.of_threads t below) (for_thread t below);
-    of_locks = λ l below. set_word (λ (z : ℕ). z ≤ 1) ws i n (threads k + 2 + l) (omega (arith, exact.count)) (exact.of_locks l below) (for_lock l below);
-    of_stop = set_word (λ (z : ℕ). z ≤ 1) ws i n 1 (omega (arith, exact.count)) exact.of_stop for_stop;
+    of_threads = λ t below. set_word (IsThreadWord k) ws i n (slot_word t) (omega (arith, exact.count)) (exact.of_threads t below) (for_thread t below);
+    of_locks = λ l below. set_word (λ (z : ℕ). z ≤ 1) ws i n (slot_word (threads k + l)) (omega (arith, exact.count)) (exact.of_locks l below) (for_lock l below);
+    of_stop = set_word (λ (z : ℕ). z ≤ 1) ws i n STOP (omega (arith, exact.count)) exact.of_stop for_stop;
+    between = λ word below inner. get_or-set_other ws i word n 0 (λ e. omega arith) ∙ exact.between word (omega (arith, length-set ws i n)) inner;
   }
 
   -- the word stays
@@ -39,31 +42,32 @@ module _ (k : Terms) where
   exact_after : (s : Hall) (r : KeptHall k s) (id : ℕ) (v : Knows) → get_elem? s.views id ≡ some v → (o : Operation) → MayDo k s id v o → AreExact k s.words → AreExact k (after_operation k s id v o).words
   exact_after s r id v at (claim t q) may exact =
       let below = may.below in
-      word_set s.words (t + 2) (512 + v.worker) exact (λ u b e. out_with v.worker (r.passes id v at).worker refl) (λ l b e. absurd (omega arith)) (λ e. absurd (omega arith))
+      word_set s.words (slot_word t) (512 + v.worker) (t + 2) refl exact (λ u b e. out_with v.worker (r.passes id v at).worker refl) (λ l b e. absurd (omega arith)) (λ e. absurd (omega arith))
   exact_after s r id v at (put q place) may exact =
       let below = (is_out k s r id q.context.thread v (bare q) at may.may.has).0 in
-      word_set s.words (q.context.thread + 2) (code_of place) exact (λ u b e. put_at place may.range refl) (λ l b e. absurd (omega arith)) (λ e. absurd (omega arith))
-  exact_after s r id v at (take i l) may exact = word_set s.words (threads k + 2 + i) 1 exact (λ u b e. absurd (omega arith)) (λ j b e. omega arith) (λ e. omega arith)
-  exact_after s r id v at (free l) may exact = word_set s.words (threads k + 2 + l.number) 0 exact (λ u b e. absurd (omega arith)) (λ j b e. omega arith) (λ e. omega arith)
-  exact_after s r id v at (commit stamp b q) may exact = word_set s.words 0 _ exact (λ u c e. absurd (omega arith)) (λ j c e. absurd (omega arith)) (λ e. absurd (omega arith))
-  exact_after s r id v at stop may exact = word_set s.words 1 1 exact (λ u b e. absurd (omega arith)) (λ j b e. absurd (omega arith)) (λ e. omega arith)
+      word_set s.words (slot_word q.context.thread) (code_of place) (q.context.thread + 2) refl exact (λ u b e. put_at place may.range refl) (λ l b e. absurd (omega arith)) (λ e. absurd (omega arith))
+  exact_after s r id v at (take i l) may exact = word_set s.words (slot_word (threads k + i)) 1 (threads k + i + 2) refl exact (λ u b e. absurd (omega arith)) (λ j b e. omega arith) (λ e. omega arith)
+  exact_after s r id v at (free l) may exact = word_set s.words (slot_word (threads k + l.number)) 0 (threads k + l.number + 2) refl exact (λ u b e. absurd (omega arith)) (λ j b e. omega arith) (λ e. omega arith)
+  exact_after s r id v at (commit stamp b q) may exact = word_set s.words CLOCK _ 0 refl exact (λ u c e. absurd (omega arith)) (λ j c e. absurd (omega arith)) (λ e. absurd (omega arith))
+  exact_after s r id v at stop may exact = word_set s.words STOP 1 1 refl exact (λ u b e. absurd (omega arith)) (λ j b e. absurd (omega arith)) (λ e. omega arith)
   exact_after s r id v at (miss word wanted found) may exact = word_stays s.words word found may.0 exact
-  exact_after s r id v at (look t found) may exact = word_stays s.words (t + 2) found may.1 exact
-  exact_after s r id v at (stopped found) may exact = word_stays s.words 1 found may exact
-  exact_after s r id v at (reach slot) may exact = word_stays s.words (slot + 2) _ refl exact
-  exact_after s r id v at (lay slot) may exact = word_stays s.words 0 _ refl exact
+  exact_after s r id v at (look t found) may exact = word_stays s.words (slot_word t) found may.1 exact
+  exact_after s r id v at (stopped found) may exact = word_stays s.words STOP found may exact
+  exact_after s r id v at (reach slot) may exact = word_stays s.words (slot_word slot) _ refl exact
+  exact_after s r id v at (lay slot) may exact = word_stays s.words CLOCK _ refl exact
   exact_after s r id v at split may exact = exact
   exact_after s r id v at (join other w) may exact = exact
 
   exact_first : (s : Hall) → IsOpening k s → AreExact k s.words
   exact_first s begins =
-      let n : ℕ = threads k + 2 + locks k in
+      let n : ℕ = slot_word (threads k + locks k) in
       let zero_at : (j : ℕ) → j < n → slice_index (replicate n 0) j ≡ 0 = λ j b. get_or-replicate n j 0 0 b in
       subst (λ (z : Hall). AreExact k z.words) (sym begins.is) record {
         count = length-replicate n 0;
-        of_threads = λ t b. put_at Ready tt (zero_at (t + 2) (omega arith));
-        of_locks = λ i b. (let z = zero_at (threads k + 2 + i) (omega arith) in omega arith);
-        of_stop = let z = zero_at 1 (omega arith) in omega arith;
+        of_threads = λ t b. put_at Ready tt (zero_at (slot_word t) (omega arith));
+        of_locks = λ i b. (let z = zero_at (slot_word (threads k + i)) (omega arith) in omega arith);
+        of_stop = let z = zero_at STOP (omega arith) in omega arith;
+        between = λ word below _. zero_at word (subst (λ (z : ℕ). word < z) (length-replicate n 0) below);
       }
 
   exact_by : (first : Hall) → IsOpening k first → (order : List Made) → IsLegal k first order → AreExact k (hall_after k first order).words

@@ -19,6 +19,8 @@ use Rattle.tc_core.specs.Events.{effect, entered, left_by_all}
 use Rattle.tc_core.specs.declared.event.Event.{Event}
 use Rattle.tc_core.specs.declared.event.Event.TheVariants.{Commit, Enter, Leave}
 use Rattle.tc_core.specs.declared.place.Custody.{Custody}
+use Rattle.tc_hall.specs.declared.board.TheConstants.{CLOCK}
+use Rattle.tc_hall.specs.Places.{slot_word}
 use Rattle.tc_hall.specs.declared.place.Place.{Place}
 use Rattle.tc_hall.specs.declared.place.Place.TheVariants.{Ready, Waiting, Parked, Done}
 use Rattle.tc_hall.specs.declared.place.Origin.TheVariants as origin
@@ -86,8 +88,8 @@ module _ (k : Terms) (s : Hall) (r : KeptHall k s) (id : ℕ) (v : Knows) (at : 
 
   claimed : (t : ℕ) (q : PackageView) (es : List Event) → MayDo k s id v (claim t q) → IsClaimed k s c v t es → AreEnabled k.image.value (machine_limits k) c es → Shows k (after_operation k s id v (claim t q)) (after_events k c es)
   claimed t q es may (alone o) enabled = ⊎_elim
-      (λ (z : slice_index s.words (t + 2) ≡ 0). (claim_tie k m t q origin.Ready may z).shows c seen tt enabled)
-      (λ (z : slice_index s.words (t + 2) ≡ 1). (claim_tie k m t q origin.Parked may z).shows c seen tt enabled) o
+      (λ (z : slice_index s.words (slot_word t) ≡ 0). (claim_tie k m t q origin.Ready may z).shows c seen tt enabled)
+      (λ (z : slice_index s.words (slot_word t) ≡ 1). (claim_tie k m t q origin.Parked may z).shows c seen tt enabled) o
   claimed t q es may (adopted lock l word has loose) enabled = (adopt_tie k m t lock q l may ((is_lock_out k s r id lock v l at has).0) word has).adopt.shows c seen loose enabled
   claimed t q es may (granted lock l word has loose) enabled = (adopt_tie k m t lock q l may ((is_lock_out k s r id lock v l at has).0) word has).grant.shows c seen loose enabled
 
@@ -105,9 +107,9 @@ module _ (k : Terms) (s : Hall) (r : KeptHall k s) (id : ℕ) (v : Knows) (at : 
   placed q Done es may is enabled = at_these _ es _ is.1 enabled (λ e. ((put_tie k m q).done may).shows c seen is.0 e)
 
   sealed : (b : Block) (q : PackageView) (es : List Event) (a : Seals v q) → a.ran.block ≡ b → es ≡ turns_by v.worker q.context.thread b.turns ++ Commit v.worker q.context.thread ∷ [] → AreEnabled k.image.value (machine_limits k) c es
-      → Shows k (after s id (commit_effect v (slice_index s.words 0) b q)) (after_events k c es)
+      → Shows k (after s id (commit_effect v (slice_index s.words CLOCK) b q)) (after_events k c es)
   sealed b q es a is these enabled = subst
-      (λ (z : Block). es ≡ turns_by v.worker q.context.thread z.turns ++ Commit v.worker q.context.thread ∷ [] → Shows k (after s id (commit_effect v (slice_index s.words 0) z q)) (after_events k c es)) is
+      (λ (z : Block). es ≡ turns_by v.worker q.context.thread z.turns ++ Commit v.worker q.context.thread ∷ [] → Shows k (after s id (commit_effect v (slice_index s.words CLOCK) z q)) (after_events k c es)) is
       (λ e. at_these _ es _ e enabled (λ f. (commit_tie k m q a).shows c seen tt f)) these
 
   -- an empty slot goes into the pass's hand, or back, and the word stays
@@ -115,7 +117,7 @@ module _ (k : Terms) (s : Hall) (r : KeptHall k s) (id : ℕ) (v : Knows) (at : 
       → Shows k record { words = set s.words word (slice_index s.words word); homes = set s.homes slot b; views = set s.views id w } c
   slot_moved slot word b w empty packages locks' worker = record {
     between = seen.between;
-    shown = still_shown k s.words _ s.homes _ s.views _ (λ u. ap (λ (z : List ℕ). slice_index z (u + 2)) (set-get_or s.words word 0))
+    shown = still_shown k s.words _ s.homes _ s.views _ (λ u. ap (λ (z : List ℕ). slice_index z (slot_word u)) (set-get_or s.words word 0))
         (λ u x e. ⊎_elim (λ (z : (u ≡ slot) × (b ≡ some (Some x))). absurd (empty x z.1)) (λ (z : (u ≢ slot) × (get_elem? s.homes u ≡ some (some (Some x)))). z.1) (at_set s.homes slot u b (some (Some x)) e))
         (had_same s.views id v w at packages locks' worker) (outline c) seen.shown;
   }
@@ -130,7 +132,7 @@ module _ (k : Terms) (s : Hall) (r : KeptHall k s) (id : ℕ) (v : Knows) (at : 
   shown_after (look t found) es may is enabled = of_none _ es is (subst (λ (z : ℕ). Shows k (after s id (look_effect v t z)) c) may.1 (((tell_tie k m).look t).shows c seen tt tt))
   shown_after stop es may is enabled = of_none _ es is ((tell_tie k m).stop.shows c seen tt tt)
   shown_after (stopped found) es may is enabled = of_none _ es is (subst (λ (z : ℕ). Shows k (after s id (stopped_effect v z)) c) may ((tell_tie k m).stopped.shows c seen tt tt))
-  shown_after (reach slot) es may is enabled = of_none _ es is (slot_moved slot (slot + 2) none (record v { hand = Some slot }) (λ x e. some-ne-none (Some x) (sym e)) refl refl refl)
+  shown_after (reach slot) es may is enabled = of_none _ es is (slot_moved slot (slot_word slot) none (record v { hand = Some slot }) (λ x e. some-ne-none (Some x) (sym e)) refl refl refl)
   shown_after (lay slot) es may is enabled = of_none _ es is (slot_moved slot 0 (some None) (record v { hand = None }) (λ x e. clash_at (some None) x refl e) refl refl refl)
   shown_after split es may is enabled = of_none _ es is (((pass_tie k m).made may.0 may.1).shows c seen tt tt)
   shown_after (join other w) es may is enabled = of_none _ es is (((pass_tie k m).joined other w may.0 may.1 may.2 may.3).shows c seen tt tt)
@@ -139,7 +141,7 @@ module _ (k : Terms) (s : Hall) (r : KeptHall k s) (id : ℕ) (v : Knows) (at : 
 
 module _ (k : Terms) (slots : List (Option Cargo)) (ready : AreStocked k.image.value (threads k) (locks k) k.fuel k.limit slots) where
   abbrev ws : List ℕ
-  ws = replicate (threads k + 2 + locks k) 0
+  ws = replicate (slot_word (threads k + locks k)) 0
 
   abbrev first : Hall
   first = opening ws slots (starting k)
@@ -175,7 +177,7 @@ module _ (k : Terms) (slots : List (Option Cargo)) (ready : AreStocked k.image.v
   opens_shown = record {
     between = λ t. (refl, refl);
     shown = record {
-      place = λ t below. (let z : slice_index ws (t + 2) ≡ 0 = get_or-replicate (threads k + 2 + locks k) (t + 2) 0 0 (omega arith) in sym (ap place_shown z ∙ shown_code Ready (omega arith)));
+      place = λ t below. (let z : slice_index ws (slot_word t) ≡ 0 = get_or-replicate (slot_word (threads k + locks k)) (slot_word t) 0 0 (omega arith) in sym (ap place_shown z ∙ shown_code Ready (omega arith)));
       thread = opens_thread;
       lock = opens_lock;
     };

@@ -12,6 +12,8 @@ use Rattle.tc_segment.specs.View.{LockView, kept}
 use Rattle.tc_context.specs.View.{PackageView, bare, fits_of}
 use Rattle.tc_law.specs.Lawful.{IsPackageAfter}
 use Rattle.tc_mutex_spec.proofs.ListLaws.{there, at_place}
+use Rattle.tc_hall.specs.declared.board.TheConstants.{CLOCK, STOP}
+use Rattle.tc_hall.specs.Places.{slot_word}
 use Rattle.tc_hall.specs.declared.board.Knows.{Knows}
 use Rattle.tc_hall.specs.declared.board.Terms.{Terms}
 use Rattle.tc_hall.specs.declared.board.Cargo.{Cargo}
@@ -28,7 +30,7 @@ use Rattle.tc_hall.proofs.Ranks.{apart_stays, stop_stays, pass_kept, pass_same, 
 pub some_same : (u t : ℕ) → Some t ≡ Some u → u ≡ t
 some_same u t e = cc e
 
-pub home_of : (ws : List ℕ) (hs : Homes) (vs : List Knows) (t : ℕ) (p : PackageView) (o : maybe.Option ℕ) → Lies ws hs vs t p o → slice_index ws (t + 2) < 512 → (o ≡ none) × IsHome ws hs t p
+pub home_of : (ws : List ℕ) (hs : Homes) (vs : List Knows) (t : ℕ) (p : PackageView) (o : maybe.Option ℕ) → Lies ws hs vs t p o → slice_index ws (slot_word t) < 512 → (o ≡ none) × IsHome ws hs t p
 home_of ws hs vs t p none l h = (refl, l)
 home_of ws hs vs t p (some id) l h = let w = l.word in absurd (omega arith)
 
@@ -42,7 +44,7 @@ module _ (k : Terms) where
 
   -- where a package or a lock that a pass has out lies
   pub is_out : (s : St) (r : KeptHall k s) (id t : ℕ) (v : Knows) (p : PackageView) → get_elem? s.views id ≡ some v → Has v t p
-      → (t < threads k) × (r.placed.holder t ≡ some id) × (get_elem? r.told.places t ≡ some p) × (slice_index s.words (t + 2) ≡ 512 + v.worker) × (v.hand ≢ Some t → get_elem? s.homes t ≡ some (some None)) × (v.hand ≡ Some t → get_elem? s.homes t ≡ some none)
+      → (t < threads k) × (r.placed.holder t ≡ some id) × (get_elem? r.told.places t ≡ some p) × (slice_index s.words (slot_word t) ≡ 512 + v.worker) × (v.hand ≢ Some t → get_elem? s.homes t ≡ some (some None)) × (v.hand ≡ Some t → get_elem? s.homes t ≡ some none)
   is_out s r id t v p at has =
       let o = r.placed.owned id v t p at has in
       let l : IsPackageOut s.words s.homes s.views t p id = out_of s.words s.homes s.views t id p (r.placed.holder t) (r.placed.each t p o.1) o.0 in
@@ -76,44 +78,44 @@ module _ (k : Terms) where
   taken v t q = record (after_claim v q) { hand = Some t }
 
   pub takes_home : (s : St) (r : KeptHall k s) (id t new : ℕ) (v : Knows) (p : PackageView) (h : IsHome s.words s.homes t p) → get_elem? s.views id ≡ some v → v.spent ≡ false → v.hand ≡ None → t < threads k → new ≡ 512 + v.worker
-      → slice_index s.words (t + 2) ≢ 2 → get_elem? r.told.places t ≡ some p → r.placed.holder t ≡ none → h.context.context.thread ≡ t → KeptHall k (stepped s (t + 2) new id [] (taken v t h.context) (takes t (Some (Package h.context))))
+      → slice_index s.words (slot_word t) ≢ 2 → get_elem? r.told.places t ≡ some p → r.placed.holder t ≡ none → h.context.context.thread ≡ t → KeptHall k (stepped s (slot_word t) new id [] (taken v t h.context) (takes t (Some (Package h.context))))
   takes_home s r id t new v p h at live free below new_is not_two place is_home thread =
       let q : PackageView = h.context in
       let w : Knows = taken v t q in
-      let ws' : List ℕ = set s.words (t + 2) new in
+      let ws' : List ℕ = set s.words (slot_word t) new in
       let wide : length v.packages ≡ threads k = r.placed.sized id v at live in
       let here : get_elem? w.packages t ≡ some (Some (bare q)) = subst (λ (z : ℕ). get_elem? (set v.packages z (Some (bare q))) t ≡ some (Some (bare q))) (sym thread) (set_here v.packages t (Some (bare q)) (omega arith)) in
-      let done = done_still s.words (t + 2) new not_two in
-      let stops = stops_still s.words (t + 2) new (λ e. omega arith) in
+      let done = done_still s.words (slot_word t) new not_two in
+      let stops = stops_still s.words (slot_word t) new (λ e. omega arith) in
       let old = r.passes id v at in record {
         told = r.told;
-        words = length-set s.words (t + 2) new ∙ r.words;
+        words = length-set s.words (slot_word t) new ∙ r.words;
         slots = length-set s.homes t none ∙ r.slots;
-        clock = get_or-set_other s.words (t + 2) 0 new 0 (λ e. omega arith) ∙ r.clock;
+        clock = get_or-set_other s.words (slot_word t) CLOCK new 0 (λ e. omega arith) ∙ r.clock;
         placed = moves s.words ws' s.homes (set s.homes t none) s.views id v w at stops (threads k) r.told.places r.told.places t (some id) r.placed (inl is_home)
-            (λ u ne. get_or-set_other s.words (t + 2) (u + 2) new 0 (λ e. ne (omega arith))) (λ u ne. set_else s.homes t u none ne) (λ u ne. refl) r.told.law.all_packages
+            (λ u ne. get_or-set_other s.words (slot_word t) (slot_word u) new 0 (λ e. ne (omega arith))) (λ u ne. set_else s.homes t u none ne) (λ u ne. refl) r.told.law.all_packages
             record { worker = refl; spent = refl; long = length-set v.packages q.context.thread (Some (bare q)); out = λ u ne. set_else v.packages q.context.thread u (Some (bare q)) (λ e. ne (e ∙ thread)); hand = λ u _ ne e. absurd (clash v.hand u free e); hand_back = λ u _ ne e. absurd (ne (some_same u t e)) }
             (λ p' e. record {
               view = w;
               pass = set_here s.views id w (there s.views id v v at).0;
               has = here ∙ (ap (λ (z : PackageView). some (Some z)) h.same ∙ ap (λ (z : PackageView). some (Some z)) (some-injective p p' (sym place ∙ e)));
-              word = get_or-set_same s.words (t + 2) new 0 (omega (arith, r.words)) ∙ new_is;
+              word = get_or-set_same s.words (slot_word t) new 0 (omega (arith, r.words)) ∙ new_is;
               slot = λ out. absurd (out refl);
               held = λ _. set_here s.homes t none (omega (arith, r.slots));
             })
             (λ p' has. (refl, place ∙ ap (λ (z : PackageView). some z) (sym h.same ∙ same_at (get_elem? w.packages t) (bare q) p' here has)));
         locks_placed = claims_locks (threads k) (locks k) r.told.segments s.words ws' s.homes s.views id v w q r.locks_placed r.told.law.all_states at live refl refl
-            (λ i. get_or-set_other s.words (t + 2) (threads k + 2 + i) new 0 (λ e. omega arith)) t below h.slot free refl;
+            (λ i. get_or-set_other s.words (slot_word t) (slot_word (threads k + i)) new 0 (λ e. omega arith)) t below h.slot free refl;
         passes = passes_stay k.image.value k.workers r.told.history r.told.history s.words ws' (λ b e. e) done stops s.views id w r.passes
             (pass_kept k.image.value k.workers r.told.history r.told.history s.words ws' (λ b e. e) done stops v w old (refl, refl, refl, length-set v.misfits q.context.thread (not (fits_of q v.worker))) (λ i u e. inl e) (λ i b e. inl e) (λ i c e. inl e)
-            (λ u e. ⊎_elim (λ (o : (u ≡ q.context.thread) × (not (fits_of q v.worker) ≡ true)). inr (stops (misfit_stop (slice_index s.words 1) q v.worker h.fits o.1))) (λ (o : (u ≢ q.context.thread) × (get_elem? v.misfits u ≡ some true)). inl o.1) (at_set v.misfits q.context.thread u (not (fits_of q v.worker)) true e)));
-        stop = λ e. stop_stays s.views id v w at (λ i e. (i, e)) (r.stop (stops_back s.words (t + 2) new (λ e. omega arith) e));
+            (λ u e. ⊎_elim (λ (o : (u ≡ q.context.thread) × (not (fits_of q v.worker) ≡ true)). inr (stops (misfit_stop (slice_index s.words STOP) q v.worker h.fits o.1))) (λ (o : (u ≢ q.context.thread) × (get_elem? v.misfits u ≡ some true)). inl o.1) (at_set v.misfits q.context.thread u (not (fits_of q v.worker)) true e)));
+        stop = λ e. stop_stays s.views id v w at (λ i e. (i, e)) (r.stop (stops_back s.words (slot_word t) new (λ e. omega arith) e));
         apart = apart_stays s.views id v w at record { worker = refl; maker = refl; made = refl; spent = refl; joined = refl } live r.apart;
       }
 
   -- what the pass learns of it
   pub gets : (s : St) (r : KeptHall k s) (id t : ℕ) (v : Knows) (p : PackageView) (h : IsHome s.words s.homes t p) → get_elem? s.views id ≡ some v → v.spent ≡ false → t < threads k
-      → get_elem? r.told.places t ≡ some p → r.placed.holder t ≡ none → h.context.context.thread ≡ t → Gets (slice_index s.words (t + 2)) t h.context v (after_claim v h.context)
+      → get_elem? r.told.places t ≡ some p → r.placed.holder t ≡ none → h.context.context.thread ≡ t → Gets (slice_index s.words (slot_word t)) t h.context v (after_claim v h.context)
   gets s r id t v p h at live below place is_home thread =
       let q : PackageView = h.context in
       let after : IsPackageAfter k.image.value k.fuel r.told.history t p = r.told.law.packages_after t p place in
@@ -145,7 +147,7 @@ module _ (k : Terms) where
     pub same : home.context ≡ q
     pub thread : home.context.context.thread ≡ t
 
-  pub at_home_of : (s : St) (r : KeptHall k s) (t : ℕ) (q : PackageView) → t < threads k → slice_index s.words (t + 2) < 512 → get_elem? s.homes t ≡ some (some (Some (Package q))) → AtHome s r t q
+  pub at_home_of : (s : St) (r : KeptHall k s) (t : ℕ) (q : PackageView) → t < threads k → slice_index s.words (slot_word t) < 512 → get_elem? s.homes t ≡ some (some (Some (Package q))) → AtHome s r t q
   at_home_of s r t q below low slot =
       let place = at_place r.told.places t (omega (arith, r.told.law.all_packages, below)) in
       let lies = home_of s.words s.homes s.views t place.0 (r.placed.holder t) (r.placed.each t place.0 place.1) low in
@@ -218,18 +220,18 @@ module _ (k : Terms) where
 
   -- the empty slot of a package goes back
   pub lay_kept : (s : St) (r : KeptHall k s) (id t : ℕ) (v : Knows) (p : PackageView) → get_elem? s.views id ≡ some v → v.spent ≡ false → v.hand ≡ Some t → Has v t p
-      → KeptHall k (stepped s 0 (slice_index s.words 0) id ((t, None) ∷ []) (record v { hand = None }) gives)
+      → KeptHall k (stepped s CLOCK (slice_index s.words CLOCK) id ((t, None) ∷ []) (record v { hand = None }) gives)
   lay_kept s r id t v p at live hand has =
       let w : Knows = record v { hand = None } in
       let o = is_out s r id t v p at has in
-      subst (λ (z : List ℕ). KeptHall k record { words = z; homes = set s.homes t (some None); views = set s.views id w }) (sym (set-get_or s.words 0 0))
+      subst (λ (z : List ℕ). KeptHall k record { words = z; homes = set s.homes t (some None); views = set s.views id w }) (sym (set-get_or s.words CLOCK 0))
       (slot_moves s r id t v w p none (some None) at live has (o.5 hand) no_home no_package (inr (refl, hand, refl)) refl)
 
   -- the pass takes the empty slot of a package that it has out
   pub reach_kept : (s : St) (r : KeptHall k s) (id t : ℕ) (v : Knows) (p : PackageView) → get_elem? s.views id ≡ some v → v.spent ≡ false → v.hand ≡ None → Has v t p
-      → KeptHall k (stepped s (t + 2) (slice_index s.words (t + 2)) id [] (record v { hand = Some t }) (takes t None))
+      → KeptHall k (stepped s (slot_word t) (slice_index s.words (slot_word t)) id [] (record v { hand = Some t }) (takes t None))
   reach_kept s r id t v p at live free has =
       let w : Knows = record v { hand = Some t } in
       let o = is_out s r id t v p at has in
-      subst (λ (z : List ℕ). KeptHall k record { words = z; homes = set s.homes t none; views = set s.views id w }) (sym (set-get_or s.words (t + 2) 0))
+      subst (λ (z : List ℕ). KeptHall k record { words = z; homes = set s.homes t none; views = set s.views id w }) (sym (set-get_or s.words (slot_word t) 0))
       (slot_moves s r id t v w p (some None) none at live has (o.4 (λ e. clash v.hand t free e)) no_package no_home (inl (refl, free, refl)) refl)

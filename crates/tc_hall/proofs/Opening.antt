@@ -18,6 +18,8 @@ use Rattle.tc_context.specs.View.{PackageView, IsFresh, Rests, bare, fits_grante
 use Rattle.tc_context.specs.Whole.{thread_in}
 use Rattle.tc_law.specs.Lawful.{IsPackageAfter, Lawful, blocks_left}
 use Rattle.tc_law.proofs.Lawful.{fresh_lawful}
+use Rattle.tc_hall.specs.declared.board.TheConstants.{STOP}
+use Rattle.tc_hall.specs.Places.{slot_word}
 use Rattle.tc_hall.specs.declared.board.Knows.{Knows}
 use Rattle.tc_hall.specs.declared.board.Terms.{Terms}
 use Rattle.tc_hall.specs.declared.board.Cargo.{Cargo}
@@ -104,7 +106,7 @@ module _ (k : Terms) where
   first_is zero v e = (refl, some-injective (first_view k) v e)
   first_is (suc id) v e = absurd (some-ne-none v (sym e))
 
-  pub opens : (ws : List ℕ) (slots : List (Option Cargo)) → IsInLimits k → AreStocked k.image.value (threads k) (locks k) k.fuel k.limit slots → ws ≡ replicate (threads k + 2 + locks k) 0 → KeptHall k (opening ws slots (first_view k))
+  pub opens : (ws : List ℕ) (slots : List (Option Cargo)) → IsInLimits k → AreStocked k.image.value (threads k) (locks k) k.fuel k.limit slots → ws ≡ replicate (slot_word (threads k + locks k)) 0 → KeptHall k (opening ws slots (first_view k))
   opens ws slots limits ready zeros =
       let n : ℕ = threads k in
       let m : ℕ = locks k in
@@ -112,7 +114,7 @@ module _ (k : Terms) where
       let first : (t : ℕ) → t < n → PackageView = λ t h. bare (whole t h) in
       let places : List PackageView = gathered n first in
       let segments : List LockView = tabled (λ i. fresh_state k.image.value i k.limit) m in
-      let zero_at : (i : ℕ) → i < n + 2 + m → slice_index ws i ≡ 0 = λ i h. ap (λ (l : List ℕ). slice_index l i) zeros ∙ get_or-replicate (n + 2 + m) i 0 0 h in
+      let zero_at : (i : ℕ) → i < slot_word (n + m) → slice_index ws i ≡ 0 = λ i h. ap (λ (l : List ℕ). slice_index l i) zeros ∙ get_or-replicate (slot_word (n + m)) i 0 0 h in
       let long : length places ≡ n = gathered-length n first in
       record {
         told = record {
@@ -129,14 +131,14 @@ module _ (k : Terms) where
           strict = λ i l e. subst (λ (x : LockView). IsStrict x) (tabled-at (λ i. fresh_state k.image.value i k.limit) m i l e).1 refl;
           workers = λ i b e. absurd (some-ne-none b (sym e));
         };
-        words = ap (λ (l : List ℕ). length l) zeros ∙ length-replicate (n + 2 + m) 0;
+        words = ap (λ (l : List ℕ). length l) zeros ∙ length-replicate (slot_word (n + m)) 0;
         slots = length-map slots some ∙ ready.count;
         clock = zero_at 0 (omega arith);
         placed = record {
           holder = λ _. none;
           each = λ t p e. let r = gathered-at n first t p e in
               let q = ready.packages t r.0 in
-              let word : slice_index ws (t + 2) ≡ 0 = zero_at (t + 2) (let b = r.0 in omega arith) in
+              let word : slice_index ws (slot_word t) ≡ 0 = zero_at (slot_word t) (let b = r.0 in omega arith) in
               let same : bare q.0 ≡ p = r.1 in record {
                 context = q.0;
                 slot = at_map some slots t (Some (Package q.0)) q.1;
@@ -162,7 +164,7 @@ module _ (k : Terms) where
                 segment = q.0;
                 slot = at_map some slots (n + i) (Some (Lock q.0)) q.1;
                 same = ap kept q.2 ∙ r.1;
-                word = zero_at (n + 2 + i) (let b = r.0 in omega arith);
+                word = zero_at (slot_word (n + i)) (let b = r.0 in omega arith);
                 rests = subst (Rests i) (sym q.2) tt;
               };
           sized = λ id v e live. ap (λ (z : Knows). length z.locks) (sym (first_is id v e).1) ∙ length-replicate m None;
@@ -172,7 +174,7 @@ module _ (k : Terms) where
               absurd (clash (locked_in q i) l (ap (λ (x : PackageView). locked_in x i) same ∙ r.2.locks i) has);
         };
         passes = λ id v e. let some' = limits.workers.0 in subst (IsPass k.image.value k.workers [] ws) (first_is id v e).1 (clean_pass k.image.value k.image.value k.workers [] ws n m (k.workers - 1) true refl (omega arith) refl);
-        stop = λ e. let z = zero_at 1 (omega arith) in absurd (omega arith);
+        stop = λ e. let z = zero_at STOP (omega arith) in absurd (omega arith);
         apart = record {
           apart = λ i j v w ev ew lv lw e. (first_is i v ev).0 ∙ sym (first_is j w ew).0;
           joined = λ i j e v w ev ew lw h. some-ne-none w.worker (sym (ap (λ (z : Knows). get_elem? z.joined e) (first_is i v ev).1 ∙ h));

@@ -9,12 +9,13 @@ use Rattle.tc_elf.specs.declared.limits.TheConstants.{MAX_GUARDS}
 use Rattle.tc_journal.specs.declared.block.Block.{Block}
 use Rattle.tc_segment.specs.View.{LockView}
 use Rattle.tc_context.specs.View.{PackageView}
+use Rattle.tc_hall.specs.declared.board.TheConstants.{CLOCK}
 use Rattle.tc_hall.specs.declared.place.Place.{Place}
 use Rattle.tc_hall.specs.declared.board.Knows.{Knows}
 use Rattle.tc_hall.specs.declared.board.Terms.{Terms}
 use Rattle.tc_hall.specs.declared.board.Cargo.{Cargo}
 use Rattle.tc_hall.specs.declared.board.Cargo.TheVariants.{Package}
-use Rattle.tc_hall.specs.Places.{code_of}
+use Rattle.tc_hall.specs.Places.{code_of, slot_word}
 use Rattle.tc_hall.specs.Rule.{threads, locks, starting, IsInLimits, KeptHall}
 use Rattle.tc_hall.specs.Made.{AreStocked}
 use Rattle.tc_hall.specs.Steps.{Seals, after_put}
@@ -38,7 +39,7 @@ claimable_low k word few can = ⊎_elim (λ (z : word ≡ 0). (omega arith, (λ 
 module _ (k : Terms) (s : Hall) (r : KeptHall k s) (id : ℕ) (v : Knows) (at : get_elem? s.views id ≡ some v) (live : v.spent ≡ false) where
   pub claim_after : (t : ℕ) (q : PackageView) → MayClaim k s v t q → KeptHall k (after s id (claim_effect v t q))
   claim_after t q a =
-      let can = claimable_low k (slice_index s.words (t + 2)) r.told.limits.locks a.word in
+      let can = claimable_low k (slice_index s.words (slot_word t)) r.told.limits.locks a.word in
       let h = at_home_of k s r t q a.below can.0 a.slot in
       subst (λ (z : PackageView). KeptHall k (after s id (claim_effect v t z))) h.same
       (takes_home k s r id t (512 + v.worker) v h.stands h.home at live a.free a.below refl can.1 h.placed h.holder h.thread)
@@ -51,19 +52,19 @@ module _ (k : Terms) (s : Hall) (r : KeptHall k s) (id : ℕ) (v : Knows) (at : 
 
   pub put_after : (q : PackageView) (place : Place) → MayFill k v q place → KeptHall k (after s id (put_effect v q place))
   put_after q place a =
-      subst (λ (z : Place). KeptHall k (stepped s (q.context.thread + 2) (code_of place) id ((q.context.thread, Some (Package q)) ∷ []) (record (after_put v q z) { hand = None }) gives)) (place_codes place)
+      subst (λ (z : Place). KeptHall k (stepped s (slot_word q.context.thread) (code_of place) id ((q.context.thread, Some (Package q)) ∷ []) (record (after_put v q z) { hand = None }) gives)) (place_codes place)
       (fills_kept k s r id place v q at a.hand live a.range a.may)
 
-  commit_after : (b : Block) (q : PackageView) (a : Seals v q) → a.ran.block ≡ b → KeptHall k (after s id (commit_effect v (slice_index s.words 0) b q))
-  commit_after b q a is = subst (λ (z : Block). KeptHall k (after s id (commit_effect v (slice_index s.words 0) z q))) is (seals_kept k s r id v q a live at)
+  commit_after : (b : Block) (q : PackageView) (a : Seals v q) → a.ran.block ≡ b → KeptHall k (after s id (commit_effect v (slice_index s.words CLOCK) b q))
+  commit_after b q a is = subst (λ (z : Block). KeptHall k (after s id (commit_effect v (slice_index s.words CLOCK) z q))) is (seals_kept k s r id v q a live at)
 
-  reach_after : (slot : ℕ) → v.hand ≡ None → IsSlotOut k v slot → KeptHall k (after s id (reach_effect v slot (slice_index s.words (slot + 2))))
-  reach_after slot idle (of_package t p is has) = subst (λ (z : ℕ). KeptHall k (after s id (reach_effect v z (slice_index s.words (z + 2))))) (sym is) (reach_kept k s r id t v p at live idle has)
-  reach_after slot idle (of_lock i l is has) = subst (λ (z : ℕ). KeptHall k (after s id (reach_effect v z (slice_index s.words (z + 2))))) (sym is) (reach_lock_kept k s r id i v l at live idle has)
+  reach_after : (slot : ℕ) → v.hand ≡ None → IsSlotOut k v slot → KeptHall k (after s id (reach_effect v slot (slice_index s.words (slot_word slot))))
+  reach_after slot idle (of_package t p is has) = subst (λ (z : ℕ). KeptHall k (after s id (reach_effect v z (slice_index s.words (slot_word z))))) (sym is) (reach_kept k s r id t v p at live idle has)
+  reach_after slot idle (of_lock i l is has) = subst (λ (z : ℕ). KeptHall k (after s id (reach_effect v z (slice_index s.words (slot_word z))))) (sym is) (reach_lock_kept k s r id i v l at live idle has)
 
-  lay_after : (slot : ℕ) → v.hand ≡ Some slot → IsSlotOut k v slot → KeptHall k (after s id (lay_effect v slot (slice_index s.words 0)))
-  lay_after slot held (of_package t p is has) = subst (λ (z : ℕ). KeptHall k (after s id (lay_effect v z (slice_index s.words 0)))) (sym is) (lay_kept k s r id t v p at live (held ∙ ap (λ (z : ℕ). Some z) is) has)
-  lay_after slot held (of_lock i l is has) = subst (λ (z : ℕ). KeptHall k (after s id (lay_effect v z (slice_index s.words 0)))) (sym is) (lay_lock_kept k s r id i v l at live (held ∙ ap (λ (z : ℕ). Some z) is) has)
+  lay_after : (slot : ℕ) → v.hand ≡ Some slot → IsSlotOut k v slot → KeptHall k (after s id (lay_effect v slot (slice_index s.words CLOCK)))
+  lay_after slot held (of_package t p is has) = subst (λ (z : ℕ). KeptHall k (after s id (lay_effect v z (slice_index s.words CLOCK)))) (sym is) (lay_kept k s r id t v p at live (held ∙ ap (λ (z : ℕ). Some z) is) has)
+  lay_after slot held (of_lock i l is has) = subst (λ (z : ℕ). KeptHall k (after s id (lay_effect v z (slice_index s.words CLOCK)))) (sym is) (lay_lock_kept k s r id i v l at live (held ∙ ap (λ (z : ℕ). Some z) is) has)
 
   pub kept_after : (o : Operation) → MayDo k s id v o → KeptHall k (after_operation k s id v o)
   kept_after (claim t q) may = claim_after t q may
@@ -104,7 +105,7 @@ module _ (k : Terms) where
       }
 
   -- a new hall
-  pub opens_order : (ws : List ℕ) (slots : List (Option Cargo)) → IsInLimits k → AreStocked k.image.value (threads k) (locks k) k.fuel k.limit slots → ws ≡ replicate (threads k + 2 + locks k) 0 → IsOrdered k (opening ws slots (starting k))
+  pub opens_order : (ws : List ℕ) (slots : List (Option Cargo)) → IsInLimits k → AreStocked k.image.value (threads k) (locks k) k.fuel k.limit slots → ws ≡ replicate (slot_word (threads k + locks k)) 0 → IsOrdered k (opening ws slots (starting k))
   opens_order ws slots limits ready zeros = record {
     first = opening ws slots (starting k);
     opens = record { limits = limits; slots = slots; stocked = ready; is = ap (λ (l : List ℕ). opening l slots (starting k)) zeros };

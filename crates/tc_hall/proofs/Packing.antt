@@ -11,6 +11,7 @@ use Rattle.tc_context.specs.View.{PackageView}
 use Rattle.tc_law.specs.Lawful.{with_states}
 use Rattle.tc_law.proofs.Lawful.{with_states-at}
 use Rattle.tc_mutex_spec.proofs.ListLaws.{there}
+use Rattle.tc_hall.specs.Places.{slot_word}
 use Rattle.tc_hall.specs.declared.board.Knows.{Knows}
 use Rattle.tc_hall.specs.declared.board.Cargo.{Cargo}
 use Rattle.tc_hall.specs.declared.board.Cargo.TheVariants.{Package}
@@ -32,7 +33,7 @@ out_of n ws hs vs i l id s e lies = subst (LiesLock n ws hs vs i l) e lies
 
 module _ (n m : ℕ) (segments : List LockView) (ws ws' : List ℕ) (hs : Homes) (vs : List Knows) (id : ℕ) (v w : Knows) (q : PackageView)
     (lp : AreLocksPlaced n m segments ws hs vs) (count : length segments ≡ m) (at : get_elem? vs id ≡ some v) (live : v.spent ≡ false) (now : w.locks ≡ add_all v.locks q.context.locks) (spent : w.spent ≡ v.spent)
-    (words : (i : ℕ) → slice_index ws' (n + 2 + i) ≡ slice_index ws (n + 2 + i)) where
+    (words : (i : ℕ) → slice_index ws' (slot_word (n + i)) ≡ slice_index ws (slot_word (n + i))) where
   in_range : id < length vs
   in_range = (there vs id v v at).0
 
@@ -171,7 +172,7 @@ spot_in t s (Some l) = inside t
 -- the package q goes home to the slot t, which the pass has in hand, with its locks
 module _ (n m : ℕ) (segments : List LockView) (ws ws' : List ℕ) (hs : Homes) (vs : List Knows) (id : ℕ) (v w : Knows) (q : PackageView) (t : ℕ)
     (lp : AreLocksPlaced n m segments ws hs vs) (count : length segments ≡ m) (at : get_elem? vs id ≡ some v) (live : v.spent ≡ false) (now : w.locks ≡ remove_all v.locks q.context.locks) (spent : w.spent ≡ v.spent)
-    (words : (i : ℕ) → slice_index ws' (n + 2 + i) ≡ slice_index ws (n + 2 + i)) (below : t < n) (held : get_elem? hs t ≡ some none) (hand_was : v.hand ≡ Some t) (hand_is : w.hand ≡ None)
+    (words : (i : ℕ) → slice_index ws' (slot_word (n + i)) ≡ slice_index ws (slot_word (n + i))) (below : t < n) (held : get_elem? hs t ≡ some none) (hand_was : v.hand ≡ Some t) (hand_is : w.hand ≡ None)
     (had : (i : ℕ) (l : LockView) → locked_in q i ≡ Some l → HasLock v i (kept l)) where
   at_home : get_elem? (set hs t (some (Some (Package q)))) t ≡ some (some (Some (Package q)))
   at_home = set_here hs t (some (Some (Package q))) (there hs t none none held).0
@@ -255,7 +256,7 @@ pub record IsElseLock (n i : ℕ) (v w : Knows) : Type 0 where
 
 -- one lock goes from its slot to the pass, or back, or stays out with it while the pass takes or gives its slot
 module _ (n m : ℕ) (segments : List LockView) (ws ws' : List ℕ) (hs hs' : Homes) (vs : List Knows) (id : ℕ) (v w : Knows) (at : get_elem? vs id ≡ some v) where
-  other_lock : (i j : ℕ) (l : LockView) → IsElseLock n i v w → j ≢ i → slice_index ws' (n + 2 + j) ≡ slice_index ws (n + 2 + j) → ((u : ℕ) → u ≢ n + i → get_elem? hs' u ≡ get_elem? hs u)
+  other_lock : (i j : ℕ) (l : LockView) → IsElseLock n i v w → j ≢ i → slice_index ws' (slot_word (n + j)) ≡ slice_index ws (slot_word (n + j)) → ((u : ℕ) → u ≢ n + i → get_elem? hs' u ≡ get_elem? hs u)
       → (s : Spot) → LiesLock n ws hs vs j l s → LiesLock n ws' hs' (set vs id w) j l s
   other_lock i j l e ne word homes home o = record { segment = o.segment; slot = homes (n + j) (λ z. ne (omega arith)) ∙ o.slot; same = o.same; word = word ∙ o.word; rests = o.rests }
   other_lock i j l e ne word homes (inside t) o = record {
@@ -287,7 +288,7 @@ module _ (n m : ℕ) (segments : List LockView) (ws ws' : List ℕ) (hs hs' : Ho
       })
 
   pub lock_moves : (i : ℕ) (to : Spot) (lp : AreLocksPlaced n m segments ws hs vs) → (lp.spot i ≡ home) ⊎ (lp.spot i ≡ out id)
-      → ((j : ℕ) → j ≢ i → slice_index ws' (n + 2 + j) ≡ slice_index ws (n + 2 + j))
+      → ((j : ℕ) → j ≢ i → slice_index ws' (slot_word (n + j)) ≡ slice_index ws (slot_word (n + j)))
       → ((u : ℕ) → u ≢ n + i → get_elem? hs' u ≡ get_elem? hs u)
       → IsElseLock n i v w
       → ((l : LockView) → get_elem? segments i ≡ some l → LiesLock n ws' hs' (set vs id w) i l to)
@@ -320,7 +321,7 @@ module _ (n m : ℕ) (segments : List LockView) (ws ws' : List ℕ) (hs hs' : Ho
 
 -- no lock moves, and no package with locks in it
 module _ (n m : ℕ) (segments : List LockView) (ws ws' : List ℕ) (hs hs' : Homes) (vs : List Knows) (id : ℕ) (v w : Knows) (at : get_elem? vs id ≡ some v)
-    (words : (i : ℕ) → slice_index ws' (n + 2 + i) ≡ slice_index ws (n + 2 + i)) (homes : (i : ℕ) → get_elem? hs' (n + i) ≡ get_elem? hs (n + i))
+    (words : (i : ℕ) → slice_index ws' (slot_word (n + i)) ≡ slice_index ws (slot_word (n + i))) (homes : (i : ℕ) → get_elem? hs' (n + i) ≡ get_elem? hs (n + i))
     (full : (t : ℕ) (q : PackageView) → t < n → get_elem? hs t ≡ some (some (Some (Package q))) → get_elem? hs' t ≡ some (some (Some (Package q))))
     (full_back : (t : ℕ) (q : PackageView) → t < n → get_elem? hs' t ≡ some (some (Some (Package q))) → get_elem? hs t ≡ some (some (Some (Package q))))
     (now : w.locks ≡ v.locks) (spent : w.spent ≡ v.spent) (hand : (i : ℕ) → v.hand ≡ Some (n + i) → w.hand ≡ Some (n + i)) (back : (i : ℕ) → w.hand ≡ Some (n + i) → v.hand ≡ Some (n + i)) where

@@ -9,6 +9,8 @@ use lib.ListN.{get_elem?}
 use Rattle.atomic_table.proofs.Lists.{at_set, set_here, set_else}
 use Rattle.tc_context.specs.View.{PackageView}
 use Rattle.tc_mutex_spec.proofs.ListLaws.{there}
+use Rattle.tc_hall.specs.declared.board.TheConstants.{STOP}
+use Rattle.tc_hall.specs.Places.{slot_word}
 use Rattle.tc_hall.specs.declared.board.Knows.{Knows}
 use Rattle.tc_hall.specs.Rule.{Homes, Has, Lies, ArePlaced, IsInOrder}
 
@@ -31,12 +33,12 @@ pub record IsElse (n t : ℕ) (v w : Knows) : Type 0 where
   pub hand : (u : ℕ) → u < n → u ≢ t → v.hand ≡ Some u → w.hand ≡ Some u
   pub hand_back : (u : ℕ) → u < n → u ≢ t → w.hand ≡ Some u → v.hand ≡ Some u
 
-module _ (ws ws' : List ℕ) (hs hs' : Homes) (vs : List Knows) (id : ℕ) (v w : Knows) (at : get_elem? vs id ≡ some v) (stops : slice_index ws 1 ≡ 1 → slice_index ws' 1 ≡ 1) where
+module _ (ws ws' : List ℕ) (hs hs' : Homes) (vs : List Knows) (id : ℕ) (v w : Knows) (at : get_elem? vs id ≡ some v) (stops : slice_index ws STOP ≡ 1 → slice_index ws' STOP ≡ 1) where
   in_range : id < length vs
   in_range = (there vs id v v at).0
 
   -- of another thread
-  lies_else : (n t u : ℕ) (p : PackageView) → IsElse n t v w → u < n → u ≢ t → slice_index ws' (u + 2) ≡ slice_index ws (u + 2) → get_elem? hs' u ≡ get_elem? hs u
+  lies_else : (n t u : ℕ) (p : PackageView) → IsElse n t v w → u < n → u ≢ t → slice_index ws' (slot_word u) ≡ slice_index ws (slot_word u) → get_elem? hs' u ≡ get_elem? hs u
       → (o : maybe.Option ℕ) → Lies ws hs vs u p o → Lies ws' hs' (set vs id w) u p o
   lies_else n t u p e below ne word home none l = record {
     context = l.context;
@@ -59,7 +61,7 @@ module _ (ws ws' : List ℕ) (hs hs' : Homes) (vs : List Knows) (id : ℕ) (v w 
 
   pub moves : (n : ℕ) (places places' : List PackageView) (t : ℕ) (to : maybe.Option ℕ) (pl : ArePlaced n places ws hs vs)
       → (pl.holder t ≡ none) ⊎ (pl.holder t ≡ some id)
-      → ((u : ℕ) → u ≢ t → slice_index ws' (u + 2) ≡ slice_index ws (u + 2))
+      → ((u : ℕ) → u ≢ t → slice_index ws' (slot_word u) ≡ slice_index ws (slot_word u))
       → ((u : ℕ) → u ≢ t → get_elem? hs' u ≡ get_elem? hs u)
       → ((u : ℕ) → u ≢ t → get_elem? places' u ≡ get_elem? places u)
       → length places ≡ n → IsElse n t v w
@@ -86,7 +88,7 @@ module _ (ws ws' : List ℕ) (hs hs' : Homes) (vs : List Knows) (id : ℕ) (v w 
   }
 
   -- a step that moves no package
-  pub stays : (n : ℕ) (places : List PackageView) (pl : ArePlaced n places ws hs vs) → length places ≡ n → ((u : ℕ) → u < n → slice_index ws' (u + 2) ≡ slice_index ws (u + 2)) → ((u : ℕ) → u < n → get_elem? hs' u ≡ get_elem? hs u)
+  pub stays : (n : ℕ) (places : List PackageView) (pl : ArePlaced n places ws hs vs) → length places ≡ n → ((u : ℕ) → u < n → slice_index ws' (slot_word u) ≡ slice_index ws (slot_word u)) → ((u : ℕ) → u < n → get_elem? hs' u ≡ get_elem? hs u)
       → w.worker ≡ v.worker → w.spent ≡ v.spent → w.packages ≡ v.packages → ((u : ℕ) → u < n → v.hand ≡ Some u → w.hand ≡ Some u) → ((u : ℕ) → u < n → w.hand ≡ Some u → v.hand ≡ Some u) → ArePlaced n places ws' hs' (set vs id w)
   stays n places pl count words homes worker spent out hand back = record {
     holder = pl.holder;

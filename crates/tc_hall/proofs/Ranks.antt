@@ -1,5 +1,5 @@
 -- What stays true of the passes when one of them has a new view.
-use Rattle.std.proofs.Common.{◌≡◌, ◌≢◌, ◌⊎◌, ℕ, ◌+◌, ◌<◌, Bool, true, false, not, List, length, set, sym, refl, ap, ◌∙◌, subst, ⊎_elim, inl, slice_index, get_or-set_other}
+use Rattle.std.proofs.Common.{◌≡◌, ◌≢◌, ◌⊎◌, ℕ, ◌<◌, Bool, true, false, not, List, length, set, sym, refl, ap, ◌∙◌, subst, ⊎_elim, inl, slice_index, get_or-set_other}
 use mathlib.Core.Logic.{dite}
 use mathlib.Core.Option.{some, some-injective}
 use native.Mathlib.Decide.{ℕ_discrete}
@@ -9,6 +9,8 @@ use Rattle.tc_elf.specs.Shown.{Shown}
 use Rattle.tc_journal.specs.declared.block.Block.{Block}
 use Rattle.tc_context.specs.View.{PackageView, fits_of}
 use Rattle.tc_mutex_spec.proofs.ListLaws.{there}
+use Rattle.tc_hall.specs.declared.board.TheConstants.{STOP}
+use Rattle.tc_hall.specs.Places.{slot_word}
 use Rattle.tc_hall.specs.declared.board.Knows.{Knows}
 use Rattle.tc_hall.specs.declared.board.Call.{Call}
 use Rattle.tc_hall.specs.declared.board.Call.TheVariants.{Look, Stop, Stopped, Put, Free}
@@ -54,21 +56,21 @@ module _ (vs : List Knows) (id : ℕ) (v w : Knows) (at : get_elem? vs id ≡ so
 abbrev pub IsTrueCall : List ℕ → Call → Type 0
 IsTrueCall ws (Put t place numbers given) = Unit {0}
 IsTrueCall ws (Free i) = Unit {0}
-IsTrueCall ws (Look t found) = found ≡ 2 → slice_index ws (t + 2) ≡ 2
-IsTrueCall ws Stop = slice_index ws 1 ≡ 1
-IsTrueCall ws (Stopped found) = found ≡ 1 → slice_index ws 1 ≡ 1
+IsTrueCall ws (Look t found) = found ≡ 2 → slice_index ws (slot_word t) ≡ 2
+IsTrueCall ws Stop = slice_index ws STOP ≡ 1
+IsTrueCall ws (Stopped found) = found ≡ 1 → slice_index ws STOP ≡ 1
 
 -- the pass of the same worker, in the same hall, which says of as many threads whether their packages fitted
 abbrev pub IsSameSeat : Knows → Knows → Type 0
 IsSameSeat v w = (w.worker ≡ v.worker) × (w.spent ≡ v.spent) × (w.image ≡ v.image) × (length w.misfits ≡ length v.misfits)
 
 module _ (image : Shown) (workers : ℕ) (h h' : List Block) (ws ws' : List ℕ) (grows : (b : Block) → get_elem? h b.stamp ≡ some b → get_elem? h' b.stamp ≡ some b)
-    (done : (t : ℕ) → slice_index ws (t + 2) ≡ 2 → slice_index ws' (t + 2) ≡ 2) (stops : slice_index ws 1 ≡ 1 → slice_index ws' 1 ≡ 1) where
+    (done : (t : ℕ) → slice_index ws (slot_word t) ≡ 2 → slice_index ws' (slot_word t) ≡ 2) (stops : slice_index ws STOP ≡ 1 → slice_index ws' STOP ≡ 1) where
   pub pass_kept : (v w : Knows) → IsPass image workers h ws v → IsSameSeat v w
       → ((i u : ℕ) → get_elem? w.joined i ≡ some u → (get_elem? v.joined i ≡ some u) ⊎ (u < workers))
       → ((i : ℕ) (b : Block) → get_elem? w.sealed i ≡ some b → (get_elem? v.sealed i ≡ some b) ⊎ (get_elem? h' b.stamp ≡ some b))
       → ((i : ℕ) (c : Call) → get_elem? w.calls i ≡ some c → (get_elem? v.calls i ≡ some c) ⊎ IsTrueCall ws' c)
-      → ((t : ℕ) → get_elem? w.misfits t ≡ some true → (get_elem? v.misfits t ≡ some true) ⊎ (slice_index ws' 1 ≡ 1))
+      → ((t : ℕ) → get_elem? w.misfits t ≡ some true → (get_elem? v.misfits t ≡ some true) ⊎ (slice_index ws' STOP ≡ 1))
       → IsPass image workers h' ws' w
   pass_kept v w old worker joined sealed calls misfits = record {
     of = λ live. worker.2 ∙ old.of (sym worker.1 ∙ live);
@@ -97,14 +99,14 @@ module _ (image : Shown) (workers : ℕ) (h h' : List Block) (ws ws' : List ℕ)
       (at_set vs id j w x is)
 
 -- a word that isn't 2 changes
-pub done_still : (ws : List ℕ) (j new : ℕ) → slice_index ws j ≢ 2 → (u : ℕ) → slice_index ws (u + 2) ≡ 2 → slice_index (set ws j new) (u + 2) ≡ 2
-done_still ws j new ne u e = get_or-set_other ws j (u + 2) new 0 (λ (z : u + 2 ≡ j). ne (ap (λ (x : ℕ). slice_index ws x) (sym z) ∙ e)) ∙ e
+pub done_still : (ws : List ℕ) (j new : ℕ) → slice_index ws j ≢ 2 → (u : ℕ) → slice_index ws (slot_word u) ≡ 2 → slice_index (set ws j new) (slot_word u) ≡ 2
+done_still ws j new ne u e = get_or-set_other ws j (slot_word u) new 0 (λ (z : slot_word u ≡ j). ne (ap (λ (x : ℕ). slice_index ws x) (sym z) ∙ e)) ∙ e
 
-pub stops_still : (ws : List ℕ) (j new : ℕ) → j ≢ 1 → slice_index ws 1 ≡ 1 → slice_index (set ws j new) 1 ≡ 1
-stops_still ws j new ne e = get_or-set_other ws j 1 new 0 (λ z. ne (sym z)) ∙ e
+pub stops_still : (ws : List ℕ) (j new : ℕ) → j ≢ STOP → slice_index ws STOP ≡ 1 → slice_index (set ws j new) STOP ≡ 1
+stops_still ws j new ne e = get_or-set_other ws j STOP new 0 (λ z. ne (sym z)) ∙ e
 
-pub stops_back : (ws : List ℕ) (j new : ℕ) → j ≢ 1 → slice_index (set ws j new) 1 ≡ 1 → slice_index ws 1 ≡ 1
-stops_back ws j new ne e = sym (get_or-set_other ws j 1 new 0 (λ z. ne (sym z))) ∙ e
+pub stops_back : (ws : List ℕ) (j new : ℕ) → j ≢ STOP → slice_index (set ws j new) STOP ≡ 1 → slice_index ws STOP ≡ 1
+stops_back ws j new ne e = sym (get_or-set_other ws j STOP new 0 (λ z. ne (sym z))) ∙ e
 
 -- a package that doesn't fit comes only after a stop
 pub misfit_stop : (word : ℕ) (q : PackageView) (w : ℕ) → FitsAll word q → not (fits_of q w) ≡ true → word ≡ 1

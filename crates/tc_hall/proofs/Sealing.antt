@@ -23,6 +23,8 @@ use Rattle.tc_mutex_spec.proofs.Histories.{stamp_at}
 use Rattle.tc_context.proofs.Moved.{some_map}
 use Rattle.tc_context.proofs.Staging.{some_of}
 use Rattle.tc_context.proofs.Running.{sealed_at}
+use Rattle.tc_hall.specs.declared.board.TheConstants.{CLOCK}
+use Rattle.tc_hall.specs.Places.{slot_word}
 use Rattle.tc_hall.specs.declared.board.Knows.{Knows}
 use Rattle.tc_hall.specs.declared.board.Terms.{Terms}
 use Rattle.tc_hall.specs.Rule.{locked_in, threads, locks, IsPass, KeptHall}
@@ -62,7 +64,7 @@ filter_has {A} f (c ∷ cs) i b e = by (f c) (λ j h. filter_has f cs j b h) i e
 
 module _ (k : Terms) (s : St k) (r : KeptHall k s) (id : ℕ) (v : Knows) (q : PackageView) (a : Seals v q) (live : v.spent ≡ false) (at : get_elem? s.views id ≡ some v) where
   abbrev stamp : ℕ
-  stamp = slice_index s.words 0
+  stamp = slice_index s.words CLOCK
 
   abbrev b : Block
   b = sealed_block stamp v.worker a.ran.block
@@ -76,7 +78,7 @@ module _ (k : Terms) (s : St k) (r : KeptHall k s) (id : ℕ) (v : Knows) (q : P
   abbrev h : List Block
   h = r.told.history
 
-  o : (t < threads k) × (r.placed.holder t ≡ some id) × (get_elem? r.told.places t ≡ some (bare a.before)) × (slice_index s.words (t + 2) ≡ 512 + v.worker) × (v.hand ≢ Some t → get_elem? s.homes t ≡ some (some None)) × (v.hand ≡ Some t → get_elem? s.homes t ≡ some none)
+  o : (t < threads k) × (r.placed.holder t ≡ some id) × (get_elem? r.told.places t ≡ some (bare a.before)) × (slice_index s.words (slot_word t) ≡ 512 + v.worker) × (v.hand ≢ Some t → get_elem? s.homes t ≡ some (some None)) × (v.hand ≡ Some t → get_elem? s.homes t ≡ some none)
   o = is_out k s r id t v (bare a.before) at a.has
 
   abbrev w : Knows
@@ -96,19 +98,19 @@ module _ (k : Terms) (s : St k) (r : KeptHall k s) (id : ℕ) (v : Knows) (q : P
       law_after k.image.value v.image k.fuel k.limit h r.told.places r.told.segments a.before q stamp v.worker (old.of live) (record { threads = r.told.limits.threads; turns = r.told.limits.fuel }) r.told.law o.2 mine a.ran r.clock
       (let x = old.worker in let y = r.told.limits.workers.1 in omega (arith, x, y)) (a.allows a.ran.block a.ran.pending)
 
-  pub seals_kept : KeptHall k (stepped s 0 ((stamp + 1) % 18446744073709551616) id [] w keeps)
+  pub seals_kept : KeptHall k (stepped s CLOCK ((stamp + 1) % 18446744073709551616) id [] w keeps)
   seals_kept =
       let new : ℕ = (stamp + 1) % 18446744073709551616 in
       let wide : length v.packages ≡ threads k = r.placed.sized id v at live in
       let below = o.0 in
       let here : get_elem? w.packages t ≡ some (Some (bare now)) = set_here v.packages t (Some (bare now)) (omega (arith, wide, below)) in
       let place : get_elem? (set r.told.places t (bare now)) t ≡ some (bare now) = set_here r.told.places t (bare now) (omega (arith, r.told.law.all_packages, below)) in
-      let words' : (u : ℕ) → slice_index (set s.words 0 new) (u + 2) ≡ slice_index s.words (u + 2) = λ u. get_or-set_other s.words 0 (u + 2) new 0 (λ e. omega arith) in
+      let words' : (u : ℕ) → slice_index (set s.words CLOCK new) (slot_word u) ≡ slice_index s.words (slot_word u) = λ u. get_or-set_other s.words CLOCK (slot_word u) new 0 (λ e. omega arith) in
       let most : threads k * (k.fuel + 1) ≤ MAX_THREADS * 65537 = mul-le (threads k) (k.fuel + 1) MAX_THREADS 65537 r.told.limits.threads (omega (arith, r.told.limits.fuel)) in
       let count : length (h ++ b ∷ []) ≡ length h + 1 = length-append h (b ∷ []) in
       let bound = law.bound in let clock = r.clock in
-      let done : (u : ℕ) → slice_index s.words (u + 2) ≡ 2 → slice_index (set s.words 0 new) (u + 2) ≡ 2 = λ u e. words' u ∙ e in
-      let stops = stops_still s.words 0 new (λ e. omega arith) in
+      let done : (u : ℕ) → slice_index s.words (slot_word u) ≡ 2 → slice_index (set s.words CLOCK new) (slot_word u) ≡ 2 = λ u e. words' u ∙ e in
+      let stops = stops_still s.words CLOCK new (λ e. omega arith) in
       let grows : (c : Block) → get_elem? h c.stamp ≡ some c → get_elem? (h ++ b ∷ []) c.stamp ≡ some c = λ c e. at_longer h (b ∷ []) c.stamp c e in
       record {
         told = record {
@@ -120,10 +122,10 @@ module _ (k : Terms) (s : St k) (r : KeptHall k s) (id : ℕ) (v : Knows) (q : P
           strict = strict_states v.image r.told.places r.told.segments a.before q (record { place = ap (get_elem? r.told.places) (sym a.ran.runs.keeps.thread) ∙ o.2; locks = mine }) a.ran stamp v.worker r.told.strict;
           workers = λ i c e. ⊎_elim (λ (z : get_elem? h i ≡ some c). r.told.workers i c z) (λ (z : (i ≡ length h) × (b ≡ c)). subst (λ (x : Block). x.worker < k.workers) z.1 old.worker) (snoc_at h b c i e);
         };
-        words = length-set s.words 0 new ∙ r.words;
+        words = length-set s.words CLOCK new ∙ r.words;
         slots = r.slots;
-        clock = get_or-set_same s.words 0 new 0 (omega (arith, r.words)) ∙ (let m : new ≡ length (h ++ b ∷ []) = omega (arith, bound, clock, most, count) in m);
-        placed = moves s.words (set s.words 0 new) s.homes s.homes s.views id v w at stops (threads k) r.told.places (set r.told.places t (bare now)) t (some id) r.placed (inr o.1)
+        clock = get_or-set_same s.words CLOCK new 0 (omega (arith, r.words)) ∙ (let m : new ≡ length (h ++ b ∷ []) = omega (arith, bound, clock, most, count) in m);
+        placed = moves s.words (set s.words CLOCK new) s.homes s.homes s.views id v w at stops (threads k) r.told.places (set r.told.places t (bare now)) t (some id) r.placed (inr o.1)
             (λ u ne. words' u) (λ u ne. refl) (λ u ne. set_else r.told.places t u (bare now) ne) r.told.law.all_packages
             record { worker = refl; spent = refl; long = length-set v.packages t (Some (bare now)); out = λ u ne. set_else v.packages t u (Some (bare now)) ne; hand = λ u _ ne e. e; hand_back = λ u _ ne e. e }
             (λ p' e. record {
@@ -135,13 +137,13 @@ module _ (k : Terms) (s : St k) (r : KeptHall k s) (id : ℕ) (v : Knows) (q : P
               held = o.5;
             })
             (λ p' has'. (refl, place ∙ ap (λ (z : PackageView). some z) (same_at (get_elem? w.packages t) (bare now) p' here has')));
-        locks_placed = seals_locks (threads k) (locks k) r.told.segments s.words (set s.words 0 new) s.homes s.views id v w now r.locks_placed r.told.law.all_states at live refl refl
-            (λ i. get_or-set_other s.words 0 (threads k + 2 + i) new 0 (λ e. omega arith)) a.before came_here a.locks refl;
-        passes = passes_stay k.image.value k.workers h (h ++ b ∷ []) s.words (set s.words 0 new) grows done stops s.views id w r.passes
-            (pass_kept k.image.value k.workers h (h ++ b ∷ []) s.words (set s.words 0 new) grows done stops v w old (refl, refl, refl, refl) (λ i u e. inl e)
+        locks_placed = seals_locks (threads k) (locks k) r.told.segments s.words (set s.words CLOCK new) s.homes s.views id v w now r.locks_placed r.told.law.all_states at live refl refl
+            (λ i. get_or-set_other s.words CLOCK (slot_word (threads k + i)) new 0 (λ e. omega arith)) a.before came_here a.locks refl;
+        passes = passes_stay k.image.value k.workers h (h ++ b ∷ []) s.words (set s.words CLOCK new) grows done stops s.views id w r.passes
+            (pass_kept k.image.value k.workers h (h ++ b ∷ []) s.words (set s.words CLOCK new) grows done stops v w old (refl, refl, refl, refl) (λ i u e. inl e)
             (λ i c e. ⊎_elim (λ z. inl z) (λ (z : (i ≡ length v.sealed) × (b ≡ c)). inr (subst (λ (x : Block). get_elem? (h ++ b ∷ []) x.stamp ≡ some x) z.1 (at_last h b b.stamp (sym r.clock)))) (snoc_at v.sealed b c i e))
             (λ i c e. inl e) (λ u e. inl e));
-        stop = λ e. stop_stays s.views id v w at (λ i e. (i, e)) (r.stop (stops_back s.words 0 new (λ e. omega arith) e));
+        stop = λ e. stop_stays s.views id v w at (λ i e. (i, e)) (r.stop (stops_back s.words CLOCK new (λ e. omega arith) e));
         apart = apart_stays s.views id v w at record { worker = refl; maker = refl; made = refl; spent = refl; joined = refl } live r.apart;
       }
 

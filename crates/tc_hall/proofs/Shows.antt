@@ -21,7 +21,7 @@ use Rattle.tc_hall.specs.declared.place.Place.{Place}
 use Rattle.tc_hall.specs.declared.place.Place.TheVariants.{Ready, Waiting, Parked, Done}
 use Rattle.tc_hall.specs.declared.place.Origin.{Origin}
 use Rattle.tc_hall.specs.declared.place.Origin.TheVariants as origin
-use Rattle.tc_hall.specs.Places.{place_of, code_of, origin_code}
+use Rattle.tc_hall.specs.Places.{place_of, code_of, origin_code, slot_word}
 use Rattle.tc_hall.specs.Rule.{threads, locks, Homes, Has, HasLock, locked_in}
 use Rattle.tc_hall.specs.Steps.{after_claim, after_put, after_take, after_free, IsFree}
 use Rattle.tc_hall.specs.Effects.{Hall, after, claim_effect, put_effect, take_effect, free_effect}
@@ -112,11 +112,11 @@ emptied hs t u c h = ⊎_elim
     (λ (o : (u ≢ t) × (get_elem? hs u ≡ some (some (Some c)))). o) (at_set hs t u none (some (Some c)) h)
 
 module _ (k : Terms) (s : Hall) (id : ℕ) (v : Knows) (at : get_elem? s.views id ≡ some v) (o o' : Outline) (was : IsShown k s o) where
-  places_else : (word new t u : ℕ) → u < threads k → u ≢ t → word ≡ t + 2 → (o'.place u ≡ o.place u) → o'.place u ≡ place_shown (slice_index (set s.words word new) (u + 2))
-  places_else word new t u below ne is same = same ∙ (was.place u below ∙ ap place_shown (sym (get_or-set_other s.words word (u + 2) new 0 (λ z. ne (omega arith)))))
+  places_else : (word new t u : ℕ) → u < threads k → u ≢ t → word ≡ slot_word t → (o'.place u ≡ o.place u) → o'.place u ≡ place_shown (slice_index (set s.words word new) (slot_word u))
+  places_else word new t u below ne is same = same ∙ (was.place u below ∙ ap place_shown (sym (get_or-set_other s.words word (slot_word u) new 0 (λ z. ne (omega arith)))))
 
   -- ---- the package q of the thread t comes to the pass
-  module _ (t : ℕ) (q : PackageView) (below : t < threads k) (thread : q.context.thread ≡ t) (slot : get_elem? s.homes t ≡ some (some (Some (Package q)))) (long : t + 2 < length s.words)
+  module _ (t : ℕ) (q : PackageView) (below : t < threads k) (thread : q.context.thread ≡ t) (slot : get_elem? s.homes t ≡ some (some (Some (Package q)))) (long : slot_word t < length s.words)
       (has : Has (after_claim v q) t (bare q)) (has_locks : (i : ℕ) (l : LockView) → locked_in q i ≡ Some l → HasLock (after_claim v q) i (kept l))
       (moved : IsMoved o o' t (At v.worker)) (comes : (i : ℕ) → o.lies i ≡ packed t → o'.lies i ≡ in_hand v.worker) (stays : (i : ℕ) → o.lies i ≢ packed t → o'.lies i ≡ o.lies i) where
     abbrev w : Knows
@@ -125,10 +125,10 @@ module _ (k : Terms) (s : Hall) (id : ℕ) (v : Knows) (at : get_elem? s.views i
     abbrev s' : Hall
     s' = after s id (claim_effect v t q)
 
-    claim_place : (u : ℕ) → u < threads k → o'.place u ≡ place_shown (slice_index s'.words (u + 2))
+    claim_place : (u : ℕ) → u < threads k → o'.place u ≡ place_shown (slice_index s'.words (slot_word u))
     claim_place u b = dite (ℕ_discrete u t)
-        (λ (is : u ≡ t). subst (λ (z : ℕ). o'.place z ≡ place_shown (slice_index s'.words (z + 2))) (sym is) (moved.here ∙ (sym (shown_at v.worker) ∙ ap place_shown (sym (get_or-set_same s.words (t + 2) (512 + v.worker) 0 long)))))
-        (λ (ne : u ≢ t). places_else (t + 2) (512 + v.worker) t u b ne refl (moved.others u ne))
+        (λ (is : u ≡ t). subst (λ (z : ℕ). o'.place z ≡ place_shown (slice_index s'.words (slot_word z))) (sym is) (moved.here ∙ (sym (shown_at v.worker) ∙ ap place_shown (sym (get_or-set_same s.words (slot_word t) (512 + v.worker) 0 long)))))
+        (λ (ne : u ≢ t). places_else (slot_word t) (512 + v.worker) t u b ne refl (moved.others u ne))
 
     claim_thread : (u : ℕ) (p : PackageView) → u < threads k → PackageAt s' u p → ShowsThread o u p
     claim_thread u p b (in_slot h) = was.thread u p b (in_slot (emptied s.homes t u (Package p) h).1)
@@ -164,7 +164,7 @@ module _ (k : Terms) (s : Hall) (id : ℕ) (v : Knows) (at : get_elem? s.views i
     claim_shown = record { place = claim_place; thread = λ u p b a. shows_thread o o' moved.alike u p (claim_thread u p b a); lock = claim_lock }
 
   -- ---- the package q goes home
-  module _ (q : PackageView) (place : Place) (below : q.context.thread < threads k) (low : code_of place < 512) (long : q.context.thread + 2 < length s.words) (has : Has v q.context.thread (bare q))
+  module _ (q : PackageView) (place : Place) (below : q.context.thread < threads k) (low : code_of place < 512) (long : slot_word q.context.thread < length s.words) (has : Has v q.context.thread (bare q))
       (has_locks : (i : ℕ) (l : LockView) → locked_in q i ≡ Some l → HasLock v i (kept l)) (apart : (j i : ℕ) (x : Knows) (l : LockView) → j ≢ id → get_elem? s.views j ≡ some x → HasLock x i l → locked_in q i ≡ None)
       (moved : IsMoved o o' q.context.thread (as_place place)) (goes : (i : ℕ) (l : LockView) → i < locks k → locked_in q i ≡ Some l → o'.lies i ≡ packed q.context.thread) (stays : (i : ℕ) → i < locks k → locked_in q i ≡ None → o'.lies i ≡ o.lies i) where
     abbrev put_view : Knows
@@ -173,10 +173,10 @@ module _ (k : Terms) (s : Hall) (id : ℕ) (v : Knows) (at : get_elem? s.views i
     abbrev put_hall : Hall
     put_hall = after s id (put_effect v q place)
 
-    put_place : (u : ℕ) → u < threads k → o'.place u ≡ place_shown (slice_index put_hall.words (u + 2))
+    put_place : (u : ℕ) → u < threads k → o'.place u ≡ place_shown (slice_index put_hall.words (slot_word u))
     put_place u b = dite (ℕ_discrete u q.context.thread)
-        (λ (is : u ≡ q.context.thread). subst (λ (z : ℕ). o'.place z ≡ place_shown (slice_index put_hall.words (z + 2))) (sym is) (moved.here ∙ (sym (shown_code place low) ∙ ap place_shown (sym (get_or-set_same s.words (q.context.thread + 2) (code_of place) 0 long)))))
-        (λ (ne : u ≢ q.context.thread). places_else (q.context.thread + 2) (code_of place) q.context.thread u b ne refl (moved.others u ne))
+        (λ (is : u ≡ q.context.thread). subst (λ (z : ℕ). o'.place z ≡ place_shown (slice_index put_hall.words (slot_word z))) (sym is) (moved.here ∙ (sym (shown_code place low) ∙ ap place_shown (sym (get_or-set_same s.words (slot_word q.context.thread) (code_of place) 0 long)))))
+        (λ (ne : u ≢ q.context.thread). places_else (slot_word q.context.thread) (code_of place) q.context.thread u b ne refl (moved.others u ne))
 
     put_package : (p : PackageView) → some (Some (Package q)) ≡ some (Some (Package p)) → q ≡ p
     put_package p e = same_package (some (some (Some (Package p)))) q p (ap (λ (z : maybe.Option (Option Cargo)). some z) (sym e)) refl
@@ -255,7 +255,7 @@ module _ (k : Terms) (s : Hall) (id : ℕ) (v : Knows) (at : get_elem? s.views i
 
     pub take_shown : IsShown k take_hall o'
     take_shown = record {
-      place = λ u b. place u ∙ (was.place u b ∙ ap place_shown (sym (get_or-set_other s.words (threads k + 2 + i) (u + 2) 1 0 (λ z. omega arith))));
+      place = λ u b. place u ∙ (was.place u b ∙ ap place_shown (sym (get_or-set_other s.words (slot_word (threads k + i)) (slot_word u) 1 0 (λ z. omega arith))));
       thread = λ u p b a. shows_thread o o' alike u p (take_thread u p b a);
       lock = take_lock;
     }
@@ -308,7 +308,7 @@ module _ (k : Terms) (s : Hall) (id : ℕ) (v : Knows) (at : get_elem? s.views i
 
     pub free_shown : IsShown k free_hall o'
     free_shown = record {
-      place = λ u b. place u ∙ (was.place u b ∙ ap place_shown (sym (get_or-set_other s.words (threads k + 2 + l.number) (u + 2) 0 0 (λ z. omega arith))));
+      place = λ u b. place u ∙ (was.place u b ∙ ap place_shown (sym (get_or-set_other s.words (slot_word (threads k + l.number)) (slot_word u) 0 0 (λ z. omega arith))));
       thread = λ u p b a. shows_thread o o' alike u p (free_thread u p b a);
       lock = free_lock;
     }
@@ -322,7 +322,7 @@ pub record HadOut (vs vs' : List Knows) : Type 0 where
 abbrev pub Empties : Homes → Homes → Type 0
 Empties hs hs' = (u : ℕ) (x : Cargo) → get_elem? hs' u ≡ some (some (Some x)) → get_elem? hs u ≡ some (some (Some x))
 
-module _ (k : Terms) (ws ws' : List ℕ) (hs hs' : Homes) (vs vs' : List Knows) (words : (u : ℕ) → slice_index ws' (u + 2) ≡ slice_index ws (u + 2)) (lay : Empties hs hs') (had : HadOut vs vs') (o : Outline) (was : IsShown k record { words = ws; homes = hs; views = vs } o) where
+module _ (k : Terms) (ws ws' : List ℕ) (hs hs' : Homes) (vs vs' : List Knows) (words : (u : ℕ) → slice_index ws' (slot_word u) ≡ slice_index ws (slot_word u)) (lay : Empties hs hs') (had : HadOut vs vs') (o : Outline) (was : IsShown k record { words = ws; homes = hs; views = vs } o) where
   still_thread : (u : ℕ) (p : PackageView) → u < threads k → PackageAt record { words = ws'; homes = hs'; views = vs' } u p → ShowsThread o u p
   still_thread u p b (in_slot h) = was.thread u p b (in_slot (lay u (Package p) h))
   still_thread u p b (with_pass j x h has) = let z = had.packages j u x p h has in was.thread u p b (with_pass z.0 z.1 z.2 z.3)

@@ -10,13 +10,14 @@ use Rattle.tc_segment.specs.View.{LockView, kept, sealed_block}
 use Rattle.tc_context.specs.View.{PackageView, with_seal}
 use Rattle.tc_law.specs.Lawful.{IsPackageAfter, IsStateAfter}
 use Rattle.tc_mutex_spec.proofs.ListLaws.{at_place}
+use Rattle.tc_hall.specs.declared.board.TheConstants.{CLOCK, STOP}
 use Rattle.tc_hall.specs.declared.place.Place.{Place}
 use Rattle.tc_hall.specs.declared.board.Knows.{Knows}
 use Rattle.tc_hall.specs.declared.board.Terms.{Terms}
 use Rattle.tc_hall.specs.declared.board.Call.TheVariants.{Look, Stop, Stopped}
 use Rattle.tc_hall.specs.declared.board.Cargo.{Cargo}
 use Rattle.tc_hall.specs.declared.board.Cargo.TheVariants.{Package, Lock}
-use Rattle.tc_hall.specs.Places.{code_of, place_of, IsInRange}
+use Rattle.tc_hall.specs.Places.{code_of, place_of, IsInRange, slot_word}
 use Rattle.tc_hall.specs.Rule.{threads, locks, HasLock, KeptHall}
 use Rattle.tc_hall.specs.Steps.{Sat, Got, Took, MayPut, MayFree, Seals, DidSeal, IsAsLeft, IsStateAsLeft, IsFree, claimed, laid, reached, took_as, put_as, did_free, looked, stopping, saw_stopped, sealed_as, after_claim, after_take, after_put, after_free, after_miss, after_seal, with_call, dealt, fresh, merged, gone}
 use Rattle.tc_hall.specs.Order.{claim, take, miss, commit, put, free, look, stop, stopped, reach, lay, split, join, IsClaimable, of_package, of_lock, IsOrdered, IsSlotOut}
@@ -38,15 +39,15 @@ module _ (k : Terms) where
   -- ---- claim, and the slot of a package
 
   abbrev pub Claims : Option Terms → ℕ → ℕ → ℕ → ℕ → ℕ → Knows → List (ℕ × Option Cargo) → Type 0
-  Claims o slots id t code new v c = Allows (IsOrdered k) slots id (v, c) (t + 2) (λ x. either (x == code) new x) (claimed o (step slots (t + 2) code new none) (v, c))
+  Claims o slots id word code new v c = Allows (IsOrdered k) slots id (v, c) word (λ x. either (x == code) new x) (claimed o (step slots word code new none) (v, c))
 
-  pub claims : (slots id t code new : ℕ) (v : Knows) (c : List (ℕ × Option Cargo)) → c ≡ [] → IsClaimable k code → new ≡ 512 + v.worker → t < threads k → v.spent ≡ false → v.hand ≡ None → Claims (Some k) slots id t code new v c
-  claims slots id t code new v c empty can new_is below live idle = subst (Claims (Some k) slots id t code new v) (sym empty) (λ s d deep at small.
+  pub claims : (slots id t code new : ℕ) (v : Knows) (c : List (ℕ × Option Cargo)) → c ≡ [] → IsClaimable k code → new ≡ 512 + v.worker → t < threads k → v.spent ≡ false → v.hand ≡ None → Claims (Some k) slots id (slot_word t) code new v c
+  claims slots id t code new v c empty can new_is below live idle = subst (Claims (Some k) slots id (slot_word t) code new v) (sym empty) (λ s d deep at small.
       let r : KeptHall k s = kept_of k s d in
       let low = (claimable_low k code r.told.limits.locks can).0 in
-      let found : ℕ = slice_index s.words (t + 2) in
+      let found : ℕ = slice_index s.words (slot_word t) in
       let place = at_place r.told.places t (omega (arith, r.told.law.all_packages)) in
-      let F : ℕ → Type 0 = λ x. (w : Knows) × (a : Act (Option Cargo)) × Valid s.homes [] a × IsOrdered k (stepped s (t + 2) x id [] w a) × claimed (Some k) (step slots (t + 2) code new none) (v, []) found (w, carried_after [] a) in
+      let F : ℕ → Type 0 = λ x. (w : Knows) × (a : Act (Option Cargo)) × Valid s.homes [] a × IsOrdered k (stepped s (slot_word t) x id [] w a) × claimed (Some k) (step slots (slot_word t) code new none) (v, []) found (w, carried_after [] a) in
       exchanged found code new F
       (λ hit. let lies = home_of s.words s.homes s.views t place.0 (r.placed.holder t) (r.placed.each t place.0 place.1) (omega arith) in
       let h = lies.1 in
@@ -55,7 +56,7 @@ module _ (k : Terms) where
         taken k v t h.context,
         takes t (Some (Package h.context)),
         h.slot,
-        subst (λ (z : ℕ). IsOrdered k (stepped s (t + 2) z id [] (taken k v t h.context) (takes t (Some (Package h.context))))) (sym new_is)
+        subst (λ (z : ℕ). IsOrdered k (stepped s (slot_word t) z id [] (taken k v t h.context) (takes t (Some (Package h.context))))) (sym new_is)
             (next k s d id v (claim t h.context) at live record { free = idle; below = below; word = subst (IsClaimable k) (sym hit) can; slot = h.slot }),
         (
           (λ _ u e. subst (λ (z : ℕ × ℕ). Got (Some k) z.1 z.0 (v, []) (taken k v t h.context, (t, Some (Package h.context)) ∷ [])) (λ i. ((let x : t ≡ u = omega arith in x) i, hit i)) (
@@ -68,25 +69,25 @@ module _ (k : Terms) where
           (λ miss. absurd (miss hit)),
         ),
       ))
-      (λ other. (after_miss v (t + 2) found, keeps, tt, next k s d id v (miss (t + 2) code found) at live (refl, other), ((λ hit _ _. absurd (other hit)), (λ _. refl)))))
+      (λ other. (after_miss v (slot_word t) found, keeps, tt, next k s d id v (miss (slot_word t) code found) at live (refl, other), ((λ hit _ _. absurd (other hit)), (λ _. refl)))))
 
   abbrev pub Lays : ℕ → ℕ → Knows → List (ℕ × Option Cargo) → Type 0
-  Lays slots id v c = Allows (IsOrdered k) slots id (v, c) 0 (λ n. n) (laid (step slots 0 0 0 none) (v, c))
+  Lays slots id v c = Allows (IsOrdered k) slots id (v, c) CLOCK (λ n. n) (laid (step slots CLOCK 0 0 none) (v, c))
 
   -- an empty slot of what the pass has out goes back
   pub lays : (slots id slot : ℕ) (v : Knows) (c : List (ℕ × Option Cargo)) → c ≡ (slot, None) ∷ [] → v.hand ≡ Some slot → v.spent ≡ false → IsSlotOut k v slot → Lays slots id v c
   lays slots id slot v c one hand live out' = subst (Lays slots id v) (sym one) (λ s d deep at small. (record v { hand = None }, gives, tt, next k s d id v (lay slot) at live (hand, out'), refl))
 
   abbrev pub Reaches : ℕ → ℕ → ℕ → Knows → List (ℕ × Option Cargo) → Type 0
-  Reaches slots id slot v c = Allows (IsOrdered k) slots id (v, c) (slot + 2) (λ n. n) (reached (step slots (slot + 2) 0 0 none) (v, c))
+  Reaches slots id word v c = Allows (IsOrdered k) slots id (v, c) word (λ n. n) (reached (step slots word 0 0 none) (v, c))
 
   slot_empty : (s : Hall) (r : KeptHall k s) (id : ℕ) (v : Knows) (slot : ℕ) → get_elem? s.views id ≡ some v → v.hand ≡ None → IsSlotOut k v slot → get_elem? s.homes slot ≡ some (some None)
   slot_empty s r id v slot at idle (of_package t p is has) = ap (get_elem? s.homes) is ∙ (is_out k s r id t v p at has).4 (λ e. clash v.hand t idle e)
   slot_empty s r id v slot at idle (of_lock i l is has) = ap (get_elem? s.homes) is ∙ (is_lock_out k s r id i v l at has).4 (λ e. clash v.hand (threads k + i) idle e)
 
   -- the pass takes an empty slot of what it has out
-  pub reaches : (slots id slot : ℕ) (v : Knows) (c : List (ℕ × Option Cargo)) → c ≡ [] → v.hand ≡ None → v.spent ≡ false → IsSlotOut k v slot → Reaches slots id slot v c
-  reaches slots id slot v c empty idle live out' = subst (Reaches slots id slot v) (sym empty) (λ s d deep at small. (
+  pub reaches : (slots id slot : ℕ) (v : Knows) (c : List (ℕ × Option Cargo)) → c ≡ [] → v.hand ≡ None → v.spent ≡ false → IsSlotOut k v slot → Reaches slots id (slot_word slot) v c
+  reaches slots id slot v c empty idle live out' = subst (Reaches slots id (slot_word slot) v) (sym empty) (λ s d deep at small. (
     record v { hand = Some slot },
     takes slot None,
     slot_empty s (kept_of k s d) id v slot at idle out',
@@ -97,19 +98,19 @@ module _ (k : Terms) where
   -- ---- put
 
   abbrev pub FillsAs : Option Terms → ℕ → ℕ → ℕ → ℕ → Knows → List (ℕ × Option Cargo) → Type 0
-  FillsAs o slots id t code v c = Allows (IsOrdered k) slots id (v, c) (t + 2) (λ _. code) (λ _. put_as o (step slots (t + 2) code 0 none) (v, c) code)
+  FillsAs o slots id word code v c = Allows (IsOrdered k) slots id (v, c) word (λ _. code) (λ _. put_as o (step slots word code 0 none) (v, c) code)
 
   abbrev pub Fills : ℕ → ℕ → ℕ → ℕ → Knows → List (ℕ × Option Cargo) → Type 0
   Fills = FillsAs (Some k)
 
   -- so the step that fills it is allowed
   pub fills : (slots id : ℕ) (place : Place) (v : Knows) (q : PackageView) (c : List (ℕ × Option Cargo)) → c ≡ (q.context.thread, Some (Package q)) ∷ [] → v.hand ≡ Some q.context.thread → v.spent ≡ false → IsInRange (locks k) place → MayPut place v q
-      → Fills slots id q.context.thread (code_of place) v c
-  fills slots id place v q c one hand live range may = subst (Fills slots id q.context.thread (code_of place) v) (sym one) (λ s d deep at small. (
+      → Fills slots id (slot_word q.context.thread) (code_of place) v c
+  fills slots id place v q c one hand live range may = subst (Fills slots id (slot_word q.context.thread) (code_of place) v) (sym one) (λ s d deep at small. (
     record (after_put v q (place_of (code_of place))) { hand = None },
     gives,
     tt,
-    subst (λ (z : Place). IsOrdered k (stepped s (q.context.thread + 2) (code_of place) id ((q.context.thread, Some (Package q)) ∷ []) (record (after_put v q z) { hand = None }) gives)) (sym (place_codes place))
+    subst (λ (z : Place). IsOrdered k (stepped s (slot_word q.context.thread) (code_of place) id ((q.context.thread, Some (Package q)) ∷ []) (record (after_put v q z) { hand = None }) gives)) (sym (place_codes place))
         (next k s d id v (put q place) at live record { hand = hand; range = range; may = may }),
     (λ u x e. let cargo : Some (Package q) ≡ Some (Package x) = ap first_value e in
         let same : q ≡ x = cc cargo in (
@@ -121,32 +122,32 @@ module _ (k : Terms) where
   -- ---- look, stop, stopped
 
   abbrev pub Looks : ℕ → ℕ → ℕ → Knows → List (ℕ × Option Cargo) → Type 0
-  Looks slots id t v c = Allows (IsOrdered k) slots id (v, c) (t + 2) (λ n. n) (looked (step slots (t + 2) 0 0 none) (v, c))
+  Looks slots id word v c = Allows (IsOrdered k) slots id (v, c) word (λ n. n) (looked (step slots word 0 0 none) (v, c))
 
-  pub looks : (slots id t : ℕ) (v : Knows) (c : List (ℕ × Option Cargo)) → c ≡ [] → t < threads k → v.spent ≡ false → Looks slots id t v c
-  looks slots id t v c empty below live = subst (Looks slots id t v) (sym empty) (λ s d deep at small. (
-    with_call v (Look t (slice_index s.words (t + 2))),
+  pub looks : (slots id t : ℕ) (v : Knows) (c : List (ℕ × Option Cargo)) → c ≡ [] → t < threads k → v.spent ≡ false → Looks slots id (slot_word t) v c
+  looks slots id t v c empty below live = subst (Looks slots id (slot_word t) v) (sym empty) (λ s d deep at small. (
+    with_call v (Look t (slice_index s.words (slot_word t))),
     keeps,
     tt,
-    next k s d id v (look t (slice_index s.words (t + 2))) at live (below, refl),
-    (λ u e. ap (λ (z : ℕ). (with_call v (Look z (slice_index s.words (t + 2))), [])) (let x : t ≡ u = omega arith in x)),
+    next k s d id v (look t (slice_index s.words (slot_word t))) at live (below, refl),
+    (λ u e. ap (λ (z : ℕ). (with_call v (Look z (slice_index s.words (slot_word t))), [])) (let x : t ≡ u = omega arith in x)),
   ))
 
   abbrev pub Stops : ℕ → ℕ → Knows → List (ℕ × Option Cargo) → Type 0
-  Stops slots id v c = Allows (IsOrdered k) slots id (v, c) 1 (λ _. 1) (λ _. stopping (step slots 1 1 0 none) (v, c) 1)
+  Stops slots id v c = Allows (IsOrdered k) slots id (v, c) STOP (λ _. 1) (λ _. stopping (step slots STOP 1 0 none) (v, c) 1)
 
   pub stops : (slots id : ℕ) (v : Knows) (c : List (ℕ × Option Cargo)) → c ≡ [] → v.spent ≡ false → Stops slots id v c
   stops slots id v c empty live = subst (Stops slots id v) (sym empty) (λ s d deep at small. (with_call v Stop, keeps, tt, next k s d id v stop at live tt, refl))
 
   abbrev pub Sees : ℕ → ℕ → Knows → List (ℕ × Option Cargo) → Type 0
-  Sees slots id v c = Allows (IsOrdered k) slots id (v, c) 1 (λ n. n) (saw_stopped (step slots 1 0 0 none) (v, c))
+  Sees slots id v c = Allows (IsOrdered k) slots id (v, c) STOP (λ n. n) (saw_stopped (step slots STOP 0 0 none) (v, c))
 
   pub sees : (slots id : ℕ) (v : Knows) (c : List (ℕ × Option Cargo)) → c ≡ [] → v.spent ≡ false → Sees slots id v c
   sees slots id v c empty live = subst (Sees slots id v) (sym empty) (λ s d deep at small. (
-    with_call v (Stopped (slice_index s.words 1)),
+    with_call v (Stopped (slice_index s.words STOP)),
     keeps,
     tt,
-    next k s d id v (stopped (slice_index s.words 1)) at live refl,
+    next k s d id v (stopped (slice_index s.words STOP)) at live refl,
     (refl, (λ t e. ((kept_of k s d).passes id v at).misfit t e)),
   ))
 
@@ -155,11 +156,11 @@ module _ (k : Terms) where
   abbrev pub TakesAll : Option Terms → ℕ → ℕ → Option ℕ → ℕ → Knows → List (ℕ × Option Cargo) → Type 0
   TakesAll p slots id o word v c = Allows (IsOrdered k) slots id (v, c) word (λ x. either (x == 0) 1 x) (took_as p o (step slots word 0 1 none) (v, c))
 
-  pub takes_lock : (slots id i : ℕ) (v : Knows) (c : List (ℕ × Option Cargo)) → c ≡ [] → i < locks k → v.spent ≡ false → v.hand ≡ None → TakesAll (Some k) slots id (Some i) (threads k + i + 2) v c
-  takes_lock slots id i v c empty below live idle = subst (λ (z : List (ℕ × Option Cargo) × ℕ). TakesAll (Some k) slots id (Some i) z.1 v z.0) (λ y. (sym empty y, (let x : threads k + 2 + i ≡ threads k + i + 2 = omega arith in x) y)) (λ s d deep at small.
+  pub takes_lock : (slots id i : ℕ) (v : Knows) (c : List (ℕ × Option Cargo)) → c ≡ [] → i < locks k → v.spent ≡ false → v.hand ≡ None → TakesAll (Some k) slots id (Some i) (slot_word (threads k + i)) v c
+  takes_lock slots id i v c empty below live idle = subst (TakesAll (Some k) slots id (Some i) (slot_word (threads k + i)) v) (sym empty) (λ s d deep at small.
       let r : KeptHall k s = kept_of k s d in
       let n : ℕ = threads k in
-      let j : ℕ = n + 2 + i in
+      let j : ℕ = slot_word (n + i) in
       let found : ℕ = slice_index s.words j in
       let place = at_place r.told.segments i (omega (arith, r.told.law.all_states)) in
       let F : ℕ → Type 0 = λ x. (w : Knows) × (a : Act (Option Cargo)) × Valid s.homes [] a × IsOrdered k (stepped s j x id [] w a) × took_as (Some k) (Some i) (step slots j 0 1 none) (v, []) found (w, carried_after [] a) in
@@ -206,8 +207,8 @@ module _ (k : Terms) where
 
   -- so the step that fills it is allowed
   pub frees : (slots id : ℕ) (v : Knows) (l : LockView) (c : List (ℕ × Option Cargo)) → c ≡ (threads k + l.number, Some (Lock l)) ∷ [] → v.hand ≡ Some (threads k + l.number) → v.spent ≡ false → MayFree v l
-      → FreesAll slots id (threads k + l.number + 2) v c
-  frees slots id v l c one hand live may = subst (λ (z : List (ℕ × Option Cargo) × ℕ). FreesAll slots id z.1 v z.0) (λ y. (sym one y, (let x : threads k + 2 + l.number ≡ threads k + l.number + 2 = omega arith in x) y)) (λ s d deep at small. (
+      → FreesAll slots id (slot_word (threads k + l.number)) v c
+  frees slots id v l c one hand live may = subst (FreesAll slots id (slot_word (threads k + l.number)) v) (sym one) (λ s d deep at small. (
     record (after_free v l) { hand = None },
     gives,
     tt,
@@ -229,13 +230,13 @@ module _ (k : Terms) where
 -- ---- commit
 
 abbrev pub SealsAll : Terms → ℕ → ℕ → Knows → Option PackageView → List (ℕ × Option Cargo) → Type 0
-SealsAll k slots id v o c = Allows (IsOrdered k) slots id (v, c) 0 (λ n. (n + 1) % 2 ^ 64) (sealed_as o (step slots 0 1 0 none) (v, c))
+SealsAll k slots id v o c = Allows (IsOrdered k) slots id (v, c) CLOCK (λ n. (n + 1) % 2 ^ 64) (sealed_as o (step slots CLOCK 1 0 none) (v, c))
 
 pub seals : (k : Terms) (slots id : ℕ) (v : Knows) (q : PackageView) (c : List (ℕ × Option Cargo)) → c ≡ [] → v.spent ≡ false → Seals v q → SealsAll k slots id v (Some q) c
 seals k slots id v q c empty live a = subst (SealsAll k slots id v (Some q)) (sym empty) (λ s d deep at small. (
-  after_seal v (sealed_block (slice_index s.words 0) v.worker a.ran.block) (with_seal (slice_index s.words 0) v.worker q),
+  after_seal v (sealed_block (slice_index s.words CLOCK) v.worker a.ran.block) (with_seal (slice_index s.words CLOCK) v.worker q),
   keeps,
   tt,
-  next k s d id v (commit (slice_index s.words 0) a.ran.block q) at live (refl, a, refl),
-  (λ p is. (let same : q ≡ p = cc is in subst (λ z. DidSeal z (slice_index s.words 0) v (after_seal v (sealed_block (slice_index s.words 0) v.worker a.ran.block) (with_seal (slice_index s.words 0) v.worker q))) same (did_seal k s (kept_of k s d) id v q a live at), refl)),
+  next k s d id v (commit (slice_index s.words CLOCK) a.ran.block q) at live (refl, a, refl),
+  (λ p is. (let same : q ≡ p = cc is in subst (λ z. DidSeal z (slice_index s.words CLOCK) v (after_seal v (sealed_block (slice_index s.words CLOCK) v.worker a.ran.block) (with_seal (slice_index s.words CLOCK) v.worker q))) same (did_seal k s (kept_of k s d) id v q a live at), refl)),
 ))

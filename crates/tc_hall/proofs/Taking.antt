@@ -11,6 +11,8 @@ use Rattle.tc_journal.specs.declared.block.Block.{Block}
 use Rattle.tc_segment.specs.View.{LockView, kept}
 use Rattle.tc_law.specs.Lawful.{IsStateAfter}
 use Rattle.tc_mutex_spec.proofs.ListLaws.{there, at_place}
+use Rattle.tc_hall.specs.declared.board.TheConstants.{CLOCK}
+use Rattle.tc_hall.specs.Places.{slot_word}
 use Rattle.tc_hall.specs.declared.board.Knows.{Knows}
 use Rattle.tc_hall.specs.declared.board.Terms.{Terms}
 use Rattle.tc_hall.specs.declared.board.Call.{Call}
@@ -26,7 +28,7 @@ use Rattle.tc_hall.proofs.Telling.{snoc_at}
 use Rattle.tc_hall.proofs.Moves.{St, some_same}
 use Rattle.tc_hall.proofs.Cases.{clash, same_some, clash_at, same_at, same_lock}
 
-pub lock_home_of : (n : ℕ) (ws : List ℕ) (hs : Homes) (vs : List Knows) (i : ℕ) (l : LockView) (s : Spot) → LiesLock n ws hs vs i l s → slice_index ws (n + 2 + i) ≡ 0 → (s ≡ home) × IsLockHome n ws hs i l
+pub lock_home_of : (n : ℕ) (ws : List ℕ) (hs : Homes) (vs : List Knows) (i : ℕ) (l : LockView) (s : Spot) → LiesLock n ws hs vs i l s → slice_index ws (slot_word (n + i)) ≡ 0 → (s ≡ home) × IsLockHome n ws hs i l
 lock_home_of n ws hs vs i l home o e = (refl, o)
 lock_home_of n ws hs vs i l (inside t) o e = let w = o.word in absurd (omega arith)
 lock_home_of n ws hs vs i l (out j) o e = let w = o.word in absurd (omega arith)
@@ -34,7 +36,7 @@ lock_home_of n ws hs vs i l (out j) o e = let w = o.word in absurd (omega arith)
 module _ (k : Terms) where
   -- where a lock that a pass has out lies
   pub is_lock_out : (s : St k) (r : KeptHall k s) (id i : ℕ) (v : Knows) (l : LockView) → get_elem? s.views id ≡ some v → HasLock v i l
-      → (i < locks k) × (r.locks_placed.spot i ≡ out id) × (get_elem? r.told.segments i ≡ some l) × (slice_index s.words (threads k + 2 + i) ≡ 1)
+      → (i < locks k) × (r.locks_placed.spot i ≡ out id) × (get_elem? r.told.segments i ≡ some l) × (slice_index s.words (slot_word (threads k + i)) ≡ 1)
       × (v.hand ≢ Some (threads k + i) → get_elem? s.homes (threads k + i) ≡ some (some None)) × (v.hand ≡ Some (threads k + i) → get_elem? s.homes (threads k + i) ≡ some none)
   is_lock_out s r id i v l at has =
       let o = r.locks_placed.owned id v i l at has in
@@ -57,7 +59,7 @@ module _ (k : Terms) where
     pub same : lies.segment ≡ l
     pub number : lies.segment.number ≡ i
 
-  pub lock_at_home : (s : St k) (r : KeptHall k s) (i : ℕ) (l : LockView) → i < locks k → slice_index s.words (threads k + 2 + i) ≡ 0 → get_elem? s.homes (threads k + i) ≡ some (some (Some (Lock l))) → LockAtHome s r i l
+  pub lock_at_home : (s : St k) (r : KeptHall k s) (i : ℕ) (l : LockView) → i < locks k → slice_index s.words (slot_word (threads k + i)) ≡ 0 → get_elem? s.homes (threads k + i) ≡ some (some (Some (Lock l))) → LockAtHome s r i l
   lock_at_home s r i l below word slot =
       let place = at_place r.told.segments i (omega (arith, r.told.law.all_states, below)) in
       let at_home = lock_home_of (threads k) s.words s.homes s.views i place.0 (r.locks_placed.spot i) (r.locks_placed.each i place.0 place.1) word in
@@ -75,16 +77,16 @@ module _ (k : Terms) where
   lock_step : (s : St k) (r : KeptHall k s) (id i word : ℕ) (v w : Knows) (a : maybe.Option (Option Cargo)) (to : Spot) → get_elem? s.views id ≡ some v → v.spent ≡ false → i < locks k
       → (r.locks_placed.spot i ≡ home) ⊎ (r.locks_placed.spot i ≡ out id)
       → IsElseLock (threads k) i v w → w.image ≡ v.image → w.worker ≡ v.worker → w.packages ≡ v.packages → w.maker ≡ v.maker → w.made ≡ v.made → w.joined ≡ v.joined → w.misfits ≡ v.misfits → w.sealed ≡ v.sealed
-      → ((j : ℕ) (c : Call) → get_elem? w.calls j ≡ some c → (get_elem? v.calls j ≡ some c) ⊎ IsTrueCall (set s.words (threads k + 2 + i) word) c)
+      → ((j : ℕ) (c : Call) → get_elem? w.calls j ≡ some c → (get_elem? v.calls j ≡ some c) ⊎ IsTrueCall (set s.words (slot_word (threads k + i)) word) c)
       → ((j : ℕ) → get_elem? v.calls j ≡ some Stop → (e : ℕ) × (get_elem? w.calls e ≡ some Stop))
       → ((u : ℕ) → u < threads k → v.hand ≢ Some u) → ((u : ℕ) → u < threads k → w.hand ≢ Some u)
-      → slice_index s.words (threads k + 2 + i) ≢ 2
-      → ((l : LockView) → get_elem? r.told.segments i ≡ some l → LiesLock (threads k) (set s.words (threads k + 2 + i) word) (set s.homes (threads k + i) a) (set s.views id w) i l to)
+      → slice_index s.words (slot_word (threads k + i)) ≢ 2
+      → ((l : LockView) → get_elem? r.told.segments i ≡ some l → LiesLock (threads k) (set s.words (slot_word (threads k + i)) word) (set s.homes (threads k + i) a) (set s.views id w) i l to)
       → ((l : LockView) → HasLock w i l → (to ≡ out id) × (get_elem? r.told.segments i ≡ some l))
-      → KeptHall k record { words = set s.words (threads k + 2 + i) word; homes = set s.homes (threads k + i) a; views = set s.views id w }
+      → KeptHall k record { words = set s.words (slot_word (threads k + i)) word; homes = set s.homes (threads k + i) a; views = set s.views id w }
   lock_step s r id i word v w a to at live below mine e image worker packages maker made' joined misfits sealed' calls shows hand hand' not_two now own =
       let n : ℕ = threads k in
-      let j : ℕ = n + 2 + i in
+      let j : ℕ = slot_word (n + i) in
       let ws' : List ℕ = set s.words j word in
       let done = done_still s.words j word not_two in
       let stops = stops_still s.words j word (λ e. omega arith) in
@@ -94,10 +96,10 @@ module _ (k : Terms) where
         slots = length-set s.homes (n + i) a ∙ r.slots;
         clock = get_or-set_other s.words j 0 word 0 (λ e. omega arith) ∙ r.clock;
         placed = stays s.words ws' s.homes (set s.homes (n + i) a) s.views id v w at stops n r.told.places r.placed r.told.law.all_packages
-            (λ u b. get_or-set_other s.words j (u + 2) word 0 (λ e. omega arith)) (λ u b. set_else s.homes (n + i) u a (λ e. omega arith)) worker e.spent packages
+            (λ u b. get_or-set_other s.words j (slot_word u) word 0 (λ e. omega arith)) (λ u b. set_else s.homes (n + i) u a (λ e. omega arith)) worker e.spent packages
             (λ u b h. absurd (hand u b h)) (λ u b h. absurd (hand' u b h));
         locks_placed = lock_moves n (locks k) r.told.segments s.words ws' s.homes (set s.homes (n + i) a) s.views id v w at i to r.locks_placed mine
-            (λ j' ne. get_or-set_other s.words j (n + 2 + j') word 0 (λ e. ne (omega arith))) (λ u ne. set_else s.homes (n + i) u a ne) e now own;
+            (λ j' ne. get_or-set_other s.words j (slot_word (n + j')) word 0 (λ e. ne (omega arith))) (λ u ne. set_else s.homes (n + i) u a ne) e now own;
         passes = passes_stay k.image.value k.workers r.told.history r.told.history s.words ws' (λ b e. e) done stops s.views id w r.passes
             (pass_kept k.image.value k.workers r.told.history r.told.history s.words ws' (λ b e. e) done stops v w old (worker, e.spent, image, ap length misfits) (λ i u h. inl (ap (λ (l : List ℕ). get_elem? l i) (sym joined) ∙ h))
             (λ i b h. inl (ap (λ (l : List Block). get_elem? l i) (sym sealed') ∙ h)) calls (λ t h. inl (ap (λ (l : List Bool). get_elem? l t) (sym misfits) ∙ h)));
@@ -106,12 +108,12 @@ module _ (k : Terms) where
       }
 
   -- the state of a lock that is home is taken
-  pub take_kept : (s : St k) (r : KeptHall k s) (id i : ℕ) (v : Knows) (p : LockView) (h : IsLockHome (threads k) s.words s.homes i p) → get_elem? s.views id ≡ some v → v.spent ≡ false → v.hand ≡ None → i < locks k → slice_index s.words (threads k + 2 + i) ≡ 0
+  pub take_kept : (s : St k) (r : KeptHall k s) (id i : ℕ) (v : Knows) (p : LockView) (h : IsLockHome (threads k) s.words s.homes i p) → get_elem? s.views id ≡ some v → v.spent ≡ false → v.hand ≡ None → i < locks k → slice_index s.words (slot_word (threads k + i)) ≡ 0
       → r.locks_placed.spot i ≡ home → get_elem? r.told.segments i ≡ some p → h.segment.number ≡ i
-      → KeptHall k (stepped s (threads k + 2 + i) 1 id [] (record (after_take v h.segment) { hand = Some (threads k + i) }) (takes (threads k + i) (Some (Lock h.segment))))
+      → KeptHall k (stepped s (slot_word (threads k + i)) 1 id [] (record (after_take v h.segment) { hand = Some (threads k + i) }) (takes (threads k + i) (Some (Lock h.segment))))
   take_kept s r id i v p h at live free below hit is_home segment number =
       let n : ℕ = threads k in
-      let j : ℕ = n + 2 + i in
+      let j : ℕ = slot_word (n + i) in
       let l : LockView = h.segment in
       let w : Knows = record (after_take v l) { hand = Some (n + i) } in
       let wide : length v.locks ≡ locks k = r.locks_placed.sized id v at live in
@@ -131,7 +133,7 @@ module _ (k : Terms) where
 
   -- the filled slot of a lock goes home
   pub free_kept : (s : St k) (r : KeptHall k s) (id : ℕ) (v : Knows) (l : LockView) → get_elem? s.views id ≡ some v → v.hand ≡ Some (threads k + l.number) → v.spent ≡ false → MayFree v l
-      → KeptHall k (stepped s (threads k + 2 + l.number) 0 id ((threads k + l.number, Some (Lock l)) ∷ []) (record (after_free v l) { hand = None }) gives)
+      → KeptHall k (stepped s (slot_word (threads k + l.number)) 0 id ((threads k + l.number, Some (Lock l)) ∷ []) (record (after_free v l) { hand = None }) gives)
   free_kept s r id v l at hand live may =
       let n : ℕ = threads k in
       let i : ℕ = l.number in
@@ -142,14 +144,14 @@ module _ (k : Terms) where
       lock_step s r id i 0 v w (some (Some (Lock l))) home at live o.0 (inr o.1)
       record { spent = refl; long = length-set v.locks i None; out = λ e ne. set_else v.locks i e None ne; hand = λ e ne h. absurd (ne (let z = same_some v.hand (n + i) (n + e) hand h in omega arith)); hand_back = λ e ne h. absurd (clash None (n + e) refl h) }
       refl refl refl refl refl refl refl refl
-      (λ e c h. ⊎_elim (λ z. inl z) (λ (z : (e ≡ length v.calls) × (Free i ≡ c)). inr (subst (IsTrueCall (set s.words (n + 2 + i) 0)) z.1 tt)) (snoc_at v.calls (Free i) c e h))
+      (λ e c h. ⊎_elim (λ z. inl z) (λ (z : (e ≡ length v.calls) × (Free i ≡ c)). inr (subst (IsTrueCall (set s.words (slot_word (n + i)) 0)) z.1 tt)) (snoc_at v.calls (Free i) c e h))
       (λ e h. (e, at_longer v.calls (Free i ∷ []) e Stop h))
       (λ u b h. let z = same_some v.hand (n + i) u hand h in omega arith) (λ u b h. clash None u refl h) (λ h. let z = o.3 in omega arith)
       (λ l' e. record {
         segment = l;
         slot = set_here s.homes (n + i) (some (Some (Lock l))) (let z = o.0 in omega (arith, r.slots));
         same = some-injective (kept l) l' (sym o.2 ∙ e);
-        word = get_or-set_same s.words (n + 2 + i) 0 0 (let z = o.0 in omega (arith, r.words));
+        word = get_or-set_same s.words (slot_word (n + i)) 0 0 (let z = o.0 in omega (arith, r.words));
         rests = may.rests;
       })
       (λ l' has. absurd (clash_at (get_elem? w.locks i) l' here has))
@@ -161,8 +163,8 @@ module _ (k : Terms) where
   lock_slot_moves s r id i v w l b at live has hands same =
       let n : ℕ = threads k in
       let o = is_lock_out s r id i v l at has in
-      let word : ℕ = slice_index s.words (n + 2 + i) in
-      let again : set s.words (n + 2 + i) word ≡ s.words = set-get_or s.words (n + 2 + i) 0 in
+      let word : ℕ = slice_index s.words (slot_word (n + i)) in
+      let again : set s.words (slot_word (n + i)) word ≡ s.words = set-get_or s.words (slot_word (n + i)) 0 in
       subst (λ (z : List ℕ). KeptHall k record { words = z; homes = set s.homes (n + i) b; views = set s.views id w }) again
       (lock_step s r id i word v w b (out id) at live o.0 (inr o.1)
       record { spent = ap (λ (z : Knows). z.spent) same; long = ap (λ (z : Knows). length z.locks) same; out = λ e ne. ap (λ (z : Knows). get_elem? z.locks e) same; hand = λ e ne h. absurd (to (n + e) (λ z. ne (omega arith)) h); hand_back = λ e ne h. absurd (back (n + e) (λ z. ne (omega arith)) h) }
@@ -173,7 +175,7 @@ module _ (k : Terms) where
         view = w;
         pass = set_here s.views id w (there s.views id v v at).0;
         has = ap (λ (z : Knows). get_elem? z.locks i) same ∙ (has ∙ ap (λ (z : LockView). some (Some z)) (some-injective l l' (sym o.2 ∙ e)));
-        word = ap (λ (z : List ℕ). slice_index z (n + 2 + i)) again ∙ o.3;
+        word = ap (λ (z : List ℕ). slice_index z (slot_word (n + i))) again ∙ o.3;
         empty = λ free. ⊎_elim (λ (z : (w.hand ≡ Some (n + i)) × (v.hand ≡ None) × (b ≡ none)). absurd (free z.0)) (λ (z : (w.hand ≡ None) × (v.hand ≡ Some (n + i)) × (b ≡ some None)). here z.2 o.0) hands;
         held = λ e. ⊎_elim (λ (z : (w.hand ≡ Some (n + i)) × (v.hand ≡ None) × (b ≡ none)). here z.2 o.0) (λ (z : (w.hand ≡ None) × (v.hand ≡ Some (n + i)) × (b ≡ some None)). absurd (clash w.hand (n + i) z.0 e)) hands;
       })
@@ -190,17 +192,17 @@ module _ (k : Terms) where
 
   -- the empty slot of a lock goes back
   pub lay_lock_kept : (s : St k) (r : KeptHall k s) (id i : ℕ) (v : Knows) (l : LockView) → get_elem? s.views id ≡ some v → v.spent ≡ false → v.hand ≡ Some (threads k + i) → HasLock v i l
-      → KeptHall k (stepped s 0 (slice_index s.words 0) id ((threads k + i, None) ∷ []) (record v { hand = None }) gives)
+      → KeptHall k (stepped s CLOCK (slice_index s.words CLOCK) id ((threads k + i, None) ∷ []) (record v { hand = None }) gives)
   lay_lock_kept s r id i v l at live hand has =
       let w : Knows = record v { hand = None } in
-      subst (λ (z : List ℕ). KeptHall k record { words = z; homes = set s.homes (threads k + i) (some None); views = set s.views id w }) (sym (set-get_or s.words 0 0))
+      subst (λ (z : List ℕ). KeptHall k record { words = z; homes = set s.homes (threads k + i) (some None); views = set s.views id w }) (sym (set-get_or s.words CLOCK 0))
       (lock_slot_moves s r id i v w l (some None) at live has (inr (refl, hand, refl)) refl)
 
   -- the pass takes the empty slot of a lock that it has out
   pub reach_lock_kept : (s : St k) (r : KeptHall k s) (id i : ℕ) (v : Knows) (l : LockView) → get_elem? s.views id ≡ some v → v.spent ≡ false → v.hand ≡ None → HasLock v i l
-      → KeptHall k (stepped s (threads k + i + 2) (slice_index s.words (threads k + i + 2)) id [] (record v { hand = Some (threads k + i) }) (takes (threads k + i) None))
+      → KeptHall k (stepped s (slot_word (threads k + i)) (slice_index s.words (slot_word (threads k + i))) id [] (record v { hand = Some (threads k + i) }) (takes (threads k + i) None))
   reach_lock_kept s r id i v l at live free has =
       let slot : ℕ = threads k + i in
       let w : Knows = record v { hand = Some slot } in
-      subst (λ (z : List ℕ). KeptHall k record { words = z; homes = set s.homes slot none; views = set s.views id w }) (sym (set-get_or s.words (slot + 2) 0))
+      subst (λ (z : List ℕ). KeptHall k record { words = z; homes = set s.homes slot none; views = set s.views id w }) (sym (set-get_or s.words (slot_word slot) 0))
       (lock_slot_moves s r id i v w l none at live has (inl (refl, free, refl)) refl)

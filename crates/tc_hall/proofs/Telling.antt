@@ -13,6 +13,7 @@ use Rattle.tc_context.specs.declared.package.Grant.{Grant}
 use Rattle.tc_context.specs.Locks.{lock_in}
 use Rattle.tc_context.specs.View.{PackageView, bare, fits_of, fits_granted, fits_in}
 use Rattle.tc_mutex_spec.proofs.ListLaws.{there}
+use Rattle.tc_hall.specs.declared.board.TheConstants.{CLOCK, STOP}
 use Rattle.tc_hall.specs.declared.place.Place.{Place}
 use Rattle.tc_hall.specs.declared.board.Knows.{Knows}
 use Rattle.tc_hall.specs.declared.board.Terms.{Terms}
@@ -20,7 +21,7 @@ use Rattle.tc_hall.specs.declared.board.Call.{Call}
 use Rattle.tc_hall.specs.declared.board.Call.TheVariants.{Put, Look, Stop, Stopped}
 use Rattle.tc_hall.specs.declared.board.Cargo.{Cargo}
 use Rattle.tc_hall.specs.declared.board.Cargo.TheVariants.{Package}
-use Rattle.tc_hall.specs.Places.{code_of, place_of}
+use Rattle.tc_hall.specs.Places.{code_of, place_of, slot_word}
 use Rattle.tc_hall.specs.Rule.{grants_adopted, threads, locks, IsInOrder, KeptHall}
 use Rattle.tc_hall.specs.Steps.{Sat, IsAsLeft, after_put, with_call, numbers, given_of, MayPut, HasStop, made, seen}
 use Rattle.tc_hall.proofs.Placing.{moves, stays}
@@ -77,13 +78,13 @@ fits_all q w u a e = go q.granted a e
         within (Some l) e = sym (any_worker g.lock l.journal.limit (blocks_of l) g.kind w u a) ∙ e
 
 module _ (k : Terms) where
-  shows_stop : (s : St k) (r : KeptHall k s) (id : ℕ) (v : Knows) → get_elem? s.views id ≡ some v → HasStop v → slice_index s.words 1 ≡ 1
+  shows_stop : (s : St k) (r : KeptHall k s) (id : ℕ) (v : Knows) → get_elem? s.views id ≡ some v → HasStop v → slice_index s.words STOP ≡ 1
   shows_stop s r id v at (made i e) = (r.passes id v at).stop i e
   shows_stop s r id v at (seen i e) = (r.passes id v at).stopped i e
 
   -- the filled slot goes home
   pub fills_kept : (s : St k) (r : KeptHall k s) (id : ℕ) (place : Place) (v : Knows) (q : PackageView) → get_elem? s.views id ≡ some v → v.hand ≡ Some q.context.thread → v.spent ≡ false → IsInRange (locks k) place → MayPut place v q
-      → KeptHall k (stepped s (q.context.thread + 2) (code_of place) id ((q.context.thread, Some (Package q)) ∷ []) (record (after_put v q (place_of (code_of place))) { hand = None }) gives)
+      → KeptHall k (stepped s (slot_word q.context.thread) (code_of place) id ((q.context.thread, Some (Package q)) ∷ []) (record (after_put v q (place_of (code_of place))) { hand = None }) gives)
   fills_kept s r id place v q at hand live range may =
       let t : ℕ = q.context.thread in
       let code : ℕ = code_of place in
@@ -92,21 +93,21 @@ module _ (k : Terms) where
       let below : t < threads k = o.0 in
       let wide : length v.packages ≡ threads k = r.placed.sized id v at live in
       let low : code < 512 = code_low (locks k) place range r.told.limits.locks in
-      let ws' : List ℕ = set s.words (t + 2) code in
+      let ws' : List ℕ = set s.words (slot_word t) code in
       let full : maybe.Option (Option Cargo) = some (Some (Package q)) in
-      let done = done_still s.words (t + 2) code (λ e. let z = o.3 in omega arith) in
-      let stops = stops_still s.words (t + 2) code (λ e. omega arith) in
+      let done = done_still s.words (slot_word t) code (λ e. let z = o.3 in omega arith) in
+      let stops = stops_still s.words (slot_word t) code (λ e. omega arith) in
       let old = r.passes id v at in
       let here : get_elem? w.packages t ≡ some None = set_here v.packages t None (omega arith) in
       record {
         told = r.told;
-        words = length-set s.words (t + 2) code ∙ r.words;
+        words = length-set s.words (slot_word t) code ∙ r.words;
         slots = length-set s.homes t full ∙ r.slots;
-        clock = get_or-set_other s.words (t + 2) 0 code 0 (λ e. omega arith) ∙ r.clock;
+        clock = get_or-set_other s.words (slot_word t) CLOCK code 0 (λ e. omega arith) ∙ r.clock;
         placed = moves s.words ws' s.homes (set s.homes t full) s.views id v w at stops (threads k) r.told.places r.told.places t none r.placed (inr o.1)
-            (λ u ne. get_or-set_other s.words (t + 2) (u + 2) code 0 (λ e. ne (omega arith))) (λ u ne. set_else s.homes t u full ne) (λ u ne. refl) r.told.law.all_packages
+            (λ u ne. get_or-set_other s.words (slot_word t) (slot_word u) code 0 (λ e. ne (omega arith))) (λ u ne. set_else s.homes t u full ne) (λ u ne. refl) r.told.law.all_packages
             record { worker = refl; spent = refl; long = length-set v.packages t None; out = λ u ne. set_else v.packages t u None ne; hand = λ u _ ne e. absurd (ne (same_some v.hand t u hand e)); hand_back = λ u _ ne e. absurd (clash None u refl e) }
-            (λ p' e. let word : slice_index ws' (t + 2) ≡ code = get_or-set_same s.words (t + 2) code 0 (omega (arith, r.words)) in record {
+            (λ p' e. let word : slice_index ws' (slot_word t) ≡ code = get_or-set_same s.words (slot_word t) code 0 (omega (arith, r.words)) in record {
               context = q;
               slot = set_here s.homes t full (omega (arith, r.slots));
               same = some-injective (bare q) p' (sym o.2 ∙ e);
@@ -116,12 +117,12 @@ module _ (k : Terms) where
             })
             (λ p' has'. absurd (clash_at (get_elem? w.packages t) p' here has'));
         locks_placed = puts_locks (threads k) (locks k) r.told.segments s.words ws' s.homes s.views id v w q t r.locks_placed r.told.law.all_states at live refl refl
-            (λ i. get_or-set_other s.words (t + 2) (threads k + 2 + i) code 0 (λ e. omega arith)) below (o.5 hand) hand refl may.locks;
+            (λ i. get_or-set_other s.words (slot_word t) (slot_word (threads k + i)) code 0 (λ e. omega arith)) below (o.5 hand) hand refl may.locks;
         passes = passes_stay k.image.value k.workers r.told.history r.told.history s.words ws' (λ b e. e) done stops s.views id w r.passes
             (pass_kept k.image.value k.workers r.told.history r.told.history s.words ws' (λ b e. e) done stops v w old (refl, refl, refl, refl) (λ i u e. inl e) (λ i b e. inl e)
             (λ i c e. ⊎_elim (λ z. inl z) (λ (z : (i ≡ length v.calls) × (Put t (place_of code) (numbers q.context.locks) (given_of q) ≡ c)). inr (subst (IsTrueCall ws') z.1 tt)) (snoc_at v.calls (Put t (place_of code) (numbers q.context.locks) (given_of q)) c i e))
             (λ u e. inl e));
-        stop = λ e. stop_stays s.views id v w at (λ i h. (i, at_longer v.calls (Put t (place_of code) (numbers q.context.locks) (given_of q) ∷ []) i Stop h)) (r.stop (stops_back s.words (t + 2) code (λ e. omega arith) e));
+        stop = λ e. stop_stays s.views id v w at (λ i h. (i, at_longer v.calls (Put t (place_of code) (numbers q.context.locks) (given_of q) ∷ []) i Stop h)) (r.stop (stops_back s.words (slot_word t) code (λ e. omega arith) e));
         apart = apart_stays s.views id v w at record { worker = refl; maker = refl; made = refl; spent = refl; joined = refl } live r.apart;
       }
 
@@ -142,19 +143,19 @@ module _ (k : Terms) where
 
   -- a call is told, and at most the stop becomes 1
   tells_kept : (s : St k) (r : KeptHall k s) (ws' : List ℕ) (id : ℕ) (v : Knows) (c : Call) → get_elem? s.views id ≡ some v → v.spent ≡ false → IsTrueCall ws' c
-      → ((j : ℕ) → j ≢ 1 → slice_index ws' j ≡ slice_index s.words j) → (slice_index s.words 1 ≡ 1 → slice_index ws' 1 ≡ 1) → length ws' ≡ length s.words
-      → (slice_index ws' 1 ≡ 1 → HasStopped (set s.views id (with_call v c)))
+      → ((j : ℕ) → j ≢ STOP → slice_index ws' j ≡ slice_index s.words j) → (slice_index s.words STOP ≡ 1 → slice_index ws' STOP ≡ 1) → length ws' ≡ length s.words
+      → (slice_index ws' STOP ≡ 1 → HasStopped (set s.views id (with_call v c)))
       → KeptHall k record { words = ws'; homes = s.homes; views = set s.views id (with_call v c) }
   tells_kept s r ws' id v c at live true' words stops long stop =
       let w : Knows = with_call v c in
-      let done : (u : ℕ) → slice_index s.words (u + 2) ≡ 2 → slice_index ws' (u + 2) ≡ 2 = λ u e. words (u + 2) (λ z. omega arith) ∙ e in
+      let done : (u : ℕ) → slice_index s.words (slot_word u) ≡ 2 → slice_index ws' (slot_word u) ≡ 2 = λ u e. words (slot_word u) (λ z. omega arith) ∙ e in
       let old = r.passes id v at in record {
         told = r.told;
         words = long ∙ r.words;
         slots = r.slots;
-        clock = words 0 (λ z. omega arith) ∙ r.clock;
-        placed = stays s.words ws' s.homes s.homes s.views id v w at stops (threads k) r.told.places r.placed r.told.law.all_packages (λ u b. words (u + 2) (λ z. omega arith)) (λ u b. refl) refl refl refl (λ u b e. e) (λ u b e. e);
-        locks_placed = locks_stay (threads k) (locks k) r.told.segments s.words ws' s.homes s.homes s.views id v w at (λ i. words (threads k + 2 + i) (λ z. omega arith)) (λ i. refl) (λ u q b e. e) (λ u q b e. e) refl refl (λ i e. e) (λ i e. e) r.locks_placed;
+        clock = words CLOCK (λ z. omega arith) ∙ r.clock;
+        placed = stays s.words ws' s.homes s.homes s.views id v w at stops (threads k) r.told.places r.placed r.told.law.all_packages (λ u b. words (slot_word u) (λ z. omega arith)) (λ u b. refl) refl refl refl (λ u b e. e) (λ u b e. e);
+        locks_placed = locks_stay (threads k) (locks k) r.told.segments s.words ws' s.homes s.homes s.views id v w at (λ i. words (slot_word (threads k + i)) (λ z. omega arith)) (λ i. refl) (λ u q b e. e) (λ u q b e. e) refl refl (λ i e. e) (λ i e. e) r.locks_placed;
         passes = passes_stay k.image.value k.workers r.told.history r.told.history s.words ws' (λ b e. e) done stops s.views id w r.passes
             (pass_kept k.image.value k.workers r.told.history r.told.history s.words ws' (λ b e. e) done stops v w old (refl, refl, refl, refl) (λ i u e. inl e) (λ i b e. inl e)
             (λ i d e. ⊎_elim (λ z. inl z) (λ (z : (i ≡ length v.calls) × (c ≡ d)). inr (subst (IsTrueCall ws') z.1 true')) (snoc_at v.calls c d i e)) (λ u e. inl e));
@@ -162,29 +163,29 @@ module _ (k : Terms) where
         apart = apart_stays s.views id v w at record { worker = refl; maker = refl; made = refl; spent = refl; joined = refl } live r.apart;
       }
 
-  still_stopped : (s : St k) (r : KeptHall k s) (id : ℕ) (v : Knows) (c : Call) → get_elem? s.views id ≡ some v → slice_index s.words 1 ≡ 1 → HasStopped (set s.views id (with_call v c))
+  still_stopped : (s : St k) (r : KeptHall k s) (id : ℕ) (v : Knows) (c : Call) → get_elem? s.views id ≡ some v → slice_index s.words STOP ≡ 1 → HasStopped (set s.views id (with_call v c))
   still_stopped s r id v c at e = stop_stays s.views id v (with_call v c) at (λ i h. (i, at_longer v.calls (c ∷ []) i Stop h)) (r.stop e)
 
   -- a word is looked at
   pub look_kept : (s : St k) (r : KeptHall k s) (id t : ℕ) (v : Knows) → get_elem? s.views id ≡ some v → v.spent ≡ false
-      → KeptHall k (stepped s (t + 2) (slice_index s.words (t + 2)) id [] (with_call v (Look t (slice_index s.words (t + 2)))) keeps)
+      → KeptHall k (stepped s (slot_word t) (slice_index s.words (slot_word t)) id [] (with_call v (Look t (slice_index s.words (slot_word t)))) keeps)
   look_kept s r id t v at live =
-      let found : ℕ = slice_index s.words (t + 2) in
-      subst (λ (z : List ℕ). KeptHall k record { words = z; homes = s.homes; views = set s.views id (with_call v (Look t found)) }) (sym (set-get_or s.words (t + 2) 0))
+      let found : ℕ = slice_index s.words (slot_word t) in
+      subst (λ (z : List ℕ). KeptHall k record { words = z; homes = s.homes; views = set s.views id (with_call v (Look t found)) }) (sym (set-get_or s.words (slot_word t) 0))
       (tells_kept s r s.words id v (Look t found) at live (λ is. is) (λ j ne. refl) (λ e. e) refl (still_stopped s r id v (Look t found) at))
 
   -- the stop is made
-  pub stop_kept : (s : St k) (r : KeptHall k s) (id : ℕ) (v : Knows) → get_elem? s.views id ≡ some v → v.spent ≡ false → KeptHall k (stepped s 1 1 id [] (with_call v Stop) keeps)
+  pub stop_kept : (s : St k) (r : KeptHall k s) (id : ℕ) (v : Knows) → get_elem? s.views id ≡ some v → v.spent ≡ false → KeptHall k (stepped s STOP 1 id [] (with_call v Stop) keeps)
   stop_kept s r id v at live =
-      let one : slice_index (set s.words 1 1) 1 ≡ 1 = get_or-set_same s.words 1 1 0 (omega (arith, r.words)) in
-      tells_kept s r (set s.words 1 1) id v Stop at live one
-      (λ j ne. get_or-set_other s.words 1 j 1 0 ne) (λ _. one) (length-set s.words 1 1)
+      let one : slice_index (set s.words STOP 1) STOP ≡ 1 = get_or-set_same s.words STOP 1 0 (omega (arith, r.words)) in
+      tells_kept s r (set s.words STOP 1) id v Stop at live one
+      (λ j ne. get_or-set_other s.words STOP j 1 0 ne) (λ _. one) (length-set s.words STOP 1)
       (λ _. record { id = id; view = with_call v Stop; pass = set_here s.views id (with_call v Stop) (there s.views id v v at).0; place = length v.calls; call = at_last v.calls Stop (length v.calls) refl })
 
   -- the stop word is seen
-  pub see_kept : (s : St k) (r : KeptHall k s) (id : ℕ) (v : Knows) → get_elem? s.views id ≡ some v → v.spent ≡ false → KeptHall k (stepped s 1 (slice_index s.words 1) id [] (with_call v (Stopped (slice_index s.words 1))) keeps)
+  pub see_kept : (s : St k) (r : KeptHall k s) (id : ℕ) (v : Knows) → get_elem? s.views id ≡ some v → v.spent ≡ false → KeptHall k (stepped s STOP (slice_index s.words STOP) id [] (with_call v (Stopped (slice_index s.words STOP))) keeps)
   see_kept s r id v at live =
-      let found : ℕ = slice_index s.words 1 in
-      subst (λ (z : List ℕ). KeptHall k record { words = z; homes = s.homes; views = set s.views id (with_call v (Stopped found)) }) (sym (set-get_or s.words 1 0))
+      let found : ℕ = slice_index s.words STOP in
+      subst (λ (z : List ℕ). KeptHall k record { words = z; homes = s.homes; views = set s.views id (with_call v (Stopped found)) }) (sym (set-get_or s.words STOP 0))
       (tells_kept s r s.words id v (Stopped found) at live (λ is. is)
       (λ j ne. refl) (λ e. e) refl (still_stopped s r id v (Stopped found) at))

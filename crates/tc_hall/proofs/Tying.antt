@@ -20,12 +20,13 @@ use Rattle.tc_core.specs.declared.place.ThreadPlace.TheVariants.{At}
 use Rattle.tc_core.specs.declared.place.ThreadPlace.TheVariants as at
 use Rattle.tc_core.specs.declared.place.LockPlace.{LockPlace}
 use Rattle.tc_core.specs.declared.place.LockPlace.TheVariants.{Granted, Loose}
+use Rattle.tc_hall.specs.declared.board.TheConstants.{STOP}
 use Rattle.tc_hall.specs.declared.board.Knows.{Knows}
 use Rattle.tc_hall.specs.declared.board.Terms.{Terms}
 use Rattle.tc_hall.specs.declared.board.Call.TheVariants.{Look, Stop, Stopped}
 use Rattle.tc_hall.specs.declared.place.Place.{Place}
 use Rattle.tc_hall.specs.declared.place.Place.TheVariants.{Ready, Waiting, Parked, Done}
-use Rattle.tc_hall.specs.Places.{code_of}
+use Rattle.tc_hall.specs.Places.{code_of, slot_word}
 use Rattle.tc_hall.specs.Rule.{threads, locks, HasLock, KeptHall, locked_in, Has}
 use Rattle.tc_hall.specs.Steps.{Gets, after_claim, after_take, after_miss, with_call, dealt, fresh, merged, gone}
 use Rattle.tc_hall.specs.Effects.{Hall, after, claim_effect, put_effect}
@@ -60,7 +61,7 @@ module _ (k : Terms) (m : Moment k) where
   worker_is = let b = (m.rule.passes m.id m.view m.pass).worker in grind (arith, nat_tests)
 
   -- a thread that is out with the pass is at its worker
-  pub out_at : (c : Core) → IsShown k m.state (outline c) → (t : ℕ) → t < threads k → slice_index m.state.words (t + 2) ≡ 512 + m.view.worker → (c.course t).place ≡ At m.view.worker
+  pub out_at : (c : Core) → IsShown k m.state (outline c) → (t : ℕ) → t < threads k → slice_index m.state.words (slot_word t) ≡ 512 + m.view.worker → (c.course t).place ≡ At m.view.worker
   out_at c o t below word = o.place t below ∙ (ap place_shown word ∙ shown_at m.view.worker)
 
   pub at_it : (c : Core) (t : ℕ) → t < threads k → (c.course t).place ≡ At m.view.worker → at_worker k c m.view.worker t ≡ true
@@ -85,14 +86,14 @@ module _ (k : Terms) (m : Moment k) where
 
   -- ---- claim and adopt
 
-  module _ (t : ℕ) (q : PackageView) (a : MayClaim k m.state m.view t q) (low : slice_index m.state.words (t + 2) < 512) where
+  module _ (t : ℕ) (q : PackageView) (a : MayClaim k m.state m.view t q) (low : slice_index m.state.words (slot_word t) < 512) where
     at_its_home : AtHome k m.state m.rule t q
     at_its_home = at_home_of k m.state m.rule t q a.below low a.slot
 
-    got : Gets (slice_index m.state.words (t + 2)) t q m.view (after_claim m.view q)
+    got : Gets (slice_index m.state.words (slot_word t)) t q m.view (after_claim m.view q)
     got =
         let h = at_its_home in
-        subst (λ (z : PackageView). Gets (slice_index m.state.words (t + 2)) t z m.view (after_claim m.view z)) h.same
+        subst (λ (z : PackageView). Gets (slice_index m.state.words (slot_word t)) t z m.view (after_claim m.view z)) h.same
         (gets k m.state m.rule m.id t m.view h.stands h.home m.pass m.live a.below h.placed h.holder h.thread)
 
     claim_shows : (c c' : Core) → IsShown k m.state (outline c) → Arrives c c' t (At m.view.worker)
@@ -104,13 +105,13 @@ module _ (k : Terms) (m : Moment k) where
         (is_moved c c' t (At m.view.worker) arrive) lies.0 lies.1
 
     rests : (c : Core) → IsShown k m.state (outline c) → lies_with (c.course t).place t ≡ packed t
-    rests c o = ap (λ (z : ThreadPlace). lies_with z t) (o.place t a.below) ∙ lies_low (slice_index m.state.words (t + 2)) t low
+    rests c o = ap (λ (z : ThreadPlace). lies_with z t) (o.place t a.below) ∙ lies_low (slice_index m.state.words (slot_word t)) t low
 
 -- `claim` is Claim
 pub claim_tie : ClaimTie
 unfolding is_enabled effect
 claim_tie k m t q from a word =
-    let low : slice_index m.state.words (t + 2) < 512 = subst (λ (z : ℕ). z < 512) (sym word) (origin_low from) in
+    let low : slice_index m.state.words (slot_word t) < 512 = subst (λ (z : ℕ). z < 512) (sym word) (origin_low from) in
     record {
       kept = claim_after k m.state m.rule m.id m.view m.pass m.live t q a;
       asks = λ c seen given. both (nat_lt m.view.worker k.workers) _ (worker_is k m)
@@ -122,7 +123,7 @@ claim_tie k m t q from a word =
     }
 
 -- the step of `adopt`, whatever the events make of the core
-adopt_shows : (k : Terms) (m : Moment k) (t lock : ℕ) (q : PackageView) (l : LockView) → MayClaim k m.state m.view t q → (low : slice_index m.state.words (t + 2) < 512) → lock < locks k → HasLock m.view lock l → (c c' : Core) → Shows k m.state c → IsLooseIn lock c
+adopt_shows : (k : Terms) (m : Moment k) (t lock : ℕ) (q : PackageView) (l : LockView) → MayClaim k m.state m.view t q → (low : slice_index m.state.words (slot_word t) < 512) → lock < locks k → HasLock m.view lock l → (c c' : Core) → Shows k m.state c → IsLooseIn lock c
     → Arrives c c' t (At m.view.worker) → (c'.custody lock).place ≡ Granted t → ((i : ℕ) → i ≢ lock → (c'.custody i).place ≡ (c.custody i).place) → Shows k (after m.state m.id (claim_effect m.view t q)) c'
 adopt_shows k m t lock q l a low below has c c' seen loose arrive granted same = record {
   between = arrive.between seen.between;
@@ -130,7 +131,7 @@ adopt_shows k m t lock q l a low below has c c' seen loose arrive granted same =
       (others_come c c' t m.view.worker arrive (rests k m t q a low c seen.shown) lock (loose_here k m c seen.shown lock l below has loose) granted same);
 }
 
-adopt_asks : (k : Terms) (m : Moment k) (t lock : ℕ) (l : LockView) → t < threads k → lock < locks k → slice_index m.state.words (t + 2) ≡ 256 + lock → 256 + lock < 512 → HasLock m.view lock l → (c : Core) → Shows k m.state c → IsLooseIn lock c → CanPass k m.view.worker t lock c
+adopt_asks : (k : Terms) (m : Moment k) (t lock : ℕ) (l : LockView) → t < threads k → lock < locks k → slice_index m.state.words (slot_word t) ≡ 256 + lock → 256 + lock < 512 → HasLock m.view lock l → (c : Core) → Shows k m.state c → IsLooseIn lock c → CanPass k m.view.worker t lock c
 adopt_asks k m t lock l below below_lock word low has c seen loose = (
   loose_it k m c lock below_lock (ap (λ (z : LockPlace). is_loose z m.view.worker) (loose_here k m c seen.shown lock l below_lock has loose) ∙ eq_self m.view.worker),
   (let b : nat_lt t (threads k) ≡ true = grind (arith, nat_tests) in b),
@@ -142,7 +143,7 @@ pub adopt_tie : AdoptTie
 unfolding effect
 adopt_tie k m t lock q l a below word has =
     let fits : 256 + lock < 512 = (let b = m.rule.told.limits.locks in omega (arith, b, below)) in
-    let low : slice_index m.state.words (t + 2) < 512 = subst (λ (z : ℕ). z < 512) (sym word) fits in
+    let low : slice_index m.state.words (slot_word t) < 512 = subst (λ (z : ℕ). z < 512) (sym word) fits in
     let kept = claim_after k m.state m.rule m.id m.view m.pass m.live t q a in
     let asks = adopt_asks k m t lock l a.below below word fits has in
     record {
@@ -177,7 +178,7 @@ module _ (k : Terms) (m : Moment k) (place : Place) (q : PackageView) (a : MayFi
   t = q.context.thread
 
   -- where it is out
-  its_place : (q.context.thread < threads k) × (slice_index m.state.words (q.context.thread + 2) ≡ 512 + m.view.worker)
+  its_place : (q.context.thread < threads k) × (slice_index m.state.words (slot_word q.context.thread) ≡ 512 + m.view.worker)
   its_place = let o = is_out k m.state m.rule m.id q.context.thread m.view (bare q) m.pass a.may.has in (o.0, o.3)
 
   put_low : code_of place < 512
@@ -291,7 +292,7 @@ free_tie k m l hand may =
 -- ---- steps with no event
 
 -- the rule is kept, no word of a thread changes, and no view has more out
-ties_to_none : (k : Terms) (s : Hall) (ws' : List ℕ) (vs' : List Knows) → KeptHall k record { words = ws'; homes = s.homes; views = vs' } → ((u : ℕ) → slice_index ws' (u + 2) ≡ slice_index s.words (u + 2)) → HadOut s.views vs' → Tied k s (silent record { words = ws'; homes = s.homes; views = vs' })
+ties_to_none : (k : Terms) (s : Hall) (ws' : List ℕ) (vs' : List Knows) → KeptHall k record { words = ws'; homes = s.homes; views = vs' } → ((u : ℕ) → slice_index ws' (slot_word u) ≡ slice_index s.words (slot_word u)) → HadOut s.views vs' → Tied k s (silent record { words = ws'; homes = s.homes; views = vs' })
 ties_to_none k s ws' vs' kept words had = record {
   kept = kept;
   asks = λ c seen given. tt;
@@ -300,14 +301,14 @@ ties_to_none k s ws' vs' kept words had = record {
 
 pub tell_tie : TellTie
 tell_tie k m = record {
-  look = λ t. ties_to_none k m.state _ _ (look_kept k m.state m.rule m.id t m.view m.pass m.live) (again (t + 2)) (same (with_call m.view (Look t (slice_index m.state.words (t + 2)))) refl refl refl);
-  stop = ties_to_none k m.state _ _ (stop_kept k m.state m.rule m.id m.view m.pass m.live) (λ u. get_or-set_other m.state.words 1 (u + 2) 1 0 (λ z. omega arith)) (same (with_call m.view Stop) refl refl refl);
-  stopped = ties_to_none k m.state _ _ (see_kept k m.state m.rule m.id m.view m.pass m.live) (again 1) (same (with_call m.view (Stopped (slice_index m.state.words 1))) refl refl refl);
+  look = λ t. ties_to_none k m.state _ _ (look_kept k m.state m.rule m.id t m.view m.pass m.live) (again (slot_word t)) (same (with_call m.view (Look t (slice_index m.state.words (slot_word t)))) refl refl refl);
+  stop = ties_to_none k m.state _ _ (stop_kept k m.state m.rule m.id m.view m.pass m.live) (λ u. get_or-set_other m.state.words STOP (slot_word u) 1 0 (λ z. omega arith)) (same (with_call m.view Stop) refl refl refl);
+  stopped = ties_to_none k m.state _ _ (see_kept k m.state m.rule m.id m.view m.pass m.live) (again STOP) (same (with_call m.view (Stopped (slice_index m.state.words STOP))) refl refl refl);
   missed = λ word. ties_to_none k m.state _ _ (misses k m.state word m.id m.view m.pass m.live m.rule) (again word) (same (after_miss m.view word (slice_index m.state.words word)) refl refl refl);
 }
   where
-    again : (j u : ℕ) → slice_index (set m.state.words j (slice_index m.state.words j)) (u + 2) ≡ slice_index m.state.words (u + 2)
-    again j u = ap (λ (z : List ℕ). slice_index z (u + 2)) (set-get_or m.state.words j 0)
+    again : (j u : ℕ) → slice_index (set m.state.words j (slice_index m.state.words j)) (slot_word u) ≡ slice_index m.state.words (slot_word u)
+    again j u = ap (λ (z : List ℕ). slice_index z (slot_word u)) (set-get_or m.state.words j 0)
 
     same : (x : Knows) → x.packages ≡ m.view.packages → x.locks ≡ m.view.locks → x.worker ≡ m.view.worker → HadOut m.state.views (set m.state.views m.id x)
     same x = had_same m.state.views m.id m.view x m.pass

@@ -4,13 +4,14 @@ use Rattle.atomic_table.specs.Table.{State, Act, keeps, takes, gives, stepped}
 use Rattle.tc_journal.specs.declared.block.Block.{Block}
 use Rattle.tc_segment.specs.View.{LockView, sealed_block}
 use Rattle.tc_context.specs.View.{PackageView, with_seal}
+use Rattle.tc_hall.specs.declared.board.TheConstants.{CLOCK, STOP}
 use Rattle.tc_hall.specs.declared.place.TheConstants.{OUT}
 use Rattle.tc_hall.specs.declared.place.Place.{Place}
 use Rattle.tc_hall.specs.declared.board.Knows.{Knows}
 use Rattle.tc_hall.specs.declared.board.Call.TheVariants.{Look, Stop, Stopped}
 use Rattle.tc_hall.specs.declared.board.Cargo.{Cargo}
 use Rattle.tc_hall.specs.declared.board.Cargo.TheVariants.{Package, Lock}
-use Rattle.tc_hall.specs.Places.{code_of}
+use Rattle.tc_hall.specs.Places.{code_of, slot_word}
 use Rattle.tc_hall.specs.Steps.{after_claim, after_seal, after_put, after_take, after_free, after_miss, with_call, dealt, fresh, merged, gone}
 
 abbrev pub Hall : Type 0
@@ -30,32 +31,32 @@ after s id e = stepped s e.word e.left id e.holds e.knows e.act
 
 -- `claim` and `adopt` of the thread t, whose package is q
 abbrev pub claim_effect : Knows → ℕ → PackageView → Effect
-claim_effect v t q = record { word = t + 2; left = OUT + v.worker; holds = []; knows = record (after_claim v q) { hand = Some t }; act = takes t (Some (Package q)) }
+claim_effect v t q = record { word = slot_word t; left = OUT + v.worker; holds = []; knows = record (after_claim v q) { hand = Some t }; act = takes t (Some (Package q)) }
 
 -- `commit` of the package q with this pending block, at the stamp that was found
 abbrev pub commit_effect : Knows → ℕ → Block → PackageView → Effect
 commit_effect v stamp b q =
-    record { word = 0; left = (stamp + 1) % 18446744073709551616; holds = []; knows = after_seal v (sealed_block stamp v.worker b) (with_seal stamp v.worker q); act = keeps }
+    record { word = CLOCK; left = (stamp + 1) % 18446744073709551616; holds = []; knows = after_seal v (sealed_block stamp v.worker b) (with_seal stamp v.worker q); act = keeps }
 
 abbrev pub put_effect : Knows → PackageView → Place → Effect
-put_effect v q place = record { word = q.context.thread + 2; left = code_of place; holds = (q.context.thread, Some (Package q)) ∷ []; knows = record (after_put v q place) { hand = None }; act = gives }
+put_effect v q place = record { word = slot_word q.context.thread; left = code_of place; holds = (q.context.thread, Some (Package q)) ∷ []; knows = record (after_put v q place) { hand = None }; act = gives }
 
 -- `take` of the lock i of a hall of n threads, whose state is l
 abbrev pub take_effect : ℕ → Knows → ℕ → LockView → Effect
-take_effect n v i l = record { word = n + 2 + i; left = 1; holds = []; knows = record (after_take v l) { hand = Some (n + i) }; act = takes (n + i) (Some (Lock l)) }
+take_effect n v i l = record { word = slot_word (n + i); left = 1; holds = []; knows = record (after_take v l) { hand = Some (n + i) }; act = takes (n + i) (Some (Lock l)) }
 
 abbrev pub free_effect : ℕ → Knows → LockView → Effect
-free_effect n v l = record { word = n + 2 + l.number; left = 0; holds = (n + l.number, Some (Lock l)) ∷ []; knows = record (after_free v l) { hand = None }; act = gives }
+free_effect n v l = record { word = slot_word (n + l.number); left = 0; holds = (n + l.number, Some (Lock l)) ∷ []; knows = record (after_free v l) { hand = None }; act = gives }
 
 -- `look` and `stopped` leave the word that they find
 abbrev pub look_effect : Knows → ℕ → ℕ → Effect
-look_effect v t found = record { word = t + 2; left = found; holds = []; knows = with_call v (Look t found); act = keeps }
+look_effect v t found = record { word = slot_word t; left = found; holds = []; knows = with_call v (Look t found); act = keeps }
 
 abbrev pub stop_effect : Knows → Effect
-stop_effect v = record { word = 1; left = 1; holds = []; knows = with_call v Stop; act = keeps }
+stop_effect v = record { word = STOP; left = 1; holds = []; knows = with_call v Stop; act = keeps }
 
 abbrev pub stopped_effect : Knows → ℕ → Effect
-stopped_effect v found = record { word = 1; left = found; holds = []; knows = with_call v (Stopped found); act = keeps }
+stopped_effect v found = record { word = STOP; left = found; holds = []; knows = with_call v (Stopped found); act = keeps }
 
 -- a compare-and-swap that fails leaves it too
 abbrev pub miss_effect : Knows → ℕ → ℕ → Effect
@@ -63,10 +64,10 @@ miss_effect v word found = record { word = word; left = found; holds = []; knows
 
 -- an empty slot goes into the pass's hand, and back; the word stays
 abbrev pub reach_effect : Knows → ℕ → ℕ → Effect
-reach_effect v slot found = record { word = slot + 2; left = found; holds = []; knows = record v { hand = Some slot }; act = takes slot None }
+reach_effect v slot found = record { word = slot_word slot; left = found; holds = []; knows = record v { hand = Some slot }; act = takes slot None }
 
 abbrev pub lay_effect : Knows → ℕ → ℕ → Effect
-lay_effect v slot found = record { word = 0; left = found; holds = (slot, None) ∷ []; knows = record v { hand = None }; act = gives }
+lay_effect v slot found = record { word = CLOCK; left = found; holds = (slot, None) ∷ []; knows = record v { hand = None }; act = gives }
 
 -- the pass id makes another, which is the last
 abbrev pub with_new_pass : Hall → ℕ → Knows → Hall

@@ -8,6 +8,7 @@ use Rattle.tc_core.specs.Core.{Core, first_core}
 use Rattle.tc_core.specs.Stories.{AreEnabled}
 use Rattle.tc_core.specs.declared.event.Event.{Event}
 use Rattle.tc_core.specs.declared.event.Event.TheVariants.{Claim, Commit, Enter, Take, Ship, Adopt, Grant, Leave, Free, HandBack, Park, Finish}
+use Rattle.tc_hall.specs.Places.{slot_word}
 use Rattle.tc_hall.specs.declared.place.TheConstants.{READY, PARKED, WAITING, OUT}
 use Rattle.tc_hall.specs.declared.place.Place.{Place}
 use Rattle.tc_hall.specs.declared.place.Place.TheVariants.{Ready, Waiting, Parked, Done}
@@ -22,9 +23,9 @@ use Rattle.tc_hall.specs.Ties.{machine_limits, may_come, after_events, turns_by,
 -- a package is claimed where it is ready or parked: Claim; or, by a pass that has the lock for which it waits, where that is
 -- loose: Adopt, or Grant and Claim
 pub data IsClaimed (k : Terms) (s : Hall) (c : Core) (v : Knows) (t : ℕ) : List Event → Type 0 where
-  alone : (slice_index s.words (t + 2) ≡ READY) ⊎ (slice_index s.words (t + 2) ≡ PARKED) → IsClaimed k s c v t (Claim v.worker t ∷ [])
-  adopted : (lock : ℕ) (l : LockView) → slice_index s.words (t + 2) ≡ WAITING + lock → HasLock v lock l → IsLooseIn lock c → IsClaimed k s c v t (Adopt v.worker t lock ∷ [])
-  granted : (lock : ℕ) (l : LockView) → slice_index s.words (t + 2) ≡ WAITING + lock → HasLock v lock l → IsLooseIn lock c → IsClaimed k s c v t (Grant v.worker t lock ∷ Claim v.worker t ∷ [])
+  alone : (slice_index s.words (slot_word t) ≡ READY) ⊎ (slice_index s.words (slot_word t) ≡ PARKED) → IsClaimed k s c v t (Claim v.worker t ∷ [])
+  adopted : (lock : ℕ) (l : LockView) → slice_index s.words (slot_word t) ≡ WAITING + lock → HasLock v lock l → IsLooseIn lock c → IsClaimed k s c v t (Adopt v.worker t lock ∷ [])
+  granted : (lock : ℕ) (l : LockView) → slice_index s.words (slot_word t) ≡ WAITING + lock → HasLock v lock l → IsLooseIn lock c → IsClaimed k s c v t (Grant v.worker t lock ∷ Claim v.worker t ∷ [])
 
 -- a package is put with the locks that are with its thread or granted to it, and as parked only after a sleep
 abbrev pub IsPut : Terms → Core → Knows → PackageView → Place → List Event → Type 0
@@ -39,7 +40,7 @@ IsOf k s c v (claim t q) es = IsClaimed k s c v t es
 IsOf k s c v (commit stamp b q) es = es ≡ turns_by v.worker q.context.thread b.turns ++ Commit v.worker q.context.thread ∷ []
 IsOf k s c v (put q place) es = IsPut k c v q place es
 -- a lock is taken for a thread that is at the pass's worker
-IsOf k s c v (take i l) es = (t : ℕ) × (t < threads k) × (slice_index s.words (t + 2) ≡ OUT + v.worker) × (es ≡ Take v.worker t i ∷ [])
+IsOf k s c v (take i l) es = (t : ℕ) × (t < threads k) × (slice_index s.words (slot_word t) ≡ OUT + v.worker) × (es ≡ Take v.worker t i ∷ [])
 IsOf k s c v (free l) es = IsLooseIn l.number c × (es ≡ Free v.worker l.number ∷ [])
 IsOf k s c v (miss word wanted found) es = es ≡ []
 IsOf k s c v (look t found) es = es ≡ []

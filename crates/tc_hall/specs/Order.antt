@@ -1,12 +1,13 @@
 -- The rule of the table: all operations of the passes stand in one order, each allowed where it stands, and the table is what
 -- their effects make of it from the opening.
-use Rattle.std.specs.Prelude.{◌≡◌, ◌≢◌, ◌⊎◌, ℕ, ◌+◌, ◌<◌, ◌≤◌, ◌==◌, true, false, if◌then◌else◌, List, [], ◌∷◌, ◌++◌, length, replicate, slice_index, Option, Some, None}
+use Rattle.std.specs.Prelude.{◌≡◌, ◌≢◌, ◌⊎◌, ℕ, ◌+◌, ◌%◌, ◌<◌, ◌≤◌, ◌==◌, true, false, if◌then◌else◌, List, [], ◌∷◌, ◌++◌, length, replicate, slice_index, Option, Some, None}
 use mathlib.Core.Option.{some}
 use lib.ListN.{get_elem?}
 use Rattle.atomic_table.specs.Table.{opening}
 use Rattle.tc_journal.specs.declared.block.Block.{Block}
 use Rattle.tc_segment.specs.View.{LockView, sealed_block}
 use Rattle.tc_context.specs.View.{PackageView}
+use Rattle.tc_hall.specs.declared.board.TheConstants.{LINE, CLOCK, STOP}
 use Rattle.tc_hall.specs.declared.place.TheConstants.{READY, PARKED, WAITING, OUT}
 use Rattle.tc_hall.specs.declared.place.Place.{Place}
 use Rattle.tc_hall.specs.declared.board.Knows.{Knows}
@@ -16,7 +17,7 @@ use Rattle.tc_hall.specs.declared.board.Call.{Call}
 use Rattle.tc_hall.specs.declared.board.Call.TheVariants.{Free, Look, Stop, Stopped}
 use Rattle.tc_hall.specs.declared.board.Cargo.{Cargo}
 use Rattle.tc_hall.specs.declared.board.Cargo.TheVariants.{Package, Lock}
-use Rattle.tc_hall.specs.Places.{IsInRange, code_of}
+use Rattle.tc_hall.specs.Places.{IsInRange, code_of, slot_word}
 use Rattle.tc_hall.specs.Rule.{threads, locks, starting, Has, HasLock, IsInLimits, KeptHall}
 use Rattle.tc_hall.specs.Steps.{MayPut, MayFree, Seals, IsFree, put_call}
 use Rattle.tc_hall.specs.Effects.{Hall, after, claim_effect, commit_effect, put_effect, take_effect, free_effect, look_effect, stop_effect, stopped_effect, miss_effect, reach_effect, lay_effect, with_new_pass, with_joined}
@@ -56,8 +57,8 @@ after_operation k s id v (free l) = after s id (free_effect (threads k) v l)
 after_operation k s id v (look t found) = after s id (look_effect v t found)
 after_operation k s id v stop = after s id (stop_effect v)
 after_operation k s id v (stopped found) = after s id (stopped_effect v found)
-after_operation k s id v (reach slot) = after s id (reach_effect v slot (slice_index s.words (slot + 2)))
-after_operation k s id v (lay slot) = after s id (lay_effect v slot (slice_index s.words 0))
+after_operation k s id v (reach slot) = after s id (reach_effect v slot (slice_index s.words (slot_word slot)))
+after_operation k s id v (lay slot) = after s id (lay_effect v slot (slice_index s.words CLOCK))
 after_operation k s id v split = with_new_pass s id v
 after_operation k s id v (join other w) = with_joined s id v other w
 
@@ -68,13 +69,13 @@ IsClaimable k word = (word ≡ READY) ⊎ ((word ≡ PARKED) ⊎ ((i : ℕ) × (
 pub record MayClaim (k : Terms) (s : Hall) (v : Knows) (t : ℕ) (q : PackageView) : Type 0 where
   pub free : v.hand ≡ None
   pub below : t < threads k
-  pub word : IsClaimable k (slice_index s.words (t + 2))
+  pub word : IsClaimable k (slice_index s.words (slot_word t))
   pub slot : get_elem? s.homes t ≡ some (some (Some (Package q)))
 
 pub record MayTake (k : Terms) (s : Hall) (v : Knows) (i : ℕ) (l : LockView) : Type 0 where
   pub free : v.hand ≡ None
   pub below : i < locks k
-  pub word : slice_index s.words (threads k + 2 + i) ≡ 0
+  pub word : slice_index s.words (slot_word (threads k + i)) ≡ 0
   pub slot : get_elem? s.homes (threads k + i) ≡ some (some (Some (Lock l)))
 
 -- the slot is that of a package or a lock state that the pass has out
@@ -93,12 +94,12 @@ abbrev pub MayDo : Terms → Hall → ℕ → Knows → Operation → Type 0
 MayDo k s id v (claim t q) = MayClaim k s v t q
 MayDo k s id v (take i l) = MayTake k s v i l
 MayDo k s id v (miss word wanted found) = (slice_index s.words word ≡ found) × (found ≢ wanted)
-MayDo k s id v (commit stamp b q) = (slice_index s.words 0 ≡ stamp) × (a : Seals v q) × (a.ran.block ≡ b)
+MayDo k s id v (commit stamp b q) = (slice_index s.words CLOCK ≡ stamp) × (a : Seals v q) × (a.ran.block ≡ b)
 MayDo k s id v (put q place) = MayFill k v q place
 MayDo k s id v (free l) = (v.hand ≡ Some (threads k + l.number)) × MayFree v l
-MayDo k s id v (look t found) = (t < threads k) × (slice_index s.words (t + 2) ≡ found)
+MayDo k s id v (look t found) = (t < threads k) × (slice_index s.words (slot_word t) ≡ found)
 MayDo k s id v stop = Unit {0}
-MayDo k s id v (stopped found) = slice_index s.words 1 ≡ found
+MayDo k s id v (stopped found) = slice_index s.words STOP ≡ found
 MayDo k s id v (reach slot) = (v.hand ≡ None) × IsSlotOut k v slot
 MayDo k s id v (lay slot) = (v.hand ≡ Some slot) × IsSlotOut k v slot
 MayDo k s id v split = (v.maker ≡ true) × (v.made < v.worker)
@@ -132,7 +133,7 @@ pub record IsOpening (k : Terms) (s : Hall) : Type 0 where
   pub limits : IsInLimits k
   pub slots : List (Option Cargo)
   pub stocked : AreStocked k.image.value (threads k) (locks k) k.fuel k.limit slots
-  pub is : s ≡ opening (replicate (threads k + 2 + locks k) 0) slots (starting k)
+  pub is : s ≡ opening (replicate (slot_word (threads k + locks k)) 0) slots (starting k)
 
 -- ---- the rule
 
@@ -198,10 +199,12 @@ pub data IsThreadWord (k : Terms) (word : ℕ) : Type 0 where
   out_with : (worker : ℕ) → worker < k.workers → word ≡ OUT + worker → IsThreadWord k word
 
 pub record AreExact (k : Terms) (words : List ℕ) : Type 0 where
-  pub count : length words ≡ threads k + 2 + locks k
-  pub of_threads : (t : ℕ) → t < threads k → IsThreadWord k (slice_index words (t + 2))
-  pub of_locks : (i : ℕ) → i < locks k → slice_index words (threads k + 2 + i) ≤ 1
-  pub of_stop : slice_index words 1 ≤ 1
+  pub count : length words ≡ slot_word (threads k + locks k)
+  pub of_threads : (t : ℕ) → t < threads k → IsThreadWord k (slice_index words (slot_word t))
+  pub of_locks : (i : ℕ) → i < locks k → slice_index words (slot_word (threads k + i)) ≤ 1
+  pub of_stop : slice_index words STOP ≤ 1
+  -- no step is on a word that doesn't start a cache line
+  pub between : (word : ℕ) → word < length words → word % LINE ≢ 0 → slice_index words word ≡ 0
 
 -- between any two operations the rules of places, words and history hold
 abbrev pub IsKept : Type 0

@@ -1,10 +1,16 @@
--- The words that show where a thread is.
-use Rattle.std.specs.Prelude.{ℕ, ◌+◌, ◌-◌, ◌<◌, ◌==◌, if◌then◌else◌}
+-- The words of the table, and what they show of a thread.
+use Rattle.std.specs.Prelude.{ℕ, ◌+◌, ◌-◌, ◌*◌, ◌<◌, ◌==◌, if◌then◌else◌}
+use Rattle.tc_hall.specs.declared.board.TheConstants.{LINE}
 use Rattle.tc_hall.specs.declared.place.TheConstants.{READY, PARKED, DONE, WAITING}
 use Rattle.tc_hall.specs.declared.place.Place.{Place}
 use Rattle.tc_hall.specs.declared.place.Place.TheVariants.{Ready, Parked, Done, Waiting}
 use Rattle.tc_hall.specs.declared.place.Origin.{Origin}
 use Rattle.tc_hall.specs.declared.place.Origin.TheVariants as origin
+
+-- the word of a slot, after those of the clock and the stop, each at the start of a cache line; that of the slot after the
+-- last is the number of words
+abbrev pub slot_word : ℕ → ℕ
+slot_word slot = LINE * (slot + 2)
 
 abbrev pub code_of : Place → ℕ
 code_of Ready = READY

@@ -16,6 +16,8 @@ use Rattle.tc_context.specs.declared.package.Grant.{Grant}
 use Rattle.tc_context.specs.Locks.{lock_in}
 use Rattle.tc_context.specs.View.{PackageView, Rests, bare, fits_of, granted_lock, want_of}
 use Rattle.tc_law.specs.Lawful.{Lawful, AreStrict}
+use Rattle.tc_hall.specs.declared.board.TheConstants.{CLOCK, STOP}
+use Rattle.tc_hall.specs.Places.{slot_word}
 use Rattle.tc_hall.specs.declared.place.TheConstants.{READY, DONE, WAITING, OUT}
 use Rattle.tc_hall.specs.declared.board.Knows.{Knows}
 use Rattle.tc_hall.specs.declared.board.Terms.{Terms}
@@ -77,16 +79,16 @@ pub record IsHome (ws : List ℕ) (hs : Homes) (t : ℕ) (p : PackageView) : Typ
   pub context : PackageView
   pub slot : get_elem? hs t ≡ some (some (Some (Package context)))
   pub same : bare context ≡ p
-  pub word : slice_index ws (t + 2) < OUT
-  pub order : IsInOrder (slice_index ws (t + 2)) context
-  pub fits : FitsAll (slice_index ws 1) context
+  pub word : slice_index ws (slot_word t) < OUT
+  pub order : IsInOrder (slice_index ws (slot_word t)) context
+  pub fits : FitsAll (slice_index ws STOP) context
 
 -- a package that is out with the pass id
 pub record IsPackageOut (ws : List ℕ) (hs : Homes) (vs : List Knows) (t : ℕ) (p : PackageView) (id : ℕ) : Type 0 where
   pub view : Knows
   pub pass : get_elem? vs id ≡ some view
   pub has : Has view t p
-  pub word : slice_index ws (t + 2) ≡ OUT + view.worker
+  pub word : slice_index ws (slot_word t) ≡ OUT + view.worker
   pub slot : view.hand ≢ Some t → get_elem? hs t ≡ some (some None)
   pub held : view.hand ≡ Some t → get_elem? hs t ≡ some none
 
@@ -111,7 +113,7 @@ pub record IsLockHome (n : ℕ) (ws : List ℕ) (hs : Homes) (i : ℕ) (l : Lock
   pub segment : LockView
   pub slot : get_elem? hs (n + i) ≡ some (some (Some (Lock segment)))
   pub same : kept segment ≡ l
-  pub word : slice_index ws (n + 2 + i) ≡ 0
+  pub word : slice_index ws (slot_word (n + i)) ≡ 0
   pub rests : Rests i segment
 
 pub record IsInside (n : ℕ) (ws : List ℕ) (hs : Homes) (i : ℕ) (l : LockView) (t : ℕ) : Type 0 where
@@ -121,14 +123,14 @@ pub record IsInside (n : ℕ) (ws : List ℕ) (hs : Homes) (i : ℕ) (l : LockVi
   pub segment : LockView
   pub has : locked_in context i ≡ Some segment
   pub same : kept segment ≡ l
-  pub word : slice_index ws (n + 2 + i) ≡ 1
+  pub word : slice_index ws (slot_word (n + i)) ≡ 1
   pub empty : get_elem? hs (n + i) ≡ some (some None)
 
 pub record IsLockOut (n : ℕ) (ws : List ℕ) (hs : Homes) (vs : List Knows) (i : ℕ) (l : LockView) (id : ℕ) : Type 0 where
   pub view : Knows
   pub pass : get_elem? vs id ≡ some view
   pub has : HasLock view i l
-  pub word : slice_index ws (n + 2 + i) ≡ 1
+  pub word : slice_index ws (slot_word (n + i)) ≡ 1
   pub empty : view.hand ≢ Some (n + i) → get_elem? hs (n + i) ≡ some (some None)
   pub held : view.hand ≡ Some (n + i) → get_elem? hs (n + i) ≡ some none
 
@@ -151,10 +153,10 @@ pub record IsPass (image : Shown) (workers : ℕ) (h : List Block) (ws : List �
   pub worker : v.worker < workers
   pub joined : (i w : ℕ) → get_elem? v.joined i ≡ some w → w < workers
   pub sealed : (i : ℕ) (b : Block) → get_elem? v.sealed i ≡ some b → get_elem? h b.stamp ≡ some b
-  pub done : (i t : ℕ) → get_elem? v.calls i ≡ some (Look t DONE) → slice_index ws (t + 2) ≡ DONE
-  pub stop : (i : ℕ) → get_elem? v.calls i ≡ some Stop → slice_index ws 1 ≡ 1
-  pub stopped : (i : ℕ) → get_elem? v.calls i ≡ some (Stopped 1) → slice_index ws 1 ≡ 1
-  pub misfit : (t : ℕ) → get_elem? v.misfits t ≡ some true → slice_index ws 1 ≡ 1
+  pub done : (i t : ℕ) → get_elem? v.calls i ≡ some (Look t DONE) → slice_index ws (slot_word t) ≡ DONE
+  pub stop : (i : ℕ) → get_elem? v.calls i ≡ some Stop → slice_index ws STOP ≡ 1
+  pub stopped : (i : ℕ) → get_elem? v.calls i ≡ some (Stopped 1) → slice_index ws STOP ≡ 1
+  pub misfit : (t : ℕ) → get_elem? v.misfits t ≡ some true → slice_index ws STOP ≡ 1
   pub sized : v.spent ≡ false → length v.misfits ≡ length image.entries
 
 -- the stop word is 1 only where some pass made a stop
@@ -194,11 +196,11 @@ pub record Told (k : Terms) : Type 0 where
 
 pub record KeptHall (k : Terms) (s : State (Option Cargo) Knows) : Type 0 where
   pub told : Told k
-  pub words : length s.words ≡ threads k + 2 + locks k
+  pub words : length s.words ≡ slot_word (threads k + locks k)
   pub slots : length s.homes ≡ threads k + locks k
-  pub clock : slice_index s.words 0 ≡ length told.history
+  pub clock : slice_index s.words CLOCK ≡ length told.history
   pub placed : ArePlaced (threads k) told.places s.words s.homes s.views
   pub locks_placed : AreLocksPlaced (threads k) (locks k) told.segments s.words s.homes s.views
   pub passes : (id : ℕ) (v : Knows) → get_elem? s.views id ≡ some v → IsPass k.image.value k.workers told.history s.words v
-  pub stop : slice_index s.words 1 ≡ 1 → HasStopped s.views
+  pub stop : slice_index s.words STOP ≡ 1 → HasStopped s.views
   pub apart : AreApart s.views

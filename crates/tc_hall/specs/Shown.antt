@@ -17,7 +17,7 @@ use Rattle.tc_hall.specs.declared.board.Cargo.TheVariants.{Package, Lock}
 use Rattle.tc_hall.specs.declared.place.TheConstants.{OUT}
 use Rattle.tc_hall.specs.declared.place.Place.{Place}
 use Rattle.tc_hall.specs.declared.place.Place.TheVariants as put
-use Rattle.tc_hall.specs.Places.{place_of}
+use Rattle.tc_hall.specs.Places.{place_of, slot_word}
 use Rattle.tc_hall.specs.Rule.{threads, locks, Has, HasLock, locked_in}
 use Rattle.tc_hall.specs.Effects.{Hall}
 use Rattle.tc_hall.specs.Outline.{Outline, Lying, at_home, in_hand, packed}
@@ -58,6 +58,6 @@ pub record ShowsLock (o : Outline) (i : ℕ) (l : LockView) (y : Lying) : Type 0
 
 -- the hall shows this outline, as far as its threads and locks go
 pub record IsShown (k : Terms) (s : Hall) (o : Outline) : Type 0 where
-  pub place : (t : ℕ) → t < threads k → o.place t ≡ place_shown (slice_index s.words (t + 2))
+  pub place : (t : ℕ) → t < threads k → o.place t ≡ place_shown (slice_index s.words (slot_word t))
   pub thread : (t : ℕ) (p : PackageView) → t < threads k → PackageAt s t p → ShowsThread o t p
   pub lock : (i : ℕ) (l : LockView) (y : Lying) → i < locks k → LockAt k s i l y → ShowsLock o i l y

@@ -27,7 +27,7 @@ use Rattle.tc_hall.specs.declared.board.Call.{Call}
 use Rattle.tc_hall.specs.declared.board.Call.TheVariants.{Put, Free, Look, Stop, Stopped}
 use Rattle.tc_hall.specs.declared.board.Cargo.{Cargo}
 use Rattle.tc_hall.specs.declared.board.Cargo.TheVariants.{Package, Lock}
-use Rattle.tc_hall.specs.Places.{code_of, place_of}
+use Rattle.tc_hall.specs.Places.{code_of, place_of, slot_word}
 use Rattle.tc_hall.specs.Rule.{Has, HasLock, IsInOrder, grants_adopted, locked_in, clean}
 use Rattle.tc_hall.specs.Outs.{outs, erase, Pack, Loose, IsOut, CameOut, Called}
 use Rattle.tc_hall.specs.PassView.{PassView}
@@ -233,20 +233,20 @@ abbrev pub Got : Option Terms → ℕ → ℕ → Sat → Sat → Type 0
 Got o word t m m' = (q : PackageView) × (w : Knows) × Gets word t q m.0 w × (m' ≡ (record w { hand = Some t }, (t, Some (Package q)) ∷ m.1)) × ((k : Terms) → o ≡ Some k → IsAsLeft k m.0 q)
 
 abbrev pub claimed : Option Terms → At → Sat → ℕ → Sat → Type 0
-claimed o st m r m' = (r ≡ st.first → (t : ℕ) → st.word ≡ t + 2 → Got o st.first t m m') × (r ≢ st.first → m' ≡ (after_miss m.0 st.word r, m.1))
+claimed o st m r m' = (r ≡ st.first → (t : ℕ) → st.word ≡ slot_word t → Got o st.first t m m') × (r ≢ st.first → m' ≡ (after_miss m.0 st.word r, m.1))
 
 -- the same of the state of lock i
 abbrev pub Took : Option Terms → ℕ → ℕ → Sat → Sat → Type 0
 Took o i slot m m' = (l : LockView) × (w : Knows) × Takes i l m.0 w × (m' ≡ (record w { hand = Some slot }, (slot, Some (Lock l)) ∷ m.1)) × ((k : Terms) → o ≡ Some k → IsStateAsLeft k m.0 i l)
 
 abbrev pub took_as : Option Terms → Option ℕ → At → Sat → ℕ → Sat → Type 0
-took_as o of st m r m' = (r ≡ st.first → (i slot : ℕ) → of ≡ Some i → st.word ≡ slot + 2 → Took o i slot m m') × (r ≢ st.first → m' ≡ (after_miss m.0 st.word r, m.1))
+took_as o of st m r m' = (r ≡ st.first → (i slot : ℕ) → of ≡ Some i → st.word ≡ slot_word slot → Took o i slot m m') × (r ≢ st.first → m' ≡ (after_miss m.0 st.word r, m.1))
 
 abbrev pub laid : At → Sat → ℕ → Sat → Type 0
 laid st m r m' = m' ≡ (record m.0 { hand = None }, rest m.1)
 
 abbrev pub reached : At → Sat → ℕ → Sat → Type 0
-reached st m r m' = (slot : ℕ) → st.word ≡ slot + 2 → m' ≡ (record m.0 { hand = Some slot }, (slot, None) ∷ m.1)
+reached st m r m' = (slot : ℕ) → st.word ≡ slot_word slot → m' ≡ (record m.0 { hand = Some slot }, (slot, None) ∷ m.1)
 
 -- the package was put, in a hall of these terms, where they were picked
 abbrev pub put_as : Option Terms → At → Sat → ℕ → Sat → Type 0
@@ -256,7 +256,7 @@ abbrev pub did_free : At → Sat → ℕ → Sat → Type 0
 did_free st m r m' = (slot : ℕ) (l : LockView) → m.1 ≡ (slot, Some (Lock l)) ∷ [] → m' ≡ (record (after_free m.0 l) { hand = None }, [])
 
 abbrev pub looked : At → Sat → ℕ → Sat → Type 0
-looked st m r m' = (t : ℕ) → st.word ≡ t + 2 → m' ≡ (with_call m.0 (Look t r), m.1)
+looked st m r m' = (t : ℕ) → st.word ≡ slot_word t → m' ≡ (with_call m.0 (Look t r), m.1)
 
 abbrev pub stopping : At → Sat → ℕ → Sat → Type 0
 stopping st m r m' = m' ≡ (with_call m.0 Stop, m.1)

@@ -14,13 +14,14 @@ use Rattle.tc_core.specs.Stories.{AreEnabled, after_all}
 use Rattle.tc_core.specs.declared.event.Event.{Event}
 use Rattle.tc_core.specs.declared.event.Event.TheVariants.{Claim, Turn, Commit, Take, Ship, Adopt, Grant, Free, HandBack, Park, Finish}
 use Rattle.tc_core.specs.declared.place.LockPlace.TheVariants as place
+use Rattle.tc_hall.specs.declared.board.TheConstants.{CLOCK, STOP}
 use Rattle.tc_hall.specs.declared.board.Knows.{Knows}
 use Rattle.tc_hall.specs.declared.board.Terms.{Terms}
 use Rattle.tc_hall.specs.declared.place.TheConstants.{WAITING, OUT}
 use Rattle.tc_hall.specs.declared.place.Place.{Place}
 use Rattle.tc_hall.specs.declared.place.Place.TheVariants.{Ready, Waiting, Parked, Done}
 use Rattle.tc_hall.specs.declared.place.Origin.{Origin}
-use Rattle.tc_hall.specs.Places.{origin_code}
+use Rattle.tc_hall.specs.Places.{origin_code, slot_word}
 use Rattle.tc_hall.specs.Rule.{threads, locks, HasLock, KeptHall, locked_in}
 use Rattle.tc_hall.specs.Steps.{MayFree, Seals, IsFree}
 use Rattle.tc_hall.specs.Effects.{Hall, after, claim_effect, commit_effect, put_effect, take_effect, free_effect, look_effect, stop_effect, stopped_effect, miss_effect, with_new_pass, with_joined}
@@ -84,7 +85,7 @@ silent s' = record { hall = s'; given = Always; asked = Always; events = [] }
 -- ---- claim: Claim
 
 abbrev pub ClaimTie : Type 0
-ClaimTie = (k : Terms) (m : Moment k) (t : ℕ) (q : PackageView) (from : Origin) → MayClaim k m.state m.view t q → slice_index m.state.words (t + 2) ≡ origin_code from
+ClaimTie = (k : Terms) (m : Moment k) (t : ℕ) (q : PackageView) (from : Origin) → MayClaim k m.state m.view t q → slice_index m.state.words (slot_word t) ≡ origin_code from
     → Tied k m.state record {
       hall = after m.state m.id (claim_effect m.view t q);
       given = Always;
@@ -115,7 +116,7 @@ pub record AdoptTies (k : Terms) (m : Moment k) (t lock : ℕ) (q : PackageView)
   pub grant : Tied k m.state (adopt_row k m t lock q (Grant m.view.worker t lock ∷ Claim m.view.worker t ∷ []))
 
 abbrev pub AdoptTie : Type 0
-AdoptTie = (k : Terms) (m : Moment k) (t lock : ℕ) (q : PackageView) (l : LockView) → MayClaim k m.state m.view t q → lock < locks k → slice_index m.state.words (t + 2) ≡ WAITING + lock → HasLock m.view lock l → AdoptTies k m t lock q
+AdoptTie = (k : Terms) (m : Moment k) (t lock : ℕ) (q : PackageView) (l : LockView) → MayClaim k m.state m.view t q → lock < locks k → slice_index m.state.words (slot_word t) ≡ WAITING + lock → HasLock m.view lock l → AdoptTies k m t lock q
 
 -- ---- put: HandBack, Ship, Park, Finish
 
@@ -153,7 +154,7 @@ PutTie = (k : Terms) (m : Moment k) (q : PackageView) → PutTies k m q
 -- ---- take: Take, of a thread that is at the worker
 
 abbrev pub TakeTie : Type 0
-TakeTie = (k : Terms) (m : Moment k) (t i : ℕ) (l : LockView) → t < threads k → slice_index m.state.words (t + 2) ≡ OUT + m.view.worker → MayTake k m.state m.view i l
+TakeTie = (k : Terms) (m : Moment k) (t i : ℕ) (l : LockView) → t < threads k → slice_index m.state.words (slot_word t) ≡ OUT + m.view.worker → MayTake k m.state m.view i l
     → Tied k m.state record {
       hall = after m.state m.id (take_effect (threads k) m.view i l);
       given = Always;
@@ -187,7 +188,7 @@ pub record RunsThrough (k : Terms) (w t n : ℕ) (end : End) (c : Core) : Type 0
 abbrev pub CommitTie : Type 0
 CommitTie = (k : Terms) (m : Moment k) (q : PackageView) (a : Seals m.view q)
     → Tied k m.state record {
-      hall = after m.state m.id (commit_effect m.view (slice_index m.state.words 0) a.ran.block q);
+      hall = after m.state m.id (commit_effect m.view (slice_index m.state.words CLOCK) a.ran.block q);
       given = Always;
       asked = RunsThrough k m.view.worker q.context.thread a.ran.block.turns a.ran.block.end;
       events = turns_by m.view.worker q.context.thread a.ran.block.turns ++ Commit m.view.worker q.context.thread ∷ [];
@@ -196,9 +197,9 @@ CommitTie = (k : Terms) (m : Moment k) (q : PackageView) (a : Seals m.view q)
 -- ---- steps with no event
 
 pub record TellTies (k : Terms) (m : Moment k) : Type 0 where
-  pub look : (t : ℕ) → Tied k m.state (silent (after m.state m.id (look_effect m.view t (slice_index m.state.words (t + 2)))))
+  pub look : (t : ℕ) → Tied k m.state (silent (after m.state m.id (look_effect m.view t (slice_index m.state.words (slot_word t)))))
   pub stop : Tied k m.state (silent (after m.state m.id (stop_effect m.view)))
-  pub stopped : Tied k m.state (silent (after m.state m.id (stopped_effect m.view (slice_index m.state.words 1))))
+  pub stopped : Tied k m.state (silent (after m.state m.id (stopped_effect m.view (slice_index m.state.words STOP))))
   -- a compare-and-swap that fails
   pub missed : (word : ℕ) → Tied k m.state (silent (after m.state m.id (miss_effect m.view word (slice_index m.state.words word))))
 

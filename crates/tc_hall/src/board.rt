@@ -1,8 +1,14 @@
 //! The table that the workers share, and what a pass knows.
 //!
-//! Word 0 is the clock, word 1 the stop, word t + 2 shows where thread t is, and word threads + 2 +
-//! i whether lock i is out. Slot t is for the package of thread t, and slot threads + i for the
-//! state of lock i. So the word of a slot is its number and 2.
+//! Slot t is for the package of thread t, and slot threads + i for the state of lock i. One word is
+//! the clock, one the stop, and each slot has a word: that of thread t shows where the thread is,
+//! and that of lock i whether the lock is out. Each of these words stands in a cache line of its
+//! own, so that workers that write different words don't take lines from one another. The words
+//! between them are 0, and no step is on them.
+
+ghost use Rattle.std.specs.Prelude.{◌≡◌};
+ghost use Rattle.tc_hall.specs.Places.{slot_word};
+
 use crate::place::Place;
 use atomic_table::{Seat, Table, TableRule};
 use std::alloc::Global;
@@ -12,6 +18,22 @@ use tc_context::package::Package;
 use tc_elf::image::Image;
 use tc_journal::block::{Block, Kind};
 use tc_segment::state::LockState;
+
+/// The words of 8 bytes in a cache line of 64.
+pub const LINE: usize = 8;
+
+/// The word of the clock.
+pub const CLOCK: usize = 0;
+
+/// The word of the stop.
+pub const STOP: usize = LINE;
+
+/// The word of a slot. That of the slot after the last is the number of words.
+pub(crate) fn word_of(slot: u32) -> usize
+    ensures { result ≡ slot_word slot }
+{
+    LINE * (slot as usize + 2)
+}
 
 /// What a hall is made with.
 #[derive(Drop)]

@@ -6,13 +6,13 @@ ghost use Rattle.tc_elf.specs.declared.limits.TheConstants.{MAX_THREADS, MAX_GUA
 ghost use Rattle.tc_elf.specs.Shown.{Shown};
 ghost use Rattle.tc_context.specs.View.{IsWaiting, with_seal};
 ghost use Rattle.tc_hall.specs.declared.place.TheConstants.{WAITING};
-ghost use Rattle.tc_hall.specs.Places.{IsInRange, origin_code};
+ghost use Rattle.tc_hall.specs.Places.{IsInRange, origin_code, slot_word};
 ghost use Rattle.tc_hall.specs.Rule.{threads, locks};
 ghost use Rattle.tc_hall.specs.Steps.{IsSamePass, IsPackage, IsLock, HoldsPackage, HoldsLock, Gets, MayPut, Gave, IsAsLeft, IsStateAsLeft, Missed, Takes, MayFree, Freed, Seals, DidSeal, after_look, after_stop, SawStopped, merged, IsFree, HasAll, HasSeenAll, IsEnd};
 ghost use Rattle.tc_hall.specs.Order.{IsClaimable};
 ghost use Rattle.tc_hall.specs.Made.{IsHallOf, AreDealt, AreStocked};
 
-use crate::board::{Board, Cargo, Slot, Terms};
+use crate::board::{Board, CLOCK, Cargo, STOP, Slot, Terms, word_of};
 use crate::closed::Closed;
 use crate::pass::Pass;
 use crate::place::{OUT, Origin, Place, WAITING};
@@ -67,13 +67,14 @@ impl Model for Hall {
     ghost use Rattle.std.specs.Prelude.{◌≡◌, ◌≤◌, ◌+◌, [], length, vec_capacity};
     ghost use Rattle.tc_elf.specs.declared.limits.TheConstants.{MAX_THREADS, MAX_GUARDS};
     ghost use Rattle.tc_hall.specs.PassView.{HallView};
+    ghost use Rattle.tc_hall.specs.Places.{slot_word};
 
     ghost Value = { HallView };
 
     ghost view = { λ h. record { table = h.board.shared.table_id; terms = h.board.shared.key } };
 
     ghost invariant = { λ h. (h.threads ≡ length h.board.shared.key.image.value.entries)
-        × (h.board.shared.table_id.words ≡ h.threads + 2 + h.locks)
+        × (h.board.shared.table_id.words ≡ slot_word (h.threads + h.locks))
         × (h.board.shared.table_id.slots ≡ h.threads + h.locks)
         × (h.locks ≡ length h.board.shared.key.image.value.guards)
         × (h.packages.items ≡ [])
@@ -153,7 +154,7 @@ impl Hall {
         let packages = Vec::with_capacity(alloc, threads)?;
         let lock_states = Vec::with_capacity(alloc, locks)?;
         let mut passes = Vec::with_capacity(alloc, workers as usize)?;
-        let words = Vec::from_elem(alloc, 0u64, threads + 2 + locks)?;
+        let words = Vec::from_elem(alloc, 0u64, word_of(image.threads() + image.guards()))?;
         let slots = stock(alloc, image, fuel, limit)?;
         let terms = Terms {
             image: Snapshot::of(image),
@@ -249,17 +250,17 @@ impl Hall {
         ensures own { IsSamePass pass.old pass.new }
         ensures result { MatchResult result
             (λ p. Gets code t p pass.old.knows pass.new.knows)
-            (λ e. Missed code (t + 2) e pass.old.knows pass.new.knows) }
+            (λ e. Missed code (slot_word t) e pass.old.knows pass.new.knows) }
         ensures left { IfOk result (λ p. IsAsLeft self.now.terms pass.old.knows p) }
     {
         let at = OUT + u64::from(pass.number);
         let words = &self.board.shared;
-        let found = words.compare_exchange::<Claim<J>>(&mut pass.seat, t as usize + 2, code, at);
+        let found = words.compare_exchange::<Claim<J>>(&mut pass.seat, word_of(t), code, at);
         if found != code {
             return Err(found);
         }
         let slot = words.exchange(&mut pass.seat, t as usize, None);
-        words.load::<Lay>(&mut pass.seat, 0);
+        words.load::<Lay>(&mut pass.seat, CLOCK);
         let package = package_of(slot);
         Ok(package)
     }
@@ -275,7 +276,7 @@ impl Hall {
         ensures own { IsSamePass pass.old pass.new }
         ensures result { MatchResult result
             (λ p. Gets (origin_code from) t p pass.old.knows pass.new.knows)
-            (λ e. Missed (origin_code from) (t + 2) e.0 pass.old.knows pass.new.knows) }
+            (λ e. Missed (origin_code from) (slot_word t) e.0 pass.old.knows pass.new.knows) }
         ensures left { IfOk result (λ p. IsAsLeft self.now.terms pass.old.knows p) }
     {
         match self.claim_from::<Brand>(pass, t, from.code()) {
@@ -295,7 +296,7 @@ impl Hall {
         ensures own { IsSamePass pass.old pass.new }
         ensures result { MatchResult result
             (λ p. Gets (WAITING + lock) t p pass.old.knows pass.new.knows)
-            (λ e. Missed (WAITING + lock) (t + 2) e.0 pass.old.knows pass.new.knows) }
+            (λ e. Missed (WAITING + lock) (slot_word t) e.0 pass.old.knows pass.new.knows) }
         ensures left { IfOk result (λ p. IsAsLeft self.now.terms pass.old.knows p) }
         ensures waiting { IfOk result (λ p. IsWaiting p lock) }
     {
@@ -319,15 +320,15 @@ impl Hall {
         ensures put { Gave place «package» pass.old.knows pass.new.knows }
         ensures left { IsAsLeft self.now.terms pass.old.knows «package» }
     {
-        let t = package.thread() as usize;
+        let t = package.thread();
         let code = place.code();
         let words = &self.board.shared;
-        words.load::<Reach>(&mut pass.seat, t + 2);
-        match words.exchange(&mut pass.seat, t, Some(Cargo::Package(package))) {
+        words.load::<Reach>(&mut pass.seat, word_of(t));
+        match words.exchange(&mut pass.seat, t as usize, Some(Cargo::Package(package))) {
             None => {}
             Some(_) => unreachable!(),
         }
-        words.store::<Fill<J>>(&mut pass.seat, t + 2, code);
+        words.store::<Fill<J>>(&mut pass.seat, word_of(t), code);
     }
 
     /// Puts a package that the pass has out into its thread's slot, with all locks that are in it.
@@ -354,18 +355,18 @@ impl Hall {
         ensures own { IsSamePass pass.old pass.new }
         ensures result { MatchResult result
             (λ l. Takes lock l pass.old.knows pass.new.knows)
-            (λ e. Missed 0 (threads self.now.terms + lock + 2) e.0
+            (λ e. Missed 0 (slot_word (threads self.now.terms + lock)) e.0
             pass.old.knows pass.new.knows) }
         ensures left { IfOk result (λ l. IsStateAsLeft self.now.terms pass.old.knows lock l) }
     {
-        let place = self.threads as usize + lock as usize;
+        let place = self.threads + lock;
         let words = &self.board.shared;
-        let found = words.compare_exchange::<Take<J>>(&mut pass.seat, place + 2, 0, 1);
+        let found = words.compare_exchange::<Take<J>>(&mut pass.seat, word_of(place), 0, 1);
         if found != 0 {
             return Err(LockOut(found));
         }
-        let slot = words.exchange(&mut pass.seat, place, None);
-        words.load::<Lay>(&mut pass.seat, 0);
+        let slot = words.exchange(&mut pass.seat, place as usize, None);
+        words.load::<Lay>(&mut pass.seat, CLOCK);
         Ok(lock_of(slot))
     }
 
@@ -377,7 +378,7 @@ impl Hall {
         ensures own { IsSamePass pass.old pass.new }
         ensures result { MatchResult result
             (λ l. Takes lock l pass.old.knows pass.new.knows)
-            (λ e. Missed 0 (threads self.now.terms + lock + 2) e.0
+            (λ e. Missed 0 (slot_word (threads self.now.terms + lock)) e.0
             pass.old.knows pass.new.knows) }
         ensures left { IfOk result (λ l. IsStateAsLeft self.now.terms pass.old.knows lock l) }
     {
@@ -393,14 +394,14 @@ impl Hall {
         ensures own { IsSamePass pass.old pass.new }
         ensures freed { Freed lock pass.old.knows pass.new.knows }
     {
-        let place = self.threads as usize + lock.number() as usize;
+        let place = self.threads + lock.number();
         let words = &self.board.shared;
-        words.load::<Reach>(&mut pass.seat, place + 2);
-        match words.exchange(&mut pass.seat, place, Some(Cargo::Lock(lock))) {
+        words.load::<Reach>(&mut pass.seat, word_of(place));
+        match words.exchange(&mut pass.seat, place as usize, Some(Cargo::Lock(lock))) {
             None => {}
             Some(_) => unreachable!(),
         }
-        words.store::<Free>(&mut pass.seat, place + 2, 0);
+        words.store::<Free>(&mut pass.seat, word_of(place), 0);
     }
 
     /// The word of a thread, by one load: [`READY`](crate::place::READY), `PARKED`, `DONE`, `WAITING`
@@ -413,7 +414,7 @@ impl Hall {
         ensures look { pass.new.knows ≡ after_look pass.old.knows t result }
     {
         let words = &self.board.shared;
-        words.load::<Look>(&mut pass.seat, t as usize + 2)
+        words.load::<Look>(&mut pass.seat, word_of(t))
     }
 
     /// Tells all workers to stop, by one store of 1 on the stop word, which no call takes back.
@@ -422,7 +423,7 @@ impl Hall {
         ensures own { IsSamePass pass.old pass.new }
         ensures stop { pass.new.knows ≡ after_stop pass.old.knows }
     {
-        self.board.shared.store::<Stop>(&mut pass.seat, 1, 1);
+        self.board.shared.store::<Stop>(&mut pass.seat, STOP, 1);
     }
 
     /// Whether a stop was made, by one load of the stop word. It was, where the pass took a package
@@ -432,7 +433,7 @@ impl Hall {
         ensures own { IsSamePass pass.old pass.new }
         ensures stopped { SawStopped result pass.old.knows pass.new.knows }
     {
-        self.board.shared.load::<Stopped>(&mut pass.seat, 1) == 1
+        self.board.shared.load::<Stopped>(&mut pass.seat, STOP) == 1
     }
 
     // The step that seals the block of J's package.
@@ -444,7 +445,9 @@ impl Hall {
         ensures seals { DidSeal «package».now result pass.old.knows pass.new.knows }
     {
         let _ = package;
-        self.board.shared.fetch_add::<Seal<J>>(&mut pass.seat, 0, 1)
+        self.board
+            .shared
+            .fetch_add::<Seal<J>>(&mut pass.seat, CLOCK, 1)
     }
 
     /// Seals the pending block of a package that the pass has out, by one fetch-and-add on the

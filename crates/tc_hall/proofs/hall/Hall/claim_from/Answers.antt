@@ -19,8 +19,8 @@ compare_exchange-found-requires g c =
     let below : c.args.t < threads c.self.inside.board.shared.key = subst (λ (h : HallView). c.args.t < threads h.terms) (sym c.self.view_is) c.requires.thread in
     let can : IsClaimable c.self.inside.board.shared.key c.args.code = subst (λ (h : HallView). IsClaimable h.terms c.args.code) (sym c.self.view_is) c.requires.code in (
       own,
-      omega (arith, c.self.invariant.0, c.self.invariant.1),
-      subst (λ (o : Option Terms). Claims c.self.inside.board.shared.key o c.self.inside.board.shared.table_id.slots seat.id c.args.t c.args.code (512 + c.from-at.result) seat.me.0 seat.me.1) (sym (c.requires.picked ∙ ap (λ (h : HallView). Some h.terms) (sym c.self.view_is)))
+      omega (arith, c.self.invariant.0, c.self.invariant.1, c.word_of.ensures),
+      subst (λ (z : Option Terms × ℕ). Claims c.self.inside.board.shared.key z.0 c.self.inside.board.shared.table_id.slots seat.id z.1 c.args.code (512 + c.from-at.result) seat.me.0 seat.me.1) (λ i. (sym (c.requires.picked ∙ ap (λ (h : HallView). Some h.terms) (sym c.self.view_is)) i, sym c.word_of.ensures i))
           (claims c.self.inside.board.shared.key _ seat.id c.args.t c.args.code _ seat.me.0 seat.me.1 c.pass.invariant.0 can (ap (λ (k : ℕ). 512 + k) (c.from-at.ensures ∙ c.pass.invariant.2)) below c.pass.invariant.3 c.pass.invariant.1),
     )
 
@@ -28,14 +28,14 @@ pub exchange-slot-requires : goal.exchange-slot-requires
 exchange-slot-requires g c =
     let own = ap (λ (p : PassView). p.table) c.pass.view_is ∙ (c.requires.own ∙ sym (ap (λ (h : HallView). h.table) c.self.view_is)) in
     let did = c.compare_exchange-found.ensures in
-    let got = did.2.0 c.if-found-code.false c.args.t refl in
+    let got = did.2.0 c.if-found-code.false c.args.t c.word_of.ensures in
     (did.0 ∙ own, got_slot c.args.t (Package got.0) got.1 c.pass.inside.seat.me c.compare_exchange-found.new.seat.me got.3)
 
 pub load-requires : goal.load-requires
 load-requires g c =
     let own = ap (λ (p : PassView). p.table) c.pass.view_is ∙ (c.requires.own ∙ sym (ap (λ (h : HallView). h.table) c.self.view_is)) in
     let did = c.compare_exchange-found.ensures in
-    let got = did.2.0 c.if-found-code.false c.args.t refl in
+    let got = did.2.0 c.if-found-code.false c.args.t c.word_of.ensures in
     let m2 = c.exchange-slot.new.seat.me in
     let view = got_view c.args.t (Package got.0) got.1 c.pass.inside.seat.me c.compare_exchange-found.new.seat.me got.3 c.pass.invariant.0 m2 c.exchange-slot.ensures.3 in (
       c.exchange-slot.ensures.0 ∙ (did.0 ∙ own),
@@ -46,12 +46,12 @@ load-requires g c =
 
 pub package_of-package-requires : goal.package_of-package-requires
 package_of-package-requires g c =
-    let got = c.compare_exchange-found.ensures.2.0 c.if-found-code.false c.args.t refl in
+    let got = c.compare_exchange-found.ensures.2.0 c.if-found-code.false c.args.t c.word_of.ensures in
     (got.0, got_found c.args.t (Package got.0) got.1 c.pass.inside.seat.me c.compare_exchange-found.new.seat.me got.3 c.exchange-slot.result c.exchange-slot.ensures.2)
 
 pub invariant_of-pass-2 : goal.invariant_of-pass-2
 invariant_of-pass-2 g c =
-    let got = c.compare_exchange-found.ensures.2.0 c.if-found-code.false c.args.t refl in
+    let got = c.compare_exchange-found.ensures.2.0 c.if-found-code.false c.args.t c.word_of.ensures in
     let free : got.1.hand ≡ None = ap (λ (z : Knows). z.hand) got.2.now ∙ c.pass.invariant.1 in
     let m = c.pass.inside.seat.me in
     let last = got_last c.args.t (Package got.0) got.1 m c.compare_exchange-found.new.seat.me got.3 c.pass.invariant.0 c.exchange-slot.new.seat.me c.exchange-slot.ensures.3 free c.load.new.seat.me c.load.ensures.2 in (
@@ -63,7 +63,7 @@ invariant_of-pass-2 g c =
 
 pub returns-clause-result : goal.returns-clause-result
 returns-clause-result g c =
-    let got = c.compare_exchange-found.ensures.2.0 c.if-found-code.false c.args.t refl in
+    let got = c.compare_exchange-found.ensures.2.0 c.if-found-code.false c.args.t c.word_of.ensures in
     let m = c.pass.inside.seat.me in
     let free : got.1.hand ≡ None = ap (λ (z : Knows). z.hand) got.2.now ∙ c.pass.invariant.1 in
     let last = got_last c.args.t (Package got.0) got.1 m c.compare_exchange-found.new.seat.me got.3 c.pass.invariant.0 c.exchange-slot.new.seat.me c.exchange-slot.ensures.3 free c.load.new.seat.me c.load.ensures.2 in
@@ -74,7 +74,7 @@ returns-clause-result g c =
 
 pub returns-clause-left : goal.returns-clause-left
 returns-clause-left g c =
-    let got = c.compare_exchange-found.ensures.2.0 c.if-found-code.false c.args.t refl in
+    let got = c.compare_exchange-found.ensures.2.0 c.if-found-code.false c.args.t c.word_of.ensures in
     let m = c.pass.inside.seat.me in
     let key : Terms = c.self.inside.board.shared.key in
     let found = got_found c.args.t (Package got.0) got.1 m c.compare_exchange-found.new.seat.me got.3 c.exchange-slot.result c.exchange-slot.ensures.2 in

@@ -1,5 +1,6 @@
 use Rattle.std.proofs.Common.{◌≡◌, ◌<◌, ◌+◌, ℕ, [], ◌∷◌, Some, refl, sym, ap, ◌∙◌, subst, arith}
 use Rattle.tc_segment.specs.View.{kept}
+use Rattle.tc_hall.specs.Places.{slot_word}
 use Rattle.tc_hall.specs.declared.board.Knows.{Knows}
 use Rattle.tc_hall.specs.declared.board.Cargo.TheVariants.{Lock}
 use Rattle.tc_hall.specs.PassView.{PassView, HallView}
@@ -7,7 +8,7 @@ use Rattle.tc_hall.specs.Rule.{threads, locks}
 use Rattle.tc_hall.specs.Steps.{Sat, MayFree, Freed}
 use Rattle.tc_hall.specs.Order.{of_lock}
 use Rattle.tc_hall.proofs.Cases.{clash}
-use Rattle.tc_hall.proofs.Stepping.{FreesAll, frees, reaches}
+use Rattle.tc_hall.proofs.Stepping.{FreesAll, frees, Reaches, reaches}
 use Rattle.tc_hall.proofs.Putting.{freed}
 use Rattle.tc_hall.proofs.Holding.{put_slot, put_found, put_carried, put_view}
 use Rattle.tc_hall.proofs.hall.Hall.free.Goals as goal
@@ -22,8 +23,9 @@ load-requires c =
     let may : MayFree seat.me.0 l = subst (λ (p : PassView). MayFree p.knows l) (sym c.pass.view_is) c.requires.ready in
     let at : threads key + l.number ≡ c.self.inside.threads + c.number.result = (let n = c.self.invariant.0 in let e = c.number.ensures in omega arith) in (
       own,
-      omega (arith, c.self.invariant.1, c.self.invariant.3, c.number.ensures),
-      reaches key _ seat.id (c.self.inside.threads + c.number.result) seat.me.0 seat.me.1 c.pass.invariant.0 c.pass.invariant.1 c.pass.invariant.3 (of_lock l.number (kept l) (sym at) may.has),
+      omega (arith, c.self.invariant.1, c.self.invariant.3, c.number.ensures, c.word_of.ensures),
+      subst (λ (z : ℕ). Reaches key c.self.inside.board.shared.table_id.slots seat.id z seat.me.0 seat.me.1) (sym c.word_of.ensures)
+          (reaches key _ seat.id (c.self.inside.threads + c.number.result) seat.me.0 seat.me.1 c.pass.invariant.0 c.pass.invariant.1 c.pass.invariant.3 (of_lock l.number (kept l) (sym at) may.has)),
     )
 
 pub exchange-requires : goal.exchange-requires
@@ -31,12 +33,12 @@ exchange-requires c =
     let own = ap (λ (p : PassView). p.table) c.pass.view_is ∙ (c.requires.own ∙ sym (ap (λ (h : HallView). h.table) c.self.view_is)) in
     let did = c.load.ensures in
     let slot : ℕ = c.self.inside.threads + c.number.result in
-    (did.0 ∙ own, put_slot slot (Lock c.args.lock) c.pass.inside.seat.me c.load.new.seat.me c.pass.invariant.0 (did.2 slot refl))
+    (did.0 ∙ own, put_slot slot (Lock c.args.lock) c.pass.inside.seat.me c.load.new.seat.me c.pass.invariant.0 (did.2 slot c.word_of.ensures))
 
 pub unreachable-requires : goal.unreachable-requires
 unreachable-requires c =
     let slot : ℕ = c.self.inside.threads + c.number.result in
-    let none = put_found slot (Lock c.args.lock) c.pass.inside.seat.me c.load.new.seat.me c.pass.invariant.0 (c.load.ensures.2 slot refl) c.exchange.result c.exchange.ensures.2 in
+    let none = put_found slot (Lock c.args.lock) c.pass.inside.seat.me c.load.new.seat.me c.pass.invariant.0 (c.load.ensures.2 slot c.word_of.ensures) c.exchange.result c.exchange.ensures.2 in
     clash c.exchange.result c.in-Some.field-0 none c.in-Some.is
 
 pub store-requires : goal.store-requires
@@ -52,11 +54,11 @@ store-requires c =
     let below : l.number < locks key = subst (λ (h : HallView). l.number < locks h.terms) (sym c.self.view_is) c.requires.lock in
     let may : MayFree m.0 l = subst (λ (p : PassView). MayFree p.knows l) (sym c.pass.view_is) c.requires.ready in
     let at : threads key + l.number ≡ slot = (let n = c.self.invariant.0 in let e = c.number.ensures in omega arith) in
-    let got = did.2 slot refl in
+    let got = did.2 slot c.word_of.ensures in
     let view = put_view slot (Lock l) m c.load.new.seat.me c.pass.invariant.0 got m2 c.exchange.ensures.3 in (
       c.exchange.ensures.0 ∙ (did.0 ∙ own),
-      omega (arith, c.self.invariant.1, c.self.invariant.3, c.number.ensures),
-      subst (λ (z : ℕ). FreesAll key c.self.inside.board.shared.table_id.slots m2id (z + 2) m2.0 m2.1) at
+      omega (arith, c.self.invariant.1, c.self.invariant.3, c.number.ensures, c.word_of-2.ensures),
+      subst (λ (z : ℕ). FreesAll key c.self.inside.board.shared.table_id.slots m2id z m2.0 m2.1) (ap slot_word at ∙ sym c.word_of-2.ensures)
           (frees key _ _ m2.0 l m2.1
           (put_carried slot (Lock l) m c.load.new.seat.me c.pass.invariant.0 got m2 c.exchange.ensures.3 ∙ ap (λ (z : ℕ). (z, Some (Lock l)) ∷ []) (sym at))
           (ap (λ (z : Knows). z.hand) view ∙ ap (λ (z : ℕ). Some z) (sym at)) (ap (λ (z : Knows). z.spent) view ∙ c.pass.invariant.3) (subst (λ (z : Knows). MayFree z l) (sym view) record { has = may.has; rests = may.rests })),
@@ -66,7 +68,7 @@ pub invariant_of-pass : goal.invariant_of-pass
 invariant_of-pass c =
     let m = c.pass.inside.seat.me in
     let slot : ℕ = c.self.inside.threads + c.number.result in
-    let got = c.load.ensures.2 slot refl in
+    let got = c.load.ensures.2 slot c.word_of.ensures in
     let carried = put_carried slot (Lock c.args.lock) m c.load.new.seat.me c.pass.invariant.0 got c.exchange.new.seat.me c.exchange.ensures.3 in
     let view = put_view slot (Lock c.args.lock) m c.load.new.seat.me c.pass.invariant.0 got c.exchange.new.seat.me c.exchange.ensures.3 in
     let did = c.store.ensures.2 slot c.args.lock carried in
@@ -76,7 +78,7 @@ pub returns-clause-freed : goal.returns-clause-freed
 returns-clause-freed c =
     let m = c.pass.inside.seat.me in
     let slot : ℕ = c.self.inside.threads + c.number.result in
-    let got = c.load.ensures.2 slot refl in
+    let got = c.load.ensures.2 slot c.word_of.ensures in
     let carried = put_carried slot (Lock c.args.lock) m c.load.new.seat.me c.pass.invariant.0 got c.exchange.new.seat.me c.exchange.ensures.3 in
     let view = put_view slot (Lock c.args.lock) m c.load.new.seat.me c.pass.invariant.0 got c.exchange.new.seat.me c.exchange.ensures.3 in
     let did = c.store.ensures.2 slot c.args.lock carried in

@@ -4,6 +4,7 @@ use Rattle.tc_elf.specs.Shown.{Shown}
 use Rattle.tc_hall.specs.declared.board.Terms.{Terms}
 use Rattle.tc_hall.specs.declared.board.Knows.{Knows}
 use Rattle.tc_hall.specs.Rule.{IsInLimits}
+use Rattle.tc_hall.specs.Places.{slot_word}
 use Rattle.tc_hall.specs.Made.{AreStocked}
 use Rattle.tc_hall.proofs.Stepping.{splits}
 use Rattle.tc_hall.proofs.Ordering.{opens_order}
@@ -21,7 +22,7 @@ new-requires c =
       workers = c.requires.workers;
     } in
     opens_order k c.as_slice.result.now c.in_ok-slots.slots.items limits (subst (λ (x : Shown). AreStocked x (length x.entries) (length x.guards) c.args.fuel c.args.limit c.in_ok-slots.slots.items) (sym image) c.in_ok-slots.ensures)
-    (c.as_slice.ensures.value ∙ (c.in_ok-words.ensures.items_if_clones_equal (λ y e. e) ∙ (ap (λ (z : ℕ × ℕ). replicate (z.0 + 2 + z.1) 0) (λ i. (c.threads-threads.ensures.value i, c.guards-locks.ensures.value i)) ∙ ap (λ (x : Shown). replicate (length x.entries + 2 + length x.guards) 0) (sym image))))
+    (c.as_slice.ensures.value ∙ (c.in_ok-words.ensures.items_if_clones_equal (λ y e. e) ∙ (ap (λ (z : ℕ). replicate z 0) (c.word_of.ensures ∙ ap (λ (z : ℕ × ℕ). slot_word (z.0 + z.1)) (λ i. (c.threads.ensures.value i, c.guards.ensures.value i))) ∙ ap (λ (x : Shown). replicate (slot_word (length x.entries + length x.guards)) 0) (sym image))))
 
 pub loop-worker-init : goal.loop-worker-init
 loop-worker-init c =

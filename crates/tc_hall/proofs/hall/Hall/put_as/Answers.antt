@@ -4,12 +4,12 @@ use Rattle.tc_hall.specs.declared.board.Knows.{Knows}
 use Rattle.tc_hall.specs.declared.board.Terms.{Terms}
 use Rattle.tc_hall.specs.declared.board.Cargo.TheVariants.{Package}
 use Rattle.tc_hall.specs.PassView.{PassView, HallView}
-use Rattle.tc_hall.specs.Places.{IsInRange}
+use Rattle.tc_hall.specs.Places.{IsInRange, slot_word}
 use Rattle.tc_hall.specs.Rule.{threads, locks}
 use Rattle.tc_hall.specs.Steps.{Sat, MayPut, Gave, IsAsLeft}
 use Rattle.tc_hall.specs.Order.{of_package}
 use Rattle.tc_hall.proofs.Cases.{clash}
-use Rattle.tc_hall.proofs.Stepping.{reaches, FillsAs, Fills, fills}
+use Rattle.tc_hall.proofs.Stepping.{Reaches, reaches, FillsAs, Fills, fills}
 use Rattle.tc_hall.proofs.Putting.{may_put_as, left_as, gave}
 use Rattle.tc_hall.proofs.Holding.{put_slot, put_found, put_carried, put_view}
 use Rattle.tc_hall.proofs.hall.Hall.put_as.Goals as goal
@@ -22,19 +22,20 @@ load-requires g c =
     let may : MayPut c.args.place seat.me.0 c.args.«package» = subst (λ (p : PassView). MayPut c.args.place p.knows c.args.«package») (sym c.pass.view_is) c.requires.ready in
     let t : c.thread-t.result ≡ c.args.«package».context.thread = c.thread-t.ensures in (
       own,
-      omega (arith, c.self.invariant.0, c.self.invariant.1),
-      reaches c.self.inside.board.shared.key _ seat.id c.thread-t.result seat.me.0 seat.me.1 c.pass.invariant.0 c.pass.invariant.1 c.pass.invariant.3 (of_package c.args.«package».context.thread (bare c.args.«package») t may.has),
+      omega (arith, c.self.invariant.0, c.self.invariant.1, c.word_of.ensures),
+      subst (λ (z : ℕ). Reaches c.self.inside.board.shared.key c.self.inside.board.shared.table_id.slots seat.id z seat.me.0 seat.me.1) (sym c.word_of.ensures)
+          (reaches c.self.inside.board.shared.key _ seat.id c.thread-t.result seat.me.0 seat.me.1 c.pass.invariant.0 c.pass.invariant.1 c.pass.invariant.3 (of_package c.args.«package».context.thread (bare c.args.«package») t may.has)),
     )
 
 pub exchange-requires : goal.exchange-requires
 exchange-requires g c =
     let own = ap (λ (p : PassView). p.table) c.pass.view_is ∙ (c.requires.own ∙ sym (ap (λ (h : HallView). h.table) c.self.view_is)) in
     let did = c.load.ensures in
-    (did.0 ∙ own, put_slot c.thread-t.result (Package c.args.«package») c.pass.inside.seat.me c.load.new.seat.me c.pass.invariant.0 (did.2 c.thread-t.result refl))
+    (did.0 ∙ own, put_slot c.thread-t.result (Package c.args.«package») c.pass.inside.seat.me c.load.new.seat.me c.pass.invariant.0 (did.2 c.thread-t.result c.word_of.ensures))
 
 pub unreachable-requires : goal.unreachable-requires
 unreachable-requires g c =
-    let none = put_found c.thread-t.result (Package c.args.«package») c.pass.inside.seat.me c.load.new.seat.me c.pass.invariant.0 (c.load.ensures.2 c.thread-t.result refl) c.exchange.result c.exchange.ensures.2 in
+    let none = put_found c.thread-t.result (Package c.args.«package») c.pass.inside.seat.me c.load.new.seat.me c.pass.invariant.0 (c.load.ensures.2 c.thread-t.result c.word_of.ensures) c.exchange.result c.exchange.ensures.2 in
     clash c.exchange.result c.in-Some.field-0 none c.in-Some.is
 
 pub store-requires : goal.store-requires
@@ -50,12 +51,12 @@ store-requires g c =
     let range : IsInRange (locks key) c.args.place = subst (λ (h : HallView). IsInRange (locks h.terms) c.args.place) (sym c.self.view_is) c.requires.place in
     let may : MayPut c.args.place m.0 q = subst (λ (p : PassView). MayPut c.args.place p.knows q) (sym c.pass.view_is) c.requires.ready in
     let t : c.thread-t.result ≡ q.context.thread = c.thread-t.ensures in
-    let got = did.2 c.thread-t.result refl in
+    let got = did.2 c.thread-t.result c.word_of.ensures in
     let view = put_view c.thread-t.result (Package q) m c.load.new.seat.me c.pass.invariant.0 got m2 c.exchange.ensures.3 in (
       c.exchange.ensures.0 ∙ (did.0 ∙ own),
-      omega (arith, c.self.invariant.0, c.self.invariant.1),
-      subst (λ (o : Option Terms). FillsAs key o c.self.inside.board.shared.table_id.slots m2id c.thread-t.result c.code-code.result m2.0 m2.1) (sym (c.requires.picked ∙ ap (λ (h : HallView). Some h.terms) (sym c.self.view_is)))
-          (subst (λ (z : ℕ × ℕ). Fills key c.self.inside.board.shared.table_id.slots m2id z.0 z.1 m2.0 m2.1) (λ i. (sym t i, sym c.code-code.ensures i))
+      omega (arith, c.self.invariant.0, c.self.invariant.1, c.word_of-2.ensures),
+      subst (λ (z : Option Terms × ℕ). FillsAs key z.0 c.self.inside.board.shared.table_id.slots m2id z.1 c.code-code.result m2.0 m2.1) (λ i. (sym (c.requires.picked ∙ ap (λ (h : HallView). Some h.terms) (sym c.self.view_is)) i, sym c.word_of-2.ensures i))
+          (subst (λ (z : ℕ × ℕ). Fills key c.self.inside.board.shared.table_id.slots m2id (slot_word z.0) z.1 m2.0 m2.1) (λ i. (sym t i, sym c.code-code.ensures i))
           (fills key _ _ c.args.place m2.0 q m2.1
           (put_carried c.thread-t.result (Package q) m c.load.new.seat.me c.pass.invariant.0 got m2 c.exchange.ensures.3 ∙ ap (λ (z : ℕ). (z, Some (Package q)) ∷ []) t)
           (ap (λ (z : Knows). z.hand) view ∙ ap (λ (z : ℕ). Some z) t) (ap (λ (z : Knows). z.spent) view ∙ c.pass.invariant.3) range (may_put_as c.args.place m.0 m2.0 q (Some c.thread-t.result) view may))),
@@ -64,7 +65,7 @@ store-requires g c =
 pub invariant_of-pass : goal.invariant_of-pass
 invariant_of-pass g c =
     let m = c.pass.inside.seat.me in
-    let got = c.load.ensures.2 c.thread-t.result refl in
+    let got = c.load.ensures.2 c.thread-t.result c.word_of.ensures in
     let carried = put_carried c.thread-t.result (Package c.args.«package») m c.load.new.seat.me c.pass.invariant.0 got c.exchange.new.seat.me c.exchange.ensures.3 in
     let view = put_view c.thread-t.result (Package c.args.«package») m c.load.new.seat.me c.pass.invariant.0 got c.exchange.new.seat.me c.exchange.ensures.3 in
     let did = (c.store.ensures.2 c.thread-t.result c.args.«package» carried).0 in
@@ -73,7 +74,7 @@ invariant_of-pass g c =
 pub returns-clause-put : goal.returns-clause-put
 returns-clause-put g c =
     let m = c.pass.inside.seat.me in
-    let got = c.load.ensures.2 c.thread-t.result refl in
+    let got = c.load.ensures.2 c.thread-t.result c.word_of.ensures in
     let carried = put_carried c.thread-t.result (Package c.args.«package») m c.load.new.seat.me c.pass.invariant.0 got c.exchange.new.seat.me c.exchange.ensures.3 in
     let view = put_view c.thread-t.result (Package c.args.«package») m c.load.new.seat.me c.pass.invariant.0 got c.exchange.new.seat.me c.exchange.ensures.3 in
     let did = (c.store.ensures.2 c.thread-t.result c.args.«package» carried).0 in
@@ -85,7 +86,7 @@ returns-clause-left g c =
     let m = c.pass.inside.seat.me in
     let m2 = c.exchange.new.seat.me in
     let q = c.args.«package» in
-    let got = c.load.ensures.2 c.thread-t.result refl in
+    let got = c.load.ensures.2 c.thread-t.result c.word_of.ensures in
     let carried = put_carried c.thread-t.result (Package q) m c.load.new.seat.me c.pass.invariant.0 got m2 c.exchange.ensures.3 in
     let view = put_view c.thread-t.result (Package q) m c.load.new.seat.me c.pass.invariant.0 got m2 c.exchange.ensures.3 in
     let terms : Terms = c.self.inside.board.shared.key in
