@@ -1,11 +1,11 @@
 -- What a worker that looks for a package comes to, and why.
-use Rattle.std.specs.Prelude.{◌≡◌, ◌⊎◌, ℕ, ◌+◌, ◌<◌, ◌∷◌, max, IfSome, MatchOption, Option, Some, None}
+use Rattle.std.specs.Prelude.{◌≡◌, ◌⊎◌, ℕ, ◌<◌, ◌∷◌, max, IfSome, MatchOption, Option, Some, None}
 use Rattle.tc_context.specs.View.{PackageView}
 use Rattle.tc_hall.specs.declared.board.Call.TheVariants.{Stopped as Seen}
 use Rattle.tc_hall.specs.declared.board.Knows.{Knows}
 use Rattle.tc_hall.specs.declared.place.Origin.{Origin}
 use Rattle.tc_hall.specs.declared.place.Origin.TheVariants.{Ready, Parked}
-use Rattle.tc_hall.specs.Places.{origin_code}
+use Rattle.tc_hall.specs.Places.{origin_code, slot_word}
 use Rattle.tc_hall.specs.Outs.{Called}
 use Rattle.tc_hall.specs.Steps.{Gets, Missed}
 use Rattle.tc_park.specs.Order.{IsFirstDue, IsLeast, NoneIsDue, NoneSleeps}
@@ -33,7 +33,7 @@ IsTakenUp d e q Stopped = SawStop q d.pass.knows e.pass.knows
 
 -- a thread was tried at this place: its package is in hand, or it was not there, or it was and the stop was seen
 abbrev pub IsTry : Origin → ℕ → Knows → Knows → Step → Type 0
-IsTry from t v w (On None) = (word : ℕ) × Missed (origin_code from) (t + 2) word v w
+IsTry from t v w (On None) = (word : ℕ) × Missed (origin_code from) (slot_word t) word v w
 IsTry from t v w (On (Some q)) = Gets (origin_code from) t q v w
 IsTry from t v w AllDone = ⊥
 IsTry from t v w Stopped = (q : PackageView) × (u : Knows) × Gets (origin_code from) t q v u × SawStop q u w
