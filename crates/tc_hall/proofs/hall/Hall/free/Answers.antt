@@ -1,4 +1,4 @@
-use Rattle.std.proofs.Common.{◌≡◌, ◌<◌, ◌+◌, ℕ, [], ◌∷◌, Some, refl, sym, ap, ◌∙◌, subst, arith}
+use Rattle.std.proofs.Common.{◌≡◌, ◌<◌, ◌+◌, ℕ, [], ◌∷◌, Some, sym, ap, ◌∙◌, subst, arith}
 use Rattle.tc_segment.specs.View.{kept}
 use Rattle.tc_hall.specs.Places.{slot_word}
 use Rattle.tc_hall.specs.declared.board.Knows.{Knows}
