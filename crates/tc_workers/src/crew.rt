@@ -6,9 +6,9 @@ ghost use Rattle.tc_workers.specs.Worker.{IsAtWork};
 ghost use Rattle.tc_workers.specs.Turns.{IsFinished};
 ghost use Rattle.tc_workers.specs.Crew.{AreAtWork, AreForHire, AreHired, HaveFinished, IsForHire, IsHired};
 
+use crate::bell::Bell;
 use crate::finished::Finished;
 use crate::gate::Gate;
-use crate::start::Start;
 use crate::work::work;
 use crate::worker::Worker;
 use std::alloc::{AllocError, Global};
@@ -66,13 +66,30 @@ pub(crate) fn hire<Q: Waiters>(
     Ok(workers)
 }
 
+// Runs the worker once all have begun, and rings the bell for those who sleep when it has ended.
+fn serve<R: Wait, G: Gate, Q: Waiters>(
+    rt: &R,
+    bench: &Bench<'_, Q>,
+    gate: &G,
+    bell: &Bell,
+    worker: Worker<Q>,
+) -> Finished
+    requires work { IsAtWork bench.now None worker }
+    ensures finished { IsFinished bench.now.hall.terms worker.desk.pass result.pass result.all_done }
+{
+    bell.wait(rt);
+    let finished = work(rt, bench, gate, bell, worker);
+    bell.ring(1);
+    finished
+}
+
 /// Runs the workers beside one another until all have ended, and joins their passes into one.
 #[cycle(crew)]
 pub(crate) fn together<R: Threads + Wait + Sync, G: Gate, Q: Waiters>(
     rt: &R,
     bench: &Bench<'_, Q>,
     gate: &G,
-    start: &Start,
+    bell: &Bell,
     mut crew: Vec<Worker<Q>>,
 ) -> Finished
 where
@@ -85,20 +102,16 @@ where
         unreachable!();
     };
     if crew.is_empty() {
-        start.wait(rt);
-        return work(rt, bench, gate, worker);
+        return serve(rt, bench, gate, bell, worker);
     }
     let others = move || -> Finished
         requires { (0 < length crew.items) × AreAtWork bench.now crew.items }
         ensures { HaveFinished bench.entry.now crew.items result.pass result.all_done }
-    { together(rt, bench, gate, start, crew) };
+    { together(rt, bench, gate, bell, crew) };
     let own = move || -> Finished
         requires { IsSync R.row × IsSync G.row × IsSync Q.row × IsSend Q.Seat.row × IsSend Q.Place.row × IsAtWork bench.now None worker }
         ensures { IsFinished bench.entry.now.hall.terms worker.desk.pass result.pass result.all_done }
-    {
-        start.wait(rt);
-        work(rt, bench, gate, worker)
-    };
+    { serve(rt, bench, gate, bell, worker) };
     let (own, rest) = join(rt, own, others);
     let Finished { mut pass, all_done } = own;
     let Finished {

@@ -9,9 +9,10 @@ ghost use Rattle.tc_workers.specs.Worker.{DeskSteps, HasClaimed, IsAtWork, IsIdl
 use crate::calls;
 use crate::gate::{Gate, Point};
 use crate::leave::leave;
+use crate::rests::Rests;
 use crate::step::Step;
 use crate::worker::Worker;
-use crossbeam_utils::Backoff;
+use std::sync::Wait;
 use tc_combiner::{Bench, Desk};
 use tc_context::package::Package;
 use tc_hall::place::Origin;
@@ -65,7 +66,12 @@ pub fn claim<G: Gate, Q: Waiters>(
 }
 
 // There is nothing to do and nobody sleeps: ends where each thread is seen to have ended.
-fn rest<Q: Waiters>(bench: &Bench<'_, Q>, pause: &Backoff, desk: &mut Desk<Q>) -> Step
+fn rest<R: Wait, Q: Waiters>(
+    rt: &R,
+    bench: &Bench<'_, Q>,
+    rests: &mut Rests<'_>,
+    desk: &mut Desk<Q>,
+) -> Step
     requires idle { IsIdle bench.now desk.old }
     requires sleepers { NoneSleeps desk.old.sleepers }
     ensures steps { DeskSteps bench.now desk.old desk.new result }
@@ -74,19 +80,24 @@ fn rest<Q: Waiters>(bench: &Bench<'_, Q>, pause: &Backoff, desk: &mut Desk<Q>) -
     if calls::all_done(bench.hall, desk.pass(), bench.image.threads()) {
         return Step::AllDone;
     }
-    pause.snooze();
+    rests.rest(rt);
     Step::On(None)
 }
 
 // There is nothing to do: moves the clock to the first sleeper.
-fn idle<Q: Waiters>(bench: &Bench<'_, Q>, pause: &Backoff, desk: &mut Desk<Q>) -> Step
+fn idle<R: Wait, Q: Waiters>(
+    rt: &R,
+    bench: &Bench<'_, Q>,
+    rests: &mut Rests<'_>,
+    desk: &mut Desk<Q>,
+) -> Step
     requires idle { IsIdle bench.now desk.old }
     ensures steps { DeskSteps bench.now desk.old desk.new result }
     ensures pause { IsPause (threads bench.now.hall.terms) desk.old desk.new result }
 {
     let now = desk.now();
     match desk.sleepers().least() {
-        None => rest(bench, pause, desk),
+        None => rest(rt, bench, rests, desk),
         Some(due) => {
             desk.advance(due.max(now));
             Step::On(None)
@@ -108,10 +119,11 @@ fn choose<Q: Waiters>(bench: &Bench<'_, Q>, worker: &mut Worker<Q>) -> Option<(u
 }
 
 // Tries the next thread, where there is one, else waits.
-fn seek<G: Gate, Q: Waiters>(
+fn seek<R: Wait, G: Gate, Q: Waiters>(
+    rt: &R,
     bench: &Bench<'_, Q>,
     gate: &G,
-    pause: &Backoff,
+    rests: &mut Rests<'_>,
     worker: &mut Worker<Q>,
 ) -> Step
     requires { MaySearch bench.now worker.old }
@@ -119,17 +131,18 @@ fn seek<G: Gate, Q: Waiters>(
     ensures search { IsSearch (threads bench.now.hall.terms) worker.old worker.new result }
 {
     match choose(bench, worker) {
-        None => idle(bench, pause, &mut worker.desk),
+        None => idle(rt, bench, rests, &mut worker.desk),
         Some((t, from)) => claim(bench, gate, &mut worker.desk, t, from),
     }
 }
 
 /// Goes on with the package that is set aside, else with a sleeper that is due, else with a thread
 /// that is ready.
-pub fn find<G: Gate, Q: Waiters>(
+pub fn find<R: Wait, G: Gate, Q: Waiters>(
+    rt: &R,
     bench: &Bench<'_, Q>,
     gate: &G,
-    pause: &Backoff,
+    rests: &mut Rests<'_>,
     worker: &mut Worker<Q>,
 ) -> Step
     requires work { IsAtWork bench.now None worker.old }
@@ -137,7 +150,7 @@ pub fn find<G: Gate, Q: Waiters>(
     ensures found { Finds bench.now worker.old.desk.aside worker.old worker.new result }
 {
     match worker.desk.back() {
-        None => seek(bench, gate, pause, worker),
+        None => seek(rt, bench, gate, rests, worker),
         Some(package) => Step::On(Some(package)),
     }
 }

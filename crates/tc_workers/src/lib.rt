@@ -12,10 +12,12 @@
 //! - `gate`: whom a worker tells how far it is. `worker`: workers. `work`: a worker's steps, in their
 //!   order. `find`, `go_on`, `leave`: how it finds a package, goes on with one, and leaves. `calls`:
 //!   the calls of the hall, as workers make them. `step`, `finished`: what a step and the end give.
-//! - `crew`: all workers beside one another. `start`: how they begin together. `lines`: the queues of
-//!   all locks, and their seats. `run`: whole runs. `options`: with what a guest is run.
+//! - `crew`: all workers beside one another. `bell`: where they wait for one another. `rests`: how one
+//!   rests that finds nothing. `lines`: the queues of all locks, and their seats. `run`: whole runs.
+//!   `options`: with what a guest is run.
 #![tactic(auto)]
 
+mod bell;
 mod calls;
 mod crew;
 mod find;
@@ -25,10 +27,10 @@ mod go_on;
 mod leave;
 pub mod lines;
 pub mod options;
+mod rests;
 mod run;
 #[cfg(test)]
 mod scripts;
-mod start;
 mod step;
 #[cfg(test)]
 mod stops;

@@ -8,12 +8,12 @@ ghost use Rattle.tc_workers.specs.Crew.{AreForHire, AreLines, HasRun};
 ghost use Rattle.tc_workers.specs.GoOn.{CanHave};
 ghost use Rattle.tc_workers.specs.Run.{IsWholeRun};
 
+use crate::bell::Bell;
 use crate::crew::{hire, together};
 use crate::finished::Finished;
 use crate::gate::Gate;
 use crate::lines::{Lines, line_up};
 use crate::options::Options;
-use crate::start::Start;
 use std::alloc::{AllocError, Global};
 use std::sync::Wait;
 use std::thread::Threads;
@@ -75,8 +75,8 @@ where
     ensures { IfOk result (λ f. HasRun bench.now.hall (length passes.items) f.pass f.all_done) }
 {
     let crew = hire(alloc, bench, passes, seats, ready)?;
-    let start = Start::new(crew.len() as u64);
-    Ok(together(rt, bench, gate, &start, crew))
+    let bell = Bell::new(crew.len() as u64);
+    Ok(together(rt, bench, gate, &bell, crew))
 }
 
 /// Runs the threads of an image to their ends, by so many workers beside one another, with these

@@ -8,11 +8,11 @@ ghost use Rattle.tc_queue.specs.Lines.{seat_as};
 ghost use Rattle.tc_workers.specs.Crew.{AreAtWork};
 ghost use Rattle.tc_workers.specs.Scripts.{IsAtHall, IsKeeper, IsPlaying};
 
+use crate::bell::Bell;
 use crate::crew::together;
 use crate::finished::Finished;
 use crate::gate::{Gate, Point};
 use crate::scripts::{Action, Ending, Player, START, Script, TWO_GUARDS, in_hand, play_to};
-use crate::start::Start;
 use crate::worker::Worker;
 use crossbeam_utils::atomic::AtomicCell;
 use std::process::Abort;
@@ -239,7 +239,7 @@ pub(crate) fn stop_behind<R: Abort + Threads + Wait + Sync>(
 {
     let pass = spare(rt, bench, &mut crew);
     assert!(rt; !crew.is_empty());
-    let start = Start::new(crew.len() as u64);
+    let bell = Bell::new(crew.len() as u64);
     let gate = Stopping {
         rt,
         blocks,
@@ -249,7 +249,7 @@ pub(crate) fn stop_behind<R: Abort + Threads + Wait + Sync>(
             pass,
         }),
     };
-    let Finished { mut pass, all_done } = together(rt, bench, &gate, &start, crew);
+    let Finished { mut pass, all_done } = together(rt, bench, &gate, &bell, crew);
     assert!(rt; !all_done);
     assert!(rt; gate.committed.load() > blocks);
     check_back(rt, bench, &mut pass);

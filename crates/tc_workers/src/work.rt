@@ -4,15 +4,16 @@ ghost use Rattle.std.specs.Prelude.{◌≡◌, None};
 ghost use Rattle.tc_workers.specs.Worker.{HasLeft, IsAtWork, WorkerSteps};
 ghost use Rattle.tc_workers.specs.Turns.{HasWorked, IsFinished, TakesStep};
 
+use crate::bell::Bell;
 use crate::calls;
 use crate::find::find;
 use crate::finished::Finished;
 use crate::gate::Gate;
 use crate::go_on::go_on;
 use crate::leave::leave;
+use crate::rests::Rests;
 use crate::step::Step;
 use crate::worker::Worker;
-use crossbeam_utils::Backoff;
 use std::sync::Wait;
 use tc_combiner::Bench;
 use tc_context::package::Package;
@@ -24,7 +25,7 @@ fn take_step<R: Wait, G: Gate, Q: Waiters>(
     rt: &R,
     bench: &Bench<'_, Q>,
     gate: &G,
-    pause: &Backoff,
+    rests: &mut Rests<'_>,
     worker: &mut Worker<Q>,
     hand: Option<Package>,
 ) -> Step
@@ -37,9 +38,9 @@ fn take_step<R: Wait, G: Gate, Q: Waiters>(
         return Step::Stopped;
     }
     match hand {
-        None => find(bench, gate, pause, worker),
+        None => find(rt, bench, gate, rests, worker),
         Some(package) => {
-            pause.reset();
+            rests.step();
             go_on(rt, bench, gate, worker, package)
         }
     }
@@ -61,16 +62,17 @@ pub fn work<R: Wait, G: Gate, Q: Waiters>(
     rt: &R,
     bench: &Bench<'_, Q>,
     gate: &G,
+    bell: &Bell,
     mut worker: Worker<Q>,
 ) -> Finished
     requires work { IsAtWork bench.now None worker }
     ensures finished { IsFinished bench.now.hall.terms worker.desk.pass result.pass result.all_done }
     ensures worked { HasWorked bench.now worker result.pass result.all_done }
 {
-    let pause = Backoff::new();
+    let mut rests = Rests::new(bell);
     let mut hand = None;
     for _ in rt.forever() {
-        match take_step(rt, bench, gate, &pause, &mut worker, hand) {
+        match take_step(rt, bench, gate, &mut rests, &mut worker, hand) {
             Step::On(next) => hand = next,
             Step::AllDone => {
                 return Finished {

@@ -12,14 +12,14 @@ use Rattle.tc_workers.proofs.Joining.{at_work_last, one_finished, all_finished}
 use Rattle.tc_workers.proofs.crew.+crew.Goals as goal
 use Rattle.tc_workers.proofs.crew.+crew.Goals.{then-all_done, else-all_done}
 
-pub work-requires-clause-work : goal.work-requires-clause-work
-work-requires-clause-work g t c κs within = (at_work_last c.args.bench.now c.pop.new.self.items c.args.crew.items c.in-Some.worker c.requires.work c.in-Some.ensures.items).0
+pub serve-requires-clause-work : goal.serve-requires-clause-work
+serve-requires-clause-work g t c κs within = (at_work_last c.args.bench.now c.pop.new.self.items c.args.crew.items c.in-Some.worker c.requires.work c.in-Some.ensures.items).0
 
 pub returns-then-is_empty : goal.returns-then-is_empty
 returns-then-is_empty g t c =
     let work = (at_work_last c.args.bench.now c.pop.new.self.items c.args.crew.items c.in-Some.worker c.requires.work c.in-Some.ensures.items).0 in
     let none : length c.pop.new.self.items ≡ 0 = search rules in
-    one_finished c.args.bench.now c.in-Some.worker c.pop.new.self.items c.args.crew.items c.work.result.pass c.work.result.all_done work c.work.ensures.finished c.in-Some.ensures.items none
+    one_finished c.args.bench.now c.in-Some.worker c.pop.new.self.items c.args.crew.items c.serve.result.pass c.serve.result.all_done work c.serve.ensures.finished c.in-Some.ensures.items none
 
 pub join-own-requires-send-F : goal.join-own-requires-send-F
 join-own-requires-send-F g t c κs within =

@@ -1,0 +1,65 @@
+//! How a worker rests while it finds nothing.
+
+use crate::bell::Bell;
+use crossbeam_utils::Backoff;
+use std::sync::Wait;
+use std::time::Duration;
+
+// After so many steps with a package in hand a worker has found enough to do, and its next rest is
+// short. A thread that it takes only to ship it at its next lock makes two or three.
+const ENOUGH: u32 = 200;
+
+// How long the first sleep is at most, in microseconds, and how long each is.
+const SHORTEST: u64 = 25;
+
+const LONGEST: u64 = 1_600;
+
+/// The rests of a worker. At first it spins, or gives its processor away; then it sleeps, each time
+/// twice as long, so that it leaves the others alone, but never for two milliseconds. Nobody
+/// waits for a worker that rests: whoever makes a thread ready goes on with it, if no other does.
+/// They have no meaning, so every contract holds whatever they are.
+#[derive(Drop)]
+pub(crate) struct Rests<'a> {
+    bell: &'a Bell,
+    pause: Backoff,
+    // How long the next sleep is at most, in microseconds.
+    next: u64,
+    // How many steps with a package in hand were made since the last rest.
+    steps: u32,
+}
+
+impl<'a> Rests<'a> {
+    /// Those of a worker who has not rested yet.
+    pub(crate) fn new(bell: &'a Bell) -> Rests<'a> {
+        Rests {
+            bell,
+            pause: Backoff::new(),
+            next: SHORTEST,
+            steps: 0,
+        }
+    }
+
+    /// The worker makes a step with a package in hand.
+    pub(crate) fn step(&mut self) {
+        self.steps = self.steps.saturating_add(1);
+    }
+
+    // The next rest is short where enough was done since the last one.
+    fn begin(&mut self) {
+        if self.steps >= ENOUGH {
+            self.pause.reset();
+            self.next = SHORTEST;
+        }
+        self.steps = 0;
+    }
+
+    /// Rests, longer than the last time where little was done since.
+    pub(crate) fn rest<R: Wait>(&mut self, rt: &R) {
+        self.begin();
+        if !self.pause.is_completed() {
+            return self.pause.snooze();
+        }
+        self.bell.sleep(rt, Duration::from_micros(self.next));
+        self.next = LONGEST.min(self.next.saturating_mul(2));
+    }
+}
