@@ -54,7 +54,7 @@ module _ (k : Terms) where
   exact_after s r id v at (look t found) may exact = word_stays s.words (slot_word t) found may.1 exact
   exact_after s r id v at (stopped found) may exact = word_stays s.words STOP found may exact
   exact_after s r id v at (reach slot) may exact = word_stays s.words (slot_word slot) _ refl exact
-  exact_after s r id v at (lay slot) may exact = word_stays s.words CLOCK _ refl exact
+  exact_after s r id v at (lay slot) may exact = word_stays s.words (slot_word slot) _ refl exact
   exact_after s r id v at split may exact = exact
   exact_after s r id v at (join other w) may exact = exact
 

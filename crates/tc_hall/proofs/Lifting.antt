@@ -133,7 +133,7 @@ module _ (k : Terms) (s : Hall) (r : KeptHall k s) (id : ℕ) (v : Knows) (at : 
   shown_after stop es may is enabled = of_none _ es is ((tell_tie k m).stop.shows c seen tt tt)
   shown_after (stopped found) es may is enabled = of_none _ es is (subst (λ (z : ℕ). Shows k (after s id (stopped_effect v z)) c) may ((tell_tie k m).stopped.shows c seen tt tt))
   shown_after (reach slot) es may is enabled = of_none _ es is (slot_moved slot (slot_word slot) none (record v { hand = Some slot }) (λ x e. some-ne-none (Some x) (sym e)) refl refl refl)
-  shown_after (lay slot) es may is enabled = of_none _ es is (slot_moved slot 0 (some None) (record v { hand = None }) (λ x e. clash_at (some None) x refl e) refl refl refl)
+  shown_after (lay slot) es may is enabled = of_none _ es is (slot_moved slot (slot_word slot) (some None) (record v { hand = None }) (λ x e. clash_at (some None) x refl e) refl refl refl)
   shown_after split es may is enabled = of_none _ es is (((pass_tie k m).made may.0 may.1).shows c seen tt tt)
   shown_after (join other w) es may is enabled = of_none _ es is (((pass_tie k m).joined other w may.0 may.1 may.2 may.3).shows c seen tt tt)
 

@@ -220,11 +220,11 @@ module _ (k : Terms) where
 
   -- the empty slot of a package goes back
   pub lay_kept : (s : St) (r : KeptHall k s) (id t : ℕ) (v : Knows) (p : PackageView) → get_elem? s.views id ≡ some v → v.spent ≡ false → v.hand ≡ Some t → Has v t p
-      → KeptHall k (stepped s CLOCK (slice_index s.words CLOCK) id ((t, None) ∷ []) (record v { hand = None }) gives)
+      → KeptHall k (stepped s (slot_word t) (slice_index s.words (slot_word t)) id ((t, None) ∷ []) (record v { hand = None }) gives)
   lay_kept s r id t v p at live hand has =
       let w : Knows = record v { hand = None } in
       let o = is_out s r id t v p at has in
-      subst (λ (z : List ℕ). KeptHall k record { words = z; homes = set s.homes t (some None); views = set s.views id w }) (sym (set-get_or s.words CLOCK 0))
+      subst (λ (z : List ℕ). KeptHall k record { words = z; homes = set s.homes t (some None); views = set s.views id w }) (sym (set-get_or s.words (slot_word t) 0))
       (slot_moves s r id t v w p none (some None) at live has (o.5 hand) no_home no_package (inr (refl, hand, refl)) refl)
 
   -- the pass takes the empty slot of a package that it has out

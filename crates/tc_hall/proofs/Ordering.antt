@@ -62,9 +62,9 @@ module _ (k : Terms) (s : Hall) (r : KeptHall k s) (id : ℕ) (v : Knows) (at : 
   reach_after slot idle (of_package t p is has) = subst (λ (z : ℕ). KeptHall k (after s id (reach_effect v z (slice_index s.words (slot_word z))))) (sym is) (reach_kept k s r id t v p at live idle has)
   reach_after slot idle (of_lock i l is has) = subst (λ (z : ℕ). KeptHall k (after s id (reach_effect v z (slice_index s.words (slot_word z))))) (sym is) (reach_lock_kept k s r id i v l at live idle has)
 
-  lay_after : (slot : ℕ) → v.hand ≡ Some slot → IsSlotOut k v slot → KeptHall k (after s id (lay_effect v slot (slice_index s.words CLOCK)))
-  lay_after slot held (of_package t p is has) = subst (λ (z : ℕ). KeptHall k (after s id (lay_effect v z (slice_index s.words CLOCK)))) (sym is) (lay_kept k s r id t v p at live (held ∙ ap (λ (z : ℕ). Some z) is) has)
-  lay_after slot held (of_lock i l is has) = subst (λ (z : ℕ). KeptHall k (after s id (lay_effect v z (slice_index s.words CLOCK)))) (sym is) (lay_lock_kept k s r id i v l at live (held ∙ ap (λ (z : ℕ). Some z) is) has)
+  lay_after : (slot : ℕ) → v.hand ≡ Some slot → IsSlotOut k v slot → KeptHall k (after s id (lay_effect v slot (slice_index s.words (slot_word slot))))
+  lay_after slot held (of_package t p is has) = subst (λ (z : ℕ). KeptHall k (after s id (lay_effect v z (slice_index s.words (slot_word z))))) (sym is) (lay_kept k s r id t v p at live (held ∙ ap (λ (z : ℕ). Some z) is) has)
+  lay_after slot held (of_lock i l is has) = subst (λ (z : ℕ). KeptHall k (after s id (lay_effect v z (slice_index s.words (slot_word z))))) (sym is) (lay_lock_kept k s r id i v l at live (held ∙ ap (λ (z : ℕ). Some z) is) has)
 
   pub kept_after : (o : Operation) → MayDo k s id v o → KeptHall k (after_operation k s id v o)
   kept_after (claim t q) may = claim_after t q may

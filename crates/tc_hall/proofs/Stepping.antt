@@ -71,12 +71,12 @@ module _ (k : Terms) where
       ))
       (λ other. (after_miss v (slot_word t) found, keeps, tt, next k s d id v (miss (slot_word t) code found) at live (refl, other), ((λ hit _ _. absurd (other hit)), (λ _. refl)))))
 
-  abbrev pub Lays : ℕ → ℕ → Knows → List (ℕ × Option Cargo) → Type 0
-  Lays slots id v c = Allows (IsOrdered k) slots id (v, c) CLOCK (λ n. n) (laid (step slots CLOCK 0 0 none) (v, c))
+  abbrev pub Lays : ℕ → ℕ → ℕ → Knows → List (ℕ × Option Cargo) → Type 0
+  Lays slots id word v c = Allows (IsOrdered k) slots id (v, c) word (λ n. n) (laid (step slots word 0 0 none) (v, c))
 
   -- an empty slot of what the pass has out goes back
-  pub lays : (slots id slot : ℕ) (v : Knows) (c : List (ℕ × Option Cargo)) → c ≡ (slot, None) ∷ [] → v.hand ≡ Some slot → v.spent ≡ false → IsSlotOut k v slot → Lays slots id v c
-  lays slots id slot v c one hand live out' = subst (Lays slots id v) (sym one) (λ s d deep at small. (record v { hand = None }, gives, tt, next k s d id v (lay slot) at live (hand, out'), refl))
+  pub lays : (slots id slot : ℕ) (v : Knows) (c : List (ℕ × Option Cargo)) → c ≡ (slot, None) ∷ [] → v.hand ≡ Some slot → v.spent ≡ false → IsSlotOut k v slot → Lays slots id (slot_word slot) v c
+  lays slots id slot v c one hand live out' = subst (Lays slots id (slot_word slot) v) (sym one) (λ s d deep at small. (record v { hand = None }, gives, tt, next k s d id v (lay slot) at live (hand, out'), refl))
 
   abbrev pub Reaches : ℕ → ℕ → ℕ → Knows → List (ℕ × Option Cargo) → Type 0
   Reaches slots id word v c = Allows (IsOrdered k) slots id (v, c) word (λ n. n) (reached (step slots word 0 0 none) (v, c))

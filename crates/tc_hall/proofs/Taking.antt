@@ -192,10 +192,10 @@ module _ (k : Terms) where
 
   -- the empty slot of a lock goes back
   pub lay_lock_kept : (s : St k) (r : KeptHall k s) (id i : ℕ) (v : Knows) (l : LockView) → get_elem? s.views id ≡ some v → v.spent ≡ false → v.hand ≡ Some (threads k + i) → HasLock v i l
-      → KeptHall k (stepped s CLOCK (slice_index s.words CLOCK) id ((threads k + i, None) ∷ []) (record v { hand = None }) gives)
+      → KeptHall k (stepped s (slot_word (threads k + i)) (slice_index s.words (slot_word (threads k + i))) id ((threads k + i, None) ∷ []) (record v { hand = None }) gives)
   lay_lock_kept s r id i v l at live hand has =
       let w : Knows = record v { hand = None } in
-      subst (λ (z : List ℕ). KeptHall k record { words = z; homes = set s.homes (threads k + i) (some None); views = set s.views id w }) (sym (set-get_or s.words CLOCK 0))
+      subst (λ (z : List ℕ). KeptHall k record { words = z; homes = set s.homes (threads k + i) (some None); views = set s.views id w }) (sym (set-get_or s.words (slot_word (threads k + i)) 0))
       (lock_slot_moves s r id i v w l (some None) at live has (inr (refl, hand, refl)) refl)
 
   -- the pass takes the empty slot of a lock that it has out

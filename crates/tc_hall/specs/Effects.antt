@@ -67,7 +67,7 @@ abbrev pub reach_effect : Knows → ℕ → ℕ → Effect
 reach_effect v slot found = record { word = slot_word slot; left = found; holds = []; knows = record v { hand = Some slot }; act = takes slot None }
 
 abbrev pub lay_effect : Knows → ℕ → ℕ → Effect
-lay_effect v slot found = record { word = CLOCK; left = found; holds = (slot, None) ∷ []; knows = record v { hand = None }; act = gives }
+lay_effect v slot found = record { word = slot_word slot; left = found; holds = (slot, None) ∷ []; knows = record v { hand = None }; act = gives }
 
 -- the pass id makes another, which is the last
 abbrev pub with_new_pass : Hall → ℕ → Knows → Hall

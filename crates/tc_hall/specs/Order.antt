@@ -58,7 +58,7 @@ after_operation k s id v (look t found) = after s id (look_effect v t found)
 after_operation k s id v stop = after s id (stop_effect v)
 after_operation k s id v (stopped found) = after s id (stopped_effect v found)
 after_operation k s id v (reach slot) = after s id (reach_effect v slot (slice_index s.words (slot_word slot)))
-after_operation k s id v (lay slot) = after s id (lay_effect v slot (slice_index s.words CLOCK))
+after_operation k s id v (lay slot) = after s id (lay_effect v slot (slice_index s.words (slot_word slot)))
 after_operation k s id v split = with_new_pass s id v
 after_operation k s id v (join other w) = with_joined s id v other w
 

@@ -255,12 +255,13 @@ impl Hall {
     {
         let at = OUT + u64::from(pass.number);
         let words = &self.board.shared;
-        let found = words.compare_exchange::<Claim<J>>(&mut pass.seat, word_of(t), code, at);
+        let word = word_of(t);
+        let found = words.compare_exchange::<Claim<J>>(&mut pass.seat, word, code, at);
         if found != code {
             return Err(found);
         }
         let slot = words.exchange(&mut pass.seat, t as usize, None);
-        words.load::<Lay>(&mut pass.seat, CLOCK);
+        words.load::<Lay>(&mut pass.seat, word);
         let package = package_of(slot);
         Ok(package)
     }
@@ -361,12 +362,13 @@ impl Hall {
     {
         let place = self.threads + lock;
         let words = &self.board.shared;
-        let found = words.compare_exchange::<Take<J>>(&mut pass.seat, word_of(place), 0, 1);
+        let word = word_of(place);
+        let found = words.compare_exchange::<Take<J>>(&mut pass.seat, word, 0, 1);
         if found != 0 {
             return Err(LockOut(found));
         }
         let slot = words.exchange(&mut pass.seat, place as usize, None);
-        words.load::<Lay>(&mut pass.seat, CLOCK);
+        words.load::<Lay>(&mut pass.seat, word);
         Ok(lock_of(slot))
     }
 

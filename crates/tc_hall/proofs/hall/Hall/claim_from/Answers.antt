@@ -7,7 +7,7 @@ use Rattle.tc_hall.specs.Rule.{threads, Has}
 use Rattle.tc_hall.specs.declared.board.Terms.{Terms}
 use Rattle.tc_hall.specs.Steps.{Gets, IsAsLeft}
 use Rattle.tc_hall.specs.Order.{IsClaimable, of_package}
-use Rattle.tc_hall.proofs.Stepping.{Claims, claims, lays}
+use Rattle.tc_hall.proofs.Stepping.{Claims, claims, Lays, lays}
 use Rattle.tc_hall.proofs.Outs.{has_out}
 use Rattle.tc_hall.proofs.Holding.{got_slot, got_found, got_carried, got_view, got_last, got_empty}
 use Rattle.tc_hall.proofs.hall.Hall.claim_from.Goals as goal
@@ -19,8 +19,8 @@ compare_exchange-found-requires g c =
     let below : c.args.t < threads c.self.inside.board.shared.key = subst (λ (h : HallView). c.args.t < threads h.terms) (sym c.self.view_is) c.requires.thread in
     let can : IsClaimable c.self.inside.board.shared.key c.args.code = subst (λ (h : HallView). IsClaimable h.terms c.args.code) (sym c.self.view_is) c.requires.code in (
       own,
-      omega (arith, c.self.invariant.0, c.self.invariant.1, c.word_of.ensures),
-      subst (λ (z : Option Terms × ℕ). Claims c.self.inside.board.shared.key z.0 c.self.inside.board.shared.table_id.slots seat.id z.1 c.args.code (512 + c.from-at.result) seat.me.0 seat.me.1) (λ i. (sym (c.requires.picked ∙ ap (λ (h : HallView). Some h.terms) (sym c.self.view_is)) i, sym c.word_of.ensures i))
+      omega (arith, c.self.invariant.0, c.self.invariant.1, c.word_of-word.ensures),
+      subst (λ (z : Option Terms × ℕ). Claims c.self.inside.board.shared.key z.0 c.self.inside.board.shared.table_id.slots seat.id z.1 c.args.code (512 + c.from-at.result) seat.me.0 seat.me.1) (λ i. (sym (c.requires.picked ∙ ap (λ (h : HallView). Some h.terms) (sym c.self.view_is)) i, sym c.word_of-word.ensures i))
           (claims c.self.inside.board.shared.key _ seat.id c.args.t c.args.code _ seat.me.0 seat.me.1 c.pass.invariant.0 can (ap (λ (k : ℕ). 512 + k) (c.from-at.ensures ∙ c.pass.invariant.2)) below c.pass.invariant.3 c.pass.invariant.1),
     )
 
@@ -28,30 +28,31 @@ pub exchange-slot-requires : goal.exchange-slot-requires
 exchange-slot-requires g c =
     let own = ap (λ (p : PassView). p.table) c.pass.view_is ∙ (c.requires.own ∙ sym (ap (λ (h : HallView). h.table) c.self.view_is)) in
     let did = c.compare_exchange-found.ensures in
-    let got = did.2.0 c.if-found-code.false c.args.t c.word_of.ensures in
+    let got = did.2.0 c.if-found-code.false c.args.t c.word_of-word.ensures in
     (did.0 ∙ own, got_slot c.args.t (Package got.0) got.1 c.pass.inside.seat.me c.compare_exchange-found.new.seat.me got.3)
 
 pub load-requires : goal.load-requires
 load-requires g c =
     let own = ap (λ (p : PassView). p.table) c.pass.view_is ∙ (c.requires.own ∙ sym (ap (λ (h : HallView). h.table) c.self.view_is)) in
     let did = c.compare_exchange-found.ensures in
-    let got = did.2.0 c.if-found-code.false c.args.t c.word_of.ensures in
+    let got = did.2.0 c.if-found-code.false c.args.t c.word_of-word.ensures in
     let m2 = c.exchange-slot.new.seat.me in
+    let below : c.args.t < threads c.self.inside.board.shared.key = subst (λ (h : HallView). c.args.t < threads h.terms) (sym c.self.view_is) c.requires.thread in
     let view = got_view c.args.t (Package got.0) got.1 c.pass.inside.seat.me c.compare_exchange-found.new.seat.me got.3 c.pass.invariant.0 m2 c.exchange-slot.ensures.3 in (
       c.exchange-slot.ensures.0 ∙ (did.0 ∙ own),
-      omega (arith, c.self.invariant.1),
-      lays c.self.inside.board.shared.key _ _ c.args.t m2.0 m2.1 (got_carried c.args.t (Package got.0) got.1 c.pass.inside.seat.me c.compare_exchange-found.new.seat.me got.3 c.pass.invariant.0 m2 c.exchange-slot.ensures.3)
-          (ap (λ (z : Knows). z.hand) view) (ap (λ (z : Knows). z.spent) view ∙ (ap (λ (z : Knows). z.spent) got.2.now ∙ c.pass.invariant.3)) (of_package c.args.t (bare got.0) refl (subst (λ (z : Knows × ℕ). Has z.0 z.1 (bare got.0)) (λ i. (sym view i, got.2.thread i)) (has_out got.1 got.0 got.2.came.out))),
+      omega (arith, c.self.invariant.0, c.self.invariant.1, c.word_of-word.ensures),
+      subst (λ (z : ℕ). Lays c.self.inside.board.shared.key c.self.inside.board.shared.table_id.slots c.exchange-slot.new.seat.id z m2.0 m2.1) (sym c.word_of-word.ensures) (lays c.self.inside.board.shared.key _ _ c.args.t m2.0 m2.1 (got_carried c.args.t (Package got.0) got.1 c.pass.inside.seat.me c.compare_exchange-found.new.seat.me got.3 c.pass.invariant.0 m2 c.exchange-slot.ensures.3)
+          (ap (λ (z : Knows). z.hand) view) (ap (λ (z : Knows). z.spent) view ∙ (ap (λ (z : Knows). z.spent) got.2.now ∙ c.pass.invariant.3)) (of_package c.args.t (bare got.0) refl (subst (λ (z : Knows × ℕ). Has z.0 z.1 (bare got.0)) (λ i. (sym view i, got.2.thread i)) (has_out got.1 got.0 got.2.came.out)))),
     )
 
 pub package_of-package-requires : goal.package_of-package-requires
 package_of-package-requires g c =
-    let got = c.compare_exchange-found.ensures.2.0 c.if-found-code.false c.args.t c.word_of.ensures in
+    let got = c.compare_exchange-found.ensures.2.0 c.if-found-code.false c.args.t c.word_of-word.ensures in
     (got.0, got_found c.args.t (Package got.0) got.1 c.pass.inside.seat.me c.compare_exchange-found.new.seat.me got.3 c.exchange-slot.result c.exchange-slot.ensures.2)
 
 pub invariant_of-pass-2 : goal.invariant_of-pass-2
 invariant_of-pass-2 g c =
-    let got = c.compare_exchange-found.ensures.2.0 c.if-found-code.false c.args.t c.word_of.ensures in
+    let got = c.compare_exchange-found.ensures.2.0 c.if-found-code.false c.args.t c.word_of-word.ensures in
     let free : got.1.hand ≡ None = ap (λ (z : Knows). z.hand) got.2.now ∙ c.pass.invariant.1 in
     let m = c.pass.inside.seat.me in
     let last = got_last c.args.t (Package got.0) got.1 m c.compare_exchange-found.new.seat.me got.3 c.pass.invariant.0 c.exchange-slot.new.seat.me c.exchange-slot.ensures.3 free c.load.new.seat.me c.load.ensures.2 in (
@@ -63,7 +64,7 @@ invariant_of-pass-2 g c =
 
 pub returns-clause-result : goal.returns-clause-result
 returns-clause-result g c =
-    let got = c.compare_exchange-found.ensures.2.0 c.if-found-code.false c.args.t c.word_of.ensures in
+    let got = c.compare_exchange-found.ensures.2.0 c.if-found-code.false c.args.t c.word_of-word.ensures in
     let m = c.pass.inside.seat.me in
     let free : got.1.hand ≡ None = ap (λ (z : Knows). z.hand) got.2.now ∙ c.pass.invariant.1 in
     let last = got_last c.args.t (Package got.0) got.1 m c.compare_exchange-found.new.seat.me got.3 c.pass.invariant.0 c.exchange-slot.new.seat.me c.exchange-slot.ensures.3 free c.load.new.seat.me c.load.ensures.2 in
@@ -74,7 +75,7 @@ returns-clause-result g c =
 
 pub returns-clause-left : goal.returns-clause-left
 returns-clause-left g c =
-    let got = c.compare_exchange-found.ensures.2.0 c.if-found-code.false c.args.t c.word_of.ensures in
+    let got = c.compare_exchange-found.ensures.2.0 c.if-found-code.false c.args.t c.word_of-word.ensures in
     let m = c.pass.inside.seat.me in
     let key : Terms = c.self.inside.board.shared.key in
     let found = got_found c.args.t (Package got.0) got.1 m c.compare_exchange-found.new.seat.me got.3 c.exchange-slot.result c.exchange-slot.ensures.2 in

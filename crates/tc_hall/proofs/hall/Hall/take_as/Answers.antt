@@ -8,7 +8,7 @@ use Rattle.tc_hall.specs.Rule.{threads, locks, HasLock}
 use Rattle.tc_hall.specs.declared.board.Terms.{Terms}
 use Rattle.tc_hall.specs.Steps.{Takes, IsStateAsLeft}
 use Rattle.tc_hall.specs.Order.{of_lock}
-use Rattle.tc_hall.proofs.Stepping.{TakesAll, takes_lock, lays}
+use Rattle.tc_hall.proofs.Stepping.{TakesAll, takes_lock, Lays, lays}
 use Rattle.tc_hall.proofs.Outs.{loose_out}
 use Rattle.tc_hall.proofs.Holding.{got_slot, got_found, got_carried, got_view, got_last, got_empty}
 use Rattle.tc_hall.proofs.hall.Hall.take_as.Goals as goal
@@ -20,10 +20,10 @@ compare_exchange-found-requires g c =
     let own = ap (λ (p : PassView). p.table) c.pass.view_is ∙ (c.requires.own ∙ sym (ap (λ (h : HallView). h.table) c.self.view_is)) in
     let below : c.args.lock < locks key = subst (λ (h : HallView). c.args.lock < locks h.terms) (sym c.self.view_is) c.requires.lock in
     let n = c.self.invariant.0 in
-    let word : c.word_of.result ≡ slot_word (threads key + c.args.lock) = c.word_of.ensures ∙ ap (λ (z : ℕ). slot_word (z + c.args.lock)) n in
+    let word : c.word_of-word.result ≡ slot_word (threads key + c.args.lock) = c.word_of-word.ensures ∙ ap (λ (z : ℕ). slot_word (z + c.args.lock)) n in
     let m = c.self.invariant.3 in (
       own,
-      omega (arith, c.self.invariant.1, c.word_of.ensures),
+      omega (arith, c.self.invariant.1, c.word_of-word.ensures),
       subst (λ (z : Option Terms × Option ℕ × ℕ). TakesAll key z.0 c.self.inside.board.shared.table_id.slots seat.id z.1 z.2 seat.me.0 seat.me.1) (λ i. (sym (c.requires.picked.1 ∙ ap (λ (h : HallView). Some h.terms) (sym c.self.view_is)) i, sym c.requires.picked.0 i, sym word i)) (takes_lock key _ seat.id c.args.lock seat.me.0 seat.me.1 c.pass.invariant.0 below c.pass.invariant.3 c.pass.invariant.1),
     )
 
@@ -32,7 +32,7 @@ exchange-slot-requires g c =
     let own = ap (λ (p : PassView). p.table) c.pass.view_is ∙ (c.requires.own ∙ sym (ap (λ (h : HallView). h.table) c.self.view_is)) in
     let did = c.compare_exchange-found.ensures in
     let slot : ℕ = c.self.inside.threads + c.args.lock in
-    let got = did.2.0 c.if-found-ne0.false c.args.lock slot c.requires.picked.0 c.word_of.ensures in
+    let got = did.2.0 c.if-found-ne0.false c.args.lock slot c.requires.picked.0 c.word_of-word.ensures in
     (did.0 ∙ own, got_slot slot (Lock got.0) got.1 c.pass.inside.seat.me c.compare_exchange-found.new.seat.me got.3)
 
 pub load-requires : goal.load-requires
@@ -41,27 +41,29 @@ load-requires g c =
     let key = c.self.inside.board.shared.key in
     let did = c.compare_exchange-found.ensures in
     let slot : ℕ = c.self.inside.threads + c.args.lock in
-    let got = did.2.0 c.if-found-ne0.false c.args.lock slot c.requires.picked.0 c.word_of.ensures in
+    let got = did.2.0 c.if-found-ne0.false c.args.lock slot c.requires.picked.0 c.word_of-word.ensures in
     let m2 = c.exchange-slot.new.seat.me in
+    let below : c.args.lock < locks key = subst (λ (h : HallView). c.args.lock < locks h.terms) (sym c.self.view_is) c.requires.lock in
+    let m = c.self.invariant.3 in
     let at : slot ≡ threads key + c.args.lock = (let n = c.self.invariant.0 in omega arith) in
     let view = got_view slot (Lock got.0) got.1 c.pass.inside.seat.me c.compare_exchange-found.new.seat.me got.3 c.pass.invariant.0 m2 c.exchange-slot.ensures.3 in (
       c.exchange-slot.ensures.0 ∙ (did.0 ∙ own),
-      omega (arith, c.self.invariant.1),
-      lays key _ _ slot m2.0 m2.1 (got_carried slot (Lock got.0) got.1 c.pass.inside.seat.me c.compare_exchange-found.new.seat.me got.3 c.pass.invariant.0 m2 c.exchange-slot.ensures.3)
+      omega (arith, c.self.invariant.1, c.word_of-word.ensures),
+      subst (λ (z : ℕ). Lays key c.self.inside.board.shared.table_id.slots c.exchange-slot.new.seat.id z m2.0 m2.1) (sym c.word_of-word.ensures) (lays key _ _ slot m2.0 m2.1 (got_carried slot (Lock got.0) got.1 c.pass.inside.seat.me c.compare_exchange-found.new.seat.me got.3 c.pass.invariant.0 m2 c.exchange-slot.ensures.3)
           (ap (λ (z : Knows). z.hand) view) (ap (λ (z : Knows). z.spent) view ∙ (ap (λ (z : Knows). z.spent) got.2.now ∙ c.pass.invariant.3))
-          (of_lock c.args.lock (kept got.0) at (subst (λ (z : Knows × ℕ). HasLock z.0 z.1 (kept got.0)) (λ i. (sym view i, got.2.rest.number i)) (loose_out got.1 got.0 got.2.came.out))),
+          (of_lock c.args.lock (kept got.0) at (subst (λ (z : Knows × ℕ). HasLock z.0 z.1 (kept got.0)) (λ i. (sym view i, got.2.rest.number i)) (loose_out got.1 got.0 got.2.came.out)))),
     )
 
 pub lock_of-requires : goal.lock_of-requires
 lock_of-requires g c =
     let slot : ℕ = c.self.inside.threads + c.args.lock in
-    let got = c.compare_exchange-found.ensures.2.0 c.if-found-ne0.false c.args.lock slot c.requires.picked.0 c.word_of.ensures in
+    let got = c.compare_exchange-found.ensures.2.0 c.if-found-ne0.false c.args.lock slot c.requires.picked.0 c.word_of-word.ensures in
     (got.0, got_found slot (Lock got.0) got.1 c.pass.inside.seat.me c.compare_exchange-found.new.seat.me got.3 c.exchange-slot.result c.exchange-slot.ensures.2)
 
 pub invariant_of-pass-2 : goal.invariant_of-pass-2
 invariant_of-pass-2 g c =
     let slot : ℕ = c.self.inside.threads + c.args.lock in
-    let got = c.compare_exchange-found.ensures.2.0 c.if-found-ne0.false c.args.lock slot c.requires.picked.0 c.word_of.ensures in
+    let got = c.compare_exchange-found.ensures.2.0 c.if-found-ne0.false c.args.lock slot c.requires.picked.0 c.word_of-word.ensures in
     let free : got.1.hand ≡ None = ap (λ (z : Knows). z.hand) got.2.now ∙ c.pass.invariant.1 in
     let m = c.pass.inside.seat.me in
     let last = got_last slot (Lock got.0) got.1 m c.compare_exchange-found.new.seat.me got.3 c.pass.invariant.0 c.exchange-slot.new.seat.me c.exchange-slot.ensures.3 free c.load.new.seat.me c.load.ensures.2 in (
@@ -74,7 +76,7 @@ invariant_of-pass-2 g c =
 pub returns-clause-result : goal.returns-clause-result
 returns-clause-result g c =
     let slot : ℕ = c.self.inside.threads + c.args.lock in
-    let got = c.compare_exchange-found.ensures.2.0 c.if-found-ne0.false c.args.lock slot c.requires.picked.0 c.word_of.ensures in
+    let got = c.compare_exchange-found.ensures.2.0 c.if-found-ne0.false c.args.lock slot c.requires.picked.0 c.word_of-word.ensures in
     let m = c.pass.inside.seat.me in
     let free : got.1.hand ≡ None = ap (λ (z : Knows). z.hand) got.2.now ∙ c.pass.invariant.1 in
     let last = got_last slot (Lock got.0) got.1 m c.compare_exchange-found.new.seat.me got.3 c.pass.invariant.0 c.exchange-slot.new.seat.me c.exchange-slot.ensures.3 free c.load.new.seat.me c.load.ensures.2 in
@@ -86,7 +88,7 @@ returns-clause-result g c =
 pub returns-clause-left : goal.returns-clause-left
 returns-clause-left g c =
     let slot : ℕ = c.self.inside.threads + c.args.lock in
-    let got = c.compare_exchange-found.ensures.2.0 c.if-found-ne0.false c.args.lock slot c.requires.picked.0 c.word_of.ensures in
+    let got = c.compare_exchange-found.ensures.2.0 c.if-found-ne0.false c.args.lock slot c.requires.picked.0 c.word_of-word.ensures in
     let m = c.pass.inside.seat.me in
     let key : Terms = c.self.inside.board.shared.key in
     let found = got_found slot (Lock got.0) got.1 m c.compare_exchange-found.new.seat.me got.3 c.exchange-slot.result c.exchange-slot.ensures.2 in
