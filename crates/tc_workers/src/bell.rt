@@ -6,10 +6,10 @@ use std::thread::yield_now;
 use std::time::Duration;
 
 // How often a worker gives its processor away, so that others can begin, before it sleeps.
-const YIELDS: u32 = 1_000;
+const YIELDS: u32 = 8_000;
 
 // How often it sleeps then, for a millisecond at most each time.
-const SLEEPS: u32 = 5;
+const SLEEPS: u32 = 3;
 
 /// The bell of a crew, with the number of its strokes. Each worker rings it when it begins, and when
 /// it ends. They wait at it for one another before they begin, so that none has done all the work
