@@ -52,7 +52,7 @@ fn digits_of(byte: u8) -> (u8, u8)
 }
 
 /// Writes the digits of a byte from a place on.
-fn write_byte(bytes: &mut [u8], at: usize, byte: u8)
+pub(crate) fn write_byte(bytes: &mut [u8], at: usize, byte: u8)
     requires { at + 2 ≤ length bytes.old }
     ensures { drop at bytes.new ≡ hex2 byte ++ drop (at + 2) bytes.old }
 {

@@ -1,8 +1,21 @@
 //! Hexadecimal digits of fixed width, as lines and reports print words and bytes.
 
-ghost use Rattle.std.specs.Prelude.{◌≡◌};
+ghost use Rattle.std.specs.Prelude.{◌≡◌, IsUtf8};
+ghost use Rattle.tc_journal.specs.Digits.{hex2, hex8};
 
+use crate::buffer::write_byte;
 use std::fmt;
+use std::str::from_utf8_unchecked;
+
+/// The digits of a byte, which are text.
+fn pair_of(byte: u8) -> [u8; 2]
+    ensures digits { result ≡ hex2 byte }
+    ensures text { IsUtf8 (hex2 byte) }
+{
+    let mut digits = [0; 2];
+    write_byte(&mut digits, 0, byte);
+    digits
+}
 
 /// A byte as two lower-case hexadecimal digits.
 #[derive(Clone, Copy)]
@@ -14,11 +27,23 @@ impl fmt::Display for Hex2 {
 
     ghost output = { λ h. Some (hex2 h.0) };
 
-    #[tactic(auto, using(std::proofs::lemmas::Fmt::hex_byte))]
     fn fmt<W: fmt::Write>(&self, f: &mut fmt::Formatter<W>) -> fmt::Result {
-        let byte = self.0;
-        write!(f, "{byte:02x}")
+        let digits = pair_of(self.0);
+        f.write_str(unsafe { from_utf8_unchecked(&digits) })
     }
+}
+
+/// The digits of a word.
+#[tactic(auto, unfolding(crate::specs::Digits::hex8))]
+fn digits_of(word: u32) -> [u8; 8]
+    ensures { result ≡ hex8 word }
+{
+    let mut digits = [0; 8];
+    write_byte(&mut digits, 6, (word & 0xff) as u8);
+    write_byte(&mut digits, 4, (word >> 8 & 0xff) as u8);
+    write_byte(&mut digits, 2, (word >> 16 & 0xff) as u8);
+    write_byte(&mut digits, 0, (word >> 24 & 0xff) as u8);
+    digits
 }
 
 /// A word as eight lower-case hexadecimal digits.
@@ -31,12 +56,8 @@ impl fmt::Display for Hex8 {
 
     ghost output = { λ h. Some (hex8 h.0) };
 
-    #[tactic(auto, unfolding(crate::specs::Digits::hex8))]
     fn fmt<W: fmt::Write>(&self, f: &mut fmt::Formatter<W>) -> fmt::Result {
-        let a = Hex2((self.0 >> 24 & 0xff) as u8);
-        let b = Hex2((self.0 >> 16 & 0xff) as u8);
-        let c = Hex2((self.0 >> 8 & 0xff) as u8);
-        let d = Hex2((self.0 & 0xff) as u8);
-        write!(f, "{a}{b}{c}{d}")
+        let digits = digits_of(self.0);
+        f.write_str(unsafe { from_utf8_unchecked(&digits) })
     }
 }
