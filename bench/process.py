@@ -12,6 +12,8 @@ import tool
 
 HERE = Path(__file__).resolve().parent
 TURNS = re.compile(rb"^block \d+ thread \d+ turns (\d+) ")
+# What ./tclocks adds to the environment of the program.
+ADDED = {"GLIBC_TUNABLES": "glibc.malloc.hugetlb=1"}
 
 
 class Took(NamedTuple):
@@ -51,13 +53,14 @@ def compiled(source, folder, *words):
 
 
 def run(words, given, written, path=None, surroundings=None):
-    """Runs the program, or the one at a path, over open files, each from its place on: its status, and what it
-    took. Surroundings are more variables of the environment."""
+    """Runs the program, in the environment in which ./tclocks runs it, or what is at a path, over open files, each
+    from its place on: its status, and what it took. Surroundings are more variables of the environment."""
+    surroundings = {**({} if path else ADDED), **os.environ, **(surroundings or {})}
     path = path or program.PATH
     streams = [(os.POSIX_SPAWN_DUP2, file.fileno(), number) for number, file in enumerate((given, written))]
     began = time.perf_counter()
     try:
-        number = os.posix_spawn(path, [*map(str, (path, *words))], {**os.environ, **(surroundings or {})}, file_actions=streams)
+        number = os.posix_spawn(path, [*map(str, (path, *words))], surroundings, file_actions=streams)
     except OSError as error:
         raise tool.Trouble(tool.INPUT, f"{path}: {error.strerror}") from None
     _, ended, usage = os.wait4(number, 0)
