@@ -10,7 +10,7 @@ use std::marker::Model;
 use std::str::from_utf8_unchecked;
 
 /// How many bytes the line of a block has at most.
-pub(crate) const LINE: usize = 240;
+pub const LINE: usize = 240;
 
 /// How many lines a buffer takes.
 pub(crate) const LINES: usize = 16;

@@ -1,12 +1,13 @@
 //! The printed line of a block, in its form and in the old form.
 
-ghost use Rattle.std.specs.Prelude.{◌≡◌, ◌+◌, ◌<◌, ◌≤◌, ◌++◌, [], OnOk, length, map, string_bytes};
+ghost use Rattle.std.specs.Prelude.{◌≡◌, ◌+◌, ◌*◌, ◌<◌, ◌≤◌, ◌++◌, [], OnErr, OnOk, length, map, string_bytes, string_capacity, string_len};
 ghost use Rattle.tc_journal.specs.Line as spec;
 ghost use Rattle.tc_journal.specs.Told.{without_pc};
 ghost use Rattle.tc_isa.specs.Sets.{locks_of};
 
 use crate::block::{Block, End, Kind};
-use crate::buffer::{Buffer, LINE, LINES, ROOM};
+pub use crate::buffer::LINE;
+use crate::buffer::{Buffer, LINES, ROOM};
 use std::alloc::AllocError;
 use tc_isa::held::Held;
 
@@ -114,7 +115,8 @@ pub(crate) fn put_line(line: &mut Buffer<'_>, block: &Block, pc: Option<u32>)
 fn put_lines(lines: &mut Buffer<'_>, blocks: &[&Block])
     requires empty { lines.old ≡ [] }
     requires few { length blocks.now ≤ LINES }
-    ensures { lines.new ≡ spec.history_text (map (λ b. b.now) blocks.now) }
+    ensures value { lines.new ≡ spec.history_text (map (λ b. b.now) blocks.now) }
+    ensures len { length lines.new ≤ LINE * length blocks.now }
 {
     let mut left = blocks.len();
     while left > 0 {
@@ -124,11 +126,15 @@ fn put_lines(lines: &mut Buffer<'_>, blocks: &[&Block])
 }
 
 /// Writes the lines of a history at the end of a text, of blocks that stand in different places.
-/// Some lines are appended at once.
+/// Some lines are appended at once. The capacity never shrinks, and the call fails only where room was
+/// missing.
 pub fn push_lent(text: &mut String, history: &[&Block]) -> Result<(), AllocError>
-    ensures { OnOk result
+    ensures bytes { OnOk result
         (string_bytes text.new ≡ string_bytes text.old
         ++ spec.history_text (map (λ b. b.now) history.now)) }
+    ensures capacity { string_capacity text.old ≤ string_capacity text.new }
+    ensures full { OnErr result
+        (string_capacity text.old < string_len text.old + LINE * length history.now) }
 {
     let mut room = [0; ROOM];
     let mut done = 0;
