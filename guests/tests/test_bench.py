@@ -211,8 +211,10 @@ class Several(Case):
         self.assertEqual((done.returncode, done.stderr), (0, b""), done.stdout)
         table, told = rows(done)
         self.assertEqual(table[0], ["Guest", "Seconds: 1 worker", "2 workers", "Processor: 1 worker", "2 workers",
-                                    "Seconds, 2 workers to 1 worker", "Processor, 2 workers to 1 worker"])
-        self.assertEqual([(row[0], len(row)) for row in table[2:]], [("hot-lock", 7), ("own-locks", 7)])
+                                    "Seconds, 2 workers to 1 worker", "Processor, 2 workers to 1 worker",
+                                    "Clock, 2 workers to 1 worker"])
+        self.assertEqual([(row[0], len(row)) for row in table[2:]], [("hot-lock", 8), ("own-locks", 8)])
+        self.assertEqual([bool(row[7]) for row in table[2:]], [bool(shutil.which("cc"))] * 2)
         self.assertEqual(len(told), 1)
 
 
