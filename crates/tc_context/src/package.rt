@@ -31,9 +31,11 @@ use tc_segment::state::LockState;
 use tc_turn::status::Status;
 use tc_turn::thread::GuestThread;
 
-/// By how many blocks a log grows at least. What is not written yet takes no memory of the host, and
-/// a large log grows without a copy.
-const GROWTH: usize = 4_096;
+/// By how many blocks a log grows, the first time and later. What is not written yet takes no memory of
+/// the host, and a large log grows without a copy.
+const FIRST_BLOCKS: usize = 1_024;
+
+const MORE_BLOCKS: usize = 4_096;
 
 /// The greatest number of a queue turn.
 pub const MAX_NUMBER: u64 = 16_777_215;
@@ -430,5 +432,6 @@ fn grow(log: &mut Vec<Block>) -> Result<(), AllocError>
     ensures same { IsSameLog log.old log.new }
     ensures room { OnOk result (vec_len log.new + 1 ≤ vec_capacity log.new) }
 {
-    log.reserve(GROWTH)
+    let more = if log.is_empty() { FIRST_BLOCKS } else { MORE_BLOCKS };
+    log.reserve(more)
 }

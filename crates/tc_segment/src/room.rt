@@ -1,5 +1,6 @@
 //! Room for more entries. Most blocks find that there is room, so growth stands apart. What is not
-//! written yet takes no memory of the host, and a large vector grows without a copy.
+//! written yet takes no memory of the host, and a large vector grows without a copy. The first room is
+//! small, since a piece of memory of its own costs more than all entries of a small run.
 
 ghost use Rattle.std.specs.Prelude.{◌<◌, ◌^◌, vec_len};
 ghost use Rattle.tc_segment.specs.Kept.{HasMadeRoom, HasWordRoom};
@@ -7,11 +8,15 @@ ghost use Rattle.tc_segment.specs.Kept.{HasMadeRoom, HasWordRoom};
 use crate::record::Record;
 use std::alloc::AllocError;
 
-/// By how many records a journal grows at least.
-const RECORDS: usize = 4_096;
+/// By how many records a journal grows, the first time and later.
+const FIRST_RECORDS: usize = 512;
 
-/// By how many words a journal grows at least.
-const WORDS: usize = 32_768;
+const MORE_RECORDS: usize = 4_096;
+
+/// By how many words a journal grows at least, the first time and later.
+const FIRST_WORDS: usize = 8_192;
+
+const MORE_WORDS: usize = 32_768;
 
 /// Makes room for two records more.
 pub(crate) fn make_records(records: &mut Vec<Record>) -> Result<(), AllocError>
@@ -28,7 +33,12 @@ pub(crate) fn make_records(records: &mut Vec<Record>) -> Result<(), AllocError>
 fn grow_records(records: &mut Vec<Record>) -> Result<(), AllocError>
     ensures { HasMadeRoom 2 records.old records.new result }
 {
-    records.reserve(RECORDS)
+    let more = if records.is_empty() {
+        FIRST_RECORDS
+    } else {
+        MORE_RECORDS
+    };
+    records.reserve(more)
 }
 
 /// Makes room for so many words more. The place of a word is a number of 32 bits, so more words than
@@ -54,5 +64,10 @@ fn grow_words(words: &mut Vec<u32>, more: usize) -> Result<(), AllocError>
     if more > most - words.len() {
         return Err(AllocError);
     }
-    words.reserve(more.max(WORDS))
+    let least = if words.is_empty() {
+        FIRST_WORDS
+    } else {
+        MORE_WORDS
+    };
+    words.reserve(more.max(least))
 }
