@@ -1,12 +1,12 @@
 -- What is said of a list chunk by chunk.
-use Rattle.std.proofs.Common.{◌≡◌, ℕ, zero, suc, ◌+◌, ◌*◌, ◌/◌, ◌%◌, ◌<◌, ◌≤◌, min, List, ◌∷◌, [], ◌++◌, length, get_or, take, sym, ap, ◌∙◌, add-one, arith}
+use Rattle.std.proofs.Common.{◌≡◌, ℕ, zero, suc, ◌+◌, ◌*◌, ◌-◌, ◌<◌, ◌≤◌, min, List, ◌∷◌, [], ◌++◌, length, length-drop, get_or, take, drop, sym, ap, ◌∙◌, inl, inr, add-one, arith}
 use Rattle.std.specs.Fork.{slice_chunk}
 use Rattle.std.specs.List.{flat_map}
 use Rattle.std.proofs.Math.Nat.{suc-mul, zero-mul}
 use Rattle.std.proofs.Math.Seq.{take-add}
-use Rattle.std.proofs.lemmas.Grind.{div_ceil_times}
-use Rattle.std.proofs.lemmas.List.{flat_map_more, take_all, take_more}
+use Rattle.std.proofs.lemmas.List.{drop_all, flat_map_more, take_all, take_more}
 use Rattle.std.proofs.lemmas.List.Concat.{flat_map-append}
+use Rattle.tc_mutex_spec.proofs.ListLaws.{below_or}
 
 module _ {X R A : Type 0} (f : X → List A) (text : R → List A) (size : ℕ) (xs : List X) (rs : List R) (each : (n : ℕ) (d : R) → n < length rs → text (get_or rs n d) ≡ flat_map f (slice_chunk xs size n)) where
   so_far : (d : R) (n : ℕ) → n ≤ length rs → flat_map text (take n rs) ≡ flat_map f (take (n * size) xs)
@@ -20,9 +20,25 @@ module _ {X R A : Type 0} (f : X → List A) (text : R → List A) (size : ℕ) 
 
 -- the texts of the chunks are, one behind the other, that of the whole
 pub texts_by_chunks : {X R A : Type 0} (f : X → List A) (text : R → List A) (size : ℕ) (xs : List X) (rs : List R) → ((n : ℕ) (d : R) → n < length rs → text (get_or rs n d) ≡ flat_map f (slice_chunk xs size n))
-    → 0 < size → length rs ≡ length xs / size + min 1 (length xs % size) → flat_map text rs ≡ flat_map f xs
-texts_by_chunks f text size xs [] each some e = sym (ap (flat_map f) (sym (take_all 0 xs (omega (arith, (div_ceil_times (length xs) size some).0, ap (λ k. k * size) e, zero-mul size)))))
-texts_by_chunks f text size xs (r ∷ rs) each some e =
+    → length xs ≤ length rs * size → flat_map text rs ≡ flat_map f xs
+texts_by_chunks f text size xs [] each all = sym (ap (flat_map f) (sym (take_all 0 xs (omega (arith, all, zero-mul size)))))
+texts_by_chunks f text size xs (r ∷ rs) each all =
     let count = length (r ∷ rs) in
-    let all : length xs ≤ count * size = omega (arith, (div_ceil_times (length xs) size some).0, ap (λ k. k * size) e) in
     sym (ap (flat_map text) (take_all count (r ∷ rs) (omega arith))) ∙ so_far f text size xs (r ∷ rs) each r count (omega arith) ∙ ap (flat_map f) (take_all (count * size) xs all)
+
+-- a chunk that is cut at the end of the list
+short : {X : Type 0} (size count : ℕ) (xs : List X) → count ≡ min size (length xs) → take count xs ≡ take size xs
+short size count xs e = elim (below_or size (length xs)) [
+  | inl low ↦ ap (λ k. take k xs) (let same : count ≡ size = omega (arith, low, e) in same)
+  | inr high ↦ take_all count xs (omega (arith, high, e)) ∙ sym (take_all size xs high)
+]
+
+pub one_chunk : {X : Type 0} (size place from count : ℕ) (xs : List X) → from ≡ min place (length xs) → count ≡ min size (length xs - from) → take count (drop from xs) ≡ take size (drop place xs)
+one_chunk size place from count xs f c = elim (below_or place (length xs)) [
+  | inl low ↦
+      let same : from ≡ place = omega (arith, low, f) in
+      short size count (drop from xs) (omega (arith, length-drop from xs, c)) ∙ ap (λ k. take size (drop k xs)) same
+  | inr high ↦
+      ap (take count) (drop_all from xs (omega (arith, high, f))) ∙ take_all count [] (omega arith)
+      ∙ sym (ap (take size) (drop_all place xs high) ∙ take_all size [] (omega arith))
+]

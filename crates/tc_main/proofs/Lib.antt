@@ -10,5 +10,5 @@ pub mod Replaying
 pub mod Statuses
 pub mod NodeRows
 pub mod Spelled
-pub mod Written
+pub mod Writing
 pub mod Chunks

@@ -106,20 +106,20 @@ none_read asked e = go (input_of asked) e
 -- ---- what is answered
 
 -- the answer to what is wrong is the verdict
-pub answer_short : (asked : Asked) (bytes text : List ℕ) (s : Status) → IsWrong asked bytes Short → (s ≡ Refused 17) × (text ≡ refused_line 17 (codes "ShortInput")) → Verdict asked bytes text s
-answer_short asked bytes text s wrong is =
-    subst (Verdict asked bytes text) (sym is.0) (wrong.0, wrong.1, (codes "ShortInput", inl (wrong.2, refl, refl), is.1))
+pub answer_short : (asked : Asked) (bytes : List ℕ) (s : Status) → IsWrong asked bytes Short → s ≡ Refused 17 → Verdict asked bytes (refused_line 17 (codes "ShortInput")) s
+answer_short asked bytes s wrong is =
+    subst (Verdict asked bytes (refused_line 17 (codes "ShortInput"))) (sym is) (wrong.0, wrong.1, (codes "ShortInput", inl (wrong.2, refl, refl), refl))
 
-pub answer_file : (asked : Asked) (bytes text : List ℕ) (s : Status) (reason : Refusal) → IsWrong asked bytes (File reason) → (s ≡ Refused (refusal_number reason)) × (text ≡ refused_line (refusal_number reason) (refusal_name reason)) → Verdict asked bytes text s
-answer_file asked bytes text s reason wrong is =
-    subst (Verdict asked bytes text) (sym is.0) (
+pub answer_file : (asked : Asked) (bytes : List ℕ) (s : Status) (reason : Refusal) → IsWrong asked bytes (File reason) → s ≡ Refused (refusal_number reason) → Verdict asked bytes (refused_line (refusal_number reason) (refusal_name reason)) s
+answer_file asked bytes s reason wrong is =
+    subst (Verdict asked bytes (refused_line (refusal_number reason) (refusal_name reason))) (sym is) (
       wrong.0,
       wrong.1,
-      (refusal_name reason, inr (wrong.2, record { reason = reason; first = wrong.3.0; known = wrong.3.1; number = refl; called = refl }), is.1),
+      (refusal_name reason, inr (wrong.2, record { reason = reason; first = wrong.3.0; known = wrong.3.1; number = refl; called = refl }), refl),
     )
 
-pub answer_history : (asked : Asked) (bytes text : List ℕ) (s : Status) (r : Rejected) → IsWrong asked bytes (History r) → (s ≡ status.Rejected r) × (text ≡ rejected_line r) → Verdict asked bytes text s
-answer_history asked bytes text s r wrong is = subst (Verdict asked bytes text) (sym is.0) (wrong, is.1)
+pub answer_history : (asked : Asked) (bytes : List ℕ) (s : Status) (r : Rejected) → IsWrong asked bytes (History r) → s ≡ status.Rejected r → Verdict asked bytes (rejected_line r) s
+answer_history asked bytes s r wrong is = subst (Verdict asked bytes (rejected_line r)) (sym is) (wrong, refl)
 
 -- what is wrong with a guest's file alone
 pub run_wrong : (order : Order) (o : Options) (bytes : List ℕ) (w : Wrong) → IsWrongFile bytes w → IsWrong (Run order o) bytes w

@@ -3,6 +3,7 @@ pub mod Orders
 pub mod Words
 pub mod Results
 pub mod Report
+pub mod Pieces
 pub mod Summary
 pub mod Legal
 pub mod Replayed

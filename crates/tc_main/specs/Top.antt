@@ -1,5 +1,5 @@
 -- What the program answers and writes.
-use Rattle.std.specs.Prelude.{◌≡◌, ◌≢◌, ℕ, ◌+◌, ◌<◌, ◌≤◌, ◌⊎◌, List, [], ◌∷◌, ◌++◌, length, Option, None, Some, codes, decimal}
+use Rattle.std.specs.Prelude.{◌≡◌, ◌≢◌, ℕ, ◌+◌, ◌<◌, ◌≤◌, ◌⊎◌, List, [], ◌∷◌, ◌++◌, length, Option, None, Some, Result, Ok, Err, codes, decimal}
 use Rattle.tc_io.specs.Causes.{Rose}
 use Rattle.tc_io.specs.Stream.{Stream}
 use Rattle.tc_io.specs.Taken.{FailsAmid, Gives, TakesAll, TakesCount}
@@ -194,6 +194,11 @@ MustRefuse words before now (Rejected r) =
 -- the text was written whole, or a front of it before the sink failed
 abbrev pub Writes : Stream → Stream → List ℕ → Type 0
 Writes had has text = Gives had has text ⊎ FailsAmid had has text
+
+-- how writing the text went: it was written whole, or a front of it before the sink failed
+abbrev pub Wrote : {E : Type 0} → Stream → Stream → List ℕ → Result (Unit {0}) E → Type 0
+Wrote had has text (Ok done) = Gives had has text
+Wrote had has text (Err failed) = FailsAmid had has text
 
 abbrev pub WritesNothing : Stream → Stream → Type 0
 WritesNothing had has = Gives had has []

@@ -1,8 +1,8 @@
-//! What the words and the source come to: a status, and the text that goes with it.
+//! What the words and the source come to: a status, and the text that goes with it, which is written.
 
-ghost use Rattle.std.specs.Prelude.{◌≡◌, ℕ, List, IfOk, IfErr, None, option_map};
+ghost use Rattle.std.specs.Prelude.{◌≡◌, ℕ, List, IfOk, IfErr, None, OnErr, option_map};
 ghost use Rattle.tc_main.specs.Wrong.{IsWrong};
-ghost use Rattle.tc_main.specs.Top.{Comes, IsTextOf, Verdict, refused_line, rejected_line, usage_line};
+ghost use Rattle.tc_main.specs.Top.{Comes, IsTextOf, Verdict, Wrote, refused_line, rejected_line, usage_line};
 ghost use Rattle.tc_main.specs.Words.{AskFor, FitsInput, Input, IsWithinLimits, Reads, input_of};
 ghost use Rattle.tc_main.specs.declared.status.Status.TheVariants.{Refused, Rejected as IsRejected};
 ghost use Rattle.tc_main.specs.declared.words.Asked.{Asked as AnyAsked};
@@ -11,8 +11,8 @@ use crate::demo::run_summary;
 use crate::replay::{guest_of, replay_profile, replay_report, replayed};
 use crate::run::run_report;
 use crate::status::Status;
-use crate::text::Text;
 use crate::words::{Asked, MAX_HISTORY, asked_of};
+use crate::written::{Written, write_text};
 use crate::wrong::Wrong;
 use std::alloc::{AllocError, Global};
 use std::fmt::Write;
@@ -20,7 +20,7 @@ use std::sync::Wait;
 use std::thread::Threads;
 use tc_build::generate::generate;
 use tc_elf::limits::MAX_FILE as MAX_BYTES;
-use tc_io::{ReadAll, Source, Word, read_all};
+use tc_io::{ReadAll, Sink, Source, Word, read_all};
 use tc_replay::reason::Rejected;
 use tc_workers::gate::Gate;
 
@@ -33,29 +33,36 @@ fn usage(alloc: Global) -> Result<Vec<u8>, AllocError>
     Vec::from_slice(alloc, line.as_bytes())
 }
 
-/// A status with the text that goes with it. Want of memory goes with no text.
+/// A status, and how writing the text that goes with it went. Want of memory goes with no text.
 #[derive(Drop)]
 pub(crate) struct Answer {
     pub status: Status,
-    pub text: Text,
+    pub written: Written,
 }
 
 /// What was read is refused, for the reason with this number and name.
-fn refused(alloc: Global, number: u32, name: &str) -> Result<Answer, AllocError>
-    ensures { IfOk result (λ a. (a.status ≡ Refused number)
-        × (a.text ≡ refused_line number name.now)) }
+fn refused<K: Sink>(
+    alloc: Global,
+    number: u32,
+    name: &str,
+    sink: &mut K,
+) -> Result<Answer, AllocError>
+    ensures answer { IfOk result (λ a. (a.status ≡ Refused number)
+        × Wrote (K.stream sink.old) (K.stream sink.new) (refused_line number name.now) a.written) }
+    ensures memory { OnErr result (K.stream sink.new ≡ K.stream sink.old) }
 {
     let line = format!(in alloc; "refused {number} {name}\n")?;
     Ok(Answer {
         status: Status::Refused(number),
-        text: Text::whole(alloc, line.into_bytes()),
+        written: write_text(sink, line.as_bytes()),
     })
 }
 
 /// The history is rejected.
-fn rejected(alloc: Global, rejected: Rejected) -> Result<Answer, AllocError>
-    ensures { IfOk result (λ a. (a.status ≡ IsRejected rejected)
-        × (a.text ≡ rejected_line rejected)) }
+fn rejected<K: Sink>(alloc: Global, rejected: Rejected, sink: &mut K) -> Result<Answer, AllocError>
+    ensures answer { IfOk result (λ a. (a.status ≡ IsRejected rejected)
+        × Wrote (K.stream sink.old) (K.stream sink.new) (rejected_line rejected) a.written) }
+    ensures memory { OnErr result (K.stream sink.new ≡ K.stream sink.old) }
 {
     let line = rejected.line;
     let number = rejected.reason.number();
@@ -63,75 +70,89 @@ fn rejected(alloc: Global, rejected: Rejected) -> Result<Answer, AllocError>
     let line = format!(in alloc; "rejected {line} {number} {name}\n")?;
     Ok(Answer {
         status: Status::Rejected(rejected),
-        text: Text::whole(alloc, line.into_bytes()),
+        written: write_text(sink, line.as_bytes()),
     })
 }
 
 /// The answer where there is no text for what is asked.
-fn answer_wrong(alloc: Global, wrong: Wrong) -> Result<Answer, AllocError>
-    ensures { (asked : AnyAsked) (bytes : List ℕ) → IsWrong asked bytes wrong
-        → IfOk result (λ a. Verdict asked bytes a.text a.status) }
+fn answer_wrong<K: Sink>(alloc: Global, wrong: Wrong, sink: &mut K) -> Result<Answer, AllocError>
+    ensures answer { (asked : AnyAsked) (bytes : List ℕ) → IsWrong asked bytes wrong
+        → IfOk result (λ a. (text : List ℕ) × Verdict asked bytes text a.status
+        × Wrote (K.stream sink.old) (K.stream sink.new) text a.written) }
+    ensures memory { OnErr result (K.stream sink.new ≡ K.stream sink.old) }
 {
     match wrong {
-        Wrong::Short => refused(alloc, 17, "ShortInput"),
-        Wrong::File(refusal) => refused(alloc, refusal.number(), refusal.name()),
-        Wrong::History(reason) => rejected(alloc, reason),
+        Wrong::Short => refused(alloc, 17, "ShortInput", sink),
+        Wrong::File(refusal) => refused(alloc, refusal.number(), refusal.name(), sink),
+        Wrong::History(reason) => rejected(alloc, reason, sink),
         Wrong::OutOfMemory => Err(AllocError),
     }
 }
 
-/// The text for what is asked, of the bytes that were read for it.
-fn text_of<R: Threads + Wait + Sync, G: Gate>(
+/// Writes the text for what is asked, of the bytes that were read for it. All memory that it takes is
+/// taken before any of it is written.
+fn write_asked<R: Threads + Wait + Sync, G: Gate, K: Sink>(
     rt: &R,
     alloc: Global,
     asked: Asked,
     bytes: Vec<u8>,
     gate: &G,
-) -> Result<Text, Wrong>
+    sink: &mut K,
+) -> Result<Written, Wrong>
     requires limits { IsWithinLimits asked }
     requires few { FitsInput asked bytes.items }
-    ensures text { IfOk result (λ text. IsTextOf asked bytes.items text) }
+    ensures wrote { IfOk result (λ written. (text : List ℕ) × IsTextOf asked bytes.items text
+        × Wrote (K.stream sink.old) (K.stream sink.new) text written) }
     ensures wrong { IfErr result (λ w. IsWrong asked bytes.items w) }
+    ensures unwritten { OnErr result (K.stream sink.new ≡ K.stream sink.old) }
 {
     match asked {
         Asked::Run { order, options } => {
             let image = guest_of(alloc, &bytes)?;
-            Ok(run_report(rt, alloc, &image, order, options, gate)?)
+            Ok(run_report(rt, alloc, &image, order, options, gate, sink)?)
         }
-        Asked::Generate(rounds) => Ok(Text::whole(alloc, generate(alloc, rounds)?)),
+        Asked::Generate(rounds) => {
+            let file = generate(alloc, rounds)?;
+            Ok(write_text(sink, &file))
+        }
         Asked::Demo { rounds, options } => {
             let summary = run_summary(rt, alloc, rounds, options, gate)?;
-            Ok(Text::whole(alloc, summary))
+            Ok(write_text(sink, &summary))
         }
         Asked::Replay { size, options } => {
             let replay = replayed(alloc, size, options, bytes)?;
-            Ok(Text::whole(alloc, replay_report(alloc, options, replay)?))
+            let report = replay_report(alloc, options, replay)?;
+            Ok(write_text(sink, &report))
         }
         Asked::Profile { size, options } => {
             let replay = replayed(alloc, size, options, bytes)?;
-            Ok(Text::whole(alloc, replay_profile(alloc, replay)?))
+            let profile = replay_profile(alloc, replay)?;
+            Ok(write_text(sink, &profile))
         }
     }
 }
 
 /// What the bytes that were read for what is asked come to.
-fn answer_bytes<R: Threads + Wait + Sync, G: Gate>(
+fn answer_bytes<R: Threads + Wait + Sync, G: Gate, K: Sink>(
     rt: &R,
     alloc: Global,
     asked: Asked,
     bytes: Vec<u8>,
     gate: &G,
+    sink: &mut K,
 ) -> Result<Answer, AllocError>
     requires limits { IsWithinLimits asked }
     requires few { FitsInput asked bytes.items }
-    ensures { IfOk result (λ a. Verdict asked bytes.items a.text a.status) }
+    ensures answer { IfOk result (λ a. (text : List ℕ) × Verdict asked bytes.items text a.status
+        × Wrote (K.stream sink.old) (K.stream sink.new) text a.written) }
+    ensures memory { OnErr result (K.stream sink.new ≡ K.stream sink.old) }
 {
-    match text_of(rt, alloc, asked, bytes, gate) {
-        Ok(text) => Ok(Answer {
+    match write_asked(rt, alloc, asked, bytes, gate, sink) {
+        Ok(written) => Ok(Answer {
             status: Status::Done,
-            text,
+            written,
         }),
-        Err(wrong) => answer_wrong(alloc, wrong),
+        Err(wrong) => answer_wrong(alloc, wrong, sink),
     }
 }
 
@@ -149,53 +170,58 @@ fn most_of(asked: Asked) -> Option<usize>
 }
 
 /// What the source comes to for what is asked.
-fn answer_asked<R: Threads + Wait + Sync, S: Source, G: Gate>(
+fn answer_asked<R: Threads + Wait + Sync, S: Source, G: Gate, K: Sink>(
     rt: &R,
     alloc: Global,
     asked: Asked,
     source: &mut S,
     gate: &G,
+    sink: &mut K,
 ) -> Result<Answer, AllocError>
     requires { IsWithinLimits asked }
     ensures answer { (words : List (List ℕ)) → AskFor words asked
         → IfOk result (λ a. Comes words (S.stream source.old) (S.stream source.new)
-        (λ text. a.text ≡ text) a.status) }
+        (λ text. Wrote (K.stream sink.old) (K.stream sink.new) text a.written) a.status) }
     ensures unread { input_of asked ≡ None → S.stream source.new ≡ S.stream source.old }
+    ensures memory { OnErr result (K.stream sink.new ≡ K.stream sink.old) }
 {
     let Some(most) = most_of(asked) else {
-        return answer_bytes(rt, alloc, asked, Vec::new(alloc), gate);
+        return answer_bytes(rt, alloc, asked, Vec::new(alloc), gate, sink);
     };
     match read_all(alloc, source, most) {
-        Ok(bytes) => answer_bytes(rt, alloc, asked, bytes, gate),
+        Ok(bytes) => answer_bytes(rt, alloc, asked, bytes, gate, sink),
         Err(ReadAll::Fault) => Ok(Answer {
             status: Status::ReadFault,
-            text: Text::whole(alloc, Vec::new(alloc)),
+            written: write_text(sink, &[]),
         }),
-        Err(ReadAll::OverLimit) => refused(alloc, 0, "TooLarge"),
+        Err(ReadAll::OverLimit) => refused(alloc, 0, "TooLarge", sink),
         Err(ReadAll::OutOfMemory) => Err(AllocError),
     }
 }
 
 /// What the words and the source come to. Where nothing is to be read for them, nothing is.
-pub(crate) fn answer_words<R: Threads + Wait + Sync, S: Source, G: Gate>(
+pub(crate) fn answer_words<R: Threads + Wait + Sync, S: Source, G: Gate, K: Sink>(
     rt: &R,
     alloc: Global,
     words: &[Word],
     source: &mut S,
     gate: &G,
+    sink: &mut K,
 ) -> Result<Answer, AllocError>
     ensures answer { IfOk result (λ a. Comes words.now
-        (S.stream source.old) (S.stream source.new) (λ text. a.text ≡ text) a.status) }
+        (S.stream source.old) (S.stream source.new)
+        (λ text. Wrote (K.stream sink.old) (K.stream sink.new) text a.written) a.status) }
     ensures unread { ¬ Reads words.now → S.stream source.new ≡ S.stream source.old }
+    ensures memory { OnErr result (K.stream sink.new ≡ K.stream sink.old) }
 {
     match asked_of(words) {
         None => {
-            let text = usage(alloc)?;
+            let line = usage(alloc)?;
             Ok(Answer {
                 status: Status::Usage,
-                text: Text::whole(alloc, text),
+                written: write_text(sink, &line),
             })
         }
-        Some(asked) => answer_asked(rt, alloc, asked, source, gate),
+        Some(asked) => answer_asked(rt, alloc, asked, source, gate, sink),
     }
 }

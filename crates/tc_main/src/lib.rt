@@ -9,8 +9,8 @@
 //! - `words`: what the words of the command line ask for. `order`: in which order the waiters of a
 //!   lock are served. `run`: a run by workers, from the image to the report. `nodes`: a run by workers
 //!   that belong to nodes. `report`: the text of a report. `demo`: a run of the generator's guest, to the
-//!   summary. `summary`: the text of a summary. `parts`: the lines of a history, made by several threads.
-//!   `text`: a text in parts. `answer`: what the words and the source come to.
+//!   summary. `summary`: the text of a summary. `piece`: the lines of a history in pieces, made by several
+//!   threads. `written`: how writing went. `answer`: what the words and the source come to.
 //! - `build`, `generate`: files of guests, of tc_build. `options`, `gate`: with what a guest is run,
 //!   and whom its workers tell how far they are, of tc_workers.
 //! - `status`: how the program ends. `top`: the top call.
@@ -22,7 +22,7 @@ pub mod delegation;
 mod demo;
 mod nodes;
 pub mod order;
-mod parts;
+mod piece;
 mod replay;
 pub mod report;
 mod run;
@@ -30,9 +30,9 @@ pub mod status;
 pub mod summary;
 #[cfg(test)]
 mod tests;
-mod text;
 pub mod top;
 mod words;
+mod written;
 mod wrong;
 
 pub use crate::status::Status;

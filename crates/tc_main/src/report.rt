@@ -1,19 +1,22 @@
 //! The text of a report.
 
-ghost use Rattle.std.specs.Prelude.{◌≡◌, ◌+◌, ◌*◌, ◌<◌, ◌≤◌, ◌++◌, IfOk, OnOk, length, map, string_bytes};
+ghost use Rattle.std.specs.Prelude.{◌≡◌, ◌+◌, ◌*◌, ◌<◌, ◌≤◌, ◌++◌, All, IfOk, OnErr, OnOk, length, map, min, string_bytes};
 ghost use Rattle.tc_journal.specs.Digits.{hex2, hex8};
-ghost use Rattle.tc_journal.specs.Line.{history_text};
 ghost use Rattle.tc_main.specs.Legal.{results_after};
 ghost use Rattle.tc_main.specs.Outcome.{IsOutcome};
+ghost use Rattle.tc_main.specs.Pieces.{HasRoom, lines_of};
 ghost use Rattle.tc_main.specs.Report as text;
+ghost use Rattle.tc_main.specs.Top.{Wrote};
+ghost use Rattle.tc_main.specs.declared.piece.TheConstants.{BLOCKS};
 
-use crate::parts::history_parts;
-use crate::text::Text;
+use crate::piece::{Piece, pieces_for, write_lines};
+use crate::written::{Written, write_text};
 use std::alloc::{AllocError, Global};
 use std::fmt::Write;
 use std::thread::Threads;
 use tc_context::package::Package;
 use tc_elf::image::Image;
+use tc_io::Sink;
 use tc_isa::reg::Reg;
 use tc_isa::regs::Regs;
 use tc_journal::block::Block;
@@ -216,7 +219,7 @@ const HEAD_ROOM: usize = 92;
 
 /// The room for the line of a block. No line of a run is longer: a stamp has at most 7 digits, a
 /// thread 2, the turns 4, a worker 1, a pc 8, and four locks with their commas 11 bytes.
-pub(crate) const BLOCK_ROOM: usize = 102;
+const BLOCK_ROOM: usize = 102;
 
 /// The room for the five lines of a thread.
 const THREAD_ROOM: usize = 352;
@@ -298,7 +301,7 @@ pub(crate) fn report_with(
     tail: &str,
 ) -> Result<Vec<u8>, AllocError>
     ensures { IfOk result (λ out. out.items ≡ text.head_text image.now options
-        ++ history_text (map (λ b. b.now) history.now) ++ tail.now) }
+        ++ lines_of history.now ++ tail.now) }
 {
     let mut out = String::with_capacity(alloc, report_room(history, tail))?;
     push_head(&mut out, image, options)?;
@@ -307,36 +310,44 @@ pub(crate) fn report_with(
     Ok(out.into_bytes())
 }
 
-/// How many blocks a history has at least for its lines to be made by several threads. To start a
-/// thread takes as long as hundreds of lines, and longer where other work keeps the processors.
-const MANY: usize = 16_384;
+/// Writes a report of these lines before its history and behind it, until a write fails.
+fn write_around<R: Threads + Sync, K: Sink>(
+    rt: &R,
+    sink: &mut K,
+    head: &str,
+    pieces: &mut [Piece],
+    history: &[&Block],
+    tail: &str,
+) -> Written
+    requires some { 0 < length pieces.old }
+    requires room { All (HasRoom (min BLOCKS (length history.now))) pieces.old }
+    ensures { Wrote (K.stream sink.old) (K.stream sink.new)
+        (head.now ++ lines_of history.now ++ tail.now) result }
+{
+    write_text(sink, head.as_bytes())?;
+    write_lines(rt, sink, pieces, history)?;
+    write_text(sink, tail.as_bytes())
+}
 
-/// The report that has this text behind its history. The lines of many blocks are made by as many
-/// threads as there were workers, and each part stays where it was made, so that none is copied.
-pub(crate) fn report_by<R: Threads + Sync>(
+/// Writes the report that has this text behind its history. All memory for it is taken before any of
+/// it is written, and what the lines of the history take does not grow with the history.
+pub(crate) fn write_report<R: Threads + Sync, K: Sink>(
     rt: &R,
     alloc: Global,
     image: &Image,
     options: Options,
     history: &[&Block],
-    tail: String,
-) -> Result<Text, AllocError>
-    ensures { IfOk result (λ out. out ≡ text.head_text image.now options
-        ++ history_text (map (λ b. b.now) history.now) ++ string_bytes tail) }
+    tail: &str,
+    sink: &mut K,
+) -> Result<Written, AllocError>
+    ensures wrote { IfOk result (λ written. Wrote (K.stream sink.old) (K.stream sink.new)
+        (text.head_text image.now options ++ lines_of history.now ++ tail.now) written) }
+    ensures memory { OnErr result (K.stream sink.new ≡ K.stream sink.old) }
 {
-    if options.workers == 1 || history.len() < MANY {
-        let report = report_with(alloc, image, options, history, &tail)?;
-        return Ok(Text::whole(alloc, report));
-    }
     let mut head = String::with_capacity(alloc, HEAD_ROOM)?;
     push_head(&mut head, image, options)?;
-    let size = history.len() / options.workers as usize + 1;
-    let mut parts = history_parts(rt, alloc, history, size)?;
-    parts.push(tail.into_bytes())?;
-    Ok(Text {
-        first: head.into_bytes(),
-        rest: parts,
-    })
+    let mut pieces = pieces_for(alloc, history.len(), options.workers as usize)?;
+    Ok(write_around(rt, sink, &head, &mut pieces, history, tail))
 }
 
 /// Blocks, where they stand.

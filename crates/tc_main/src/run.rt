@@ -1,25 +1,26 @@
 //! A run of a guest, from its image to the report.
 
-ghost use Rattle.std.specs.Prelude.{◌≡◌, All, IfOk, map};
+ghost use Rattle.std.specs.Prelude.{◌≡◌, All, IfOk, OnErr, map};
 ghost use Rattle.std.specs.List.Sorted.{IsPermutation};
 ghost use Rattle.tc_journal.specs.History.{HasEachStamp, IsInOrder};
 ghost use Rattle.tc_segment.specs.View.{IsSoundLock};
 ghost use Rattle.tc_main.specs.Legal.{IsLegalRun, results_after};
 ghost use Rattle.tc_main.specs.Orders.{IsOrderFor};
 ghost use Rattle.tc_main.specs.Outcome.{IsOutcome, log_in, logs_of};
-ghost use Rattle.tc_main.specs.Top.{IsReportOf};
+ghost use Rattle.tc_main.specs.Top.{IsReportOf, Wrote};
 ghost use Rattle.tc_workers.specs.Run.{IsWholeRun};
 
 use crate::nodes::run_nodes;
 use crate::order::Order;
-use crate::report::{report_by, tail_of};
-use crate::text::Text;
+use crate::report::{tail_of, write_report};
+use crate::written::Written;
 use std::alloc::{AllocError, Global};
 use std::sync::Wait;
 use std::thread::Threads;
 use tc_context::package::Package;
 use tc_elf::image::Image;
 use tc_hall::closed::Closed;
+use tc_io::Sink;
 use tc_journal::block::Block;
 use tc_journal::history::{in_order, merge_lent};
 use tc_segment::state::LockState;
@@ -129,25 +130,28 @@ pub(crate) fn run_whole<R: Threads + Wait + Sync, G: Gate>(
     Ok(WholeRun { closed, history })
 }
 
-/// Runs the guest, and answers the report of the run. It is made of the hall that the workers left,
-/// once each of them has ended. What threads and locks came to is written first, so that the lock
+/// Runs the guest, and writes the report of the run. It is made of the hall that the workers left,
+/// once each of them has ended. What threads and locks came to is told first, so that the lock
 /// states with their journals are gone before the blocks are put in order. The packages stay until
 /// the report is written: the blocks are read in their logs, and are not copied.
-pub(crate) fn run_report<R: Threads + Wait + Sync, G: Gate>(
+pub(crate) fn run_report<R: Threads + Wait + Sync, G: Gate, K: Sink>(
     rt: &R,
     alloc: Global,
     image: &Image,
     order: Order,
     options: Options,
     gate: &G,
-) -> Result<Text, AllocError>
+    sink: &mut K,
+) -> Result<Written, AllocError>
     requires { IsOrderFor options.workers order }
-    ensures { IfOk result (λ out. IsReportOf image.now options out) }
+    ensures wrote { IfOk result (λ written. (text : _) × IsReportOf image.now options text
+        × Wrote (K.stream sink.old) (K.stream sink.new) text written) }
+    ensures memory { OnErr result (K.stream sink.new ≡ K.stream sink.old) }
 {
     let closed = run_closed(rt, alloc, image, order, options, gate)?;
     let (packages, locks) = closed.into_parts();
     let tail = tail_of(alloc, image, &packages, &locks)?;
     drop(locks);
     let history = history_in(alloc, &packages)?;
-    report_by(rt, alloc, image, options, &history, tail)
+    write_report(rt, alloc, image, options, &history, &tail, sink)
 }

@@ -6,7 +6,7 @@ ghost use Rattle.tc_io.specs.Stream.{Stream};
 ghost use Rattle.tc_io.specs.Taken.{FailsAmid, Gives};
 ghost use Rattle.tc_main.specs.Words.{AskForNothing, AskToRead, Input, Reads};
 ghost use Rattle.tc_main.specs.Top.{CanBeDone, Comes, Ends, IsRefused, IsRejectedFor, IsWanted};
-ghost use Rattle.tc_main.specs.Top.{MustRefuse, Writes, WritesNothing};
+ghost use Rattle.tc_main.specs.Top.{MustRefuse, Writes, WritesNothing, Wrote};
 ghost use Rattle.tc_main.specs.Top.{refused_line, rejected_line, usage_line};
 ghost use Rattle.tc_replay.specs.declared.reason.Rejected.{Rejected as AnyRejected};
 ghost use Rattle.tc_main.specs.declared.status.Status.{Status as Answered};
@@ -19,13 +19,13 @@ use std::thread::Threads;
 use tc_io::{Sink, Source, Word};
 use tc_workers::gate::Gate;
 
-/// Writes a text, and says how the program ends.
-fn written<K: Sink>(sink: &mut K, answer: &Answer) -> Status
-    ensures { (words : List (List ℕ)) (before now : Stream)
-        → Comes words before now (λ text. answer.now.text ≡ text) answer.now.status
-        → Ends words before now (K.stream sink.old) (K.stream sink.new) result }
+/// How the program ends: a text that was asked for and cut is a fault of the sink.
+fn status_of(answer: Answer) -> Status
+    ensures { (words : List (List ℕ)) (before now had has : Stream)
+        → Comes words before now (λ text. Wrote had has text answer.written) answer.status
+        → Ends words before now had has result }
 {
-    match answer.text.write(sink) {
+    match answer.written {
         Ok(()) => answer.status,
         Err(_) => match answer.status {
             Status::Done => Status::WriteFault,
@@ -47,8 +47,8 @@ fn run_words<R: Threads + Wait + Sync, S: Source, K: Sink, G: Gate>(
         (K.stream sink.old) (K.stream sink.new) result }
     ensures unread { ¬ Reads words.now → S.stream source.new ≡ S.stream source.old }
 {
-    match answer_words(rt, alloc, words, source, gate) {
-        Ok(answer) => written(sink, &answer),
+    match answer_words(rt, alloc, words, source, gate, sink) {
+        Ok(answer) => status_of(answer),
         Err(_) => Status::OutOfMemory,
     }
 }
@@ -64,9 +64,9 @@ fn run_words<R: Threads + Wait + Sync, S: Source, K: Sink, G: Gate>(
 /// mutexes, and writes the report that a run with these numbers has whose history this is;
 /// `profile N W F B` does the same, and writes the profile.
 ///
-/// The source is read to its end before a worker starts, and the text is made whole before any of
-/// it is written. Want of memory may come at any growth, and nothing is written then. Each worker
-/// tells the gate how far it is; what is promised holds for every gate.
+/// The source is read to its end before a worker starts, and all memory that the text takes is taken
+/// before any of it is written. Want of memory may come at any growth, and nothing is written then.
+/// Each worker tells the gate how far it is; what is promised holds for every gate.
 pub fn tclocks<R: Threads + Wait + Sync, S: Source, K: Sink, G: Gate>(
     rt: &R,
     alloc: Global,

@@ -1,17 +1,24 @@
 use Rattle.std.proofs.Common.{subst}
+use Rattle.std.specs.Prelude.{codes}
 use Rattle.std.proofs.lemmas.Result.{IfOk-weaker}
+use Rattle.tc_elf.specs.Refused.{refusal_number, refusal_name}
+use Rattle.tc_main.specs.Top.{refused_line, rejected_line}
 use Rattle.tc_main.specs.Wrong.{IsWrong}
 use Rattle.tc_main.proofs.Replaying.{answer_short, answer_file, answer_history}
 use Rattle.tc_main.proofs.answer.answer_wrong.Goals as goal
 
-pub returns-in-Short : goal.returns-in-Short
-returns-in-Short c = λ asked bytes w.
-    IfOk-weaker c.refused.result _ _ (λ a is. answer_short asked bytes a.text a.status (subst (IsWrong asked bytes) c.in-Short.is w) is) c.refused.ensures
+pub returns-in-Short-clause-answer : goal.returns-in-Short-clause-answer
+returns-in-Short-clause-answer g c = λ asked bytes w.
+    IfOk-weaker c.refused.result _ _
+    (λ a is. (refused_line 17 (codes "ShortInput"), answer_short asked bytes a.status (subst (IsWrong asked bytes) c.in-Short.is w) is.0, is.1)) c.refused.ensures.answer
 
-pub returns-in-File : goal.returns-in-File
-returns-in-File c = λ asked bytes w.
-    IfOk-weaker c.refused-in-File.result _ _ (λ a is. answer_file asked bytes a.text a.status c.in-File.refusal (subst (IsWrong asked bytes) c.in-File.is w) (rw (c.number.ensures, c.name.ensures) at is)) c.refused-in-File.ensures
+pub returns-in-File-clause-answer : goal.returns-in-File-clause-answer
+returns-in-File-clause-answer g c = λ asked bytes w.
+    let reason = c.in-File.refusal in
+    IfOk-weaker c.refused-in-File.result _ _
+    (λ a was. let is = rw (c.number.ensures, c.name.ensures) at was in (refused_line (refusal_number reason) (refusal_name reason), answer_file asked bytes a.status reason (subst (IsWrong asked bytes) c.in-File.is w) is.0, is.1)) c.refused-in-File.ensures.answer
 
-pub returns-in-History : goal.returns-in-History
-returns-in-History c = λ asked bytes w.
-    IfOk-weaker c.rejected.result _ _ (λ a is. answer_history asked bytes a.text a.status c.in-History.reason (subst (IsWrong asked bytes) c.in-History.is w) is) c.rejected.ensures
+pub returns-in-History-clause-answer : goal.returns-in-History-clause-answer
+returns-in-History-clause-answer g c = λ asked bytes w.
+    IfOk-weaker c.rejected.result _ _
+    (λ a is. (rejected_line c.in-History.reason, answer_history asked bytes a.status c.in-History.reason (subst (IsWrong asked bytes) c.in-History.is w) is.0, is.1)) c.rejected.ensures.answer

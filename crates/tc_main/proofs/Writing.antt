@@ -1,12 +1,18 @@
 -- What a sink is given by writes one after another.
-use Rattle.std.proofs.Common.{◌+◌, ℕ, List, ◌++◌, length, length-append, sym, subst, ◌∙◌, arith}
+use Rattle.std.proofs.Common.{◌≡◌, ◌+◌, ℕ, Bor, List, ◌++◌, Result, Ok, Err, length, map, take, drop, length-append, sym, subst, ap, ◌∙◌, arith}
 use Rattle.std.proofs.KnownBytes.{Appends-trans}
-use Rattle.std.proofs.lemmas.List.{take-append-le}
+use Rattle.std.specs.List.{flat_map}
+use Rattle.std.proofs.lemmas.List.{map-append, take-append-drop, take-append-le}
+use Rattle.std.proofs.lemmas.List.Concat.{flat_map-append}
 use Rattle.std.proofs.Math.Seq.{take-append-add}
 use Rattle.std.specs.Io.KnownBytes.{Appends}
 use Rattle.tc_io.specs.Causes.{FailedOnce}
 use Rattle.tc_io.specs.Stream.{Stream}
 use Rattle.tc_io.specs.Taken.{FailsAmid, Gives}
+use Rattle.tc_journal.specs.Line.{block_line}
+use Rattle.tc_journal.specs.declared.block.Block.{Block}
+use Rattle.tc_main.specs.Pieces.{lines_of}
+use Rattle.tc_main.specs.Top.{Wrote}
 
 pub gives_more : (before mid now : Stream) (xs ys : List ℕ) → Gives before mid xs → Gives mid now ys → Gives before now (xs ++ ys)
 gives_more before mid now xs ys p q = record {
@@ -30,3 +36,15 @@ fails_later before mid now xs ys p f = record {
   given = subst (Appends before.bytes now.bytes) (sym (take-append-add xs ys f.count)) (Appends-trans before.bytes mid.bytes now.bytes xs _ p.given f.given);
   fault = let faults : ℕ → Type 0 = λ n. FailedOnce (record { bytes = before.bytes; faults = n }) now in subst faults p.quiet record { later = f.fault.later; next = f.fault.next };
 }
+
+-- how a text that is written behind another one goes is how both go
+pub wrote_later : {E : Type 0} (before mid now : Stream) (xs ys : List ℕ) (r : Result (Unit {0}) E) → Gives before mid xs → Wrote mid now ys r → Wrote before now (xs ++ ys) r
+wrote_later before mid now xs ys (Ok done) p q = gives_more before mid now xs ys p q
+wrote_later before mid now xs ys (Err failed) p f = fails_later before mid now xs ys p f
+
+-- the lines of the first blocks, and those of the others
+pub lines_split : (k : ℕ) (blocks : List (Bor Block)) → lines_of (take k blocks) ++ lines_of (drop k blocks) ≡ lines_of blocks
+lines_split k blocks =
+    let block : Bor Block → Block = λ b. b.now in
+    sym (flat_map-append block_line (map block (take k blocks)) (map block (drop k blocks)))
+    ∙ ap (flat_map block_line) (sym (map-append block (take k blocks) (drop k blocks)) ∙ ap (map block) (take-append-drop k blocks))

@@ -1,14 +1,14 @@
 use Rattle.std.proofs.Common.{rules, ◌≤◌, List, ℕ, length, refl, sym, subst, ap, ◌∙◌, arith}
 use Rattle.tc_elf.specs.declared.limits.TheConstants.{MAX_FILE}
 use Rattle.tc_main.specs.Replayed.{HasRun}
-use Rattle.tc_main.specs.Top.{IsTextOf}
+use Rattle.tc_main.specs.Top.{IsTextOf, Wrote}
 use Rattle.tc_main.specs.Words.{FitsInput, whole_file}
 use Rattle.tc_main.specs.Wrong.{IsWrong, IsWrongFile, IsWrongInput}
 use Rattle.tc_main.specs.declared.words.Asked.{Asked}
 use Rattle.tc_main.specs.declared.words.Asked.TheVariants.{Run, Replay, Profile}
 use Rattle.tc_main.specs.declared.wrong.Wrong.{Wrong}
 use Rattle.tc_main.proofs.Replaying.{asked_wrong, run_wrong}
-use Rattle.tc_main.proofs.answer.text_of.Goals as goal
+use Rattle.tc_main.proofs.answer.write_asked.Goals as goal
 
 pub guest_of-requires : goal.guest_of-requires
 guest_of-requires g c =
@@ -34,26 +34,30 @@ returns-in_err-replay-in-Profile-clause-wrong g c =
     subst (λ (a : Asked). IsWrong a c.args.bytes.items w) (sym c.in-Profile.is) (asked_wrong (Profile c.in-Profile.size c.in-Profile.options) c.in-Profile.size c.in-Profile.options c.args.bytes.items w refl refl wrong) in
     search (rules, of)
 
-pub returns-in_ok-replay_report-in-Replay-clause-text : goal.returns-in_ok-replay_report-in-Replay-clause-text
-returns-in_ok-replay_report-in-Replay-clause-text g c =
+pub returns-in_ok-report-in-Replay-clause-wrote : goal.returns-in_ok-report-in-Replay-clause-wrote
+returns-in_ok-report-in-Replay-clause-wrote g c =
     let r = c.in_ok-replay-in-Replay.replay in
+    let report = c.in_ok-report-in-Replay.report.items in
     let run : HasRun c.in-Replay.size c.in-Replay.options c.args.bytes.items = record {
       image = r.image;
       history = r.history.items;
       is = c.in_ok-replay-in-Replay.ensures.history;
       run = c.in_ok-replay-in-Replay.ensures.replayed.run;
     } in
-    let text : IsTextOf (Replay c.in-Replay.size c.in-Replay.options) c.args.bytes.items c.whole-in-Replay.result = (run, c.whole-in-Replay.ensures ∙ c.in_ok-replay_report-in-Replay.ensures) in
-    subst (λ (a : Asked). IsTextOf a c.args.bytes.items c.whole-in-Replay.result) (sym c.in-Replay.is) text
+    let text : IsTextOf (Replay c.in-Replay.size c.in-Replay.options) c.args.bytes.items report = (run, c.in_ok-report-in-Replay.ensures) in
+    let wrote : Wrote (g.K.Sink.stream c.args.sink.now) (g.K.Sink.stream c.write_text-in-Replay.new.sink) report c.write_text-in-Replay.result = search rules in
+    (report, subst (λ (a : Asked). IsTextOf a c.args.bytes.items report) (sym c.in-Replay.is) text, wrote)
 
-pub returns-in_ok-replay_profile-in-Profile-clause-text : goal.returns-in_ok-replay_profile-in-Profile-clause-text
-returns-in_ok-replay_profile-in-Profile-clause-text g c =
+pub returns-in_ok-profile-in-Profile-clause-wrote : goal.returns-in_ok-profile-in-Profile-clause-wrote
+returns-in_ok-profile-in-Profile-clause-wrote g c =
     let r = c.in_ok-replay-in-Profile.replay in
+    let profile = c.in_ok-profile-in-Profile.profile.items in
     let run : HasRun c.in-Profile.size c.in-Profile.options c.args.bytes.items = record {
       image = r.image;
       history = r.history.items;
       is = c.in_ok-replay-in-Profile.ensures.history;
       run = c.in_ok-replay-in-Profile.ensures.replayed.run;
     } in
-    let text : IsTextOf (Profile c.in-Profile.size c.in-Profile.options) c.args.bytes.items c.whole-in-Profile.result = (run, c.whole-in-Profile.ensures ∙ c.in_ok-replay_profile-in-Profile.ensures) in
-    subst (λ (a : Asked). IsTextOf a c.args.bytes.items c.whole-in-Profile.result) (sym c.in-Profile.is) text
+    let text : IsTextOf (Profile c.in-Profile.size c.in-Profile.options) c.args.bytes.items profile = (run, c.in_ok-profile-in-Profile.ensures) in
+    let wrote : Wrote (g.K.Sink.stream c.args.sink.now) (g.K.Sink.stream c.write_text-in-Profile.new.sink) profile c.write_text-in-Profile.result = search rules in
+    (profile, subst (λ (a : Asked). IsTextOf a c.args.bytes.items profile) (sym c.in-Profile.is) text, wrote)
