@@ -52,12 +52,15 @@ fn a_source_may_fail_in_each_call(rt: HostRuntime) -> Result<(), Fail> {
     Ok(())
 }
 
-/// What is written for some words and a file, and with which status, also where a write fails.
+/// What is written for some words and a file, and with which status, also where a write fails. The
+/// text is written in parts of these lengths, one behind the other: a report in the lines before its
+/// history, those of the history and those behind it.
 #[derive(Clone, Copy)]
 struct Text<'a> {
     words: &'a [&'a [u8]],
     file: &'a [u8],
     text: &'a str,
+    parts: &'a [usize],
     whole: Status,
     cut: Status,
 }
@@ -68,6 +71,7 @@ const TEXTS: [Text<'static>; 3] = [
         words: &RUN,
         file: &SMALLEST,
         text: SMALLEST_REPORT,
+        parts: &[66, 73, 340],
         whole: Status::Done,
         cut: Status::WriteFault,
     },
@@ -75,6 +79,7 @@ const TEXTS: [Text<'static>; 3] = [
         words: &[b"stop"],
         file: &SMALLEST,
         text: USAGE,
+        parts: &[USAGE.len()],
         whole: Status::Usage,
         cut: Status::Usage,
     },
@@ -82,10 +87,22 @@ const TEXTS: [Text<'static>; 3] = [
         words: &[b"run", b"1", b"1", b"0"],
         file: &[],
         text: "refused 1 TooShort\n",
+        parts: &[19],
         whole: Status::Refused(1),
         cut: Status::Refused(1),
     },
 ];
+
+/// How many bytes a sink has taken of these parts in so many calls, where it takes pieces of this size.
+fn taken_in(parts: &[usize], most: usize, calls: usize) -> usize {
+    let mut left = calls;
+    let mut taken: usize = 0;
+    for part in parts {
+        taken = taken.saturating_add(left.saturating_mul(most).min(*part));
+        left = left.saturating_sub(part.div_ceil(most.max(1)));
+    }
+    taken
+}
 
 /// A sink takes a text in pieces, and fails in this call, where it comes to it: it has the pieces
 /// before.
@@ -103,7 +120,7 @@ fn check_sink<R: Threads + Wait + Sync + Abort>(
     };
     let ran = run_with(rt, alloc, case.words, case.file, &outside)?;
     let text = case.text.as_bytes();
-    let taken = call.saturating_mul(most).min(text.len());
+    let taken = taken_in(case.parts, most, call).min(text.len());
     let status = if taken < text.len() {
         case.cut
     } else {
@@ -125,7 +142,8 @@ fn check_sinks<R: Threads + Wait + Sync + Abort>(
     case: &Text<'_>,
     most: usize,
 ) -> Result<(), AllocError> {
-    for call in 0..=case.text.len().div_ceil(most.max(1)) {
+    let calls = case.text.len().div_ceil(most.max(1));
+    for call in 0..=calls.saturating_add(case.parts.len()) {
         check_sink(rt, alloc, case, most, call)?;
     }
     Ok(())
