@@ -13,7 +13,13 @@ use Rattle.tc_mutex_spec.specs.Locality.{Agree}
 use Rattle.tc_mutex_spec.specs.Blocks.{reach, Runs}
 use Rattle.tc_mutex_spec.proofs.Local.{after_thread, after_mutex, agree_trans, agree_at, covers_at}
 use Rattle.tc_mutex_spec.proofs.BlocksAlike.{covers_block, runs_same, runs_apart}
+use Rattle.tc_context.specs.Block.{DidTurns}
+use Rattle.tc_context.specs.Middle.{DidTurn}
 use Rattle.tc_context.specs.Ran.{slept_by, slept_at}
+use Rattle.tc_exec.specs.declared.outcome.Done.{Done}
+use Rattle.tc_mutex_spec.proofs.Going.{end_done, next_small}
+use Rattle.tc_turn.specs.InPlace.{outcome_done}
+use Rattle.tc_turn.proofs.InPlace.{same_outcome}
 pub use Rattle.tc_mutex_spec.proofs.Going.{block_inside, no_cut}
 use Rattle.tc_mutex_spec.proofs.Within.{AreWithin, within_start, within_more, within_ends, IsTold, turn_told}
 use Rattle.tc_mutex_spec.proofs.Replaying.{words_next}
@@ -287,3 +293,30 @@ partway_own {image = image} {block = block} {old = old} {new = new} {c = c} (suc
 pub own_some : (n : ℕ) (o : Option End) (e : End) → (if n == 0 then None else o) ≡ Some e → (0 < n) × (o ≡ Some e)
 own_some zero o e is = absurd (cc)
 own_some (suc n) o e is = (omega arith, chosen n o ∙ is)
+
+-- no turn of the thread's own, or some that end no block, are followed by no LOCK
+pub own_free : (n c : ℕ) (lock : Option ℕ) → (n ≡ 0 → lock ≡ None) → (if n == 0 then None else end_rule outcome.Went (c + n) lock) ≡ None → lock ≡ None
+own_free zero c lock none rule = none refl
+own_free (suc n) c None none rule = refl
+own_free (suc n) c (Some k) none rule = absurd (let e = chosen n (end_rule outcome.Went (c + suc n) (Some k)) ∙ rule in cc)
+
+-- ---- a turn that is told
+
+module _ {image : Shown} {block : ℕ → Bool} {old now new : Context} {n : ℕ} {done : Option Done} {lock : Option ℕ} (partway : Partway image block old now n) (did : DidTurn image block now new done) (next : lock ≡ next_lock image (thread_in new)) where
+  same_rule : end_rule (outcome_of (act_in image now)) (n + 1) (next_lock image (thread_in new)) ≡ end_rule (outcome_done done) (n + 1) lock
+  same_rule = λ i. end_rule (sym (ap outcome_done did.done ∙ same_outcome (act_in image now)) i) (n + 1) (sym next i)
+
+  -- it ends the block
+  pub told_ends : CanGo image old → (end : End) → end_rule (outcome_done done) (n + 1) lock ≡ Some end → DidTurns image block old new (record { end = end; count = n + 1; slept = slept_by done; next = lock })
+  told_ends go end rule = record {
+    runs = partway_ends partway did.turn (same_rule ∙ rule) go;
+    most = (let short = partway.short in omega arith);
+    ends = end_done done (n + 1) (next_lock image (thread_in new)) end did.fits (next_small image (thread_in new) go.guards) ((λ i. end_rule (outcome_done done) (n + 1) (sym next i)) ∙ rule);
+    sleeps = ap slept_by did.done ∙ partway_slept partway did.turn;
+    journals = noted_next partway did.turn;
+    follows = next;
+  }
+
+  -- it does not, so it is followed by no LOCK
+  pub told_goes : end_rule (outcome_done done) (n + 1) lock ≡ None → Partway image block old new (n + 1) × (lock ≡ None)
+  told_goes rule = (partway_more partway did.turn (same_rule ∙ rule), next ∙ (goes_on (thread_in now) (act_in image now) (n + 1) (next_lock image (thread_in new)) (same_rule ∙ rule)).0)

@@ -4,6 +4,8 @@ ghost use Rattle.std.specs.Prelude.{◌≡◌, ℕ, ◌+◌, ◌<◌, ◌≤◌,
 ghost use Rattle.tc_isa.specs.Sets.{has};
 ghost use Rattle.tc_isa.specs.declared.limits.TheConstants.{MAX_TURNS};
 ghost use Rattle.tc_isa.specs.declared.held.TheConstants.Held.{PLACES};
+ghost use Rattle.tc_exec.specs.declared.outcome.Call.TheVariants.{Lock};
+ghost use Rattle.tc_exec.specs.declared.outcome.Done.TheVariants.{Called};
 ghost use Rattle.tc_journal.specs.Rule.{end_rule};
 ghost use Rattle.tc_journal.specs.declared.rule.Outcome.TheVariants.{Went};
 ghost use Rattle.tc_turn.specs.Ahead.{IsAhead};
@@ -106,24 +108,6 @@ impl Context {
         block
     }
 
-    /// One turn of a block with these locks, whose entries are open, and what it did beside the
-    /// registers.
-    fn turn<'a>(
-        &mut self,
-        image: &Image,
-        code: &'a Code,
-        block: Held,
-        ahead: Ahead<'a>,
-    ) -> Option<Done>
-        requires { MayTurns image.now code.now (has block) 1 ahead self.old }
-        ensures did { DidTurn image.now (has block) self.old self.new result }
-    {
-        match ahead.lock {
-            Some(lock) => Some(self.lock_turn(image, block, lock)),
-            None => self.other_turn(image, code, block, ahead.instr),
-        }
-    }
-
     /// The answer to the LOCK of this lock.
     fn lock_answer(&self, lock: u32) -> u32
         ensures { result ≡ lock_answer (mutex_at self.now lock) }
@@ -132,17 +116,16 @@ impl Context {
     }
 
     /// The turn that takes this lock.
-    fn lock_turn(&mut self, image: &Image, block: Held, lock: u32) -> Done
+    fn lock_turn(&mut self, image: &Image, block: Held, lock: u32)
         requires may { MayTurn image.now (has block) 1 self.old }
         requires next { next_lock image.now (thread_in self.old) ≡ Some lock }
-        ensures did { DidTurn image.now (has block) self.old self.new (Some result) }
+        ensures did { DidTurn image.now (has block) self.old self.new (Some (Called (Lock lock))) }
     {
         let answer = self.lock_answer(lock);
         self.locks
             .note_each(block, Want::Nothing, Some(lock), answer);
         self.guest.take_lock(lock, answer);
         self.locks.begin(lock);
-        Done::Called(Call::Lock(lock))
     }
 
     /// A turn that takes no lock, whose instruction is this where it is known.
@@ -205,17 +188,17 @@ impl Context {
     }
 
     /// Turns that touch registers and the thread's own memory alone, but at most so many: none where
-    /// the next one is known to be another.
+    /// the next one, which takes no lock, is known to be another.
     fn own_turns<'a>(
         &mut self,
         image: &Image,
         code: &'a Code,
         block: Held,
-        ahead: Ahead<'a>,
+        known: Option<&'a Instr>,
         most: u32,
     ) -> OwnSteps<'a>
         requires code { code.now ≡ image.now }
-        requires ahead { IsAhead image.now (thread_in self.old) ahead }
+        requires ahead { IsAhead image.now (thread_in self.old) (record { lock = None; instr = known }) }
         ensures turns { 0 < result.count
             → AreOwnTurns image.now (has block) self.old self.new result.count }
         ensures none { result.count ≡ 0 → self.new ≡ self.old }
@@ -224,7 +207,11 @@ impl Context {
     {
         // No journal notes what a block without locks loads.
         let loads = is_empty(block);
-        if ahead.lock.is_some() || !may_be_own(ahead.instr, loads) {
+        if !may_be_own(known, loads) {
+            let ahead = Ahead {
+                lock: None,
+                instr: known,
+            };
             return OwnSteps { count: 0, ahead };
         }
         let own = self.guest.run_own(image, code, most, loads);
@@ -240,39 +227,36 @@ impl Context {
     }
 
     /// Runs the turns of one block with these locks, whose entries are open. `takes` is the lock
-    /// that the first turn takes.
+    /// that the first turn takes: no other turn takes one, since a block ends before it.
     fn turns(&mut self, image: &Image, code: &Code, block: Held, takes: Option<u32>) -> Turns
         requires { MayTurns image.now code.now (has block) MAX_TURNS
             (record { lock = takes; instr = None }) self.old }
         ensures did { DidTurns image.now (has block) self.old self.new result }
     {
-        let mut ahead = Ahead {
-            lock: takes,
-            instr: None,
-        };
         let mut count = 0;
+        let mut known = None;
+        if let Some(lock) = takes {
+            self.lock_turn(image, block, lock);
+            count = 1;
+            let ahead = self.guest.ahead(image, code, None);
+            if let Some(end) = end_of(Outcome::Went, count, ahead.lock) {
+                return ended(end, count, 0, ahead.lock);
+            }
+            known = ahead.instr;
+        }
         'block: loop {
-            let own = self.own_turns(image, code, block, ahead, MAX_TURNS - count);
+            let own = self.own_turns(image, code, block, known, MAX_TURNS - count);
             count += own.count;
             if let Some(end) = own_end(own.count, count, own.ahead.lock) {
-                return Turns {
-                    end,
-                    count,
-                    slept: 0,
-                    next: own.ahead.lock,
-                };
+                return ended(end, count, 0, own.ahead.lock);
             }
-            let done = self.turn(image, code, block, own.ahead);
+            let done = self.other_turn(image, code, block, own.ahead.instr);
             count += 1;
-            ahead = self.guest.ahead(image, code, None);
+            let ahead = self.guest.ahead(image, code, None);
             if let Some(end) = end_of(outcome_by(&done), count, ahead.lock) {
-                return Turns {
-                    end,
-                    count,
-                    slept: slept_by(&done),
-                    next: ahead.lock,
-                };
+                return ended(end, count, slept_by(&done), ahead.lock);
             }
+            known = ahead.instr;
         }
     }
 
@@ -354,6 +338,18 @@ impl Surroundings for Context {
             Some(state) => state.broken(),
             None => false,
         }
+    }
+}
+
+/// What the turns of a block came to, which ended so.
+fn ended(end: End, count: u32, slept: u32, next: Option<u32>) -> Turns
+    ensures { result ≡ record { end = end; count = count; slept = slept; next = next } }
+{
+    Turns {
+        end,
+        count,
+        slept,
+        next,
     }
 }
 

@@ -245,6 +245,7 @@ impl Package {
 
     /// Whether this worker may run the next block: nothing is granted, or the granted lock allows
     /// the kind of its grant with this worker.
+    #[inline(always)]
     pub fn fits(&self, worker: u32) -> bool
         ensures { result ≡ fits_of self.now worker }
     {

@@ -19,9 +19,9 @@ use Rattle.tc_combiner.specs.declared.settled.Settled.TheVariants.{Stopped as Wa
 use Rattle.tc_combiner.specs.Settling.{TellsReady}
 use Rattle.tc_combiner.specs.View.{BenchView, DeskView}
 use Rattle.tc_combiner.specs.Walks.{TakesDown}
-use Rattle.tc_workers.specs.GoOn.{CanHave, HasOffered}
+use Rattle.tc_workers.specs.GoOn.{CanHave, GoesOn, HasOffered}
 use Rattle.tc_workers.specs.Search.{Finds, IsSearch, IsTakenUp, IsTry}
-use Rattle.tc_workers.specs.Turns.{HasWorked, IsFinished, Proceeds, Steps, TakesStep, last_step, proceeds}
+use Rattle.tc_workers.specs.Turns.{HasBegun, HasWorked, IsFinished, Proceeds, Steps, TakesStep, last_step, proceeds}
 use Rattle.tc_workers.specs.Worker.{HasLeft, IsAtDesk, IsAtWork, IsStill, LookedAtStop, WorkerSteps, worker_of}
 use Rattle.tc_workers.specs.declared.step.Step.{Step}
 use Rattle.tc_workers.specs.declared.step.Step.TheVariants.{On, AllDone, Stopped}
@@ -48,6 +48,17 @@ at_work_looked b hand h x e saw work is l = record { desk = at_looked b h x.desk
 
 pub went_on : {Q S P : Type 0} (b : BenchView) (hand h : Option PackageView) (x z : Worker Q S P) (e : DeskView) (saw : Bool) (s : Step) → LookedAtStop saw x.desk e → saw ≡ false → hand ≡ h → Proceeds b h (worker_of e x.ready) z s → TakesStep b hand x z s
 went_on b hand h x z e saw s l went is go = subst (λ (o : Option PackageView). TakesStep b o x z s) (sym is) (proceeds (worker_of e x.ready) (record { desk = subst (λ (a : Bool). LookedAtStop a x.desk e) went l; ready = refl }) go)
+
+-- a step that was begun, and what it came to
+pub went_through : {Q S P : Type 0} (b : BenchView) (hand : Option PackageView) (q : PackageView) (x y z : Worker Q S P) (s : Step) → WorkerSteps b x y (On (Some q)) → HasBegun hand q x y → WorkerSteps b y z s → GoesOn b.image q y z s → WorkerSteps b x z s × TakesStep b hand x z s
+went_through b hand q x y z s did begun steps goes = (record {
+  desk = record { still = still_then x.desk.pass y.desk.pass z.desk.pass did.desk.still steps.desk.still; after = steps.desk.after };
+  ready = steps.ready ∙ did.ready;
+}, subst (λ (o : Option PackageView). TakesStep b o x z s) (sym begun.hand_is) (proceeds y begun.saw goes))
+
+-- it came out so
+pub came_out : {Q S P : Type 0} (b : BenchView) (hand : Option PackageView) (x y z : Worker Q S P) (s r : Step) → z ≡ y → r ≡ s → WorkerSteps b x y s × TakesStep b hand x y s → WorkerSteps b x z r × TakesStep b hand x z r
+came_out {Q} {S} {P} b hand x y z s r is same h = subst (λ (t : Step). WorkerSteps b x z t × TakesStep b hand x z t) (sym same) (subst (λ (w : Worker Q S P). WorkerSteps b x w s × TakesStep b hand x w s) (sym is) h)
 
 finished : (k : Terms) (p q : PassView) (e : DeskView) (a : Bool) → IsStill p e.pass → HasLeft e → (a ≡ true → HasSeenAll (threads k) e.pass.knows) → (a ≡ false → HasStop e.pass.knows) → q ≡ e.pass → IsFinished k p q a
 finished k p q e a still left done stopped is = subst (λ (x : PassView). IsFinished k p x a) (sym is) record { still = still; free = is_free e.pass.knows left.out; done = done; stopped = stopped }

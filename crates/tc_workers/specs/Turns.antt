@@ -31,6 +31,11 @@ pub data TakesStep {Q S P : Type 0} (b : BenchView) (hand : Option PackageView) 
   leaves : Called (Seen 1 ∷ put_back hand ++ put_back x.desk.aside) x.desk.pass.knows z.desk.pass.knows → z.ready ≡ x.ready → s ≡ Stopped → TakesStep b hand x z s
   proceeds : (y : Worker Q S P) → SawNoStop x y → Proceeds b hand y z s → TakesStep b hand x z s
 
+-- a step was begun: it saw no stop, and has this package in hand, with which it goes on
+pub record HasBegun {Q S P : Type 0} (hand : Option PackageView) (q : PackageView) (x y : Worker Q S P) : Type 0 where
+  pub hand_is : hand ≡ Some q
+  pub saw : SawNoStop x y
+
 -- steps one after another of a worker who began as x with nothing in hand
 pub data Steps {Q S P : Type 0} (b : BenchView) (x : Worker Q S P) : Option PackageView → Worker Q S P → Type 0 where
   none : Steps b x None x

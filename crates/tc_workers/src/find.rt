@@ -12,7 +12,6 @@ use crate::leave::leave;
 use crate::rests::Rests;
 use crate::step::Step;
 use crate::worker::Worker;
-use std::sync::Wait;
 use tc_combiner::{Bench, Desk};
 use tc_context::package::Package;
 use tc_hall::place::Origin;
@@ -65,9 +64,9 @@ pub fn claim<G: Gate, Q: Waiters>(
     }
 }
 
-// There is nothing to do and nobody sleeps: ends where each thread is seen to have ended.
-fn rest<R: Wait, Q: Waiters>(
-    rt: &R,
+// There is nothing to do and nobody sleeps: ends where each thread is seen to have ended, and else asks
+// for a rest before the next step.
+fn rest<Q: Waiters>(
     bench: &Bench<'_, Q>,
     rests: &mut Rests<'_>,
     desk: &mut Desk<Q>,
@@ -80,13 +79,12 @@ fn rest<R: Wait, Q: Waiters>(
     if calls::all_done(bench.hall, desk.pass(), bench.image.threads()) {
         return Step::AllDone;
     }
-    rests.rest(rt);
+    rests.ask();
     Step::On(None)
 }
 
 // There is nothing to do: moves the clock to the first sleeper.
-fn idle<R: Wait, Q: Waiters>(
-    rt: &R,
+fn idle<Q: Waiters>(
     bench: &Bench<'_, Q>,
     rests: &mut Rests<'_>,
     desk: &mut Desk<Q>,
@@ -97,7 +95,7 @@ fn idle<R: Wait, Q: Waiters>(
 {
     let now = desk.now();
     match desk.sleepers().least() {
-        None => rest(rt, bench, rests, desk),
+        None => rest(bench, rests, desk),
         Some(due) => {
             desk.advance(due.max(now));
             Step::On(None)
@@ -118,9 +116,8 @@ fn choose<Q: Waiters>(bench: &Bench<'_, Q>, worker: &mut Worker<Q>) -> Option<(u
     Some((t, Origin::Ready))
 }
 
-// Tries the next thread, where there is one, else waits.
-fn seek<R: Wait, G: Gate, Q: Waiters>(
-    rt: &R,
+// Tries the next thread, where there is one, else idles.
+fn seek<G: Gate, Q: Waiters>(
     bench: &Bench<'_, Q>,
     gate: &G,
     rests: &mut Rests<'_>,
@@ -131,15 +128,14 @@ fn seek<R: Wait, G: Gate, Q: Waiters>(
     ensures search { IsSearch (threads bench.now.hall.terms) worker.old worker.new result }
 {
     match choose(bench, worker) {
-        None => idle(rt, bench, rests, &mut worker.desk),
+        None => idle(bench, rests, &mut worker.desk),
         Some((t, from)) => claim(bench, gate, &mut worker.desk, t, from),
     }
 }
 
 /// Goes on with the package that is set aside, else with a sleeper that is due, else with a thread
-/// that is ready.
-pub fn find<R: Wait, G: Gate, Q: Waiters>(
-    rt: &R,
+/// that is ready. Where there is none, a rest is asked for.
+pub fn find<G: Gate, Q: Waiters>(
     bench: &Bench<'_, Q>,
     gate: &G,
     rests: &mut Rests<'_>,
@@ -150,7 +146,7 @@ pub fn find<R: Wait, G: Gate, Q: Waiters>(
     ensures found { Finds bench.now worker.old.desk.aside worker.old worker.new result }
 {
     match worker.desk.back() {
-        None => seek(rt, bench, gate, rests, worker),
+        None => seek(bench, gate, rests, worker),
         Some(package) => Step::On(Some(package)),
     }
 }

@@ -7,7 +7,7 @@ use std::time::Duration;
 
 // After so many steps with a package in hand a worker has found enough to do, and its next rest is
 // short. A thread that it takes only to ship it at its next lock makes two or three.
-const ENOUGH: u32 = 200;
+const ENOUGH: u64 = 200;
 
 // How long the first sleep is at most, in microseconds, and how long each is.
 const SHORTEST: u64 = 25;
@@ -25,7 +25,9 @@ pub(crate) struct Rests<'a> {
     // How long the next sleep is at most, in microseconds.
     next: u64,
     // How many steps with a package in hand were made since the last rest.
-    steps: u32,
+    steps: u64,
+    // Whether a rest was asked for.
+    asked: bool,
 }
 
 impl<'a> Rests<'a> {
@@ -36,12 +38,24 @@ impl<'a> Rests<'a> {
             pause: Backoff::new(),
             next: SHORTEST,
             steps: 0,
+            asked: false,
         }
     }
 
     /// The worker makes a step with a package in hand.
     pub(crate) fn step(&mut self) {
-        self.steps = self.steps.saturating_add(1);
+        self.steps = self.steps.wrapping_add(1);
+    }
+
+    /// The worker has found nothing: it rests before its next step.
+    pub(crate) fn ask(&mut self) {
+        self.asked = true;
+    }
+
+    /// Whether a rest was asked for. A worker asks first, so that a step that needs no rest makes no
+    /// call that may wait.
+    pub(crate) fn are_asked(&self) -> bool {
+        self.asked
     }
 
     // The next rest is short where enough was done since the last one.
@@ -51,6 +65,7 @@ impl<'a> Rests<'a> {
             self.next = SHORTEST;
         }
         self.steps = 0;
+        self.asked = false;
     }
 
     /// Rests, longer than the last time where little was done since.

@@ -1,8 +1,9 @@
 //! A worker's work: its steps, until it ends.
 
-ghost use Rattle.std.specs.Prelude.{◌≡◌, None};
+ghost use Rattle.std.specs.Prelude.{◌≡◌, Some, None, MatchResult};
+ghost use Rattle.tc_workers.specs.declared.step.Step.TheVariants.{On};
 ghost use Rattle.tc_workers.specs.Worker.{HasLeft, IsAtWork, WorkerSteps};
-ghost use Rattle.tc_workers.specs.Turns.{HasWorked, IsFinished, TakesStep};
+ghost use Rattle.tc_workers.specs.Turns.{HasBegun, HasWorked, IsFinished, TakesStep};
 
 use crate::bell::Bell;
 use crate::calls;
@@ -17,43 +18,45 @@ use crate::worker::Worker;
 use std::sync::Wait;
 use tc_combiner::Bench;
 use tc_context::package::Package;
-use tc_hall::pass::Pass;
 use tc_queue::Waiters;
 
-// Looks at STOP, and goes on with the package in hand or finds one.
-fn take_step<R: Wait, G: Gate, Q: Waiters>(
-    rt: &R,
+// Begins a step: looks at STOP, and gives the package in hand, with which the worker goes on. Where it
+// has none, or sees the stop, this is the whole step: it finds one, or leaves.
+fn begin_step<G: Gate, Q: Waiters>(
     bench: &Bench<'_, Q>,
     gate: &G,
     rests: &mut Rests<'_>,
     worker: &mut Worker<Q>,
     hand: Option<Package>,
-) -> Step
+) -> Result<Package, Step>
     requires work { IsAtWork bench.now hand worker.old }
-    ensures steps { WorkerSteps bench.now worker.old worker.new result }
-    ensures takes { TakesStep bench.now hand worker.old worker.new result }
+    ensures steps { MatchResult result (λ p. WorkerSteps bench.now worker.old worker.new (On (Some «p»)))
+        (λ s. WorkerSteps bench.now worker.old worker.new s) }
+    ensures takes { MatchResult result (λ p. HasBegun hand «p» worker.old worker.new)
+        (λ s. TakesStep bench.now hand worker.old worker.new s) }
 {
     if calls::stopped(bench, &mut worker.desk) {
         leave(bench, &mut worker.desk, hand);
-        return Step::Stopped;
+        return Err(Step::Stopped);
     }
     match hand {
-        None => find(rt, bench, gate, rests, worker),
+        None => Err(find(bench, gate, rests, worker)),
         Some(package) => {
             rests.step();
-            go_on(rt, bench, gate, worker, package)
+            Ok(package)
         }
     }
 }
 
-// The pass of a worker who has left.
-fn pass_of<Q: Waiters>(worker: Worker<Q>) -> Pass
+// What the end of a worker gives that has left.
+fn finished<Q: Waiters>(worker: Worker<Q>, all_done: bool) -> Finished
     requires { HasLeft worker.desk }
-    ensures { result ≡ worker.desk.pass }
+    ensures pass { result.pass ≡ worker.desk.pass }
+    ensures done { result.all_done ≡ all_done }
 {
     let Worker { desk, ready: _ } = worker;
     let (pass, _) = desk.finish();
-    pass
+    Finished { pass, all_done }
 }
 
 /// Runs the worker until it has seen every thread Done, or the run is stopped. It may wait, for a
@@ -72,20 +75,19 @@ pub fn work<R: Wait, G: Gate, Q: Waiters>(
     let mut rests = Rests::new(bell);
     let mut hand = None;
     for _ in rt.forever() {
-        match take_step(rt, bench, gate, &mut rests, &mut worker, hand) {
+        let step = match begin_step(bench, gate, &mut rests, &mut worker, hand) {
+            Ok(package) => go_on(rt, bench, gate, &mut worker, package),
+            Err(step) => {
+                if rests.are_asked() {
+                    rests.rest(rt);
+                }
+                step
+            }
+        };
+        match step {
             Step::On(next) => hand = next,
-            Step::AllDone => {
-                return Finished {
-                    pass: pass_of(worker),
-                    all_done: true,
-                };
-            }
-            Step::Stopped => {
-                return Finished {
-                    pass: pass_of(worker),
-                    all_done: false,
-                };
-            }
+            Step::AllDone => return finished(worker, true),
+            Step::Stopped => return finished(worker, false),
         }
     }
     unreachable!()

@@ -1,8 +1,11 @@
-use Rattle.std.proofs.Common.{rules, None, true, false}
-use Rattle.tc_workers.specs.Turns.{Steps, more, none}
+use Rattle.std.proofs.Common.{rules, Bool, None, true, false, sym, subst}
+use Rattle.tc_workers.specs.Turns.{HasWorked, IsFinished, Steps, TakesStep, more, none}
+use Rattle.tc_workers.specs.Worker.{WorkerSteps}
+use Rattle.tc_workers.specs.declared.step.Step.{Step}
 use Rattle.tc_workers.proofs.Passes.{still_same, still_then}
-use Rattle.tc_workers.proofs.Turning.{ended}
+use Rattle.tc_workers.proofs.Turning.{came_out, ended, went_through}
 use Rattle.tc_workers.proofs.work.work.Goals as goal
+use Rattle.tc_workers.proofs.work.work.Goals.{in-Ok, in-Err+then-are_asked, in-Err+else-are_asked}
 
 pub loop-init : goal.loop-init
 loop-init g c =
@@ -12,16 +15,56 @@ loop-init g c =
 
 pub loop-preserved : goal.loop-preserved
 loop-preserved g c =
-    let still = still_then c.args.worker.desk.pass c.loop.worker.desk.pass c.take_step.new.worker.desk.pass c.loop.invariant.2 c.take_step.ensures.steps.desk.still in
-    let steps : Steps c.args.bench.now c.args.worker c.in-On.next c.take_step.new.worker = more c.loop.hand c.in-On.next c.loop.worker c.take_step.new.worker c.loop.invariant.4 c.in-On.ensures.takes in
+    let b = c.args.bench.now in
+    let hand = c.loop.hand in
+    let x = c.loop.worker in
+    let z = c.match-begin_step.worker in
+    let r = c.match-begin_step.step in
+    let did : WorkerSteps b x z r × TakesStep b hand x z r = elim c.match-begin_step.branch [
+      | in-Ok w ↦ came_out b hand x w.go_on-step.new.worker z w.go_on-step.result r w.worker-is w.step-is
+          (went_through b hand w.in-Ok.«package» x c.begin_step.new.worker w.go_on-step.new.worker w.go_on-step.result w.in-Ok.ensures.steps w.in-Ok.ensures.takes w.go_on-step.ensures.steps w.go_on-step.ensures.goes_on)
+      | in-Err+then-are_asked w ↦ came_out b hand x c.begin_step.new.worker z w.in-Err.step r w.worker-is w.step-is (w.in-Err.ensures.steps, w.in-Err.ensures.takes)
+      | in-Err+else-are_asked w ↦ came_out b hand x c.begin_step.new.worker z w.in-Err.step r w.worker-is w.step-is (w.in-Err.ensures.steps, w.in-Err.ensures.takes)
+    ] in
+    let next = c.in-On.next in
+    let on = subst (λ (s : Step). WorkerSteps b x z s) c.in-On.is did.0 in
+    let took = subst (λ (s : Step). TakesStep b hand x z s) c.in-On.is did.1 in
+    let still = still_then c.args.worker.desk.pass x.desk.pass z.desk.pass c.loop.invariant.2 on.desk.still in
+    let steps : Steps b c.args.worker next z = more hand next x z c.loop.invariant.4 took in
     search rules
 
 pub returns-in-AllDone : goal.returns-in-AllDone
 returns-in-AllDone g c =
-    let end = ended c.args.bench.now c.args.worker c.loop.worker c.take_step.new.worker c.loop.hand c.pass_of.result true c.loop.invariant.2 c.loop.invariant.4 c.in-AllDone.ensures.steps c.in-AllDone.ensures.takes c.pass_of.ensures in
-    record { finished = end.0; worked = end.1 }
+    let b = c.args.bench.now in
+    let hand = c.loop.hand in
+    let x = c.loop.worker in
+    let z = c.match-begin_step.worker in
+    let r = c.match-begin_step.step in
+    let did : WorkerSteps b x z r × TakesStep b hand x z r = elim c.match-begin_step.branch [
+      | in-Ok w ↦ came_out b hand x w.go_on-step.new.worker z w.go_on-step.result r w.worker-is w.step-is
+          (went_through b hand w.in-Ok.«package» x c.begin_step.new.worker w.go_on-step.new.worker w.go_on-step.result w.in-Ok.ensures.steps w.in-Ok.ensures.takes w.go_on-step.ensures.steps w.go_on-step.ensures.goes_on)
+      | in-Err+then-are_asked w ↦ came_out b hand x c.begin_step.new.worker z w.in-Err.step r w.worker-is w.step-is (w.in-Err.ensures.steps, w.in-Err.ensures.takes)
+      | in-Err+else-are_asked w ↦ came_out b hand x c.begin_step.new.worker z w.in-Err.step r w.worker-is w.step-is (w.in-Err.ensures.steps, w.in-Err.ensures.takes)
+    ] in
+    let steps = subst (λ (s : Step). WorkerSteps b x z s) c.in-AllDone.is did.0 in
+    let takes = subst (λ (s : Step). TakesStep b hand x z s) c.in-AllDone.is did.1 in
+    let end = ended b c.args.worker x z hand c.finished.result.pass true c.loop.invariant.2 c.loop.invariant.4 steps takes c.finished.ensures.pass in
+    record { finished = subst (λ (d : Bool). IsFinished b.hall.terms c.args.worker.desk.pass c.finished.result.pass d) (sym c.finished.ensures.done) end.0; worked = subst (λ (d : Bool). HasWorked b c.args.worker c.finished.result.pass d) (sym c.finished.ensures.done) end.1 }
 
 pub returns-in-Stopped : goal.returns-in-Stopped
 returns-in-Stopped g c =
-    let end = ended c.args.bench.now c.args.worker c.loop.worker c.take_step.new.worker c.loop.hand c.pass_of-in-Stopped.result false c.loop.invariant.2 c.loop.invariant.4 c.in-Stopped.ensures.steps c.in-Stopped.ensures.takes c.pass_of-in-Stopped.ensures in
-    record { finished = end.0; worked = end.1 }
+    let b = c.args.bench.now in
+    let hand = c.loop.hand in
+    let x = c.loop.worker in
+    let z = c.match-begin_step.worker in
+    let r = c.match-begin_step.step in
+    let did : WorkerSteps b x z r × TakesStep b hand x z r = elim c.match-begin_step.branch [
+      | in-Ok w ↦ came_out b hand x w.go_on-step.new.worker z w.go_on-step.result r w.worker-is w.step-is
+          (went_through b hand w.in-Ok.«package» x c.begin_step.new.worker w.go_on-step.new.worker w.go_on-step.result w.in-Ok.ensures.steps w.in-Ok.ensures.takes w.go_on-step.ensures.steps w.go_on-step.ensures.goes_on)
+      | in-Err+then-are_asked w ↦ came_out b hand x c.begin_step.new.worker z w.in-Err.step r w.worker-is w.step-is (w.in-Err.ensures.steps, w.in-Err.ensures.takes)
+      | in-Err+else-are_asked w ↦ came_out b hand x c.begin_step.new.worker z w.in-Err.step r w.worker-is w.step-is (w.in-Err.ensures.steps, w.in-Err.ensures.takes)
+    ] in
+    let steps = subst (λ (s : Step). WorkerSteps b x z s) c.in-Stopped.is did.0 in
+    let takes = subst (λ (s : Step). TakesStep b hand x z s) c.in-Stopped.is did.1 in
+    let end = ended b c.args.worker x z hand c.finished-in-Stopped.result.pass false c.loop.invariant.2 c.loop.invariant.4 steps takes c.finished-in-Stopped.ensures.pass in
+    record { finished = subst (λ (d : Bool). IsFinished b.hall.terms c.args.worker.desk.pass c.finished-in-Stopped.result.pass d) (sym c.finished-in-Stopped.ensures.done) end.0; worked = subst (λ (d : Bool). HasWorked b c.args.worker c.finished-in-Stopped.result.pass d) (sym c.finished-in-Stopped.ensures.done) end.1 }
