@@ -4,6 +4,9 @@ ghost use Rattle.std.specs.Prelude.{◌≤◌};
 ghost use Rattle.tc_isa.specs.declared.limits.TheConstants.{MAX_BATCH};
 ghost use Rattle.tc_told.specs.View.{IsWriterOf};
 
+use crate::tests::Deed::{
+    Adopt, Back, Claim, Commit, Enter, Finish, Free, Grant, Leave, Park, Ship, Take, Turn,
+};
 use crate::writer::Writer;
 use std::alloc::{AllocError, Global};
 use std::process::Abort;
@@ -14,76 +17,64 @@ use tc_elf::image::Image;
 use tc_elf::load::load;
 use tc_journal::reading::read;
 
-fn claim(worker: u32, thread: u32) -> Event {
-    Event::Claim { worker, thread }
+/// What a worker does with a thread: an event, of this lock where it has one. `Turn` is so many.
+#[derive(Clone, Copy)]
+enum Deed {
+    Claim,
+    Turn(u32),
+    Commit,
+    Enter(u32),
+    Take(u32),
+    Ship(u32),
+    Adopt(u32),
+    Grant(u32),
+    Leave(u32),
+    Free(u32),
+    Back,
+    Park,
+    Finish,
 }
 
-fn turn(worker: u32, thread: u32) -> Event {
-    Event::Turn { worker, thread }
-}
+/// A worker, a thread, and what the one does with the other, in order.
+type Row<'a> = (u32, u32, &'a [Deed]);
 
-fn commit(worker: u32, thread: u32) -> Event {
-    Event::Commit { worker, thread }
-}
-
-fn enter(worker: u32, thread: u32, lock: u32) -> Event {
-    Event::Enter {
-        worker,
-        thread,
-        lock,
+/// The event of a deed. Of a lock that is left or set free no thread is told.
+fn event_of(worker: u32, thread: u32, deed: Deed) -> Event {
+    match deed {
+        Claim => Event::Claim { worker, thread },
+        Turn(_) => Event::Turn { worker, thread },
+        Commit => Event::Commit { worker, thread },
+        Enter(lock) => Event::Enter {
+            worker,
+            thread,
+            lock,
+        },
+        Take(lock) => Event::Take {
+            worker,
+            thread,
+            lock,
+        },
+        Ship(lock) => Event::Ship {
+            worker,
+            thread,
+            lock,
+        },
+        Adopt(lock) => Event::Adopt {
+            worker,
+            thread,
+            lock,
+        },
+        Grant(lock) => Event::Grant {
+            worker,
+            thread,
+            lock,
+        },
+        Leave(lock) => Event::Leave { worker, lock },
+        Free(lock) => Event::Free { worker, lock },
+        Back => Event::HandBack { worker, thread },
+        Park => Event::Park { worker, thread },
+        Finish => Event::Finish { worker, thread },
     }
-}
-
-fn take(worker: u32, thread: u32, lock: u32) -> Event {
-    Event::Take {
-        worker,
-        thread,
-        lock,
-    }
-}
-
-fn ship(worker: u32, thread: u32, lock: u32) -> Event {
-    Event::Ship {
-        worker,
-        thread,
-        lock,
-    }
-}
-
-fn adopt(worker: u32, thread: u32, lock: u32) -> Event {
-    Event::Adopt {
-        worker,
-        thread,
-        lock,
-    }
-}
-
-fn grant(worker: u32, thread: u32, lock: u32) -> Event {
-    Event::Grant {
-        worker,
-        thread,
-        lock,
-    }
-}
-
-fn leave(worker: u32, lock: u32) -> Event {
-    Event::Leave { worker, lock }
-}
-
-fn set_free(worker: u32, lock: u32) -> Event {
-    Event::Free { worker, lock }
-}
-
-fn hand_back(worker: u32, thread: u32) -> Event {
-    Event::HandBack { worker, thread }
-}
-
-fn park(worker: u32, thread: u32) -> Event {
-    Event::Park { worker, thread }
-}
-
-fn finish(worker: u32, thread: u32) -> Event {
-    Event::Finish { worker, thread }
 }
 
 /// A guest of two threads, by its code and where each begins, and with how many locks.
@@ -148,11 +139,19 @@ fn image_of<R: Abort>(rt: &R, alloc: Global, guest: &Guest<'_>) -> Result<Image,
     Ok(load(alloc, &file)?)
 }
 
-/// Takes an event so many times, and says whether it was enabled each time.
-fn repeat(writer: &mut Writer, image: &Image, event: Event, times: u32) -> Result<bool, AllocError>
+/// Does a deed, and says whether it was enabled each time.
+fn perform(
+    writer: &mut Writer,
+    image: &Image,
+    worker: u32,
+    thread: u32,
+    deed: Deed,
+) -> Result<bool, AllocError>
     requires { IsWriterOf image.now writer.old }
     ensures { IsWriterOf image.now writer.new }
 {
+    let event = event_of(worker, thread, deed);
+    let times = if let Turn(turns) = deed { turns } else { 1 };
     for done in 0..times {
         if !writer.step(image, event)? {
             return Ok(false);
@@ -161,39 +160,50 @@ fn repeat(writer: &mut Writer, image: &Image, event: Event, times: u32) -> Resul
     Ok(true)
 }
 
-/// Takes events, each so many times, and says how many from the first on were enabled.
-fn take_all(
-    writer: &mut Writer,
-    image: &Image,
-    events: &[(Event, u32)],
-) -> Result<usize, AllocError>
+/// Does the deeds of a row, and says whether each was enabled.
+fn perform_row(writer: &mut Writer, image: &Image, row: Row<'_>) -> Result<bool, AllocError>
     requires { IsWriterOf image.now writer.old }
     ensures { IsWriterOf image.now writer.new }
 {
-    let mut count: usize = 0;
-    for row in events {
-        if !repeat(writer, image, row.0, row.1)? {
-            return Ok(count);
+    let (worker, thread, deeds) = row;
+    for deed in deeds {
+        if !perform(writer, image, worker, thread, *deed)? {
+            return Ok(false);
         }
-        count = count.saturating_add(1);
     }
-    Ok(count)
+    Ok(true)
 }
 
-/// All of the events are enabled, each so many times, and they write the history of these lines.
+/// Does what the rows say, all of which is enabled when it comes.
+fn perform_all<R: Abort>(
+    rt: &R,
+    writer: &mut Writer,
+    image: &Image,
+    rows: &[Row<'_>],
+) -> Result<(), AllocError>
+    requires { IsWriterOf image.now writer.old }
+    ensures { IsWriterOf image.now writer.new }
+{
+    for (number, row) in rows.iter().enumerate() {
+        assert!(rt; perform_row(writer, image, *row)?, "row {number}");
+    }
+    Ok(())
+}
+
+/// All that the rows say is enabled when it comes, and it writes the history of these lines.
 fn check<R: Abort>(
     rt: &R,
     alloc: Global,
     guest: &Guest<'_>,
     limit: u32,
-    events: &[(Event, u32)],
+    rows: &[Row<'_>],
     lines: &str,
 ) -> Result<(), Fail>
     requires { limit ≤ MAX_BATCH }
 {
     let image = image_of(rt, alloc, guest)?;
     let mut writer = Writer::new(alloc, &image, 100, 2, limit)?;
-    assert_eq!(rt; take_all(&mut writer, &image, events)?, events.len());
+    perform_all(rt, &mut writer, &image, rows)?;
     let told = read(alloc, lines.as_bytes())?;
     assert_eq!(rt; writer.history(), told.as_slice());
     Ok(())
@@ -202,29 +212,16 @@ fn check<R: Abort>(
 /// A lock is taken at home, left while the next thread stands in its line already, and taken again.
 #[test]
 fn a_lock_is_taken_again(rt: HostRuntime) -> Result<(), Fail> {
-    let events = [
-        (claim(0, 0), 1),
-        (turn(0, 0), 3),
-        (commit(0, 0), 1),
-        (enter(0, 0, 0), 1),
-        (take(0, 0, 0), 1),
-        (turn(0, 0), 7),
-        (commit(0, 0), 1),
-        (claim(1, 1), 1),
-        (turn(1, 1), 3),
-        (commit(1, 1), 1),
-        (leave(0, 0), 1),
-        (enter(1, 1, 0), 1),
-        (set_free(0, 0), 1),
-        (take(1, 1, 0), 1),
-        (turn(1, 1), 7),
-        (commit(1, 1), 1),
-        (turn(0, 0), 2),
-        (commit(0, 0), 1),
-        (finish(0, 0), 1),
-        (turn(1, 1), 2),
-        (commit(1, 1), 1),
-        (finish(1, 1), 1),
+    let rows: &[Row<'_>] = &[
+        (0, 0, &[Claim, Turn(3), Commit]),
+        (0, 0, &[Enter(0), Take(0), Turn(7), Commit]),
+        (1, 1, &[Claim, Turn(3), Commit]),
+        (0, 0, &[Leave(0)]),
+        (1, 1, &[Enter(0)]),
+        (0, 0, &[Free(0)]),
+        (1, 1, &[Take(0), Turn(7), Commit]),
+        (0, 0, &[Turn(2), Commit, Finish]),
+        (1, 1, &[Turn(2), Commit, Finish]),
     ];
     let lines = "\
 block 0 thread 0 turns 3 held - kind start worker 0 pc 00100000 end wants 0
@@ -234,7 +231,7 @@ block 3 thread 1 turns 7 held 0 kind taken worker 1 pc 0010000c end unlocked 0
 block 4 thread 0 turns 2 held - kind on worker 0 pc 00100028 end exit
 block 5 thread 1 turns 2 held - kind on worker 1 pc 00100028 end exit
 ";
-    check(&rt, rt.alloc(), &ONE, 4, &events, lines)
+    check(&rt, rt.alloc(), &ONE, 4, rows, lines)
 }
 
 const ADOPTED: &str = "\
@@ -250,103 +247,50 @@ block 5 thread 1 turns 2 held - kind on worker 1 pc 00100028 end exit
 /// releases the lock, and the rest of its thread by another one.
 #[test]
 fn a_waiter_is_adopted(rt: HostRuntime) -> Result<(), Fail> {
-    let events = [
-        (claim(0, 0), 1),
-        (turn(0, 0), 3),
-        (commit(0, 0), 1),
-        (enter(0, 0, 0), 1),
-        (take(0, 0, 0), 1),
-        (turn(0, 0), 4),
-        (claim(1, 1), 1),
-        (turn(1, 1), 3),
-        (commit(1, 1), 1),
-        (enter(1, 1, 0), 1),
-        (ship(1, 1, 0), 1),
-        (turn(0, 0), 3),
-        (commit(0, 0), 1),
-        (adopt(0, 1, 0), 1),
-        (turn(0, 1), 7),
-        (commit(0, 1), 1),
-        (hand_back(0, 1), 1),
-        (turn(0, 0), 2),
-        (commit(0, 0), 1),
-        (finish(0, 0), 1),
-        (claim(1, 1), 1),
-        (turn(1, 1), 2),
-        (commit(1, 1), 1),
-        (finish(1, 1), 1),
+    let rows: &[Row<'_>] = &[
+        (0, 0, &[Claim, Turn(3), Commit]),
+        (0, 0, &[Enter(0), Take(0), Turn(4)]),
+        (1, 1, &[Claim, Turn(3), Commit]),
+        (1, 1, &[Enter(0), Ship(0)]),
+        (0, 0, &[Turn(3), Commit]),
+        (0, 1, &[Adopt(0), Turn(7), Commit, Back]),
+        (0, 0, &[Turn(2), Commit, Finish]),
+        (1, 1, &[Claim, Turn(2), Commit, Finish]),
     ];
-    check(&rt, rt.alloc(), &ONE, 4, &events, ADOPTED)
+    check(&rt, rt.alloc(), &ONE, 4, rows, ADOPTED)
 }
 
 /// The same history by other events, those that the law finds: each thread goes back behind each
 /// block, and the waiter enters right before it is adopted, while nobody has the lock.
 #[test]
 fn a_waiter_is_adopted_as_it_comes(rt: HostRuntime) -> Result<(), Fail> {
-    let events = [
-        (claim(0, 0), 1),
-        (turn(0, 0), 3),
-        (commit(0, 0), 1),
-        (hand_back(0, 0), 1),
-        (claim(1, 1), 1),
-        (turn(1, 1), 3),
-        (commit(1, 1), 1),
-        (hand_back(1, 1), 1),
-        (claim(0, 0), 1),
-        (enter(0, 0, 0), 1),
-        (take(0, 0, 0), 1),
-        (turn(0, 0), 7),
-        (commit(0, 0), 1),
-        (hand_back(0, 0), 1),
-        (claim(0, 1), 1),
-        (enter(0, 1, 0), 1),
-        (ship(0, 1, 0), 1),
-        (adopt(0, 1, 0), 1),
-        (turn(0, 1), 7),
-        (commit(0, 1), 1),
-        (hand_back(0, 1), 1),
-        (claim(0, 0), 1),
-        (turn(0, 0), 2),
-        (commit(0, 0), 1),
-        (finish(0, 0), 1),
-        (claim(1, 1), 1),
-        (turn(1, 1), 2),
-        (commit(1, 1), 1),
-        (finish(1, 1), 1),
+    let rows: &[Row<'_>] = &[
+        (0, 0, &[Claim, Turn(3), Commit, Back]),
+        (1, 1, &[Claim, Turn(3), Commit, Back]),
+        (0, 0, &[Claim, Enter(0), Take(0), Turn(7), Commit, Back]),
+        (0, 1, &[Claim, Enter(0), Ship(0)]),
+        (0, 1, &[Adopt(0), Turn(7), Commit, Back]),
+        (0, 0, &[Claim, Turn(2), Commit, Finish]),
+        (1, 1, &[Claim, Turn(2), Commit, Finish]),
     ];
-    check(&rt, rt.alloc(), &ONE, 4, &events, ADOPTED)
+    check(&rt, rt.alloc(), &ONE, 4, rows, ADOPTED)
 }
 
 /// Where no section may be adopted, the waiter is granted the lock, and the worker that claims it
 /// runs its section.
 #[test]
 fn a_waiter_is_granted_the_lock(rt: HostRuntime) -> Result<(), Fail> {
-    let events = [
-        (claim(0, 0), 1),
-        (turn(0, 0), 3),
-        (commit(0, 0), 1),
-        (enter(0, 0, 0), 1),
-        (take(0, 0, 0), 1),
-        (turn(0, 0), 4),
-        (claim(1, 1), 1),
-        (turn(1, 1), 3),
-        (commit(1, 1), 1),
-        (enter(1, 1, 0), 1),
-        (ship(1, 1, 0), 1),
-        (turn(0, 0), 3),
-        (commit(0, 0), 1),
-        (grant(0, 1, 0), 1),
-        (turn(0, 0), 2),
-        (commit(0, 0), 1),
-        (finish(0, 0), 1),
-        (claim(1, 1), 1),
-        (turn(1, 1), 7),
-        (commit(1, 1), 1),
-        (leave(1, 0), 1),
-        (set_free(1, 0), 1),
-        (turn(1, 1), 2),
-        (commit(1, 1), 1),
-        (finish(1, 1), 1),
+    let rows: &[Row<'_>] = &[
+        (0, 0, &[Claim, Turn(3), Commit]),
+        (0, 0, &[Enter(0), Take(0), Turn(4)]),
+        (1, 1, &[Claim, Turn(3), Commit]),
+        (1, 1, &[Enter(0), Ship(0)]),
+        (0, 0, &[Turn(3), Commit]),
+        (0, 1, &[Grant(0)]),
+        (0, 0, &[Turn(2), Commit, Finish]),
+        (1, 1, &[Claim, Turn(7), Commit]),
+        (1, 1, &[Leave(0), Free(0)]),
+        (1, 1, &[Turn(2), Commit, Finish]),
     ];
     let lines = "\
 block 0 thread 0 turns 3 held - kind start worker 0 pc 00100000 end wants 0
@@ -356,39 +300,22 @@ block 3 thread 0 turns 2 held - kind on worker 0 pc 00100028 end exit
 block 4 thread 1 turns 7 held 0 kind granted worker 1 pc 0010000c end unlocked 0
 block 5 thread 1 turns 2 held - kind on worker 1 pc 00100028 end exit
 ";
-    check(&rt, rt.alloc(), &ONE, 0, &events, lines)
+    check(&rt, rt.alloc(), &ONE, 0, rows, lines)
 }
 
 /// A thread is parked inside its section, and goes on with it at another worker, which adopts the
 /// waiter.
 #[test]
 fn a_section_goes_on_after_a_sleep(rt: HostRuntime) -> Result<(), Fail> {
-    let events = [
-        (claim(0, 0), 1),
-        (turn(0, 0), 3),
-        (commit(0, 0), 1),
-        (enter(0, 0, 0), 1),
-        (take(0, 0, 0), 1),
-        (turn(0, 0), 4),
-        (commit(0, 0), 1),
-        (park(0, 0), 1),
-        (claim(1, 1), 1),
-        (turn(1, 1), 3),
-        (commit(1, 1), 1),
-        (enter(1, 1, 0), 1),
-        (ship(1, 1, 0), 1),
-        (claim(1, 0), 1),
-        (turn(1, 0), 3),
-        (commit(1, 0), 1),
-        (adopt(1, 1, 0), 1),
-        (turn(1, 1), 7),
-        (commit(1, 1), 1),
-        (turn(1, 0), 2),
-        (commit(1, 0), 1),
-        (finish(1, 0), 1),
-        (turn(1, 1), 2),
-        (commit(1, 1), 1),
-        (finish(1, 1), 1),
+    let rows: &[Row<'_>] = &[
+        (0, 0, &[Claim, Turn(3), Commit]),
+        (0, 0, &[Enter(0), Take(0), Turn(4), Commit, Park]),
+        (1, 1, &[Claim, Turn(3), Commit]),
+        (1, 1, &[Enter(0), Ship(0)]),
+        (1, 0, &[Claim, Turn(3), Commit]),
+        (1, 1, &[Adopt(0), Turn(7), Commit]),
+        (1, 0, &[Turn(2), Commit, Finish]),
+        (1, 1, &[Turn(2), Commit, Finish]),
     ];
     let lines = "\
 block 0 thread 0 turns 3 held - kind start worker 0 pc 00100000 end wants 0
@@ -399,45 +326,24 @@ block 4 thread 1 turns 7 held 0 kind adopted worker 1 pc 0010003c end unlocked 0
 block 5 thread 0 turns 2 held - kind on worker 1 pc 00100028 end exit
 block 6 thread 1 turns 2 held - kind on worker 1 pc 00100058 end exit
 ";
-    check(&rt, rt.alloc(), &DOZE, 4, &events, lines)
+    check(&rt, rt.alloc(), &DOZE, 4, rows, lines)
 }
 
 /// A thread ends with two locks: a waiter is granted the one, and the other goes home.
 #[test]
 fn a_thread_ends_with_two_locks(rt: HostRuntime) -> Result<(), Fail> {
-    let events = [
-        (claim(0, 0), 1),
-        (turn(0, 0), 2),
-        (commit(0, 0), 1),
-        (enter(0, 0, 0), 1),
-        (take(0, 0, 0), 1),
-        (turn(0, 0), 3),
-        (commit(0, 0), 1),
-        (enter(0, 0, 1), 1),
-        (take(0, 0, 1), 1),
-        (turn(0, 0), 3),
-        (commit(0, 0), 1),
-        (finish(0, 0), 1),
-        (claim(1, 1), 1),
-        (turn(1, 1), 2),
-        (commit(1, 1), 1),
-        (enter(1, 1, 0), 1),
-        (ship(1, 1, 0), 1),
-        (grant(0, 1, 0), 1),
-        (leave(0, 1), 1),
-        (set_free(0, 1), 1),
-        (claim(1, 1), 1),
-        (turn(1, 1), 4),
-        (commit(1, 1), 1),
-        (turn(1, 1), 2),
-        (commit(1, 1), 1),
-        (enter(1, 1, 1), 1),
-        (take(1, 1, 1), 1),
-        (turn(1, 1), 4),
-        (commit(1, 1), 1),
-        (turn(1, 1), 2),
-        (commit(1, 1), 1),
-        (finish(1, 1), 1),
+    let rows: &[Row<'_>] = &[
+        (0, 0, &[Claim, Turn(2), Commit]),
+        (0, 0, &[Enter(0), Take(0), Turn(3), Commit]),
+        (0, 0, &[Enter(1), Take(1), Turn(3), Commit, Finish]),
+        (1, 1, &[Claim, Turn(2), Commit]),
+        (1, 1, &[Enter(0), Ship(0)]),
+        (0, 1, &[Grant(0)]),
+        (0, 0, &[Leave(1), Free(1)]),
+        (1, 1, &[Claim, Turn(4), Commit]),
+        (1, 1, &[Turn(2), Commit]),
+        (1, 1, &[Enter(1), Take(1), Turn(4), Commit]),
+        (1, 1, &[Turn(2), Commit, Finish]),
     ];
     let lines = "\
 block 0 thread 0 turns 2 held - kind start worker 0 pc 00100000 end wants 0
@@ -449,5 +355,5 @@ block 5 thread 1 turns 2 held - kind on worker 1 pc 00100038 end wants 1
 block 6 thread 1 turns 4 held 1 kind taken worker 1 pc 00100040 end unlocked 1
 block 7 thread 1 turns 2 held - kind on worker 1 pc 00100050 end exit
 ";
-    check(&rt, rt.alloc(), &LAST, 4, &events, lines)
+    check(&rt, rt.alloc(), &LAST, 4, rows, lines)
 }
