@@ -13,6 +13,10 @@ use crate::find::claim;
 use crate::gate::Open;
 use crate::go_on::{next, seal_block, wanted_lock};
 use crate::lines::{Lines, line_up};
+use crate::scripts::Action::{
+    Adopts, Back, Claim, Ends, GoesOn, Looks, Now, Parks, Queues, Reads, Run, Ships, Takes, Tells,
+    Wake,
+};
 use crate::step::Step;
 use crate::stops::{Vain, keeper_of, stop_behind, wait_in_vain};
 use crate::worker::Worker;
@@ -291,6 +295,9 @@ fn act<R: Abort + Wait>(
     Ok(())
 }
 
+/// A desk, and what is done with it, in order.
+pub(crate) type Row<'a> = (usize, &'a [Action<'a>]);
+
 /// A script: a guest, with how many desks and with which batch limit it is run, what is done with
 /// which desk, the lines of its history, the bytes of each guard at the end, where its lock is at home
 /// then, and whether the locks at home are broken.
@@ -301,7 +308,7 @@ pub(crate) struct Script<'a> {
     pub(crate) guards: &'a [(u32, u32)],
     pub(crate) desks: u32,
     pub(crate) limit: u32,
-    pub(crate) steps: &'a [(usize, Action<'a>)],
+    pub(crate) steps: &'a [Row<'a>],
     pub(crate) history: &'a str,
     pub(crate) bytes: &'a [Option<[u8; 4]>],
     pub(crate) broken: bool,
@@ -356,22 +363,39 @@ fn check_history<R: Abort>(
     Ok(())
 }
 
-/// Does the actions in their order.
+/// Does the actions of a row in their order.
+fn act_all<R: Abort + Wait>(
+    rt: &R,
+    bench: &Bench<'_, Queue>,
+    player: &mut Player,
+    history: &mut Vec<Block>,
+    actions: &[Action<'_>],
+) -> Result<(), AllocError>
+    requires { IsPlaying bench.now player.old.desk player.old.hand player.old.end }
+    ensures { OnOk result (IsPlaying bench.now player.new.desk player.new.hand player.new.end) }
+{
+    for action in actions {
+        act(rt, bench, player, history, *action)?;
+    }
+    Ok(())
+}
+
+/// Does the rows in their order.
 pub(crate) fn follow<R: Abort + Wait>(
     rt: &R,
     bench: &Bench<'_, Queue>,
     players: &mut Vec<Player>,
     history: &mut Vec<Block>,
-    steps: &[(usize, Action<'_>)],
+    steps: &[Row<'_>],
 ) -> Result<(), AllocError>
     requires { All (λ p. IsPlaying bench.now p.desk p.hand p.end) players.old.items }
     ensures { OnOk result
         (All (λ p. IsPlaying bench.now p.desk p.hand p.end) players.new.items) }
 {
     for step in steps {
-        let (desk, action) = *step;
+        let (desk, actions) = *step;
         assert!(rt; desk < players.len());
-        act(rt, bench, &mut players[desk], history, action)?;
+        act_all(rt, bench, &mut players[desk], history, actions)?;
     }
     Ok(())
 }
@@ -509,28 +533,12 @@ const ADOPTION: Script<'static> = Script {
     desks: 2,
     limit: 4,
     steps: &[
-        (0, Action::Claim(0)),
-        (0, Action::Run),
-        (0, Action::GoesOn(0)),
-        (0, Action::Run),
-        (1, Action::Claim(1)),
-        (1, Action::Run),
-        (1, Action::Ships),
-        (1, Action::Looks(1, 256)),
-        (0, Action::Adopts(1)),
-        (0, Action::Tells(&[])),
-        (0, Action::Run),
-        (0, Action::GoesOn(0)),
-        (0, Action::Tells(&[1])),
-        (0, Action::Run),
-        (0, Action::Reads(7, 1)),
-        (0, Action::Reads(11, 0)),
-        (0, Action::Ends),
-        (1, Action::Claim(1)),
-        (1, Action::Run),
-        (1, Action::Reads(7, 2)),
-        (1, Action::Reads(11, 1)),
-        (1, Action::Ends),
+        (0, &[Claim(0), Run, GoesOn(0), Run]),
+        (1, &[Claim(1), Run, Ships, Looks(1, 256)]),
+        (0, &[Adopts(1), Tells(&[]), Run]),
+        (0, &[GoesOn(0), Tells(&[1]), Run]),
+        (0, &[Reads(7, 1), Reads(11, 0), Ends]),
+        (1, &[Claim(1), Run, Reads(7, 2), Reads(11, 1), Ends]),
     ],
     history: "\
 block 0 thread 0 turns 3 held - kind start worker 0 pc 00100000 end wants 0
@@ -547,55 +555,25 @@ block 5 thread 1 turns 2 held - kind on worker 1 pc 00100028 end exit
 /// The same, where each desk is asked to acquire the lock, and not to settle the block that wants it.
 const ACQUIRED: Script<'static> = Script {
     steps: &[
-        (0, Action::Claim(0)),
-        (0, Action::Run),
-        (0, Action::Takes(0)),
-        (0, Action::Tells(&[])),
-        (0, Action::Run),
-        (1, Action::Claim(1)),
-        (1, Action::Run),
-        (1, Action::Queues),
-        (1, Action::Tells(&[])),
-        (1, Action::Looks(1, 256)),
-        (0, Action::Adopts(1)),
-        (0, Action::Run),
-        (0, Action::GoesOn(0)),
-        (0, Action::Run),
-        (0, Action::Ends),
-        (1, Action::Claim(1)),
-        (1, Action::Run),
-        (1, Action::Ends),
+        (0, &[Claim(0), Run, Takes(0), Tells(&[]), Run]),
+        (1, &[Claim(1), Run, Queues, Tells(&[]), Looks(1, 256)]),
+        (0, &[Adopts(1), Run, GoesOn(0), Run, Ends]),
+        (1, &[Claim(1), Run, Ends]),
     ],
     ..ADOPTION
 };
 
-/// With batch limit 0 the waiter is granted the lock, and runs on the worker that claims it.
+/// The guest of `ADOPTION` with batch limit 0: the waiter is granted the lock, and runs on the worker
+/// that claims it.
 const NO_BATCH: Script<'static> = Script {
-    code: &ONE,
-    entries: &[START, START],
-    guards: &ONE_GUARD,
-    desks: 2,
     limit: 0,
     steps: &[
-        (0, Action::Claim(0)),
-        (0, Action::Run),
-        (0, Action::GoesOn(0)),
-        (0, Action::Run),
-        (1, Action::Claim(1)),
-        (1, Action::Run),
-        (1, Action::Ships),
-        (0, Action::GoesOn(0)),
-        (0, Action::Tells(&[1])),
-        (0, Action::Looks(1, 0)),
-        (1, Action::Claim(1)),
-        (1, Action::Run),
-        (1, Action::GoesOn(1)),
-        (1, Action::Tells(&[])),
-        (0, Action::Run),
-        (0, Action::Ends),
-        (1, Action::Run),
-        (1, Action::Reads(7, 2)),
-        (1, Action::Ends),
+        (0, &[Claim(0), Run, GoesOn(0), Run]),
+        (1, &[Claim(1), Run, Ships]),
+        (0, &[GoesOn(0), Tells(&[1]), Looks(1, 0)]),
+        (1, &[Claim(1), Run, GoesOn(1), Tells(&[])]),
+        (0, &[Run, Ends]),
+        (1, &[Run, Reads(7, 2), Ends]),
     ],
     history: "\
 block 0 thread 0 turns 3 held - kind start worker 0 pc 00100000 end wants 0
@@ -605,52 +583,23 @@ block 3 thread 1 turns 7 held 0 kind granted worker 1 pc 0010000c end unlocked 0
 block 4 thread 0 turns 2 held - kind on worker 0 pc 00100028 end exit
 block 5 thread 1 turns 2 held - kind on worker 1 pc 00100028 end exit
 ",
-    bytes: &[Some([2, 0, 0, 0])],
-    broken: false,
+    ..ADOPTION
 };
 
-/// With batch limit 1 every second section of a busy lock is adopted.
+/// Four such threads with batch limit 1: every second section of a busy lock is adopted.
 const SHORT_BATCH: Script<'static> = Script {
-    code: &ONE,
     entries: &[START, START, START, START],
-    guards: &ONE_GUARD,
-    desks: 2,
     limit: 1,
     steps: &[
-        (0, Action::Claim(0)),
-        (0, Action::Run),
-        (0, Action::GoesOn(0)),
-        (0, Action::Run),
-        (1, Action::Claim(1)),
-        (1, Action::Run),
-        (1, Action::Ships),
-        (1, Action::Claim(2)),
-        (1, Action::Run),
-        (1, Action::Ships),
-        (1, Action::Claim(3)),
-        (1, Action::Run),
-        (1, Action::Ships),
-        (0, Action::Adopts(1)),
-        (0, Action::Run),
-        (0, Action::GoesOn(0)),
-        (0, Action::Tells(&[2, 1])),
-        (0, Action::Run),
-        (0, Action::Ends),
-        (1, Action::Claim(2)),
-        (1, Action::Run),
-        (1, Action::Adopts(3)),
-        (1, Action::Run),
-        (1, Action::GoesOn(2)),
-        (1, Action::Tells(&[3])),
-        (1, Action::Run),
-        (1, Action::Ends),
-        (0, Action::Claim(1)),
-        (0, Action::Run),
-        (0, Action::Ends),
-        (1, Action::Claim(3)),
-        (1, Action::Run),
-        (1, Action::Reads(7, 4)),
-        (1, Action::Ends),
+        (0, &[Claim(0), Run, GoesOn(0), Run]),
+        (1, &[Claim(1), Run, Ships]),
+        (1, &[Claim(2), Run, Ships]),
+        (1, &[Claim(3), Run, Ships]),
+        (0, &[Adopts(1), Run, GoesOn(0), Tells(&[2, 1]), Run, Ends]),
+        (1, &[Claim(2), Run, Adopts(3), Run]),
+        (1, &[GoesOn(2), Tells(&[3]), Run, Ends]),
+        (0, &[Claim(1), Run, Ends]),
+        (1, &[Claim(3), Run, Reads(7, 4), Ends]),
     ],
     history: "\
 block 0 thread 0 turns 3 held - kind start worker 0 pc 00100000 end wants 0
@@ -667,7 +616,7 @@ block 10 thread 1 turns 2 held - kind on worker 0 pc 00100028 end exit
 block 11 thread 3 turns 2 held - kind on worker 1 pc 00100028 end exit
 ",
     bytes: &[Some([4, 0, 0, 0])],
-    broken: false,
+    ..ADOPTION
 };
 
 /// A waiter is adopted, and shipped on from within its section with the lock that it holds.
@@ -686,35 +635,14 @@ const NESTED: Script<'static> = Script {
     desks: 3,
     limit: 4,
     steps: &[
-        (0, Action::Claim(0)),
-        (0, Action::Run),
-        (0, Action::GoesOn(0)),
-        (0, Action::Run),
-        (1, Action::Claim(1)),
-        (1, Action::Run),
-        (1, Action::GoesOn(1)),
-        (1, Action::Run),
-        (2, Action::Claim(2)),
-        (2, Action::Run),
-        (2, Action::Ships),
-        (1, Action::Adopts(2)),
-        (1, Action::Run),
-        (1, Action::Ships),
-        (1, Action::Looks(2, 257)),
-        (1, Action::Back(1)),
-        (0, Action::Adopts(2)),
-        (0, Action::Run),
-        (0, Action::GoesOn(2)),
-        (0, Action::Run),
-        (0, Action::GoesOn(0)),
-        (0, Action::Tells(&[2])),
-        (0, Action::Run),
-        (0, Action::Ends),
-        (1, Action::Run),
-        (1, Action::Ends),
-        (2, Action::Claim(2)),
-        (2, Action::Run),
-        (2, Action::Ends),
+        (0, &[Claim(0), Run, GoesOn(0), Run]),
+        (1, &[Claim(1), Run, GoesOn(1), Run]),
+        (2, &[Claim(2), Run, Ships]),
+        (1, &[Adopts(2), Run, Ships, Looks(2, 257), Back(1)]),
+        (0, &[Adopts(2), Run, GoesOn(2), Run]),
+        (0, &[GoesOn(0), Tells(&[2]), Run, Ends]),
+        (1, &[Run, Ends]),
+        (2, &[Claim(2), Run, Ends]),
     ],
     history: "\
 block 0 thread 0 turns 2 held - kind start worker 0 pc 00100000 end wants 1
@@ -741,28 +669,12 @@ const SLEEP: Script<'static> = Script {
     desks: 2,
     limit: 4,
     steps: &[
-        (0, Action::Claim(0)),
-        (0, Action::Run),
-        (0, Action::GoesOn(0)),
-        (0, Action::Run),
-        (0, Action::Parks(5)),
-        (0, Action::Now(2)),
-        (0, Action::Looks(0, 1)),
-        (1, Action::Claim(1)),
-        (1, Action::Run),
-        (1, Action::Ships),
-        (0, Action::Wake(5, 0)),
-        (0, Action::Now(5)),
-        (0, Action::Run),
-        (0, Action::Adopts(1)),
-        (0, Action::Run),
-        (0, Action::GoesOn(0)),
-        (0, Action::Run),
-        (0, Action::Ends),
-        (1, Action::Claim(1)),
-        (1, Action::Run),
-        (1, Action::Reads(7, 1)),
-        (1, Action::Ends),
+        (0, &[Claim(0), Run, GoesOn(0), Run]),
+        (0, &[Parks(5), Now(2), Looks(0, 1)]),
+        (1, &[Claim(1), Run, Ships]),
+        (0, &[Wake(5, 0), Now(5), Run, Adopts(1), Run]),
+        (0, &[GoesOn(0), Run, Ends]),
+        (1, &[Claim(1), Run, Reads(7, 1), Ends]),
     ],
     history: "\
 block 0 thread 0 turns 3 held - kind start worker 0 pc 00100000 end wants 0
@@ -792,25 +704,10 @@ const END: Script<'static> = Script {
     desks: 2,
     limit: 4,
     steps: &[
-        (0, Action::Claim(0)),
-        (0, Action::Run),
-        (0, Action::GoesOn(0)),
-        (0, Action::Run),
-        (0, Action::GoesOn(0)),
-        (0, Action::Run),
-        (1, Action::Claim(1)),
-        (1, Action::Run),
-        (1, Action::Ships),
-        (0, Action::Ends),
-        (0, Action::Looks(0, 2)),
-        (0, Action::Tells(&[1])),
-        (0, Action::Looks(1, 0)),
-        (1, Action::Claim(1)),
-        (1, Action::Run),
-        (1, Action::Reads(8, 1)),
-        (1, Action::GoesOn(1)),
-        (1, Action::Run),
-        (1, Action::Ends),
+        (0, &[Claim(0), Run, GoesOn(0), Run, GoesOn(0), Run]),
+        (1, &[Claim(1), Run, Ships]),
+        (0, &[Ends, Looks(0, 2), Tells(&[1]), Looks(1, 0)]),
+        (1, &[Claim(1), Run, Reads(8, 1), GoesOn(1), Run, Ends]),
     ],
     history: "\
 block 0 thread 0 turns 2 held - kind start worker 0 pc 00100000 end wants 0
@@ -827,18 +724,9 @@ block 5 thread 1 turns 2 held - kind on worker 1 pc 00100038 end exit
 /// The same up to that end: lock 1 is at home and broken, and lock 0 is with its waiter.
 const AT_END: Script<'static> = Script {
     steps: &[
-        (0, Action::Claim(0)),
-        (0, Action::Run),
-        (0, Action::GoesOn(0)),
-        (0, Action::Run),
-        (0, Action::GoesOn(0)),
-        (0, Action::Run),
-        (1, Action::Claim(1)),
-        (1, Action::Run),
-        (1, Action::Ships),
-        (0, Action::Ends),
-        (0, Action::Looks(0, 2)),
-        (0, Action::Looks(1, 0)),
+        (0, &[Claim(0), Run, GoesOn(0), Run, GoesOn(0), Run]),
+        (1, &[Claim(1), Run, Ships]),
+        (0, &[Ends, Looks(0, 2), Looks(1, 0)]),
     ],
     history: "\
 block 0 thread 0 turns 2 held - kind start worker 0 pc 00100000 end wants 0
@@ -869,47 +757,18 @@ const THREE_DEEP: Script<'static> = Script {
     desks: 4,
     limit: 4,
     steps: &[
-        (0, Action::Claim(0)),
-        (0, Action::Run),
-        (0, Action::GoesOn(0)),
-        (0, Action::Run),
-        (1, Action::Claim(1)),
-        (1, Action::Run),
-        (1, Action::GoesOn(1)),
-        (1, Action::Run),
-        (2, Action::Claim(2)),
-        (2, Action::Run),
-        (2, Action::GoesOn(2)),
-        (2, Action::Run),
-        (3, Action::Claim(3)),
-        (3, Action::Run),
-        (3, Action::Ships),
-        (2, Action::Adopts(3)),
-        (2, Action::Run),
-        (2, Action::Ships),
-        (2, Action::Back(2)),
-        (1, Action::Adopts(3)),
-        (1, Action::Run),
-        (1, Action::Ships),
-        (1, Action::Back(1)),
-        (0, Action::Adopts(3)),
-        (0, Action::Run),
-        (0, Action::GoesOn(3)),
-        (0, Action::Run),
-        (0, Action::GoesOn(3)),
-        (0, Action::Tells(&[])),
-        (0, Action::Run),
-        (0, Action::GoesOn(0)),
-        (0, Action::Tells(&[3])),
-        (0, Action::Run),
-        (0, Action::Ends),
-        (1, Action::Run),
-        (1, Action::Ends),
-        (2, Action::Run),
-        (2, Action::Ends),
-        (3, Action::Claim(3)),
-        (3, Action::Run),
-        (3, Action::Ends),
+        (0, &[Claim(0), Run, GoesOn(0), Run]),
+        (1, &[Claim(1), Run, GoesOn(1), Run]),
+        (2, &[Claim(2), Run, GoesOn(2), Run]),
+        (3, &[Claim(3), Run, Ships]),
+        (2, &[Adopts(3), Run, Ships, Back(2)]),
+        (1, &[Adopts(3), Run, Ships, Back(1)]),
+        (0, &[Adopts(3), Run, GoesOn(3), Run]),
+        (0, &[GoesOn(3), Tells(&[]), Run]),
+        (0, &[GoesOn(0), Tells(&[3]), Run, Ends]),
+        (1, &[Run, Ends]),
+        (2, &[Run, Ends]),
+        (3, &[Claim(3), Run, Ends]),
     ],
     history: "\
 block 0 thread 0 turns 2 held - kind start worker 0 pc 00100000 end wants 2
@@ -948,36 +807,14 @@ const KEPT_LOCK: Script<'static> = Script {
     desks: 2,
     limit: 4,
     steps: &[
-        (0, Action::Claim(0)),
-        (0, Action::Run),
-        (0, Action::GoesOn(0)),
-        (0, Action::Run),
-        (1, Action::Claim(1)),
-        (1, Action::Run),
-        (1, Action::GoesOn(1)),
-        (1, Action::Run),
-        (1, Action::Ships),
-        (1, Action::Claim(2)),
-        (1, Action::Run),
-        (1, Action::Ships),
-        (0, Action::Adopts(1)),
-        (0, Action::Run),
-        (0, Action::GoesOn(1)),
-        (0, Action::Tells(&[2])),
-        (0, Action::Looks(2, 0)),
-        (0, Action::Run),
-        (0, Action::GoesOn(0)),
-        (0, Action::Tells(&[1])),
-        (0, Action::Run),
-        (0, Action::Ends),
-        (1, Action::Claim(2)),
-        (1, Action::Run),
-        (1, Action::GoesOn(2)),
-        (1, Action::Run),
-        (1, Action::Ends),
-        (1, Action::Claim(1)),
-        (1, Action::Run),
-        (1, Action::Ends),
+        (0, &[Claim(0), Run, GoesOn(0), Run]),
+        (1, &[Claim(1), Run, GoesOn(1), Run, Ships]),
+        (1, &[Claim(2), Run, Ships]),
+        (0, &[Adopts(1), Run]),
+        (0, &[GoesOn(1), Tells(&[2]), Looks(2, 0), Run]),
+        (0, &[GoesOn(0), Tells(&[1]), Run, Ends]),
+        (1, &[Claim(2), Run, GoesOn(2), Run, Ends]),
+        (1, &[Claim(1), Run, Ends]),
     ],
     history: "\
 block 0 thread 0 turns 2 held - kind start worker 0 pc 00100000 end wants 1

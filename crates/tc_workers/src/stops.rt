@@ -12,7 +12,8 @@ use crate::bell::Bell;
 use crate::crew::together;
 use crate::finished::Finished;
 use crate::gate::{Gate, Point};
-use crate::scripts::{Action, Ending, Player, START, Script, TWO_GUARDS, in_hand, play_to};
+use crate::scripts::Action::{Adopts, Claim, GoesOn, Run, Ships};
+use crate::scripts::{Ending, Player, START, Script, TWO_GUARDS, in_hand, play_to};
 use crate::worker::Worker;
 use crossbeam_utils::atomic::AtomicCell;
 use std::process::Abort;
@@ -272,15 +273,9 @@ const WANTS: Script<'static> = Script {
     desks: 3,
     limit: 4,
     steps: &[
-        (0, Action::Claim(0)),
-        (0, Action::Run),
-        (0, Action::GoesOn(0)),
-        (0, Action::Run),
-        (1, Action::Claim(1)),
-        (1, Action::Run),
-        (1, Action::Ships),
-        (0, Action::Adopts(1)),
-        (0, Action::Run),
+        (0, &[Claim(0), Run, GoesOn(0), Run]),
+        (1, &[Claim(1), Run, Ships]),
+        (0, &[Adopts(1), Run]),
     ],
     history: "",
     bytes: &[],
@@ -291,18 +286,10 @@ const WANTS: Script<'static> = Script {
 const SECOND_WAITER: Script<'static> = Script {
     entries: &[START, START, START],
     steps: &[
-        (0, Action::Claim(0)),
-        (0, Action::Run),
-        (0, Action::GoesOn(0)),
-        (0, Action::Run),
-        (1, Action::Claim(1)),
-        (1, Action::Run),
-        (1, Action::Ships),
-        (1, Action::Claim(2)),
-        (1, Action::Run),
-        (1, Action::Ships),
-        (0, Action::Adopts(1)),
-        (0, Action::Run),
+        (0, &[Claim(0), Run, GoesOn(0), Run]),
+        (1, &[Claim(1), Run, Ships]),
+        (1, &[Claim(2), Run, Ships]),
+        (0, &[Adopts(1), Run]),
     ],
     ..WANTS
 };
@@ -317,15 +304,8 @@ const NO_SECOND: Script<'static> = Script {
 const ENDED: Script<'static> = Script {
     entries: &[(0x00100058, 0), START],
     steps: &[
-        (0, Action::Claim(0)),
-        (0, Action::Run),
-        (0, Action::GoesOn(0)),
-        (0, Action::Run),
-        (0, Action::GoesOn(0)),
-        (0, Action::Run),
-        (1, Action::Claim(1)),
-        (1, Action::Run),
-        (1, Action::Ships),
+        (0, &[Claim(0), Run, GoesOn(0), Run, GoesOn(0), Run]),
+        (1, &[Claim(1), Run, Ships]),
     ],
     ..WANTS
 };
