@@ -24,102 +24,108 @@ fn guest(alloc: Global, words: &[u32]) -> Result<Image, Refusal> {
     load(alloc, &bytes[..bytes.len().min(MAX_FILE)])
 }
 
-fn claim(worker: u32, thread: u32) -> Event {
-    Event::Claim { worker, thread }
+/// An event, so many times.
+type Deed = (Event, u32);
+
+fn once(event: Event) -> Deed {
+    (event, 1)
 }
 
-fn turn(worker: u32, thread: u32) -> Event {
-    Event::Turn { worker, thread }
+fn claim(worker: u32, thread: u32) -> Deed {
+    once(Event::Claim { worker, thread })
 }
 
-fn commit(worker: u32, thread: u32) -> Event {
-    Event::Commit { worker, thread }
+fn turns(worker: u32, thread: u32, times: u32) -> Deed {
+    (Event::Turn { worker, thread }, times)
 }
 
-fn enter(worker: u32, thread: u32, lock: u32) -> Event {
-    Event::Enter {
+fn commit(worker: u32, thread: u32) -> Deed {
+    once(Event::Commit { worker, thread })
+}
+
+fn enter(worker: u32, thread: u32, lock: u32) -> Deed {
+    once(Event::Enter {
         worker,
         thread,
         lock,
-    }
+    })
 }
 
-fn take(worker: u32, thread: u32, lock: u32) -> Event {
-    Event::Take {
+fn take(worker: u32, thread: u32, lock: u32) -> Deed {
+    once(Event::Take {
         worker,
         thread,
         lock,
-    }
+    })
 }
 
-fn ship(worker: u32, thread: u32, lock: u32) -> Event {
-    Event::Ship {
+fn ship(worker: u32, thread: u32, lock: u32) -> Deed {
+    once(Event::Ship {
         worker,
         thread,
         lock,
-    }
+    })
 }
 
-fn adopt(worker: u32, thread: u32, lock: u32) -> Event {
-    Event::Adopt {
+fn adopt(worker: u32, thread: u32, lock: u32) -> Deed {
+    once(Event::Adopt {
         worker,
         thread,
         lock,
-    }
+    })
 }
 
-fn grant(worker: u32, thread: u32, lock: u32) -> Event {
-    Event::Grant {
+fn grant(worker: u32, thread: u32, lock: u32) -> Deed {
+    once(Event::Grant {
         worker,
         thread,
         lock,
-    }
+    })
 }
 
-fn leave(worker: u32, lock: u32) -> Event {
-    Event::Leave { worker, lock }
+fn leave(worker: u32, lock: u32) -> Deed {
+    once(Event::Leave { worker, lock })
 }
 
-fn set_free(worker: u32, lock: u32) -> Event {
-    Event::Free { worker, lock }
+fn set_free(worker: u32, lock: u32) -> Deed {
+    once(Event::Free { worker, lock })
 }
 
-fn hand_back(worker: u32, thread: u32) -> Event {
-    Event::HandBack { worker, thread }
+fn hand_back(worker: u32, thread: u32) -> Deed {
+    once(Event::HandBack { worker, thread })
 }
 
-fn park(worker: u32, thread: u32) -> Event {
-    Event::Park { worker, thread }
+fn park(worker: u32, thread: u32) -> Deed {
+    once(Event::Park { worker, thread })
 }
 
-fn finish(worker: u32, thread: u32) -> Event {
-    Event::Finish { worker, thread }
+fn finish(worker: u32, thread: u32) -> Deed {
+    once(Event::Finish { worker, thread })
 }
 
-/// An event, so many times, and where threads and locks are afterwards. What a guest does not have
-/// is Ready, or Free.
+/// A deed, and where threads and locks are afterwards. What a guest does not have is Ready, or Free.
 #[derive(Clone, Copy)]
 struct Scene {
-    event: Event,
-    times: u32,
+    deed: Deed,
     threads: [ThreadPlace; 3],
     locks: [LockPlace; 2],
 }
 
-fn row(event: Event, times: u32, threads: [ThreadPlace; 3], locks: [LockPlace; 2]) -> Scene {
+/// A deed, and after it the places of the threads, of lock 0 and of lock 1.
+fn row(deed: Deed, threads: [ThreadPlace; 3], lock_0: LockPlace, lock_1: LockPlace) -> Scene {
     Scene {
-        event,
-        times,
+        deed,
         threads,
-        locks,
+        locks: [lock_0, lock_1],
     }
 }
 
 /// Takes an event so many times, as long as it is enabled, and says whether it was.
-fn repeat(core: &mut Core, image: &Image, event: Event, times: u32) -> bool
+fn repeat(core: &mut Core, image: &Image, deed: Deed) -> bool
     requires { IsCoreOf image.now core.old }
     ensures { IsCoreOf image.now core.new }
 {
+    let (event, times) = deed;
     for done in 0..times {
         if !core.step(image, event) {
             return false;
@@ -150,7 +156,7 @@ fn walked(core: &mut Core, image: &Image, rows: &[Scene]) -> u32
 {
     let mut count: u32 = 0;
     for scene in rows {
-        if !repeat(core, image, scene.event, scene.times) || !is_at(core, scene) {
+        if !repeat(core, image, scene.deed) || !is_at(core, scene) {
             return count;
         }
         count = count.saturating_add(1);
@@ -161,22 +167,17 @@ fn walked(core: &mut Core, image: &Image, rows: &[Scene]) -> u32
 /// Thread 0 runs to its lock and takes it, and thread 1 waits for it: 11 rows.
 fn up_to_the_wait() -> [Scene; 11] {
     [
-        row(claim(0, 0), 1, [At(0), Ready, Ready], [Free, Free]),
-        row(turn(0, 0), 3, [At(0), Ready, Ready], [Free, Free]),
-        row(commit(0, 0), 1, [At(0), Ready, Ready], [Free, Free]),
-        row(enter(0, 0, 0), 1, [At(0), Ready, Ready], [Free, Free]),
-        row(take(0, 0, 0), 1, [At(0), Ready, Ready], [Granted(0), Free]),
-        row(turn(0, 0), 1, [At(0), Ready, Ready], [With(0), Free]),
-        row(claim(1, 1), 1, [At(0), At(1), Ready], [With(0), Free]),
-        row(turn(1, 1), 3, [At(0), At(1), Ready], [With(0), Free]),
-        row(commit(1, 1), 1, [At(0), At(1), Ready], [With(0), Free]),
-        row(enter(1, 1, 0), 1, [At(0), At(1), Ready], [With(0), Free]),
-        row(
-            ship(1, 1, 0),
-            1,
-            [At(0), Waiting(0), Ready],
-            [With(0), Free],
-        ),
+        row(claim(0, 0), [At(0), Ready, Ready], Free, Free),
+        row(turns(0, 0, 3), [At(0), Ready, Ready], Free, Free),
+        row(commit(0, 0), [At(0), Ready, Ready], Free, Free),
+        row(enter(0, 0, 0), [At(0), Ready, Ready], Free, Free),
+        row(take(0, 0, 0), [At(0), Ready, Ready], Granted(0), Free),
+        row(turns(0, 0, 1), [At(0), Ready, Ready], With(0), Free),
+        row(claim(1, 1), [At(0), At(1), Ready], With(0), Free),
+        row(turns(1, 1, 3), [At(0), At(1), Ready], With(0), Free),
+        row(commit(1, 1), [At(0), At(1), Ready], With(0), Free),
+        row(enter(1, 1, 0), [At(0), At(1), Ready], With(0), Free),
+        row(ship(1, 1, 0), [At(0), Waiting(0), Ready], With(0), Free),
     ]
 }
 
@@ -186,27 +187,22 @@ fn a_waiter_is_adopted(rt: HostRuntime) -> Result<(), Fail> {
     let mut core = Core::new(rt.alloc(), &image, 100, 2, 4)?;
     assert_eq!(rt; walked(&mut core, &image, &up_to_the_wait()), 11);
     let rows = [
-        row(turn(0, 0), 6, [At(0), Waiting(0), Ready], [With(0), Free]),
-        row(
-            commit(0, 0),
-            1,
-            [At(0), Waiting(0), Ready],
-            [Loose(0), Free],
-        ),
-        row(adopt(0, 1, 0), 1, [At(0), At(0), Ready], [Granted(1), Free]),
-        row(turn(0, 1), 1, [At(0), At(0), Ready], [With(1), Free]),
-        row(turn(0, 1), 6, [At(0), At(0), Ready], [With(1), Free]),
-        row(commit(0, 1), 1, [At(0), At(0), Ready], [Loose(0), Free]),
-        row(leave(0, 0), 1, [At(0), At(0), Ready], [Loose(0), Free]),
-        row(set_free(0, 0), 1, [At(0), At(0), Ready], [Free, Free]),
-        row(hand_back(0, 1), 1, [At(0), Ready, Ready], [Free, Free]),
-        row(turn(0, 0), 2, [At(0), Ready, Ready], [Free, Free]),
-        row(commit(0, 0), 1, [At(0), Ready, Ready], [Free, Free]),
-        row(finish(0, 0), 1, [Done, Ready, Ready], [Free, Free]),
-        row(claim(1, 1), 1, [Done, At(1), Ready], [Free, Free]),
-        row(turn(1, 1), 2, [Done, At(1), Ready], [Free, Free]),
-        row(commit(1, 1), 1, [Done, At(1), Ready], [Free, Free]),
-        row(finish(1, 1), 1, [Done, Done, Ready], [Free, Free]),
+        row(turns(0, 0, 6), [At(0), Waiting(0), Ready], With(0), Free),
+        row(commit(0, 0), [At(0), Waiting(0), Ready], Loose(0), Free),
+        row(adopt(0, 1, 0), [At(0), At(0), Ready], Granted(1), Free),
+        row(turns(0, 1, 1), [At(0), At(0), Ready], With(1), Free),
+        row(turns(0, 1, 6), [At(0), At(0), Ready], With(1), Free),
+        row(commit(0, 1), [At(0), At(0), Ready], Loose(0), Free),
+        row(leave(0, 0), [At(0), At(0), Ready], Loose(0), Free),
+        row(set_free(0, 0), [At(0), At(0), Ready], Free, Free),
+        row(hand_back(0, 1), [At(0), Ready, Ready], Free, Free),
+        row(turns(0, 0, 2), [At(0), Ready, Ready], Free, Free),
+        row(commit(0, 0), [At(0), Ready, Ready], Free, Free),
+        row(finish(0, 0), [Done, Ready, Ready], Free, Free),
+        row(claim(1, 1), [Done, At(1), Ready], Free, Free),
+        row(turns(1, 1, 2), [Done, At(1), Ready], Free, Free),
+        row(commit(1, 1), [Done, At(1), Ready], Free, Free),
+        row(finish(1, 1), [Done, Done, Ready], Free, Free),
     ];
     assert_eq!(rt; walked(&mut core, &image, &rows), 16);
     Ok(())
@@ -218,19 +214,14 @@ fn a_waiter_is_granted_the_lock(rt: HostRuntime) -> Result<(), Fail> {
     let mut core = Core::new(rt.alloc(), &image, 100, 2, 0)?;
     assert_eq!(rt; walked(&mut core, &image, &up_to_the_wait()), 11);
     let rows = [
-        row(turn(0, 0), 6, [At(0), Waiting(0), Ready], [With(0), Free]),
-        row(
-            commit(0, 0),
-            1,
-            [At(0), Waiting(0), Ready],
-            [Loose(0), Free],
-        ),
-        row(grant(0, 1, 0), 1, [At(0), Ready, Ready], [Granted(1), Free]),
-        row(claim(1, 1), 1, [At(0), At(1), Ready], [Granted(1), Free]),
-        row(turn(1, 1), 7, [At(0), At(1), Ready], [With(1), Free]),
-        row(commit(1, 1), 1, [At(0), At(1), Ready], [Loose(1), Free]),
-        row(leave(1, 0), 1, [At(0), At(1), Ready], [Loose(1), Free]),
-        row(set_free(1, 0), 1, [At(0), At(1), Ready], [Free, Free]),
+        row(turns(0, 0, 6), [At(0), Waiting(0), Ready], With(0), Free),
+        row(commit(0, 0), [At(0), Waiting(0), Ready], Loose(0), Free),
+        row(grant(0, 1, 0), [At(0), Ready, Ready], Granted(1), Free),
+        row(claim(1, 1), [At(0), At(1), Ready], Granted(1), Free),
+        row(turns(1, 1, 7), [At(0), At(1), Ready], With(1), Free),
+        row(commit(1, 1), [At(0), At(1), Ready], Loose(1), Free),
+        row(leave(1, 0), [At(0), At(1), Ready], Loose(1), Free),
+        row(set_free(1, 0), [At(0), At(1), Ready], Free, Free),
     ];
     assert_eq!(rt; walked(&mut core, &image, &rows), 8);
     Ok(())
@@ -242,18 +233,13 @@ fn a_thread_sleeps_with_its_lock(rt: HostRuntime) -> Result<(), Fail> {
     let mut core = Core::new(rt.alloc(), &image, 100, 2, 4)?;
     assert_eq!(rt; walked(&mut core, &image, &up_to_the_wait()), 11);
     let rows = [
-        row(turn(0, 0), 3, [At(0), Waiting(0), Ready], [With(0), Free]),
-        row(commit(0, 0), 1, [At(0), Waiting(0), Ready], [With(0), Free]),
-        row(park(0, 0), 1, [Parked, Waiting(0), Ready], [With(0), Free]),
-        row(claim(1, 0), 1, [At(1), Waiting(0), Ready], [With(0), Free]),
-        row(turn(1, 0), 3, [At(1), Waiting(0), Ready], [With(0), Free]),
-        row(
-            commit(1, 0),
-            1,
-            [At(1), Waiting(0), Ready],
-            [Loose(1), Free],
-        ),
-        row(adopt(1, 1, 0), 1, [At(1), At(1), Ready], [Granted(1), Free]),
+        row(turns(0, 0, 3), [At(0), Waiting(0), Ready], With(0), Free),
+        row(commit(0, 0), [At(0), Waiting(0), Ready], With(0), Free),
+        row(park(0, 0), [Parked, Waiting(0), Ready], With(0), Free),
+        row(claim(1, 0), [At(1), Waiting(0), Ready], With(0), Free),
+        row(turns(1, 0, 3), [At(1), Waiting(0), Ready], With(0), Free),
+        row(commit(1, 0), [At(1), Waiting(0), Ready], Loose(1), Free),
+        row(adopt(1, 1, 0), [At(1), At(1), Ready], Granted(1), Free),
     ];
     assert_eq!(rt; walked(&mut core, &image, &rows), 7);
     Ok(())
@@ -262,33 +248,23 @@ fn a_thread_sleeps_with_its_lock(rt: HostRuntime) -> Result<(), Fail> {
 /// Thread 0 takes lock 1 and thread 1 takes lock 0, each at its worker. Thread 2 waits for lock 0.
 fn up_to_the_nest() -> [Scene; 17] {
     [
-        row(claim(0, 0), 1, [At(0), Ready, Ready], [Free, Free]),
-        row(turn(0, 0), 2, [At(0), Ready, Ready], [Free, Free]),
-        row(commit(0, 0), 1, [At(0), Ready, Ready], [Free, Free]),
-        row(enter(0, 0, 1), 1, [At(0), Ready, Ready], [Free, Free]),
-        row(take(0, 0, 1), 1, [At(0), Ready, Ready], [Free, Granted(0)]),
-        row(claim(1, 1), 1, [At(0), At(1), Ready], [Free, Granted(0)]),
-        row(turn(1, 1), 2, [At(0), At(1), Ready], [Free, Granted(0)]),
-        row(commit(1, 1), 1, [At(0), At(1), Ready], [Free, Granted(0)]),
-        row(enter(1, 1, 0), 1, [At(0), At(1), Ready], [Free, Granted(0)]),
-        row(
-            take(1, 1, 0),
-            1,
-            [At(0), At(1), Ready],
-            [Granted(1), Granted(0)],
-        ),
-        row(turn(0, 0), 4, [At(0), At(1), Ready], [Granted(1), With(0)]),
-        row(turn(1, 1), 4, [At(0), At(1), Ready], [With(1), With(0)]),
-        row(claim(2, 2), 1, [At(0), At(1), At(2)], [With(1), With(0)]),
-        row(turn(2, 2), 2, [At(0), At(1), At(2)], [With(1), With(0)]),
-        row(commit(2, 2), 1, [At(0), At(1), At(2)], [With(1), With(0)]),
-        row(enter(2, 2, 0), 1, [At(0), At(1), At(2)], [With(1), With(0)]),
-        row(
-            ship(2, 2, 0),
-            1,
-            [At(0), At(1), Waiting(0)],
-            [With(1), With(0)],
-        ),
+        row(claim(0, 0), [At(0), Ready, Ready], Free, Free),
+        row(turns(0, 0, 2), [At(0), Ready, Ready], Free, Free),
+        row(commit(0, 0), [At(0), Ready, Ready], Free, Free),
+        row(enter(0, 0, 1), [At(0), Ready, Ready], Free, Free),
+        row(take(0, 0, 1), [At(0), Ready, Ready], Free, Granted(0)),
+        row(claim(1, 1), [At(0), At(1), Ready], Free, Granted(0)),
+        row(turns(1, 1, 2), [At(0), At(1), Ready], Free, Granted(0)),
+        row(commit(1, 1), [At(0), At(1), Ready], Free, Granted(0)),
+        row(enter(1, 1, 0), [At(0), At(1), Ready], Free, Granted(0)),
+        row(take(1, 1, 0), [At(0), At(1), Ready], Granted(1), Granted(0)),
+        row(turns(0, 0, 4), [At(0), At(1), Ready], Granted(1), With(0)),
+        row(turns(1, 1, 4), [At(0), At(1), Ready], With(1), With(0)),
+        row(claim(2, 2), [At(0), At(1), At(2)], With(1), With(0)),
+        row(turns(2, 2, 2), [At(0), At(1), At(2)], With(1), With(0)),
+        row(commit(2, 2), [At(0), At(1), At(2)], With(1), With(0)),
+        row(enter(2, 2, 0), [At(0), At(1), At(2)], With(1), With(0)),
+        row(ship(2, 2, 0), [At(0), At(1), Waiting(0)], With(1), With(0)),
     ]
 }
 
@@ -296,45 +272,20 @@ fn up_to_the_nest() -> [Scene; 17] {
 /// both back.
 fn through_the_nest() -> [Scene; 14] {
     [
-        row(
-            commit(1, 1),
-            1,
-            [At(0), At(1), Waiting(0)],
-            [Loose(1), With(0)],
-        ),
-        row(
-            adopt(1, 2, 0),
-            1,
-            [At(0), At(1), At(1)],
-            [Granted(2), With(0)],
-        ),
-        row(turn(1, 2), 3, [At(0), At(1), At(1)], [With(2), With(0)]),
-        row(commit(1, 2), 1, [At(0), At(1), At(1)], [With(2), With(0)]),
-        row(enter(1, 2, 1), 1, [At(0), At(1), At(1)], [With(2), With(0)]),
-        row(
-            ship(1, 2, 1),
-            1,
-            [At(0), At(1), Waiting(1)],
-            [With(2), With(0)],
-        ),
-        row(
-            commit(0, 0),
-            1,
-            [At(0), At(1), Waiting(1)],
-            [With(2), Loose(0)],
-        ),
-        row(
-            adopt(0, 2, 1),
-            1,
-            [At(0), At(1), At(0)],
-            [With(2), Granted(2)],
-        ),
-        row(turn(0, 2), 4, [At(0), At(1), At(0)], [With(2), With(2)]),
-        row(commit(0, 2), 1, [At(0), At(1), At(0)], [With(2), Loose(0)]),
-        row(leave(0, 1), 1, [At(0), At(1), At(0)], [With(2), Loose(0)]),
-        row(set_free(0, 1), 1, [At(0), At(1), At(0)], [With(2), Free]),
-        row(turn(0, 2), 3, [At(0), At(1), At(0)], [With(2), Free]),
-        row(commit(0, 2), 1, [At(0), At(1), At(0)], [Loose(0), Free]),
+        row(commit(1, 1), [At(0), At(1), Waiting(0)], Loose(1), With(0)),
+        row(adopt(1, 2, 0), [At(0), At(1), At(1)], Granted(2), With(0)),
+        row(turns(1, 2, 3), [At(0), At(1), At(1)], With(2), With(0)),
+        row(commit(1, 2), [At(0), At(1), At(1)], With(2), With(0)),
+        row(enter(1, 2, 1), [At(0), At(1), At(1)], With(2), With(0)),
+        row(ship(1, 2, 1), [At(0), At(1), Waiting(1)], With(2), With(0)),
+        row(commit(0, 0), [At(0), At(1), Waiting(1)], With(2), Loose(0)),
+        row(adopt(0, 2, 1), [At(0), At(1), At(0)], With(2), Granted(2)),
+        row(turns(0, 2, 4), [At(0), At(1), At(0)], With(2), With(2)),
+        row(commit(0, 2), [At(0), At(1), At(0)], With(2), Loose(0)),
+        row(leave(0, 1), [At(0), At(1), At(0)], With(2), Loose(0)),
+        row(set_free(0, 1), [At(0), At(1), At(0)], With(2), Free),
+        row(turns(0, 2, 3), [At(0), At(1), At(0)], With(2), Free),
+        row(commit(0, 2), [At(0), At(1), At(0)], Loose(0), Free),
     ]
 }
 
@@ -358,8 +309,8 @@ fn a_waiter_is_shipped_with_the_lock_that_it_holds(rt: HostRuntime) -> Result<()
     Ok(())
 }
 
-/// An event, so many times, and whether it is enabled each time.
-type Try = (Event, u32, bool);
+/// A deed, and whether its event is enabled each time.
+type Try = (Deed, bool);
 
 /// How many from the first on were enabled, or not, as it is written beside them.
 fn tried(core: &mut Core, image: &Image, tries: &[Try]) -> u32
@@ -368,7 +319,7 @@ fn tried(core: &mut Core, image: &Image, tries: &[Try]) -> u32
 {
     let mut count: u32 = 0;
     for one in tries {
-        if repeat(core, image, one.0, one.1) != one.2 {
+        if repeat(core, image, one.0) != one.1 {
             return count;
         }
         count = count.saturating_add(1);
@@ -377,7 +328,7 @@ fn tried(core: &mut Core, image: &Image, tries: &[Try]) -> u32
 }
 
 /// The worker passes the lock on to the thread: by Adopt, or by Grant.
-fn pass(adopted: bool, worker: u32, thread: u32, lock: u32) -> Event {
+fn pass(adopted: bool, worker: u32, thread: u32, lock: u32) -> Deed {
     if adopted {
         adopt(worker, thread, lock)
     } else {
@@ -389,30 +340,30 @@ fn pass(adopted: bool, worker: u32, thread: u32, lock: u32) -> Event {
 fn to_the_entry() -> [Try; 21] {
     [
         // No such worker, no such thread; at no worker.
-        (claim(3, 0), 1, false),
-        (claim(0, 3), 1, false),
-        (turn(0, 0), 1, false),
-        (claim(0, 0), 1, true),
+        (claim(3, 0), false),
+        (claim(0, 3), false),
+        (turns(0, 0, 1), false),
+        (claim(0, 0), true),
         // At a worker; at another one; the block goes on; no lock is next; it runs; no sleep.
-        (claim(1, 0), 1, false),
-        (turn(1, 0), 1, false),
-        (hand_back(1, 0), 1, false),
-        (commit(0, 0), 1, false),
-        (enter(0, 0, 1), 1, false),
-        (finish(0, 0), 1, false),
-        (park(0, 0), 1, false),
-        (turn(0, 0), 1, true),
+        (claim(1, 0), false),
+        (turns(1, 0, 1), false),
+        (hand_back(1, 0), false),
+        (commit(0, 0), false),
+        (enter(0, 0, 1), false),
+        (finish(0, 0), false),
+        (park(0, 0), false),
+        (turns(0, 0, 1), true),
         // Inside a block; then it has ended, and the next one takes lock 1.
-        (hand_back(0, 0), 1, false),
-        (turn(0, 0), 1, true),
-        (commit(1, 0), 1, false),
-        (enter(0, 0, 1), 1, false),
-        (commit(0, 0), 1, true),
+        (hand_back(0, 0), false),
+        (turns(0, 0, 1), true),
+        (commit(1, 0), false),
+        (enter(0, 0, 1), false),
+        (commit(0, 0), true),
         // Not granted; at another worker; another lock.
-        (turn(0, 0), 1, false),
-        (enter(1, 0, 1), 1, false),
-        (enter(0, 0, 0), 1, false),
-        (enter(0, 0, 1), 1, true),
+        (turns(0, 0, 1), false),
+        (enter(1, 0, 1), false),
+        (enter(0, 0, 0), false),
+        (enter(0, 0, 1), true),
     ]
 }
 
@@ -420,31 +371,31 @@ fn to_the_entry() -> [Try; 21] {
 fn to_the_line() -> [Try; 22] {
     [
         // In the line, and the lock is free; first in it; at another worker.
-        (enter(0, 0, 1), 1, false),
-        (hand_back(0, 0), 1, false),
-        (ship(0, 0, 1), 1, false),
-        (take(1, 0, 1), 1, false),
-        (claim(1, 1), 1, true),
-        (turn(1, 1), 2, true),
-        (commit(1, 1), 1, true),
+        (enter(0, 0, 1), false),
+        (hand_back(0, 0), false),
+        (ship(0, 0, 1), false),
+        (take(1, 0, 1), false),
+        (claim(1, 1), true),
+        (turns(1, 1, 2), true),
+        (commit(1, 1), true),
         // Not in the line; then not the first; at another worker.
-        (ship(1, 1, 1), 1, false),
-        (enter(1, 1, 1), 1, true),
-        (take(1, 1, 1), 1, false),
-        (ship(0, 1, 1), 1, false),
-        (take(0, 0, 1), 1, true),
+        (ship(1, 1, 1), false),
+        (enter(1, 1, 1), true),
+        (take(1, 1, 1), false),
+        (ship(0, 1, 1), false),
+        (take(0, 0, 1), true),
         // Not free; in the line of a lock that was granted to another.
-        (take(0, 0, 1), 1, false),
-        (hand_back(1, 1), 1, false),
-        (turn(0, 0), 4, true),
+        (take(0, 0, 1), false),
+        (hand_back(1, 1), false),
+        (turns(0, 0, 4), true),
         // The block has ended.
-        (turn(0, 0), 1, false),
-        (commit(0, 0), 1, true),
-        (claim(2, 2), 1, true),
-        (turn(2, 2), 2, true),
-        (commit(2, 2), 1, true),
-        (enter(2, 2, 1), 1, true),
-        (ship(2, 2, 1), 1, true),
+        (turns(0, 0, 1), false),
+        (commit(0, 0), true),
+        (claim(2, 2), true),
+        (turns(2, 2, 2), true),
+        (commit(2, 2), true),
+        (enter(2, 2, 1), true),
+        (ship(2, 2, 1), true),
     ]
 }
 
@@ -452,64 +403,64 @@ fn to_the_line() -> [Try; 22] {
 fn to_the_leave(adopted: bool) -> [Try; 18] {
     [
         // The second of the line does not wait yet.
-        (pass(adopted, 0, 1, 1), 1, false),
-        (ship(1, 1, 1), 1, true),
+        (pass(adopted, 0, 1, 1), false),
+        (ship(1, 1, 1), true),
         // At another worker; not the second; the batch rule; the line has three; not left.
-        (pass(adopted, 1, 1, 1), 1, false),
-        (pass(adopted, 0, 2, 1), 1, false),
-        (pass(!adopted, 0, 1, 1), 1, false),
-        (leave(0, 1), 1, false),
-        (set_free(0, 1), 1, false),
-        (pass(adopted, 0, 1, 1), 1, true),
+        (pass(adopted, 1, 1, 1), false),
+        (pass(adopted, 0, 2, 1), false),
+        (pass(!adopted, 0, 1, 1), false),
+        (leave(0, 1), false),
+        (set_free(0, 1), false),
+        (pass(adopted, 0, 1, 1), true),
         // At the worker where it was adopted; at none where it was granted the lock.
-        (hand_back(0, 1), 1, adopted),
-        (turn(0, 0), 4, true),
-        (commit(0, 0), 1, true),
-        (enter(0, 0, 0), 1, true),
-        (take(0, 0, 0), 1, true),
-        (turn(0, 0), 4, true),
+        (hand_back(0, 1), adopted),
+        (turns(0, 0, 4), true),
+        (commit(0, 0), true),
+        (enter(0, 0, 0), true),
+        (take(0, 0, 0), true),
+        (turns(0, 0, 4), true),
         // With its thread still; then at another worker.
-        (leave(0, 0), 1, false),
-        (commit(0, 0), 1, true),
-        (leave(1, 0), 1, false),
-        (leave(0, 0), 1, true),
+        (leave(0, 0), false),
+        (commit(0, 0), true),
+        (leave(1, 0), false),
+        (leave(0, 0), true),
     ]
 }
 
 /// Lock 1 goes on to thread 2, and thread 0 ends: 27 rows.
 fn to_the_end(adopted: bool) -> [Try; 27] {
     [
-        (claim(1, 1), 1, true),
-        (turn(1, 1), 4, true),
-        (commit(1, 1), 1, true),
-        (turn(1, 1), 4, true),
-        (commit(1, 1), 1, true),
-        (enter(1, 1, 0), 1, true),
+        (claim(1, 1), true),
+        (turns(1, 1, 4), true),
+        (commit(1, 1), true),
+        (turns(1, 1, 4), true),
+        (commit(1, 1), true),
+        (enter(1, 1, 0), true),
         // The first in the line of a lock that was left and is not home: it was not granted.
-        (hand_back(1, 1), 1, false),
+        (hand_back(1, 1), false),
         // Left already, and the line has one again; at another worker.
-        (leave(0, 0), 1, false),
-        (set_free(1, 0), 1, false),
-        (pass(adopted, 1, 2, 1), 1, true),
-        (hand_back(1, 2), 1, adopted),
-        (claim(2, 2), 1, true),
-        (turn(2, 2), 4, true),
-        (commit(2, 2), 1, true),
-        (turn(2, 2), 4, true),
-        (commit(2, 2), 1, true),
-        (enter(2, 2, 0), 1, true),
-        (ship(2, 2, 0), 1, true),
+        (leave(0, 0), false),
+        (set_free(1, 0), false),
+        (pass(adopted, 1, 2, 1), true),
+        (hand_back(1, 2), adopted),
+        (claim(2, 2), true),
+        (turns(2, 2, 4), true),
+        (commit(2, 2), true),
+        (turns(2, 2, 4), true),
+        (commit(2, 2), true),
+        (enter(2, 2, 0), true),
+        (ship(2, 2, 0), true),
         // Left, though the second waits.
-        (pass(adopted, 0, 2, 0), 1, false),
-        (turn(0, 0), 2, true),
+        (pass(adopted, 0, 2, 0), false),
+        (turns(0, 0, 2), true),
         // The last block is not committed; then the thread has ended; at another worker; done.
-        (finish(0, 0), 1, false),
-        (commit(0, 0), 1, true),
-        (turn(0, 0), 1, false),
-        (hand_back(0, 0), 1, false),
-        (finish(1, 0), 1, false),
-        (finish(0, 0), 1, true),
-        (claim(0, 0), 1, false),
+        (finish(0, 0), false),
+        (commit(0, 0), true),
+        (turns(0, 0, 1), false),
+        (hand_back(0, 0), false),
+        (finish(1, 0), false),
+        (finish(0, 0), true),
+        (claim(0, 0), false),
     ]
 }
 
@@ -541,15 +492,15 @@ fn only_a_thread_that_has_slept_is_parked(rt: HostRuntime) -> Result<(), Fail> {
     let mut core = Core::new(rt.alloc(), &image, 100, 2, 4)?;
     assert_eq!(rt; walked(&mut core, &image, &up_to_the_wait()), 11);
     let tries = [
-        (turn(0, 0), 3, true),
-        (commit(0, 0), 1, true),
+        (turns(0, 0, 3), true),
+        (commit(0, 0), true),
         // At another worker; inside a block; after an UNLOCK.
-        (park(1, 0), 1, false),
-        (turn(0, 0), 1, true),
-        (park(0, 0), 1, false),
-        (turn(0, 0), 2, true),
-        (commit(0, 0), 1, true),
-        (park(0, 0), 1, false),
+        (park(1, 0), false),
+        (turns(0, 0, 1), true),
+        (park(0, 0), false),
+        (turns(0, 0, 2), true),
+        (commit(0, 0), true),
+        (park(0, 0), false),
     ];
     assert_eq!(rt; tried(&mut core, &image, &tries), 8);
     Ok(())
@@ -559,9 +510,8 @@ fn only_a_thread_that_has_slept_is_parked(rt: HostRuntime) -> Result<(), Fail> {
 fn the_slow_machine_and_the_core(rt: HostRuntime) -> Result<(), Fail> {
     let image = guest(rt.alloc(), &ONE)?;
     let mut core = Core::new(rt.alloc(), &image, 100, 2, 4)?;
-    let first = claim(0, 0);
-    assert!(rt; core.step(&image, first));
-    assert!(rt; !core.step(&image, first));
+    assert!(rt; repeat(&mut core, &image, claim(0, 0)));
+    assert!(rt; !repeat(&mut core, &image, claim(0, 0)));
     let all = [(0, 3), (0, 7), (1, 3), (1, 7), (0, 2), (1, 2)];
     assert!(rt; Slow::run(rt.alloc(), &image, 100, &all)?.is_some());
     assert!(rt; Slow::run(rt.alloc(), &image, 100, &[(0, 9), (1, 3)])?.is_some());
