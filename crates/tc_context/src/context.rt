@@ -1,6 +1,6 @@
 //! A thread with the locks that are in its package, and the blocks that it runs.
 
-ghost use Rattle.std.specs.Prelude.{◌≡◌, ℕ, ◌+◌, ◌<◌, ◌≤◌, ◌^◌, ◌==◌, true, false, length, Ok, Err, Some, None, IfOk, IfSome, if◌then◌else◌, vec_len, vec_capacity};
+ghost use Rattle.std.specs.Prelude.{◌≡◌, ℕ, ◌+◌, ◌<◌, ◌≤◌, ◌^◌, ◌==◌, true, false, length, Ok, Err, Some, None, IfOk, IfSome, MatchResult, if◌then◌else◌, vec_len, vec_capacity};
 ghost use Rattle.tc_isa.specs.Sets.{has};
 ghost use Rattle.tc_isa.specs.declared.limits.TheConstants.{MAX_TURNS};
 ghost use Rattle.tc_isa.specs.declared.held.TheConstants.Held.{PLACES};
@@ -8,7 +8,9 @@ ghost use Rattle.tc_exec.specs.declared.outcome.Call.TheVariants.{Lock};
 ghost use Rattle.tc_exec.specs.declared.outcome.Done.TheVariants.{Called};
 ghost use Rattle.tc_journal.specs.Rule.{end_rule};
 ghost use Rattle.tc_journal.specs.declared.rule.Outcome.TheVariants.{Went};
+ghost use Rattle.tc_exec.specs.Step as step;
 ghost use Rattle.tc_turn.specs.Ahead.{IsAhead};
+ghost use Rattle.tc_turn.specs.InPlace.{faulted_if};
 ghost use Rattle.tc_turn.specs.Turn.{lock_answer, next_lock};
 ghost use Rattle.tc_mutex_spec.specs.Blocks.{locks_of_block};
 ghost use Rattle.tc_context.specs.Kept.{IsLogWith};
@@ -147,12 +149,12 @@ impl Context {
         let mut decoded = Instr::Ecall;
         let instr = match found {
             Some(instr) => instr,
-            None => match instruction_at(image, pc) {
-                Ok(instr) => {
-                    decoded = instr;
-                    &decoded
+            None => match decode(image, pc, &mut decoded) {
+                Ok(()) => &decoded,
+                Err(fault) => {
+                    let fueled = self.fault_turn(image, block, fault);
+                    return faulted(fueled, fault);
                 }
-                Err(fault) => return self.fault_turn(image, block, fault),
             },
         };
         self.instr_turn(image, block, instr)
@@ -174,17 +176,18 @@ impl Context {
         done
     }
 
-    /// A turn at a place where there is no instruction.
+    /// A turn at a place where there is no instruction. Whether there was fuel for it: what it did
+    /// follows from that, and a number of one bit comes back in a register of the host.
     #[cold]
     #[inline(never)]
-    fn fault_turn(&mut self, image: &Image, block: Held, fault: Fault) -> Option<Done>
+    fn fault_turn(&mut self, image: &Image, block: Held, fault: Fault) -> bool
         requires { MayTurnBy image.now (has block) (Err fault) self.old }
-        ensures did { DidTurn image.now (has block) self.old self.new result }
+        ensures did { DidTurn image.now (has block) self.old self.new (faulted_if result fault) }
     {
         let held = self.guest.held();
-        let done = self.guest.fault(image, fault);
-        self.locks.take_turn(held, &done);
-        done
+        let fueled = self.guest.fault(image, fault);
+        self.locks.take_turn(held, &faulted(fueled, fault));
+        fueled
     }
 
     /// Turns that touch registers and the thread's own memory alone, but at most so many: none where
@@ -339,6 +342,29 @@ impl Surroundings for Context {
             None => false,
         }
     }
+}
+
+/// What a turn did at a place where there is no instruction, for this reason.
+fn faulted(fueled: bool, fault: Fault) -> Option<Done>
+    ensures { result ≡ faulted_if fueled fault }
+{
+    if fueled {
+        Some(Done::Faulted(fault))
+    } else {
+        None
+    }
+}
+
+/// Decodes the instruction at a place. It is never inlined, so that no turn of decoded code makes
+/// room for what it gives.
+#[cold]
+#[inline(never)]
+fn decode(image: &Image, pc: u32, decoded: &mut Instr) -> Result<(), Fault>
+    ensures { MatchResult result (λ done. step.instruction_at image.now pc ≡ Ok decoded.new)
+        (λ fault. step.instruction_at image.now pc ≡ Err fault) }
+{
+    *decoded = instruction_at(image, pc)?;
+    Ok(())
 }
 
 /// What the turns of a block came to, which ended so.

@@ -1,7 +1,8 @@
 -- A turn that is done in place: what becomes of a thread by what the turn did beside the registers.
-use Rattle.std.specs.Prelude.{◌≡◌, ℕ, ◌-◌, ◌<◌, Option, Some, None, IfSome}
+use Rattle.std.specs.Prelude.{◌≡◌, ℕ, ◌-◌, ◌<◌, Bool, true, false, Option, Some, None, IfSome}
 use Rattle.std.specs.Option.{option_map}
 use Rattle.tc_isa.specs.Registers.{Registers}
+use Rattle.tc_isa.specs.declared.fault.Fault.{Fault}
 use Rattle.tc_elf.specs.Shown.{Shown}
 use Rattle.tc_exec.specs.InPlace.{done_of}
 use Rattle.tc_exec.specs.declared.outcome.Done.{Done}
@@ -46,6 +47,11 @@ DoneFits (done.Called (Unlock lock)) = lock < 32
 DoneFits (done.Called (Sleep blocks)) = Unit {0}
 DoneFits (done.Called Exit) = Unit {0}
 DoneFits (done.Faulted f) = Unit {0}
+
+-- what a turn did at a place without an instruction, where there was fuel for it
+abbrev pub faulted_if : Bool → Fault → Option Done
+faulted_if true fault = Some (done.Faulted fault)
+faulted_if false fault = None
 
 -- the turn with this answer was done in place, and this is left of it
 pub record HasTurned (image : Shown) (old : Thread) (answer : ℕ) (left : Option Done) (new : Thread) : Type 0 where

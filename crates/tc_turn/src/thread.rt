@@ -9,7 +9,7 @@ ghost use Rattle.tc_exec.specs.declared.outcome.Act.TheVariants.{Called};
 ghost use Rattle.tc_exec.specs.declared.outcome.Call.TheVariants.{Lock};
 ghost use Rattle.tc_exec.specs.declared.outcome.Want.TheVariants.{Nothing};
 ghost use Rattle.tc_turn.specs.Ahead.{IsAhead};
-ghost use Rattle.tc_turn.specs.InPlace.{thread_done, DoneFits, HasTurned};
+ghost use Rattle.tc_turn.specs.InPlace.{thread_done, faulted_if, DoneFits, HasTurned};
 ghost use Rattle.tc_turn.specs.Memory.{IsAccess, number_at, own_of};
 ghost use Rattle.tc_turn.specs.Turn.{thread_of, thread_at_start, next_lock, act_with, CanAct, PutFits, thread_after, with_end, with_put};
 
@@ -200,21 +200,21 @@ impl GuestThread {
     }
 
     /// Its next turn, as `turn` does it, where there is no instruction at its place, and this is
-    /// why. It wants no load, and no answer makes a difference.
+    /// why. It wants no load, and no answer makes a difference. Whether there was fuel for it.
     #[tactic(auto, unfolding(tc_exec::specs::Step::act_of, tc_exec::specs::Step::wants_of))]
-    pub fn fault(&mut self, image: &Image, fault: Fault) -> Option<Done>
+    pub fn fault(&mut self, image: &Image, fault: Fault) -> bool
         requires { instruction_at image.now self.old.regs.pc ≡ Err fault }
         ensures want { wants_of image.now (has self.old.held) self.old.regs ≡ Nothing }
         ensures turned { (answer : ℕ)
-            → HasTurned image.now (thread_of self.old) answer result (thread_of self.new) }
+            → HasTurned image.now (thread_of self.old) answer (faulted_if result fault) (thread_of self.new) }
     {
         let Some(left) = self.fuel.checked_sub(1) else {
             self.end(Status::SpentFuel);
-            return None;
+            return false;
         };
         self.fuel = left;
         self.end(Status::Faulted(fault));
-        Some(Done::Faulted(fault))
+        true
     }
 
     /// Its next turn, where that is the lawful LOCK of this lock with that answer.

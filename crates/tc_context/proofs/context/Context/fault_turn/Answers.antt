@@ -1,7 +1,9 @@
-use Rattle.std.proofs.Common.{ℕ, false, ◌==◌, refl, ap, sym, subst, None, if◌then◌else◌}
+use Rattle.std.proofs.Common.{◌∙◌, ℕ, false, ◌==◌, refl, ap, sym, subst, None, if◌then◌else◌}
 use Rattle.tc_context.proofs.Vocabulary.{option_map, has, act_with, TurnReady, TurnFits, thread_in, journal_in}
 use Rattle.tc_exec.specs.InPlace.{done_of}
+use Rattle.tc_turn.specs.InPlace.{faulted_if}
 use Rattle.tc_exec.specs.declared.outcome.Want.TheVariants.{Nothing}
+use Rattle.tc_context.specs.Locks.{Changed, turned as turned_by}
 use Rattle.tc_context.proofs.Moved.{turn_ready, turn_fits, none_noted, did_turn}
 use Rattle.tc_context.proofs.context.Context.fault_turn.Goals as goal
 
@@ -11,10 +13,11 @@ take_turn-requires c =
     let d = thread_in c.args.self.now in
     let may = c.requires.may in
     let act = act_with image d 0 in
+    let done = c.faulted.ensures ∙ (c.fault-fueled.ensures.turned 0).done in
     record {
-      fits = subst TurnFits (sym (c.fault-done.ensures.turned 0).done) (turn_fits image d 0 act refl may.go.guards);
+      fits = subst TurnFits (sym done) (turn_fits image d 0 act refl may.go.guards);
       ready = λ k l found.
-          subst (λ o. TurnReady (has c.held-held.result) o k l) (sym (c.fault-done.ensures.turned 0).done)
+          subst (λ o. TurnReady (has c.held-held.result) o k l) (sym done)
           (subst (λ n. TurnReady (has n) (option_map done_of act) k l) (sym c.held-held.ensures) (turn_ready image (has c.args.block) d 0 act refl may.covers k l (may.go.of k l found) (may.opened k l.journal (ap (option_map journal_in) found))));
     }
 
@@ -22,8 +25,9 @@ pub returns : goal.returns
 returns c =
     let old = c.args.self.now in
     let noting = λ (k : ℕ). if old.guest.fuel == 0 then false else has c.args.block k in
+    let turned = c.fault-fueled.ensures.turned 0 in
     record {
-      did = did_turn c.args.image.now (has c.args.block) noting old _ old.locks Nothing None 0 c.held-held.result c.fault-done.result c.requires.may.go.of
-          (sym c.fault-done.ensures.want) (sym c.requires.next) refl (λ k. refl) (none_noted noting 0 old.locks)
-          c.held-held.ensures (c.fault-done.ensures.turned 0).done (c.fault-done.ensures.turned 0).fits c.take_turn.ensures refl (c.fault-done.ensures.turned 0).thread;
+      did = did_turn c.args.image.now (has c.args.block) noting old _ old.locks Nothing None 0 c.held-held.result (faulted_if c.fault-fueled.result c.args.fault) c.requires.may.go.of
+          (sym c.fault-fueled.ensures.want) (sym c.requires.next) refl (λ k. refl) (none_noted noting 0 old.locks)
+          c.held-held.ensures turned.done turned.fits (subst (λ o. Changed (turned_by (has c.held-held.result) o) old.locks c.take_turn.new.self) c.faulted.ensures c.take_turn.ensures) refl turned.thread;
     }

@@ -1,14 +1,13 @@
-use Rattle.std.proofs.Common.{◌≡◌, ◌+◌, ◌∙◌, ap, sym, subst, arith, None, Some}
+use Rattle.std.proofs.Common.{◌+◌, ◌∙◌, ap, sym, subst, arith, Some}
 use Rattle.tc_context.proofs.Vocabulary.{has, next_lock, thread_in, RunsAs, act_in, AreNoted}
 use Rattle.tc_exec.specs.declared.outcome.Done.TheVariants.{Went}
 use Rattle.tc_journal.specs.Rule.{end_rule}
 use Rattle.tc_journal.specs.declared.rule.Outcome.TheVariants as outcome
-use Rattle.tc_turn.specs.Ahead.{IsAhead}
 use Rattle.tc_context.specs.Block.{DidTurns}
 use Rattle.tc_context.specs.Ran.{slept_in}
 use Rattle.tc_context.specs.declared.context.Context.{Context}
 use Rattle.tc_mutex_spec.proofs.Going.{end_done, next_small}
-use Rattle.tc_context.proofs.Partway.{Partway, partway_start, partway_own, partway_ends, partway_slept, noted_next, may_here, taken, own_some, own_free, sleeps_not, told_ends, told_goes}
+use Rattle.tc_context.proofs.Partway.{partway_start, partway_own, partway_ends, partway_slept, noted_next, may_here, taken, own_some, own_free, sleeps_not, told_ends, told_goes}
 use Rattle.tc_context.proofs.context.Context.turns.Goals as goal
 use Rattle.tc_context.proofs.context.Context.turns.Goals.{in-Some+in_default-end_of, in_default}
 
