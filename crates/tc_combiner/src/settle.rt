@@ -1,11 +1,14 @@
 //! What `settle` does, by the end of the block, over the parts of a desk.
 
-ghost use Rattle.std.specs.Prelude.{◌≤◌, ◌∷◌, length, map};
+ghost use Rattle.std.specs.Prelude.{◌≡◌, ◌<◌, ◌≤◌, ◌∷◌, Some, length, map};
+ghost use Rattle.tc_isa.specs.declared.limits.TheConstants.{MAX_HELD};
+ghost use Rattle.tc_journal.specs.Batch.{last_of};
+ghost use Rattle.tc_journal.specs.declared.block.Block.{Block};
 ghost use Rattle.tc_hall.specs.Outs.{Pack};
 ghost use Rattle.tc_hall.specs.Rule.{threads};
 ghost use Rattle.tc_combiner.specs.Walks.{packed, IsAtHall, MayAct};
 ghost use Rattle.tc_combiner.specs.Answers.{Acquires, MayAsk};
-ghost use Rattle.tc_combiner.specs.Release.{MayUnlock, Unlocks, AtSeat};
+ghost use Rattle.tc_combiner.specs.Release.{AtSeat, Ends, MayEnd, MayUnlock, Unlocks};
 ghost use Rattle.tc_combiner.specs.View.{desk_of, HasSeats};
 ghost use Rattle.tc_combiner.specs.Settling.{HasSettled, KeepsParts, MaySettle};
 
@@ -63,6 +66,49 @@ fn unlocked_at<R: Wait, Q: Waiters>(
     unlocked_with(rt, shared.hall, hands, queue, seat, package, released)
 }
 
+// What `settle` does where the last block released this lock.
+fn unlocked_last<R: Wait, Q: Waiters>(
+    rt: &R,
+    shared: &Shared<'_, Q>,
+    hands: &mut Hands,
+    seats: &mut [Q::Seat],
+    package: Package,
+    lock: u32,
+) -> Settled
+    requires hands { MayAct shared.now.hall.now (Pack «package» ∷ packed hands.old.aside) 2 hands.old }
+    requires some { 0 < length «package».log }
+    requires may { (block : Block) → last_of «package».log ≡ Some block
+        → MayUnlock shared.now.hall.now.terms hands.old.pass.knows lock block «package» }
+    requires seats { HasSeats Q.queue Q.seen shared.now.hall.now.terms shared.now.queues.now seats.old }
+    ensures { (block : Block) → last_of «package».log ≡ Some block
+        → AtSeat lock (map Q.seen seats.old) (map Q.seen seats.new)
+        (λ s t. Unlocks shared.now.hall.now.terms lock block «package» s t hands.old hands.new result) }
+{
+    let block = &package.last();
+    unlocked_at(rt, shared, hands, seats, package, Released { lock, block })
+}
+
+// What `settle` does where the last block ended the thread.
+fn ended_last<R: Wait, Q: Waiters>(
+    rt: &R,
+    shared: &Shared<'_, Q>,
+    hands: &mut Hands,
+    seats: &mut [Q::Seat],
+    package: Package,
+) -> Settled
+    requires hands { MayAct shared.now.hall.now (Pack «package» ∷ packed hands.old.aside) MAX_HELD hands.old }
+    requires some { 0 < length «package».log }
+    requires may { (block : Block) → last_of «package».log ≡ Some block
+        → MayEnd shared.now.hall.now.terms hands.old.pass.knows block «package» }
+    requires seats { HasSeats Q.queue Q.seen shared.now.hall.now.terms shared.now.queues.now seats.old }
+    ensures { (block : Block) → last_of «package».log ≡ Some block
+        → Ends shared.now.hall.now.terms block «package» (map Q.seen seats.old) (map Q.seen seats.new)
+        hands.old hands.new result }
+{
+    let block = package.last();
+    ended_with(rt, shared, hands, seats, package, &block)
+}
+
 /// What `settle` does, over the parts of a desk.
 pub(crate) fn settle_with<R: Wait, Q: Waiters>(
     rt: &R,
@@ -87,19 +133,15 @@ pub(crate) fn settle_with<R: Wait, Q: Waiters>(
 {
     hands.ready.clear();
     package.keeps();
-    let block = package.last();
     match end {
         End::Wants(lock) => acquire_at(rt, shared, hands, seats, package, lock),
-        End::Unlocked(lock) => {
-            let block = &block;
-            unlocked_at(rt, shared, hands, seats, package, Released { lock, block })
-        }
+        End::Unlocked(lock) => unlocked_last(rt, shared, hands, seats, package, lock),
         End::Slept => {
             park(shared.hall, hands, rest, package);
             Settled::Parked
         }
         End::Cut => Settled::GoesOn(package),
         // An exit, a fault, or spent fuel.
-        _ => ended_with(rt, shared, hands, seats, package, &block),
+        _ => ended_last(rt, shared, hands, seats, package),
     }
 }
