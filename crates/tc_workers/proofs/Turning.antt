@@ -51,10 +51,13 @@ went_on b hand h x z e saw s l went is go = subst (λ (o : Option PackageView). 
 
 -- a step that was begun, and what it came to
 pub went_through : {Q S P : Type 0} (b : BenchView) (hand : Option PackageView) (q : PackageView) (x y z : Worker Q S P) (s : Step) → WorkerSteps b x y (On (Some q)) → HasBegun hand q x y → WorkerSteps b y z s → GoesOn b.image q y z s → WorkerSteps b x z s × TakesStep b hand x z s
-went_through b hand q x y z s did begun steps goes = (record {
-  desk = record { still = still_then x.desk.pass y.desk.pass z.desk.pass did.desk.still steps.desk.still; after = steps.desk.after };
-  ready = steps.ready ∙ did.ready;
-}, subst (λ (o : Option PackageView). TakesStep b o x z s) (sym begun.hand_is) (proceeds y begun.saw goes))
+went_through b hand q x y z s did begun steps goes = (
+  record {
+    desk = record { still = still_then x.desk.pass y.desk.pass z.desk.pass did.desk.still steps.desk.still; after = steps.desk.after };
+    ready = steps.ready ∙ did.ready;
+  },
+  subst (λ (o : Option PackageView). TakesStep b o x z s) (sym begun.hand_is) (proceeds y begun.saw goes),
+)
 
 -- it came out so
 pub came_out : {Q S P : Type 0} (b : BenchView) (hand : Option PackageView) (x y z : Worker Q S P) (s r : Step) → z ≡ y → r ≡ s → WorkerSteps b x y s × TakesStep b hand x y s → WorkerSteps b x z r × TakesStep b hand x z r

@@ -66,11 +66,7 @@ pub fn claim<G: Gate, Q: Waiters>(
 
 // There is nothing to do and nobody sleeps: ends where each thread is seen to have ended, and else asks
 // for a rest before the next step.
-fn rest<Q: Waiters>(
-    bench: &Bench<'_, Q>,
-    rests: &mut Rests<'_>,
-    desk: &mut Desk<Q>,
-) -> Step
+fn rest<Q: Waiters>(bench: &Bench<'_, Q>, rests: &mut Rests<'_>, desk: &mut Desk<Q>) -> Step
     requires idle { IsIdle bench.now desk.old }
     requires sleepers { NoneSleeps desk.old.sleepers }
     ensures steps { DeskSteps bench.now desk.old desk.new result }
@@ -84,11 +80,7 @@ fn rest<Q: Waiters>(
 }
 
 // There is nothing to do: moves the clock to the first sleeper.
-fn idle<Q: Waiters>(
-    bench: &Bench<'_, Q>,
-    rests: &mut Rests<'_>,
-    desk: &mut Desk<Q>,
-) -> Step
+fn idle<Q: Waiters>(bench: &Bench<'_, Q>, rests: &mut Rests<'_>, desk: &mut Desk<Q>) -> Step
     requires idle { IsIdle bench.now desk.old }
     ensures steps { DeskSteps bench.now desk.old desk.new result }
     ensures pause { IsPause (threads bench.now.hall.terms) desk.old desk.new result }

@@ -148,8 +148,9 @@ fn give_up<Q: Waiters>(bench: &Bench<'_, Q>, desk: &mut Desk<Q>, package: Packag
     leave(bench, desk, Some(package));
 }
 
-// Runs a block of the package, where there is room for it, and settles it.
-fn run<R: Wait, G: Gate, Q: Waiters>(
+/// Acquires the lock that the package wants, where it is not granted; else runs a block of it, where
+/// there is room for one, and settles it.
+pub fn go_on<R: Wait, G: Gate, Q: Waiters>(
     rt: &R,
     bench: &Bench<'_, Q>,
     gate: &G,
@@ -157,10 +158,12 @@ fn run<R: Wait, G: Gate, Q: Waiters>(
     mut package: Package,
 ) -> Step
     requires work { IsAtWork bench.now (Some «package») worker.old }
-    requires want { WantIsGranted bench.now.image «package» }
     ensures steps { WorkerSteps bench.now worker.old worker.new result }
     ensures goes_on { GoesOn bench.now.image «package» worker.old worker.new result }
 {
+    if let Some(lock) = wanted_lock(&package, bench.image) {
+        return acquire(rt, bench, gate, worker, package, lock);
+    }
     let t = package.thread();
     let number = number(&mut worker.desk);
     match seal_block(bench, &mut worker.desk, &mut package) {
@@ -174,23 +177,5 @@ fn run<R: Wait, G: Gate, Q: Waiters>(
             give_up(bench, &mut worker.desk, package);
             Step::Stopped
         }
-    }
-}
-
-/// Acquires the lock that the package wants, where it is not granted; else runs a block of it.
-pub fn go_on<R: Wait, G: Gate, Q: Waiters>(
-    rt: &R,
-    bench: &Bench<'_, Q>,
-    gate: &G,
-    worker: &mut Worker<Q>,
-    package: Package,
-) -> Step
-    requires work { IsAtWork bench.now (Some «package») worker.old }
-    ensures steps { WorkerSteps bench.now worker.old worker.new result }
-    ensures goes_on { GoesOn bench.now.image «package» worker.old worker.new result }
-{
-    match wanted_lock(&package, bench.image) {
-        Some(lock) => acquire(rt, bench, gate, worker, package, lock),
-        None => run(rt, bench, gate, worker, package),
     }
 }

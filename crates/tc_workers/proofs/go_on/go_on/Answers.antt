@@ -1,11 +1,13 @@
-use Rattle.std.proofs.Common.{rules, ◌∙◌, ◌++◌, Some, refl, sym, subst}
-use Rattle.tc_combiner.specs.View.{DeskView}
+use Rattle.std.proofs.Common.{rules, ◌∙◌, ◌++◌, Some, refl, ap, sym, subst}
+use Rattle.tc_elf.specs.Shown.{Shown}
+use Rattle.tc_context.specs.View.{WantIsGranted}
+use Rattle.tc_combiner.specs.View.{BenchView, DeskView}
 use Rattle.tc_workers.specs.GoOn.{GivesUp, gives_up}
 use Rattle.tc_workers.specs.Worker.{IsStep, put_back}
 use Rattle.tc_workers.specs.declared.step.Step.{Step}
 use Rattle.tc_workers.proofs.Desks.{after_settle}
 use Rattle.tc_workers.proofs.Passes.{stop_told}
-use Rattle.tc_workers.proofs.go_on.run.Goals as goal
+use Rattle.tc_workers.proofs.go_on.go_on.Goals as goal
 
 pub returns-in-Err-clause-steps : goal.returns-in-Err-clause-steps
 returns-in-Err-clause-steps g c =
@@ -14,7 +16,7 @@ returns-in-Err-clause-steps g c =
     record { desk = record { still = search rules; after = (c.give_up.ensures.left, stop) }; ready = search rules }
 
 pub returns-in-Err-clause-goes_on : goal.returns-in-Err-clause-goes_on
-returns-in-Err-clause-goes_on g c = gives_up c.requires.want c.seal_block.new.«package» c.in-Err.ensures.ran.0
+returns-in-Err-clause-goes_on g c = gives_up (subst (λ (i : Shown). WantIsGranted i c.args.«package») (ap (λ (b : BenchView). b.image) c.bench.view_is) c.in_default.ensures) c.seal_block.new.«package» c.in-Err.ensures.ran.0
     (subst (λ (d : DeskView). GivesUp c.seal_block.new.«package» d c.give_up.new.desk) (c.in-Err.ensures.ran.1 ∙ c.number-number.ensures.same) c.give_up.ensures) refl refl
 
 pub returns-in-Ok-clause-steps : goal.returns-in-Ok-clause-steps
