@@ -1,5 +1,5 @@
 -- Turns that touch the thread's own memory alone.
-use Rattle.std.specs.Prelude.{◌≡◌, ℕ, ◌+◌, ◌-◌, ◌*◌, ◌%◌, ◌^◌, ◌<◌, ◌≤◌, zero, suc, Bool, true, false, [], None, unwrap_or}
+use Rattle.std.specs.Prelude.{◌≡◌, ℕ, ◌+◌, ◌-◌, ◌*◌, ◌%◌, ◌^◌, ◌<◌, ◌≤◌, zero, suc, Bool, true, false, [], length, None, unwrap_or}
 use Rattle.tc_isa.specs.Registers.{with_register}
 use Rattle.tc_isa.specs.declared.instr.LoadKind.{LoadKind}
 use Rattle.tc_isa.specs.declared.instr.StoreKind.{StoreKind}
@@ -8,6 +8,7 @@ use Rattle.tc_exec.specs.Access.{load_width, store_width, extended}
 use Rattle.tc_exec.specs.Flow.{at_next}
 use Rattle.tc_exec.specs.Next.{IsInstrAt}
 use Rattle.tc_exec.specs.Touch.{IsOwn}
+use Rattle.tc_exec.specs.declared.code.Stretch.{Stretch}
 use Rattle.tc_journal.specs.declared.rule.Outcome.TheVariants.{Went}
 use Rattle.tc_turn.specs.Turn.{Thread, Mutex, Guest, thread_of, next_lock, next_act, outcome_of, thread_after, mutex_after}
 use Rattle.tc_turn.specs.Memory.{number_at, with_number}
@@ -15,6 +16,7 @@ use Rattle.tc_turn.specs.Replay.{word_of}
 use Rattle.tc_turn.specs.Way.{is_gone}
 use Rattle.tc_turn.specs.declared.own_turns.Way.{Way}
 use Rattle.tc_turn.specs.declared.own_turns.Way.TheVariants.{Stays, Next}
+use Rattle.tc_turn.specs.declared.own_turns.Stretched.{Stretched}
 use Rattle.tc_turn.specs.declared.own_turns.OwnTurns.{OwnTurns}
 
 -- the number that a load of the thread's own memory finds
@@ -77,12 +79,12 @@ pub record HasStepped (image : Shown) (loads : Bool) (old new : Guest) (way : Wa
   pub next : way ≡ Next → new.regs.pc ≡ (old.regs.pc + 4) % 2 ^ 32
   pub stays : way ≡ Stays → new ≡ old
 
--- at most so many turns, all but what they take of the fuel, and the instruction behind them, where it is told
-pub record HasStretched (image : Shown) (loads : Bool) (bound : ℕ) (old new : Guest) (own : OwnTurns) : Type 0 where
-  pub runs : OwnRun image loads own.count old (record new { fuel = old.fuel - own.count })
+-- at most so many turns in a stretch, all but what they take of the fuel; the slot is that of the place behind them
+pub record HasStretched (image : Shown) (loads : Bool) (bound : ℕ) (stretch : Stretch) (old new : Guest) (ran : Stretched) : Type 0 where
+  pub runs : OwnRun image loads ran.count old (record new { fuel = old.fuel - ran.count })
   pub fuel : new.fuel ≡ old.fuel
-  pub most : own.count ≤ bound
-  pub stop : IsInstrAt image new.regs.pc own.stop
+  pub most : ran.count ≤ bound
+  pub slot : ran.slot < length stretch.slots.now → stretch.start + 4 * ran.slot ≡ new.regs.pc
 
 -- at most so many turns, and the instruction behind them, where it is told
 pub record HasRunOwn (image : Shown) (loads : Bool) (bound : ℕ) (old new : Guest) (own : OwnTurns) : Type 0 where

@@ -45,12 +45,11 @@ pub struct OwnTurns<'a> {
     pub stop: Option<&'a Instr>,
 }
 
-/// So many turns that end at this instruction, where it is known.
-fn stopped(count: u32, stop: Option<&Instr>) -> OwnTurns<'_>
-    ensures count { result.count ≡ count }
-    ensures stop { result.stop ≡ stop.entry }
-{
-    OwnTurns { count, stop }
+/// Turns that were done, and the slot of the instruction behind them.
+#[derive(Clone, Copy)]
+struct Stretched {
+    count: u32,
+    slot: usize,
 }
 
 impl GuestThread {
@@ -74,22 +73,25 @@ impl GuestThread {
         };
         let ran = self.run_stretch(image, &stretch, most.min(self.fuel), loads);
         self.fuel -= ran.count;
-        ran
+        OwnTurns {
+            count: ran.count,
+            stop: stretch.find(ran.slot),
+        }
     }
 
     /// Does at most so many such turns, all but what they take of the fuel. It stands in its caller,
     /// since a call of it costs more than such a turn, and many blocks have but a few.
     #[inline(always)]
-    fn run_stretch<'a>(
+    fn run_stretch(
         &mut self,
         image: &Image,
-        stretch: &Stretch<'a>,
+        stretch: &Stretch<'_>,
         most: u32,
         loads: bool,
-    ) -> OwnTurns<'a>
+    ) -> Stretched
         requires telling { IsTelling image.now stretch.now.start stretch.now.slots.now }
         requires fuel { most ≤ self.old.fuel }
-        ensures { HasStretched image.now loads most self.old self.new result }
+        ensures { HasStretched image.now loads most stretch.now self.old self.new result }
     {
         let mut count = 0;
         let mut slot = stretch.slot(self.regs.pc());
@@ -98,13 +100,13 @@ impl GuestThread {
                 break;
             };
             match self.own_step(image, instr, loads) {
-                Way::Stays => return stopped(count, Some(instr)),
+                Way::Stays => break,
                 Way::Next => slot += 1,
                 Way::Jumps => slot = stretch.slot(self.regs.pc()),
             }
             count += 1;
         }
-        stopped(count, None)
+        Stretched { count, slot }
     }
 
     /// What its next turn, which is of this instruction, does beside the fuel, where that is such a
