@@ -433,6 +433,10 @@ fn grow(log: &mut Vec<Block>) -> Result<(), AllocError>
     ensures same { IsSameLog log.old log.new }
     ensures room { OnOk result (vec_len log.new + 1 ≤ vec_capacity log.new) }
 {
-    let more = if log.is_empty() { FIRST_BLOCKS } else { MORE_BLOCKS };
+    let more = if log.is_empty() {
+        FIRST_BLOCKS
+    } else {
+        MORE_BLOCKS
+    };
     log.reserve(more)
 }
