@@ -59,6 +59,7 @@ pub(crate) fn put_all_back(hall: &Hall, hands: &mut Hands, package: Package)
 }
 
 // Takes the lock for a turn that stands first in its line. None: the run was stopped.
+#[inline(always)]
 fn acquire_first<R: Wait>(
     rt: &R,
     hall: &Hall,
@@ -84,6 +85,7 @@ fn acquire_first<R: Wait>(
 }
 
 /// What `acquire` does, with what it needs of the desk.
+#[inline(always)]
 pub(crate) fn acquire_with<R: Wait, Q: Waiters>(
     rt: &R,
     hall: &Hall,

@@ -213,6 +213,10 @@ impl<Q: Waiters> Desk<Q> {
         ensures given { result ≡ self.old.aside }
         ensures rest { self.new ≡ record self.old { aside = None } }
     {
+        // Most calls find none, and write nothing.
+        if self.hands.aside.is_none() {
+            return None;
+        }
         self.hands.aside.take()
     }
 

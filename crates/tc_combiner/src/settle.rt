@@ -24,6 +24,7 @@ use tc_journal::block::End;
 use tc_queue::Waiters;
 
 /// What `acquire` does, at the lock's place in the bench.
+#[inline(always)]
 pub(crate) fn acquire_at<R: Wait, Q: Waiters>(
     rt: &R,
     shared: &Shared<'_, Q>,

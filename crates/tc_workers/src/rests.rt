@@ -5,8 +5,8 @@ use crossbeam_utils::Backoff;
 use std::sync::Wait;
 use std::time::Duration;
 
-// After so many steps with a package in hand a worker has found enough to do, and its next rest is
-// short. A thread that it takes only to ship it at its next lock makes two or three.
+// After so many blocks a worker has found enough to do, and its next rest is short. A thread that it
+// takes only to ship it at its next lock makes one or two.
 const ENOUGH: u64 = 200;
 
 // How long the first sleep is at most, in microseconds, and how long each is.
@@ -24,8 +24,8 @@ pub(crate) struct Rests<'a> {
     pause: Backoff,
     // How long the next sleep is at most, in microseconds.
     next: u64,
-    // How many steps with a package in hand were made since the last rest.
-    steps: u64,
+    // The worker's clock when it last rested: it counts its blocks, and moves on to its sleepers.
+    rested: u64,
     // Whether a rest was asked for.
     asked: bool,
 }
@@ -37,14 +37,9 @@ impl<'a> Rests<'a> {
             bell,
             pause: Backoff::new(),
             next: SHORTEST,
-            steps: 0,
+            rested: 0,
             asked: false,
         }
-    }
-
-    /// The worker makes a step with a package in hand.
-    pub(crate) fn step(&mut self) {
-        self.steps = self.steps.wrapping_add(1);
     }
 
     /// The worker has found nothing: it rests before its next step.
@@ -59,18 +54,18 @@ impl<'a> Rests<'a> {
     }
 
     // The next rest is short where enough was done since the last one.
-    fn begin(&mut self) {
-        if self.steps >= ENOUGH {
+    fn begin(&mut self, now: u64) {
+        if now.saturating_sub(self.rested) >= ENOUGH {
             self.pause.reset();
             self.next = SHORTEST;
         }
-        self.steps = 0;
+        self.rested = now;
         self.asked = false;
     }
 
-    /// Rests, longer than the last time where little was done since.
-    pub(crate) fn rest<R: Wait>(&mut self, rt: &R) {
-        self.begin();
+    /// Rests, longer than the last time where little was done since. The worker's clock stands at now.
+    pub(crate) fn rest<R: Wait>(&mut self, rt: &R, now: u64) {
+        self.begin(now);
         if !self.pause.is_completed() {
             return self.pause.snooze();
         }

@@ -41,10 +41,7 @@ fn begin_step<G: Gate, Q: Waiters>(
     }
     match hand {
         None => Err(find(bench, gate, rests, worker)),
-        Some(package) => {
-            rests.step();
-            Ok(package)
-        }
+        Some(package) => Ok(package),
     }
 }
 
@@ -79,7 +76,7 @@ pub fn work<R: Wait, G: Gate, Q: Waiters>(
             Ok(package) => go_on(rt, bench, gate, &mut worker, package),
             Err(step) => {
                 if rests.are_asked() {
-                    rests.rest(rt);
+                    rests.rest(rt, worker.desk.now());
                 }
                 step
             }
