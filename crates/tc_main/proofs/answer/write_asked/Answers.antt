@@ -1,4 +1,4 @@
-use Rattle.std.proofs.Common.{rules, ◌≤◌, List, ℕ, length, refl, sym, subst, ap, ◌∙◌, arith}
+use Rattle.std.proofs.Common.{rules, ◌≤◌, List, ℕ, length, refl, sym, subst, ap, arith}
 use Rattle.tc_elf.specs.declared.limits.TheConstants.{MAX_FILE}
 use Rattle.tc_main.specs.Replayed.{HasRun}
 use Rattle.tc_main.specs.Top.{IsTextOf, Wrote}

@@ -1,4 +1,4 @@
-use Rattle.std.proofs.Common.{◌≡◌, ◌+◌, ◌-◌, ◌*◌, min, length, arith}
+use Rattle.std.proofs.Common.{◌≡◌, ◌+◌, ◌-◌, ◌*◌, arith}
 use Rattle.tc_main.specs.declared.piece.TheConstants.{BLOCKS}
 use Rattle.tc_main.proofs.Chunks.{one_chunk}
 use Rattle.tc_main.proofs.piece.share.Goals as goal

@@ -1,10 +1,9 @@
-use Rattle.std.proofs.Common.{◌≡◌, List, [], ℕ, inl, inr, refl, sym, subst, arith}
+use Rattle.std.proofs.Common.{◌≡◌, List, ℕ, inl, inr, refl, arith}
 use Rattle.tc_io.specs.Stream.{Stream}
 use Rattle.tc_io.specs.Taken.{FailsAmid, Gives}
 use Rattle.tc_main.specs.Top.{Comes, Ends}
 use Rattle.tc_main.specs.declared.status.Status.{Status}
 use Rattle.tc_main.specs.declared.status.Status.TheVariants.{Done, Usage, ReadFault, Refused, WriteFault, OutOfMemory, Rejected}
-use Rattle.tc_main.proofs.top.status_of.Goals as goal
 
 module _ (words : List (List ℕ)) (before now had has : Stream) where
   -- an answer whose text was written whole keeps its status
