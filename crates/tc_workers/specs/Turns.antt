@@ -1,5 +1,5 @@
 -- The steps of a worker, one after another, and its end.
-use Rattle.std.specs.Prelude.{◌≡◌, ◌∷◌, ◌++◌, Bool, true, false, Option, Some, None}
+use Rattle.std.specs.Prelude.{◌≡◌, ◌⊎◌, ◌∷◌, ◌++◌, Bool, true, false, Option, Some, None, Result, MatchResult}
 use Rattle.tc_context.specs.View.{PackageView}
 use Rattle.tc_hall.specs.declared.board.Call.TheVariants.{Stopped as Seen}
 use Rattle.tc_hall.specs.declared.board.Terms.{Terms}
@@ -10,7 +10,7 @@ use Rattle.tc_hall.specs.Steps.{HasSeenAll, HasStop, IsFree}
 use Rattle.tc_combiner.specs.View.{BenchView}
 use Rattle.tc_workers.specs.GoOn.{GoesOn}
 use Rattle.tc_workers.specs.Search.{Finds}
-use Rattle.tc_workers.specs.Worker.{IsStill, LookedAtStop, put_back}
+use Rattle.tc_workers.specs.Worker.{IsStill, LookedAtStop, WorkerSteps, put_back}
 use Rattle.tc_workers.specs.declared.step.Step.{Step}
 use Rattle.tc_workers.specs.declared.step.Step.TheVariants.{On, AllDone, Stopped}
 use Rattle.tc_workers.specs.declared.worker.Worker.{Worker}
@@ -35,6 +35,20 @@ pub data TakesStep {Q S P : Type 0} (b : BenchView) (hand : Option PackageView) 
 pub record HasBegun {Q S P : Type 0} (hand : Option PackageView) (q : PackageView) (x y : Worker Q S P) : Type 0 where
   pub hand_is : hand ≡ Some q
   pub saw : SawNoStop x y
+
+-- no step was made, or one that left the worker with this in hand
+abbrev pub Reaches : {Q S P : Type 0} → BenchView → Option PackageView → Worker Q S P → Option PackageView → Worker Q S P → Type 0
+Reaches b hand x at y = ((at ≡ hand) × (y ≡ x)) ⊎ TakesStep b hand x y (On at)
+
+-- a step was begun with a package, or made, and perhaps one before it
+pub record Begins {Q S P : Type 0} (b : BenchView) (hand : Option PackageView) (x z : Worker Q S P) (r : Result PackageView Step) : Type 0 where
+  pub at : Option PackageView
+  pub y : Worker Q S P
+  pub still : IsStill x.desk.pass y.desk.pass
+  pub ready : y.ready.threads ≡ x.ready.threads
+  pub first : Reaches b hand x at y
+  pub steps : MatchResult r (λ p. WorkerSteps b y z (On (Some p))) (λ s. WorkerSteps b y z s)
+  pub takes : MatchResult r (λ p. HasBegun at p y z) (λ s. TakesStep b at y z s)
 
 -- steps one after another of a worker who began as x with nothing in hand
 pub data Steps {Q S P : Type 0} (b : BenchView) (x : Worker Q S P) : Option PackageView → Worker Q S P → Type 0 where

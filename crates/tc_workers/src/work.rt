@@ -3,7 +3,7 @@
 ghost use Rattle.std.specs.Prelude.{◌≡◌, Some, None, MatchResult};
 ghost use Rattle.tc_workers.specs.declared.step.Step.TheVariants.{On};
 ghost use Rattle.tc_workers.specs.Worker.{HasLeft, IsAtWork, WorkerSteps};
-ghost use Rattle.tc_workers.specs.Turns.{HasBegun, HasWorked, IsFinished, TakesStep};
+ghost use Rattle.tc_workers.specs.Turns.{Begins, HasBegun, HasWorked, IsFinished, TakesStep};
 
 use crate::bell::Bell;
 use crate::calls;
@@ -22,6 +22,7 @@ use tc_queue::Waiters;
 
 // Begins a step: looks at STOP, and gives the package in hand, with which the worker goes on. Where it
 // has none, or sees the stop, this is the whole step: it finds one, or leaves.
+#[inline(always)]
 fn begin_step<G: Gate, Q: Waiters>(
     bench: &Bench<'_, Q>,
     gate: &G,
@@ -42,6 +43,26 @@ fn begin_step<G: Gate, Q: Waiters>(
     match hand {
         None => Err(find(bench, gate, rests, worker)),
         Some(package) => Ok(package),
+    }
+}
+
+// Begins a step. Where it finds a package, that is a whole step, and the next one is begun with it at
+// once: so most steps cost no turn of the worker's loop.
+fn begin<G: Gate, Q: Waiters>(
+    bench: &Bench<'_, Q>,
+    gate: &G,
+    rests: &mut Rests<'_>,
+    worker: &mut Worker<Q>,
+    hand: Option<Package>,
+) -> Result<Package, Step>
+    requires work { IsAtWork bench.now hand worker.old }
+    ensures { Begins bench.now hand worker.old worker.new result }
+{
+    match begin_step(bench, gate, rests, worker, hand) {
+        Ok(package) => Ok(package),
+        Err(Step::On(Some(package))) => begin_step(bench, gate, rests, worker, Some(package)),
+        Err(Step::On(None)) => Err(Step::On(None)),
+        Err(step) => Err(step),
     }
 }
 
@@ -72,7 +93,7 @@ pub fn work<R: Wait, G: Gate, Q: Waiters>(
     let mut rests = Rests::new(bell);
     let mut hand = None;
     for _ in rt.forever() {
-        let step = match begin_step(bench, gate, &mut rests, &mut worker, hand) {
+        let step = match begin(bench, gate, &mut rests, &mut worker, hand) {
             Ok(package) => go_on(rt, bench, gate, &mut worker, package),
             Err(step) => {
                 if rests.are_asked() {
