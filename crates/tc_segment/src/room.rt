@@ -1,6 +1,8 @@
 //! Room for more entries. Most blocks find that there is room, so growth stands apart. What is not
 //! written yet takes no memory of the host, and a large vector grows without a copy. The first room is
-//! small, since a piece of memory of its own costs more than all entries of a small run.
+//! small, since a piece of memory of its own costs more than all entries of a small run. Each room is
+//! such that a piece of memory is a power of two of bytes, with the two words of 8 bytes that an
+//! allocator keeps before it: then large pieces stand on whole large pages of the host.
 
 ghost use Rattle.std.specs.Prelude.{◌<◌, ◌^◌, vec_len};
 ghost use Rattle.tc_segment.specs.Kept.{HasMadeRoom, HasWordRoom};
@@ -8,15 +10,39 @@ ghost use Rattle.tc_segment.specs.Kept.{HasMadeRoom, HasWordRoom};
 use crate::record::Record;
 use std::alloc::AllocError;
 
-/// By how many records a journal grows, the first time and later.
-const FIRST_RECORDS: usize = 512;
+/// How the room of a vector grows: what it is at first, what it is then at least, and for how many
+/// elements the allocator's words stand.
+struct Growth {
+    first: usize,
+    more: usize,
+    before: usize,
+}
 
-const MORE_RECORDS: usize = 4_096;
+/// How that of records grows.
+const RECORDS: Growth = Growth {
+    first: 511,
+    more: 8_191,
+    before: 1,
+};
 
-/// By how many words a journal grows at least, the first time and later.
-const FIRST_WORDS: usize = 8_192;
+/// How that of words grows.
+const WORDS: Growth = Growth {
+    first: 8_188,
+    more: 131_068,
+    before: 4,
+};
 
-const MORE_WORDS: usize = 32_768;
+impl Growth {
+    /// The room that follows upon this one.
+    fn after(&self, room: usize) -> usize {
+        match room {
+            0 => self.first,
+            _ => self
+                .more
+                .max(room.saturating_mul(2).saturating_add(self.before)),
+        }
+    }
+}
 
 /// Makes room for two records more.
 pub(crate) fn make_records(records: &mut Vec<Record>) -> Result<(), AllocError>
@@ -33,12 +59,9 @@ pub(crate) fn make_records(records: &mut Vec<Record>) -> Result<(), AllocError>
 fn grow_records(records: &mut Vec<Record>) -> Result<(), AllocError>
     ensures { HasMadeRoom 2 records.old records.new result }
 {
-    let more = if records.is_empty() {
-        FIRST_RECORDS
-    } else {
-        MORE_RECORDS
-    };
-    records.reserve(more)
+    let room = RECORDS.after(records.capacity());
+    let more = room.saturating_sub(records.len());
+    records.reserve(more.max(2))
 }
 
 /// Makes room for so many words more. The place of a word is a number of 32 bits, so more words than
@@ -64,10 +87,7 @@ fn grow_words(words: &mut Vec<u32>, more: usize) -> Result<(), AllocError>
     if more > most - words.len() {
         return Err(AllocError);
     }
-    let least = if words.is_empty() {
-        FIRST_WORDS
-    } else {
-        MORE_WORDS
-    };
+    let room = WORDS.after(words.capacity());
+    let least = room.saturating_sub(words.len());
     words.reserve(more.max(least))
 }
