@@ -212,9 +212,9 @@ class Several(Case):
         table, told = rows(done)
         self.assertEqual(table[0], ["Guest", "Seconds: 1 worker", "2 workers", "Processor: 1 worker", "2 workers",
                                     "Seconds, 2 workers to 1 worker", "Processor, 2 workers to 1 worker",
-                                    "Clock, 2 workers to 1 worker"])
-        self.assertEqual([(row[0], len(row)) for row in table[2:]], [("hot-lock", 8), ("own-locks", 8)])
-        self.assertEqual([bool(row[7]) for row in table[2:]], [bool(shutil.which("cc"))] * 2)
+                                    "Clock, 2 workers to 1 worker", "Loop, 2 workers to 1 worker"])
+        self.assertEqual([(row[0], len(row)) for row in table[2:]], [("hot-lock", 9), ("own-locks", 9)])
+        self.assertEqual([[bool(cell) for cell in row[7:]] for row in table[2:]], [[bool(shutil.which("cc"))] * 2] * 2)
         self.assertEqual(len(told), 1)
 
 
