@@ -1,5 +1,5 @@
 -- What crosses threads: passes and packages, and halls that are lent.
-use denote.Param.Send.{IsSend, IsSync, sendable, view_sync}
+use denote.Param.Send.{IsSend, IsSync, sendable, view_send, view_sync}
 use denote.Param.SendFields.{declared_send, declared_sync}
 use Rattle.std.proofs.Crossing.{crosses}
 use Rattle.atomic_table.proofs.shared.Seat.TheSendSync as Seat_moves
@@ -13,7 +13,6 @@ use Rattle.tc_segment.proofs.record.Record.TheSendSync as Record_moves
 use Rattle.tc_segment.proofs.record.Opening.TheSendSync as Opening_moves
 use Rattle.tc_context.proofs.context.Edge.TheSendSync as Edge_moves
 use Rattle.tc_context.proofs.package.Grant.TheSendSync as Grant_moves
-use Rattle.std.specs.contracts.option.Option as Optional
 use Rattle.tc_elf.specs.contracts.image.Image as Image
 use Rattle.tc_exec.specs.contracts.code.Code as Code
 use Rattle.tc_segment.specs.contracts.state.Contents as LockContents
@@ -23,6 +22,8 @@ use Rattle.tc_context.specs.contracts.context.Context as Context
 use Rattle.tc_context.specs.contracts.package.Contents as Contents
 use Rattle.tc_context.specs.contracts.package.Package as Package
 use Rattle.tc_hall.specs.contracts.board.Cargo as Cargo
+use Rattle.tc_hall.specs.contracts.board.Slot as Slot
+use Rattle.tc_hall.specs.contracts.board.Slot.TheInside as SlotInside
 use Rattle.tc_hall.specs.contracts.hall.Hall as Hall
 use Rattle.tc_hall.specs.contracts.hall.Hall.TheInside as Inside
 use Rattle.tc_hall.specs.contracts.pass.Pass as Pass
@@ -76,11 +77,13 @@ package_sync = search (sendable, crosses, contents_sync) depth 20
 cargo_send : IsSend Cargo.the_row
 cargo_send = search (sendable, package_send, lock_send) depth 20
 
-pub pass_send : IsSend Pass.the_row
-pass_send = search (sendable, Seat_moves.the_send, cargo_send) depth 20
+slot_send : IsSend Slot.the_row
+slot_send =
+    let inside : IsSend SlotInside.the_row = declared_send SlotInside.the_type (search (sendable, crosses, cargo_send) depth 20, tt) in
+    view_send _ _ _ _ _ inside
 
-slot_send : IsSend (Optional.the_row Cargo.the_row)
-slot_send = search (sendable, cargo_send) depth 20
+pub pass_send : IsSend Pass.the_row
+pass_send = search (sendable, Seat_moves.the_send, slot_send) depth 20
 
 pub hall_sync : IsSync Hall.the_row
 hall_sync =

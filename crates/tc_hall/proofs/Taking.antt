@@ -11,7 +11,6 @@ use Rattle.tc_journal.specs.declared.block.Block.{Block}
 use Rattle.tc_segment.specs.View.{LockView, kept}
 use Rattle.tc_law.specs.Lawful.{IsStateAfter}
 use Rattle.tc_mutex_spec.proofs.ListLaws.{there, at_place}
-use Rattle.tc_hall.specs.declared.board.TheConstants.{CLOCK}
 use Rattle.tc_hall.specs.Places.{slot_word}
 use Rattle.tc_hall.specs.declared.board.Knows.{Knows}
 use Rattle.tc_hall.specs.declared.board.Terms.{Terms}

@@ -2,25 +2,28 @@
 //!
 //! Slot t is for the package of thread t, and slot threads + i for the state of lock i. One word is
 //! the clock, one the stop, and each slot has a word: that of thread t shows where the thread is,
-//! and that of lock i whether the lock is out. Each of these words stands in a cache line of its
-//! own, so that workers that write different words don't take lines from one another. The words
-//! between them are 0, and no step is on them.
+//! and that of lock i whether the lock is out. Each of these words and each slot stands in a pair of
+//! cache lines of its own, since processors fetch lines in pairs: so workers that write different
+//! words or fill different slots don't take lines from one another. The words between them are 0,
+//! and no step is on them.
 
-ghost use Rattle.std.specs.Prelude.{◌≡◌};
+ghost use Rattle.std.specs.Prelude.{◌≡◌, None, Some};
 ghost use Rattle.tc_hall.specs.Places.{slot_word};
 
 use crate::place::Place;
 use atomic_table::{Seat, Table, TableRule};
+use crossbeam_utils::CachePadded;
 use std::alloc::Global;
 use std::collections::LinkedList;
+use std::marker::Model;
 use std::snapshot::Snapshot;
 use tc_context::package::Package;
 use tc_elf::image::Image;
 use tc_journal::block::{Block, Kind};
 use tc_segment::state::LockState;
 
-/// The words of 8 bytes in a cache line of 64.
-pub const LINE: usize = 8;
+/// The words of 8 bytes in a pair of cache lines of 64.
+pub const LINE: usize = 16;
 
 /// The word of the clock.
 pub const CLOCK: usize = 0;
@@ -127,8 +130,56 @@ pub struct Knows {
     pub taken: LinkedList<LockState>,
 }
 
-/// What a slot of the table holds.
-pub type Slot = Option<Cargo>;
+/// A slot of the table: a package or a lock state, or nothing while it is out.
+#[derive(Drop)]
+pub struct Slot {
+    cargo: CachePadded<Option<Cargo>>,
+}
+
+impl Model for Slot {
+    ghost use Rattle.std.specs.Prelude.{Option};
+    ghost use Rattle.tc_hall.specs.declared.board.Cargo.{Cargo};
+    ghost use Rattle.crossbeam_utils.specs.Padded.{padded_value};
+
+    ghost Value = { Option Cargo };
+
+    ghost view = { λ s. padded_value s.cargo };
+}
+
+impl Slot {
+    /// A slot that holds this.
+    pub(crate) fn of(cargo: Cargo) -> Slot
+        ensures { result ≡ Some cargo }
+    {
+        Slot {
+            cargo: CachePadded::new(Some(cargo)),
+        }
+    }
+
+    /// What it holds.
+    pub(crate) fn into_cargo(self) -> Option<Cargo>
+        ensures { result ≡ self }
+    {
+        let Slot { cargo } = self;
+        cargo.into_inner()
+    }
+
+    /// Takes out what it holds.
+    pub(crate) fn take(&mut self) -> Option<Cargo>
+        ensures found { result ≡ self.old }
+        ensures left { self.new ≡ None }
+    {
+        self.cargo.take()
+    }
+
+    /// Puts this into it, and answers what it held.
+    pub(crate) fn replace(&mut self, cargo: Cargo) -> Option<Cargo>
+        ensures found { result ≡ self.old }
+        ensures left { self.new ≡ Some cargo }
+    {
+        self.cargo.replace(cargo)
+    }
+}
 
 /// The rule of the table.
 pub struct Ruled;

@@ -86,11 +86,11 @@ impl Model for Hall {
 }
 
 // The package that lay in a slot.
-fn package_of(slot: Slot) -> Package
-    requires { IsPackage slot }
-    ensures { HoldsPackage slot result }
+fn package_of(cargo: Option<Cargo>) -> Package
+    requires { IsPackage cargo }
+    ensures { HoldsPackage cargo result }
 {
-    match slot {
+    match cargo {
         Some(Cargo::Package(package)) => package,
         Some(Cargo::Lock(_)) => unreachable!(),
         None => unreachable!(),
@@ -98,11 +98,11 @@ fn package_of(slot: Slot) -> Package
 }
 
 // The lock state that lay in a slot.
-fn lock_of(slot: Slot) -> LockState
-    requires { IsLock slot }
-    ensures { HoldsLock slot result }
+fn lock_of(cargo: Option<Cargo>) -> LockState
+    requires { IsLock cargo }
+    ensures { HoldsLock cargo result }
 {
-    match slot {
+    match cargo {
         Some(Cargo::Lock(lock)) => lock,
         Some(Cargo::Package(_)) => unreachable!(),
         None => unreachable!(),
@@ -122,11 +122,11 @@ fn stock(alloc: Global, image: &Image, fuel: u32, limit: u32) -> Result<Vec<Slot
     let mut slots = Vec::with_capacity(alloc, threads as usize + locks as usize)?;
     for t in 0..threads {
         let package = Package::start_with(alloc, image, &code, t, fuel)?;
-        slots.push_reserved(Some(Cargo::Package(package)));
+        slots.push_reserved(Slot::of(Cargo::Package(package)));
     }
     for i in 0..locks {
         let lock = LockState::new(alloc, image, i, limit)?;
-        slots.push_reserved(Some(Cargo::Lock(lock)));
+        slots.push_reserved(Slot::of(Cargo::Lock(lock)));
     }
     Ok(slots)
 }
@@ -219,10 +219,10 @@ impl Hall {
         let Pass { seat, number: _ } = pass;
         let mut closed = board.close_with(seat);
         for t in 0..threads as usize {
-            packages.push_reserved(package_of(closed.take(t)));
+            packages.push_reserved(package_of(closed.take(t).into_cargo()));
         }
         for i in 0..locks as usize {
-            lock_states.push_reserved(lock_of(closed.take(threads as usize + i)));
+            lock_states.push_reserved(lock_of(closed.take(threads as usize + i).into_cargo()));
         }
         closed.free();
         Closed {
@@ -260,9 +260,9 @@ impl Hall {
         if found != code {
             return Err(found);
         }
-        let slot = words.exchange(&mut pass.seat, t as usize, None);
+        let cargo = pass.seat.slot_mut(words, t as usize).take();
         words.load::<Lay>(&mut pass.seat, word);
-        let package = package_of(slot);
+        let package = package_of(cargo);
         Ok(package)
     }
 
@@ -325,7 +325,8 @@ impl Hall {
         let code = place.code();
         let words = &self.board.shared;
         words.load::<Reach>(&mut pass.seat, word_of(t));
-        match words.exchange(&mut pass.seat, t as usize, Some(Cargo::Package(package))) {
+        let slot = pass.seat.slot_mut(words, t as usize);
+        match slot.replace(Cargo::Package(package)) {
             None => {}
             Some(_) => unreachable!(),
         }
@@ -367,9 +368,9 @@ impl Hall {
         if found != 0 {
             return Err(LockOut(found));
         }
-        let slot = words.exchange(&mut pass.seat, place as usize, None);
+        let cargo = pass.seat.slot_mut(words, place as usize).take();
         words.load::<Lay>(&mut pass.seat, word);
-        Ok(lock_of(slot))
+        Ok(lock_of(cargo))
     }
 
     /// Takes the state of a lock that is home, by one compare-and-swap on the lock's word from 0 to
@@ -399,7 +400,8 @@ impl Hall {
         let place = self.threads + lock.number();
         let words = &self.board.shared;
         words.load::<Reach>(&mut pass.seat, word_of(place));
-        match words.exchange(&mut pass.seat, place as usize, Some(Cargo::Lock(lock))) {
+        let slot = pass.seat.slot_mut(words, place as usize);
+        match slot.replace(Cargo::Lock(lock)) {
             None => {}
             Some(_) => unreachable!(),
         }

@@ -1,4 +1,5 @@
-use Rattle.std.proofs.Common.{◌≡◌, ℕ, ◌∙◌, subst, arith}
+use Rattle.std.proofs.Common.{◌≡◌, ℕ, [], ◌∷◌, ◌++◌, Option, ap, ◌∙◌, subst, arith}
+use Rattle.tc_hall.specs.declared.board.Cargo.{Cargo}
 use Rattle.tc_hall.specs.Made.{AreStocked}
 use Rattle.tc_hall.proofs.Opening.{none_stocked, package_stocked, lock_stocked}
 use Rattle.tc_hall.proofs.hall.stock.Goals as goal
@@ -11,7 +12,7 @@ push_reserved-requires c = let n = c.loop-t.slots.ok.0 in let r = c.loop-t.invar
 
 pub loop-t-preserved : goal.loop-t-preserved
 loop-t-preserved c = record {
-  stocked = package_stocked c.args.image.now c.loop-t.t c.args.fuel c.args.limit c.loop-t.slots.items c.push_reserved.new.self.items c.in_ok-package.package c.loop-t.invariant.stocked c.in_ok-package.ensures c.push_reserved.ensures.items;
+  stocked = package_stocked c.args.image.now c.loop-t.t c.args.fuel c.args.limit c.loop-t.slots.items c.push_reserved.new.self.items c.in_ok-package.package c.loop-t.invariant.stocked c.in_ok-package.ensures (c.push_reserved.ensures.items ∙ ap (λ (z : Option Cargo). c.loop-t.slots.items ++ z ∷ []) c.of-in-loop-t.ensures);
   room = let m = c.loop-t.invariant.room in let e = c.push_reserved.ensures.capacity in omega arith;
 }
 
@@ -24,7 +25,7 @@ push_reserved-requires-in-loop-i c = let n = c.loop-i.slots.ok.0 in let r = c.lo
 
 pub loop-i-preserved : goal.loop-i-preserved
 loop-i-preserved c = record {
-  stocked = lock_stocked c.args.image.now c.threads-threads.result c.loop-i.i c.args.fuel c.args.limit c.loop-i.slots.items c.push_reserved-in-loop-i.new.self.items c.in_ok-lock.lock c.loop-i.invariant.stocked c.in_ok-lock.ensures c.push_reserved-in-loop-i.ensures.items;
+  stocked = lock_stocked c.args.image.now c.threads-threads.result c.loop-i.i c.args.fuel c.args.limit c.loop-i.slots.items c.push_reserved-in-loop-i.new.self.items c.in_ok-lock.lock c.loop-i.invariant.stocked c.in_ok-lock.ensures (c.push_reserved-in-loop-i.ensures.items ∙ ap (λ (z : Option Cargo). c.loop-i.slots.items ++ z ∷ []) c.of-in-loop-i.ensures);
   room = let m = c.loop-i.invariant.room in let e = c.push_reserved-in-loop-i.ensures.capacity in omega arith;
 }
 

@@ -36,8 +36,8 @@ package_of-requires c =
     let key = c.self.inside.board.shared.key in
     let v = c.pass.inside.seat.me.0 in
     let asked : Asked key v = subst (λ (z : HallView × PassView). Asked z.0.terms z.1.knows) (λ i. (sym c.self.view_is i, sym c.pass.view_is i)) (c.requires.done, c.requires.all, c.requires.free) in
-    some_package key c.pass.inside.seat.id v _ _ c.close_with-closed.ensures.values.2 c.pass.invariant.3 asked.0 asked.1 asked.2 c.loop-t.t c.take.result (let m = c.self.invariant.0 in omega arith)
-    (ap (λ (l : List (Option Cargo)). get_elem? l c.loop-t.t) (sym c.loop-t.invariant.same) ∙ c.take.ensures.value)
+    some_package key c.pass.inside.seat.id v _ _ c.close_with-closed.ensures.values.2 c.pass.invariant.3 asked.0 asked.1 asked.2 c.loop-t.t c.into_cargo.result (let m = c.self.invariant.0 in omega arith)
+    (ap (λ (l : List (Option Cargo)). get_elem? l c.loop-t.t) (sym c.loop-t.invariant.same) ∙ (c.take.ensures.value ∙ ap (λ (z : Option Cargo). some z) (sym c.into_cargo.ensures)))
 
 pub push_reserved-requires : goal.push_reserved-requires
 push_reserved-requires c = let n = c.loop-t.packages.ok.0 in let r = c.loop-t.invariant.taken.count in let m = c.loop-t.invariant.room in omega arith
@@ -47,7 +47,7 @@ loop-t-preserved c =
     let inv = c.loop-t.invariant in
     let e = c.close_with-closed.ensures in
     let o = c.take.ensures.others in
-    let at : get_elem? (slots_items c.close_with-closed.result.slots) c.loop-t.t ≡ some (Some (Package c.package_of.result)) = ap (λ (l : List (Option Cargo)). get_elem? l c.loop-t.t) (sym inv.same) ∙ (c.take.ensures.value ∙ ap (λ (z : Option Cargo). some z) c.package_of.ensures) in
+    let at : get_elem? (slots_items c.close_with-closed.result.slots) c.loop-t.t ≡ some (Some (Package c.package_of.result)) = ap (λ (l : List (Option Cargo)). get_elem? l c.loop-t.t) (sym inv.same) ∙ (c.take.ensures.value ∙ ap (λ (z : Option Cargo). some z) (sym c.into_cargo.ensures ∙ c.package_of.ensures)) in
     record {
       taken = taken_more (λ (q : PackageView). Package q) 0 _ c.loop-t.t c.loop-t.packages.items c.push_reserved.new.self.items c.package_of.result inv.taken c.push_reserved.ensures.items
           (subst (λ (z : ℕ). get_elem? (slots_items c.close_with-closed.result.slots) z ≡ some (Some (Package c.package_of.result))) (omega arith) at);
@@ -81,9 +81,9 @@ lock_of-requires c =
     let key = c.self.inside.board.shared.key in
     let v = c.pass.inside.seat.me.0 in
     let asked : Asked key v = subst (λ (z : HallView × PassView). Asked z.0.terms z.1.knows) (λ i. (sym c.self.view_is i, sym c.pass.view_is i)) (c.requires.done, c.requires.all, c.requires.free) in
-    let at = ap (λ (l : List (Option Cargo)). get_elem? l (c.self.inside.threads + c.loop-i.i)) (sym c.loop-t.invariant.same ∙ sym c.loop-i.invariant.same) ∙ c.take-in-loop-i.ensures.value in
-    some_lock key c.pass.inside.seat.id v _ _ c.close_with-closed.ensures.values.2 c.pass.invariant.3 asked.0 asked.1 asked.2 c.loop-i.i c.take-in-loop-i.result (let m = c.self.invariant.3 in omega arith)
-    (subst (λ (z : ℕ). get_elem? (slots_items c.close_with-closed.result.slots) (z + c.loop-i.i) ≡ some c.take-in-loop-i.result) c.self.invariant.0 at)
+    let at = ap (λ (l : List (Option Cargo)). get_elem? l (c.self.inside.threads + c.loop-i.i)) (sym c.loop-t.invariant.same ∙ sym c.loop-i.invariant.same) ∙ (c.take-in-loop-i.ensures.value ∙ ap (λ (z : Option Cargo). some z) (sym c.into_cargo-in-loop-i.ensures)) in
+    some_lock key c.pass.inside.seat.id v _ _ c.close_with-closed.ensures.values.2 c.pass.invariant.3 asked.0 asked.1 asked.2 c.loop-i.i c.into_cargo-in-loop-i.result (let m = c.self.invariant.3 in omega arith)
+    (subst (λ (z : ℕ). get_elem? (slots_items c.close_with-closed.result.slots) (z + c.loop-i.i) ≡ some c.into_cargo-in-loop-i.result) c.self.invariant.0 at)
 
 pub push_reserved-requires-in-loop-i : goal.push_reserved-requires-in-loop-i
 push_reserved-requires-in-loop-i c = let n = c.loop-i.lock_states.ok.0 in let r = c.loop-i.invariant.taken.count in let m = c.loop-i.invariant.room in omega arith
@@ -94,7 +94,7 @@ loop-i-preserved c =
     let e = c.close_with-closed.ensures in
     let o = c.take-in-loop-i.ensures.others in
     let n : ℕ = c.self.inside.threads in
-    let at = ap (λ (l : List (Option Cargo)). get_elem? l (n + c.loop-i.i)) (sym inv.same) ∙ (c.take-in-loop-i.ensures.value ∙ ap (λ (z : Option Cargo). some z) c.lock_of.ensures) in
+    let at = ap (λ (l : List (Option Cargo)). get_elem? l (n + c.loop-i.i)) (sym inv.same) ∙ (c.take-in-loop-i.ensures.value ∙ ap (λ (z : Option Cargo). some z) (sym c.into_cargo-in-loop-i.ensures ∙ c.lock_of.ensures)) in
     let more : IsEmptied (n + c.loop-i.i + 1) (slots_len c.loop-t.closed.slots) (slots_filled c.take-in-loop-i.new.self.slots) = subst (IsEmptied (n + c.loop-i.i + 1) _) (sym o.1)
     (emptied_more (n + c.loop-i.i) _ _ inv.emptied (let x : slots_len c.loop-i.closed.slots ≡ n + c.self.inside.locks = inv.long ∙ (c.loop-t.invariant.long ∙ (e.counts.1 ∙ c.self.invariant.2)) in let f = c.loop-i.closed.slots.ok.1 in omega arith)) in
     record {

@@ -1,4 +1,5 @@
 use Rattle.std.proofs.Common.{◌≡◌, ◌<◌, ◌+◌, ℕ, [], ◌∷◌, Some, sym, ap, ◌∙◌, subst, arith}
+use Rattle.atomic_table.specs.Table.{rest}
 use Rattle.tc_segment.specs.View.{kept}
 use Rattle.tc_hall.specs.Places.{slot_word}
 use Rattle.tc_hall.specs.declared.board.Knows.{Knows}
@@ -28,8 +29,8 @@ load-requires c =
           (reaches key _ seat.id (c.self.inside.threads + c.number.result) seat.me.0 seat.me.1 c.pass.invariant.0 c.pass.invariant.1 c.pass.invariant.3 (of_lock l.number (kept l) (sym at) may.has)),
     )
 
-pub exchange-requires : goal.exchange-requires
-exchange-requires c =
+pub slot_mut-slot-requires : goal.slot_mut-slot-requires
+slot_mut-slot-requires c =
     let own = ap (λ (p : PassView). p.table) c.pass.view_is ∙ (c.requires.own ∙ sym (ap (λ (h : HallView). h.table) c.self.view_is)) in
     let did = c.load.ensures in
     let slot : ℕ = c.self.inside.threads + c.number.result in
@@ -38,16 +39,15 @@ exchange-requires c =
 pub unreachable-requires : goal.unreachable-requires
 unreachable-requires c =
     let slot : ℕ = c.self.inside.threads + c.number.result in
-    let none = put_found slot (Lock c.args.lock) c.pass.inside.seat.me c.load.new.seat.me c.pass.invariant.0 (c.load.ensures.2 slot c.word_of.ensures) c.exchange.result c.exchange.ensures.2 in
-    clash c.exchange.result c.in-Some.field-0 none c.in-Some.is
+    let none = c.replace.ensures.found ∙ put_found slot (Lock c.args.lock) c.pass.inside.seat.me c.load.new.seat.me c.pass.invariant.0 (c.load.ensures.2 slot c.word_of.ensures) c.slot_mut-slot.result.now c.slot_mut-slot.ensures.value in
+    clash c.replace.result c.in-Some.field-0 none c.in-Some.is
 
 pub store-requires : goal.store-requires
 store-requires c =
     let own = ap (λ (p : PassView). p.table) c.pass.view_is ∙ (c.requires.own ∙ sym (ap (λ (h : HallView). h.table) c.self.view_is)) in
     let key = c.self.inside.board.shared.key in
     let m = c.pass.inside.seat.me in
-    let m2 = c.exchange.new.seat.me in
-    let m2id = c.exchange.new.seat.id in
+    let m1 = c.load.new.seat.me in
     let l = c.args.lock in
     let did = c.load.ensures in
     let slot : ℕ = c.self.inside.threads + c.number.result in
@@ -55,12 +55,12 @@ store-requires c =
     let may : MayFree m.0 l = subst (λ (p : PassView). MayFree p.knows l) (sym c.pass.view_is) c.requires.ready in
     let at : threads key + l.number ≡ slot = (let n = c.self.invariant.0 in let e = c.number.ensures in omega arith) in
     let got = did.2 slot c.word_of.ensures in
-    let view = put_view slot (Lock l) m c.load.new.seat.me c.pass.invariant.0 got m2 c.exchange.ensures.3 in (
-      c.exchange.ensures.0 ∙ (did.0 ∙ own),
+    let view = put_view slot (Lock l) m c.load.new.seat.me c.pass.invariant.0 got in (
+      did.0 ∙ own,
       omega (arith, c.self.invariant.1, c.self.invariant.3, c.number.ensures, c.word_of-2.ensures),
-      subst (λ (z : ℕ). FreesAll key c.self.inside.board.shared.table_id.slots m2id z m2.0 m2.1) (ap slot_word at ∙ sym c.word_of-2.ensures)
-          (frees key _ _ m2.0 l m2.1
-          (put_carried slot (Lock l) m c.load.new.seat.me c.pass.invariant.0 got m2 c.exchange.ensures.3 ∙ ap (λ (z : ℕ). (z, Some (Lock l)) ∷ []) (sym at))
+      subst (λ (z : ℕ). FreesAll key c.self.inside.board.shared.table_id.slots c.load.new.seat.id z m1.0 ((slot, c.replace.new.self) ∷ rest m1.1)) (ap slot_word at ∙ sym c.word_of-2.ensures)
+          (frees key _ _ m1.0 l _
+          (put_carried slot (Lock l) m c.load.new.seat.me c.pass.invariant.0 got c.replace.new.self c.replace.ensures.left ∙ ap (λ (z : ℕ). (z, Some (Lock l)) ∷ []) (sym at))
           (ap (λ (z : Knows). z.hand) view ∙ ap (λ (z : ℕ). Some z) (sym at)) (ap (λ (z : Knows). z.spent) view ∙ c.pass.invariant.3) (subst (λ (z : Knows). MayFree z l) (sym view) record { has = may.has; rests = may.rests })),
     )
 
@@ -69,8 +69,8 @@ invariant_of-pass c =
     let m = c.pass.inside.seat.me in
     let slot : ℕ = c.self.inside.threads + c.number.result in
     let got = c.load.ensures.2 slot c.word_of.ensures in
-    let carried = put_carried slot (Lock c.args.lock) m c.load.new.seat.me c.pass.invariant.0 got c.exchange.new.seat.me c.exchange.ensures.3 in
-    let view = put_view slot (Lock c.args.lock) m c.load.new.seat.me c.pass.invariant.0 got c.exchange.new.seat.me c.exchange.ensures.3 in
+    let carried = put_carried slot (Lock c.args.lock) m c.load.new.seat.me c.pass.invariant.0 got c.replace.new.self c.replace.ensures.left in
+    let view = put_view slot (Lock c.args.lock) m c.load.new.seat.me c.pass.invariant.0 got in
     let did = c.store.ensures.2 slot c.args.lock carried in
     (ap (λ (z : Sat). z.1) did, ap (λ (z : Sat). z.0.hand) did, c.pass.invariant.2 ∙ sym (ap (λ (z : Sat). z.0.worker) did ∙ ap (λ (v : Knows). v.worker) view), ap (λ (z : Sat). z.0.spent) did ∙ (ap (λ (v : Knows). v.spent) view ∙ c.pass.invariant.3))
 
@@ -79,7 +79,7 @@ returns-clause-freed c =
     let m = c.pass.inside.seat.me in
     let slot : ℕ = c.self.inside.threads + c.number.result in
     let got = c.load.ensures.2 slot c.word_of.ensures in
-    let carried = put_carried slot (Lock c.args.lock) m c.load.new.seat.me c.pass.invariant.0 got c.exchange.new.seat.me c.exchange.ensures.3 in
-    let view = put_view slot (Lock c.args.lock) m c.load.new.seat.me c.pass.invariant.0 got c.exchange.new.seat.me c.exchange.ensures.3 in
+    let carried = put_carried slot (Lock c.args.lock) m c.load.new.seat.me c.pass.invariant.0 got c.replace.new.self c.replace.ensures.left in
+    let view = put_view slot (Lock c.args.lock) m c.load.new.seat.me c.pass.invariant.0 got in
     let did = c.store.ensures.2 slot c.args.lock carried in
-    subst (λ (p : PassView). Freed c.args.lock p.knows c.store.new.seat.me.0) c.pass.view_is (freed c.args.lock m.0 c.exchange.new.seat.me.0 c.store.new.seat.me.0 slot view c.pass.invariant.1 (ap (λ (z : Sat). z.0) did))
+    subst (λ (p : PassView). Freed c.args.lock p.knows c.store.new.seat.me.0) c.pass.view_is (freed c.args.lock m.0 c.load.new.seat.me.0 c.store.new.seat.me.0 slot view c.pass.invariant.1 (ap (λ (z : Sat). z.0) did))
