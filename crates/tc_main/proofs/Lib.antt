@@ -12,3 +12,4 @@ pub mod NodeRows
 pub mod Spelled
 pub mod Writing
 pub mod Chunks
+pub mod Sets

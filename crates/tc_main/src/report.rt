@@ -1,15 +1,15 @@
 //! The text of a report.
 
-ghost use Rattle.std.specs.Prelude.{◌≡◌, ◌+◌, ◌*◌, ◌<◌, ◌≤◌, ◌++◌, All, IfOk, OnErr, OnOk, length, map, min, string_bytes};
+ghost use Rattle.std.specs.Prelude.{◌≡◌, ◌+◌, ◌*◌, ◌<◌, ◌≤◌, ◌++◌, IfOk, OnErr, OnOk, length, map, min, string_bytes};
 ghost use Rattle.tc_journal.specs.Digits.{hex2, hex8};
 ghost use Rattle.tc_main.specs.Legal.{results_after};
 ghost use Rattle.tc_main.specs.Outcome.{IsOutcome};
-ghost use Rattle.tc_main.specs.Pieces.{HasRoom, lines_of};
+ghost use Rattle.tc_main.specs.Pieces.{AreSets, lines_of};
 ghost use Rattle.tc_main.specs.Report as text;
 ghost use Rattle.tc_main.specs.Top.{Wrote};
 ghost use Rattle.tc_main.specs.declared.piece.TheConstants.{BLOCKS};
 
-use crate::piece::{Piece, pieces_for, write_lines};
+use crate::piece::{Pieces, pieces_for, write_lines};
 use crate::written::{Written, write_text};
 use std::alloc::{AllocError, Global};
 use std::fmt::Write;
@@ -315,12 +315,11 @@ fn write_around<R: Threads + Sync, K: Sink>(
     rt: &R,
     sink: &mut K,
     head: &str,
-    pieces: &mut [Piece],
+    pieces: &mut Pieces,
     history: &[&Block],
     tail: &str,
 ) -> Written
-    requires some { 0 < length pieces.old }
-    requires room { All (HasRoom (min BLOCKS (length history.now))) pieces.old }
+    requires { AreSets (min BLOCKS (length history.now)) pieces.old }
     ensures { Wrote (K.stream sink.old) (K.stream sink.new)
         (head.now ++ lines_of history.now ++ tail.now) result }
 {
