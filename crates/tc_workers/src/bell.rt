@@ -5,11 +5,13 @@ use std::sync::atomic::{AtomicU64, Ordering};
 use std::thread::yield_now;
 use std::time::Duration;
 
-// How often a worker gives its processor away, so that others can begin, before it sleeps.
-const YIELDS: u32 = 8_000;
+// How long the first worker to begin waits for the next one to begin, in milliseconds. It keeps the
+// time for all of them.
+const LONGEST_WAIT: u64 = 5;
 
-// How often it sleeps then, for a millisecond at most each time.
-const SLEEPS: u32 = 3;
+// How often another worker gives its processor away until then: for longer than the first one sleeps,
+// unless that one is not given its processor back.
+const YIELDS: u32 = 100_000;
 
 /// The bell of a crew, with the number of its strokes. Each worker rings it when it begins, and when
 /// it ends. They wait at it for one another before they begin, so that none has done all the work
@@ -46,35 +48,49 @@ impl Bell {
         false
     }
 
-    // Sleeps until all have begun, or so often. Whether all have.
+    // Sleeps until all have begun, or until none has for so long. Whether all have.
     fn sleep_for_others<R: Wait>(&self, rt: &R) -> bool {
-        for _ in 0..SLEEPS {
-            if !self.others_to_come() {
+        for _ in 0..self.workers {
+            let begun = self.strokes.load(Ordering::SeqCst);
+            if begun >= self.workers {
                 return true;
             }
-            self.sleep(rt, Duration::from_millis(1));
+            self.sleep_behind(rt, begun, Duration::from_millis(LONGEST_WAIT));
+            if self.strokes.load(Ordering::SeqCst) == begun {
+                return false;
+            }
         }
-        false
+        true
     }
 
-    /// Rings so many strokes. Whoever sleeps looks again.
-    pub(crate) fn ring(&self, strokes: u64) {
-        self.strokes.fetch_add(strokes, Ordering::SeqCst);
+    /// Rings so many strokes. Whoever sleeps looks again. How many there were before.
+    pub(crate) fn ring(&self, strokes: u64) -> u64 {
+        let before = self.strokes.fetch_add(strokes, Ordering::SeqCst);
         self.strokes.wake_all();
+        before
     }
 
-    /// Sleeps until the bell is rung, so long at most.
-    pub(crate) fn sleep<R: Wait>(&self, rt: &R, longest: Duration) {
-        let strokes = self.strokes.load(Ordering::SeqCst);
+    // Sleeps until the bell is rung behind so many strokes, so long at most.
+    fn sleep_behind<R: Wait>(&self, rt: &R, strokes: u64, longest: Duration) {
         let word = (strokes % (1 << 32)) as u32;
         self.strokes.park_timeout(rt, word, longest);
     }
 
-    /// The worker begins, and waits until all have, some milliseconds at most. One that has waited
-    /// in vain, since the host gives too few threads, lets all others go, and those that begin later.
+    /// Sleeps until the bell is rung, so long at most.
+    pub(crate) fn sleep<R: Wait>(&self, rt: &R, longest: Duration) {
+        self.sleep_behind(rt, self.strokes.load(Ordering::SeqCst), longest);
+    }
+
+    /// The worker begins, and waits until all have, some milliseconds at most. The first one to begin
+    /// sleeps, so that it keeps the time, and the others give their processors away. One that has
+    /// waited in vain, since the host gives too few threads, lets all others go, and those that begin
+    /// later.
     pub(crate) fn wait<R: Wait>(&self, rt: &R) {
-        self.ring(1);
-        if !self.yield_for_others() && !self.sleep_for_others(rt) {
+        let have_begun = match self.ring(1) {
+            0 => self.sleep_for_others(rt),
+            _ => self.yield_for_others(),
+        };
+        if !have_begun {
             self.ring(self.workers);
         }
     }
