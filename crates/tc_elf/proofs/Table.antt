@@ -1,5 +1,5 @@
 -- The place of all accesses of addresses that nothing cuts.
-use Rattle.std.proofs.Common.{◌≡◌, ℕ, suc, ◌+◌, ◌<◌, ◌≤◌, ◌^◌, Bool, true, false, ◌&&◌, ◌||◌, not, List, [], ◌∷◌, ◌++◌, length, get_or, All, refl, sym, ap, ◌∙◌, arith}
+use Rattle.std.proofs.Common.{◌≡◌, ℕ, suc, ◌+◌, ◌-◌, ◌<◌, ◌≤◌, ◌^◌, Bool, true, false, ◌&&◌, ◌||◌, not, List, [], ◌∷◌, ◌++◌, length, get_or, All, refl, sym, ap, ◌∙◌, arith}
 use Rattle.std.specs.Prelude.{Some, None, nat_lt, if◌then◌else◌}
 use Rattle.std.specs.List.{list_any, position_or_len}
 use Rattle.std.specs.Option.{option_map_or}
@@ -10,7 +10,7 @@ use Rattle.std.proofs.lemmas.List.Elements.{All-push}
 use Rattle.tc_elf.specs.Kept.{IsRange}
 use Rattle.tc_elf.specs.Places.{lies_in, meets, in_text, in_writable, in_guard, touches, own_region, region_of, stack_start, stack_length}
 use Rattle.tc_elf.specs.Shown.{Shown, Range}
-use Rattle.tc_elf.specs.Table.{cuts, range_cuts, guard_cuts, is_cut, IsWithin, PlacesTell}
+use Rattle.tc_elf.specs.Table.{cuts, range_cuts, guard_cuts, is_cut, IsPiece, IsWithin, PlacesTell}
 use Rattle.tc_elf.specs.declared.image.Region.TheVariants as region
 use Rattle.tc_elf.specs.declared.places.Place.{Place}
 
@@ -82,6 +82,12 @@ pub place_more : (image : Shown) (places : List Place) (start n : ℕ) (p : Plac
 place_more image places start n p tells whole from to is =
     All-push (λ p. IsWithin image p.start p.end p.region) places p tells
     (λ addr width some low high. within image start n whole addr width some (omega arith) (omega arith) ∙ sym is)
+
+-- a place of n addresses that nothing cuts
+pub piece : (image : Shown) (start n : ℕ) (p : Place) → 0 < n → start + n ≤ 2 ^ 32 → n < 2 ^ 32 → is_cut image start n ≡ false → p.start ≡ start → p.end ≡ start + n → IsPiece image p
+piece image start n p some fits short whole from to =
+    let count : p.end - p.start ≡ n = omega arith in
+    record { some = omega arith; short = omega arith; fits = omega arith; whole = rw (count, from) whole }
 
 -- ---- a thread's own memory
 

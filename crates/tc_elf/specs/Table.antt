@@ -1,5 +1,5 @@
 -- A table of places, beside the image that it is of.
-use Rattle.std.specs.Prelude.{◌≡◌, ℕ, ◌+◌, ◌<◌, ◌≤◌, Bool, not, ◌&&◌, ◌||◌, All, List}
+use Rattle.std.specs.Prelude.{◌≡◌, ℕ, ◌+◌, ◌-◌, ◌<◌, ◌≤◌, ◌^◌, Bool, false, not, ◌&&◌, ◌||◌, All, List}
 use Rattle.std.specs.List.{list_any}
 use Rattle.tc_elf.specs.Kept.{IsImage}
 use Rattle.tc_elf.specs.Places.{lies_in, meets, region_of, stack_start, stack_length}
@@ -30,7 +30,15 @@ IsWithin image start end region =
 abbrev pub PlacesTell : Shown → List Place → Type 0
 PlacesTell image places = All (λ p. IsWithin image p.start p.end p.region) places
 
+-- some addresses, not all of the 2^32, that nothing cuts
+pub record IsPiece (image : Shown) (p : Place) : Type 0 where
+  pub some : p.start < p.end
+  pub short : p.end < p.start + 2 ^ 32
+  pub fits : p.end ≤ 2 ^ 32
+  pub whole : is_cut image p.start (p.end - p.start) ≡ false
+
 -- an image with its table
 pub record IsTabled (image : Shown) (places : List Place) : Type 0 where
   pub is_image : IsImage image
   pub tells : PlacesTell image places
+  pub pieces : All (IsPiece image) places

@@ -3,11 +3,11 @@
 //! The address space is cut at each start and end of a range, a guard and the stack, and each piece
 //! has one place.
 
-ghost use Rattle.std.specs.Prelude.{◌≡◌, ℕ, ◌+◌, ◌<◌, ◌≤◌, ◌^◌, false, IfOk, IfSome};
+ghost use Rattle.std.specs.Prelude.{◌≡◌, ℕ, ◌+◌, ◌<◌, ◌≤◌, ◌^◌, false, All, IfOk, IfSome};
 ghost use Rattle.std.specs.List.{list_any};
 ghost use Rattle.tc_elf.specs.Places.{own_region, region_of};
 ghost use Rattle.tc_elf.specs.Shown.{Shown};
-ghost use Rattle.tc_elf.specs.Table.{PlacesTell, cuts, guard_cuts, is_cut, range_cuts};
+ghost use Rattle.tc_elf.specs.Table.{IsPiece, PlacesTell, cuts, guard_cuts, is_cut, range_cuts};
 ghost use Rattle.tc_elf.specs.declared.image.Region.TheVariants as region;
 
 use crate::image::{Guard, Image, Range, Region, any_touched, any_writable, lies_in, meets};
@@ -108,6 +108,18 @@ impl Image {
         }
     }
 
+    /// Such a number of addresses: all of the place in the table that begins there, where one does.
+    fn known_piece(&self, start: u32) -> u32
+        ensures some { 0 < result }
+        ensures fits { start + result ≤ 2 ^ 32 }
+        ensures whole { is_cut self.now start result ≡ false }
+    {
+        match self.places.get(place_number(&self.places, start)) {
+            Some(place) if place.start == start => (place.end - place.start as u64) as u32,
+            _ => self.piece(start),
+        }
+    }
+
     /// How many addresses from one on have all one place in a thread's own memory, and that place:
     /// `Private`, `Stack`, or `Nothing` where that memory has none of them.
     pub fn own_piece(&self, start: u32) -> (u32, Region)
@@ -118,13 +130,14 @@ impl Image {
         ensures past { (at : ℕ) → 2 ^ 32 ≤ at → own_region self.now at ≡ region.Nothing }
     {
         let _ = &self.ranges;
-        (self.piece(start), self.own_region(start))
+        (self.known_piece(start), self.own_region(start))
     }
 }
 
 /// The table of an image, in the order of addresses.
 pub(crate) fn places(alloc: Global, image: &Image) -> Result<Vec<Place>, AllocError>
-    ensures { IfOk result (λ places. PlacesTell image.now places.items) }
+    ensures tells { IfOk result (λ places. PlacesTell image.now places.items) }
+    ensures pieces { IfOk result (λ places. All (IsPiece image.now) places.items) }
 {
     let mut places = Vec::new(alloc);
     let mut next: u64 = 0;

@@ -135,9 +135,9 @@ pub handed_known : (k : Terms) (r : Settled) (d e : DeskView) → TellsReady k r
 handed_known k Was_stopped d e h = subst (λ (l : List ℕ). All (λ t. t < threads k) l) (sym h.2) (λ i x deep. absurd (omega arith))
 handed_known k r d e h = took_down (threads k) e.handed h.0 h.2
 
-pub room_enough : (threads fuel sections : ℕ) → CanHave fuel sections → min (threads * sections) 4096 ≤ min (threads * (fuel / 2 + 2)) 4096
-room_enough threads fuel sections can =
+pub room_enough : (threads fuel sections most : ℕ) → CanHave fuel sections → min (threads * sections) most ≤ min (threads * (fuel / 2 + 2)) most
+room_enough threads fuel sections most can =
     let few : sections ≤ fuel / 2 + 2 = omega arith in
     let all : threads * sections ≤ threads * (fuel / 2 + 2) = mul-le-mul_left threads few in
-    let least = min-le_left (threads * sections) 4096 in
-    le-min (omega arith) (min-le_right (threads * sections) 4096)
+    let least = min-le_left (threads * sections) most in
+    le-min (omega arith) (min-le_right (threads * sections) most)
