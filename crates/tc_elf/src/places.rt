@@ -108,7 +108,8 @@ impl Image {
         }
     }
 
-    /// Such a number of addresses: all of the place in the table that begins there, where one does.
+    /// How many addresses from one on nothing cuts, as `piece` tells it: all of the place in the table
+    /// that begins there, where one does.
     fn known_piece(&self, start: u32) -> u32
         ensures some { 0 < result }
         ensures fits { start + result ≤ 2 ^ 32 }
