@@ -1,6 +1,6 @@
 -- What a package keeps, through each of its calls.
 use Rattle.std.proofs.Common.{◌≡◌, ℕ, ◌<◌, ◌≤◌, Bool, true, false, not, ◌||◌, ◌&&◌, ◌==◌, List, map, filter, length, refl, sym, ap, subst, ◌∙◌, arith, inl, inr, Option, Some, None, IfSome, is_some, slice_index_or, set, if◌then◌else◌, length-set, get_or-set_same, get_or-set_other}
-use Rattle.tc_context.proofs.Vocabulary.{option_map, has, MAX_TURNS, Shown, is_section, last_of, may_go_on, ends_section, passes_to, passes_on, Block, Thread, is_running, next_lock, LockView, IsAtRest, kept, block_in, blocks_of, with_journal, with_room, Context, lock_in, AreOf, Changed, IsPlaced, SameLocks, roomy_in, thread_in, set_of, PackageView, granted_lock, want_of, number_in, waiting_in, IsNumber, IsFresh, Rests, IsIdle, IsAt, IsStored, IsLeft, EndsWith, IsGranted, MayPassTo, MayTake, IsSoundPackage, IsWanted, LastIsSealed, IsWaiting, IsRoomier, with_grant, without_lock, view_of, KeptPackage}
+use Rattle.tc_context.proofs.Vocabulary.{option_map, has, MAX_TURNS, Shown, is_section, last_of, may_go_on, ends_section, passes_to, passes_on, Block, Thread, is_running, next_lock, LockView, IsAtRest, kept, block_in, blocks_of, with_journal, with_room, Context, lock_in, AreOf, Changed, IsPlaced, SameLocks, roomy_in, thread_in, set_of, PackageView, granted_lock, want_of, number_in, waiting_in, IsNumber, IsFresh, Rests, IsIdle, IsAt, IsStored, IsLeft, EndsWith, IsGranted, MayPassTo, MayTake, IsSoundPackage, IsWanted, LastIsSealed, IsWaiting, IsRoomier, with_grant, without_lock, guest_in, view_of, KeptPackage}
 use Rattle.std.specs.List.{range_with_len}
 use Rattle.tc_isa.specs.Sets.{locks_of}
 use Rattle.tc_isa.specs.declared.limits.TheConstants.{MAX_HELD}
@@ -9,7 +9,7 @@ pub use Rattle.std.proofs.lemmas.Bool.{and_parts, both_ways as false_true}
 use Rattle.std.proofs.lemmas.Bool.Decides.{eqb_tells}
 use Rattle.tc_journal.specs.declared.block.Kind.{Kind}
 use Rattle.tc_turn.specs.Replay.{Entry}
-use Rattle.tc_turn.proofs.Turns.{next_free, next_known}
+use Rattle.tc_turn.proofs.Turns.{next_free, next_known, next_by_own}
 use Rattle.tc_context.specs.declared.package.Grant.{Grant}
 use Rattle.tc_mutex_spec.proofs.BlocksAlike.{eq_self}
 use Rattle.tc_mutex_spec.proofs.Replaying.{running_is}
@@ -24,6 +24,40 @@ pub record Shows (a : Contents) (v : PackageView) : Type 0 where
 
 pub shows : {a b : Contents} {v : PackageView} → a ≡ b → view_of b ≡ v → KeptPackage b → Shows a v
 shows same is kept = record { is = ap view_of same ∙ is; kept = subst KeptPackage (sym same) kept }
+
+-- contents whose thread has its own memory, as they are
+abbrev pub bare_view : Contents → PackageView
+bare_view a = record (view_of a) { context = a.context }
+
+pub bare : (a : Contents) → a.first ≡ None → bare_view a ≡ view_of a
+bare a none = ap (λ first. record (view_of a) { context = record { thread = a.context.thread; guest = guest_in first a.context.guest; locks = a.context.locks } }) (sym none)
+
+-- contents with room for a block, in which the thread has its own memory
+pub record Ready (a : Contents) (v : PackageView) : Type 0 where
+  pub none : a.first ≡ None
+  pub room : 0 < a.log_room
+  pub is : bare_view a ≡ v
+  pub sound : IsSoundPackage (bare_view a)
+  pub next : a.next ≡ next_lock a.of.value (thread_in a.context)
+
+pub ready : (a : Contents) (v : PackageView) → Shows a v → 0 < v.log_room → Ready a v
+ready a v s reserved =
+    let room : 0 < a.log_room = subst (λ (v : PackageView). 0 < v.log_room) (sym s.is) reserved in
+    let log = s.kept.log in
+    let none = s.kept.own (omega (arith, room, log)) in
+    record {
+      none = none;
+      room = room;
+      is = bare a none ∙ s.is;
+      sound = subst IsSoundPackage (sym (bare a none)) s.kept.sound;
+      next = s.kept.next ∙ next_by_own a.of.value _ (thread_in a.context);
+    }
+
+-- so is what a block makes of them, as it is seen
+pub ran_seen : (P : PackageView → Type 0) (a : Contents) (new : Context) (log : List Block) (room slept : ℕ) → a.first ≡ None
+    → P (record (bare_view a) { context = new; granted = None; pending = last_of log; log = log; log_room = room; slept = slept })
+    → P (record (bare_view a) { context = record { thread = new.thread; guest = guest_in a.first new.guest; locks = new.locks }; granted = None; pending = last_of log; log = log; log_room = room; slept = slept })
+ran_seen P a new log room slept none = subst (λ first. P (record (bare_view a) { context = record { thread = new.thread; guest = guest_in first new.guest; locks = new.locks }; granted = None; pending = last_of log; log = log; log_room = room; slept = slept })) (sym none)
 
 -- a lock rests by its sealed entries alone
 pub rests_as : (k : ℕ) (x l : LockView) → l.journal.sealed ≡ x.journal.sealed → Rests k x → Rests k l

@@ -1,5 +1,5 @@
 -- What a block asks of a package's thread and locks, and what it made of them.
-use Rattle.std.specs.Prelude.{◌≡◌, ℕ, ◌≤◌, Bool, Option, None, Result, length, is_some}
+use Rattle.std.specs.Prelude.{◌≡◌, ℕ, ◌≤◌, Bool, [], Option, None, Result, length, is_some}
 use Rattle.tc_isa.specs.declared.fault.Fault.{Fault}
 use Rattle.tc_isa.specs.declared.held.TheConstants.Held.{PLACES}
 use Rattle.tc_isa.specs.declared.instr.Instr.{Instr}
@@ -11,7 +11,8 @@ use Rattle.tc_journal.specs.Batch.{is_section}
 use Rattle.tc_journal.specs.History.{IsBlock, IsEnd}
 use Rattle.tc_journal.specs.declared.block.Kind.{Kind}
 use Rattle.tc_turn.specs.Ahead.{IsAhead}
-use Rattle.tc_turn.specs.Turn.{next_lock, thread_at_start}
+use Rattle.tc_turn.specs.Memory.{own_of}
+use Rattle.tc_turn.specs.Turn.{next_lock, thread_at_start, with_own}
 use Rattle.tc_context.specs.declared.context.Context.{Context}
 use Rattle.tc_context.specs.declared.context.Ran.{Ran}
 use Rattle.tc_context.specs.declared.context.Turns.{Turns}
@@ -20,9 +21,9 @@ use Rattle.tc_context.specs.Locks.{lock_in}
 use Rattle.tc_context.specs.Middle.{AreNoted, AreReady, MayTurn}
 use Rattle.tc_context.specs.Ran.{slept_in}
 
--- the thread of this number at its start, with no lock
+-- the thread of this number at its start, but for its own memory, which has no byte; no lock is there
 pub record IsAtStart (image : Shown) (t fuel : ℕ) (p : Context) : Type 0 where
-  pub thread : thread_in p ≡ thread_at_start image fuel t
+  pub thread : thread_in p ≡ with_own (own_of []) (thread_at_start image fuel t)
   pub number : p.thread ≡ t
   pub locks : (k : ℕ) → lock_in p.locks k ≡ None
   pub places : length p.locks ≡ PLACES

@@ -1,12 +1,15 @@
 -- A package's fields, as it is seen, and what they keep.
-use Rattle.std.specs.Prelude.{◌≡◌, ℕ, ◌+◌, ◌-◌, ◌≤◌, Bool, true, List, [], ◌∷◌, ◌++◌, Option, Some, None, is_some, set, Vec, if◌then◌else◌, vec_len, vec_capacity}
+use Rattle.std.specs.Prelude.{◌≡◌, ℕ, ◌+◌, ◌-◌, ◌<◌, ◌≤◌, Bool, true, List, [], ◌∷◌, ◌++◌, Option, Some, None, is_some, set, Vec, if◌then◌else◌, vec_len, vec_capacity}
 use Rattle.std.specs.Arc.{arc_value}
 use Rattle.std.specs.Global.{Global}
+use Rattle.std.specs.declared.sync.Arc.{Arc}
 use Rattle.tc_isa.specs.Sets.{has}
 use Rattle.tc_journal.specs.Batch.{last_of}
 use Rattle.tc_journal.specs.declared.block.Block.{Block}
 use Rattle.tc_segment.specs.View.{sealed_block}
-use Rattle.tc_turn.specs.Turn.{next_lock}
+use Rattle.tc_turn.specs.Memory.{Part}
+use Rattle.tc_turn.specs.Turn.{Guest, next_lock}
+use Rattle.tc_context.specs.declared.context.Context.{Context}
 use Rattle.tc_context.specs.declared.package.Contents.{Contents}
 use Rattle.tc_context.specs.Whole.{thread_in, set_of, AreEnded}
 use Rattle.tc_context.specs.View.{PackageView, IsSoundPackage}
@@ -15,10 +18,22 @@ use Rattle.tc_context.specs.View.{PackageView, IsSoundPackage}
 abbrev pub pending_in : Bool → List Block → Option Block
 pending_in pending log = if pending then last_of log else None
 
+-- the thread's own memory: that with which all threads begin, until the thread has its own copy of it
+abbrev pub memory_in : Option (Arc (List Part) Global) → List Part → List Part
+memory_in None own = own
+memory_in (Some first) own = arc_value first
+
+-- the thread with it, as it is seen
+abbrev pub guest_in : Option (Arc (List Part) Global) → Guest → Guest
+guest_in first g = record { regs = g.regs; own = memory_in first g.own; fuel = g.fuel; status = g.status; held = g.held }
+
+abbrev pub context_in : Contents → Context
+context_in a = record { thread = a.context.thread; guest = guest_in a.first a.context.guest; locks = a.context.locks }
+
 abbrev pub view_of : Contents → PackageView
 view_of a = record {
   image = a.of.value;
-  context = a.context;
+  context = context_in a;
   granted = a.granted;
   pending = pending_in a.pending a.log.items;
   log = a.log.items;
@@ -31,12 +46,13 @@ view_of a = record {
 pub record KeptPackage (a : Contents) : Type 0 where
   pub sound : IsSoundPackage (view_of a)
   pub code : arc_value a.code ≡ a.of.value
-  pub next : a.next ≡ next_lock a.of.value (thread_in a.context)
+  pub next : a.next ≡ next_lock a.of.value (thread_in (context_in a))
   pub present : (k : ℕ) → set_of a.context k ≡ has a.present k
   pub pending : is_some (pending_in a.pending a.log.items) ≡ a.pending
   pub log : vec_len a.log + a.log_room ≤ vec_capacity a.log
   pub ended : AreEnded a.context
   pub edge : a.edge.packed ≡ true → a.edge.regs ≡ a.context.guest.regs
+  pub own : vec_len a.log < vec_capacity a.log → a.first ≡ None
 
 -- the last block of a log has this stamp and worker now, and these are its locks
 pub record DidSealLast (stamp worker : ℕ) (old new : Vec Block Global) (locks : ℕ) : Type 0 where

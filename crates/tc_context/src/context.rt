@@ -82,7 +82,8 @@ impl Context {
     ghost use Rattle.tc_context.specs.Middle.{AreOwnTurns, MayTurn, DidTurn};
     ghost use Rattle.tc_context.specs.Block.{IsAtStart, MayTurnBy, MayTurns, DidTurns, MayRunBlock, DidRunBlock};
 
-    /// The thread of this number at its start, with no lock.
+    /// The thread of this number at its start, but for its own memory, which has no byte yet, and
+    /// with no lock.
     pub(crate) fn start(
         alloc: Global,
         image: &Image,
@@ -94,7 +95,7 @@ impl Context {
     {
         Ok(Context {
             thread: t,
-            guest: GuestThread::start(alloc, image, fuel, t)?,
+            guest: GuestThread::bare(alloc, image, fuel, t),
             locks: LockSet::new(alloc)?,
         })
     }

@@ -6,11 +6,12 @@ ghost use Rattle.tc_isa.specs.Sets.{has};
 ghost use Rattle.tc_isa.specs.declared.limits.TheConstants.{MAX_FUEL};
 ghost use Rattle.tc_journal.specs.Batch.{is_section, last_of};
 ghost use Rattle.tc_journal.specs.declared.block.End.TheVariants.{Slept};
+ghost use Rattle.tc_turn.specs.Memory.{own_of, own_at_start};
 ghost use Rattle.tc_turn.specs.declared.status.Status.TheVariants.{Running};
 ghost use Rattle.tc_segment.specs.View.{IsAtRest};
 ghost use Rattle.tc_context.specs.Locks.{lock_in, IsPlaced};
 ghost use Rattle.tc_context.specs.Ran.{DidRun};
-ghost use Rattle.tc_context.specs.Kept.{DidSealLast, IsSameLog};
+ghost use Rattle.tc_context.specs.Kept.{DidSealLast, IsSameLog, guest_in};
 ghost use Rattle.tc_context.specs.View.{granted_lock, want_of, kind_of, fits_of, number_in, with_grant, with_seal, with_turns, without_lock};
 ghost use Rattle.tc_context.specs.View.{thread_number, regs_in, fuel_in, status_in, held_in, own_in, locks_in};
 ghost use Rattle.tc_context.specs.View.{IsFresh, IsSoundPackage, WantIsLawful, IsReserved, IsRoomier, WantIsGranted, HasBlock, AllowsPending, IsWaiting, MayPassTo, IsNumber, IsNumbered, LastIsSealed};
@@ -28,6 +29,7 @@ use tc_isa::regs::Regs;
 use tc_journal::block::{Block, End, Kind};
 use tc_segment::packed::Packed;
 use tc_segment::state::LockState;
+use tc_turn::memory::Memory;
 use tc_turn::status::Status;
 use tc_turn::thread::GuestThread;
 
@@ -54,6 +56,8 @@ pub struct Grant {
 struct Contents {
     of: Snapshot<Image>,
     code: Arc<Code, Global>,
+    // The memory with which all threads begin, until the thread has its own copy of it.
+    first: Option<Arc<Memory, Global>>,
     context: Context,
     // The lock that the thread's next turn takes, and the locks that are in the package.
     next: Option<u32>,
@@ -170,7 +174,10 @@ impl Package {
     pub fn byte(&self, addr: u32) -> Option<u8>
         ensures { result ≡ own_in self.now addr }
     {
-        self.contents.context.guest.byte(addr)
+        match &self.contents.first {
+            Some(first) => first.byte(addr),
+            None => self.contents.context.guest.byte(addr),
+        }
     }
 
     /// The lock of the thread's next turn, exactly where the thread runs, has fuel and its next
@@ -201,28 +208,36 @@ impl Package {
         ensures { IfOk result (IsFresh image.now t fuel) }
     {
         let code = Arc::new(alloc, Code::undecoded(alloc, image))?;
-        Package::start_with(alloc, image, &code, t, fuel)
+        let first = Arc::new(alloc, Memory::start(alloc, image)?)?;
+        Package::start_with(alloc, image, &code, &first, t, fuel)
     }
 
-    /// The same, which runs by decoded code that it shares with others.
+    /// The same, which runs by decoded code that it shares with others, and begins with memory that
+    /// it shares with them until its first `reserve`, which makes its own. So the memory of each
+    /// thread is made by the worker that runs it.
     pub fn start_with(
         alloc: Global,
         image: &Image,
         code: &Arc<Code, Global>,
+        first: &Arc<Memory, Global>,
         t: u32,
         fuel: u32,
     ) -> Result<Package, AllocError>
         requires code { arc_value code.now ≡ image.now }
+        requires first { own_of (arc_value first.now) ≡ own_at_start image.now }
         requires thread { t < length image.now.entries }
         requires fuel { (1 ≤ fuel) × (fuel ≤ MAX_FUEL) }
         ensures { IfOk result (IsFresh image.now t fuel) }
     {
         prove!(image.guards() <= 32);
         let context = Context::start(alloc, image, t, fuel)?;
+        let code = Arc::clone(code)?;
+        let first = Arc::clone(first)?;
         let regs = Packed::of(context.guest.regs());
         let contents = Contents {
             of: Snapshot::of(image),
-            code: Arc::clone(code)?,
+            code,
+            first: Some(first),
             next: context.guest.next_lock(image),
             context,
             present: Held::none(),
@@ -260,8 +275,9 @@ impl Package {
     }
 
     /// Makes room for one block in the log, and in each lock that is in the package for one entry
-    /// and as many foreign words as a block has turns. Nothing else changes, and after a refusal
-    /// nothing does but rooms.
+    /// and as many foreign words as a block has turns. The first call gives the thread its own copy
+    /// of the memory with which it begins. Nothing else changes, and after a refusal nothing does
+    /// but rooms.
     pub fn reserve(&mut self) -> Result<(), AllocError>
         ensures ok { OnOk result (IsReserved self.new) }
         ensures same { IsRoomier self.old self.new }
@@ -269,7 +285,11 @@ impl Package {
         ensures refused { OnErr result (self.new.log_room ≡ self.old.log_room) }
     {
         let contents = &mut *self.contents;
-        make_room(&mut contents.log)?;
+        make_room(
+            &mut contents.log,
+            &mut contents.first,
+            &mut contents.context.guest,
+        )?;
         let made = contents.context.locks.reserve(contents.present);
         contents.context.locks.bound();
         made?;
@@ -415,28 +435,59 @@ fn seal_last(log: &mut Vec<Block>, stamp: u64, worker: u32) -> Held
     block.held
 }
 
-/// Makes room for one block in a log.
-fn make_room(log: &mut Vec<Block>) -> Result<(), AllocError>
+/// Makes room for one block in a log, whose thread has its own memory where there is room.
+fn make_room(
+    log: &mut Vec<Block>,
+    first: &mut Option<Arc<Memory, Global>>,
+    guest: &mut GuestThread,
+) -> Result<(), AllocError>
+    requires own { vec_len log.old < vec_capacity log.old → first.old ≡ None }
     ensures same { IsSameLog log.old log.new }
+    ensures thread { guest_in first.new guest.new ≡ guest_in first.old guest.old }
     ensures room { OnOk result (vec_len log.new + 1 ≤ vec_capacity log.new) }
+    ensures own { vec_len log.new < vec_capacity log.new → first.new ≡ None }
 {
     if log.len() < log.capacity() {
         return Ok(());
     }
-    grow(log)
+    grow(log, first, guest)
 }
 
-/// Makes room for many blocks in a log. Few blocks pay for a call of it, and the others don't.
+/// Gives a thread its own memory, where it has none, and makes room for many blocks in its log. Few
+/// blocks pay for a call of it, and the others don't.
 #[cold]
 #[inline(never)]
-fn grow(log: &mut Vec<Block>) -> Result<(), AllocError>
+fn grow(
+    log: &mut Vec<Block>,
+    first: &mut Option<Arc<Memory, Global>>,
+    guest: &mut GuestThread,
+) -> Result<(), AllocError>
+    requires full { vec_capacity log.old ≤ vec_len log.old }
     ensures same { IsSameLog log.old log.new }
+    ensures thread { guest_in first.new guest.new ≡ guest_in first.old guest.old }
     ensures room { OnOk result (vec_len log.new + 1 ≤ vec_capacity log.new) }
+    ensures own { vec_len log.new < vec_capacity log.new → first.new ≡ None }
 {
+    own_memory(first, guest)?;
     let more = if log.is_empty() {
         FIRST_BLOCKS
     } else {
         MORE_BLOCKS
     };
     log.reserve(more)
+}
+
+/// Gives a thread its own copy of the memory with which it begins, where it has none.
+fn own_memory(
+    first: &mut Option<Arc<Memory, Global>>,
+    guest: &mut GuestThread,
+) -> Result<(), AllocError>
+    ensures thread { guest_in first.new guest.new ≡ guest_in first.old guest.old }
+    ensures own { OnOk result (first.new ≡ None) }
+{
+    if let Some(memory) = first {
+        guest.give(memory.copy()?);
+        *first = None;
+    }
+    Ok(())
 }

@@ -7,6 +7,7 @@ use Rattle.atomic_table.proofs.owned.Table.TheSendSync as Table_moves
 use Rattle.tc_elf.proofs.image.Image.TheSendSync as Image_moves
 use Rattle.tc_exec.proofs.code.Part.TheSendSync as Part_moves
 use Rattle.tc_journal.proofs.block.Block.TheSendSync as Block_moves
+use Rattle.tc_turn.proofs.memory.Memory.TheSendSync as Memory_moves
 use Rattle.tc_turn.proofs.thread.GuestThread.TheSendSync as Guest_moves
 use Rattle.tc_segment.proofs.edges.Edges.TheSendSync as Edges_moves
 use Rattle.tc_segment.proofs.record.Record.TheSendSync as Record_moves
@@ -63,10 +64,10 @@ context_sync = search (sendable, crosses, Guest_moves.the_sync, locks_sync) dept
 
 -- field by field, since one search for all is too long
 contents_send : IsSend Contents.the_row
-contents_send = declared_send Contents.the_type (search crosses, (search (sendable, crosses, code_send, code_sync), (context_send, (search (sendable, crosses) depth 20, (search (sendable, crosses) depth 20, (search (sendable, Grant_moves.the_send) depth 20, (search (sendable, Block_moves.the_send) depth 20, (search (sendable, crosses, Block_moves.the_send), (search sendable, (search sendable, (search sendable, (search sendable, (search (sendable, Edge_moves.the_send) depth 20, tt)))))))))))))
+contents_send = declared_send Contents.the_type (search crosses, (search (sendable, crosses, code_send, code_sync), (search (sendable, crosses, Memory_moves.the_send, Memory_moves.the_sync) depth 20, (context_send, (search (sendable, crosses) depth 20, (search (sendable, crosses) depth 20, (search (sendable, Grant_moves.the_send) depth 20, (search (sendable, Block_moves.the_send) depth 20, (search (sendable, crosses, Block_moves.the_send), (search sendable, (search sendable, (search sendable, (search sendable, (search (sendable, Edge_moves.the_send) depth 20, tt))))))))))))))
 
 contents_sync : IsSync Contents.the_row
-contents_sync = declared_sync Contents.the_type (search crosses, (search (sendable, crosses, code_send, code_sync), (context_sync, (search (sendable, crosses) depth 20, (search (sendable, crosses) depth 20, (search (sendable, Grant_moves.the_sync) depth 20, (search (sendable, Block_moves.the_sync) depth 20, (search (sendable, crosses, Block_moves.the_sync), (search sendable, (search sendable, (search sendable, (search sendable, (search (sendable, Edge_moves.the_sync) depth 20, tt)))))))))))))
+contents_sync = declared_sync Contents.the_type (search crosses, (search (sendable, crosses, code_send, code_sync), (search (sendable, crosses, Memory_moves.the_send, Memory_moves.the_sync) depth 20, (context_sync, (search (sendable, crosses) depth 20, (search (sendable, crosses) depth 20, (search (sendable, Grant_moves.the_sync) depth 20, (search (sendable, Block_moves.the_sync) depth 20, (search (sendable, crosses, Block_moves.the_sync), (search sendable, (search sendable, (search sendable, (search sendable, (search (sendable, Edge_moves.the_sync) depth 20, tt))))))))))))))
 
 pub package_send : IsSend Package.the_row
 package_send = search (sendable, crosses, contents_send) depth 20

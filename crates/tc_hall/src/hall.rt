@@ -29,6 +29,7 @@ use tc_context::package::Package;
 use tc_elf::image::Image;
 use tc_exec::code::Code;
 use tc_segment::state::LockState;
+use tc_turn::memory::Memory;
 
 /// What `claim` answers where the thread was not where it is claimed from: the word that was seen.
 #[derive(Clone, Copy, PartialEq, Eq, Debug)]
@@ -110,7 +111,7 @@ fn lock_of(cargo: Option<Cargo>) -> LockState
 }
 
 // The packages of all threads, ready, and then the states of all locks. The packages share the
-// code, which is decoded here.
+// code, which is decoded here, and the memory with which they begin.
 fn stock(alloc: Global, image: &Image, fuel: u32, limit: u32) -> Result<Vec<Slot>, AllocError>
     requires { (1 ≤ fuel) × (fuel ≤ MAX_FUEL) × (limit ≤ MAX_BATCH) }
     ensures { IfOk result (λ v. AreStocked image.now (length image.now.entries)
@@ -119,9 +120,10 @@ fn stock(alloc: Global, image: &Image, fuel: u32, limit: u32) -> Result<Vec<Slot
     let threads = image.threads();
     let locks = image.guards();
     let code = Arc::new(alloc, Code::of(alloc, image)?)?;
+    let first = Arc::new(alloc, Memory::start(alloc, image)?)?;
     let mut slots = Vec::with_capacity(alloc, threads as usize + locks as usize)?;
     for t in 0..threads {
-        let package = Package::start_with(alloc, image, &code, t, fuel)?;
+        let package = Package::start_with(alloc, image, &code, &first, t, fuel)?;
         slots.push_reserved(Slot::of(Cargo::Package(package)));
     }
     for i in 0..locks {

@@ -29,6 +29,7 @@ use tc_exec::code::Code;
 use tc_isa::held::Held;
 use tc_journal::block::Block;
 use tc_segment::state::LockState;
+use tc_turn::memory::Memory;
 use tc_turn::status::Status;
 
 /// A checker of one history, which takes its blocks one by one and runs each of them. Once a block
@@ -67,16 +68,18 @@ impl Model for Checker {
         × (length a.of.value.guards ≤ vec_capacity a.states) };
 }
 
-/// The packages of all threads, at their start. They share the code, which is decoded here.
+/// The packages of all threads, at their start. They share the code, which is decoded here, and the
+/// memory with which they begin.
 fn packages_at_start(alloc: Global, image: &Image, terms: Terms) -> Result<Vec<Package>, AllocError>
     ensures fresh { IfOk result (λ v. AreFreshPackages image.now terms.fuel v.items) }
     ensures limits { OnOk result (IsLimited image.now terms.fuel) }
 {
     let threads = image.threads();
     let code = Arc::new(alloc, Code::of(alloc, image)?)?;
+    let first = Arc::new(alloc, Memory::start(alloc, image)?)?;
     let mut packages = Vec::with_capacity(alloc, threads as usize)?;
     for t in 0..threads {
-        let package = Package::start_with(alloc, image, &code, t, terms.fuel)?;
+        let package = Package::start_with(alloc, image, &code, &first, t, terms.fuel)?;
         packages.push_reserved(package);
     }
     Ok(packages)

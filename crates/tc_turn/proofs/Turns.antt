@@ -19,7 +19,7 @@ use Rattle.tc_exec.proofs.Laws.{guard_is_held, put_is_held, unlock_is_held, lock
 use Rattle.tc_journal.specs.Rule.{end_rule}
 use Rattle.tc_journal.specs.declared.rule.Outcome.TheVariants as outcome
 use Rattle.tc_turn.specs.Memory.{number_at, byte_from}
-use Rattle.tc_turn.specs.Turn.{Thread, Mutex, taken_by, next_lock, byte_at, lock_answer, answer_to, act_with, next_act, outcome_of, thread_after, mutex_after, guard_with, when}
+use Rattle.tc_turn.specs.Turn.{Thread, Mutex, taken_by, next_lock, byte_at, lock_answer, answer_to, act_with, next_act, outcome_of, thread_after, mutex_after, guard_with, when, with_own}
 use Rattle.tc_turn.specs.Reads.{Covers}
 
 -- ---- the lock that the next turn takes
@@ -52,6 +52,11 @@ next_known image d k e = (let was = next_some image d k e in (lock_is_free image
 
 pub next_free : (image : Shown) (d : Thread) (k : ℕ) → next_lock image d ≡ Some k → d.held k ≡ false
 next_free image d k e = (let was = next_some image d k e in (lock_is_free image d.held d.regs 0 was.0 k was.1).free)
+
+-- it doesn't depend on the thread's own memory
+pub next_by_own : (image : Shown) (own : ℕ → Option ℕ) (d : Thread) → next_lock image (with_own own d) ≡ next_lock image d
+unfolding next_lock
+next_by_own image own d = refl
 
 -- a turn that takes a lock loads nothing
 pub next_wants : (image : Shown) (d : Thread) (k : ℕ) → next_lock image d ≡ Some k → wants_of image d.held d.regs ≡ want.Nothing

@@ -63,6 +63,10 @@ thread_at_start image fuel t = record {
   held = nothing_held;
 }
 
+-- a thread with another memory
+abbrev pub with_own : (ℕ → Option ℕ) → Thread → Thread
+with_own own d = record { regs = d.regs; own = own; fuel = d.fuel; status = d.status; held = d.held }
+
 -- what stands for a thread that is none
 abbrev pub no_thread : Thread
 no_thread = record { regs = record { pc = 0; words = [] }; own = λ at. None; fuel = 0; status = status.Exited; held = nothing_held }

@@ -1,6 +1,6 @@
 //! A thread's own memory.
 
-ghost use Rattle.std.specs.Prelude.{◌≡◌, true, ◌+◌, ◌≤◌, ◌^◌, ◌<◌, IfOk, OnOk, length, map, unwrap_or};
+ghost use Rattle.std.specs.Prelude.{◌≡◌, true, ◌+◌, ◌≤◌, ◌^◌, ◌<◌, IfOk, OnOk, [], length, map, unwrap_or};
 ghost use Rattle.std.specs.Option.{option_map};
 ghost use Rattle.tc_turn.specs.Parts.{HasAt, part_has, with_piece, AreApart};
 ghost use Rattle.tc_turn.specs.Memory.{IsAccess, number_at, part_with, with_number, own_of, own_at_start, own_bytes, starting_bytes};
@@ -13,7 +13,7 @@ use tc_elf::image::{Image, Region};
 
 /// Bytes from a start on.
 #[derive(Drop)]
-pub(crate) struct Part {
+pub struct Part {
     start: u32,
     bytes: Vec<u8>,
 }
@@ -67,13 +67,23 @@ impl Part {
     {
         are_there(self.start, &self.bytes, start, length)
     }
+
+    /// The same bytes once more.
+    fn copy(&self) -> Result<Part, AllocError>
+        ensures { IfOk result (λ part. part ≡ self.now) }
+    {
+        Ok(Part {
+            start: self.start,
+            bytes: Vec::from_slice(*self.bytes.allocator(), &self.bytes)?,
+        })
+    }
 }
 
 /// The bytes that a thread has for itself: those of the writable ranges outside the guards, and its
 /// stack. They stand in parts, each of the addresses of one place of the image, in the order of
 /// addresses.
 #[derive(Drop)]
-pub(crate) struct Memory {
+pub struct Memory {
     parts: Vec<Part>,
 }
 
@@ -174,10 +184,28 @@ fn push_piece(parts: &mut Vec<Part>, start: u32, bytes: Option<Vec<u8>>) -> Resu
     Ok(())
 }
 
+/// How many bytes there are in these parts.
+fn size_of(parts: &[Part]) -> usize {
+    let mut size: usize = 0;
+    for part in parts {
+        size = size.saturating_add(part.bytes.len());
+    }
+    size
+}
+
 impl Memory {
+    /// A memory without a byte. It takes no memory of the system.
+    pub(crate) fn none(alloc: Global) -> Memory
+        ensures { result ≡ [] }
+    {
+        Memory {
+            parts: Vec::new(alloc),
+        }
+    }
+
     /// The memory of a thread at its start: the bytes of the writable ranges are as the file says,
     /// those of the stack are 0.
-    pub(crate) fn start(alloc: Global, image: &Image) -> Result<Memory, AllocError>
+    pub fn start(alloc: Global, image: &Image) -> Result<Memory, AllocError>
         ensures { IfOk result (λ memory. own_of memory ≡ own_at_start image.now) }
     {
         let mut parts = Vec::new(alloc);
@@ -192,8 +220,24 @@ impl Memory {
         Ok(Memory { parts })
     }
 
+    /// The same memory once more.
+    pub fn copy(&self) -> Result<Memory, AllocError>
+        ensures { IfOk result (λ memory. memory ≡ self.now) }
+    {
+        let alloc = *self.parts.allocator();
+        // Room for all of it is asked for and given back, so that the allocator of a thread of the host,
+        // which has little at first, asks the system once, and not for each part.
+        let room: Vec<u8> = Vec::with_capacity(alloc, size_of(&self.parts))?;
+        drop(room);
+        let mut copies = Vec::with_capacity(alloc, self.parts.len())?;
+        for part in &self.parts {
+            copies.push(part.copy()?)?;
+        }
+        Ok(Memory { parts: copies })
+    }
+
     /// The byte at an address, None exactly where the address is not in this memory.
-    pub(crate) fn byte(&self, addr: u32) -> Option<u8>
+    pub fn byte(&self, addr: u32) -> Option<u8>
         ensures { result ≡ own_of self.now addr }
     {
         byte_in(&self.parts, addr)

@@ -90,6 +90,11 @@ fn numbers_stand_in_little_endian_order(rt: HostRuntime) -> Result<(), Fail> {
     assert_eq!(rt; memory.number(9, 0x7fff_ffff, 1), 4);
     // What is not in the memory counts as 0.
     assert_eq!(rt; memory.number(0, 0x0001_0054, 4), 0);
+    // A copy has the same bytes, and goes its own way.
+    let mut copy = memory.copy()?;
+    copy.put(0, 0x7fff_fffc, 1, 9);
+    assert_eq!(rt; copy.number(0, 0x7fff_fffc, 4), 0x0403_0209);
+    assert!(rt; memory.byte(0x7fff_fffc) == Some(1));
     let mut bytes = starting_bytes(rt.alloc(), &image, 0x10054, 8)?;
     assert_eq!(rt; number_from(0x10054, &bytes, 0x10058, 4), 0x73);
     assert_eq!(rt; number_from(0x10054, &bytes, 0x1005a, 4), 0);

@@ -1,6 +1,6 @@
 //! A guest thread.
 
-ghost use Rattle.std.specs.Prelude.{◌≡◌, ℕ, ◌<◌, IfOk, IfSome, Ok, Err, Some, length, unwrap_or};
+ghost use Rattle.std.specs.Prelude.{◌≡◌, ℕ, ◌<◌, IfOk, IfSome, Ok, Err, Some, [], length, unwrap_or};
 ghost use Rattle.tc_isa.specs.Sets.{has};
 ghost use Rattle.tc_exec.specs.Calls.{answered};
 ghost use Rattle.tc_exec.specs.Next.{IsNextWith, IsWantOf, KnowsCode};
@@ -11,7 +11,7 @@ ghost use Rattle.tc_exec.specs.declared.outcome.Want.TheVariants.{Nothing};
 ghost use Rattle.tc_turn.specs.Ahead.{IsAhead};
 ghost use Rattle.tc_turn.specs.InPlace.{thread_done, faulted_if, DoneFits, HasTurned};
 ghost use Rattle.tc_turn.specs.Memory.{IsAccess, number_at, own_of};
-ghost use Rattle.tc_turn.specs.Turn.{thread_of, thread_at_start, next_lock, act_with, CanAct, PutFits, thread_after, with_end, with_put};
+ghost use Rattle.tc_turn.specs.Turn.{thread_of, thread_at_start, next_lock, act_with, CanAct, PutFits, thread_after, with_end, with_own, with_put};
 
 use crate::memory::Memory;
 use crate::status::Status;
@@ -55,16 +55,34 @@ impl GuestThread {
         requires { t < length image.now.entries }
         ensures { IfOk result (λ g. thread_of g ≡ thread_at_start image.now fuel t) }
     {
+        let mut thread = GuestThread::bare(alloc, image, fuel, t);
+        thread.give(Memory::start(alloc, image)?);
+        Ok(thread)
+    }
+
+    /// The thread of this number at its start, but for its own memory, which has no byte yet. It
+    /// takes no memory of the system.
+    pub fn bare(alloc: Global, image: &Image, fuel: u32, t: u32) -> GuestThread
+        requires { t < length image.now.entries }
+        ensures { thread_of result ≡ with_own (own_of []) (thread_at_start image.now fuel t) }
+    {
         let (address, argument) = image.entry(t);
-        Ok(GuestThread {
+        GuestThread {
             regs: Regs::start(address, argument, t),
-            own: Memory::start(alloc, image)?,
+            own: Memory::none(alloc),
             fuel,
             status: Status::Running,
             held: Held::none(),
             near: 0,
             part: 0,
-        })
+        }
+    }
+
+    /// Gives it this memory in the place of the one that it has.
+    pub fn give(&mut self, own: Memory)
+        ensures { self.new ≡ record self.old { own = own } }
+    {
+        self.own = own;
     }
 
     /// The registers.

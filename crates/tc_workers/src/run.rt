@@ -27,7 +27,7 @@ use tc_ready::Ready;
 
 // The most offers that there is room for. A deque uses each of its places once, and writes all of
 // them when it is made, before the run begins.
-const MAX_OFFERS: u32 = 1_024;
+const MAX_OFFERS: u32 = 256;
 
 // For how many offers a worker gets room: for one for each section that the threads can have, since
 // it makes at most one for each, but no more than MAX_OFFERS. A thread that is not offered for want
@@ -36,8 +36,8 @@ fn room_of(threads: u32, fuel: u32) -> u32
     requires threads { (1 ≤ threads) × (threads ≤ MAX_THREADS) }
     requires fuel { fuel ≤ MAX_FUEL }
     ensures enough { (sections : ℕ) → CanHave fuel sections
-        → min (threads * sections) 1024 ≤ result }
-    ensures few { result ≤ 1024 }
+        → min (threads * sections) 256 ≤ result }
+    ensures few { result ≤ 256 }
     ensures least { 1 ≤ result }
 {
     (threads * (fuel / 2 + 2)).min(MAX_OFFERS)

@@ -25,6 +25,7 @@ invariant_of-self c =
       present = set_with c.args.lock.number _ c.args.lock p.context.locks _ c.deref_mut-contents.result.now.present _ n c.put_in.ensures.locks c.plus-contents.ensures.each s.kept.present;
       pending = s.kept.pending;
       log = s.kept.log;
+      own = s.kept.own;
     }
 
 pub returns-clause-numbers : goal.returns-clause-numbers

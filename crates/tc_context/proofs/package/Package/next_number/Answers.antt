@@ -16,4 +16,5 @@ invariant_of-self c =
       present = s.kept.present;
       pending = s.kept.pending;
       log = s.kept.log;
+      own = s.kept.own;
     }

@@ -38,6 +38,7 @@ invariant_of-self c =
       present = λ k. changed_set _ p.context.locks c.seal.new.self c.seal.ensures k ∙ s.kept.present k;
       pending = refl;
       log = (let h = s.kept.log in omega (arith, last.len, last.capacity));
+      own = λ room. s.kept.own (omega (arith, room, last.len, last.capacity));
     }
 
 pub returns : goal.returns

@@ -1,5 +1,9 @@
 use Rattle.std.proofs.Common.{refl, arith, ap, subst, sym, ◌∙◌, ◌≡◌, ◌==◌, None, Some, is_some}
 use Rattle.std.proofs.lemmas.Nat.Bits.{bit_at-zero}
+use Rattle.std.specs.Arc.{arc_value}
+use Rattle.tc_turn.specs.Memory.{own_of}
+use Rattle.tc_turn.specs.Turn.{thread_at_start, with_own}
+use Rattle.tc_turn.proofs.Turns.{next_by_own}
 use Rattle.tc_context.proofs.Vocabulary.{has, next_lock, thread_in, KeptPackage}
 use Rattle.tc_context.proofs.Staging.{fresh_sound}
 use Rattle.tc_context.proofs.package.Package.start_with.Goals as goal
@@ -9,7 +13,8 @@ invariant_of-result c = subst KeptPackage (sym c.in_ok-new.ensures.ok) (record {
   sound = fresh_sound c.args.image.now c.args.t c.args.fuel _ (record {
     image_is = c.of.ensures;
     number = c.in_ok-context.ensures.number;
-    thread = c.in_ok-context.ensures.thread;
+    thread = ap (with_own (own_of (arc_value c.in_ok-first.first))) c.in_ok-context.ensures.thread
+        ∙ ap (λ own. with_own own (thread_at_start c.args.image.now c.args.fuel c.args.t)) (ap own_of c.in_ok-first.ensures.cases ∙ c.requires.first);
     locks = c.in_ok-context.ensures.locks;
     granted = refl;
     pending = refl;
@@ -19,11 +24,13 @@ invariant_of-result c = subst KeptPackage (sym c.in_ok-new.ensures.ok) (record {
     turns = refl;
     slept = refl;
   }) c.requires.thread (omega (arith, c.guards.ensures.value, c.guards.ensures.bound)) c.in_ok-context.ensures.places refl;
-  next = c.next_lock.ensures ∙ ap (λ x. next_lock x (thread_in c.in_ok-context.context)) (sym c.of.ensures);
+  next = c.next_lock.ensures ∙ ap (λ x. next_lock x (thread_in c.in_ok-context.context)) (sym c.of.ensures)
+      ∙ sym (next_by_own _ (own_of (arc_value c.in_ok-first.first)) (thread_in c.in_ok-context.context));
   present = λ k. ap is_some (c.in_ok-context.ensures.locks k) ∙ sym (ap (λ n. has n k) c.none.ensures ∙ ap (λ b. b == 1) (bit_at-zero k));
-  code = c.in_ok-clone.ensures.cases ∙ c.requires.code ∙ sym c.of.ensures;
+  code = c.in_ok-code.ensures.cases ∙ c.requires.code ∙ sym c.of.ensures;
   pending = refl;
   ended = λ k l found h. absurd (let f : None ≡ Some l = sym (c.in_ok-context.ensures.locks k) ∙ found in cc);
   edge = λ no. absurd (cc);
   log = omega (arith, c.new.ensures.len, c.new.ensures.capacity);
+  own = λ room. absurd (omega (arith, room, c.new.ensures.len, c.new.ensures.capacity));
 })

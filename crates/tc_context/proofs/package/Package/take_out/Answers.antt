@@ -27,6 +27,7 @@ invariant_of-self c =
       present = set_without c.args.lock p.context.locks _ c.deref_mut-contents.result.now.present _ c.take_out.ensures.left c.less-contents.ensures.each s.kept.present;
       pending = s.kept.pending;
       log = s.kept.log;
+      own = s.kept.own;
     }
 
 pub returns-clause-rest : goal.returns-clause-rest
