@@ -212,10 +212,11 @@ class Several(Case):
         table, told = rows(done)
         self.assertEqual(table[0], ["Guest", "Seconds: 1 worker", "2 workers", "Processor: 1 worker", "2 workers",
                                     "Seconds, 2 workers to 1 worker", "Processor, 2 workers to 1 worker",
-                                    "Clock, 2 workers to 1 worker", "Loop, 2 workers to 1 worker", "Rounds"])
-        self.assertEqual([(row[0], len(row), row[9]) for row in table[2:]],
-                         [("hot-lock", 10, "1 of 1"), ("own-locks", 10, "1 of 1")])
-        self.assertEqual([[bool(cell) for cell in row[7:9]] for row in table[2:]], [[bool(shutil.which("cc"))] * 2] * 2)
+                                    "Clock, 2 workers to 1 worker", "Loop, 2 workers to 1 worker",
+                                    "Shared loop, 2 workers to 1 worker", "Rounds"])
+        self.assertEqual([(row[0], len(row), row[10]) for row in table[2:]],
+                         [("hot-lock", 11, "1 of 1"), ("own-locks", 11, "1 of 1")])
+        self.assertEqual([[bool(cell) for cell in row[7:10]] for row in table[2:]], [[bool(shutil.which("cc"))] * 3] * 2)
         self.assertEqual(len(told), 1)
 
     @unittest.skipUnless(shutil.which("cc"), "there is no C compiler")
@@ -225,7 +226,7 @@ class Several(Case):
         words = "-p", made_up, "-r", "1", "-f", "20", "-w", "1,2", "hot-lock"
         done = bench("-q", "1000", *words, script=BENCH / "several")
         self.assertEqual((done.returncode, done.stderr), (0, b""), done.stdout)
-        self.assertEqual([row[9] for row in rows(done)[0][2:]], ["1 of 1"])
+        self.assertEqual([row[10] for row in rows(done)[0][2:]], ["1 of 1"])
         # No two threads take less time than one.
         done = bench("-q", "0.01", *words, script=BENCH / "several")
         self.assertEqual((done.returncode, done.stderr), (2, b"bench/several: hot-lock: the processors were not free in one of 30 rounds\n"))
