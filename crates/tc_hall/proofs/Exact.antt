@@ -25,7 +25,7 @@ set_word P ws i n j below was now = dite (ℕ_discrete j i)
     (λ (ne : j ≢ i). subst P (sym (get_or-set_other ws i j n 0 (λ e. ne (omega arith)))) was)
 
 module _ (k : Terms) where
-  -- a word at the start of a pair of cache lines is set
+  -- a word at the start of two pairs of cache lines is set
   word_set : (ws : List ℕ) (i n line : ℕ) → i ≡ LINE * line → AreExact k ws → ((t : ℕ) → t < threads k → i ≡ slot_word t → IsThreadWord k n) → ((l : ℕ) → l < locks k → i ≡ slot_word (threads k + l) → n ≤ 1) → (i ≡ STOP → n ≤ 1) → AreExact k (set ws i n)
   word_set ws i n line starts exact for_thread for_lock for_stop = record {
     count = length-set ws i n ∙ exact.count;

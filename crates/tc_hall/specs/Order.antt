@@ -203,7 +203,7 @@ pub record AreExact (k : Terms) (words : List ℕ) : Type 0 where
   pub of_threads : (t : ℕ) → t < threads k → IsThreadWord k (slice_index words (slot_word t))
   pub of_locks : (i : ℕ) → i < locks k → slice_index words (slot_word (threads k + i)) ≤ 1
   pub of_stop : slice_index words STOP ≤ 1
-  -- no step is on a word that doesn't start a pair of cache lines
+  -- no step is on a word that doesn't start two pairs of cache lines
   pub between : (word : ℕ) → word < length words → word % LINE ≢ 0 → slice_index words word ≡ 0
 
 -- between any two operations the rules of places, words and history hold

@@ -7,7 +7,7 @@ use Rattle.tc_hall.specs.declared.place.Place.TheVariants.{Ready, Parked, Done, 
 use Rattle.tc_hall.specs.declared.place.Origin.{Origin}
 use Rattle.tc_hall.specs.declared.place.Origin.TheVariants as origin
 
--- the word of a slot, after those of the clock and the stop, each at the start of a pair of cache lines; that of the slot
+-- the word of a slot, after those of the clock and the stop, each at the start of two pairs of cache lines; that of the slot
 -- after the last is the number of words
 abbrev pub slot_word : ℕ → ℕ
 slot_word slot = LINE * (slot + 2)

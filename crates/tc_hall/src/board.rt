@@ -2,10 +2,11 @@
 //!
 //! Slot t is for the package of thread t, and slot threads + i for the state of lock i. One word is
 //! the clock, one the stop, and each slot has a word: that of thread t shows where the thread is,
-//! and that of lock i whether the lock is out. Each of these words and each slot stands in a pair of
-//! cache lines of its own, since processors fetch lines in pairs: so workers that write different
-//! words or fill different slots don't take lines from one another. The words between them are 0,
-//! and no step is on them.
+//! and that of lock i whether the lock is out. Each slot stands in a pair of cache lines of its own,
+//! since processors fetch lines in pairs, and each of these words in two pairs, since they fetch the
+//! next pair too where words are used in a row: so workers that write different words or fill
+//! different slots don't take lines from one another. The words between them are 0, and no step is
+//! on them.
 
 ghost use Rattle.std.specs.Prelude.{◌≡◌, None, Some};
 ghost use Rattle.tc_hall.specs.Places.{slot_word};
@@ -22,8 +23,8 @@ use tc_elf::image::Image;
 use tc_journal::block::{Block, Kind};
 use tc_segment::state::LockState;
 
-/// The words of 8 bytes in a pair of cache lines of 64.
-pub const LINE: usize = 16;
+/// The words of 8 bytes in two pairs of cache lines of 64.
+pub const LINE: usize = 32;
 
 /// The word of the clock.
 pub const CLOCK: usize = 0;

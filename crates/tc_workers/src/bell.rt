@@ -21,6 +21,8 @@ const YIELDS: u32 = 100_000;
 pub(crate) struct Bell {
     strokes: AtomicU64,
     workers: u64,
+    // How many workers have begun and not ended, and don't sleep at it.
+    up: AtomicU64,
 }
 
 impl Bell {
@@ -29,7 +31,13 @@ impl Bell {
         Bell {
             strokes: AtomicU64::new(0),
             workers,
+            up: AtomicU64::new(0),
         }
+    }
+
+    /// How many workers are up.
+    pub(crate) fn are_up(&self) -> u64 {
+        self.up.load(Ordering::SeqCst)
     }
 
     // Whether one still has to wait for others to begin.
@@ -78,7 +86,9 @@ impl Bell {
 
     /// Sleeps until the bell is rung, so long at most.
     pub(crate) fn sleep<R: Wait>(&self, rt: &R, longest: Duration) {
+        self.up.fetch_sub(1, Ordering::SeqCst);
         self.sleep_behind(rt, self.strokes.load(Ordering::SeqCst), longest);
+        self.up.fetch_add(1, Ordering::SeqCst);
     }
 
     /// The worker begins, and waits until all have, some milliseconds at most. The first one to begin
@@ -86,6 +96,7 @@ impl Bell {
     /// waited in vain, since the host gives too few threads, lets all others go, and those that begin
     /// later.
     pub(crate) fn wait<R: Wait>(&self, rt: &R) {
+        self.up.fetch_add(1, Ordering::SeqCst);
         let have_begun = match self.ring(1) {
             0 => self.sleep_for_others(rt),
             _ => self.yield_for_others(),
@@ -93,5 +104,11 @@ impl Bell {
         if !have_begun {
             self.ring(self.workers);
         }
+    }
+
+    /// The worker ends. Whoever sleeps looks again.
+    pub(crate) fn leave(&self) {
+        self.up.fetch_sub(1, Ordering::SeqCst);
+        self.ring(1);
     }
 }

@@ -79,7 +79,7 @@ fn serve<R: Wait, G: Gate, Q: Waiters>(
 {
     bell.wait(rt);
     let finished = work(rt, bench, gate, bell, worker);
-    bell.ring(1);
+    bell.leave();
     finished
 }
 

@@ -96,15 +96,21 @@ fn idle<Q: Waiters>(bench: &Bench<'_, Q>, rests: &mut Rests<'_>, desk: &mut Desk
 }
 
 // The thread that the worker tries next, and where: a sleeper that is due, else one that is ready.
-fn choose<Q: Waiters>(bench: &Bench<'_, Q>, worker: &mut Worker<Q>) -> Option<(u32, Origin)>
+fn choose<Q: Waiters>(
+    bench: &Bench<'_, Q>,
+    rests: &mut Rests<'_>,
+    worker: &mut Worker<Q>,
+) -> Option<(u32, Origin)>
     requires { MaySearch bench.now worker.old }
     ensures { Chooses bench.now worker.old worker.new result }
 {
     let now = worker.desk.now();
     if let Some(t) = worker.desk.sleepers().due(now) {
+        rests.found_sleeper();
         return Some((t, Origin::Parked));
     }
     let t = worker.ready.next(bench.hall, worker.desk.pass())?;
+    rests.found_ready();
     Some((t, Origin::Ready))
 }
 
@@ -119,7 +125,7 @@ fn seek<G: Gate, Q: Waiters>(
     ensures steps { WorkerSteps bench.now worker.old worker.new result }
     ensures search { IsSearch (threads bench.now.hall.terms) worker.old worker.new result }
 {
-    match choose(bench, worker) {
+    match choose(bench, rests, worker) {
         None => idle(bench, rests, &mut worker.desk),
         Some((t, from)) => claim(bench, gate, &mut worker.desk, t, from),
     }

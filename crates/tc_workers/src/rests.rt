@@ -14,10 +14,19 @@ const SHORTEST: u64 = 25;
 
 const LONGEST: u64 = 1_600;
 
-/// The rests of a worker. At first it spins, or gives its processor away; then it sleeps, each time
-/// twice as long, so that it leaves the others alone, but never for two milliseconds. Nobody
-/// waits for a worker that rests: whoever makes a thread ready goes on with it, if no other does.
-/// They have no meaning, so every contract holds whatever they are.
+// Behind so many threads in a row that have slept a worker may take a recess.
+const ROW: u64 = 1_024;
+
+// It takes one if more than so many workers are up.
+const FEW: u64 = 2;
+
+/// The rests of a worker. Where it finds nothing, it spins at first, or gives its processor away; then
+/// it sleeps, each time twice as long, so that it leaves the others alone, but never for two
+/// milliseconds. Where it finds nothing but threads that have slept, it takes a recess now and then,
+/// if others are up: such threads mostly wait for what others do, and with blocks as short as theirs
+/// workers take the clock from one another more than they do else. Nobody waits for a worker that
+/// rests: whoever makes a thread ready goes on with it, if no other does. They have no meaning, so
+/// every contract holds whatever they are.
 #[derive(Drop)]
 pub(crate) struct Rests<'a> {
     bell: &'a Bell,
@@ -28,6 +37,8 @@ pub(crate) struct Rests<'a> {
     rested: u64,
     // Whether a rest was asked for.
     asked: bool,
+    // How many threads that have slept are still missing to a row. At 0 the rest asked for is a recess.
+    missing: u64,
 }
 
 impl<'a> Rests<'a> {
@@ -39,12 +50,43 @@ impl<'a> Rests<'a> {
             next: SHORTEST,
             rested: 0,
             asked: false,
+            missing: ROW,
         }
     }
 
     /// The worker has found nothing: it rests before its next step.
     pub(crate) fn ask(&mut self) {
         self.asked = true;
+    }
+
+    /// The worker has found a thread that was ready.
+    pub(crate) fn found_ready(&mut self) {
+        self.missing = ROW;
+    }
+
+    /// The worker has found a thread that has slept. With the last one of a row it may ask for a recess.
+    pub(crate) fn found_sleeper(&mut self) {
+        self.missing = self.missing.wrapping_sub(1);
+        if self.missing == 0 {
+            self.end_row();
+        }
+    }
+
+    // Asks for a recess, or begins the next row. Few threads end a row: those that do pay for a call.
+    #[inline(never)]
+    fn end_row(&mut self) {
+        if self.bell.are_up() > FEW {
+            self.ask();
+        } else {
+            self.missing = ROW;
+        }
+    }
+
+    // Takes a recess, and begins the next row.
+    fn recess<R: Wait>(&mut self, rt: &R) {
+        self.bell.sleep(rt, Duration::from_micros(LONGEST));
+        self.asked = false;
+        self.missing = ROW;
     }
 
     /// Whether a rest was asked for. A worker asks first, so that a step that needs no rest makes no
@@ -63,8 +105,12 @@ impl<'a> Rests<'a> {
         self.asked = false;
     }
 
-    /// Rests, longer than the last time where little was done since. The worker's clock stands at now.
+    /// Rests, longer than the last time where little was done since, or takes a recess. The
+    /// worker's clock stands at now.
     pub(crate) fn rest<R: Wait>(&mut self, rt: &R, now: u64) {
+        if self.missing == 0 {
+            return self.recess(rt);
+        }
         self.begin(now);
         if !self.pause.is_completed() {
             return self.pause.snooze();

@@ -26,6 +26,9 @@ const COUNT: [u32; 15] = [
 /// A sleep for the most blocks that a thread can sleep, and an exit.
 const LONG_SLEEP: [u32; 5] = [0x0ff00513, 0x00300893, 0x00000073, 0x05d00893, 0x00000073];
 
+/// A sleep, again and again.
+const SLEEPS: [u32; 4] = [0x00000513, 0x00300893, 0x00000073, 0xffdff06f];
+
 /// A gate that counts the blocks that workers commit.
 #[derive(Drop)]
 struct Counting {
@@ -114,6 +117,40 @@ fn a_long_sleep_ends(rt: HostRuntime) -> Result<(), Fail> {
     assert_eq!(rt; closed.packages().len(), 2);
     for package in closed.packages() {
         assert!(rt; package.status() == Status::Exited);
+    }
+    Ok(())
+}
+
+/// Runs eight threads of SLEEPS by so many workers: a block of three turns, some of two, and one that
+/// finds no fuel.
+fn sleep_out<R: Abort + Threads + Wait + Sync>(
+    rt: &R,
+    alloc: Global,
+    workers: u32,
+) -> Result<(), Fail>
+    requires { (1 ≤ workers) × (workers ≤ MAX_WORKERS) }
+{
+    let file = build(alloc, &SLEEPS, &[(0x00100000, 0); 8], &[], &[])?;
+    let image = load(alloc, &file)?;
+    let options = Options {
+        workers,
+        fuel: 8_191,
+        limit: 8,
+    };
+    let closed = run_all(rt, alloc, &image, options, &Open)?;
+    assert_eq!(rt; closed.packages().len(), 8);
+    for package in closed.packages() {
+        assert!(rt; package.status() == Status::SpentFuel);
+        assert_eq!(rt; package.log().len(), 4_096);
+    }
+    Ok(())
+}
+
+/// Workers take recesses where they find nothing but threads that have slept, and finish them.
+#[test]
+fn workers_finish_threads_that_only_sleep(rt: HostRuntime) -> Result<(), Fail> {
+    for workers in 1..9 {
+        sleep_out(&rt, rt.alloc(), workers)?;
     }
     Ok(())
 }

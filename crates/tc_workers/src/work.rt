@@ -47,7 +47,7 @@ fn begin_step<G: Gate, Q: Waiters>(
 }
 
 // Begins a step. Where it finds a package, that is a whole step, and the next one is begun with it at
-// once: so most steps cost no turn of the worker's loop.
+// once, unless a rest was asked for: so most steps cost no turn of the worker's loop.
 fn begin<G: Gate, Q: Waiters>(
     bench: &Bench<'_, Q>,
     gate: &G,
@@ -60,7 +60,12 @@ fn begin<G: Gate, Q: Waiters>(
 {
     match begin_step(bench, gate, rests, worker, hand) {
         Ok(package) => Ok(package),
-        Err(Step::On(Some(package))) => begin_step(bench, gate, rests, worker, Some(package)),
+        Err(Step::On(Some(package))) => {
+            if rests.are_asked() {
+                return Err(Step::On(Some(package)));
+            }
+            begin_step(bench, gate, rests, worker, Some(package))
+        }
         Err(Step::On(None)) => Err(Step::On(None)),
         Err(step) => Err(step),
     }

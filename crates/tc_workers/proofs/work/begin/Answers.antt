@@ -14,8 +14,16 @@ use Rattle.tc_workers.proofs.work.begin.Goals as goal
 alone : {Q S P : Type 0} (b : BenchView) (hand : Option PackageView) (x z : Worker Q S P) (r : Result PackageView Step) → MatchResult r (λ p. WorkerSteps b x z (On (Some p))) (λ s. WorkerSteps b x z s) → MatchResult r (λ p. HasBegun hand p x z) (λ s. TakesStep b hand x z s) → Begins b hand x z r
 alone b hand x z r steps takes = record { at = hand; y = x; still = still_same x.desk.pass; ready = refl; first = inl (refl, refl); steps = steps; takes = takes }
 
-pub returns-in-Err-On-Some : goal.returns-in-Err-On-Some
-returns-in-Err-On-Some g c =
+pub returns-then-are_asked : goal.returns-then-are_asked
+returns-then-are_asked g c =
+    let b = c.args.bench.now in
+    let x = c.args.worker.now in
+    let y = c.begin_step.new.worker in
+    let is : c.in-Err-On-Some.field-0 ≡ On (Some c.in-Err-On-Some.package) = c.in-Err-On-Some.field-0-is ∙ ap On c.in-Err-On-Some.field-0-0-is in
+    alone b c.args.hand x y (Err (On (Some c.in-Err-On-Some.package))) (subst (λ (s : Step). WorkerSteps b x y s) is c.in-Err-On-Some.ensures.steps) (subst (λ (s : Step). TakesStep b c.args.hand x y s) is c.in-Err-On-Some.ensures.takes)
+
+pub returns-else-are_asked : goal.returns-else-are_asked
+returns-else-are_asked g c =
     let b = c.args.bench.now in
     let x = c.args.worker.now in
     let y = c.begin_step.new.worker in
