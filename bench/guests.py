@@ -95,6 +95,30 @@ def sleeps():
     return elf(call(limits.SLEEP, 0)[:2] + for_ever([encode("ecall")]), 0)
 
 
+def mailboxes(sections=1500):
+    """Each thread but the first looks into its own guard, again and again, and sleeps in between, until it finds a word
+    there; the first one posts these words, behind so many sections of its own lock, each with some arithmetic before it."""
+    number, box, left, other, found, one = 9, 8, 20, 21, 5, 23
+    base = [encode("addi", number, 10, 0), encode("slli", box, number, 6), encode("lui", 7, DATA), encode("add", box, 7, box)]
+
+    def take_or_give(called, register):
+        return [encode("addi", 10, register, 0), *call(called, 0)[1:]]
+
+    def again(body, compared):
+        return body + [encode("bne", *compared, -4 * len(body))]
+
+    sleep, leave = call(limits.SLEEP, 0), call(limits.EXIT, 0)
+    look = take_or_give(limits.LOCK, number) + [encode("lw", found, box, 0)] + take_or_give(limits.UNLOCK, number)
+    wait = look + [encode("bne", found, 0, 4 * (len(sleep) + 2))] + sleep
+    wait += [encode("jal", 0, -4 * len(wait))] + leave
+    work = 8 * [encode("addi", 12, 12, 1), encode("xor", 13, 13, 12)] + lock(0) + add_one(box) + unlock(0)
+    work = [encode("addi", left, 0, sections)] + again(work + [encode("addi", left, left, -1)], (left, 0))
+    post = take_or_give(limits.LOCK, other) + [encode("addi", box, box, GUARD_BYTES), encode("sw", one, box, 0)]
+    post = again(post + take_or_give(limits.UNLOCK, other) + [encode("addi", other, other, 1)], (other, 24))
+    post = [encode("addi", other, 0, 1), encode("addi", one, 0, 1), encode("addi", 24, 0, THREADS)] + post + leave
+    return elf(base + [encode("beq", number, 0, 4 * (1 + len(wait)))] + wait + work + post, THREADS)
+
+
 def shortest_blocks(threads=THREADS, guards=16):
     """The last four locks are taken and kept; then SLEEP after SLEEP, each a block of one turn with a long line."""
     taken = [one for number in range(guards - 4, guards) for one in lock(number)]
@@ -129,7 +153,8 @@ def many_ranges():
 
 
 GUESTS = {guest.__name__.replace("_", "-"): guest for guest in (
-    arithmetic, memory, hot_lock, own_locks, nested_locks, sleeps, shortest_blocks, longest_history, many_ranges)}
+    arithmetic, memory, hot_lock, own_locks, nested_locks, sleeps, mailboxes, shortest_blocks, longest_history,
+    many_ranges)}
 GUESTS.update({f"{size}-image": functools.partial(image, kibibytes)
                for size, kibibytes in (("quarter", 240), ("half", 480), ("large", 960))})
 

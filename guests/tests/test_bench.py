@@ -218,6 +218,16 @@ class Several(Case):
                          [("hot-lock", 11, "1 of 1"), ("own-locks", 11, "1 of 1")])
         self.assertEqual([[bool(cell) for cell in row[7:10]] for row in table[2:]], [[bool(shutil.which("cc"))] * 3] * 2)
         self.assertEqual(len(told), 1)
+        self.assertIn("least of 1, 2 workers to 1 worker", told[0])
+
+    def test_medians(self):
+        made_up = saved("median-program", MADE_UP)
+        pathlib.Path(made_up).chmod(0o755)
+        done = bench("-m", "-p", made_up, "-r", "3", "-f", "20", "-w", "1,2", "hot-lock", script=BENCH / "several")
+        self.assertEqual((done.returncode, done.stderr), (0, b""), done.stdout)
+        table, told = rows(done)
+        self.assertEqual([(row[0], row[10]) for row in table[2:]], [("hot-lock", "3 of 3")])
+        self.assertIn("median of 3, 2 workers to 1 worker", told[0])
 
     @unittest.skipUnless(shutil.which("cc"), "there is no C compiler")
     def test_rounds_in_which_processors_were_free(self):
