@@ -230,6 +230,14 @@ class Several(Case):
         self.assertIn("median of 3, 2 workers to 1 worker", told[0])
 
     @unittest.skipUnless(shutil.which("cc"), "there is no C compiler")
+    def test_runs_in_company(self):
+        made_up = saved("even-program", MADE_UP)
+        pathlib.Path(made_up).chmod(0o755)
+        done = bench("-e", "-p", made_up, "-r", "1", "-f", "20", "-w", "1,3", "hot-lock", script=BENCH / "several")
+        self.assertEqual((done.returncode, done.stderr), (0, b""), done.stdout)
+        self.assertEqual([row[10] for row in rows(done)[0][2:]], ["1 of 1"])
+
+    @unittest.skipUnless(shutil.which("cc"), "there is no C compiler")
     def test_rounds_in_which_processors_were_free(self):
         made_up = saved("quiet-program", MADE_UP)
         pathlib.Path(made_up).chmod(0o755)

@@ -1,7 +1,4 @@
-pub mod Numbered
-pub mod Ranges
 pub mod Merging
-pub mod Outcomes
 pub mod Reporting
 pub mod OneReading
 pub mod SameAsked
@@ -10,6 +7,3 @@ pub mod Replaying
 pub mod Statuses
 pub mod NodeRows
 pub mod Spelled
-pub mod Writing
-pub mod Chunks
-pub mod Sets

@@ -22,8 +22,8 @@ use Rattle.tc_context.specs.View.{PackageView, bare}
 use Rattle.tc_law.specs.Lawful.{Lawful}
 use Rattle.tc_mutex_spec.proofs.ListLaws.{below_or, there, at_place, same_list}
 use Rattle.tc_mutex_spec.proofs.Histories.{stamp_at, thread_at}
-use Rattle.tc_main.specs.Outcome.{log_in, logs_of}
-use Rattle.tc_main.proofs.Ranges.{by_number}
+use Rattle.tc_report.specs.Outcome.{log_in, logs_of}
+use Rattle.tc_report.proofs.Ranges.{by_number}
 
 -- ---- lists in parts
 

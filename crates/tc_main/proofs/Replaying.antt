@@ -23,8 +23,8 @@ use Rattle.tc_replay.specs.declared.reason.Reason.{Reason}
 use Rattle.tc_replay.specs.declared.reason.Rejected.{Rejected}
 use Rattle.tc_replay.proofs.Telling.{accepted_run}
 use Rattle.tc_workers.specs.declared.options.Options.{Options}
-use Rattle.tc_main.specs.Legal.{results_after}
-use Rattle.tc_main.specs.Report.{head_text, report_text, tail_text}
+use Rattle.tc_report.specs.Legal.{results_after}
+use Rattle.tc_report.specs.Report.{head_text, report_text, tail_text}
 use Rattle.tc_main.specs.Replayed.{terms_of}
 use Rattle.tc_main.specs.Top.{Rejects, Verdict, refused_line, rejected_line}
 use Rattle.tc_main.specs.Words.{AskFor, FitsInput, Input, Reads, file_and_history, history_asked, input_of, whole_file}
@@ -39,7 +39,7 @@ use Rattle.tc_main.specs.declared.wrong.Wrong.{Wrong}
 use Rattle.tc_main.specs.declared.wrong.Wrong.TheVariants.{Short, File, History, OutOfMemory}
 use Rattle.tc_main.specs.Accepted.{CanAllBeAdded}
 use Rattle.tc_main.proofs.Addable.{addable}
-use Rattle.tc_main.proofs.Outcomes.{outcome, told}
+use Rattle.tc_report.proofs.Outcomes.{outcome, told}
 
 -- ---- what is wrong
 

@@ -12,12 +12,12 @@ use Rattle.tc_law.specs.Lawful.{Lawful, AreStrict}
 use Rattle.tc_hall.specs.PassView.{ClosedView}
 use Rattle.tc_workers.specs.Run.{IsWholeRun}
 use Rattle.tc_workers.specs.declared.options.Options.{Options}
-use Rattle.tc_main.specs.Legal.{IsLegalRun, results_after}
-use Rattle.tc_main.specs.Outcome.{IsOutcome, logs_of}
-use Rattle.tc_main.specs.Report.{head_text, tail_text}
+use Rattle.tc_report.specs.Legal.{IsLegalRun, results_after}
+use Rattle.tc_report.specs.Outcome.{IsOutcome, logs_of}
+use Rattle.tc_report.specs.Report.{head_text, tail_text}
 use Rattle.tc_main.specs.Top.{IsReportOf}
 use Rattle.tc_main.proofs.Merging.{each_stamp, merged}
-use Rattle.tc_main.proofs.Outcomes.{outcome, legal, told}
+use Rattle.tc_report.proofs.Outcomes.{outcome, legal, told}
 
 module _ (image : Shown) (o : Options) (closed : ClosedView) (run : IsWholeRun image o closed) (packages : List PackageView) (states : List LockView) (all : packages ≡ closed.packages) (all_states : states ≡ closed.locks) where
   law : Lawful image o.fuel o.limit run.history (map bare packages) (map kept states)

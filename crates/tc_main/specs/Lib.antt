@@ -1,13 +1,7 @@
 pub mod Statuses
 pub mod Orders
 pub mod Words
-pub mod Results
-pub mod Report
-pub mod Pieces
-pub mod Summary
-pub mod Legal
 pub mod Replayed
-pub mod Outcome
 pub mod Top
 pub mod Wrong
 pub mod Accepted

@@ -1,5 +1,5 @@
 -- What the program answers and writes.
-use Rattle.std.specs.Prelude.{◌≡◌, ◌≢◌, ℕ, ◌+◌, ◌<◌, ◌≤◌, ◌⊎◌, List, [], ◌∷◌, ◌++◌, length, Option, None, Some, Result, Ok, Err, codes, decimal}
+use Rattle.std.specs.Prelude.{◌≡◌, ◌≢◌, ℕ, ◌+◌, ◌<◌, ◌≤◌, ◌⊎◌, List, [], ◌∷◌, ◌++◌, length, Option, None, Some, codes, decimal}
 use Rattle.tc_io.specs.Causes.{Rose}
 use Rattle.tc_io.specs.Stream.{Stream}
 use Rattle.tc_io.specs.Taken.{FailsAmid, Gives, TakesAll, TakesCount}
@@ -12,11 +12,11 @@ use Rattle.tc_build.specs.Generator.{generated, generated_file}
 use Rattle.tc_profile.specs.Text.{profile_text}
 use Rattle.tc_replay.specs.Reasons.{reason_number, reason_name}
 use Rattle.tc_replay.specs.declared.reason.Rejected.{Rejected as Rejection}
-use Rattle.tc_main.specs.Legal.{IsLegalRun, results_after}
+use Rattle.tc_report.specs.Legal.{IsLegalRun, results_after}
 use Rattle.tc_main.specs.Replayed.{HasRun, IsRejection}
-use Rattle.tc_main.specs.Report.{report_text}
-use Rattle.tc_main.specs.Results.{Results}
-use Rattle.tc_main.specs.Summary.{summary_text}
+use Rattle.tc_report.specs.Report.{report_text}
+use Rattle.tc_report.specs.Results.{Results}
+use Rattle.tc_report.specs.Summary.{summary_text}
 use Rattle.tc_main.specs.Words.{Input, AskFor, AskForNothing, AskToRead, Reads, history_asked, input_of}
 use Rattle.tc_workers.specs.declared.options.Options.{Options}
 use Rattle.tc_main.specs.declared.status.Status.{Status}
@@ -194,11 +194,6 @@ MustRefuse words before now (Rejected r) =
 -- the text was written whole, or a front of it before the sink failed
 abbrev pub Writes : Stream → Stream → List ℕ → Type 0
 Writes had has text = Gives had has text ⊎ FailsAmid had has text
-
--- how writing the text went: it was written whole, or a front of it before the sink failed
-abbrev pub Wrote : {E : Type 0} → Stream → Stream → List ℕ → Result (Unit {0}) E → Type 0
-Wrote had has text (Ok done) = Gives had has text
-Wrote had has text (Err failed) = FailsAmid had has text
 
 abbrev pub WritesNothing : Stream → Stream → Type 0
 WritesNothing had has = Gives had has []

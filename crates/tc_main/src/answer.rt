@@ -2,7 +2,8 @@
 
 ghost use Rattle.std.specs.Prelude.{◌≡◌, ℕ, List, IfOk, IfErr, None, OnErr, option_map};
 ghost use Rattle.tc_main.specs.Wrong.{IsWrong};
-ghost use Rattle.tc_main.specs.Top.{Comes, IsTextOf, Verdict, Wrote, refused_line, rejected_line, usage_line};
+ghost use Rattle.tc_main.specs.Top.{Comes, IsTextOf, Verdict, refused_line, rejected_line, usage_line};
+ghost use Rattle.tc_report.specs.Written.{Wrote};
 ghost use Rattle.tc_main.specs.Words.{AskFor, FitsInput, Input, IsWithinLimits, Reads, input_of};
 ghost use Rattle.tc_main.specs.declared.status.Status.TheVariants.{Refused, Rejected as IsRejected};
 ghost use Rattle.tc_main.specs.declared.words.Asked.{Asked as AnyAsked};
@@ -12,7 +13,6 @@ use crate::replay::{guest_of, replay_profile, replay_report, replayed};
 use crate::run::run_report;
 use crate::status::Status;
 use crate::words::{Asked, MAX_HISTORY, asked_of};
-use crate::written::{Written, write_text};
 use crate::wrong::Wrong;
 use std::alloc::{AllocError, Global};
 use std::fmt::Write;
@@ -22,6 +22,7 @@ use tc_build::generate::generate;
 use tc_elf::limits::MAX_FILE as MAX_BYTES;
 use tc_io::{ReadAll, Sink, Source, Word, read_all};
 use tc_replay::reason::Rejected;
+use tc_report::written::{Written, write_text};
 use tc_workers::gate::Gate;
 
 /// The line that says what the program can be asked for.

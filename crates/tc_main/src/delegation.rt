@@ -3,8 +3,8 @@
 ghost use Rattle.tc_elf.specs.Shown.{Shown};
 ghost use Rattle.tc_told.specs.Written.{IsWritten};
 ghost use Rattle.tc_workers.specs.declared.options.Options.{Options};
-ghost use Rattle.tc_main.specs.Results.{Results};
-ghost use Rattle.tc_main.specs.Legal.{IsLegalRun};
+ghost use Rattle.tc_report.specs.Results.{Results};
+ghost use Rattle.tc_report.specs.Legal.{IsLegalRun};
 
 /// The history of each legal run is written by events of the pure machine, each enabled when it
 /// comes, with the run's number of workers and batch limit: each field of each block. So the

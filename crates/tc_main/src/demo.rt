@@ -4,10 +4,9 @@ ghost use Rattle.std.specs.Prelude.{◌≡◌, ◌≤◌, IfOk};
 ghost use Rattle.tc_build.specs.Generator.{generated};
 ghost use Rattle.tc_build.specs.declared.generate.TheConstants.{MAX_ROUNDS};
 ghost use Rattle.tc_main.specs.Top.{IsSummaryOf};
-ghost use Rattle.tc_main.specs.declared.words.TheConstants.{DEMO_FUEL};
+ghost use Rattle.tc_report.specs.declared.summary.TheConstants.{DEMO_FUEL};
 
 use crate::run::{WholeRun, run_whole};
-use crate::summary::summary;
 use std::alloc::{AllocError, Global};
 use std::sync::Wait;
 use std::thread::Threads;
@@ -15,6 +14,7 @@ use tc_build::generate::generate;
 use tc_elf::image::Image;
 use tc_elf::load::load;
 use tc_elf::refusal::Refusal;
+use tc_report::summary::summary;
 use tc_workers::gate::Gate;
 use tc_workers::options::Options;
 

@@ -8,11 +8,11 @@
 //!
 //! - `words`: what the words of the command line ask for. `order`: in which order the waiters of a
 //!   lock are served. `run`: a run by workers, from the image to the report. `nodes`: a run by workers
-//!   that belong to nodes. `report`: the text of a report. `demo`: a run of the generator's guest, to the
-//!   summary. `summary`: the text of a summary. `piece`: the lines of a history in pieces, made by several
-//!   threads. `written`: how writing went. `answer`: what the words and the source come to.
+//!   that belong to nodes. `demo`: a run of the generator's guest, to the summary. `answer`: what the
+//!   words and the source come to.
 //! - `build`, `generate`: files of guests, of tc_build. `options`, `gate`: with what a guest is run,
-//!   and whom its workers tell how far they are, of tc_workers.
+//!   and whom its workers tell how far they are, of tc_workers. `report`, `summary`: the texts of a
+//!   report and of a summary, of tc_report.
 //! - `status`: how the program ends. `top`: the top call.
 //! - `delegation`: what the history of a legal run is to the pure machine of tc_core.
 #![tactic(auto)]
@@ -22,20 +22,17 @@ pub mod delegation;
 mod demo;
 mod nodes;
 pub mod order;
-mod piece;
 mod replay;
-pub mod report;
 mod run;
 pub mod status;
-pub mod summary;
 #[cfg(test)]
 mod tests;
 pub mod top;
 mod words;
-mod written;
 mod wrong;
 
 pub use crate::status::Status;
 pub use crate::top::tclocks;
 pub use tc_build::{build, generate};
+pub use tc_report::{report, summary};
 pub use tc_workers::{gate, options};

@@ -8,13 +8,12 @@ ghost use Rattle.tc_journal.specs.Told.{told};
 ghost use Rattle.tc_profile.specs.Stands.{StandsFor};
 ghost use Rattle.tc_profile.specs.Text.{profile_text};
 ghost use Rattle.tc_main.specs.Accepted.{CanAllBeAdded, IsReplayed};
-ghost use Rattle.tc_main.specs.Legal.{results_after};
-ghost use Rattle.tc_main.specs.Report.{report_text};
+ghost use Rattle.tc_report.specs.Legal.{results_after};
+ghost use Rattle.tc_report.specs.Report.{report_text};
 ghost use Rattle.tc_main.specs.Replayed.{HasHistory};
 ghost use Rattle.tc_main.specs.Wrong.{IsWrongFile, IsWrongText, IsWrongInput};
 ghost use Rattle.tc_workers.specs.declared.options.Options.{Options as AnyOptions};
 
-use crate::report::{lent, report_with, tail_of};
 use crate::wrong::Wrong;
 use std::alloc::{AllocError, Global};
 use tc_elf::image::Image;
@@ -27,6 +26,7 @@ use tc_replay::checker::Checker;
 use tc_replay::checking::{Verdict, checked};
 use tc_replay::reason::{Reason, Rejected};
 use tc_replay::terms::Terms;
+use tc_report::report::{lent, report_with, tail_of};
 use tc_workers::options::Options;
 
 /// A guest, a history of it with which nothing is wrong, and the checker that took the history.

@@ -2,7 +2,6 @@
 
 ghost use Rattle.std.specs.Prelude.{◌≤◌, length};
 
-use crate::report::report;
 use crate::run::{WholeRun, run_whole};
 use crate::status::Status;
 use std::alloc::Global;
@@ -13,6 +12,7 @@ use tc_build::build::build;
 use tc_elf::limits::MAX_FILE;
 use tc_elf::load::load;
 use tc_replay::reason::{Reason, Rejected};
+use tc_report::report::report;
 use tc_workers::gate::Open;
 use tc_workers::options::Options;
 

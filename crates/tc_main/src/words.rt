@@ -14,11 +14,8 @@ use tc_build::generate::MAX_ROUNDS;
 use tc_elf::limits::MAX_FILE as MAX_BYTES;
 use tc_io::Word;
 use tc_isa::limits::{MAX_BATCH, MAX_FUEL, MAX_WORKERS};
+use tc_report::summary::DEMO_FUEL;
 use tc_workers::options::Options;
-
-/// The fuel of each thread of a demonstration, in instructions: enough for the greatest number of
-/// rounds.
-pub const DEMO_FUEL: u32 = 65_536;
 
 /// The batch limit of a demonstration.
 pub const DEMO_LIMIT: u32 = 8;

@@ -5,7 +5,8 @@ use Rattle.std.proofs.lemmas.Result.{IfOk-weaker}
 use Rattle.tc_io.specs.Stream.{Stream}
 use Rattle.tc_io.specs.Taken.{TakesCount}
 use Rattle.tc_main.specs.Words.{AskFor, Input, input_of}
-use Rattle.tc_main.specs.Top.{Comes, HasRead, ReadsAll, ReadsTooMany, Verdict, Wrote}
+use Rattle.tc_main.specs.Top.{Comes, HasRead, ReadsAll, ReadsTooMany, Verdict}
+use Rattle.tc_report.specs.Written.{Wrote}
 use Rattle.tc_main.specs.declared.status.Status.{Status}
 use Rattle.tc_main.specs.declared.status.Status.TheVariants.{Done, Usage, ReadFault, Refused, WriteFault, OutOfMemory, Rejected}
 use Rattle.tc_main.specs.declared.words.Asked.{Asked}

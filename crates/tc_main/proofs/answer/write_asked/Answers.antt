@@ -1,7 +1,8 @@
 use Rattle.std.proofs.Common.{rules, ◌≤◌, List, ℕ, length, refl, sym, subst, ap, arith}
 use Rattle.tc_elf.specs.declared.limits.TheConstants.{MAX_FILE}
 use Rattle.tc_main.specs.Replayed.{HasRun}
-use Rattle.tc_main.specs.Top.{IsTextOf, Wrote}
+use Rattle.tc_main.specs.Top.{IsTextOf}
+use Rattle.tc_report.specs.Written.{Wrote}
 use Rattle.tc_main.specs.Words.{FitsInput, whole_file}
 use Rattle.tc_main.specs.Wrong.{IsWrong, IsWrongFile, IsWrongInput}
 use Rattle.tc_main.specs.declared.words.Asked.{Asked}

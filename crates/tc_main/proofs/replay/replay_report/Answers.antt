@@ -5,7 +5,7 @@ use Rattle.tc_journal.specs.declared.block.Block.{Block}
 use Rattle.tc_segment.specs.View.{LockView, kept}
 use Rattle.tc_context.specs.View.{PackageView, bare}
 use Rattle.tc_law.specs.Lawful.{Lawful}
-use Rattle.tc_main.specs.Report.{head_text, tail_text}
+use Rattle.tc_report.specs.Report.{head_text, tail_text}
 use Rattle.tc_main.proofs.Replaying.{law_of, report_told}
 use Rattle.tc_main.proofs.replay.replay_report.Goals as goal
 

@@ -3,7 +3,7 @@ use Rattle.std.specs.List.{flat_map}
 use Rattle.std.specs.List.Sorted.{IsPermutation}
 use Rattle.std.proofs.lemmas.Result.{IfOk-weaker}
 use Rattle.tc_journal.specs.History.{HasEachStamp}
-use Rattle.tc_main.specs.Outcome.{logs_of}
+use Rattle.tc_report.specs.Outcome.{logs_of}
 use Rattle.tc_main.proofs.Merging.{lent}
 use Rattle.tc_main.proofs.run.history_in.Goals as goal
 

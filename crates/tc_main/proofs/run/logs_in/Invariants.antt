@@ -1,5 +1,5 @@
 use Rattle.std.proofs.Common.{◌≡◌, map, take}
-use Rattle.tc_main.specs.Outcome.{log_in}
+use Rattle.tc_report.specs.Outcome.{log_in}
 use Rattle.tc_main.proofs.run.logs_in.Given as goal
 
 abbrev pub invariant-loop-package : goal.invariant-loop-package

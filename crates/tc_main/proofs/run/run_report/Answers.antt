@@ -2,8 +2,8 @@ use Rattle.std.proofs.Common.{◌≡◌, ◌++◌, Bor, List, map, sym, ap, ◌�
 use Rattle.std.proofs.lemmas.Result.{IfOk-weaker}
 use Rattle.tc_journal.specs.Line.{history_text}
 use Rattle.tc_journal.specs.declared.block.Block.{Block}
-use Rattle.tc_main.specs.Pieces.{lines_of}
-use Rattle.tc_main.specs.Report.{head_text, tail_text}
+use Rattle.tc_report.specs.Pieces.{lines_of}
+use Rattle.tc_report.specs.Report.{head_text, tail_text}
 use Rattle.tc_main.proofs.Reporting.{stamps, report_is}
 use Rattle.tc_main.proofs.run.run_report.Goals as goal
 

@@ -1,6 +1,6 @@
 use Rattle.std.proofs.Common.{List, refl, subst}
 use Rattle.tc_context.specs.View.{PackageView}
-use Rattle.tc_main.specs.Outcome.{IsOutcome}
+use Rattle.tc_report.specs.Outcome.{IsOutcome}
 use Rattle.tc_main.proofs.Reporting.{stamps, outcome_is, legal_is}
 use Rattle.tc_main.proofs.run.run_whole.Goals as goal
 

@@ -1,7 +1,0 @@
-use Rattle.std.proofs.Common.{rules, append_assoc}
-use Rattle.tc_main.specs.Report.{guest_line}
-use Rattle.tc_main.proofs.report.push_guest.Goals as goal
-
-pub returns : goal.returns
-unfolding guest_line
-returns c = search (rules, append_assoc)

@@ -1,7 +1,0 @@
-use Rattle.std.proofs.Common.{◌≡◌, ◌++◌, take}
-use Rattle.std.specs.Prelude.{string_bytes}
-use Rattle.tc_main.specs.Report.{states_text}
-use Rattle.tc_main.proofs.report.push_locks.Given as goal
-
-abbrev pub invariant-loop-number : goal.invariant-loop-number
-invariant-loop-number l = string_bytes l.out ≡ string_bytes l.fn.out ++ states_text l.image (take l.number l.locks)

@@ -1,7 +1,0 @@
-use Rattle.std.proofs.Common.{rules, append_assoc}
-use Rattle.tc_main.specs.Report.{run_line}
-use Rattle.tc_main.proofs.report.push_run.Goals as goal
-
-pub returns : goal.returns
-unfolding run_line
-returns c = search (rules, append_assoc)

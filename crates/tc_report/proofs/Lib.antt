@@ -1,0 +1,5 @@
+pub mod Numbered
+pub mod Ranges
+pub mod Outcomes
+pub mod Chunks
+pub mod Writing

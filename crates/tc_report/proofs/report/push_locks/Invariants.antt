@@ -1,0 +1,7 @@
+use Rattle.std.proofs.Common.{◌≡◌, ◌++◌, take}
+use Rattle.std.specs.Prelude.{string_bytes}
+use Rattle.tc_report.specs.Report.{states_text}
+use Rattle.tc_report.proofs.report.push_locks.Given as goal
+
+abbrev pub invariant-loop-number : goal.invariant-loop-number
+invariant-loop-number l = string_bytes l.out ≡ string_bytes l.fn.out ++ states_text l.image (take l.number l.locks)

@@ -1,0 +1,7 @@
+pub mod Written
+pub mod Pieces
+pub mod Results
+pub mod Report
+pub mod Legal
+pub mod Outcome
+pub mod Summary

@@ -1,0 +1,20 @@
+-- The lines of a history in pieces.
+use Rattle.std.specs.Prelude.{◌≡◌, ℕ, List, length, map, min}
+use Rattle.std.specs.Fork.{slice_chunk}
+use denote.Ref.{Bor}
+use Rattle.tc_journal.specs.Line.{history_text}
+use Rattle.tc_journal.specs.declared.block.Block.{Block}
+use Rattle.tc_report.specs.declared.piece.TheConstants.{BLOCKS}
+
+-- the lines of blocks that stand elsewhere
+abbrev pub lines_of : List (Bor Block) → List ℕ
+lines_of blocks = history_text (map (λ b. b.now) blocks)
+
+-- the lines of the blocks of this number's piece
+abbrev pub piece_of : List (Bor Block) → ℕ → List ℕ
+piece_of blocks number = lines_of (slice_chunk blocks BLOCKS number)
+
+-- these are the lines of each piece of the blocks, and a piece has room for so many, the most that one has
+pub record AreLines (blocks : List (Bor Block)) (lines : ℕ → List ℕ) (room : ℕ) : Type 0 where
+  pub each : (number : ℕ) → lines number ≡ piece_of blocks number
+  pub enough : room ≡ min BLOCKS (length blocks)

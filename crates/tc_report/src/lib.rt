@@ -1,0 +1,18 @@
+//! The report of a run, and how it is written.
+//!
+//! The layer above has a history, and the packages and lock states that a run left. It is promised that
+//! the text made of them is the report, or the summary, of the machine's run with this history, and that
+//! writing a report writes just this text, or a front of it where a write fails; all memory is had before
+//! the first byte.
+//!
+//! - `report`: the text of a report. `summary`: the text of a summary.
+//! - `write`: a report is written by several threads. `ring`: where they make the lines of the history,
+//!   while one writes them in order. `piece`: the lines of some blocks. `written`: how writing went.
+#![tactic(auto)]
+
+mod piece;
+pub mod report;
+mod ring;
+pub mod summary;
+mod write;
+pub mod written;

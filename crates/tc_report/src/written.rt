@@ -1,0 +1,15 @@
+//! How writing went.
+
+ghost use Rattle.tc_report.specs.Written.{Wrote};
+
+use tc_io::{Failed, Sink, write_all};
+
+/// How writing a text went: it was written whole, or a front of it before the sink failed.
+pub type Written = Result<(), Failed>;
+
+/// Writes a text, until a write fails.
+pub fn write_text<K: Sink>(sink: &mut K, text: &[u8]) -> Written
+    ensures { Wrote (K.stream sink.old) (K.stream sink.new) text.now result }
+{
+    write_all(sink, text)
+}
