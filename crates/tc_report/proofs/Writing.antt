@@ -1,5 +1,5 @@
 -- What a sink is given by writes one after another.
-use Rattle.std.proofs.Common.{◌≡◌, ℕ, suc, ◌+◌, ◌*◌, add-one, Bor, List, ◌++◌, Result, Ok, Err, length, map, take, drop, length-append, sym, subst, ap, ◌∙◌, arith}
+use Rattle.std.proofs.Common.{◌≡◌, ℕ, ◌+◌, ◌*◌, add-one, Bor, List, ◌++◌, Result, Ok, Err, length, map, take, drop, length-append, sym, subst, ap, ◌∙◌, arith}
 use Rattle.std.proofs.KnownBytes.{Appends-trans}
 use Rattle.std.specs.List.{flat_map}
 use Rattle.std.proofs.lemmas.List.{map-append, take-append-drop, take-append-le}

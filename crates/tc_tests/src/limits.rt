@@ -73,20 +73,23 @@ fn thirty_two_threads_take_a_lock_each(rt: HostRuntime) -> Result<(), Fail> {
 }
 
 /// Runs threads that sleep until their fuel is spent, each in blocks of one turn behind the first:
-/// addi x17,x0,3, and then SLEEP 0 by ecall.
+/// addi x17,x0,3, and then SLEEP 0 by ecall. These writes fail.
 fn slept<R: Threads + Wait + Sync + Abort>(
     rt: &R,
     alloc: Global,
     threads: &[(u32, u32)],
+    workers: &str,
     fuel: &str,
+    failing_writes: &[u64],
 ) -> Result<Ran, AllocError> {
     let mut code = vec![in alloc; ECALL; 17_001]?;
     code[0] = 0x0030_0893;
     let file = built(rt, alloc, &code, threads, 0)?;
-    let words = [b"run".as_slice(), b"1", fuel.as_bytes(), b"0"];
+    let words = [b"run".as_slice(), workers.as_bytes(), fuel.as_bytes(), b"0"];
     let outside = Outside {
         most: 33_554_432,
         room: 33_554_432,
+        failing_writes,
         ..CALM
     };
     run_with(rt, alloc, &words, &file, &outside)
@@ -115,10 +118,58 @@ fn large_reports_are_written_whole(rt: HostRuntime) -> Result<(), Fail> {
         (1usize, "2000", "1999 thread 0", "00101f40", 65_536),
         (16, "17000", "271999 thread 15", "001109a0", 16_777_216),
     ] {
-        let ran = slept(&rt, rt.alloc(), &threads[..count], fuel)?;
+        let ran = slept(&rt, rt.alloc(), &threads[..count], "1", fuel, &[])?;
         let end = end_of(rt.alloc(), count, last, pc)?;
         assert!(rt; ran.status == Status::Done && ran.written.len() > bytes);
         assert!(rt; ran.written.ends_with(end.as_bytes()), "{end}");
+    }
+    Ok(())
+}
+
+/// How many lines of blocks the text has, if their stamps count up from 0.
+fn stamps_of(ran: &Ran) -> Option<usize> {
+    let mut count: usize = 0;
+    for line in ran.text().lines() {
+        if let Some(rest) = line.strip_prefix("block ") {
+            let stamp = rest.split_once(" ").map_or("", |(stamp, _)| stamp);
+            if stamp.parse::<usize>().ok() != Some(count) {
+                return None;
+            }
+            count = count.saturating_add(1);
+        }
+    }
+    Some(count)
+}
+
+/// Several workers write a report of 17,600 blocks in order, and whole. Its history is written in pieces
+/// of 4,096 blocks behind the first three lines; where one of these writes fails, all workers end, and
+/// what was written before stays.
+#[test]
+fn several_workers_write_a_large_report(rt: HostRuntime) -> Result<(), Fail> {
+    let threads = [(0u32, 0u32); 16];
+    for workers in ["2", "8"] {
+        let ran = slept(&rt, rt.alloc(), &threads, workers, "1100", &[])?;
+        assert!(rt;
+            ran.status == Status::Done && ran.written.ends_with(b"\nend\n"),
+            "{workers}"
+        );
+        assert_eq!(rt; stamps_of(&ran), Some(17_600), "{workers}");
+        for piece in [0usize, 3] {
+            let ran = slept(
+                &rt,
+                rt.alloc(),
+                &threads,
+                workers,
+                "1100",
+                &[piece as u64 + 1],
+            )?;
+            assert_eq!(rt; ran.status, Status::WriteFault, "{workers}, piece {piece}");
+            assert_eq!(rt;
+                stamps_of(&ran),
+                Some(piece * 4_096),
+                "{workers}, piece {piece}"
+            );
+        }
     }
     Ok(())
 }

@@ -1,6 +1,6 @@
-use Rattle.std.proofs.Common.{rules, ◌≡◌, ◌+◌, ◌*◌, ◌++◌, length, take, subst, ◌∙◌}
+use Rattle.std.proofs.Common.{rules, ◌≡◌, subst}
 use Rattle.tc_io.specs.Taken.{FailsAmid, Gives}
-use Rattle.tc_report.specs.Pieces.{piece_of, lines_of}
+use Rattle.tc_report.specs.Pieces.{piece_of}
 use Rattle.tc_report.proofs.Writing.{gives_more, fails_early, fails_later, next_piece, pieces_split}
 use Rattle.tc_report.proofs.write.write_pieces.Goals as goal
 
