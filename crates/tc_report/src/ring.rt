@@ -7,7 +7,7 @@ ghost use Rattle.tc_report.specs.declared.piece.TheConstants.{BLOCKS};
 use crate::piece::{BLOCKS, History, Piece, Room};
 use std::alloc::{AllocError, Global};
 use std::mem::replace;
-use std::sync::{Condvar, Mutex, MutexGuard, Wait};
+use std::sync::{Condvar, Mutex, Wait};
 use tc_journal::block::Block;
 
 /// A place of the ring.
