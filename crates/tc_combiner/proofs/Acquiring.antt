@@ -96,7 +96,7 @@ module _ (hall : HallView) (i : ℕ) (u : Turn) (q p : PackageView) (s t : SeatV
 
 -- what is asked of a package that wants a lock, once its number was counted
 pub still_asks : (k : Terms) (i : ℕ) (q p : PackageView) (n : ℕ) → p ≡ with_turns n q → MayAsk k i q → MayAsk k i p
-still_asks k i q p n e m = subst (λ (x : PackageView). MayAsk k i x) (sym e) (record { lock = m.lock; of = m.of; plain = record { thread = m.plain.thread; settled = m.plain.settled; granted = m.plain.granted; locks = m.plain.locks; ended = m.plain.ended }; want = m.want })
+still_asks k i q p n e m = subst (λ (x : PackageView). MayAsk k i x) (sym e) (record { lock = m.lock; of = m.of; plain = record { thread = m.plain.thread; settled = m.plain.settled; granted = m.plain.granted; locks = m.plain.locks; ended = m.plain.ended; uncut = m.plain.uncut }; want = m.want })
 
 pub may_wait : (hall : HallView) (i : ℕ) (q : PackageView) (h : Hands) → IsAtHall hall (Pack q ∷ packed h.aside) h → MayAsk hall.terms i q → MayGive hall h.pass (Waiting i) q
 may_wait hall i q h at m = plain_gives hall (Waiting i) q (packed h.aside) h.pass h.aside at m.plain m.lock (record {

@@ -1,7 +1,7 @@
 -- The locks of a thread that has ended, one after another.
 use Rattle.std.proofs.Common.{◌≡◌, ◌≢◌, ◌<◌, ◌≤◌, inl, inr, ℕ, zero, suc, ◌^◌, ◌+◌, ◌-◌, ◌*◌, Bool, true, false, not, ◌&&◌, ◌==◌, cond, List, [], ◌∷◌, ◌++◌, length, map, filter, get_or, refl, sym, ap, ◌∙◌, subst, subst₂, arith, append_assoc, append-nil, Option, Some, None, is_some, slice_index_or}
 use Rattle.std.proofs.lemmas.Bool.{and_right, cond-false, cond-true, or_right}
-use Rattle.tc_combiner.proofs.Vocabulary.{Acts, AreSameSeats, AreSeats, Asks, AtSeat, Block, Call, DidLeave, DidLeaveAll, Did_stop, Done, Ending, Ends, HallView, Hands, Has_ended, IsAtHall, IsEmptied, IsInOrder, IsPlain, IsSeatFor, IsSoundPackage, Knows, LeftAs, LeftInOrder, LockView, MAX_HELD, MayAct, MayEnd, MayGive, MayRelease, OneLeft, Pack, PackageView, PutAllBack, QueueView, SeatView, SeatsLeft, Terms, Turn, back, bare, dite, ends_thread, has, is_running, last_of, locked_in, locks, nat_tests, no_seat, packed, put_call, seat_at, threads, turn_of, unlocks, ℕ_discrete}
+use Rattle.tc_combiner.proofs.Vocabulary.{Acts, AreSameSeats, AreSeats, Asks, AtSeat, Block, Call, DidLeave, DidLeaveAll, Did_stop, Done, Ending, Ends, HallView, Hands, Has_ended, IsAtHall, IsEmptied, IsInOrder, IsPlain, IsSeatFor, IsSoundPackage, Knows, LeftAs, LeftInOrder, LockView, MAX_HELD, MayAct, MayEnd, MayGive, MayRelease, OneLeft, Pack, PackageView, PutAllBack, QueueView, SeatView, SeatsLeft, Terms, Turn, back, bare, dite, ends_thread, has, is_running, last_of, locked_in, locks, nat_tests, no_seat, packed, put_call, seat_at, threads, turn_of, unlocks, was_cut, ℕ_discrete}
 use Rattle.std.proofs.lemmas.Bool.Decides.{eqb_tells}
 use Rattle.std.specs.List.{range_with_len}
 use Rattle.tc_isa.specs.Sets.{without_lock, locks_of}
@@ -13,7 +13,7 @@ use Rattle.tc_turn.proofs.Few.{less_few}
 use Rattle.tc_combiner.proofs.Acting.{acted_by, acted_then, acts_none, at_after, takes_none}
 use Rattle.tc_combiner.proofs.Answering.{back_answers, keeps_answers, then_answers, then_at, wider}
 use Rattle.tc_combiner.proofs.PassedOn.{few_left, few_more, left_after}
-use Rattle.tc_combiner.proofs.Packages.{not_some, plain_gives}
+use Rattle.tc_combiner.proofs.Packages.{not_some, plain_gives, releases_uncut}
 use Rattle.tc_combiner.proofs.Owning.{place_here, place_other}
 use Rattle.tc_combiner.proofs.Seats.{map_at, seat_before}
 
@@ -190,6 +190,7 @@ emptied_plain k v b q p m h = record {
   granted = h.granted ∙ m.granted;
   locks = λ i l e. let g = h.free i in let n : ⊥ = cc in absurd n;
   ended = λ e i. h.free i;
+  uncut = ap (λ (c : PackageView). was_cut (last_of c.log)) h.same ∙ (ap was_cut m.last ∙ releases_uncut 0 b.end (or_right (unlocks 0 b.end) (ends_thread b.end) m.ended));
 }
 
 emptied_order : (k : Terms) (v : Knows) (b : Block) (q p : PackageView) → MayEnd k v b q → IsSoundPackage q → IsEmptied q p → IsInOrder 2 p

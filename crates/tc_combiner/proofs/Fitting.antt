@@ -3,6 +3,7 @@ use Rattle.std.proofs.Common.{◌≡◌, ◌<◌, ◌≤◌, ℕ, List, length, 
 use Rattle.tc_combiner.proofs.Vocabulary.{AreSameSeats, AreSeats, BenchView, DeskView, Did_adopt, FitsBench, GoesOn, Hands, HasSeats, IsAside, IsAt, IsInHand, IsSamePass, IsSeatFor, IsSoundPackage, Item, Keeps, KeepsParts, Knows, MayAcquire, MayAsk, Owned, Pack, PackageView, PassView, QueueView, Rest, SeatView, Settled, Shown, WantIsLawful, Wants_lock, carried, desk_of, get_or_default, length-map, locks, no_seat, packed, seat_at, threads, want_of}
 use Rattle.tc_combiner.proofs.Acting.{owned_by}
 use Rattle.tc_combiner.proofs.Packages.{wants_runs}
+use Rattle.tc_context.proofs.Staging.{wants_uncut}
 use Rattle.std.specs.Vec.{with_items}
 use Rattle.tc_combiner.proofs.Seats.{written_back}
 use Rattle.tc_combiner.proofs.Owning.{without_first}
@@ -70,6 +71,7 @@ may_want b b' d q i bench fits m sound law want =
         granted = m.granted;
         locks = m.locks;
         ended = λ r. let t = wants_runs q i want in let n : ⊥ = cc in absurd n;
+        uncut = wants_uncut q i sound want;
       };
       want = want;
     }

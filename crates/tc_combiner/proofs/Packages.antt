@@ -1,7 +1,10 @@
 -- Packages that were granted a lock, and packages that are put.
-use Rattle.std.proofs.Common.{◌∷◌, ◌≡◌, ◌≢◌, inl, inr, ⊎_elim, ℕ, ◌+◌, Bool, true, false, if◌then◌else◌, List, refl, sym, ap, ◌∙◌, subst, arith, Option, Some, None, IfSome, is_some}
-use Rattle.tc_combiner.proofs.Vocabulary.{Block, DidGrant, DidTake, Gets, Grant, HallView, HasNoOther, HasOnlyHeld, IsAt, IsGood, IsGoodFor, IsInOrder, IsInRange, IsPlain, IsWaiter, IsWaiting, Item, Kind, Knows, LockView, MayGive, Pack, PackageView, PassView, Place, Runs, Shown, Taken, Wants_lock, blocks_of, code_of, dite, ends_section, fits_granted, fits_in, fits_of, granted_lock, grants_adopted, has, is_running, last_of, locks, may_begin, next_lock, run_of, thread_in, threads, ℕ_discrete}
+use Rattle.std.proofs.Common.{◌∷◌, ◌||◌, ◌≡◌, ◌≢◌, inl, inr, ⊎_elim, ℕ, ◌+◌, Bool, true, false, if◌then◌else◌, List, refl, sym, ap, ◌∙◌, subst, arith, Option, Some, None, IfSome, is_some}
+use Rattle.tc_combiner.proofs.Vocabulary.{Block, Cut, DidGrant, DidTake, End, Gets, Grant, HallView, HasNoOther, HasOnlyHeld, IsAt, IsGood, IsGoodFor, IsInOrder, IsInRange, IsPlain, IsSoundPackage, IsWaiter, IsWaiting, Item, Kind, Knows, LockView, MayGive, Pack, PackageView, PassView, Place, Runs, Shown, Slept, Taken, Unlocked, Wants, Wants_lock, blocks_of, code_of, dite, ends_section, ends_thread, fits_granted, fits_in, fits_of, granted_lock, grants_adopted, has, is_cut, is_running, last_of, locks, may_begin, next_lock, run_of, thread_in, threads, unlocks, was_cut, ℕ_discrete}
 use Rattle.tc_journal.specs.Batch.{allows_of}
+use Rattle.tc_journal.specs.declared.block.End.TheVariants.{Exit, Fault, Spent}
+use Rattle.tc_context.proofs.Staging.{wants_uncut}
+use Rattle.tc_hall.proofs.Behind.{unpinned}
 use Rattle.tc_combiner.proofs.Owning.{place_here, place_other}
 
 taken_begins : (k limit run w : ℕ) (o : Option Block) → IfSome o (λ b. ends_section k b ≡ true) → may_begin k limit o run Taken w ≡ true
@@ -69,9 +72,19 @@ pub plain_good : (n : ℕ) (q : PackageView) (v : Knows) → IsPlain n q → Run
 plain_good n q v h r e = record { of = e; settled = h.settled; runs = r; locks = no_other q h.locks; fits = ungranted_fits q v.worker h.granted }
 
 -- the package that `adopt` gives waits for the lock
-pub is_waiter : (t i : ℕ) (q : PackageView) (v w : Knows) → Gets (256 + i) t q v w → IsWaiting q i → IsWaiter t i v.image q
-is_waiter t i q v w g waits = record { thread = g.thread; of = g.of; waits = waits; runs = g.order.runs (λ e. let n : ⊥ = omega arith in n); locks = g.order.own }
+pub is_waiter : (t i : ℕ) (q : PackageView) (v w : Knows) → Gets (256 + i) t q v w → IsWaiting q i → IsSoundPackage q → IsWaiter t i v.image q
+is_waiter t i q v w g waits sound = record { thread = g.thread; of = g.of; waits = waits; uncut = wants_uncut q i sound waits.want; runs = g.order.runs (λ e. let n : ⊥ = omega arith in n); locks = g.order.own }
+
+-- an end that ends a section is no cut
+pub releases_uncut : (i : ℕ) (e : End) → (unlocks i e || ends_thread e) ≡ true → is_cut e ≡ false
+releases_uncut i (Wants k) r = refl
+releases_uncut i (Unlocked k) r = refl
+releases_uncut i Slept r = refl
+releases_uncut i Cut r = absurd (let n : ⊥ = cc in n)
+releases_uncut i Exit r = refl
+releases_uncut i (Fault f) r = refl
+releases_uncut i Spent r = refl
 
 -- a plain package that is out may be put where its order allows
 pub plain_gives : (hall : HallView) (to : Place) (q : PackageView) (xs : List Item) (p : PassView) (a : Option PackageView) → IsAt hall (Pack q ∷ xs) p a → IsPlain (threads hall.terms) q → IsInRange (locks hall.terms) to → IsInOrder (code_of to) q → MayGive hall p to q
-plain_gives hall to q xs p a at m place order = record { own = at.own; thread = m.thread; place = place; out = at.out.1.0; order = order; plain = ap grants_adopted m.granted; fits = ungranted_fits q p.knows.worker m.granted }
+plain_gives hall to q xs p a at m place order = record { own = at.own; thread = m.thread; place = place; out = at.out.1.0; order = order; free = unpinned q (ap grants_adopted m.granted) m.uncut; fits = ungranted_fits q p.knows.worker m.granted }

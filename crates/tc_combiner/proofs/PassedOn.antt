@@ -1,12 +1,13 @@
 -- What became of a released lock, from its parts.
 use Rattle.std.proofs.Common.{inr, ⊎_elim, length-append, ◌&&◌, ◌≡◌, ◌<◌, ◌≤◌, ◌+◌, ℕ, true, false, List, [], ◌∷◌, ◌++◌, length, refl, sym, ap, ◌∙◌, subst, Some, ◌≢◌, Bool, not, ◌==◌, if◌then◌else◌, arith, Option, None}
-use Rattle.tc_combiner.proofs.Vocabulary.{Acts, Adopted, All-cons, All-nil, Asks, Block, Call, DidGrant, DidHand, DidPass, DidTakeOut, End, FollowedAs, Free, GaveUp, Gone, Granted, HallView, HandedAs, Hands, IsAt, IsAtRest, IsLeft, IsNumber, IsReleased, IsSoundPackage, IsTaken, IsTurn, IsWaiter, Item, Kind, Knows, LeftAs, LockView, Loose, MayAct, MayBringHome, MayGive, MayHandOn, MayPassTo, MayRelease, Moves, Next, Outs, Owned, Owns, Pack, PackageView, PassView, Passed, Ready, Releases, Rests, SeatView, Shown, Shows, Takes, Terms, Turn, Unlocked, Was_adopted, Was_stopped, adopts, and_parts, bare, blocks_of, ends_section, ends_thread, granted_lock, grants_adopted, handed, has, is_only, is_passed, last_of, locked_in, locks, may_adopt, nat_tests, outs, passes_to, put_call, ready_in, run_of, saw, threads, turn_of, unless, unlocks}
+use Rattle.tc_combiner.proofs.Vocabulary.{Acts, Adopted, All-cons, All-nil, Asks, Block, Call, DidGrant, DidHand, DidPass, DidTakeOut, End, FollowedAs, Free, GaveUp, Gone, Granted, HallView, HandedAs, Hands, IsAt, IsAtRest, IsLeft, IsNumber, IsReleased, IsSoundPackage, IsTaken, IsTurn, IsWaiter, Item, Kind, Knows, LeftAs, LockView, Loose, MayAct, MayBringHome, MayGive, MayHandOn, MayPassTo, MayRelease, Moves, Next, Outs, Owned, Owns, Pack, PackageView, PassView, Passed, Ready, Releases, Rests, SeatView, Shown, Shows, Takes, Terms, Turn, Unlocked, Was_adopted, Was_stopped, adopts, and_parts, bare, blocks_of, ends_section, ends_thread, granted_lock, grants_adopted, handed, has, is_only, is_passed, last_of, locked_in, locks, may_adopt, nat_tests, outs, passes_to, put_call, ready_in, run_of, saw, threads, turn_of, unless, unlocks, was_cut}
 use Rattle.tc_context.specs.View.{IsAt as IsKeptAt}
 use Rattle.std.proofs.lemmas.Bool.{and_right}
 use Rattle.tc_nested.proofs.Allowing.{adopted, granted}
 use Rattle.tc_combiner.proofs.Acting.{acted_by, acted_then, acts_beside, acts_by, acts_still, acts_then, may_still, owned_by}
 use Rattle.tc_combiner.proofs.Owning.{comes_out, granted_moves, taken_with, without_first}
 use Rattle.tc_combiner.proofs.Packages.{waiter_good, good_order}
+use Rattle.tc_hall.proofs.Behind.{unpinned}
 
 -- ---- what the batch rule says
 
@@ -119,7 +120,7 @@ may_put hall b l u w q h m i d a =
       place = tt;
       out = (owned_by h.pass.knows h.pass.knows (Pack w ∷ Loose l ∷ []) (Pack q ∷ []) (granted_moves h.pass.knows l Granted u.number w q d i.waits.absent) m.hands.at.out).1.0;
       order = good_order q hall.terms.image.value h.pass.knows.worker g;
-      plain = ap (λ (c : PackageView). grants_adopted c.granted) d.is;
+      free = unpinned q (ap (λ (c : PackageView). grants_adopted c.granted) d.is) (ap (λ (c : PackageView). was_cut (last_of c.log)) d.is ∙ i.uncut);
       fits = g.fits;
     }
 

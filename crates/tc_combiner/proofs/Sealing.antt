@@ -25,6 +25,8 @@ may_seal d q m =
       locks = λ i l e. is_there v.locks i (kept l) (out.locks i (kept l) (ap keep e));
       ran = m.ran;
       allows = m.allows;
+      handed = m.handed;
+      together = m.together;
     }
 
 -- a block leaves its thread and its locks in their places

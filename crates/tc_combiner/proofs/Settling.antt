@@ -1,8 +1,9 @@
 -- What the end of a package's last block says of the package.
 use Rattle.std.proofs.Common.{◌≡◌, ◌≢◌, ◌<◌, ◌≤◌, ◌+◌, ℕ, Bool, true, false, not, ◌&&◌, ◌||◌, ◌==◌, if◌then◌else◌, List, [], ◌∷◌, length, refl, sym, ap, ◌∙◌, subst, arith, Option, Some, None, is_some}
-use Rattle.tc_combiner.proofs.Vocabulary.{AcquiredAs, Acquires, Answers, AreSameSeats, AtSeat, Block, Call, Cut, DeskView, DidAcquire, DidEnd, DidUnlock, End, EndedAs, Ends, HallView, Hands, HasBlock, HasReadied, IsAfter, IsAfterBlock, IsAtHall, IsPlain, IsSoundPackage, Item, KeepsParts, Knows, LockView, MAX_HELD, MayAct, MayAsk, MayEnd, MayGoOn, MayPark, MayRelease, MaySettle, MayUnlock, PackageView, Rest, Runs, SeatView, Settled, SettledAs, Shown, Slept, Terms, Unlocked, UnlockedAs, Unlocks, WantIsLawful, Wants, Wants_lock, desk_of, ends_section, ends_thread, has, last_of, locked_in, locks, nat_tests, next_lock, seat_at, thread_in, threads}
+use Rattle.tc_combiner.proofs.Vocabulary.{AcquiredAs, Acquires, Answers, AreSameSeats, AtSeat, Block, Call, Cut, DeskView, DidAcquire, DidEnd, DidUnlock, End, EndedAs, Ends, HallView, Hands, HasBlock, HasOnlyHeld, HasReadied, IsAfter, IsAfterBlock, IsAtHall, IsGood, IsPlain, IsSoundPackage, Item, KeepsParts, Knows, LockView, MAX_HELD, MayAct, MayAsk, MayEnd, MayGoOn, MayPark, MayRelease, MaySettle, MayUnlock, PackageView, Rest, Runs, SeatView, Settled, SettledAs, Shown, Slept, Terms, Unlocked, UnlockedAs, Unlocks, WantIsLawful, Wants, Wants_lock, desk_of, ends_section, ends_thread, has, is_cut, last_of, locked_in, locks, nat_tests, next_lock, seat_at, thread_in, threads, was_cut}
 use Rattle.tc_combiner.proofs.PassedOn.{left_after}
 use Rattle.tc_combiner.proofs.Ending.{known_in}
+use Rattle.tc_combiner.proofs.Packages.{no_other, ungranted_fits}
 
 and_true : (x : Bool) → (x && not false) ≡ x
 and_true true = refl
@@ -35,13 +36,17 @@ module _ (k : Terms) (worker : ℕ) (end : End) (b : Block) (q : PackageView) (s
   in_block : (i : ℕ) (l : LockView) → locked_in q i ≡ Some l → has b.held i ≡ true
   in_block i l e = sym (m.locks i) ∙ ap is_some e
 
-  plain_on : ((i : ℕ) → ends_section i b ≡ false) → ends_thread end ≡ false → IsPlain (threads k) q
-  plain_on never e = record {
+  only_held : ((i : ℕ) → ends_section i b ≡ false) → HasOnlyHeld q
+  only_held never i l e = held_is i (never i) ∙ in_block i l e
+
+  plain_on : ((i : ℕ) → ends_section i b ≡ false) → ends_thread end ≡ false → is_cut end ≡ false → IsPlain (threads k) q
+  plain_on never e u = record {
     thread = thread_known;
     settled = m.settled;
     granted = m.granted;
-    locks = λ i l e. held_is i (never i) ∙ in_block i l e;
+    locks = only_held never;
     ended = λ f. let r = runs_on e in let n : ⊥ = cc in absurd n;
+    uncut = ap was_cut m.last ∙ (ap is_cut m.end_is ∙ u);
   }
 
   lock_in_range : (i : ℕ) → has b.held i ≡ true → i < locks k
@@ -97,7 +102,7 @@ module _ (k : Terms) (worker : ℕ) (b : Block) (q : PackageView) (s : IsSoundPa
   may_ask i law m = let want = wants_lock k.image.value worker i b q s m (runs_on k worker (Wants i) b q s m refl) in record {
     lock = subst (λ (x : Shown). i < length x.guards) m.of (law i want).known;
     of = m.of;
-    plain = plain_on k worker (Wants i) b q s m (λ j. wants_ends j i b m.end_is) refl;
+    plain = plain_on k worker (Wants i) b q s m (λ j. wants_ends j i b m.end_is) refl refl;
     want = want;
   }
 
@@ -111,13 +116,19 @@ module _ (k : Terms) (worker : ℕ) (b : Block) (q : PackageView) (s : IsSoundPa
 
   pub may_park : IsAfterBlock k.image.value worker Slept b q → MayPark k q
   may_park m = record {
-    plain = plain_on k worker Slept b q s m (λ i. ends_as i b Slept m.end_is) refl;
+    plain = plain_on k worker Slept b q s m (λ i. ends_as i b Slept m.end_is) refl refl;
     runs = runs_on k worker Slept b q s m refl;
     slept = subst (λ (o : Option Block). HasBlock (λ b. b.end ≡ Slept) o) (sym m.last) m.end_is;
   }
 
-  pub may_continue : IsAfterBlock k.image.value worker Cut b q → MayGoOn k q
-  may_continue m = record { of = m.of; plain = plain_on k worker Cut b q s m (λ i. ends_as i b Cut m.end_is) refl; runs = runs_on k worker Cut b q s m refl }
+  pub may_continue : IsAfterBlock k.image.value worker Cut b q → IsGood q k.image.value worker
+  may_continue m = record {
+    of = m.of;
+    settled = m.settled;
+    runs = runs_on k worker Cut b q s m refl;
+    locks = no_other q (only_held k worker Cut b q s m (λ i. ends_as i b Cut m.end_is));
+    fits = ungranted_fits q worker m.granted;
+  }
 
 -- ---- what was done with it, in the words of a desk
 

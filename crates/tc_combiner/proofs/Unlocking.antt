@@ -1,6 +1,6 @@
 -- What an unlock comes to, from its parts.
 use Rattle.std.proofs.Common.{not, ◌≡◌, ◌≢◌, ◌<◌, ◌≤◌, ◌+◌, inl, inr, ℕ, true, false, ◌&&◌, ◌==◌, List, [], ◌∷◌, ◌++◌, length, refl, sym, ap, ◌∙◌, subst, subst₂, arith, Option, Some, None, is_some}
-use Rattle.tc_combiner.proofs.Vocabulary.{Acted, Acts, All-cons, All-nil, Block, Call, DidPass, DidTakeOut, Did_adopt, Did_stop, Goes, GoesOn, Gone, HallView, Hands, HasHeldAnd, HasNone, HasOnlyHeld, HoldsNone, IsAside, IsAt, IsAtHall, IsGood, IsPlain, IsSoundPackage, Item, Knows, LockView, MAX_HELD, MayAct, MayGive, MayGoOn, MayRelease, MayUnlock, Owned, Pack, PackageView, PassView, Passed, PassedAs, PutAllBack, PutsAside, Ready, Runs, SeatView, SetAside, Settled, Shown, TakesDown, Terms, UnlockedAs, Unlocks, Was_adopted, Was_stopped, WentOn, adopts, and_parts, back, dite, ends_section, handed, has, is_only, is_running, last_of, locked_in, may_adopt, nat_tests, outs, packed, put_call, threads, turn_of, unlocks, without_lock, ℕ_discrete}
+use Rattle.tc_combiner.proofs.Vocabulary.{Acted, Acts, All-cons, All-nil, Block, Call, DidPass, DidTakeOut, Did_adopt, Did_stop, Goes, GoesOn, Gone, HallView, Hands, HasHeldAnd, HasNone, HasOnlyHeld, HoldsNone, IsAside, IsAt, IsAtHall, IsGood, IsPlain, IsSoundPackage, Item, Knows, LockView, MAX_HELD, MayAct, MayGive, MayGoOn, MayRelease, MayUnlock, Owned, Pack, PackageView, PassView, Passed, PassedAs, PutAllBack, PutsAside, Ready, Runs, SeatView, SetAside, Settled, Shown, TakesDown, Terms, UnlockedAs, Unlocks, Was_adopted, Was_stopped, WentOn, adopts, and_parts, back, dite, ends_section, handed, has, is_only, is_running, last_of, locked_in, may_adopt, nat_tests, outs, packed, put_call, threads, turn_of, unlocks, was_cut, without_lock, ℕ_discrete}
 use Rattle.std.proofs.lemmas.Bool.{and_left, and_right}
 use Rattle.std.proofs.lemmas.Nat.Bits.{bit_at-zero, bit_at_or, bit_at-pow_other}
 use Rattle.std.specs.Int.{bit_at}
@@ -8,7 +8,7 @@ use Rattle.std.specs.Prelude.{◌^◌, bit_or}
 use Rattle.tc_isa.specs.Sets.{with_lock}
 use Rattle.tc_combiner.proofs.Acting.{acts_beside, acts_then, at_after, takes_none, takes_then}
 use Rattle.tc_combiner.proofs.Answering.{back_answers, keeps_answers, then_answers, then_at, wider}
-use Rattle.tc_combiner.proofs.Packages.{good_order, no_other, none_is, plain_gives, ungranted_fits}
+use Rattle.tc_combiner.proofs.Packages.{good_order, no_other, none_is, plain_gives, releases_uncut, ungranted_fits}
 use Rattle.tc_combiner.proofs.PassedOn.{few_followed, few_more, left_after}
 use Rattle.tc_combiner.proofs.Owning.{place_here, place_other, swap, without_first}
 
@@ -28,6 +28,7 @@ left_plain v k i b l q p d m r h = record {
   granted = ap (λ (c : PackageView). c.granted) d.is ∙ m.granted;
   locks = left_only_held i l q p d h;
   ended = λ e. let y = still_runs i l q p d r in let n : ⊥ = cc in absurd n;
+  uncut = ap (λ (c : PackageView). was_cut (last_of c.log)) d.is ∙ (ap was_cut m.last ∙ releases_uncut i b.end m.released.1);
 }
 
 -- ---- a package behind which a waiter is adopted holds no lock

@@ -1,5 +1,5 @@
 -- The words that most proofs here speak of: of the layers below, and of this crate.
-pub use Rattle.tc_combiner.specs.Vocabulary.{Adopted, Behind, Block, Call, Called, Came, Cut, DidRun, Did_adopt, Did_park, Did_stop, Done, End, Enter, First, Free, GoesOn, Gone, Granted, HallView, Hands, HasBlock, Has_ended, IsAtRest, IsInOrder, IsInRange, IsNumber, IsOut, IsPlaced, IsSamePass, IsTurn, IsWaiting, Item, Kind, Knows, Leave, LineCall, Link, LockView, Loose, MAX_HELD, MAX_NUMBER, Miss, Next, Outs, Pack, PackageView, Parked, PassView, Passed, Place, Put, QueueView, Ready, Refused, Releases, Rest, Rests, SeatView, Settled, Shipped, Shown, Slept, Stop, Stopped, Taken, Terms, Try_stopped, Turn, Unlocked, Waiting, Wants, Was_adopted, Was_stopped, bare, blocks_of, code_of, ends_thread, erase, fits_of, grants_adopted, has, is_running, last_of, locked_in, locks, locks_of, may_adopt, outs, put_call, run_of, threads, want_of, with_line, with_turns, without_lock}
+pub use Rattle.tc_combiner.specs.Vocabulary.{Adopted, AreTogether, Behind, Block, Call, Called, Came, Cut, DidRun, Did_adopt, Did_park, Did_stop, Done, End, Enter, First, Free, GoesOn, Gone, Granted, HallView, Hands, HasBlock, Has_ended, IsAtRest, IsInOrder, IsInRange, IsNumber, IsOut, IsPlaced, IsSamePass, IsTurn, IsWaiting, Item, Kind, Knows, Leave, LineCall, Link, LockView, Loose, MAX_HELD, MAX_NUMBER, Miss, Next, Outs, Pack, PackageView, Parked, PassView, Passed, Place, Put, QueueView, Ready, Refused, Releases, Rest, Rests, SeatView, Settled, Shipped, Shown, Slept, Stop, Stopped, Taken, Terms, Try_stopped, Turn, Unlocked, Waiting, Wants, Was_adopted, Was_stopped, bare, blocks_of, code_of, ends_thread, erase, fits_of, has, is_pinned, is_cut, is_running, last_by, last_of, locked_in, locks, locks_of, may_adopt, outs, put_call, run_of, threads, want_of, was_cut, with_line, with_turns, without_lock}
 pub use Rattle.std.proofs.lemmas.Bool.{and_parts}
 pub use Rattle.std.proofs.lemmas.Bool.Decides.{nat_tests}
 pub use Rattle.std.proofs.lemmas.List.{get_or_default, length-map}
@@ -9,7 +9,7 @@ pub use native.Mathlib.Decide.{ℕ_discrete}
 pub use Rattle.tc_journal.specs.Batch.{ends_section, is_only, is_passed, may_begin, passes_to, unlocks}
 pub use Rattle.tc_turn.specs.Turn.{next_lock}
 pub use Rattle.tc_segment.specs.View.{kept}
-pub use Rattle.tc_context.specs.View.{IsAfter, IsLeft, IsSoundPackage, MayPassTo, WantIsLawful, fits_granted, fits_in, granted_lock, with_seal}
+pub use Rattle.tc_context.specs.View.{IsAfter, IsLeft, IsSoundPackage, MayPassTo, WantIsLawful, fits_granted, fits_in, granted_lock, grants_adopted, with_seal}
 pub use Rattle.tc_context.specs.Whole.{thread_in}
 pub use Rattle.tc_context.specs.declared.package.Grant.{Grant}
 pub use Rattle.tc_queue.specs.declared.turn.Departure.{Departure}

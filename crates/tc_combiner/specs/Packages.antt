@@ -1,6 +1,6 @@
 -- What desks ask and say of packages.
 use Rattle.std.specs.Prelude.{◌≡◌, ◌≢◌, ℕ, ◌<◌, true, false, Some, None}
-use Rattle.tc_combiner.specs.Vocabulary.{IsAtRest, IsOwn, IsPlaced, IsWaiting, Kind, Knows, LockView, PackageView, Shown, Taken, Terms, fits_of, has, is_running, locked_in, threads, want_of, with_grant, without_lock}
+use Rattle.tc_combiner.specs.Vocabulary.{IsAtRest, IsOwn, IsPlaced, IsWaiting, Kind, Knows, LockView, PackageView, Shown, Taken, Terms, fits_of, has, is_running, last_of, locked_in, threads, want_of, was_cut, with_grant, without_lock}
 
 -- no lock is in it but held ones and a granted one
 abbrev pub HasNoOther : PackageView → Type 0
@@ -37,13 +37,15 @@ pub record IsGood (q : PackageView) (image : Shown) (worker : ℕ) : Type 0 wher
 abbrev pub IsGoodFor : Knows → PackageView → Type 0
 IsGoodFor v q = IsGood q v.image v.worker
 
--- a package of one of so many threads that has nothing granted and no lock but held ones, and none where its thread has ended
+-- a package of one of so many threads that has nothing granted and no lock but held ones, and none where its thread has ended;
+-- its last block was not cut
 pub record IsPlain (threads : ℕ) (q : PackageView) : Type 0 where
   pub thread : q.context.thread < threads
   pub settled : q.pending ≡ None
   pub granted : q.granted ≡ None
   pub locks : HasOnlyHeld q
   pub ended : is_running q.context.guest.status ≡ false → HasNone q
+  pub uncut : was_cut (last_of q.log) ≡ false
 
 -- one that may go on, in a hall made with these terms
 pub record MayGoOn (k : Terms) (q : PackageView) : Type 0 where
@@ -61,6 +63,7 @@ pub record IsWaiter (t i : ℕ) (image : Shown) (q : PackageView) : Type 0 where
   pub of : q.image ≡ image
   pub thread : q.context.thread ≡ t
   pub waits : IsWaiting q i
+  pub uncut : was_cut (last_of q.log) ≡ false
   pub runs : Runs q
   pub locks : HasNoOther q
 

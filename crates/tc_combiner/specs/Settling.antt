@@ -1,6 +1,6 @@
 -- What `settle` asks of a package, and what becomes of it by the end of its last block.
 use Rattle.std.specs.Prelude.{◌≡◌, ◌≢◌, ℕ, ◌+◌, ◌-◌, ◌^◌, min, true, List, [], ◌∷◌, ◌++◌, length, slice_set, Option, Some, None, is_some}
-use Rattle.tc_combiner.specs.Vocabulary.{AllowsPending, Block, Call, Cut, DidRun, Did_park, End, GoesOn, Hands, IsSamePass, Pack, PackageView, Parked, PassView, Rest, SeatView, Settled, Shown, Slept, Terms, Unlocked, Wants, has, last_of, locked_in, put_call, threads, want_of}
+use Rattle.tc_combiner.specs.Vocabulary.{AllowsPending, AreTogether, Block, Call, Cut, DidRun, Did_park, End, GoesOn, Hands, HandsPending, IsSamePass, Pack, PackageView, Parked, PassView, Rest, SeatView, Settled, Shown, Slept, Terms, Unlocked, Wants, has, last_by, last_of, locked_in, put_call, threads, want_of}
 use Rattle.tc_combiner.specs.Packages.{HasOnlyHeld, IsAside, IsGoodFor}
 use Rattle.tc_combiner.specs.Walks.{Moves, Owned, packed, Asks, Acts, Adds}
 use Rattle.tc_combiner.specs.Answers.{AcquiredAs, HasReadied, carried}
@@ -38,12 +38,15 @@ pub record KeepsParts (k : Terms) (q : PackageView) (ss ts : List SeatView) (x y
   pub clock : y.clock ≡ x.clock
   pub room : length y.sleepers ≡ length x.sleepers
 
--- a block made the package of one that the desk has in hand, and the batch rule allows it the desk's worker
+-- a block made the package of one that the desk has in hand, the batch rule allows it the desk's worker, and it comes behind the
+-- block with which that worker handed the lock over; where the worker's last block or the thread's was cut, it goes on from there
 pub record MayCommit (d : DeskView) (q : PackageView) : Type 0 where
   pub before : PackageView
   pub hand : IsInHand d before
   pub ran : DidRun d.pass.knows.image before q
   pub allows : AllowsPending q d.pass.knows.worker
+  pub handed : HandsPending d.pass.knows q
+  pub together : AreTogether (last_by d.pass.knows) (last_of before.log)
 
 -- once it is sealed: whoever had the package before its block out has the sealed one out, and the rest is out as it was
 abbrev pub MovesSealed : PackageView → PackageView → DeskView → DeskView → Type 0

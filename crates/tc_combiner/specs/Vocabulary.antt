@@ -3,6 +3,7 @@ pub use Rattle.tc_isa.specs.Sets.{has, locks_of}
 pub use Rattle.tc_isa.specs.declared.limits.TheConstants.{MAX_HELD}
 pub use Rattle.tc_elf.specs.Shown.{Shown}
 pub use Rattle.tc_journal.specs.Batch.{ends_thread, last_of, may_adopt, run_of}
+pub use Rattle.tc_journal.specs.Handing.{AreTogether, is_cut, was_cut}
 pub use Rattle.tc_journal.specs.declared.block.Block.{Block}
 pub use Rattle.tc_journal.specs.declared.block.End.{End}
 pub use Rattle.tc_journal.specs.declared.block.End.TheVariants.{Cut, Slept, Unlocked, Wants}
@@ -23,8 +24,8 @@ pub use Rattle.tc_queue.specs.declared.turn.Turn.{Turn}
 pub use Rattle.tc_hall.specs.Outs.{Called, IsOut, Item, Loose, Outs, Pack, erase, outs}
 pub use Rattle.tc_hall.specs.PassView.{HallView, PassView}
 pub use Rattle.tc_hall.specs.Places.{IsInRange, code_of}
-pub use Rattle.tc_hall.specs.Rule.{IsInOrder, IsOwn, grants_adopted, locked_in, locks, threads}
-pub use Rattle.tc_hall.specs.Steps.{IsSamePass, put_call}
+pub use Rattle.tc_hall.specs.Rule.{IsInOrder, IsOwn, is_pinned, last_by, locked_in, locks, threads}
+pub use Rattle.tc_hall.specs.Steps.{HandsPending, IsSamePass, put_call}
 pub use Rattle.tc_hall.specs.declared.board.Call.{Call}
 pub use Rattle.tc_hall.specs.declared.board.Call.TheVariants.{Free, Put, Stop, Stopped}
 pub use Rattle.tc_hall.specs.declared.board.Knows.{Knows}

@@ -1,6 +1,6 @@
 -- What some calls of a pass and of a seat did: which calls, one by one, and how what is out changed; and what hands may do.
 use Rattle.std.specs.Prelude.{◌≡◌, ◌+◌, ℕ, List, [], ◌∷◌, ◌++◌, Option, Some, None, ◌==◌, ◌<◌, ◌≤◌, Bool, true, false, All, length, filter}
-use Rattle.tc_combiner.specs.Vocabulary.{Attempt, Call, Called, Came, Found, HallView, Hands, IsAtRest, IsInOrder, IsInRange, IsOut, IsSamePass, IsSeatOf, IsTurn, Item, Knows, Leave, Left, LineCall, LockView, Loose, MAX_HELD, Miss, Next, Next_is, Nobody, Outs, Pack, PackageView, PassView, Place, Put, QueueView, Ready, Refused, Rests, SeatView, Stop, Stopped, Terms, Try_stopped, Turn, Unknown, code_of, erase, fits_of, grants_adopted, locks, outs, threads}
+use Rattle.tc_combiner.specs.Vocabulary.{Attempt, Call, Called, Came, Found, HallView, Hands, IsAtRest, IsInOrder, IsInRange, IsOut, IsSamePass, IsSeatOf, IsTurn, Item, Knows, Leave, Left, LineCall, LockView, Loose, MAX_HELD, Miss, Next, Next_is, Nobody, Outs, Pack, PackageView, PassView, Place, Put, QueueView, Ready, Refused, Rests, SeatView, Stop, Stopped, Terms, Try_stopped, Turn, Unknown, code_of, erase, fits_of, is_pinned, locks, outs, threads}
 use Rattle.tc_combiner.specs.Packages.{IsAside}
 
 -- no call of these is a stop
@@ -155,14 +155,14 @@ LooksAfterFirst u s t v w = (n m : ℕ) × AskedTimes n u s t × Tried 0 m v w �
 abbrev pub LooksBetween : Turn → SeatView → SeatView → Knows → Knows → Type 0
 LooksBetween u s t v w = (m : ℕ) × AskedTimes (m + 1) u s t × Tried 0 m v w
 
--- the package may be put at the place in the pass, one of this hall
+-- the package, which is pinned to no worker, may be put at the place in the pass, one of this hall
 pub record MayGive (hall : HallView) (p : PassView) (to : Place) (q : PackageView) : Type 0 where
   pub own : p.table ≡ hall.table
   pub thread : q.context.thread < threads hall.terms
   pub place : IsInRange (locks hall.terms) to
   pub out : IsOut (outs p.knows) (Pack q)
   pub order : IsInOrder (code_of to) q
-  pub plain : grants_adopted q.granted ≡ false
+  pub free : is_pinned q ≡ false
   pub fits : fits_of q p.knows.worker ≡ true
 
 -- a pass of this hall has these items out, and a may be set aside there

@@ -44,7 +44,10 @@ fn try_adopt(hall: &Hall, pass: &mut Pass, t: u32, lock: u32) -> Attempt<Package
     ensures { TriedAs 1 (λ q. Pack q ∷ []) (λ p q. IsWaiter t lock p.knows.image q) pass.old pass.new result }
 {
     match hall.adopt(pass, t, lock) {
-        Ok(waiter) => Attempt::Came(waiter),
+        Ok(waiter) => {
+            waiter.keeps();
+            Attempt::Came(waiter)
+        }
         Err(NotWaiting(_)) => {
             if calls::stopped(hall, pass) {
                 return Attempt::Stopped;

@@ -15,7 +15,7 @@ use Rattle.tc_context.proofs.LockList.{when_field, locks_ext}
 use Rattle.tc_mutex_spec.proofs.OptionLaws.{map_some, some_map, some_of}
 use Rattle.tc_mutex_spec.proofs.Replaying.{record_takes}
 use Rattle.tc_mutex_spec.proofs.Going.{block_survives, block_gives, block_inside, in_block}
-use Rattle.tc_mutex_spec.proofs.Leaving.{block_runs, block_next, block_releases, block_covered}
+use Rattle.tc_mutex_spec.proofs.Leaving.{block_runs, block_next, block_cut, block_releases, block_covered}
 use Rattle.tc_journal.specs.History.{IsBlock}
 use Rattle.tc_context.specs.Ran.{DidRun, slept_at}
 use Rattle.tc_context.proofs.Staging.{false_true, left_few, rests_as, are_of, idle_at, closed_none, grant_of, goes_on}
@@ -136,6 +136,7 @@ module _ (image : Shown) (p : PackageView) (m : MayRun image p) where
       thread = thread ∙ sym runs.keeps.thread;
       runs = ap (λ (d : Thread). is_running d.status) thread_is ∙ block_runs image (whole p.context) last t b.turns b.end alone;
       next = λ k e. (λ i. next_lock (m.is i) (thread_is i)) ∙ block_next image (whole p.context) last t b.turns b.end alone k e;
+      cut = λ e. (λ i. next_lock (m.is i) (thread_is i)) ∙ block_cut image (whole p.context) last t b.turns b.end alone e;
       held = held_after;
       released = λ k e. journals.held k ∙ block_releases image (whole p.context) last t b.turns b.end alone k e;
       few = block_few image (thread_in p.context) b.held journals.held (left_few p.image p.context (last_of p.log) m.sound.left);
@@ -390,7 +391,7 @@ module _ (p : PackageView) (b : Block) (stamp worker : ℕ) (sound : IsSoundPack
     thread = sound.thread;
     held = λ k h. seal_set stamp worker p k ∙ sound.held k h;
     stored = λ k l e. (let x = map_some seal (lock_in p.context.locks k) l (sym (sealed_at stamp worker p.context.locks k) ∙ e) in subst (IsStored q k) (sym x.2) (sealed_here k x.0 (sound.stored k x.0 x.1)));
-    left = subst (IsLeft p.image q.context) (sym seal_last) (record { thread = left_was.thread; runs = left_was.runs; next = left_was.next; held = left_was.held; released = left_was.released; few = left_was.few });
+    left = subst (IsLeft p.image q.context) (sym seal_last) (record { thread = left_was.thread; runs = left_was.runs; next = left_was.next; cut = left_was.cut; held = left_was.held; released = left_was.released; few = left_was.few });
     grant = subst (MayTake p.image q.context) (sym (sound.alone (ap is_some pending))) tt;
     log = tt;
     alone = λ h. absurd (cc);

@@ -7,6 +7,9 @@ use Rattle.tc_isa.specs.declared.limits.TheConstants.{MAX_HELD}
 use Rattle.tc_turn.proofs.Few.{fewer}
 pub use Rattle.std.proofs.lemmas.Bool.{and_parts, both_ways as false_true}
 use Rattle.std.proofs.lemmas.Bool.Decides.{eqb_tells}
+use Rattle.tc_journal.specs.Handing.{is_cut, was_cut}
+use Rattle.tc_journal.specs.declared.block.End.{End}
+use Rattle.tc_journal.specs.declared.block.End.TheVariants.{Wants, Unlocked, Slept, Cut, Exit, Fault, Spent}
 use Rattle.tc_journal.specs.declared.block.Kind.{Kind}
 use Rattle.tc_turn.specs.Replay.{Entry}
 use Rattle.tc_turn.proofs.Turns.{next_free, next_known, next_by_own}
@@ -147,11 +150,33 @@ fresh_sound image t fuel p fresh lt few places numbers =
       alone = λ h. fresh.granted;
     }
 
+-- ---- what wants a lock was not cut
+
+other_cut : (e : End) → (e ≡ Cut → ⊥) → is_cut e ≡ false
+other_cut (Wants k) ne = refl
+other_cut (Unlocked k) ne = refl
+other_cut Slept ne = refl
+other_cut Cut ne = absurd (ne refl)
+other_cut Exit ne = refl
+other_cut (Fault f) ne = refl
+other_cut Spent ne = refl
+
+next_of : (runs : Bool) (next : Option ℕ) (k : ℕ) → (if runs then next else None) ≡ Some k → next ≡ Some k
+next_of true next k e = e
+next_of false next k e = absurd (let n : ⊥ = cc in n)
+
+pub wants_uncut : (q : PackageView) (k : ℕ) → IsSoundPackage q → want_of q.image q.context ≡ Some k → was_cut (last_of q.log) ≡ false
+wants_uncut q k sound want = by (last_of q.log) sound.left
+  where
+    by : (o : Option Block) → IsLeft q.image q.context o → was_cut o ≡ false
+    by None left = refl
+    by (Some b) left = other_cut b.end (λ e. let f = left.cut e in let g = next_of (is_running q.context.guest.status) (next_lock q.image (thread_in q.context)) k want in let n : ⊥ = cc in n)
+
 -- ---- with other locks
 
 left_as : (image : Shown) (p : Context) (locks : List (Option LockView)) (o : Option Block) → IsLeft image p o → IsLeft image (with_locks p locks) o
 left_as image p locks None left = record { runs = left.runs; held = left.held }
-left_as image p locks (Some b) left = record { thread = left.thread; runs = left.runs; next = left.next; held = left.held; released = left.released; few = left.few }
+left_as image p locks (Some b) left = record { thread = left.thread; runs = left.runs; next = left.next; cut = left.cut; held = left.held; released = left.released; few = left.few }
 
 -- ---- rooms
 

@@ -1,14 +1,15 @@
 -- A package, as contracts see it, and what each keeps.
-use Rattle.std.specs.Prelude.{◌≡◌, ◌≢◌, ℕ, ◌<◌, ◌≤◌, ◌-◌, Bool, true, false, not, ◌&&◌, ◌==◌, List, [], ◌∷◌, set, length, replicate, slice_index_or, Option, Some, None, IfSome, is_some, if◌then◌else◌}
+use Rattle.std.specs.Prelude.{◌≡◌, ◌≢◌, ℕ, ◌<◌, ◌≤◌, ◌-◌, Bool, true, false, not, ◌&&◌, ◌||◌, ◌==◌, List, [], ◌∷◌, set, length, replicate, slice_index_or, Option, Some, None, IfSome, is_some, if◌then◌else◌}
 use Rattle.std.specs.Option.{option_map}
 use Rattle.tc_isa.specs.Registers.{Registers}
 use Rattle.tc_isa.specs.Sets.{has, locks_of}
 use Rattle.tc_isa.specs.declared.limits.TheConstants.{MAX_HELD, MAX_TURNS}
 use Rattle.tc_isa.specs.declared.held.TheConstants.Held.{PLACES}
 use Rattle.tc_elf.specs.Shown.{Shown}
-use Rattle.tc_journal.specs.Batch.{is_section, begins, last_of, allows_of, may_go_on, ends_thread, ends_section, passes_to, passes_on}
+use Rattle.tc_journal.specs.Batch.{is_adopted, is_section, begins, last_of, allows_of, may_go_on, ends_thread, ends_section, passes_to, passes_on}
+use Rattle.tc_journal.specs.Handing.{was_cut}
 use Rattle.tc_journal.specs.declared.block.Block.{Block}
-use Rattle.tc_journal.specs.declared.block.End.TheVariants.{Wants, Unlocked}
+use Rattle.tc_journal.specs.declared.block.End.TheVariants.{Wants, Unlocked, Cut}
 use Rattle.tc_journal.specs.declared.block.Kind.{Kind}
 use Rattle.tc_journal.specs.declared.block.Kind.TheVariants.{Start, On}
 use Rattle.tc_turn.specs.Memory.{own_of}
@@ -60,6 +61,15 @@ locks_in p = p.context.locks
 abbrev pub granted_lock : Option Grant → Option ℕ
 granted_lock None = None
 granted_lock (Some g) = Some g.lock
+
+-- a lock was granted as Adopted
+abbrev pub grants_adopted : Option Grant → Bool
+grants_adopted None = false
+grants_adopted (Some g) = is_adopted g.kind
+
+-- the package may go on at its worker alone: a lock was granted to it as Adopted, or its last block was cut
+abbrev pub is_pinned : PackageView → Bool
+is_pinned p = grants_adopted p.granted || was_cut (last_of p.log)
 
 -- the lock that the next turn takes, where the thread runs and that turn is a lawful LOCK
 abbrev pub want_of : Shown → Context → Option ℕ
@@ -147,12 +157,13 @@ pub record IsStored (p : PackageView) (k : ℕ) (l : LockView) : Type 0 where
   pub at : IsAt p.pending p k l
 
 -- the thread is as its block b left it: it runs unless the block ended it, is about to take the lock that the block's end
--- wants, and holds those locks of the block of which the block ended no section; a lock that the end releases is the block's,
--- which has no more locks than a thread may hold
+-- wants, takes none where the block was cut, and holds those locks of the block of which the block ended no section; a lock that
+-- the end releases is the block's, which has no more locks than a thread may hold
 pub record IsAfter (image : Shown) (p : Context) (b : Block) : Type 0 where
   pub thread : b.thread ≡ p.thread
   pub runs : is_running p.guest.status ≡ not (ends_thread b.end)
   pub next : (k : ℕ) → b.end ≡ Wants k → next_lock image (thread_in p) ≡ Some k
+  pub cut : b.end ≡ Cut → next_lock image (thread_in p) ≡ None
   pub held : (k : ℕ) → has p.guest.held k ≡ (has b.held k && not (ends_section k b))
   pub released : (k : ℕ) → b.end ≡ Unlocked k → has b.held k ≡ true
   pub few : length (locks_of b.held) ≤ MAX_HELD

@@ -5,6 +5,7 @@ ghost use Rattle.std.specs.Arc.{arc_value};
 ghost use Rattle.tc_isa.specs.Sets.{has};
 ghost use Rattle.tc_isa.specs.declared.limits.TheConstants.{MAX_FUEL};
 ghost use Rattle.tc_journal.specs.Batch.{is_section, last_of};
+ghost use Rattle.tc_journal.specs.Handing.{was_cut};
 ghost use Rattle.tc_journal.specs.declared.block.End.TheVariants.{Slept};
 ghost use Rattle.tc_turn.specs.Memory.{own_of, own_at_start};
 ghost use Rattle.tc_turn.specs.declared.status.Status.TheVariants.{Running};
@@ -12,7 +13,7 @@ ghost use Rattle.tc_segment.specs.View.{IsAtRest};
 ghost use Rattle.tc_context.specs.Locks.{lock_in, IsPlaced};
 ghost use Rattle.tc_context.specs.Ran.{DidRun};
 ghost use Rattle.tc_context.specs.Kept.{DidSealLast, IsSameLog, guest_in};
-ghost use Rattle.tc_context.specs.View.{granted_lock, want_of, kind_of, fits_of, number_in, with_grant, with_seal, with_turns, without_lock};
+ghost use Rattle.tc_context.specs.View.{granted_lock, is_pinned, want_of, kind_of, fits_of, number_in, with_grant, with_seal, with_turns, without_lock};
 ghost use Rattle.tc_context.specs.View.{thread_number, regs_in, fuel_in, status_in, held_in, own_in, locks_in};
 ghost use Rattle.tc_context.specs.View.{IsFresh, IsSoundPackage, WantIsLawful, IsReserved, IsRoomier, WantIsGranted, HasBlock, AllowsPending, IsWaiting, MayPassTo, IsNumber, IsNumbered, LastIsSealed};
 
@@ -198,6 +199,28 @@ impl Package {
         ensures { result ≡ granted_lock self.now.granted }
     {
         Some(self.contents.granted?.lock)
+    }
+
+    /// Whether the package may go on at its worker alone: a lock was granted to it as Adopted, or its
+    /// last block was cut.
+    pub fn is_pinned(&self) -> bool
+        ensures { result ≡ is_pinned self.now }
+    {
+        let adopted = match self.contents.granted {
+            Some(grant) => matches!(grant.kind, Kind::Adopted),
+            None => false,
+        };
+        adopted || self.was_cut()
+    }
+
+    /// Whether the last block of its log was cut, after as many turns as a block may have.
+    pub fn was_cut(&self) -> bool
+        ensures { result ≡ was_cut (last_of self.now.log) }
+    {
+        match self.contents.log.last() {
+            Some(block) => matches!(block.end, End::Cut),
+            None => false,
+        }
     }
 
     /// The thread of this number at its start, with no lock. Its instructions are decoded one by

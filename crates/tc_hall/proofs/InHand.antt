@@ -5,6 +5,8 @@ use Rattle.std.proofs.lemmas.Bool.Decides.{eqb_tells}
 use Rattle.std.proofs.lemmas.Nat.Bits.{bit_at-zero}
 use Rattle.tc_isa.specs.Sets.{has}
 use Rattle.tc_elf.specs.Shown.{Shown}
+use Rattle.tc_journal.specs.Batch.{last_of}
+use Rattle.tc_journal.specs.Handing.{was_cut}
 use Rattle.tc_journal.specs.declared.block.Block.{Block}
 use Rattle.tc_turn.specs.Turn.{is_running}
 use Rattle.tc_segment.specs.View.{LockView, IsAtRest, kept}
@@ -27,10 +29,11 @@ use Rattle.tc_hall.specs.declared.place.Place.TheVariants.{Ready}
 use Rattle.tc_hall.specs.Places.{code_of}
 use Rattle.tc_hall.specs.PassView.{PassView, HallView}
 use Rattle.tc_hall.specs.Hands.{IsInHand, Plays, IsIdle}
-use Rattle.tc_hall.specs.Rule.{Has, IsInOrder, grants_adopted, locked_in, threads, locks}
+use Rattle.tc_hall.specs.Rule.{Has, IsInOrder, grants_adopted, is_pinned, last_by, locked_in, threads, locks}
 use Rattle.tc_hall.specs.Outs.{Outs, outs, nothing, keep, unless, erase, Pack, Loose, IsOut, Item, part}
-use Rattle.tc_hall.specs.Steps.{IsSamePass, Gets, Seals, DidSeal, MayPut, Gave, Takes, MayFree, Freed, IsNew, IsFree, HasAll, HasSeenAll, after_look, after_miss, merged}
+use Rattle.tc_hall.specs.Steps.{HandsPending, IsSamePass, Gets, Seals, DidSeal, MayPut, Gave, Takes, MayFree, Freed, IsNew, IsFree, HasAll, HasSeenAll, after_look, after_miss, merged}
 use Rattle.tc_hall.proofs.Outs.{same_outs, found, is_there, has_out, loose_out}
+use Rattle.tc_hall.proofs.Behind.{same_last, together_uncut, unpinned}
 use Rattle.tc_hall.proofs.Cases.{apart, clash}
 
 -- what is out besides is out
@@ -54,8 +57,8 @@ beside o l q free = (
     past : (a b x : Option LockView) (m : LockView) → (a ≡ None) ⊎ (b ≡ None) → b ≡ Some m → x ≡ Some m → unless a x ≡ Some m
     past a b x m none is there = ⊎_elim (λ (e : a ≡ None). ap (λ (z : Option LockView). unless z x) e ∙ there) (λ (e : b ≡ None). absurd (clash b m e is)) none
 
-pub plays_on : {hall : HallView} (v w : PassView) → Plays hall v → IsSamePass v w → Plays hall w
-plays_on v w plays same = record { own = same.0 ∙ plays.own; two = plays.two; one = plays.one }
+pub plays_on : {hall : HallView} (v w : PassView) → Plays hall v → IsSamePass v w → last_by w.knows ≡ last_by v.knows → Plays hall w
+plays_on v w plays same last = record { own = same.0 ∙ plays.own; two = plays.two; one = plays.one; uncut = ap was_cut last ∙ plays.uncut }
 
 pub claimed : (word t : ℕ) (q : PackageView) (v w : Knows) → Gets word t q v w → outs v ≡ nothing → IsInHand w q
 claimed word t q v w got free = record {
@@ -91,14 +94,16 @@ erase_as o a b thread set = same_outs (erase o (Pack a)) (erase o (Pack b))
     by_lock (Some l) None x e = let n : ⊥ = cc in absurd n
 
 -- the block that ran may be sealed
-pub seals : (image : Shown) (q p u : PackageView) (v : Knows) → IsInHand v q → v.image ≡ image → IsRoomier q p → DidRun image p u → fits_of p v.worker ≡ true → Seals v u
-seals image q p u v hand is same ran fits =
+pub seals : (image : Shown) (q p u : PackageView) (v : Knows) → IsInHand v q → v.image ≡ image → IsRoomier q p → DidRun image p u → fits_of p v.worker ≡ true → HandsPending v u → was_cut (last_by v) ≡ false → was_cut (last_of p.log) ≡ false → Seals v u
+seals image q p u v hand is same ran fits handed uncut uncut' =
     let thread : u.context.thread ≡ q.context.thread = ran.runs.keeps.thread ∙ ap (λ (z : PackageView). z.context.thread) same.rest in record {
       before = p;
       has = subst (λ (z : ℕ). Has v z (bare p)) (sym thread) (subst (λ (z : PackageView). Has v q.context.thread z) (sym same.rest) (has_out v q hand.out));
       locks = λ i l e. is_there v.locks i (kept l) (hand.out.locks i (kept l) (sym (as_kept (locked_in p i) (locked_in q i) (same.locks i)) ∙ ap keep e));
       ran = subst (λ (z : Shown). DidRun z p u) (sym is) ran;
       allows = λ b e. (let one : ran.block ≡ b = cc (ran.pending, e) in subst (λ (z : Block). Allows u.context z v.worker) one (ran.fits v.worker fits));
+      handed = handed;
+      together = together_uncut (last_by v) (last_of p.log) uncut uncut';
     }
   where
     as_kept : (c d : Option LockView) → option_map kept c ≡ option_map kept d → keep c ≡ keep d
@@ -258,9 +263,9 @@ pub is_none : (o : Option LockView) → is_some o ≡ false → o ≡ None
 is_none None e = refl
 is_none (Some l) e = let n : ⊥ = cc in absurd n
 
-pub may_put : (place : Place) (v : Knows) (q : PackageView) → IsOut (outs v) (Pack q) → ((k : ℕ) → set_of q.context k ≡ false) → q.granted ≡ None
+pub may_put : (place : Place) (v : Knows) (q : PackageView) → IsOut (outs v) (Pack q) → ((k : ℕ) → set_of q.context k ≡ false) → q.granted ≡ None → was_cut (last_of q.log) ≡ false
     → (code_of place ≡ 2 → is_running q.context.guest.status ≡ false) → (code_of place ≢ 2 → is_running q.context.guest.status ≡ true) → ((i : ℕ) → code_of place ≡ 256 + i → want_of q.image q.context ≡ Some i) → MayPut place v q
-may_put place v q out none granted ended runs waits =
+may_put place v q out none granted uncut ended runs waits =
     let no_lock : (i : ℕ) (l : LockView) → locked_in q i ≡ Some l → ⊥ = λ i l e. apart (set_of q.context i) (none i) (ap is_some e) in record {
       has = has_out v q out;
       locks = λ i l e. absurd (no_lock i l e);
@@ -271,12 +276,12 @@ may_put place v q out none granted ended runs waits =
         waits = waits;
         ready = λ g e. absurd (clash q.granted g granted e);
       };
-      stop = λ e. absurd (apart (grants_adopted q.granted) (ap grants_adopted granted) e);
+      stop = λ e. absurd (apart (is_pinned q) (unpinned q (ap grants_adopted granted) uncut) e);
       fits = λ _. ap (λ (o : Option Grant). fits_granted q.context o v.worker) granted;
     }
 
 pub put_idle : {hall : HallView} {image : Shown} (place : Place) (q : PackageView) (v w : PassView) → Plays hall v → v.knows.image ≡ image → IsInHand v.knows q → IsSamePass v w → Gave place q v.knows w.knows → IsIdle hall image w
-put_idle place q v w plays runs hand same gave = record { plays = plays_on v w plays same; runs = gave.called.image ∙ runs; free = gave.rest ∙ hand.only }
+put_idle place q v w plays runs hand same gave = record { plays = plays_on v w plays same (same_last _ v.knows w.knows gave.called); runs = gave.called.image ∙ runs; free = gave.rest ∙ hand.only }
 
 -- ---- at the start and at the end
 
@@ -289,7 +294,7 @@ new_out image n m worker v is = ap outs is.now ∙ same_outs _ nothing (λ u. no
     none_at (suc n) (suc i) = none_at n i
 
 pub new_idle : (hall : HallView) (image : Shown) (p : PassView) (n m worker : ℕ) → threads hall.terms ≡ 2 → locks hall.terms ≡ 1 → (p.table ≡ hall.table) × IsNew image n m worker p.knows → IsIdle hall image p
-new_idle hall image p n m worker two one is = record { plays = record { own = is.0; two = two; one = one }; runs = is.1.of; free = new_out image n m worker p.knows is.1 }
+new_idle hall image p n m worker two one is = record { plays = record { own = is.0; two = two; one = one; uncut = ap (λ (v : Knows). was_cut (last_by v)) is.1.now }; runs = is.1.of; free = new_out image n m worker p.knows is.1 }
 
 pub is_free : (v : Knows) → outs v ≡ nothing → IsFree v
 is_free v free = record {

@@ -3,6 +3,7 @@ pub mod LockLists
 pub mod Outs
 pub mod Placing
 pub mod Packing
+pub mod Listing
 pub mod Ranks
 pub mod Moves
 pub mod Telling
@@ -20,6 +21,7 @@ pub mod Holding
 pub mod Putting
 pub mod Dealt
 pub mod Waiting
+pub mod Behind
 pub mod InHand
 pub mod Crossing
 pub mod Shows

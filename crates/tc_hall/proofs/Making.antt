@@ -22,6 +22,7 @@ use Rattle.tc_hall.proofs.Telling.{snoc_at}
 use Rattle.tc_hall.proofs.Placing.{stays}
 use Rattle.tc_hall.proofs.Packing.{locks_stay}
 use Rattle.tc_hall.proofs.Cases.{apart}
+use Rattle.tc_hall.proofs.Listing.{at_append, either_at, listed_deals, listed_joins}
 use Rattle.tc_hall.proofs.Ranks.{pass_kept, pass_same, passes_stay, stop_stays, IsTrueCall}
 
 none_there : {A : Type 0} (n t : ℕ) (p : A) → ¬ (get_elem? (replicate n None) t ≡ some (Some p))
@@ -29,10 +30,10 @@ none_there zero t p e = some-ne-none (Some p) (sym e)
 none_there (suc n) zero p e = let f : None ≡ Some p = some-injective None (Some p) e in cc f
 none_there (suc n) (suc t) p e = none_there n t p e
 
-no_misfit : (n t : ℕ) → ¬ (get_elem? (replicate n false) t ≡ some true)
-no_misfit zero t e = some-ne-none true (sym e)
-no_misfit (suc n) zero e = let f : false ≡ true = some-injective false true e in cc f
-no_misfit (suc n) (suc t) e = no_misfit n t e
+no_pinned : (n t : ℕ) → ¬ (get_elem? (replicate n false) t ≡ some true)
+no_pinned zero t e = some-ne-none true (sym e)
+no_pinned (suc n) zero e = let f : false ≡ true = some-injective false true e in cc f
+no_pinned (suc n) (suc t) e = no_pinned n t e
 
 pub clean_free : (image : Shown) (n m worker : ℕ) (maker : Bool) → IsFree (clean image n m worker maker)
 clean_free image n m worker maker = record { packages = λ t p e. none_there n t p e; locks = λ i l e. none_there m i l e }
@@ -50,7 +51,7 @@ clean_pass image its workers h ws n m worker maker same below long = record {
   done = λ i t e. absurd (some-ne-none (Look t 2) (sym e));
   stop = λ i e. absurd (some-ne-none Stop (sym e));
   stopped = λ i e. absurd (some-ne-none (Stopped 1) (sym e));
-  misfit = λ t e. absurd (no_misfit n t e);
+  pinned = λ t e. absurd (no_pinned n t e);
   sized = λ live. length-replicate n false ∙ long;
 }
 
@@ -184,15 +185,6 @@ module _ (vs : List Knows) (id : ℕ) (v : Knows) (n m : ℕ) (at : get_elem? vs
       the_maker : (i : ℕ) (x : Knows) → i ≡ id → get_elem? (set vs id left ++ right ∷ []) i ≡ some x → left ≡ x
       the_maker i x is e = some-injective left x (sym (at_longer (set vs id left) (right ∷ []) i left (ap (get_elem? (set vs id left)) is ∙ set_here vs id left (there vs id v v at).0)) ∙ e)
 
-at_append : {A : Type 0} (xs ys : List A) (i : ℕ) (a : A) → get_elem? ys i ≡ some a → (j : ℕ) × (get_elem? (xs ++ ys) j ≡ some a)
-at_append [] ys i a e = (i, e)
-at_append (x ∷ xs) ys i a e = let r = at_append xs ys i a e in (suc r.0, r.1)
-
-either_at : {A : Type 0} (xs ys : List A) (i : ℕ) (a : A) → get_elem? (xs ++ ys) i ≡ some a → (get_elem? xs i ≡ some a) ⊎ ((j : ℕ) × (get_elem? ys j ≡ some a))
-either_at [] ys i a e = inr (i, e)
-either_at (x ∷ xs) ys zero a e = inl e
-either_at (x ∷ xs) ys (suc i) a e = either_at xs ys i a e
-
 -- of the passes' numbers, when one is joined into another
 module _ (vs : List Knows) (id other : ℕ) (v w : Knows) (at : get_elem? vs id ≡ some v) (its : get_elem? vs other ≡ some w) (live : v.spent ≡ false) (lives : w.spent ≡ false) (ne : other ≢ id) (a : AreApart vs) where
   abbrev pub both : Knows
@@ -309,6 +301,7 @@ module _ (k : Terms) where
             (at_snoc vs' new x j e);
         stop = λ e. let h = stop_stays s.views id v left at (λ i e. (i, e)) (r.stop e) in record { id = h.id; view = h.view; pass = at_longer vs' (new ∷ []) h.id h.view h.pass; place = h.place; call = h.call };
         apart = apart_deals s.views id v (length v.packages) (length v.locks) at live makes room r.apart;
+        listed = listed_deals r.told.history s.views id v (length v.packages) (length v.locks) at makes room r.listed;
       }
 
   pub joins : (id : ℕ) (v : Knows) (other : ℕ) (w : Knows) → v.spent ≡ false → w.spent ≡ false → IsFree w → Joins (KeptHall k) id v other w (merged v w) gone
@@ -343,11 +336,12 @@ module _ (k : Terms) where
           done = λ i t e. absurd (some-ne-none (Look t 2) (sym e));
           stop = λ i e. absurd (some-ne-none Stop (sym e));
           stopped = λ i e. absurd (some-ne-none (Stopped 1) (sym e));
-          misfit = λ t e. absurd (some-ne-none true (sym e));
+          pinned = λ t e. absurd (some-ne-none true (sym e));
           sized = λ live. absurd (apart true live refl);
         };
         stop = λ e. stop_joins s.views id other v w at its live lives ne r.apart (r.stop e);
         apart = apart_joins s.views id other v w at its live lives ne r.apart;
+        listed = listed_joins r.told.history s.views id other v w at its live lives ne r.apart r.listed;
       }
     where
       joined_below : (f u : ℕ) → IsPass k.image.value k.workers r.told.history s.words w → get_elem? (w.worker ∷ w.joined) f ≡ some u → u < k.workers

@@ -1,5 +1,5 @@
 -- Each step on a package keeps the rule.
-use Rattle.std.proofs.Common.{◌≡◌, ◌≢◌, ◌⊎◌, ℕ, ◌+◌, ◌<◌, Bool, true, false, not, List, [], ◌∷◌, length, set, sym, refl, ap, ◌∙◌, subst, ⊎_elim, inl, inr, arith, Option, Some, None, slice_index, length-set, get_or-set_other, get_or-set_same}
+use Rattle.std.proofs.Common.{◌≡◌, ◌≢◌, ◌⊎◌, ℕ, ◌+◌, ◌<◌, Bool, true, false, List, [], ◌∷◌, length, set, sym, refl, ap, ◌∙◌, subst, ⊎_elim, inl, inr, arith, Option, Some, None, slice_index, length-set, get_or-set_other, get_or-set_same}
 use mathlib.Core.Logic.{dite}
 use mathlib.Core.Option.{none, some, some-injective, some-ne-none}
 use mathlib.Core.Option as maybe
@@ -9,7 +9,7 @@ use lib.Seq.{set-get_or}
 use Rattle.atomic_table.specs.Table.{State, keeps, takes, gives, stepped}
 use Rattle.atomic_table.proofs.Lists.{at_set, set_here, set_else}
 use Rattle.tc_segment.specs.View.{LockView, kept}
-use Rattle.tc_context.specs.View.{PackageView, bare, fits_of}
+use Rattle.tc_context.specs.View.{PackageView, bare}
 use Rattle.tc_law.specs.Lawful.{IsPackageAfter}
 use Rattle.tc_mutex_spec.proofs.ListLaws.{there, at_place}
 use Rattle.tc_hall.specs.declared.board.TheConstants.{CLOCK, STOP}
@@ -18,14 +18,15 @@ use Rattle.tc_hall.specs.declared.board.Knows.{Knows}
 use Rattle.tc_hall.specs.declared.board.Terms.{Terms}
 use Rattle.tc_hall.specs.declared.board.Cargo.{Cargo}
 use Rattle.tc_hall.specs.declared.board.Cargo.TheVariants.{Package}
-use Rattle.tc_hall.specs.Rule.{locked_in, threads, locks, Homes, Has, HasLock, IsHome, IsPackageOut, Lies, KeptHall}
+use Rattle.tc_hall.specs.Rule.{is_pinned, locked_in, threads, locks, Homes, Has, HasLock, IsHome, IsPackageOut, Lies, KeptHall}
 use Rattle.tc_hall.specs.Steps.{Gets, after_claim, after_miss}
 use Rattle.tc_hall.proofs.Placing.{moves, stays}
 use Rattle.tc_hall.proofs.Cases.{clash, same_some, clash_at, same_at, same_package, out_inside}
 use Rattle.tc_hall.proofs.Packing.{claims_locks, locks_stay}
 use Rattle.tc_hall.proofs.LockLists.{add_all-has}
 use Rattle.tc_hall.proofs.Outs.{package_came, no_call_claimed}
-use Rattle.tc_hall.proofs.Ranks.{apart_stays, stop_stays, pass_kept, pass_same, passes_stay, done_still, stops_still, stops_back, misfit_stop}
+use Rattle.tc_hall.proofs.Listing.{listed_stays}
+use Rattle.tc_hall.proofs.Ranks.{apart_stays, stop_stays, pass_kept, pass_same, passes_stay, done_still, stops_still, stops_back}
 
 pub some_same : (u t : ℕ) → Some t ≡ Some u → u ≡ t
 some_same u t e = cc e
@@ -72,6 +73,7 @@ module _ (k : Terms) where
         passes = passes_stay k.image.value k.workers h h s.words s.words (λ b e. e) (λ u e. e) (λ e. e) s.views id w r.passes (pass_same k.image.value k.workers h h s.words s.words (λ b e. e) (λ u e. e) (λ e. e) v w (r.passes id v at) (refl, refl, refl, refl) refl refl refl refl);
         stop = λ e. stop_stays s.views id v w at (λ i e. (i, e)) (r.stop e);
         apart = apart_stays s.views id v w at record { worker = refl; maker = refl; made = refl; spent = refl; joined = refl } live r.apart;
+        listed = listed_stays r.told.history s.views id v w at r.listed record { worker = refl; maker = refl; made = omega arith; spent = refl; joined = refl; sealed = refl };
       }
 
   abbrev pub taken : Knows → ℕ → PackageView → Knows
@@ -107,10 +109,11 @@ module _ (k : Terms) where
         locks_placed = claims_locks (threads k) (locks k) r.told.segments s.words ws' s.homes s.views id v w q r.locks_placed r.told.law.all_states at live refl refl
             (λ i. get_or-set_other s.words (slot_word t) (slot_word (threads k + i)) new 0 (λ e. omega arith)) t below h.slot free refl;
         passes = passes_stay k.image.value k.workers r.told.history r.told.history s.words ws' (λ b e. e) done stops s.views id w r.passes
-            (pass_kept k.image.value k.workers r.told.history r.told.history s.words ws' (λ b e. e) done stops v w old (refl, refl, refl, length-set v.misfits q.context.thread (not (fits_of q v.worker))) (λ i u e. inl e) (λ i b e. inl e) (λ i c e. inl e)
-            (λ u e. ⊎_elim (λ (o : (u ≡ q.context.thread) × (not (fits_of q v.worker) ≡ true)). inr (stops (misfit_stop (slice_index s.words STOP) q v.worker h.fits o.1))) (λ (o : (u ≢ q.context.thread) × (get_elem? v.misfits u ≡ some true)). inl o.1) (at_set v.misfits q.context.thread u (not (fits_of q v.worker)) true e)));
+            (pass_kept k.image.value k.workers r.told.history r.told.history s.words ws' (λ b e. e) done stops v w old (refl, refl, refl, length-set v.pinned q.context.thread (is_pinned q)) (λ i u e. inl e) (λ i b e. inl e) (λ i c e. inl e)
+            (λ u e. ⊎_elim (λ (o : (u ≡ q.context.thread) × (is_pinned q ≡ true)). inr (stops (h.fits.stop o.1))) (λ (o : (u ≢ q.context.thread) × (get_elem? v.pinned u ≡ some true)). inl o.1) (at_set v.pinned q.context.thread u (is_pinned q) true e)));
         stop = λ e. stop_stays s.views id v w at (λ i e. (i, e)) (r.stop (stops_back s.words (slot_word t) new (λ e. omega arith) e));
         apart = apart_stays s.views id v w at record { worker = refl; maker = refl; made = refl; spent = refl; joined = refl } live r.apart;
+        listed = listed_stays r.told.history s.views id v w at r.listed record { worker = refl; maker = refl; made = omega arith; spent = refl; joined = refl; sealed = refl };
       }
 
   -- what the pass learns of it
@@ -134,8 +137,8 @@ module _ (k : Terms) where
             (λ p' has. some-ne-none id (sym (r.placed.owned id v q.context.thread p' at has).0 ∙ (ap r.placed.holder thread ∙ is_home)))
             (λ i l e l' has. out_inside id t (r.locks_placed.spot i) (r.locks_placed.owned id v i l' at has).0 (r.locks_placed.packed t q i l below h.slot e).0);
         called = no_call_claimed v q;
-        misfit = λ e. subst (λ (z : ℕ). get_elem? (set v.misfits z (not (fits_of q v.worker))) t ≡ some (not (fits_of q v.worker))) (sym thread)
-            (set_here v.misfits t (not (fits_of q v.worker)) (let n = (r.passes id v at).sized live in omega (arith, n, below))) ∙ ap (λ (z : Bool). some (not z)) e;
+        pinned = λ e. subst (λ (z : ℕ). get_elem? (set v.pinned z (is_pinned q)) t ≡ some (is_pinned q)) (sym thread)
+            (set_here v.pinned t (is_pinned q) (let n = (r.passes id v at).sized live in omega (arith, n, below))) ∙ ap (λ (z : Bool). some z) e;
       }
 
   -- the package in the slot of a thread, as the rule has it there
@@ -204,9 +207,10 @@ module _ (k : Terms) where
             (λ u q _ e. full_still s.homes t a b slot full u q e) (λ u q _ e. full_back s.homes t b full' u q e) (ap (λ (z : Knows). z.locks) same) (ap (λ (z : Knows). z.spent) same)
             (λ i e. absurd (to (threads k + i) (λ e. omega arith) e)) (λ i e. absurd (back (threads k + i) (λ e. omega arith) e)) r.locks_placed;
         passes = passes_stay k.image.value k.workers r.told.history r.told.history s.words s.words (λ b e. e) (λ u e. e) (λ e. e) s.views id w r.passes
-            (pass_same k.image.value k.workers r.told.history r.told.history s.words s.words (λ b e. e) (λ u e. e) (λ e. e) v w old (ap (λ (z : Knows). z.worker) same, ap (λ (z : Knows). z.spent) same, ap (λ (z : Knows). z.image) same, ap (λ (z : Knows). length z.misfits) same) (ap (λ (z : Knows). z.joined) same) (ap (λ (z : Knows). z.sealed) same) (ap (λ (z : Knows). z.calls) same) (ap (λ (z : Knows). z.misfits) same));
+            (pass_same k.image.value k.workers r.told.history r.told.history s.words s.words (λ b e. e) (λ u e. e) (λ e. e) v w old (ap (λ (z : Knows). z.worker) same, ap (λ (z : Knows). z.spent) same, ap (λ (z : Knows). z.image) same, ap (λ (z : Knows). length z.pinned) same) (ap (λ (z : Knows). z.joined) same) (ap (λ (z : Knows). z.sealed) same) (ap (λ (z : Knows). z.calls) same) (ap (λ (z : Knows). z.pinned) same));
         stop = λ e. stop_stays s.views id v w at (λ i e. (i, ap (λ (z : Knows). get_elem? z.calls i) same ∙ e)) (r.stop e);
         apart = apart_stays s.views id v w at record { worker = ap (λ (z : Knows). z.worker) same; maker = ap (λ (z : Knows). z.maker) same; made = ap (λ (z : Knows). z.made) same; spent = ap (λ (z : Knows). z.spent) same; joined = ap (λ (z : Knows). z.joined) same } live r.apart;
+        listed = listed_stays r.told.history s.views id v w at r.listed record { worker = ap (λ (z : Knows). z.worker) same; maker = ap (λ (z : Knows). z.maker) same; made = let e = ap (λ (z : Knows). z.made) same in omega arith; spent = ap (λ (z : Knows). z.spent) same; joined = ap (λ (z : Knows). z.joined) same; sealed = ap (λ (z : Knows). z.sealed) same };
       }
     where
       to : (u : ℕ) → u ≢ t → v.hand ≡ Some u → ⊥

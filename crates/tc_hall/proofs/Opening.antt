@@ -1,5 +1,5 @@
 -- How a hall opens, and how its passes are dealt.
-use Rattle.std.proofs.Common.{◌≡◌, ◌≢◌, ℕ, zero, suc, ◌+◌, ◌-◌, ◌*◌, ◌<◌, ◌≤◌, true, false, List, [], ◌∷◌, ◌++◌, length, map, replicate, sym, refl, ap, ◌∙◌, subst, ⊎_elim, arith, Option, Some, None, slice_index, length-append}
+use Rattle.std.proofs.Common.{◌≡◌, ◌≢◌, ℕ, zero, suc, ◌+◌, ◌-◌, ◌*◌, ◌<◌, ◌≤◌, ◌||◌, true, false, List, [], ◌∷◌, ◌++◌, length, map, replicate, sym, refl, ap, ◌∙◌, subst, ⊎_elim, arith, Option, Some, None, slice_index, length-append}
 use Rattle.std.specs.List.{fold}
 use Rattle.std.proofs.lemmas.List.{get_or-replicate, map-append}
 use mathlib.Core.Logic.{dite}
@@ -11,6 +11,8 @@ use Rattle.atomic_table.specs.Seated.{TableId}
 use Rattle.atomic_table.specs.declared.shared.Seat.{Seat}
 use Rattle.atomic_table.proofs.Lists.{at_longer, at_last, at_map}
 use Rattle.tc_elf.specs.Shown.{Shown}
+use Rattle.tc_journal.specs.Batch.{last_of}
+use Rattle.tc_journal.specs.Handing.{was_cut}
 use Rattle.tc_turn.specs.Turn.{Thread, is_running}
 use Rattle.tc_journal.specs.declared.block.Block.{Block}
 use Rattle.tc_segment.specs.View.{LockView, IsStrict, kept, fresh_state}
@@ -24,7 +26,7 @@ use Rattle.tc_hall.specs.declared.board.Knows.{Knows}
 use Rattle.tc_hall.specs.declared.board.Terms.{Terms}
 use Rattle.tc_hall.specs.declared.board.Cargo.{Cargo}
 use Rattle.tc_hall.specs.declared.board.Cargo.TheVariants.{Package, Lock}
-use Rattle.tc_hall.specs.Rule.{grants_adopted, locked_in, threads, locks, home, IsPass, IsInLimits, KeptHall, clean, starting as first_view}
+use Rattle.tc_hall.specs.Rule.{grants_adopted, is_pinned, locked_in, threads, locks, home, IsPass, IsInLimits, KeptHall, clean, last_by, starting as first_view}
 use Rattle.tc_hall.specs.Steps.{dealt, fresh, IsNew}
 use Rattle.tc_hall.specs.Made.{AreStocked, AreDealt, IsMaker}
 use Rattle.tc_hall.specs.PassView.{PassView}
@@ -130,6 +132,9 @@ module _ (k : Terms) where
           })));
           strict = λ i l e. subst (λ (x : LockView). IsStrict x) (tabled-at (λ i. fresh_state k.image.value i k.limit) m i l e).1 refl;
           workers = λ i b e. absurd (some-ne-none b (sym e));
+          handed = λ w. tt;
+          runs_on = λ w. tt;
+          stays = λ t. tt;
         };
         words = ap (λ (l : List ℕ). length l) zeros ∙ length-replicate (slot_word (n + m)) 0;
         slots = length-map slots some ∙ ready.count;
@@ -152,7 +157,7 @@ module _ (k : Terms) where
                   ready = λ g z. word;
                 };
                 fits = let none' : q.0.granted ≡ None = q.2.granted in
-                    record { stop = λ z. absurd (apart (grants_adopted q.0.granted) (ap grants_adopted none') z); fits = λ _ u. ap (λ o. fits_granted q.0.context o u) none' };
+                    record { stop = λ z. absurd (apart (is_pinned q.0) (λ i. grants_adopted (none' i) || was_cut (last_of (q.2.log i))) z); fits = λ _ u. ap (λ o. fits_granted q.0.context o u) none' };
               };
           sized = λ id v e live. ap (λ (z : Knows). length z.packages) (sym (first_is id v e).1) ∙ length-replicate n None;
           owned = λ id v t p e has. absurd ((clean_free k.image.value n m (k.workers - 1) true).packages t p (ap (λ (z : Knows). get_elem? z.packages t) (first_is id v e).1 ∙ has));
@@ -182,6 +187,11 @@ module _ (k : Terms) where
           fresh = λ i j e u v w ev mv ew h. absurd (some-ne-none u (sym (ap (λ (z : Knows). get_elem? z.joined e) (first_is j w ew).1 ∙ h)));
           sole = λ i j v w ev ew mv mw. (first_is i v ev).0 ∙ sym (first_is j w ew).0;
           spent = λ i v e s. absurd (apart v.spent (ap (λ (z : Knows). z.spent) (sym (first_is i v e).1)) s);
+        };
+        listed = record {
+          newest = λ i v e live. ap (λ (z : Knows). last_by z) (first_is i v e).1;
+          owned = λ i j v b e f. absurd (some-ne-none b (sym (ap (λ (z : Knows). get_elem? z.sealed j) (first_is i v e).1 ∙ f)));
+          made = λ i j v b e m f. absurd (some-ne-none b (sym f));
         };
       }
 

@@ -1,5 +1,5 @@
 -- What stays true of the passes when one of them has a new view.
-use Rattle.std.proofs.Common.{◌≡◌, ◌≢◌, ◌⊎◌, ℕ, ◌<◌, Bool, true, false, not, List, length, set, sym, refl, ap, ◌∙◌, subst, ⊎_elim, inl, slice_index, get_or-set_other}
+use Rattle.std.proofs.Common.{◌≡◌, ◌≢◌, ◌⊎◌, ℕ, ◌<◌, Bool, true, false, List, length, set, sym, refl, ap, ◌∙◌, subst, ⊎_elim, inl, slice_index, get_or-set_other}
 use mathlib.Core.Logic.{dite}
 use mathlib.Core.Option.{some, some-injective}
 use native.Mathlib.Decide.{ℕ_discrete}
@@ -7,14 +7,13 @@ use lib.ListN.{get_elem?}
 use Rattle.atomic_table.proofs.Lists.{at_set, set_here, set_else}
 use Rattle.tc_elf.specs.Shown.{Shown}
 use Rattle.tc_journal.specs.declared.block.Block.{Block}
-use Rattle.tc_context.specs.View.{PackageView, fits_of}
 use Rattle.tc_mutex_spec.proofs.ListLaws.{there}
 use Rattle.tc_hall.specs.declared.board.TheConstants.{STOP}
 use Rattle.tc_hall.specs.Places.{slot_word}
 use Rattle.tc_hall.specs.declared.board.Knows.{Knows}
 use Rattle.tc_hall.specs.declared.board.Call.{Call}
 use Rattle.tc_hall.specs.declared.board.Call.TheVariants.{Look, Stop, Stopped, Put, Free}
-use Rattle.tc_hall.specs.Rule.{grants_adopted, IsPass, HasStopped, AreApart, FitsAll}
+use Rattle.tc_hall.specs.Rule.{IsPass, HasStopped, AreApart}
 use Rattle.tc_hall.proofs.Cases.{apart}
 
 pub record IsSameRank (v w : Knows) : Type 0 where
@@ -62,7 +61,7 @@ IsTrueCall ws (Stopped found) = found ≡ 1 → slice_index ws STOP ≡ 1
 
 -- the pass of the same worker, in the same hall, which says of as many threads whether their packages fitted
 abbrev pub IsSameSeat : Knows → Knows → Type 0
-IsSameSeat v w = (w.worker ≡ v.worker) × (w.spent ≡ v.spent) × (w.image ≡ v.image) × (length w.misfits ≡ length v.misfits)
+IsSameSeat v w = (w.worker ≡ v.worker) × (w.spent ≡ v.spent) × (w.image ≡ v.image) × (length w.pinned ≡ length v.pinned)
 
 module _ (image : Shown) (workers : ℕ) (h h' : List Block) (ws ws' : List ℕ) (grows : (b : Block) → get_elem? h b.stamp ≡ some b → get_elem? h' b.stamp ≡ some b)
     (done : (t : ℕ) → slice_index ws (slot_word t) ≡ 2 → slice_index ws' (slot_word t) ≡ 2) (stops : slice_index ws STOP ≡ 1 → slice_index ws' STOP ≡ 1) where
@@ -70,9 +69,9 @@ module _ (image : Shown) (workers : ℕ) (h h' : List Block) (ws ws' : List ℕ)
       → ((i u : ℕ) → get_elem? w.joined i ≡ some u → (get_elem? v.joined i ≡ some u) ⊎ (u < workers))
       → ((i : ℕ) (b : Block) → get_elem? w.sealed i ≡ some b → (get_elem? v.sealed i ≡ some b) ⊎ (get_elem? h' b.stamp ≡ some b))
       → ((i : ℕ) (c : Call) → get_elem? w.calls i ≡ some c → (get_elem? v.calls i ≡ some c) ⊎ IsTrueCall ws' c)
-      → ((t : ℕ) → get_elem? w.misfits t ≡ some true → (get_elem? v.misfits t ≡ some true) ⊎ (slice_index ws' STOP ≡ 1))
+      → ((t : ℕ) → get_elem? w.pinned t ≡ some true → (get_elem? v.pinned t ≡ some true) ⊎ (slice_index ws' STOP ≡ 1))
       → IsPass image workers h' ws' w
-  pass_kept v w old worker joined sealed calls misfits = record {
+  pass_kept v w old worker joined sealed calls pinned = record {
     of = λ live. worker.2 ∙ old.of (sym worker.1 ∙ live);
     worker = subst (λ (z : ℕ). z < workers) (sym worker.0) old.worker;
     joined = λ i u e. ⊎_elim (λ o. old.joined i u o) (λ o. o) (joined i u e);
@@ -80,15 +79,15 @@ module _ (image : Shown) (workers : ℕ) (h h' : List Block) (ws ws' : List ℕ)
     done = λ i t e. ⊎_elim (λ o. done t (old.done i t o)) (λ (o : IsTrueCall ws' (Look t 2)). o refl) (calls i (Look t 2) e);
     stop = λ i e. ⊎_elim (λ o. stops (old.stop i o)) (λ (o : IsTrueCall ws' Stop). o) (calls i Stop e);
     stopped = λ i e. ⊎_elim (λ o. stops (old.stopped i o)) (λ (o : IsTrueCall ws' (Stopped 1)). o refl) (calls i (Stopped 1) e);
-    misfit = λ t e. ⊎_elim (λ o. stops (old.misfit t o)) (λ o. o) (misfits t e);
+    pinned = λ t e. ⊎_elim (λ o. stops (old.pinned t o)) (λ o. o) (pinned t e);
     sized = λ live. worker.3 ∙ old.sized (sym worker.1 ∙ live);
   }
 
   -- of a pass that told nothing new
-  pub pass_same : (v w : Knows) → IsPass image workers h ws v → IsSameSeat v w → w.joined ≡ v.joined → w.sealed ≡ v.sealed → w.calls ≡ v.calls → w.misfits ≡ v.misfits → IsPass image workers h' ws' w
-  pass_same v w old worker joined sealed calls misfits = pass_kept v w old worker
+  pub pass_same : (v w : Knows) → IsPass image workers h ws v → IsSameSeat v w → w.joined ≡ v.joined → w.sealed ≡ v.sealed → w.calls ≡ v.calls → w.pinned ≡ v.pinned → IsPass image workers h' ws' w
+  pass_same v w old worker joined sealed calls pinned = pass_kept v w old worker
       (λ i u e. inl (ap (λ (l : List ℕ). get_elem? l i) (sym joined) ∙ e)) (λ i b e. inl (ap (λ (l : List Block). get_elem? l i) (sym sealed) ∙ e))
-      (λ i c e. inl (ap (λ (l : List Call). get_elem? l i) (sym calls) ∙ e)) (λ t e. inl (ap (λ (l : List Bool). get_elem? l t) (sym misfits) ∙ e))
+      (λ i c e. inl (ap (λ (l : List Call). get_elem? l i) (sym calls) ∙ e)) (λ t e. inl (ap (λ (l : List Bool). get_elem? l t) (sym pinned) ∙ e))
 
   pub passes_stay : (vs : List Knows) (id : ℕ) (w : Knows)
       → ((j : ℕ) (x : Knows) → get_elem? vs j ≡ some x → IsPass image workers h ws x) → IsPass image workers h' ws' w
@@ -107,11 +106,3 @@ stops_still ws j new ne e = get_or-set_other ws j STOP new 0 (λ z. ne (sym z)) 
 
 pub stops_back : (ws : List ℕ) (j new : ℕ) → j ≢ STOP → slice_index (set ws j new) STOP ≡ 1 → slice_index ws STOP ≡ 1
 stops_back ws j new ne e = sym (get_or-set_other ws j STOP new 0 (λ z. ne (sym z))) ∙ e
-
--- a package that doesn't fit comes only after a stop
-pub misfit_stop : (word : ℕ) (q : PackageView) (w : ℕ) → FitsAll word q → not (fits_of q w) ≡ true → word ≡ 1
-misfit_stop word q w f e = by (grants_adopted q.granted) refl
-  where
-    by : (b : Bool) → grants_adopted q.granted ≡ b → word ≡ 1
-    by true is = f.stop is
-    by false is = absurd (apart (not (fits_of q w)) (ap not (f.fits is w)) e)

@@ -1,6 +1,6 @@
 -- `commit` keeps the rule.
 use Rattle.std.proofs.Common.{◌≡◌, ◌≢◌, ◌⊎◌, ℕ, zero, suc, ◌+◌, ◌*◌, ◌%◌, ◌^◌, ◌<◌, ◌≤◌, ◌==◌, Bool, true, false, List, [], ◌∷◌, ◌++◌, length, set, sym, refl, ap, ◌∙◌, subst, ⊎_elim, inl, inr, arith, Some, None, is_some, slice_index, length-set, length-append, get_or-set_other, get_or-set_same, if◌then◌else◌}
-use Rattle.std.specs.Prelude.{filter}
+use Rattle.std.specs.Prelude.{filter, Option}
 use Rattle.std.proofs.lemmas.Nat.{mul-le}
 use mathlib.Core.Option.{none, some, some-injective, some-ne-none}
 use lib.ListN.{get_elem?}
@@ -9,7 +9,11 @@ use Rattle.atomic_table.proofs.Lists.{set_here, set_else, at_longer, at_last}
 use Rattle.tc_isa.specs.Sets.{has}
 use Rattle.tc_elf.specs.declared.limits.TheConstants.{MAX_THREADS}
 use Rattle.tc_elf.specs.Shown.{Shown}
+use Rattle.tc_journal.specs.Batch.{last_of}
+use Rattle.tc_journal.specs.Handing.{of_worker, AreTogether, IsHandedOver, IsRunOn, IsStillAt}
+use Rattle.tc_journal.specs.History.{of_thread}
 use Rattle.tc_journal.specs.declared.block.Block.{Block}
+use Rattle.tc_journal.proofs.Rows.{ComesTogether, each_still, runs_on_from, stays_from, thread_of, worker_of}
 use Rattle.tc_mutex_spec.specs.Blocks.{end_after}
 use Rattle.tc_segment.specs.View.{LockView, kept, with_journal, sealed_as, sealed_block}
 use Rattle.tc_context.specs.Locks.{lock_in}
@@ -33,6 +37,7 @@ use Rattle.tc_hall.proofs.Outs.{seal_outs, package_out}
 use Rattle.tc_hall.proofs.Placing.{moves}
 use Rattle.tc_hall.proofs.Packing.{seals_locks}
 use Rattle.tc_hall.proofs.LockLists.{add_all-has, with_states-has}
+use Rattle.tc_hall.proofs.Listing.{listed_seals}
 use Rattle.tc_hall.proofs.Ranks.{apart_stays, stop_stays, pass_kept, passes_stay, stops_still, stops_back}
 use Rattle.tc_hall.proofs.Telling.{snoc_at}
 use Rattle.tc_hall.proofs.Moves.{St, is_out}
@@ -98,6 +103,18 @@ module _ (k : Terms) (s : St k) (r : KeptHall k s) (id : ℕ) (v : Knows) (q : P
       law_after k.image.value v.image k.fuel k.limit h r.told.places r.told.segments a.before q stamp v.worker (old.of live) (record { threads = r.told.limits.threads; turns = r.told.limits.fuel }) r.told.law o.2 mine a.ran r.clock
       (let x = old.worker in let y = r.told.limits.workers.1 in omega (arith, x, y)) (a.allows a.ran.block a.ran.pending)
 
+  -- it comes directly behind the last block of the worker
+  next : IsHandedOver (last_of (of_worker h b.worker)) b
+  next = subst (λ (o : Option Block). IsHandedOver o b) (sym (r.listed.newest id v at live)) (a.handed a.ran.block a.ran.pending)
+
+  -- its thread's last block is that of the package before it
+  log : of_thread h b.thread ≡ a.before.log
+  log = ap (of_thread h) (a.ran.thread ∙ sym a.ran.runs.keeps.thread) ∙ sym (r.told.law.packages_after t (bare a.before) o.2).follows.log
+
+  -- where one of the last blocks of its worker and its thread was cut, they are one
+  together : ComesTogether h b
+  together = subst (λ (z : Option Block × Option Block). AreTogether z.0 z.1) (λ i. (sym (r.listed.newest id v at live) i, ap last_of (sym log) i)) a.together
+
   pub seals_kept : KeptHall k (stepped s CLOCK ((stamp + 1) % 18446744073709551616) id [] w keeps)
   seals_kept =
       let new : ℕ = (stamp + 1) % 18446744073709551616 in
@@ -120,6 +137,9 @@ module _ (k : Terms) (s : St k) (r : KeptHall k s) (id : ℕ) (v : Knows) (q : P
           limits = r.told.limits;
           law = law;
           strict = strict_states v.image r.told.places r.told.segments a.before q (record { place = ap (get_elem? r.told.places) (sym a.ran.runs.keeps.thread) ∙ o.2; locks = mine }) a.ran stamp v.worker r.told.strict;
+          handed = each_still IsHandedOver worker_of h b r.told.handed next;
+          runs_on = each_still IsRunOn worker_of h b r.told.runs_on (runs_on_from h b together);
+          stays = each_still IsStillAt thread_of h b r.told.stays (stays_from h b together);
           workers = λ i c e. ⊎_elim (λ (z : get_elem? h i ≡ some c). r.told.workers i c z) (λ (z : (i ≡ length h) × (b ≡ c)). subst (λ (x : Block). x.worker < k.workers) z.1 old.worker) (snoc_at h b c i e);
         };
         words = length-set s.words CLOCK new ∙ r.words;
@@ -145,6 +165,7 @@ module _ (k : Terms) (s : St k) (r : KeptHall k s) (id : ℕ) (v : Knows) (q : P
             (λ i c e. inl e) (λ u e. inl e));
         stop = λ e. stop_stays s.views id v w at (λ i e. (i, e)) (r.stop (stops_back s.words CLOCK new (λ e. omega arith) e));
         apart = apart_stays s.views id v w at record { worker = refl; maker = refl; made = refl; spent = refl; joined = refl } live r.apart;
+        listed = listed_seals h s.views id v w at r.listed b refl live r.apart refl refl refl refl refl;
       }
 
   -- a block of the history has a lower stamp, but for the new one

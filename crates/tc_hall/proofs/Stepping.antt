@@ -148,7 +148,7 @@ module _ (k : Terms) where
     keeps,
     tt,
     next k s d id v (stopped (slice_index s.words STOP)) at live refl,
-    (refl, (λ t e. ((kept_of k s d).passes id v at).misfit t e)),
+    (refl, (λ t e. ((kept_of k s d).passes id v at).pinned t e)),
   ))
 
   -- ---- take and free, and the slot of a lock

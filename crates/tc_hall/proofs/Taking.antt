@@ -22,6 +22,7 @@ use Rattle.tc_hall.specs.Rule.{threads, locks, Homes, HasLock, Spot, home, insid
 use Rattle.tc_hall.specs.Steps.{MayFree, after_take, after_free}
 use Rattle.tc_hall.proofs.Placing.{stays}
 use Rattle.tc_hall.proofs.Packing.{IsElseLock, lock_moves, out_of}
+use Rattle.tc_hall.proofs.Listing.{listed_stays}
 use Rattle.tc_hall.proofs.Ranks.{apart_stays, stop_stays, IsTrueCall, pass_kept, passes_stay, done_still, stops_still, stops_back}
 use Rattle.tc_hall.proofs.Telling.{snoc_at}
 use Rattle.tc_hall.proofs.Moves.{St, some_same}
@@ -75,7 +76,7 @@ module _ (k : Terms) where
   -- one word of a lock, its slot and the pass's view of it change
   lock_step : (s : St k) (r : KeptHall k s) (id i word : ℕ) (v w : Knows) (a : maybe.Option (Option Cargo)) (to : Spot) → get_elem? s.views id ≡ some v → v.spent ≡ false → i < locks k
       → (r.locks_placed.spot i ≡ home) ⊎ (r.locks_placed.spot i ≡ out id)
-      → IsElseLock (threads k) i v w → w.image ≡ v.image → w.worker ≡ v.worker → w.packages ≡ v.packages → w.maker ≡ v.maker → w.made ≡ v.made → w.joined ≡ v.joined → w.misfits ≡ v.misfits → w.sealed ≡ v.sealed
+      → IsElseLock (threads k) i v w → w.image ≡ v.image → w.worker ≡ v.worker → w.packages ≡ v.packages → w.maker ≡ v.maker → w.made ≡ v.made → w.joined ≡ v.joined → w.pinned ≡ v.pinned → w.sealed ≡ v.sealed
       → ((j : ℕ) (c : Call) → get_elem? w.calls j ≡ some c → (get_elem? v.calls j ≡ some c) ⊎ IsTrueCall (set s.words (slot_word (threads k + i)) word) c)
       → ((j : ℕ) → get_elem? v.calls j ≡ some Stop → (e : ℕ) × (get_elem? w.calls e ≡ some Stop))
       → ((u : ℕ) → u < threads k → v.hand ≢ Some u) → ((u : ℕ) → u < threads k → w.hand ≢ Some u)
@@ -83,7 +84,7 @@ module _ (k : Terms) where
       → ((l : LockView) → get_elem? r.told.segments i ≡ some l → LiesLock (threads k) (set s.words (slot_word (threads k + i)) word) (set s.homes (threads k + i) a) (set s.views id w) i l to)
       → ((l : LockView) → HasLock w i l → (to ≡ out id) × (get_elem? r.told.segments i ≡ some l))
       → KeptHall k record { words = set s.words (slot_word (threads k + i)) word; homes = set s.homes (threads k + i) a; views = set s.views id w }
-  lock_step s r id i word v w a to at live below mine e image worker packages maker made' joined misfits sealed' calls shows hand hand' not_two now own =
+  lock_step s r id i word v w a to at live below mine e image worker packages maker made' joined pinned sealed' calls shows hand hand' not_two now own =
       let n : ℕ = threads k in
       let j : ℕ = slot_word (n + i) in
       let ws' : List ℕ = set s.words j word in
@@ -100,10 +101,11 @@ module _ (k : Terms) where
         locks_placed = lock_moves n (locks k) r.told.segments s.words ws' s.homes (set s.homes (n + i) a) s.views id v w at i to r.locks_placed mine
             (λ j' ne. get_or-set_other s.words j (slot_word (n + j')) word 0 (λ e. ne (omega arith))) (λ u ne. set_else s.homes (n + i) u a ne) e now own;
         passes = passes_stay k.image.value k.workers r.told.history r.told.history s.words ws' (λ b e. e) done stops s.views id w r.passes
-            (pass_kept k.image.value k.workers r.told.history r.told.history s.words ws' (λ b e. e) done stops v w old (worker, e.spent, image, ap length misfits) (λ i u h. inl (ap (λ (l : List ℕ). get_elem? l i) (sym joined) ∙ h))
-            (λ i b h. inl (ap (λ (l : List Block). get_elem? l i) (sym sealed') ∙ h)) calls (λ t h. inl (ap (λ (l : List Bool). get_elem? l t) (sym misfits) ∙ h)));
+            (pass_kept k.image.value k.workers r.told.history r.told.history s.words ws' (λ b e. e) done stops v w old (worker, e.spent, image, ap length pinned) (λ i u h. inl (ap (λ (l : List ℕ). get_elem? l i) (sym joined) ∙ h))
+            (λ i b h. inl (ap (λ (l : List Block). get_elem? l i) (sym sealed') ∙ h)) calls (λ t h. inl (ap (λ (l : List Bool). get_elem? l t) (sym pinned) ∙ h)));
         stop = λ h. stop_stays s.views id v w at shows (r.stop (stops_back s.words j word (λ e. omega arith) h));
         apart = apart_stays s.views id v w at record { worker = worker; maker = maker; made = made'; spent = e.spent; joined = joined } live r.apart;
+        listed = listed_stays r.told.history s.views id v w at r.listed record { worker = worker; maker = maker; made = omega arith; spent = e.spent; joined = joined; sealed = sealed' };
       }
 
   -- the state of a lock that is home is taken
@@ -167,7 +169,7 @@ module _ (k : Terms) where
       subst (λ (z : List ℕ). KeptHall k record { words = z; homes = set s.homes (n + i) b; views = set s.views id w }) again
       (lock_step s r id i word v w b (out id) at live o.0 (inr o.1)
       record { spent = ap (λ (z : Knows). z.spent) same; long = ap (λ (z : Knows). length z.locks) same; out = λ e ne. ap (λ (z : Knows). get_elem? z.locks e) same; hand = λ e ne h. absurd (to (n + e) (λ z. ne (omega arith)) h); hand_back = λ e ne h. absurd (back (n + e) (λ z. ne (omega arith)) h) }
-      (ap (λ (z : Knows). z.image) same) (ap (λ (z : Knows). z.worker) same) (ap (λ (z : Knows). z.packages) same) (ap (λ (z : Knows). z.maker) same) (ap (λ (z : Knows). z.made) same) (ap (λ (z : Knows). z.joined) same) (ap (λ (z : Knows). z.misfits) same) (ap (λ (z : Knows). z.sealed) same)
+      (ap (λ (z : Knows). z.image) same) (ap (λ (z : Knows). z.worker) same) (ap (λ (z : Knows). z.packages) same) (ap (λ (z : Knows). z.maker) same) (ap (λ (z : Knows). z.made) same) (ap (λ (z : Knows). z.joined) same) (ap (λ (z : Knows). z.pinned) same) (ap (λ (z : Knows). z.sealed) same)
       (λ e c h. inl (ap (λ (z : Knows). get_elem? z.calls e) (sym same) ∙ h)) (λ e h. (e, ap (λ (z : Knows). get_elem? z.calls e) same ∙ h))
       (λ u b h. to u (λ z. omega arith) h) (λ u b h. back u (λ z. omega arith) h) (λ h. let z = o.3 in omega arith)
       (λ l' e. record {

@@ -26,6 +26,7 @@ use Rattle.tc_hall.specs.Rule.{grants_adopted, threads, locks, IsInOrder, KeptHa
 use Rattle.tc_hall.specs.Steps.{Sat, IsAsLeft, after_put, with_call, numbers, given_of, MayPut, HasStop, made, seen}
 use Rattle.tc_hall.proofs.Placing.{moves, stays}
 use Rattle.tc_hall.proofs.Packing.{puts_locks, locks_stay}
+use Rattle.tc_hall.proofs.Listing.{listed_stays}
 use Rattle.tc_hall.proofs.Ranks.{apart_stays, stop_stays, IsTrueCall, pass_kept, passes_stay, done_still, stops_still, stops_back}
 use Rattle.std.proofs.lemmas.Bool.Decides.{nat_tests}
 use Rattle.std.proofs.Common.{◌-◌, if◌then◌else◌}
@@ -124,6 +125,7 @@ module _ (k : Terms) where
             (λ u e. inl e));
         stop = λ e. stop_stays s.views id v w at (λ i h. (i, at_longer v.calls (Put t (place_of code) (numbers q.context.locks) (given_of q) ∷ []) i Stop h)) (r.stop (stops_back s.words (slot_word t) code (λ e. omega arith) e));
         apart = apart_stays s.views id v w at record { worker = refl; maker = refl; made = refl; spent = refl; joined = refl } live r.apart;
+        listed = listed_stays r.told.history s.views id v w at r.listed record { worker = refl; maker = refl; made = omega arith; spent = refl; joined = refl; sealed = refl };
       }
 
   -- the package is as the history leaves it
@@ -161,6 +163,7 @@ module _ (k : Terms) where
             (λ i d e. ⊎_elim (λ z. inl z) (λ (z : (i ≡ length v.calls) × (c ≡ d)). inr (subst (IsTrueCall ws') z.1 true')) (snoc_at v.calls c d i e)) (λ u e. inl e));
         stop = stop;
         apart = apart_stays s.views id v w at record { worker = refl; maker = refl; made = refl; spent = refl; joined = refl } live r.apart;
+        listed = listed_stays r.told.history s.views id v w at r.listed record { worker = refl; maker = refl; made = omega arith; spent = refl; joined = refl; sealed = refl };
       }
 
   still_stopped : (s : St k) (r : KeptHall k s) (id : ℕ) (v : Knows) (c : Call) → get_elem? s.views id ≡ some v → slice_index s.words STOP ≡ 1 → HasStopped (set s.views id (with_call v c))

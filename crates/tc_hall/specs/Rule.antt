@@ -8,11 +8,14 @@ use Rattle.tc_isa.specs.Sets.{has}
 use Rattle.tc_isa.specs.declared.limits.TheConstants.{MAX_FUEL, MAX_WORKERS}
 use Rattle.tc_elf.specs.Shown.{Shown}
 use Rattle.tc_elf.specs.declared.limits.TheConstants.{MAX_THREADS, MAX_GUARDS}
-use Rattle.tc_journal.specs.Batch.{is_adopted}
+use Rattle.tc_journal.specs.Batch.{last_of}
+use Rattle.tc_journal.specs.Handing.{of_worker, HandsOver, RunsOn, StaysAt}
+use Rattle.tc_journal.specs.History.{of_thread}
 use Rattle.tc_journal.specs.declared.block.Block.{Block}
 use Rattle.tc_turn.specs.Turn.{is_running}
 use Rattle.tc_segment.specs.View.{LockView, kept}
 use Rattle.tc_context.specs.declared.package.Grant.{Grant}
+pub use Rattle.tc_context.specs.View.{grants_adopted, is_pinned}
 use Rattle.tc_context.specs.Locks.{lock_in}
 use Rattle.tc_context.specs.View.{PackageView, Rests, bare, fits_of, granted_lock, want_of}
 use Rattle.tc_law.specs.Lawful.{Lawful, AreStrict}
@@ -34,7 +37,7 @@ locks k = length k.image.value.guards
 -- the pass of a worker with nothing out
 abbrev pub clean : Shown → ℕ → ℕ → ℕ → Bool → Knows
 clean image n m worker maker =
-    record { image = image; worker = worker; maker = maker; made = 0; spent = false; joined = []; packages = replicate n None; misfits = replicate n false; locks = replicate m None; hand = None; sealed = []; calls = []; missed = []; claimed = []; taken = [] }
+    record { image = image; worker = worker; maker = maker; made = 0; spent = false; joined = []; packages = replicate n None; pinned = replicate n false; locks = replicate m None; hand = None; sealed = []; calls = []; missed = []; claimed = []; taken = [] }
 
 abbrev pub starting : Terms → Knows
 starting k = clean k.image.value (threads k) (locks k) (k.workers - 1) true
@@ -57,10 +60,6 @@ locked_in q i = lock_in q.context.locks i
 abbrev pub IsOwn : PackageView → ℕ → Type 0
 IsOwn q i = (has q.context.guest.held i ≡ true) ⊎ (granted_lock q.granted ≡ Some i)
 
-abbrev pub grants_adopted : Option Grant → Bool
-grants_adopted None = false
-grants_adopted (Some g) = is_adopted g.kind
-
 -- a package may lie in its slot so while its thread's word is this
 pub record IsInOrder (word : ℕ) (q : PackageView) : Type 0 where
   pub ended : word ≡ DONE → (is_running q.context.guest.status ≡ false) × ((i : ℕ) → locked_in q i ≡ None)
@@ -69,9 +68,9 @@ pub record IsInOrder (word : ℕ) (q : PackageView) : Type 0 where
   pub waits : (i : ℕ) → word ≡ WAITING + i → want_of q.image q.context ≡ Some i
   pub ready : (g : Grant) → q.granted ≡ Some g → word ≡ READY
 
--- its grant is Adopted only after a stop, and another fits every worker
+-- it is pinned to one worker only after a stop, and a grant that isn't Adopted fits every worker
 pub record FitsAll (word : ℕ) (q : PackageView) : Type 0 where
-  pub stop : grants_adopted q.granted ≡ true → word ≡ 1
+  pub stop : is_pinned q ≡ true → word ≡ 1
   pub fits : grants_adopted q.granted ≡ false → (worker : ℕ) → fits_of q worker ≡ true
 
 -- a package in its slot
@@ -156,8 +155,8 @@ pub record IsPass (image : Shown) (workers : ℕ) (h : List Block) (ws : List �
   pub done : (i t : ℕ) → get_elem? v.calls i ≡ some (Look t DONE) → slice_index ws (slot_word t) ≡ DONE
   pub stop : (i : ℕ) → get_elem? v.calls i ≡ some Stop → slice_index ws STOP ≡ 1
   pub stopped : (i : ℕ) → get_elem? v.calls i ≡ some (Stopped 1) → slice_index ws STOP ≡ 1
-  pub misfit : (t : ℕ) → get_elem? v.misfits t ≡ some true → slice_index ws STOP ≡ 1
-  pub sized : v.spent ≡ false → length v.misfits ≡ length image.entries
+  pub pinned : (t : ℕ) → get_elem? v.pinned t ≡ some true → slice_index ws STOP ≡ 1
+  pub sized : v.spent ≡ false → length v.pinned ≡ length image.entries
 
 -- the stop word is 1 only where some pass made a stop
 pub record HasStopped (vs : List Knows) : Type 0 where
@@ -176,6 +175,18 @@ pub record AreApart (vs : List Knows) : Type 0 where
   pub sole : (i j : ℕ) (v w : Knows) → get_elem? vs i ≡ some v → get_elem? vs j ≡ some w → v.maker ≡ true → w.maker ≡ true → i ≡ j
   pub spent : (i : ℕ) (v : Knows) → get_elem? vs i ≡ some v → v.spent ≡ true → v.locks ≡ []
 
+-- the last block of its own worker in the pass's list
+abbrev pub last_by : Knows → Option Block
+last_by v = last_of (of_worker v.sealed v.worker)
+
+-- what the passes' lists and numbers say of the history: the last block that a live pass lists of its worker is that worker's
+-- last; a pass lists only blocks of its worker and of those that were joined into it; and each block is of the pass that makes
+-- the others, or of one that it has made
+pub record AreListed (h : List Block) (vs : List Knows) : Type 0 where
+  pub newest : (id : ℕ) (v : Knows) → get_elem? vs id ≡ some v → v.spent ≡ false → last_of (of_worker h v.worker) ≡ last_by v
+  pub owned : (id i : ℕ) (v : Knows) (b : Block) → get_elem? vs id ≡ some v → get_elem? v.sealed i ≡ some b → (b.worker ≡ v.worker) ⊎ ((e : ℕ) × (get_elem? v.joined e ≡ some b.worker))
+  pub made : (id i : ℕ) (v : Knows) (b : Block) → get_elem? vs id ≡ some v → v.maker ≡ true → get_elem? h i ≡ some b → (b.worker ≡ v.worker) ⊎ (b.worker < v.made)
+
 -- the limits of a hall
 pub record IsInLimits (k : Terms) : Type 0 where
   pub threads : threads k ≤ MAX_THREADS
@@ -183,8 +194,9 @@ pub record IsInLimits (k : Terms) : Type 0 where
   pub fuel : k.fuel ≤ MAX_FUEL
   pub workers : (0 < k.workers) × (k.workers ≤ MAX_WORKERS)
 
--- the history, and each package and lock as of its last commit, with strict journals. No word, slot or pass occurs in it, and
--- only a commit changes it
+-- the history, and each package and lock as of its last commit, with strict journals. Each worker begins an Adopted section
+-- directly behind its block that unlocked the lock, and a cut parts no thread from its worker. No word, slot or pass occurs in
+-- it, and only a commit changes it
 pub record Told (k : Terms) : Type 0 where
   pub history : List Block
   pub places : List PackageView
@@ -193,6 +205,9 @@ pub record Told (k : Terms) : Type 0 where
   pub law : Lawful k.image.value k.fuel k.limit history places segments
   pub strict : AreStrict segments
   pub workers : (i : ℕ) (b : Block) → get_elem? history i ≡ some b → b.worker < k.workers
+  pub handed : (worker : ℕ) → HandsOver (of_worker history worker)
+  pub runs_on : (worker : ℕ) → RunsOn (of_worker history worker)
+  pub stays : (thread : ℕ) → StaysAt (of_thread history thread)
 
 pub record KeptHall (k : Terms) (s : State (Option Cargo) Knows) : Type 0 where
   pub told : Told k
@@ -204,3 +219,4 @@ pub record KeptHall (k : Terms) (s : State (Option Cargo) Knows) : Type 0 where
   pub passes : (id : ℕ) (v : Knows) → get_elem? s.views id ≡ some v → IsPass k.image.value k.workers told.history s.words v
   pub stop : slice_index s.words STOP ≡ 1 → HasStopped s.views
   pub apart : AreApart s.views
+  pub listed : AreListed told.history s.views

@@ -1,13 +1,14 @@
 -- What each step tells, and its effect on the view of the pass.
-use Rattle.std.specs.Prelude.{◌≡◌, ◌≢◌, ◌⊎◌, ℕ, ◌+◌, ◌<◌, Bool, true, false, not, List, [], ◌∷◌, ◌++◌, length, slice_set, map, filter, is_some, Option, Some, None}
+use Rattle.std.specs.Prelude.{◌≡◌, ◌≢◌, ◌⊎◌, ℕ, ◌+◌, ◌<◌, Bool, true, false, List, [], ◌∷◌, ◌++◌, length, slice_set, map, filter, is_some, Option, Some, None}
 use Rattle.std.specs.List.{range_with_len}
 use Rattle.std.specs.Option.{option_map}
 use mathlib.Core.Option.{some}
 use lib.ListN.{get_elem?}
 use Rattle.atomic_table.specs.Table.{Me, Step, rest}
 use Rattle.tc_elf.specs.Shown.{Shown}
-use Rattle.tc_journal.specs.Batch.{Obeys}
-use Rattle.tc_journal.specs.History.{of_lock}
+use Rattle.tc_journal.specs.Batch.{Obeys, is_adopted, last_of}
+use Rattle.tc_journal.specs.Handing.{AreTogether, HandsOver, IsHandedOver, RunsOn, StaysAt, has_unlocked, of_worker}
+use Rattle.tc_journal.specs.History.{of_lock, of_thread}
 use Rattle.tc_journal.specs.declared.block.Block.{Block}
 use Rattle.tc_turn.specs.Turn.{is_running}
 use Rattle.tc_mutex_spec.specs.Blocks.{Tells, end_after}
@@ -28,7 +29,7 @@ use Rattle.tc_hall.specs.declared.board.Call.TheVariants.{Put, Free, Look, Stop,
 use Rattle.tc_hall.specs.declared.board.Cargo.{Cargo}
 use Rattle.tc_hall.specs.declared.board.Cargo.TheVariants.{Package, Lock}
 use Rattle.tc_hall.specs.Places.{code_of, place_of, slot_word}
-use Rattle.tc_hall.specs.Rule.{Has, HasLock, IsInOrder, grants_adopted, locked_in, clean}
+use Rattle.tc_hall.specs.Rule.{Has, HasLock, IsInOrder, grants_adopted, is_pinned, last_by, locked_in, clean}
 use Rattle.tc_hall.specs.Outs.{outs, erase, Pack, Loose, IsOut, CameOut, Called}
 use Rattle.tc_hall.specs.PassView.{PassView}
 
@@ -58,7 +59,7 @@ abbrev pub with_package_out : Knows → PackageView → Knows
 with_package_out v q = record v { packages = slice_set v.packages q.context.thread (Some (bare q)); locks = add_all v.locks q.context.locks }
 
 abbrev pub after_claim : Knows → PackageView → Knows
-after_claim v q = record (with_package_out v q) { misfits = slice_set v.misfits q.context.thread (not (fits_of q v.worker)); claimed = v.claimed ++ q ∷ [] }
+after_claim v q = record (with_package_out v q) { pinned = slice_set v.pinned q.context.thread (is_pinned q); claimed = v.claimed ++ q ∷ [] }
 
 -- of `commit`, where the block b was sealed and the package is then q
 abbrev pub after_seal : Knows → Block → PackageView → Knows
@@ -131,7 +132,7 @@ merged v w = record v { joined = v.joined ++ w.worker ∷ w.joined; sealed = v.s
 
 -- a pass that was joined into another
 abbrev pub gone : Knows
-gone = record { image = record { ranges = []; entries = []; guards = [] }; worker = 0; maker = false; made = 0; spent = true; joined = []; packages = []; misfits = []; locks = []; hand = None; sealed = []; calls = []; missed = []; claimed = []; taken = [] }
+gone = record { image = record { ranges = []; entries = []; guards = [] }; worker = 0; maker = false; made = 0; spent = true; joined = []; packages = []; pinned = []; locks = []; hand = None; sealed = []; calls = []; missed = []; claimed = []; taken = [] }
 
 -- the clauses of the calls
 
@@ -143,8 +144,8 @@ pub record Gets (word t : ℕ) (q : PackageView) (v w : Knows) : Type 0 where
   pub settled : q.pending ≡ None
   pub order : IsInOrder word q
   pub fits : grants_adopted q.granted ≡ false → (worker : ℕ) → fits_of q worker ≡ true
-  -- a package that does not fit the worker is noted as such
-  pub misfit : fits_of q v.worker ≡ false → get_elem? w.misfits t ≡ some true
+  -- one that is pinned to one worker is noted as such
+  pub pinned : is_pinned q ≡ true → get_elem? w.pinned t ≡ some true
   pub came : CameOut (Pack q) v w
   pub called : Called [] v w
 
@@ -162,7 +163,7 @@ pub record MayPut (place : Place) (v : Knows) (q : PackageView) : Type 0 where
   pub has : Has v q.context.thread (bare q)
   pub locks : (i : ℕ) (l : LockView) → locked_in q i ≡ Some l → HasLock v i (kept l)
   pub order : IsInOrder (code_of place) q
-  pub stop : grants_adopted q.granted ≡ true → HasStop v
+  pub stop : is_pinned q ≡ true → HasStop v
   pub fits : grants_adopted q.granted ≡ false → fits_of q v.worker ≡ true
 
 -- the package was put at the place
@@ -204,13 +205,26 @@ pub record Freed (l : LockView) (v w : Knows) : Type 0 where
   pub rest : outs w ≡ erase (outs v) (Loose l)
   pub called : Called (Free l.number ∷ []) v w
 
--- a block made the package of one that the pass has out, and the batch rule allows it the pass's worker
+-- a lock that was granted as Adopted was unlocked by this block
+abbrev pub IsGrantedBehind : Option Block → Option Grant → Type 0
+IsGrantedBehind last None = Unit {0}
+IsGrantedBehind last (Some g) = is_adopted g.kind ≡ true → has_unlocked g.lock last ≡ true
+
+-- the pending block, if it began an Adopted section of a lock, comes directly behind a block of the pass's worker that unlocked
+-- the lock
+abbrev pub HandsPending : Knows → PackageView → Type 0
+HandsPending v q = (b : Block) → q.pending ≡ Some b → IsHandedOver (last_by v) b
+
+-- a block made the package of one that the pass has out, the batch rule allows it the pass's worker, and it comes behind the
+-- block with which that worker handed the lock over; where the worker's last block or the thread's was cut, it goes on from there
 pub record Seals (v : Knows) (q : PackageView) : Type 0 where
   pub before : PackageView
   pub has : Has v q.context.thread (bare before)
   pub locks : (i : ℕ) (l : LockView) → locked_in before i ≡ Some l → HasLock v i (kept l)
   pub ran : DidRun v.image before q
   pub allows : AllowsPending q v.worker
+  pub handed : HandsPending v q
+  pub together : AreTogether (last_by v) (last_of before.log)
 
 -- its block got the stamp n
 pub record DidSeal (q : PackageView) (n : ℕ) (v w : Knows) : Type 0 where
@@ -261,9 +275,9 @@ looked st m r m' = (t : ℕ) → st.word ≡ slot_word t → m' ≡ (with_call m
 abbrev pub stopping : At → Sat → ℕ → Sat → Type 0
 stopping st m r m' = m' ≡ (with_call m.0 Stop, m.1)
 
--- a pass that took a package which didn't fit sees the stop
+-- a pass that took a package which is pinned to one worker sees the stop
 abbrev pub saw_stopped : At → Sat → ℕ → Sat → Type 0
-saw_stopped st m r m' = (m' ≡ (with_call m.0 (Stopped r), m.1)) × ((t : ℕ) → get_elem? m.0.misfits t ≡ some true → r ≡ 1)
+saw_stopped st m r m' = (m' ≡ (with_call m.0 (Stopped r), m.1)) × ((t : ℕ) → get_elem? m.0.pinned t ≡ some true → r ≡ 1)
 
 -- the package whose block is sealed, where one was picked
 abbrev pub sealed_as : Option PackageView → At → Sat → ℕ → Sat → Type 0
@@ -295,6 +309,9 @@ pub record IsEnd (k : Terms) (v : Knows) (qs : List PackageView) (ls : List Lock
   pub law : Lawful k.image.value k.fuel k.limit history (map bare qs) (map kept ls)
   pub strict : AreStrict ls
   pub workers : (i : ℕ) (b : Block) → get_elem? history i ≡ some b → b.worker < k.workers
+  pub handed : (worker : ℕ) → HandsOver (of_worker history worker)
+  pub runs_on : (worker : ℕ) → RunsOn (of_worker history worker)
+  pub stays : (thread : ℕ) → StaysAt (of_thread history thread)
   -- each block that it sealed, or that a pass joined into it sealed, is in the history at its stamp
   pub sealed : (i : ℕ) (b : Block) → get_elem? v.sealed i ≡ some b → get_elem? history b.stamp ≡ some b
   pub ended : (t : ℕ) (q : PackageView) → get_elem? qs t ≡ some q → (is_running q.context.guest.status ≡ false) × ((i : ℕ) → locked_in q i ≡ None)
@@ -312,10 +329,10 @@ HoldsLock x l = x ≡ Some (Lock l)
 abbrev pub IsLock : Option Cargo → Type 0
 IsLock x = (l : LockView) × (x ≡ Some (Lock l))
 
--- the stop word was seen, as 1 or not; it was 1 where the pass took a package that didn't fit
+-- the stop word was seen, as 1 or not; it was 1 where the pass took a package that is pinned to one worker
 pub record SawStopped (yes : Bool) (v w : Knows) : Type 0 where
   pub word : ℕ
   pub now : w ≡ after_stopped v word
   pub one : yes ≡ true → word ≡ 1
   pub other : yes ≡ false → word ≢ 1
-  pub misfit : (t : ℕ) → get_elem? v.misfits t ≡ some true → yes ≡ true
+  pub pinned : (t : ℕ) → get_elem? v.pinned t ≡ some true → yes ≡ true

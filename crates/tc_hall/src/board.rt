@@ -112,8 +112,9 @@ pub struct Knows {
     /// For each thread its package without its locks, as of its last commit, where the pass has it
     /// out.
     pub packages: LinkedList<Option<Package>>,
-    /// For each thread whether its package didn't fit the worker when the pass last took it.
-    pub misfits: LinkedList<bool>,
+    /// For each thread whether its package was pinned to one worker when the pass last took it: with a
+    /// lock that was granted as Adopted, or a last block that was cut.
+    pub pinned: LinkedList<bool>,
     /// For each lock its state, as of its last commit, where the pass has it out.
     pub locks: LinkedList<Option<LockState>>,
     /// The slot that the pass holds, inside a call.

@@ -433,7 +433,7 @@ impl Hall {
     }
 
     /// Whether a stop was made, by one load of the stop word. It was, where the pass took a package
-    /// that did not fit its worker, since such a package comes only from a stop.
+    /// that is pinned to one worker, since such a package comes only from a stop.
     pub fn stopped(&self, pass: &mut Pass) -> bool
         requires own { pass.old.table ≡ self.now.table }
         ensures own { IsSamePass pass.old pass.new }

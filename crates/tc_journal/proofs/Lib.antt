@@ -9,4 +9,5 @@ pub mod Fields
 pub mod Histories
 pub mod Merged
 pub mod Batching
+pub mod Rows
 pub mod Buffers

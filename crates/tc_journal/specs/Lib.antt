@@ -3,6 +3,7 @@ pub mod Digits
 pub mod Told
 pub mod Line
 pub mod Batch
+pub mod Handing
 pub mod History
 pub mod Spelling
 pub mod Reading

@@ -9,6 +9,7 @@ use Rattle.tc_elf.specs.Shown.{Shown}
 use Rattle.tc_journal.specs.Batch.{ends_section, last_of, may_follow, passes_on, Obeys, PassesOn}
 use Rattle.tc_journal.specs.History.{schedule, of_thread, of_lock}
 use Rattle.tc_journal.specs.declared.block.Block.{Block}
+use Rattle.tc_journal.proofs.Rows.{own_more, other_more}
 use Rattle.tc_turn.specs.Turn.{Thread, next_lock}
 use Rattle.tc_turn.specs.Replay.{Entry, unowned}
 use Rattle.tc_mutex_spec.specs.Machine.{State, start, spread, IsHeldByOwner}
@@ -16,7 +17,7 @@ use Rattle.tc_mutex_spec.specs.Locality.{Agree, Apart}
 use Rattle.tc_mutex_spec.specs.Blocks.{locks_of_block, Runs, Stands, is_first, has_block, Tells}
 use Rattle.tc_mutex_spec.specs.Entries.{entry_of, with_front, entries_by}
 use Rattle.tc_mutex_spec.proofs.BlocksAlike.{covers_block, runs_apart}
-use Rattle.tc_mutex_spec.proofs.Entries.{entries_more, entries_blocks, own_more, other_more, seen_none, seen_some}
+use Rattle.tc_mutex_spec.proofs.Entries.{entries_more, entries_blocks, seen_none, seen_some}
 use Rattle.tc_mutex_spec.proofs.Folding.{run_from-is-turns, tells-more, tells-run}
 use Rattle.tc_mutex_spec.proofs.Holds.{holds_turns, holds_start}
 use Rattle.tc_mutex_spec.proofs.Owners.{no_owner}
@@ -163,7 +164,7 @@ module _ (image : Shown) (fuel limit : ℕ) (h : List Block) (m : State) (p v : 
         tells = tells-more image [] h _ m to c told stands;
         runs = runs;
         threads = apart.threads;
-        logs = λ u ne. other_more h c u (λ e. ne (sym e));
+        logs = λ u ne. other_more (λ (d : Block). d.thread) h c u (λ e. ne (sym e));
         locks = λ k out. apart.locks k (sym (held k) ∙ out);
         entries = λ k out. entries_still image fuel h m c k told out;
       })
@@ -171,7 +172,7 @@ module _ (image : Shown) (fuel limit : ℕ) (h : List Block) (m : State) (p v : 
       log_is : (with_seal stamp worker v).log ≡ of_thread (h ++ c ∷ []) v.context.thread
       log_is =
           ap (sealed_log stamp worker v.log) ran.pending ∙ ap (λ l. set l (length l - 1) c) ran.log ∙ set_end p.log b c
-          ∙ ap (λ l. l ++ c ∷ []) (was.thread.log ∙ ap (of_thread h) (sym ran.thread)) ∙ sym (own_more h c) ∙ ap (of_thread (h ++ c ∷ [])) (ran.thread ∙ sym ran.runs.keeps.thread)
+          ∙ ap (λ l. l ++ c ∷ []) (was.thread.log ∙ ap (of_thread h) (sym ran.thread)) ∙ sym (own_more (λ (d : Block). d.thread) h c) ∙ ap (of_thread (h ++ c ∷ [])) (ran.thread ∙ sym ran.runs.keeps.thread)
 
       lock_after : (k : ℕ) (l : LockView) → lock_in v.context.locks k ≡ Some l → (w : Bool) → has b.held k ≡ w → lock_of l ≡ unowned (to.locks k)
       lock_after k l e true mine = ap (λ o. unowned (mutex_or v.context.thread (has v.context.guest.held k) o)) (sym e) ∙ ap unowned (run.2.locks k (sym (ran.held k) ∙ mine))

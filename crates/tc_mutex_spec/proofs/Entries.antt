@@ -1,8 +1,5 @@
 -- The entries of a history that grows at its end.
 use Rattle.std.proofs.Common.{◌≡◌, ◌≢◌, ℕ, Bool, true, false, not, ◌||◌, ◌==◌, List, [], ◌∷◌, ◌++◌, map, refl, sym, ap, subst, ◌∙◌, if◌then◌else◌, inl, inr}
-use Rattle.std.proofs.lemmas.Bool.Decides.{eqb_tells}
-use Rattle.std.proofs.lemmas.List.{append-nil}
-use Rattle.std.proofs.lemmas.List.Elements.{filter-append}
 use Rattle.tc_isa.specs.Sets.{has}
 use Rattle.tc_elf.specs.Shown.{Shown}
 use Rattle.tc_journal.specs.History.{of_lock, of_thread}
@@ -43,25 +40,6 @@ front_block k b e es h is rest = elim (has b.held k) as (λ v. map block_in (wit
 pub entries_blocks : (image : Shown) (k : ℕ) (m : State) (h : List Block) → map block_in (entries_after image k m h) ≡ of_lock h k
 entries_blocks image k m [] = refl
 entries_blocks image k m (b ∷ h) = front_block k b (entry_of image k m b) (entries_after image k (reach image m b.thread b.turns) h) h refl (entries_blocks image k (reach image m b.thread b.turns) h)
-
--- the blocks of the block's thread have it at their end
-pub own_more : (h : List Block) (b : Block) → of_thread (h ++ b ∷ []) b.thread ≡ of_thread h b.thread ++ b ∷ []
-own_more h b =
-    filter-append (λ (c : Block). c.thread == b.thread) h (b ∷ [])
-    ∙ (elim (eqb_tells b.thread b.thread) [
-      | inl e ↦ ap (λ v. of_thread h b.thread ++ (if v then b ∷ [] else [])) e.0
-      | inr e ↦ absurd (e.1 refl)
-    ])
-
--- those of the others stay
-pub other_more : (h : List Block) (b : Block) (t : ℕ) → b.thread ≢ t → of_thread (h ++ b ∷ []) t ≡ of_thread h t
-other_more h b t ne =
-    filter-append (λ (c : Block). c.thread == t) h (b ∷ [])
-    ∙ (elim (eqb_tells b.thread t) [
-      | inl e ↦ absurd (ne e.1)
-      | inr e ↦ ap (λ v. of_thread h t ++ (if v then b ∷ [] else [])) e.0
-    ])
-    ∙ append-nil (of_thread h t)
 
 is_none : List Block → Bool
 is_none [] = true

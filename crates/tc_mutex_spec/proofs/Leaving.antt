@@ -1,5 +1,5 @@
 -- How a block leaves its thread.
-use Rattle.std.proofs.Common.{◌≡◌, ℕ, zero, suc, ◌+◌, ◌==◌, Bool, true, false, not, sym, ap, ◌∙◌, arith, inl, inr}
+use Rattle.std.proofs.Common.{◌≡◌, ℕ, zero, suc, ◌+◌, ◌==◌, Bool, true, false, not, sym, refl, ap, ◌∙◌, arith, inl, inr}
 use Rattle.std.specs.Prelude.{Option, Some, None, if◌then◌else◌}
 use Rattle.tc_elf.specs.Shown.{Shown}
 use Rattle.tc_exec.specs.declared.outcome.Act.{Act}
@@ -48,6 +48,16 @@ wants_next outcome.Slept n next k is = absurd (cc)
 wants_next outcome.Went n (Some lock) k is = (let same : lock ≡ k = cc in ap Some same)
 wants_next outcome.Went n None k is = (elim (n == 4096) as (λ b. (if b then Some end.Cut else None) ≡ Some (end.Wants k) → None ≡ Some k) [ true ↦ λ h. absurd (cc) | false ↦ λ h. absurd (cc) ]) is
 
+-- a block is cut only where no lock is next
+cut_next : (o : Outcome) (n : ℕ) (next : Option ℕ) → end_rule o n next ≡ Some end.Cut → next ≡ None
+cut_next outcome.Exited n next is = absurd (cc)
+cut_next (outcome.Faulted f) n next is = absurd (cc)
+cut_next outcome.Spent n next is = absurd (cc)
+cut_next (outcome.Unlocked lock) n next is = absurd (cc)
+cut_next outcome.Slept n next is = absurd (cc)
+cut_next outcome.Went n (Some lock) is = absurd (cc)
+cut_next outcome.Went n None is = refl
+
 -- an end that releases a lock names the one that the last turn released
 unlocked_was : (o : Outcome) (n : ℕ) (next : Option ℕ) (k : ℕ) → end_rule o n next ≡ Some (end.Unlocked k) → o ≡ outcome.Unlocked k
 unlocked_was outcome.Exited n next k is = absurd (cc)
@@ -70,6 +80,12 @@ block_next image m to t zero e runs k is = absurd (let s = runs.some in omega ar
 block_next image m to t (suc i) e runs k is =
     let from = reach image m t i in
     wants_next (outcome_of (next_act image (from.threads t) from.locks)) (i + 1) (next_lock image ((after image from t).threads t)) k (runs.ends i (omega arith) ∙ ap Some is)
+
+pub block_cut : (image : Shown) (m to : State) (t n : ℕ) (e : End) → Runs image m t n e to → e ≡ end.Cut → next_lock image ((reach image m t n).threads t) ≡ None
+block_cut image m to t zero e runs is = absurd (let s = runs.some in omega arith)
+block_cut image m to t (suc i) e runs is =
+    let from = reach image m t i in
+    cut_next (outcome_of (next_act image (from.threads t) from.locks)) (i + 1) (next_lock image ((after image from t).threads t)) (runs.ends i (omega arith) ∙ ap Some is)
 
 -- which is a lock of the block
 pub block_releases : (image : Shown) (m to : State) (t n : ℕ) (e : End) → Runs image m t n e to → (k : ℕ) → e ≡ end.Unlocked k → locks_of_block (m.threads t).held (next_lock image (m.threads t)) k ≡ true

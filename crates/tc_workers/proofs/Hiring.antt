@@ -4,13 +4,14 @@ use mathlib.Core.Option.{some}
 use lib.ListN.{get_elem?, length-replicate}
 use Rattle.atomic_table.proofs.Lists.{at_longer, at_last}
 use Rattle.tc_elf.specs.Shown.{Shown}
+use Rattle.tc_journal.specs.Handing.{was_cut}
 use Rattle.tc_mutex_spec.proofs.ListLaws.{there}
 use Rattle.tc_queue.specs.Lines.{SeatView}
 use Rattle.tc_hall.specs.declared.board.Knows.{Knows}
 use Rattle.tc_hall.specs.Made.{AreDealt}
 use Rattle.tc_hall.specs.Outs.{nothing, outs}
 use Rattle.tc_hall.specs.PassView.{PassView}
-use Rattle.tc_hall.specs.Rule.{threads, locks}
+use Rattle.tc_hall.specs.Rule.{last_by, threads, locks}
 use Rattle.tc_hall.specs.Steps.{IsNew}
 use Rattle.tc_hall.proofs.Outs.{same_outs}
 use Rattle.tc_hall.proofs.Telling.{snoc_at}
@@ -74,7 +75,7 @@ module _ (b : BenchView) (p : PassView) (ss : List SeatView) (r : ReadyView) (h 
         out = (outs p.knows, refl);
       } in
       let seat : IsSeated b [] (desk_of p ss sleepers 0 None []) = record { fits = fits; sleepers = rooms; out = new_out b.image (length b.image.entries) (length b.image.guards) p.knows.worker p.knows h.new } in
-      record { work = record { desk = record { seat = seat; fit = tt }; ready = h.ready }; worker = refl }
+      record { work = record { desk = record { seat = seat; fit = tt; next = ap (λ (v : Knows). was_cut (last_by v)) h.new.now }; ready = h.ready }; worker = refl }
 
 -- the last one that is for hire, and the others
 pub last_hired : {X : Type 0} (b : BenchView) (seen : X → List SeatView) (ps qs : List PassView) (xs ys : List X) (rs us : List ReadyView) (p : PassView) (x : X) (r : ReadyView) → AreForHire b seen ps xs rs → ps ≡ qs ++ p ∷ [] → xs ≡ ys ++ x ∷ [] → rs ≡ us ++ r ∷ []

@@ -13,7 +13,7 @@ use Rattle.tc_combiner.specs.Walks.{Owns, packed}
 use Rattle.tc_combiner.proofs.Acting.{told_then}
 use Rattle.tc_workers.specs.GoOn.{GivesUp}
 use Rattle.tc_workers.specs.Worker.{DidLeave, DidPutBack, IsAtDesk, IsSeated, IsStill, IsUnmoved, LookedAtStop, MayAllGoBack, MayLeave, put_back}
-use Rattle.tc_workers.proofs.Desks.{at_still, fit_back, out_alone, seat_still, seated, still_holds, taken_back, with_pass}
+use Rattle.tc_workers.proofs.Desks.{aside_seat, at_still, fit_back, out_alone, seat_still, seated, still_holds, with_pass}
 use Rattle.tc_workers.proofs.Passes.{no_call, one_call, still_called, still_same, still_then, stop_later, stop_shown, stop_told, unmoved_call}
 use Rattle.tc_workers.proofs.Running.{may_put}
 
@@ -39,8 +39,8 @@ module _ (b : BenchView) (d : DeskView) (h : Option PackageView) (q : PackageVie
 
 pub may_aside : (b : BenchView) (d e : DeskView) (o : Option PackageView) → MayLeave b None d → o ≡ d.aside → e ≡ record d { aside = None } → MayLeave b o e
 may_aside b d e o may given rest =
-    let at : IsAtDesk b o e = taken_back b d e o (record { seat = may.seat; fit = tt }) given rest in
-    record { seat = at.seat; may = fit_back e.pass.knows.image e.pass.knows.worker o at.fit; stop = subst (λ (z : DeskView). HasStop z.pass.knows) (sym rest) may.stop }
+    let at = aside_seat b d e o may.seat given rest in
+    record { seat = at.0; may = fit_back e.pass.knows.image e.pass.knows.worker o at.1; stop = subst (λ (z : DeskView). HasStop z.pass.knows) (sym rest) may.stop }
 
 pub has_left : (b : BenchView) (hand o : Option PackageView) (d e g f : DeskView) → DidPutBack b hand d e → o ≡ e.aside → g ≡ record e { aside = None } → DidPutBack b o g f → DidLeave hand d f
 has_left b hand o d e g f did given rest last =

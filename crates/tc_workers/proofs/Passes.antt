@@ -39,16 +39,16 @@ pub one_call : (v w : Knows) (c : Call) → w ≡ with_call v c → Called (c �
 one_call v w c e = record { image = ap (λ (x : Knows). x.image) e; worker = ap (λ (x : Knows). x.worker) e; sealed = ap (λ (x : Knows). x.sealed) e; joined = ap (λ (x : Knows). x.joined) e; calls = ap (λ (x : Knows). x.calls) e }
 
 pub unmoved_call : (p q : PassView) (c : Call) → IsSamePass p q → q.knows ≡ with_call p.knows c → IsUnmoved p q
-unmoved_call p q c own e = record { still = still_called (c ∷ []) p q own (one_call p.knows q.knows c e); out = ap outs e }
+unmoved_call p q c own e = record { still = still_called (c ∷ []) p q own (one_call p.knows q.knows c e); out = ap outs e; sealed = ap (λ (v : Knows). v.sealed) e }
 
 pub unmoved_missed : (p q : PassView) (word found : ℕ) → IsSamePass p q → q.knows ≡ after_miss p.knows word found → IsUnmoved p q
-unmoved_missed p q word found own e = record { still = record { own = own; image = ap (λ (v : Knows). v.image) e; worker = ap (λ (v : Knows). v.worker) e; joined = ap (λ (v : Knows). v.joined) e }; out = ap outs e }
+unmoved_missed p q word found own e = record { still = record { own = own; image = ap (λ (v : Knows). v.image) e; worker = ap (λ (v : Knows). v.worker) e; joined = ap (λ (v : Knows). v.joined) e }; out = ap outs e; sealed = ap (λ (v : Knows). v.sealed) e }
 
 pub unmoved_looked : (p q : PassView) → IsSamePass p q → OnlyLooks p.knows q.knows → IsUnmoved p q
-unmoved_looked p q own h = record { still = record { own = own; image = ap (λ (v : Knows). v.image) h.looked; worker = ap (λ (v : Knows). v.worker) h.looked; joined = ap (λ (v : Knows). v.joined) h.looked }; out = ap outs h.looked }
+unmoved_looked p q own h = record { still = record { own = own; image = ap (λ (v : Knows). v.image) h.looked; worker = ap (λ (v : Knows). v.worker) h.looked; joined = ap (λ (v : Knows). v.joined) h.looked }; out = ap outs h.looked; sealed = ap (λ (v : Knows). v.sealed) h.looked }
 
 pub unmoved_then : (p q r : PassView) → IsUnmoved p q → IsUnmoved q r → IsUnmoved p r
-unmoved_then p q r a b = record { still = still_then p q r a.still b.still; out = b.out ∙ a.out }
+unmoved_then p q r a b = record { still = still_then p q r a.still b.still; out = b.out ∙ a.out; sealed = b.sealed ∙ a.sealed }
 
 -- ---- a claim
 

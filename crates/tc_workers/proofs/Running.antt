@@ -4,6 +4,8 @@ use Rattle.std.specs.Option.{option_map}
 use Rattle.std.proofs.lemmas.Bool.Decides.{eqb_tells}
 use Rattle.tc_isa.specs.Sets.{has}
 use Rattle.tc_elf.specs.Shown.{Shown}
+use Rattle.tc_journal.specs.Batch.{last_of}
+use Rattle.tc_journal.specs.Handing.{AreTogether}
 use Rattle.tc_journal.specs.declared.block.Block.{Block}
 use Rattle.tc_journal.specs.declared.block.End.{End}
 use Rattle.tc_turn.specs.declared.status.Status.{Status}
@@ -21,8 +23,8 @@ use Rattle.tc_context.proofs.Running.{seal_last, seal_set}
 use Rattle.tc_hall.specs.declared.board.Knows.{Knows}
 use Rattle.tc_hall.specs.declared.place.Place.TheVariants.{Ready}
 use Rattle.tc_hall.specs.Outs.{Outs, Item, Pack, Within, IsOut, outs, keep, minus, nothing, part}
-use Rattle.tc_hall.specs.Rule.{locked_in}
-use Rattle.tc_hall.specs.Steps.{HasStop, IsFree, MayPut}
+use Rattle.tc_hall.specs.Rule.{last_by, locked_in}
+use Rattle.tc_hall.specs.Steps.{HandsPending, HasStop, IsFree, MayPut}
 use Rattle.tc_hall.proofs.Outs.{has_out, lock_out, same_outs}
 use Rattle.tc_combiner.specs.Packages.{HasNoOther, IsGoodFor, Runs}
 use Rattle.tc_combiner.specs.Settling.{MayCommit, MaySettle}
@@ -87,12 +89,14 @@ is_running_is (Faulted f) e = absurd (cc)
 is_running_is SpentFuel e = absurd (cc)
 
 -- the desk may seal it
-pub may_commit : (d : DeskView) (p n : PackageView) → HasOut d.pass.knows (Pack p ∷ packed d.aside) → fits_of p d.pass.knows.worker ≡ true → DidRun d.pass.knows.image p n → MayCommit d n
-may_commit d p n out fits ran = record {
+pub may_commit : (d : DeskView) (p n : PackageView) → HasOut d.pass.knows (Pack p ∷ packed d.aside) → fits_of p d.pass.knows.worker ≡ true → DidRun d.pass.knows.image p n → HandsPending d.pass.knows n → AreTogether (last_by d.pass.knows) (last_of p.log) → MayCommit d n
+may_commit d p n out fits ran handed both = record {
   before = p;
   hand = (nothing, out);
   ran = ran;
   allows = λ b e. (let one : ran.block ≡ b = cc (ran.pending, e) in subst (λ (z : Block). Allows n.context z d.pass.knows.worker) one (ran.fits d.pass.knows.worker fits));
+  handed = handed;
+  together = both;
 }
 
 same_bools : (a b : Bool) → (a ≡ true → b ≡ true) → (b ≡ true → a ≡ true) → a ≡ b

@@ -3,6 +3,9 @@ use Rattle.std.specs.Prelude.{◌≡◌, ◌≢◌, ℕ, ◌<◌, Bool, true, fa
 use mathlib.Core.Option.{some}
 use lib.ListN.{get_elem?}
 use Rattle.tc_elf.specs.Shown.{Shown}
+use Rattle.tc_journal.specs.Batch.{last_of}
+use Rattle.tc_journal.specs.Handing.{AreTogether, was_cut}
+use Rattle.tc_journal.specs.declared.block.Block.{Block}
 use Rattle.tc_journal.specs.declared.block.End.{End}
 use Rattle.tc_context.specs.View.{PackageView, fits_of}
 use Rattle.tc_hall.specs.declared.board.Call.{Call}
@@ -10,8 +13,8 @@ use Rattle.tc_hall.specs.declared.board.Knows.{Knows}
 use Rattle.tc_hall.specs.declared.place.Place.TheVariants.{Ready}
 use Rattle.tc_hall.specs.Outs.{Called, outs, nothing, Item, Pack}
 use Rattle.tc_hall.specs.PassView.{PassView}
-use Rattle.tc_hall.specs.Rule.{threads, grants_adopted}
-use Rattle.tc_hall.specs.Steps.{IsSamePass, HasSeenAll, HasStop, SawStopped, after_look, put_call}
+use Rattle.tc_hall.specs.Rule.{threads, grants_adopted, is_pinned, last_by}
+use Rattle.tc_hall.specs.Steps.{IsGrantedBehind, IsSamePass, HasSeenAll, HasStop, SawStopped, after_look, put_call}
 use Rattle.tc_ready.specs.ReadyView.{ReadyView}
 use Rattle.tc_ready.specs.Scan.{Looked}
 use Rattle.tc_combiner.specs.Packages.{HasNoOther, IsGood, Runs}
@@ -38,10 +41,11 @@ pub record IsStill (p q : PassView) : Type 0 where
   pub worker : q.knows.worker ≡ p.knows.worker
   pub joined : q.knows.joined ≡ p.knows.joined
 
--- it has out what it had
+-- it has out what it had, and sealed no block
 pub record IsUnmoved (p q : PassView) : Type 0 where
   pub still : IsStill p q
   pub out : outs q.knows ≡ outs p.knows
+  pub sealed : q.knows.sealed ≡ p.knows.sealed
 
 -- ---- packages in hand
 
@@ -49,6 +53,17 @@ pub record IsUnmoved (p q : PassView) : Type 0 where
 abbrev pub IsFit : Shown → ℕ → Option PackageView → Type 0
 IsFit image worker None = Unit {0}
 IsFit image worker (Some q) = IsGood q image worker
+
+-- the package may run behind its worker's last block: where a lock was granted to it as Adopted, that block unlocked the lock; and
+-- neither that block nor the package's own last one was cut, unless they are one
+pub record RunsBehind (last : Option Block) (q : PackageView) : Type 0 where
+  pub granted : IsGrantedBehind last q.granted
+  pub together : AreTogether last (last_of q.log)
+
+-- what comes behind a worker's last block: a package that may run there, or any other where that block was not cut
+abbrev pub IsNext : Option Block → Option PackageView → Type 0
+IsNext last None = was_cut last ≡ false
+IsNext last (Some q) = RunsBehind last q
 
 -- one that may be put back where the run was stopped: it fits the worker, unless its grant is Adopted
 pub record MayGoBack (image : Shown) (worker : ℕ) (q : PackageView) : Type 0 where
@@ -92,22 +107,26 @@ pub record IsSeated (b : BenchView) (xs : List Item) (d : DeskView) : Type 0 whe
 pub record IsAtDesk (b : BenchView) (hand : Option PackageView) (d : DeskView) : Type 0 where
   pub seat : IsSeated b (packed hand) d
   pub fit : IsFit d.pass.knows.image d.pass.knows.worker hand
+  pub next : IsNext (last_by d.pass.knows) hand
 
 -- a desk with nothing in hand and nothing set aside
 pub record IsIdle (b : BenchView) (d : DeskView) : Type 0 where
   pub desk : IsAtDesk b None d
   pub free : d.aside ≡ None
 
--- a package was claimed, and nothing else is out; one that does not fit the worker is noted as such
+-- a package was claimed, and nothing else is out; one that is pinned to one worker is noted as such. The worker's last block was
+-- not cut
 pub record HasClaimed (b : BenchView) (q : PackageView) (d : DeskView) : Type 0 where
   pub seat : IsSeated b (Pack q ∷ []) d
   pub free : d.aside ≡ None
+  pub uncut : was_cut (last_by d.pass.knows) ≡ false
   pub back : MayGoBack d.pass.knows.image d.pass.knows.worker q
-  pub misfit : fits_of q d.pass.knows.worker ≡ false → (t : ℕ) × (get_elem? d.pass.knows.misfits t ≡ some true)
+  pub pinned : is_pinned q ≡ true → (t : ℕ) × (get_elem? d.pass.knows.pinned t ≡ some true)
 
--- the block of a package in hand was sealed, and ended so
+-- the block of a package in hand was sealed, and ended so; it is the worker's last
 pub record HasSealed (b : BenchView) (end : End) (q : PackageView) (d : DeskView) : Type 0 where
   pub seat : IsSeated b (Pack q ∷ []) d
+  pub newest : last_by d.pass.knows ≡ last_of q.log
   pub may : MaySettle b.image d.pass.knows.worker end q
 
 -- all was put back

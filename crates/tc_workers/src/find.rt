@@ -25,14 +25,14 @@ pub fn number<Q: Waiters>(desk: &mut Desk<Q>) -> u32
     desk.pass().worker()
 }
 
-// Goes on with a package that was claimed. One that does not fit the worker comes from a stop, which
+// Goes on with a package that was claimed. One that is pinned to one worker comes from a stop, which
 // the worker sees then: it puts the package back.
 fn take_up<Q: Waiters>(bench: &Bench<'_, Q>, desk: &mut Desk<Q>, package: Package) -> Step
     requires claimed { HasClaimed bench.now «package» desk.old }
     ensures steps { DeskSteps bench.now desk.old desk.new result }
     ensures taken { IsTakenUp desk.old desk.new «package» result }
 {
-    if package.fits(number(desk)) {
+    if !package.is_pinned() {
         return Step::On(Some(package));
     }
     if calls::stopped(bench, desk) {

@@ -101,6 +101,7 @@ fn acquire<R: Wait, G: Gate, Q: Waiters>(
     ensures acquires { Acquires «package» worker.old.desk worker.new.desk result }
     ensures offered { HasOffered worker.new.desk.handed worker.old.ready worker.new.ready }
 {
+    package.keeps();
     let t = package.thread();
     let number = number(&mut worker.desk);
     let settled = worker.desk.acquire_lock(rt, bench, package, lock);

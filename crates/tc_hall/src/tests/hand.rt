@@ -2,7 +2,11 @@
 
 ghost use Rattle.std.specs.Prelude.{◌≡◌, ◌==◌, ◌<◌, None, false, IfOk};
 ghost use Rattle.tc_context.specs.Whole.{set_of};
-ghost use Rattle.tc_hall.specs.Hands.{IsInHand, Plays, IsIdle, Carries};
+ghost use Rattle.tc_journal.specs.Handing.{is_cut};
+ghost use Rattle.tc_journal.specs.declared.block.End.TheVariants.{Unlocked};
+ghost use Rattle.tc_hall.specs.Hands.{HasEnded, IsInHand, Plays, IsIdle, Carries};
+ghost use Rattle.tc_hall.specs.Rule.{last_by};
+ghost use Rattle.tc_hall.specs.Steps.{IsGrantedBehind};
 
 use crate::hall::Hall;
 use crate::pass::Pass;
@@ -29,7 +33,8 @@ pub(super) struct Hand {
 pub(super) fn claim<R: Abort>(rt: &R, hall: &Hall, mut pass: Pass, t: u32) -> Hand
     requires idle { IsIdle hall.now pass.knows.image pass }
     requires thread { t < 2 }
-    ensures { Carries hall.now pass.knows.image result.pass result.carried (λ k. false) }
+    ensures carries { Carries hall.now pass.knows.image result.pass result.carried (λ k. false) }
+    ensures next { IsGrantedBehind (last_by result.pass.knows) result.carried.granted }
 {
     let Ok(carried) = hall.claim(&mut pass, t, Origin::Ready) else {
         panic!(rt; "the thread is ready")
@@ -49,9 +54,12 @@ pub(super) fn run<R: Abort>(
 ) -> Result<Hand, AllocError>
     requires plays { Plays hall.now hand.pass }
     requires image { hand.pass.knows.image ≡ image.now }
+    requires next { IsGrantedBehind (last_by hand.pass.knows) hand.carried.granted }
+    requires end { is_cut end ≡ false }
     ensures carries { IfOk result (λ h. Carries hall.now image.now h.pass h.carried
         (set_of hand.carried.context)) }
     ensures granted { IfOk result (λ h. h.carried.granted ≡ None) }
+    ensures ended { IfOk result (λ h. HasEnded end h.pass.knows) }
 {
     let Hand {
         mut pass,
@@ -62,6 +70,7 @@ pub(super) fn run<R: Abort>(
     assert!(rt; carried.status() == Status::Running);
     assert!(rt; want == carried.granted());
     assert!(rt; carried.fits(pass.worker()));
+    assert!(rt; !carried.was_cut());
     carried.keeps();
     prove!(image.guards() <= 32);
     let ended = carried.run_block(image);
@@ -73,7 +82,8 @@ pub(super) fn run<R: Abort>(
 /// Takes lock 0 for a thread that wants it, once the lock is home.
 pub(super) fn take<R: Abort + Wait>(rt: &R, hall: &Hall, image: &Image, hand: Hand) -> Hand
     requires { Carries hall.now image.now hand.pass hand.carried (λ k. false) }
-    ensures { Carries hall.now image.now result.pass result.carried (λ k. k == 0) }
+    ensures carries { Carries hall.now image.now result.pass result.carried (λ k. k == 0) }
+    ensures next { IsGrantedBehind (last_by result.pass.knows) result.carried.granted }
 {
     let Hand {
         mut pass,
@@ -99,7 +109,8 @@ pub(super) fn take<R: Abort + Wait>(rt: &R, hall: &Hall, image: &Image, hand: Ha
 pub(super) fn bring_home<R: Abort>(rt: &R, hall: &Hall, hand: Hand) -> Hand
     requires carries { Carries hall.now hand.pass.knows.image hand.pass hand.carried (λ k. k == 0) }
     requires granted { hand.carried.granted ≡ None }
-    ensures { Carries hall.now hand.pass.knows.image result.pass result.carried (λ k. false) }
+    ensures carries { Carries hall.now hand.pass.knows.image result.pass result.carried (λ k. false) }
+    ensures next { IsGrantedBehind (last_by result.pass.knows) result.carried.granted }
 {
     let Hand {
         mut pass,
@@ -116,8 +127,10 @@ pub(super) fn bring_home<R: Abort>(rt: &R, hall: &Hall, hand: Hand) -> Hand
 pub(super) fn pass_on<R: Abort>(rt: &R, hall: &Hall, hand: Hand, t: u32) -> Hand
     requires carries { Carries hall.now hand.pass.knows.image hand.pass hand.carried (λ k. k == 0) }
     requires granted { hand.carried.granted ≡ None }
+    requires ended { HasEnded (Unlocked 0) hand.pass.knows }
     requires thread { t < 2 }
-    ensures { Carries hall.now hand.pass.knows.image result.pass result.carried (λ k. k == 0) }
+    ensures carries { Carries hall.now hand.pass.knows.image result.pass result.carried (λ k. k == 0) }
+    ensures next { IsGrantedBehind (last_by result.pass.knows) result.carried.granted }
 {
     let Hand {
         mut pass,
@@ -127,6 +140,7 @@ pub(super) fn pass_on<R: Abort>(rt: &R, hall: &Hall, hand: Hand, t: u32) -> Hand
     assert!(rt; carried.thread() < 2);
     assert!(rt; carried.status() == Status::Running);
     let lock = carried.take_out(0);
+    assert!(rt; !carried.was_cut());
     hall.put(&mut pass, carried, Place::Ready);
     let Ok(mut waiter) = hall.adopt(&mut pass, t, 0) else {
         panic!(rt; "the thread waits")
@@ -149,6 +163,7 @@ pub(super) fn put_ready<R: Abort>(rt: &R, hall: &Hall, hand: Hand) -> Pass
     assert!(rt; carried.thread() < 2);
     assert!(rt; carried.status() == Status::Running);
     assert!(rt; carried.granted().is_none());
+    assert!(rt; !carried.was_cut());
     hall.put(&mut pass, carried, Place::Ready);
     pass
 }
@@ -163,6 +178,7 @@ pub(super) fn put_waiting<R: Abort>(rt: &R, hall: &Hall, image: &Image, hand: Ha
     assert!(rt; carried.status() == Status::Running);
     assert!(rt; carried.granted().is_none());
     assert!(rt; carried.want(image) == Some(0));
+    assert!(rt; !carried.was_cut());
     hall.put(&mut pass, carried, Place::Waiting(0));
     pass
 }
@@ -176,6 +192,7 @@ pub(super) fn put_done<R: Abort>(rt: &R, hall: &Hall, hand: Hand) -> Pass
     assert!(rt; carried.thread() < 2);
     assert!(rt; carried.status() != Status::Running);
     assert!(rt; carried.granted().is_none());
+    assert!(rt; !carried.was_cut());
     hall.put(&mut pass, carried, Place::Done);
     pass
 }

@@ -1,7 +1,8 @@
 //! Whole runs by hand, of two threads that each add 1 to a word under lock 0.
 
 ghost use Rattle.std.specs.Prelude.{◌≡◌, ◌==◌, ◌<◌, None, IfOk};
-ghost use Rattle.tc_hall.specs.Hands.{IsIdle, Carries};
+ghost use Rattle.tc_journal.specs.declared.block.End.TheVariants.{Unlocked};
+ghost use Rattle.tc_hall.specs.Hands.{HasEnded, IsIdle, Carries};
 
 use crate::closed::Closed;
 use crate::hall::Hall;
@@ -49,6 +50,7 @@ fn run_section<R: Abort + Wait>(
     requires thread { t < 2 }
     ensures carries { IfOk result (λ h. Carries hall.now image.now h.pass h.carried (λ k. k == 0)) }
     ensures granted { IfOk result (λ h. h.carried.granted ≡ None) }
+    ensures ended { IfOk result (λ h. HasEnded (Unlocked 0) h.pass.knows) }
 {
     let hand = claim(rt, hall, pass, t);
     let hand = run(rt, hall, image, hand, End::Wants(0))?;

@@ -10,7 +10,7 @@ put-requires-clause-ready c = record {
   has = is_there c.args.pass.now.knows.packages c.args.«package».context.thread (bare c.args.«package») (c.requires.out.contexts c.args.«package».context.thread (bare c.args.«package») (ap (λ b. if b then Some (bare c.args.«package») else None) (same_number c.args.«package».context.thread)));
   locks = λ i l e. is_there c.args.pass.now.knows.locks i (kept l) (c.requires.out.locks i (kept l) (ap keep e));
   order = c.requires.order;
-  stop = λ e. let p = c.requires.plain in let n : ⊥ = cc in absurd n;
+  stop = λ e. let p = c.requires.free in let n : ⊥ = cc in absurd n;
   fits = λ e. c.requires.fits;
 }
 

@@ -3,7 +3,6 @@ use Rattle.tc_combiner.proofs.Vocabulary.{Did_park, End, GoesOn, Hands, IsGood, 
 use Rattle.tc_combiner.proofs.Acting.{acts_none, takes_none}
 use Rattle.tc_combiner.proofs.Ending.{same_seats, seats_first}
 use Rattle.tc_combiner.proofs.Settling.{after_last, did_acquire, did_end, did_unlock, ended, keeps_of, may_ask, may_begin, may_continue, may_end, may_park, may_unlock, settled_end, some_block}
-use Rattle.tc_combiner.proofs.Unlocking.{going_good}
 use Rattle.tc_combiner.proofs.Answering.{keeps_answers}
 use Rattle.tc_combiner.proofs.settle.settle_with.Goals as goal
 
@@ -45,7 +44,7 @@ returns-in-Slept-clause-keeps g c = keeps_of c.args.shared.now.hall.now.terms _ 
 
 pub returns-in-Cut-clause-settled : goal.returns-in-Cut-clause-settled
 returns-in-Cut-clause-settled g c =
-    let good = going_good c.args.shared.now.hall.now.terms c.args.hands.now.pass.knows.worker c.args.«package» (may_continue c.args.shared.now.hall.now.terms c.args.hands.now.pass.knows.worker c.requires.may.0 c.args.«package» c.keeps.ensures.sound (after_last c.args.shared.now.hall.now.terms.image.value c.args.hands.now.pass.knows.worker c.args.end _ c.requires.may.0 c.args.«package» c.in-Cut.is c.requires.may c.requires.may.1.last)) in
+    let good = may_continue c.args.shared.now.hall.now.terms c.args.hands.now.pass.knows.worker c.requires.may.0 c.args.«package» c.keeps.ensures.sound (after_last c.args.shared.now.hall.now.terms.image.value c.args.hands.now.pass.knows.worker c.args.end _ c.requires.may.0 c.args.«package» c.in-Cut.is c.requires.may c.requires.may.1.last) in
     (c.requires.may.0, c.requires.may.1.last, subst (λ (x : End). SettledAs x c.args.«package» c.requires.may.0 (desk_of c.args.hands.now.pass (map g.Q.Waiters.seen c.args.seats.now) c.args.rest.now.sleepers c.args.rest.now.clock c.args.hands.now.aside c.args.hands.now.ready.items) (desk_of c.args.hands.now.pass (map g.Q.Waiters.seen c.args.seats.now) c.args.rest.now.sleepers c.args.rest.now.clock c.args.hands.now.aside c.clear.new.self.items) (GoesOn c.args.«package»)) (sym c.in-Cut.is) (refl, ap (λ (hs : List ℕ). desk_of c.args.hands.now.pass (map g.Q.Waiters.seen c.args.seats.now) c.args.rest.now.sleepers c.args.rest.now.clock c.args.hands.now.aside hs) c.clear.ensures, subst (λ (x : Shown). IsGood c.args.«package» x c.args.hands.now.pass.knows.worker) (sym c.requires.hands.image) good))
 
 pub returns-in-Cut-clause-keeps : goal.returns-in-Cut-clause-keeps

@@ -10,7 +10,7 @@ returns-in-Ok c =
     let r = c.in-Ok.ensures.result in (
       acts_told [] [] [] _ c.args.pass.now c.adopt.new.pass refl tt c.adopt.ensures.own r.called (moves_out c.args.pass.now.knows c.adopt.new.pass.knows (Pack c.in-Ok.waiter) r.came.out r.came.before),
       tried_none c.args.pass.now.knows c.adopt.new.pass.knows _ r.now refl refl,
-      subst (λ (x : Shown). IsWaiter c.args.t c.args.lock x c.in-Ok.waiter) (sym r.called.image) (is_waiter c.args.t c.args.lock c.in-Ok.waiter c.args.pass.now.knows c.adopt.new.pass.knows r c.in-Ok.ensures.waiting),
+      subst (λ (x : Shown). IsWaiter c.args.t c.args.lock x c.in-Ok.waiter) (sym r.called.image) (is_waiter c.args.t c.args.lock c.in-Ok.waiter c.args.pass.now.knows c.adopt.new.pass.knows r c.in-Ok.ensures.waiting c.keeps.ensures.sound),
     )
 
 pub returns-then-stopped : goal.returns-then-stopped

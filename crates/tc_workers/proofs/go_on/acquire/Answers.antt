@@ -11,5 +11,5 @@ returns-clause-steps g c =
     let e = c.acquire_lock-settled.new.self in
     let did = c.acquire_lock-settled.ensures in
     let at = subst (IsAtDesk b (Some q)) (sym c.number-number.ensures.same) c.requires.work.desk in
-    let after = subst (λ (s : Step). IsStep b e s) (sym c.conclude.ensures.step) (after_acquire b q c.number-number.new.desk e c.acquire_lock-settled.result did.keeps at.seat did.acquired) in
+    let after = subst (λ (s : Step). IsStep b e s) (sym c.conclude.ensures.step) (after_acquire b q c.number-number.new.desk e c.acquire_lock-settled.result did.keeps at.seat c.keeps.ensures.sound at.next.together did.acquired) in
     search rules

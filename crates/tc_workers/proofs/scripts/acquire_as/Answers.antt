@@ -1,5 +1,6 @@
 use Rattle.std.proofs.Common.{subst}
 use Rattle.tc_journal.specs.declared.block.End.{End}
+use Rattle.tc_hall.proofs.Behind.{together_same}
 use Rattle.tc_workers.specs.Worker.{HasSealed}
 use Rattle.tc_workers.proofs.Desks.{after_acquire}
 use Rattle.tc_workers.proofs.Playing.{may_acquire}
@@ -14,4 +15,4 @@ acquire-settled-requires-clause-may g c κs within =
 pub go_on_as-requires-clause-step : goal.go_on_as-requires-clause-step
 go_on_as-requires-clause-step g c =
     let done = c.acquire-settled.ensures in
-    after_acquire c.args.bench.now c.in_hand-package.result.0 c.in_hand-package.new.player.desk c.acquire-settled.new.self c.acquire-settled.result done.keeps c.in_hand-package.ensures.sealed.seat done.acquired
+    after_acquire c.args.bench.now c.in_hand-package.result.0 c.in_hand-package.new.player.desk c.acquire-settled.new.self c.acquire-settled.result done.keeps c.in_hand-package.ensures.sealed.seat c.keeps.ensures.sound (together_same _ _ c.in_hand-package.ensures.sealed.newest) done.acquired

@@ -1,6 +1,8 @@
 use Rattle.std.proofs.Common.{rules, ◌≡◌, false, Some, None, sym, ap, ◌∙◌, subst}
 use Rattle.tc_hall.specs.declared.board.Knows.{Knows}
 use Rattle.tc_context.specs.View.{PackageView, IsWaiting, bare, want_of}
+use Rattle.tc_hall.specs.Rule.{grants_adopted, last_by}
+use Rattle.tc_hall.proofs.Behind.{behind_any, same_last}
 use Rattle.tc_hall.specs.Hands.{IsInHand, Carries}
 use Rattle.tc_hall.proofs.InHand.{is_none, granted, missed, one_in, plays_on, rest_for, takes}
 use Rattle.tc_hall.proofs.tests.hand.take.Goals as goal
@@ -29,12 +31,15 @@ invariant_of-result g c =
     let with_it = granted c.in-Ok.lock c.loop.carried c.grant.new.self (ap bare c.grant.ensures.is) c.grant.ensures.locks in
     record { in_hand = takes 0 c.in-Ok.lock c.loop.carried c.grant.new.self c.loop.pass.knows c.take.new.pass.knows c.loop.invariant.hand c.in-Ok.ensures.result with_it }
 
-pub returns-in-Ok : goal.returns-in-Ok
-returns-in-Ok g c =
+pub returns-in-Ok-clause-next : goal.returns-in-Ok-clause-next
+returns-in-Ok-clause-next g c = behind_any (last_by c.take.new.pass.knows) c.grant.new.self.granted (ap (λ (z : PackageView). grants_adopted z.granted) c.grant.ensures.is)
+
+pub returns-in-Ok-clause-carries : goal.returns-in-Ok-clause-carries
+returns-in-Ok-clause-carries g c =
     let with_it = granted c.in-Ok.lock c.loop.carried c.grant.new.self (ap bare c.grant.ensures.is) c.grant.ensures.locks in
     let was = c.loop.invariant.carries in
     record {
-      plays = plays_on _ _ was.plays c.take.ensures.own;
+      plays = plays_on c.loop.pass c.take.new.pass was.plays c.take.ensures.own (same_last _ c.loop.pass.knows c.take.new.pass.knows c.in-Ok.ensures.result.called);
       runs = c.in-Ok.ensures.result.called.image ∙ was.runs;
       locks = one_in c.in-Ok.lock c.loop.carried c.grant.new.self c.in-Ok.ensures.result.rest.number with_it was.locks;
     }
@@ -42,7 +47,7 @@ returns-in-Ok g c =
 pub loop-preserved : goal.loop-preserved
 loop-preserved g c = let inv = c.loop.invariant in record {
   carries = record {
-    plays = plays_on _ _ inv.carries.plays c.take.ensures.own;
+    plays = plays_on c.loop.pass c.take.new.pass inv.carries.plays c.take.ensures.own (ap last_by c.in-Err.ensures.result.1);
     runs = ap (λ (v : Knows). v.image) c.in-Err.ensures.result.1 ∙ inv.carries.runs;
     locks = inv.carries.locks;
   };

@@ -5,5 +5,5 @@ pub bring_home-second-requires-clause-carries : goal.bring_home-second-requires-
 bring_home-second-requires-clause-carries g c = record {
   plays = c.in_ok-second.ensures.carries.plays;
   runs = refl;
-  locks = λ k. c.in_ok-second.ensures.carries.locks k ∙ c.pass_on-second.ensures.locks k;
+  locks = λ k. c.in_ok-second.ensures.carries.locks k ∙ c.pass_on-second.ensures.carries.locks k;
 }
