@@ -4,5 +4,6 @@ pub mod Told
 pub mod Line
 pub mod Batch
 pub mod History
+pub mod Handing
 pub mod Spelling
 pub mod Reading
