@@ -31,8 +31,9 @@ pub fn handover()
         → h ≡ before ++ p ∷ after → p.end ≡ Unlocked lock
         → first_of (of_lock after lock) ≡ Some b → BeginsAdopted lock b
         → first_of (of_worker after p.worker) ≡ Some b }
-    // A section in which its thread neither sleeps nor takes or releases another lock is a run of
-    // consecutive blocks of its worker; so an adopted one is, from `adopted` to `unlocked`.
+    // An adopted section without inner locks and sleeps is a run of consecutive blocks of its
+    // worker, from `adopted` to `unlocked L`: so is each section of which all blocks but the last
+    // were cut.
     ensures unbroken { (image : Shown) (limits : Limits) (fuel : ℕ) (h before after section : List Block) (lock : ℕ) (b : Block)
         → KeepsRules image limits fuel h → Delegates h
         → h ≡ before ++ b ∷ after → begins lock b ≡ true
