@@ -8,6 +8,7 @@ import report
 from report import Block, Wrong
 
 COMPARED = ("turns", "held", "kind", "pc", "end")
+BEYOND = " (this the judge asks, and the program's theorem does not say it)"
 
 
 class Batch:
@@ -16,6 +17,7 @@ class Batch:
     What a history shows of waiting: a thread waited for a release where it is not the one that
     released, and its last block stands before the next block of the worker that released, since
     that worker looked for a waiter between its two blocks. An adopted section is that next block.
+    That the thread of a granted section waited so is not in the program's theorem; all else is.
     """
 
     def __init__(self, limit):
@@ -43,7 +45,7 @@ class Batch:
             return f"thread {thread} had the section before too, so it did not wait for this one"
         if not self.waited(thread, stamp):
             return (f"worker {last.worker} released the lock and ran block {self.next} before thread {thread} "
-                    "could wait for it")
+                    "could wait for it" + (BEYOND if kind == "granted" else ""))
         if kind == "granted":
             return (f"{self.adopted} adopted sections stand in a row, fewer than the batch limit "
                     f"{self.limit}, and the thread before goes on without a lock: a waiter is adopted")
@@ -76,6 +78,7 @@ class Run:
         self.machine = model.Machine(guest, fuel)
         self.batches = [Batch(limit) for _ in self.machine.locks]
         self.stamps = [-1] * len(self.machine.threads)  # of each thread's last block
+        self.cut = {}  # the last block of each worker whose last block was cut
         self.count = 0
 
     def kinds(self, number, worker):
@@ -86,6 +89,16 @@ class Run:
             return ["on" if thread.blocks else "start"]
         return self.batches[lock].kinds(number, worker, self.stamps[number])
 
+    def parted(self, number, worker):
+        """The cut block that keeps the worker from this thread, or None: a worker goes on with the thread
+        of a block that was cut, and that thread with this worker, each in its very next block."""
+        return next((block for block in self.cut.values()
+                     if (block.worker == worker) != (block.thread == number)), None)
+
+    def worker_for(self, number):
+        """The first worker that may run the thread's next block, or 0."""
+        return next((worker for worker in range(self.workers) if self.parted(number, worker) is None), 0)
+
     def step(self, number, kind, worker):
         """Runs the thread's next block; `kind` None stands for the first that is allowed."""
         thread = self.machine.threads[number]
@@ -95,6 +108,10 @@ class Run:
         if lock is not None and self.machine.locks[lock].owner is not None:
             raise Wrong(f"block {self.count}: thread {number} would take lock {lock}, which "
                         f"thread {self.machine.locks[lock].owner} has")
+        cut = self.parted(number, worker)
+        if cut is not None:
+            raise Wrong(f"block {self.count}: worker {worker} runs thread {number}, but block {cut.stamp} was cut: "
+                        f"worker {cut.worker} goes on with thread {cut.thread}")
         allowed = self.kinds(number, worker)
         if kind is not None and kind not in allowed:
             raise Wrong(f"block {self.count}: its kind is {kind}, and must be {' or '.join(allowed)}"
@@ -112,6 +129,9 @@ class Run:
         for released in block.released:
             self.batches[released].release(block)
         self.stamps[number] = block.stamp
+        self.cut.pop(worker, None)
+        if block.end == "cut":
+            self.cut[worker] = block
         self.count += 1
         return block
 
@@ -131,20 +151,20 @@ class Run:
         for number in self.machine.able():
             kinds = {}
             for worker in range(self.workers):
-                for kind in self.kinds(number, worker):
+                for kind in self.kinds(number, worker) if self.parted(number, worker) is None else ():
                     kinds.setdefault(kind, []).append(worker)
             for kind, workers in kinds.items():
                 yield copy.deepcopy(self, {id(guest): guest}).step(number, kind, workers[0]), workers
 
     def go_on(self):
-        """Runs to the end of every thread: each runs as long as it can, as worker 0, and every
-        section is taken. Answers the blocks."""
+        """Runs to the end of every thread: each runs as long as it can, as worker 0 but where a block was
+        cut, and every section is taken. Answers the blocks."""
         while True:
-            number = next(self.machine.able(), None)
+            number = next((n for n in self.machine.able() if self.parted(n, self.worker_for(n)) is None), None)
             if number is None:
                 return
             taken = self.machine.next_lock(self.machine.threads[number]) is not None
-            yield self.step(number, "taken" if taken else None, 0)
+            yield self.step(number, "taken" if taken else None, self.worker_for(number))
 
     def header_lines(self):
         return report.header_lines(self.version, len(self.machine.threads), len(self.machine.locks), self.workers,

@@ -51,6 +51,14 @@ class ByHand(Case):
                 self.one_line(done, 3)
                 self.assertIn(place, done.stderr.decode())
 
+    def test_a_block_between_the_release_and_the_adopted_section(self):
+        """The worker that released the lock goes on with the waiter in its very next block."""
+        lines = BY_HAND.splitlines()
+        lines[6:8] = [lines[7].replace("block 4", "block 3"), lines[6].replace("block 3", "block 4")]
+        done = run("judge", self.guest, given="\n".join(lines) + "\n")
+        self.one_line(done, 3)
+        self.says("block 4: its kind is adopted, and must be taken: worker 0 released the lock and then ran block 3", done)
+
     def test_what_would_have_been_legal(self):
         done = run("finish", self.guest, given=BY_HAND.replace("batch 4", "batch 0"))
         self.says("block 3 thread 1 turns 7 held 0 kind granted worker 0 pc 0010000c end unlocked 0"
@@ -83,6 +91,16 @@ class ByHand(Case):
         self.assertEqual(run("finish", elf("first"), given=late).returncode, 0)
         done = run("finish", elf("first"), given=late.replace("kind taken", "kind adopted"))
         self.says("it would have adopted at once", done)
+
+
+    def test_granted_without_waiting_is_beyond_the_theorem(self):
+        """Of an adopted section the theorem says it, of a granted one only the judge."""
+        lines = "run workers 2 fuel 1000 batch 1\nthread 0\nthread 1 worker 1\nthread 0\nthread 1 kind adopted\n"
+        beyond = "and the program's theorem does not say it"
+        done = run("finish", elf("first"), given=lines + "thread 0\nthread 1 worker 1\nthread 0 kind granted\n")
+        self.says(beyond, done)
+        done = run("judge", self.guest, given=BY_HAND.replace("kind taken", "kind granted"))
+        self.assertNotIn(beyond, done.stderr.decode())
 
 
 LOCKED = {lock: call(1, lock) + call(2, lock) + EXIT for lock in (0, 1)}
@@ -145,6 +163,38 @@ block 2 thread 0 turns 4 held 0,1 kind taken worker 0 pc 00100014 end unlocked 0
 block 3 thread 0 turns 3 held 1 kind on worker 0 pc 00100024 end unlocked 1
 block 4 thread 0 turns 2 held - kind on worker 0 pc 00100030 end exit
 thread 0 exit fuel 86""", done)
+
+
+class Cuts(Case):
+    """A thread without an end, and one that ends at once: 4,096 turns are a block, and the worker goes on."""
+
+    def setUp(self):
+        self.guest = saved("spin.elf", built((0x0000006F, *EXIT), (0, 1), 0))
+        self.options = ("--workers", "2", "--fuel", "6000")
+
+    def judged(self, lines):
+        done = run("finish", self.guest, *self.options, given=lines)
+        return done if done.returncode else run("judge", self.guest, given=done.stdout)
+
+    def test_a_cut_parts_no_thread_from_its_worker(self):
+        on = "thread 0 end cut worker 0\nthread 1 worker 1\nthread 0 turns 1905 worker 0\n"
+        self.says("a legal run, to the end of every thread", self.judged(on))
+        for other, place in (("thread 0 end cut worker 0\nthread 1 worker 0\n", "block 1: worker 0 runs thread 1"),
+                             ("thread 0 end cut worker 0\nthread 0 worker 1\n", "block 1: worker 1 runs thread 0")):
+            done = self.judged(other)
+            self.assertEqual(done.returncode, 3)
+            self.says(f"{place}, but block 0 was cut: worker 0 goes on with thread 0", done)
+
+    def test_the_judge_refuses_what_was_changed(self):
+        done = run("finish", self.guest, *self.options, "--on", given="thread 0 worker 1\n")
+        self.says("a legal run, to the end of every thread", run("judge", self.guest, given=done.stdout))
+        text = done.stdout.decode()
+        self.assertIn("end cut", text)
+        self.one_line(run("judge", self.guest, given=text.replace("worker 1", "worker 0", 1)), 3)
+
+    def test_a_worker_that_is_left_out_is_one_that_may(self):
+        done = run("finish", self.guest, *self.options, given="thread 0\nthread 1\nthread 0\n")
+        self.assertEqual(re.findall("(?m)^block .* worker ([0-9])", done.stdout.decode()), ["0", "1", "0"])
 
 
 class Delegation(Case):

@@ -20,7 +20,7 @@ def step(run, line):
     """Runs the block of a line, and answers it; Wrong where it can't be."""
     line.check(run)
     parts = line.parts
-    block = run.step(parts["thread"], parts.get("kind"), parts.get("worker", 0))
+    block = run.step(parts["thread"], parts.get("kind"), parts.get("worker", run.worker_for(parts["thread"])))
     shown = {"turns": block.turns, "held": report.held_text(block.held), "end": block.end}
     if block.pc is not None:
         shown["pc"] = f"{block.pc:08x}"

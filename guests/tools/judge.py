@@ -2,6 +2,13 @@
 
 A report that stops behind a block line is judged so far. The statuses are those of
 guests/README.md: 0 where it is legal, 3 where it isn't.
+
+What the program's theorem says of each report that it writes, the judge asks of this one: that the
+history is a run under ordinary mutexes, that sections obey the batch rule and are passed on to other
+threads, that an adopted section is the next block of the worker that released the lock, that a cut
+parts no thread from its worker, and that threads and locks end as printed. One thing it asks beyond
+the theorem: that the thread of a granted section came to its LOCK before the next block of the worker
+that released the lock.
 """
 import guestfile
 import legal

@@ -124,9 +124,7 @@ module _ (k : Terms) (id : ℕ) (v : Knows) (ws : List ℕ) (xs : List (Option C
         law = subst (λ (z : List PackageView × List LockView). Lawful k.image.value k.fuel k.limit rule.told.history z.0 z.1) (λ i. (sym same i, sym same_locks i)) rule.told.law;
         strict = λ i l e. rule.told.strict i (kept l) (sym (ap (λ (xs : List LockView). get_elem? xs i) same_locks) ∙ at_map kept ls i l e);
         workers = rule.told.workers;
-        handed = rule.told.handed;
-        runs_on = rule.told.runs_on;
-        stays = rule.told.stays;
+        delegates = rule.told.delegates;
         sealed = (rule.passes id v final.1.1).sealed;
         ended = λ t q e. let place = at_place rule.told.places t (let b = (there qs t q q e).0 in omega (arith, rule.told.law.all_packages, taken.count)) in
             let slot = in_slot t place.0 place.1 in

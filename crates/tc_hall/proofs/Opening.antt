@@ -132,9 +132,7 @@ module _ (k : Terms) where
           })));
           strict = λ i l e. subst (λ (x : LockView). IsStrict x) (tabled-at (λ i. fresh_state k.image.value i k.limit) m i l e).1 refl;
           workers = λ i b e. absurd (some-ne-none b (sym e));
-          handed = λ w. tt;
-          runs_on = λ w. tt;
-          stays = λ t. tt;
+          delegates = record { handed = λ w. tt; runs_on = λ w. tt; stays = λ t. tt };
         };
         words = ap (λ (l : List ℕ). length l) zeros ∙ length-replicate (slot_word (n + m)) 0;
         slots = length-map slots some ∙ ready.count;

@@ -137,9 +137,11 @@ module _ (k : Terms) (s : St k) (r : KeptHall k s) (id : ℕ) (v : Knows) (q : P
           limits = r.told.limits;
           law = law;
           strict = strict_states v.image r.told.places r.told.segments a.before q (record { place = ap (get_elem? r.told.places) (sym a.ran.runs.keeps.thread) ∙ o.2; locks = mine }) a.ran stamp v.worker r.told.strict;
-          handed = each_still IsHandedOver worker_of h b r.told.handed next;
-          runs_on = each_still IsRunOn worker_of h b r.told.runs_on (runs_on_from h b together);
-          stays = each_still IsStillAt thread_of h b r.told.stays (stays_from h b together);
+          delegates = record {
+            handed = each_still IsHandedOver worker_of h b r.told.delegates.handed next;
+            runs_on = each_still IsRunOn worker_of h b r.told.delegates.runs_on (runs_on_from h b together);
+            stays = each_still IsStillAt thread_of h b r.told.delegates.stays (stays_from h b together);
+          };
           workers = λ i c e. ⊎_elim (λ (z : get_elem? h i ≡ some c). r.told.workers i c z) (λ (z : (i ≡ length h) × (b ≡ c)). subst (λ (x : Block). x.worker < k.workers) z.1 old.worker) (snoc_at h b c i e);
         };
         words = length-set s.words CLOCK new ∙ r.words;

@@ -9,8 +9,7 @@ use Rattle.tc_isa.specs.declared.limits.TheConstants.{MAX_FUEL, MAX_WORKERS}
 use Rattle.tc_elf.specs.Shown.{Shown}
 use Rattle.tc_elf.specs.declared.limits.TheConstants.{MAX_THREADS, MAX_GUARDS}
 use Rattle.tc_journal.specs.Batch.{last_of}
-use Rattle.tc_journal.specs.Handing.{of_worker, HandsOver, RunsOn, StaysAt}
-use Rattle.tc_journal.specs.History.{of_thread}
+use Rattle.tc_journal.specs.Handing.{of_worker, Delegates}
 use Rattle.tc_journal.specs.declared.block.Block.{Block}
 use Rattle.tc_turn.specs.Turn.{is_running}
 use Rattle.tc_segment.specs.View.{LockView, kept}
@@ -205,9 +204,7 @@ pub record Told (k : Terms) : Type 0 where
   pub law : Lawful k.image.value k.fuel k.limit history places segments
   pub strict : AreStrict segments
   pub workers : (i : ℕ) (b : Block) → get_elem? history i ≡ some b → b.worker < k.workers
-  pub handed : (worker : ℕ) → HandsOver (of_worker history worker)
-  pub runs_on : (worker : ℕ) → RunsOn (of_worker history worker)
-  pub stays : (thread : ℕ) → StaysAt (of_thread history thread)
+  pub delegates : Delegates history
 
 pub record KeptHall (k : Terms) (s : State (Option Cargo) Knows) : Type 0 where
   pub told : Told k

@@ -7,8 +7,8 @@ use lib.ListN.{get_elem?}
 use Rattle.atomic_table.specs.Table.{Me, Step, rest}
 use Rattle.tc_elf.specs.Shown.{Shown}
 use Rattle.tc_journal.specs.Batch.{Obeys, is_adopted, last_of}
-use Rattle.tc_journal.specs.Handing.{AreTogether, HandsOver, IsHandedOver, RunsOn, StaysAt, has_unlocked, of_worker}
-use Rattle.tc_journal.specs.History.{of_lock, of_thread}
+use Rattle.tc_journal.specs.Handing.{AreTogether, Delegates, IsHandedOver, has_unlocked}
+use Rattle.tc_journal.specs.History.{of_lock}
 use Rattle.tc_journal.specs.declared.block.Block.{Block}
 use Rattle.tc_turn.specs.Turn.{is_running}
 use Rattle.tc_mutex_spec.specs.Blocks.{Tells, end_after}
@@ -309,9 +309,7 @@ pub record IsEnd (k : Terms) (v : Knows) (qs : List PackageView) (ls : List Lock
   pub law : Lawful k.image.value k.fuel k.limit history (map bare qs) (map kept ls)
   pub strict : AreStrict ls
   pub workers : (i : ℕ) (b : Block) → get_elem? history i ≡ some b → b.worker < k.workers
-  pub handed : (worker : ℕ) → HandsOver (of_worker history worker)
-  pub runs_on : (worker : ℕ) → RunsOn (of_worker history worker)
-  pub stays : (thread : ℕ) → StaysAt (of_thread history thread)
+  pub delegates : Delegates history
   -- each block that it sealed, or that a pass joined into it sealed, is in the history at its stamp
   pub sealed : (i : ℕ) (b : Block) → get_elem? v.sealed i ≡ some b → get_elem? history b.stamp ≡ some b
   pub ended : (t : ℕ) (q : PackageView) → get_elem? qs t ≡ some q → (is_running q.context.guest.status ≡ false) × ((i : ℕ) → locked_in q i ≡ None)

@@ -3,6 +3,7 @@
 -- parts no thread from its worker: the worker's next block is of the same thread, and the thread's next block is at that worker.
 use Rattle.std.specs.Prelude.{◌≡◌, ℕ, ◌==◌, Bool, true, false, List, [], ◌∷◌, ◌++◌, filter, Option, Some, None}
 use Rattle.tc_journal.specs.Batch.{begins, is_adopted, last_of, unlocks}
+use Rattle.tc_journal.specs.History.{of_thread}
 use Rattle.tc_journal.specs.declared.block.Block.{Block}
 use Rattle.tc_journal.specs.declared.block.End.{End}
 use Rattle.tc_journal.specs.declared.block.End.TheVariants.{Wants, Unlocked, Slept, Cut, Exit, Fault, Spent}
@@ -51,7 +52,15 @@ IsStillAt (Some p) b = p.end ≡ Cut → b.worker ≡ p.worker
 abbrev pub StaysAt : List Block → Type 0
 StaysAt bs = EachBehind IsStillAt [] bs
 
--- ---- over both
+-- ---- over a history
+
+-- each worker hands over and runs on, and each thread stays
+pub record Delegates (h : List Block) : Type 0 where
+  pub handed : (worker : ℕ) → HandsOver (of_worker h worker)
+  pub runs_on : (worker : ℕ) → RunsOn (of_worker h worker)
+  pub stays : (thread : ℕ) → StaysAt (of_thread h thread)
+
+-- ---- of two last blocks
 
 abbrev pub is_cut : End → Bool
 is_cut (Wants k) = false
@@ -69,6 +78,6 @@ was_cut (Some b) = is_cut b.end
 
 -- of a worker's last block and a thread's last block, either of them only was cut where they are one block: the worker then goes
 -- on with the thread, and the thread stays at the worker
-pub record AreTogether (of_worker of_thread : Option Block) : Type 0 where
-  pub goes_on : was_cut of_worker ≡ true → of_worker ≡ of_thread
-  pub stays : was_cut of_thread ≡ true → of_worker ≡ of_thread
+pub record AreTogether (worker thread : Option Block) : Type 0 where
+  pub goes_on : was_cut worker ≡ true → worker ≡ thread
+  pub stays : was_cut thread ≡ true → worker ≡ thread

@@ -5,5 +5,6 @@ pub mod Line
 pub mod Batch
 pub mod Handing
 pub mod History
+pub mod Handing
 pub mod Spelling
 pub mod Reading

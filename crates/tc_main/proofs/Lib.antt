@@ -7,3 +7,4 @@ pub mod Replaying
 pub mod Statuses
 pub mod NodeRows
 pub mod Spelled
+pub mod Legal

@@ -37,7 +37,7 @@ module _ (image : Shown) (o : Options) (closed : ClosedView) (run : IsWholeRun i
     legal_is sound =
         let sound_states : All IsSoundLock states = subst (All IsSoundLock) (sym all_states) sound in
         let strict : AreStrict states = subst AreStrict (sym all_states) run.strict in
-        subst (λ h. IsLegalRun image o (results_after image o.fuel h)) same (legal image o run.history packages states law run.complete run.workers sound_states strict run.handed run.runs_on run.stays)
+        subst (λ h. IsLegalRun image o (results_after image o.fuel h)) same (legal image o run.history packages states law run.complete run.workers sound_states strict run.delegates)
 
     -- so a text over it, the packages and the states is the report
     pub report_is : All IsSoundLock closed.locks → (text : List ℕ) → text ≡ head_text image o ++ history_text g ++ tail_text image packages states → IsReportOf image o text

@@ -14,7 +14,8 @@
 //!   and whom its workers tell how far they are, of tc_workers. `report`, `summary`: the texts of a
 //!   report and of a summary, of tc_report.
 //! - `status`: how the program ends. `top`: the top call.
-//! - `delegation`: what the history of a legal run is to the pure machine of tc_core.
+//! - `delegation`: what the history of a legal run is to the pure machine of tc_core, and what it shows of
+//!   each section.
 #![tactic(auto)]
 
 mod answer;

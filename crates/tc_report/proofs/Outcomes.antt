@@ -8,8 +8,8 @@ use lib.ListN.{get_elem?}
 use Rattle.atomic_table.proofs.Lists.{at_map}
 use Rattle.tc_elf.specs.Shown.{Shown, guard_at}
 use Rattle.tc_journal.specs.Batch.{PassesOn}
-use Rattle.tc_journal.specs.Handing.{of_worker, HandsOver, RunsOn, StaysAt}
-use Rattle.tc_journal.specs.History.{of_lock, of_thread}
+use Rattle.tc_journal.specs.Handing.{Delegates}
+use Rattle.tc_journal.specs.History.{of_lock}
 use Rattle.tc_journal.specs.Line.{history_text}
 use Rattle.tc_journal.specs.declared.block.Block.{Block}
 use Rattle.tc_turn.specs.Turn.{mutex_at_start}
@@ -117,8 +117,8 @@ module _ (image : Shown) (fuel limit : ℕ) (h : List Block) (k : ℕ) (l : Lock
 
 -- the history of an outcome whose lock states are sound is that of a legal run
 module _ (image : Shown) (o : Options) (h : List Block) (packages : List PackageView) (states : List LockView) (law : Lawful image o.fuel o.limit h (map bare packages) (map kept states))
-    (complete : IsComplete image (end_after image o.fuel h)) (workers : All (λ (b : Block). b.worker < o.workers) h) (all_sound : All IsSoundLock states) (all_strict : AreStrict states) 
-    (handed : (worker : ℕ) → HandsOver (of_worker h worker)) (runs_on : (worker : ℕ) → RunsOn (of_worker h worker)) (stays : (thread : ℕ) → StaysAt (of_thread h thread)) where
+    (complete : IsComplete image (end_after image o.fuel h)) (workers : All (λ (b : Block). b.worker < o.workers) h) (all_sound : All IsSoundLock states) (all_strict : AreStrict states)
+    (delegates : Delegates h) where
   record IsSoundState (k : ℕ) : Type 0 where
     pub state : LockView
     pub after : IsStateAfter image o.fuel o.limit h k (kept state)
@@ -141,9 +141,9 @@ module _ (image : Shown) (o : Options) (h : List Block) (packages : List Package
     workers = workers;
     obeys = λ k lt. law.obeys k;
     passes = λ k lt. let s = state_of k lt in passes_on image o.fuel o.limit h k s.state s.after s.sound s.strict;
-    handed = handed;
-    runs_on = runs_on;
-    stays = stays;
+    handed = delegates.handed;
+    runs_on = delegates.runs_on;
+    stays = delegates.stays;
     journals = λ k lt. let s = state_of k lt in has_journal image o.fuel o.limit h k s.state s.after s.sound s.strict;
     threads = refl;
     locks = refl;

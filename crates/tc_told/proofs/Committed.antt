@@ -144,7 +144,7 @@ module _ (image : Shown) (limits : Limits) (seen : List Block) (m to : State) (b
   worker_is = (let lt = is.worker in grind (arith, nat_tests))
 
   -- the locks that the block keeps
-  keeps : (k : ℕ) → has b.held k ≡ true → (to.threads t).held k ≡ not (ends_section k b)
+  pub keeps : (k : ℕ) → has b.held k ≡ true → (to.threads t).held k ≡ not (ends_section k b)
   keeps k h = ap (λ (x : State). (x.threads t).held k) runs_to ∙ go (((reach image m t b.turns).threads t).held k) refl
     where
       go : (v : Bool) → ((reach image m t b.turns).threads t).held k ≡ v → ((reach image m t b.turns).threads t).held k ≡ not (ends_section k b)

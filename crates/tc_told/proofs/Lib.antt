@@ -7,6 +7,8 @@ pub mod Back
 pub mod Sections
 pub mod Openings
 pub mod Realized
+pub mod Thinned
+pub mod Succession
 pub mod Counted
 pub mod Adopters
 pub mod Writing

@@ -36,15 +36,15 @@ use Rattle.tc_told.proofs.Committed.{IsGiven, Opened, IsNext, worker_is, begins_
 use Rattle.tc_told.proofs.Sections.{Around, claims, enters, leaves, frees, takes, ships, adopts, grants}
 
 -- the rule for the lock that the block takes
-allowed : (k limit : ℕ) (bs : List Block) (b : Block) → begins k b ≡ true → may_follow k limit bs b ≡ true → may_begin k limit (last_of bs) (run_of k bs) b.kind b.worker ≡ true
+pub allowed : (k limit : ℕ) (bs : List Block) (b : Block) → begins k b ≡ true → may_follow k limit bs b ≡ true → may_begin k limit (last_of bs) (run_of k bs) b.kind b.worker ≡ true
 unfolding may_follow allows_of
 allowed k limit bs b begin e = ap (λ v. if v then may_begin k limit (last_of bs) (run_of k bs) b.kind b.worker else may_go_on k (last_of bs) b.thread) (sym begin) ∙ e
 
-passed : (k : ℕ) (bs : List Block) (b : Block) → begins k b ≡ true → passes_on k bs b ≡ true → passes_to (last_of bs) b.kind b.thread ≡ true
+pub passed : (k : ℕ) (bs : List Block) (b : Block) → begins k b ≡ true → passes_on k bs b ≡ true → passes_to (last_of bs) b.kind b.thread ≡ true
 unfolding passes_on
 passed k bs b begin e = ap (λ v. if v then passes_to (last_of bs) b.kind b.thread else true) (sym begin) ∙ e
 
-adopt_ends : (c : Block) (k run limit : ℕ) → may_adopt c k run limit ≡ true → ends_section k c ≡ true
+pub adopt_ends : (c : Block) (k run limit : ℕ) → may_adopt c k run limit ≡ true → ends_section k c ≡ true
 adopt_ends c k run limit e = (let u = both (unlocks k c.end) (is_only c.held k) (both _ (nat_lt run limit) e).0 in ap (λ v. v || ends_thread c.end) u.0)
 
 -- the kind of a block that takes no lock

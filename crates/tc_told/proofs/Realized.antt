@@ -55,6 +55,10 @@ module _ (limits : Limits) (seen h : List Block) (b : Block) (k : ℕ) (rules : 
             passes = subst (λ bs. PassesOnAfter k bs (of_lock h k)) same (subst (λ bs. PassesOnAfter k (of_lock seen k) bs) (here false e) rules.passes);
           }
 
+-- the lock that a block takes is one of its locks
+pub takes_it : (held : ℕ → Bool) (k : ℕ) (o : Option ℕ) → o ≡ Some k → locks_of_block held o k ≡ true
+takes_it held k o e = ap (λ x. locks_of_block held x k) e ∙ ap (λ v. v || held k) (eq_self k)
+
 -- block by block
 realized : (image : Shown) (limits : Limits) (seen h : List Block) (m last : State) → IsHistoryFrom (length seen) h → TellsAfter image seen m h last
     → All (λ (b : Block). b.worker < limits.workers) h → ((k : ℕ) → k < length image.guards → Rules limits seen h k)
@@ -74,9 +78,6 @@ realized image limits seen (b ∷ h) m last history tells workers rules s kept f
     let all = and_then image limits s (Front image limits (seen ++ b ∷ []) to) (λ x. x.history ≡ (seen ++ b ∷ []) ++ h) done
     (λ x after by. realized image limits (seen ++ b ∷ []) h to last stamps tells.2 (All-tail (λ (c : Block). c.worker < limits.workers) b h workers) (λ k lt. rules_on limits seen h b k (rules k lt)) x after by) in
     record { events = all.events; enabled = all.enabled; kept = all.kept; comes = all.comes ∙ append_assoc seen (b ∷ []) h }
-  where
-    takes_it : (held : ℕ → Bool) (k : ℕ) (o : Option ℕ) → o ≡ Some k → locks_of_block held o k ≡ true
-    takes_it held k o e = ap (λ x. locks_of_block held x k) e ∙ ap (λ v. v || held k) (eq_self k)
 
 first_front : (image : Shown) (limits : Limits) (fuel : ℕ) → Front image limits [] (start image fuel) (first_written image fuel)
 first_front image limits fuel = record {

@@ -9,12 +9,17 @@
 //! that a report could not show, and lets each report through. It says what the machine can do, and
 //! not what the workers did: the events are found from the history.
 //!
+//! `handover::handover` says what such a history shows of delegation where it also keeps the laws of
+//! tc_journal's `specs/Handing.antt`: who had the lock before an adopted section, and where a section
+//! runs.
+//!
 //! - `specs/Written.antt`: what events write, and which histories keep the rules.
-//! - `realization`: the law.
+//! - `realization`, `handover`: the laws; `specs/Handover.antt` has the words of the second.
 //! - `writer`: the same as a program, `Writer`, over tc_core's `Core`; `specs/View.antt` says what
 //!   it stands for.
 #![tactic(auto)]
 
+pub mod handover;
 pub mod realization;
 #[cfg(test)]
 mod tests;

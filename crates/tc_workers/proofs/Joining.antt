@@ -96,7 +96,5 @@ whole x o h v c of end =
       complete = λ t lt. let l = law.all_packages in let m = length-map c.packages bare in let at = at_place c.packages t (omega arith) in
           sym (ap (λ (d : Thread). is_running d.status) (law.packages_after t (bare at.0) (at_map bare c.packages t at.0 at.1)).follows.thread) ∙ (end.ended t at.0 at.1).0;
       workers = λ i d lt. let b = end.workers i (get_or end.history i d) (at_itself end.history i d lt) in let w = of.workers in omega arith;
-      handed = end.handed;
-      runs_on = end.runs_on;
-      stays = end.stays;
+      delegates = end.delegates;
     }

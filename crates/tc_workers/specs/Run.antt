@@ -1,8 +1,7 @@
 -- What a whole run gives.
-use Rattle.std.specs.Prelude.{ℕ, ◌<◌, List, All, map}
+use Rattle.std.specs.Prelude.{◌<◌, List, All, map}
 use Rattle.tc_elf.specs.Shown.{Shown}
-use Rattle.tc_journal.specs.Handing.{of_worker, HandsOver, RunsOn, StaysAt}
-use Rattle.tc_journal.specs.History.{of_thread}
+use Rattle.tc_journal.specs.Handing.{Delegates}
 use Rattle.tc_journal.specs.declared.block.Block.{Block}
 use Rattle.tc_mutex_spec.specs.Blocks.{IsComplete, end_after}
 use Rattle.tc_segment.specs.View.{kept}
@@ -23,6 +22,4 @@ pub record IsWholeRun (image : Shown) (o : Options) (c : ClosedView) : Type 0 wh
   pub strict : AreStrict c.locks
   pub complete : IsComplete image (end_after image o.fuel history)
   pub workers : All (λ (b : Block). b.worker < o.workers) history
-  pub handed : (worker : ℕ) → HandsOver (of_worker history worker)
-  pub runs_on : (worker : ℕ) → RunsOn (of_worker history worker)
-  pub stays : (thread : ℕ) → StaysAt (of_thread history thread)
+  pub delegates : Delegates history

@@ -1,0 +1,44 @@
+-- What the laws of delegation show of a section, at the place of its first block in a history.
+use Rattle.std.specs.Prelude.{◌≡◌, ◌≢◌, ℕ, true, List, [], ◌∷◌, ◌++◌, slice_get, Option, Some}
+use Rattle.tc_journal.specs.Batch.{begins, is_adopted, last_of}
+use Rattle.tc_journal.specs.Handing.{of_worker}
+use Rattle.tc_journal.specs.History.{of_lock}
+use Rattle.tc_journal.specs.declared.block.Block.{Block}
+use Rattle.tc_journal.specs.declared.block.End.TheVariants.{Unlocked, Cut}
+
+abbrev pub first_of : List Block → Option Block
+first_of bs = slice_get bs 0
+
+-- the block begins an Adopted section of the lock
+abbrev pub BeginsAdopted : ℕ → Block → Type 0
+BeginsAdopted lock b = (begins lock b ≡ true) × (is_adopted b.kind ≡ true)
+
+-- the last block of b's worker before b is the last block of the lock too: it released the lock, and is of another thread
+pub record IsBehindRelease (before : List Block) (lock : ℕ) (b : Block) : Type 0 where
+  pub release : Block
+  pub last_of_worker : last_of (of_worker before b.worker) ≡ Some release
+  pub last_of_lock : last_of (of_lock before lock) ≡ Some release
+  pub unlocked : release.end ≡ Unlocked lock
+  pub thread : release.thread ≢ b.thread
+
+-- between the block that released the lock, one of another thread, and b its worker ran no block, and no block had the lock
+pub record HasWaited (before : List Block) (lock : ℕ) (b : Block) : Type 0 where
+  pub sooner : List Block
+  pub release : Block
+  pub between : List Block
+  pub place : before ≡ sooner ++ release ∷ between
+  pub unlocked : release.end ≡ Unlocked lock
+  pub thread : release.thread ≢ b.thread
+  pub no_block : of_worker between b.worker ≡ []
+  pub no_holder : of_lock between lock ≡ []
+
+-- the list begins with these blocks
+pub record BeginsWith (front bs : List Block) : Type 0 where
+  pub more : List Block
+  pub whole : bs ≡ front ++ more
+
+-- each of the blocks but the last one was cut
+abbrev pub IsCutUp : List Block → Type 0
+IsCutUp [] = Unit {0}
+IsCutUp (b ∷ []) = Unit {0}
+IsCutUp (b ∷ c ∷ bs) = (b.end ≡ Cut) × IsCutUp (c ∷ bs)
