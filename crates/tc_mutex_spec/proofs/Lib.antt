@@ -17,3 +17,7 @@ pub mod Owners
 pub mod Leaving
 pub mod Few
 pub mod Histories
+pub mod HeldSets
+pub mod Sums
+pub mod Progress
+pub mod Completing
