@@ -3,16 +3,17 @@ use Rattle.std.proofs.Common.{◌≡◌, ◌≢◌, ℕ, ◌≤◌, Bool, true, 
 use Rattle.std.specs.Prelude.{Some, if◌then◌else◌}
 use Rattle.std.proofs.lemmas.Bool.Decides.{eqb_tells}
 use Rattle.tc_elf.specs.Shown.{Shown}
+use Rattle.tc_mutex_spec.proofs.Progress.{false_true}
 use Rattle.tc_core.specs.declared.event.Event.{Event}
 use Rattle.tc_core.specs.declared.event.Event.TheVariants.{Claim, Turn, Commit, Enter, Take, Ship, Adopt, Grant, Leave, Free, HandBack, Park, Finish}
 use Rattle.tc_core.specs.Lines.{is_in_line}
-use Rattle.tc_core.specs.Core.{Core, Limits, Course, Ready, Parked, is_at, with_custody, first_core}
+use Rattle.tc_core.specs.Core.{Core, Limits, Course, Ready, Parked, is_at, first_core}
 use Rattle.tc_core.specs.Events.{is_enabled, effect, has_thread, may_go_back}
 use Rattle.tc_core.specs.Stories.{AreEnabled, Story, turn_of, turns_of}
 use Rattle.tc_core.specs.Alive.{given_back, rest_on, NoneInVain, AreClaimsUsed, most_events}
-use Rattle.tc_core.proofs.Quiet.{both, pick_mine, pick_other, changed_same}
+use Rattle.tc_core.proofs.Quiet.{both, pick_other}
 use Rattle.tc_core.proofs.Work.{thread_at}
-use Rattle.tc_core.proofs.Standing.{same_number, false_true, some_eq}
+use Rattle.tc_core.proofs.Standing.{some_eq}
 use Rattle.tc_core.proofs.Ending.{busy}
 
 -- the thread was claimed in what came so far, and took no turn since

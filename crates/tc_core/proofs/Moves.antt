@@ -10,6 +10,7 @@ use Rattle.tc_turn.specs.Turn.{is_running, next_lock}
 use Rattle.tc_turn.proofs.Turns.{next_known, next_free}
 use Rattle.tc_mutex_spec.proofs.Replaying.{next_above}
 use Rattle.tc_mutex_spec.proofs.Sums.{all_or}
+use Rattle.tc_mutex_spec.proofs.Progress.{false_true}
 use Rattle.tc_core.specs.declared.event.Event.{Event}
 use Rattle.tc_core.specs.declared.event.Event.TheVariants.{Claim, Turn, Commit, Enter, Take, Ship, Adopt, Grant, Leave, Free, Finish}
 use Rattle.tc_core.specs.declared.place.LockPlace.TheVariants as place
@@ -18,7 +19,7 @@ use Rattle.tc_core.specs.Core.{Core, Limits, LockPlace, ThreadPlace, Ready, Wait
 use Rattle.tc_core.specs.Events.{is_enabled, has_thread, has_lock, may_take, may_pass, adopts, held_past}
 use Rattle.tc_core.specs.Alive.{is_back, IsOver}
 use Rattle.tc_core.proofs.Served.{Stage}
-use Rattle.tc_core.proofs.Standing.{Stands, Wants, is_kept, is_free_to_go, same_number, false_true, out_behind, out_free, first_in, first_one, given_first, line_below, rest_behind}
+use Rattle.tc_core.proofs.Standing.{Stands, Wants, is_kept, is_free_to_go, same_number, out_behind, out_free, first_in, first_one, given_first, line_below, rest_behind}
 
 -- an event that may come at c, and gives no thread back
 pub record Goes (image : Shown) (limits : Limits) (c : Core) : Type 0 where
@@ -43,7 +44,7 @@ some_not_none o k e f = cc
 
 module _ (image : Shown) (limits : Limits) (c : Core) (s : Stands image limits c) (some : 0 < limits.workers) (few : length image.guards ≤ MAX_GUARDS) where
   has_t : (w t : ℕ) → t < length image.entries → is_at (c.course t).place w ≡ true → has_thread image limits c w t ≡ true
-  has_t w t lt at = and_true _ _ (s.at t w at) (and_true _ _ (below_test t (length image.entries) lt) at)
+  has_t w t lt at = and_true _ _ ((s.seated t).worker w at) (and_true _ _ (below_test t (length image.entries) lt) at)
 
   has_k : (w k : ℕ) → k < length image.guards → is_loose (c.custody k).place w ≡ true → has_lock image limits c w k ≡ true
   has_k w k lt loose = and_true _ _ (s.loose k w loose) (and_true _ _ (below_test k (length image.guards) lt) loose)
@@ -103,9 +104,9 @@ module _ (image : Shown) (limits : Limits) (c : Core) (s : Stands image limits c
   second_goes : (w t k : ℕ) → k < length image.guards → is_loose (c.custody k).place w ≡ true → (c.custody k).left ≡ false → is_first (rest_of (c.custody k).line) t ≡ true → Goes image limits c
   second_goes w t k lt loose left second =
       let b = rest_behind (length image.entries) (c.custody k).line t (s.lines k) (first_in (rest_of (c.custody k).line) t second) in
-      let o = s.out t k (out_behind (is_in_line (c.custody k).line t) (is_free_lock (c.custody k).place) (c.custody k).left (is_first (c.custody k).line t) b.0 b.1) in
+      let o = (s.fits t k).out (out_behind (is_in_line (c.custody k).line t) (is_free_lock (c.custody k).place) (c.custody k).left (is_first (c.custody k).line t) b.0 b.1) in
       let is_t = line_below image c k t s.lines b.0 in
-      go is_t b.0 b.1 (c.course t).place refl o.place
+      go is_t b.0 b.1 (c.course t).place refl o.1
     where
       go : t < length image.entries → is_in_line (c.custody k).line t ≡ true → is_first (c.custody k).line t ≡ false → (p : ThreadPlace) → (c.course t).place ≡ p → is_kept p k ≡ true → Goes image limits c
       go is_t i f Ready e h = absurd (cc)
@@ -157,7 +158,7 @@ module _ (image : Shown) (limits : Limits) (c : Core) (s : Stands image limits c
       sym (tr.kept t k) ∙ ap (λ o. has (held_past (c.course t).held o) k) none ∙ is
 
   with_not_done : (t k : ℕ) → (c.custody k).place ≡ With t → (c.course t).place ≡ Done → ⊥
-  with_not_done t k e h = (let d = s.done t h in false_true _ (s.ends t k d.0) (with_held t k e d.1))
+  with_not_done t k e h = (let d = (s.seated t).done h in false_true _ (s.ends t k d.status) (with_held t k e d.block))
 
   -- ---- a thread that is at a worker
 
@@ -221,12 +222,12 @@ module _ (image : Shown) (limits : Limits) (c : Core) (s : Stands image limits c
   head_goes : (t k : ℕ) → k < length image.guards → is_free_lock (c.custody k).place ≡ true → is_first (c.custody k).line t ≡ true → Goes image limits c
   head_goes t k lt free first =
       let i = first_in (c.custody k).line t first in
-      let o = s.out t k (out_free (is_in_line (c.custody k).line t) (is_free_lock (c.custody k).place) (c.custody k).left (not (is_first (c.custody k).line t)) i free) in
-      go (line_below image c k t s.lines i) (c.course t).place refl o.place
+      let o = (s.fits t k).out (out_free (is_in_line (c.custody k).line t) (is_free_lock (c.custody k).place) (c.custody k).left (not (is_first (c.custody k).line t)) i free) in
+      go (line_below image c k t s.lines i) (c.course t).place refl o.1
     where
       go : t < length image.entries → (p : ThreadPlace) → (c.course t).place ≡ p → is_kept p k ≡ true → Goes image limits c
       go is_t Ready e h = absurd (cc)
-      go is_t (Waiting j) e h = absurd (false_true _ (s.waiting t k (ap (λ p. is_waiting p k) e ∙ h)).1 first)
+      go is_t (Waiting j) e h = absurd (false_true _ ((s.fits t k).waiting (ap (λ p. is_waiting p k) e ∙ h)).1 first)
       go is_t Parked e h = absurd (cc)
       go is_t Done e h = absurd (cc)
       go is_t (At v) e h = go_take v t k (has_t v t is_t (ap (λ p. is_at p v) e ∙ same_number v)) lt first free
@@ -234,8 +235,8 @@ module _ (image : Shown) (limits : Limits) (c : Core) (s : Stands image limits c
   granted_goes : (t k : ℕ) → (c.custody k).place ≡ Granted t → Goes image limits c
   granted_goes t k e =
       let g : is_granted (c.custody k).place t ≡ true = ap (λ p. is_granted p t) e ∙ same_number t in
-      let y = s.given t k g in
-      free_goes t (line_below image c k t s.lines (first_in (c.custody k).line t (given_first (c.custody k) t (s.staged k) g).1)) (c.course t).place refl y.place
+      let y = (s.fits t k).given g in
+      free_goes t (line_below image c k t s.lines (first_in (c.custody k).line t (given_first (c.custody k) t (s.staged k) g).1)) (c.course t).place refl y.1
 
   -- ---- a thread that waits
 
@@ -261,9 +262,9 @@ module _ (image : Shown) (limits : Limits) (c : Core) (s : Stands image limits c
   by_place n u k rec up e Done f = absurd (with_not_done u k e f)
   by_place n u k rec up e (Waiting j) f =
       let waits : is_waiting (c.course u).place j ≡ true = ap (λ p. is_waiting p j) f ∙ same_number j in
-      let d = s.waiting u j waits in
-      let y = s.out u j (out_behind (is_in_line (c.custody j).line u) (is_free_lock (c.custody j).place) (c.custody j).left (is_first (c.custody j).line u) d.0 d.1) in
-      let above = wants_above u j k e y.wants in
+      let d = (s.fits u j).waiting waits in
+      let y = (s.fits u j).out (out_behind (is_in_line (c.custody j).line u) (is_free_lock (c.custody j).place) (c.custody j).left (is_first (c.custody j).line u) d.0 d.1) in
+      let above = wants_above u j k e y.0 in
       rec u j (omega arith) waits
 
   by_lock : (n t k : ℕ) → Further n → length image.guards ≤ k + suc n → k < length image.guards → is_in_line (c.custody k).line t ≡ true → (p : LockPlace) → (c.custody k).place ≡ p → Goes image limits c
@@ -275,9 +276,9 @@ module _ (image : Shown) (limits : Limits) (c : Core) (s : Stands image limits c
   -- it stands behind the first, and wants the lock
   waits_out : (t k : ℕ) → is_waiting (c.course t).place k ≡ true → (k < length image.guards) × (is_in_line (c.custody k).line t ≡ true)
   waits_out t k h =
-      let b = s.waiting t k h in
-      let o = s.out t k (out_behind (is_in_line (c.custody k).line t) (is_free_lock (c.custody k).place) (c.custody k).left (is_first (c.custody k).line t) b.0 b.1) in
-      let wants = o.wants in
+      let b = (s.fits t k).waiting h in
+      let o = (s.fits t k).out (out_behind (is_in_line (c.custody k).line t) (is_free_lock (c.custody k).place) (c.custody k).left (is_first (c.custody k).line t) b.0 b.1) in
+      let wants = o.0 in
       (next_known image (c.machine.threads t) k wants.next, b.0)
 
   waits_goes : (n t k : ℕ) → length image.guards ≤ k + n → is_waiting (c.course t).place k ≡ true → Goes image limits c
@@ -311,7 +312,7 @@ over_or_goes image limits c s some few = by_threads (all_or (λ t. (c.course t).
   where
     by_locks : ((t : ℕ) → t < length image.entries → (c.course t).place ≡ Done) → Goes image limits c ⊎ ((k : ℕ) → k < length image.guards → ((c.custody k).place ≡ place.Free) × ((c.custody k).line ≡ [])) → IsOver image c ⊎ Goes image limits c
     by_locks all (inl g) = inr g
-    by_locks all (inr home) = inl (record { threads = all; ended = λ t lt. (s.done t (all t lt)).0; locks = λ k lt. (home k lt).0; lines = λ k lt. (home k lt).1 })
+    by_locks all (inr home) = inl (record { threads = all; ended = λ t lt. (let d = (s.seated t).done (all t lt) in d.status); locks = λ k lt. (home k lt).0; lines = λ k lt. (home k lt).1 })
 
     by_threads : Goes image limits c ⊎ ((t : ℕ) → t < length image.entries → (c.course t).place ≡ Done) → IsOver image c ⊎ Goes image limits c
     by_threads (inl g) = inr g

@@ -5,22 +5,20 @@ use Rattle.std.specs.List.{IsDistinct, AllByRecursion}
 use Rattle.std.proofs.lemmas.Bool.{false_from_ne_true}
 use Rattle.std.proofs.lemmas.Bool.Decides.{eqb_tells}
 use Rattle.tc_elf.specs.Shown.{Shown}
-use Rattle.tc_exec.specs.declared.outcome.Act.{Act}
-use Rattle.tc_exec.specs.declared.outcome.Act.TheVariants.{Next, Called, Faulted}
-use Rattle.tc_exec.specs.declared.outcome.Call.TheVariants.{Lock, Unlock, Sleep, Exit}
 use Rattle.tc_journal.specs.declared.block.End.{End}
-use Rattle.tc_turn.specs.Turn.{Thread, is_running, next_lock, next_act, thread_after}
+use Rattle.tc_turn.specs.Turn.{Thread, is_running, next_lock, next_act}
 use Rattle.tc_turn.proofs.Turns.{next_known, goes_on}
 use Rattle.tc_mutex_spec.specs.Machine.{State, after}
 use Rattle.tc_mutex_spec.proofs.Local.{after_thread, turn_apart}
 use Rattle.tc_mutex_spec.proofs.BlocksAlike.{covers_block}
 use Rattle.tc_mutex_spec.proofs.BlockEnds.{after_end}
+use Rattle.tc_mutex_spec.proofs.Progress.{false_true}
 use Rattle.tc_core.specs.declared.event.Event.{Event}
 use Rattle.tc_core.specs.declared.event.Event.TheVariants.{Claim, Turn, Commit, Enter, Take, Ship, Adopt, Grant, Leave, Free, HandBack, Park, Finish}
 use Rattle.tc_core.specs.declared.place.LockPlace.TheVariants as place
 use Rattle.tc_core.specs.Lines.{is_in_line, is_first, is_single, rest_of}
 use Rattle.tc_core.specs.Core.{Core, Limits, Course, Custody, LockPlace, ThreadPlace, Release, Ready, Waiting, Parked, Done, At, With, Granted, Loose, is_at, is_waiting, is_free_lock, is_granted, is_loose, is_number, with_of, with_custody, with_place, first_core}
-use Rattle.tc_core.specs.Events.{is_enabled, effect, is_worker, is_lock, has_thread, has_lock, runs, is_between, has_entered, may_take, may_pass, may_go_back, adopts, course_on, course_past, custody_on, custody_past, end_here, release_of, after_turn}
+use Rattle.tc_core.specs.Events.{is_enabled, effect, is_worker, is_lock, has_thread, has_lock, runs, is_between, has_entered, may_take, may_pass, may_go_back, adopts, course_on, course_past, custody_on, custody_past, end_here, release_of, taken_by, passed_to, left_by_all, freed, after_turn}
 use Rattle.tc_core.specs.View.{IsSoundCore, AreBelow, IsLine}
 use Rattle.tc_core.specs.Stories.{AreEnabled, Story, after_all, last_core, locks_by, enters_of, grants_of}
 use Rattle.tc_core.proofs.Quiet.{both, Quiet, quiet_event, pick_mine, pick_other, changed_same}
@@ -57,13 +55,32 @@ is_free_to_go Ready = true
 is_free_to_go Parked = true
 is_free_to_go _ = false
 
-pub record IsOut (image : Shown) (c : Core) (t k : ℕ) : Type 0 where
-  pub wants : Wants image c t k
-  pub place : is_kept (c.course t).place k ≡ true
+-- in the line, and not its first
+abbrev pub Behind : List ℕ → ℕ → Type 0
+Behind line t = (is_in_line line t ≡ true) × (is_first line t ≡ false)
 
-pub record IsGiven (image : Shown) (c : Core) (t k : ℕ) : Type 0 where
-  pub wants : Wants image c t k
-  pub place : is_free_to_go (c.course t).place ≡ true
+-- how thread t, at this place, stands to lock k with this custody, where W says that it wants the lock: if it is out of the
+-- line or was granted the lock it wants it, and is where it may come to it; if it waits for it, it is behind the first
+pub record Fits (W : Type 0) (at : ThreadPlace) (x : Custody) (t k : ℕ) : Type 0 where
+  pub out : is_out x t ≡ true → W × (is_kept at k ≡ true)
+  pub given : is_granted x.place t ≡ true → W × (is_free_to_go at ≡ true)
+  pub waiting : is_waiting at k ≡ true → Behind x.line t
+
+abbrev pub AllFit : Shown → Core → Type 0
+AllFit image c = (t k : ℕ) → Fits (Wants image c t k) (c.course t).place (c.custody k) t k
+
+-- the thread has ended, and its last block is committed
+pub record IsEnded (c : Core) (t : ℕ) : Type 0 where
+  pub status : is_running (c.machine.threads t).status ≡ false
+  pub block : (c.course t).ended ≡ None
+
+-- who is at a worker is at one that there is, and who is Done has ended
+pub record IsSeated (limits : Limits) (E : Type 0) (at : ThreadPlace) : Type 0 where
+  pub worker : (w : ℕ) → is_at at w ≡ true → is_worker limits w ≡ true
+  pub done : at ≡ Done → E
+
+abbrev pub AreSeated : Limits → Core → Type 0
+AreSeated limits c = (t : ℕ) → IsSeated limits (IsEnded c t) (c.course t).place
 
 -- a block has an end only after a turn; where it goes on, the thread runs and takes no lock next
 pub record IsBlock (image : Shown) (c : Core) (t : ℕ) : Type 0 where
@@ -83,13 +100,10 @@ pub record Stands (image : Shown) (limits : Limits) (c : Core) : Type 0 where
   pub lines : HasLines image c
   pub staged : (k : ℕ) → IsStaged (c.custody k)
   pub blocks : (t : ℕ) → IsBlock image c t
-  pub at : (t w : ℕ) → is_at (c.course t).place w ≡ true → is_worker limits w ≡ true
+  pub seated : AreSeated limits c
   pub loose : (k w : ℕ) → is_loose (c.custody k).place w ≡ true → is_worker limits w ≡ true
   pub known : (k t : ℕ) → with_of (c.custody k).place ≡ Some t → k < length image.guards
-  pub out : (t k : ℕ) → is_out (c.custody k) t ≡ true → IsOut image c t k
-  pub given : (t k : ℕ) → is_granted (c.custody k).place t ≡ true → IsGiven image c t k
-  pub waiting : (t k : ℕ) → is_waiting (c.course t).place k ≡ true → (is_in_line (c.custody k).line t ≡ true) × (is_first (c.custody k).line t ≡ false)
-  pub done : (t : ℕ) → (c.course t).place ≡ Done → (is_running (c.machine.threads t).status ≡ false) × ((c.course t).ended ≡ None)
+  pub fits : AllFit image c
   pub ends : (t k : ℕ) → is_running (c.machine.threads t).status ≡ false → (c.machine.threads t).held k ≡ false
 
 -- ---- tests
@@ -105,9 +119,6 @@ some_eq n m e = cc
 
 none_some : (o : Option ℕ) (n : ℕ) → o ≡ None → o ≡ Some n → ⊥
 none_some o n e f = cc
-
-pub false_true : (b : Bool) → b ≡ false → b ≡ true → ⊥
-false_true b e f = cc
 
 end_none : (o : Option End) → o ≡ None → is_some o ≡ true → ⊥
 end_none o e f = (let g : is_some o ≡ false = ap is_some e in false_true (is_some o) g f)
@@ -358,6 +369,12 @@ at_free (At v) w e = refl
 between_zero : (c : Core) (t : ℕ) → is_between c t ≡ true → (c.course t).turns ≡ 0
 between_zero c t e = number_eq (c.course t).turns 0 e
 
+fits_more : {V W : Type 0} (at : ThreadPlace) (x : Custody) (t k : ℕ) → (V → W) → Fits V at x t k → Fits W at x t k
+fits_more at x t k more f = record { out = λ h. (let y = f.out h in (more y.0, y.1)); given = λ h. (let y = f.given h in (more y.0, y.1)); waiting = f.waiting }
+
+seated_more : {D E : Type 0} (limits : Limits) (at : ThreadPlace) → (D → E) → IsSeated limits D at → IsSeated limits E at
+seated_more limits at more x = record { worker = x.worker; done = λ h. more (x.done h) }
+
 -- ---- what is known of an event that may come
 
 module _ (image : Shown) (limits : Limits) (c : Core) (s : Stands image limits c) where
@@ -392,17 +409,17 @@ module _ (image : Shown) (limits : Limits) (c : Core) (s : Stands image limits c
 
   -- a thread is out of one line alone
   out_once : (t j k : ℕ) → is_out (c.custody j) t ≡ true → is_out (c.custody k) t ≡ true → j ≡ k
-  out_once t j k o p = (let x = s.out t j o in let y = s.out t k p in let a = x.wants in let b = y.wants in some_eq j k (sym a.next ∙ b.next))
+  out_once t j k o p = (let a = ((s.fits t j).out o).0 in let b = ((s.fits t k).out p).0 in some_eq j k (sym a.next ∙ b.next))
 
   -- nor was it granted another lock
   given_once : (t j k : ℕ) → is_granted (c.custody j).place t ≡ true → is_out (c.custody k) t ≡ true → j ≡ k
-  given_once t j k g o = (let x = s.given t j g in let y = s.out t k o in let a = x.wants in let b = y.wants in some_eq j k (sym a.next ∙ b.next))
+  given_once t j k g o = (let a = ((s.fits t j).given g).0 in let b = ((s.fits t k).out o).0 in some_eq j k (sym a.next ∙ b.next))
 
   -- who is given back is out of no line
   back_not : (w t k : ℕ) → may_go_back image limits c w t ≡ true → is_out (c.custody k) t ≡ true → ⊥
   back_not w t k e o =
       let h = (both (is_between c t) _ (both (runs c t) _ (both (has_thread image limits c w t) _ e).1).1).1 in
-      let y = s.out t k o in let wants = y.wants in
+      let wants = ((s.fits t k).out o).0 in
       let f : has_entered (next_lock image (c.machine.threads t)) t c ≡ true = ap (λ x. has_entered x t c) wants.next ∙ o in
       false_true _ (not_true _ h) f
 
@@ -414,7 +431,7 @@ module _ (image : Shown) (limits : Limits) (c : Core) (s : Stands image limits c
   -- the thread of a turn is out of no line
   turn_not : (t k : ℕ) → MayTurn image c t → is_out (c.custody k) t ≡ true → ⊥
   turn_not t k may o =
-      let y = s.out t k o in let wants = y.wants in
+      let wants = ((s.fits t k).out o).0 in
       let take : (is_between c t && is_granted (c.custody k).place t) ≡ true = ap (λ x. may_take x t c) (sym wants.next) ∙ may.take in
       let g = (both (is_between c t) (is_granted (c.custody k).place t) take).1 in
       let f = given_first (c.custody k) t (s.staged k) g in
@@ -442,279 +459,192 @@ module _ (image : Shown) (limits : Limits) (c : Core) (s : Stands image limits c
   has_of : (w t : ℕ) (rest : Bool) → (has_thread image limits c w t && rest) ≡ true → is_at (c.course t).place w ≡ true
   has_of w t rest on = thread_at image limits c w t (both (has_thread image limits c w t) rest on).0
 
-  -- ---- who is out afterwards
-
-  -- one thread came to a place
-  out_place : (u : ℕ) (at : ThreadPlace) → Quiet c (with_place c u at) → ((k : ℕ) → is_out (c.custody k) u ≡ true → is_kept at k ≡ true)
-      → (t k : ℕ) → is_out (c.custody k) t ≡ true → IsOut image (with_place c u at) t k
-  out_place u at quiet mine t k o =
-      let y = s.out t k o in
-      record {
-        wants = wants_quiet image c (with_place c u at) t k quiet y.wants;
-        place = place_is c u at (λ p. is_kept p k ≡ true) t (λ e. mine k (subst (λ v. is_out (c.custody k) v ≡ true) e o)) (λ ne. y.place);
-      }
-
-  -- one lock came to a custody, and nobody is out of its line who was not
-  out_custody : (j : ℕ) (x : Custody) → Quiet c (with_custody c j x) → ((t : ℕ) → is_out x t ≡ true → is_out (c.custody j) t ≡ true)
-      → (t k : ℕ) → is_out ((with_custody c j x).custody k) t ≡ true → IsOut image (with_custody c j x) t k
-  out_custody j x quiet less t k o =
-      let was : is_out (c.custody k) t ≡ true = lock_is c j x (λ y. is_out y t ≡ true → is_out (c.custody k) t ≡ true) k (λ e h. subst (λ i. is_out (c.custody i) t ≡ true) (sym e) (less t h)) (λ ne h. h) o in
-      let y = s.out t k was in
-      record { wants = wants_quiet image c (with_custody c j x) t k quiet y.wants; place = y.place }
-
-  -- a thread entered
-  out_enter : (w u j : ℕ) → is_enabled image limits c (Enter w u j) ≡ true → is_at (c.course u).place w ≡ true → (x : Custody) → x ≡ record (c.custody j) { line = (c.custody j).line ++ u ∷ [] } → Quiet c (with_custody c j x)
-      → (t k : ℕ) → is_out ((with_custody c j x).custody k) t ≡ true → IsOut image (with_custody c j x) t k
-  out_enter w u j on at x is quiet t k o =
-      let kept : (i : ℕ) → is_out (c.custody i) t ≡ true → IsOut image (with_custody c j x) t i = λ i h. (let y = s.out t i h in record { wants = wants_quiet image c (with_custody c j x) t i quiet y.wants; place = y.place }) in
-      lock_is c j x (λ y. is_out y t ≡ true → IsOut image (with_custody c j x) t k) k
-      (λ e h. subst (λ i. IsOut image (with_custody c j x) t i) (sym e) (elim (eqb_tells t u) [
-        | inl y ↦ subst (λ v. IsOut image (with_custody c j x) v j) (sym y.1) (record { wants = wants_quiet image c (with_custody c j x) u j quiet (enters_as w u j on); place = at_kept (c.course u).place w j at })
-        | inr y ↦ kept j (out_entered (is_in_line (c.custody j).line t) (is_free_lock (c.custody j).place) (c.custody j).left (is_first (c.custody j).line t)
-            (is_in_line ((c.custody j).line ++ u ∷ []) t) (is_first ((c.custody j).line ++ u ∷ []) t)
-            (in_more_other (c.custody j).line u t y.1) (first_stays (c.custody j).line t u) (subst (λ z. is_out z t ≡ true) is h))
-      ]))
-      (λ ne h. kept k h)
-      o
-
-  -- a lock was passed on
-  out_passed : (w u j run : ℕ) (at : ThreadPlace) (x : Custody) → x ≡ record (c.custody j) { place = Granted u; line = rest_of (c.custody j).line; run = run } → Passes image c w u j → Quiet c (with_place (with_custody c j x) u at)
-      → (t k : ℕ) → is_out ((with_custody c j x).custody k) t ≡ true → IsOut image (with_place (with_custody c j x) u at) t k
-  out_passed w u j run at x is p quiet t k o =
-      let was : (t ≢ u) × (is_out (c.custody k) t ≡ true) = lock_is c j x (λ y. is_out y t ≡ true → (t ≢ u) × (is_out (c.custody k) t ≡ true)) k
-      (λ e h. (let b = passed_out w u t j run p (subst (λ y. is_out y t ≡ true) is h) in (b.0, subst (λ i. is_out (c.custody i) t ≡ true) (sym e) b.1)))
-      (λ ne h. ((λ e. ne (out_once u k j (subst (λ v. is_out (c.custody k) v ≡ true) e h) (pass_out w u j p))), h)) o in
-      let y = s.out t k was.1 in
-      record {
-        wants = wants_quiet image c (with_place (with_custody c j x) u at) t k quiet y.wants;
-        place = place_is c u at (λ q. is_kept q k ≡ true) t (λ e. absurd (was.0 e)) (λ ne. y.place);
-      }
-
-  out_turn : (u : ℕ) → MayTurn image c u → (t k : ℕ) → is_out ((after_turn image c u).custody k) t ≡ true → IsOut image (after_turn image c u) t k
-  out_turn u may t k o =
-      let was = out_on (next_lock image (c.machine.threads u)) u t k (c.custody k) o in
-      let ne : t ≢ u = λ e. turn_not u k may (subst (λ v. is_out (c.custody k) v ≡ true) e was) in
-      let y = s.out t k was in
-      record { wants = wants_turn image c u t k ne y.wants; place = ap (λ (x : Course). is_kept x.place k) (pick_other t u _ (c.course t) ne) ∙ y.place }
-
-  out_commit : (w u : ℕ) → is_enabled image limits c (Commit w u) ≡ true → (t k : ℕ) → is_out ((effect image c (Commit w u)).custody k) t ≡ true → IsOut image (effect image c (Commit w u)) t k
-  unfolding effect
-  out_commit w u on t k o =
-      let was = out_past w u t ((c.machine.threads u).held k) (release_of (c.course u)) (c.custody k) o in
-      let y = s.out t k was in
-      let wants = y.wants in
-      let ne : t ≢ u = λ e. end_none (c.course u).ended (subst (λ v. (c.course v).ended ≡ None) e wants.ended) (commit_some w u on) in
-      record { wants = wants_commit image c w u t k ne wants; place = ap (λ (x : Course). is_kept x.place k) (pick_other t u _ (c.course t) ne) ∙ y.place }
-
-  out_after : (e : Event) → is_enabled image limits c e ≡ true → (t k : ℕ) → is_out ((effect image c e).custody k) t ≡ true → IsOut image (effect image c e) t k
-  unfolding effect is_enabled
-  out_after (Claim w u) on t k o = out_place u (At w) (quiet_event image limits c (Claim w u) on refl) (λ i h. refl) t k o
-  out_after (HandBack w u) on t k o = out_place u Ready (quiet_event image limits c (HandBack w u) on refl) (λ i h. absurd (back_not w u i on h)) t k o
-  out_after (Park w u) on t k o = out_place u Parked (quiet_event image limits c (Park w u) on refl) (λ i h. absurd (back_not w u i (both (may_go_back image limits c w u) _ on).0 h)) t k o
-  out_after (Finish w u) on t k o = out_place u Done (quiet_event image limits c (Finish w u) on refl) (λ i h. absurd (let y = s.out u i h in let wants = y.wants in finish_not w u on wants.runs)) t k o
-  out_after (Ship w u j) on t k o = out_place u (Waiting j) (quiet_event image limits c (Ship w u j) on refl)
-      (λ i h. subst (λ n. (j == n) ≡ true) (out_once u j i (ship_out w u j on) h) (same_number j)) t k o
-  out_after (Take w u j) on t k o = out_custody j _ (quiet_event image limits c (Take w u j) on refl)
-      (λ v h. out_taken (is_in_line (c.custody j).line v) (is_free_lock (c.custody j).place) false (c.custody j).left (not (is_first (c.custody j).line v)) refl h) t k o
-  out_after (Leave w j) on t k o = out_custody j _ (quiet_event image limits c (Leave w j) on refl) (λ v h. absurd (cc)) t k o
-  out_after (Free w j) on t k o = out_custody j _ (quiet_event image limits c (Free w j) on refl)
-      (λ v h. out_left (is_in_line (c.custody j).line v) (is_free_lock (c.custody j).place) (c.custody j).left (not (is_first (c.custody j).line v)) true false (both (has_lock image limits c w j) _ on).1 h) t k o
-  out_after (Adopt w u j) on t k o = out_passed w u j _ (At w) _ refl (passes image limits c w u j (both (may_pass image limits c w u j) (adopts limits c j) on).0) (quiet_event image limits c (Adopt w u j) on refl) t k o
-  out_after (Grant w u j) on t k o = out_passed w u j _ Ready _ refl (passes image limits c w u j (both (may_pass image limits c w u j) _ on).0) (quiet_event image limits c (Grant w u j) on refl) t k o
-  out_after (Enter w u j) on t k o = out_enter w u j on (has_of w u _ on) _ refl (quiet_event image limits c (Enter w u j) on refl) t k o
-  out_after (Turn w u) on t k o = out_turn u (may_turn image limits c w u on) t k o
-  out_after (Commit w u) on t k o = out_commit w u on t k o
-
-  -- ---- who is granted a lock afterwards
-
-  given_place : (u : ℕ) (at : ThreadPlace) → Quiet c (with_place c u at) → ((k : ℕ) → is_granted (c.custody k).place u ≡ true → is_free_to_go at ≡ true)
-      → (t k : ℕ) → is_granted (c.custody k).place t ≡ true → IsGiven image (with_place c u at) t k
-  given_place u at quiet mine t k g =
-      let y = s.given t k g in
-      record {
-        wants = wants_quiet image c (with_place c u at) t k quiet y.wants;
-        place = place_is c u at (λ p. is_free_to_go p ≡ true) t (λ e. mine k (subst (λ v. is_granted (c.custody k).place v ≡ true) e g)) (λ ne. y.place);
-      }
-
-  given_custody : (j : ℕ) (x : Custody) → Quiet c (with_custody c j x) → ((t : ℕ) → is_granted x.place t ≡ true → is_granted (c.custody j).place t ≡ true)
-      → (t k : ℕ) → is_granted ((with_custody c j x).custody k).place t ≡ true → IsGiven image (with_custody c j x) t k
-  given_custody j x quiet less t k g =
-      let was : is_granted (c.custody k).place t ≡ true = lock_is c j x (λ y. is_granted y.place t ≡ true → is_granted (c.custody k).place t ≡ true) k (λ e h. subst (λ i. is_granted (c.custody i).place t ≡ true) (sym e) (less t h)) (λ ne h. h) g in
-      let y = s.given t k was in
-      record { wants = wants_quiet image c (with_custody c j x) t k quiet y.wants; place = y.place }
-
-  -- the lock was granted to u, who was out and now is at a place from which it may go on
-  given_new : (u j : ℕ) (at : ThreadPlace) (x : Custody) → x.place ≡ Granted u → is_out (c.custody j) u ≡ true → is_free_to_go at ≡ true → Quiet c (with_place (with_custody c j x) u at)
-      → (t k : ℕ) → is_granted ((with_custody c j x).custody k).place t ≡ true → IsGiven image (with_place (with_custody c j x) u at) t k
-  given_new u j at x is o go quiet t k g =
-      let d = with_place (with_custody c j x) u at in
-      lock_is c j x (λ y. is_granted y.place t ≡ true → IsGiven image d t k) k
-      (λ e h. (let same : u ≡ t = number_eq u t (subst (λ p. is_granted p t ≡ true) is h) in
-      let y = s.out u j o in
-      subst (λ i. IsGiven image d t i) (sym e) (subst (λ v. IsGiven image d v j) same (record { wants = wants_quiet image c d u j quiet y.wants; place = place_is c u at (λ p. is_free_to_go p ≡ true) u (λ r. go) (λ ne. absurd (ne refl)) }))))
-      (λ ne h. (let y = s.given t k h in record { wants = wants_quiet image c d t k quiet y.wants; place = place_is c u at (λ p. is_free_to_go p ≡ true) t (λ r. go) (λ r. y.place) }))
-      g
-
-  -- and it stays where it is
-  given_take : (w u j : ℕ) (x : Custody) → x.place ≡ Granted u → is_out (c.custody j) u ≡ true → is_at (c.course u).place w ≡ true → Quiet c (with_custody c j x)
-      → (t k : ℕ) → is_granted ((with_custody c j x).custody k).place t ≡ true → IsGiven image (with_custody c j x) t k
-  given_take w u j x is o at quiet t k g =
-      let d = with_custody c j x in
-      lock_is c j x (λ y. is_granted y.place t ≡ true → IsGiven image d t k) k
-      (λ e h. (let same : u ≡ t = number_eq u t (subst (λ p. is_granted p t ≡ true) is h) in
-      let y = s.out u j o in
-      subst (λ i. IsGiven image d t i) (sym e) (subst (λ v. IsGiven image d v j) same (record { wants = wants_quiet image c d u j quiet y.wants; place = at_free (c.course u).place w at }))))
-      (λ ne h. (let y = s.given t k h in record { wants = wants_quiet image c d t k quiet y.wants; place = y.place }))
-      g
-
-  given_turn : (u : ℕ) → (t k : ℕ) → is_granted ((after_turn image c u).custody k).place t ≡ true → IsGiven image (after_turn image c u) t k
-  given_turn u t k g =
-      let was = given_on (next_lock image (c.machine.threads u)) u t k (c.custody k) g in
-      let y = s.given t k was.0 in
-      let wants = y.wants in
-      let ne : t ≢ u = λ e. was.1 (subst (λ v. next_lock image (c.machine.threads v) ≡ Some k) e wants.next) in
-      record { wants = wants_turn image c u t k ne wants; place = ap (λ (x : Course). is_free_to_go x.place) (pick_other t u _ (c.course t) ne) ∙ y.place }
-
-  given_commit : (w u : ℕ) → is_enabled image limits c (Commit w u) ≡ true → (t k : ℕ) → is_granted ((effect image c (Commit w u)).custody k).place t ≡ true → IsGiven image (effect image c (Commit w u)) t k
-  unfolding effect
-  given_commit w u on t k g =
-      let was = given_past w u t ((c.machine.threads u).held k) (release_of (c.course u)) (c.custody k) g in
-      let y = s.given t k was in
-      let wants = y.wants in
-      let ne : t ≢ u = λ e. end_none (c.course u).ended (subst (λ v. (c.course v).ended ≡ None) e wants.ended) (commit_some w u on) in
-      record { wants = wants_commit image c w u t k ne wants; place = ap (λ (x : Course). is_free_to_go x.place) (pick_other t u _ (c.course t) ne) ∙ y.place }
-
   -- a lock that was granted to a thread that is shipped for another
   ship_given : (w u j k : ℕ) → is_enabled image limits c (Ship w u j) ≡ true → is_granted (c.custody k).place u ≡ true → ⊥
   ship_given w u j k on g =
       let same = given_once u k j g (ship_out w u j on) in
       false_true _ (ship_line w u j on).1 (subst (λ i. is_first (c.custody i).line u ≡ true) same (given_first (c.custody k) u (s.staged k) g).1)
 
-  given_after : (e : Event) → is_enabled image limits c e ≡ true → (t k : ℕ) → is_granted ((effect image c e).custody k).place t ≡ true → IsGiven image (effect image c e) t k
-  unfolding effect is_enabled
-  given_after (Claim w u) on t k g = given_place u (At w) (quiet_event image limits c (Claim w u) on refl) (λ i h. refl) t k g
-  given_after (HandBack w u) on t k g = given_place u Ready (quiet_event image limits c (HandBack w u) on refl) (λ i h. refl) t k g
-  given_after (Park w u) on t k g = given_place u Parked (quiet_event image limits c (Park w u) on refl) (λ i h. refl) t k g
-  given_after (Finish w u) on t k g = given_place u Done (quiet_event image limits c (Finish w u) on refl) (λ i h. absurd (let y = s.given u i h in let wants = y.wants in finish_not w u on wants.runs)) t k g
-  given_after (Ship w u j) on t k g = given_place u (Waiting j) (quiet_event image limits c (Ship w u j) on refl) (λ i h. absurd (ship_given w u j i on h)) t k g
-  given_after (Enter w u j) on t k g = given_custody j _ (quiet_event image limits c (Enter w u j) on refl) (λ v h. h) t k g
-  given_after (Leave w j) on t k g = given_custody j _ (quiet_event image limits c (Leave w j) on refl) (λ v h. h) t k g
-  given_after (Free w j) on t k g = given_custody j _ (quiet_event image limits c (Free w j) on refl) (λ v h. absurd (cc)) t k g
-  given_after (Take w u j) on t k g = given_take w u j _ refl (take_out w u j on) (has_of w u _ on) (quiet_event image limits c (Take w u j) on refl) t k g
-  given_after (Adopt w u j) on t k g = given_new u j (At w) _ refl (pass_out w u j (passes image limits c w u j (both (may_pass image limits c w u j) (adopts limits c j) on).0)) refl (quiet_event image limits c (Adopt w u j) on refl) t k g
-  given_after (Grant w u j) on t k g = given_new u j Ready _ refl (pass_out w u j (passes image limits c w u j (both (may_pass image limits c w u j) _ on).0)) refl (quiet_event image limits c (Grant w u j) on refl) t k g
-  given_after (Turn w u) on t k g = given_turn u t k g
-  given_after (Commit w u) on t k g = given_commit w u on t k g
-
-  -- ---- who waits afterwards
-
-  abbrev Behind : List ℕ → ℕ → Type 0
-  Behind line t = (is_in_line line t ≡ true) × (is_first line t ≡ false)
-
-  waiting_place : (u : ℕ) (at : ThreadPlace) → ((k : ℕ) → is_waiting at k ≡ true → Behind (c.custody k).line u) → (t k : ℕ) → is_waiting ((with_place c u at).course t).place k ≡ true → Behind (c.custody k).line t
-  waiting_place u at mine t k = place_is c u at (λ p. is_waiting p k ≡ true → Behind (c.custody k).line t) t (λ e h. subst (Behind (c.custody k).line) (sym e) (mine k h)) (λ ne h. s.waiting t k h)
-
-  waiting_custody : (j : ℕ) (x : Custody) → ((t : ℕ) → Behind (c.custody j).line t → Behind x.line t) → (t k : ℕ) → is_waiting (c.course t).place k ≡ true → Behind ((with_custody c j x).custody k).line t
-  waiting_custody j x more t k h =
-      lock_is c j x (λ y. Behind y.line t) k (λ e. more t (subst (λ i. Behind (c.custody i).line t) e (s.waiting t k h))) (λ ne. s.waiting t k h)
-
-  waiting_passed : (u j : ℕ) (at : ThreadPlace) (x : Custody) → ((k : ℕ) → is_waiting at k ≡ false) → ((t : ℕ) → t ≢ u → Behind (c.custody j).line t → Behind x.line t)
-      → (t k : ℕ) → is_waiting ((with_place (with_custody c j x) u at).course t).place k ≡ true → Behind ((with_custody c j x).custody k).line t
-  waiting_passed u j at x not_waiting more t k =
-      place_is c u at (λ p. is_waiting p k ≡ true → Behind ((with_custody c j x).custody k).line t) t
-      (λ e h. absurd (false_true _ (not_waiting k) h))
-      (λ ne h. lock_is c j x (λ y. Behind y.line t) k (λ e. more t ne (subst (λ i. Behind (c.custody i).line t) e (s.waiting t k h))) (λ r. s.waiting t k h))
-
+  -- who stays behind when a lock is passed on
   passed_behind : (w u j : ℕ) → Passes image c w u j → (t : ℕ) → t ≢ u → Behind (c.custody j).line t → Behind (rest_of (c.custody j).line) t
   passed_behind w u j p t ne b = (in_rest (c.custody j).line t b.0 b.1, first_apart (rest_of (c.custody j).line) u t p.second ne)
 
-  waiting_after : (e : Event) → is_enabled image limits c e ≡ true → (t k : ℕ) → is_waiting ((effect image c e).course t).place k ≡ true → Behind ((effect image c e).custody k).line t
-  unfolding effect is_enabled
-  waiting_after (Claim w u) on t k h = waiting_place u (At w) (λ i y. absurd (cc)) t k h
-  waiting_after (HandBack w u) on t k h = waiting_place u Ready (λ i y. absurd (cc)) t k h
-  waiting_after (Park w u) on t k h = waiting_place u Parked (λ i y. absurd (cc)) t k h
-  waiting_after (Finish w u) on t k h = waiting_place u Done (λ i y. absurd (cc)) t k h
-  waiting_after (Ship w u j) on t k h = waiting_place u (Waiting j) (λ i y. subst (λ n. Behind (c.custody n).line u) (number_eq j i y) (ship_line w u j on)) t k h
-  waiting_after (Enter w u j) on t k h = waiting_custody j _ (λ v b. (in_stays (c.custody j).line v u b.0, first_stays (c.custody j).line v u b.0 ∙ b.1)) t k h
-  waiting_after (Take w u j) on t k h = waiting_custody j _ (λ v b. b) t k h
-  waiting_after (Free w j) on t k h = waiting_custody j _ (λ v b. b) t k h
-  waiting_after (Leave w j) on t k h = waiting_custody j _ (λ v b. absurd (single_first (c.custody j).line v (both _ _ (both (has_lock image limits c w j) _ on).1).1 b.0 b.1)) t k h
-  waiting_after (Adopt w u j) on t k h = waiting_passed u j (At w) _ (λ i. refl) (passed_behind w u j (passes image limits c w u j (both (may_pass image limits c w u j) (adopts limits c j) on).0)) t k h
-  waiting_after (Grant w u j) on t k h = waiting_passed u j Ready _ (λ i. refl) (passed_behind w u j (passes image limits c w u j (both (may_pass image limits c w u j) _ on).0)) t k h
-  waiting_after (Turn w u) on t k h = subst (λ l. Behind l t) (sym (on_line (next_lock image (c.machine.threads u)) u k (c.custody k)))
-      (s.waiting t k (sym (changed_same c.course (λ (x : Course). is_waiting x.place k) u _ t refl) ∙ h))
-  waiting_after (Commit w u) on t k h = subst (λ l. Behind l t) (sym (past_line w u ((c.machine.threads u).held k) (release_of (c.course u)) (c.custody k)))
-      (s.waiting t k (sym (changed_same c.course (λ (x : Course). is_waiting x.place k) u _ t refl) ∙ h))
+  -- ---- how threads stand to locks afterwards
 
-  -- ---- the rest
+  -- a thread that is now at this place
+  sits : (u k : ℕ) (at : ThreadPlace) → (is_out (c.custody k) u ≡ true → is_kept at k ≡ true) → (is_granted (c.custody k).place u ≡ true → is_free_to_go at ≡ true) → (is_waiting at k ≡ true → Behind (c.custody k).line u)
+      → Fits (Wants image c u k) at (c.custody k) u k
+  sits u k at out given waiting = record { out = λ h. (((s.fits u k).out h).0, out h); given = λ h. (((s.fits u k).given h).0, given h); waiting = waiting }
 
-  abbrev Ended : Core → ℕ → Type 0
-  Ended d t = (is_running (d.machine.threads t).status ≡ false) × ((d.course t).ended ≡ None)
+  fits_place : (u : ℕ) (at : ThreadPlace) → Quiet c (with_place c u at) → ((k : ℕ) → Fits (Wants image c u k) at (c.custody k) u k) → AllFit image (with_place c u at)
+  fits_place u at quiet mine t k =
+      fits_more _ (c.custody k) t k (wants_quiet image c (with_place c u at) t k quiet)
+      (place_is c u at (λ p. Fits (Wants image c t k) p (c.custody k) t k) t (λ e. subst (λ v. Fits (Wants image c v k) at (c.custody k) v k) (sym e) (mine k)) (λ ne. s.fits t k))
 
-  ended_quiet : (d : Core) (t : ℕ) → Quiet c d → Ended c t → Ended d t
-  ended_quiet d t quiet e = (ap (λ (m : State). is_running (m.threads t).status) quiet.machine ∙ e.0, quiet.ended t ∙ e.1)
+  -- a lock that has this custody now, in whose line nobody is out, nor was granted it, who was not before
+  lies : (t j : ℕ) (x : Custody) → (is_out x t ≡ true → is_out (c.custody j) t ≡ true) → (is_granted x.place t ≡ true → is_granted (c.custody j).place t ≡ true) → (Behind (c.custody j).line t → Behind x.line t)
+      → Fits (Wants image c t j) (c.course t).place x t j
+  lies t j x out given waiting = record { out = λ h. (s.fits t j).out (out h); given = λ h. (s.fits t j).given (given h); waiting = λ h. waiting ((s.fits t j).waiting h) }
 
-  done_place : (d : Core) (u : ℕ) (at : ThreadPlace) → (d.course ≡ c.course) → Quiet c (with_place d u at) → (at ≡ Done → Ended c u) → (t : ℕ) → ((with_place d u at).course t).place ≡ Done → Ended (with_place d u at) t
-  done_place d u at same quiet mine t h =
-      ended_quiet (with_place d u at) t quiet (place_is d u at (λ p. p ≡ Done → Ended c t) t (λ e y. subst (Ended c) (sym e) (mine y)) (λ ne y. s.done t (ap (λ (f : ℕ → Course). (f t).place) (sym same) ∙ y)) h)
+  fits_custody : (j : ℕ) (x : Custody) → Quiet c (with_custody c j x) → ((t : ℕ) → Fits (Wants image c t j) (c.course t).place x t j) → AllFit image (with_custody c j x)
+  fits_custody j x quiet mine t k =
+      fits_more (c.course t).place _ t k (wants_quiet image c (with_custody c j x) t k quiet)
+      (lock_is c j x (λ y. Fits (Wants image c t k) (c.course t).place y t k) k (λ e. subst (λ i. Fits (Wants image c t i) (c.course t).place x t i) (sym e) (mine t)) (λ ne. s.fits t k))
 
-  finish_ended : (w u : ℕ) → is_enabled image limits c (Finish w u) ≡ true → Ended c u
-  unfolding is_enabled
-  finish_ended w u on = (let p = both (has_thread image limits c w u) _ on in let q = both _ _ p.1 in (not_true _ q.0, (s.blocks u).start (between_zero c u q.1)))
-
-  -- a thread that is at a worker is not Done, nor is it afterwards
-  done_changed : (d : Core) (u w : ℕ) (f : ℕ → Course) → is_at (c.course u).place w ≡ true → (f u).place ≡ (c.course u).place → ((t : ℕ) → t ≢ u → f t ≡ c.course t) → ((t : ℕ) → t ≢ u → d.machine.threads t ≡ c.machine.threads t)
-      → d.course ≡ f → (t : ℕ) → (d.course t).place ≡ Done → Ended d t
-  done_changed d u w f at mine others threads is t h = elim (eqb_tells t u) [
-    | inl e ↦ absurd (at_not_done (c.course u).place w at (sym mine ∙ ap (λ v. (f v).place) (sym e.1) ∙ ap (λ (g : ℕ → Course). (g t).place) (sym is) ∙ h))
-    | inr e ↦ (
-        let same : d.course t ≡ c.course t = ap (λ (g : ℕ → Course). g t) is ∙ others t e.1 in
-        let y = s.done t (ap (λ (x : Course). x.place) (sym same) ∙ h) in
-        (ap (λ (x : Thread). is_running x.status) (threads t e.1) ∙ y.0, ap (λ (x : Course). x.ended) same ∙ y.1))
+  -- a thread entered
+  fits_enter : (w u j : ℕ) → is_enabled image limits c (Enter w u j) ≡ true → is_at (c.course u).place w ≡ true → (t : ℕ) → Fits (Wants image c t j) (c.course t).place (record (c.custody j) { line = (c.custody j).line ++ u ∷ [] }) t j
+  fits_enter w u j on at t = elim (eqb_tells t u) [
+    | inl y ↦ subst (λ v. Fits (Wants image c v j) (c.course v).place x v j) (sym y.1)
+        (record { out = λ h. (enters_as w u j on, at_kept (c.course u).place w j at); given = (s.fits u j).given; waiting = λ h. stays u ((s.fits u j).waiting h) })
+    | inr y ↦ lies t j x
+        (λ h. out_entered (is_in_line (c.custody j).line t) (is_free_lock (c.custody j).place) (c.custody j).left (is_first (c.custody j).line t) (is_in_line x.line t) (is_first x.line t)
+        (in_more_other (c.custody j).line u t y.1) (first_stays (c.custody j).line t u) h)
+        (λ h. h) (stays t)
   ]
+    where
+      x : Custody
+      x = record (c.custody j) { line = (c.custody j).line ++ u ∷ [] }
 
-  done_after : (e : Event) → is_enabled image limits c e ≡ true → (t : ℕ) → ((effect image c e).course t).place ≡ Done → Ended (effect image c e) t
+      stays : (v : ℕ) → Behind (c.custody j).line v → Behind ((c.custody j).line ++ u ∷ []) v
+      stays v b = (in_stays (c.custody j).line v u b.0, first_stays (c.custody j).line v u b.0 ∙ b.1)
+
+  -- the first of the line took the lock
+  fits_take : (w u j : ℕ) → is_enabled image limits c (Take w u j) ≡ true → is_at (c.course u).place w ≡ true → (t : ℕ) → Fits (Wants image c t j) (c.course t).place (taken_by (c.custody j) u) t j
+  fits_take w u j on at t = record {
+    out = λ h. (s.fits t j).out (out_taken (is_in_line (c.custody j).line t) (is_free_lock (c.custody j).place) false (c.custody j).left (not (is_first (c.custody j).line t)) refl h);
+    given = λ h. subst (λ v. Wants image c v j × (is_free_to_go (c.course v).place ≡ true)) (number_eq u t h) (((s.fits u j).out (take_out w u j on)).0, at_free (c.course u).place w at);
+    waiting = (s.fits t j).waiting;
+  }
+
+  -- a lock was passed on to a thread, which came to a place
+  fits_passed : (w u j run : ℕ) (at : ThreadPlace) → Passes image c w u j → is_free_to_go at ≡ true → ((k : ℕ) → is_waiting at k ≡ false) → Quiet c (with_place (with_custody c j (passed_to (c.custody j) u run)) u at)
+      → AllFit image (with_place (with_custody c j (passed_to (c.custody j) u run)) u at)
+  fits_passed w u j run at p go still quiet t k =
+      fits_more _ _ t k (wants_quiet image c (with_place (with_custody c j x) u at) t k quiet)
+      (place_is (with_custody c j x) u at (λ q. Fits (Wants image c t k) q ((with_custody c j x).custody k) t k) t
+      (λ e. subst (λ v. Fits (Wants image c v k) at ((with_custody c j x).custody k) v k) (sym e) (lock_is c j x (λ y. Fits (Wants image c u k) at y u k) k
+      (λ f. subst (λ i. Fits (Wants image c u i) at x u i) (sym f) (record { out = λ h. absurd ((passed_out w u u j run p h).0 refl); given = λ h. (wants, go); waiting = λ h. absurd (false_true _ (still j) h) }))
+      (λ ne. sits u k at (λ h. absurd (ne (out_once u k j h out))) (λ h. go) (λ h. absurd (false_true _ (still k) h)))))
+      (λ other. lock_is c j x (λ y. Fits (Wants image c t k) (c.course t).place y t k) k
+      (λ f. subst (λ i. Fits (Wants image c t i) (c.course t).place x t i) (sym f) (lies t j x (λ h. (passed_out w u t j run p h).1) (λ h. absurd (other (sym (number_eq u t h)))) (passed_behind w u j p t other)))
+      (λ ne. s.fits t k)))
+    where
+      x : Custody
+      x = passed_to (c.custody j) u run
+
+      out : is_out (c.custody j) u ≡ true
+      out = pass_out w u j p
+
+      wants : Wants image c u j
+      wants = ((s.fits u j).out out).0
+
+  -- the thread of a turn wants a lock no more
+  fits_turn : (u : ℕ) → MayTurn image c u → AllFit image (after_turn image c u)
+  fits_turn u may t k =
+      let same : ((after_turn image c u).course t).place ≡ (c.course t).place = changed_same c.course (λ (x : Course). x.place) u _ t refl in
+      record {
+        out = λ o. (
+            let was = out_on (next_lock image (c.machine.threads u)) u t k (c.custody k) o in
+            let ne : t ≢ u = λ e. turn_not u k may (subst (λ v. is_out (c.custody k) v ≡ true) e was) in
+            let y = (s.fits t k).out was in
+            (wants_turn image c u t k ne y.0, ap (λ p. is_kept p k) same ∙ y.1));
+        given = λ g. (
+            let was = given_on (next_lock image (c.machine.threads u)) u t k (c.custody k) g in
+            let y = (s.fits t k).given was.0 in
+            let wants = y.0 in
+            let ne : t ≢ u = λ e. was.1 (subst (λ v. next_lock image (c.machine.threads v) ≡ Some k) e wants.next) in
+            (wants_turn image c u t k ne wants, ap is_free_to_go same ∙ y.1));
+        waiting = λ h. subst (λ l. Behind l t) (sym (on_line (next_lock image (c.machine.threads u)) u k (c.custody k))) ((s.fits t k).waiting (sym (ap (λ p. is_waiting p k) same) ∙ h));
+      }
+
+  -- nor does that of a Commit, whose block had ended
+  fits_commit : (w u : ℕ) → is_enabled image limits c (Commit w u) ≡ true → AllFit image (effect image c (Commit w u))
+  unfolding effect
+  fits_commit w u on t k =
+      let held = (c.machine.threads u).held k in
+      let r = release_of (c.course u) in
+      let same : (if t == u then course_past (c.course u) else c.course t).place ≡ (c.course t).place = changed_same c.course (λ (x : Course). x.place) u (course_past (c.course u)) t refl in
+      let wanted : Wants image c t k → Wants image (effect image c (Commit w u)) t k = λ wants. wants_commit image c w u t k (λ e. end_none (c.course u).ended (subst (λ v. (c.course v).ended ≡ None) e wants.ended) (commit_some w u on)) wants in
+      record {
+        out = λ o. (let y = (s.fits t k).out (out_past w u t held r (c.custody k) o) in (wanted y.0, ap (λ p. is_kept p k) same ∙ y.1));
+        given = λ g. (let y = (s.fits t k).given (given_past w u t held r (c.custody k) g) in (wanted y.0, ap is_free_to_go same ∙ y.1));
+        waiting = λ h. subst (λ l. Behind l t) (sym (past_line w u held r (c.custody k))) ((s.fits t k).waiting (sym (ap (λ p. is_waiting p k) same) ∙ h));
+      }
+
+  fits_after : (e : Event) → is_enabled image limits c e ≡ true → AllFit image (effect image c e)
   unfolding effect is_enabled
-  done_after (Claim w u) on t h = done_place c u (At w) refl (quiet_event image limits c (Claim w u) on refl) (λ y. absurd (cc)) t h
-  done_after (HandBack w u) on t h = done_place c u Ready refl (quiet_event image limits c (HandBack w u) on refl) (λ y. absurd (cc)) t h
-  done_after (Park w u) on t h = done_place c u Parked refl (quiet_event image limits c (Park w u) on refl) (λ y. absurd (cc)) t h
-  done_after (Ship w u j) on t h = done_place c u (Waiting j) refl (quiet_event image limits c (Ship w u j) on refl) (λ y. absurd (cc)) t h
-  done_after (Finish w u) on t h = done_place c u Done refl (quiet_event image limits c (Finish w u) on refl) (λ y. finish_ended w u on) t h
-  done_after (Adopt w u j) on t h = done_place (with_custody c j _) u (At w) refl (quiet_event image limits c (Adopt w u j) on refl) (λ y. absurd (cc)) t h
-  done_after (Grant w u j) on t h = done_place (with_custody c j _) u Ready refl (quiet_event image limits c (Grant w u j) on refl) (λ y. absurd (cc)) t h
-  done_after (Enter w u j) on t h = s.done t h
-  done_after (Take w u j) on t h = s.done t h
-  done_after (Leave w j) on t h = s.done t h
-  done_after (Free w j) on t h = s.done t h
-  done_after (Turn w u) on t h = done_changed (after_turn image c u) u w (after_turn image c u).course (has_of w u _ on) (ap (λ (x : Course). x.place) (pick_mine u _ (c.course u))) (λ v ne. pick_other v u _ (c.course v) ne)
-      (λ v ne. (turn_apart image c.machine u _ (covers_block image (c.machine.threads u))).threads v ne) refl t h
-  done_after (Commit w u) on t h = done_changed (effect image c (Commit w u)) u w (λ k. if k == u then course_past (c.course u) else c.course k) (has_of w u _ on) (ap (λ (x : Course). x.place) (pick_mine u (course_past (c.course u)) (c.course u))) (λ v ne. pick_other v u _ (c.course v) ne)
-      (λ v ne. refl) refl t h
+  fits_after (Claim w u) on t k = fits_place u (At w) (quiet_event image limits c (Claim w u) on refl) (λ i. sits u i (At w) (λ h. refl) (λ h. refl) (λ h. absurd (cc))) t k
+  fits_after (HandBack w u) on t k = fits_place u Ready (quiet_event image limits c (HandBack w u) on refl) (λ i. sits u i Ready (λ h. absurd (back_not w u i on h)) (λ h. refl) (λ h. absurd (cc))) t k
+  fits_after (Park w u) on t k = fits_place u Parked (quiet_event image limits c (Park w u) on refl) (λ i. sits u i Parked (λ h. absurd (back_not w u i (both (may_go_back image limits c w u) _ on).0 h)) (λ h. refl) (λ h. absurd (cc))) t k
+  fits_after (Finish w u) on t k = fits_place u Done (quiet_event image limits c (Finish w u) on refl)
+      (λ i. sits u i Done (λ h. absurd (let wants = ((s.fits u i).out h).0 in finish_not w u on wants.runs)) (λ h. absurd (let wants = ((s.fits u i).given h).0 in finish_not w u on wants.runs)) (λ h. absurd (cc))) t k
+  fits_after (Ship w u j) on t k = fits_place u (Waiting j) (quiet_event image limits c (Ship w u j) on refl)
+      (λ i. sits u i (Waiting j) (λ h. subst (λ n. (j == n) ≡ true) (out_once u j i (ship_out w u j on) h) (same_number j)) (λ h. absurd (ship_given w u j i on h)) (λ h. subst (λ n. Behind (c.custody n).line u) (number_eq j i h) (ship_line w u j on))) t k
+  fits_after (Enter w u j) on t k = fits_custody j _ (quiet_event image limits c (Enter w u j) on refl) (fits_enter w u j on (has_of w u _ on)) t k
+  fits_after (Take w u j) on t k = fits_custody j _ (quiet_event image limits c (Take w u j) on refl) (fits_take w u j on (has_of w u _ on)) t k
+  fits_after (Leave w j) on t k = fits_custody j _ (quiet_event image limits c (Leave w j) on refl)
+      (λ v. lies v j (left_by_all (c.custody j)) (λ h. absurd (cc)) (λ h. h) (λ b. absurd (single_first (c.custody j).line v (both _ _ (both (has_lock image limits c w j) _ on).1).1 b.0 b.1))) t k
+  fits_after (Free w j) on t k = fits_custody j _ (quiet_event image limits c (Free w j) on refl)
+      (λ v. lies v j (freed (c.custody j)) (λ h. out_left (is_in_line (c.custody j).line v) (is_free_lock (c.custody j).place) (c.custody j).left (not (is_first (c.custody j).line v)) true false (both (has_lock image limits c w j) _ on).1 h) (λ h. absurd (cc)) (λ b. b)) t k
+  fits_after (Adopt w u j) on t k = fits_passed w u j _ (At w) (passes image limits c w u j (both (may_pass image limits c w u j) (adopts limits c j) on).0) refl (λ i. refl) (quiet_event image limits c (Adopt w u j) on refl) t k
+  fits_after (Grant w u j) on t k = fits_passed w u j _ Ready (passes image limits c w u j (both (may_pass image limits c w u j) _ on).0) refl (λ i. refl) (quiet_event image limits c (Grant w u j) on refl) t k
+  fits_after (Turn w u) on t k = fits_turn u (may_turn image limits c w u on) t k
+  fits_after (Commit w u) on t k = fits_commit w u on t k
 
-  at_place : (u : ℕ) (at : ThreadPlace) → ((w : ℕ) → is_at at w ≡ true → is_worker limits w ≡ true) → (t v : ℕ) → is_at ((with_place c u at).course t).place v ≡ true → is_worker limits v ≡ true
-  at_place u at mine t v = place_is c u at (λ p. is_at p v ≡ true → is_worker limits v ≡ true) t (λ e h. mine v h) (λ ne h. s.at t v h)
+  -- ---- where threads and locks are afterwards
 
-  at_worker : (w : ℕ) → is_worker limits w ≡ true → (v : ℕ) → is_at (At w) v ≡ true → is_worker limits v ≡ true
-  at_worker w is v h = subst (λ i. is_worker limits i ≡ true) (number_eq w v h) is
+  finish_ended : (w u : ℕ) → is_enabled image limits c (Finish w u) ≡ true → IsEnded c u
+  unfolding is_enabled
+  finish_ended w u on = (let p = both (has_thread image limits c w u) _ on in let q = both _ _ p.1 in record { status = not_true _ q.0; block = (s.blocks u).start (between_zero c u q.1) })
+
+  ended_quiet : (d : Core) (t : ℕ) → Quiet c d → IsEnded c t → IsEnded d t
+  ended_quiet d t quiet e = record { status = ap (λ (m : State). is_running (m.threads t).status) quiet.machine ∙ e.status; block = quiet.ended t ∙ e.block }
+
+  at_worker : (w u : ℕ) → is_worker limits w ≡ true → IsSeated limits (IsEnded c u) (At w)
+  at_worker w u is = record { worker = λ v h. subst (λ i. is_worker limits i ≡ true) (number_eq w v h) is; done = λ y. absurd (cc) }
+
+  -- one thread came to a place
+  seated_place : (d : Core) (u : ℕ) (at : ThreadPlace) → d.course ≡ c.course → Quiet c (with_place d u at) → IsSeated limits (IsEnded c u) at → AreSeated limits (with_place d u at)
+  seated_place d u at same quiet mine t =
+      seated_more limits _ (ended_quiet (with_place d u at) t quiet)
+      (place_is d u at (IsSeated limits (IsEnded c t)) t (λ e. subst (λ v. IsSeated limits (IsEnded c v) at) (sym e) mine) (λ ne. subst (λ (f : ℕ → Course). IsSeated limits (IsEnded c t) (f t).place) (sym same) (s.seated t)))
+
+  -- a thread had a turn or a block: it is at a worker, and so not Done
+  seated_changed : (d : Core) (u w : ℕ) → is_at (c.course u).place w ≡ true → ((t : ℕ) → (d.course t).place ≡ (c.course t).place) → ((t : ℕ) → t ≢ u → IsEnded c t → IsEnded d t) → AreSeated limits d
+  seated_changed d u w at same others t = record {
+    worker = λ v h. (s.seated t).worker v (sym (ap (λ p. is_at p v) (same t)) ∙ h);
+    done = λ h. (let y : (c.course t).place ≡ Done = sym (same t) ∙ h in others t (λ e. at_not_done (c.course u).place w at (ap (λ v. (c.course v).place) (sym e) ∙ y)) ((s.seated t).done y));
+  }
+
+  seated_turn : (w u : ℕ) → is_at (c.course u).place w ≡ true → AreSeated limits (after_turn image c u)
+  seated_turn w u at = seated_changed (after_turn image c u) u w at (λ t. changed_same c.course (λ (x : Course). x.place) u _ t refl) (λ t ne e. record {
+    status = ap (λ (x : Thread). is_running x.status) ((turn_apart image c.machine u _ (covers_block image (c.machine.threads u))).threads t ne) ∙ e.status;
+    block = ap (λ (x : Course). x.ended) (pick_other t u _ (c.course t) ne) ∙ e.block;
+  })
+
+  seated_commit : (w u : ℕ) → is_at (c.course u).place w ≡ true → AreSeated limits (effect image c (Commit w u))
+  unfolding effect
+  seated_commit w u at = seated_changed (effect image c (Commit w u)) u w at (λ t. changed_same c.course (λ (x : Course). x.place) u (course_past (c.course u)) t refl)
+      (λ t ne e. record { status = e.status; block = ap (λ (x : Course). x.ended) (pick_other t u (course_past (c.course u)) (c.course t) ne) ∙ e.block })
 
   lock_worker : (w u j : ℕ) → may_pass image limits c w u j ≡ true → is_worker limits w ≡ true
   lock_worker w u j e = (both (is_worker limits w) _ (both (has_lock image limits c w j) _ e).0).0
 
-  at_after : (e : Event) → is_enabled image limits c e ≡ true → (t v : ℕ) → is_at ((effect image c e).course t).place v ≡ true → is_worker limits v ≡ true
+  seated_after : (e : Event) → is_enabled image limits c e ≡ true → AreSeated limits (effect image c e)
   unfolding effect is_enabled
-  at_after (Claim w u) on t v h = at_place u (At w) (at_worker w (both (is_worker limits w) _ on).0) t v h
-  at_after (HandBack w u) on t v h = at_place u Ready (λ i y. absurd (cc)) t v h
-  at_after (Park w u) on t v h = at_place u Parked (λ i y. absurd (cc)) t v h
-  at_after (Ship w u j) on t v h = at_place u (Waiting j) (λ i y. absurd (cc)) t v h
-  at_after (Finish w u) on t v h = at_place u Done (λ i y. absurd (cc)) t v h
-  at_after (Adopt w u j) on t v h = at_place u (At w) (at_worker w (lock_worker w u j (both (may_pass image limits c w u j) (adopts limits c j) on).0)) t v h
-  at_after (Grant w u j) on t v h = at_place u Ready (λ i y. absurd (cc)) t v h
-  at_after (Turn w u) on t v h = s.at t v (sym (changed_same c.course (λ (x : Course). is_at x.place v) u _ t refl) ∙ h)
-  at_after (Commit w u) on t v h = s.at t v (sym (changed_same c.course (λ (x : Course). is_at x.place v) u _ t refl) ∙ h)
-  at_after (Enter w u j) on t v h = s.at t v h
-  at_after (Take w u j) on t v h = s.at t v h
-  at_after (Leave w j) on t v h = s.at t v h
-  at_after (Free w j) on t v h = s.at t v h
+  seated_after (Claim w u) on t = seated_place c u (At w) refl (quiet_event image limits c (Claim w u) on refl) (at_worker w u (both (is_worker limits w) _ on).0) t
+  seated_after (HandBack w u) on t = seated_place c u Ready refl (quiet_event image limits c (HandBack w u) on refl) (record { worker = λ v h. absurd (cc); done = λ y. absurd (cc) }) t
+  seated_after (Park w u) on t = seated_place c u Parked refl (quiet_event image limits c (Park w u) on refl) (record { worker = λ v h. absurd (cc); done = λ y. absurd (cc) }) t
+  seated_after (Ship w u j) on t = seated_place c u (Waiting j) refl (quiet_event image limits c (Ship w u j) on refl) (record { worker = λ v h. absurd (cc); done = λ y. absurd (cc) }) t
+  seated_after (Finish w u) on t = seated_place c u Done refl (quiet_event image limits c (Finish w u) on refl) (record { worker = λ v h. absurd (cc); done = λ y. finish_ended w u on }) t
+  seated_after (Adopt w u j) on t = seated_place (with_custody c j _) u (At w) refl (quiet_event image limits c (Adopt w u j) on refl) (at_worker w u (lock_worker w u j (both (may_pass image limits c w u j) (adopts limits c j) on).0)) t
+  seated_after (Grant w u j) on t = seated_place (with_custody c j _) u Ready refl (quiet_event image limits c (Grant w u j) on refl) (record { worker = λ v h. absurd (cc); done = λ y. absurd (cc) }) t
+  seated_after (Enter w u j) on t = record { worker = (s.seated t).worker; done = λ h. ended_quiet (with_custody c j _) t (quiet_event image limits c (Enter w u j) on refl) ((s.seated t).done h) }
+  seated_after (Take w u j) on t = record { worker = (s.seated t).worker; done = λ h. ended_quiet (with_custody c j _) t (quiet_event image limits c (Take w u j) on refl) ((s.seated t).done h) }
+  seated_after (Leave w j) on t = record { worker = (s.seated t).worker; done = λ h. ended_quiet (with_custody c j _) t (quiet_event image limits c (Leave w j) on refl) ((s.seated t).done h) }
+  seated_after (Free w j) on t = record { worker = (s.seated t).worker; done = λ h. ended_quiet (with_custody c j _) t (quiet_event image limits c (Free w j) on refl) ((s.seated t).done h) }
+  seated_after (Turn w u) on t = seated_turn w u (has_of w u _ on) t
+  seated_after (Commit w u) on t = seated_commit w u (has_of w u _ on) t
 
   loose_custody : (j : ℕ) (x : Custody) → ((w : ℕ) → is_loose x.place w ≡ true → is_worker limits w ≡ true) → (k v : ℕ) → is_loose ((with_custody c j x).custody k).place v ≡ true → is_worker limits v ≡ true
   loose_custody j x mine k v = lock_is c j x (λ y. is_loose y.place v ≡ true → is_worker limits v ≡ true) k (λ e h. mine v h) (λ ne h. s.loose k v h)
@@ -831,13 +761,10 @@ stands_after image limits c e on s = record {
   lines = lines_after image limits c e on s.lines;
   staged = staged_after image limits c s e on;
   blocks = blocks_after image limits c s e on;
-  at = at_after image limits c s e on;
+  seated = seated_after image limits c s e on;
   loose = loose_after image limits c s e on;
   known = known_after image limits c s e on;
-  out = out_after image limits c s e on;
-  given = given_after image limits c s e on;
-  waiting = waiting_after image limits c s e on;
-  done = done_after image limits c s e on;
+  fits = fits_after image limits c s e on;
   ends = ends_after image limits c s e on;
 }
 
@@ -852,13 +779,10 @@ first_stands image limits fuel = record {
   lines = first_lines image fuel;
   staged = λ k. record { granted = []; locked = []; entered = []; served = record { gone = []; all = refl; stage = (refl, refl, refl) } };
   blocks = λ t. record { start = λ h. refl; goes = λ h. inl refl };
-  at = λ t w h. absurd (cc);
+  seated = λ t. record { worker = λ w h. absurd (cc); done = λ h. absurd (cc) };
   loose = λ k w h. absurd (cc);
   known = λ k t h. absurd (cc);
-  out = λ t k h. absurd (cc);
-  given = λ t k h. absurd (cc);
-  waiting = λ t k h. absurd (cc);
-  done = λ t h. absurd (cc);
+  fits = λ t k. record { out = λ h. absurd (cc); given = λ h. absurd (cc); waiting = λ h. absurd (cc) };
   ends = λ t k h. false_from_ne_true _ (started_none image fuel t k);
 }
 

@@ -1,15 +1,11 @@
 -- Each event but Claim, HandBack and Park takes from what is left to do, and no event adds to it.
-use Rattle.std.proofs.Common.{◌≡◌, ◌≢◌, ℕ, zero, suc, ◌+◌, ◌*◌, ◌<◌, ◌≤◌, Bool, true, false, not, ◌&&◌, ◌||◌, ◌==◌, List, [], ◌∷◌, ◌++◌, length, length-append, refl, sym, ap, subst, ◌∙◌, arith, inl, inr}
-use Rattle.std.specs.Prelude.{Option, Some, None, nat_lt, is_some, if◌then◌else◌}
+use Rattle.std.proofs.Common.{◌≡◌, ◌≢◌, ℕ, ◌+◌, ◌*◌, ◌<◌, ◌≤◌, Bool, true, false, not, ◌&&◌, ◌||◌, ◌==◌, List, [], ◌∷◌, ◌++◌, length, length-append, refl, sym, ap, subst, ◌∙◌, arith, inl, inr}
+use Rattle.std.specs.Prelude.{Option, Some, None, is_some, if◌then◌else◌}
 use Rattle.std.proofs.lemmas.Bool.Decides.{eqb_tells}
 use Rattle.tc_elf.specs.Shown.{Shown}
-use Rattle.tc_exec.specs.Step.{act_of}
-use Rattle.tc_exec.specs.declared.outcome.Act.{Act}
-use Rattle.tc_exec.specs.declared.outcome.Act.TheVariants.{Next, Called, Faulted}
-use Rattle.tc_exec.specs.declared.outcome.Call.TheVariants.{Lock, Unlock, Sleep, Exit}
-use Rattle.tc_turn.specs.Turn.{Thread, Mutex, thread_at_start, no_thread, is_running, next_lock, next_act, thread_after}
-use Rattle.tc_mutex_spec.specs.Machine.{State, after, start}
-use Rattle.tc_mutex_spec.proofs.Local.{after_thread, turn_apart}
+use Rattle.tc_turn.specs.Turn.{next_lock}
+use Rattle.tc_mutex_spec.specs.Machine.{after}
+use Rattle.tc_mutex_spec.proofs.Local.{turn_apart}
 use Rattle.tc_mutex_spec.proofs.BlocksAlike.{covers_block}
 use Rattle.tc_mutex_spec.proofs.Sums.{sum_to, sums_le, sums_one, sums_more, sums_most, at_most}
 use Rattle.tc_mutex_spec.proofs.Progress.{turns_sum, turns_turn, first_turns}

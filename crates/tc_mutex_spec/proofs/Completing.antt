@@ -1,17 +1,21 @@
 -- From every state between blocks, further blocks lead to the end of every thread. They may all be of one worker, with each
 -- section taken.
 use Rattle.std.proofs.Common.{◌≡◌, ℕ, zero, suc, ◌+◌, ◌<◌, ◌≤◌, Bool, true, false, not, ◌&&◌, ◌||◌, ◌==◌, List, [], ◌∷◌, ◌++◌, length, length-append, map, refl, sym, ap, subst, ◌∙◌, arith, inl, inr, append-nil}
-use Rattle.std.specs.Prelude.{Option, Some, None, All, nat_lt, is_some, if◌then◌else◌}
+use Rattle.std.specs.Prelude.{Option, Some, None, All, nat_lt, nat_le, ◌*◌, ◌^◌, is_some, if◌then◌else◌}
 use Rattle.std.specs.List.{range_with_len}
 use Rattle.std.proofs.lemmas.Bool.Decides.{nat_tests, eqb_tells}
+use Rattle.std.proofs.Math.Pow.{pow_mono}
+use Rattle.std.proofs.lemmas.Nat.{mul-le}
 use Rattle.std.proofs.lemmas.List.Elements.{All-nil, All-cons, filter-append}
 use Rattle.tc_isa.specs.Sets.{has}
 use Rattle.tc_elf.specs.Shown.{Shown}
-use Rattle.tc_elf.specs.declared.limits.TheConstants.{MAX_GUARDS}
+use Rattle.tc_isa.specs.declared.limits.TheConstants.{MAX_FUEL, MAX_TURNS}
+use Rattle.tc_elf.specs.declared.limits.TheConstants.{MAX_GUARDS, MAX_THREADS}
 use Rattle.tc_journal.specs.Batch.{is_section, is_passed, is_lock, begins, ends_section, last_of, run_of, may_begin, may_go_on, allows_of, may_follow, ObeysAfter, passes_to, passes_on, PassesOnAfter}
-use Rattle.tc_journal.specs.History.{of_lock}
+use Rattle.tc_journal.specs.History.{IsEnd, IsBlock, IsHistoryFrom, of_lock}
 use Rattle.tc_journal.specs.declared.block.Block.{Block}
 use Rattle.tc_journal.specs.declared.block.End.{End}
+use Rattle.tc_journal.specs.declared.block.End.TheVariants.{Wants, Unlocked, Slept, Cut, Exit, Fault, Spent}
 use Rattle.tc_journal.specs.declared.block.Kind.{Kind}
 use Rattle.tc_journal.specs.declared.block.Kind.TheVariants.{Start, On, Taken}
 use Rattle.tc_turn.specs.Turn.{Thread, is_running, next_lock, next_act}
@@ -25,10 +29,12 @@ use Rattle.tc_mutex_spec.proofs.Local.{after_thread}
 use Rattle.tc_mutex_spec.proofs.Replaying.{record_takes}
 use Rattle.tc_mutex_spec.proofs.BlockEnds.{left}
 use Rattle.tc_mutex_spec.proofs.Going.{in_block}
+use Rattle.tc_mutex_spec.proofs.Leaving.{block_next, block_releases}
 use Rattle.tc_mutex_spec.proofs.Owners.{owner_after}
-use Rattle.tc_mutex_spec.proofs.HeldSets.{set_below, set_is}
+use Rattle.tc_mutex_spec.proofs.HeldSets.{set_below, set_is, set_small}
+use Rattle.tc_mutex_spec.proofs.Placed.{ArePlaced, placed_reach, placed_start}
 use Rattle.tc_mutex_spec.proofs.Sums.{below_last}
-use Rattle.tc_mutex_spec.proofs.Progress.{IsSane, can_runs, sane_turn, start_sane, turns_sum, turn_left, turns_turn, next_turn}
+use Rattle.tc_mutex_spec.proofs.Progress.{IsSane, can_runs, sane_turn, start_sane, turns_sum, turn_left, turns_turn, first_turns, next_turn}
 
 -- ---- a thread that may take a turn has a block
 
@@ -132,6 +138,23 @@ none_passed : (o : Option Block) (kind : Kind) (t : ℕ) → is_passed kind ≡ 
 none_passed None kind t e = refl
 none_passed (Some b) kind t e = ap (λ v. not (v && (b.thread == t))) e
 
+-- no block has more turns than one may have
+turns_most : (image : Shown) (m to : State) (t n : ℕ) (e : End) → Runs image m t n e to → n ≤ MAX_TURNS
+turns_most image m to t n e runs = go (nat_le n MAX_TURNS) refl
+  where
+    go : (b : Bool) → nat_le n MAX_TURNS ≡ b → n ≤ MAX_TURNS
+    go true is = grind (arith, nat_tests)
+    go false is = absurd (
+        let more : 4095 + 1 < n = grind (arith, nat_tests) in
+        let from : State = reach image m t 4095 in
+        (goes_on (from.threads t) (next_act image (from.threads t) from.locks) (4095 + 1) (next_lock image ((after image from t).threads t)) (runs.before 4095 more)).1 refl)
+
+-- what is ahead has small numbers: so many blocks may come, and each thread is at such a place
+record IsSmall (image : Shown) (seen : List Block) (m : State) : Type 0 where
+  threads : length image.entries ≤ MAX_THREADS
+  placed : ArePlaced m
+  stamps : length seen + turns_sum image m < 2 ^ 64
+
 module _ (image : Shown) (few : length image.guards ≤ MAX_GUARDS) (seen : List Block) (m : State) (t : ℕ) (s : IsSane image m) (run : HasRun image m t)
     (owners : (k : ℕ) → (m.locks k).owner ≡ owner_by k (last_of (of_lock seen k))) where
   abbrev set : ℕ → Bool
@@ -197,6 +220,28 @@ module _ (image : Shown) (few : length image.guards ≤ MAX_GUARDS) (seen : List
     | false ↦ refl
   ])
 
+  -- its end names a lock of the image, if any
+  end_is : (e : End) → run.end ≡ e → IsEnd e
+  end_is (Wants k) e = (let l = next_known image (to.threads t) k (block_next image m to t run.turns run.end run.runs k e) in omega arith)
+  end_is (Unlocked k) e = (let l = set_known k (block_releases image m to t run.turns run.end run.runs k e) in omega arith)
+  end_is Slept e = tt
+  end_is Cut e = tt
+  end_is Exit e = tt
+  end_is (Fault f) e = tt
+  end_is Spent e = tt
+
+  block_is : IsSmall image seen m → IsBlock block
+  block_is small = record {
+    stamp = (let l = small.stamps in omega arith);
+    thread = (let l = can_thread image m t (run.runs.defined 0 run.runs.some) in let most = small.threads in omega arith);
+    some_turns = (let l = run.runs.some in omega arith);
+    most_turns = turns_most image m to t run.turns run.end run.runs;
+    held = (let l = set_small (length image.guards) set in let below : 2 ^ length image.guards ≤ 2 ^ 32 = pow_mono few in omega (arith, l, below));
+    worker = omega arith;
+    pc = small.placed t;
+    end = end_is run.end refl;
+  }
+
   owners_after : (k : ℕ) → (to.locks k).owner ≡ owner_by k (last_of (of_lock (seen ++ block ∷ []) k))
   owners_after k = owner_after image k seen (block ∷ []) m to s.owners (owners k) (to, block_stands, refl)
 
@@ -221,6 +266,7 @@ record Completes (image : Shown) (seen : List Block) (m : State) : Type 0 where
   tells : TellsAfter image seen m rest last
   complete : IsComplete image last
   order : map (λ (b : Block). b.stamp) rest ≡ range_with_len (length seen) (length rest)
+  numbers : IsSmall image seen m → IsHistoryFrom (length seen) rest
   workers : All (λ (b : Block). b.worker ≡ 0) rest
   obeys : (limit k : ℕ) → ObeysAfter k limit (of_lock seen k) (of_lock rest k)
   passes : (k : ℕ) → PassesOnAfter k (of_lock seen k) (of_lock rest k)
@@ -240,19 +286,30 @@ completes_more : (image : Shown) (few : length image.guards ≤ MAX_GUARDS) (see
     → Completes image (seen ++ block image few seen m t s run owners ∷ []) (reach image m t run.turns) → Completes image seen m
 completes_more image few seen m t s run owners r =
     let b : Block = block image few seen m t s run owners in
+    let more : length (seen ++ b ∷ []) ≡ length seen + 1 = length-append seen (b ∷ []) in
+    let came = reached image m t run.turns run.runs.defined s in
     record {
       rest = b ∷ r.rest;
       last = r.last;
       tells = (reach image m t run.turns, block_stands image few seen m t s run owners, r.tells);
       complete = r.complete;
-      order = ap (λ xs. length seen ∷ xs) (r.order ∙ ap (λ n. range_with_len n (length r.rest)) (length-append seen (b ∷ [])));
+      order = ap (λ xs. length seen ∷ xs) (r.order ∙ ap (λ n. range_with_len n (length r.rest)) more);
+      numbers = λ small. (
+        block_is image few seen m t s run owners small,
+        refl,
+        subst (λ n. IsHistoryFrom n r.rest) more (r.numbers (record {
+          threads = small.threads;
+          placed = placed_reach image m t run.turns small.placed;
+          stamps = (let l = small.stamps in let x = came.short in let some = run.runs.some in omega (arith, l, x, some, more));
+        })),
+      );
       workers = All-cons (λ (c : Block). c.worker ≡ 0) b r.rest refl r.workers;
       obeys = λ limit k. ahead_more (ObeysAfter k limit) seen r.rest b k (λ h p. (follows image few seen m t s run owners limit k h, p)) (r.obeys limit k);
       passes = λ k. ahead_more (PassesOnAfter k) seen r.rest b k (λ h p. (passes image few seen m t s run owners k, p)) (r.passes k);
     }
 
 completes_now : (image : Shown) (seen : List Block) (m : State) → IsComplete image m → Completes image seen m
-completes_now image seen m over = record { rest = []; last = m; tells = refl; complete = over; order = refl; workers = All-nil (λ (b : Block). b.worker ≡ 0); obeys = λ limit k. tt; passes = λ k. tt }
+completes_now image seen m over = record { rest = []; last = m; tells = refl; complete = over; order = refl; numbers = λ small. tt; workers = All-nil (λ (b : Block). b.worker ≡ 0); obeys = λ limit k. tt; passes = λ k. tt }
 
 completes_from : (image : Shown) → length image.guards ≤ MAX_GUARDS → (n : ℕ) (seen : List Block) (m : State) → IsSane image m → ((k : ℕ) → (m.locks k).owner ≡ owner_by k (last_of (of_lock seen k))) → turns_sum image m ≤ n → Completes image seen m
 completes_from image few zero seen m s owners most = elim (next_turn image m s few) [
@@ -271,4 +328,20 @@ completes_from image few (suc n) seen m s owners most = elim (next_turn image m 
 pub complete_history : (image : Shown) (fuel : ℕ) → length image.guards ≤ MAX_GUARDS → CompleteHistory image fuel
 complete_history image fuel few =
     let r = completes_from image few (turns_sum image (start image fuel)) [] (start image fuel) (start_sane image fuel) (λ k. refl) (omega arith) in
-    record { history = r.rest; last = r.last; tells = r.tells; complete = r.complete; order = r.order; workers = r.workers; obeys = r.obeys; passes = r.passes }
+    record {
+      history = r.rest;
+      last = r.last;
+      tells = r.tells;
+      complete = r.complete;
+      order = r.order;
+      numbers = λ sized. r.numbers (record {
+        threads = sized.threads;
+        placed = placed_start image fuel sized.entries;
+        stamps = (let f = first_turns image fuel in let n = sized.threads in let x = sized.most_fuel in
+            let most : length image.entries * (fuel + 1) ≤ MAX_THREADS * (MAX_FUEL + 1) = mul-le (length image.entries) (fuel + 1) MAX_THREADS (MAX_FUEL + 1) n (omega arith) in
+            omega (arith, f, n, x, most));
+      });
+      workers = r.workers;
+      obeys = r.obeys;
+      passes = r.passes;
+    }

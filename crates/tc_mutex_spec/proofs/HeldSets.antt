@@ -1,9 +1,10 @@
 -- Sets of locks as numbers: what is in the set of a test.
-use Rattle.std.proofs.Common.{◌≡◌, ◌≢◌, ℕ, zero, suc, ◌^◌, ◌<◌, Bool, true, false, not, ◌&&◌, ◌||◌, ◌==◌, bit_and, bit_or, refl, sym, ap, ◌∙◌, arith, inl, inr}
+use Rattle.std.proofs.Common.{◌≡◌, ◌≢◌, ℕ, zero, suc, ◌+◌, ◌*◌, ◌^◌, ◌<◌, Bool, true, false, not, ◌&&◌, ◌||◌, ◌==◌, bit_and, bit_or, refl, sym, ap, ◌∙◌, arith, inl, inr}
 use Rattle.std.specs.Prelude.{nat_lt, if◌then◌else◌}
 use Rattle.std.specs.Int.{bit_at}
-use Rattle.std.specs.Int.Bits.{bit_xor, xor_add_and, and_self}
+use Rattle.std.specs.Int.Bits.{bit_xor, xor_add_and, and_self, or_shifted_r}
 use Rattle.std.proofs.lemmas.Bool.Decides.{eqb_tells, nat_tests}
+use Rattle.std.proofs.Math.Nat.{pow-suc}
 use Rattle.std.proofs.lemmas.Nat.{and_assoc}
 use Rattle.std.proofs.lemmas.Nat.Bits.{and_pow, bit_at-zero, bit_at_and, bit_at_or, bit_at_xor, bit_at-lt, bit_at-pow_same, bit_at-pow_other}
 use Rattle.tc_isa.specs.Sets.{has, with_lock, without_lock}
@@ -69,3 +70,14 @@ set_is n test below k = set_has n test k ∙ go (test k) refl
     go : (v : Bool) → test k ≡ v → (nat_lt k n && test k) ≡ test k
     go true e = (let in_range : nat_lt k n ≡ true = (let lt = below k e in grind (arith, nat_tests)) in ap (λ b. b && test k) in_range)
     go false e = ap (λ b. nat_lt k n && b) e ∙ (elim (nat_lt k n) as (λ b. (b && false) ≡ false) [ true ↦ refl | false ↦ refl ]) ∙ sym e
+
+pub set_small : (n : ℕ) (test : ℕ → Bool) → set_below n test < 2 ^ n
+set_small zero test = omega arith
+set_small (suc n) test = go (test n) (set_small n test)
+  where
+    go : (v : Bool) → set_below n test < 2 ^ n → (if v then with_lock (set_below n test) n else set_below n test) < 2 ^ suc n
+    go true less =
+        let joined : bit_or (set_below n test) (1 * 2 ^ n) ≡ 1 * 2 ^ n + set_below n test = or_shifted_r 1 n (set_below n test) less in
+        let whole : bit_or (set_below n test) (2 ^ n) ≡ 2 ^ n + set_below n test = ap (λ b. bit_or (set_below n test) b) (let e : 2 ^ n ≡ 1 * 2 ^ n = omega arith in e) ∙ joined ∙ (omega arith) in
+        omega (arith, whole, less, pow-suc 2 n)
+    go false less = omega (arith, less, pow-suc 2 n)

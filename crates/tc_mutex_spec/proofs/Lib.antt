@@ -20,4 +20,5 @@ pub mod Histories
 pub mod HeldSets
 pub mod Sums
 pub mod Progress
+pub mod Placed
 pub mod Completing

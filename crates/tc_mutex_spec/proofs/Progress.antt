@@ -42,7 +42,7 @@ first_turns image fuel = sums_most (λ u. left ((start image fuel).threads u)) (
 
 -- ---- what holds in every state that turns come to
 
-false_true : (b : Bool) → b ≡ false → b ≡ true → ⊥
+pub false_true : (b : Bool) → b ≡ false → b ≡ true → ⊥
 false_true b e f = cc
 
 pub record IsSane (image : Shown) (m : State) : Type 0 where
