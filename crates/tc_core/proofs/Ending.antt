@@ -8,10 +8,10 @@ use Rattle.tc_turn.specs.Turn.{next_lock}
 use Rattle.tc_mutex_spec.proofs.Sums.{sum_to, sums_le, sums_one, sums_more, sums_most, at_most}
 use Rattle.tc_core.specs.declared.event.Event.{Event}
 use Rattle.tc_core.specs.declared.event.Event.TheVariants.{Claim, Turn, Commit, Enter, Take, Ship, Adopt, Grant, Leave, Free, HandBack, Park, Finish}
-use Rattle.tc_core.specs.Core.{Core, Limits, Course, ThreadPlace, Ready, Waiting, Parked, Done, At, is_claimable, with_custody, with_place, first_core}
+use Rattle.tc_core.specs.Core.{Core, Limits, Course, ThreadPlace, Ready, Waiting, Parked, Done, At, is_claimable, is_number, with_custody, with_place, first_core}
 use Rattle.tc_core.specs.Events.{is_enabled, effect, is_worker, is_thread, course_on, course_past, end_here, passed_to}
 use Rattle.tc_core.specs.Stories.{AreEnabled, Story, after_all, last_core}
-use Rattle.tc_core.specs.Alive.{is_work, work_of, most_onward, is_back, backs_of, given_back, rest_on, NoneInVain, most_events, IsOver, CanGo, Step, CanEnd}
+use Rattle.tc_core.specs.Alive.{is_work, work_of, most_onward, is_back, backs_of, given_back, worked_on, most_events, IsOver, CanGo, Step, CanEnd}
 use Rattle.tc_core.proofs.Quiet.{both, pick_mine, pick_other, changed_same}
 use Rattle.tc_core.proofs.Known.{known}
 use Rattle.tc_core.proofs.Work.{one_if, one_most, left_of, takes, left_in}
@@ -156,6 +156,15 @@ can_end s can =
 
 -- ---- nothing in vain
 
+-- which threads rest: they were given back, and nothing was done with them since
+abbrev pub rest_on : (ℕ → Bool) → Event → ℕ → Bool
+rest_on rests e t = if is_number (given_back e) t then true else if is_number (worked_on e) t then false else rests t
+
+-- no thread that rests is given back again
+abbrev pub NoneAgain : (ℕ → Bool) → List Event → Type 0
+NoneAgain rests [] = Unit {0}
+NoneAgain rests (e ∷ es) = ((t : ℕ) → given_back e ≡ Some t → rests t ≡ false) × NoneAgain (rest_on rests e) es
+
 rest_sum : Shown → (ℕ → Bool) → ℕ
 rest_sum image rests = sum_to (λ t. one_if (rests t)) (length image.entries)
 
@@ -199,13 +208,13 @@ rest_most : (image : Shown) (rests : ℕ → Bool) → rest_sum image rests ≤ 
 unfolding rest_sum
 rest_most image rests = (let h = sums_most (λ t. one_if (rests t)) 1 (length image.entries) (λ t. one_most (rests t)) in omega (arith, h))
 
-few_backs : (image : Shown) (limits : Limits) (es : List Event) (c : Core) (rests : ℕ → Bool) → AreEnabled image limits c es → NoneInVain rests es → backs_of es + rest_sum image rests ≤ work_of es + length image.entries
+few_backs : (image : Shown) (limits : Limits) (es : List Event) (c : Core) (rests : ℕ → Bool) → AreEnabled image limits c es → NoneAgain rests es → backs_of es + rest_sum image rests ≤ work_of es + length image.entries
 few_backs image limits [] c rests on none = (let h = rest_most image rests in omega (arith, h))
 few_backs image limits (e ∷ es) c rests on none =
     (let r = few_backs image limits es (effect image c e) (rest_on rests e) on.1 none.1 in let h = rest_step image limits c rests e on.0 none.0 in omega (arith, r, h))
 
-pub busy : (s : Story) → NoneInVain (λ t. false) s.events → length s.events ≤ most_events s
-busy s none =
+pub few_events : (s : Story) → NoneAgain (λ t. false) s.events → length s.events ≤ most_events s
+few_events s none =
     let all = ceases (record { image = s.image; limits = s.limits; fuel = s.fuel; events = []; enabled = tt }) s.events s.enabled in
     let backs = few_backs s.image s.limits s.events (first_core s.image s.fuel) (λ t. false) s.enabled none in
     let work = left_in s in

@@ -17,4 +17,4 @@ pub mod Work
 pub mod Standing
 pub mod Moves
 pub mod Ending
-pub mod Claims
+pub mod Backs

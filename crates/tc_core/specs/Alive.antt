@@ -1,6 +1,6 @@
 -- What goes on: how long a thread waits, how much there is to do, and that all can come to an end.
 use Rattle.std.specs.Prelude.{◌≡◌, ℕ, ◌+◌, ◌*◌, ◌<◌, ◌≤◌, Bool, true, false, nat_eq, if◌then◌else◌, List, [], ◌∷◌, ◌++◌, length, Option, Some, None}
-use Rattle.std.specs.List.{IsDistinct}
+use Rattle.std.specs.List.{IsDistinct, list_any}
 use Rattle.tc_elf.specs.Shown.{Shown}
 use Rattle.tc_elf.specs.declared.limits.TheConstants.{MAX_GUARDS}
 use Rattle.tc_turn.specs.Turn.{is_running}
@@ -122,16 +122,20 @@ worked_on (Grant w t lock) = Some t
 worked_on (Finish w t) = Some t
 worked_on _ = None
 
--- which threads rest: they were given back, and nothing was done with them since
-abbrev pub rest_on : (ℕ → Bool) → Event → ℕ → Bool
-rest_on rests e t = if is_number (given_back e) t then true else if is_number (worked_on e) t then false else rests t
+-- something is done with the thread
+abbrev pub is_worked_on : List Event → ℕ → Bool
+is_worked_on events t = list_any (λ e. is_number (worked_on e) t) events
 
--- no thread that rests is given back again
-abbrev pub NoneInVain : (ℕ → Bool) → List Event → Type 0
-NoneInVain rests [] = Unit {0}
-NoneInVain rests (e ∷ es) = ((t : ℕ) → given_back e ≡ Some t → rests t ≡ false) × NoneInVain (rest_on rests e) es
+-- between one HandBack or Park of a thread and another one something is done with it
+abbrev pub NoneInVain : List Event → Type 0
+NoneInVain events =
+    (thread : ℕ) (before between after : List Event) (back again : Event)
+    → events ≡ before ++ back ∷ between ++ again ∷ after
+    → given_back back ≡ Some thread
+    → given_back again ≡ Some thread
+    → is_worked_on between thread ≡ true
 
--- between a Claim of a thread and a HandBack or Park of it, at any later place, the thread takes a turn
+-- between a Claim of a thread and a HandBack or Park of it that comes later the thread takes a turn
 abbrev pub AreClaimsUsed : List Event → Type 0
 AreClaimsUsed events =
     (worker thread : ℕ) (before between after : List Event) (back : Event)

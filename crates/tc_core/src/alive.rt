@@ -1,6 +1,6 @@
 //! What goes on, whatever the workers do.
 
-ghost use Rattle.std.specs.Prelude.{◌⊎◌, ◌+◌, ◌*◌, ◌≤◌, false, List, length};
+ghost use Rattle.std.specs.Prelude.{◌⊎◌, ◌+◌, ◌*◌, ◌≤◌, List, length};
 ghost use Rattle.tc_core.specs.declared.event.Event.{Event};
 ghost use Rattle.tc_core.specs.Stories.{Story, AreEnabled, last_core};
 ghost use Rattle.tc_core.specs.Alive.{Wait, IsBrief, IsBounded, IsOver, CanGo, Step, backs_of, most_onward, CanEnd, NoneInVain, AreClaimsUsed, most_events};
@@ -23,7 +23,7 @@ pub fn alive()
         → length events ≤ most_onward s + 2 * backs_of events }
     // Where no thread is given back again before something was done with it, so many events come at
     // most: who gives none back in vain, and does something where something may come, comes to the end.
-    ensures busy { (s : Story) → NoneInVain (λ t. false) s.events → length s.events ≤ most_events s }
+    ensures busy { (s : Story) → NoneInVain s.events → length s.events ≤ most_events s }
     // So it is where each thread that is claimed takes a turn before it is given back.
     ensures claims { (s : Story) → AreClaimsUsed s.events → length s.events ≤ most_events s }
     // So every list of events can go on to the end of all.

@@ -10,11 +10,12 @@
 //! not what the workers did: the events are found from the history.
 //!
 //! - `specs/Written.antt`: what events write, and which histories keep the rules.
-//! - `realization`: the law.
+//! - `realization`: the law. `existence`: that there is such a history of every guest.
 //! - `writer`: the same as a program, `Writer`, over tc_core's `Core`; `specs/View.antt` says what
 //!   it stands for.
 #![tactic(auto)]
 
+pub mod existence;
 pub mod realization;
 #[cfg(test)]
 mod tests;

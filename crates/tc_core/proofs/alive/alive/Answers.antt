@@ -1,7 +1,7 @@
 use Rattle.tc_core.proofs.Waiting.{is_brief}
 use Rattle.tc_core.proofs.Work.{is_bounded}
-use Rattle.tc_core.proofs.Ending.{goes, ceases, busy, can_end}
-use Rattle.tc_core.proofs.Claims.{claims}
+use Rattle.tc_core.proofs.Ending.{goes, ceases, can_end}
+use Rattle.tc_core.proofs.Backs.{busy, claims}
 use Rattle.tc_core.proofs.alive.alive.Goals as goal
 
 pub returns-clause-waits : goal.returns-clause-waits

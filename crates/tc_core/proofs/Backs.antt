@@ -1,20 +1,73 @@
--- Where each thread that is claimed takes a turn before it is given back, no thread is given back in vain.
+-- Where no thread is given back in vain, or each one that is claimed takes a turn first, so many events come at most.
 use Rattle.std.proofs.Common.{◌≡◌, ◌≢◌, ℕ, ◌≤◌, Bool, true, false, ◌||◌, ◌==◌, List, [], ◌∷◌, ◌++◌, length, refl, sym, ap, subst, ◌∙◌, append_assoc, inl, inr}
 use Rattle.std.specs.Prelude.{Some, if◌then◌else◌}
+use Rattle.std.proofs.lemmas.Bool.{false_from_ne_true}
 use Rattle.std.proofs.lemmas.Bool.Decides.{eqb_tells}
 use Rattle.tc_elf.specs.Shown.{Shown}
 use Rattle.tc_mutex_spec.proofs.Progress.{false_true}
 use Rattle.tc_core.specs.declared.event.Event.{Event}
 use Rattle.tc_core.specs.declared.event.Event.TheVariants.{Claim, Turn, Commit, Enter, Take, Ship, Adopt, Grant, Leave, Free, HandBack, Park, Finish}
 use Rattle.tc_core.specs.Lines.{is_in_line}
-use Rattle.tc_core.specs.Core.{Core, Limits, Course, Ready, Parked, is_at, first_core}
+use Rattle.tc_core.specs.Core.{Core, Limits, Course, Ready, Parked, is_at, is_number, first_core}
 use Rattle.tc_core.specs.Events.{is_enabled, effect, has_thread, may_go_back}
 use Rattle.tc_core.specs.Stories.{AreEnabled, Story, turn_of, turns_of}
-use Rattle.tc_core.specs.Alive.{given_back, rest_on, NoneInVain, AreClaimsUsed, most_events}
+use Rattle.tc_core.specs.Alive.{given_back, worked_on, is_worked_on, NoneInVain, AreClaimsUsed, most_events}
 use Rattle.tc_core.proofs.Quiet.{both, pick_other}
-use Rattle.tc_core.proofs.Work.{thread_at}
+use Rattle.tc_core.proofs.Work.{number_is, thread_at}
 use Rattle.tc_core.proofs.Standing.{some_eq}
-use Rattle.tc_core.proofs.Ending.{busy}
+use Rattle.tc_core.proofs.Ending.{rest_on, NoneAgain, few_events}
+
+-- ---- something is done with each thread before it is given back again
+
+-- the thread was given back in what came so far, and nothing was done with it since
+record IsBack (came : List Event) (t : ℕ) : Type 0 where
+  back : Event
+  before : List Event
+  between : List Event
+  all : came ≡ before ++ back ∷ between
+  gave : given_back back ≡ Some t
+  none : is_worked_on between t ≡ false
+
+worked_more : (es : List Event) (e : Event) (t : ℕ) → is_number (worked_on e) t ≡ false → is_worked_on es t ≡ false → is_worked_on (es ++ e ∷ []) t ≡ false
+worked_more [] e t out none = ap (λ b. b || false) out
+worked_more (x ∷ es) e t out none = (elim (is_number (worked_on x) t) as (λ b. (b || is_worked_on es t) ≡ false → (b || is_worked_on (es ++ e ∷ []) t) ≡ false) [
+  | true ↦ λ h. absurd (cc)
+  | false ↦ λ h. worked_more es e t out h
+]) none
+
+-- every thread that rests was
+abbrev RestBack : (ℕ → Bool) → List Event → Type 0
+RestBack rests came = (t : ℕ) → rests t ≡ true → IsBack came t
+
+back_after : (rests : ℕ → Bool) (came : List Event) (e : Event) → RestBack rests came → RestBack (rest_on rests e) (came ++ e ∷ [])
+back_after rests came e inv t r = go (is_number (given_back e) t) (is_number (worked_on e) t) refl refl r
+  where
+    still : is_number (worked_on e) t ≡ false → IsBack came t → IsBack (came ++ e ∷ []) t
+    still out is = record {
+      back = is.back;
+      before = is.before;
+      between = is.between ++ e ∷ [];
+      all = ap (λ xs. xs ++ e ∷ []) is.all ∙ append_assoc is.before (is.back ∷ is.between) (e ∷ []);
+      gave = is.gave;
+      none = worked_more is.between e t out is.none;
+    }
+
+    go : (b w : Bool) → is_number (given_back e) t ≡ b → is_number (worked_on e) t ≡ w → (if b then true else if w then false else rests t) ≡ true → IsBack (came ++ e ∷ []) t
+    go true w g out h = record { back = e; before = came; between = []; all = refl; gave = number_is (given_back e) t g; none = refl }
+    go false true g out h = absurd (cc)
+    go false false g out h = still out (inv t h)
+
+none_again : (es : List Event) (rests : ℕ → Bool) (came all : List Event) → came ++ es ≡ all → NoneInVain all → RestBack rests came → NoneAgain rests es
+none_again [] rests came all whole used inv = tt
+none_again (e ∷ es) rests came all whole used inv = (
+  λ t back. false_from_ne_true (rests t) (λ r. (let is = inv t r in false_true _ is.none (used t is.before is.between es is.back e (sym whole ∙ ap (λ xs. xs ++ e ∷ es) is.all) is.gave back))),
+  none_again es (rest_on rests e) (came ++ e ∷ []) all (append_assoc came (e ∷ []) es ∙ whole) used (back_after rests came e inv),
+)
+
+pub busy : (s : Story) → NoneInVain s.events → length s.events ≤ most_events s
+busy s used = few_events s (none_again s.events (λ t. false) [] s.events refl used (λ t r. absurd (cc)))
+
+-- ---- each thread takes a turn after it is claimed
 
 -- the thread was claimed in what came so far, and took no turn since
 record IsClaimed (came : List Event) (t : ℕ) : Type 0 where
@@ -106,22 +159,17 @@ back_at image limits c e t on is = absurd (cc)
 
 not_yet : (image : Shown) (limits : Limits) (c : Core) (rests : ℕ → Bool) (came es all : List Event) (e : Event) → came ++ e ∷ es ≡ all → AreClaimsUsed all → is_enabled image limits c e ≡ true → RestClaimed c rests came
     → (t : ℕ) → given_back e ≡ Some t → rests t ≡ false
-not_yet image limits c rests came es all e whole used on inv t back = go (rests t) refl
-  where
-    go : (b : Bool) → rests t ≡ b → rests t ≡ false
-    go false r = r
-    go true r = absurd (
-        let at = back_at image limits c e t on back in
-        let is = inv t at.0 r at.1 in
-        let split = sym whole ∙ ap (λ xs. xs ++ e ∷ es) is.all in
-        false_true _ is.none (used is.worker t is.before is.between es e split back))
+not_yet image limits c rests came es all e whole used on inv t back = false_from_ne_true (rests t) (λ r. (
+    let at = back_at image limits c e t on back in
+    let is = inv t at.0 r at.1 in
+    false_true _ is.none (used is.worker t is.before is.between es e (sym whole ∙ ap (λ xs. xs ++ e ∷ es) is.all) back)))
 
-none_in_vain : (image : Shown) (limits : Limits) (es : List Event) (c : Core) (rests : ℕ → Bool) (came all : List Event) → came ++ es ≡ all → AreClaimsUsed all → AreEnabled image limits c es → RestClaimed c rests came → NoneInVain rests es
-none_in_vain image limits [] c rests came all whole used on inv = tt
-none_in_vain image limits (e ∷ es) c rests came all whole used on inv = (
+claimed_again : (image : Shown) (limits : Limits) (es : List Event) (c : Core) (rests : ℕ → Bool) (came all : List Event) → came ++ es ≡ all → AreClaimsUsed all → AreEnabled image limits c es → RestClaimed c rests came → NoneAgain rests es
+claimed_again image limits [] c rests came all whole used on inv = tt
+claimed_again image limits (e ∷ es) c rests came all whole used on inv = (
   not_yet image limits c rests came es all e whole used on.0 inv,
-  none_in_vain image limits es (effect image c e) (rest_on rests e) (came ++ e ∷ []) all (append_assoc came (e ∷ []) es ∙ whole) used on.1 (claimed_after image c rests came inv e),
+  claimed_again image limits es (effect image c e) (rest_on rests e) (came ++ e ∷ []) all (append_assoc came (e ∷ []) es ∙ whole) used on.1 (claimed_after image c rests came inv e),
 )
 
 pub claims : (s : Story) → AreClaimsUsed s.events → length s.events ≤ most_events s
-claims s used = busy s (none_in_vain s.image s.limits s.events (first_core s.image s.fuel) (λ t. false) [] s.events refl used s.enabled (λ t v r at. absurd (cc)))
+claims s used = few_events s (claimed_again s.image s.limits s.events (first_core s.image s.fuel) (λ t. false) [] s.events refl used s.enabled (λ t v r at. absurd (cc)))
