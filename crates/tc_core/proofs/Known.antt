@@ -45,7 +45,7 @@ of_pass image limits c w t lock e = (let p = both (has_lock image limits c w loc
 of_back : (image : Shown) (limits : Limits) (c : Core) (w t : ℕ) → may_go_back image limits c w t ≡ true → t < length image.entries
 of_back image limits c w t e = of_thread image limits c w t (both (has_thread image limits c w t) _ e).0
 
-known : (image : Shown) (limits : Limits) (c : Core) (e : Event) → is_enabled image limits c e ≡ true → IsKnown image limits c e
+pub known : (image : Shown) (limits : Limits) (c : Core) (e : Event) → is_enabled image limits c e ≡ true → IsKnown image limits c e
 unfolding is_enabled
 known image limits c (Claim w t) on = thread_in image t (both (is_thread image t) _ (both (is_worker limits w) _ on).1).0
 known image limits c (Turn w t) on = of_thread image limits c w t (both (has_thread image limits c w t) _ on).0

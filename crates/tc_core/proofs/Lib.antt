@@ -11,3 +11,10 @@ pub mod Numbers
 pub mod Parts
 pub mod Known
 pub mod Tracked
+pub mod Lines
+pub mod Waiting
+pub mod Work
+pub mod Standing
+pub mod Moves
+pub mod Ending
+pub mod Backs

@@ -7,7 +7,7 @@ use Rattle.std.proofs.lemmas.Map.Steps.{length-le_from_distinct_below}
 use Rattle.tc_core.specs.Lines.{is_in_line, rest_of}
 use Rattle.tc_core.specs.View.{AreBelow, IsLine}
 
-is_false : (a b : Bool) → (a || b) ≡ false → (a ≡ false) × (b ≡ false)
+pub is_false : (a b : Bool) → (a || b) ≡ false → (a ≡ false) × (b ≡ false)
 is_false true b e = absurd (cc)
 is_false false b e = (refl, e)
 

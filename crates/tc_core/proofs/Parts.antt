@@ -91,7 +91,7 @@ turned_core image v t next courses custodies lock end is =
     λ k. is.custody k ∙ ap (λ o. custody_on o t k (custody_at v.custodies k)) is.taken in
     λ i. record { machine = is.machine i; course = λ k. course k i; custody = λ k. custody k i }
 
-on_line : (o : Option ℕ) (t k : ℕ) (x : Custody) → (custody_on o t k x).line ≡ x.line
+pub on_line : (o : Option ℕ) (t k : ℕ) (x : Custody) → (custody_on o t k x).line ≡ x.line
 on_line None t k x = refl
 on_line (Some lock) t k x = elim (k == lock) as (λ b. (if b then record x { place = With t } else x).line ≡ x.line) [ true ↦ refl | false ↦ refl ]
 
@@ -156,7 +156,7 @@ past_at : (w t : ℕ) (held : Bool) (r : Option Release) (o : Option Custody) �
 past_at w t held r None = refl
 past_at w t held r (Some x) = refl
 
-past_line : (w t : ℕ) (held : Bool) (r : Option Release) (x : Custody) → (custody_past w t held r x).line ≡ x.line
+pub past_line : (w t : ℕ) (held : Bool) (r : Option Release) (x : Custody) → (custody_past w t held r x).line ≡ x.line
 past_line w t held r x = elim (is_number (with_of x.place) t && not held) as (λ b. (if b then record x { place = Loose w; last = r } else x).line ≡ x.line) [ true ↦ refl | false ↦ refl ]
 
 pub past_became : (image : Shown) (v now : CoreView) (w t : ℕ) (courses : List Course) (custodies : List Custody) → v ≡ now → HasParts image now → IsPast v w t courses custodies

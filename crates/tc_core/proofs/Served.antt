@@ -1,5 +1,5 @@
 -- Each entry into a line is given the lock once at most, and takes it once at most, in the order of entry.
-use Rattle.std.proofs.Common.{◌≡◌, ◌≢◌, ℕ, Bool, true, false, not, ◌&&◌, ◌==◌, List, [], ◌∷◌, ◌++◌, refl, sym, ap, subst, ◌∙◌, append_assoc, append-nil, inl, inr}
+use Rattle.std.proofs.Common.{◌≡◌, ◌≢◌, ◌⊎◌, ℕ, Bool, true, false, not, ◌&&◌, ◌==◌, List, [], ◌∷◌, ◌++◌, refl, sym, ap, subst, ◌∙◌, append_assoc, append-nil, inl, inr}
 use Rattle.std.specs.Prelude.{Option, Some, None, if◌then◌else◌}
 use Rattle.std.proofs.lemmas.Bool.Decides.{eqb_tells}
 use Rattle.tc_elf.specs.Shown.{Shown}
@@ -10,7 +10,7 @@ use Rattle.tc_core.specs.declared.place.LockPlace.TheVariants as place
 use Rattle.tc_core.specs.Lines.{is_first, is_second, is_single, rest_of, IsFrontOf}
 use Rattle.tc_core.specs.Core.{Core, Limits, Custody, LockPlace, Release, With, Granted, Loose, is_free_lock, is_loose, is_granted, is_number, with_of, first_core}
 use Rattle.tc_core.specs.Events.{is_enabled, effect, has_thread, has_lock, is_lock, is_thread, is_between, may_take, may_pass, adopts, custody_on, custody_past, passed_to}
-use Rattle.tc_core.specs.Stories.{AreEnabled, Story, lock_by, locks_by, locks_of, enter_of, enters_of, grant_of, grants_of}
+use Rattle.tc_core.specs.Stories.{AreEnabled, after_all, Story, lock_by, locks_by, locks_of, enter_of, enters_of, grant_of, grants_of}
 use Rattle.tc_core.proofs.Quiet.{both, pick_mine, pick_other, lock_is_loose}
 use Rattle.tc_core.proofs.Erasure.{not_true, may_turn}
 
@@ -281,3 +281,39 @@ served_all image limits lock (e ∷ es) c granted locked entered s on =
 pub in_order : (s : Story) (lock : ℕ) → IsFrontOf (grants_of lock s.events) (enters_of lock s.events) × IsFrontOf (locks_of lock s) (enters_of lock s.events)
 in_order s lock =
     served_all s.image s.limits lock s.events (first_core s.image s.fuel) [] [] [] (record { gone = []; all = refl; stage = (refl, refl, refl) }) s.enabled
+
+-- ---- how far a line is after a list of events
+
+pub served_after : (image : Shown) (limits : Limits) (lock : ℕ) (es : List Event) (c : Core) (granted locked entered : List ℕ) → Served (c.custody lock) granted locked entered → AreEnabled image limits c es
+    → Served ((after_all image c es).custody lock) (granted ++ grants_of lock es) (locked ++ locks_by image lock c es) (entered ++ enters_of lock es)
+served_after image limits lock [] c granted locked entered s on = stay s
+served_after image limits lock (e ∷ es) c granted locked entered s on =
+    let g = grant_of lock e in let l = lock_by image lock c e in let n = enter_of lock e in
+    served_by refl (sym (append_assoc granted g (grants_of lock es))) (sym (append_assoc locked l (locks_by image lock (effect image c e) es))) (sym (append_assoc entered n (enters_of lock es)))
+    (served_after image limits lock es (effect image c e) (granted ++ g) (locked ++ l) (entered ++ n) (serves image limits lock c granted locked entered s e on.0) on.1)
+
+-- those that entered and were not given the lock yet are the line, or the line without its first
+pub record Owed (x : Custody) (granted entered : List ℕ) : Type 0 where
+  pub rest : List ℕ
+  pub all : granted ++ rest ≡ entered
+  pub line : (rest ≡ x.line) ⊎ (rest ≡ rest_of x.line)
+
+pub owed : (x : Custody) (granted locked entered : List ℕ) → Served x granted locked entered → Owed x granted entered
+owed x granted locked entered s = go x.place x.left s.stage
+  where
+    none_given : granted ≡ s.gone → Owed x granted entered
+    none_given e = record { rest = x.line; all = ap (λ xs. xs ++ x.line) e ∙ sym s.all; line = inl refl }
+
+    first_given : (t : ℕ) → is_first x.line t ≡ true → granted ≡ s.gone ++ t ∷ [] → Owed x granted entered
+    first_given t first e = record {
+      rest = rest_of x.line;
+      all = ap (λ xs. xs ++ rest_of x.line) e ∙ append_assoc s.gone (t ∷ []) (rest_of x.line) ∙ ap (λ xs. s.gone ++ xs) (sym (first_is x.line t first)) ∙ sym s.all;
+      line = inr refl;
+    }
+
+    go : (at : LockPlace) (left : Bool) → Stage at left x.line s.gone granted locked → Owed x granted entered
+    go place.Free left st = none_given st.1
+    go (Granted t) left st = first_given t st.1 st.2
+    go (With t) left st = first_given t st.1 st.2
+    go (Loose w) true st = none_given st.0
+    go (Loose w) false st = first_given st.0 st.1 st.2

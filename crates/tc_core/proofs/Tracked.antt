@@ -1,13 +1,9 @@
 -- The locks of a thread's block are those that are with it.
-use Rattle.std.proofs.Common.{◌≡◌, ◌≢◌, ℕ, ◌+◌, ◌^◌, Bool, true, false, not, ◌&&◌, ◌||◌, ◌==◌, List, [], ◌∷◌, bit_and, bit_or, refl, sym, ap, subst, ◌∙◌, arith, inl, inr}
+use Rattle.std.proofs.Common.{◌≡◌, ◌≢◌, ℕ, ◌+◌, Bool, true, false, not, ◌&&◌, ◌||◌, ◌==◌, List, [], ◌∷◌, refl, sym, ap, subst, ◌∙◌, inl, inr}
 use Rattle.std.specs.Prelude.{Option, Some, None, if◌then◌else◌}
-use Rattle.std.specs.Int.{bit_at}
-use Rattle.std.specs.Int.Bits.{bit_xor, xor_add_and, and_self}
 use Rattle.std.proofs.lemmas.Bool.Decides.{eqb_tells}
-use Rattle.std.proofs.lemmas.Nat.{and_assoc}
-use Rattle.std.proofs.lemmas.Nat.Bits.{and_pow, bit_at-zero, bit_at_and, bit_at_or, bit_at_xor, bit_at-lt, bit_at-pow_same, bit_at-pow_other}
 use Rattle.tc_isa.specs.Registers.{Registers}
-use Rattle.tc_isa.specs.Sets.{has, with_lock, without_lock}
+use Rattle.tc_isa.specs.Sets.{has, without_lock}
 use Rattle.tc_isa.specs.declared.limits.TheConstants.{MAX_TURNS}
 use Rattle.tc_elf.specs.Shown.{Shown}
 use Rattle.tc_exec.specs.Calls.{answered}
@@ -24,6 +20,7 @@ use Rattle.tc_turn.proofs.Turns.{act_takes, taken_was}
 use Rattle.tc_mutex_spec.specs.Machine.{State, after}
 use Rattle.tc_mutex_spec.proofs.Local.{after_thread, turn_apart}
 use Rattle.tc_mutex_spec.proofs.BlocksAlike.{covers_block}
+pub use Rattle.tc_mutex_spec.proofs.HeldSets.{none_has, with_has, without_has}
 use Rattle.tc_core.specs.declared.event.Event.{Event}
 use Rattle.tc_core.specs.declared.event.Event.TheVariants.{Turn, Commit}
 use Rattle.tc_core.specs.Core.{Core, Limits, Course, Custody, Release, With, Loose, is_number, with_of, first_core}
@@ -39,34 +36,6 @@ use Rattle.tc_core.proofs.Parts.{no_end}
 pub record Tracks (c : Core) : Type 0 where
   pub with : (t k : ℕ) → has (c.course t).held k ≡ is_number (with_of (c.custody k).place) t
   pub kept : (t k : ℕ) → has (held_past (c.course t).held (c.course t).ended) k ≡ (c.machine.threads t).held k
-
--- ---- sets of locks
-
-none_has : (k : ℕ) → has 0 k ≡ false
-none_has k = ap (λ n. n == 1) (bit_at-zero k)
-
-pub with_has : (n lock k : ℕ) → has (with_lock n lock) k ≡ ((k == lock) || has n k)
-with_has n lock k = elim (eqb_tells k lock) [
-  | inl e ↦ rw (e.0, e.1) (ap (λ b. b == 1) (let one : bit_at (bit_or n (2 ^ lock)) lock ≡ 1 = omega (arith, bit_at_or n (2 ^ lock) lock, bit_at-pow_same lock, bit_at-lt n lock) in one))
-  | inr e ↦ rw (e.0) (ap (λ b. b == 1) (let same : bit_at (bit_or n (2 ^ lock)) k ≡ bit_at n k = omega (arith, bit_at_or n (2 ^ lock) k, bit_at-pow_other lock k e.1) in same))
-]
-
--- a bit that is taken away
-less_is : (n lock : ℕ) → without_lock n lock ≡ bit_xor n (bit_and n (2 ^ lock))
-less_is n lock =
-    let twice : bit_and n (bit_and n (2 ^ lock)) ≡ bit_and n (2 ^ lock) = sym (and_assoc (2 ^ lock) n n) ∙ ap (λ x. bit_and x (2 ^ lock)) (and_self n) in
-    omega (arith, xor_add_and n (bit_and n (2 ^ lock)), twice, and_pow n lock)
-
-without_has : (n lock k : ℕ) → has (without_lock n lock) k ≡ (not (k == lock) && has n k)
-without_has n lock k =
-    let bits = bit_at_xor n (bit_and n (2 ^ lock)) k in
-    let inner = bit_at_and n (2 ^ lock) k in
-    ap (λ x. has x k) (less_is n lock) ∙ (elim (eqb_tells k lock) [
-      | inl e ↦ (let zero : bit_at (bit_xor n (bit_and n (2 ^ lock))) k ≡ 0 = (let p : bit_at (2 ^ lock) k ≡ 1 = ap (bit_at (2 ^ lock)) e.1 ∙ bit_at-pow_same lock in omega (arith, bits, inner, p, bit_at-lt n k)) in
-          rw (e.0) (ap (λ b. b == 1) zero))
-      | inr e ↦ (let same : bit_at (bit_xor n (bit_and n (2 ^ lock))) k ≡ bit_at n k = omega (arith, bits, inner, bit_at-pow_other lock k e.1, bit_at-lt n k) in
-          rw (e.0) (ap (λ b. b == 1) same))
-    ])
 
 -- ---- a turn
 

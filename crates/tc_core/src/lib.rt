@@ -12,10 +12,13 @@
 //! - `event`: the events. `place`: where threads and locks are. `specs/Core.antt`: the state.
 //! - `theorem`: the theorem. `specs/Stories.antt` has the lists of events, `specs/Theorem.antt`
 //!   what they come to.
+//! - `alive`: that a thread waits for few sections, that there is only so much to do, and that every
+//!   list of events can go on to the end of all; `specs/Alive.antt` has the words.
 //! - `machine`: the same as a program, `Core`, whose `step` answers whether the event was enabled;
 //!   `line`, `courses` and `custodies` are its parts, and `specs/View.antt` says what it stands for.
 #![tactic(auto)]
 
+pub mod alive;
 mod courses;
 mod custodies;
 pub mod event;

@@ -1,7 +1,8 @@
 //! The pure machine as a program.
 
-ghost use Rattle.std.specs.Prelude.{◌≡◌, ◌<◌, IfOk, IfSome, length, slice_get};
+ghost use Rattle.std.specs.Prelude.{◌≡◌, ◌<◌, ◌&&◌, IfOk, IfSome, length, slice_get};
 ghost use Rattle.std.specs.Option.{option_map};
+ghost use Rattle.tc_turn.specs.Turn.{next_lock};
 ghost use Rattle.tc_core.specs.Core as core;
 ghost use Rattle.tc_core.specs.Events as events;
 ghost use Rattle.tc_core.specs.View.{core_of, limits_of, custody_at, HasParts, IsAnswer, IsCoreOf, IsFirst, KnowsLock, KnowsThread, MayBegin, MayCome, MayEnter, Became, Stepped};
@@ -255,10 +256,22 @@ impl Core {
     {
         self.has_thread(image, worker, thread)
             && lock < image.guards()
-            && self.runs(thread)
+            && self.wants(image, thread, lock)
+            && !self.custodies.at(lock).line.has(thread)
+    }
+
+    /// Whether the thread is between two blocks, and goes on with a LOCK of the lock. One that has
+    /// ended may stand at a LOCK too.
+    fn wants(&self, image: &Image, thread: u32, lock: u32) -> bool
+        requires parts { HasParts image.now self.now }
+        requires thread { thread < length image.now.entries }
+        ensures { result
+            ≡ (events.runs (core_of self.now) thread && (events.is_between (core_of self.now) thread
+            && core.is_number (next_lock image.now ((core_of self.now).machine.threads thread)) lock)) }
+    {
+        self.runs(thread)
             && self.is_between(thread)
             && is_number(self.slow.next_lock(image, thread), lock)
-            && !self.custodies.at(lock).line.has(thread)
     }
 
     #[tactic(auto, unfolding(crate::specs::Events::is_enabled))]

@@ -465,8 +465,8 @@ fn to_the_end(adopted: bool) -> [Try; 27] {
 }
 
 /// Each event is tried where just one of its conditions fails. A condition that never fails alone
-/// has no row: a number out of range is at no worker and in no line, a LOCK within a block ends the
-/// block before it, and a thread that has ended takes no lock.
+/// has no row: a number out of range is at no worker and in no line, and a LOCK within a block ends
+/// the block before it. That a thread which enters a line runs fails alone in the next test.
 #[test]
 fn each_condition_counts(rt: HostRuntime) -> Result<(), Fail> {
     // Each thread takes lock 1 and gives it back, and then lock 0.
@@ -483,6 +483,35 @@ fn each_condition_counts(rt: HostRuntime) -> Result<(), Fail> {
         assert_eq!(rt; tried(&mut core, &image, &to_the_leave(adopted)), 18);
         assert_eq!(rt; tried(&mut core, &image, &to_the_end(adopted)), 27);
     }
+    Ok(())
+}
+
+#[test]
+fn a_thread_that_ended_at_a_lock_enters_no_line(rt: HostRuntime) -> Result<(), Fail> {
+    // Thread 2 takes lock 1, and then wants lock 0, which is out of order.
+    let mut words = NEST;
+    words[71] = 0x00100513;
+    words[74] = 0x00000513;
+    let image = guest(rt.alloc(), &words)?;
+    let mut core = Core::new(rt.alloc(), &image, 100, 3, 4)?;
+    let tries = [
+        (claim(0, 2), true),
+        (turns(0, 2, 2), true),
+        (commit(0, 2), true),
+        (enter(0, 2, 1), true),
+        (take(0, 2, 1), true),
+        // LOCK 1 and three turns more: the last is a fault.
+        (turns(0, 2, 4), true),
+        (commit(0, 2), true),
+        // It holds nothing now, and its pc stands at a LOCK of lock 0.
+        (turns(0, 2, 1), false),
+        (enter(0, 2, 0), false),
+        (hand_back(0, 2), false),
+        (leave(0, 1), true),
+        (set_free(0, 1), true),
+        (finish(0, 2), true),
+    ];
+    assert_eq!(rt; tried(&mut core, &image, &tries), 13);
     Ok(())
 }
 

@@ -15,7 +15,8 @@ use Rattle.tc_mutex_spec.proofs.Replaying.{turn_runs}
 
 -- ---- how a turn leaves its thread
 
-after_end : (d : Thread) (a : Option Act) → is_running d.status ≡ true → is_running (thread_after d a).status ≡ false → (k : ℕ) → (thread_after d a).held k ≡ false
+-- a turn that ends its thread leaves it without a lock
+pub after_end : (d : Thread) (a : Option Act) → is_running d.status ≡ true → is_running (thread_after d a).status ≡ false → (k : ℕ) → (thread_after d a).held k ≡ false
 after_end d None runs ends k = refl
 after_end d (Some (Next regs put)) runs ends k = absurd (cc)
 after_end d (Some (Called (Lock lock) regs)) runs ends k = absurd (cc)
@@ -49,7 +50,7 @@ some_fuel image d locks a = elim (eqb_tells d.fuel 0) [
 ]
 
 -- an instruction costs fuel
-turn_falls : (image : Shown) (d : Thread) (locks : ℕ → Mutex) → is_running (thread_after d (next_act image d locks)).status ≡ true → (thread_after d (next_act image d locks)).fuel < d.fuel
+pub turn_falls : (image : Shown) (d : Thread) (locks : ℕ → Mutex) → is_running (thread_after d (next_act image d locks)).status ≡ true → (thread_after d (next_act image d locks)).fuel < d.fuel
 turn_falls image d locks runs = go (next_act image d locks) refl runs
   where
     go : (a : Option Act) → next_act image d locks ≡ a → is_running (thread_after d a).status ≡ true → (thread_after d a).fuel < d.fuel
@@ -84,7 +85,7 @@ block_ends image m last t (suc n) end runs h k =
 
 -- ---- a thread comes to its end
 
--- what falls with each block of a thread, also with its last one
+-- how many turns a thread has left at most: what falls with each of its turns and blocks, also with the last one
 abbrev pub left : Thread → ℕ
 left d = if is_running d.status then d.fuel + 1 else 0
 

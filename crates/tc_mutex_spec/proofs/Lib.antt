@@ -17,3 +17,8 @@ pub mod Owners
 pub mod Leaving
 pub mod Few
 pub mod Histories
+pub mod HeldSets
+pub mod Sums
+pub mod Progress
+pub mod Placed
+pub mod Completing

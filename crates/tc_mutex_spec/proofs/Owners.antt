@@ -66,7 +66,8 @@ module _ (image : Shown) (seen : List Block) (m to : State) (b : Block) (stands 
       go true e = in_it (sym (stands.held k) ∙ e) ∙ ap (owner_by k) (sym (last_more bs b))
       go false e = ap (λ (l : Mutex). l.owner) (out_of_it (sym (stands.held k) ∙ e)) ∙ was ∙ ap (λ xs. owner_by k (last_of xs)) (sym (append-nil bs))
 
-owner_after : (image : Shown) (k : ℕ) (seen h : List Block) (from m : State) → IsHeldByOwner from → (from.locks k).owner ≡ owner_by k (last_of (of_lock seen k))
+-- so it is after further blocks
+pub owner_after : (image : Shown) (k : ℕ) (seen h : List Block) (from m : State) → IsHeldByOwner from → (from.locks k).owner ≡ owner_by k (last_of (of_lock seen k))
     → TellsAfter image seen from h m → (m.locks k).owner ≡ owner_by k (last_of (of_lock (seen ++ h) k))
 owner_after image k seen [] from m inv was told = ap (λ (s : State). (s.locks k).owner) (sym told) ∙ was ∙ ap (λ bs. owner_by k (last_of (of_lock bs k))) (sym (append-nil seen))
 owner_after image k seen (b ∷ h) from m inv was told =

@@ -238,7 +238,8 @@ takes_is b held (Some lock) is section up =
       | inr e ↦ (let lt = u.1 j (rw e.0 at h) in omega arith)
     ])
 
-next_above : (image : Shown) (d : Thread) → length image.guards ≤ 32 → ((k : ℕ) → d.held k ≡ true → k < 32) → (lock : ℕ) → next_lock image d ≡ Some lock → (lock < 32) × ((j : ℕ) → d.held j ≡ true → j < lock)
+-- a lock that is taken is above all that are held
+pub next_above : (image : Shown) (d : Thread) → length image.guards ≤ 32 → ((k : ℕ) → d.held k ≡ true → k < 32) → (lock : ℕ) → next_lock image d ≡ Some lock → (lock < 32) × ((j : ℕ) → d.held j ≡ true → j < lock)
 unfolding next_lock
 next_above image d few small lock =
     elim (d.fuel == 0) as (λ b. (if b then None else taken_by (act_of image d.held d.regs 0)) ≡ Some lock → (lock < 32) × ((j : ℕ) → d.held j ≡ true → j < lock)) [

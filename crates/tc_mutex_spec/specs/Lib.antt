@@ -4,3 +4,4 @@ pub mod Blocks
 pub mod Slow
 pub mod Turned
 pub mod Entries
+pub mod Progress

@@ -1,7 +1,8 @@
 //! The laws of the machine.
 
-ghost use Rattle.std.specs.Prelude.{◌≡◌, ℕ, ◌++◌, [], ◌∷◌, Bool, true, List, Option, Some, None, IfSome, option_and_then};
+ghost use Rattle.std.specs.Prelude.{◌≡◌, ℕ, ◌≤◌, ◌++◌, [], ◌∷◌, Bool, true, List, Option, Some, None, IfSome, length, option_and_then};
 ghost use Rattle.tc_elf.specs.Shown.{Shown};
+ghost use Rattle.tc_elf.specs.declared.limits.TheConstants.{MAX_GUARDS};
 ghost use Rattle.tc_journal.specs.declared.block.Block.{Block};
 ghost use Rattle.tc_journal.specs.declared.block.End.{End};
 ghost use Rattle.tc_turn.specs.Turn.{Thread, next_lock};
@@ -10,6 +11,7 @@ ghost use Rattle.tc_mutex_spec.specs.Machine.{State, can_turn, after, turns, run
 ghost use Rattle.tc_mutex_spec.specs.Locality.{Agree, Apart};
 ghost use Rattle.tc_mutex_spec.specs.Blocks.{locks_of_block, Runs, Stands, Tells, owner_by};
 ghost use Rattle.tc_mutex_spec.specs.Entries.{entry_of};
+ghost use Rattle.tc_mutex_spec.specs.Progress.{Run, most_turns, CanRunOn, CompleteHistory};
 ghost use Rattle.tc_journal.specs.Batch.{ends_section, last_of};
 ghost use Rattle.tc_journal.specs.History.{of_lock, schedule};
 
@@ -83,4 +85,18 @@ pub fn owning()
     ensures free { (image : Shown) (fuel : ℕ) (h : List Block) (m : State) (k : ℕ)
         → Tells image fuel h m → IfSome (last_of (of_lock h k)) (λ b. ends_section k b ≡ true)
         → (m.locks k).owner ≡ None }
+{}
+
+/// A guest never stands still before each of its threads has ended, where it has no more locks than
+/// a file may have: whoever holds a lock wants only a greater one, so of the threads that hold
+/// locks one may go on. Of more locks a thread could take two in either order.
+pub fn progress()
+    // A run has so many turns at most.
+    ensures few { (r : Run) → length r.turns ≤ most_turns r.image r.fuel }
+    // And can go on until each thread has ended.
+    ensures ends { (r : Run) → length r.image.guards ≤ MAX_GUARDS → CanRunOn r.image r.last }
+    // So there is a history of the whole: of one worker, and with every section taken it is right
+    // for each number of workers and each batch limit.
+    ensures complete { (image : Shown) (fuel : ℕ) → length image.guards ≤ MAX_GUARDS
+        → CompleteHistory image fuel }
 {}

@@ -1,3 +1,4 @@
 pub mod Written
 pub mod View
 pub mod Handover
+pub mod Existence

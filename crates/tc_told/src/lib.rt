@@ -15,10 +15,12 @@
 //!
 //! - `specs/Written.antt`: what events write, and which histories keep the rules.
 //! - `realization`, `handover`: the laws; `specs/Handover.antt` has the words of the second.
+//!   `existence`: that there is such a history of every guest.
 //! - `writer`: the same as a program, `Writer`, over tc_core's `Core`; `specs/View.antt` says what
 //!   it stands for.
 #![tactic(auto)]
 
+pub mod existence;
 pub mod handover;
 pub mod realization;
 #[cfg(test)]

@@ -1,0 +1,5 @@
+use Rattle.tc_told.proofs.Existence.{has_history}
+use Rattle.tc_told.proofs.existence.existence.Goals as goal
+
+pub returns : goal.returns
+returns c = has_history
