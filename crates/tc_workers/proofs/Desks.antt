@@ -103,6 +103,10 @@ aside_fit : (b : BenchView) (d : DeskView) (o : Option PackageView) → d.aside 
 aside_fit b d None e h = tt
 aside_fit b d (Some q) e h = let a = (h.aside q e).goes in plain_good (threads b.hall.terms) q d.pass.knows a.plain a.runs (a.of ∙ (h.hall ∙ sym h.image))
 
+-- nothing is granted to a package, and neither its last block nor the worker's was cut
+plain_next : (last : Option Block) (q : PackageView) → was_cut last ≡ false → q.granted ≡ None → was_cut (last_of q.log) ≡ false → RunsBehind last q
+plain_next last q uncut none before = record { granted = nothing_behind last q.granted none; together = together_uncut last (last_of q.log) uncut before }
+
 aside_next : (b : BenchView) (d : DeskView) (last : Option Block) (o : Option PackageView) → was_cut last ≡ false → d.aside ≡ o → FitsBench b d → IsNext last o
 aside_next b d last None uncut e h = uncut
 aside_next b d last (Some q) uncut e h = let a = (h.aside q e).goes.plain in plain_next last q uncut a.granted a.uncut
@@ -181,16 +185,12 @@ front_true true b c e = refl
 front_true false b c e = absurd (let no : ⊥ = cc in no)
 
 not_true : (b : Bool) → (b ≡ true → ⊥) → b ≡ false
-not_true false no = refl
-not_true true no = absurd (no refl)
+not_true false never = refl
+not_true true never = absurd (never refl)
 
 -- what stands together with a block that was not cut, was not cut
 uncut_too : (last before : Option Block) → AreTogether last before → was_cut before ≡ false → was_cut last ≡ false
 uncut_too last before both uncut = not_true (was_cut last) (λ e. let f : true ≡ false = sym e ∙ (ap was_cut (both.goes_on e) ∙ uncut) in let n : ⊥ = cc in n)
-
--- nothing is granted to a package, and neither its last block nor the worker's was cut
-plain_next : (last : Option Block) (q : PackageView) → was_cut last ≡ false → q.granted ≡ None → was_cut (last_of q.log) ≡ false → RunsBehind last q
-plain_next last q uncut none before = record { granted = nothing_behind last q.granted none; together = together_uncut last (last_of q.log) uncut before }
 
 -- a lock was taken from its home for it
 taken_next : (i n : ℕ) (l : LockView) (last : Option Block) (q p : PackageView) → was_cut last ≡ false → was_cut (last_of q.log) ≡ false → DidTake i l n q p → RunsBehind last p
