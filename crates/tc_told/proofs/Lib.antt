@@ -10,4 +10,4 @@ pub mod Realized
 pub mod Counted
 pub mod Adopters
 pub mod Writing
-pub mod Existence
+pub mod Complete
