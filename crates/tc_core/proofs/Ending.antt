@@ -5,6 +5,7 @@ use Rattle.std.proofs.lemmas.Bool.Decides.{eqb_tells}
 use Rattle.tc_elf.specs.Shown.{Shown}
 use Rattle.tc_elf.specs.declared.limits.TheConstants.{MAX_GUARDS}
 use Rattle.tc_turn.specs.Turn.{next_lock}
+use Rattle.tc_mutex_spec.proofs.BlocksAlike.{eq_self}
 use Rattle.tc_mutex_spec.proofs.Sums.{sum_to, sums_le, sums_one, sums_more, sums_most, at_most}
 use Rattle.tc_core.specs.declared.event.Event.{Event}
 use Rattle.tc_core.specs.declared.event.Event.TheVariants.{Claim, Turn, Commit, Enter, Take, Ship, Adopt, Grant, Leave, Free, HandBack, Park, Finish}
@@ -15,7 +16,7 @@ use Rattle.tc_core.specs.Alive.{is_work, work_of, most_onward, is_back, backs_of
 use Rattle.tc_core.proofs.Quiet.{both, pick_mine, pick_other, changed_same}
 use Rattle.tc_core.proofs.Known.{known}
 use Rattle.tc_core.proofs.Work.{one_if, one_most, left_of, takes, left_in}
-use Rattle.tc_core.proofs.Standing.{Stands, stands_after, story_stands, same_number}
+use Rattle.tc_core.proofs.Standing.{Stands, stands_after, story_stands}
 use Rattle.tc_core.proofs.Moves.{Goes, over_or_goes}
 
 -- ---- how many threads may be claimed
@@ -183,7 +184,7 @@ rest_back : (image : Shown) (rests : ℕ → Bool) (u : ℕ) → u < length imag
 unfolding rest_sum
 rest_back image rests u lt none =
     let old : one_if (rests u) ≡ 0 = ap one_if none in
-    let new : one_if (if u == u then true else rests u) ≡ 1 = ap (λ b. one_if (if b then true else rests u)) (same_number u) in
+    let new : one_if (if u == u then true else rests u) ≡ 1 = ap (λ b. one_if (if b then true else rests u)) (eq_self u) in
     let r = sums_one (λ t. one_if (rests t)) (λ t. one_if (if u == t then true else rests t)) 1 0 u (length image.entries)
     (λ t ne. at_most _ _ (ap one_if (sym (other_rests u t true rests ne)))) (omega (arith, old, new)) lt in
     omega (arith, r)

@@ -1,5 +1,6 @@
 -- Where not all is over, something may come that gives no thread back.
-use Rattle.std.proofs.Common.{◌≡◌, ◌⊎◌, ℕ, zero, suc, ◌+◌, ◌<◌, ◌≤◌, Bool, true, false, not, ◌&&◌, ◌==◌, List, [], ◌∷◌, length, refl, sym, ap, subst, ◌∙◌, arith, inl, inr}
+use Rattle.std.proofs.Common.{◌≡◌, ◌⊎◌, ℕ, zero, suc, ◌+◌, ◌<◌, ◌≤◌, Bool, true, false, not, ◌==◌, List, [], ◌∷◌, length, refl, sym, ap, subst, ◌∙◌, arith, inl, inr}
+use Rattle.std.specs.Cmp.Derive.{both_true}
 use Rattle.std.specs.Prelude.{Option, Some, None, nat_lt, is_some}
 use Rattle.std.proofs.lemmas.Bool.Decides.{nat_tests}
 use Rattle.tc_isa.specs.Sets.{has}
@@ -8,6 +9,7 @@ use Rattle.tc_elf.specs.declared.limits.TheConstants.{MAX_GUARDS}
 use Rattle.tc_journal.specs.declared.block.End.{End}
 use Rattle.tc_turn.specs.Turn.{is_running, next_lock}
 use Rattle.tc_turn.proofs.Turns.{next_known, next_free}
+use Rattle.tc_mutex_spec.proofs.BlocksAlike.{eq_self}
 use Rattle.tc_mutex_spec.proofs.Replaying.{next_above}
 use Rattle.tc_mutex_spec.proofs.Sums.{all_or}
 use Rattle.tc_mutex_spec.proofs.Progress.{false_true}
@@ -19,7 +21,7 @@ use Rattle.tc_core.specs.Core.{Core, Limits, LockPlace, ThreadPlace, Ready, Wait
 use Rattle.tc_core.specs.Events.{is_enabled, has_thread, has_lock, may_take, may_pass, adopts, held_past}
 use Rattle.tc_core.specs.Alive.{is_back, IsOver}
 use Rattle.tc_core.proofs.Served.{Stage}
-use Rattle.tc_core.proofs.Standing.{Stands, Wants, is_kept, is_free_to_go, same_number, out_behind, out_free, first_in, first_one, given_first, line_below, rest_behind}
+use Rattle.tc_core.proofs.Standing.{Stands, Wants, is_kept, is_free_to_go, none_some, out_behind, out_free, first_in, first_one, given_first, line_below, rest_behind}
 
 -- an event that may come at c, and gives no thread back
 pub record Goes (image : Shown) (limits : Limits) (c : Core) : Type 0 where
@@ -27,76 +29,67 @@ pub record Goes (image : Shown) (limits : Limits) (c : Core) : Type 0 where
   pub enabled : is_enabled image limits c event ≡ true
   pub onward : is_back event ≡ false
 
-and_true : (a b : Bool) → a ≡ true → b ≡ true → (a && b) ≡ true
-and_true a b p q = λ i. p i && q i
-
-not_false : (b : Bool) → b ≡ false → not b ≡ true
-not_false b e = ap not e
-
 below_test : (n m : ℕ) → n < m → nat_lt n m ≡ true
 below_test n m lt = grind (arith, nat_tests)
 
 zero_test : (n : ℕ) → n ≡ 0 → (n == 0) ≡ true
 zero_test n e = ap (λ m. m == 0) e ∙ refl
 
-some_not_none : (o : Option ℕ) (k : ℕ) → o ≡ Some k → o ≡ None → ⊥
-some_not_none o k e f = cc
-
 module _ (image : Shown) (limits : Limits) (c : Core) (s : Stands image limits c) (some : 0 < limits.workers) (few : length image.guards ≤ MAX_GUARDS) where
   has_t : (w t : ℕ) → t < length image.entries → is_at (c.course t).place w ≡ true → has_thread image limits c w t ≡ true
-  has_t w t lt at = and_true _ _ ((s.seated t).worker w at) (and_true _ _ (below_test t (length image.entries) lt) at)
+  has_t w t lt at = both_true ((s.seated t).worker w at) (both_true (below_test t (length image.entries) lt) at)
 
   has_k : (w k : ℕ) → k < length image.guards → is_loose (c.custody k).place w ≡ true → has_lock image limits c w k ≡ true
-  has_k w k lt loose = and_true _ _ (s.loose k w loose) (and_true _ _ (below_test k (length image.guards) lt) loose)
+  has_k w k lt loose = both_true (s.loose k w loose) (both_true (below_test k (length image.guards) lt) loose)
 
   -- the events, each where it may come
   go_claim : (t : ℕ) → t < length image.entries → is_claimable (c.course t).place ≡ true → Goes image limits c
   unfolding is_enabled
-  go_claim t lt e = record { event = Claim 0 t; enabled = and_true _ _ (below_test 0 limits.workers some) (and_true _ _ (below_test t (length image.entries) lt) e); onward = refl }
+  go_claim t lt e = record { event = Claim 0 t; enabled = both_true (below_test 0 limits.workers some) (both_true (below_test t (length image.entries) lt) e); onward = refl }
 
   go_commit : (w t : ℕ) → has_thread image limits c w t ≡ true → is_some (c.course t).ended ≡ true → Goes image limits c
   unfolding is_enabled
-  go_commit w t at e = record { event = Commit w t; enabled = and_true _ _ at e; onward = refl }
+  go_commit w t at e = record { event = Commit w t; enabled = both_true at e; onward = refl }
 
   go_finish : (w t : ℕ) → has_thread image limits c w t ≡ true → is_running (c.machine.threads t).status ≡ false → (c.course t).turns ≡ 0 → Goes image limits c
   unfolding is_enabled
-  go_finish w t at run z = record { event = Finish w t; enabled = and_true _ _ at (and_true _ _ (not_false _ run) (zero_test _ z)); onward = refl }
+  go_finish w t at run z = record { event = Finish w t; enabled = both_true at (both_true (ap not run) (zero_test _ z)); onward = refl }
 
   go_turn : (w t : ℕ) → has_thread image limits c w t ≡ true → is_running (c.machine.threads t).status ≡ true → (c.course t).ended ≡ None → may_take (next_lock image (c.machine.threads t)) t c ≡ true → Goes image limits c
   unfolding is_enabled
-  go_turn w t at run e take = record { event = Turn w t; enabled = and_true _ _ at (and_true _ _ run (and_true _ _ (ap (λ o. not (is_some o)) e) take)); onward = refl }
+  go_turn w t at run e take = record { event = Turn w t; enabled = both_true at (both_true run (both_true (ap (λ o. not (is_some o)) e) take)); onward = refl }
 
   go_enter : (w t k : ℕ) → has_thread image limits c w t ≡ true → k < length image.guards → is_running (c.machine.threads t).status ≡ true → (c.course t).turns ≡ 0 → next_lock image (c.machine.threads t) ≡ Some k → is_in_line (c.custody k).line t ≡ false → Goes image limits c
   unfolding is_enabled
   go_enter w t k at lt run z next out = record {
     event = Enter w t k;
-    enabled = and_true _ _ at (and_true _ _ (below_test k (length image.guards) lt) (and_true _ _ run (and_true _ _ (zero_test _ z) (and_true _ _ (ap (λ o. is_number o k) next ∙ same_number k) (not_false _ out)))));
+    enabled = both_true at (both_true (below_test k (length image.guards) lt) (both_true run (both_true (zero_test _ z) (both_true (ap (λ o. is_number o k) next ∙ eq_self k) (ap not out)))));
     onward = refl;
   }
 
   go_take : (w t k : ℕ) → has_thread image limits c w t ≡ true → k < length image.guards → is_first (c.custody k).line t ≡ true → is_free_lock (c.custody k).place ≡ true → Goes image limits c
   unfolding is_enabled
-  go_take w t k at lt first free = record { event = Take w t k; enabled = and_true _ _ at (and_true _ _ (below_test k (length image.guards) lt) (and_true _ _ first free)); onward = refl }
+  go_take w t k at lt first free = record { event = Take w t k; enabled = both_true at (both_true (below_test k (length image.guards) lt) (both_true first free)); onward = refl }
 
   go_ship : (w t k : ℕ) → has_thread image limits c w t ≡ true → k < length image.guards → is_in_line (c.custody k).line t ≡ true → is_first (c.custody k).line t ≡ false → Goes image limits c
   unfolding is_enabled
-  go_ship w t k at lt i f = record { event = Ship w t k; enabled = and_true _ _ at (and_true _ _ (below_test k (length image.guards) lt) (and_true _ _ i (not_false _ f))); onward = refl }
+  go_ship w t k at lt i f = record { event = Ship w t k; enabled = both_true at (both_true (below_test k (length image.guards) lt) (both_true i (ap not f))); onward = refl }
 
   go_pass_by : (w t k : ℕ) → may_pass image limits c w t k ≡ true → (b : Bool) → adopts limits c k ≡ b → Goes image limits c
   unfolding is_enabled
-  go_pass_by w t k may true e = record { event = Adopt w t k; enabled = and_true _ _ may e; onward = refl }
-  go_pass_by w t k may false e = record { event = Grant w t k; enabled = and_true _ _ may (not_false _ e); onward = refl }
+  go_pass_by w t k may true e = record { event = Adopt w t k; enabled = both_true may e; onward = refl }
+  go_pass_by w t k may false e = record { event = Grant w t k; enabled = both_true may (ap not e); onward = refl }
 
   go_pass : (w t k : ℕ) → may_pass image limits c w t k ≡ true → Goes image limits c
   go_pass w t k may = go_pass_by w t k may (adopts limits c k) refl
 
   go_leave : (w k : ℕ) → has_lock image limits c w k ≡ true → (c.custody k).left ≡ false → is_single (c.custody k).line ≡ true → Goes image limits c
   unfolding is_enabled
-  go_leave w k at left one = record { event = Leave w k; enabled = and_true _ _ at (and_true _ _ (not_false _ left) one); onward = refl }
+  go_leave w k at left one = record { event = Leave w k; enabled = both_true at (both_true (ap not left) one); onward = refl }
 
   go_free : (w k : ℕ) → has_lock image limits c w k ≡ true → (c.custody k).left ≡ true → Goes image limits c
   unfolding is_enabled
-  go_free w k at left = record { event = Free w k; enabled = and_true _ _ at left; onward = refl }
+  go_free w k at left = record { event = Free w k; enabled = both_true at left; onward = refl }
 
   -- ---- a lock that is loose
 
@@ -111,10 +104,10 @@ module _ (image : Shown) (limits : Limits) (c : Core) (s : Stands image limits c
       go : t < length image.entries → is_in_line (c.custody k).line t ≡ true → is_first (c.custody k).line t ≡ false → (p : ThreadPlace) → (c.course t).place ≡ p → is_kept p k ≡ true → Goes image limits c
       go is_t i f Ready e h = absurd (cc)
       go is_t i f (Waiting j) e h =
-          go_pass w t k (and_true _ _ (has_k w k lt loose) (and_true _ _ (not_false _ left) (and_true _ _ (below_test t (length image.entries) is_t) (and_true _ _ second (ap (λ p. is_waiting p k) e ∙ h)))))
+          go_pass w t k (both_true (has_k w k lt loose) (both_true (ap not left) (both_true (below_test t (length image.entries) is_t) (both_true second (ap (λ p. is_waiting p k) e ∙ h)))))
       go is_t i f Parked e h = absurd (cc)
       go is_t i f Done e h = absurd (cc)
-      go is_t i f (At v) e h = go_ship v t k (has_t v t is_t (ap (λ p. is_at p v) e ∙ same_number v)) lt i f
+      go is_t i f (At v) e h = go_ship v t k (has_t v t is_t (ap (λ p. is_at p v) e ∙ eq_self v)) lt i f
 
   loose_goes : (w k : ℕ) → k < length image.guards → is_loose (c.custody k).place w ≡ true → Goes image limits c
   loose_goes w k lt loose = by_left (c.custody k).left refl
@@ -122,7 +115,7 @@ module _ (image : Shown) (limits : Limits) (c : Core) (s : Stands image limits c
       by_line : (line : List ℕ) → (c.custody k).line ≡ line → (t : ℕ) → is_first line t ≡ true → (c.custody k).left ≡ false → Goes image limits c
       by_line [] e t first left = absurd (cc)
       by_line (u ∷ []) e t first left = go_leave w k (has_k w k lt loose) left (ap is_single e)
-      by_line (u ∷ v ∷ vs) e t first left = second_goes w v k lt loose left (ap (λ l. is_first (rest_of l) v) e ∙ same_number v)
+      by_line (u ∷ v ∷ vs) e t first left = second_goes w v k lt loose left (ap (λ l. is_first (rest_of l) v) e ∙ eq_self v)
 
       by_stage : (p : LockPlace) (left : Bool) (granted locked gone : List ℕ) → is_loose p w ≡ true → left ≡ false → Stage p left (c.custody k).line gone granted locked → (t : ℕ) × (is_first (c.custody k).line t ≡ true)
       by_stage place.Free left granted locked gone h z st = absurd (cc)
@@ -154,7 +147,7 @@ module _ (image : Shown) (limits : Limits) (c : Core) (s : Stands image limits c
   with_held : (t k : ℕ) → (c.custody k).place ≡ With t → (c.course t).ended ≡ None → (c.machine.threads t).held k ≡ true
   with_held t k e none =
       let tr = s.tracks in
-      let is : has (c.course t).held k ≡ true = tr.with t k ∙ ap (λ p. is_number (with_of p) t) e ∙ same_number t in
+      let is : has (c.course t).held k ≡ true = tr.with t k ∙ ap (λ p. is_number (with_of p) t) e ∙ eq_self t in
       sym (tr.kept t k) ∙ ap (λ o. has (held_past (c.course t).held o) k) none ∙ is
 
   with_not_done : (t k : ℕ) → (c.custody k).place ≡ With t → (c.course t).place ≡ Done → ⊥
@@ -173,10 +166,10 @@ module _ (image : Shown) (limits : Limits) (c : Core) (s : Stands image limits c
           let held = with_held t k (e ∙ ap (λ v. With v) same) wants.ended in
           false_true _ (next_free image (c.machine.threads t) k wants.next) held)
       go (Granted u) e = (
-          let g : is_granted (c.custody k).place u ≡ true = ap (λ p. is_granted p u) e ∙ same_number u in
+          let g : is_granted (c.custody k).place u ≡ true = ap (λ p. is_granted p u) e ∙ eq_self u in
           let same : u ≡ t = first_one (c.custody k).line u t (given_first (c.custody k) u (s.staged k) g).1 first in
-          go_turn w t at wants.runs wants.ended (ap (λ o. may_take o t c) wants.next ∙ and_true _ _ (zero_test _ wants.turns) (subst (λ v. is_granted (c.custody k).place v ≡ true) same g)))
-      go (Loose v) e = loose_goes v k lt (ap (λ p. is_loose p v) e ∙ same_number v)
+          go_turn w t at wants.runs wants.ended (ap (λ o. may_take o t c) wants.next ∙ both_true (zero_test _ wants.turns) (subst (λ v. is_granted (c.custody k).place v ≡ true) same g)))
+      go (Loose v) e = loose_goes v k lt (ap (λ p. is_loose p v) e ∙ eq_self v)
 
   wants_goes : (w t k : ℕ) → has_thread image limits c w t ≡ true → Wants image c t k → Goes image limits c
   wants_goes w t k at wants = go (is_in_line (c.custody k).line t) (is_first (c.custody k).line t) refl refl
@@ -196,7 +189,7 @@ module _ (image : Shown) (limits : Limits) (c : Core) (s : Stands image limits c
       none e run None next = go_turn w t at run e (ap (λ o. may_take o t c) next)
       none e run (Some k) next = elim ((s.blocks t).goes e) [
         | inl z ↦ wants_goes w t k at (record { next = next; runs = run; turns = z; ended = e })
-        | inr y ↦ absurd (some_not_none (next_lock image (c.machine.threads t)) k next y.1)
+        | inr y ↦ absurd (none_some (next_lock image (c.machine.threads t)) k y.1 next)
       ]
 
       by_status : (b : Bool) → is_running (c.machine.threads t).status ≡ b → (c.course t).ended ≡ None → Goes image limits c
@@ -215,7 +208,7 @@ module _ (image : Shown) (limits : Limits) (c : Core) (s : Stands image limits c
   free_goes t lt (Waiting j) e h = absurd (cc)
   free_goes t lt Parked e h = go_claim t lt (ap is_claimable e)
   free_goes t lt Done e h = absurd (cc)
-  free_goes t lt (At w) e h = at_goes w t (has_t w t lt (ap (λ p. is_at p w) e ∙ same_number w))
+  free_goes t lt (At w) e h = at_goes w t (has_t w t lt (ap (λ p. is_at p w) e ∙ eq_self w))
 
   -- ---- a lock that is free with somebody in its line
 
@@ -230,11 +223,11 @@ module _ (image : Shown) (limits : Limits) (c : Core) (s : Stands image limits c
       go is_t (Waiting j) e h = absurd (false_true _ ((s.fits t k).waiting (ap (λ p. is_waiting p k) e ∙ h)).1 first)
       go is_t Parked e h = absurd (cc)
       go is_t Done e h = absurd (cc)
-      go is_t (At v) e h = go_take v t k (has_t v t is_t (ap (λ p. is_at p v) e ∙ same_number v)) lt first free
+      go is_t (At v) e h = go_take v t k (has_t v t is_t (ap (λ p. is_at p v) e ∙ eq_self v)) lt first free
 
   granted_goes : (t k : ℕ) → (c.custody k).place ≡ Granted t → Goes image limits c
   granted_goes t k e =
-      let g : is_granted (c.custody k).place t ≡ true = ap (λ p. is_granted p t) e ∙ same_number t in
+      let g : is_granted (c.custody k).place t ≡ true = ap (λ p. is_granted p t) e ∙ eq_self t in
       let y = (s.fits t k).given g in
       free_goes t (line_below image c k t s.lines (first_in (c.custody k).line t (given_first (c.custody k) t (s.staged k) g).1)) (c.course t).place refl y.1
 
@@ -242,7 +235,7 @@ module _ (image : Shown) (limits : Limits) (c : Core) (s : Stands image limits c
 
   line_head : (line : List ℕ) (t : ℕ) → is_in_line line t ≡ true → (u : ℕ) × (is_first line u ≡ true)
   line_head [] t e = absurd (cc)
-  line_head (v ∷ vs) t e = (v, same_number v)
+  line_head (v ∷ vs) t e = (v, eq_self v)
 
   -- a thread that holds a lock wants a greater one alone
   wants_above : (t j k : ℕ) → (c.custody k).place ≡ With t → Wants image c t j → k < j
@@ -261,7 +254,7 @@ module _ (image : Shown) (limits : Limits) (c : Core) (s : Stands image limits c
   by_place n u k rec up e (At w) f = free_goes u (line_below image c k u s.lines (first_in (c.custody k).line u (with_first u k e))) (At w) f refl
   by_place n u k rec up e Done f = absurd (with_not_done u k e f)
   by_place n u k rec up e (Waiting j) f =
-      let waits : is_waiting (c.course u).place j ≡ true = ap (λ p. is_waiting p j) f ∙ same_number j in
+      let waits : is_waiting (c.course u).place j ≡ true = ap (λ p. is_waiting p j) f ∙ eq_self j in
       let d = (s.fits u j).waiting waits in
       let y = (s.fits u j).out (out_behind (is_in_line (c.custody j).line u) (is_free_lock (c.custody j).place) (c.custody j).left (is_first (c.custody j).line u) d.0 d.1) in
       let above = wants_above u j k e y.0 in
@@ -270,7 +263,7 @@ module _ (image : Shown) (limits : Limits) (c : Core) (s : Stands image limits c
   by_lock : (n t k : ℕ) → Further n → length image.guards ≤ k + suc n → k < length image.guards → is_in_line (c.custody k).line t ≡ true → (p : LockPlace) → (c.custody k).place ≡ p → Goes image limits c
   by_lock n t k rec up lt i place.Free e = (let first = line_head (c.custody k).line t i in head_goes first.0 k lt (ap is_free_lock e) first.1)
   by_lock n t k rec up lt i (Granted u) e = granted_goes u k e
-  by_lock n t k rec up lt i (Loose v) e = loose_goes v k lt (ap (λ p. is_loose p v) e ∙ same_number v)
+  by_lock n t k rec up lt i (Loose v) e = loose_goes v k lt (ap (λ p. is_loose p v) e ∙ eq_self v)
   by_lock n t k rec up lt i (With u) e = by_place n u k rec up e (c.course u).place refl
 
   -- it stands behind the first, and wants the lock
@@ -289,7 +282,7 @@ module _ (image : Shown) (limits : Limits) (c : Core) (s : Stands image limits c
 
   thread_goes : (t : ℕ) → t < length image.entries → (p : ThreadPlace) → (c.course t).place ≡ p → Goes image limits c ⊎ ((c.course t).place ≡ Done)
   thread_goes t lt Ready e = inl (free_goes t lt Ready e refl)
-  thread_goes t lt (Waiting k) e = inl (waits_goes (length image.guards) t k (omega arith) (ap (λ p. is_waiting p k) e ∙ same_number k))
+  thread_goes t lt (Waiting k) e = inl (waits_goes (length image.guards) t k (omega arith) (ap (λ p. is_waiting p k) e ∙ eq_self k))
   thread_goes t lt Parked e = inl (free_goes t lt Parked e refl)
   thread_goes t lt Done e = inr e
   thread_goes t lt (At w) e = inl (free_goes t lt (At w) e refl)
@@ -302,10 +295,10 @@ module _ (image : Shown) (limits : Limits) (c : Core) (s : Stands image limits c
     where
       by_line : (line : List ℕ) → (c.custody k).line ≡ line → Goes image limits c ⊎ Home k
       by_line [] l = inr (e, l)
-      by_line (u ∷ us) l = inl (head_goes u k lt (ap is_free_lock e) (ap (λ x. is_first x u) l ∙ same_number u))
+      by_line (u ∷ us) l = inl (head_goes u k lt (ap is_free_lock e) (ap (λ x. is_first x u) l ∙ eq_self u))
   lock_goes all k lt (Granted u) e = inl (granted_goes u k e)
   lock_goes all k lt (With u) e = absurd (with_not_done u k e (all u (line_below image c k u s.lines (first_in (c.custody k).line u (with_first u k e)))))
-  lock_goes all k lt (Loose v) e = inl (loose_goes v k lt (ap (λ p. is_loose p v) e ∙ same_number v))
+  lock_goes all k lt (Loose v) e = inl (loose_goes v k lt (ap (λ p. is_loose p v) e ∙ eq_self v))
 
 pub over_or_goes : (image : Shown) (limits : Limits) (c : Core) → Stands image limits c → 0 < limits.workers → length image.guards ≤ MAX_GUARDS → IsOver image c ⊎ Goes image limits c
 over_or_goes image limits c s some few = by_threads (all_or (λ t. (c.course t).place ≡ Done) (length image.entries) (λ t lt. thread_goes image limits c s some few t lt (c.course t).place refl))

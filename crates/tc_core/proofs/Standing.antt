@@ -2,7 +2,7 @@
 use Rattle.std.proofs.Common.{◌≡◌, ◌≢◌, ◌⊎◌, ℕ, ◌+◌, ◌<◌, Bool, true, false, not, ◌&&◌, ◌||◌, ◌==◌, List, [], ◌∷◌, ◌++◌, length, refl, sym, ap, subst, ◌∙◌, arith, inl, inr}
 use Rattle.std.specs.Prelude.{Option, Some, None, nat_eq, is_some, if◌then◌else◌}
 use Rattle.std.specs.List.{IsDistinct, AllByRecursion}
-use Rattle.std.proofs.lemmas.Bool.{false_from_ne_true}
+use Rattle.std.proofs.lemmas.Bool.{eqb-true, false_from_ne_true}
 use Rattle.std.proofs.lemmas.Bool.Decides.{eqb_tells}
 use Rattle.tc_elf.specs.Shown.{Shown}
 use Rattle.tc_journal.specs.declared.block.End.{End}
@@ -10,7 +10,7 @@ use Rattle.tc_turn.specs.Turn.{Thread, is_running, next_lock, next_act}
 use Rattle.tc_turn.proofs.Turns.{next_known, goes_on}
 use Rattle.tc_mutex_spec.specs.Machine.{State, after}
 use Rattle.tc_mutex_spec.proofs.Local.{after_thread, turn_apart}
-use Rattle.tc_mutex_spec.proofs.BlocksAlike.{covers_block}
+use Rattle.tc_mutex_spec.proofs.BlocksAlike.{eq_self, covers_block}
 use Rattle.tc_mutex_spec.proofs.BlockEnds.{after_end}
 use Rattle.tc_mutex_spec.proofs.Progress.{false_true}
 use Rattle.tc_core.specs.declared.event.Event.{Event}
@@ -108,16 +108,10 @@ pub record Stands (image : Shown) (limits : Limits) (c : Core) : Type 0 where
 
 -- ---- tests
 
-pub same_number : (n : ℕ) → (n == n) ≡ true
-same_number n = elim (eqb_tells n n) [ inl h ↦ h.0 | inr h ↦ absurd (h.1 refl) ]
-
-pub number_eq : (n m : ℕ) → (n == m) ≡ true → n ≡ m
-number_eq n m e = elim (eqb_tells n m) [ inl h ↦ h.1 | inr h ↦ absurd (let f = h.0 in cc) ]
-
 pub some_eq : (n m : ℕ) → Some n ≡ Some m → n ≡ m
 some_eq n m e = cc
 
-none_some : (o : Option ℕ) (n : ℕ) → o ≡ None → o ≡ Some n → ⊥
+pub none_some : (o : Option ℕ) (n : ℕ) → o ≡ None → o ≡ Some n → ⊥
 none_some o n e f = cc
 
 end_none : (o : Option End) → o ≡ None → is_some o ≡ true → ⊥
@@ -210,11 +204,11 @@ rest_behind n (v ∷ vs) t is e =
 -- no two are the first
 first_apart : (line : List ℕ) (u t : ℕ) → is_first line u ≡ true → t ≢ u → is_first line t ≡ false
 first_apart [] u t e ne = refl
-first_apart (v ∷ vs) u t e ne = elim (eqb_tells v t) [ inl h ↦ absurd (ne (sym h.1 ∙ number_eq v u e)) | inr h ↦ h.0 ]
+first_apart (v ∷ vs) u t e ne = elim (eqb_tells v t) [ inl h ↦ absurd (ne (sym h.1 ∙ eqb-true v u e)) | inr h ↦ h.0 ]
 
 pub first_one : (line : List ℕ) (u t : ℕ) → is_first line u ≡ true → is_first line t ≡ true → u ≡ t
 first_one [] u t e f = absurd (cc)
-first_one (v ∷ vs) u t e f = sym (number_eq v u e) ∙ number_eq v t f
+first_one (v ∷ vs) u t e f = sym (eqb-true v u e) ∙ eqb-true v t f
 
 -- nobody is behind the first of a line of one
 single_first : (line : List ℕ) (t : ℕ) → is_single line ≡ true → is_in_line line t ≡ true → is_first line t ≡ false → ⊥
@@ -296,7 +290,7 @@ given_first x t staged e = (let v = staged.served in go x.place e v.stage)
     go : (p : LockPlace) → is_granted p t ≡ true → Stage p x.left x.line gone staged.granted staged.locked → (x.left ≡ false) × (is_first x.line t ≡ true)
     go place.Free h st = absurd (cc)
     go (With u) h st = absurd (cc)
-    go (Granted u) h st = (st.0, subst (λ v. is_first x.line v ≡ true) (number_eq u t h) st.1)
+    go (Granted u) h st = (st.0, subst (λ v. is_first x.line v ≡ true) (eqb-true u t h) st.1)
     go (Loose w) h st = absurd (cc)
 
 out_on : (o : Option ℕ) (u t k : ℕ) (x : Custody) → is_out (custody_on o u k x) t ≡ true → is_out x t ≡ true
@@ -331,7 +325,7 @@ loose_on (Some j) u k w x e = elim (k == j) as (λ b. is_loose (if b then record
 
 loose_past : (v u w : ℕ) (held : Bool) (r : Option Release) (x : Custody) → is_loose (custody_past v u held r x).place w ≡ true → (v ≡ w) ⊎ (is_loose x.place w ≡ true)
 loose_past v u w held r x = elim (is_number (with_of x.place) u && not held) as (λ b. is_loose (if b then record x { place = Loose v; last = r } else x).place w ≡ true → (v ≡ w) ⊎ (is_loose x.place w ≡ true)) [
-  | true ↦ λ e. inl (number_eq v w e)
+  | true ↦ λ e. inl (eqb-true v w e)
   | false ↦ λ e. inr e
 ]
 
@@ -367,7 +361,7 @@ at_free Done w e = absurd (cc)
 at_free (At v) w e = refl
 
 between_zero : (c : Core) (t : ℕ) → is_between c t ≡ true → (c.course t).turns ≡ 0
-between_zero c t e = number_eq (c.course t).turns 0 e
+between_zero c t e = eqb-true (c.course t).turns 0 e
 
 fits_more : {V W : Type 0} (at : ThreadPlace) (x : Custody) (t k : ℕ) → (V → W) → Fits V at x t k → Fits W at x t k
 fits_more at x t k more f = record { out = λ h. (let y = f.out h in (more y.0, y.1)); given = λ h. (let y = f.given h in (more y.0, y.1)); waiting = f.waiting }
@@ -512,7 +506,7 @@ module _ (image : Shown) (limits : Limits) (c : Core) (s : Stands image limits c
   fits_take : (w u j : ℕ) → is_enabled image limits c (Take w u j) ≡ true → is_at (c.course u).place w ≡ true → (t : ℕ) → Fits (Wants image c t j) (c.course t).place (taken_by (c.custody j) u) t j
   fits_take w u j on at t = record {
     out = λ h. (s.fits t j).out (out_taken (is_in_line (c.custody j).line t) (is_free_lock (c.custody j).place) false (c.custody j).left (not (is_first (c.custody j).line t)) refl h);
-    given = λ h. subst (λ v. Wants image c v j × (is_free_to_go (c.course v).place ≡ true)) (number_eq u t h) (((s.fits u j).out (take_out w u j on)).0, at_free (c.course u).place w at);
+    given = λ h. subst (λ v. Wants image c v j × (is_free_to_go (c.course v).place ≡ true)) (eqb-true u t h) (((s.fits u j).out (take_out w u j on)).0, at_free (c.course u).place w at);
     waiting = (s.fits t j).waiting;
   }
 
@@ -526,7 +520,7 @@ module _ (image : Shown) (limits : Limits) (c : Core) (s : Stands image limits c
       (λ f. subst (λ i. Fits (Wants image c u i) at x u i) (sym f) (record { out = λ h. absurd ((passed_out w u u j run p h).0 refl); given = λ h. (wants, go); waiting = λ h. absurd (false_true _ (still j) h) }))
       (λ ne. sits u k at (λ h. absurd (ne (out_once u k j h out))) (λ h. go) (λ h. absurd (false_true _ (still k) h)))))
       (λ other. lock_is c j x (λ y. Fits (Wants image c t k) (c.course t).place y t k) k
-      (λ f. subst (λ i. Fits (Wants image c t i) (c.course t).place x t i) (sym f) (lies t j x (λ h. (passed_out w u t j run p h).1) (λ h. absurd (other (sym (number_eq u t h)))) (passed_behind w u j p t other)))
+      (λ f. subst (λ i. Fits (Wants image c t i) (c.course t).place x t i) (sym f) (lies t j x (λ h. (passed_out w u t j run p h).1) (λ h. absurd (other (sym (eqb-true u t h)))) (passed_behind w u j p t other)))
       (λ ne. s.fits t k)))
     where
       x : Custody
@@ -579,7 +573,7 @@ module _ (image : Shown) (limits : Limits) (c : Core) (s : Stands image limits c
   fits_after (Finish w u) on t k = fits_place u Done (quiet_event image limits c (Finish w u) on refl)
       (λ i. sits u i Done (λ h. absurd (let wants = ((s.fits u i).out h).0 in finish_not w u on wants.runs)) (λ h. absurd (let wants = ((s.fits u i).given h).0 in finish_not w u on wants.runs)) (λ h. absurd (cc))) t k
   fits_after (Ship w u j) on t k = fits_place u (Waiting j) (quiet_event image limits c (Ship w u j) on refl)
-      (λ i. sits u i (Waiting j) (λ h. subst (λ n. (j == n) ≡ true) (out_once u j i (ship_out w u j on) h) (same_number j)) (λ h. absurd (ship_given w u j i on h)) (λ h. subst (λ n. Behind (c.custody n).line u) (number_eq j i h) (ship_line w u j on))) t k
+      (λ i. sits u i (Waiting j) (λ h. subst (λ n. (j == n) ≡ true) (out_once u j i (ship_out w u j on) h) (eq_self j)) (λ h. absurd (ship_given w u j i on h)) (λ h. subst (λ n. Behind (c.custody n).line u) (eqb-true j i h) (ship_line w u j on))) t k
   fits_after (Enter w u j) on t k = fits_custody j _ (quiet_event image limits c (Enter w u j) on refl) (fits_enter w u j on (has_of w u _ on)) t k
   fits_after (Take w u j) on t k = fits_custody j _ (quiet_event image limits c (Take w u j) on refl) (fits_take w u j on (has_of w u _ on)) t k
   fits_after (Leave w j) on t k = fits_custody j _ (quiet_event image limits c (Leave w j) on refl)
@@ -601,7 +595,7 @@ module _ (image : Shown) (limits : Limits) (c : Core) (s : Stands image limits c
   ended_quiet d t quiet e = record { status = ap (λ (m : State). is_running (m.threads t).status) quiet.machine ∙ e.status; block = quiet.ended t ∙ e.block }
 
   at_worker : (w u : ℕ) → is_worker limits w ≡ true → IsSeated limits (IsEnded c u) (At w)
-  at_worker w u is = record { worker = λ v h. subst (λ i. is_worker limits i ≡ true) (number_eq w v h) is; done = λ y. absurd (cc) }
+  at_worker w u is = record { worker = λ v h. subst (λ i. is_worker limits i ≡ true) (eqb-true w v h) is; done = λ y. absurd (cc) }
 
   -- one thread came to a place
   seated_place : (d : Core) (u : ℕ) (at : ThreadPlace) → d.course ≡ c.course → Quiet c (with_place d u at) → IsSeated limits (IsEnded c u) at → AreSeated limits (with_place d u at)

@@ -12,4 +12,4 @@ pub mod Succession
 pub mod Counted
 pub mod Adopters
 pub mod Writing
-pub mod Existence
+pub mod Complete

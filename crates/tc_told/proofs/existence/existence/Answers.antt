@@ -1,4 +1,4 @@
-use Rattle.tc_told.proofs.Existence.{has_history}
+use Rattle.tc_told.proofs.Complete.{has_history}
 use Rattle.tc_told.proofs.existence.existence.Goals as goal
 
 pub returns : goal.returns

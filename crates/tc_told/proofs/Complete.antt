@@ -4,7 +4,7 @@ use Rattle.std.proofs.lemmas.List.Elements.{All-weaker}
 use Rattle.tc_elf.specs.Shown.{Shown}
 use Rattle.tc_elf.specs.declared.limits.TheConstants.{MAX_GUARDS}
 use Rattle.tc_journal.specs.declared.block.Block.{Block}
-use Rattle.tc_mutex_spec.specs.Progress.{IsSized, CompleteHistory}
+use Rattle.tc_mutex_spec.specs.Progress.{IsSized}
 use Rattle.tc_mutex_spec.proofs.Completing.{complete_history}
 use Rattle.tc_core.specs.Core.{Limits}
 use Rattle.tc_told.specs.Existence.{HasHistory}
