@@ -1,15 +1,9 @@
-use Rattle.tc_told.proofs.Realized.{is_written}
+use Rattle.tc_replay.proofs.Through.{in_order_from}
+use Rattle.tc_told.proofs.Strict.{run_written}
 use Rattle.tc_main.proofs.delegation.delegation.Goals as goal
 
 pub returns : goal.returns
 returns c = record {
   written = λ image o results legal.
-      is_written image (record { workers = o.workers; batch = o.limit }) o.fuel results.history (record {
-        last = legal.last;
-        history = legal.history;
-        tells = legal.tells;
-        workers = legal.workers;
-        obeys = legal.obeys;
-        passes = legal.passes;
-      });
+      run_written image (record { workers = o.workers; batch = o.limit }) o.fuel results.history legal.last legal.history (in_order_from 0 results.history legal.history) legal.tells legal.workers legal.obeys legal.passes;
 }
