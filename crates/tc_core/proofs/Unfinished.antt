@@ -36,7 +36,7 @@ pub record Keeps (image : Shown) (c : Core) (base : State) : Type 0 where
   pub gathers : Gathers image c.machine base (owned c) (done_of c)
   pub ends : HasEnds image base (done_of c) (ended_of c)
 
-keeps_quiet : (image : Shown) (c d : Core) (base : State) → Quiet c d → Keeps image c base → Keeps image d base
+pub keeps_quiet : (image : Shown) (c d : Core) (base : State) → Quiet c d → Keeps image c base → Keeps image d base
 unfolding owned done_of ended_of
 keeps_quiet image c d base quiet keeps =
     let o : owned d ≡ owned c = (λ i k. quiet.owned k i) in
@@ -59,7 +59,7 @@ extends_core image c t owners may = record {
   other = λ u ne. ap (λ (s : Course). s.turns) (pick_other u t _ (c.course u) ne);
 }
 
-keeps_turn : (image : Shown) (c : Core) (base : State) (t : ℕ) → MayTurn image c t → Keeps image c base → Keeps image (after_turn image c t) base
+pub keeps_turn : (image : Shown) (c : Core) (base : State) (t : ℕ) → MayTurn image c t → Keeps image c base → Keeps image (after_turn image c t) base
 unfolding done_of ended_of
 keeps_turn image c base t may keeps =
     let x = extends_core image c t keeps.sound may in
@@ -109,7 +109,7 @@ commit_ended_other : (image : Shown) (c : Core) (w t u : ℕ) → u ≢ t → ((
 unfolding effect
 commit_ended_other image c w t u ne = ap (λ (s : Course). s.ended) (pick_other u t _ (c.course u) ne)
 
-keeps_commit : (image : Shown) (c : Core) (base : State) (w t : ℕ) → Keeps image c base → Keeps image (effect image c (Commit w t)) (reach image base t (done_of c t))
+pub keeps_commit : (image : Shown) (c : Core) (base : State) (w t : ℕ) → Keeps image c base → Keeps image (effect image c (Commit w t)) (reach image base t (done_of c t))
 unfolding ended_of
 keeps_commit image c base w t keeps =
     let d = effect image c (Commit w t) in
@@ -140,7 +140,7 @@ commit_may : (image : Shown) (limits : Limits) (c : Core) (w t : ℕ) → is_ena
 unfolding is_enabled
 commit_may image limits c w t e = (both (has_thread image limits c w t) _ e).1
 
-block_runs : (image : Shown) (c : Core) (base : State) (t : ℕ) → Keeps image c base → is_some (c.course t).ended ≡ true → (end : End) × Runs image base t (done_of c t) end (reach image base t (done_of c t))
+pub block_runs : (image : Shown) (c : Core) (base : State) (t : ℕ) → Keeps image c base → is_some (c.course t).ended ≡ true → (end : End) × Runs image base t (done_of c t) end (reach image base t (done_of c t))
 unfolding done_of ended_of
 block_runs image c base t keeps some =
     let e = some_end (c.course t).ended some in (

@@ -76,7 +76,7 @@ finish image m base owned done g =
     ] in
     r.runs ∙ ap Some (all_whole image m r.to owned r.left r.gathers zeros)
 
-first_keeps : (image : Shown) (fuel : ℕ) → Keeps image (first_core image fuel) (start image fuel)
+pub first_keeps : (image : Shown) (fuel : ℕ) → Keeps image (first_core image fuel) (start image fuel)
 unfolding owned done_of ended_of
 first_keeps image fuel = record {
   sound = first_sound image fuel;

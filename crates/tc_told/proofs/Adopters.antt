@@ -126,7 +126,7 @@ adopt_loose : (image : Shown) (limits : Limits) (c : Core) (w t k : ℕ) → is_
 unfolding is_enabled
 adopt_loose image limits c w t k on = loose_is (c.custody k).place w (passes_loose image limits c w t k (both (may_pass image limits c w t k) (adopts limits c k) on).0)
 
-core_after : (image : Shown) (events : List Event) (s : Written) → (write_all image s events).core ≡ after_all image s.core events
+pub core_after : (image : Shown) (events : List Event) (s : Written) → (write_all image s events).core ≡ after_all image s.core events
 core_after image [] s = refl
 core_after image (e ∷ es) s = core_after image es (write image s e)
 

@@ -1,25 +1,27 @@
 -- After its block a thread that runs goes back, so the core stands between blocks again.
 use Rattle.std.proofs.Common.{◌≡◌, ℕ, Bool, true, false, not, ◌&&◌, ◌||◌, ◌==◌, List, [], ◌∷◌, ◌++◌, refl, sym, ap, ◌∙◌, inl, inr}
 use Rattle.std.specs.Cmp.Derive.{both_true}
+use Rattle.std.specs.Option.{option_map}
 use Rattle.std.specs.Prelude.{Option, Some, None, if◌then◌else◌}
 use Rattle.std.proofs.lemmas.Bool.Decides.{eqb_tells}
 use Rattle.tc_elf.specs.Shown.{Shown}
 use Rattle.tc_journal.specs.Batch.{ends_section, last_of}
-use Rattle.tc_journal.specs.History.{of_lock}
+use Rattle.tc_journal.specs.History.{of_lock, of_thread}
 use Rattle.tc_journal.specs.declared.block.Block.{Block}
 use Rattle.tc_turn.specs.Turn.{is_running, next_lock}
 use Rattle.tc_mutex_spec.specs.Machine.{State}
 use Rattle.tc_mutex_spec.proofs.BlocksAlike.{eq_self}
-use Rattle.tc_core.specs.declared.event.Event.TheVariants.{HandBack, Finish}
-use Rattle.tc_core.specs.declared.place.ThreadPlace.TheVariants.{Ready}
+use Rattle.tc_core.specs.declared.event.Event.TheVariants.{HandBack, Park, Finish}
+use Rattle.tc_core.specs.declared.place.ThreadPlace.{ThreadPlace}
+use Rattle.tc_core.specs.declared.place.ThreadPlace.TheVariants.{Ready, Parked, Done}
 use Rattle.tc_core.specs.declared.place.LockPlace.{LockPlace}
 use Rattle.tc_core.specs.declared.place.LockPlace.TheVariants.{With, Loose}
 use Rattle.tc_core.specs.declared.place.Course.{Course}
 use Rattle.tc_core.specs.Lines.{is_in_line, is_first}
-use Rattle.tc_core.specs.Core.{Core, Limits, is_at, is_free_lock}
-use Rattle.tc_core.specs.Events.{is_enabled, effect, is_worker, is_thread, has_entered}
-use Rattle.tc_core.proofs.Quiet.{pick_other, quiet_event}
-use Rattle.tc_told.specs.Written.{Written, write}
+use Rattle.tc_core.specs.Core.{Core, Limits, is_at, is_slept, is_free_lock, with_place}
+use Rattle.tc_core.specs.Events.{is_enabled, effect, is_worker, is_thread, has_thread, has_entered, may_go_back}
+use Rattle.tc_core.proofs.Quiet.{pick_other, quiet_course}
+use Rattle.tc_told.specs.Written.{Written, place_after}
 use Rattle.tc_told.proofs.Leads.{Kept, Leads, comes, and_then}
 use Rattle.tc_told.proofs.Front.{place_by, line_by, IsCustody, Front, between_quiet}
 use Rattle.tc_told.proofs.Turns.{can_parts, Starts, Turned, all_turns}
@@ -48,42 +50,38 @@ none_entered limits bs c t custody (Some k) = (let x = custody k in (λ i. enter
 goes_back : (image : Shown) (limits : Limits) (seen : List Block) (to : State) (w t : ℕ) (s : Written) → is_worker limits w ≡ true → is_thread image t ≡ true → Kept s.core → Closed image limits seen to w t s
     → Leads image limits s (Front image limits seen to)
 unfolding is_enabled effect
-goes_back image limits seen to w t s worker thread kept is = go (is_running (to.threads t).status) refl
+goes_back image limits seen to w t s worker thread kept is = go (is_running (to.threads t).status) (is_slept (option_map (λ (c : Block). c.end) (last_of (of_thread seen t)))) refl refl
   where
-    on : is_running (to.threads t).status ≡ true → is_enabled image limits s.core (HandBack w t) ≡ true
-    on runs = both_true (both_true worker (both_true thread (ap (λ p. is_at p w) is.at ∙ eq_self w)))
+    has_it : has_thread image limits s.core w t ≡ true
+    has_it = both_true worker (both_true thread (ap (λ p. is_at p w) is.at ∙ eq_self w))
+
+    back_on : is_running (to.threads t).status ≡ true → may_go_back image limits s.core w t ≡ true
+    back_on runs = both_true has_it
         (both_true (ap (λ (x : State). is_running (x.threads t).status) is.between.machine ∙ runs)
         (both_true (ap (λ x. x == 0) (is.between.turns t)) (ap not (none_entered limits (of_lock seen) s.core t is.custody (next_lock image (s.core.machine.threads t))))))
 
-    front : is_running (to.threads t).status ≡ true → Front image limits seen to (write image s (HandBack w t))
-    front runs = (let quiet = quiet_event image limits s.core (HandBack w t) (on runs) refl in record {
-      between = between_quiet seen to s (write image s (HandBack w t)) quiet refl is.between;
-      ready = λ u r. elim (eqb_tells u t) [
-        | inl e ↦ ap (λ b. (if b then record (s.core.course t) { place = Ready } else s.core.course u).place) e.0
-        | inr e ↦ ap (λ (x : Course). x.place) (pick_other u t _ (s.core.course u) e.1) ∙ is.ready u e.1 r
-      ];
-      custody = is.custody;
-      next = is.next;
-    })
-
     finish_on : is_running (to.threads t).status ≡ false → is_enabled image limits s.core (Finish w t) ≡ true
-    finish_on ends = both_true (both_true worker (both_true thread (ap (λ p. is_at p w) is.at ∙ eq_self w)))
-        (both_true (ap (λ (x : State). not (is_running (x.threads t).status)) is.between.machine ∙ ap not ends) (ap (λ x. x == 0) (is.between.turns t)))
+    finish_on ends = both_true has_it (both_true (ap (λ (x : State). not (is_running (x.threads t).status)) is.between.machine ∙ ap not ends) (ap (λ x. x == 0) (is.between.turns t)))
 
-    finished : is_running (to.threads t).status ≡ false → Front image limits seen to (write image s (Finish w t))
-    finished ends = (let quiet = quiet_event image limits s.core (Finish w t) (finish_on ends) refl in record {
-      between = between_quiet seen to s (write image s (Finish w t)) quiet refl is.between;
-      ready = λ u r. elim (eqb_tells u t) [
-        | inl e ↦ absurd (let f : true ≡ false = sym r ∙ ap (λ v. is_running (to.threads v).status) e.1 ∙ ends in cc)
-        | inr e ↦ ap (λ (x : Course). x.place) (pick_other u t _ (s.core.course u) e.1) ∙ is.ready u e.1 r
+    -- the thread comes to where it rests
+    front : (p : ThreadPlace) → p ≡ place_after to seen t → Front image limits seen to (record { core = with_place s.core t p; next = s.next; history = s.history })
+    front p e = record {
+      between = between_quiet seen to s (record { core = with_place s.core t p; next = s.next; history = s.history }) (quiet_course s.core t p) refl is.between;
+      rests = λ u lt. elim (eqb_tells u t) [
+        | inl h ↦ ap (λ b. (if b then record (s.core.course t) { place = p } else s.core.course u).place) h.0 ∙ e ∙ ap (place_after to seen) (sym h.1)
+        | inr h ↦ ap (λ (x : Course). x.place) (pick_other u t _ (s.core.course u) h.1) ∙ is.rests u h.1 lt
       ];
       custody = is.custody;
       next = is.next;
-    })
+    }
 
-    go : (v : Bool) → is_running (to.threads t).status ≡ v → Leads image limits s (Front image limits seen to)
-    go true runs = comes image limits s (Front image limits seen to) (HandBack w t) kept (on runs) (front runs)
-    go false ends = comes image limits s (Front image limits seen to) (Finish w t) kept (finish_on ends) (finished ends)
+    place_is : (v y : Bool) → is_running (to.threads t).status ≡ v → is_slept (option_map (λ (c : Block). c.end) (last_of (of_thread seen t))) ≡ y → (if v then (if y then Parked else Ready) else Done) ≡ place_after to seen t
+    place_is v y e f = λ i. if sym e i then (if sym f i then Parked else Ready) else Done
+
+    go : (v y : Bool) → is_running (to.threads t).status ≡ v → is_slept (option_map (λ (c : Block). c.end) (last_of (of_thread seen t))) ≡ y → Leads image limits s (Front image limits seen to)
+    go true true runs f = comes image limits s (Front image limits seen to) (Park w t) kept (both_true (back_on runs) (is.slept ∙ f)) (front Parked (place_is true true runs f))
+    go true false runs f = comes image limits s (Front image limits seen to) (HandBack w t) kept (back_on runs) (front Ready (place_is true false runs f))
+    go false y ends f = comes image limits s (Front image limits seen to) (Finish w t) kept (finish_on ends) (front Done (place_is false y ends f))
 
 -- from where the block may begin to the next one
 pub block_done : (image : Shown) (limits : Limits) (seen : List Block) (m to : State) (b : Block) → IsNext image limits seen m b to → (s : Written) → Kept s.core → Opened image limits seen m b s

@@ -10,10 +10,11 @@ use Rattle.std.proofs.lemmas.List.Elements.{filter-append}
 use Rattle.std.proofs.lemmas.Nat.Bits.{same_from_bits, bit_at_above, bit_at-lt}
 use Rattle.tc_isa.specs.Sets.{has}
 use Rattle.tc_elf.specs.Shown.{Shown}
-use Rattle.tc_journal.specs.Batch.{begins, is_lock, ends_section, run_of, run_after}
-use Rattle.tc_journal.specs.History.{of_lock}
+use Rattle.tc_journal.specs.Batch.{begins, is_lock, ends_section, last_of, run_of, run_after}
+use Rattle.tc_journal.specs.History.{of_lock, of_thread}
 use Rattle.tc_journal.specs.declared.block.Block.{Block}
 use Rattle.tc_journal.specs.declared.block.Kind.TheVariants as kind
+use Rattle.tc_journal.proofs.Batching.{last_more}
 use Rattle.tc_turn.specs.Turn.{Thread, is_running, next_lock}
 use Rattle.tc_exec.specs.Told.{IsAct, IsLock}
 use Rattle.tc_exec.proofs.Cases.{act_told}
@@ -21,19 +22,20 @@ use Rattle.tc_turn.proofs.Turns.{next_some}
 use Rattle.tc_mutex_spec.specs.Machine.{State}
 use Rattle.tc_mutex_spec.specs.Blocks.{locks_of_block, reach, Stands, has_block}
 use Rattle.tc_mutex_spec.proofs.BlocksAlike.{eq_self, runs_apart}
+use Rattle.tc_mutex_spec.proofs.Entries.{own_more, other_more}
 use Rattle.tc_mutex_spec.proofs.Going.{block_survives, block_gives}
 use Rattle.tc_mutex_spec.proofs.Replaying.{takes_is}
 use Rattle.tc_core.specs.declared.event.Event.TheVariants.{Commit}
-use Rattle.tc_core.specs.declared.place.ThreadPlace.TheVariants.{Ready, At}
+use Rattle.tc_core.specs.declared.place.ThreadPlace.TheVariants.{Ready, Parked, Done, At}
 use Rattle.tc_core.specs.declared.place.LockPlace.TheVariants.{With, Granted}
 use Rattle.tc_core.specs.declared.place.Course.{Course}
 use Rattle.tc_core.specs.declared.place.Custody.{Custody}
-use Rattle.tc_core.specs.Core.{Core, Limits, is_at, is_number, with_of}
+use Rattle.tc_core.specs.Core.{Core, Limits, is_at, is_slept, is_number, with_of}
 use Rattle.tc_core.specs.Events.{is_enabled, effect, is_worker, held_with, held_past, release_of, course_past, custody_on, custody_past}
 use Rattle.tc_core.proofs.Quiet.{pick_mine, pick_other}
 use Rattle.tc_core.proofs.Erasure.{taken_other}
 use Rattle.tc_core.proofs.Tracked.{with_has}
-use Rattle.tc_told.specs.Written.{Beginning, Written}
+use Rattle.tc_told.specs.Written.{Beginning, Written, place_after}
 use Rattle.tc_told.proofs.Leads.{Kept, Leads, comes}
 use Rattle.tc_told.proofs.Front.{block_on, IsCustody, beginning_by, kind_by, Between}
 use Rattle.tc_told.proofs.Custodies.{IsWith, after_block, held_before, past_kept}
@@ -50,7 +52,7 @@ pub record IsGiven (k : ℕ) (bs : List Block) (b : Block) (x : Custody) : Type 
 pub record Opened (image : Shown) (limits : Limits) (seen : List Block) (m : State) (b : Block) (s : Written) : Type 0 where
   pub between : Between seen m s
   pub at : (s.core.course b.thread).place ≡ At b.worker
-  pub ready : (u : ℕ) → u ≢ b.thread → is_running (m.threads u).status ≡ true → (s.core.course u).place ≡ Ready
+  pub rests : (u : ℕ) → u ≢ b.thread → u < length image.entries → (s.core.course u).place ≡ place_after m seen u
   pub custody : (k : ℕ) → next_lock image (m.threads b.thread) ≢ Some k → IsCustody limits k (of_lock seen k) (s.core.custody k)
   pub given : (k : ℕ) → next_lock image (m.threads b.thread) ≡ Some k → IsGiven k (of_lock seen k) b (s.core.custody k)
   pub mine : s.next b.thread ≡ record { kind = b.kind; pc = (m.threads b.thread).regs.pc }
@@ -72,11 +74,11 @@ same_sets a b same = same_from_bits a b (λ k. one (bit_at a k) (bit_at b k) (bi
       | inr h ↦ elim (eqb_tells y 1) [ inl g ↦ absurd (let f : false ≡ true = sym h.0 ∙ e ∙ g.0 in cc) | inr g ↦ (let a : x ≢ 1 = h.1 in let b : y ≢ 1 = g.1 in omega arith) ]
     ]
 
-held_with_has : (h : ℕ) (held : ℕ → Bool) (next : Option ℕ) (k : ℕ) → has h k ≡ held k → has (held_with h next) k ≡ locks_of_block held next k
+pub held_with_has : (h : ℕ) (held : ℕ → Bool) (next : Option ℕ) (k : ℕ) → has h k ≡ held k → has (held_with h next) k ≡ locks_of_block held next k
 held_with_has h held None k e = e
 held_with_has h held (Some lock) k e = with_has h lock k ∙ ap (λ v. (k == lock) || v) e
 
-is_lock_other : (o : Option ℕ) (k : ℕ) → o ≢ Some k → is_lock o k ≡ false
+pub is_lock_other : (o : Option ℕ) (k : ℕ) → o ≢ Some k → is_lock o k ≡ false
 is_lock_other None k ne = refl
 is_lock_other (Some j) k ne = elim (eqb_tells k j) [ inl h ↦ absurd (ne (ap Some (sym h.1))) | inr h ↦ h.0 ]
 
@@ -84,10 +86,10 @@ pub takes_or : (o : Option ℕ) (k : ℕ) → (o ≡ Some k) ⊎ (o ≢ Some k)
 takes_or None k = inr (λ e. cc)
 takes_or (Some j) k = elim (eqb_tells j k) [ inl h ↦ inl (ap Some h.1) | inr h ↦ inr (λ e. h.1 cc) ]
 
-taken_is : (o : Option ℕ) (t k : ℕ) (x : Custody) → o ≡ Some k → custody_on o t k x ≡ record x { place = With t }
+pub taken_is : (o : Option ℕ) (t k : ℕ) (x : Custody) → o ≡ Some k → custody_on o t k x ≡ record x { place = With t }
 taken_is o t k x e = ap (λ y. custody_on y t k x) e ∙ ap (λ b. if b then record x { place = With t } else x) (eq_self k)
 
-has_block_more : (seen : List Block) (b : Block) (u : ℕ) → has_block (seen ++ b ∷ []) u ≡ (has_block seen u || (b.thread == u))
+pub has_block_more : (seen : List Block) (b : Block) (u : ℕ) → has_block (seen ++ b ∷ []) u ≡ (has_block seen u || (b.thread == u))
 has_block_more [] b u = or-false (b.thread == u)
 has_block_more (x ∷ seen) b u = ap (λ v. (x.thread == u) || v) (has_block_more seen b u) ∙ sym (or_assoc (x.thread == u) (has_block seen u) (b.thread == u))
 
@@ -95,7 +97,8 @@ has_block_more (x ∷ seen) b u = ap (λ v. (x.thread == u) || v) (has_block_mor
 pub record Closed (image : Shown) (limits : Limits) (seen : List Block) (to : State) (w t : ℕ) (s : Written) : Type 0 where
   pub between : Between seen to s
   pub at : (s.core.course t).place ≡ At w
-  pub ready : (u : ℕ) → u ≢ t → is_running (to.threads u).status ≡ true → (s.core.course u).place ≡ Ready
+  pub slept : is_slept (s.core.course t).last ≡ is_slept (option_map (λ (c : Block). c.end) (last_of (of_thread seen t)))
+  pub rests : (u : ℕ) → u ≢ t → u < length image.entries → (s.core.course u).place ≡ place_after to seen u
   pub custody : (k : ℕ) → IsCustody limits k (of_lock seen k) (s.core.custody k)
   pub next : (u : ℕ) → s.next u ≡ beginning_by seen to u
 
@@ -154,10 +157,10 @@ module _ (image : Shown) (limits : Limits) (seen : List Block) (m to : State) (b
   of_lock_more : (k : ℕ) → of_lock more k ≡ of_lock seen k ++ (if has b.held k then b ∷ [] else [])
   of_lock_more k = filter-append (λ (c : Block). has c.held k) seen (b ∷ [])
 
-  lock_in : (k : ℕ) → has b.held k ≡ true → of_lock seen k ++ b ∷ [] ≡ of_lock more k
+  pub lock_in : (k : ℕ) → has b.held k ≡ true → of_lock seen k ++ b ∷ [] ≡ of_lock more k
   lock_in k h = sym (of_lock_more k ∙ ap (λ v. of_lock seen k ++ (if v then b ∷ [] else [])) h)
 
-  lock_out : (k : ℕ) → has b.held k ≡ false → of_lock seen k ≡ of_lock more k
+  pub lock_out : (k : ℕ) → has b.held k ≡ false → of_lock seen k ≡ of_lock more k
   lock_out k h = sym (of_lock_more k ∙ ap (λ v. of_lock seen k ++ (if v then b ∷ [] else [])) h ∙ append-nil (of_lock seen k))
 
   other_thread : (u : ℕ) → u ≢ t → to.threads u ≡ m.threads u
@@ -261,7 +264,8 @@ module _ (image : Shown) (limits : Limits) (seen : List Block) (m to : State) (b
             history = written;
           };
           at = ap (λ (y : Course). y.place) mine ∙ by.at;
-          ready = λ u ne runs. ap (λ (y : Course). y.place) (other u ne) ∙ open_block.ready u ne (ap (λ (y : Thread). is_running y.status) (sym (other_thread u ne)) ∙ runs);
+          slept = ap (λ (y : Course). is_slept y.last) mine ∙ ap is_slept (ended_is ∙ sym (ap (λ bs. option_map (λ (c : Block). c.end) (last_of bs)) (own_more seen b) ∙ ap (option_map (λ (c : Block). c.end)) (last_more (of_thread seen t) b)));
+          rests = λ u ne lt. ap (λ (y : Course). y.place) (other u ne) ∙ open_block.rests u ne lt ∙ still_rests u ne;
           custody = custody_after;
           next = λ u. elim (eqb_tells u t) [
             | inl e ↦ subst (λ v. (if v == t then record { kind = kind.On; pc = (c.machine.threads t).regs.pc } else x.next v) ≡ beginning_by (seen ++ b ∷ []) to v) (sym e.1)
@@ -274,5 +278,10 @@ module _ (image : Shown) (limits : Limits) (seen : List Block) (m to : State) (b
           ];
         })
       where
+        still_rests : (u : ℕ) → u ≢ t → place_after m seen u ≡ place_after to more u
+        still_rests u ne = λ i. if is_running (sym (other_thread u ne) i).status
+            then (if is_slept (option_map (λ (c : Block). c.end) (last_of (sym (other_more seen b u (λ e. ne (sym e))) i))) then Parked else Ready)
+            else Done
+
         differ : {u : ℕ} → u ≢ t → (t == u) ≡ false
         differ {u = u} ne = elim (eqb_tells t u) [ inl h ↦ absurd (ne (sym h.1)) | inr h ↦ h.0 ]

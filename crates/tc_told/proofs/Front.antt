@@ -9,10 +9,8 @@ use Rattle.tc_journal.specs.declared.block.Block.{Block}
 use Rattle.tc_journal.specs.declared.block.End.{End}
 use Rattle.tc_journal.specs.declared.block.Kind.{Kind}
 use Rattle.tc_journal.specs.declared.block.Kind.TheVariants as kind
-use Rattle.tc_turn.specs.Turn.{is_running}
 use Rattle.tc_mutex_spec.specs.Machine.{State}
 use Rattle.tc_mutex_spec.specs.Blocks.{has_block}
-use Rattle.tc_core.specs.declared.place.ThreadPlace.TheVariants.{Ready}
 use Rattle.tc_core.specs.declared.place.LockPlace.{LockPlace}
 use Rattle.tc_core.specs.declared.place.LockPlace.TheVariants.{With, Loose}
 use Rattle.tc_core.specs.declared.place.LockPlace.TheVariants as place
@@ -20,7 +18,7 @@ use Rattle.tc_core.specs.declared.place.Course.{Course}
 use Rattle.tc_core.specs.declared.place.Custody.{Custody}
 use Rattle.tc_core.proofs.Quiet.{Quiet}
 use Rattle.tc_core.specs.Core.{Limits}
-use Rattle.tc_told.specs.Written.{Beginning, Written, with_block}
+use Rattle.tc_told.specs.Written.{Beginning, Written, with_block, place_after}
 
 -- a lock by the last of its blocks: free; with the block's thread; or loose at the worker that released it, where the thread
 -- that had it still stands alone in the line
@@ -59,10 +57,10 @@ pub record Between (seen : List Block) (m : State) (s : Written) : Type 0 where
   pub ended : (u : ℕ) → (s.core.course u).ended ≡ None
   pub history : s.history ≡ seen
 
--- after the blocks `seen`, which lead to m: each thread that runs is Ready, and each lock is as the last of its blocks says
+-- after the blocks `seen`, which lead to m: each thread rests, and each lock is as the last of its blocks says
 pub record Front (image : Shown) (limits : Limits) (seen : List Block) (m : State) (s : Written) : Type 0 where
   pub between : Between seen m s
-  pub ready : (u : ℕ) → is_running (m.threads u).status ≡ true → (s.core.course u).place ≡ Ready
+  pub rests : (u : ℕ) → u < length image.entries → (s.core.course u).place ≡ place_after m seen u
   pub custody : (k : ℕ) → IsCustody limits k (of_lock seen k) (s.core.custody k)
   pub next : (u : ℕ) → s.next u ≡ beginning_by seen m u
 

@@ -25,11 +25,11 @@ pub record Leads (image : Shown) (limits : Limits) (s : Written) (P : Written �
   pub comes : P (write_all image s events)
   pub kept : Kept (write_all image s events).core
 
-enabled-append : (image : Shown) (limits : Limits) (es fs : List Event) (s : Written) → AreEnabled image limits s.core es → AreEnabled image limits (write_all image s es).core fs → AreEnabled image limits s.core (es ++ fs)
+pub enabled-append : (image : Shown) (limits : Limits) (es fs : List Event) (s : Written) → AreEnabled image limits s.core es → AreEnabled image limits (write_all image s es).core fs → AreEnabled image limits s.core (es ++ fs)
 enabled-append image limits [] fs s p q = q
 enabled-append image limits (e ∷ es) fs s p q = (p.0, enabled-append image limits es fs (write image s e) p.1 q)
 
-write_all-append : (image : Shown) (es fs : List Event) (s : Written) → write_all image s (es ++ fs) ≡ write_all image (write_all image s es) fs
+pub write_all-append : (image : Shown) (es fs : List Event) (s : Written) → write_all image s (es ++ fs) ≡ write_all image (write_all image s es) fs
 write_all-append image [] fs s = refl
 write_all-append image (e ∷ es) fs s = write_all-append image es fs (write image s e)
 

@@ -1,4 +1,5 @@
 pub mod Leads
+pub mod Small
 pub mod Front
 pub mod Turns
 pub mod Custodies
@@ -6,7 +7,14 @@ pub mod Committed
 pub mod Back
 pub mod Sections
 pub mod Openings
+pub mod Standing
+pub mod Ruled
+pub mod Conversely
+pub mod Ruling
 pub mod Realized
+pub mod Closing
+pub mod InParts
+pub mod Strict
 pub mod Thinned
 pub mod Succession
 pub mod Counted

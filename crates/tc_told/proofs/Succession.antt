@@ -4,10 +4,11 @@ use Rattle.std.specs.Prelude.{Option, Some, None, All, if◌then◌else◌}
 use Rattle.std.proofs.Math.Bool.{or-true}
 use Rattle.std.proofs.lemmas.Bool.{eqb-true}
 use Rattle.std.proofs.lemmas.Bool.Decides.{eqb_tells}
+use Rattle.std.proofs.lemmas.List.{map-id}
 use Rattle.std.proofs.lemmas.List.Elements.{All-head, All-tail}
 use Rattle.tc_isa.specs.Sets.{has}
 use Rattle.tc_elf.specs.Shown.{Shown}
-use Rattle.tc_journal.specs.Batch.{begins, is_lock, is_adopted, unlocks, ends_thread, ends_section, may_adopt, may_begin, may_go_on, may_follow, passes_to, last_of, run_of, allows_of}
+use Rattle.tc_journal.specs.Batch.{begins, is_lock, is_adopted, unlocks, ends_thread, ends_section, may_adopt, may_begin, may_go_on, may_follow, passes_on, passes_to, last_of, run_of, allows_of, ObeysAfter}
 use Rattle.tc_journal.specs.Handing.{of_worker, has_unlocked, IsHandedOver, IsRunOn, IsStillAt, Delegates}
 use Rattle.tc_journal.specs.History.{IsHistoryFrom, of_lock, of_thread}
 use Rattle.tc_journal.specs.declared.block.Block.{Block}
@@ -23,11 +24,11 @@ use Rattle.tc_mutex_spec.proofs.BlocksAlike.{eq_self, runs_apart}
 use Rattle.tc_mutex_spec.proofs.Leaving.{block_releases}
 use Rattle.tc_core.specs.Core.{Limits}
 use Rattle.tc_core.proofs.Quiet.{both}
-use Rattle.tc_told.specs.Handover.{first_of, BeginsAdopted, IsBehindRelease, HasWaited, BeginsWith, IsCutUp}
-use Rattle.tc_told.specs.Written.{KeepsRules}
+use Rattle.tc_told.specs.Handover.{first_of, ShowsDelegation, BeginsAdopted, IsBehindRelease, HasWaited, BeginsWith, IsCutUp}
 use Rattle.tc_told.proofs.Committed.{IsNext, begins_is, keeps}
-use Rattle.tc_told.proofs.Openings.{allowed, passed, adopt_ends}
-use Rattle.tc_told.proofs.Realized.{Rules, rule_now, rules_on, takes_it}
+use Rattle.tc_told.proofs.Openings.{passed, adopt_ends}
+use Rattle.tc_told.proofs.Ruling.{Rules, rule_now, rules_on}
+use Rattle.tc_told.proofs.Realized.{takes_it}
 use Rattle.tc_told.proofs.Thinned.{first_some, with_it, behind_none, none_of, not_in_none, first_is, last_is, last_there, same_last, stands_behind}
 
 -- ---- the rules, at a block
@@ -59,6 +60,18 @@ adopts_behind lock limit run (Some q) Adopted w t is may pass = (
   λ e. (let same : (q.thread == t) ≡ true = ap (λ n. n == t) e ∙ eq_self t in let no : not (q.thread == t) ≡ false = ap not same in cc),
 )
 adopts_behind lock limit run o Granted w t is may pass = absurd (cc)
+
+-- each block stands for itself
+abbrev itself : Block → Block
+itself b = b
+
+rule_here : (limits : Limits) (seen h : List Block) (b : Block) (k : ℕ) → Rules itself limits seen (b ∷ h) k → has b.held k ≡ true → (may_follow k limits.batch (of_lock seen k) b ≡ true) × (passes_on k (of_lock seen k) b ≡ true)
+rule_here limits seen h b k rules e = (let r = rule_now itself limits seen h b k rules e in (subst (λ bs. may_follow k limits.batch bs b ≡ true) (map-id (of_lock seen k)) r.0, r.1))
+
+-- the rule for the lock that the block takes
+allowed : (k limit : ℕ) (bs : List Block) (b : Block) → begins k b ≡ true → may_follow k limit bs b ≡ true → may_begin k limit (last_of bs) (run_of k bs) b.kind b.worker ≡ true
+unfolding may_follow allows_of
+allowed k limit bs b begin e = ap (λ v. if v then may_begin k limit (last_of bs) (run_of k bs) b.kind b.worker else may_go_on k (last_of bs) b.thread) (sym begin) ∙ e
 
 -- a section follows a block only where that ended one
 begins_behind : (lock limit run : ℕ) (c : Block) (kind : Kind) (w : ℕ) → may_begin lock limit (Some c) run kind w ≡ true → ends_section lock c ≡ true
@@ -93,10 +106,10 @@ record Placed (image : Shown) (limits : Limits) (before : List Block) (b : Block
   pub to : State
   pub is : IsNext image limits before from b to
   pub rest : TellsAfter image (before ++ b ∷ []) to after last
-  pub rules : (k : ℕ) → k < length image.guards → Rules limits before (b ∷ after) k
+  pub rules : (k : ℕ) → k < length image.guards → Rules itself limits before (b ∷ after) k
 
 placed : (image : Shown) (limits : Limits) (seen before : List Block) (b : Block) (after : List Block) (m last : State) → IsHistoryFrom (length seen) (before ++ b ∷ after) → TellsAfter image seen m (before ++ b ∷ after) last
-    → All (λ (c : Block). c.worker < limits.workers) (before ++ b ∷ after) → ((k : ℕ) → k < length image.guards → Rules limits seen (before ++ b ∷ after) k) → Placed image limits (seen ++ before) b after last
+    → All (λ (c : Block). c.worker < limits.workers) (before ++ b ∷ after) → ((k : ℕ) → k < length image.guards → Rules itself limits seen (before ++ b ∷ after) k) → Placed image limits (seen ++ before) b after last
 placed image limits seen [] b after m last history tells workers rules =
     let here : Placed image limits seen b after last = record {
       from = m;
@@ -109,7 +122,7 @@ placed image limits seen [] b after m last history tells workers rules =
 placed image limits seen (x ∷ before) b after m last history tells workers rules =
     subst (λ l. Placed image limits l b after last) (append_assoc seen (x ∷ []) before)
     (placed image limits (seen ++ x ∷ []) before b after tells.0 last (subst (λ n. IsHistoryFrom n (before ++ b ∷ after)) (sym (length-append seen (x ∷ []))) history.2) tells.2
-    (All-tail (λ (c : Block). c.worker < limits.workers) x (before ++ b ∷ after) workers) (λ k lt. rules_on limits seen (before ++ b ∷ after) x k (rules k lt)))
+    (All-tail (λ (c : Block). c.worker < limits.workers) x (before ++ b ∷ after) workers) (λ k lt. rules_on itself limits seen (before ++ b ∷ after) x k (rules k lt)))
 
 -- while no block has the lock, its thread has no block
 none_of_holder : (image : Shown) (seen bs after : List Block) (m last : State) (t lock : ℕ) → TellsAfter image seen m (bs ++ after) last → (m.threads t).held lock ≡ true → of_lock bs lock ≡ [] → of_thread bs t ≡ []
@@ -138,12 +151,15 @@ record Hands (before : List Block) (lock : ℕ) (b : Block) : Type 0 where
   pub worker : waited.release.worker ≡ b.worker
   pub held : has waited.release.held lock ≡ true
 
-module _ (image : Shown) (limits : Limits) (fuel : ℕ) (h : List Block) (rules : KeepsRules image limits fuel h) (delegates : Delegates h) where
+module _ (image : Shown) (limits : Limits) (fuel : ℕ) (h : List Block) (rules : ShowsDelegation image limits fuel h) where
+  delegates : Delegates h
+  delegates = rules.delegates
+
   place_of : (before : List Block) (b : Block) (after : List Block) → h ≡ before ++ b ∷ after → Placed image limits before b after rules.last
   place_of before b after place =
       placed image limits [] before b after (start image fuel) rules.last (subst (λ l. IsHistoryFrom 0 l) place rules.history) (subst (λ l. TellsAfter image [] (start image fuel) l rules.last) place rules.tells)
       (subst (All (λ (c : Block). c.worker < limits.workers)) place rules.workers)
-      (λ k lt. subst (λ l. Rules limits [] l k) place (record { obeys = rules.obeys k lt; passes = rules.passes k lt }))
+      (λ k lt. subst (λ l. Rules itself limits [] l k) place (record { obeys = subst (ObeysAfter k limits.batch []) (sym (map-id (of_lock h k))) (rules.obeys k lt); passes = rules.passes k lt }))
 
   -- a block that unlocked the lock had it
   releaser_has : (before : List Block) (p : Block) (after : List Block) (lock : ℕ) → h ≡ before ++ p ∷ after → p.end ≡ Unlocked lock → has p.held lock ≡ true
@@ -171,7 +187,7 @@ module _ (image : Shown) (limits : Limits) (fuel : ℕ) (h : List Block) (rules 
       let has_it : Block → Bool = λ c. has c.held lock in
       let p = some_unlocked lock (last_of (of_worker before b.worker)) (stands_behind IsHandedOver is_its h before b after (delegates.handed b.worker) place (eq_self b.worker) lock adopted.0 adopted.1) in
       let mine = last_is is_its before p.0 p.1 in
-      let rule = rule_now limits before after b lock (at.rules lock known.0) known.1 in
+      let rule = rule_here limits before after b lock (at.rules lock known.0) known.1 in
       let q = adopts_behind lock limits.batch (run_of lock (of_lock before lock)) (last_of (of_lock before lock)) b.kind b.worker b.thread adopted.1
       (allowed lock limits.batch (of_lock before lock) b adopted.0 rule.0) (passed lock (of_lock before lock) b adopted.0 rule.1) in
       let its = last_is has_it before q.0 q.1 in
@@ -235,7 +251,7 @@ module _ (image : Shown) (limits : Limits) (fuel : ℕ) (h : List Block) (rules 
       let at = place_of before c after place in
       let held = keeps image limits before at.from at.to c at.is lock has_c ∙ ap not (cut_ends_none lock c cut) in
       let quiet : of_thread first.sooner c.thread ≡ [] = none_of_holder image (before ++ c ∷ []) first.sooner (d ∷ first.later) at.to rules.last c.thread lock (subst (λ l. TellsAfter image (before ++ c ∷ []) at.to l rules.last) first.place at.rest) held first.none in
-      let rule = rule_now limits (before ++ c ∷ first.sooner) first.later d lock ((place_of (before ++ c ∷ first.sooner) d first.later there).rules lock known) first.passes in
+      let rule = rule_here limits (before ++ c ∷ first.sooner) first.later d lock ((place_of (before ++ c ∷ first.sooner) d first.later there).rules lock known) first.passes in
       let same = cut_goes_on lock limits.batch (of_lock (before ++ c ∷ first.sooner) lock) c d (last_there (λ x. has x.held lock) before c first.sooner has_c first.none) cut rule.0 in
       record {
         between = first.sooner;

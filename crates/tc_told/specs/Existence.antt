@@ -1,6 +1,7 @@
 -- That there is a history which keeps the rules.
 use Rattle.std.specs.Prelude.{ℕ, List}
 use Rattle.tc_elf.specs.Shown.{Shown}
+use Rattle.tc_journal.specs.History.{IsHistory}
 use Rattle.tc_journal.specs.declared.block.Block.{Block}
 use Rattle.tc_mutex_spec.specs.Blocks.{IsComplete}
 use Rattle.tc_core.specs.Core.{Limits}
@@ -9,5 +10,6 @@ use Rattle.tc_told.specs.Written.{KeepsRules}
 -- a history that keeps the rules, and goes to the end of every thread
 pub record HasHistory (image : Shown) (limits : Limits) (fuel : ℕ) : Type 0 where
   pub history : List Block
+  pub numbers : IsHistory history
   pub rules : KeepsRules image limits fuel history
   pub complete : IsComplete image rules.last

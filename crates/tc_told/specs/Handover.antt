@@ -1,10 +1,27 @@
 -- What the laws of delegation show of a section, at the place of its first block in a history.
 use Rattle.std.specs.Prelude.{◌≡◌, ◌≢◌, ℕ, true, List, [], ◌∷◌, ◌++◌, slice_get, Option, Some}
-use Rattle.tc_journal.specs.Batch.{begins, is_adopted, last_of}
-use Rattle.tc_journal.specs.Handing.{of_worker}
-use Rattle.tc_journal.specs.History.{of_lock}
+use Rattle.tc_elf.specs.Shown.{Shown}
+use Rattle.tc_journal.specs.Batch.{begins, is_adopted, last_of, Obeys, PassesOn}
+use Rattle.tc_journal.specs.Handing.{of_worker, Delegates}
+use Rattle.tc_journal.specs.History.{IsHistory, of_lock}
 use Rattle.tc_journal.specs.declared.block.Block.{Block}
 use Rattle.tc_journal.specs.declared.block.End.TheVariants.{Unlocked, Cut}
+use Rattle.tc_mutex_spec.specs.Machine.{State}
+use Rattle.tc_mutex_spec.specs.Blocks.{Tells}
+use Rattle.tc_core.specs.Core.{Limits}
+
+-- the history tells a run under ordinary mutexes; by the workers that it names, the blocks of each lock obey the batch limit and pass
+-- its sections on to other threads; and it shows delegation
+pub record ShowsDelegation (image : Shown) (limits : Limits) (fuel : ℕ) (h : List Block) : Type 0 where
+  pub last : State
+  pub history : IsHistory h
+  pub tells : Tells image fuel h last
+  pub workers : All (λ (b : Block). b.worker < limits.workers) h
+  pub obeys : (k : ℕ) → k < length image.guards → Obeys k limits.batch (of_lock h k)
+  pub passes : (k : ℕ) → k < length image.guards → PassesOn k (of_lock h k)
+  pub delegates : Delegates h
+
+-- ---- of a section
 
 abbrev pub first_of : List Block → Option Block
 first_of bs = slice_get bs 0

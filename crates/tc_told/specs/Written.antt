@@ -1,19 +1,25 @@
 -- The history that events of the pure machine write: each Commit writes one block, as the core has it.
-use Rattle.std.specs.Prelude.{◌≡◌, ℕ, ◌<◌, ◌==◌, if◌then◌else◌, List, [], ◌∷◌, ◌++◌, length, All, Option, Some, None}
+use Rattle.std.specs.Prelude.{◌≡◌, ℕ, ◌<◌, ◌==◌, if◌then◌else◌, List, [], ◌∷◌, ◌++◌, length, map, All, Option, Some, None}
 use Rattle.std.specs.Option.{option_map}
 use Rattle.tc_elf.specs.Shown.{Shown}
 use Rattle.tc_journal.specs.Batch.{Obeys, PassesOn, last_of}
-use Rattle.tc_journal.specs.History.{IsHistory, of_lock}
+use Rattle.tc_journal.specs.History.{IsInOrder, of_lock, of_thread}
 use Rattle.tc_journal.specs.declared.block.Block.{Block}
 use Rattle.tc_journal.specs.declared.block.Kind.TheVariants as kind
+use Rattle.tc_turn.specs.Turn.{is_running}
 use Rattle.tc_mutex_spec.specs.Machine.{State, start}
-use Rattle.tc_mutex_spec.specs.Blocks.{Tells}
+use Rattle.tc_mutex_spec.specs.Blocks.{Tells, end_after}
 use Rattle.tc_core.specs.declared.event.Event.{Event}
 use Rattle.tc_core.specs.declared.event.Event.TheVariants.{Commit, Take, Adopt, Grant}
 use Rattle.tc_core.specs.declared.place.Course.{Course}
-use Rattle.tc_core.specs.Core.{Core, Limits, first_core}
+use Rattle.tc_core.specs.declared.place.LockPlace.{LockPlace}
+use Rattle.tc_core.specs.declared.place.LockPlace.TheVariants.{With}
+use Rattle.tc_core.specs.declared.place.LockPlace.TheVariants as place
+use Rattle.tc_core.specs.declared.place.ThreadPlace.{ThreadPlace}
+use Rattle.tc_core.specs.declared.place.ThreadPlace.TheVariants.{Ready, Parked, Done}
+use Rattle.tc_core.specs.Core.{Core, Limits, is_slept, first_core}
 use Rattle.tc_core.specs.Events.{effect}
-use Rattle.tc_core.specs.Stories.{AreEnabled}
+use Rattle.tc_core.specs.Stories.{AreEnabled, after_all}
 pub use Rattle.tc_told.specs.declared.writer.Beginning.{Beginning}
 
 -- ---- what events write
@@ -83,15 +89,71 @@ pub record IsWritten (image : Shown) (limits : Limits) (fuel : ℕ) (h : List Bl
   pub enabled : AreEnabled image limits (first_core image fuel) events
   pub writes : history_of image fuel events ≡ h
 
--- the history tells a run under ordinary mutexes, each block is of a worker that there is, and the blocks of each lock obey
--- the batch limit and pass its sections on to other threads
+-- the blocks as if one worker had run all of them
+abbrev pub as_of_one : List Block → List Block
+as_of_one bs = map (λ (b : Block). record b { worker = 0 }) bs
+
+-- the stamps are 0, 1, 2 and so on, the history tells a run under ordinary mutexes, each block is of a worker that there is, and the
+-- blocks of each lock pass its sections on to other threads and, whoever ran them, obey the batch limit
 pub record KeepsRules (image : Shown) (limits : Limits) (fuel : ℕ) (h : List Block) : Type 0 where
   pub last : State
-  pub history : IsHistory h
+  pub stamps : IsInOrder h
   pub tells : Tells image fuel h last
   pub workers : All (λ (b : Block). b.worker < limits.workers) h
-  pub obeys : (k : ℕ) → k < length image.guards → Obeys k limits.batch (of_lock h k)
+  pub obeys : (k : ℕ) → k < length image.guards → Obeys k limits.batch (as_of_one (of_lock h k))
   pub passes : (k : ℕ) → k < length image.guards → PassesOn k (of_lock h k)
+
+-- ---- how the events may end
+
+-- where a thread rests after a history: done where it ended, parked where its last block ended with a SLEEP, else ready
+abbrev pub place_after : State → List Block → ℕ → ThreadPlace
+place_after last h t =
+    if is_running (last.threads t).status
+    then (if is_slept (option_map (λ (b : Block). b.end) (last_of (of_thread h t))) then Parked else Ready)
+    else Done
+
+-- where a lock is, by its owner
+abbrev pub place_with : Option ℕ → LockPlace
+place_with None = place.Free
+place_with (Some t) = With t
+
+-- and who stands in its line
+abbrev pub line_with : Option ℕ → List ℕ
+line_with None = []
+line_with (Some t) = t ∷ []
+
+-- no thread is at a worker or waits, and each lock is with its owner, who stands alone in its line, or free, and nobody stands there
+pub record IsAtRest (image : Shown) (last : State) (h : List Block) (c : Core) : Type 0 where
+  pub threads : (t : ℕ) → t < length image.entries → (c.course t).place ≡ place_after last h t
+  pub places : (k : ℕ) → k < length image.guards → (c.custody k).place ≡ place_with (last.locks k).owner
+  pub lines : (k : ℕ) → k < length image.guards → (c.custody k).line ≡ line_with (last.locks k).owner
+
+-- the history is written by events of the machine, each of them enabled when it comes, after which all is at rest
+pub record IsWrittenToRest (image : Shown) (limits : Limits) (fuel : ℕ) (h : List Block) : Type 0 where
+  pub events : List Event
+  pub enabled : AreEnabled image limits (first_core image fuel) events
+  pub writes : history_of image fuel events ≡ h
+  pub rest : IsAtRest image (end_after image fuel h) h (after_all image (first_core image fuel) events)
+
+-- and after which, where no thread goes on, each thread is done, and each lock free, and nobody stands in its line
+pub record IsWrittenWhole (image : Shown) (limits : Limits) (fuel : ℕ) (h : List Block) : Type 0 where
+  pub events : List Event
+  pub enabled : AreEnabled image limits (first_core image fuel) events
+  pub writes : history_of image fuel events ≡ h
+  pub threads : (t : ℕ) → t < length image.entries → ((after_all image (first_core image fuel) events).course t).place ≡ Done
+  pub places : (k : ℕ) → k < length image.guards → ((after_all image (first_core image fuel) events).custody k).place ≡ place.Free
+  pub lines : (k : ℕ) → k < length image.guards → ((after_all image (first_core image fuel) events).custody k).line ≡ []
+
+-- events write a front of the history, after which each thread rests, and then the others write what is left of it
+pub record IsWrittenInParts (image : Shown) (limits : Limits) (fuel : ℕ) (front back : List Block) : Type 0 where
+  pub first : List Event
+  pub more : List Event
+  pub enabled : AreEnabled image limits (first_core image fuel) (first ++ more)
+  pub writes_front : history_of image fuel first ≡ front
+  pub writes : history_of image fuel (first ++ more) ≡ front ++ back
+  pub threads : (t : ℕ) → t < length image.entries → ((after_all image (first_core image fuel) first).course t).place ≡ place_after (end_after image fuel front) front t
+
+-- ---- who adopts
 
 -- the last block that had lock k is of this worker
 pub record IsOfLast (k w : ℕ) (h : List Block) : Type 0 where

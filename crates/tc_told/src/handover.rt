@@ -3,40 +3,35 @@
 ghost use Rattle.std.specs.Prelude.{◌≡◌, ℕ, true, List, ◌∷◌, ◌++◌, Some};
 ghost use Rattle.tc_elf.specs.Shown.{Shown};
 ghost use Rattle.tc_journal.specs.Batch.{begins};
-ghost use Rattle.tc_journal.specs.Handing.{Delegates, of_worker};
+ghost use Rattle.tc_journal.specs.Handing.{of_worker};
 ghost use Rattle.tc_journal.specs.History.{of_lock};
 ghost use Rattle.tc_journal.specs.declared.block.Block.{Block};
 ghost use Rattle.tc_journal.specs.declared.block.End.TheVariants.{Unlocked};
 ghost use Rattle.tc_core.specs.Core.{Limits};
-ghost use Rattle.tc_told.specs.Handover.{first_of, BeginsAdopted, IsBehindRelease, HasWaited, BeginsWith, IsCutUp};
-ghost use Rattle.tc_told.specs.Written.{KeepsRules};
+ghost use Rattle.tc_told.specs.Handover.{first_of, ShowsDelegation, BeginsAdopted, IsBehindRelease, HasWaited, BeginsWith, IsCutUp};
 
-/// What each history shows that keeps the rules and delegates, finished or not. A law: it does
-/// nothing when it is called.
+/// What each history shows that keeps the rules, by the workers that it names, and delegates,
+/// finished or not. A law: it does nothing when it is called.
 pub fn handover()
     // An adopted section begins where the section before it ended: the last block of its worker
     // is the last block of its lock, released the lock, and is of another thread.
     ensures released { (image : Shown) (limits : Limits) (fuel : ℕ) (h before after : List Block) (lock : ℕ) (b : Block)
-        → KeepsRules image limits fuel h → Delegates h
-        → h ≡ before ++ b ∷ after → BeginsAdopted lock b
+        → ShowsDelegation image limits fuel h → h ≡ before ++ b ∷ after → BeginsAdopted lock b
         → IsBehindRelease before lock b }
     // Between the release and the section neither its worker ran a block nor had a block the lock.
     ensures waited { (image : Shown) (limits : Limits) (fuel : ℕ) (h before after : List Block) (lock : ℕ) (b : Block)
-        → KeepsRules image limits fuel h → Delegates h
-        → h ≡ before ++ b ∷ after → BeginsAdopted lock b
+        → ShowsDelegation image limits fuel h → h ≡ before ++ b ∷ after → BeginsAdopted lock b
         → HasWaited before lock b }
     // Where a released lock is adopted, the waiter's block is the worker's next.
     ensures next { (image : Shown) (limits : Limits) (fuel : ℕ) (h before after : List Block) (lock : ℕ) (p b : Block)
-        → KeepsRules image limits fuel h → Delegates h
-        → h ≡ before ++ p ∷ after → p.end ≡ Unlocked lock
+        → ShowsDelegation image limits fuel h → h ≡ before ++ p ∷ after → p.end ≡ Unlocked lock
         → first_of (of_lock after lock) ≡ Some b → BeginsAdopted lock b
         → first_of (of_worker after p.worker) ≡ Some b }
     // An adopted section without inner locks and sleeps is a run of consecutive blocks of its
     // worker, from `adopted` to `unlocked L`: so is each section of which all blocks but the last
     // were cut.
     ensures unbroken { (image : Shown) (limits : Limits) (fuel : ℕ) (h before after section : List Block) (lock : ℕ) (b : Block)
-        → KeepsRules image limits fuel h → Delegates h
-        → h ≡ before ++ b ∷ after → begins lock b ≡ true
+        → ShowsDelegation image limits fuel h → h ≡ before ++ b ∷ after → begins lock b ≡ true
         → BeginsWith section (of_lock (b ∷ after) lock) → IsCutUp section
         → BeginsWith section (of_worker (b ∷ after) b.worker) }
 {}

@@ -1,23 +1,42 @@
-//! Each history that keeps the rules is one that the pure machine can do.
+//! The histories that the pure machine writes are just those that keep the rules.
 
-ghost use Rattle.std.specs.Prelude.{◌≡◌, ℕ, true, List};
+ghost use Rattle.std.specs.Prelude.{◌≡◌, ◌↔◌, ℕ, ◌≤◌, true, List, ◌++◌, length};
+ghost use Rattle.tc_isa.specs.declared.held.TheConstants.Held.{PLACES};
 ghost use Rattle.tc_elf.specs.Shown.{Shown};
 ghost use Rattle.tc_journal.specs.History.{schedule};
 ghost use Rattle.tc_journal.specs.declared.block.Block.{Block};
+ghost use Rattle.tc_mutex_spec.specs.Blocks.{IsComplete, end_after};
 ghost use Rattle.tc_core.specs.declared.event.Event.{Event};
 ghost use Rattle.tc_core.specs.declared.event.Event.TheVariants.{Adopt};
 ghost use Rattle.tc_core.specs.Core.{Limits, first_core};
 ghost use Rattle.tc_core.specs.Events.{is_enabled};
 ghost use Rattle.tc_core.specs.Stories.{AreEnabled, after_all, blocks_of};
-ghost use Rattle.tc_told.specs.Written.{IsWritten, KeepsRules, IsOfLast, history_of};
+ghost use Rattle.tc_told.specs.Written.{IsWritten, IsWrittenInParts, IsWrittenToRest, IsWrittenWhole, KeepsRules, IsOfLast, history_of};
 
-/// A history that tells a run of an image, with workers that there are, obeys the batch limit and
-/// passes sections on to other threads, is written by events of the pure machine, each enabled when
-/// it comes. This holds of every image, fuel, number of workers, batch limit and history. A law: it
-/// does nothing when it is called.
+/// A history is written by events of the pure machine, each enabled when it comes, just where it
+/// tells a run of the image, with workers that there are, obeys the batch limit, whoever ran its
+/// blocks, and passes sections on to other threads. This holds of every image with as many locks as
+/// a held set has places for, and of every fuel, number of workers, batch limit and history. A law: it does nothing when it is called.
 pub fn realization()
-    ensures written { (image : Shown) (limits : Limits) (fuel : ℕ) (h : List Block)
-        → KeepsRules image limits fuel h → IsWritten image limits fuel h }
+    ensures exact { (image : Shown) (limits : Limits) (fuel : ℕ) (h : List Block)
+        → length image.guards ≤ PLACES
+        → KeepsRules image limits fuel h ↔ IsWritten image limits fuel h }
+    // It is written by events after which all is at rest: a thread is parked where its last block
+    // ended with a SLEEP.
+    ensures rest { (image : Shown) (limits : Limits) (fuel : ℕ) (h : List Block)
+        → length image.guards ≤ PLACES
+        → KeepsRules image limits fuel h → IsWrittenToRest image limits fuel h }
+    // And where no thread goes on, all threads are done, and all locks home.
+    ensures whole { (image : Shown) (limits : Limits) (fuel : ℕ) (h : List Block)
+        → length image.guards ≤ PLACES
+        → KeepsRules image limits fuel h → IsComplete image (end_after image fuel h)
+        → IsWrittenWhole image limits fuel h }
+    // After each front of it each thread may rest so: who is parked there is claimed for its next
+    // block.
+    ensures parts { (image : Shown) (limits : Limits) (fuel : ℕ) (front back : List Block)
+        → length image.guards ≤ PLACES
+        → KeepsRules image limits fuel (front ++ back)
+        → IsWrittenInParts image limits fuel front back }
     // Whatever events come, each enabled when it comes: the blocks that they write are those of the
     // Commit events, each with as many turns as its thread has Turn events since its Commit before.
     ensures counted { (image : Shown) (limits : Limits) (fuel : ℕ) (events : List Event)

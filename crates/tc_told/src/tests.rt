@@ -1,4 +1,4 @@
-//! Five small histories, and events that write them.
+//! Six small histories, and events that write them.
 
 ghost use Rattle.std.specs.Prelude.{◌≤◌};
 ghost use Rattle.tc_isa.specs.declared.limits.TheConstants.{MAX_BATCH};
@@ -274,6 +274,32 @@ fn a_waiter_is_adopted_as_it_comes(rt: HostRuntime) -> Result<(), Fail> {
         (1, 1, &[Claim, Turn(2), Commit, Finish]),
     ];
     check(&rt, rt.alloc(), &ONE, 4, rows, ADOPTED)
+}
+
+/// A waiter that was adopted is handed back before its first turn, and another worker runs its
+/// section: the block is that worker's.
+#[test]
+fn an_adopted_waiter_is_run_elsewhere(rt: HostRuntime) -> Result<(), Fail> {
+    let rows: &[Row<'_>] = &[
+        (0, 0, &[Claim, Turn(3), Commit]),
+        (0, 0, &[Enter(0), Take(0), Turn(4)]),
+        (1, 1, &[Claim, Turn(3), Commit]),
+        (1, 1, &[Enter(0), Ship(0)]),
+        (0, 0, &[Turn(3), Commit]),
+        (0, 1, &[Adopt(0), Back]),
+        (1, 1, &[Claim, Turn(7), Commit]),
+        (1, 1, &[Leave(0), Free(0), Turn(2), Commit, Finish]),
+        (0, 0, &[Turn(2), Commit, Finish]),
+    ];
+    let lines = "\
+block 0 thread 0 turns 3 held - kind start worker 0 pc 00100000 end wants 0
+block 1 thread 1 turns 3 held - kind start worker 1 pc 00100000 end wants 0
+block 2 thread 0 turns 7 held 0 kind taken worker 0 pc 0010000c end unlocked 0
+block 3 thread 1 turns 7 held 0 kind adopted worker 1 pc 0010000c end unlocked 0
+block 4 thread 1 turns 2 held - kind on worker 1 pc 00100028 end exit
+block 5 thread 0 turns 2 held - kind on worker 0 pc 00100028 end exit
+";
+    check(&rt, rt.alloc(), &ONE, 4, rows, lines)
 }
 
 /// Where no section may be adopted, the waiter is granted the lock, and the worker that claims it

@@ -2,13 +2,13 @@ use Rattle.tc_told.proofs.Succession.{released, waited, next, unbroken}
 use Rattle.tc_told.proofs.handover.handover.Goals as goal
 
 pub returns-clause-released : goal.returns-clause-released
-returns-clause-released c = λ image limits fuel h before after lock b rules delegates place adopted. released image limits fuel h rules delegates before after lock b place adopted
+returns-clause-released c = λ image limits fuel h before after lock b rules place adopted. released image limits fuel h rules before after lock b place adopted
 
 pub returns-clause-waited : goal.returns-clause-waited
-returns-clause-waited c = λ image limits fuel h before after lock b rules delegates place adopted. waited image limits fuel h rules delegates before after lock b place adopted
+returns-clause-waited c = λ image limits fuel h before after lock b rules place adopted. waited image limits fuel h rules before after lock b place adopted
 
 pub returns-clause-next : goal.returns-clause-next
-returns-clause-next c = λ image limits fuel h before after lock p b rules delegates place unlocked first adopted. next image limits fuel h rules delegates before after lock p b place unlocked first adopted
+returns-clause-next c = λ image limits fuel h before after lock p b rules place unlocked first adopted. next image limits fuel h rules before after lock p b place unlocked first adopted
 
 pub returns-clause-unbroken : goal.returns-clause-unbroken
-returns-clause-unbroken c = λ image limits fuel h before after section lock b rules delegates place begin front cut. unbroken image limits fuel h rules delegates before after section lock b place begin front cut
+returns-clause-unbroken c = λ image limits fuel h before after section lock b rules place begin front cut. unbroken image limits fuel h rules before after section lock b place begin front cut
