@@ -3,7 +3,6 @@ pub mod Digits
 pub mod Told
 pub mod Line
 pub mod Batch
-pub mod Handing
 pub mod History
 pub mod Handing
 pub mod Spelling
