@@ -22,7 +22,7 @@ use Rattle.tc_turn.proofs.Turns.{next_some}
 use Rattle.tc_mutex_spec.specs.Machine.{State}
 use Rattle.tc_mutex_spec.specs.Blocks.{locks_of_block, reach, Stands, has_block}
 use Rattle.tc_mutex_spec.proofs.BlocksAlike.{eq_self, runs_apart}
-use Rattle.tc_mutex_spec.proofs.Entries.{own_more, other_more}
+use Rattle.tc_journal.proofs.Rows.{own_more, other_more, thread_of}
 use Rattle.tc_mutex_spec.proofs.Going.{block_survives, block_gives}
 use Rattle.tc_mutex_spec.proofs.Replaying.{takes_is}
 use Rattle.tc_core.specs.declared.event.Event.TheVariants.{Commit}
@@ -264,7 +264,7 @@ module _ (image : Shown) (limits : Limits) (seen : List Block) (m to : State) (b
             history = written;
           };
           at = ap (λ (y : Course). y.place) mine ∙ by.at;
-          slept = ap (λ (y : Course). is_slept y.last) mine ∙ ap is_slept (ended_is ∙ sym (ap (λ bs. option_map (λ (c : Block). c.end) (last_of bs)) (own_more seen b) ∙ ap (option_map (λ (c : Block). c.end)) (last_more (of_thread seen t) b)));
+          slept = ap (λ (y : Course). is_slept y.last) mine ∙ ap is_slept (ended_is ∙ sym (ap (λ bs. option_map (λ (c : Block). c.end) (last_of bs)) (own_more thread_of seen b) ∙ ap (option_map (λ (c : Block). c.end)) (last_more (of_thread seen t) b)));
           rests = λ u ne lt. ap (λ (y : Course). y.place) (other u ne) ∙ open_block.rests u ne lt ∙ still_rests u ne;
           custody = custody_after;
           next = λ u. elim (eqb_tells u t) [
@@ -280,7 +280,7 @@ module _ (image : Shown) (limits : Limits) (seen : List Block) (m to : State) (b
       where
         still_rests : (u : ℕ) → u ≢ t → place_after m seen u ≡ place_after to more u
         still_rests u ne = λ i. if is_running (sym (other_thread u ne) i).status
-            then (if is_slept (option_map (λ (c : Block). c.end) (last_of (sym (other_more seen b u (λ e. ne (sym e))) i))) then Parked else Ready)
+            then (if is_slept (option_map (λ (c : Block). c.end) (last_of (sym (other_more thread_of seen b u (λ e. ne (sym e))) i))) then Parked else Ready)
             else Done
 
         differ : {u : ℕ} → u ≢ t → (t == u) ≡ false

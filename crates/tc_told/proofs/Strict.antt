@@ -43,7 +43,7 @@ follow_one k limit bs b e = go (begins k b) e
     go true e = (λ i. may_begin k limit (last_one bs i) (run_one k 0 bs i) b.kind 0) ∙ begin_one k limit (last_of bs) (run_of k bs) b.kind b.worker e
     go false e = ap (λ o. may_go_on k o b.thread) (last_one bs) ∙ go_on_one k (last_of bs) b.thread e
 
-obeys_one : (k limit : ℕ) (before bs : List Block) → ObeysAfter k limit before bs → ObeysAfter k limit (map of_one before) (map of_one bs)
+pub obeys_one : (k limit : ℕ) (before bs : List Block) → ObeysAfter k limit before bs → ObeysAfter k limit (map of_one before) (map of_one bs)
 obeys_one k limit before [] obeys = tt
 obeys_one k limit before (b ∷ bs) obeys =
     (follow_one k limit before b obeys.0, subst (λ xs. ObeysAfter k limit xs (map of_one bs)) (map-append of_one before (b ∷ [])) (obeys_one k limit (before ++ b ∷ []) bs obeys.1))
@@ -52,7 +52,7 @@ all_small : (first : ℕ) (h : List Block) → IsHistoryFrom first h → All IsS
 all_small first [] is = All-nil IsSmall
 all_small first (b ∷ h) is = All-cons IsSmall b h is.0.held (all_small (first + 1) h is.2)
 
-pub run_rules : (image : Shown) (limits : Limits) (fuel : ℕ) (h : List Block) (last : State) → IsInOrder h → Tells image fuel h last → All (λ (b : Block). b.worker < limits.workers) h
+abbrev pub run_rules : (image : Shown) (limits : Limits) (fuel : ℕ) (h : List Block) (last : State) → IsInOrder h → Tells image fuel h last → All (λ (b : Block). b.worker < limits.workers) h
     → ((k : ℕ) → k < length image.guards → Obeys k limits.batch (of_lock h k)) → ((k : ℕ) → k < length image.guards → PassesOn k (of_lock h k)) → KeepsRules image limits fuel h
 run_rules image limits fuel h last stamps tells workers obeys passes = record {
   last = last;

@@ -1,5 +1,5 @@
 -- What the laws of delegation show of a section, at the place of its first block in a history.
-use Rattle.std.specs.Prelude.{◌≡◌, ◌≢◌, ℕ, true, List, [], ◌∷◌, ◌++◌, slice_get, Option, Some}
+use Rattle.std.specs.Prelude.{◌≡◌, ◌≢◌, ℕ, ◌<◌, true, List, [], ◌∷◌, ◌++◌, length, slice_get, All, Option, Some}
 use Rattle.tc_elf.specs.Shown.{Shown}
 use Rattle.tc_journal.specs.Batch.{begins, is_adopted, last_of, Obeys, PassesOn}
 use Rattle.tc_journal.specs.Handing.{of_worker, Delegates}
