@@ -1,0 +1,151 @@
+"""Runs guests by the program and by a peer (peer.c: the same guests under ordinary pthread mutexes, with a log of
+blocks), in turn and on one processor, and prints a table of what each took. It is no test: it asserts no time; but the
+peer must run guests as the program does.
+
+Seconds and processor seconds are the least of some runs each. The program is run with one worker and the batch
+limit 0; the peer once with its log alone, and once with the text of the history too, which the program's report has. `To
+peer` and `to peer with text` are the processor seconds of the program in those of the peer.
+
+Before a guest is measured, the peer's history is given to `replay` of the program, which must print the peer's report;
+and how threads end, sections, and the bytes of guards must be those of the program's run, or of guests/facts.json where
+the guest is one of guests/.
+"""
+import io
+import json
+import os
+import tempfile
+import types
+
+from .. import limits, places, tool
+from ..guest import model
+from ..reports import report
+from . import guests, process, table
+
+FACTS = json.loads((places.GUESTS / "facts.json").read_text())
+AMPLE = 20000  # fuel with which the facts hold
+COLUMNS = ("Guest", "Turns", "Blocks", "Program: seconds", "processor", "Peer: seconds", "processor", "Peer with text: seconds",
+           "processor", "To peer", "To peer with text")
+
+
+class Failed(Exception):
+    """What was otherwise than it must be."""
+
+
+class Measured:
+    """What is measured: its words, and what its runs took."""
+
+    def __init__(self, path, *words):
+        self.path, self.words, self.took = path, words, []
+
+    def run(self, file, is_read=False):
+        """A run over a file. Answers its report where that is to be read."""
+        with tempfile.TemporaryFile() as given, tempfile.TemporaryFile() as written:
+            given.write(file)
+            given.seek(0)
+            status, took = process.run(self.words, given, written, self.path)
+            if status:
+                raise Failed(f"{'peer' if self.path else 'tclocks'} {' '.join(map(str, self.words))} ended with status {status}")
+            self.took.append(took)
+            written.seek(0)
+            return written.read() if is_read else None
+
+    def seconds(self):
+        return min(took.seconds for took in self.took)
+
+    def busy(self):
+        return min(took.busy for took in self.took)
+
+
+def asked_of(words):
+    """What the words ask for."""
+    parser = tool.words("bench peer", __doc__)
+    parser.add_argument("guests", metavar="GUEST", nargs="*",
+                        help=f"{', '.join(guests.GUESTS)}; {', '.join(FACTS)}; all when left out")
+    parser.add_argument("-f", dest="fuel", metavar="FUEL", type=tool.number(*limits.RUN["fuel"]),
+                        default=limits.RUN["fuel"][1], help="of each thread (65536)")
+    parser.add_argument("-r", dest="runs", metavar="RUNS", type=tool.number(1, 9999), default=5, help="of each (5)")
+    parser.add_argument("-c", dest="core", metavar="CORE", type=tool.number(0, 9999),
+                        default=max(os.sched_getaffinity(0)), help="the processor on which all runs (the last one)")
+    process.add_word(parser)
+    asked = parser.parse_intermixed_args(words)
+    wrong = [name for name in asked.guests if name not in guests.GUESTS and name not in FACTS]
+    if wrong:
+        parser.error(f"there is no guest {wrong[0]!r}")
+    if asked.core not in os.sched_getaffinity(0):
+        parser.error(f"there is no processor {asked.core} here")
+    return asked
+
+
+def ends_of(text):
+    """How threads and locks end, by a report without the lines of its blocks."""
+    first, ends = text[:200].splitlines(keepends=True)[:3], text[text.index(b"\nthread ") + 1:].splitlines(keepends=True)
+    read = report.Report(line.decode() for line in first + ends)
+    read.ends()
+    return read
+
+
+def check_ends(name, fuel, ours, theirs):
+    """How the peer's run ended, beside the facts of a guest or beside the program's run."""
+    if name not in FACTS:
+        seen, wanted = ([[(end.how, end.fuel) for end in read.thread_ends], read.lock_ends] for read in (theirs, ours))
+        if seen != wanted:
+            raise Failed("threads or locks end otherwise by the peer than by the program")
+    elif fuel >= AMPLE:
+        machine = types.SimpleNamespace(locks=theirs.lock_ends, threads=[
+            types.SimpleNamespace(end=end.how, x=end.x, pc=end.pc) for end in theirs.thread_ends])
+        for difference in model.differences(FACTS[name], machine):
+            raise Failed(f"by the peer: {difference}")
+
+
+def check(name, file, fuel, run, peer):
+    """Checks the reports of the program and of the peer. Answers the turns and the blocks of the program's."""
+    history = peer[peer.index(b"\nblock ") + 1:peer.index(b"\nthread ") + 1]
+    if Measured(None, "replay", len(file), 1, fuel, 0).run(file + history, is_read=True) != peer:
+        raise Failed("replay prints another report of the peer's history than the peer")
+    check_ends(name, fuel, ends_of(run), ends_of(peer))
+    return process.counts(io.BytesIO(run))[:2]
+
+
+def measure(name, asked, peer):
+    """Prints the line of a guest, and answers its two ratios."""
+    file = guests.file_of(name)
+    ours = Measured(None, "run", 1, asked.fuel, 0)
+    log, text = Measured(peer, asked.fuel), Measured(peer, asked.fuel, "history")
+    counted = check(name, file, asked.fuel, ours.run(file, is_read=True), text.run(file, is_read=True))
+    for _ in range(asked.runs):
+        for one in ours, log, text:
+            one.run(file)
+    ratios = [ours.busy() / one.busy() for one in (log, text)]
+    table.row([name, *(f"{number:,}" for number in counted),
+               *(f"{number:.4f}" for one in (ours, log, text) for number in (one.seconds(), one.busy())),
+               *(f"{ratio:.2f}" for ratio in ratios)])
+    return ratios
+
+
+def sum_up(folder, ratios):
+    """Tells the ratios of a folder's guests in one line."""
+    log, text = ({name: pair[which] for name, pair in ratios.items()} for which in (0, 1))
+    print(f"Of {report.several(len(ratios), 'guest')} of {folder}, the program's processor seconds in those of the peer: "
+          f"{table.spread(log)}; in those of the peer with text: {table.spread(text)}.")
+
+
+def main(words):
+    asked = asked_of(words)
+    process.choose(asked)
+    os.sched_setaffinity(0, {asked.core})
+    ratios, failed = {}, 0
+    with tempfile.TemporaryDirectory() as folder:
+        peer = process.compiled("peer.c", folder, "-pthread")
+        table.head(COLUMNS)
+        for name in asked.guests or [*guests.GUESTS, *FACTS]:
+            try:
+                ratios[name] = measure(name, asked, peer)
+            except Failed as why:
+                failed += 1
+                print(f"{name}: {why}", flush=True)
+    for folder, names in ("bench/", guests.GUESTS), ("guests/", FACTS):
+        found = {name: ratios[name] for name in names if name in ratios}
+        if found:
+            print()
+            sum_up(folder, found)
+    return tool.WRONG if failed else tool.DONE

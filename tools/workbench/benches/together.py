@@ -1,0 +1,118 @@
+"""Makes many runs of short guests by several workers, and prints a table of how often the workers did run together.
+It is no test: it asserts no time; but each run must end with status 0.
+
+The table says in how many runs two workers or more ran blocks, and in how many a section was adopted; and the median
+and the least milliseconds of the whole process. Then the same where the host gives the program no thread beside its first
+one, and where it gives one: a library in LD_PRELOAD (threads.c) refuses all others. The three kinds of runs take turns.
+"""
+import os
+import re
+import statistics
+import tempfile
+from typing import NamedTuple
+
+from .. import limits, tool
+from . import guests, process, table
+
+OWN = "counter", "bank", "buffer", "philosophers"  # of guests/
+FUEL, BATCH = 20000, 8
+GIVEN = {"all": None, "one": 1, "none": 0}  # threads of the host beside the first one
+BLOCK = re.compile(rb"(?m)^block .* kind (\w+) worker (\d+) ")
+
+
+class Ran(NamedTuple):
+    """What a run was: whether two workers or more ran blocks, whether a section was adopted, and its milliseconds."""
+    several: bool
+    adopted: bool
+    milliseconds: float
+
+
+def asked_of(words):
+    """What the words ask for."""
+    parser = tool.words("bench together", __doc__)
+    workers = tool.number(2, limits.RUN["workers"][1])
+    parser.add_argument("guests", metavar="GUEST", nargs="*",
+                        help=f"{', '.join(OWN)}, which it is when left out; {', '.join(guests.GUESTS)}")
+    parser.add_argument("-w", dest="workers", metavar="WORKERS", type=lambda word: [*map(workers, word.split(","))],
+                        default=[4, 8], help="2 to 8; of several numbers each gets lines (4,8)")
+    parser.add_argument("-r", dest="runs", metavar="RUNS", type=tool.number(1, 9999), default=40, help="of each (40)")
+    process.add_word(parser)
+    asked = parser.parse_intermixed_args(words)
+    wrong = [name for name in asked.guests if name not in OWN and name not in guests.GUESTS]
+    if wrong:
+        parser.error(f"there is no guest {wrong[0]!r}")
+    return asked
+
+
+class Host:
+    """What gives threads to the program, or refuses them."""
+
+    def __init__(self, folder):
+        self.library = process.compiled("threads.c", folder, "-shared", "-fPIC", "-ldl")
+        self.told = tempfile.TemporaryFile()
+        os.set_inheritable(self.told.fileno(), True)
+
+    def surroundings(self, threads):
+        return {"LD_PRELOAD": self.library, "THREADS": str(threads), "THREADS_TELL": str(self.told.fileno())}
+
+    def refused(self):
+        """How many were refused since it was asked."""
+        count = os.lseek(self.told.fileno(), 0, os.SEEK_END)
+        os.ftruncate(self.told.fileno(), 0)
+        os.lseek(self.told.fileno(), 0, os.SEEK_SET)
+        return count
+
+
+def run(host, name, workers, kind):
+    """A run of a guest, where the host gives so many threads."""
+    threads = GIVEN[kind]
+    with tempfile.TemporaryFile() as given, tempfile.TemporaryFile() as written:
+        given.write(guests.file_of(name))
+        given.seek(0)
+        words = "run", workers, FUEL, BATCH
+        status, took = process.run(words, given, written, surroundings=None if threads is None else host.surroundings(threads))
+        if status:
+            raise tool.Trouble(tool.WRONG, f"tclocks {' '.join(map(str, words))} over {name} ended with status {status}, "
+                                           f"with {kind} of its threads")
+        written.seek(0)
+        blocks = BLOCK.findall(written.read())
+    refused = host.refused()
+    if threads is not None and threads < workers - 1 and not refused:
+        raise tool.Trouble(tool.INPUT, "no thread could be refused: is the program linked statically?")
+    return Ran(len({worker for _, worker in blocks}) > 1, any(found == b"adopted" for found, _ in blocks), 1000 * took.seconds)
+
+
+def measure(host, name, workers, runs):
+    """Prints the lines of a guest. Answers the runs of each kind."""
+    found = {kind: [] for kind in GIVEN}
+    for _ in range(runs):
+        for kind in GIVEN:
+            found[kind].append(run(host, name, workers, kind))
+    for kind, ran in found.items():
+        times = [one.milliseconds for one in ran]
+        table.row([name, workers, kind, runs, sum(one.several for one in ran), sum(one.adopted for one in ran),
+                   f"{statistics.median(times):.1f}", f"{min(times):.1f}"])
+    return found
+
+
+def sum_up(kind, ran):
+    """Tells the runs of a kind in one line."""
+    times = [one.milliseconds for one in ran]
+    print(f"\nThreads of the host: {kind}. All of {len(ran)} runs ended with status 0; in {sum(one.several for one in ran)} two "
+          f"workers or more ran blocks, in {sum(one.adopted for one in ran)} a section was adopted; median "
+          f"{statistics.median(times):.1f} milliseconds, least {min(times):.1f}.")
+
+
+def main(words):
+    asked = asked_of(words)
+    process.choose(asked)
+    every = {kind: [] for kind in GIVEN}
+    with tempfile.TemporaryDirectory() as folder:
+        host = Host(folder)
+        table.head(["Guest", "Workers", "Threads", "Runs", "By several", "With adopted", "Median ms", "Least ms"])
+        for name in asked.guests or OWN:
+            for workers in asked.workers:
+                for kind, ran in measure(host, name, workers, asked.runs).items():
+                    every[kind] += ran
+    for kind, ran in every.items():
+        sum_up(kind, ran)

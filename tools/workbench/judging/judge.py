@@ -1,0 +1,25 @@
+"""Says whether a report is that of a legal run, or which block or line is not, and why.
+
+A report that stops behind a block line is judged so far. The statuses are those of
+guests/README.md: 0 where it is legal, 3 where it isn't.
+"""
+from .. import tool
+from ..guest import guestfile
+from ..reports import report
+from . import legal
+
+
+def main(words):
+    parser = tool.words("judge", __doc__, "guest")
+    parser.add_argument("report", metavar="REPORT", nargs="?", default="-",
+                        help="a report; standard input where it is left out")
+    asked = parser.parse_intermixed_args(words)
+    guest = guestfile.load(asked.guest).guest
+    try:
+        run, whole = legal.replay(guest, tool.read_lines(asked.report))
+    except report.NoReport as answer:
+        raise tool.Trouble(tool.WRONG, f"{answer} (./workbench explain says more)") from None
+    except report.Wrong as wrong:
+        raise tool.Trouble(tool.WRONG, f"not legal: {wrong}") from None
+    print("a legal run, to the end of every thread" if whole
+          else f"legal so far, {run.count} blocks")

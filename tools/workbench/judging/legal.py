@@ -1,0 +1,218 @@
+"""Whether a history is that of a legal run: each block is run by model.py in its place, under
+ordinary mutexes, and compared with its line; its kind must be one that the batch rule allows."""
+import copy
+
+from .. import limits
+from ..guest import model
+from ..reports import report
+from ..reports.report import Block, Wrong
+
+COMPARED = ("turns", "held", "kind", "pc", "end")
+
+
+class Batch:
+    """The batch rule of one lock: of which kinds its next section may be.
+
+    What a history shows of waiting: a thread waited for a release where it is not the one that
+    released, and its last block stands before the next block of the worker that released, since
+    that worker looked for a waiter between its two blocks. An adopted section is that next block.
+    """
+
+    def __init__(self, limit):
+        self.limit, self.adopted = limit, 0
+        self.last = None  # the block that released the lock
+        self.next = None  # the stamp of the next block of the worker that released
+
+    def kinds(self, thread, worker, stamp):
+        """The kinds for a thread whose last block has this stamp, with this worker."""
+        if self.last is None or not self.waited(thread, stamp):
+            return ["taken"]
+        if not self.last.leaves_free or self.adopted >= self.limit:
+            return ["taken", "granted"]
+        return ["taken", "adopted"] if worker == self.last.worker and self.next is None else ["taken"]
+
+    def waited(self, thread, stamp):
+        return thread != self.last.thread and (self.next is None or stamp < self.next)
+
+    def why(self, kind, thread, worker, stamp):
+        """Why a kind is none of `kinds`."""
+        last = self.last
+        if last is None:
+            return "the lock's first section is taken"
+        if thread == last.thread:
+            return f"thread {thread} had the section before too, so it did not wait for this one"
+        if not self.waited(thread, stamp):
+            return (f"worker {last.worker} released the lock and ran block {self.next} before thread {thread} "
+                    "could wait for it")
+        if kind == "granted":
+            return (f"{self.adopted} adopted sections stand in a row, fewer than the batch limit "
+                    f"{self.limit}, and the thread before goes on without a lock: a waiter is adopted")
+        if not last.leaves_free:
+            return "the thread before ended, or still holds another lock: a waiter is granted"
+        if self.adopted >= self.limit:
+            return (f"{self.adopted} adopted sections stand in a row, and the batch limit is "
+                    f"{self.limit}: a waiter is granted")
+        if worker != last.worker:
+            return f"the section before ended with worker {last.worker}, and this one begins with {worker}"
+        return f"worker {worker} released the lock and then ran block {self.next}: it would have adopted at once"
+
+    def begin(self, kind):
+        self.adopted = self.adopted + 1 if kind == "adopted" else 0
+
+    def release(self, block):
+        self.last, self.next = block, None
+
+    def see(self, block):
+        """Notes a block that is not the release itself."""
+        if self.last is not None and self.next is None and block.worker == self.last.worker:
+            self.next = block.stamp
+
+
+class Run:
+    """A guest's machine with the batch rule of each lock, and the blocks that were run."""
+
+    def __init__(self, guest, workers, fuel, limit, version=2):
+        self.workers, self.fuel, self.limit, self.version = workers, fuel, limit, version
+        self.machine = model.Machine(guest, fuel)
+        self.batches = [Batch(limit) for _ in self.machine.locks]
+        self.stamps = [-1] * len(self.machine.threads)  # of each thread's last block
+        self.count = 0
+
+    def kinds(self, number, worker):
+        """The kinds that the thread's next block may have with a worker."""
+        thread = self.machine.threads[number]
+        lock = self.machine.next_lock(thread)
+        if lock is None:
+            return ["on" if thread.blocks else "start"]
+        return self.batches[lock].kinds(number, worker, self.stamps[number])
+
+    def step(self, number, kind, worker):
+        """Runs the thread's next block; `kind` None stands for the first that is allowed."""
+        thread = self.machine.threads[number]
+        lock = self.machine.next_lock(thread)
+        if thread.end is not None:
+            raise Wrong(f"block {self.count}: thread {number} has ended")
+        if lock is not None and self.machine.locks[lock].owner is not None:
+            raise Wrong(f"block {self.count}: thread {number} would take lock {lock}, which "
+                        f"thread {self.machine.locks[lock].owner} has")
+        allowed = self.kinds(number, worker)
+        if kind is not None and kind not in allowed:
+            raise Wrong(f"block {self.count}: its kind is {kind}, and must be {' or '.join(allowed)}"
+                        + (f": {self.batches[lock].why(kind, number, worker, self.stamps[number])}"
+                           if lock is not None and kind in limits.SECTIONS else ""))
+        kind = kind or allowed[0]
+        pc = thread.pc
+        turns, locks, taken, end = self.machine.run_block(number)
+        block = Block(self.count, number, turns, tuple(sorted(locks)), kind, worker,
+                      pc if self.version == 2 else None, end)
+        if taken is not None:
+            self.batches[taken].begin(kind)
+        for batch in self.batches:
+            batch.see(block)
+        for released in block.released:
+            self.batches[released].release(block)
+        self.stamps[number] = block.stamp
+        self.count += 1
+        return block
+
+    def follow(self, block, where=""):
+        """Runs the block that a line names, and compares the two."""
+        wanted = self.step(block.thread, block.kind, block.worker)
+        different = [name for name in COMPARED if getattr(block, name) != getattr(wanted, name)]
+        if different:
+            raise Wrong(f"block {block.stamp}{where}: " + ", ".join(
+                f"{name} is {shown(name, block)}, and must be {shown(name, wanted)}"
+                for name in different))
+        return wanted
+
+    def candidates(self):
+        """What could come next: each block that could, with the workers that could run it."""
+        guest = self.machine.guest
+        for number in self.machine.able():
+            kinds = {}
+            for worker in range(self.workers):
+                for kind in self.kinds(number, worker):
+                    kinds.setdefault(kind, []).append(worker)
+            for kind, workers in kinds.items():
+                yield copy.deepcopy(self, {id(guest): guest}).step(number, kind, workers[0]), workers
+
+    def go_on(self):
+        """Runs to the end of every thread: each runs as long as it can, as worker 0, and every
+        section is taken. Answers the blocks."""
+        while True:
+            number = next(self.machine.able(), None)
+            if number is None:
+                return
+            taken = self.machine.next_lock(self.machine.threads[number]) is not None
+            yield self.step(number, "taken" if taken else None, 0)
+
+    def header_lines(self):
+        return report.header_lines(self.version, len(self.machine.threads), len(self.machine.locks), self.workers,
+                                   self.fuel, self.limit)
+
+    def ending_lines(self):
+        """The report's lines behind the blocks, for threads that have ended."""
+        for number, thread in enumerate(self.machine.threads):
+            if thread.end is None:
+                raise Wrong(f"behind block {self.count - 1}: thread {number} has not ended")
+        return ending_lines(self.machine)
+
+    def lines(self, blocks):
+        """A report of these blocks, to its end where each thread has ended."""
+        yield from self.header_lines()
+        for block in blocks:
+            yield block.line(self.version)
+        if self.is_over():
+            yield from self.ending_lines()
+
+    def is_over(self):
+        return all(thread.end is not None for thread in self.machine.threads)
+
+
+def ending_lines(machine):
+    """The report's lines behind the blocks, of a machine at its end."""
+    return report.ending_lines(
+        [report.ThreadEnd(thread.end, thread.fuel, thread.pc, thread.x) for thread in machine.threads],
+        [report.LockEnd(lock.sections, lock.broken, lock.addresses.start, lock.bytes) for lock in machine.locks])
+
+
+def shown(name, block):
+    value = getattr(block, name)
+    if name == "held":
+        return report.held_text(value)
+    return f"{value:08x}" if name == "pc" else value
+
+
+def begin(guest, text):
+    """The run that a report's header names, for its guest."""
+    run = Run(guest, text.workers, text.fuel, text.batch, text.version)
+    for name, said, real in (("threads", text.threads, len(run.machine.threads)),
+                             ("guards", text.guards, len(run.machine.locks))):
+        if said != real:
+            raise Wrong(f"line 2: the report is of {said} {name}, and the guest has {real}")
+    return run
+
+
+def replay(guest, lines):
+    """The run after a report, and whether the report is whole; Wrong where it isn't legal."""
+    text = report.Report(lines)
+    run = begin(guest, text)
+    for block in text.blocks():
+        run.follow(block, f", line {text.lines.at()}")
+    if text.lines.next is None:
+        return run, False
+    for expected in run.ending_lines():
+        if text.lines.next != expected:
+            raise text.lines.wrong(repr(expected))
+        text.lines.take()
+    if text.lines.next is not None or text.lines.cut:
+        raise Wrong(f"line {text.lines.at()}: something stands behind the line 'end'")
+    return run, True
+
+
+def replay_whole(guest, text):
+    """The machine after a whole report that is given as one text."""
+    run, whole = replay(guest, text.splitlines(keepends=True))
+    if not whole:
+        raise Wrong("the report stops early")
+    return run.machine
