@@ -1,5 +1,7 @@
 """What the tests of the tools share: guests, histories, and how a tool is run. Expected values come
 from docs, from facts.json and from guests whose runs are known on paper."""
+from __future__ import annotations
+
 import json
 import pathlib
 import re
@@ -7,11 +9,16 @@ import shutil
 import subprocess
 import tempfile
 import unittest
+from typing import Any, TYPE_CHECKING
 
-from tools.workbench.places import COURSE, GUESTS, ROOT  # noqa: F401 (of the tests)
+from tools.workbench import places
 from tools.workbench.guest import guestfile, made
 from tools.workbench.running import delegation
 
+if TYPE_CHECKING:
+    from tools.workbench.reports import report
+
+ROOT, GUESTS, COURSE = places.ROOT, places.GUESTS, places.COURSE
 NAMES = sorted(json.loads((GUESTS / "facts.json").read_text()))
 FOLDER = tempfile.TemporaryDirectory()
 TEMPORARY = pathlib.Path(FOLDER.name)
@@ -34,7 +41,7 @@ BY_HAND_V1 = re.sub(" pc [0-9a-f]{8}", "", BY_HAND).replace("tclocks 2", "tclock
 PCS = ("00100000", "0010000c", "00100000", "0010000c", "00100028", "00100028")
 
 
-def call(number, value):
+def call(number: int, value: int) -> tuple[int, int, int]:
     """addi x10,x0,value; addi x17,x0,number; ecall."""
     return (value << 20 | 0x513, number << 20 | 0x893, 0x73)
 
@@ -42,32 +49,33 @@ def call(number, value):
 EXIT = (0x05D00893, 0x00000073)
 
 
-def built(code, threads, guards):
+def built(code: Any, threads: tuple[int, ...], guards: int) -> bytes:
     """A guest's file with guards of one word; threads are the places where they enter, in words."""
     note = made.note([(made.CODE + 4 * place, 0) for place in threads],
                      [(made.DATA + 4 * lock, 4) for lock in range(guards)])
     return made.elf(note, code, bytes(4 * guards), 4 * guards)
 
 
-def saved(name, content):
+def saved(name: str, content: bytes | str) -> str:
     path = TEMPORARY / name
     path.write_bytes(content if isinstance(content, bytes) else content.encode("ascii"))
     return str(path)
 
 
-def elf(name):
+def elf(name: str) -> str:
     return str(GUESTS / f"{name}.elf")
 
 
-def run(tool, *words, given=b"", root=ROOT, **more):
+def run(tool: str, *words: pathlib.Path | str, given: bytes | str = b"", root: pathlib.Path = places.ROOT,
+        **more: Any) -> subprocess.CompletedProcess[bytes]:
     """Runs a tool of a checkout."""
     given = given if isinstance(given, bytes) else given.encode("ascii")
-    how = {"input": given} if "stdin" not in more else {}
+    how: dict[str, Any] = {"input": given} if "stdin" not in more else {}
     return subprocess.run([root / "workbench", *tool.split(), *words], stdout=more.pop("stdout", subprocess.PIPE), stderr=subprocess.PIPE,
                           check=False, timeout=120, **how, **more)
 
 
-def checkout(name):
+def checkout(name: str) -> pathlib.Path:
     """A copy of the tools and the guests, beside which no program was built."""
     root = TEMPORARY / name
     left = shutil.ignore_patterns("__pycache__", "out", "tests")
@@ -78,7 +86,7 @@ def checkout(name):
     return root
 
 
-def with_program(name, text):
+def with_program(name: str, text: str) -> pathlib.Path:
     """A checkout with a program that is made up and, by the command, not out of date."""
     root = checkout(name)
     for path, script in ((root / "crates" / "tclocks" / "out" / "tclocks", text), (root / "tclocks", "#!/bin/sh\nexit 1\n")):
@@ -88,16 +96,17 @@ def with_program(name, text):
     return root
 
 
-def history(name, workers, batch, seed, fuel=20000, version=2):
+def history(name: str, workers: int, batch: int, seed: int | None, fuel: int = 20000,
+            version: int = 2) -> tuple[list[report.Block], str]:
     made_run, blocks = delegation.delegated(guestfile.load(elf(name)).guest, fuel, workers, batch, seed, version)
     return blocks, "\n".join(made_run.lines(blocks)) + "\n"
 
 
 class Case(unittest.TestCase):
-    def one_line(self, done, status):
+    def one_line(self, done: subprocess.CompletedProcess[bytes], status: int) -> None:
         """It ended with this status and one line on standard error, and no traceback."""
         self.assertEqual((done.returncode, done.stderr.count(b"\n")), (status, 1), done.stderr)
         self.assertNotIn(b"Traceback", done.stderr + (done.stdout or b""))
 
-    def says(self, text, done):
+    def says(self, text: str, done: subprocess.CompletedProcess[bytes]) -> None:
         self.assertIn(text, (done.stdout + done.stderr).decode())

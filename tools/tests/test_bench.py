@@ -1,10 +1,13 @@
 """The scripts that measure, as far as they need no program."""
+from __future__ import annotations
+
 import csv
 import pathlib
 import shutil
 import subprocess
 import sys
 import unittest
+from typing import Any
 
 from tools.workbench.guest import guestfile
 from .common import ROOT, TEMPORARY, Case, checkout, elf, run, saved, with_program
@@ -12,12 +15,12 @@ from .common import ROOT, TEMPORARY, Case, checkout, elf, run, saved, with_progr
 BENCHES = ROOT / "tools" / "workbench" / "benches"
 
 
-def bench(*words, name="run", root=ROOT):
+def bench(*words: str | pathlib.Path, name: str = "run", root: Any = ROOT) -> subprocess.CompletedProcess[bytes]:
     return run(f"bench {name}", *words, root=root)
 
 
 class Bench(Case):
-    def test_the_folder_of_guests_is_made(self):
+    def test_the_folder_of_guests_is_made(self) -> None:
         folder = TEMPORARY / "some" / "new" / "folder"
         for _ in range(2):
             done = bench("-o", folder, "sleeps", "hot-lock")
@@ -26,7 +29,7 @@ class Bench(Case):
         for path in folder.iterdir():
             self.assertEqual(len(guestfile.load(str(path)).guest.entries), 16)
 
-    def test_words(self):
+    def test_words(self) -> None:
         done = bench("--help")
         self.assertEqual((done.returncode, done.stderr), (0, b""))
         self.says("usage: workbench bench run", done)
@@ -35,13 +38,13 @@ class Bench(Case):
             self.one_line(done, 1)
             self.assertTrue(done.stderr.startswith(b"workbench bench run: "))
 
-    def test_a_folder_that_can_not_be_made(self):
+    def test_a_folder_that_can_not_be_made(self) -> None:
         file = TEMPORARY / "file"
         file.write_bytes(b"")
         self.one_line(bench("-o", file, "sleeps"), 4)
         self.one_line(bench("-o", "/proc/none", "sleeps"), 4)
 
-    def test_without_a_program_it_starts_nothing(self):
+    def test_without_a_program_it_starts_nothing(self) -> None:
         copy = checkout("checkout")
         for name, words in (("run", ("sleeps",)), ("nodes", ("4", "100", "8")), ("replay", ("sleeps",)), ("peer", ()),
                             ("several", ()), ("together", ())):
@@ -49,7 +52,7 @@ class Bench(Case):
             self.one_line(done, 2)
             self.says("./tclocks-build", done)
 
-    def test_another_program_that_is_not_there(self):
+    def test_another_program_that_is_not_there(self) -> None:
         for name, words in (("run", ()), ("nodes", ("4", "100", "8")), ("replay", ()), ("peer", ()), ("several", ()),
                             ("together", ())):
             for path in "/no/such/file", "/", __file__:
@@ -59,14 +62,14 @@ class Bench(Case):
 
 
 class Nodes(Case):
-    def test_words(self):
+    def test_words(self) -> None:
         done = bench("--help", name="nodes")
         self.assertEqual((done.returncode, done.stderr), (0, b""))
         self.says("usage: workbench bench nodes", done)
         for words in ((), ("9", "1", "1"), ("1", "1", "1", "nobody"), ("1", "1", "1", "-r", "0")):
             self.one_line(bench(*words, name="nodes"), 1)
 
-    def test_the_table(self):
+    def test_the_table(self) -> None:
         """By a program that is made up: with one seed each order's line has the numbers of its sweep."""
         root = with_program("orders", f"""#!/bin/sh
 if [ "$1" = nodes ]; then orders="--nodes $2 $3"; shift 2; fi
@@ -113,14 +116,14 @@ sys.exit(status)
 
 
 class Replay(Case):
-    def test_words(self):
+    def test_words(self) -> None:
         done = bench("--help", name="replay")
         self.assertEqual((done.returncode, done.stderr), (0, b""))
         self.says("usage: workbench bench replay", done)
         for words in (("nobody",), ("-f", "0"), ("-f", "1,"), ("-b", "257"), ("-r", "0"), ("-w", "1")):
             self.one_line(bench(*words, name="replay"), 1)
 
-    def test_the_table(self):
+    def test_the_table(self) -> None:
         root = with_program("replays", MADE_UP)
         done = bench("-f", "13,20", "hot-lock", "longest-history", name="replay", root=root)
         self.assertEqual((done.returncode, done.stderr), (3, b""))
@@ -134,7 +137,7 @@ class Replay(Case):
         self.assertEqual(lines[2][1:3], [f"{history.count(chr(10)):,}", f"{len(history):,}"])
 
 
-def rows(done):
+def rows(done: subprocess.CompletedProcess[bytes]) -> tuple[list[list[str]], list[str]]:
     """The cells of a table's lines, and the lines behind it."""
     lines = done.stdout.decode().splitlines()
     return ([[cell.strip() for cell in line.split("|")[1:-1]] for line in lines if line.startswith("|")],
@@ -143,14 +146,14 @@ def rows(done):
 
 @unittest.skipUnless(shutil.which("cc"), "there is no C compiler")
 class Peer(Case):
-    def setUp(self):
+    def setUp(self) -> None:
         self.made_up = saved("peer-program", MADE_UP)
         pathlib.Path(self.made_up).chmod(0o755)
 
-    def peer(self, *words):
+    def peer(self, *words: str) -> subprocess.CompletedProcess[bytes]:
         return bench("-p", self.made_up, "-r", "1", *words, name="peer")
 
-    def test_guests_run_as_by_the_model(self):
+    def test_guests_run_as_by_the_model(self) -> None:
         """The model takes the peer's history, and comes to the same report."""
         names = ["own-locks", "nested-locks", "sleeps", "memory"]
         done = self.peer("-f", "100", *names)
@@ -160,30 +163,30 @@ class Peer(Case):
         self.assertEqual(len(told), 1)
         self.assertTrue(told[0].startswith("Of 4 guests of bench/, "))
 
-    def test_what_is_known_of_guests_holds(self):
+    def test_what_is_known_of_guests_holds(self) -> None:
         done = self.peer("-f", "20000", "counter", "faults")
         self.assertEqual((done.returncode, done.stderr), (0, b""), done.stdout)
         self.assertEqual([row[1] for row in rows(done)[0][2:]], ["6,848", "62"])
 
-    def test_another_report(self):
+    def test_another_report(self) -> None:
         done = self.peer("-f", "13", "hot-lock", "sleeps")
         self.assertEqual((done.returncode, done.stderr), (3, b""))
         for name in "hot-lock", "sleeps":
             self.says(f"{name}: replay prints another report of the peer's history than the peer", done)
 
-    def test_words(self):
+    def test_words(self) -> None:
         self.says("usage: workbench bench peer", bench("--help", name="peer"))
         for words in (("nobody",), ("-f", "0"), ("-r", "0"), ("-c", "9999"), ("-w", "1")):
             self.one_line(bench(*words, name="peer"), 1)
 
-    def test_without_a_compiler(self):
+    def test_without_a_compiler(self) -> None:
         for name in "peer", "together":
             done = subprocess.run([sys.executable, ROOT / "workbench.py", "bench", name, "-p", self.made_up], env={"PATH": "/no/such/folder"},
                                   stdout=subprocess.PIPE, stderr=subprocess.PIPE, check=False)
             self.one_line(done, 2)
             self.says("cc is not on the PATH", done)
 
-    def test_the_peer_refuses(self):
+    def test_the_peer_refuses(self) -> None:
         peer = TEMPORARY / "peer"
         subprocess.run(["cc", "-O2", "-pthread", "-o", peer, BENCHES / "peer.c"], check=True)
         file = pathlib.Path(elf("counter")).read_bytes()
@@ -195,12 +198,12 @@ class Peer(Case):
 
 
 class Several(Case):
-    def test_words(self):
+    def test_words(self) -> None:
         self.says("usage: workbench bench several", bench("--help", name="several"))
         for words in (("nobody",), ("-f", "0"), ("-w", "1,"), ("-w", "9"), ("-b", "257"), ("-r", "0"), ("-q", "free")):
             self.one_line(bench(*words, name="several"), 1)
 
-    def test_the_table(self):
+    def test_the_table(self) -> None:
         made_up = saved("several-program", MADE_UP)
         pathlib.Path(made_up).chmod(0o755)
         done = bench("-p", made_up, "-r", "1", "-f", "20", "-w", "2,1", "hot-lock", "own-locks", name="several")
@@ -216,7 +219,7 @@ class Several(Case):
         self.assertEqual(len(told), 1)
         self.assertIn("least of 1, 2 workers to 1 worker", told[0])
 
-    def test_medians(self):
+    def test_medians(self) -> None:
         made_up = saved("median-program", MADE_UP)
         pathlib.Path(made_up).chmod(0o755)
         done = bench("-m", "-p", made_up, "-r", "3", "-f", "20", "-w", "1,2", "hot-lock", name="several")
@@ -226,7 +229,7 @@ class Several(Case):
         self.assertIn("median of 3, 2 workers to 1 worker", told[0])
 
     @unittest.skipUnless(shutil.which("cc"), "there is no C compiler")
-    def test_runs_in_company(self):
+    def test_runs_in_company(self) -> None:
         made_up = saved("even-program", MADE_UP)
         pathlib.Path(made_up).chmod(0o755)
         done = bench("-e", "-p", made_up, "-r", "1", "-f", "20", "-w", "1,3", "hot-lock", name="several")
@@ -234,7 +237,7 @@ class Several(Case):
         self.assertEqual([row[10] for row in rows(done)[0][2:]], ["1 of 1"])
 
     @unittest.skipUnless(shutil.which("cc"), "there is no C compiler")
-    def test_rounds_in_which_processors_were_free(self):
+    def test_rounds_in_which_processors_were_free(self) -> None:
         made_up = saved("quiet-program", MADE_UP)
         pathlib.Path(made_up).chmod(0o755)
         words = "-p", made_up, "-r", "1", "-f", "20", "-w", "1,2", "hot-lock"
@@ -248,12 +251,12 @@ class Several(Case):
 
 @unittest.skipUnless(shutil.which("cc"), "there is no C compiler")
 class Together(Case):
-    def test_words(self):
+    def test_words(self) -> None:
         self.says("usage: workbench bench together", bench("--help", name="together"))
         for words in (("nobody",), ("-w", "1"), ("-w", "4,"), ("-r", "0")):
             self.one_line(bench(*words, name="together"), 1)
 
-    def test_the_table(self):
+    def test_the_table(self) -> None:
         made_up = saved("together-program", MADE_UP)
         pathlib.Path(made_up).chmod(0o755)
         done = bench("-p", made_up, "-r", "2", "-w", "2,3", "buffer", name="together")
@@ -265,7 +268,7 @@ class Together(Case):
         self.assertEqual([line.partition(" of 4 runs ended with status 0; ")[0] for line in told],
                          [f"Threads of the host: {threads}. All" for threads in ("all", "one", "none")])
 
-    def test_a_program_whose_threads_can_not_be_refused(self):
+    def test_a_program_whose_threads_can_not_be_refused(self) -> None:
         made_up = saved("alone-program", MADE_UP.replace("range(1, numbers[0])", "()"))
         pathlib.Path(made_up).chmod(0o755)
         done = bench("-p", made_up, "-r", "1", "-w", "2", "buffer", name="together")
@@ -273,7 +276,7 @@ class Together(Case):
         self.says("no thread could be refused", done)
 
 
-def guests_file(name):
+def guests_file(name: str) -> bytes:
     """The file of a guest of bench/."""
     bench("-o", TEMPORARY / "guests", name)
     return (TEMPORARY / "guests" / f"{name}.elf").read_bytes()

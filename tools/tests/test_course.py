@@ -1,14 +1,20 @@
 """The course: the tool run, the guests of the exercises, the histories and guests of the answers, and the commands
 that the pages name."""
+from __future__ import annotations
+
 import re
 import shlex
 import shutil
 import subprocess
 import unittest
+from typing import TYPE_CHECKING
 
 from tools.workbench.guest import guestfile
 from tools.workbench.running import delegation
 from .common import COURSE, GUESTS, ROOT, TEMPORARY, Case, elf, run, saved, with_program
+
+if TYPE_CHECKING:
+    from pathlib import Path
 
 ANSWERS = ROOT / "docs" / "answers"
 PAGES = (ROOT / "docs" / "TEACHING.md", ANSWERS / "README.md")
@@ -18,32 +24,32 @@ BUILT = [COURSE / f"{name}.elf" for name in ("hot", "pair", "queue")] + [ANSWERS
 class Run(Case):
     """By the model, as a seed asks for: the program may be built here."""
 
-    def test_it_is_what_simulate_prints(self):
+    def test_it_is_what_simulate_prints(self) -> None:
         for words, seed in ((("1", "42", "0"), "0"), (("4", "20000", "8"), "3")):
             done = run("run", elf("first"), *words, "--seed", seed)
             self.assertEqual(done.stdout, run("simulate", elf("first"), *words, "--seed", seed).stdout)
             self.one_line(done, 0)
             self.says("by the model", done)
 
-    def test_the_program_where_it_is_built(self):
+    def test_the_program_where_it_is_built(self) -> None:
         root = with_program("echoing", '#!/bin/sh\necho "$@"\nwc -c\nexit 0\n')
         done = run("run", elf("exit"), "2", "100", "8", root=root)
         self.assertEqual((done.returncode, done.stdout), (0, b"run 2 100 8\n92\n"))
         self.assertEqual(done.stderr, b"workbench run: by the program\n")
         self.says("by the model", run("run", elf("exit"), "2", "100", "8", "--seed", "1", root=root))
 
-    def test_statuses_of_the_program_are_passed_on(self):
+    def test_statuses_of_the_program_are_passed_on(self) -> None:
         for status in (3, 4, 5, 7):
             root = with_program(f"status-{status}", f"#!/bin/sh\necho refused 1 TooShort\nexit {status}\n")
             done = run("run", elf("exit"), "1", "1", "0", root=root)
             self.assertEqual((done.returncode, done.stdout, done.stderr.count(b"\n")), (status, b"refused 1 TooShort\n", 2))
 
-    def test_a_refused_file(self):
+    def test_a_refused_file(self) -> None:
         done = run("run", saved("short.elf", b"short"), "1", "1", "0", "--seed", "0")
         self.assertEqual(done.stdout, b"refused 1 TooShort\n")
         self.one_line(done, 3)
 
-    def test_wrong_uses(self):
+    def test_wrong_uses(self) -> None:
         for words in ((), (elf("first"),), (elf("first"), "1", "1"), (elf("first"), "0", "1", "0"),
                       (elf("first"), "1", "65537", "0"), (elf("first"), "1", "1", "257"), (elf("first"), "1", "1", "0", "0"),
                       (elf("first"), "1", "1", "0", "--seed", "x"), (elf("first"), "1", "1", "0", "--model"), (elf("first"), "1", "1", "0", "--nodes", "2", "0"),
@@ -55,7 +61,7 @@ class Run(Case):
         self.assertEqual((done.returncode, done.stderr.count(b"\n")), (4, 2))
 
 
-def words_of(path, text):
+def words_of(path: Path, text: bytes) -> list[list[int]]:
     """The words of each lock after a report."""
     locks = re.findall(r"^data [0-9a-f]{8} ([0-9a-f]+)$", text.decode(), re.M)
     self_ = guestfile.load(str(path)).guest
@@ -65,7 +71,7 @@ def words_of(path, text):
 
 
 class Guests(Case):
-    def test_by_one_worker(self):
+    def test_by_one_worker(self) -> None:
         """Numbers that the sources say; nobody is passed where each thread runs to its end."""
         for name, wanted in (("hot", [[1250 * sum(range(1, 9)), 10000]]), ("pair", [[6], [3], [3], [3, 3]]),
                              ("queue", [[6], [63, 0]])):
@@ -73,7 +79,7 @@ class Guests(Case):
             self.assertEqual(words_of(COURSE / f"{name}.elf", text), wanted)
             self.assertEqual(re.findall(rb"^thread \d+ (\w+)", text, re.M), [b"exit"] * text.count(b"\nthread "))
 
-    def test_histories_of_the_answers(self):
+    def test_histories_of_the_answers(self) -> None:
         for folder, name, wanted in ((COURSE, "pair", [[6], [3], [3], [1, 0]]), (COURSE, "queue", [[6], [63, 4]]),
                                      (ANSWERS, "pair", None)):
             guest = folder / f"{name}.elf"
@@ -84,19 +90,19 @@ class Guests(Case):
         # With the lock of the desk taken first, the others can't draw before customer 0 is served.
         self.one_line_behind("would take lock 0, which thread 0 has", ANSWERS / "queue.elf", ANSWERS / "queue.txt")
 
-    def one_line_behind(self, text, guest, history):
+    def one_line_behind(self, text: str, guest: Path, history: Path) -> None:
         done = run("finish", guest, history)
         self.assertEqual(done.returncode, 3)
         self.says(text, done)
 
-    def test_delegation_of_the_queues(self):
+    def test_delegation_of_the_queues(self) -> None:
         """Under the desk's lock nothing is adopted of the numbers' lock, and nothing granted of the desk's."""
         for seed in range(6):
             text = run("simulate", ANSWERS / "queue.elf", "4", "20000", "8", "--seed", str(seed)).stdout.decode()
             self.assertNotIn(" held 0 kind adopted", text)
             self.assertIsNone(re.search(r" held (0,)?1 kind granted", text))
 
-    def test_built_files_are_those_of_the_sources(self):
+    def test_built_files_are_those_of_the_sources(self) -> None:
         compiler = shutil.which("riscv64-unknown-elf-gcc")
         version = compiler and subprocess.run([compiler, "--version"], capture_output=True, check=False).stdout
         if not version or b" 12.2.0" not in version:
@@ -110,7 +116,7 @@ class Guests(Case):
 
 
 class Pages(Case):
-    def test_runs_that_the_pages_name(self):
+    def test_runs_that_the_pages_name(self) -> None:
         """Each `./workbench run`, with a seed, is a run of a guest that is there."""
         found = {command for page in PAGES for command in re.findall(r"workbench run guests/[^`|>]*", page.read_text())
                  if "$" not in command}
@@ -119,9 +125,9 @@ class Pages(Case):
             _, _, guest, *words = shlex.split(command)
             self.assertEqual(run("run", ROOT / guest, *words[:3], "--seed", "0").returncode, 0, command)
 
-    def test_history_on_nodes(self):
+    def test_history_on_nodes(self) -> None:
         """It is legal, and its sections stand as a line picks them with the bound 2, and with no other."""
-        text = re.search(r"(?s)```\n(tclocks 2\nguest threads 8 .*?)```", PAGES[0].read_text())[1]
+        text = re.search(r"(?s)```\n(tclocks 2\nguest threads 8 .*?)```", PAGES[0].read_text())[1]  # type: ignore[index]
         self.says("legal so far, 16 blocks", run("judge", elf("counter"), given=text))
         found = re.findall(r"thread (\d) .* kind adopted worker 0 ", text)
         for bound in range(6):
@@ -137,7 +143,7 @@ class Pages(Case):
                 hall.line[0].remove(chosen)
             self.assertEqual(str(chosen) == found[-1], bound == 2, bound)
 
-    def test_links(self):
+    def test_links(self) -> None:
         for page in PAGES:
             for link in re.findall(r"\]\(([^)#:]+)[)#]", page.read_text()):
                 self.assertTrue((page.parent / link).exists(), (page, link))

@@ -1,9 +1,12 @@
 """The search of every interleaving: that it misses no end and makes none up, what it answers to rules, and
 how it is used wrongly."""
+from __future__ import annotations
+
 import contextlib
 import io
 import random
 import unittest
+from typing import Any
 
 from tools.workbench import limits, tool
 from tools.workbench.exploring import explore, live, rules, search
@@ -16,14 +19,14 @@ from .common import GUESTS, NAMES, ROOT, TEMPORARY, Case, elf, run, saved
 
 
 
-def searched(file, fuel, **more):
+def searched(file: bytes, fuel: int, **more: Any) -> search.Search:
     return search.Search(model.Guest(file), fuel, **more)
 
 
 class EveryInterleaving(Case):
     """Against a search without any reduction, which shares no code with it but model.py's beginnings."""
 
-    def same(self, file, fuel, **more):
+    def same(self, file: bytes, fuel: int, **more: Any) -> tuple[search.Search, dict[rules.End, int]]:
         ends, states = small.plain(file, fuel)
         found = searched(file, fuel, **more)
         self.assertTrue(found.whole)
@@ -31,15 +34,15 @@ class EveryInterleaving(Case):
         self.assertLessEqual(found.states, states)
         return found, ends
 
-    def test_twenty_small_guests(self):
-        kinds = set()
+    def test_twenty_small_guests(self) -> None:
+        kinds: set[Any] = set()
         for seed in range(20):
             with self.subTest(seed=seed):
                 _, ends = self.same(*small.guest(seed))
                 kinds.update(how for end in ends for how, _ in end.threads)
         self.assertLessEqual({"exit", "spent", "fault 7", "fault 11"}, kinds)
 
-    def test_blocks_of_the_greatest_length(self):
+    def test_blocks_of_the_greatest_length(self) -> None:
         loop = [encode("addi", 6, 0, 2047), encode("addi", 6, 6, 2), encode("addi", 6, 6, -1), encode("bne", 6, 0, -4)]
         code = [encode("lui", small.BASE, made.DATA), *made.call(limits.LOCK, 0), *small.twice(random.Random(1), 0),
                 *loop, *loop, *small.twice(random.Random(2), 0), *made.call(limits.UNLOCK, 0), *small.EXIT]
@@ -47,7 +50,7 @@ class EveryInterleaving(Case):
         self.assertEqual(len(ends), 1)
         self.assertGreater(next(iter(ends.values())), 8)
 
-    def test_a_return_to_a_place_behind_no_call(self):
+    def test_a_return_to_a_place_behind_no_call(self) -> None:
         """Which registers are read again is not known then, so all are kept."""
         for link in live.LINKS:
             code = [encode("lui", small.BASE, made.DATA), *made.call(limits.LOCK, 0), *small.load(0),
@@ -55,10 +58,10 @@ class EveryInterleaving(Case):
                     encode("auipc", link, 0), encode("addi", link, link, 16), encode("jalr", 0, link, 0), encode("ebreak"),
                     *made.call(limits.LOCK, 0), *made.call(limits.UNLOCK, 0), encode("addi", 10, 6, 0), *small.EXIT]
             found, ends = self.same(common.built(code, (0, 0), 1), 100)
-            self.assertIsNone(found.shares.alone.sections.live)
+            self.assertIsNone(found.shares.alone.sections.live)  # type: ignore[union-attr]
             self.assertEqual({tuple(x10 for _, x10 in end.threads) for end in ends}, {(0, 1), (1, 0)})
 
-    def test_a_return_by_the_other_link_register(self):
+    def test_a_return_by_the_other_link_register(self) -> None:
         """A function is called by x1 and returns by x5, as that of a division does: nothing begins anew."""
         word, link = small.VALUE, live.LINKS[1]
         code = [encode("lui", 11, made.DATA), *made.call(limits.LOCK, 0), encode("lw", word, 11, 0),
@@ -66,10 +69,10 @@ class EveryInterleaving(Case):
                 encode("addi", 10, word, 0), *small.EXIT, encode("addi", link, 1, 0),
                 encode("add", word, word, word), encode("addi", word, word, 1), encode("jalr", 0, link, 0)]
         found, ends = self.same(common.built(code, (0, 0), 1), 100)
-        self.assertIsNotNone(found.shares.alone.sections.live)
+        self.assertIsNotNone(found.shares.alone.sections.live)  # type: ignore[union-attr]
         self.assertEqual({tuple(x10 for _, x10 in end.threads) for end in ends}, {(1, 3), (3, 1)})
 
-    def test_sums_of_two_words(self):
+    def test_sums_of_two_words(self) -> None:
         """Words of two locks are added and taken off one another, one of them twice: what the section comes to
         depends on one, and on the other only as the sum that it is."""
         for seed in range(4):
@@ -86,7 +89,7 @@ class EveryInterleaving(Case):
                                       [(made.DATA + 4 * lock, 4) for lock in range(2)]), code[0] + code[1], bytes([3, 0, 0, 0, 5, 0, 0, 0]), 8)
             self.same(file, 100)
 
-    def test_a_lock_that_is_taken_for_some_bytes_alone(self):
+    def test_a_lock_that_is_taken_for_some_bytes_alone(self) -> None:
         """Thread 1 takes lock 1 only where the first word is odd. It is even behind the first step of thread 0,
         which holds lock 1 then; so thread 1 can go on and be the first at lock 2."""
         call, take, give = made.call, limits.LOCK, limits.UNLOCK
@@ -103,7 +106,7 @@ class EveryInterleaving(Case):
         _, ends = self.same(file, 100)
         self.assertEqual({(end.word(2, 0), end.locks[1][1]) for end in ends}, {(3, 1), (3, 2), (4, 1), (4, 2)})
 
-    def test_several_processes(self):
+    def test_several_processes(self) -> None:
         alone, search.ALONE = search.ALONE, 2
         try:
             for seed in (2, 5, 9):
@@ -112,7 +115,7 @@ class EveryInterleaving(Case):
         finally:
             search.ALONE = alone
 
-    def test_ends_of_runs_are_among_them(self):
+    def test_ends_of_runs_are_among_them(self) -> None:
         for name in ("exit", "first", "matrix", "faults", "stale"):
             guest = guestfile.load(elf(name)).guest
             found = search.Search(guest, 20000)
@@ -121,7 +124,7 @@ class EveryInterleaving(Case):
                 run_, blocks = delegation.delegated(guest, 20000, 1 + seed % 4, seed)
                 self.assertIn(explore.end_of(list(run_.lines(blocks))), ends)
 
-    def test_ways_on_each_guest_come_to_their_ends_by_the_model(self):
+    def test_ways_on_each_guest_come_to_their_ends_by_the_model(self) -> None:
         for name in NAMES:
             guest = guestfile.load(elf(name)).guest
             found = search.Search(guest, 3000, most=40, walks=2)
@@ -136,7 +139,7 @@ class EveryInterleaving(Case):
 
 
 class Use(Case):
-    def test_all(self):
+    def test_all(self) -> None:
         done = run("explore", elf("stale"), "--all")
         self.assertEqual((done.returncode, done.stderr), (0, b""))
         self.says("every interleaving: 2 outcomes, ", done)
@@ -144,26 +147,26 @@ class Use(Case):
         self.says("lock 0 word 0 (00100000): 73 (0x49)", done)
         self.assertIn(f"```\n{done.stdout.decode()}```\n", (ROOT / "docs/EXPLORE.md").read_text())
 
-    def test_samples_do_not_see_it(self):
+    def test_samples_do_not_see_it(self) -> None:
         done = run("explore", elf("stale"), "--runs", "20", "--model")
         self.says("samples, 20 runs by the model: 1 outcome seen; there may be others", done)
         self.says("word 0 73", done)
 
-    def test_runs_beside_all(self):
+    def test_runs_beside_all(self) -> None:
         done = run("explore", elf("stale"), "--all", "--runs", "3", "--model")
         self.assertEqual((done.returncode, done.stderr), (0, b""))
         self.says("\n\nsamples, 3 runs by the model: 1 outcome seen\n", done)
 
-    def test_a_run_that_the_search_has_not(self):
+    def test_a_run_that_the_search_has_not(self) -> None:
         guest = guestfile.load(elf("stale")).guest
         found = search.Search(guest, 20000)
-        found.ends = lambda: []
+        found.ends = lambda: []  # type: ignore[assignment]
         asked, _ = explore.parsed([elf("stale"), "--all", "--runs", "1", "--model"])
         with contextlib.redirect_stdout(io.StringIO()), self.assertRaises(tool.Trouble) as trouble:
             explore.compare(guest, found, asked)
         self.assertEqual(trouble.exception.status, 3)
 
-    def test_reach(self):
+    def test_reach(self) -> None:
         done = run("explore", elf("stale"), "--reach", "lock 0 word 0 < 73")
         self.assertEqual((done.returncode, done.stderr), (0, b""))
         self.says("# lock 0 word 0 < 73: reachable, by this history of 28 blocks\n", done)
@@ -176,7 +179,7 @@ class Use(Case):
         self.assertEqual((done.returncode, done.stderr), (0, b""))
         self.says("# lock 0 word 0 == 72: in no interleaving (", done)
 
-    def test_never(self):
+    def test_never(self) -> None:
         done = run("explore", elf("stale"), "--never", "faults or spent", "--never", "lock 0 word 0 != 73")
         self.one_line(done, 3)
         self.says("# faults or spent: in no interleaving (", done)
@@ -184,7 +187,7 @@ class Use(Case):
         done = run("explore", elf("first"), "--never", "lock 0 word 0 != 36 or lock 0 sections != 6 or broken")
         self.assertEqual((done.returncode, done.stderr), (0, b""))
 
-    def test_not_all_seen(self):
+    def test_not_all_seen(self) -> None:
         done = run("explore", elf("stale"), "--never", "faults", "--states", "50", "--processes", "1")
         self.one_line(done, 6)
         self.says("# faults: not found; more than 50 states: not all seen; about ", done)
@@ -192,7 +195,7 @@ class Use(Case):
         self.assertEqual((done.returncode, done.stderr), (0, b""))
         self.assertTrue(done.stdout.startswith(b"more than 50 states: not all seen; about "), done.stdout)
 
-    def test_estimate(self):
+    def test_estimate(self) -> None:
         guest = guestfile.load(elf("stale")).guest
         states = search.Search(guest, 20000).states
         for most in (40, 150):
@@ -201,7 +204,7 @@ class Use(Case):
             self.assertLess((states - most) / 8, found.left())
             self.assertLess(found.left(), (states - most) * 8)
 
-    def test_keep(self):
+    def test_keep(self) -> None:
         folder = TEMPORARY / "every"
         done = run("explore", elf("stale"), "--all", "--keep", str(folder))
         self.assertEqual(done.returncode, 0)
@@ -211,7 +214,7 @@ class Use(Case):
             ends.add(explore.end_of(path.read_text().splitlines()))
         self.assertEqual(len(ends), 2)
 
-    def test_replay_takes_the_history_of_each_outcome(self):
+    def test_replay_takes_the_history_of_each_outcome(self) -> None:
         """By rejecting.py, and by the program where it is built: the answer is the report that is kept."""
         outcomes = 0
         for name, fuel in (("stale", 20000), ("first", 20), ("first", 20000), ("broken", 70), ("buffer", 90), ("ring", 80),
@@ -228,7 +231,7 @@ class Use(Case):
                 outcomes += 1
         self.assertGreater(outcomes, 100)
 
-    def test_faults_come_first(self):
+    def test_faults_come_first(self) -> None:
         """Thread 0 faults where thread 1 was there before it."""
         one = [encode("lui", 5, made.DATA), *made.call(limits.LOCK, 0), encode("lw", 7, 5, 0), encode("beq", 7, 0, 8),
                encode("ebreak"), *made.call(limits.UNLOCK, 0), *small.EXIT]
@@ -239,7 +242,7 @@ class Use(Case):
         self.says("every interleaving: 2 outcomes, ", done)
         self.assertLess(text.index("thread 0 ends: fault 8"), text.index("thread 0 ends: exit"))
 
-    def test_wrong_uses(self):
+    def test_wrong_uses(self) -> None:
         for words in (["--reach", "lock 1 word 0 == 1"], ["--reach", "lock 0 word 2 == 1"], ["--reach", "thread 2 exit"],
                       ["--never", ""], ["--never", "lock 0 word 0 =="], ["--never", "lock 0 word 0 = 1"],
                       ["--never", "lock 0 words 0"], ["--never", "(faults"], ["--never", "faults)"], ["--reach"],
@@ -257,7 +260,7 @@ class Rules(Case):
     END = rules.End((("exit", 7), ("fault 4", 2**32 - 1), ("spent", 0)),
                     ((0, 3, bytes([1, 0, 0, 0, 255, 255, 255, 255])), (1, 2, bytes(4))))
 
-    def test_values(self):
+    def test_values(self) -> None:
         for text, value in (
                 ("lock 0 word 0", 1), ("lock 0 word 1", 2**32 - 1), ("lock 0 signed 1", -1), ("lock 0 sections", 3),
                 ("lock 1 broken", 1), ("thread 0 x10", 7), ("thread 1 signed x10", -1), ("thread 0 exit", 1),
@@ -265,14 +268,14 @@ class Rules(Case):
                 ("spent", 1), ("broken", 1), ("1 + 2 * 3 - -4", 11), ("(1 + 2) * 3", 9), ("0x10", 16), ("10 - 2 - 3", 5)):
             self.assertEqual(rules.Rule(text, 3, [8, 4]).value(self.END), value, text)
 
-    def test_truth(self):
+    def test_truth(self) -> None:
         for text, holds in (
                 ("lock 0 word 0 == 1 and not thread 1 exit", True), ("faults or spent > 5", True), ("not faults", False),
                 ("not faults or broken", True), ("not (faults or broken)", False), ("lock 0 sections + lock 1 sections != 5", False),
                 ("1 <= 1 and 1 >= 1 and 1 < 2 and 2 > 1", True), ("faults == 1 and broken == 1 and thread 0 x10 * 2 == 14", True)):
             self.assertEqual(rules.Rule(text, 3, [8, 4]).holds(self.END), holds, text)
 
-    def test_order_of_ends(self):
+    def test_order_of_ends(self) -> None:
         well, fault, spent = (rules.End(((how, 1),), ()) for how in ("exit", "fault 3", "spent"))
         broken = rules.End((("exit", 0),), ((1, 1, bytes(4)),))
         self.assertEqual(sorted([well, broken, spent, fault], key=rules.End.order), [fault, spent, broken, well])

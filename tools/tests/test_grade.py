@@ -1,9 +1,15 @@
 """The grader, over folders of guests with known answers."""
+from __future__ import annotations
+
 import csv
 import shutil
 import unittest
+from typing import Any, TYPE_CHECKING
 
 from .common import COURSE, EXIT, GUESTS, ONE, ROOT, TEMPORARY, Case, built, call, elf, run
+
+if TYPE_CHECKING:
+    from subprocess import CompletedProcess
 
 COURSE, ANSWERS = COURSE, ROOT / "docs" / "answers"
 TORN = "lock 3 word 0 != lock 3 word 1"
@@ -11,7 +17,7 @@ TORN = "lock 3 word 0 != lock 3 word 1"
 LOST = (0x000202B7, *call(1, 0), 0x0002A383, *call(2, 0), *call(1, 0), 0x00138393, 0x0072A023, *call(2, 0), *EXIT)
 
 
-def folder(name, files):
+def folder(name: str, files: dict[str, Any]) -> str:
     """A folder of these files, by name: bytes, or the path of one to copy."""
     place = TEMPORARY / name
     for inner, content in files.items():
@@ -24,12 +30,12 @@ def folder(name, files):
     return str(place)
 
 
-def table(done):
+def table(done: CompletedProcess[bytes]) -> list[list[str]]:
     return [line.split("  ") for line in done.stdout.decode().partition("\n\n")[0].splitlines()]
 
 
 class Grade(Case):
-    def test_a_folder_of_students(self):
+    def test_a_folder_of_students(self) -> None:
         """Their names are those of the files; one is right, one loses an addition, one is refused, and one has
         no such lock."""
         place = folder("students", {"anna/guest.elf": built(ONE, (0, 0), 1), "ben/guest.elf": built(LOST, (0, 0), 1),
@@ -50,7 +56,7 @@ class Grade(Case):
         self.assertIn("\ndata 00020000 01000000\n", history.read_text())
         self.assertEqual(sorted(path.name for path in kept.iterdir()), ["anna-guest.elf-rule-2.txt", history.name])
 
-    def test_answers_of_the_course(self):
+    def test_answers_of_the_course(self) -> None:
         place = folder("course", {"asked.elf": COURSE / "pair.elf", "answered.elf": ANSWERS / "pair.elf"})
         rows = list(csv.DictReader(run("grade", place, "--never", TORN, "--csv").stdout.decode().splitlines()))
         self.assertEqual([tuple(row.values()) for row in rows],
@@ -59,15 +65,15 @@ class Grade(Case):
         place = folder("queues", {"asked.elf": COURSE / "queue.elf", "answered.elf": ANSWERS / "queue.elf"})
         for rule, answers in (("lock 1 word 1 > 4", "holds holds"), ("lock 1 word 1 > 3", "holds broken"),
                               ("lock 1 word 1 > 0", "holds broken")):
-            rows = csv.DictReader(run("grade", place, "--never", rule, "--csv").stdout.decode().splitlines())
+            rows = csv.DictReader(run("grade", place, "--never", rule, "--csv").stdout.decode().splitlines())  # type: ignore[assignment]
             self.assertEqual([row["answer"] for row in rows], answers.split(), rule)
 
-    def test_a_search_that_stops(self):
+    def test_a_search_that_stops(self) -> None:
         place = folder("large", {"counter.elf": elf("counter")})
         done = run("grade", place, "--never", "lock 0 sections != 480", "--states", "20")
         self.says("not known", done)
 
-    def test_sources(self):
+    def test_sources(self) -> None:
         if shutil.which("riscv64-unknown-elf-gcc") is None:
             self.skipTest("there is no compiler for RISC-V")
         place = folder("sources", {"a.c": GUESTS / "first.c", "a.elf": b"of no interest", "b.c": b"int main(void) { return 0 }",
@@ -80,7 +86,7 @@ class Grade(Case):
                                  "c/c.S accepted broken broken 0 of 2"])
         self.assertEqual(sorted(path.name for path in (TEMPORARY / "sources").rglob("*.elf")), ["a.elf"])
 
-    def test_wrong_uses(self):
+    def test_wrong_uses(self) -> None:
         place, empty = folder("one", {"one.elf": built(ONE, (0, 0), 1)}), folder("empty", {"notes.txt": b"none"})
         for words in ((), (place,), (place, "--never"), (place, "--never", "lock lock"), (place, "--reach", "lock 32 broken"),
                       (place, "--never", "faults", "--fuel", "0"), (place, "--never", "faults", "--states", "x"),

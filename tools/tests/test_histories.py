@@ -1,34 +1,40 @@
 """Histories by hand, and those that the model makes."""
+from __future__ import annotations
+
 import json
 import re
 import unittest
+from typing import TYPE_CHECKING
 
 from tools.workbench.guest import guestfile, model
 from tools.workbench.reports import report
 from tools.workbench.running import delegation
 from .common import BY_HAND, BY_HAND_V1, EXIT, GUESTS, NAMES, ONE, PCS, TEMPORARY, Case, built, call, elf, history, run, saved
 
+if TYPE_CHECKING:
+    from subprocess import CompletedProcess
+
 
 class ByHand(Case):
     """Two threads with one lock, whose histories are known on paper."""
 
-    def setUp(self):
+    def setUp(self) -> None:
         self.guest = saved("one.elf", built(ONE, (0, 0), 1))
 
-    def test_legal_so_far_and_finished(self):
+    def test_legal_so_far_and_finished(self) -> None:
         self.says("legal so far, 6 blocks", run("judge", self.guest, given=BY_HAND))
         done = run("finish", self.guest, given=BY_HAND)
         self.says("lock 0 sections 2 broken 0 bytes 4\ndata 00020000 02000000\nend", done)
         self.says("a legal run, to the end of every thread", run("judge", self.guest, given=done.stdout))
 
-    def test_lines_without_stamps_and_with_threads_alone(self):
+    def test_lines_without_stamps_and_with_threads_alone(self) -> None:
         lines = re.sub("block [0-9]+ ", "", BY_HAND)
         self.assertEqual(run("finish", self.guest, given=lines).stdout, run("finish", self.guest, given=BY_HAND).stdout)
         short = ("run workers 2 fuel 100 batch 4\nthread 0\nthread 0\nthread 1 worker 1\n"
                  "thread 1 kind adopted\nthread 0\nthread 1 worker 1")
         self.assertEqual(run("finish", self.guest, given=short).stdout, run("finish", self.guest, given=BY_HAND).stdout)
 
-    def test_both_forms(self):
+    def test_both_forms(self) -> None:
         self.says("legal so far, 6 blocks", run("judge", self.guest, given=BY_HAND_V1))
         self.says("block 1, line 5: pc is 00100008, and must be 0010000c",
                   run("judge", self.guest, given=BY_HAND.replace("pc 0010000c", "pc 00100008", 1)))
@@ -38,7 +44,7 @@ class ByHand(Case):
             explained = run("explain", self.guest, "-", given=text).stdout.decode()
             self.assertEqual(tuple(re.findall(r"# ([0-9a-f]{8})", explained)), PCS)
 
-    def test_first_block_that_is_not_legal(self):
+    def test_first_block_that_is_not_legal(self) -> None:
         changes = {"batch 4": ("batch 0", "block 3"), "adopted worker 0": ("adopted worker 1", "block 3"),
                    "kind taken": ("kind granted", "block 1"),
                    "turns 7 held 0 kind adopted": ("turns 6 held 0 kind adopted", "block 3"),
@@ -50,19 +56,19 @@ class ByHand(Case):
                 self.one_line(done, 3)
                 self.assertIn(place, done.stderr.decode())
 
-    def test_what_would_have_been_legal(self):
+    def test_what_would_have_been_legal(self) -> None:
         done = run("finish", self.guest, given=BY_HAND.replace("batch 4", "batch 0"))
         self.says("block 3 thread 1 turns 7 held 0 kind granted worker 0 pc 0010000c end unlocked 0"
                   "  # or worker 1", done)
         self.says("block 3 thread 0 turns 2 held - kind on", done)
 
-    def test_why_a_section_was_granted(self):
+    def test_why_a_section_was_granted(self) -> None:
         text = BY_HAND.replace("batch 4", "batch 0").replace("adopted", "granted")
         self.says("\n  granted: thread 1 waited for lock 0 from block 2 on (worker 1); thread 0 released it in block 1, "
                   "with 0 adopted sections in a row: the batch limit; away from the thread's own worker\n",
                   run("explain", self.guest, "-", given=text))
 
-    def test_who_releases_does_not_wait(self):
+    def test_who_releases_does_not_wait(self) -> None:
         """A thread that takes a lock twice in a row was not waiting for it."""
         code = (*ONE[:10], *ONE[1:])
         guest = saved("twice.elf", built(code, (0, 0), 1))
@@ -72,7 +78,7 @@ class ByHand(Case):
         self.assertEqual(done.returncode, 3)
         self.says("did not wait", done)
 
-    def test_who_is_set_aside_does_not_wait(self):
+    def test_who_is_set_aside_does_not_wait(self) -> None:
         """Worker 0 goes on with thread 0 behind thread 1's section: only then can it want the lock."""
         lines = "run workers 2 fuel 1000 batch 1\nthread 0\nthread 1 worker 1\nthread 0\nthread 1 kind adopted\n"
         done = run("finish", elf("first"), given=lines + "thread 0\nthread 1 worker 1\nthread 0 kind granted\n")
@@ -92,12 +98,13 @@ DOZE = (ONE[0],) + call(1, 0) + call(3, 3) + call(2, 0) + EXIT
 class OnPaper(Case):
     """Histories with nested locks, sleeps and unlocks out of order, whose blocks are known."""
 
-    def finished(self, code, entries, guards, lines, options):
+    def finished(self, code: tuple[int, ...], entries: tuple[int, ...], guards: int, lines: str,
+                 options: tuple[str, str, str, str, str, str]) -> CompletedProcess[bytes]:
         done = run("finish", saved("paper.elf", built(code, entries, guards)), *options, given=lines)
         self.assertEqual((done.returncode, done.stderr), (0, b""))
         return done
 
-    def test_nested_delegation(self):
+    def test_nested_delegation(self) -> None:
         """Thread 2 is adopted with lock 0 by worker 1, shipped with it to lock 1, and adopted by worker 0."""
         code = LOCKED[1] + LOCKED[0] + BOTH
         done = self.finished(code, (0, 8, 16), 2, """
@@ -122,7 +129,7 @@ class OnPaper(Case):
         self.says("\n  adopted: thread 2 waited for lock 1 from block 5 on (worker 1), shipped with lock 0; worker 0 "
                   "released it in block 2 and runs", said)
 
-    def test_sleep_inside_a_section(self):
+    def test_sleep_inside_a_section(self) -> None:
         done = self.finished(DOZE + ONE, (0, len(DOZE)), 1, """
             thread 0 turns 3 worker 0 end wants 0
             thread 0 turns 4 held 0 kind taken worker 0 end slept
@@ -135,7 +142,7 @@ class OnPaper(Case):
         self.says("data 00020000 01000000", done)
         self.assertIn("asleep with lock 0 held", run("draw", "-", given=done.stdout).stdout.decode())
 
-    def test_unlock_out_of_order(self):
+    def test_unlock_out_of_order(self) -> None:
         code = call(1, 0) + call(1, 1) + call(2, 0) + call(2, 1) + EXIT
         done = run("simulate", saved("paper.elf", built(code, (0,), 2)), "1", "100", "4")
         self.says("""block 0 thread 0 turns 2 held - kind start worker 0 pc 00100000 end wants 0
@@ -147,7 +154,7 @@ thread 0 exit fuel 86""", done)
 
 
 class Delegation(Case):
-    def test_histories_obey_the_batch_rule_as_it_is_written(self):
+    def test_histories_obey_the_batch_rule_as_it_is_written(self) -> None:
         for name in ("counter", "philosophers", "sleepers", "broken"):
             for seed, (workers, batch) in enumerate(((1, 4), (2, 0), (3, 1), (8, 256))):
                 blocks, text = history(name, workers, batch, seed, fuel=2000)
@@ -155,14 +162,14 @@ class Delegation(Case):
                     self.obeys([block for block in blocks if lock in block.held], lock, batch)
                 self.says("a legal run", run("judge", elf(name), given=text))
 
-    def obeys(self, blocks, lock, limit):
+    def obeys(self, blocks: list[report.Block], lock: int, limit: int) -> None:
         row, before = 0, None
         for block in blocks:
             begins = block.begun == lock
             ended = before is None or before.ends_thread or before.end == f"unlocked {lock}"
             self.assertEqual(begins, ended)
             if not begins:
-                self.assertEqual(block.thread, before.thread)
+                self.assertEqual(block.thread, before.thread)  # type: ignore[attr-defined]
             elif before is None:
                 self.assertEqual(block.kind, "taken")
             elif block.kind == "adopted":
@@ -173,13 +180,13 @@ class Delegation(Case):
             row = (row + 1 if block.kind == "adopted" else 0) if begins else row
             before = block
 
-    def test_delegation_is_seen(self):
+    def test_delegation_is_seen(self) -> None:
         blocks, _ = history("counter", 4, 8, 1)
         kinds = {block.kind for block in blocks}
-        self.assertEqual(kinds, set(report.KINDS))
+        self.assertEqual(kinds, set(report.KINDS))  # type: ignore[attr-defined]
         self.assertEqual({block.worker for block in blocks}, set(range(4)))
 
-    def test_facts_hold_in_delegated_runs(self):
+    def test_facts_hold_in_delegated_runs(self) -> None:
         facts = json.loads((GUESTS / "facts.json").read_text())
         for name in NAMES:
             run_, _ = delegation.delegated(guestfile.load(elf(name)).guest, 20000, 4, 2, 7)

@@ -1,4 +1,6 @@
 """Products and quotients of the model, against values that come from outside of this repository."""
+from __future__ import annotations
+
 import unittest
 
 from tools.workbench.guest import model
@@ -8,7 +10,7 @@ VALUES = ROOT / "crates" / "value_vectors" / "stdin"
 
 
 class Values(unittest.TestCase):
-    def test_products_and_quotients(self):
+    def test_products_and_quotients(self) -> None:
         heading, *lines = VALUES.read_text().splitlines()
         for line in lines:
             a, b, *values = (int(value, 16) for value in line.split(","))

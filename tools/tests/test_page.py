@@ -1,12 +1,16 @@
 """The page that steps through a run: its data, compared with what the report says; and, where a browser is
 there, what it shows of a history on paper."""
+from __future__ import annotations
+
 import json
 import re
 import shutil
 import subprocess
 import unittest
+from typing import Any
 
 from tools.workbench.drawing import page
+from tools.workbench.guest import made as maker
 from tools.workbench.guest import guestfile, names, sources
 from tools.workbench.reports import report, timeline
 from .common import BY_HAND, BY_HAND_V1, ONE, TEMPORARY, Case, built, elf, history, run, saved
@@ -14,19 +18,20 @@ from .common import BY_HAND, BY_HAND_V1, ONE, TEMPORARY, Case, built, elf, histo
 BROWSER = next(filter(None, map(shutil.which, ("chromium", "chromium-browser", "google-chrome"))), None)
 
 
-def made(text, path, first=0, last=None, title="a run"):
+def made(text: str, path: str | None, first: int = 0, last: int | None = None, title: str = "a run") -> str:
     """The page of some blocks; `path` is the guest's file, or None."""
     line = timeline.of(report.Report(text.splitlines(keepends=True)))
     file = guestfile.load(path) if path else None
-    guest = (file, sources.load(path, file)) if path else None
-    return page.made(line, names.Names(line.text, file), first, len(line.marks) - 1 if last is None else last, title, guest)
+    guest = (file, sources.load(path, file)) if path else None  # type: ignore[arg-type]
+    return page.made(line, names.Names(line.text, file), first, len(line.marks) - 1 if last is None else last, title, guest)  # type: ignore[arg-type]
 
 
-def data_of(text):
-    return json.loads(re.search(r'<script id="data" type="application/json">(.*)</script>', text)[1])
+def data_of(text: str) -> dict[str, Any]:
+    return json.loads(re.search(r'<script id="data" type="application/json">(.*)</script>', text)[1])  # type: ignore[index, no-any-return]
 
 
-def after(data, count):
+def after(data: dict[str, Any],
+          count: int) -> tuple[list[list[int]], list[list[int]]]:
     """Registers and words behind so many blocks of a page."""
     registers, words = [list(values) for values in data["registers"]], [list(lock["values"]) for lock in data["words"]]
     for block, (changed, stored) in zip(data["blocks"][:count], data["changes"]):
@@ -38,7 +43,7 @@ def after(data, count):
 
 
 class Data(Case):
-    def test_the_end_is_what_the_report_says(self):
+    def test_the_end_is_what_the_report_says(self) -> None:
         for name in ("philosophers", "sensors", "faults", "broken"):
             blocks, text = history(name, 3, 2, 1, fuel=700)
             data = data_of(made(text, elf(name)))
@@ -51,7 +56,7 @@ class Data(Case):
                 self.assertEqual(shown["addresses"], [lock.address + 4 * place for place in range(len(lock.bytes) // 4)])
                 self.assertEqual(b"".join(value.to_bytes(4, "little") for value in values), lock.bytes)
 
-    def test_a_window_begins_where_the_whole_page_is(self):
+    def test_a_window_begins_where_the_whole_page_is(self) -> None:
         _, text = history("philosophers", 4, 8, 1)
         whole, part = data_of(made(text, elf("philosophers"))), data_of(made(text, elf("philosophers"), 100, 149))
         self.assertEqual(after(part, 0), after(whole, 100))
@@ -62,48 +67,47 @@ class Data(Case):
             self.assertEqual(part["before"][thread][:9], [row for row in mine if row[0] < 100][-1])
             self.assertEqual(part["behind"][thread][:9], [row for row in mine if row[0] >= 150][0])
 
-    def test_of_large_guards_the_words_that_change(self):
+    def test_of_large_guards_the_words_that_change(self) -> None:
         """Lock 0 guards 400 bytes, of which a thread changes the first word."""
-        import made as maker
         path = saved("large.elf", maker.elf(maker.note([(maker.CODE, 0)] * 2, [(maker.DATA, 400)]), ONE, bytes(4), 400))
         lock = data_of(made(BY_HAND, path))["words"][0]
         self.assertEqual((lock["addresses"], lock["values"], lock["note"]), ([maker.DATA], [0], "1 of its 100 words"))
 
-    def test_a_release_stands_with_what_it_hands_on(self):
+    def test_a_release_stands_with_what_it_hands_on(self) -> None:
         rows = data_of(made(BY_HAND, None))["blocks"]
         self.assertEqual([row[8] for row in rows], [-1, -1, -1, 1, -1, -1])
 
-    def test_broken_locks(self):
+    def test_broken_locks(self) -> None:
         """Thread 0 of 5 turns ends as spent in its section, block 1."""
         text = "".join(BY_HAND.splitlines(keepends=True)[:5]).replace("turns 7", "turns 3").replace("unlocked 0", "spent")
         self.assertEqual(data_of(made(text, None))["broken"], [1])
         self.assertEqual(data_of(made(BY_HAND, None))["broken"], [-1])
 
-    def test_without_a_guest(self):
+    def test_without_a_guest(self) -> None:
         for text in (BY_HAND, BY_HAND_V1):
             data = data_of(made(text, None))
             self.assertEqual((data["registers"], data["words"], data["changes"], data["threads"]), (None, None, [], ["", ""]))
 
 
 class File(Case):
-    def test_one_file_from_nowhere_else(self):
+    def test_one_file_from_nowhere_else(self) -> None:
         _, text = history("counter", 4, 8, 1)
         whole = made(text, elf("counter"))
         self.assertIn("default-src 'none'", whole)
         self.assertNotRegex(whole, r"https?:|\bsrc=|\bhref=|@import|url\(|\bfetch\(|XMLHttp|\bimport ")
 
-    def test_no_text_ends_its_element(self):
+    def test_no_text_ends_its_element(self) -> None:
         whole = made(BY_HAND, None, title="</script><b>&\u2028")
         self.assertEqual(whole.count("</script>"), 2)
         self.assertEqual(data_of(whole)["title"], "</script><b>&\u2028")
 
-    def test_the_tool(self):
+    def test_the_tool(self) -> None:
         guest = saved("one.elf", built(ONE, (0, 0), 1))
         whole = run("finish", guest, given=BY_HAND).stdout
         done = run("draw", "-", "--page", "--guest", guest, "--title", "a run", given=whole)
         self.assertEqual((done.returncode, done.stdout.decode()), (0, made(BY_HAND, guest)))
 
-    def test_wrong_uses(self):
+    def test_wrong_uses(self) -> None:
         guest = saved("one.elf", built(ONE, (0, 0), 1))
         self.one_line(run("draw", "-", "--page", "--guest", guest, given=BY_HAND.replace("turns 7", "turns 6")), 3)
         long = BY_HAND[:BY_HAND.index("block 0")] + "".join(
@@ -132,18 +136,18 @@ document.body.append(made);
 
 @unittest.skipUnless(BROWSER, "no browser is there")
 class InABrowser(Case):
-    def test_a_history_on_paper(self):
+    def test_a_history_on_paper(self) -> None:
         whole = made(BY_HAND, saved("one.elf", built(ONE, (0, 0), 1)))
         path = saved("page.html", whole.replace("begin();\n</script>", "begin();\n" + LOOK + "</script>"))
-        done = subprocess.run([BROWSER, "--headless", "--no-sandbox", "--disable-gpu", "--virtual-time-budget=2000",
+        done = subprocess.run([BROWSER, "--headless", "--no-sandbox", "--disable-gpu", "--virtual-time-budget=2000",  # type: ignore[list-item]
                                f"--user-data-dir={TEMPORARY / 'browser'}", "--dump-dom", f"file://{path}"],
                               stdout=subprocess.PIPE, stderr=subprocess.DEVNULL, check=True, timeout=300, text=True)
-        found = json.loads(re.search('<pre id="seen">(.*)</pre>', done.stdout)[1].replace("&lt;", "<").replace("&gt;", ">"))
+        found = json.loads(re.search('<pre id="seen">(.*)</pre>', done.stdout)[1].replace("&lt;", "<").replace("&gt;", ">"))  # type: ignore[index]
         self.check(found["seen"])
         # Shift and left arrow: to the section before; block 3 and then block 1 begin one.
         self.assertEqual([found[name] for name in ("back", "backTwice", "end", "section")], [3, 1, 6, 1])
 
-    def check(self, seen):
+    def check(self, seen: list[dict[str, Any]]) -> None:
         self.assertEqual([one["step"] for one in seen], list(range(7)))
         # Block 1: worker 0 has thread 0 with lock 0. Thread 1 has not begun.
         self.assertEqual([text.split() for text in seen[1]["workers"]], [["worker", "0", "0", "0"], ["worker", "1"]])

@@ -1,5 +1,8 @@
 """What `replay` and `profile` answer by rejecting.py: on paper, to histories that are changed, and in the exercise on
 wrong histories; and what ./workbench judge says of the same ones."""
+from __future__ import annotations
+
+from typing import Any
 import collections
 import random
 import re
@@ -17,7 +20,7 @@ EXIT = (GUESTS / "exit.elf").read_bytes()
 OF_EXIT = "block 0 thread 0 turns 2 held - kind start worker 0 pc 00010054 end exit\n"
 
 
-def answer(form, file, numbers, lines, size=None):
+def answer(form: str, file: bytes, numbers: tuple[int, int, int], lines: str, size: None = None) -> tuple[int, str]:
     """The model's answer to a file and a history behind it."""
     given = file + lines.encode("ascii")
     return rejecting.Given(len(file) if size is None else size, numbers, given).answer(form)
@@ -26,7 +29,7 @@ def answer(form, file, numbers, lines, size=None):
 class OnPaper(Case):
     """Answers that the pages tell, to histories whose blocks are known."""
 
-    def test_a_history_of_one_block(self):
+    def test_a_history_of_one_block(self) -> None:
         numbers = 1, 100, 0
         status, text = answer("replay", EXIT, numbers, OF_EXIT)
         self.assertEqual((status, text[:10]), (0, "tclocks 2\n"))
@@ -41,7 +44,7 @@ class OnPaper(Case):
             for form in ("replay", "profile"):
                 self.assertEqual(answer(form, EXIT, numbers, OF_EXIT.replace(old, new)), (6, f"rejected {said}\n"), new)
 
-    def test_an_owner(self):
+    def test_an_owner(self) -> None:
         """Thread 0 sleeps with lock 0, and thread 1 runs on from its LOCK."""
         doze = (ONE[0],) + call(1, 0) + call(3, 3) + call(2, 0) + EXIT_WORDS
         file = built(doze + ONE, (0, len(doze)), 1)
@@ -53,7 +56,7 @@ block 3 thread 1 turns 7 held 0 kind taken worker 1 pc 0010003c end unlocked 0
 """
         self.assertEqual(answer("replay", file, (2, 100, 4), lines), (6, "rejected 4 3 Owner\n"))
 
-    def test_a_text_error_comes_first(self):
+    def test_a_text_error_comes_first(self) -> None:
         """Wherever it stands; and of a wrong block the first reason."""
         file, numbers = built(ONE, (0, 0), 1), (2, 100, 4)
         lines = rejecting.history_of(BY_HAND).decode()
@@ -68,7 +71,7 @@ block 3 thread 1 turns 7 held 0 kind taken worker 1 pc 0010003c end unlocked 0
         wrong = lines.replace("kind adopted worker 0", "kind taken worker 9")
         self.assertEqual(answer("replay", file, numbers, wrong), (6, "rejected 4 6 Worker\n"))
 
-    def test_the_batch_rule(self):
+    def test_the_batch_rule(self) -> None:
         """As it is written: a thread may be handed what it released itself."""
         file, numbers = built(ONE, (0, 0), 1), (2, 100, 4)
         lines = rejecting.history_of(BY_HAND).decode()
@@ -81,7 +84,7 @@ block 3 thread 1 turns 7 held 0 kind taken worker 1 pc 0010003c end unlocked 0
             self.assertEqual((status, text) == (6, f"rejected {line} 5 Kind\n"), wrong, (new, limit, text[:40]))
             self.assertIn(status, (0, 6))
 
-    def test_a_profile(self):
+    def test_a_profile(self) -> None:
         self.assertEqual(answer("profile", built(ONE, (0, 0), 1), (2, 100, 4), rejecting.history_of(BY_HAND).decode()), (0, """tclocks profile 1
 lock 0 sections 2 taken 1 adopted 1 granted 0 longest 1 changes 0 home 1
 thread 0 blocks 3 turns 12 moves 0
@@ -89,15 +92,15 @@ thread 1 blocks 3 turns 12 moves 2
 end
 """))
 
-    def test_what_is_refused(self):
+    def test_what_is_refused(self) -> None:
         for size, said in ((93, "refused 17 ShortInput"), (51, "refused 1 TooShort"), (91, "refused 9 BadLoad")):
-            self.assertEqual(answer("replay", EXIT, (1, 100, 0), "", size), (3, f"{said}\n"))
+            self.assertEqual(answer("replay", EXIT, (1, 100, 0), "", size), (3, f"{said}\n"))  # type: ignore[arg-type]
         most, limits.HISTORY_BYTES = limits.HISTORY_BYTES, len(OF_EXIT)
         self.addCleanup(setattr, limits, "HISTORY_BYTES", most)
         self.assertEqual(answer("profile", EXIT, (1, 100, 0), OF_EXIT)[0], 0)
         self.assertEqual(answer("profile", EXIT, (1, 100, 0), OF_EXIT + "x"), (3, "refused 0 TooLarge\n"))
 
-    def test_lines(self):
+    def test_lines(self) -> None:
         """What is a line and what is none, whatever the guest."""
         line = OF_EXIT[:-1]
         for old, new in (("thread 0", "thread 4294967295"), ("worker 0", "worker 4294967295"), ("turns 2", "turns 4096"),
@@ -114,7 +117,7 @@ end
 
 
 class Changed(Case):
-    def test_histories_of_the_model_are_taken(self):
+    def test_histories_of_the_model_are_taken(self) -> None:
         for seed, name in enumerate(NAMES):
             text = history(name, 4, 2, seed, fuel=700)[1]
             file = (GUESTS / f"{name}.elf").read_bytes()
@@ -122,11 +125,11 @@ class Changed(Case):
             self.assertEqual(answer("replay", file, (4, 700, 2), lines), (0, text), name)
             self.assertEqual(answer("profile", file, (4, 700, 2), lines), (0, run("summary", "-", "--profile", given=text).stdout.decode()), name)
 
-    def test_each_form_comes_to_the_reason_that_it_aims_at(self):
+    def test_each_form_comes_to_the_reason_that_it_aims_at(self) -> None:
         blocks, _ = history("philosophers", 3, 2, 4, fuel=400)
         file, draw = (GUESTS / "philosophers.elf").read_bytes(), random.Random(1)
         for form, reason in zip(spoil.FORMS, limits.REASONS):
-            seen = collections.Counter()
+            seen: collections.Counter[Any] = collections.Counter()
             for _ in range(12):
                 lines = form(draw, blocks)
                 answered = answer("replay", file, (3, 400, 2), lines)
@@ -138,11 +141,11 @@ class Changed(Case):
 class Exercise(Case):
     """Its answers by rejecting.py, and by the program where it is built."""
 
-    def edited(self, edit, name):
+    def edited(self, edit: str, name: str) -> str:
         path = DOCS / "pictures" / f"{name}.txt"
         return subprocess.run(["sed", edit, path], stdout=subprocess.PIPE, check=True).stdout.decode()
 
-    def answered(self, name, numbers, text):
+    def answered(self, name: str, numbers: tuple[int, int, int], text: str) -> tuple[int, str]:
         """What is answered to the history of a report."""
         file = (GUESTS / f"{name}.elf").read_bytes()
         answered = answer("replay", file, numbers, rejecting.history_of(text).decode())
@@ -151,7 +154,7 @@ class Exercise(Case):
             self.assertEqual(program.run(words, file + rejecting.history_of(text)), answered)
         return answered
 
-    def test_each_reason(self):
+    def test_each_reason(self) -> None:
         numbers, whole = (4, 20000, 8), self.edited("", "philosophers")
         self.assertEqual(self.answered("philosophers", numbers, whole), (0, whole))
         rows = re.findall(r"(?m)^\| `(/\^block.*)` \| `(rejected \d+ (\d) (\w+))` \| `(.*)` \|$",
@@ -164,15 +167,15 @@ class Exercise(Case):
             self.says(said, judged)
             self.assertEqual(judged.returncode, 0 if name == "Incomplete" else 3)
 
-    def test_what_judge_asks_for_beside_them(self):
+    def test_what_judge_asks_for_beside_them(self) -> None:
         edit = "/^block 3 /s/taken/adopted/"
         self.assertIn(edit, (DOCS / "answers" / "README.md").read_text())
         text = self.edited(edit, "first")
-        numbers = map(int, report.OPTIONS.search(text).groups())
-        self.assertEqual(self.answered("first", tuple(numbers), text), (0, text))
+        numbers = map(int, report.OPTIONS.search(text).groups())  # type: ignore[union-attr]
+        self.assertEqual(self.answered("first", tuple(numbers), text), (0, text))  # type: ignore[arg-type]
         self.says("thread 0 had the section before too, so it did not wait for this one", run("judge", elf("first"), given=text))
 
-    def test_numbers_of_the_exercise_on_profiles(self):
+    def test_numbers_of_the_exercise_on_profiles(self) -> None:
         page = (DOCS / "answers" / "README.md").read_text()
         for limit in 0, 8, 256:
             text = run("run", elf("counter"), "4", "20000", str(limit), "--seed", "1").stdout
@@ -184,7 +187,7 @@ class Exercise(Case):
             text = run("finish", elf("first"), "-", "--on", given=lines.replace(*change)).stdout
             self.says(wanted, run("replay", elf("first"), "-", "--profile", given=text))
 
-    def test_names_are_those_of_the_pages(self):
+    def test_names_are_those_of_the_pages(self) -> None:
         for page in "TEACHING.md", "REPORT.md":
             named = re.findall(r"(?m)^\| (\d) \| ([A-Z]\w+) \|", (DOCS / page).read_text())
             for number, name in enumerate(limits.REASONS, 1):
@@ -194,7 +197,7 @@ class Exercise(Case):
 class Tool(Case):
     """./workbench replay, by the model, and by the program where it is built."""
 
-    def test_what_it_gives(self):
+    def test_what_it_gives(self) -> None:
         whole = (DOCS / "pictures" / "philosophers.txt").read_text()
         blocks = rejecting.history_of(whole).decode()
         numbers = "--workers", "4", "--fuel", "20000", "--batch", "8"
@@ -204,7 +207,7 @@ class Tool(Case):
                 self.assertEqual((done.returncode, done.stdout.decode(), done.stderr.count(b"\n")), (0, whole, 1))
                 self.assertEqual(model and done.stderr, model and b"workbench replay: by the model\n")
 
-    def test_what_is_rejected_or_refused(self):
+    def test_what_is_rejected_or_refused(self) -> None:
         whole = (DOCS / "pictures" / "first.txt").read_text()
         for old, new, line in (("block 3 ", "Block 3 ", "rejected 4 1 Text"), ("block 0 ", "\nblock 0 ", "rejected 1 1 Text"),
                                ("turns 7 ", "turns 8 ", "rejected 1 4 Block"), ("batch 8", "batch 0", None)):
@@ -215,7 +218,7 @@ class Tool(Case):
         done = run("replay", saved("none.elf", b"none"), given=whole)
         self.assertEqual((done.returncode, done.stdout), (3, b"refused 1 TooShort\n"))
 
-    def test_wrong_uses(self):
+    def test_wrong_uses(self) -> None:
         blocks = rejecting.history_of((DOCS / "pictures" / "first.txt").read_text())
         for words in ((), (elf("first"), "--frobnicate"), (elf("first"), "--workers", "9"), (elf("first"), "-"),
                       (elf("first"), "-", "--workers", "1", "--fuel", "1")):

@@ -1,5 +1,8 @@
 """Lines of the source, where the compiler is there: as the source has them, and as binutils read them."""
+from __future__ import annotations
+
 import os
+import pathlib
 import re
 import shutil
 import subprocess
@@ -11,7 +14,7 @@ from .common import GUESTS, TEMPORARY, Case, elf, run
 COMPILER = shutil.which("riscv64-unknown-elf-gcc")
 
 
-def with_debug_data():
+def with_debug_data() -> pathlib.Path:
     """first.c, built with debug data in a folder of its own."""
     folder = TEMPORARY / "debug"
     folder.mkdir(exist_ok=True)
@@ -21,12 +24,12 @@ def with_debug_data():
 
 
 class Without(Case):
-    def test_files_without_debug_data(self):
+    def test_files_without_debug_data(self) -> None:
         for name in ("first", "exit"):
             found = sources.load(elf(name), guestfile.load(elf(name)))
             self.assertEqual((found.trouble, found.frames, found.text(0x10000)), ("", {}, ""))
 
-    def test_sources_that_are_none(self):
+    def test_sources_that_are_none(self) -> None:
         folder = TEMPORARY / "none"
         folder.mkdir()
         os.mkfifo(folder / "my.c")
@@ -39,7 +42,7 @@ class Without(Case):
 
 @unittest.skipUnless(COMPILER, "the compiler is not there")
 class OfTheCompiler(Case):
-    def test_lines_are_those_of_the_source(self):
+    def test_lines_are_those_of_the_source(self) -> None:
         path = with_debug_data()
         found = sources.load(str(path), guestfile.load(str(path)))
         self.assertEqual(found.text(0x10028), "first.c:12 total.sum += argument;")
@@ -52,19 +55,19 @@ class OfTheCompiler(Case):
         for address, place in lines.items():
             self.assertIn(place, found.frames[address])
 
-    def test_explain_and_the_page_say_them(self):
+    def test_explain_and_the_page_say_them(self) -> None:
         path = with_debug_data()
         report = run("simulate", path, "1", "1000", "0").stdout
         self.says("first.c:12 total.sum += argument;", run("explain", path, "-", "--trace", "1", given=report))
         self.says("first.c:", run("draw", "-", "--page", "--guest", path, given=report))
 
-    def test_without_a_reader(self):
+    def test_without_a_reader(self) -> None:
         path = with_debug_data()
         report = run("simulate", path, "1", "1000", "0").stdout
         bare = TEMPORARY / "bare"
         bare.mkdir()
         for name in ("sh", "python3", "basename", "readlink"):
-            (bare / name).symlink_to(shutil.which(name))
+            (bare / name).symlink_to(shutil.which(name) or "/none")
         done = run("explain", path, "-", given=report, env={"PATH": str(bare)})
         self.one_line(done, 0)
         self.says("is on the PATH to read it", done)

@@ -1,21 +1,24 @@
 """Sweeps: their table against simulate and summary, their pictures, and wrong uses."""
+from __future__ import annotations
+
 import csv
 import json
 import re
 import unittest
 import xml.etree.ElementTree
+from typing import Any
 
 from tools.workbench.guest import guestfile
 from tools.workbench.running import delegation
 from .common import BY_HAND, GUESTS, NAMES, ONE, ROOT, TEMPORARY, Case, built, elf, run, saved, with_program
 
 
-def table(done):
+def table(done: Any) -> Any:
     return list(csv.DictReader(done.stdout.decode().splitlines()))
 
 
 class Sweep(Case):
-    def test_each_line_is_the_run_of_its_seed(self):
+    def test_each_line_is_the_run_of_its_seed(self) -> None:
         done = run("sweep", elf("philosophers"), "--workers", "1,4", "--batch", "0,8", "--runs", "2", "--model", "--seed", "9")
         rows = table(done)
         self.assertEqual([(row["workers"], row["batch"], row["run"]) for row in rows],
@@ -32,17 +35,17 @@ class Sweep(Case):
                              ("philosophers.elf", "model", "all", ""))
             self.assertEqual(int(row["blocks"]), text.count(b"\nblock "))
 
-    def test_standard_input(self):
+    def test_standard_input(self) -> None:
         words = ("--workers", "1", "--batch", "0", "--runs", "1", "--model")
         done = run("sweep", "-", *words, given=(GUESTS / "first.elf").read_bytes())
         self.assertEqual(done.stdout.replace(b"\n-,", b"\nfirst.elf,"), run("sweep", elf("first"), *words).stdout)
 
-    def test_a_line_for_each_lock(self):
+    def test_a_line_for_each_lock(self) -> None:
         rows = table(run("sweep", elf("philosophers"), "--workers", "2", "--batch", "1", "--runs", "1", "--model", "--locks"))
         self.assertEqual([(row["lock"], row["sections"]) for row in rows],
                          [(str(lock), "24") for lock in range(5)] + [("5", "60")])
 
-    def test_what_batch_limits_say(self):
+    def test_what_batch_limits_say(self) -> None:
         """With 0 nothing is adopted; with B no row is longer, and the data stays."""
         rows = {row["batch"]: row for row in table(run(
             "sweep", elf("counter"), "--workers", "4", "--batch", "0,1,256", "--runs", "1", "--model"))}
@@ -50,7 +53,7 @@ class Sweep(Case):
         self.assertLessEqual(int(rows["256"]["granted"]), 480 // 257)
         self.assertLess(10 * int(rows["256"]["changes"]), int(rows["0"]["changes"]))
 
-    def test_nodes(self):
+    def test_nodes(self) -> None:
         """With one node nobody is on another one; more nodes than workers are left out; each run is that of guests/run."""
         words = ("--workers", "2,4", "--batch", "8", "--nodes", "0,1,2,4", "--bound", "0,3", "--runs", "1", "--model")
         rows = table(run("sweep", elf("counter"), *words, "--plot", str(TEMPORARY / "nodes.svg")))
@@ -68,7 +71,7 @@ class Sweep(Case):
             self.assertEqual(row["adopted"], str(text.count(b" kind adopted ")))
         self.assertIn("4 workers, 2 nodes, bound 3", (TEMPORARY / "nodes.svg").read_text())
 
-    def test_whom_a_line_prefers(self):
+    def test_whom_a_line_prefers(self) -> None:
         """One waiter of node 1 came before two of node 0, and a worker of node 0 passes the lock on three times."""
         guest, worker = guestfile.load(elf("counter")).guest, delegation.Worker(0)
         for nodes, bound, wanted in ((0, 0, [1, 2, 3]), (2, 0, [1, 2, 3]), (2, 1, [2, 1, 3]), (2, 2, [2, 3, 1])):
@@ -81,11 +84,11 @@ class Sweep(Case):
                 hall.line[0].remove(found[-1])
             self.assertEqual(found, wanted, (nodes, bound))
 
-    def test_a_guest_without_locks(self):
+    def test_a_guest_without_locks(self) -> None:
         row, = table(run("sweep", elf("exit"), "--workers", "1", "--batch", "0", "--runs", "1", "--model"))
         self.assertEqual((row["sections"], row["longest"], row["blocks"], row["turns"]), ("0", "0", "1", "2"))
 
-    def test_by_the_program(self):
+    def test_by_the_program(self) -> None:
         """One that is made up, in the place of the built one."""
         root = with_program("sweeping", f'#!/bin/sh\n[ "$1" = run ] || exit 1\nshift\n'
                                          f'exec {ROOT}/workbench simulate - "$@" --seed 5\n')
@@ -100,14 +103,14 @@ class Sweep(Case):
         self.assertIn("Seconds", (TEMPORARY / "seconds.svg").read_text())
         self.one_line(run("sweep", elf("counter"), root=with_program("failing", "#!/bin/sh\nexit 5\n")), 3)
 
-    def test_each_guest(self):
+    def test_each_guest(self) -> None:
         for name in NAMES:
             words = [] if name == "exit" else ["--strips", str(TEMPORARY / f"{name}.svg")]
             done = run("sweep", elf(name), "--workers", "3", "--batch", "2", "--runs", "1", "--fuel", "600", "--model",
                        "--plot", str(TEMPORARY / f"{name}-plot.svg"), *words)
             self.assertEqual((done.returncode, done.stderr, len(table(done))), (0, b"", 1), name)
 
-    def test_pictures(self):
+    def test_pictures(self) -> None:
         plot, strips = TEMPORARY / "plot.svg", TEMPORARY / "strips.svg"
         for name in ("counter", "philosophers", "first"):
             done = run("sweep", elf(name), "--workers", "1,3", "--batch", "0,2,256", "--runs", "2", "--model",
@@ -122,7 +125,7 @@ class Sweep(Case):
         rows = [row for row in table(done) if row["run"] == "1"]
         self.assertEqual(moved, [(row["sections"], row["changes"]) for row in rows])
 
-    def test_strips_on_paper(self):
+    def test_strips_on_paper(self) -> None:
         """The two sections of a guest that counts once are of worker 0 alone."""
         path = TEMPORARY / "paper.svg"
         run("sweep", saved("one.elf", built(ONE, (0, 0), 1)), "--workers", "1", "--batch", "0", "--runs", "1", "--model",
@@ -131,7 +134,7 @@ class Sweep(Case):
 
 
 class WrongUses(Case):
-    def test_words(self):
+    def test_words(self) -> None:
         for words in ((), ("--workers", "0"), ("--workers", "9"), ("--workers", "1,1"), ("--workers", "1,"),
                       ("--batch", "257"), ("--batch", "x"), ("--runs", "0"), ("--fuel", "65537"), ("--seed", "-1"),
                       ("--sections", "0"), ("--nodes", "9"), ("--nodes", "x"), ("--bound", "257"), ("--nodes", "2", "--workers", "1"),
@@ -141,7 +144,7 @@ class WrongUses(Case):
             self.assertEqual(done.stdout, b"")
         self.one_line(run("sweep", elf("exit"), "--strips", "x.svg"), 1)
 
-    def test_files(self):
+    def test_files(self) -> None:
         quick = ("--workers", "1", "--batch", "0", "--runs", "1", "--model")
         self.one_line(run("sweep", "/no/such/file"), 2)
         self.one_line(run("sweep", saved("text.elf", BY_HAND)), 3)

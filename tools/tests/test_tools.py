@@ -1,7 +1,10 @@
 """What the tools print."""
+from __future__ import annotations
+
 import json
 import re
 import unittest
+from typing import Any
 
 from tools.workbench import limits
 from tools.workbench.guest import guestfile
@@ -9,7 +12,7 @@ from .common import BY_HAND, EXIT, GUESTS, NAMES, ONE, TEMPORARY, Case, built, c
 
 
 class Explanations(Case):
-    def test_refusals_of_changed_files(self):
+    def test_refusals_of_changed_files(self) -> None:
         file = (GUESTS / "exit.elf").read_bytes()
         self.assertEqual(len(file), 92)
         for size, number in [(0, 1), (51, 1), (52, 7), (83, 7), (84, 9), (91, 9)]:
@@ -21,7 +24,7 @@ class Explanations(Case):
             self.refused(file[:offset] + value + file[offset + len(value):], number)
         self.refused(file + bytes(1048577 - 92), 0)
 
-    def test_refusals_of_notes_without_room(self):
+    def test_refusals_of_notes_without_room(self) -> None:
         file = built(ONE, 17 * (0,), 32)
         guestfile.check(file)
         self.refused(file[:168] + b"\1" + file[169:], 12)
@@ -29,23 +32,23 @@ class Explanations(Case):
         self.refused(built(ONE, 33 * (0,), 1), 12)
         self.refused(built(ONE, (0,), 33), 12)
 
-    def refused(self, file, number):
+    def refused(self, file: Any, number: Any) -> None:
         with self.assertRaises(guestfile.Refused) as refused:
             guestfile.check(file)
         self.assertEqual(refused.exception.number, number)
 
-    def test_file_cut_short_says_so(self):
+    def test_file_cut_short_says_so(self) -> None:
         path = saved("short.elf", (GUESTS / "first.elf").read_bytes()[:200])
         self.one_line(run("judge", path), 3)
         done = run("explain", path, "-", given="refused 9 BadLoad\n")
         self.says("the file has 200 bytes: 96 are missing, so it may be cut short", done)
 
-    def test_faults(self):
+    def test_faults(self) -> None:
         known = json.loads((GUESTS / "facts.json").read_text())["faults"]
         text = run("simulate", elf("faults"), "1", "1000", "0").stdout
         said = run("explain", elf("faults"), "-", given=text).stdout.decode()
         for thread, (end, pc) in enumerate(zip(known["ends"], known["pc"])):
-            line = re.search(f"^  thread {thread}: (.*)$", said, re.M)[1]
+            line = re.search(f"^  thread {thread}: (.*)$", said, re.M)[1]  # type: ignore[index]
             self.assertTrue(line.startswith(end), line)
             self.assertIn(f"{pc:08x}", line)
         for part in ("in guard 0 (00100000 to 00100003), and lock 0 isn't held", "x17 is 64",
@@ -53,7 +56,7 @@ class Explanations(Case):
                      "LOCK 4 with four locks held (0,2,3,4)", "goes to 0001001a"):
             self.assertIn(part, said)
 
-    def test_words(self):
+    def test_words(self) -> None:
         for words, part in (("run 0 10 1", "workers"), ("run 2 010 1", "leading zero"), ("run 1 65537 0", "65537"),
                             ("run 1 1 257", "257"), ("run", "workers, fuel, batch"), ("", "no words"), ("gen 0", "rounds is 0"),
                             ("gen 2001", "1 to 2000"), ("demo 5", "rounds, workers"), ("demo 5 9", "1 to 8"),
@@ -65,7 +68,7 @@ class Explanations(Case):
             self.says(part, done)
 
 
-    def test_a_rejected_history(self):
+    def test_a_rejected_history(self) -> None:
         for name, part in (("Text", "no block line"), ("Thread", "no such thread"), ("Owner", "another one has"), ("Block", "its turns"),
                            ("Kind", "batch limit"), ("Worker", "no such worker"), ("Incomplete", "has not ended")):
             done = run("explain", elf("first"), "-", given=f"rejected 12 {limits.REASONS.index(name) + 1} {name}\n")
@@ -75,7 +78,7 @@ class Explanations(Case):
 
 
 class Tables(Case):
-    def test_summary(self):
+    def test_summary(self) -> None:
         guest = saved("one.elf", built(ONE, (0, 0), 1))
         text = run("finish", guest, given=BY_HAND).stdout
         counts = json.loads(run("summary", "-", "--json", given=text).stdout)
@@ -95,7 +98,7 @@ thread 1 blocks 3 turns 12 moves 2
 end
 """)
 
-    def test_one_worker_moves_nothing(self):
+    def test_one_worker_moves_nothing(self) -> None:
         """Two locks, held together, by one thread: five blocks of 2, 3, 4, 3 and 2 turns."""
         code = (*call(1, 0), *call(1, 1), *call(2, 0), *call(2, 1), *EXIT)
         text = run("simulate", saved("paper.elf", built(code, (0,), 2)), "1", "100", "4").stdout
@@ -104,11 +107,11 @@ end
                          + lock.format(1) + "thread 0 blocks 5 turns 14 moves 0\nend\n")
         counts = json.loads(run("summary", "-", "--json", given=text).stdout)
         for lock in counts["by_lock"]:
-            self.assertEqual([lock[name] for name in ("sections", "taken", "adopted", "granted", "longest", "changes", "home")],
+            self.assertEqual([lock[name] for name in ("sections", "taken", "adopted", "granted", "longest", "changes", "home")],  # type: ignore[index]
                              [1, 1, 0, 0, 0, 0, 0])
         self.assertEqual([counts["by_thread"][0][name] for name in ("blocks", "turns", "moves")], [5, 14, 0])
 
-    def test_changes_are_counted_from_the_second_section(self):
+    def test_changes_are_counted_from_the_second_section(self) -> None:
         """A lock's first section changes nothing, whatever stands before it, as in a report that is not legal."""
         blocks = ("thread 0 turns 1 held 0 kind on worker 0 end slept", "thread 1 turns 1 held 0 kind taken worker 1 end slept",
                   "thread 0 turns 1 held 0 kind taken worker 2 end slept")
@@ -117,7 +120,7 @@ end
         lock = json.loads(run("summary", "-", "--json", given=text).stdout)["by_lock"][0]
         self.assertEqual([lock[name] for name in ("sections", "taken", "changes", "home")], [2, 2, 1, 1])
 
-    def test_waiting_and_changes_on_paper(self):
+    def test_waiting_and_changes_on_paper(self) -> None:
         """Three threads come to their LOCK, and the sections stand 0, 2, 1: thread 1 waits three blocks,
         thread 2 one. The lock goes from worker 0 to 1 and back to 0; at home it would be so too, but that
         worker 2 ran thread 1 to its LOCK: 0, 1, 2."""
@@ -139,7 +142,7 @@ end
         self.assertEqual(lock["fairness"], round((2 + 3 + 1)**2 / (3 * (4 + 9 + 1)), 3))
         self.assertEqual([(row["waiting"], row["longest_wait"]) for row in counts["by_thread"]], [(2, 2), (3, 3), (1, 1)])
 
-    def test_draw(self):
+    def test_draw(self) -> None:
         for name in ("counter", "philosophers"):
             _, text = history(name, 4, 8, 1)
             picture = run("draw", "-", given=text).stdout.decode()
@@ -153,13 +156,13 @@ end
             lanes = run("draw", "-", "--text", given=text).stdout.decode()
             self.assertIn("thread 0", lanes)
 
-    def test_draw_by_hand(self):
+    def test_draw_by_hand(self) -> None:
         guest = saved("one.elf", built(ONE, (0, 0), 1))
         lanes = run("draw", "-", "--text", given=run("finish", guest, given=BY_HAND).stdout).stdout.decode()
         for lane in ("thread 0  st  .x", "thread 1    sA .", "worker 0  00 10", "worker 1    1  1"):
             self.assertIn(f"\n{lane}\n", lanes)
 
-    def test_each_tool_on_each_guest(self):
+    def test_each_tool_on_each_guest(self) -> None:
         for name in NAMES:
             text = run("simulate", elf(name), "3", "600", "2", "--seed", "5").stdout
             path = saved(f"{name}.txt", text)
@@ -171,7 +174,7 @@ end
                 done = run(tool, *words)
                 self.assertEqual((done.returncode, done.stderr), (0, b""), (tool, words))
 
-    def test_explore_keeps_a_history_of_each_outcome(self):
+    def test_explore_keeps_a_history_of_each_outcome(self) -> None:
         folder = TEMPORARY / "outcomes"
         done = run("explore", elf("buffer"), "--runs", "6", "--model", "--keep", str(folder))
         self.assertEqual(done.returncode, 0)

@@ -1,4 +1,6 @@
 """Wrong uses of each tool, reports that were cut, and one of 100 MB: one line each, and no traceback."""
+from __future__ import annotations
+
 import json
 import subprocess
 import unittest
@@ -8,32 +10,32 @@ from .common import GUESTS, ROOT, TEMPORARY, Case, elf, history, run, saved
 
 
 class WrongUses(Case):
-    WORDS = {"judge": [elf("first")], "summary": [], "draw": [], "explain": [elf("first")],
+    WORDS: dict[str, list[str]] = {"judge": [elf("first")], "summary": [], "draw": [], "explain": [elf("first")],
              "finish": [elf("first")], "explore": [], "simulate": []}
     TOOLS = ("judge", "summary", "draw", "explain", "finish")
 
-    def test_no_words(self):
+    def test_no_words(self) -> None:
         for tool in self.WORDS:
             self.one_line(run(tool), 1)
 
-    def test_unknown_word(self):
+    def test_unknown_word(self) -> None:
         for tool in self.WORDS:
             self.one_line(run(tool, "--frobnicate"), 1)
 
-    def test_missing_file_and_folder(self):
+    def test_missing_file_and_folder(self) -> None:
         for path in ("/no/such/file", str(GUESTS)):
             for tool in self.TOOLS:
                 self.one_line(run(tool, *self.WORDS[tool], path), 2)
             for tool, more in (("judge", []), ("explain", []), ("finish", []), ("explore", []),
                                ("simulate", ["1", "1", "0"])):
-                self.one_line(run(tool, path, *more), 2)
+                self.one_line(run(tool, path, *more), 2)  # type: ignore[misc]
 
-    def test_files_without_end(self):
+    def test_files_without_end(self) -> None:
         for tool in self.TOOLS:
             self.one_line(run(tool, *self.WORDS[tool], "/dev/zero"), 3)
         self.one_line(run("judge", "/dev/zero"), 3)
 
-    def test_standard_input_is_a_folder_or_closed(self):
+    def test_standard_input_is_a_folder_or_closed(self) -> None:
         for tool in self.TOOLS:
             with open(TEMPORARY / "closed", "w") as file:
                 closed = subprocess.run(["sh", "-c", '"$0" "$@" <&-', ROOT / "workbench", tool, *self.WORDS[tool], "-"],
@@ -43,7 +45,7 @@ class WrongUses(Case):
                                     stdout=subprocess.PIPE, stderr=subprocess.PIPE, check=False)
             self.one_line(folder, 2)
 
-    def test_output_that_fails(self):
+    def test_output_that_fails(self) -> None:
         _, text = history("sleepers", 4, 8, 1)
         path = saved("sleepers.txt", text)
         uses = {"summary": [path], "draw": [path], "explain": [elf("sleepers"), path],
@@ -57,39 +59,39 @@ class WrongUses(Case):
             self.one_line(closed, 4)
         for tool in ("draw", "explain", "finish", "simulate"):
             piped = subprocess.Popen([ROOT / "workbench", tool, *uses[tool]], stdout=subprocess.PIPE, stderr=subprocess.PIPE)
-            piped.stdout.close()
-            said = piped.stderr.read()
-            piped.stderr.close()
+            piped.stdout.close()  # type: ignore[union-attr]
+            said = piped.stderr.read()  # type: ignore[union-attr]
+            piped.stderr.close()  # type: ignore[union-attr]
             self.assertEqual((piped.wait(), said.count(b"\n")), (4, 1), said)
 
-    def test_refusal_or_usage_line_in_the_place_of_a_report(self):
+    def test_refusal_or_usage_line_in_the_place_of_a_report(self) -> None:
         for line in ("refused 9 BadLoad", "rejected 12 3 Owner", "refused 17 ShortInput", limits.USAGE):
             for tool in ("judge", "summary", "draw"):
                 done = run(tool, *self.WORDS[tool], "-", given=line + "\n")
                 self.one_line(done, 3)
                 self.says(line, done)
 
-    def test_a_summary_or_a_profile_in_the_place_of_a_report(self):
+    def test_a_summary_or_a_profile_in_the_place_of_a_report(self) -> None:
         for line in "tclocks demo 3", "tclocks profile 1":
             for tool in self.TOOLS[:-1]:
                 self.one_line(run(tool, *self.WORDS[tool], "-", given=f"{line}\nend\n"), 3)
 
-    def test_numbers_that_the_program_refuses(self):
+    def test_numbers_that_the_program_refuses(self) -> None:
         for words in ("workers 0 fuel 9 batch 0", "workers 9 fuel 9 batch 0", "workers 1 fuel 65537 batch 0",
                       "workers 1 fuel 9 batch 257", "workers 01 fuel 9 batch 0", "workers 1 fuel +9 batch 0"):
             text = f"tclocks 1\nguest threads 2 guards 1\nrun {words}\n"
             self.one_line(run("judge", elf("first"), given=text), 3)
-        for words in (("9", "1", "0"), ("1", "0", "0"), ("1", "1", "257"), ("1", "x", "0")):
+        for words in (("9", "1", "0"), ("1", "0", "0"), ("1", "1", "257"), ("1", "x", "0")):  # type: ignore[assignment]
             self.one_line(run("simulate", elf("first"), *words), 1)
 
-    def test_noise(self):
+    def test_noise(self) -> None:
         for tool in self.TOOLS:
             for noise in (b"", b"\0" * 1000, bytes(range(256)) * 50, b"tclocks 1\n" * 9, b"\n" * 9):
                 done = run(tool, *self.WORDS[tool], "-", given=noise)
                 self.assertNotIn(b"Traceback", done.stderr)
                 self.assertLessEqual(done.stderr.count(b"\n"), 5 if tool == "finish" else 1)
 
-    def test_cut_in_the_middle(self):
+    def test_cut_in_the_middle(self) -> None:
         _, text = history("philosophers", 3, 2, 4, fuel=300)
         for size in range(0, len(text) - 1, len(text) // 11):
             cut = saved("cut.txt", text[:size])
@@ -102,7 +104,7 @@ class WrongUses(Case):
 
 
 class Large(Case):
-    def test_hundred_megabytes(self):
+    def test_hundred_megabytes(self) -> None:
         path = TEMPORARY / "large.txt"
         with open(path, "w") as file:
             file.write("tclocks 2\nguest threads 16 guards 16\nrun workers 8 fuel 65536 batch 256\n")
@@ -110,7 +112,7 @@ class Large(Case):
                 file.write(f"block {stamp} thread {stamp % 16} turns 4096 held 12,13,14,15 kind adopted "
                            f"worker {stamp % 8} pc 00100000 end unlocked 15\n")
         self.assertGreater(path.stat().st_size, 100_000_000)
-        both = [subprocess.Popen([ROOT / "workbench", tool, str(path), *words], stdout=subprocess.PIPE, stderr=subprocess.DEVNULL)
+        both = [subprocess.Popen([ROOT / "workbench", tool, str(path), *words], stdout=subprocess.PIPE, stderr=subprocess.DEVNULL)  # type: ignore[misc]
                 for tool, words in (("summary", ["--json"]), ("draw", []))]
         summary, picture = (tool.communicate()[0] for tool in both)
         self.assertEqual(json.loads(summary)["by_lock"][15]["adopted"], 1_040_000)

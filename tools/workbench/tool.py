@@ -5,13 +5,19 @@ read, 3 it isn't what it must be (refused, no report, not legal), 4 the output c
 5 memory was refused.
 Each status above 0 comes with one line on standard error.
 """
+from __future__ import annotations
+
 import argparse
 import errno
 import gc
 import os
 import sys
+from typing import Callable, IO, Iterator, NoReturn, TYPE_CHECKING
 
 from . import limits
+
+if TYPE_CHECKING:
+    from pathlib import Path
 
 DONE, WORDS, INPUT, WRONG, OUTPUT, MEMORY, STOPPED = 0, 1, 2, 3, 4, 5, 130
 
@@ -21,7 +27,7 @@ LONGEST_LINE = 4096
 class Trouble(Exception):
     """Why a tool ends early: its status and its line."""
 
-    def __init__(self, status, text):
+    def __init__(self, status: int, text: str) -> None:
         super().__init__(text)
         self.status = status
 
@@ -29,17 +35,17 @@ class Trouble(Exception):
 class Words(argparse.ArgumentParser):
     """The words of a tool. Wrong ones are one line."""
 
-    def error(self, message):
+    def error(self, message: str) -> NoReturn:
         usage = " ".join(self.format_usage().split())
         raise Trouble(WORDS, f"{message}; {usage}")
 
 
-def called(tool):
+def called(tool: str) -> str:
     """A tool's name as it is called: a subcommand of the workbench but for one that has a place of its own."""
     return tool if "/" in tool else f"workbench {tool}".rstrip()
 
 
-def words(tool, description, *first):
+def words(tool: str, description: str, *first: str) -> Words:
     """The parser of a tool's words, with a guest's file and the numbers of a run where these come first."""
     parser = Words(prog=called(tool), description=description, allow_abbrev=False,
                    formatter_class=argparse.RawDescriptionHelpFormatter)
@@ -50,21 +56,21 @@ def words(tool, description, *first):
     return parser
 
 
-def number(least, most):
+def number(least: int, most: int) -> Callable[[str], int]:
     """A type of a word: a number in these limits."""
-    def read(word):
+    def read(word: str) -> int:
         if not (word.isascii() and word.isdigit() and len(word) < 12 and least <= int(word) <= most):
             raise argparse.ArgumentTypeError(f"{word!r} is no number from {least} to {most}")
         return int(word)
     return read
 
 
-def input_trouble(path, error):
+def input_trouble(path: str | Path, error: OSError) -> Trouble:
     name = "standard input" if path == "-" else path
     return Trouble(INPUT, f"{name}: {error.strerror or error}")
 
 
-def opened(path):
+def opened(path: Path | str) -> IO[bytes]:
     """A file for reading bytes; '-' is standard input."""
     if path != "-":
         return open(path, "rb")
@@ -73,7 +79,7 @@ def opened(path):
     return sys.stdin.buffer
 
 
-def read_bytes(path, most):
+def read_bytes(path: Path | str, most: int) -> bytes:
     """The first bytes of a file, at most so many."""
     try:
         with opened(path) as file:
@@ -82,7 +88,7 @@ def read_bytes(path, most):
         raise input_trouble(path, error) from None
 
 
-def read_lines(path):
+def read_lines(path: str | Path) -> Iterator[str]:
     """The lines of a text one by one, with their ends of line; a longer one comes in parts."""
     try:
         with opened(path) as file:
@@ -92,7 +98,7 @@ def read_lines(path):
         raise input_trouble(path, error) from None
 
 
-def write_file(path, content):
+def write_file(path: Path | str, content: bytes | str) -> None:
     """Writes a text or bytes."""
     try:
         with open(path, "wb") as file:
@@ -101,27 +107,27 @@ def write_file(path, content):
         raise Trouble(OUTPUT, f"{path}: {error.strerror}") from None
 
 
-def make_folder(path):
+def make_folder(path: Path | str) -> None:
     try:
         os.makedirs(path, exist_ok=True)
     except OSError as error:
         raise Trouble(OUTPUT, f"{path}: {error.strerror}") from None
 
 
-def print_columns(rows, adjust=str.rjust):
+def print_columns(rows: list[list[str]], adjust: Callable[[str, int], str] = str.rjust) -> None:
     """Prints rows of cells, each as wide as its column."""
     widths = [max(map(len, column)) for column in zip(*rows)]
     for row in rows:
         print("  ".join(map(adjust, row, widths)).rstrip())
 
 
-def note(name, text):
+def note(name: str, text: str) -> None:
     """One line on standard error."""
     if sys.stderr is not None:
         sys.stderr.write(f"{called(name)}: {text}\n")
 
 
-def flush():
+def flush() -> None:
     """Writes what was printed before a trouble; the trouble is what the tool ends with."""
     if sys.stdout is not None:
         try:
@@ -130,7 +136,7 @@ def flush():
             pass
 
 
-def ended(name, status, text):
+def ended(name: str, status: int, text: str) -> int:
     note(name, text)
     if sys.stdout is not None:
         # What is still in the buffer can't be written; nothing tries it again at the end.
@@ -138,7 +144,7 @@ def ended(name, status, text):
     return status
 
 
-def run(name, main, words):
+def run(name: str, main: Callable[[list[str]], int | None], words: list[str]) -> None:
     """Runs a tool with its words, and ends with its status."""
     gc.disable()  # a million blocks are no cycles, and looking for some takes long
     try:

@@ -5,6 +5,8 @@ Seconds are the median of some runs, all else is their mean; the words take turn
 is the same for all. Taken, adopted and granted are sections by their kind; changes, changes of node and other node
 are what ./workbench sweep calls `changes`, `changes_of_node` and `other_node`.
 """
+from __future__ import annotations
+
 import argparse
 import collections
 import statistics
@@ -19,7 +21,7 @@ COLUMNS = ("taken", "adopted", "granted", "changes", *sweep.OF_NODES)
 NODES, BOUNDS = [0, 1, 2, 4], [0, 4, 256]
 
 
-def row(name, order, results):
+def row(name: str, order: tuple[int, int, int], results: list[sweep.Result]) -> list[str]:
     """A line of the table, of an order's runs."""
     _, nodes, bound = order
     sums = [result.sums() for result in results]
@@ -29,7 +31,7 @@ def row(name, order, results):
     return [name, f"`nodes {nodes} {bound}`" if nodes else "`run`", *cells, f"{seconds:.3f}"]
 
 
-def main(words):
+def main(words: list[str]) -> None:
     parser = tool.words("bench nodes", __doc__, "run")
     parser.add_argument("guests", metavar="GUEST", nargs="*", help=f"{', '.join(OWN + OF_BENCH)}; all when left out")
     parser.add_argument("-r", dest="runs", metavar="RUNS", type=tool.number(1, 999), default=5, help="of each order (5)")

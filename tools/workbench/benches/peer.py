@@ -10,16 +10,23 @@ Before a guest is measured, the peer's history is given to `replay` of the progr
 and how threads end, sections, and the bytes of guards must be those of the program's run, or of guests/facts.json where
 the guest is one of guests/.
 """
+from __future__ import annotations
+
 import io
 import json
 import os
 import tempfile
 import types
+from typing import Any, TYPE_CHECKING
 
 from .. import limits, places, tool
 from ..guest import model
 from ..reports import report
 from . import guests, process, table
+
+if TYPE_CHECKING:
+    from argparse import Namespace
+    from pathlib import Path
 
 FACTS = json.loads((places.GUESTS / "facts.json").read_text())
 AMPLE = 20000  # fuel with which the facts hold
@@ -34,11 +41,13 @@ class Failed(Exception):
 class Measured:
     """What is measured: its words, and what its runs took."""
 
-    def __init__(self, path, *words):
+    took: list[Any]
+
+    def __init__(self, path: Path | None, *words: int | str) -> None:
         self.path, self.words, self.took = path, words, []
 
-    def run(self, file, is_read=False):
-        """A run over a file. Answers its report where that is to be read."""
+    def run(self, file: bytes, is_read: bool = False) -> bytes:
+        """A run over a file. Answers its report where that is to be read, else nothing."""
         with tempfile.TemporaryFile() as given, tempfile.TemporaryFile() as written:
             given.write(file)
             given.seek(0)
@@ -47,16 +56,16 @@ class Measured:
                 raise Failed(f"{'peer' if self.path else 'tclocks'} {' '.join(map(str, self.words))} ended with status {status}")
             self.took.append(took)
             written.seek(0)
-            return written.read() if is_read else None
+            return written.read() if is_read else b""
 
-    def seconds(self):
-        return min(took.seconds for took in self.took)
+    def seconds(self) -> float:
+        return float(min(took.seconds for took in self.took))
 
-    def busy(self):
-        return min(took.busy for took in self.took)
+    def busy(self) -> float:
+        return float(min(took.busy for took in self.took))
 
 
-def asked_of(words):
+def asked_of(words: list[str]) -> Namespace:
     """What the words ask for."""
     parser = tool.words("bench peer", __doc__)
     parser.add_argument("guests", metavar="GUEST", nargs="*",
@@ -76,7 +85,7 @@ def asked_of(words):
     return asked
 
 
-def ends_of(text):
+def ends_of(text: bytes) -> report.Report:
     """How threads and locks end, by a report without the lines of its blocks."""
     first, ends = text[:200].splitlines(keepends=True)[:3], text[text.index(b"\nthread ") + 1:].splitlines(keepends=True)
     read = report.Report(line.decode() for line in first + ends)
@@ -84,7 +93,7 @@ def ends_of(text):
     return read
 
 
-def check_ends(name, fuel, ours, theirs):
+def check_ends(name: str, fuel: int, ours: report.Report, theirs: report.Report) -> None:
     """How the peer's run ended, beside the facts of a guest or beside the program's run."""
     if name not in FACTS:
         seen, wanted = ([[(end.how, end.fuel) for end in read.thread_ends], read.lock_ends] for read in (theirs, ours))
@@ -97,7 +106,7 @@ def check_ends(name, fuel, ours, theirs):
             raise Failed(f"by the peer: {difference}")
 
 
-def check(name, file, fuel, run, peer):
+def check(name: str, file: bytes, fuel: int, run: bytes, peer: bytes) -> tuple[int, int]:
     """Checks the reports of the program and of the peer. Answers the turns and the blocks of the program's."""
     history = peer[peer.index(b"\nblock ") + 1:peer.index(b"\nthread ") + 1]
     if Measured(None, "replay", len(file), 1, fuel, 0).run(file + history, is_read=True) != peer:
@@ -106,7 +115,7 @@ def check(name, file, fuel, run, peer):
     return process.counts(io.BytesIO(run))[:2]
 
 
-def measure(name, asked, peer):
+def measure(name: str, asked: Namespace, peer: Path) -> list[float]:
     """Prints the line of a guest, and answers its two ratios."""
     file = guests.file_of(name)
     ours = Measured(None, "run", 1, asked.fuel, 0)
@@ -122,14 +131,14 @@ def measure(name, asked, peer):
     return ratios
 
 
-def sum_up(folder, ratios):
+def sum_up(folder: str, ratios: dict[str, list[float]]) -> None:
     """Tells the ratios of a folder's guests in one line."""
     log, text = ({name: pair[which] for name, pair in ratios.items()} for which in (0, 1))
     print(f"Of {report.several(len(ratios), 'guest')} of {folder}, the program's processor seconds in those of the peer: "
           f"{table.spread(log)}; in those of the peer with text: {table.spread(text)}.")
 
 
-def main(words):
+def main(words: list[str]) -> int | None:
     asked = asked_of(words)
     process.choose(asked)
     os.sched_setaffinity(0, {asked.core})

@@ -1,14 +1,19 @@
 """One run of the program, or of another one beside it, and what it took."""
+from __future__ import annotations
+
 import os
 import re
 import shutil
 import subprocess
 import time
 from pathlib import Path
-from typing import NamedTuple
+from typing import Any, IO, NamedTuple, TYPE_CHECKING
 
 from .. import tool
 from ..running import program
+
+if TYPE_CHECKING:
+    from argparse import Namespace
 
 HERE = Path(__file__).resolve().parent
 TURNS = re.compile(rb"^block \d+ thread \d+ turns (\d+) ")
@@ -23,13 +28,13 @@ class Took(NamedTuple):
     peak: int
 
 
-def add_word(parser):
+def add_word(parser: tool.Words) -> None:
     """The word for another program than the built one, of all scripts here."""
     parser.add_argument("-p", dest="program", metavar="PROGRAM", type=Path,
                         help="the program that is measured (the one that ./tclocks-build has built)")
 
 
-def choose(asked):
+def choose(asked: Namespace) -> None:
     """Measures the program that was asked for. Trouble where it is not there, or was not built."""
     if asked.program is None:
         program.need()
@@ -39,7 +44,7 @@ def choose(asked):
         program.PATH = asked.program.absolute()
 
 
-def compiled(source, folder, *words):
+def compiled(source: str, folder: str, *words: str) -> Path:
     """A source of this folder, compiled into another one: its path."""
     if not shutil.which("cc"):
         raise tool.Trouble(tool.INPUT, "this needs a C compiler, and cc is not on the PATH")
@@ -48,19 +53,20 @@ def compiled(source, folder, *words):
                           check=False)
     if done.returncode:
         said = done.stdout.decode(errors="replace").splitlines() or [f"status {done.returncode}"]
-        raise tool.Trouble(tool.INPUT, f"cc does not compile bench/{source}: {said[0]}")
+        raise tool.Trouble(tool.INPUT, f"cc does not compile {source}: {said[0]}")
     return made
 
 
-def run(words, given, written, path=None, surroundings=None):
+def run(words: tuple[Any, ...], given: IO[bytes], written: IO[bytes], path: Path | None = None,
+        surroundings: dict[str, str] | None = None) -> tuple[int, Took]:
     """Runs the program, in the environment in which ./tclocks runs it, or what is at a path, over open files, each
     from its place on: its status, and what it took. Surroundings are more variables of the environment."""
-    surroundings = {**({} if path else ADDED), **os.environ, **(surroundings or {})}
+    around: dict[str, str] = {**({} if path else ADDED), **os.environ, **(surroundings or {})}
     path = path or program.PATH
     streams = [(os.POSIX_SPAWN_DUP2, file.fileno(), number) for number, file in enumerate((given, written))]
     began = time.perf_counter()
     try:
-        number = os.posix_spawn(path, [*map(str, (path, *words))], surroundings, file_actions=streams)
+        number = os.posix_spawn(path, [*map(str, (path, *words))], around, file_actions=streams)
     except OSError as error:
         raise tool.Trouble(tool.INPUT, f"{path}: {error.strerror}") from None
     _, ended, usage = os.wait4(number, 0)
@@ -69,7 +75,7 @@ def run(words, given, written, path=None, surroundings=None):
     return status, Took(seconds, usage.ru_utime + usage.ru_stime, usage.ru_maxrss * 1024)
 
 
-def counts(report):
+def counts(report: IO[bytes]) -> tuple[int, int, int]:
     """The turns and the blocks of a report, a file, and its bytes."""
     report.seek(0)
     turns = blocks = size = 0

@@ -6,12 +6,18 @@ history (its last line is wrong, which is told when all lines are read, and befo
 and of `profile`; megabytes that are read in a second; how many times the seconds and the peak memory of the run
 `replay` takes, and how many times the seconds of `replay` `profile` does; and the peaks in megabytes.
 """
+from __future__ import annotations
+
 import filecmp
 import os
 import tempfile
+from typing import Any, IO, TYPE_CHECKING
 
 from .. import limits, tool
 from . import guests, process
+
+if TYPE_CHECKING:
+    from argparse import Namespace
 
 USUAL = "sleeps", "hot-lock", "nested-locks", "shortest-blocks", "longest-history"
 COLUMNS = ("guest", "blocks", "bytes", "run", "reading", "MB/second", "replay", "profile", "replay/run", "profile/replay",
@@ -23,7 +29,7 @@ class Failed(Exception):
     """What the program did otherwise."""
 
 
-def asked_of(words):
+def asked_of(words: list[str]) -> Namespace:
     parser = tool.words("bench replay", __doc__)
     fuel, batch = (tool.number(*limits.RUN[name]) for name in ("fuel", "batch"))
     parser.add_argument("guests", metavar="GUEST", nargs="*", help=f"{', '.join(guests.GUESTS)}; {', '.join(USUAL)} when left out")
@@ -40,7 +46,7 @@ def asked_of(words):
     return asked
 
 
-def least(words, given, status, runs):
+def least(words: tuple[Any, ...], given: IO[bytes], status: int, runs: int) -> tuple[float, float, IO[bytes]]:
     """The least seconds and the least peak of some runs over the same input, and the last one's output, a file."""
     took = []
     for _ in range(runs):
@@ -53,7 +59,7 @@ def least(words, given, status, runs):
     return min(one.busy for one in took), min(one.peak for one in took) / 1e6, written
 
 
-def give_history(given, report):
+def give_history(given: IO[bytes], report: IO[bytes]) -> tuple[int, int]:
     """Writes a report's history behind the guest's file. Answers its blocks and bytes. No more of it than a line is
     kept here, since up to where the program begins this process's memory counts as the program's."""
     blocks = size = 0
@@ -66,7 +72,7 @@ def give_history(given, report):
     return blocks, size
 
 
-def measure(name, fuel, asked):
+def measure(name: str, fuel: int, asked: Namespace) -> None:
     """Prints the line of a guest."""
     with tempfile.TemporaryFile() as given:
         file = given.write(guests.GUESTS[name]())
@@ -86,11 +92,11 @@ def measure(name, fuel, asked):
          f"{profile_peak:.0f}", f"{replay_peak / run_peak:.2f}")
 
 
-def show(name, *cells):
+def show(name: str, *cells: str) -> None:
     print(f"{name:<{WIDTHS[0]}}", *map("{:>{}}".format, cells, WIDTHS[1:]), flush=True)
 
 
-def main(words):
+def main(words: list[str]) -> int | None:
     asked = asked_of(words)
     process.choose(asked)
     show(*COLUMNS)

@@ -4,23 +4,29 @@ Guests of 16 threads are run, and for each there are turns, blocks, seconds, tur
 seconds, peak memory in bytes, bytes of the report, and the processor's instructions for each turn and
 for the start.
 """
+from __future__ import annotations
+
 import io
 import re
 import shutil
 import subprocess
 import tempfile
 from pathlib import Path
+from typing import Any, TYPE_CHECKING
 
 from .. import limits, tool
 from ..running import program
 from . import guests, process
+
+if TYPE_CHECKING:
+    from argparse import Namespace
 
 # The two fuels whose difference leaves the start out.
 FEW, MANY = 512, 1024
 WIDTHS = 7, 9, 9, 8, 12, 10, 12, 12, 10, 12  # of the columns behind the name
 
 
-def asked_of(words):
+def asked_of(words: list[str]) -> Namespace:
     """What the words ask for."""
     parser = tool.words("bench run", __doc__)
     workers, fuel, batch = (tool.number(*limits.RUN[name]) for name in ("workers", "fuel", "batch"))
@@ -43,7 +49,7 @@ def asked_of(words):
     return asked
 
 
-def counter():
+def counter() -> Any:
     """What counts instructions: the words before a command, and the form of what they print. None
     where neither valgrind nor perf counts here."""
     if shutil.which("valgrind"):
@@ -57,7 +63,7 @@ def counter():
     return None
 
 
-def counted(name, asked, fuel, how):
+def counted(name: Any, asked: Any, fuel: Any, how: Any) -> Any:
     """The instructions of one worker's run with that fuel, and its turns. None where they were not
     counted."""
     words, form = how
@@ -69,7 +75,7 @@ def counted(name, asked, fuel, how):
     return int(found.group(1)), process.counts(io.BytesIO(ran.stdout))[0]
 
 
-def instructions(name, asked, how):
+def instructions(name: Any, asked: Any, how: Any) -> Any:
     """The instructions for each turn, and those of a whole run without its turns, as two words."""
     runs = how and [counted(name, asked, fuel, how) for fuel in (FEW, MANY)]
     if not runs or None in runs:
@@ -81,7 +87,7 @@ def instructions(name, asked, how):
     return f"{each:.0f}", f"{many - each * more:.0f}"
 
 
-def ran(name, workers, asked):
+def ran(name: Any, workers: Any, asked: Any) -> Any:
     """One run of a guest: its seconds, processor seconds and peak memory, and its turns, blocks and
     bytes of report. None where it did not end with status 0."""
     with tempfile.TemporaryFile() as guest, tempfile.TemporaryFile() as report:
@@ -94,7 +100,7 @@ def ran(name, workers, asked):
         return (*took, process.counts(report))
 
 
-def measure(name, workers, asked, how):
+def measure(name: Any, workers: Any, asked: Any, how: Any) -> Any:
     """Runs one guest and prints its line. Says whether the program ended with status 0. Instructions
     are those of one worker, since several share the work otherwise in each run."""
     runs = [ran(name, workers, asked) for _ in range(asked.runs)]
@@ -106,19 +112,19 @@ def measure(name, workers, asked, how):
     return True
 
 
-def show(name, *cells):
+def show(name: Any, *cells: Any) -> None:
     """Prints a line of the table."""
     print(f"{name:<16}", *map("{:>{}}".format, cells, WIDTHS), flush=True)
 
 
-def write_all(folder, names):
+def write_all(folder: Path, names: list[str]) -> None:
     """Writes the guests' files into a folder."""
     tool.make_folder(folder)
     for name in names:
         tool.write_file(folder / f"{name}.elf", guests.GUESTS[name]())
 
 
-def main(words):
+def main(words: list[str]) -> int | None:
     asked = asked_of(words)
     if asked.folder is not None:
         write_all(asked.folder, asked.guests)

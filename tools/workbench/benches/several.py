@@ -13,6 +13,8 @@ last column tells how many did, of how many. Where processors change their speed
 of one worker is that of one fast processor, and several workers seldom have as many of them at once. A processor may be
 faster while others are idle; with -e all are busy in each run, those that its workers leave idle with loops.
 """
+from __future__ import annotations
+
 import contextlib
 import os
 import shutil
@@ -20,9 +22,14 @@ import statistics
 import subprocess
 import tempfile
 import time
+from typing import Any, Iterator, TYPE_CHECKING
 
 from .. import limits, tool
 from . import guests, process, table
+
+if TYPE_CHECKING:
+    from argparse import Namespace
+    from pathlib import Path
 
 USUAL = "hot-lock", "nested-locks", "sleeps", "memory", "many-ranges", "own-locks"
 
@@ -32,7 +39,7 @@ BEGIN = 0.002  # the seconds that such loops get to begin
 MOST_ROUNDS = 30  # of which one counts at least, on the mean, or the rest are not made
 
 
-def asked_of(words):
+def asked_of(words: list[str]) -> Namespace:
     """What the words ask for."""
     parser = tool.words("bench several", __doc__)
     workers, fuel, batch = (tool.number(*limits.RUN[name]) for name in ("workers", "fuel", "batch"))
@@ -57,7 +64,8 @@ def asked_of(words):
     return asked
 
 
-def ran(words, file=b"", path=None, is_counted=False):
+def ran(words: tuple[Any, ...], file: bytes = b"", path: Path | None = None,
+        is_counted: bool = False) -> tuple[process.Took, int | None]:
     """What a run of the program took, or of what is at the path, and its blocks where they are to be counted."""
     with tempfile.TemporaryFile() as given, tempfile.TemporaryFile() as written:
         given.write(file)
@@ -68,12 +76,12 @@ def ran(words, file=b"", path=None, is_counted=False):
         return took, process.counts(written)[1] if is_counted else None
 
 
-def taken(asked, runs, what):
+def taken(asked: Namespace, runs: Any, what: str) -> float:
     """What runs took, the least or the median."""
-    return asked.told(getattr(took, what) for took, _ in runs)
+    return float(asked.told(getattr(took, what) for took, _ in runs))
 
 
-def shared(asked, clock, blocks):
+def shared(asked: Namespace, clock: Path | None, blocks: int) -> str:
     """The processor seconds that the most threads take more than one for so many additions to one word."""
     several, one = (taken(asked, [ran((threads, blocks), path=clock) for _ in range(asked.runs)], "busy")
                     for threads in (asked.workers[-1], 1))
@@ -81,10 +89,10 @@ def shared(asked, clock, blocks):
 
 
 @contextlib.contextmanager
-def company(asked, loop, threads):
+def company(asked: Namespace, loop: Path | None, threads: int) -> Iterator[Any]:
     """Keeps as many processors busy as these threads are fewer than the most workers, where that is asked for."""
     others = asked.workers[-1] - threads if asked.even else 0
-    beside = subprocess.Popen([loop, str(others), str(ENDLESS)]) if others else None
+    beside = subprocess.Popen([str(loop), str(others), str(ENDLESS)]) if others else None
     try:
         if beside:
             time.sleep(BEGIN)
@@ -95,24 +103,25 @@ def company(asked, loop, threads):
             beside.wait()
 
 
-def looped(asked, loop, threads, turns):
+def looped(asked: Namespace, loop: Path | None, threads: int, turns: int) -> float:
     """The seconds of the loop by so many threads."""
     with company(asked, loop, threads):
         return ran((threads, turns), path=loop)[0].seconds
 
 
-def loops_of(asked, loop):
+def loops_of(asked: Namespace, loop: Path | None) -> Any:
     """The seconds of the loop by the least and by the greatest number of workers."""
     return [looped(asked, loop, threads, LOOP_TURNS) for threads in (asked.workers[0], asked.workers[-1])] if loop else None
 
 
-def ran_in_company(asked, loop, file, workers, is_counted):
+def ran_in_company(asked: Namespace, loop: Path | None, file: bytes, workers: int,
+                   is_counted: bool) -> tuple[process.Took, int | None]:
     """What a run of a guest by so many workers took."""
     with company(asked, loop, workers):
         return ran(("run", workers, asked.fuel, asked.batch), file, is_counted=is_counted)
 
 
-def shared_loop(asked, seconds, loops, loop):
+def shared_loop(asked: Namespace, seconds: float, loops: list[list[float]], loop: Path | None) -> str:
     """The seconds of a loop that takes as long as the guest, by the most threads that share its turns, in those by the
     fewest."""
     turns = int(LOOP_TURNS * seconds / asked.told(first for first, _ in loops))
@@ -121,18 +130,20 @@ def shared_loop(asked, seconds, loops, loop):
     return of_loops(asked, runs)
 
 
-def of_loops(asked, loops):
+def of_loops(asked: Namespace, loops: list[list[float]]) -> str:
     """The seconds of loops by the most threads in those by the fewest."""
     return f"{asked.told(last for _, last in loops) / asked.told(first for first, _ in loops):.2f}"
 
 
-def is_quiet(asked, loops):
+def is_quiet(asked: Namespace, loops: list[float]) -> bool:
     """Whether the processors were free when the loops ran, where that is asked for."""
     return asked.quiet is None or loops[1] <= asked.quiet * loops[0]
 
 
-def rounds(name, asked, loop):
+def rounds(name: str, asked: Namespace, loop: Path | None) -> tuple[dict[int, list[tuple[Any, ...]]], list[list[float]], int]:
     """The runs of a guest in rounds that count, by workers; the loops before and behind them; how many rounds were made."""
+    runs: dict[Any, Any]
+    loops: list[Any]
     file, runs, loops, made = guests.GUESTS[name](), {workers: [] for workers in asked.workers}, [], 0
     while len(runs[asked.workers[0]]) < asked.runs and made < MOST_ROUNDS * asked.runs:
         made, before = made + 1, loops_of(asked, loop)
@@ -149,7 +160,7 @@ def rounds(name, asked, loop):
     return runs, loops, made
 
 
-def measure(name, asked, clock, loop):
+def measure(name: str, asked: Namespace, clock: Path | None, loop: Path | None) -> tuple[float, float]:
     """Prints the line of a guest, and answers its two ratios."""
     runs, loops, made = rounds(name, asked, loop)
     seconds, busy = ([taken(asked, runs[workers], what) for workers in asked.workers] for what in ("seconds", "busy"))
@@ -163,7 +174,7 @@ def measure(name, asked, clock, loop):
     return ratios
 
 
-def main(words):
+def main(words: list[str]) -> None:
     asked = asked_of(words)
     process.choose(asked)
     wants_loop = [word for word, is_asked in (("-q", asked.quiet is not None), ("-e", asked.even)) if is_asked]

@@ -5,14 +5,19 @@ The table says in how many runs two workers or more ran blocks, and in how many 
 and the least milliseconds of the whole process. Then the same where the host gives the program no thread beside its first
 one, and where it gives one: a library in LD_PRELOAD (threads.c) refuses all others. The three kinds of runs take turns.
 """
+from __future__ import annotations
+
 import os
 import re
 import statistics
 import tempfile
-from typing import NamedTuple
+from typing import Any, NamedTuple, TYPE_CHECKING
 
 from .. import limits, tool
 from . import guests, process, table
+
+if TYPE_CHECKING:
+    from argparse import Namespace
 
 OWN = "counter", "bank", "buffer", "philosophers"  # of guests/
 FUEL, BATCH = 20000, 8
@@ -27,7 +32,7 @@ class Ran(NamedTuple):
     milliseconds: float
 
 
-def asked_of(words):
+def asked_of(words: list[str]) -> Namespace:
     """What the words ask for."""
     parser = tool.words("bench together", __doc__)
     workers = tool.number(2, limits.RUN["workers"][1])
@@ -47,15 +52,15 @@ def asked_of(words):
 class Host:
     """What gives threads to the program, or refuses them."""
 
-    def __init__(self, folder):
+    def __init__(self, folder: str) -> None:
         self.library = process.compiled("threads.c", folder, "-shared", "-fPIC", "-ldl")
         self.told = tempfile.TemporaryFile()
         os.set_inheritable(self.told.fileno(), True)
 
-    def surroundings(self, threads):
-        return {"LD_PRELOAD": self.library, "THREADS": str(threads), "THREADS_TELL": str(self.told.fileno())}
+    def surroundings(self, threads: int) -> dict[str, str]:
+        return {"LD_PRELOAD": str(self.library), "THREADS": str(threads), "THREADS_TELL": str(self.told.fileno())}
 
-    def refused(self):
+    def refused(self) -> int:
         """How many were refused since it was asked."""
         count = os.lseek(self.told.fileno(), 0, os.SEEK_END)
         os.ftruncate(self.told.fileno(), 0)
@@ -63,7 +68,7 @@ class Host:
         return count
 
 
-def run(host, name, workers, kind):
+def run(host: Host, name: str, workers: int, kind: str) -> Ran:
     """A run of a guest, where the host gives so many threads."""
     threads = GIVEN[kind]
     with tempfile.TemporaryFile() as given, tempfile.TemporaryFile() as written:
@@ -82,9 +87,9 @@ def run(host, name, workers, kind):
     return Ran(len({worker for _, worker in blocks}) > 1, any(found == b"adopted" for found, _ in blocks), 1000 * took.seconds)
 
 
-def measure(host, name, workers, runs):
+def measure(host: Host, name: str, workers: int, runs: int) -> dict[str, list[Ran]]:
     """Prints the lines of a guest. Answers the runs of each kind."""
-    found = {kind: [] for kind in GIVEN}
+    found: dict[Any, Any] = {kind: [] for kind in GIVEN}
     for _ in range(runs):
         for kind in GIVEN:
             found[kind].append(run(host, name, workers, kind))
@@ -95,7 +100,7 @@ def measure(host, name, workers, runs):
     return found
 
 
-def sum_up(kind, ran):
+def sum_up(kind: str, ran: list[Ran]) -> None:
     """Tells the runs of a kind in one line."""
     times = [one.milliseconds for one in ran]
     print(f"\nThreads of the host: {kind}. All of {len(ran)} runs ended with status 0; in {sum(one.several for one in ran)} two "
@@ -103,10 +108,10 @@ def sum_up(kind, ran):
           f"{statistics.median(times):.1f} milliseconds, least {min(times):.1f}.")
 
 
-def main(words):
+def main(words: list[str]) -> None:
     asked = asked_of(words)
     process.choose(asked)
-    every = {kind: [] for kind in GIVEN}
+    every: dict[Any, Any] = {kind: [] for kind in GIVEN}
     with tempfile.TemporaryDirectory() as folder:
         host = Host(folder)
         table.head(["Guest", "Workers", "Threads", "Runs", "By several", "With adopted", "Median ms", "Least ms"])

@@ -16,6 +16,8 @@ each of the seven reasons must come.
 
 The tests of the tools, in tests/, need no program; the word `tools` runs them alone.
 """
+from __future__ import annotations
+
 import collections
 import itertools
 import json
@@ -23,6 +25,7 @@ import random
 import re
 import subprocess
 import sys
+from typing import Any, Iterator
 
 from .. import limits, places, tool
 from ..guest import model
@@ -42,7 +45,7 @@ CHANGED = 4  # of so many runs the history of one is changed
 TAKEN = "taken"  # of a changed history that is right too
 
 
-def run(file, words):
+def run(file: bytes, words: tuple[Any, ...]) -> str:
     status, text = program.run(words, file)
     workers, fuel, batch = words[-3:]
     if status:
@@ -52,7 +55,7 @@ def run(file, words):
     return text
 
 
-def check_facts(known, machine, fuel):
+def check_facts(known: dict[str, list[Any]], machine: model.Machine, fuel: int) -> None:
     if fuel == AMPLE:
         for difference in model.differences(known, machine):
             raise report.Wrong(difference)
@@ -63,7 +66,7 @@ def check_facts(known, machine, fuel):
             raise report.Wrong(f"thread {number} ends {thread.end} with fuel {thread.fuel}, not {wanted}")
 
 
-def check_run(file, known, words):
+def check_run(file: bytes, known: dict[str, list[Any]], words: tuple[Any, ...]) -> str:
     """Checks a run, and answers its report."""
     guest, text = model.Guest(file), run(file, words)
     workers, fuel, batch = words[-3:]
@@ -73,7 +76,7 @@ def check_run(file, known, words):
     return text
 
 
-def give_back(file, words, text, kept):
+def give_back(file: bytes, words: tuple[Any, ...], text: str, kept: str) -> list[report.Block]:
     """Gives the history of a report back, and answers its blocks."""
     history, numbers = rejecting.history_of(text), words[-3:]
     blocks, _ = rejecting.read(history)
@@ -83,7 +86,8 @@ def give_back(file, words, text, kept):
     return blocks
 
 
-def give_changed(file, words, blocks, draw, kept):
+def give_changed(file: bytes, words: tuple[Any, ...], blocks: list[report.Block], draw: random.Random,
+                 kept: str) -> Iterator[str]:
     """Gives changed histories, one of each form, and answers for which reasons they are rejected."""
     for form in spoil.FORMS:
         history, numbers = form(draw, blocks).encode("ascii"), words[-3:]
@@ -96,11 +100,11 @@ def give_changed(file, words, blocks, draw, kept):
 class Shown:
     """What the runs of a guest showed of delegation, and how changed histories were answered."""
 
-    def __init__(self):
+    def __init__(self) -> None:
         self.runs = self.beside = self.adopting = self.adopted = 0
-        self.answers = collections.Counter()
+        self.answers: collections.Counter[Any] = collections.Counter()
 
-    def add(self, text):
+    def add(self, text: str) -> None:
         """Counts a run, by its report."""
         adopted = text.count(" kind adopted ")
         self.runs += 1
@@ -108,7 +112,7 @@ class Shown:
         self.adopting += adopted > 0
         self.adopted += adopted
 
-    def missing(self):
+    def missing(self) -> str | None:
         """Which kind of run there was not, or None."""
         if not self.beside:
             return f"one worker alone ran in each of {report.several(self.runs, 'run')}"
@@ -116,17 +120,17 @@ class Shown:
             return f"no section was adopted in {report.several(self.runs, 'run')}"
         return None
 
-    def __str__(self):
+    def __str__(self) -> str:
         return (f"{report.several(self.runs, 'run')}, {self.beside} by two workers or more, "
                 f"{self.adopting} with adopted sections ({self.adopted} of them)"
                 + (f"; changed histories: {answers_text(self.answers)}" if self.answers else ""))
 
 
-def answers_text(answers):
+def answers_text(answers: collections.Counter[str]) -> str:
     return ", ".join(f"{answers[answer]} {answer}" for answer in (*limits.REASONS, TAKEN) if answers[answer])
 
 
-def check(name, known):
+def check(name: str, known: dict[str, list[Any]]) -> tuple[bool, collections.Counter[str]]:
     """Checks a guest. Answers whether it passed, and how changed histories were answered."""
     file = (places.GUESTS / f"{name}.elf").read_bytes()
     contended, shown, draw, kept = name in CONTENDED, Shown(), random.Random(name), f"check-{name}.txt"
@@ -149,14 +153,14 @@ def check(name, known):
     return True, shown.answers
 
 
-def check_reasons(answers):
+def check_reasons(answers: collections.Counter[str]) -> bool:
     """Whether each reason came."""
     missing = [reason for reason in limits.REASONS if not answers[reason]]
     print(f"changed histories: {'FAILED: none is rejected for ' + missing[0] if missing else 'passed'}, {answers_text(answers)}")
     return not missing
 
 
-def check_tools():
+def check_tools() -> Any:
     """Runs the files of tests/ at the same time."""
     runs = [subprocess.Popen([sys.executable, "-m", "unittest", "-q", f"tools.tests.{path.stem}"], cwd=places.ROOT,
                              stdout=subprocess.PIPE, stderr=subprocess.STDOUT, text=True)
@@ -171,7 +175,7 @@ def check_tools():
     return not failed
 
 
-def main(words):
+def main(words: list[str]) -> int | None:
     facts = json.loads((places.GUESTS / "facts.json").read_text())
     parser = tool.words("check", __doc__)
     parser.add_argument("names", metavar="tools | GUEST", nargs="*", help="these alone")
@@ -183,6 +187,7 @@ def main(words):
     guests = [name for name in names if name != "tools"]
     if guests:
         program.need()
+    answers: collections.Counter[Any]
     answers, trials = collections.Counter(), len(names)
     for name in guests:
         is_right, answered = check(name, facts[name])

@@ -9,6 +9,8 @@ bench/README.md says.
 
 It needs Linux and the built program, and takes about a minute.
 """
+from __future__ import annotations
+
 import fcntl
 import os
 import pathlib
@@ -19,6 +21,7 @@ import statistics
 import subprocess
 import tempfile
 import time
+from typing import Any
 
 from .. import limits, tool
 from ..guest import made
@@ -37,12 +40,12 @@ class Wrong(Exception):
     """What was not as it must be."""
 
 
-def need(holds, text):
+def need(holds: Any, text: Any) -> None:
     if not holds:
         raise Wrong(text)
 
 
-def sleeping(threads):
+def sleeping(threads: int) -> bytes:
     """The largest guest, with 32 threads: each takes the last four of 32 locks and sleeps with them
     until its fuel is spent, in blocks of one turn. The data fill the memory that a file may have."""
     words = [word for lock in range(28, 32) for word in made.call(limits.LOCK, lock)]
@@ -55,13 +58,13 @@ def sleeping(threads):
 class Place:
     """A folder with a copy of the program, and an empty one in which it runs."""
 
-    def __init__(self, folder):
+    def __init__(self, folder: Any) -> None:
         self.program, self.empty = folder / "tclocks", folder / "empty"
         shutil.copy(program.PATH, self.program)
         self.empty.mkdir()
         self.guest = folder / "guest.elf"
 
-    def processes(self):
+    def processes(self) -> Any:
         """The processes that run this copy."""
         found = []
         for link in pathlib.Path("/proc").glob("[0-9]*/exe"):
@@ -71,28 +74,28 @@ class Place:
                 pass  # it has ended, or is another user's
         return found
 
-    def is_clean(self):
+    def is_clean(self) -> None:
         need(not self.processes(), "a process is left")
         need(not list(self.empty.iterdir()), f"a file is left: {list(self.empty.iterdir())}")
 
-    def start(self, file, words, **more):
+    def start(self, file: Any, words: Any, **more: Any) -> Any:
         """Starts the program over a file."""
         self.guest.write_bytes(file)
-        given = {"stdin": open(self.guest, "rb"), "stdout": subprocess.PIPE, "stderr": subprocess.PIPE, **more}
+        given: dict[str, Any] = {"stdin": open(self.guest, "rb"), "stdout": subprocess.PIPE, "stderr": subprocess.PIPE, **more}
         try:
             return subprocess.Popen([self.program, *words], cwd=self.empty, **given,
                                     env={"HOME": str(self.empty), "TMPDIR": str(self.empty)})
         finally:
             given["stdin"].close()
 
-    def run(self, file, words, **more):
+    def run(self, file: Any, words: Any, **more: Any) -> Any:
         """Runs it to its end: its status, and what it wrote."""
         process = self.start(file, words, **more)
         written, said = process.communicate(timeout=120)
         need(not said, f"it said {said!r}")
         return process.returncode, written
 
-    def peak(self, file, words):
+    def peak(self, file: Any, words: Any) -> Any:
         """Its peak memory in kB. The report is made whole before the first byte is written."""
         read, write = os.pipe()
         fcntl.fcntl(write, F_SETPIPE_SZ, SOME_PIPE)
@@ -108,7 +111,7 @@ class Place:
         return next(int(line.split()[1]) for line in lines if line.startswith("VmHWM:"))
 
 
-def runs_in_a_row(place, runs):
+def runs_in_a_row(place: Any, runs: Any) -> Any:
     file = made.counting(4)
     peaks = []
     for _ in range(runs):
@@ -120,13 +123,13 @@ def runs_in_a_row(place, runs):
     return f"{runs} runs, peak memory {first:.0f} kB at first, {last:.0f} kB at last"
 
 
-def largest_guest(place, _):
+def largest_guest(place: Any, _: Any) -> Any:
     peak = place.peak(sleeping(32), SLEEPING) / 1000
     need(peak <= MOST_MEMORY, f"it takes {peak:.0f} MB, more than {MOST_MEMORY}")
     return f"{peak:.0f} MB on 8 workers"
 
 
-def reader_that_ends(place, _):
+def reader_that_ends(place: Any, _: Any) -> Any:
     for size in (0, 1, 4096, 100_000):
         process = place.start(sleeping(1), SLEEPING)
         process.stdout.read(size)
@@ -137,7 +140,7 @@ def reader_that_ends(place, _):
     return "status 4"
 
 
-def full_disk(place, _):
+def full_disk(place: Any, _: Any) -> Any:
     with open("/dev/full", "wb") as full:
         for words, status in ((COUNTING, 4), (("stop",), 1)):
             done = place.run(made.counting(2), words, stdout=full)[0]
@@ -145,7 +148,7 @@ def full_disk(place, _):
     return "status 4, and 1 for the usage line"
 
 
-def closed_streams(place, _):
+def closed_streams(place: Any, _: Any) -> Any:
     place.guest.write_bytes(made.counting(2))
     for closed, status in (("<&-", 2), (">&-", 4), ("2>&-", 0), ("<&- >&-", 2), (">&- 2>&-", 4), ("<&- >&- 2>&-", 2)):
         script = f'exec "$0" "$@" < "$FILE" {closed}'
@@ -157,7 +160,7 @@ def closed_streams(place, _):
     return "status 2 without standard input, 4 without standard output"
 
 
-def little_memory(place, _):
+def little_memory(place: Any, _: Any) -> Any:
     """How much is enough differs from run to run."""
     refused = []
     for megabytes in (16, 32, 64, 128, 256, 512):
@@ -171,7 +174,7 @@ def little_memory(place, _):
     return f"status 5 and nothing written in {', '.join(map(str, refused))} MB"
 
 
-def signals(place, _):
+def signals(place: Any, _: Any) -> Any:
     for number in (signal.SIGINT, signal.SIGTERM, signal.SIGHUP):
         if signal.getsignal(number) == signal.SIG_IGN:  # as in the background, and handed on
             signal.signal(number, signal.SIG_DFL)
@@ -187,7 +190,7 @@ def signals(place, _):
     return "it ends at once"
 
 
-def histories(place, _):
+def histories(place: Any, _: Any) -> Any:
     file = sleeping(1)
     words = "replay", str(len(file)), *SLEEPING[1:]
     report = place.run(file, SLEEPING)[1]
@@ -203,8 +206,8 @@ def histories(place, _):
     need(ended == (5, b""), f"status {ended[0]} with {len(ended[1])} bytes in 16 MB")
     place.guest.write_bytes(file)
     os.truncate(place.guest, len(file) + limits.HISTORY_BYTES + 1)
-    with open(place.guest, "rb") as given:
-        done = subprocess.run([place.program, *words], stdin=given, capture_output=True, cwd=place.empty, check=False)
+    with open(place.guest, "rb") as long:
+        done = subprocess.run([place.program, *words], stdin=long, capture_output=True, cwd=place.empty, check=False)
     need((done.returncode, done.stdout) == (3, b"refused 0 TooLarge\n"), f"too long: status {done.returncode}, {done.stdout[:80]!r}")
     return "the report of the run, status 4 and 6 on a full disk, 5 in 16 MB, 3 where it is too long"
 
@@ -212,7 +215,7 @@ def histories(place, _):
 TRIALS = (runs_in_a_row, largest_guest, reader_that_ends, full_disk, closed_streams, little_memory, signals, histories)
 
 
-def tried(trial, folder, runs):
+def tried(trial: Any, folder: Any, runs: Any) -> Any:
     """Whether a trial went well."""
     place = Place(folder)
     try:
@@ -225,7 +228,7 @@ def tried(trial, folder, runs):
     return True
 
 
-def main(words):
+def main(words: list[str]) -> int | None:
     parser = tool.words("endure", __doc__)
     parser.add_argument("runs", metavar="RUNS", nargs="?", default=1000, type=tool.number(1, 1_000_000))
     runs, passed = parser.parse_args(words).runs, 0

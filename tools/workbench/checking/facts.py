@@ -4,8 +4,11 @@ Ends, exit codes, guarded bytes, sections and broken flags are computed here fro
 sources mean; no guest code is run for them. Turns are counted by model.py. Then each guest
 is run by model.py in interleavings drawn at random, and the facts must hold in all of them.
 """
+from __future__ import annotations
+
 import json
 import random
+from typing import Any, Callable, Sequence
 
 from .. import places, tool
 from ..guest import model
@@ -14,32 +17,33 @@ INTERLEAVINGS = 20
 FUEL = 20000
 
 
-def words(*values):
+def words(*values: int) -> str:
     return "".join((value % 2**32).to_bytes(4, "little").hex() for value in values)
 
 
-def facts(ends, x10, guards=(), sections=(), broken=None, pc=None):
+def facts(ends: Sequence[str], x10: Sequence[int | None], guards: Sequence[str] = (), sections: Sequence[int] = (),
+          broken: list[int] | None = None, pc: Sequence[int | None] | None = None) -> dict[str, list[Any]]:
     broken = broken or [0] * len(guards)
-    return {"ends": ends, "x10": [value if value is None else value % 2**32 for value in x10],
-            "pc": pc or [None] * len(ends), "guards": list(guards), "sections": list(sections),
+    return {"ends": list(ends), "x10": [value if value is None else value % 2**32 for value in x10],
+            "pc": list(pc or ()) or [None] * len(ends), "guards": list(guards), "sections": list(sections),
             "broken": broken}
 
 
-def exits(codes, guards, sections):
+def exits(codes: list[int], guards: list[str], sections: list[int]) -> dict[str, list[Any]]:
     return facts(["exit"] * len(codes), codes, guards, sections)
 
 
-def first():
+def first() -> dict[str, list[Any]]:
     return exits([5, 7], [words(3 * 5 + 3 * 7, 6)], [6])
 
 
-def counter():
+def counter() -> dict[str, list[Any]]:
     arguments = [1, 20, 300, 4000, 50000, 600000, 0xFFFFFFFF, 0x80000000]
     sums = [sum(argument + i for i in range(60)) for argument in arguments]
     return exits(sums, [words(sum(sums), 8 * 60)], [8 * 60])
 
 
-def bank():
+def bank() -> dict[str, list[Any]]:
     accounts = [[1000 * (i + 1), 0, 0, 0] for i in range(8)]
     moved = []
     for teller in range(8):
@@ -60,11 +64,11 @@ def bank():
                  [account[3] for account in accounts])
 
 
-def philosophers():
+def philosophers() -> dict[str, list[Any]]:
     return exits([12] * 5, [words(12, 12)] * 5 + [words(60, *[12] * 5)], [24] * 5 + [60])
 
 
-def ring():
+def ring() -> dict[str, list[Any]]:
     items = [argument ^ i for argument in (0x11110000, 0x22220000, 0x33330000, 0x44440000,
                                            0x55550000, 0xFFFFFF00) for i in range(25)]
     both = 0
@@ -73,13 +77,13 @@ def ring():
     return exits([25] * 6, [words(150, 150, sum(items), sum(items), both, 0, *[0] * 6)], [300])
 
 
-def buffer():
+def buffer() -> dict[str, list[Any]]:
     items = [argument + i for argument in (100, 1000) for i in range(20)]
     sections = len(items) + 2 * 30 + 4
     return facts(["exit"] * 4, [None] * 4, [words(40, 40, sum(items), sum(items), 4, *[0] * 4)], [sections])
 
 
-def sleepers():
+def sleepers() -> dict[str, list[Any]]:
     depths, counts, shared, slept = [1, 2, 3, 4, 4, 0], [0] * 4, [0] * 4, []
     for thread, depth in enumerate(depths):
         inside = sum((i + lock) % 2 for i in range(10) for lock in range(depth))
@@ -90,7 +94,7 @@ def sleepers():
     return exits(slept, [words(a, b) for a, b in zip(counts, shared)], counts)
 
 
-def matrix():
+def matrix() -> dict[str, list[Any]]:
     right = [[(i * 31 + j * 17) % 101 - 50 for j in range(8)] for i in range(8)]
     left = [[1000 * (thread + 1) + i * 37 - 5000 for i in range(8)] for thread in range(8)]
     rows = [[sum(a * right[i][j] for i, a in enumerate(line)) for j in range(8)] for line in left]
@@ -99,7 +103,7 @@ def matrix():
                  [words(8, trace, *[value for row in rows for value in row])], [8])
 
 
-def sensors():
+def sensors() -> dict[str, list[Any]]:
     arguments = [1, 20, 300, 4000, 50000, 600000, 0xFFFFFFFF, 0x80000000]
     codes, whole, kinds = [], 0, [0] * 7
     for thread, drawn in enumerate(arguments):
@@ -115,7 +119,7 @@ def sensors():
     return exits(codes, [words(whole, 8 * 24, *kinds)], [8 * 24])
 
 
-def stale():
+def stale() -> dict[str, list[Any]]:
     weight = 0
     for _ in range(7):
         coin = weighed = 10 + weight
@@ -125,7 +129,7 @@ def stale():
     return exits([weight, 3], ["." * 8 + words((7 + 3) % 4)], [7 + 2 * 3])
 
 
-def broken():
+def broken() -> dict[str, list[Any]]:
     markers = [0, 1, 2, 2, 3, 4]  # the thread that marks each lock and ends while it holds it
     guards = [words(0xA0000000 + thread, 15) + "." * 8 for thread in markers]
     ends = ["fault 5", "fault 4", "fault 6", "spent", "exit"] + ["exit"] * 3
@@ -133,7 +137,7 @@ def broken():
                  [16] * 6 + [15], [1] * 6 + [0])
 
 
-def faults():
+def faults() -> dict[str, list[Any]]:
     numbers = [1, 2, 3, 4, 5, 6, 7, 8, 9, 10, 11, 12, 2, 9, 10, 2]
     x10 = [0x700 + thread for thread in range(16)]
     x10[9:12], x10[13:15] = [5, 1, 0], [256, 4]
@@ -147,7 +151,7 @@ def faults():
     return facts([f"fault {number}" for number in numbers], x10, guards, [1] * 5, [1] * 5, pc)
 
 
-def run(guest, chance):
+def run(guest: model.Guest, chance: random.Random) -> model.Machine:
     """The machine after an interleaving that is drawn at random."""
     machine = model.Machine(guest, FUEL)
     while any(thread.end is None for thread in machine.threads):
@@ -161,16 +165,18 @@ def run(guest, chance):
     return machine
 
 
-def turns(machine):
+def turns(machine: model.Machine) -> list[int | None]:
     """How many turns each thread took to its end; None where it has none but for spent fuel."""
     return [None if thread.end == "spent" else FUEL - thread.fuel for thread in machine.threads]
 
 
-def main(given):
+def main(given: list[str]) -> None:
     tool.words("facts", __doc__).parse_args(given)
     table = {"exit": facts(["exit"], [0], pc=[0x10058])}
-    for guest in (first, counter, bank, philosophers, ring, buffer, sleepers, matrix, sensors, stale, broken, faults):
-        table[guest.__name__] = guest()
+    every: tuple[Callable[[], dict[str, list[Any]]], ...] = (
+        first, counter, bank, philosophers, ring, buffer, sleepers, matrix, sensors, stale, broken, faults)
+    for known_of in every:
+        table[getattr(known_of, "__name__")] = known_of()
     for name, known in table.items():
         guest = model.Guest((places.GUESTS / f"{name}.elf").read_bytes())
         chance = random.Random(name)

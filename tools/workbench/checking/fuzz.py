@@ -8,8 +8,11 @@ past 2^32. Each must be refused as guestfile.py tells, or else run as any other 
 each report is given back, and then a changed one (spoil.py): `replay` and `profile` must answer as
 rejecting.py does. A guest whose answer is wrong is kept in guests/out, with the history that was given.
 """
+from __future__ import annotations
+
 import collections
 import random
+from typing import Any
 
 from .. import limits, tool
 from ..guest import damage, guestfile, made, model
@@ -29,16 +32,16 @@ REGISTERS = (0, 2, 5, 6, 7, 8, 9, 10, 11, 12, 13, 14, 31)
 class Draw(random.Random):
     """Draws parts of a guest."""
 
-    def register(self):
+    def register(self) -> int:
         return self.choice(REGISTERS)
 
-    def offset(self, base):
+    def offset(self, base: int) -> int:
         """Mostly of a whole word in the data or on the stack."""
         if self.random() < 0.05:
             return self.randrange(-100, 100)
         return 4 * (self.randrange(60) if base == 5 else self.randrange(-24, 0))
 
-    def arithmetic(self):
+    def arithmetic(self) -> list[int]:
         to, a = self.register(), self.register()
         if self.random() < 0.5:
             return [encode(self.choice(ARITHMETIC), to, a, self.register())]
@@ -46,12 +49,12 @@ class Draw(random.Random):
         value = self.randrange(32) if name in ("slli", "srli", "srai") else self.randrange(-2048, 2048)
         return [encode(name, to, a, value)]
 
-    def access(self):
+    def access(self) -> list[int]:
         base = self.choice((5, 5, 5, 2))
         names = self.choice((("lb", "lh", "lw", "lbu", "lhu"), ("sb", "sh", "sw")))
         return [encode(self.choice(names), self.register(), base, self.offset(base))]
 
-    def jump(self):
+    def jump(self) -> list[int]:
         if self.random() < 0.05:
             return [encode("jalr", 1, self.choice((0, 1, 5)), self.randrange(6))]
         if self.random() < 0.2:
@@ -59,17 +62,17 @@ class Draw(random.Random):
         offset = self.choice((4, 4, 8, 8, 12, 12, 6, -16))
         return [encode(self.choice(BRANCHES), self.register(), self.register(), offset)]
 
-    def other(self):
+    def other(self) -> list[int]:
         upper = encode(self.choice(("lui", "auipc")), self.register(), self.getrandbits(32))
         rare = self.choice((self.getrandbits(32), WHOLE["ebreak"], encode("fence", 0, 0, 0xFF)))
         return [rare if self.random() < 0.05 else upper]
 
-    def guest_call(self):
+    def guest_call(self) -> list[int]:
         number = self.choice((limits.LOCK, limits.UNLOCK, limits.SLEEP, 4))
         sleep = self.choice((0, 1, 9, limits.SLEPT, limits.SLEPT + 1))
         return made.call(number, sleep if number == limits.SLEEP else self.randrange(5))
 
-    def section(self, locks):
+    def section(self, locks: int) -> list[int]:
         """Takes and releases some locks, mostly in an order that is lawful."""
         chosen = sorted(self.sample(range(locks), self.randrange(min(locks, 5) + 1)))
         words = [BASE]
@@ -81,7 +84,7 @@ class Draw(random.Random):
             words += made.call(limits.UNLOCK, lock)
         return words
 
-    def thread(self, locks):
+    def thread(self, locks: int) -> list[int]:
         words = [BASE]
         for _ in range(self.randrange(5, 40)):
             draw = self.choice((self.arithmetic, self.arithmetic, self.jump, self.other, None))
@@ -90,8 +93,9 @@ class Draw(random.Random):
                 words += self.guest_call() + self.access()
         return words + made.call(limits.EXIT, 0)
 
-    def guest(self):
+    def guest(self) -> bytes:
         """A whole file: a note, code, and data behind whose end a few zeros stand."""
+        words: list[Any]
         words, entries, locks = [], [], self.randrange(self.choice((7, 7, 7, 33)))
         for _ in range(self.randrange(1, self.choice((5, 5, 5, 33)))):
             entries.append((made.CODE + 4 * len(words), self.getrandbits(32)))
@@ -102,7 +106,7 @@ class Draw(random.Random):
         return made.elf(made.note(entries, guards, version), words, data, len(data) + self.randrange(9))
 
 
-def refusal(file):
+def refusal(file: Any) -> Any:
     """The line of its refusal, or None."""
     try:
         guestfile.check(file)
@@ -111,7 +115,7 @@ def refusal(file):
     return None
 
 
-def judge(file, options, refused):
+def judge(file: Any, options: Any, refused: Any) -> Any:
     """The report of a file, or None where it is refused. Wrong where the program answers otherwise."""
     status, text = program.run(("run", *options), file)
     if refused and (status, text) != (3, refused + "\n"):
@@ -123,11 +127,11 @@ def judge(file, options, refused):
     guest = model.Guest(file)
     legal.replay_whole(guest, text)
     if options[0] == 1:
-        delegation.check_alone(guest, *options[1:], text)
+        delegation.check_alone(guest, options[1], options[2], text)
     return text
 
 
-def judge_histories(file, options, text, draw, kept):
+def judge_histories(file: Any, options: Any, text: Any, draw: Any, kept: Any) -> Any:
     """Gives a report's history back, and a changed one. Answers why the changed one is rejected."""
     history = rejecting.history_of(text)
     blocks, _ = rejecting.read(history)
@@ -138,13 +142,15 @@ def judge_histories(file, options, text, draw, kept):
     return given.reason
 
 
-def main(words):
+def main(words: list[str]) -> int | None:
     parser = tool.words("fuzz", __doc__)
     parser.add_argument("count", metavar="COUNT", nargs="?", default=200, type=tool.number(1, 1_000_000))
     parser.add_argument("seed", metavar="SEED", nargs="?", default=1, type=tool.number(0, 2**32))
     asked = parser.parse_args(words)
     program.need()
+    seen: collections.Counter[Any]
     draw, failed, seen = Draw(asked.seed), 0, collections.Counter()
+    rejected: collections.Counter[Any]
     changes, rejected = random.Random(asked.seed), collections.Counter()
     for number in range(asked.count):
         file = draw.guest()

@@ -11,12 +11,14 @@ as much memory as such a run. A thread of the host counts as an allocation.
 
 It needs Linux with the GNU C library, a C compiler (cc) and the built program.
 """
+from __future__ import annotations
+
 import collections
 import os
 import pathlib
 import subprocess
 import tempfile
-from typing import NamedTuple
+from typing import Any, Iterator, NamedTuple, Optional, Tuple
 
 from .. import limits, tool
 from ..guest import guestfile, made, model
@@ -45,12 +47,12 @@ class Ended(NamedTuple):
 class Case(NamedTuple):
     """What is asked, of which file, and which status it has without a refusal."""
     name: str
-    words: tuple
+    words: Tuple[str, ...]
     file: bytes
     status: int
-    text: str  # that is written; None where it is a report
+    text: Optional[str]  # that is written; None where it is a report
 
-    def is_whole(self, ended):
+    def is_whole(self, ended: Ended) -> bool:
         text = ended.written.decode("ascii", "replace")
         if ended.status != self.status:
             return False
@@ -63,7 +65,7 @@ class Case(NamedTuple):
         return True
 
 
-def run(library, case, first, last):
+def run(library: Any, case: Any, first: Any, last: Any) -> Any:
     """Runs the program while these allocations are refused."""
     told, tell = os.pipe()
     surroundings = {"LD_PRELOAD": str(library), "REFUSE": f"{first} {last}", "REFUSE_TELL": str(tell)}
@@ -77,7 +79,7 @@ def run(library, case, first, last):
     return Ended(done.returncode, done.stdout, done.stderr, *(numbers or (None, None, None)))
 
 
-def wrong_in(case, ended, kept):
+def wrong_in(case: Case, ended: Ended, kept: int) -> str | None:
     """What is wrong with how a run ended, or None."""
     if ended.said or ended.kept is None:
         return f"it ended with status {ended.status} and said {ended.said[:200]!r}"
@@ -88,11 +90,12 @@ def wrong_in(case, ended, kept):
     return None
 
 
-def refuse_each(library, case, times, later):
+def refuse_each(library: Any, case: Any, times: Any, later: Any) -> Any:
     """Runs a case while each allocation is refused, and all later ones where that is asked."""
     first = [run(library, case, 1, 0) for _ in range(FIRST_RUNS)]
     kept = max(ended.kept for ended in first)
     greatest = max(ended.allocations for ended in first)
+    counts: collections.Counter[Any]
     runs, counts, failed = 0, collections.Counter(), 0
     while runs < times * (greatest + PAST):
         number = runs // times + 1
@@ -110,7 +113,7 @@ def refuse_each(library, case, times, later):
     return runs - failed, failed
 
 
-def asked(given):
+def asked(given: list[str]) -> Any:
     """The words and the file of the run."""
     parser = tool.words("refuse", __doc__)
     for (name, (least, most)), usual in zip(limits.RUN.items(), (2, 2000, 8)):
@@ -123,7 +126,7 @@ def asked(given):
     return ("run", *(str(getattr(words, name)) for name in limits.RUN)), file
 
 
-def histories(words, file):
+def histories(words: Any, file: Any) -> Iterator[Any]:
     """The cases of a run's history: it is taken, counted and rejected."""
     status, text = program.run(words, file)
     if status:
@@ -135,7 +138,7 @@ def histories(words, file):
         yield Case(name, (form, str(len(file)), *words[1:]), file + lines, *answer)
 
 
-def main(given):
+def main(given: list[str]) -> int | None:
     words, file = asked(given)
     times = TIMES if words[1] != "1" else 1
     cases = (Case("a report", words, file, 0, None), *histories(words, file),

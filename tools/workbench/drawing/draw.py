@@ -6,15 +6,21 @@ Chrome's viewer open. With --page it prints a page of HTML that steps through th
 guest's file is given, threads and locks have the names of its symbols, and the page shows registers
 and guarded bytes.
 """
+from __future__ import annotations
+
+from typing import TYPE_CHECKING
 from .. import tool
 from ..guest import guestfile, names, sources
 from ..reports import timeline
 from . import overview, page, svg, textlanes, traceevents
 
+if TYPE_CHECKING:
+    from argparse import Namespace
+
 MOST = 2000  # blocks that are drawn each
 
 
-def print_svg(line, called, first, last, asked):
+def print_svg(line: timeline.Timeline, called: names.Names, first: int, last: int, asked: Namespace) -> None:
     draw = svg.detailed if last - first < asked.most else overview.draw
     picture = draw(line, first, last, called, asked.title)
     for sentence in svg.sentences(line, first, last):
@@ -22,12 +28,12 @@ def print_svg(line, called, first, last, asked):
     print(picture.svg(line.text.guards), end="")
 
 
-def print_page(line, called, first, last, asked):
+def print_page(line: timeline.Timeline, called: names.Names, first: int, last: int, asked: Namespace) -> None:
     guest = (asked.file, sources.load(asked.guest, asked.file)) if asked.guest else None
     print(page.made(line, called, first, last, asked.title, guest), end="")
 
 
-def window(asked, count):
+def window(asked: Namespace, count: int) -> tuple[int, int]:
     """The first and the last block that are drawn."""
     last = count - 1 if asked.to is None else min(asked.to, count - 1)
     if asked.first >= count:
@@ -37,7 +43,7 @@ def window(asked, count):
     return asked.first, last
 
 
-def main(words):
+def main(words: list[str]) -> None:
     parser = tool.words("draw", __doc__)
     parser.add_argument("report", metavar="REPORT", help="a report; - is standard input")
     forms = parser.add_mutually_exclusive_group()
@@ -60,5 +66,6 @@ def main(words):
     called = names.Names(text, asked.file)
     asked.title = asked.title or text.title()
     (asked.form or print_svg)(line, called, *window(asked, len(line.marks)), asked)
-    if text.cut_note():
-        tool.note("draw", text.cut_note())
+    cut = text.cut_note()
+    if cut:
+        tool.note("draw", cut)

@@ -1,14 +1,21 @@
 """A page of HTML that steps through a run. page.html is the page; this puts the run's data into it:
 the blocks, and, where the guest's file is given, what each block changes of registers and of guarded
 words, by model.py."""
+from __future__ import annotations
+
 import json
 import pathlib
 import struct
+from typing import Any, Sequence, TYPE_CHECKING
 
 from .. import limits, tool
 from ..judging import legal, reasons
 from ..reports import report
 from . import svg
+
+if TYPE_CHECKING:
+    from ..guest import guestfile, model, names, sources
+    from ..reports import timeline
 
 PAGE = pathlib.Path(__file__).resolve().parent / "page.html"
 MOST = 50000  # blocks of a page
@@ -19,33 +26,38 @@ MARK = '"application/json">DATA</script>'
 class Shelf:
     """Different texts, each with its number."""
 
-    def __init__(self):
-        self.numbers = {}
+    def __init__(self) -> None:
+        self.numbers: dict[str, int] = {}
 
-    def put(self, text):
+    def put(self, text: str) -> int:
         return self.numbers.setdefault(text, len(self.numbers))
 
-    def texts(self):
+    def texts(self) -> list[str]:
         return list(self.numbers)
 
 
 class Player:
     """Runs the blocks by the model, and keeps what those of a window change."""
 
-    def __init__(self, file, lines, text):
+    starts: dict[Any, Any]
+    notes: dict[Any, Any]
+    changes: list[Any]
+
+    def __init__(self, file: guestfile.GuestFile, lines: sources.Sources, text: report.Report) -> None:
         self.file, self.lines, self.run = file, lines, legal.begin(file.guest, text)
         self.machine = self.run.machine
         self.starts, self.notes, self.changes = {}, {}, []
-        self.registers = self.bytes = None
+        self.registers: list[list[int]] = []
+        self.bytes: list[bytes] = []
 
-    def begin_window(self):
+    def begin_window(self) -> None:
         self.registers = [state(thread) for thread in self.machine.threads]
         self.bytes = [bytes(lock.bytes) for lock in self.machine.locks]
 
-    def skip(self, block):
+    def skip(self, block: report.Block) -> None:
         self.run.follow(block)
 
-    def play(self, block):
+    def play(self, block: report.Block) -> None:
         """Runs a block of the window."""
         thread = self.machine.threads[block.thread]
         self.starts[block.stamp] = reasons.start_text(self.file, thread, self.lines)
@@ -60,7 +72,7 @@ class Player:
         if block.ends_thread:
             self.notes[block.stamp] = reasons.ending(self.file, thread, block.held)
 
-    def shown(self, lock):
+    def shown(self, lock: int) -> Sequence[int]:
         """The places of a lock's words that a page shows: all, or of a large guard those that change."""
         count = len(self.bytes[lock]) // 4
         if count <= SHOWN:
@@ -68,7 +80,7 @@ class Player:
         changed = {place for _, words in self.changes for number, place, _ in words if number == lock}
         return sorted(changed)[:SHOWN] or range(SHOWN)
 
-    def data(self):
+    def data(self) -> dict[str, Any]:
         words, places = [], {}
         for number, lock in enumerate(self.machine.locks):
             shown, values = self.shown(number), in_words(self.bytes[number])
@@ -82,20 +94,20 @@ class Player:
         return {"registers": self.registers, "words": words, "changes": changes}
 
 
-def state(thread):
+def state(thread: model.Thread) -> list[int]:
     """The registers, and the program counter behind them."""
     return [*thread.x, thread.pc]
 
 
-def in_words(content):
+def in_words(content: bytes) -> tuple[int, ...]:
     return struct.unpack(f"<{len(content) // 4}I", content)
 
 
-def flat(rows):
+def flat(rows: Any) -> list[int]:
     return [value for row in rows for value in row]
 
 
-def played(guest, line, first, last):
+def played(guest: tuple[guestfile.GuestFile, sources.Sources], line: timeline.Timeline, first: int, last: int) -> Player:
     """The player at the end of the window; `guest` is the guest's file and its lines."""
     player = Player(*guest, line.text)
     try:
@@ -109,16 +121,16 @@ def played(guest, line, first, last):
     return player
 
 
-def row(mark, start, note):
+def row(mark: timeline.Mark, start: int, note: str) -> list[Any]:
     block = mark.block
     release = -1 if mark.release is None else mark.release.stamp
     return [block.stamp, block.thread, block.worker, block.turns, limits.KINDS.index(block.kind), block.held,
             block.pc, block.end, release, start, note]
 
 
-def nearest(marks, threads):
+def nearest(marks: Any, threads: int) -> list[list[Any] | None]:
     """Of each thread the first of some marks that is its own, or None."""
-    found = [None] * threads
+    found: list[list[Any] | None] = [None] * threads
     for mark in marks:
         if found[mark.block.thread] is None:
             found[mark.block.thread] = row(mark, 0, "")
@@ -127,7 +139,7 @@ def nearest(marks, threads):
     return found
 
 
-def broken_by(marks, locks):
+def broken_by(marks: list[timeline.Mark], locks: int) -> list[int]:
     """Of each lock the stamp of the block that broke it, or -1: whose thread ended with it."""
     found = [-1] * locks
     for mark in marks:
@@ -136,7 +148,8 @@ def broken_by(marks, locks):
     return found
 
 
-def data(line, called, first, last, title, guest):
+def data(line: timeline.Timeline, called: names.Names, first: int, last: int, title: str,
+         guest: tuple[guestfile.GuestFile, sources.Sources] | None) -> dict[str, Any] | None:
     """What the page's script reads."""
     player = played(guest, line, first, last) if guest else None
     texts, threads = Shelf(), line.text.threads
@@ -156,7 +169,8 @@ def data(line, called, first, last, title, guest):
             **(player.data() if player else {"registers": None, "words": None, "changes": []})}
 
 
-def made(line, called, first, last, title, guest):
+def made(line: timeline.Timeline, called: names.Names, first: int, last: int, title: str,
+         guest: tuple[guestfile.GuestFile, sources.Sources] | None) -> str:
     """The page of a window; `guest` is the guest's file and its lines, or None."""
     if last - first >= MOST:
         raise tool.Trouble(tool.WORDS, f"{last - first + 1} blocks are more than the {MOST} of a page; "

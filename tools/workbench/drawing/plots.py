@@ -1,9 +1,15 @@
 """Pictures of a sweep as SVG: plots of its numbers over the batch limits, and strips of which worker had a
 lock. Workers and kinds are told apart by shape as well as by colour."""
+from __future__ import annotations
+
 import itertools
+from typing import Any, Callable, Iterator, TYPE_CHECKING
 
 from ..reports.report import several
 from .svg import COLOURS, box, document, label, titled
+
+if TYPE_CHECKING:
+    from ..running import sweep
 
 WIDE, HIGH, GAP, LEFT, TOP = 360, 170, 50, 56, 84  # of a panel, and the margins
 CONTEXTS = "contexts to another node"  # of runs with nodes alone
@@ -14,20 +20,20 @@ path{fill:none}.g{stroke:#ddd}.w{stroke-width:1.8}.thin{stroke-width:1;stroke-da
 MARKS = ("M-3-3h6v6h-6z", "M0-4l4 7h-8z", "M0-4l4 4-4 4-4-4z", "M-4 0a4 4 0 1 0 8 0a4 4 0 1 0-8 0z")
 
 
-def thousands(value):
+def thousands(value: float) -> str:
     """A number as it is read: 3,742, or with few digits behind the point."""
     return f"{value:,.0f}" if value >= 100 or value == int(value) else f"{value:.3g}"
 
 
-def round_up(value):
+def round_up(value: float) -> float:
     """The next number with one or two leading digits that an axis may end with."""
     if value <= 0:
         return 1
     unit = 10 ** (len(str(int(value))) - 1) if value >= 1 else 10 ** -len(str(int(1 / value)))
-    return next(step * unit for step in (1, 1.5, 2, 3, 4, 5, 6, 8, 10) if step * unit >= value)
+    return float(next(step * unit for step in (1, 1.5, 2, 3, 4, 5, 6, 8, 10) if step * unit >= value))
 
 
-def who(order):
+def who(order: tuple[int, int, int]) -> str:
     """Whose line it is: workers, and nodes with the bound where there are nodes."""
     workers, nodes, bound = order
     return several(workers, "worker") + (f", {several(nodes, 'node')}, bound {bound}" if nodes else "")
@@ -36,13 +42,13 @@ def who(order):
 class Sweep:
     """The runs of a sweep by workers, nodes and bound, and by batch limit."""
 
-    def __init__(self, results):
+    def __init__(self, results: list[sweep.Result]) -> None:
         self.results = results
         self.orders = sorted({result.setting.order() for result in results})
         self.limits = sorted({result.setting.batch for result in results})
         self.nodes = any(order[1] for order in self.orders)
 
-    def values(self, order, limit, number):
+    def values(self, order: tuple[int, int, int], limit: int, number: Callable[..., Any]) -> tuple[float, float, float]:
         """The least, the mean and the greatest of what the runs with a setting have."""
         found = [number(result) for result in self.results
                  if (result.setting.order(), result.setting.batch) == (order, limit)]
@@ -52,7 +58,7 @@ class Sweep:
 class Panel:
     """A plot over the batch limits, with its place and the greatest value of its axis."""
 
-    def __init__(self, sweep, number, title, top, above):
+    def __init__(self, sweep: Sweep, number: int, title: str, top: float, above: int) -> None:
         self.sweep, self.top = sweep, round_up(top)
         self.x = LEFT + number % 2 * (WIDE + LEFT + GAP)
         self.y = above + number // 2 * (HIGH + 70)
@@ -65,13 +71,13 @@ class Panel:
             self.parts.append(label(self.middle(place), self.y + HIGH + 24, str(limit), "axis mid"))
         self.parts.append(label(self.x + WIDE, self.y + HIGH + 36, "batch limit", "axis end"))
 
-    def middle(self, place):
+    def middle(self, place: int) -> float:
         return self.x + WIDE * (place + 0.5) / len(self.sweep.limits)
 
-    def height(self, value):
+    def height(self, value: float) -> float:
         return self.y + HIGH - HIGH * value / self.top
 
-    def lines(self, number, name, thin=False):
+    def lines(self, number: Callable[..., Any], name: str, thin: bool = False) -> None:
         """A line for each number of workers (and of nodes), with the least and the greatest of the runs."""
         for which, order in enumerate(self.sweep.orders):
             if name == CONTEXTS and not order[1]:
@@ -92,13 +98,13 @@ class Panel:
             self.parts.append(f'<path class="{"thin" if thin else "w"}" stroke="{colour}" d="M{" L".join(points)}"/>')
             self.parts += shown
 
-    def bars(self):
+    def bars(self) -> None:
         """The kinds of sections, a bar for each number of workers (and of nodes)."""
         wide = WIDE / len(self.sweep.limits) / (len(self.sweep.orders) + 1)
         for place, limit in enumerate(self.sweep.limits):
             for which, order in enumerate(self.sweep.orders):
                 x = self.middle(place) + wide * (which - len(self.sweep.orders) / 2)
-                base = 0
+                base = 0.0
                 for kind, colour in KINDS.items():
                     _, mean, _ = self.sweep.values(order, limit, lambda result: result.sums()[kind])
                     if mean:
@@ -110,25 +116,25 @@ class Panel:
                 self.parts.append(label(x + wide / 2, self.y + HIGH + 11, below, "axis mid"))
 
 
-def longest_mean(result):
+def longest_mean(result: sweep.Result) -> float:
     """How many adopted sections a row has in the mean."""
     sums = result.sums()
     return sums["adopted"] / sums["rows"] if sums["rows"] else 0
 
 
-def each_wait(result):
+def each_wait(result: sweep.Result) -> float:
     sums = result.sums()
     return sums["waiting"] / sums["sections"] if sums["sections"] else 0
 
 
-def kinds_legend(x, y):
+def kinds_legend(x: int, y: int) -> Iterator[str]:
     for kind, colour in KINDS.items():
         yield box(x, y - 8, 9, 9, colour)
         yield label(x + 13, y, kind)
         x += 75
 
 
-def orders_legend(sweep, x, y):
+def orders_legend(sweep: Sweep, x: int, y: int) -> Iterator[str]:
     """A part for each line; with nodes they are long, and four stand in a row."""
     for which, order in enumerate(sweep.orders):
         if which and which % 4 == 0 and sweep.nodes:
@@ -140,14 +146,15 @@ def orders_legend(sweep, x, y):
         x += 225 if sweep.nodes else 105
 
 
-def number_of(name):
+def number_of(name: str) -> Callable[..., Any]:
     return lambda result: result.sums()[name]
 
 
-def panels(name, results):
+def panels(name: str, results: list[sweep.Result]) -> str:
     """The plots of a sweep."""
     sweep = Sweep(results)
-    wanted = [(None, "Sections by kind (a bar for each number of workers)", number_of("sections"), None),
+    wanted: list[tuple[str | None, str, Callable[..., float], Callable[..., float] | None]] = [
+              (None, "Sections by kind (a bar for each number of workers)", number_of("sections"), None),
               ("changes of worker", "Changes of a lock's worker (thin: had sections run at home)", number_of("changes"),
                number_of("home")),
               ("sections away", "Sections away from their thread's worker", number_of("away"), None),
@@ -181,7 +188,7 @@ def panels(name, results):
 LANE, LONG = 13, 760  # of a strip: the height of a worker's lane, and how wide all sections are
 
 
-def strips(name, results, lock, most):
+def strips(name: str, results: list[sweep.Result], lock: int, most: int) -> str:
     """For each run a strip of which worker had a lock: a lane for each worker, over the lock's sections."""
     setting, parts, y = results[0].setting, [], 62
     shown = min(most, max(1, *(len(result.owners[lock]) for result in results)))
@@ -205,7 +212,7 @@ def strips(name, results, lock, most):
     return document(LEFT + LONG + 20, y, STYLE, head + parts)
 
 
-def lane(owners, worker, y, unit):
+def lane(owners: bytearray, worker: int, y: int, unit: float) -> str:
     """The stretches of sections that a worker ran."""
     stretches, start = [], 0
     for owner, sections in itertools.groupby(owners):

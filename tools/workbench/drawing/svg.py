@@ -2,12 +2,19 @@
 the pointer. The seven colours of locks are those of Okabe and Ito, and the eight of workers are of
 Paul Tol's muted ones: colour-blind readers can tell each seven or eight apart. Kinds are told apart
 by letters and outlines too, locks and workers by numbers, and the boxes of workers are round."""
+from __future__ import annotations
+
 import html
 from collections import Counter
+from typing import Any, Iterator, TYPE_CHECKING
 
 from ..limits import SECTIONS
 from ..reports import timeline
 from ..reports.report import several
+
+if TYPE_CHECKING:
+    from ..guest import names
+    from ..reports import report
 
 COLOURS = ("#0072B2", "#E69F00", "#009E73", "#CC79A7", "#56B4E9", "#D55E00", "#F0E442")
 WHITE_LETTERS = (0,)  # the colours on which white is read better than black
@@ -36,11 +43,11 @@ PATTERNS = {1: '<path d="M0 6L6 0" stroke="#fff" stroke-width="1.6"/>',
             4: '<circle cx="3" cy="3" r="1.5"/>'}
 
 
-def fill(lock):
+def fill(lock: int) -> str:
     return COLOURS[lock] if lock < len(COLOURS) else f"url(#p{lock})"
 
 
-def patterns(locks):
+def patterns(locks: int) -> Iterator[str]:
     """What tells locks of one colour apart."""
     for lock in range(len(COLOURS), locks):
         colour = COLOURS[lock % len(COLOURS)]
@@ -48,31 +55,31 @@ def patterns(locks):
                f'<rect width="6" height="6" fill="{colour}"/>{PATTERNS[lock // len(COLOURS)]}</pattern>')
 
 
-def box(x, y, width, height, colour, kind="k"):
+def box(x: float, y: float, width: float, height: float, colour: str, kind: str = "k") -> str:
     return f'<rect class="{kind}" x="{x:g}" y="{y:g}" width="{width:g}" height="{height:g}" fill="{colour}"/>'
 
 
-def label(x, y, text, kind="", colour=""):
+def label(x: float, y: float, text: str, kind: str = "", colour: str = "") -> str:
     kind = f' class="{kind}"' if kind else ""
     colour = f' fill="{colour}"' if colour else ""
     return f'<text{kind}{colour} x="{x:g}" y="{y:g}">{html.escape(text)}</text>'
 
 
-def titled(title, parts):
+def titled(title: str, parts: Any) -> str:
     return f"<g><title>{html.escape(title)}</title>{''.join(parts)}</g>"
 
 
-def stroke(kind, colour, x, y, width):
+def stroke(kind: str, colour: str, x: float, y: float, width: int) -> str:
     return f'<path class="{kind}" stroke="{colour}" d="M{x:g} {y:g}h{width:g}"/>'
 
 
-def lock_stroke(kind, lock, x, y, width):
+def lock_stroke(kind: str, lock: int, x: float, y: float, width: int) -> str:
     """A line in a lock's colour; a yellow one has an edge, for it is hard to see on white."""
     edge = stroke("e", "#777", x, y, width) if lock % len(COLOURS) == YELLOW and kind in THIN else ""
     return edge + stroke(kind, fill(lock), x, y, width)
 
 
-def block_parts(x, y, block, letter, away):
+def block_parts(x: float, y: int, block: report.Block, letter: str, away: bool) -> Iterator[str]:
     """A block's box: a stripe for each lock, the innermost on top, with an outline by kind."""
     count = max(1, len(block.held))
     high = HEIGHT / count
@@ -90,11 +97,11 @@ def block_parts(x, y, block, letter, away):
         yield away_mark(x + UNIT / 2, y)
 
 
-def away_mark(x, y):
+def away_mark(x: float, y: int) -> str:
     return f'<path d="M{x:g} {y - 1:g}l-5 -6h10z"/>'
 
 
-def worker_parts(x, y, worker, moved=False):
+def worker_parts(x: float, y: int, worker: int, moved: bool = False) -> Iterator[str]:
     """A lock's box: round, in the colour of the worker that has the lock."""
     yield (f'<rect class="w" rx="5" x="{x + .5:g}" y="{y}" width="{UNIT - 1}" height="{HEIGHT}" '
            f'fill="{WORKERS[worker]}"/>')
@@ -103,18 +110,18 @@ def worker_parts(x, y, worker, moved=False):
         yield moved_mark(x, y)
 
 
-def moved_mark(x, y):
+def moved_mark(x: float, y: int) -> str:
     return f'<path d="M{x:g} {y - 4:g}v-4h8v-2l5 4l-5 4v-2z"/>'
 
 
-def chip(x, y, lock):
+def chip(x: float, y: float, lock: int) -> str:
     """The number of the lock that a thread wants, on its line."""
     kind = "l n" + " d" * (lock >= len(COLOURS))
     return (f'<circle class="c" cx="{x:g}" cy="{y:g}" r="6" fill="{fill(lock)}"/>'
             + label(x, y + 3, f"{lock}", kind, "#fff" if lock in WHITE_LETTERS else ""))
 
 
-def gap_parts(x, y, width, gap):
+def gap_parts(x: float, y: int, width: int, gap: timeline.Gap) -> Iterator[str]:
     middle = y + HEIGHT / 2
     if gap.state in (timeline.WAITING, timeline.WANTS) and not gap.held:
         yield lock_stroke(gap.state, gap.wanted, x, middle, width)
@@ -127,13 +134,13 @@ def gap_parts(x, y, width, gap):
         yield chip(x + UNIT / 2, middle, gap.wanted)
 
 
-def stay_parts(x, y, width, stay):
+def stay_parts(x: float, y: int, width: int, stay: timeline.Stay) -> list[str]:
     if stay.worker is None:
         return [stroke("nobody", NOBODY, x, y + HEIGHT / 2, width)]
     return [stroke("has", WORKERS[stay.worker], x, y + HEIGHT / 2, width)]
 
 
-def document(width, height, style, parts, title=""):
+def document(width: float, height: int, style: str, parts: list[str], title: str = "") -> str:
     """A picture's file."""
     title = f"<title>{html.escape(title)}</title>\n" if title else ""
     return (f'<svg xmlns="http://www.w3.org/2000/svg" width="{width:g}" height="{height:g}" '
@@ -144,16 +151,18 @@ def document(width, height, style, parts, title=""):
 class Picture:
     """Parts below one another, and how high they are together."""
 
-    def __init__(self, width, title):
+    parts: list[Any]
+
+    def __init__(self, width: float, title: str) -> None:
         self.width, self.height, self.parts = width, 0, []
         self.title = title
         self.add(label(10, 20, title, "h"), 30)
 
-    def add(self, part, height=0):
+    def add(self, part: str, height: int = 0) -> None:
         self.parts.append(part)
         self.height += height
 
-    def text(self, line):
+    def text(self, line: str) -> None:
         """A sentence, in as many lines as it needs."""
         most, row = int((self.width - 20) / 6), ""
         for word in line.split(" "):
@@ -163,18 +172,18 @@ class Picture:
             row += " " * bool(row) + word
         self.add(label(10, self.height + 12, row), 16)
 
-    def svg(self, locks):
+    def svg(self, locks: int) -> str:
         defined = f"<defs>{''.join(patterns(locks))}</defs>"
         return document(self.width, self.height + 10, STYLE, [defined, *self.parts], self.title)
 
 
-def colour_items(names):
+def colour_items(names: names.Names) -> Iterator[tuple[str, str]]:
     yield box(0, 0, UNIT, HEIGHT, PLAIN, "on"), "no lock held (s: the thread's start)"
     for lock in range(len(names.locks)):
         yield box(0, 0, UNIT, HEIGHT, fill(lock)), names.lock(lock)
 
 
-def mark_items():
+def mark_items() -> Iterator[tuple[str, str]]:
     for kind, text in (("taken", "taken: the lock was free"),
                        ("adopted", "adopted: run by the worker that released"),
                        ("granted", "granted: handed on, for any worker")):
@@ -183,7 +192,7 @@ def mark_items():
     yield away_mark(7, 15), "away from the thread's own worker"
 
 
-def line_items():
+def line_items() -> Iterator[tuple[str, str]]:
     blue = fill(0)
     yield stroke("waiting", blue, 0, 9, 24) + chip(7, 9, 0), "waits for a lock, here lock 0"
     yield stroke("wants", blue, 0, 9, 24) + chip(7, 9, 0), "wants a lock, and finds it free"
@@ -192,7 +201,7 @@ def line_items():
     yield stroke("holds", blue, 0, 9, 24), "holds locks between two blocks"
 
 
-def worker_items(workers):
+def worker_items(workers: int) -> Iterator[tuple[str, str]]:
     """What the lanes of locks have."""
     for worker in range(workers):
         yield "".join(worker_parts(0, 0, worker)), f"worker {worker} has the lock"
@@ -202,9 +211,10 @@ def worker_items(workers):
     yield "", "nothing: the lock is free"
 
 
-def legend(picture, items, head=""):
+def legend(picture: Picture, items: Any, head: str = "") -> None:
     """What colours, letters and marks mean."""
-    x, y = 10, picture.height
+    x: float = 10
+    y = picture.height
     if head:
         picture.add(label(10, y + 13, head, "g"))
         x += 14 + 6.6 * len(head)
@@ -220,7 +230,8 @@ def legend(picture, items, head=""):
 class Strip:
     """The lanes of some stamps: threads above workers above locks."""
 
-    def __init__(self, picture, line, names, margin, first, last):
+    def __init__(self, picture: Picture, line: timeline.Timeline, names: names.Names, margin: float, first: int,
+                 last: int) -> None:
         self.picture, self.margin, self.first, self.last = picture, margin, first, last
         threads, workers, locks = line.text.threads, line.text.workers, line.text.guards
         self.threads = picture.height + 22
@@ -231,10 +242,10 @@ class Strip:
             for number, text in enumerate(texts):
                 picture.add(label(10, top + LANE * number + 13, text))
 
-    def x(self, stamp):
+    def x(self, stamp: int) -> float:
         return self.margin + UNIT * (stamp - self.first)
 
-    def draw(self, line):
+    def draw(self, line: timeline.Timeline) -> None:
         for stamp in range(self.first, self.last + 1):
             if stamp % 10 == 0:
                 self.picture.add(label(self.x(stamp), self.threads - 12, str(stamp), "axis"))
@@ -243,16 +254,16 @@ class Strip:
             parts = gap_parts(*self.place(gap, self.threads + LANE * gap.thread), gap)
             self.picture.add(titled(gap.sentence(), parts))
         for stay in line.stays(self.first, self.last):
-            parts = stay_parts(*self.place(stay, self.locks + LANE * stay.lock), stay)
-            self.picture.add(titled(stay.sentence(), parts))
+            kept = stay_parts(*self.place(stay, self.locks + LANE * stay.lock), stay)
+            self.picture.add(titled(stay.sentence(), kept))
         for mark in marks:
             self.picture.add(titled(mark.sentence(), self.mark_parts(mark)))
         self.picture.add("", self.height)
 
-    def place(self, span, y):
+    def place(self, span: timeline.Gap | timeline.Stay, y: int) -> tuple[float, int, int]:
         return self.x(span.first), y, UNIT * (span.last - span.first + 1)
 
-    def mark_parts(self, mark):
+    def mark_parts(self, mark: timeline.Mark) -> Iterator[str]:
         block, x = mark.block, self.x(mark.block.stamp)
         y = self.threads + LANE * block.thread
         yield from block_parts(x, y, block, LETTERS[block.kind], mark.away)
@@ -263,12 +274,12 @@ class Strip:
             yield from worker_parts(x, self.locks + LANE * lock, block.worker, lock in mark.moved)
 
 
-def margin(names):
+def margin(names: names.Names) -> float:
     """How wide the names of lanes are."""
     return max(80, 20 + 6.7 * max(map(len, sum(names.lanes(), []))))
 
 
-def detailed(line, first, last, names, title):
+def detailed(line: timeline.Timeline, first: int, last: int, names: names.Names, title: str) -> Picture:
     """All blocks of some stamps, in strips."""
     longest, left = min(STRIP, last - first + 1), margin(names)
     picture = Picture(max(left + UNIT * longest + 60, NARROWEST), title)
@@ -282,7 +293,7 @@ def detailed(line, first, last, names, title):
     return picture
 
 
-def sentences(line, first, last):
+def sentences(line: Any, first: Any, last: Any) -> Iterator[str]:
     """What stands below every picture."""
     marks, gaps = line.part(first, last)
     kinds = Counter(mark.block.kind for mark in marks)

@@ -8,9 +8,12 @@ whether there is none. docs/EXPLORE.md tells of rules, and of why nothing is mis
 Else it looks at samples: N runs by the program, with several numbers of workers and batch limits, where
 it is built, and N by model.py, in interleavings that are drawn from seeds.
 """
+from __future__ import annotations
+
 import os
 import sys
 from collections import Counter
+from typing import Any, Callable, Iterator, TYPE_CHECKING
 
 from .. import limits, tool
 from ..guest import guestfile
@@ -18,6 +21,10 @@ from ..judging import legal
 from ..reports import report
 from ..running import delegation, program
 from . import rules, search, sections
+
+if TYPE_CHECKING:
+    from ..guest import model
+    from argparse import Namespace
 
 OPTIONS = [(workers, batch) for batch in (8, 0, 1, 256) for workers in (1, 2, 4, 8)]
 UNDECIDED = 6  # the status where a search stopped before it had an answer
@@ -28,15 +35,17 @@ SHOWN = 60  # so many sections of a way are printed
 class Outcome:
     """How often it was seen by whom, and the first report of it with what made it."""
 
-    def __init__(self, lines, command):
+    counts: Counter[Any]
+
+    def __init__(self, lines: list[str], command: str) -> None:
         self.counts, self.lines, self.command = Counter(), lines, command
 
-    def seen(self):
+    def seen(self) -> str:
         counts = " and ".join(f"{count} by the {name}" for name, count in self.counts.items())
         return f"{counts}, as of {self.command}"
 
 
-def end_of(lines):
+def end_of(lines: list[str]) -> rules.End:
     """How a whole report says that the guest ended."""
     text = report.Report(line + "\n" for line in lines)
     for _ in text.blocks():
@@ -46,7 +55,7 @@ def end_of(lines):
                      tuple((lock.broken, lock.sections, lock.bytes) for lock in text.lock_ends))
 
 
-def cells(guest, end):
+def cells(guest: model.Guest, end: rules.End) -> Iterator[tuple[str, str]]:
     """What an end is: values by name, those of threads that faulted first."""
     threads = sorted(enumerate(end.threads), key=lambda item: (not item[1][0].startswith("fault"), item[0]))
     for number, (how, x10) in threads:
@@ -60,19 +69,19 @@ def cells(guest, end):
             yield f"lock {number} word {at // 4} ({guest.spans[number].start + at:08x})", f"{value} ({value:#x})"
 
 
-def by_program(path, fuel, runs):
+def by_program(path: Any, fuel: Any, runs: Any) -> Iterator[Any]:
     """Reports of the built program with their commands."""
     file = guestfile.read(path)
     for i in range(runs):
         workers, batch = OPTIONS[i % len(OPTIONS)]
         words = f"run {workers} {fuel} {batch}"
-        status, text = program.run(words.split(), file)
+        status, text = program.run(tuple(words.split()), file)
         if status:
             raise tool.Trouble(tool.WRONG, f"./tclocks {words} ended with status {status}")
         yield text.splitlines(), f"./tclocks {words} < {path}"
 
 
-def by_model(path, guest, fuel, runs, seed):
+def by_model(path: str, guest: model.Guest, fuel: int, runs: int, seed: int) -> Iterator[tuple[list[str], str]]:
     """Reports of the model with their commands."""
     for i in range(runs):
         workers, batch = OPTIONS[i % len(OPTIONS)]
@@ -80,9 +89,9 @@ def by_model(path, guest, fuel, runs, seed):
         yield list(run.lines(blocks)), f"./workbench simulate {path} {workers} {fuel} {batch} --seed {seed + i}"
 
 
-def collect(sources):
+def collect(sources: list[tuple[str, Iterator[Any]]]) -> list[tuple[rules.End, Outcome]]:
     """The outcomes of runs, by how they end: those with faults first, then those seen most often."""
-    outcomes = {}
+    outcomes: dict[Any, Any] = {}
     for name, runs in sources:
         for lines, command in runs:
             outcome = outcomes.setdefault(end_of(lines), Outcome(lines, command))
@@ -90,7 +99,7 @@ def collect(sources):
     return sorted(outcomes.items(), key=lambda item: (*item[0].order()[:3], -sum(item[1].counts.values())))
 
 
-def show(guest, ends, most, tell):
+def show(guest: model.Guest, ends: list[rules.End], most: int, tell: Callable[..., Any]) -> None:
     """Prints what is the same in all ends, and of each what isn't; `tell` says more of the end at a place."""
     tables = [dict(cells(guest, end)) for end in ends]
     differ = {name for name in tables[0] if len({table.get(name) for table in tables}) > 1}
@@ -107,9 +116,9 @@ def show(guest, ends, most, tell):
         print(f"\n{len(ends) - most} more outcomes; --most shows more")
 
 
-def show_same(values):
+def show_same(values: dict[str, str]) -> None:
     """One line for the values of each thread and each lock."""
-    lines = {}
+    lines: dict[Any, Any] = {}
     for name, value in values.items():
         owner, number, rest = name.split(" ", 2)
         lines.setdefault(f"{owner} {number}", []).append(f"{rest.split(' (')[0]} {value.split(' (')[0]}")
@@ -117,7 +126,7 @@ def show_same(values):
         print(f"  {name}: {', '.join(parts)}")
 
 
-def keep(folder, histories):
+def keep(folder: str, histories: Iterator[Any]) -> None:
     tool.make_folder(folder)
     for number, lines in enumerate(histories, 1):
         tool.write_file(os.path.join(folder, f"outcome-{number}.txt"), "\n".join(lines) + "\n")
@@ -125,18 +134,18 @@ def keep(folder, histories):
     tool.note("explore", f"the first history of each outcome is in {folder}")
 
 
-def history(guest, fuel, threads):
+def history(guest: model.Guest, fuel: int, threads: tuple[int, ...]) -> list[str]:
     """The report of a history in which these threads have the sections, each run by a worker of its
     thread's own as far as there are eight, and each section taken."""
     run = legal.Run(guest, min(8, len(guest.entries)), fuel, BATCH)
     lines = run.header_lines()
 
-    def step(number):
+    def step(number: int) -> report.Block:
         block = run.step(number, None, number % run.workers)
         lines.append(block.line(run.version))
         return block
 
-    def wants(number):
+    def wants(number: int) -> bool:
         return run.machine.next_lock(run.machine.threads[number]) is not None
 
     for number, thread in enumerate(run.machine.threads):
@@ -149,17 +158,17 @@ def history(guest, fuel, threads):
     return lines + list(run.ending_lines())
 
 
-def several(count, what):
+def several(count: int, what: str) -> str:
     return f"{count:,} {what}{'s' * (count != 1)}"
 
 
-def order(threads):
+def order(threads: tuple[int, ...]) -> str:
     """The threads of a way, in their order."""
     shown = " ".join(map(str, threads[:SHOWN]))
     return shown + (f" .. ({len(threads) - SHOWN} more)" if len(threads) > SHOWN else "")
 
 
-def seen_text(found):
+def seen_text(found: search.Search) -> str:
     """How much of a guest's interleavings was seen."""
     if found.whole:
         return several(found.states, "state")
@@ -167,13 +176,13 @@ def seen_text(found):
             f"{several(len(found.walks), 'walk')} to the end were made")
 
 
-def show_all(guest, found, asked):
+def show_all(guest: model.Guest, found: search.Search, asked: Namespace) -> None:
     """Prints the outcomes of a search."""
     ends = found.ends()
     outcomes = several(len(ends), "outcome")
     print(f"every interleaving: {outcomes}, {seen_text(found)}" if found.whole else f"{seen_text(found)}: {outcomes}")
 
-    def tell(place):
+    def tell(place: int) -> str:
         way = ends[place][1]()
         return f"{several(way.blocks, 'block')}, sections of threads {order(way.threads) or '-'}"
     show(guest, [end for end, _ in ends], asked.most, tell)
@@ -181,7 +190,7 @@ def show_all(guest, found, asked):
         keep(asked.keep, (history(guest, asked.fuel, way().threads) for _, way in ends[:asked.most]))
 
 
-def show_answer(guest, found, asked, rule, words):
+def show_answer(guest: model.Guest, found: search.Search, asked: Namespace, rule: str, words: str) -> bool | None:
     """Prints the answer to a rule, with a history where there is one. Answers whether there is: None
     where that is not known."""
     way = found.answer(rule)
@@ -196,7 +205,7 @@ def show_answer(guest, found, asked, rule, words):
     return None
 
 
-def search_all(guest, asked):
+def search_all(guest: model.Guest, asked: Namespace) -> None:
     """Searches every interleaving for what was asked."""
     questions = asked.reach + asked.never
     try:
@@ -217,7 +226,7 @@ def search_all(guest, asked):
         raise tool.Trouble(UNDECIDED, "not all interleavings were seen; --states allows more")
 
 
-def compare(guest, found, asked):
+def compare(guest: model.Guest, found: search.Search, asked: Namespace) -> None:
     """Makes runs too: where every interleaving was seen, each must come to an outcome that is there."""
     names, outcomes = sampled(guest, asked)
     print(f"\n{names}: {several(len(outcomes), 'outcome')} seen")
@@ -227,7 +236,7 @@ def compare(guest, found, asked):
             raise tool.Trouble(tool.WRONG, f"the search has not the outcome of {outcome.command}")
 
 
-def sampled(guest, asked):
+def sampled(guest: model.Guest, asked: Namespace) -> tuple[str, list[tuple[rules.End, Outcome]]]:
     """Looks at some runs: how many of whom, and their outcomes."""
     why = None if asked.model else program.missing()
     if why:
@@ -239,7 +248,7 @@ def sampled(guest, asked):
     return f"samples, {' and '.join(f'{runs} runs by the {name}' for name, _ in sources)}", collect(sources)
 
 
-def samples(guest, asked):
+def samples(guest: model.Guest, asked: Namespace) -> None:
     """Prints the outcomes of some runs."""
     names, outcomes = sampled(guest, asked)
     print(f"{names}: {several(len(outcomes), 'outcome')} seen; there may be others (--all looks at every interleaving)")
@@ -248,7 +257,7 @@ def samples(guest, asked):
         keep(asked.keep, (outcome.lines for _, outcome in outcomes))
 
 
-def parsed(words):
+def parsed(words: list[str]) -> tuple[Namespace, Any]:
     parser = tool.words("explore", __doc__, "guest")
     parser.add_argument("--all", action="store_true", help="every interleaving, and each outcome")
     parser.add_argument("--reach", metavar="RULE", action="append", default=[],
@@ -276,7 +285,7 @@ def parsed(words):
     return asked, searches
 
 
-def main(words):
+def main(words: list[str]) -> None:
     asked, searches = parsed(words)
     guest = guestfile.load(asked.guest).guest
     (search_all if searches else samples)(guest, asked)

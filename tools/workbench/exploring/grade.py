@@ -10,6 +10,8 @@ and docs/EXPLORE.md tells of rules. With --keep FOLDER a history is written of e
   not known     the search stopped before; --states allows it more
   no rule       the guest has not what the rule speaks of
 """
+from __future__ import annotations
+
 import csv
 import os
 import pathlib
@@ -18,11 +20,14 @@ import shutil
 import subprocess
 import sys
 import tempfile
-from typing import NamedTuple
+from typing import NamedTuple, TYPE_CHECKING
 
 from .. import limits, places, tool
 from ..guest import guestfile
 from . import rules
+
+if TYPE_CHECKING:
+    from argparse import Namespace
 
 ANSWERS = {("never", "in no interleaving"): "holds", ("never", "broken"): "broken",
            ("reach", "in no interleaving"): "never", ("reach", "reachable"): "reachable"}
@@ -34,7 +39,7 @@ class Rule(NamedTuple):
     kind: str
     text: str
 
-    def __str__(self):
+    def __str__(self) -> str:
         return f"{self.kind} {self.text}"
 
 
@@ -42,15 +47,15 @@ class Graded(NamedTuple):
     """A guest's name, what came of its file, an answer to each rule, and the histories by rule."""
     name: str
     file: str
-    answers: list
-    histories: dict
+    answers: list[str]
+    histories: dict[int, str]
 
     @property
-    def right(self):
+    def right(self) -> int:
         return sum(answer in RIGHT for answer in self.answers)
 
 
-def guests(folder):
+def guests(folder: pathlib.Path) -> list[pathlib.Path]:
     """The guests of a folder, by name."""
     try:
         found = sorted(path for path in folder.rglob("*") if path.suffix in (".elf", *SOURCES) and path.is_file())
@@ -60,7 +65,7 @@ def guests(folder):
             or not any(path.with_suffix(suffix) in found for suffix in SOURCES)]
 
 
-def built(path, folder, march):
+def built(path: pathlib.Path, folder: pathlib.Path, march: str) -> tuple[pathlib.Path | None, str | None]:
     """The file that a source is built as, or what the compiler says."""
     for part in (path, *path.parent.glob("*.h")):
         shutil.copy(part, folder)
@@ -71,7 +76,7 @@ def built(path, folder, march):
     return (folder / f"{path.stem}.elf", None) if done.returncode == 0 else (None, wrong)
 
 
-def answer(path, rule, asked):
+def answer(path: pathlib.Path, rule: Rule, asked: Namespace) -> tuple[str, str]:
     """The answer to a rule, and its history, where there is one."""
     done = subprocess.run([sys.executable, places.ROOT / "workbench.py", "explore", path, f"--{rule.kind}", rule.text, "--fuel", str(asked.fuel),
                            "--states", str(asked.states)], stdout=subprocess.PIPE, stderr=subprocess.PIPE, check=False)
@@ -86,14 +91,15 @@ def answer(path, rule, asked):
     raise tool.Trouble(done.returncode or tool.WRONG, f"{path}: " + done.stderr.decode().strip().partition(": ")[2])
 
 
-def graded(name, path, asked):
+def graded(name: str, path: pathlib.Path, asked: Namespace) -> Graded:
     with tempfile.TemporaryDirectory() as folder:
         file = path
         if path.suffix != ".elf":
-            file, wrong = built(path, pathlib.Path(folder), asked.march)
-            if file is None:
+            made, wrong = built(path, pathlib.Path(folder), asked.march)
+            if made is None:
                 tool.note("grade", f"{name} is not built: {wrong}")
                 return Graded(name, "not built", ["-"] * len(asked.rules), {})
+            file = made
         try:
             guestfile.check(guestfile.read(file))
         except guestfile.Refused as refused:
@@ -103,7 +109,7 @@ def graded(name, path, asked):
                   {number: history for number, (_, history) in enumerate(answers, 1) if history})
 
 
-def keep(folder, one):
+def keep(folder: str, one: Graded) -> None:
     """Writes a guest's histories."""
     tool.make_folder(folder)
     for number, history in one.histories.items():
@@ -111,7 +117,7 @@ def keep(folder, one):
         tool.write_file(os.path.join(folder, f"{name}-rule-{number}.txt"), history)
 
 
-def print_text(rules, results):
+def print_text(rules: list[Rule], results: list[Graded]) -> None:
     rows = [["guest", "file", *(f"rule {number}" for number in range(1, len(rules) + 1)), "right"]]
     rows += [[one.name, one.file, *one.answers, f"{one.right} of {len(rules)}"] for one in results]
     tool.print_columns(rows, str.ljust)
@@ -120,7 +126,7 @@ def print_text(rules, results):
         print(f"rule {number}: {rule}")
 
 
-def print_csv(rules, results):
+def print_csv(rules: list[Rule], results: list[Graded]) -> None:
     """A line for each guest and rule."""
     table = csv.writer(sys.stdout, lineterminator="\n")
     table.writerow(["guest", "file", "kind", "rule", "answer", "right"])
@@ -129,7 +135,7 @@ def print_csv(rules, results):
             table.writerow([one.name, one.file, *rule, said, int(said in RIGHT)])
 
 
-def asked_of(words):
+def asked_of(words: list[str]) -> Namespace:
     parser = tool.words("grade", __doc__)
     parser.add_argument("folder", metavar="FOLDER", help="of guests")
     for kind in ("never", "reach"):
@@ -152,7 +158,7 @@ def asked_of(words):
     return asked
 
 
-def main(words):
+def main(words: list[str]) -> None:
     asked = asked_of(words)
     folder = pathlib.Path(asked.folder)
     if not folder.is_dir():

@@ -6,7 +6,13 @@ calls for a division return by) to every place behind a call; where a return goe
 and nothing of this may be used. At other indirect jumps all registers count as read. x10 always does, since it
 is told of an ended thread, and it can end anywhere.
 """
+from __future__ import annotations
+
+from typing import TYPE_CHECKING
 from ..guest import rv32im
+
+if TYPE_CHECKING:
+    from ..guest import model
 
 ALL = 2**32 - 1
 X10 = 10
@@ -17,18 +23,23 @@ class Elsewhere(Exception):
     """A return goes to a place that is behind no call."""
 
 
-def is_return(what):
+def is_return(what: rv32im.Instruction) -> bool:
     return what.name == "jalr" and (what.to, what.value) == (0, 0) and what.a in LINKS
 
 
 class Live:
     """The registers that code can still read, by its addresses, as bits."""
 
-    def __init__(self, guest):
+    returns: set[int]
+    reads: dict[int, tuple[int, int]]
+    bits: dict[int, int]
+    before: dict[int, list[int]]
+
+    def __init__(self, guest: model.Guest) -> None:
         self.guest, self.returns, self.reads, self.bits = guest, set(), {}, {}
         self.before = {}  # by an address: from where code goes on there
         found = [entry for entry, _ in guest.entries]
-        returning = []
+        returning: list[int] = []
         while found:
             pc = found.pop()
             if pc not in self.reads:
@@ -38,7 +49,7 @@ class Live:
                 self.before.setdefault(place, []).append(pc)
         self.settle()
 
-    def look(self, pc, returning):
+    def look(self, pc: int, returning: list[int]) -> list[int]:
         """Notes what the instruction at an address reads and writes. Answers where code goes on."""
         word = self.guest.word(pc)
         what = None if word is None else rv32im.decode(word)
@@ -65,7 +76,7 @@ class Live:
             self.before.setdefault(place, []).append(pc)
         return after + behind
 
-    def settle(self):
+    def settle(self) -> None:
         """Hands what is read on to where code comes from, until nothing changes."""
         self.bits = {pc: read for pc, (read, _) in self.reads.items()}
         changed = list(self.bits)
@@ -78,10 +89,10 @@ class Live:
                     self.bits[place] = bits
                     changed.append(place)
 
-    def at(self, pc):
+    def at(self, pc: int) -> int:
         return self.bits.get(pc, ALL)
 
-    def expect(self, place):
+    def expect(self, place: int) -> None:
         """Elsewhere where a return can't be expected to go to a place with code."""
         if place not in self.returns and self.guest.word(place) is not None:
             raise Elsewhere

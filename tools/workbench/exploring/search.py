@@ -4,15 +4,20 @@ States are taken in the order of how many blocks lead to them, so a state is met
 way. With several processes each keeps the states that fall to it by a checksum, and all take the states
 with the same number of blocks at one time.
 """
+from __future__ import annotations
+
 import functools
 import multiprocessing
 import random
 import signal
 import zlib
 from array import array
-from typing import NamedTuple, Tuple
+from typing import Any, NamedTuple, TYPE_CHECKING, Tuple
 
 from . import live, rules, sections
+
+if TYPE_CHECKING:
+    from ..guest import model
 
 ROOT = 2**64 - 1  # whence the first state is
 ALONE = 20000  # so many states are searched by one process before others are started
@@ -40,28 +45,31 @@ class Walk(NamedTuple):
 class Share:
     """The part of the states that falls to one process."""
 
-    def __init__(self, guest, fuel, number, shares, asked, whole):
+    seen: set[Any]
+    waiting: dict[Any, Any]
+
+    def __init__(self, guest: model.Guest, fuel: int, number: int, shares: int, asked: list[str], whole: bool) -> None:
         self.sections = sections.Sections(guest, fuel, whole)
         self.number, self.shares = number, shares
         self.seen, self.whence, self.waiting = set(), array("Q"), {}  # waiting: blocks: state: whence
-        self.ends = []  # state, place in whence, blocks
+        self.ends: list[Any] = []  # state, place in whence, blocks
         self.asked = {text: rules.Rule(text, self.sections.threads, [
             len(lock.bytes) for lock in self.sections.machine.locks]) for text in asked}
 
-    def first(self):
+    def first(self) -> None:
         """Begins with the first state, where it falls to this share."""
         state, count = self.sections.first()
         if self.owner(state) == self.number:
             self.waiting[count] = {state: ROOT}
         self.sections.fresh.clear()  # all shares have these
 
-    def owner(self, state):
+    def owner(self, state: bytes) -> int:
         return zlib.crc32(state) % self.shares if self.shares > 1 else 0
 
-    def next_count(self):
+    def next_count(self) -> int | None:
         return min(self.waiting, default=None)
 
-    def take(self, parts, states):
+    def take(self, parts: Any, states: Any) -> None:
         """Takes what other shares found: parts, and states with their numbers of blocks and whence."""
         for name, content, rounds in parts:
             self.sections.keep(name, content)
@@ -76,9 +84,11 @@ class Share:
                 if state not in self.seen:
                     waiting.setdefault(state, one)
 
-    def level(self, count, most):
+    def level(self, count: int,
+              most: int) -> tuple[int, list[tuple[bytes, bytes, int | None]], list[list[Any]], dict[str, int]]:
         """Follows the states with so many blocks, at most so many of them. Answers how many, the new
         parts, the states for each share, and which rules hold of which end."""
+        found: list[Any]
         followed, found, answers, before = 0, [{} for _ in range(self.shares)], {}, len(self.ends)
         seen, waiting = self.seen, self.waiting.pop(count, {})
         found[self.number] = self.waiting
@@ -112,18 +122,18 @@ class Share:
         self.sections.fresh.clear()
         return followed, fresh, [packed(states) for states in found], answers
 
-    def whence_of(self, place):
+    def whence_of(self, place: int) -> int:
         return self.whence[place]
 
-    def end(self, number):
+    def end(self, number: int) -> tuple[rules.End, int, int]:
         """How it ends in the end with a number, its place and its number of blocks."""
         state, place, count = self.ends[number]
         return self.sections.end(state), place, count
 
-    def end_states(self):
+    def end_states(self) -> list[tuple[rules.End, int]]:
         return [(self.sections.end(state), number) for number, (state, _, _) in enumerate(self.ends)]
 
-    def progress(self):
+    def progress(self) -> tuple[int, set[tuple[int, ...]]]:
         """Of the states that wait: how many there are, and how far the threads are in them."""
         rounds, places, count = self.sections.rounds, set(), 0
         for states in self.waiting.values():
@@ -132,14 +142,14 @@ class Share:
                 places.add(tuple(rounds[name] for name in self.sections.names(state)[0]))
         return count, places
 
-    def walked(self, seed, many):
+    def walked(self, seed: int, many: int) -> list[Walk]:
         """Walks from states that wait."""
         chance = random.Random(seed)
         waiting = [(state, whence, blocks) for blocks, states in sorted(self.waiting.items())
                    for state, whence in states.items()]
         return [self.walk(chance, *chance.choice(waiting)) for _ in range(many if waiting else 0)]
 
-    def walk(self, chance, state, whence, blocks):
+    def walk(self, chance: random.Random, state: bytes, whence: int, blocks: int) -> Walk:
         rounds = [self.sections.rounds[name] for name in self.sections.names(state)[0]]
         weights, threads = [16 ** chance.uniform(-1, 1) for _ in rounds], []
         able = list(range(len(rounds)))
@@ -155,12 +165,12 @@ class Share:
         return Walk(whence, self.sections.end(state), tuple(threads), blocks, tuple(rounds))
 
 
-def packed(states):
+def packed(states: dict[Any, Any]) -> list[Any]:
     """States by their numbers of blocks, as bytes."""
     return [(count, b"".join(some), array("Q", some.values()).tobytes()) for count, some in states.items()]
 
 
-def serve(pipe, *words):
+def serve(pipe: Any, *words: Any) -> None:
     """A process with a share: answers the calls that come through a pipe."""
     signal.signal(signal.SIGINT, signal.SIG_IGN)  # the process that asks ends, and the pipe with it
     share = None
@@ -179,7 +189,7 @@ def serve(pipe, *words):
 class Shares:
     """The shares of a search: one in this process, or several in processes of their own."""
 
-    def __init__(self, guest, fuel, asked, shares, whole=False):
+    def __init__(self, guest: model.Guest, fuel: int, asked: list[str], shares: int, whole: bool = False) -> None:
         self.pipes, self.alone = [], None
         if shares == 1:
             self.alone = Share(guest, fuel, 0, 1, asked, whole)
@@ -191,7 +201,8 @@ class Shares:
             self.pipes.append(here)
         self.count = shares
 
-    def all(self, name, *given):
+    def all(self, name: str,
+            *given: Any) -> list[Any]:
         """What each share answers to a call; `given` has a list of words for each, or words for all."""
         words = given if given and isinstance(given[0], list) else [given] * self.count
         if self.alone:
@@ -200,14 +211,14 @@ class Shares:
             pipe.send((name, some))
         return [self.answer(pipe) for pipe in self.pipes]
 
-    def one(self, number, name, *given):
+    def one(self, number: int, name: str, *given: int) -> Any:
         if self.alone:
             return getattr(self.alone, name)(*given)
         self.pipes[number].send((name, given))
         return self.answer(self.pipes[number])
 
     @staticmethod
-    def answer(pipe):
+    def answer(pipe: Any) -> Any:
         try:
             answer = pipe.recv()
         except EOFError:
@@ -216,7 +227,7 @@ class Shares:
             raise answer
         return answer
 
-    def close(self):
+    def close(self) -> None:
         for pipe in self.pipes:
             pipe.close()
 
@@ -228,7 +239,10 @@ class Search:
     was, `walks` has some ways to the end, by chance, from where the search stopped.
     """
 
-    def __init__(self, guest, fuel, asked=(), most=10**6, processes=1, until_answered=False, walks=WALKS):
+    answers: dict[Any, Any]
+
+    def __init__(self, guest: model.Guest, fuel: int, asked: Any = (), most: int = 10**6,
+                 processes: int = 1, until_answered: bool = False, walks: int = WALKS) -> None:
         self.asked, self.until_answered, self.many = list(asked), until_answered, walks
         try:
             self.search(guest, fuel, most, processes, False)
@@ -236,21 +250,21 @@ class Search:
             self.shares.close()
             self.search(guest, fuel, most, processes, True)
 
-    def search(self, guest, fuel, most, processes, whole):
+    def search(self, guest: model.Guest, fuel: int, most: int, processes: int, whole: bool) -> None:
         """Searches in this process, and where that takes long in several."""
         self.shares = Shares(guest, fuel, self.asked, 1, whole)
-        self.rules = self.shares.alone.asked
+        self.rules = self.shares.alone.asked if self.shares.alone else {}
         self.run(min(most, ALONE) if processes > 1 else most)
         if not self.whole and not self.done() and self.states < most:
-            self.shares = None  # its memory goes before others have copies of it
+            del self.shares  # its memory goes before others have copies of it
             self.shares = Shares(guest, fuel, self.asked, processes, whole)
             self.run(most)
         self.walks = [] if self.whole or self.done() else self.walk()
 
-    def done(self):
+    def done(self) -> bool:
         return self.until_answered and len(self.answers) == len(self.asked)
 
-    def run(self, most):
+    def run(self, most: int) -> None:
         """Takes level after level, up to so many states."""
         self.states, self.answers = 0, {}
         self.shares.all("first")
@@ -261,7 +275,7 @@ class Search:
                 return
             self.level(min(counts), most - self.states)
 
-    def level(self, blocks, most):
+    def level(self, blocks: int, most: int) -> None:
         """Follows the states with so many blocks, and lets each share take what falls to it."""
         found = self.shares.all("level", blocks, -(-most // self.shares.count))
         numbers = range(self.shares.count)
@@ -274,19 +288,19 @@ class Search:
                 [part for other in numbers if other != number for part in found[other][1]],
                 [some for other in numbers for some in found[other][2][number]]] for number in numbers])
 
-    def walk(self):
+    def walk(self) -> list[Walk]:
         many = -(-self.many // self.shares.count)
         words = [[seed, many] for seed in range(self.shares.count)]
         return [walk for walks in self.shares.all("walked", *words) for walk in walks]
 
-    def answer(self, text):
+    def answer(self, text: str) -> Way | None:
         """A way to an end of which a rule holds, a shortest one where the search found it; or None."""
         if text in self.answers:
             return self.way(*self.answers[text])
         holds = self.rules[text].holds
         return next((self.behind(walk) for walk in self.walks if holds(walk.end)), None)
 
-    def ends(self):
+    def ends(self) -> list[tuple[rules.End, Any]]:
         """Every end that was found, in order, and what answers a way to it."""
         ends = {}
         for share, some in enumerate(self.shares.all("end_states")):
@@ -296,14 +310,14 @@ class Search:
             ends.setdefault(walk.end, functools.partial(self.behind, walk))
         return sorted(ends.items(), key=lambda item: item[0].order())
 
-    def way(self, share, number):
+    def way(self, share: int, number: int) -> Way:
         end, place, blocks = self.shares.one(share, "end", number)
         return Way(end, self.trace(self.shares.one(share, "whence_of", place)), blocks)
 
-    def behind(self, walk):
+    def behind(self, walk: Walk) -> Way:
         return Way(walk.end, self.trace(walk.whence) + walk.threads, walk.blocks)
 
-    def trace(self, whence):
+    def trace(self, whence: int) -> tuple[int, ...]:
         """The threads that have the sections up to a state, from whence it was found."""
         threads = []
         while whence != ROOT:
@@ -313,10 +327,11 @@ class Search:
             whence = self.shares.one(share, "whence_of", place)
         return tuple(reversed(threads))
 
-    def left(self):
+    def left(self) -> int:
         """An estimate of how many states were not seen. A thread that has k sections to its end can be at
         k + 1 places, and as many states are taken to be at each choice of places as there are on average
         among those where the search stopped."""
+        places: set[Any]
         waiting, places = 0, set()
         for count, some in self.shares.all("progress"):
             waiting, places = waiting + count, places | some

@@ -1,14 +1,20 @@
 """A guest's instructions, decoded once: functions of the registers and of the running thread that
 answer the next program counter, or raise Fault and change nothing.
 
-They do what model.py does, only faster; guests/tests compares the two block by block.
+They do what model.py does, only faster; tools/tests compares the two block by block.
 """
+from __future__ import annotations
+
+from typing import TYPE_CHECKING, Callable, List, Union
+
 from ..guest import model, rv32im
 from ..guest.model import Fault
 from . import live
 
+if TYPE_CHECKING:
+    from . import blocks
+
 MASK = 0xFFFFFFFF
-CALL = object()  # in the place of the step of an ECALL
 
 
 class Sum:
@@ -17,44 +23,55 @@ class Sum:
 
     __slots__ = ("lock", "word", "found", "added")
 
-    def __init__(self, lock, word, found, added):
+    def __init__(self, lock: blocks.Held, word: int, found: int, added: int) -> None:
         self.lock, self.word, self.found, self.added = lock, word, found, added
 
-    def plus(self, number):
+    def plus(self, number: int) -> Sum:
         return Sum(self.lock, self.word, self.found, self.added + number & MASK)
 
-    def look(self):
+    def look(self) -> int:
         """The number itself: what comes of the section depends on the word from here on."""
         self.lock.read[self.word] = None
         return self.value()
 
-    def value(self):
+    def value(self) -> int:
         return self.found + self.added & MASK
 
 
-def number(x, register):
+Registers = List[Union[int, Sum]]
+Step = Callable[[Registers, "blocks.Running"], int]
+Operation = Callable[[int, int], int]
+
+
+def number(x: Registers, register: int) -> int:
     """A register as a number."""
     value = x[register]
-    if value.__class__ is not int:
+    if isinstance(value, Sum):
         value = x[register] = value.look()
     return value
+
+
+def CALL(x: Registers, run: blocks.Running) -> int:
+    """Stands in the place of the step of an ECALL, and is never called."""
+    raise NotImplementedError
 
 
 class Code:
     """The steps of a guest's instructions by their addresses. With a Live, a return must go where that
     one takes for granted that it goes."""
 
-    def __init__(self, guest, known=None):
-        self.guest, self.known, self.steps = guest, known, {}
+    def __init__(self, guest: model.Guest, known: live.Live | None = None) -> None:
+        self.guest, self.known = guest, known
+        self.steps: dict[int, Step] = {}
 
-    def at(self, pc):
+    def at(self, pc: int) -> Step:
         step = self.steps.get(pc)
         if step is None:
             word = self.guest.word(pc)
             step = self.steps[pc] = raising(2) if word is None else self.decoded(rv32im.decode(word), pc)
         return step
 
-    def decoded(self, what, pc):
+    def decoded(self, what: rv32im.Instruction | None, pc: int) -> Step:
         """The step of an instruction at an address."""
         if what is None:
             return raising(1)
@@ -66,7 +83,7 @@ class Code:
             return raising(3) if value % 4 else constant(to, after, pc + value & MASK)
         if name == "jalr":
             jump = indirect(to, a, value, after)
-            return self.returning(jump) if self.known and live.is_return(what) else jump
+            return self.returning(self.known, jump) if self.known and live.is_return(what) else jump
         if name in model.COMPARISONS:
             return branch(model.COMPARISONS[name], a, b, pc + value & MASK, after)
         if name in rv32im.WIDTHS:
@@ -85,30 +102,31 @@ class Code:
             return with_registers(to, a, b, model.OPERATIONS[name], after)
         return {"ecall": CALL, "ebreak": raising(8), "fence": constant(0, 0, after)}[name]
 
-    def returning(self, jump):
-        def step(x, run):
+    @staticmethod
+    def returning(known: live.Live, jump: Step) -> Step:
+        def step(x: Registers, run: blocks.Running) -> int:
             to = jump(x, run)
-            self.known.expect(to)
+            known.expect(to)
             return to
         return step
 
 
-def raising(number):
-    def step(x, run):
+def raising(number: int) -> Step:
+    def step(x: Registers, run: blocks.Running) -> int:
         raise Fault(number)
     return step
 
 
-def constant(to, value, after):
-    def step(x, run):
+def constant(to: int, value: int, after: int) -> Step:
+    def step(x: Registers, run: blocks.Running) -> int:
         if to:
             x[to] = value
         return after
     return step
 
 
-def indirect(to, a, value, after):
-    def step(x, run):
+def indirect(to: int, a: int, value: int, after: int) -> Step:
+    def step(x: Registers, run: blocks.Running) -> int:
         target = number(x, a) + value & MASK - 1
         if target & 2:
             raise Fault(3)
@@ -118,8 +136,8 @@ def indirect(to, a, value, after):
     return step
 
 
-def branch(compared, a, b, target, after):
-    def step(x, run):
+def branch(compared: Callable[[int, int], bool], a: int, b: int, target: int, after: int) -> Step:
+    def step(x: Registers, run: blocks.Running) -> int:
         if compared(number(x, a), number(x, b)):
             if target % 4:
                 raise Fault(3)
@@ -128,8 +146,8 @@ def branch(compared, a, b, target, after):
     return step
 
 
-def load(to, a, offset, width, extend, after):
-    def step(x, run):
+def load(to: int, a: int, offset: int, width: int, extend: bool, after: int) -> Step:
+    def step(x: Registers, run: blocks.Running) -> int:
         value = run.load(number(x, a) + offset & MASK, width, extend)
         if to:
             x[to] = value
@@ -137,48 +155,49 @@ def load(to, a, offset, width, extend, after):
     return step
 
 
-def store(a, b, offset, width, after):
-    def step(x, run):
+def store(a: int, b: int, offset: int, width: int, after: int) -> Step:
+    def step(x: Registers, run: blocks.Running) -> int:
         run.store(number(x, a) + offset & MASK, width, x[b])
         return after
     return step
 
 
-def added(to, a, value, after):
-    def step(x, run):
+def added(to: int, a: int, value: int, after: int) -> Step:
+    def step(x: Registers, run: blocks.Running) -> int:
         if to:
             before = x[a]
-            x[to] = before + value & MASK if before.__class__ is int else before.plus(value)
+            x[to] = before.plus(value) if isinstance(before, Sum) else before + value & MASK
         return after
     return step
 
 
-def sum_of(to, a, b, sign, after):
+def sum_of(to: int, a: int, b: int, sign: int, after: int) -> Step:
     """x[to] = x[a] + sign * x[b]. Of two Sums the second is looked at."""
-    def step(x, run):
+    def step(x: Registers, run: blocks.Running) -> int:
         first, second = x[a], x[b]
-        if second.__class__ is not int:
-            if first.__class__ is int and sign == 1:
+        if isinstance(second, Sum):
+            if not isinstance(first, Sum) and sign == 1:
                 first, second = second, first
             else:
                 second = number(x, b)
                 first = x[a]  # which may be the same register
         if to:
-            x[to] = first + sign * second & MASK if first.__class__ is int else first.plus(sign * second)
+            assert not isinstance(second, Sum)
+            x[to] = first.plus(sign * second) if isinstance(first, Sum) else first + sign * second & MASK
         return after
     return step
 
 
-def with_immediate(to, a, value, operation, after):
-    def step(x, run):
+def with_immediate(to: int, a: int, value: int, operation: Operation, after: int) -> Step:
+    def step(x: Registers, run: blocks.Running) -> int:
         if to:
             x[to] = operation(number(x, a), value) & MASK
         return after
     return step
 
 
-def with_registers(to, a, b, operation, after):
-    def step(x, run):
+def with_registers(to: int, a: int, b: int, operation: Operation, after: int) -> Step:
+    def step(x: Registers, run: blocks.Running) -> int:
         if to:
             x[to] = operation(number(x, a), number(x, b)) & MASK
         return after

@@ -4,29 +4,35 @@ numbers whose sums are past 2^32.
 Each function takes a random.Random and a file of made.elf, and gives a file, which need not be one
 that is refused.
 """
-import struct
+from __future__ import annotations
 
-from . import made
+import struct
+from typing import TYPE_CHECKING
+
+from . import elf32, made
 from .elf32 import word
+
+if TYPE_CHECKING:
+    from ..checking import fuzz
 
 ODD = (0, 1, 3, 5, 7, 17, 65540, 0x100002, 0x7FFFC000, 0xFFFFFFFF)
 OFFSET, ADDRESS, FILE_SIZE, MEMORY = 1, 2, 4, 5  # words of a program header
 
 
-def with_word(file, at, value):
+def with_word(file: bytes, at: int, value: int) -> bytes:
     return file[:at] + struct.pack("<I", value % 2**32) + file[at + 4:]
 
 
-def place(header, number):
+def place(header: int, number: int) -> int:
     """Where a word of a program header stands."""
-    return made.HEADER + made.PROGRAM_HEADER * header + 4 * number
+    return elf32.HEADER + elf32.PROGRAM_HEADER * header + 4 * number
 
 
-def cut(draw, file):
+def cut(draw: fuzz.Draw, file: bytes) -> bytes:
     return file[:draw.randrange(len(file))]
 
 
-def changed(draw, file):
+def changed(draw: fuzz.Draw, file: bytes) -> bytes:
     """With another word or two, or bit, mostly in the headers."""
     for _ in range(draw.choice((1, 1, 2))):
         at = 4 * draw.randrange(min(draw.choice((13, 37, 60)), len(file) // 4))
@@ -35,20 +41,20 @@ def changed(draw, file):
     return file
 
 
-def headers(file):
+def headers(file: bytes) -> list[bytes]:
     """The program headers one by one."""
     return [file[place(number, 0):place(number + 1, 0)] for number in range(made.PROGRAM_HEADERS)]
 
 
-def with_headers(file, table):
+def with_headers(file: bytes, table: list[bytes]) -> bytes:
     """With this table of program headers, behind all else where it is longer than the old one."""
     if len(table) == made.PROGRAM_HEADERS:
-        return file[:made.HEADER] + b"".join(table) + file[made.NOTE:]
+        return file[:elf32.HEADER] + b"".join(table) + file[made.NOTE:]
     file = with_word(file, 28, len(file))
     return file[:44] + struct.pack("<H", len(table)) + file[46:] + b"".join(table)
 
 
-def swapped(draw, file):
+def swapped(draw: fuzz.Draw, file: bytes) -> bytes:
     """With two program headers in each other's place, or two words of them or of the note."""
     if draw.random() < 0.3:
         return with_headers(file, draw.sample(headers(file), made.PROGRAM_HEADERS))
@@ -57,13 +63,13 @@ def swapped(draw, file):
     return with_word(with_word(file, one, word(file, other)), other, word(file, one))
 
 
-def with_notes(draw, file, notes):
+def with_notes(draw: fuzz.Draw, file: bytes, notes: bytes) -> bytes:
     """With other notes, behind all else."""
     file = with_word(file, place(0, OFFSET), len(file)) + notes
     return with_word(file, place(0, FILE_SIZE), len(notes) - draw.choice((0, 0, 0, 1, 3, 4)))
 
 
-def other_notes(draw):
+def other_notes(draw: fuzz.Draw) -> bytes:
     """A note that is none on threads, or is by a little."""
     size = draw.randrange(9)
     name = draw.choice((b"GNU\0", b"TCLOCKS", b"TCLOCKS\0", b"TCLOCKS\0\0", b"tclocks\0", b""))
@@ -72,7 +78,7 @@ def other_notes(draw):
     return struct.pack("<3I", len(name), size, draw.choice((0, 1, 1, 2, 3))) + padded + content
 
 
-def repeated(draw, file):
+def repeated(draw: fuzz.Draw, file: bytes) -> bytes:
     """With more program headers, some of them twice, or with more notes."""
     if draw.random() < 0.5:
         table = headers(file)
@@ -87,7 +93,7 @@ def repeated(draw, file):
     return with_notes(draw, file, b"".join(draw.sample(parts, len(parts))))
 
 
-def wrapped(draw, file):
+def wrapped(draw: fuzz.Draw, file: bytes) -> bytes:
     """With a number whose sum with others is 2^32, or a little less or more."""
     off = draw.choice((-8, -4, -1, 0, 0, 1, 4, 8))
     header = draw.randrange(made.PROGRAM_HEADERS)

@@ -1,7 +1,9 @@
 """Guest files as bytes: the one reader and the one writer of ELF32. docs/GUEST.md has the form; what is
 refused is told by guestfile.py."""
+from __future__ import annotations
+
 import struct
-from typing import NamedTuple
+from typing import Iterator, NamedTuple
 
 from .. import limits
 
@@ -20,31 +22,32 @@ class Header(NamedTuple):
     memory: int
     flags: int
 
-    def __str__(self):
+    def __str__(self) -> str:
         return f"program header {self.place} ({TYPES.get(self.type, hex(self.type))})"
 
     @property
-    def range(self):
+    def range(self) -> range:
         return range(self.address, self.address + self.memory)
 
-    def content(self, file):
+    def content(self, file: bytes) -> bytes:
         return file[self.offset:self.offset + self.file_size]
 
 
-def word(file, at):
-    return struct.unpack_from("<I", file, at)[0]
+def word(file: bytes, at: int) -> int:
+    return int.from_bytes(file[at:at + 4], "little")
 
 
-def entry(file):
+def entry(file: bytes) -> int:
     return word(file, 24)
 
 
-def headers_place(file):
+def headers_place(file: bytes) -> tuple[int, int, int]:
     """Where the program headers stand, the size of each, and how many there are."""
-    return word(file, 28), *struct.unpack_from("<2H", file, 42)
+    size, count = struct.unpack_from("<2H", file, 42)
+    return word(file, 28), size, count
 
 
-def headers(file):
+def headers(file: bytes) -> Iterator[Header]:
     """The program headers."""
     at, size, count = headers_place(file)
     for place in range(count):
@@ -62,7 +65,7 @@ class Note(NamedTuple):
     descriptor: bytes
 
 
-def notes(content):
+def notes(content: bytes) -> Iterator[Note]:
     """The notes of a segment; one that ends behind it is the last."""
     at = 0
     while at + 12 <= len(content):
@@ -73,10 +76,11 @@ def notes(content):
         at = start + (size + 3) // 4 * 4
 
 
-def described(descriptor):
+def described(descriptor: bytes) -> tuple[int, int, int, list[tuple[int, int]]]:
     """The version and the numbers of threads and of guards of a descriptor, and its pairs."""
     pairs = descriptor[12:len(descriptor) - (len(descriptor) - 12) % 8]
-    return (*struct.unpack_from("<3I", descriptor), list(struct.iter_unpack("<2I", pairs)))
+    version, threads, guards = struct.unpack_from("<3I", descriptor)
+    return version, threads, guards, [(first, second) for first, second in struct.iter_unpack("<2I", pairs)]
 
 
 class Section(NamedTuple):
@@ -89,16 +93,16 @@ class Section(NamedTuple):
     link: int
     each: int
 
-    def content(self, file):
+    def content(self, file: bytes) -> bytes:
         return b"" if self.kind in (0, 8) else file[self.offset:self.offset + self.size]
 
 
-def text_at(content, place):
+def text_at(content: bytes, place: int) -> str:
     """The text at a place of a table of texts."""
     return content[place:].split(b"\0", 1)[0].decode("ascii", "replace") if place < len(content) else ""
 
 
-def sections(file):
+def sections(file: bytes) -> list[Section]:
     """The sections, where the section headers are those of a file of 32 bits; none of them need be right, for
     the program reads none."""
     at, size, count, names = word(file, 32), *struct.unpack_from("<3H", file, 46)
@@ -110,7 +114,7 @@ def sections(file):
             for name, kind, flags, _, offset, length, link, _, _, each in headers]
 
 
-def symbols(file):
+def symbols(file: bytes) -> Iterator[tuple[int, str, int]]:
     """Address, name and st_info of each symbol that the section headers lead to."""
     found = sections(file)
     for section in found:
@@ -123,7 +127,7 @@ def symbols(file):
                 yield value, text_at(names, name), info
 
 
-def note(entries, guards, version=None):
+def note(entries: list[tuple[int, int]], guards: list[tuple[int, int]], version: int | None = None) -> bytes:
     """The note on threads: pairs of entry and argument, and of start and length."""
     version = version or (1 if len(entries) <= limits.THREADS[1] and len(guards) <= limits.GUARDS[1] else 2)
     content = struct.pack("<3I", version, len(entries), len(guards)) + b"".join(
@@ -131,7 +135,7 @@ def note(entries, guards, version=None):
     return struct.pack("<3I8s", 8, len(content), 1, b"TCLOCKS") + content
 
 
-def written(start, segments):
+def written(start: int, segments: list[tuple[int, int, bytes, int, int]]) -> bytes:
     """A file with this e_entry and these segments: type, address, bytes, memory and flags of each."""
     at, headers_, body = HEADER + PROGRAM_HEADER * len(segments), b"", b""
     for kind, address, content, memory, flags in segments:

@@ -3,11 +3,17 @@
 The refusals are those of docs/REPORT.md, in their order; each is told with the numbers that
 disagree. What an accepted file means is model.Guest.
 """
+from __future__ import annotations
+
 import bisect
 import struct
+from typing import TYPE_CHECKING
 
 from .. import limits, tool
 from . import elf32, model
+
+if TYPE_CHECKING:
+    from pathlib import Path
 
 STACK = limits.STACK
 
@@ -15,12 +21,12 @@ STACK = limits.STACK
 class Refused(Exception):
     """A refusal: its number, its name, and the numbers that disagree; `line` is what the program prints of it."""
 
-    def __init__(self, number, name, why):
+    def __init__(self, number: int, name: str, why: str) -> None:
         self.number, self.line = number, f"refused {number} {name}"
         super().__init__(f"{self.line}: {why}")
 
 
-def check(file):
+def check(file: bytes) -> None:
     """Refused where the program refuses the file."""
     check_identity(file)
     headers = read_headers(file)
@@ -36,7 +42,7 @@ def check(file):
     check_guards(guards, ranges)
 
 
-def check_identity(file):
+def check_identity(file: bytes) -> None:
     if len(file) > limits.FILE_BYTES:
         raise Refused(0, "TooLarge", f"the file has more than {limits.FILE_BYTES} bytes")
     if len(file) < elf32.HEADER:
@@ -61,7 +67,7 @@ def check_identity(file):
         raise Refused(6, "BadFlags", f"e_flags is {flags:#x}: {', '.join(said)}")
 
 
-def read_headers(file):
+def read_headers(file: bytes) -> list[elf32.Header]:
     version, (at, size, count) = elf32.word(file, 20), elf32.headers_place(file)
     if version != 1:
         raise Refused(7, "BadHeader", f"e_version is {version}, not 1")
@@ -75,11 +81,11 @@ def read_headers(file):
     return list(elf32.headers(file))
 
 
-def past_end(end, file):
+def past_end(end: int, file: bytes) -> str:
     return (f"and the file has {len(file)} bytes: {end - len(file)} are missing, so it may be cut short")
 
 
-def check_loads(file, loads):
+def check_loads(file: bytes, loads: list[elf32.Header]) -> None:
     for load in loads:
         end = load.offset + load.file_size
         if load.file_size > load.memory:
@@ -96,7 +102,7 @@ def check_loads(file, loads):
                       f"{limits.FILE_BYTES}")
 
 
-def check_overlaps(ranges):
+def check_overlaps(ranges: list[elf32.Header]) -> None:
     for i, one in enumerate(ranges):
         for other in ranges[i + 1:]:
             if meet(one.range, other.range):
@@ -109,15 +115,15 @@ def check_overlaps(ranges):
                           "writable (2) and executable (1)")
 
 
-def meet(one, other):
+def meet(one: range, other: range) -> bool:
     return max(one.start, other.start) < min(one.stop, other.stop)
 
 
-def span(addresses):
+def span(addresses: range) -> str:
     return f"{addresses.start:08x} to {addresses.stop - 1:08x}"
 
 
-def check_notes(file, headers):
+def check_notes(file: bytes, headers: list[elf32.Header]) -> tuple[list[tuple[int, int]], list[tuple[int, int]]]:
     """The entries and guards of the notes."""
     found = None
     for header in headers:
@@ -137,7 +143,7 @@ def check_notes(file, headers):
     return found or ([(elf32.entry(file), 0)], [])
 
 
-def descriptor(content, header):
+def descriptor(content: bytes, header: elf32.Header) -> tuple[list[tuple[int, int]], list[tuple[int, int]]]:
     if len(content) < 12:
         raise Refused(12, "BadNote", f"{header}: the descriptor has {len(content)} bytes, fewer than 12")
     version, threads, guards, pairs = elf32.described(content)
@@ -154,7 +160,7 @@ def descriptor(content, header):
     return pairs[:threads], pairs[threads:]
 
 
-def check_entries(entries, ranges):
+def check_entries(entries: list[tuple[int, int]], ranges: list[elf32.Header]) -> None:
     for number, (entry, _) in enumerate(entries):
         if entry % 4:
             raise Refused(13, "BadEntry", f"thread {number}: its entry {entry:08x} is no multiple of 4")
@@ -163,7 +169,7 @@ def check_entries(entries, ranges):
                           f"one executable range ({ranges_text(ranges, 1)})")
 
 
-def check_guards(guards, ranges):
+def check_guards(guards: list[tuple[int, int]], ranges: list[elf32.Header]) -> None:
     least, most = limits.GUARD_BYTES
     for number, (start, length) in enumerate(guards):
         place = range(start, start + length)
@@ -184,22 +190,22 @@ def check_guards(guards, ranges):
                               f"{span(range(start, start + length))}")
 
 
-def ranges_text(ranges, flag):
+def ranges_text(ranges: list[elf32.Header], flag: int) -> str:
     return ", ".join(span(one.range) for one in ranges if one.flags & flag) or "there is none"
 
 
 class Symbols:
     """Names of addresses, from the symbol table, where the file has one."""
 
-    def __init__(self, file):
-        names = {}
+    def __init__(self, file: bytes) -> None:
+        names: dict[int, str] = {}
         for address, name, info in sorted(elf32.symbols(file), key=lambda symbol: symbol[2] < 16):
             if info & 15 in (0, 1, 2) and name and not name.startswith((".", "$")):
                 names.setdefault(address, name)  # a global one where there are several
         self.addresses = sorted(names)
         self.names = names
 
-    def at(self, address, inside):
+    def at(self, address: int, inside: range) -> str:
         """The name of the nearest symbol at or below an address in some addresses, or ''."""
         place = bisect.bisect_right(self.addresses, address) - 1
         if place < 0 or self.addresses[place] not in inside:
@@ -211,28 +217,28 @@ class Symbols:
 class GuestFile:
     """An accepted file: what it means, its bytes and its symbols."""
 
-    def __init__(self, file):
+    def __init__(self, file: bytes) -> None:
         check(file)
         self.guest, self.symbols = model.Guest(file), Symbols(file)
 
-    def name(self, address):
+    def name(self, address: int) -> str:
         """The symbol of an address in a range, or ''."""
         for addresses, _, _ in self.guest.ranges:
             if address in addresses:
                 return self.symbols.at(address, addresses)
         return ""
 
-    def guard_at(self, address):
+    def guard_at(self, address: int) -> int | None:
         """The number of the guard that has an address, or None."""
         return next((number for number, span in enumerate(self.guest.spans) if address in span), None)
 
 
-def read(path):
+def read(path: Path | str) -> bytes:
     """A file's bytes, as far as the program reads them."""
     return tool.read_bytes(path, limits.FILE_BYTES + 1)
 
 
-def accepted(file, path):
+def accepted(file: bytes, path: str | None) -> GuestFile:
     """The guest of a file's bytes; Trouble where they are refused."""
     try:
         return GuestFile(file)
@@ -240,6 +246,6 @@ def accepted(file, path):
         raise tool.Trouble(tool.WRONG, f"{path}: {refused}") from None
 
 
-def load(path):
+def load(path: str) -> GuestFile:
     """The guest of a file; Trouble where it can't be read or is refused."""
     return accepted(read(path), path)

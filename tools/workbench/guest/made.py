@@ -1,9 +1,13 @@
 """Guest files made of words of code, without a compiler."""
+from __future__ import annotations
+
+from typing import Any
 import struct
 
 from .. import limits
 from . import elf32
-from .elf32 import HEADER, PROGRAM_HEADER, note
+from .elf32 import HEADER, PROGRAM_HEADER
+from .elf32 import note as note
 from .rv32im import encode
 
 CODE, DATA = 0x00100000, 0x00020000
@@ -12,12 +16,12 @@ NOTE = HEADER + PROGRAM_HEADERS * PROGRAM_HEADER  # where the note begins
 ECALL = encode("ecall")
 
 
-def call(number, value):
+def call(number: int, value: int) -> list[int]:
     """A guest call."""
     return [encode("addi", 10, 0, value), encode("addi", 17, 0, number), ECALL]
 
 
-def elf(notes, words, data, memory):
+def elf(notes: bytes, words: Any, data: bytes, memory: int) -> bytes:
     """A file of notes, of code at CODE and of data at DATA, which zeros follow up to so many bytes of
     memory."""
     code = struct.pack(f"<{len(words)}I", *words)
@@ -25,7 +29,7 @@ def elf(notes, words, data, memory):
                                 (elf32.LOAD, DATA, data, memory, 6)])
 
 
-def counting(threads):
+def counting(threads: int) -> bytes:
     """The file of threads that each add 1 to a word under lock 0, a hundred times."""
     words = [encode("lui", 5, DATA), encode("addi", 6, 0, 100), *call(limits.LOCK, 0),
              encode("lw", 7, 5, 0), encode("addi", 7, 7, 1), encode("sw", 7, 5, 0), *call(limits.UNLOCK, 0),

@@ -4,6 +4,9 @@
 counts turns by it. It shares no code with the program. It takes files that the program
 accepts; it refuses none itself.
 """
+from __future__ import annotations
+
+from typing import Any, Callable, Iterator
 from .. import limits
 from . import elf32, rv32im
 from .rv32im import signed
@@ -11,7 +14,7 @@ from .rv32im import signed
 STACK = limits.STACK
 ECALL = rv32im.WHOLE["ecall"]
 SIGNED = ("lb", "lh", "lw")  # loads that extend the sign
-COMPARISONS = {
+COMPARISONS: dict[str, Callable[[int, int], bool]] = {
     "beq": lambda a, b: a == b,
     "bne": lambda a, b: a != b,
     "blt": lambda a, b: signed(a) < signed(b),
@@ -19,7 +22,7 @@ COMPARISONS = {
     "bltu": lambda a, b: a < b,
     "bgeu": lambda a, b: a >= b,
 }
-OPERATIONS = {
+OPERATIONS: dict[str, Callable[[int, int], int]] = {
     "add": lambda a, b: a + b,
     "sub": lambda a, b: a - b,
     "sll": lambda a, b: a << (b & 31),
@@ -53,7 +56,7 @@ class Illegal(Exception):
 class Guest:
     """What a file says: ranges (addresses, flags, bytes), entries and guards, and the guards' addresses."""
 
-    def __init__(self, file):
+    def __init__(self, file: bytes) -> None:
         self.entries, self.guards = [(elf32.entry(file), 0)], []
         self.ranges = []
         for header in elf32.headers(file):
@@ -67,7 +70,7 @@ class Guest:
                         self.entries, self.guards = pairs[:threads], pairs[threads:]
         self.spans = [range(start, start + length) for start, length in self.guards]
 
-    def word(self, pc):
+    def word(self, pc: int) -> int | None:
         """The word at an address that code may be fetched from, or None."""
         for where, flags, content in self.ranges:
             if flags & 1 and pc in where and pc + 3 in where:
@@ -79,11 +82,13 @@ class Thread:
     """Registers, memory of its own, fuel, held locks, how many blocks it ran, for how many
     blocks it sleeps, how it ended."""
 
-    def __init__(self, guest, number, fuel):
+    def __init__(self, guest: Guest, number: int, fuel: int) -> None:
         self.pc, argument = guest.entries[number]
         self.x = [0] * 32
         self.x[2], self.x[10], self.x[11] = STACK.stop, argument, number
-        self.fuel, self.held, self.blocks, self.end = fuel, set(), 0, None
+        self.fuel, self.blocks = fuel, 0
+        self.held: set[int] = set()
+        self.end: str | None = None
         self.slept = 0
         self.own = {i: bytearray(content) for i, (_, flags, content) in enumerate(guest.ranges)
                     if flags & 2}
@@ -93,23 +98,24 @@ class Thread:
 class Lock:
     """The guarded bytes, who has the lock, whether it is broken, how often it was taken."""
 
-    def __init__(self, guest, number):
+    def __init__(self, guest: Guest, number: int) -> None:
         self.addresses = span = guest.spans[number]
         self.bytes = bytearray(next(content[span.start - where.start:span.stop - where.start]
                                     for where, flags, content in guest.ranges
                                     if flags & 2 and span.start in where))
-        self.owner, self.broken, self.sections = None, 0, 0
+        self.owner: int | None = None
+        self.broken = self.sections = 0
 
 
 class Machine:
     """Threads that take turns, and locks with one owner each."""
 
-    def __init__(self, guest, fuel):
+    def __init__(self, guest: Guest, fuel: int) -> None:
         self.guest = guest
         self.threads = [Thread(guest, t, fuel) for t in range(len(guest.entries))]
         self.locks = [Lock(guest, l) for l in range(len(guest.guards))]
 
-    def next_lock(self, thread):
+    def next_lock(self, thread: Thread) -> int | None:
         """The lock that the next instruction lawfully takes, or None."""
         wanted = thread.x[10]
         if (thread.fuel > 0 and self.guest.word(thread.pc) == ECALL and thread.x[17] == limits.LOCK
@@ -118,14 +124,14 @@ class Machine:
             return wanted
         return None
 
-    def able(self):
+    def able(self) -> Iterator[int]:
         """The threads that can run a block."""
         for number, thread in enumerate(self.threads):
             lock = self.next_lock(thread)
             if thread.end is None and (lock is None or self.locks[lock].owner is None):
                 yield number
 
-    def place(self, thread, address, width, fault):
+    def place(self, thread: Thread, address: int, width: int, fault: int) -> tuple[bytes, int, bool]:
         """The bytes at an address, where they begin there, and whether they may be stored to."""
         if address % width:
             raise Fault(6)
@@ -142,17 +148,17 @@ class Machine:
                 return thread.own.get(i, content), address - where.start, bool(flags & 2)
         raise Fault(fault)
 
-    def load(self, thread, address, width, extend):
+    def load(self, thread: Thread, address: int, width: int, extend: bool) -> int:
         content, at, _ = self.place(thread, address, width, 4)
         return int.from_bytes(content[at:at + width], "little", signed=extend)
 
-    def store(self, thread, address, width, value):
+    def store(self, thread: Thread, address: int, width: int, value: int) -> None:
         content, at, writable = self.place(thread, address, width, 5)
-        if not writable:
+        if not writable or not isinstance(content, bytearray):
             raise Fault(5)
         content[at:at + width] = (value & ((1 << 8 * width) - 1)).to_bytes(width, "little")
 
-    def turn(self, number):
+    def turn(self, number: int) -> str | None:
         """One turn. Answers what ends the block, or None."""
         thread = self.threads[number]
         if thread.end:
@@ -171,31 +177,32 @@ class Machine:
             return self.finish(thread, f"fault {fault}")
         return None
 
-    def finish(self, thread, end):
+    def finish(self, thread: Thread, end: str) -> str:
         for lock in thread.held:
             self.locks[lock].owner, self.locks[lock].broken = None, 1
         thread.held, thread.end = set(), end
         return end
 
-    def call(self, number, thread):
+    def call(self, number: int, thread: Thread) -> str | None:
         call, value = thread.x[17], thread.x[10]
         if call == limits.EXIT:
             return self.finish(thread, "exit")
         if call not in limits.CALLS or (call == limits.SLEEP and value > limits.SLEPT):
             raise Fault(9)
+        end: str | None = None
         if call == limits.SLEEP:
             thread.slept, answer, end = value, 0, "slept"
         elif value >= len(self.locks) or (call == limits.LOCK and len(thread.held) == limits.HELD):
             raise Fault(10)
         elif call == limits.LOCK:
-            answer, end = self.take(number, thread, value), None
+            answer = self.take(number, thread, value)
         else:
             answer, end = self.release(thread, value), f"unlocked {value}"
         thread.x[10] = answer
         thread.pc += 4
         return end
 
-    def take(self, number, thread, wanted):
+    def take(self, number: int, thread: Thread, wanted: int) -> int:
         if any(wanted <= lock for lock in thread.held):
             raise Fault(11)
         lock = self.locks[wanted]
@@ -206,14 +213,14 @@ class Machine:
         thread.held.add(wanted)
         return lock.broken
 
-    def release(self, thread, lock):
+    def release(self, thread: Thread, lock: int) -> int:
         if lock not in thread.held:
             raise Fault(12)
         self.locks[lock].owner = None
         thread.held.discard(lock)
         return 0
 
-    def instruction(self, thread, word):
+    def instruction(self, thread: Thread, word: int) -> None:
         what = rv32im.decode(word)
         if what is None:
             raise Fault(1)
@@ -241,7 +248,7 @@ class Machine:
             thread.x[to] = value % 2**32
         thread.pc = after % 2**32
 
-    def run_block(self, number):
+    def run_block(self, number: int) -> tuple[int, set[int], int | None, str]:
         """One block of a thread: its number of turns, its locks, the lock that its first turn
         took or None, and why it ended."""
         thread, turns, end = self.threads[number], 0, None
@@ -259,25 +266,25 @@ class Machine:
         return turns, locks, taken, end
 
 
-def target(address):
+def target(address: int) -> int:
     if address % 4:
         raise Fault(3)
     return address
 
 
-def quotient(a, b):
+def quotient(a: int, b: int) -> int:
     """Rounded toward zero; of a division by zero -1."""
     return abs(a) // abs(b) * (1 if (a < 0) == (b < 0) else -1) if b else -1
 
 
-def remainder(a, b):
+def remainder(a: int, b: int) -> int:
     return a - quotient(a, b) * b
 
 
-def differences(facts, machine):
+def differences(facts: dict[str, Any], machine: Any) -> Iterator[str]:
     """Says where a machine at its end is not as the facts of its guest say. '.' in a guard's
     digits and null elsewhere stand for anything."""
-    shown = {
+    shown: dict[str, list[Any]] = {
         "ends": [thread.end for thread in machine.threads],
         "x10": [thread.x[10] for thread in machine.threads],
         "pc": [thread.pc for thread in machine.threads],

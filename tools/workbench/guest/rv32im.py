@@ -1,4 +1,6 @@
 """RV32IM: the one table of instructions, by which a word is read, made, and told as text."""
+from __future__ import annotations
+
 import functools
 from typing import NamedTuple
 
@@ -42,17 +44,17 @@ IMMEDIATE = {"R": (), "I": ((11, 0, 20),), "shift": ((4, 0, 20),), "S": ((11, 5,
              "J": ((20, 20, 31), (19, 12, 12), (11, 11, 20), (10, 1, 21))}
 
 
-def signed(value, bits=32):
+def signed(value: int, bits: int = 32) -> int:
     value &= (1 << bits) - 1
     return value - (1 << bits) if value >> (bits - 1) else value
 
 
-def bits(value, high, low):
+def bits(value: int, high: int, low: int) -> int:
     """The bits high down to low of a number."""
     return value >> low & (1 << high - low + 1) - 1
 
 
-def immediate(form, word):
+def immediate(form: str, word: int) -> int:
     """The immediate value of a word; all but shifts and upper bits have a sign."""
     places = IMMEDIATE[form]
     value = sum(bits(word, at + high - low, at) << low for high, low, at in places)
@@ -60,7 +62,7 @@ def immediate(form, word):
 
 
 @functools.lru_cache(1 << 16)
-def decode(word):
+def decode(word: int) -> Instruction | None:
     """The instruction of a word, or None."""
     if word in WHOLE.values():
         return Instruction("ecall" if word == WHOLE["ecall"] else "ebreak")
@@ -68,11 +70,12 @@ def decode(word):
     for key in ((opcode, kind, None), (opcode, kind, top), (opcode, None, None)):
         if key in BY_WORD:
             name, form = BY_WORD[key]
-            return Instruction(name, *(bits(word, at + 4, at) for at in REGISTER.values()), immediate(form, word))
+            to, a, b = (bits(word, at + 4, at) for at in REGISTER.values())
+            return Instruction(name, to, a, b, immediate(form, word))
     return None
 
 
-def encode(name, *operands):
+def encode(name: str, *operands: int) -> int:
     """The word of an instruction, with its operands in the order of OPERANDS."""
     if name in WHOLE:
         return WHOLE[name]
@@ -84,7 +87,7 @@ def encode(name, *operands):
     return word | sum(given[register] << at for register, at in REGISTER.items() if register in given)
 
 
-def text(word, pc=0):
+def text(word: int, pc: int = 0) -> str:
     """The instruction of a word at an address, or '.word' where it is none."""
     what = decode(word)
     if what is None:
@@ -105,7 +108,7 @@ def text(word, pc=0):
     return f"li {shown[0]},{value}" if name == "addi" and shown[1] == "zero" else f"{name} {','.join(shown)}"
 
 
-def access(word, x):
+def access(word: int, x: list[int]) -> tuple[str, int, int] | None:
     """The load or store that a word makes with these registers: 'load' or 'store', address and
     width; None for other words."""
     what = decode(word)
@@ -114,7 +117,7 @@ def access(word, x):
     return ("load" if what.name[0] == "l" else "store", (x[what.a] + what.value) % 2**32, WIDTHS[what.name])
 
 
-def registers(what):
+def registers(what: Instruction) -> tuple[tuple[int, ...], int]:
     """The registers that an instruction reads, in the order of its operands, and the one that it sets, or 0."""
     if what.name == "ecall":
         return CALL
@@ -124,7 +127,8 @@ def registers(what):
     return tuple(getattr(what, name) for name in operands if name in ("a", "b")), what.to if "to" in operands else 0
 
 
-def jump_target(word, pc, x):
+def jump_target(word: int, pc: int, x: list[int]) -> int:
     """Where a word jumps with these registers, if it does: the address as it is computed."""
     what = decode(word)
+    assert what
     return ((x[what.a] + what.value) & ~1 if what.name == "jalr" else pc + what.value) % 2**32

@@ -6,9 +6,12 @@ each adopted or granted section came about, and why each thread ended; a refusal
 numbers that disagree, and the line of a rejected history in a sentence. --thread, --lock and --block choose blocks: where several are given, those that
 all of them choose. After a usage line, --words says what is wrong with the words.
 """
+from __future__ import annotations
+
 import argparse
 import copy
 import re
+from typing import Any, Iterator
 
 from .. import tool
 from ..guest import guestfile, sources
@@ -16,7 +19,7 @@ from ..reports import counts, report
 from . import contexts, legal, reasons, tracing
 
 
-def explain_file(path):
+def explain_file(path: Any) -> None:
     """What a file has, or why it is refused."""
     try:
         file = guestfile.GuestFile(guestfile.read(path))
@@ -34,7 +37,7 @@ def explain_file(path):
               + (f" <{name}>" if name else ""))
 
 
-def source_lines(path, file):
+def source_lines(path: str, file: guestfile.GuestFile) -> Any:
     """The lines of the source that the file's debug data tells of."""
     lines = sources.load(path, file)
     if lines.trouble:
@@ -45,36 +48,39 @@ def source_lines(path, file):
 class Chosen:
     """Which blocks are shown."""
 
-    def __init__(self, asked):
+    def __init__(self, asked: argparse.Namespace) -> None:
         self.thread, self.lock, self.trace = asked.thread, asked.lock, asked.trace
+        self.first: int
+        self.last: int | None
         self.first, self.last = asked.block or (0, None)
         if asked.trace is not None and asked.block is None and self.thread is None and self.lock is None:
             self.first = self.last = asked.trace
 
-    def check(self, text):
+    def check(self, text: report.Report) -> None:
         for name, number, count in (("thread", self.thread, text.threads), ("lock", self.lock, text.guards)):
             if number is not None and number >= count:
                 raise tool.Trouble(tool.WRONG, f"the report has {report.several(count, name)}, and no {name} {number}")
 
-    def block(self, block):
+    def block(self, block: report.Block) -> bool:
         return ((self.thread is None or block.thread == self.thread)
                 and (self.lock is None or self.lock in block.held or block.wanted == self.lock)
                 and self.first <= block.stamp and (self.last is None or block.stamp <= self.last))
 
-    def thread_at_end(self, number):
+    def thread_at_end(self, number: int) -> bool:
         return self.thread in (None, number) and self.lock is None and self.last is None
 
 
 class Explainer:
     """Follows the blocks by the model, which knows where each begins, and says it of the chosen ones."""
 
-    def __init__(self, file, text, lines, chosen, with_contexts):
+    def __init__(self, file: guestfile.GuestFile, text: report.Report, lines: Any, chosen: Chosen,
+                 with_contexts: bool) -> None:
         self.file, self.text, self.lines, self.chosen = file, text, lines, chosen
         self.run, self.away = legal.begin(file.guest, text), counts.Away(text.threads)
-        self.last = {}
+        self.last: dict[Any, Any] = {}
         self.contexts = contexts.Contexts(self.run.machine) if with_contexts else None
 
-    def all(self):
+    def all(self) -> None:
         for block in self.text.blocks():
             said = list(self.block(block))
             if self.chosen.block(block):
@@ -85,14 +91,14 @@ class Explainer:
         if self.contexts:
             print(f"In all blocks: {self.contexts.total()}.")
 
-    def block(self, block):
+    def block(self, block: report.Block) -> Iterator[str]:
         """Runs a block, and says what there is to say of it."""
         thread, is_away = self.run.machine.threads[block.thread], self.away.is_away(block)
         start, traced = reasons.start_text(self.file, thread, self.lines), []
         if block.stamp == self.chosen.trace and thread.end is None:
             traced = list(tracing.trace(self.run, self.file, self.lines, block.thread))
         moved = list(self.contexts.before(block)) if self.contexts else []
-        batch = copy.copy(self.run.batches[block.begun]) if block.passed_on else None
+        batch = copy.copy(self.run.batches[block.begun]) if block.begun is not None and block.passed_on else None
         self.run.follow(block, f", line {self.text.lines.at()}")
         yield f"{block.line(self.text.version)}  # {start}"
         if batch:
@@ -107,7 +113,7 @@ class Explainer:
             self.contexts.after(block)
 
 
-def explain_report(path, file, text, asked):
+def explain_report(path: str, file: guestfile.GuestFile, text: report.Report, asked: argparse.Namespace) -> None:
     chosen = Chosen(asked)
     chosen.check(text)
     explainer = Explainer(file, text, source_lines(path, file), chosen, asked.contexts)
@@ -118,7 +124,7 @@ def explain_report(path, file, text, asked):
             raise tool.Trouble(tool.WRONG, f"the report has {report.several(count, 'block')}, and no block {number}")
 
 
-def refusal(path, line):
+def refusal(path: Any, line: Any) -> Any:
     """What is said of a refusal's line, by the guest's file."""
     try:
         guestfile.check(guestfile.read(path))
@@ -129,11 +135,11 @@ def refusal(path, line):
     return f"the program said {line!r}, and {path} isn't refused: is it the same file, and whole?"
 
 
-def words_text(words):
+def words_text(words: Any) -> Any:
     return reasons.usage(words) or "the words are right: the program doesn't answer them by the usage line"
 
 
-def answer(path, line, words):
+def answer(path: Any, line: Any, words: Any) -> Any:
     """What is said of a line in the place of a report."""
     if line.startswith("refused"):
         return refusal(path, line)
@@ -144,7 +150,7 @@ def answer(path, line, words):
     return words_text(words)
 
 
-def stamps(word):
+def stamps(word: str) -> tuple[int, int]:
     """The type of a word: one block, or blocks as 3-9."""
     found = re.fullmatch(r"(\d{1,9})(?:-(\d{1,9}))?", word, re.ASCII)
     if not found or found[2] and int(found[2]) < int(found[1]):
@@ -152,7 +158,7 @@ def stamps(word):
     return int(found[1]), int(found[2] or found[1])
 
 
-def words_of(parser):
+def words_of(parser: tool.Words) -> tool.Words:
     parser.add_argument("report", metavar="REPORT", nargs="?", help="a report; - is standard input")
     parser.add_argument("--thread", metavar="N", type=tool.number(0, 31), help="the blocks of this thread")
     parser.add_argument("--lock", metavar="N", type=tool.number(0, 31),
@@ -167,7 +173,7 @@ def words_of(parser):
     return parser
 
 
-def main(words):
+def main(words: list[str]) -> None:
     asked = words_of(tool.words("explain", __doc__, "guest")).parse_args(words)
     if asked.report is None:
         of_report = ["contexts"] * asked.contexts + [name for name in ("thread", "lock", "block", "trace")

@@ -4,7 +4,10 @@ leave out, and prints the whole report.
 A line needs no more than its thread, as in 'thread 1' or 'thread 1 kind adopted worker 0'; what
 stands behind # is not read. Where a block can't be, it prints what would have been legal there.
 """
+from __future__ import annotations
+
 import sys
+from typing import Any, Callable, IO, Iterator
 
 from .. import limits, tool
 from ..guest import guestfile
@@ -14,7 +17,7 @@ from . import legal
 DEFAULTS = {"version": 2, "workers": 8, "fuel": 20000, "batch": 8}
 
 
-def step(run, line):
+def step(run: legal.Run, line: byhand.Line) -> report.Block:
     """Runs the block of a line, and answers it; Wrong where it can't be."""
     line.check(run)
     parts = line.parts
@@ -28,7 +31,7 @@ def step(run, line):
     return block
 
 
-def possible(run):
+def possible(run: legal.Run) -> Iterator[str]:
     """The lines of what could come next."""
     for block, workers in run.candidates():
         others = f"  # or worker {', '.join(map(str, workers[1:]))}" if workers[1:] else ""
@@ -39,12 +42,12 @@ def possible(run):
             yield f"# thread {number} wants lock {lock}, which thread {run.machine.locks[lock].owner} has"
 
 
-def print_lines(lines, to=None):
+def print_lines(lines: Any, to: IO[str] | None = None) -> None:
     for line in lines:
         print(line, file=to)
 
 
-def follow(begin, lines):
+def follow(begin: Callable[..., Any], lines: list[byhand.Line]) -> tuple[legal.Run, list[report.Block]]:
     """The run of some lines, and their blocks."""
     run, blocks = begin(), []
     for line in lines:
@@ -59,7 +62,7 @@ def follow(begin, lines):
     return run, blocks
 
 
-def print_report(run, blocks):
+def print_report(run: legal.Run, blocks: list[report.Block]) -> None:
     """The whole report, or as far as it goes; what could come next goes to standard error."""
     print_lines(run.lines(blocks))
     if not run.is_over():
@@ -67,7 +70,7 @@ def print_report(run, blocks):
         print_lines([f"# legal so far, {run.count} blocks; what could come next:", *possible(run)], sys.stderr)
 
 
-def main(words):
+def main(words: list[str]) -> None:
     parser = tool.words("finish", __doc__, "guest")
     parser.add_argument("history", metavar="HISTORY", nargs="?", default="-",
                         help="the history; standard input where it is left out")

@@ -3,13 +3,15 @@
 A report that stops behind a block line is judged so far. The statuses are those of
 guests/README.md: 0 where it is legal, 3 where it isn't.
 """
+from __future__ import annotations
+
 from .. import tool
 from ..guest import guestfile
 from ..reports import report
 from . import legal
 
 
-def main(words):
+def main(words: list[str]) -> None:
     parser = tool.words("judge", __doc__, "guest")
     parser.add_argument("report", metavar="REPORT", nargs="?", default="-",
                         help="a report; standard input where it is left out")

@@ -1,6 +1,9 @@
 """Whether a history is that of a legal run: each block is run by model.py in its place, under
 ordinary mutexes, and compared with its line; its kind must be one that the batch rule allows."""
+from __future__ import annotations
+
 import copy
+from typing import Iterable, Iterator
 
 from .. import limits
 from ..guest import model
@@ -18,12 +21,12 @@ class Batch:
     that worker looked for a waiter between its two blocks. An adopted section is that next block.
     """
 
-    def __init__(self, limit):
+    def __init__(self, limit: int) -> None:
         self.limit, self.adopted = limit, 0
-        self.last = None  # the block that released the lock
-        self.next = None  # the stamp of the next block of the worker that released
+        self.last: Block | None = None  # the block that released the lock
+        self.next: int | None = None  # the stamp of the next block of the worker that released
 
-    def kinds(self, thread, worker, stamp):
+    def kinds(self, thread: int, worker: int, stamp: int) -> list[str]:
         """The kinds for a thread whose last block has this stamp, with this worker."""
         if self.last is None or not self.waited(thread, stamp):
             return ["taken"]
@@ -31,10 +34,10 @@ class Batch:
             return ["taken", "granted"]
         return ["taken", "adopted"] if worker == self.last.worker and self.next is None else ["taken"]
 
-    def waited(self, thread, stamp):
-        return thread != self.last.thread and (self.next is None or stamp < self.next)
+    def waited(self, thread: int, stamp: int) -> bool:
+        return self.last is not None and thread != self.last.thread and (self.next is None or stamp < self.next)
 
-    def why(self, kind, thread, worker, stamp):
+    def why(self, kind: str, thread: int, worker: int, stamp: int) -> str:
         """Why a kind is none of `kinds`."""
         last = self.last
         if last is None:
@@ -56,13 +59,13 @@ class Batch:
             return f"the section before ended with worker {last.worker}, and this one begins with {worker}"
         return f"worker {worker} released the lock and then ran block {self.next}: it would have adopted at once"
 
-    def begin(self, kind):
+    def begin(self, kind: str) -> None:
         self.adopted = self.adopted + 1 if kind == "adopted" else 0
 
-    def release(self, block):
+    def release(self, block: Block) -> None:
         self.last, self.next = block, None
 
-    def see(self, block):
+    def see(self, block: Block) -> None:
         """Notes a block that is not the release itself."""
         if self.last is not None and self.next is None and block.worker == self.last.worker:
             self.next = block.stamp
@@ -71,14 +74,14 @@ class Batch:
 class Run:
     """A guest's machine with the batch rule of each lock, and the blocks that were run."""
 
-    def __init__(self, guest, workers, fuel, limit, version=2):
+    def __init__(self, guest: model.Guest, workers: int, fuel: int, limit: int, version: int = 2) -> None:
         self.workers, self.fuel, self.limit, self.version = workers, fuel, limit, version
         self.machine = model.Machine(guest, fuel)
         self.batches = [Batch(limit) for _ in self.machine.locks]
         self.stamps = [-1] * len(self.machine.threads)  # of each thread's last block
         self.count = 0
 
-    def kinds(self, number, worker):
+    def kinds(self, number: int, worker: int) -> list[str]:
         """The kinds that the thread's next block may have with a worker."""
         thread = self.machine.threads[number]
         lock = self.machine.next_lock(thread)
@@ -86,7 +89,7 @@ class Run:
             return ["on" if thread.blocks else "start"]
         return self.batches[lock].kinds(number, worker, self.stamps[number])
 
-    def step(self, number, kind, worker):
+    def step(self, number: int, kind: str | None, worker: int) -> Block:
         """Runs the thread's next block; `kind` None stands for the first that is allowed."""
         thread = self.machine.threads[number]
         lock = self.machine.next_lock(thread)
@@ -115,7 +118,7 @@ class Run:
         self.count += 1
         return block
 
-    def follow(self, block, where=""):
+    def follow(self, block: Block, where: str = "") -> Block:
         """Runs the block that a line names, and compares the two."""
         wanted = self.step(block.thread, block.kind, block.worker)
         different = [name for name in COMPARED if getattr(block, name) != getattr(wanted, name)]
@@ -125,18 +128,18 @@ class Run:
                 for name in different))
         return wanted
 
-    def candidates(self):
+    def candidates(self) -> Iterator[tuple[Block, list[int]]]:
         """What could come next: each block that could, with the workers that could run it."""
         guest = self.machine.guest
         for number in self.machine.able():
-            kinds = {}
+            kinds: dict[str, list[int]] = {}
             for worker in range(self.workers):
                 for kind in self.kinds(number, worker):
                     kinds.setdefault(kind, []).append(worker)
             for kind, workers in kinds.items():
                 yield copy.deepcopy(self, {id(guest): guest}).step(number, kind, workers[0]), workers
 
-    def go_on(self):
+    def go_on(self) -> Iterator[Block]:
         """Runs to the end of every thread: each runs as long as it can, as worker 0, and every
         section is taken. Answers the blocks."""
         while True:
@@ -146,18 +149,18 @@ class Run:
             taken = self.machine.next_lock(self.machine.threads[number]) is not None
             yield self.step(number, "taken" if taken else None, 0)
 
-    def header_lines(self):
+    def header_lines(self) -> list[str]:
         return report.header_lines(self.version, len(self.machine.threads), len(self.machine.locks), self.workers,
                                    self.fuel, self.limit)
 
-    def ending_lines(self):
+    def ending_lines(self) -> Iterator[str]:
         """The report's lines behind the blocks, for threads that have ended."""
         for number, thread in enumerate(self.machine.threads):
             if thread.end is None:
                 raise Wrong(f"behind block {self.count - 1}: thread {number} has not ended")
         return ending_lines(self.machine)
 
-    def lines(self, blocks):
+    def lines(self, blocks: list[Block]) -> Iterator[str]:
         """A report of these blocks, to its end where each thread has ended."""
         yield from self.header_lines()
         for block in blocks:
@@ -165,25 +168,25 @@ class Run:
         if self.is_over():
             yield from self.ending_lines()
 
-    def is_over(self):
+    def is_over(self) -> bool:
         return all(thread.end is not None for thread in self.machine.threads)
 
 
-def ending_lines(machine):
+def ending_lines(machine: model.Machine) -> Iterator[str]:
     """The report's lines behind the blocks, of a machine at its end."""
     return report.ending_lines(
-        [report.ThreadEnd(thread.end, thread.fuel, thread.pc, thread.x) for thread in machine.threads],
+        [report.ThreadEnd(thread.end or "", thread.fuel, thread.pc, tuple(thread.x)) for thread in machine.threads],
         [report.LockEnd(lock.sections, lock.broken, lock.addresses.start, lock.bytes) for lock in machine.locks])
 
 
-def shown(name, block):
+def shown(name: str, block: Block) -> str | int:
     value = getattr(block, name)
     if name == "held":
         return report.held_text(value)
     return f"{value:08x}" if name == "pc" else value
 
 
-def begin(guest, text):
+def begin(guest: model.Guest, text: report.Report) -> Run:
     """The run that a report's header names, for its guest."""
     run = Run(guest, text.workers, text.fuel, text.batch, text.version)
     for name, said, real in (("threads", text.threads, len(run.machine.threads)),
@@ -193,7 +196,7 @@ def begin(guest, text):
     return run
 
 
-def replay(guest, lines):
+def replay(guest: model.Guest, lines: Iterable[str]) -> tuple[Run, bool]:
     """The run after a report, and whether the report is whole; Wrong where it isn't legal."""
     text = report.Report(lines)
     run = begin(guest, text)
@@ -210,7 +213,7 @@ def replay(guest, lines):
     return run, True
 
 
-def replay_whole(guest, text):
+def replay_whole(guest: model.Guest, text: str) -> model.Machine:
     """The machine after a whole report that is given as one text."""
     run, whole = replay(guest, text.splitlines(keepends=True))
     if not whole:

@@ -1,43 +1,51 @@
 """Why a thread ended where it did, and what is wrong with the words of the program, in sentences
 with the numbers that tell it."""
+from __future__ import annotations
+
+from typing import Callable, TYPE_CHECKING
 from .. import limits
-from ..guest import guestfile, rv32im
+from ..guest import guestfile, rv32im, sources
 from ..reports import report
+
+if TYPE_CHECKING:
+    from . import legal
+    from ..guest import model
 
 EXTENSIONS = {0x2F: "an atomic instruction (A)", 0x07: "a floating-point load", 0x27: "a floating-point store",
               0x53: "a floating-point instruction", 0x73: "a CSR or privileged instruction",
               0x0F: "FENCE.I or another of the kind"}
 
 
-def place(file, address):
+def place(file: guestfile.GuestFile, address: int) -> str:
     """An address with its symbol, where it has one."""
     name = file.name(address)
     return f"{address:08x}" + (f" <{name}>" if name else "")
 
 
-def instruction(file, pc):
+def instruction(file: guestfile.GuestFile, pc: int) -> str:
     """The address of an instruction with its symbol and text."""
     word = file.guest.word(pc)
     return f"{place(file, pc)} " + ("can't be fetched" if word is None else rv32im.text(word, pc))
 
 
-def call_text(thread):
+def call_text(thread: model.Thread) -> str:
     """The guest call that an ECALL makes with a thread's registers."""
     name = limits.CALLS.get(thread.x[17], f"no guest call: x17 is {thread.x[17]}, x10")
     return f"{name} {thread.x[10]}"
 
 
-def start_text(file, thread, lines=None):
+def start_text(file: guestfile.GuestFile, thread: model.Thread, lines: sources.Sources | None = None) -> str:
     """Where a thread is about to go on, and the line of the source that is known."""
     text, said = instruction(file, thread.pc), lines.text(thread.pc) if lines else ""
     text += f" ({call_text(thread)})" if file.guest.word(thread.pc) == rv32im.WHOLE["ecall"] else ""
     return text + (f", {said}" if said else "")
 
 
-def delegation(block, batch, came, away):
+def delegation(block: report.Block, batch: legal.Batch, came: report.Block, away: bool) -> str:
     """How an adopted or granted section came about: `came` is the block in which its thread came to
     its LOCK, and `batch` the lock's batch before the section."""
     last = batch.last
+    assert last
     shipped = f", shipped with {report.locks_text(came.kept)}" if came.kept else ""
     text = (f"{block.kind}: thread {block.thread} waited for lock {block.begun} from block {came.stamp} on "
             f"(worker {came.worker}){shipped}; ")
@@ -51,20 +59,21 @@ def delegation(block, batch, came, away):
     return text + ("; away from the thread's own worker" if away else "")
 
 
-def ending(file, thread, held):
+def ending(file: guestfile.GuestFile, thread: model.Thread, held: tuple[int, ...]) -> str:
     """Why a thread ended that held these locks."""
     if thread.end == "exit":
         return f"exit with {thread.x[10]} ({thread.x[10]:#x}) at {place(file, thread.pc)}"
     if thread.end == "spent":
         return f"its fuel was spent before {instruction(file, thread.pc)}"
+    assert thread.end
     number = int(thread.end[6:])
     if number == 2:
         return f"{thread.end}: {fetch(file, thread)}"
     return f"{thread.end} at {instruction(file, thread.pc)}: {FAULTS[number](file, thread, held)}"
 
 
-def illegal(file, thread, _):
-    word = file.guest.word(thread.pc)
+def illegal(file: guestfile.GuestFile, thread: model.Thread, _: tuple[int, ...]) -> str:
+    word = file.guest.word(thread.pc) or 0
     if word & 3 != 3:
         hint = "the word 0 is none" if word == 0 else "its low bits are those of compressed code (C)"
     else:
@@ -72,17 +81,17 @@ def illegal(file, thread, _):
     return f"the word {word:08x} is no instruction: {hint}"
 
 
-def fetch(file, thread):
+def fetch(file: guestfile.GuestFile, thread: model.Thread) -> str:
     return (f"the program counter {place(file, thread.pc)} lies in no executable range "
             f"({region(file, thread.pc)}; executable: {executable(file)})"
             + ("; x1 was 0 at the start, so a return from the first function comes here" * (thread.pc == 0)))
 
 
-def executable(file):
+def executable(file: guestfile.GuestFile) -> str:
     return ", ".join(guestfile.span(where) for where, flags, _ in file.guest.ranges if flags & 1)
 
 
-def region(file, address):
+def region(file: guestfile.GuestFile, address: int) -> str:
     """What an address lies in."""
     guard = file.guard_at(address)
     if guard is not None:
@@ -99,13 +108,15 @@ def region(file, address):
     return "it is in nothing" + (", as of a null pointer" if address < 4096 else "")
 
 
-def target(file, thread, _):
-    address = rv32im.jump_target(file.guest.word(thread.pc), thread.pc, thread.x)
+def target(file: guestfile.GuestFile, thread: model.Thread, _: tuple[int, ...]) -> str:
+    address = rv32im.jump_target(file.guest.word(thread.pc) or 0, thread.pc, thread.x)
     return f"it goes to {address:08x}, which is no multiple of 4"
 
 
-def access(file, thread, held):
-    kind, address, width = rv32im.access(file.guest.word(thread.pc), thread.x)
+def access(file: guestfile.GuestFile, thread: model.Thread, held: tuple[int, ...]) -> str:
+    accessed = rv32im.access(file.guest.word(thread.pc) or 0, thread.x)
+    assert accessed
+    kind, address, width = accessed
     said = f"it {kind}s {width} byte{'s' * (width > 1)} at {place(file, address)}"
     if address % width:
         return f"{said}, which is no multiple of {width}"
@@ -116,18 +127,18 @@ def access(file, thread, held):
     return f"{said}; {region(file, address)}"
 
 
-def stop(*_):
+def stop(*_: object) -> str:
     return "EBREAK, as of __builtin_trap"
 
 
-def bad_call(_, thread, __):
+def bad_call(_: guestfile.GuestFile, thread: model.Thread, __: tuple[int, ...]) -> str:
     number, value = thread.x[17], thread.x[10]
     if number == 3:
         return f"SLEEP of x10 = {value}, which is above {limits.SLEPT}"
     return f"x17 is {number}, which is no guest call (1 LOCK, 2 UNLOCK, 3 SLEEP, 93 EXIT)"
 
 
-def bad_lock(file, thread, held):
+def bad_lock(file: guestfile.GuestFile, thread: model.Thread, held: tuple[int, ...]) -> str:
     locks = len(file.guest.guards)
     if thread.x[10] < locks:
         return f"LOCK {thread.x[10]} with four locks held ({report.held_text(held)})"
@@ -135,16 +146,16 @@ def bad_lock(file, thread, held):
     return f"{call_text(thread)}: {there}"
 
 
-def lock_order(_, thread, held):
+def lock_order(_: guestfile.GuestFile, thread: model.Thread, held: tuple[int, ...]) -> str:
     return (f"LOCK {thread.x[10]} with {report.held_text(held)} held: a lock must be greater than each that "
             "is held")
 
 
-def not_held(_, thread, held):
+def not_held(_: guestfile.GuestFile, thread: model.Thread, held: tuple[int, ...]) -> str:
     return f"UNLOCK {thread.x[10]}, which isn't held (held: {report.held_text(held)})"
 
 
-FAULTS = {1: illegal, 3: target, 4: access, 5: access, 6: access, 7: access, 8: stop, 9: bad_call,
+FAULTS: dict[int, Callable[[guestfile.GuestFile, model.Thread, tuple[int, ...]], str]] = {1: illegal, 3: target, 4: access, 5: access, 6: access, 7: access, 8: stop, 9: bad_call,
           10: bad_lock, 11: lock_order, 12: not_held}
 
 
@@ -157,14 +168,14 @@ REJECTED = dict(zip(limits.REASONS, (
     "there is no such worker", "it is missing: some thread has not ended")))
 
 
-def rejection(line):
+def rejection(line: str) -> str:
     """What is said of the program's line on a history that it rejected."""
     _, number, _, name = line.split()
     why = REJECTED.get(name, f"{name} is no reason")
     return f"line {number} of the history: {why} (of a whole report ./workbench judge says what would have been right)"
 
 
-def usage(words):
+def usage(words: list[str]) -> str | None:
     """What is wrong with the words of the program, or None."""
     wanted = f"it wants {', '.join(limits.SHAPES[:-1])} or {limits.SHAPES[-1]}"
     if not words:

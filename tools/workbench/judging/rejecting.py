@@ -3,8 +3,11 @@ read as docs/REPORT.md says, and the history is run again under ordinary mutexes
 
 legal.py asks for more than the seven reasons do: that who was adopted or granted a lock can have waited.
 """
+from __future__ import annotations
+
 import itertools
 import re
+from typing import Any, Iterable
 
 from .. import limits, tool
 from ..guest import guestfile, model
@@ -23,7 +26,7 @@ LINE = re.compile(
 DIGITS = 10  # no number of a line has more
 
 
-def block_of(line, stamp):
+def block_of(line: str, stamp: int) -> report.Block | None:
     """The block with this stamp that a line is, or None."""
     found = LINE.fullmatch(line)
     if not found or max(map(len, found.group(1, 2, 3, 6))) > DIGITS:
@@ -36,9 +39,10 @@ def block_of(line, stamp):
     return block if fits else None
 
 
-def read(text):
+def read(text: bytes) -> tuple[list[report.Block], int | None]:
     """The blocks of a history's text, up to the first line that is wrong; and the number of that line, or None."""
-    blocks, lines = [], text.decode("ascii", "replace").split("\n")
+    blocks: list[report.Block] = []
+    lines = text.decode("ascii", "replace").split("\n")
     for number, line in enumerate(lines, 1):
         if number == len(lines) and not line:
             break
@@ -52,17 +56,18 @@ def read(text):
 class Batch:
     """The batch rule of one lock, behind some blocks that hold it."""
 
-    def __init__(self, limit):
-        self.limit, self.adopted, self.last = limit, 0, None
+    def __init__(self, limit: int) -> None:
+        self.limit, self.adopted = limit, 0
+        self.last: report.Block | None = None
 
-    def allows(self, lock, block):
+    def allows(self, lock: int, block: report.Block) -> bool:
         """Whether a block may begin a section of the lock."""
         if self.last is None:
             return block.kind == "taken"
         adopts = (self.last.end == f"unlocked {lock}" and self.last.held == (lock,) and self.adopted < self.limit)
         return {"taken": True, "adopted": adopts and block.worker == self.last.worker, "granted": not adopts}[block.kind]
 
-    def add(self, begins, block):
+    def add(self, begins: bool, block: report.Block) -> None:
         if begins:
             self.adopted = self.adopted + 1 if block.kind == "adopted" else 0
         self.last = block
@@ -71,11 +76,11 @@ class Batch:
 class Checker:
     """A guest's machine behind some blocks."""
 
-    def __init__(self, guest, workers, fuel, limit):
+    def __init__(self, guest: model.Guest, workers: int, fuel: int, limit: int) -> None:
         self.workers, self.machine = workers, model.Machine(guest, fuel)
         self.batches = [Batch(limit) for _ in guest.guards]
 
-    def wrong(self, block):
+    def wrong(self, block: report.Block) -> str | None:
         """Runs a block. Answers the first reason for which it is wrong, or None."""
         threads = self.machine.threads
         if block.thread >= len(threads) or threads[block.thread].end is not None:
@@ -94,7 +99,7 @@ class Checker:
             self.batches[other].add(other == lock, block)
         return WORKER if block.worker >= self.workers else None
 
-    def rejected(self, blocks):
+    def rejected(self, blocks: list[report.Block]) -> tuple[int, str] | None:
         """The line and the reason of the first wrong place, or None."""
         for number, block in enumerate(blocks, 1):
             why = self.wrong(block)
@@ -106,12 +111,12 @@ class Checker:
 class Header:
     """What the counts of a history want to know of its run."""
 
-    def __init__(self, guest, workers):
+    def __init__(self, guest: model.Guest, workers: int) -> None:
         self.threads, self.guards, self.workers = len(guest.entries), len(guest.guards), workers
         self.thread_ends = self.lock_ends = ()
 
 
-def profile_text(guest, blocks, workers):
+def profile_text(guest: model.Guest, blocks: list[report.Block], workers: int) -> str:
     """What `profile` prints of blocks that are not rejected."""
     counted = counts.Counts(Header(guest, workers))
     for block in blocks:
@@ -119,11 +124,11 @@ def profile_text(guest, blocks, workers):
     return text_of(counted.profile_lines())
 
 
-def text_of(lines):
+def text_of(lines: Iterable[str]) -> str:
     return "".join(f"{line}\n" for line in lines)
 
 
-def refused_line(size, given):
+def refused_line(size: int, given: bytes) -> str | None:
     """The line of the refusal of what is given, of which the first bytes, so many, are the file. Or None."""
     if len(given) > size + limits.HISTORY_BYTES:
         return "refused 0 TooLarge"
@@ -140,11 +145,12 @@ class Given:
     """What is given behind the words `replay` or `profile`: a file of so many bytes and a history; with the
     numbers of workers and fuel and the batch limit."""
 
-    def __init__(self, size, numbers, given):
-        self.numbers, self.reason = numbers, None
+    def __init__(self, size: int, numbers: Any, given: bytes) -> None:
+        self.numbers = numbers
+        self.reason: str | None = None
         self.early = self.begin(size, given)
 
-    def begin(self, size, given):
+    def begin(self, size: int, given: bytes) -> tuple[int, str] | None:
         """The answer to what is refused or rejected, or None."""
         refused = refused_line(size, given)
         if refused:
@@ -158,7 +164,7 @@ class Given:
         line, self.reason = rejected
         return limits.REJECTED, text_of([f"rejected {line} {REASONS.index(self.reason) + 1} {self.reason}"])
 
-    def answer(self, form):
+    def answer(self, form: str) -> tuple[int, str]:
         """The status and the text of the program's answer."""
         if self.early:
             return self.early
@@ -169,12 +175,13 @@ class Given:
         return tool.DONE, text_of(itertools.chain(header, blocks, legal.ending_lines(self.checker.machine)))
 
 
-def history_of(text):
+def history_of(text: str) -> bytes:
     """The lines of the blocks of a report, as they are given behind a file."""
     return "".join(re.findall(r"(?m)^block .*\n", text)).encode("ascii")
 
 
-def ask(form, file, numbers, history, wanted, kept):
+def ask(form: str, file: bytes, numbers: tuple[int, ...], history: bytes, wanted: tuple[int, str],
+        kept: str) -> None:
     """Gives a file and a history to the program. Wrong where the answer is another one than is wanted; the
     history is kept then, under a name."""
     status, text = program.run((form, len(file), *numbers), file + history)

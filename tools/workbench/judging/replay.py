@@ -5,6 +5,8 @@ W, F and B are those of the report's third line, where it has one. What stands b
 The status is that of the program: 0 where the answer is the report, 3 where the guest is refused, 6 where the
 history is rejected.
 """
+from __future__ import annotations
+
 import re
 import sys
 
@@ -17,19 +19,20 @@ from . import reasons, rejecting
 REFUSED = "what was given is refused; ./workbench explain GUEST says why"
 
 
-def history_of(content):
+def history_of(content: bytes) -> tuple[dict[str, int], bytes]:
     """The numbers of a text's header, where it has one, and the lines of its blocks as bytes."""
-    lines, numbers = re.findall(rb"[^\n]*\n|[^\n]+\Z", content), {}
+    lines = re.findall(rb"[^\n]*\n|[^\n]+\Z", content)
+    numbers: dict[str, int] | None = {}
     if lines and lines[0].startswith(b"tclocks "):
         numbers = report.options_of(lines[2].decode("ascii", "replace").rstrip("\n"), 3) if len(lines) > 2 else None
         if not numbers:
             raise report.Wrong("the third line must be 'run workers W fuel F batch B'")
         lines = lines[3:]
     behind = (place for place, line in enumerate(lines) if byhand.REST.match(line.decode("ascii", "replace")))
-    return numbers, b"".join(lines[:next(behind, len(lines))])
+    return numbers or {}, b"".join(lines[:next(behind, len(lines))])
 
 
-def answer(form, file, numbers, history, by_model):
+def answer(form: str, file: bytes, numbers: tuple[int, ...], history: bytes, by_model: bool) -> tuple[int, str]:
     """The status and the text, and who answered."""
     why = None if by_model else program.missing()
     if by_model or why:
@@ -39,7 +42,7 @@ def answer(form, file, numbers, history, by_model):
     return program.run((form, len(file), *numbers), file + history)
 
 
-def main(words):
+def main(words: list[str]) -> None:
     parser = tool.words("replay", __doc__, "guest")
     parser.add_argument("report", metavar="REPORT", nargs="?", default="-",
                         help="a report, or block lines alone; standard input where it is left out")

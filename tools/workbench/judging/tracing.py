@@ -1,25 +1,32 @@
 """One block turn by turn: each instruction with the registers that it reads and sets, and the memory
 that it loads or stores, by a copy of the model."""
+from __future__ import annotations
+
 import copy
+from typing import Any, Iterator, TYPE_CHECKING
 
 from .. import limits
 from ..guest import model, rv32im
 from ..reports import report
 from . import reasons
 
+if TYPE_CHECKING:
+    from . import legal
+    from ..guest import guestfile
 
-def values(numbers, x):
+
+def values(numbers: Any, x: list[int]) -> str:
     return " ".join(f"{rv32im.REGISTERS[number]}={x[number]:08x}" for number in numbers)
 
 
-def where(file, address):
+def where(file: guestfile.GuestFile, address: int) -> str:
     """What an address of memory is, in few words."""
     guard = file.guard_at(address)
     inside = f" of lock {guard}" if guard is not None else " of the stack" if address in limits.STACK else ""
     return reasons.place(file, address) + inside
 
 
-def memory(file, word, x):
+def memory(file: guestfile.GuestFile, word: int, x: list[int]) -> str:
     """What a word loads or stores with these registers, or ''."""
     access = rv32im.access(word, x)
     if access is None:
@@ -27,11 +34,13 @@ def memory(file, word, x):
     kind, address, width = access
     if kind == "load":
         return f"loads {report.several(width, 'byte')} at {where(file, address)}"
-    value = x[rv32im.decode(word).b] & ((1 << 8 * width) - 1)
+    what = rv32im.decode(word)
+    assert what
+    value = x[what.b] & ((1 << 8 * width) - 1)
     return f"stores {value:0{2 * width}x} at {where(file, address)}"
 
 
-def turn_text(file, word, pc, before, thread):
+def turn_text(file: guestfile.GuestFile, word: int, pc: int, before: list[int], thread: model.Thread) -> str:
     """What one turn did: the registers read, what was loaded or stored, and the register set."""
     what = rv32im.decode(word)
     read, written = rv32im.registers(what) if what else ((), 0)
@@ -39,12 +48,12 @@ def turn_text(file, word, pc, before, thread):
     if thread.end is None or thread.end == "exit":
         if written:
             parts.append(f"-> {values([written], thread.x)}")
-        if what.name in model.COMPARISONS:
+        if what and what.name in model.COMPARISONS:
             parts.append("-> goes on behind it" if thread.pc == pc + 4 else "-> branches")
     return "  ".join(part for part in parts if part)
 
 
-def trace(run, file, lines, number):
+def trace(run: legal.Run, file: guestfile.GuestFile, lines: Any, number: int) -> Iterator[str]:
     """The lines of a thread's next block; the run stays as it is."""
     guest = run.machine.guest
     machine = copy.deepcopy(run.machine, {id(guest): guest})

@@ -5,10 +5,16 @@
 A line may have the parts of a block line, in their order or another, with or without `block` and
 the stamp. The header's lines may be missing. What stands behind the blocks is not read.
 """
+from __future__ import annotations
+
 import re
+from typing import Any, Iterable, TYPE_CHECKING
 
 from .. import limits
 from . import report
+
+if TYPE_CHECKING:
+    from ..judging import legal
 
 PARTS = re.compile(r"(thread|turns|worker) (\d{1,9})\b|held (-|[\d,]+)|kind (\w+)|pc ([0-9a-f]{8})\b"
                    r"|end (wants \d+|unlocked \d+|slept|cut|exit|fault \d+|spent)")
@@ -18,9 +24,11 @@ REST = re.compile(r"(thread \d+ (exit|fault|spent)|x\d+ |lock |data |end$)")
 class Line:
     """A line's parts: numbers and texts by name, and where it stands."""
 
-    def __init__(self, number, text):
-        self.number, self.parts, self.stamp = number, {}, None
-        found = re.match(r"(?:block(?: (\d{1,9}))? )?(.*)", text)
+    def __init__(self, number: int, text: str) -> None:
+        self.number = number
+        self.parts: dict[str, Any] = {}
+        found = re.fullmatch(r"(?:block(?: (\d{1,9}))? )?(.*)", text)
+        assert found
         self.stamp, rest = found[1], found[2]
         at = 0
         while at < len(rest):
@@ -35,7 +43,7 @@ class Line:
         if "thread" not in self.parts:
             raise report.Wrong(f"line {number}: it names no thread")
 
-    def add(self, part):
+    def add(self, part: re.Match[str]) -> None:
         name, digits, held, kind, pc, end = part.groups()
         for key, value in ((name, digits and int(digits)), ("held", held), ("kind", kind),
                            ("pc", pc), ("end", end)):
@@ -44,7 +52,7 @@ class Line:
                     raise report.Wrong(f"line {self.number}: {key} stands there twice")
                 self.parts[key] = value
 
-    def check(self, run):
+    def check(self, run: legal.Run) -> None:
         """Wrong where the line names something that the run doesn't have."""
         for name, count in (("thread", len(run.machine.threads)), ("worker", run.workers)):
             if self.parts.get(name, 0) >= count:
@@ -60,8 +68,9 @@ class Line:
 class History:
     """A header, where there is one, and the lines of blocks."""
 
-    def __init__(self, lines):
-        self.header, self.blocks = {}, []
+    def __init__(self, lines: Iterable[str]) -> None:
+        self.header: dict[str, int] = {}
+        self.blocks: list[Line] = []
         for number, line in enumerate(lines, 1):
             text = " ".join(line.split("#")[0].split())
             if REST.match(text):
@@ -69,7 +78,7 @@ class History:
             if text and not self.header_line(number, text):
                 self.blocks.append(Line(number, text))
 
-    def header_line(self, number, text):
+    def header_line(self, number: int, text: str) -> bool:
         if self.blocks:
             return False
         if text in ("tclocks 1", "tclocks 2"):

@@ -3,8 +3,10 @@
 Two forms are read: `tclocks 1`, and `tclocks 2`, in which a block line says the program counter
 at the block's start too. A text that stops early is read as far as it goes.
 """
+from __future__ import annotations
+
 import re
-from typing import NamedTuple, Optional, Tuple
+from typing import Iterable, Iterator, NamedTuple, Optional, Tuple
 
 from .. import limits, tool
 from ..limits import KINDS, PASSED_ON, SECTIONS
@@ -26,14 +28,14 @@ ANSWER = re.compile(r"refused \d{1,2} \w+|rejected \d{1,20} \d \w+|usage: .*")
 class Wrong(tool.Trouble):
     """What is wrong with a report."""
 
-    def __init__(self, text):
+    def __init__(self, text: str) -> None:
         super().__init__(tool.WRONG, text)
 
 
 class NoReport(Wrong):
     """The program's answer in the place of a report: a refusal, the line of a rejected history, or the usage line."""
 
-    def __init__(self, line):
+    def __init__(self, line: str) -> None:
         super().__init__(f"this is no report but the program's answer: {line}")
         self.line = line
 
@@ -49,32 +51,32 @@ class Block(NamedTuple):
     end: str
 
     @property
-    def begun(self):
+    def begun(self) -> int | None:
         """The lock whose section it begins, or None."""
         return self.held[-1] if self.kind in SECTIONS else None
 
     @property
-    def passed_on(self):
+    def passed_on(self) -> bool:
         """Whether it begins a section that a waiter was given."""
         return self.kind in PASSED_ON
 
     @property
-    def wanted(self):
+    def wanted(self) -> int | None:
         """The lock that it ends before, or None."""
         return int(self.end[6:]) if self.end.startswith("wants") else None
 
     @property
-    def ends_thread(self):
+    def ends_thread(self) -> bool:
         return self.end in ("exit", "spent") or self.end.startswith("fault")
 
     @property
-    def released(self):
+    def released(self) -> tuple[int, ...]:
         if self.end.startswith("unlocked"):
             return (int(self.end[9:]),)
         return self.held if self.ends_thread else ()
 
     @property
-    def kept(self):
+    def kept(self) -> tuple[int, ...]:
         """The locks that the thread holds after it."""
         released = self.released
         if not released:
@@ -82,11 +84,11 @@ class Block(NamedTuple):
         return tuple(lock for lock in self.held if lock not in released)
 
     @property
-    def leaves_free(self):
+    def leaves_free(self) -> bool:
         """Whether its thread goes on without any lock."""
         return not self.ends_thread and not self.kept
 
-    def line(self, version):
+    def line(self, version: int) -> str:
         pc = f" pc {self.pc:08x}" if version == 2 else ""
         return (f"block {self.stamp} thread {self.thread} turns {self.turns} held "
                 f"{held_text(self.held)} kind {self.kind} worker {self.worker}{pc} end {self.end}")
@@ -106,21 +108,21 @@ class LockEnd(NamedTuple):
     bytes: bytes
 
 
-def held_text(held):
+def held_text(held: tuple[int, ...]) -> str:
     return ",".join(map(str, held)) or "-"
 
 
-def several(count, what):
+def several(count: int, what: str) -> str:
     """A number of things: '1 lock', '2 locks'."""
     return f"{count} {what}{'s' * (count != 1)}"
 
 
-def locks_text(held):
+def locks_text(held: tuple[int, ...]) -> str:
     """Locks in a sentence: 'lock 0', 'locks 0,1'."""
     return f"lock{'s' * (len(held) > 1)} {held_text(held)}"
 
 
-def wrong_number(name, word):
+def wrong_number(name: str, word: str) -> str | None:
     """What is wrong with a word of this number, or None."""
     least, most = limits.NUMBERS[name]
     if not re.fullmatch(NUMBER, word):
@@ -130,21 +132,21 @@ def wrong_number(name, word):
     return None if least <= int(word) <= most else f"{name} is {word}, which is not {least} to {most}"
 
 
-def options_of(line, number):
+def options_of(line: str, number: int) -> dict[str, int] | None:
     """The numbers of a line on options, by name; None where the line with this number is no such line."""
     found = OPTIONS.fullmatch(line)
     for name, word in zip(limits.RUN, found.groups()) if found else ():
         if wrong_number(name, word):
             raise Wrong(f"line {number}: {wrong_number(name, word)}")
-    return found and dict(zip(limits.RUN, map(int, found.groups())))
+    return dict(zip(limits.RUN, map(int, found.groups()))) if found else None
 
 
-def header_lines(version, threads, guards, workers, fuel, batch):
+def header_lines(version: int, threads: int, guards: int, workers: int, fuel: int, batch: int) -> list[str]:
     return [f"tclocks {version}", f"guest threads {threads} guards {guards}",
             f"run workers {workers} fuel {fuel} batch {batch}"]
 
 
-def ending_lines(threads, locks):
+def ending_lines(threads: Iterable[ThreadEnd], locks: Iterable[LockEnd]) -> Iterator[str]:
     """What stands behind the blocks, of threads (ThreadEnd) and locks (LockEnd) that have ended."""
     for number, thread in enumerate(threads):
         yield f"thread {number} {thread.how} fuel {thread.fuel} pc {thread.pc:08x}"
@@ -160,14 +162,14 @@ def ending_lines(threads, locks):
 class Lines:
     """Numbered lines without their ends; one can be looked at before it is taken."""
 
-    def __init__(self, lines):
+    def __init__(self, lines: Iterable[str]) -> None:
         self.lines, self.number, self.cut = iter(lines), 0, False
-        self.next = None
+        self.next: str | None = None
         self.take()
 
-    def take(self):
-        """The line in front, or None behind the last whole one."""
-        line, self.next = self.next, next(self.lines, None)
+    def take(self) -> str:
+        """The line in front, or '' behind the last whole one."""
+        line, self.next = self.next or "", next(self.lines, None)
         self.number += 1
         if self.next is not None and not self.next.endswith("\n"):
             self.cut, self.next = True, None
@@ -175,11 +177,11 @@ class Lines:
             self.next = self.next[:-1]
         return line
 
-    def at(self):
+    def at(self) -> int:
         """The number of the line in front."""
         return self.number
 
-    def wrong(self, what):
+    def wrong(self, what: str) -> Wrong:
         shown = "the text ends" if self.next is None else f"it is {self.next[:100]!r}"
         return Wrong(f"line {self.at()} must be {what}: {shown}")
 
@@ -187,14 +189,16 @@ class Lines:
 class Report:
     """A report that is read from its lines: the header at once, then `blocks`, then `ends`."""
 
-    def __init__(self, lines):
+    def __init__(self, lines: Iterable[str]) -> None:
         self.lines = Lines(lines)
         self.version = self.first_line()
         self.threads, self.guards = self.guest_line()
         self.workers, self.fuel, self.batch = self.options_line()
-        self.thread_ends, self.lock_ends, self.whole = [], [], False
+        self.thread_ends: list[ThreadEnd] = []
+        self.lock_ends: list[LockEnd] = []
+        self.whole = False
 
-    def first_line(self):
+    def first_line(self) -> int:
         line = self.lines.next
         if line is None:
             raise Wrong("this is no report: it is empty, or stops in its first line")
@@ -207,7 +211,7 @@ class Report:
             raise self.lines.wrong("'tclocks 1' or 'tclocks 2'")
         return int(self.lines.take()[8:])
 
-    def guest_line(self):
+    def guest_line(self) -> tuple[int, int]:
         found = GUEST.fullmatch(self.lines.next or "")
         if not found:
             raise self.lines.wrong("'guest threads N guards M'")
@@ -220,23 +224,23 @@ class Report:
         self.lines.take()
         return threads, guards
 
-    def options_line(self):
+    def options_line(self) -> tuple[int, int, int]:
         options = options_of(self.lines.next or "", self.lines.at())
         if not options:
             raise self.lines.wrong("'run workers W fuel F batch B'")
         self.lines.take()
-        return options.values()
+        return options["workers"], options["fuel"], options["batch"]
 
-    def blocks(self):
+    def blocks(self) -> Iterator[Block]:
         """The blocks in their order."""
-        stamp, sets = 0, {"-": ()}
+        stamp, sets = 0, {"-": ()}  # type: int, dict[str, tuple[int, ...]]
         while self.lines.next is not None and self.lines.next.startswith("block "):
             yield self.block(stamp, sets)
             self.lines.take()
             stamp += 1
 
-    def block(self, stamp, sets):
-        found = BLOCK.fullmatch(self.lines.next)
+    def block(self, stamp: int, sets: dict[str, tuple[int, ...]]) -> Block:
+        found = BLOCK.fullmatch(self.lines.next or "")
         if not found or (found[7] is None) != (self.version == 1):
             raise self.lines.wrong(f"the line of block {stamp}")
         read, thread, turns, held, kind, worker, pc, end = found.groups()
@@ -256,14 +260,14 @@ class Report:
                         "section's first block holds its lock")
         return block
 
-    def held_set(self, held, stamp):
+    def held_set(self, held: str, stamp: int) -> tuple[int, ...]:
         locks = tuple(int(word) for word in held.split(",") if word and len(word) < 3)
         if held_text(locks) != held or list(locks) != sorted(set(locks)) or locks[-1] >= self.guards:
             raise Wrong(f"block {stamp}, line {self.lines.at()}: held is {held!r}, which is no "
                         f"ascending list of locks below {self.guards}")
         return locks
 
-    def ends(self):
+    def ends(self) -> None:
         """Reads what stands behind the blocks, as far as it goes."""
         while self.lines.next is not None and self.lines.next != "end":
             self.part()
@@ -273,9 +277,10 @@ class Report:
             if self.lines.next is not None or self.lines.cut:
                 raise Wrong(f"line {self.lines.at()}: something stands behind the line 'end'")
 
-    def part(self):
+    def part(self) -> None:
         """A thread with its registers, or a lock with its bytes."""
-        thread, lock = THREAD.fullmatch(self.lines.next), LOCK.fullmatch(self.lines.next)
+        line = self.lines.next or ""
+        thread, lock = THREAD.fullmatch(line), LOCK.fullmatch(line)
         if thread and int(thread[1]) == len(self.thread_ends) < self.threads:
             self.lines.take()
             self.thread_ends.append(ThreadEnd(thread[2], int(thread[3]), int(thread[4], 16),
@@ -286,8 +291,8 @@ class Report:
         else:
             raise self.lines.wrong("how a thread or a lock ends, or 'end'")
 
-    def registers(self):
-        values = []
+    def registers(self) -> tuple[int, ...]:
+        values: list[int] = []
         for first in range(0, 32, 8):
             if self.lines.next is None:
                 break
@@ -298,7 +303,7 @@ class Report:
             self.lines.take()
         return tuple(values)
 
-    def data(self, size):
+    def data(self, size: int) -> tuple[int, bytes]:
         address, content = 0, b""
         while len(content) < size and self.lines.next is not None:
             found = DATA.fullmatch(self.lines.next)
@@ -309,12 +314,12 @@ class Report:
             self.lines.take()
         return address, content
 
-    def title(self):
+    def title(self) -> str:
         """What the header says, for headings."""
         return ", ".join((several(self.threads, "thread"), several(self.guards, "lock"),
                           several(self.workers, "worker"), f"fuel {self.fuel}", f"batch limit {self.batch}"))
 
-    def cut_note(self):
+    def cut_note(self) -> str | None:
         """What to say of a report that stops early, or None."""
         if self.whole:
             return None

@@ -2,35 +2,42 @@
 history (report.Block), and gives a text. It aims at one of the reasons for which a history is rejected; which
 one it comes to, if any, is told by rejecting.py.
 """
+from __future__ import annotations
+
+from typing import Any, TYPE_CHECKING
 from .. import limits
 from ..limits import KINDS
 from . import report
+
+if TYPE_CHECKING:
+    from random import Random
 
 ENDS = ("wants 0", "unlocked 0", "unlocked 31", "slept", "cut", "exit", "fault 7", "spent")
 HELD = (), (0,), (1, 2), (0, 31), (0, 1, 2, 3, 4)
 
 
-def text_of(blocks):
+def text_of(blocks: Any) -> str:
     return "".join(f"{block.line(2)}\n" for block in blocks)
 
 
-def with_block(blocks, place, **parts):
+def with_block(blocks: list[report.Block], place: int, **parts: Any) -> str:
     """The text with other parts in one block."""
     return text_of([*blocks[:place], blocks[place]._replace(**parts), *blocks[place + 1:]])
 
 
-def other(draw, value, values):
+def other(draw: Random, value: Any,
+          values: Any) -> Any:
     """Another value than this one."""
     return draw.choice([one for one in values if one != value])
 
 
-def near(draw, value, least, most):
+def near(draw: Random, value: int, least: int, most: int) -> int:
     """Another number in these limits, mostly a near one."""
-    return other(draw, value, [min(max(one, least), most) for one in (
-        least, most, value - 1, value + 1, value + 2, value + 3)])
+    return int(other(draw, value, [min(max(one, least), most) for one in (
+        least, most, value - 1, value + 1, value + 2, value + 3)]))
 
 
-def spelling(draw, blocks):
+def spelling(draw: Random, blocks: list[report.Block]) -> str:
     """A line that is none, or a last one without its end."""
     lines = [f"{block.line(2)}\n" for block in blocks]
     place = draw.randrange(len(lines))
@@ -50,8 +57,9 @@ def spelling(draw, blocks):
     return "".join(lines)
 
 
-def thread(draw, blocks):
+def thread(draw: Random, blocks: list[report.Block]) -> str:
     """A block of a thread that is none, or has ended."""
+    ended: set[Any]
     count, ended, places = 1 + max(block.thread for block in blocks), set(), []
     for place, block in enumerate(blocks):
         places += [(place, number) for number in ended]
@@ -64,8 +72,10 @@ def thread(draw, blocks):
     return with_block(blocks, place, thread=number)
 
 
-def owner(draw, blocks):
+def owner(draw: Random, blocks: list[report.Block]) -> str:
     """A block of a thread that wants a lock which another one has, where there is one."""
+    held: dict[Any, Any]
+    wants: dict[Any, Any]
     wants, held, places = {}, {}, []
     for place, block in enumerate(blocks):
         held[block.thread] = held.get(block.thread, ())
@@ -81,13 +91,13 @@ def owner(draw, blocks):
     return with_block(blocks, place, thread=number)
 
 
-def another_thread(draw, blocks):
+def another_thread(draw: Random, blocks: list[report.Block]) -> str:
     """A block of any other thread that there is."""
     place = draw.randrange(len(blocks))
     return with_block(blocks, place, thread=draw.choice(sorted({block.thread for block in blocks})))
 
 
-def run(draw, blocks):
+def run(draw: Random, blocks: list[report.Block]) -> str:
     """A block with other turns, locks, program counter or end."""
     place = draw.randrange(len(blocks))
     block = blocks[place]
@@ -97,34 +107,35 @@ def run(draw, blocks):
     return with_block(blocks, place, **part)
 
 
-def kind(draw, blocks):
+def kind(draw: Random, blocks: list[report.Block]) -> str:
     """A block of another kind; mostly one that begins a section is given the kind of another section."""
     places = [place for place, block in enumerate(blocks) if block.begun is not None]
     if places and draw.random() < 0.8:
-        place, kinds = draw.choice(places), limits.SECTIONS
+        place = draw.choice(places)
+        kinds: tuple[str, ...] = limits.SECTIONS
     else:
         place, kinds = draw.randrange(len(blocks)), KINDS
     return with_block(blocks, place, kind=other(draw, blocks[place].kind, kinds))
 
 
-def worker(draw, blocks):
+def worker(draw: Random, blocks: list[report.Block]) -> str:
     """A block of another worker, which there may be or not."""
     place = draw.randrange(len(blocks))
     count = 1 + max(block.worker for block in blocks)
     return with_block(blocks, place, worker=draw.choice((0, 1, count - 1, count, limits.RUN["workers"][1], 2**32 - 1)))
 
 
-def front(draw, blocks):
+def front(draw: Random, blocks: list[report.Block]) -> str:
     """The first blocks alone."""
     return text_of(blocks[:draw.randrange(len(blocks))])
 
 
-def numbered(blocks):
+def numbered(blocks: list[report.Block]) -> str:
     """The text of these blocks with the stamps of their places."""
     return text_of(block._replace(stamp=stamp) for stamp, block in enumerate(blocks))
 
 
-def moved(draw, blocks):
+def moved(draw: Random, blocks: list[report.Block]) -> str:
     """Two blocks in each other's place, one left out, or one twice."""
     one, two = sorted(draw.randrange(len(blocks)) for _ in range(2))
     return numbered(draw.choice((

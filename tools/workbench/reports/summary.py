@@ -1,14 +1,17 @@
 """Counts what a report says: by lock, by thread and by worker.
 """
+from __future__ import annotations
+
 import csv
 import json
 import sys
+from typing import Any
 
 from .. import limits, tool
 from . import counts, report
 
 
-def read(path):
+def read(path: str) -> counts.Counts:
     text = report.Report(tool.read_lines(path))
     counted = counts.Counts(text)
     for block in text.blocks():
@@ -17,11 +20,11 @@ def read(path):
     return counted
 
 
-def shown(value):
+def shown(value: float | None) -> str:
     return "?" if value is None else str(value)
 
 
-def print_text(counted):
+def print_text(counted: counts.Counts) -> None:
     text = counted.text
     blocks = sum(worker.blocks for worker in counted.workers)
     turns = sum(worker.turns for worker in counted.workers)
@@ -34,16 +37,16 @@ def print_text(counted):
         tool.print_columns([names, *([shown(value) for value in row.values()] for row in rows)])
 
 
-def print_json(counted):
+def print_json(counted: counts.Counts) -> None:
     print(json.dumps({**parameters(counted.text), "whole": counted.text.whole,
                       **{f"by_{name}": rows for name, rows in counted.tables()}}, indent=1))
 
 
-def parameters(text):
+def parameters(text: report.Report) -> dict[str, int]:
     return {name: getattr(text, name) for name in limits.RUN}
 
 
-def print_csv(counted):
+def print_csv(counted: Any) -> None:
     """One value a line, with the parameters of the run, so that the tables of all runs are one."""
     writer, run = csv.writer(sys.stdout, lineterminator="\n"), parameters(counted.text)
     writer.writerow([*run, "of", "number", "name", "value"])
@@ -54,12 +57,12 @@ def print_csv(counted):
                     writer.writerow([*run.values(), name, row[name], key, "" if value is None else value])
 
 
-def print_profile(counted):
+def print_profile(counted: counts.Counts) -> None:
     for line in counted.profile_lines():
         print(line)
 
 
-def main(words):
+def main(words: list[str]) -> None:
     parser = tool.words("summary", __doc__ + counts.MEANINGS)
     parser.add_argument("report", metavar="REPORT", help="a report; - is standard input")
     forms = parser.add_mutually_exclusive_group()

@@ -1,6 +1,8 @@
 """A report as a timeline: its blocks with what a picture says of each, what threads do between two
 of their blocks while they hold locks or want one, and where each lock is between two blocks."""
-from typing import NamedTuple, Optional, Tuple
+from __future__ import annotations
+
+from typing import Any, Iterator, NamedTuple, Optional, Tuple
 
 from .. import tool
 from . import counts, report
@@ -18,7 +20,7 @@ class Mark(NamedTuple):
     release: Optional[report.Block]
     moved: Tuple[int, ...]
 
-    def sentence(self):
+    def sentence(self) -> str:
         block = self.block
         parts = [f"block {block.stamp}: thread {block.thread}, worker {block.worker}",
                  f"{block.turns} turns", block.kind]
@@ -44,13 +46,13 @@ class Gap(NamedTuple):
     wanted: int = -1
     worker: Optional[int] = None
 
-    def what(self):
+    def what(self) -> str:
         held = f" with {report.locks_text(self.held)} held" if self.held else ""
         return {ASLEEP: "asleep", SHIPPED: f"shipped to lock {self.wanted}",
                 WAITING: f"waits for lock {self.wanted}", WANTS: f"wants lock {self.wanted}",
                 HOLDS: "between two blocks"}[self.state] + held
 
-    def sentence(self):
+    def sentence(self) -> str:
         return f"thread {self.thread}, blocks {self.first} to {self.last}: {self.what()}"
 
 
@@ -63,7 +65,7 @@ class Stay(NamedTuple):
     worker: Optional[int]
     what: str
 
-    def sentence(self):
+    def sentence(self) -> str:
         has = "no worker has it" if self.worker is None else f"worker {self.worker} has it"
         return f"lock {self.lock}, blocks {self.first} to {self.last}: {has}, {self.what}"
 
@@ -71,19 +73,23 @@ class Stay(NamedTuple):
 class Timeline:
     """The marks and gaps of a report's blocks, and the counts of all."""
 
-    def __init__(self, text):
+    marks: list[Mark]
+    gaps: list[Gap]
+    handings: list[Stay]
+
+    def __init__(self, text: report.Report) -> None:
         self.text, self.marks, self.gaps, self.handings = text, [], [], []
         self.counts = counts.Counts(text)
-        self.last = [None] * text.threads
-        self.released = [None] * text.guards  # the block that released the lock last
-        self.workers = [None] * text.guards  # the worker of the lock's last block
+        self.last: list[report.Block | None] = [None] * text.threads
+        self.released: list[report.Block | None] = [None] * text.guards  # the block that released the lock last
+        self.workers: list[int | None] = [None] * text.guards  # the worker of the lock's last block
 
-    def add(self, block):
+    def add(self, block: report.Block) -> None:
         away = self.counts.add(block)
         before = self.last[block.thread]
         if before is not None and before.stamp + 1 < block.stamp:
             self.add_gap(before, block)
-        release = self.released[block.begun] if block.passed_on else None
+        release = self.released[block.begun] if block.begun is not None and block.passed_on else None
         if release is not None:
             self.add_handing(release, before, block)
         moved = tuple(lock for lock in block.held if self.workers[lock] not in (None, block.worker))
@@ -94,7 +100,7 @@ class Timeline:
         self.last[block.thread] = block
         self.marks.append(Mark(block, away, before if block.passed_on else None, release, moved))
 
-    def add_gap(self, before, block):
+    def add_gap(self, before: report.Block, block: report.Block) -> None:
         kept, wanted = before.kept, before.wanted
         if before.end == "slept" and kept:
             state = ASLEEP
@@ -110,9 +116,10 @@ class Timeline:
         self.gaps.append(Gap(block.thread, before.stamp + 1, block.stamp - 1, state, kept,
                              -1 if wanted is None else wanted, worker))
 
-    def add_handing(self, release, came, block):
+    def add_handing(self, release: report.Block, came: report.Block | None, block: report.Block) -> None:
         """Of an adopted or granted section: where its lock is from the release on. A waiter that came to
         its LOCK behind the releasing block came before the release was done."""
+        assert block.begun is not None
         if came is not None and came.stamp > release.stamp:
             self.handings.append(Stay(block.begun, release.stamp + 1, came.stamp, release.worker,
                                       f"which releases it to thread {block.thread}"))
@@ -122,18 +129,18 @@ class Timeline:
             self.handings.append(Stay(block.begun, release.stamp + 1, block.stamp - 1, worker,
                                       f"in the package of thread {block.thread}, to which it was handed"))
 
-    def close(self):
+    def close(self) -> None:
         """Adds what threads want at the end of a report that was cut."""
         end = len(self.marks) - 1
         for block in self.last:
             if block is not None and block.stamp < end and block.wanted is not None:
                 self.gaps.append(Gap(block.thread, block.stamp + 1, end, WANTS, block.kept, block.wanted))
 
-    def part(self, first, last):
+    def part(self, first: int, last: int) -> tuple[list[Mark], list[Gap]]:
         """The marks and gaps of some stamps; gaps are cut to them."""
         return self.marks[first:last + 1], cut(self.gaps, first, last)
 
-    def stays(self, first, last):
+    def stays(self, first: int, last: int) -> Iterator[Stay]:
         """Where locks are between two blocks of some stamps."""
         for gap in cut(self.gaps, first, last):
             for lock in gap.held:
@@ -141,13 +148,13 @@ class Timeline:
         yield from cut(self.handings, first, last)
 
 
-def cut(spans, first, last):
+def cut(spans: list[Any], first: int, last: int) -> list[Any]:
     return [span if first <= span.first and span.last <= last
             else span._replace(first=max(span.first, first), last=min(span.last, last))
             for span in spans if span.first <= last and span.last >= first]
 
 
-def of(text):
+def of(text: report.Report) -> Timeline:
     """The timeline of a report that is about to be read."""
     line = Timeline(text)
     for block in text.blocks():
@@ -157,6 +164,6 @@ def of(text):
     return line
 
 
-def read(path):
+def read(path: str) -> Timeline:
     """The timeline of a report in a file."""
     return of(report.Report(tool.read_lines(path)))

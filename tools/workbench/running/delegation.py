@@ -5,13 +5,19 @@ alone does is determined, and the program does the same.
 It is a simulation of the rules and no run of the program. Every block is run by legal.Run, which
 refuses what is not legal.
 """
+from __future__ import annotations
+
 import collections
 import heapq
 import itertools
 import random
+from typing import Generator, Iterator, TYPE_CHECKING
 
 from ..judging import legal
 from ..reports import report
+
+if TYPE_CHECKING:
+    from ..guest import model
 
 READY, WAITING, PARKED, TAKEN, DONE = "ready", "waiting", "parked", "taken", "done"
 
@@ -20,29 +26,33 @@ class Worker:
     """A worker: its clock of blocks, its sleepers, the thread that it set aside, and those that it
     made ready and offers, the oldest first."""
 
-    def __init__(self, number):
+    sleepers: list[tuple[int, int]]
+    aside: int | None
+
+    def __init__(self, number: int) -> None:
         self.number, self.clock, self.sleepers, self.aside = number, 0, [], None
-        self.offers = collections.deque()
+        self.offers: collections.deque[int] = collections.deque()
 
 
 class Hall:
     """Where threads and locks are, and who stands in each lock's line."""
 
-    def __init__(self, guest, workers, fuel, limit, seed, version=2, nodes=0, bound=0):
+    def __init__(self, guest: model.Guest, workers: int, fuel: int, limit: int, seed: int | None, version: int = 2,
+                 nodes: int = 0, bound: int = 0) -> None:
         self.nodes, self.bound = nodes, bound  # without nodes waiters are served in the order in which they came
         self.run = legal.Run(guest, workers, fuel, limit, version)
         self.threads = self.run.machine.threads
         self.place = [READY] * len(self.threads)
-        self.granted = [None] * len(self.threads)  # the kind of a grant that waits to be used
+        self.granted: list[str | None] = [None] * len(self.threads)  # the kind of a grant that waits to be used
         self.home = [True] * len(self.run.machine.locks)
-        self.line = [[] for _ in self.home]  # threads; the first has the lock or is about to
-        self.linked = set()  # (thread, lock): it stands in the line for the one before to see
-        self.shipped = {}  # of a thread that waits: its worker, and how many that came later were picked before it
+        self.line: list[list[int]] = [[] for _ in self.home]  # threads; the first has the lock or is about to
+        self.linked: set[tuple[int, int]] = set()  # (thread, lock): it stands in the line for the one before to see
+        self.shipped: dict[int, list[int]] = {}  # of a thread that waits: its worker, and how many that came later were picked before it
         self.chance = random.Random(seed)
         self.slowness = [4 ** self.chance.uniform(-1, 1) for _ in range(workers)]
-        self.blocks = []
+        self.blocks: list[report.Block] = []
 
-    def history(self):
+    def history(self) -> list[report.Block]:
         """Lets the workers run to the end of every thread. Answers the blocks."""
         times = [(300 * self.chance.random() ** 3, number) for number in range(self.run.workers)]
         steps = [self.work(Worker(number)) for number in range(self.run.workers)]
@@ -56,7 +66,7 @@ class Hall:
                 heapq.heappush(times, (time, number))
         return self.blocks
 
-    def work(self, worker):
+    def work(self, worker: Worker) -> Iterator[int]:
         """A worker's steps; each yields how long it takes."""
         hand = None
         while True:
@@ -75,10 +85,10 @@ class Hall:
                 block = yield from self.run_block(worker, hand)
                 hand = yield from self.settle(worker, hand, block)
 
-    def wanted(self, thread):
+    def wanted(self, thread: int) -> int | None:
         return self.run.machine.next_lock(self.threads[thread])
 
-    def pick(self, worker):
+    def pick(self, worker: Worker) -> int | None:
         """The thread set aside, else a sleeper that is due, else one that is ready, or None."""
         if worker.aside is not None:
             hand, worker.aside = worker.aside, None
@@ -86,14 +96,14 @@ class Hall:
         due = min((sleeper for sleeper in worker.sleepers if sleeper[0] <= worker.clock), default=None)
         if due is not None:
             worker.sleepers.remove(due)
-            hand = due[1]
+            found: int | None = due[1]
         else:
-            hand = self.pick_ready(worker)
-        if hand is not None:
-            self.place[hand] = TAKEN
-        return hand
+            found = self.pick_ready(worker)
+        if found is not None:
+            self.place[found] = TAKEN
+        return found
 
-    def pick_ready(self, worker):
+    def pick_ready(self, worker: Worker) -> int | None:
         """A thread that is ready, or None: any where workers race; by one worker alone the oldest
         offer, else the least thread."""
         ready = [t for t, place in enumerate(self.place) if place == READY]
@@ -103,11 +113,11 @@ class Hall:
             return self.chance.choice(ready)
         return worker.offers.popleft() if worker.offers else ready[0]
 
-    def make_ready(self, worker, thread):
+    def make_ready(self, worker: Worker, thread: int) -> None:
         self.place[thread] = READY
         worker.offers.append(thread)
 
-    def run_block(self, worker, thread):
+    def run_block(self, worker: Worker, thread: int) -> Generator[int, None, report.Block]:
         """Runs and commits a block; it takes as long as it has turns."""
         yield 1 + self.chance.randrange(4)
         kind, self.granted[thread] = self.granted[thread], None
@@ -116,10 +126,11 @@ class Hall:
         worker.clock += 1
         return block
 
-    def acquire(self, worker, thread):
+    def acquire(self, worker: Worker, thread: int) -> Generator[int, None, int | None]:
         """Enters the line of the lock: first gets it from home, else the thread is shipped with
         all its locks."""
         lock = self.wanted(thread)
+        assert lock is not None
         self.line[lock].append(thread)
         yield 1
         if self.line[lock][0] == thread:
@@ -134,7 +145,7 @@ class Hall:
         self.linked.add((thread, lock))
         return None
 
-    def settle(self, worker, thread, block):
+    def settle(self, worker: Worker, thread: int, block: report.Block) -> Generator[int, None, int | None]:
         """What comes after a block. Answers the thread in hand, or None."""
         yield max(1, block.turns)
         if block.ends_thread:
@@ -162,7 +173,7 @@ class Hall:
             thread, worker.aside = worker.aside, None
         return thread
 
-    def next_in_line(self, lock, worker):
+    def next_in_line(self, lock: int, worker: Worker) -> int:
         """Whom a worker passes a lock on to: the first that stands in the line, or with nodes the first of the
         worker's node, as long as the first of all was not passed over as often as the bound says."""
         waiting = list(itertools.takewhile(lambda thread: (thread, lock) in self.linked, self.line[lock][1:]))
@@ -174,7 +185,7 @@ class Hall:
             self.shipped[passed][1] += 1
         return chosen
 
-    def release(self, worker, lock, block):
+    def release(self, worker: Worker, lock: int, block: report.Block) -> Generator[int, None, int | None]:
         """Hands a lock to the next in its line, or brings it home. Answers the thread that the
         worker adopts, or None."""
         line = self.line[lock]
@@ -199,7 +210,8 @@ class Hall:
         return waiter if adopts else None
 
 
-def delegated(guest, fuel, workers, limit, seed=0, version=2, nodes=0, bound=0):
+def delegated(guest: model.Guest, fuel: int, workers: int, limit: int, seed: int | None = 0, version: int = 2,
+              nodes: int = 0, bound: int = 0) -> tuple[legal.Run, list[report.Block]]:
     """The history that the seed stands for, which one worker alone does not look at: the run and
     its blocks."""
     hall = Hall(guest, workers, fuel, limit, seed, version, nodes, bound)
@@ -207,7 +219,7 @@ def delegated(guest, fuel, workers, limit, seed=0, version=2, nodes=0, bound=0):
     return hall.run, blocks
 
 
-def check_alone(guest, fuel, limit, report_text):
+def check_alone(guest: model.Guest, fuel: int, limit: int, report_text: str) -> None:
     """Wrong where a report of one worker is not the model's, to the last byte."""
     run, blocks = delegated(guest, fuel, 1, limit)
     pairs = itertools.zip_longest(report_text.splitlines(), run.lines(blocks))

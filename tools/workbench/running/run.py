@@ -4,24 +4,30 @@ Output and status are those of ./tclocks run W F B < GUEST, or of nodes G K W F 
 two ran is said on standard error. With one worker both print the same; with several the program does what the
 host's scheduler makes of it, and the model takes the interleaving of its seed. A seed asks for the model.
 """
+from __future__ import annotations
+
+from typing import Any, TYPE_CHECKING
 from .. import tool
 from ..guest import guestfile
 from ..judging import reasons
 from . import delegation, program
+
+if TYPE_CHECKING:
+    from argparse import Namespace
 
 
 ENDS = {tool.WRONG: "the file is refused; ./workbench explain GUEST says why", tool.OUTPUT: "standard output can't be written",
         tool.MEMORY: "memory was refused"}
 
 
-def by_program(file, words):
+def by_program(file: bytes, words: tuple[Any, ...]) -> None:
     tool.note("run", "by the program")
     status = program.pass_on(words, file)
     if status:
         raise tool.Trouble(status, ENDS.get(status, f"the program ended with status {status}"))
 
 
-def by_model(file, asked, why):
+def by_model(file: bytes, asked: Namespace, why: str | None) -> None:
     try:
         guest = guestfile.GuestFile(file).guest
     except guestfile.Refused as refused:
@@ -35,7 +41,7 @@ def by_model(file, asked, why):
         print(line)
 
 
-def main(words):
+def main(words: list[str]) -> None:
     parser = tool.words("run", __doc__, "guest", "run")
     parser.add_argument("--seed", type=tool.number(0, 10**9), metavar="N", help="the model, in this interleaving (0)")
     parser.add_argument("--nodes", metavar=("G", "K"), nargs=2, type=tool.number(0, 256), default=(0, 0),

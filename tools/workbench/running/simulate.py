@@ -3,12 +3,14 @@
 What one worker does is determined: ./tclocks prints the same. Several workers delegate in an
 interleaving that the seed stands for; the program's is another one each time.
 """
+from __future__ import annotations
+
 from .. import tool
 from ..guest import guestfile
 from . import delegation
 
 
-def main(words):
+def main(words: list[str]) -> None:
     parser = tool.words("simulate", __doc__, "guest", "run")
     parser.add_argument("--seed", type=tool.number(0, 10**9), default=0,
                         help="the interleaving of several workers, 0 if it is not given")

@@ -12,6 +12,8 @@ waiter of the releaser's node first, but to none before one that was passed over
   changes_of_node   changes of worker between two nodes: so often the lock's bytes went to another node
   other_node        sections whose home worker is on another node: so often a context did
 """
+from __future__ import annotations
+
 import argparse
 import csv
 import itertools
@@ -21,7 +23,7 @@ import signal
 import sys
 import time
 import types
-from typing import NamedTuple
+from typing import Any, Callable, Dict, Iterable, Iterator, List, NamedTuple, Optional, Tuple
 
 from .. import limits, tool
 from ..drawing import plots
@@ -44,13 +46,13 @@ class Setting(NamedTuple):
     bound: int
     fuel: int
     run: int
-    seed: int
+    seed: Optional[int]  # of the model
 
-    def order(self):
+    def order(self) -> tuple[int, int, int]:
         """What its runs are told apart by beside the batch limit."""
         return self.workers, self.nodes, self.bound
 
-    def words(self):
+    def words(self) -> tuple[Any, ...]:
         form = ("nodes", self.nodes, self.bound) if self.nodes else ("run",)
         return (*form, self.workers, self.fuel, self.batch)
 
@@ -59,23 +61,23 @@ class Result(NamedTuple):
     """What a run did: the numbers of each lock, the workers of its sections in their order, and the run's
     blocks, turns and seconds."""
     setting: Setting
-    locks: list
-    owners: list
+    locks: List[Dict[str, int]]
+    owners: List[bytearray]
     blocks: int
     turns: int
     seconds: str
 
-    def sums(self):
+    def sums(self) -> dict[str, int]:
         """The numbers of all locks together."""
-        return {name: (max if name in GREATEST else sum)([lock[name] for lock in self.locks] or [0])
-                for name in NUMBERS + OF_NODES}
+        columns = {name: [lock[name] for lock in self.locks] or [0] for name in NUMBERS + OF_NODES}
+        return {name: max(column) if name in GREATEST else sum(column) for name, column in columns.items()}
 
 
-def numbers(least, most):
+def numbers(least: int, most: int) -> Callable[[str], List[int]]:
     """A type of a word: numbers in these limits with commas between them."""
     one = tool.number(least, most)
 
-    def read(word):
+    def read(word: str) -> list[int]:
         found = [one(part) for part in word.split(",")]
         if len(set(found)) < len(found):
             raise argparse.ArgumentTypeError(f"{word!r} has a number twice")
@@ -83,7 +85,7 @@ def numbers(least, most):
     return read
 
 
-def counted(setting, shape, blocks, seconds=""):
+def counted(setting: Setting, shape: Any, blocks: Iterable[report.Block], seconds: str = "") -> Result:
     """The result of a run's blocks; its shape has the numbers of threads, locks and workers."""
     result = counts.Counts(shape)
     owners = [bytearray() for _ in range(shape.guards)]
@@ -99,7 +101,7 @@ def counted(setting, shape, blocks, seconds=""):
                   sum(worker.turns for worker in result.workers), seconds)
 
 
-def by_program(file, setting):
+def by_program(file: bytes, setting: Setting) -> Result:
     """A run of the program."""
     words = setting.words()
     began = time.perf_counter()
@@ -111,15 +113,15 @@ def by_program(file, setting):
     return counted(setting, read, read.blocks(), seconds)
 
 
-def by_model(job):
+def by_model(job: Tuple[bytes, Setting]) -> Result:
     file, setting = job
-    run, blocks = delegation.delegated(model.Guest(file), setting.fuel, setting.workers, setting.batch, setting.seed,
+    run, blocks = delegation.delegated(model.Guest(file), setting.fuel, setting.workers, setting.batch, setting.seed or 0,
                                        nodes=setting.nodes, bound=setting.bound)
     shape = types.SimpleNamespace(threads=len(run.machine.threads), guards=len(run.machine.locks), workers=run.workers)
     return counted(setting, shape, blocks)
 
 
-def results(file, settings):
+def results(file: bytes, settings: List[Setting]) -> Iterator[Result]:
     """The results of runs: of the program one after another, so that their seconds are their own; of the model
     with all processors."""
     if settings[0].by == "program":
@@ -131,27 +133,27 @@ def results(file, settings):
         yield from pool.imap(by_model, [(file, setting) for setting in settings])
 
 
-def settings_of(asked, by):
+def settings_of(asked: argparse.Namespace, by: str) -> Iterator[Setting]:
     orders = [(nodes, bound) for nodes in asked.nodes for bound in (asked.bound if nodes else [0])]
     every = [(workers, batch, order, run) for workers, batch, order, run in itertools.product(
         asked.workers, asked.batch, orders, range(1, asked.runs + 1)) if order[0] <= workers]
-    for number, (workers, batch, order, run) in enumerate(every):
-        yield Setting(by, workers, batch, *order, asked.fuel, run, asked.seed + number if by == "model" else "")
+    for number, (workers, batch, (nodes, bound), run) in enumerate(every):
+        yield Setting(by, workers, batch, nodes, bound, asked.fuel, run, asked.seed + number if by == "model" else None)
 
 
-def lines(name, result, each_lock):
+def lines(name: str, result: Result, each_lock: bool) -> Iterator[list[Any]]:
     """The cells of a run's lines behind its parameters."""
-    found = enumerate(result.locks) if each_lock else [("all", result.sums())]
+    found: Iterable[Any] = enumerate(result.locks) if each_lock else [("all", result.sums())]
     setting = result.setting
-    if not setting.nodes:
-        setting = setting._replace(nodes="", bound="")
+    parameters = {**setting._asdict(), **({} if setting.nodes else {"nodes": "", "bound": ""}),
+                  "seed": "" if setting.seed is None else setting.seed}
     for lock, numbers_ in found:
-        yield [name, *setting, lock, *(numbers_[number] for number in NUMBERS),
+        yield [name, *parameters.values(), lock, *(numbers_[number] for number in NUMBERS),
                *(numbers_[number] if setting.nodes else "" for number in OF_NODES), result.blocks, result.turns,
                result.seconds]
 
 
-def draw(asked, done):
+def draw(asked: argparse.Namespace, done: list[Result]) -> None:
     """Writes the pictures that are asked for."""
     name = os.path.basename(asked.guest)
     if asked.plot:
@@ -164,7 +166,7 @@ def draw(asked, done):
         tool.write_file(asked.strips, plots.strips(name, first, lock, asked.sections))
 
 
-def asked_of(words):
+def asked_of(words: list[str]) -> argparse.Namespace:
     parser = tool.words("sweep", __doc__ + counts.MEANINGS, "guest")
     for name, usual in (("workers", "1,2,4,8"), ("batch", "0,1,8,256")):
         parser.add_argument(f"--{name}", metavar="N,N..", type=numbers(*limits.RUN[name]), default=usual,
@@ -191,7 +193,7 @@ def asked_of(words):
     return asked
 
 
-def main(words):
+def main(words: list[str]) -> None:
     asked = asked_of(words)
     file = guestfile.read(asked.guest)
     locks = len(guestfile.accepted(file, asked.guest).guest.guards)
