@@ -2,6 +2,7 @@
 from __future__ import annotations
 
 import csv
+import json
 import pathlib
 import shutil
 import subprocess
@@ -127,14 +128,15 @@ class Replay(Case):
         root = with_program("replays", MADE_UP)
         done = bench("-f", "13,20", "hot-lock", "longest-history", name="replay", root=root)
         self.assertEqual((done.returncode, done.stderr), (3, b""))
-        lines = [line.split() for line in done.stdout.decode().splitlines()]
-        self.assertEqual([line[0] for line in lines], ["guest", "hot-lock", "hot-lock", "longest-history", "longest-history"])
-        for line in lines[1], lines[3]:
-            self.assertIn("prints another report than the run's", " ".join(line))
+        table, told = rows(done)
+        self.assertEqual([row[0] for row in table], ["Guest", "---", "hot-lock", "longest-history"])
+        self.assertEqual([line.partition(":")[0] for line in told], ["hot-lock", "longest-history"])
+        for line in told:
+            self.assertIn("prints another report than the run's", line)
         # One worker runs a thread after another: each has its own first block, and then takes and gives the lock.
         text = run("run", "-", "1", "20", "0", "--seed", "0", given=guests_file("hot-lock")).stdout.decode()
         history = "".join(line for line in text.splitlines(keepends=True) if line.startswith("block "))
-        self.assertEqual(lines[2][1:3], [f"{history.count(chr(10)):,}", f"{len(history):,}"])
+        self.assertEqual(table[2][1:3], [f"{history.count(chr(10)):,}", f"{len(history):,}"])
 
 
 def rows(done: subprocess.CompletedProcess[bytes]) -> tuple[list[list[str]], list[str]]:
@@ -195,6 +197,23 @@ class Peer(Case):
             self.assertEqual((done.returncode, done.stdout, done.stderr), (3, b"", b"peer: this is no guest\n"))
         done = subprocess.run([peer], stdout=subprocess.PIPE, stderr=subprocess.PIPE, check=False)
         self.assertEqual((done.returncode, done.stderr), (1, b"peer: usage: peer FUEL [history] < GUEST\n"))
+
+
+class Results(Case):
+    def test_the_table_is_made_of_the_raw_results(self) -> None:
+        root, file = with_program("results", MADE_UP), TEMPORARY / "results.json"
+        done = bench("-f", "20", "hot-lock", "sleeps", "--results", str(file), name="replay", root=root)
+        self.assertEqual((done.returncode, done.stderr), (0, b""))
+        self.assertEqual(bench(file, name="table").stdout, done.stdout)
+        first, *others = [json.loads(line) for line in file.read_text().splitlines()]
+        self.assertEqual((first["bench"], first["words"]["guests"]), ("replay", ["hot-lock", "sleeps"]))
+        self.assertEqual([one["cells"][0] for one in others], ["hot-lock", "sleeps"])
+
+    def test_wrong_uses(self) -> None:
+        self.one_line(bench("sleeps", "--results", "/proc/none", name="replay", root=with_program("kept", MADE_UP)), 4)
+        self.one_line(bench("/no/such/file", name="table"), 2)
+        for text in "", "{}", "[]", "{\"columns\": [3]}", "no":
+            self.one_line(bench(saved("wrong.json", text), name="table"), 3)
 
 
 class Several(Case):

@@ -5,6 +5,9 @@ from __future__ import annotations
 import contextlib
 import io
 import random
+import signal
+import subprocess
+import time
 import unittest
 from typing import Any
 
@@ -17,6 +20,11 @@ from tools.workbench.running import delegation, program
 from . import common, small
 from .common import GUESTS, NAMES, ROOT, TEMPORARY, Case, elf, run, saved
 
+
+
+def attentive() -> None:
+    """What is started in the background may ignore an interrupt, and would hand that on."""
+    signal.signal(signal.SIGINT, signal.default_int_handler)
 
 
 def searched(file: bytes, fuel: int, **more: Any) -> search.Search:
@@ -141,7 +149,8 @@ class EveryInterleaving(Case):
 class Use(Case):
     def test_all(self) -> None:
         done = run("explore", elf("stale"), "--all")
-        self.assertEqual((done.returncode, done.stderr), (0, b""))
+        self.one_line(done, 0)
+        self.assertRegex(done.stderr.decode(), r"^workbench explore: some \d+ states are expected, .*; at most 1,000,000 are searched")
         self.says("every interleaving: 2 outcomes, ", done)
         self.says("lock 0 word 0 (00100000): 33 (0x21)", done)
         self.says("lock 0 word 0 (00100000): 73 (0x49)", done)
@@ -154,7 +163,7 @@ class Use(Case):
 
     def test_runs_beside_all(self) -> None:
         done = run("explore", elf("stale"), "--all", "--runs", "3", "--model")
-        self.assertEqual((done.returncode, done.stderr), (0, b""))
+        self.one_line(done, 0)
         self.says("\n\nsamples, 3 runs by the model: 1 outcome seen\n", done)
 
     def test_a_run_that_the_search_has_not(self) -> None:
@@ -192,8 +201,42 @@ class Use(Case):
         self.one_line(done, 6)
         self.says("# faults: not found; more than 50 states: not all seen; about ", done)
         done = run("explore", elf("stale"), "--all", "--states", "50", "--most", "1", "--processes", "1")
-        self.assertEqual((done.returncode, done.stderr), (0, b""))
+        self.one_line(done, 0)
         self.assertTrue(done.stdout.startswith(b"more than 50 states: not all seen; about "), done.stdout)
+
+    def test_it_goes_on_where_it_stopped(self) -> None:
+        whole = run("explore", elf("stale"), "--all", "--never", "lock 0 word 0 != 73")
+        for processes in "1", "2":
+            file = str(TEMPORARY / f"search-{processes}")
+            words = ("explore", elf("stale"), "--all", "--never", "lock 0 word 0 != 73", "--states", "60", "--processes", processes,
+                     "--resume", file)
+            done, count = run(*words), 1
+            while done.stdout.count(b"not all seen"):
+                self.says(f"the same words go on from {file}", done)
+                done, count = run(*words), count + 1
+            self.assertGreater(count, 2)
+            self.assertEqual((done.returncode, done.stdout), (3, whole.stdout))
+
+    def test_a_file_that_is_no_search_of_this_guest(self) -> None:
+        file = TEMPORARY / "search"
+        words = ("--never", "faults", "--states", "20", "--processes", "1", "--resume", str(file))
+        self.assertEqual(run("explore", elf("stale"), *words).returncode, 6)
+        kept = file.read_bytes()
+        for guest, content in (("first", kept), ("stale", kept[:-1]), ("stale", b""), ("stale", kept[:70] + b"!" + kept[71:])):
+            file.write_bytes(content)
+            self.one_line(run("explore", elf(guest), *words), 3)
+        self.one_line(run("explore", elf("stale"), "--runs", "1", "--model", "--resume", str(file)), 1)
+
+    def test_an_interrupt_tells_what_was_found(self) -> None:
+        started = subprocess.Popen([ROOT / "workbench", "explore", elf("philosophers"), "--all", "--most", "1"],
+                                   stdout=subprocess.PIPE, stderr=subprocess.PIPE, preexec_fn=attentive)
+        assert started.stderr
+        started.stderr.readline()  # how large it is expected to be
+        time.sleep(2)
+        started.send_signal(signal.SIGINT)
+        out, said = started.communicate(timeout=60)
+        self.assertEqual((started.returncode, said), (130, b"workbench explore: interrupted\n"), out)
+        self.assertIn(b": not all seen", out)
 
     def test_estimate(self) -> None:
         guest = guestfile.load(elf("stale")).guest

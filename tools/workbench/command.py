@@ -42,7 +42,8 @@ GROUPS: Tuple[Tuple[str, Tuple[Subcommand, ...]], ...] = (
         Subcommand("bench together", "benches.together", "how often workers run together"),
         Subcommand("bench nodes", "benches.nodes", "what the order of the waiters changes"),
         Subcommand("bench peer", "benches.peer", "beside a peer under ordinary pthread mutexes"),
-        Subcommand("bench replay", "benches.replay", "what replay and profile take"))),
+        Subcommand("bench replay", "benches.replay", "what replay and profile take"),
+        Subcommand("bench table", "benches.table", "print the table of a file of raw results"))),
 )
 EVERY = {one.name: one for _, group in GROUPS for one in group}
 USAGE = "usage: workbench SUBCOMMAND [WORD ..] | workbench SUBCOMMAND --help"

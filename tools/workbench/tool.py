@@ -45,7 +45,7 @@ def called(tool: str) -> str:
     return tool if "/" in tool else f"workbench {tool}".rstrip()
 
 
-def words(tool: str, description: str, *first: str) -> Words:
+def words(tool: str, description: str | None, *first: str) -> Words:
     """The parser of a tool's words, with a guest's file and the numbers of a run where these come first."""
     parser = Words(prog=called(tool), description=description, allow_abbrev=False,
                    formatter_class=argparse.RawDescriptionHelpFormatter)

@@ -19,7 +19,7 @@ import tempfile
 import types
 from typing import Any, TYPE_CHECKING
 
-from .. import limits, places, tool
+from .. import limits, places, progress, tool
 from ..guest import model
 from ..reports import report
 from . import guests, process, table
@@ -30,8 +30,10 @@ if TYPE_CHECKING:
 
 FACTS = json.loads((places.GUESTS / "facts.json").read_text())
 AMPLE = 20000  # fuel with which the facts hold
-COLUMNS = ("Guest", "Turns", "Blocks", "Program: seconds", "processor", "Peer: seconds", "processor", "Peer with text: seconds",
-           "processor", "To peer", "To peer with text")
+COLUMNS = [table.Column("Guest"), table.Column("Turns", ","), table.Column("Blocks", ","), *(
+    table.Column(title, ".4f") for title in ("Program: seconds", "processor", "Peer: seconds", "processor",
+                                             "Peer with text: seconds", "processor")),
+    table.Column("To peer", ".2f"), table.Column("To peer with text", ".2f")]
 
 
 class Failed(Exception):
@@ -67,19 +69,13 @@ class Measured:
 
 def asked_of(words: list[str]) -> Namespace:
     """What the words ask for."""
-    parser = tool.words("bench peer", __doc__)
-    parser.add_argument("guests", metavar="GUEST", nargs="*",
-                        help=f"{', '.join(guests.GUESTS)}; {', '.join(FACTS)}; all when left out")
-    parser.add_argument("-f", dest="fuel", metavar="FUEL", type=tool.number(*limits.RUN["fuel"]),
-                        default=limits.RUN["fuel"][1], help="of each thread (65536)")
-    parser.add_argument("-r", dest="runs", metavar="RUNS", type=tool.number(1, 9999), default=5, help="of each (5)")
+    known = (*guests.GUESTS, *FACTS)
+    parser = process.words("peer", __doc__, known, "all")
+    process.add_number(parser, "fuel", limits.RUN["fuel"][1], "of each thread")
+    process.add_number(parser, "runs", 5, "of each")
     parser.add_argument("-c", dest="core", metavar="CORE", type=tool.number(0, 9999),
                         default=max(os.sched_getaffinity(0)), help="the processor on which all runs (the last one)")
-    process.add_word(parser)
-    asked = parser.parse_intermixed_args(words)
-    wrong = [name for name in asked.guests if name not in guests.GUESTS and name not in FACTS]
-    if wrong:
-        parser.error(f"there is no guest {wrong[0]!r}")
+    asked = process.parsed(parser, words, known)
     if asked.core not in os.sched_getaffinity(0):
         parser.error(f"there is no processor {asked.core} here")
     return asked
@@ -115,7 +111,7 @@ def check(name: str, file: bytes, fuel: int, run: bytes, peer: bytes) -> tuple[i
     return process.counts(io.BytesIO(run))[:2]
 
 
-def measure(name: str, asked: Namespace, peer: Path) -> list[float]:
+def measure(name: str, asked: Namespace, peer: Path, to: table.Table) -> list[float]:
     """Prints the line of a guest, and answers its two ratios."""
     file = guests.file_of(name)
     ours = Measured(None, "run", 1, asked.fuel, 0)
@@ -125,9 +121,8 @@ def measure(name: str, asked: Namespace, peer: Path) -> list[float]:
         for one in ours, log, text:
             one.run(file)
     ratios = [ours.busy() / one.busy() for one in (log, text)]
-    table.row([name, *(f"{number:,}" for number in counted),
-               *(f"{number:.4f}" for one in (ours, log, text) for number in (one.seconds(), one.busy())),
-               *(f"{ratio:.2f}" for ratio in ratios)])
+    to.row([name, *counted, *(number for one in (ours, log, text) for number in (one.seconds(), one.busy())), *ratios],
+           [one.took for one in (ours, log, text)])
     return ratios
 
 
@@ -145,16 +140,20 @@ def main(words: list[str]) -> int | None:
     ratios, failed = {}, 0
     with tempfile.TemporaryDirectory() as folder:
         peer = process.compiled("peer.c", folder, "-pthread")
-        table.head(COLUMNS)
-        for name in asked.guests or [*guests.GUESTS, *FACTS]:
-            try:
-                ratios[name] = measure(name, asked, peer)
-            except Failed as why:
-                failed += 1
-                print(f"{name}: {why}", flush=True)
+        names, to = asked.guests or [*guests.GUESTS, *FACTS], table.Table("peer", asked, COLUMNS)
+        with progress.Progress("bench peer", "guests", len(names)) as shown:
+            for name in names:
+                shown.clear()
+                try:
+                    ratios[name] = measure(name, asked, peer, to)
+                except Failed as why:
+                    failed += 1
+                    print(f"{name}: {why}", flush=True)
+                shown.step()
     for folder, names in ("bench/", guests.GUESTS), ("guests/", FACTS):
         found = {name: ratios[name] for name in names if name in ratios}
         if found:
             print()
             sum_up(folder, found)
+    shown.end()
     return tool.WRONG if failed else tool.DONE

@@ -1,19 +1,17 @@
 """One run of the program, or of another one beside it, and what it took."""
 from __future__ import annotations
 
+import argparse
 import os
 import re
 import shutil
 import subprocess
 import time
 from pathlib import Path
-from typing import Any, IO, NamedTuple, TYPE_CHECKING
+from typing import IO, Any, Iterable, NamedTuple
 
-from .. import tool
+from .. import limits, tool
 from ..running import program
-
-if TYPE_CHECKING:
-    from argparse import Namespace
 
 HERE = Path(__file__).resolve().parent
 TURNS = re.compile(rb"^block \d+ thread \d+ turns (\d+) ")
@@ -28,13 +26,40 @@ class Took(NamedTuple):
     peak: int
 
 
-def add_word(parser: tool.Words) -> None:
-    """The word for another program than the built one, of all scripts here."""
+def words(bench: str, doc: str | None, known: Iterable[str], usual: str, *first: str) -> tool.Words:
+    """The parser of a bench's words: guests, the program, and where the raw results go."""
+    parser = tool.words(f"bench {bench}", doc, *first)
+    parser.add_argument("guests", metavar="GUEST", nargs="*", help=f"{', '.join(known)}; {usual} when left out")
     parser.add_argument("-p", dest="program", metavar="PROGRAM", type=Path,
                         help="the program that is measured (the one that ./tclocks-build has built)")
+    parser.add_argument("--results", metavar="FILE", help="keep the raw results there; bench table prints them")
+    return parser
 
 
-def choose(asked: Namespace) -> None:
+def add_number(parser: tool.Words, name: str, usual: int, says: str) -> None:
+    """A word for a number of a run: -b, -f; or -r for how many runs there are."""
+    least, most = limits.RUN.get(name, (1, 9999))
+    parser.add_argument(f"-{name[0]}", dest=name, metavar=name.upper(), type=tool.number(least, most), default=usual,
+                        help=f"{says} ({usual})")
+
+
+def add_list(parser: tool.Words, name: str, usual: list[int], says: str, least: int = 1) -> None:
+    """A word for several numbers of a run, as 1,4."""
+    one = tool.number(least, limits.RUN[name][1])
+    parser.add_argument(f"-{name[0]}", dest=name, metavar=f"{name.upper()},..", default=usual,
+                        type=lambda word: [*map(one, word.split(","))], help=f"{says} ({','.join(map(str, usual))})")
+
+
+def parsed(parser: tool.Words, given: list[str], known: Iterable[str]) -> argparse.Namespace:
+    """What the words ask for, of guests that are known."""
+    asked = parser.parse_intermixed_args(given)
+    wrong = [name for name in asked.guests if name not in known]
+    if wrong:
+        parser.error(f"there is no guest {wrong[0]!r}")
+    return asked
+
+
+def choose(asked: argparse.Namespace) -> None:
     """Measures the program that was asked for. Trouble where it is not there, or was not built."""
     if asked.program is None:
         program.need()

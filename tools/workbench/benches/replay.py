@@ -13,16 +13,17 @@ import os
 import tempfile
 from typing import Any, IO, TYPE_CHECKING
 
-from .. import limits, tool
-from . import guests, process
+from .. import limits, progress, tool
+from . import guests, process, table
 
 if TYPE_CHECKING:
     from argparse import Namespace
 
 USUAL = "sleeps", "hot-lock", "nested-locks", "shortest-blocks", "longest-history"
-COLUMNS = ("guest", "blocks", "bytes", "run", "reading", "MB/second", "replay", "profile", "replay/run", "profile/replay",
-           "run MB", "replay MB", "profile MB", "memory")
-WIDTHS = 16, 9, 11, 8, 8, 10, 8, 8, 11, 15, 8, 10, 11, 8
+COLUMNS = [table.Column(*column) for column in (
+    ("Guest",), ("Blocks", ","), ("Bytes", ","), ("Run", ".3f"), ("Reading", ".3f"), ("MB/second", ".0f"), ("Replay", ".3f"),
+    ("Profile", ".3f"), ("Replay/run", ".2f"), ("Profile/replay", ".2f"), ("Run MB", ".0f"), ("Replay MB", ".0f"),
+    ("Profile MB", ".0f"), ("Memory", ".2f"))]
 
 
 class Failed(Exception):
@@ -30,20 +31,11 @@ class Failed(Exception):
 
 
 def asked_of(words: list[str]) -> Namespace:
-    parser = tool.words("bench replay", __doc__)
-    fuel, batch = (tool.number(*limits.RUN[name]) for name in ("fuel", "batch"))
-    parser.add_argument("guests", metavar="GUEST", nargs="*", help=f"{', '.join(guests.GUESTS)}; {', '.join(USUAL)} when left out")
-    parser.add_argument("-b", dest="batch", metavar="BATCH", type=batch, default=0, help="batch limit (0)")
-    parser.add_argument("-f", dest="fuel", metavar="FUEL", type=lambda word: [*map(fuel, word.split(","))],
-                        default=[limits.RUN["fuel"][1]], help="of each thread (65536); of several numbers each gets a line")
-    parser.add_argument("-r", dest="runs", metavar="RUNS", type=tool.number(1, 9999), default=1,
-                        help="runs of each, of which the least numbers are told (1)")
-    process.add_word(parser)
-    asked = parser.parse_intermixed_args(words)
-    wrong = [name for name in asked.guests if name not in guests.GUESTS]
-    if wrong:
-        parser.error(f"there is no guest {wrong[0]!r}")
-    return asked
+    parser = process.words("replay", __doc__, guests.GUESTS, ", ".join(USUAL))
+    process.add_number(parser, "batch", 0, "batch limit")
+    process.add_list(parser, "fuel", [limits.RUN["fuel"][1]], "of each thread; of several numbers each gets a line")
+    process.add_number(parser, "runs", 1, "runs of each, of which the least numbers are told")
+    return process.parsed(parser, words, guests.GUESTS)
 
 
 def least(words: tuple[Any, ...], given: IO[bytes], status: int, runs: int) -> tuple[float, float, IO[bytes]]:
@@ -72,7 +64,7 @@ def give_history(given: IO[bytes], report: IO[bytes]) -> tuple[int, int]:
     return blocks, size
 
 
-def measure(name: str, fuel: int, asked: Namespace) -> None:
+def measure(name: str, fuel: int, asked: Namespace, to: table.Table) -> None:
     """Prints the line of a guest."""
     with tempfile.TemporaryFile() as given:
         file = given.write(guests.GUESTS[name]())
@@ -87,25 +79,23 @@ def measure(name: str, fuel: int, asked: Namespace) -> None:
         profile, profile_peak, _ = least(("profile", file, *numbers), given, 0, asked.runs)
         os.ftruncate(given.fileno(), file + size - 1)  # the last line loses its end
         reading, _, _ = least(("replay", file, *numbers), given, limits.REJECTED, asked.runs)
-    show(name, f"{blocks:,}", f"{size:,}", f"{run:.3f}", f"{reading:.3f}", f"{size / reading / 1e6:.0f}", f"{replay:.3f}",
-         f"{profile:.3f}", f"{replay / run:.2f}", f"{profile / replay:.2f}", f"{run_peak:.0f}", f"{replay_peak:.0f}",
-         f"{profile_peak:.0f}", f"{replay_peak / run_peak:.2f}")
-
-
-def show(name: str, *cells: str) -> None:
-    print(f"{name:<{WIDTHS[0]}}", *map("{:>{}}".format, cells, WIDTHS[1:]), flush=True)
+    to.row([name, blocks, size, run, reading, size / reading / 1e6, replay, profile, replay / run, profile / replay, run_peak,
+            replay_peak, profile_peak, replay_peak / run_peak])
 
 
 def main(words: list[str]) -> int | None:
     asked = asked_of(words)
     process.choose(asked)
-    show(*COLUMNS)
-    failed = 0
-    for name in asked.guests or USUAL:
-        for fuel in asked.fuel:
+    lines = [(name, fuel) for name in asked.guests or USUAL for fuel in asked.fuel]
+    failed, to = 0, table.Table("replay", asked, COLUMNS)
+    with progress.Progress("bench replay", "lines", len(lines)) as shown:
+        for name, fuel in lines:
+            shown.clear()
             try:
-                measure(name, fuel, asked)
+                measure(name, fuel, asked, to)
             except Failed as why:
                 failed += 1
-                print(f"{name:<{WIDTHS[0]}} {why}")
+                print(f"{name}: {why}", flush=True)
+            shown.step()
+    shown.end()
     return tool.WRONG if failed else tool.DONE

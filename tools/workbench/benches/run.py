@@ -12,44 +12,38 @@ import shutil
 import subprocess
 import tempfile
 from pathlib import Path
-from typing import Any, TYPE_CHECKING
+from typing import TYPE_CHECKING, List, Tuple
 
-from .. import limits, tool
+from .. import limits, progress, tool
 from ..running import program
-from . import guests, process
+from . import guests, process, table
 
 if TYPE_CHECKING:
     from argparse import Namespace
 
+Counter = Tuple[List[str], "re.Pattern[bytes]"]
 # The two fuels whose difference leaves the start out.
 FEW, MANY = 512, 1024
-WIDTHS = 7, 9, 9, 8, 12, 10, 12, 12, 10, 12  # of the columns behind the name
+COLUMNS = [table.Column(*column) for column in (
+    ("Guest",), ("Workers",), ("Turns", ","), ("Blocks", ","), ("Seconds", ".3f"), ("Turns/second", ",.0f"), ("Processor", ".3f"),
+    ("Peak memory", ","), ("Report bytes", ","), ("Per turn", ".0f"), ("Start", ",.0f"))]
 
 
 def asked_of(words: list[str]) -> Namespace:
     """What the words ask for."""
-    parser = tool.words("bench run", __doc__)
-    workers, fuel, batch = (tool.number(*limits.RUN[name]) for name in ("workers", "fuel", "batch"))
-    parser.add_argument("guests", metavar="GUEST", nargs="*", help=f"{', '.join(guests.GUESTS)}; all when left out")
-    parser.add_argument("-w", dest="workers", metavar="WORKERS", type=lambda word: [*map(workers, word.split(","))],
-                        default=[1], help="1 to 8 (1); of several numbers, as 1,4, each gets a line")
-    parser.add_argument("-b", dest="batch", metavar="BATCH", type=batch, default=0, help="batch limit (0)")
-    parser.add_argument("-f", dest="fuel", metavar="FUEL", type=fuel, default=limits.RUN["fuel"][1],
-                        help="of each thread (65536)")
-    parser.add_argument("-r", dest="runs", metavar="RUNS", type=tool.number(1, 9999), default=1,
-                        help="runs, of which the one that took the least seconds is told (1)")
+    parser = process.words("run", __doc__, guests.GUESTS, "all")
+    process.add_list(parser, "workers", [1], "1 to 8; of several numbers, as 1,4, each gets a line")
+    process.add_number(parser, "batch", 0, "batch limit")
+    process.add_number(parser, "fuel", limits.RUN["fuel"][1], "of each thread")
+    process.add_number(parser, "runs", 1, "runs, of which the one that took the least seconds is told")
     parser.add_argument("-o", dest="folder", metavar="FOLDER", type=Path,
                         help="only write the guests' files into a folder, which is made where it is not there")
-    process.add_word(parser)
-    asked = parser.parse_intermixed_args(words)
+    asked = process.parsed(parser, words, guests.GUESTS)
     asked.guests = asked.guests or list(guests.GUESTS)
-    wrong = [name for name in asked.guests if name not in guests.GUESTS]
-    if wrong:
-        parser.error(f"there is no guest {wrong[0]!r}")
     return asked
 
 
-def counter() -> Any:
+def counter() -> Counter | None:
     """What counts instructions: the words before a command, and the form of what they print. None
     where neither valgrind nor perf counts here."""
     if shutil.which("valgrind"):
@@ -63,7 +57,7 @@ def counter() -> Any:
     return None
 
 
-def counted(name: Any, asked: Any, fuel: Any, how: Any) -> Any:
+def counted(name: str, asked: Namespace, fuel: int, how: Counter) -> tuple[int, int] | None:
     """The instructions of one worker's run with that fuel, and its turns. None where they were not
     counted."""
     words, form = how
@@ -75,46 +69,48 @@ def counted(name: Any, asked: Any, fuel: Any, how: Any) -> Any:
     return int(found.group(1)), process.counts(io.BytesIO(ran.stdout))[0]
 
 
-def instructions(name: Any, asked: Any, how: Any) -> Any:
-    """The instructions for each turn, and those of a whole run without its turns, as two words."""
-    runs = how and [counted(name, asked, fuel, how) for fuel in (FEW, MANY)]
-    if not runs or None in runs:
-        return "-", "-"
-    (few, less), (many, more) = runs
+def instructions(name: str, asked: Namespace, how: Counter | None) -> tuple[float | None, float | None]:
+    """The instructions for each turn, and those of a whole run without its turns."""
+    if how is None:
+        return None, None
+    few_ran, many_ran = (counted(name, asked, fuel, how) for fuel in (FEW, MANY))
+    if few_ran is None or many_ran is None:
+        return None, None
+    (few, less), (many, more) = few_ran, many_ran
     if more == less:
-        return "-", str(many)
+        return None, many
     each = (many - few) / (more - less)
-    return f"{each:.0f}", f"{many - each * more:.0f}"
+    return each, many - each * more
 
 
-def ran(name: Any, workers: Any, asked: Any) -> Any:
-    """One run of a guest: its seconds, processor seconds and peak memory, and its turns, blocks and
-    bytes of report. None where it did not end with status 0."""
+def ran(name: str, workers: int, asked: Namespace) -> tuple[process.Took, tuple[int, int, int]] | None:
+    """One run of a guest: what it took, and its turns, blocks and bytes of report. None where it did not end with
+    status 0."""
     with tempfile.TemporaryFile() as guest, tempfile.TemporaryFile() as report:
         guest.write(guests.GUESTS[name]())
         guest.seek(0)
         status, took = process.run(("run", workers, asked.fuel, asked.batch), guest, report)
         if status:
-            print(f"{name:<16} {workers:>7} ended with status {status}")
+            print(f"{name}, {report_text(workers)} ended with status {status}")
             return None
-        return (*took, process.counts(report))
+        return took, process.counts(report)
 
 
-def measure(name: Any, workers: Any, asked: Any, how: Any) -> Any:
+def report_text(workers: int) -> str:
+    return f"{workers} worker{'s' * (workers > 1)}"
+
+
+def measure(name: str, workers: int, asked: Namespace, how: Counter | None, to: table.Table) -> bool:
     """Runs one guest and prints its line. Says whether the program ended with status 0. Instructions
     are those of one worker, since several share the work otherwise in each run."""
-    runs = [ran(name, workers, asked) for _ in range(asked.runs)]
-    if None in runs:
+    runs = [one for one in (ran(name, workers, asked) for _ in range(asked.runs)) if one is not None]
+    if len(runs) < asked.runs:
         return False
-    seconds, busy, peak, (turns, blocks, size) = min(runs)
-    each, start = instructions(name, asked, how) if workers == 1 else ("-", "-")
-    show(name, workers, turns, blocks, f"{seconds:.3f}", f"{turns / seconds:.0f}", f"{busy:.3f}", peak, size, each, start)
+    took, (turns, blocks, size) = min(runs)
+    each, start = instructions(name, asked, how) if workers == 1 else (None, None)
+    to.row([name, workers, turns, blocks, took.seconds, turns / took.seconds, took.busy, took.peak, size, each, start],
+           [one for one, _ in runs])
     return True
-
-
-def show(name: Any, *cells: Any) -> None:
-    """Prints a line of the table."""
-    print(f"{name:<16}", *map("{:>{}}".format, cells, WIDTHS), flush=True)
 
 
 def write_all(folder: Path, names: list[str]) -> None:
@@ -133,6 +129,12 @@ def main(words: list[str]) -> int | None:
     how = counter()
     if how is None:
         print("Neither valgrind nor perf counts instructions here: those columns stay empty.")
-    show("guest", "workers", "turns", "blocks", "seconds", "turns/second", "processor", "peak memory", "report bytes", "per turn", "start")
     lines = [(name, workers) for name in asked.guests for workers in asked.workers]
-    return tool.DONE if all([measure(name, workers, asked, how) for name, workers in lines]) else tool.WRONG
+    done, to = [], table.Table("run", asked, COLUMNS)
+    with progress.Progress("bench run", "lines", len(lines)) as shown:
+        for name, workers in lines:
+            shown.clear()
+            done.append(measure(name, workers, asked, how, to))
+            shown.step()
+    shown.end()
+    return tool.DONE if all(done) else tool.WRONG

@@ -24,7 +24,7 @@ import tempfile
 import time
 from typing import Any, Iterator, TYPE_CHECKING
 
-from .. import limits, tool
+from .. import limits, progress, tool
 from . import guests, process, table
 
 if TYPE_CHECKING:
@@ -41,26 +41,19 @@ MOST_ROUNDS = 30  # of which one counts at least, on the mean, or the rest are n
 
 def asked_of(words: list[str]) -> Namespace:
     """What the words ask for."""
-    parser = tool.words("bench several", __doc__)
-    workers, fuel, batch = (tool.number(*limits.RUN[name]) for name in ("workers", "fuel", "batch"))
-    parser.add_argument("guests", metavar="GUEST", nargs="*", help=f"{', '.join(guests.GUESTS)}; {', '.join(USUAL)} when left out")
-    parser.add_argument("-w", dest="workers", metavar="WORKERS,WORKERS ..", type=lambda word: sorted({*map(workers, word.split(","))}),
-                        default=[1, 2, 4], help="1 to 8 each (1,2,4)")
-    parser.add_argument("-b", dest="batch", metavar="BATCH", type=batch, default=8, help="batch limit (8)")
-    parser.add_argument("-f", dest="fuel", metavar="FUEL", type=fuel, default=limits.RUN["fuel"][1],
-                        help="of each thread (65536)")
-    parser.add_argument("-r", dest="runs", metavar="RUNS", type=tool.number(1, 9999), default=9, help="of each (9)")
+    parser = process.words("several", __doc__, guests.GUESTS, ", ".join(USUAL))
+    process.add_list(parser, "workers", [1, 2, 4], "1 to 8 each")
+    process.add_number(parser, "batch", 8, "batch limit")
+    process.add_number(parser, "fuel", limits.RUN["fuel"][1], "of each thread")
+    process.add_number(parser, "runs", 9, "of each")
     parser.add_argument("-q", dest="quiet", metavar="NUMBER", type=float,
                         help="count only rounds before and behind which the number of the column Loop is at most this, as 1.1")
     parser.add_argument("-e", dest="even", action="store_true",
                         help="keep the processors busy that a run leaves idle, as many as the most workers take")
     parser.add_argument("-m", dest="told", action="store_const", const=statistics.median, default=min,
                         help="tell the median of the runs in the place of the least")
-    process.add_word(parser)
-    asked = parser.parse_intermixed_args(words)
-    wrong = [name for name in asked.guests if name not in guests.GUESTS]
-    if wrong:
-        parser.error(f"there is no guest {wrong[0]!r}")
+    asked = process.parsed(parser, words, guests.GUESTS)
+    asked.workers = sorted({*asked.workers})
     return asked
 
 
@@ -81,11 +74,11 @@ def taken(asked: Namespace, runs: Any, what: str) -> float:
     return float(asked.told(getattr(took, what) for took, _ in runs))
 
 
-def shared(asked: Namespace, clock: Path | None, blocks: int) -> str:
+def shared(asked: Namespace, clock: Path | None, blocks: int) -> float:
     """The processor seconds that the most threads take more than one for so many additions to one word."""
     several, one = (taken(asked, [ran((threads, blocks), path=clock) for _ in range(asked.runs)], "busy")
                     for threads in (asked.workers[-1], 1))
-    return f"{several - one:.3f}"
+    return several - one
 
 
 @contextlib.contextmanager
@@ -121,7 +114,7 @@ def ran_in_company(asked: Namespace, loop: Path | None, file: bytes, workers: in
         return ran(("run", workers, asked.fuel, asked.batch), file, is_counted=is_counted)
 
 
-def shared_loop(asked: Namespace, seconds: float, loops: list[list[float]], loop: Path | None) -> str:
+def shared_loop(asked: Namespace, seconds: float, loops: list[list[float]], loop: Path | None) -> float:
     """The seconds of a loop that takes as long as the guest, by the most threads that share its turns, in those by the
     fewest."""
     turns = int(LOOP_TURNS * seconds / asked.told(first for first, _ in loops))
@@ -130,9 +123,9 @@ def shared_loop(asked: Namespace, seconds: float, loops: list[list[float]], loop
     return of_loops(asked, runs)
 
 
-def of_loops(asked: Namespace, loops: list[list[float]]) -> str:
+def of_loops(asked: Namespace, loops: list[list[float]]) -> float:
     """The seconds of loops by the most threads in those by the fewest."""
-    return f"{asked.told(last for _, last in loops) / asked.told(first for first, _ in loops):.2f}"
+    return float(asked.told(last for _, last in loops) / asked.told(first for first, _ in loops))
 
 
 def is_quiet(asked: Namespace, loops: list[float]) -> bool:
@@ -160,17 +153,16 @@ def rounds(name: str, asked: Namespace, loop: Path | None) -> tuple[dict[int, li
     return runs, loops, made
 
 
-def measure(name: str, asked: Namespace, clock: Path | None, loop: Path | None) -> tuple[float, float]:
+def measure(name: str, asked: Namespace, clock: Path | None, loop: Path | None, to: table.Table) -> tuple[float, float]:
     """Prints the line of a guest, and answers its two ratios."""
     runs, loops, made = rounds(name, asked, loop)
     seconds, busy = ([taken(asked, runs[workers], what) for workers in asked.workers] for what in ("seconds", "busy"))
     ratios = seconds[-1] / seconds[0], busy[-1] / busy[0]
     _, blocks = runs[asked.workers[-1]][0]
-    table.row([name, *(f"{number:.3f}" for number in seconds + busy), *(f"{ratio:.2f}" for ratio in ratios),
-               shared(asked, clock, blocks) if clock else "",
-               of_loops(asked, loops) if loop else "",
-               shared_loop(asked, seconds[0], loops, loop) if loop else "",
-               f"{len(runs[asked.workers[-1]])} of {made}"])
+    to.row([name, *seconds, *busy, *ratios, shared(asked, clock, blocks) if clock else None,
+            of_loops(asked, loops) if loop else None, shared_loop(asked, seconds[0], loops, loop) if loop else None,
+            f"{len(runs[asked.workers[-1]])} of {made}"],
+           {workers: [took for took, _ in found] for workers, found in runs.items()})
     return ratios
 
 
@@ -182,14 +174,24 @@ def main(words: list[str]) -> None:
         raise tool.Trouble(tool.INPUT, f"{wants_loop[0]} needs a C compiler, and cc is not on the PATH")
     each = [f"{workers} worker{'s' * (workers > 1)}" for workers in asked.workers]
     of = f"{each[-1]} to {each[0]}"
-    table.head(["Guest", *(f"Seconds: {one}" if one == each[0] else one for one in each),
-                *(f"Processor: {one}" if one == each[0] else one for one in each), f"Seconds, {of}", f"Processor, {of}",
-                f"Clock, {of}", f"Loop, {of}", f"Shared loop, {of}", "Rounds"])
+    columns = [("Guest", ""), *((f"Seconds: {one}" if one == each[0] else one, ".3f") for one in each),
+               *((f"Processor: {one}" if one == each[0] else one, ".3f") for one in each), (f"Seconds, {of}", ".2f"),
+               (f"Processor, {of}", ".2f"), (f"Clock, {of}", ".3f"), (f"Loop, {of}", ".2f"), (f"Shared loop, {of}", ".2f"),
+               ("Rounds", "")]
+    to = table.Table("several", asked, [table.Column(*column) for column in columns])
+    names, ratios = asked.guests or USUAL, {}
     with tempfile.TemporaryDirectory() as folder:
         clock, loop = (process.compiled(source, folder, "-pthread") if shutil.which("cc") else None
                        for source in ("clock.c", "loop.c"))
-        ratios = {name: measure(name, asked, clock, loop) for name in asked.guests or USUAL}
+        with progress.Progress("bench several", "guests", len(names)) as shown:
+            for name in names:
+                shown.clear()
+                ratios[name] = measure(name, asked, clock, loop, to)
+                shown.step()
+    if not ratios:
+        return shown.end()
     seconds, busy = ({name: pair[which] for name, pair in ratios.items()} for which in (0, 1))
     told = "least" if asked.told is min else "median"
     print(f"\nOn {len(os.sched_getaffinity(0))} processors, {told} of {asked.runs}, {of}: seconds {table.spread(seconds)}; "
           f"processor seconds {table.spread(busy)}.")
+    shown.end()

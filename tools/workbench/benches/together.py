@@ -13,7 +13,7 @@ import statistics
 import tempfile
 from typing import Any, NamedTuple, TYPE_CHECKING
 
-from .. import limits, tool
+from .. import progress, tool
 from . import guests, process, table
 
 if TYPE_CHECKING:
@@ -34,19 +34,11 @@ class Ran(NamedTuple):
 
 def asked_of(words: list[str]) -> Namespace:
     """What the words ask for."""
-    parser = tool.words("bench together", __doc__)
-    workers = tool.number(2, limits.RUN["workers"][1])
-    parser.add_argument("guests", metavar="GUEST", nargs="*",
-                        help=f"{', '.join(OWN)}, which it is when left out; {', '.join(guests.GUESTS)}")
-    parser.add_argument("-w", dest="workers", metavar="WORKERS", type=lambda word: [*map(workers, word.split(","))],
-                        default=[4, 8], help="2 to 8; of several numbers each gets lines (4,8)")
-    parser.add_argument("-r", dest="runs", metavar="RUNS", type=tool.number(1, 9999), default=40, help="of each (40)")
-    process.add_word(parser)
-    asked = parser.parse_intermixed_args(words)
-    wrong = [name for name in asked.guests if name not in OWN and name not in guests.GUESTS]
-    if wrong:
-        parser.error(f"there is no guest {wrong[0]!r}")
-    return asked
+    known = (*OWN, *guests.GUESTS)
+    parser = process.words("together", __doc__, known, ", ".join(OWN))
+    process.add_list(parser, "workers", [4, 8], "2 to 8; of several numbers each gets lines", 2)
+    process.add_number(parser, "runs", 40, "of each")
+    return process.parsed(parser, words, known)
 
 
 class Host:
@@ -87,7 +79,7 @@ def run(host: Host, name: str, workers: int, kind: str) -> Ran:
     return Ran(len({worker for _, worker in blocks}) > 1, any(found == b"adopted" for found, _ in blocks), 1000 * took.seconds)
 
 
-def measure(host: Host, name: str, workers: int, runs: int) -> dict[str, list[Ran]]:
+def measure(host: Host, name: str, workers: int, runs: int, to: table.Table) -> dict[str, list[Ran]]:
     """Prints the lines of a guest. Answers the runs of each kind."""
     found: dict[Any, Any] = {kind: [] for kind in GIVEN}
     for _ in range(runs):
@@ -95,8 +87,8 @@ def measure(host: Host, name: str, workers: int, runs: int) -> dict[str, list[Ra
             found[kind].append(run(host, name, workers, kind))
     for kind, ran in found.items():
         times = [one.milliseconds for one in ran]
-        table.row([name, workers, kind, runs, sum(one.several for one in ran), sum(one.adopted for one in ran),
-                   f"{statistics.median(times):.1f}", f"{min(times):.1f}"])
+        to.row([name, workers, kind, runs, sum(one.several for one in ran), sum(one.adopted for one in ran),
+                statistics.median(times), min(times)], ran)
     return found
 
 
@@ -114,10 +106,17 @@ def main(words: list[str]) -> None:
     every: dict[Any, Any] = {kind: [] for kind in GIVEN}
     with tempfile.TemporaryDirectory() as folder:
         host = Host(folder)
-        table.head(["Guest", "Workers", "Threads", "Runs", "By several", "With adopted", "Median ms", "Least ms"])
-        for name in asked.guests or OWN:
-            for workers in asked.workers:
-                for kind, ran in measure(host, name, workers, asked.runs).items():
+        to = table.Table("together", asked, [*map(table.Column, (
+            "Guest", "Workers", "Threads", "Runs", "By several", "With adopted")), table.Column("Median ms", ".1f"),
+            table.Column("Least ms", ".1f")])
+        lines = [(name, workers) for name in asked.guests or OWN for workers in asked.workers]
+        with progress.Progress("bench together", "of guests and workers", len(lines)) as shown:
+            for name, workers in lines:
+                shown.clear()
+                for kind, ran in measure(host, name, workers, asked.runs, to).items():
                     every[kind] += ran
+                shown.step()
     for kind, ran in every.items():
-        sum_up(kind, ran)
+        if ran:
+            sum_up(kind, ran)
+    shown.end()

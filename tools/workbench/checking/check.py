@@ -14,7 +14,8 @@ model's numbers. Histories that were changed are given to both too, and must be 
 and for the reason that the model has (rejecting.py), or be taken as it does; in all guests together
 each of the seven reasons must come.
 
-The tests of the tools, in tests/, need no program; the word `tools` runs them alone.
+The tests of the tools, in tools/tests, need no program; the word `tools` runs them alone. The word `types` runs the
+type checker and the linter over the tools, where they are there (mypy, pyflakes3).
 """
 from __future__ import annotations
 
@@ -23,6 +24,7 @@ import itertools
 import json
 import random
 import re
+import shutil
 import subprocess
 import sys
 from typing import Any, Iterator
@@ -160,7 +162,22 @@ def check_reasons(answers: collections.Counter[str]) -> bool:
     return not missing
 
 
-def check_tools() -> Any:
+def check_types() -> bool:
+    """Runs the type checker and the linter, where they are there."""
+    failed = False
+    for words in ["mypy"], ["pyflakes3", "tools", "workbench.py", "tclocks-build"]:
+        if not shutil.which(words[0]):
+            print(f"types: {words[0]} is left out: it is not on the PATH (apt-get install {words[0]})")
+            continue
+        done = subprocess.run(words, cwd=places.ROOT, stdout=subprocess.PIPE, stderr=subprocess.STDOUT, check=False)
+        if done.returncode:
+            failed = True
+            print(done.stdout.decode(errors="replace"), end="")
+    print(f"types: {'FAILED' if failed else 'passed'}", flush=True)
+    return not failed
+
+
+def check_tools() -> bool:
     """Runs the files of tests/ at the same time."""
     runs = [subprocess.Popen([sys.executable, "-m", "unittest", "-q", f"tools.tests.{path.stem}"], cwd=places.ROOT,
                              stdout=subprocess.PIPE, stderr=subprocess.STDOUT, text=True)
@@ -175,16 +192,19 @@ def check_tools() -> Any:
     return not failed
 
 
+PARTS = {"tools": check_tools, "types": check_types}
+
+
 def main(words: list[str]) -> int | None:
     facts = json.loads((places.GUESTS / "facts.json").read_text())
     parser = tool.words("check", __doc__)
-    parser.add_argument("names", metavar="tools | GUEST", nargs="*", help="these alone")
+    parser.add_argument("names", metavar="tools | types | GUEST", nargs="*", help="these alone")
     names = parser.parse_args(words).names or ["tools", *facts]
-    unknown = [name for name in names if name not in facts and name != "tools"]
+    unknown = [name for name in names if name not in (*facts, *PARTS)]
     if unknown:
         raise tool.Trouble(tool.WORDS, f"facts.json has no guest {unknown[0]}")
-    passed = sum(check_tools() for name in names if name == "tools")
-    guests = [name for name in names if name != "tools"]
+    passed = sum(PARTS[name]() for name in names if name in PARTS)
+    guests = [name for name in names if name not in PARTS]
     if guests:
         program.need()
     answers: collections.Counter[Any]

@@ -21,9 +21,9 @@ import statistics
 import subprocess
 import tempfile
 import time
-from typing import Any
+from typing import Any, Callable
 
-from .. import limits, tool
+from .. import limits, progress, tool
 from ..guest import made
 from ..judging import rejecting
 from ..running import program
@@ -40,7 +40,7 @@ class Wrong(Exception):
     """What was not as it must be."""
 
 
-def need(holds: Any, text: Any) -> None:
+def need(holds: object, text: str) -> None:
     if not holds:
         raise Wrong(text)
 
@@ -58,13 +58,13 @@ def sleeping(threads: int) -> bytes:
 class Place:
     """A folder with a copy of the program, and an empty one in which it runs."""
 
-    def __init__(self, folder: Any) -> None:
+    def __init__(self, folder: pathlib.Path) -> None:
         self.program, self.empty = folder / "tclocks", folder / "empty"
         shutil.copy(program.PATH, self.program)
         self.empty.mkdir()
         self.guest = folder / "guest.elf"
 
-    def processes(self) -> Any:
+    def processes(self) -> list[str]:
         """The processes that run this copy."""
         found = []
         for link in pathlib.Path("/proc").glob("[0-9]*/exe"):
@@ -78,7 +78,7 @@ class Place:
         need(not self.processes(), "a process is left")
         need(not list(self.empty.iterdir()), f"a file is left: {list(self.empty.iterdir())}")
 
-    def start(self, file: Any, words: Any, **more: Any) -> Any:
+    def start(self, file: bytes, words: tuple[str, ...], **more: Any) -> subprocess.Popen[bytes]:
         """Starts the program over a file."""
         self.guest.write_bytes(file)
         given: dict[str, Any] = {"stdin": open(self.guest, "rb"), "stdout": subprocess.PIPE, "stderr": subprocess.PIPE, **more}
@@ -88,14 +88,14 @@ class Place:
         finally:
             given["stdin"].close()
 
-    def run(self, file: Any, words: Any, **more: Any) -> Any:
+    def run(self, file: bytes, words: tuple[str, ...], **more: Any) -> tuple[int, bytes]:
         """Runs it to its end: its status, and what it wrote."""
         process = self.start(file, words, **more)
         written, said = process.communicate(timeout=120)
         need(not said, f"it said {said!r}")
         return process.returncode, written
 
-    def peak(self, file: Any, words: Any) -> Any:
+    def peak(self, file: bytes, words: tuple[str, ...]) -> int:
         """Its peak memory in kB. The report is made whole before the first byte is written."""
         read, write = os.pipe()
         fcntl.fcntl(write, F_SETPIPE_SZ, SOME_PIPE)
@@ -111,27 +111,31 @@ class Place:
         return next(int(line.split()[1]) for line in lines if line.startswith("VmHWM:"))
 
 
-def runs_in_a_row(place: Any, runs: Any) -> Any:
+def runs_in_a_row(place: Place, runs: int) -> str:
     file = made.counting(4)
     peaks = []
-    for _ in range(runs):
-        peaks.append(place.peak(file, COUNTING))
-        place.is_clean()
+    with progress.Progress("endure", "runs in a row", runs) as shown:
+        for _ in range(runs):
+            peaks.append(place.peak(file, COUNTING))
+            place.is_clean()
+            shown.step()
+    shown.end()
     some = max(1, runs // 10)
     first, last = statistics.median(peaks[:some]), statistics.median(peaks[-some:])
     need(last <= first * NOISE, f"peak memory of {first} kB at first, {last} kB at last")
     return f"{runs} runs, peak memory {first:.0f} kB at first, {last:.0f} kB at last"
 
 
-def largest_guest(place: Any, _: Any) -> Any:
+def largest_guest(place: Place, _: int) -> str:
     peak = place.peak(sleeping(32), SLEEPING) / 1000
     need(peak <= MOST_MEMORY, f"it takes {peak:.0f} MB, more than {MOST_MEMORY}")
     return f"{peak:.0f} MB on 8 workers"
 
 
-def reader_that_ends(place: Any, _: Any) -> Any:
+def reader_that_ends(place: Place, _: int) -> str:
     for size in (0, 1, 4096, 100_000):
         process = place.start(sleeping(1), SLEEPING)
+        assert process.stdout and process.stderr
         process.stdout.read(size)
         process.stdout.close()
         said = process.stderr.read()
@@ -140,7 +144,7 @@ def reader_that_ends(place: Any, _: Any) -> Any:
     return "status 4"
 
 
-def full_disk(place: Any, _: Any) -> Any:
+def full_disk(place: Place, _: int) -> str:
     with open("/dev/full", "wb") as full:
         for words, status in ((COUNTING, 4), (("stop",), 1)):
             done = place.run(made.counting(2), words, stdout=full)[0]
@@ -148,7 +152,7 @@ def full_disk(place: Any, _: Any) -> Any:
     return "status 4, and 1 for the usage line"
 
 
-def closed_streams(place: Any, _: Any) -> Any:
+def closed_streams(place: Place, _: int) -> str:
     place.guest.write_bytes(made.counting(2))
     for closed, status in (("<&-", 2), (">&-", 4), ("2>&-", 0), ("<&- >&-", 2), (">&- 2>&-", 4), ("<&- >&- 2>&-", 2)):
         script = f'exec "$0" "$@" < "$FILE" {closed}'
@@ -160,7 +164,7 @@ def closed_streams(place: Any, _: Any) -> Any:
     return "status 2 without standard input, 4 without standard output"
 
 
-def little_memory(place: Any, _: Any) -> Any:
+def little_memory(place: Place, _: int) -> str:
     """How much is enough differs from run to run."""
     refused = []
     for megabytes in (16, 32, 64, 128, 256, 512):
@@ -174,7 +178,7 @@ def little_memory(place: Any, _: Any) -> Any:
     return f"status 5 and nothing written in {', '.join(map(str, refused))} MB"
 
 
-def signals(place: Any, _: Any) -> Any:
+def signals(place: Place, _: int) -> str:
     for number in (signal.SIGINT, signal.SIGTERM, signal.SIGHUP):
         if signal.getsignal(number) == signal.SIG_IGN:  # as in the background, and handed on
             signal.signal(number, signal.SIG_DFL)
@@ -190,7 +194,7 @@ def signals(place: Any, _: Any) -> Any:
     return "it ends at once"
 
 
-def histories(place: Any, _: Any) -> Any:
+def histories(place: Place, _: int) -> str:
     file = sleeping(1)
     words = "replay", str(len(file)), *SLEEPING[1:]
     report = place.run(file, SLEEPING)[1]
@@ -207,24 +211,24 @@ def histories(place: Any, _: Any) -> Any:
     place.guest.write_bytes(file)
     os.truncate(place.guest, len(file) + limits.HISTORY_BYTES + 1)
     with open(place.guest, "rb") as long:
-        done = subprocess.run([place.program, *words], stdin=long, capture_output=True, cwd=place.empty, check=False)
-    need((done.returncode, done.stdout) == (3, b"refused 0 TooLarge\n"), f"too long: status {done.returncode}, {done.stdout[:80]!r}")
+        asked = subprocess.run([place.program, *words], stdin=long, capture_output=True, cwd=place.empty, check=False)
+    need((asked.returncode, asked.stdout) == (3, b"refused 0 TooLarge\n"), f"too long: status {asked.returncode}, {asked.stdout[:80]!r}")
     return "the report of the run, status 4 and 6 on a full disk, 5 in 16 MB, 3 where it is too long"
 
 
 TRIALS = (runs_in_a_row, largest_guest, reader_that_ends, full_disk, closed_streams, little_memory, signals, histories)
 
 
-def tried(trial: Any, folder: Any, runs: Any) -> Any:
+def tried(trial: Callable[[Place, int], str], folder: pathlib.Path, runs: int) -> bool:
     """Whether a trial went well."""
     place = Place(folder)
     try:
         said = trial(place, runs)
         place.is_clean()
     except (Wrong, subprocess.TimeoutExpired) as wrong:
-        print(f"{trial.__name__}: FAILED: {wrong}", flush=True)
+        print(f"{getattr(trial, '__name__')}: FAILED: {wrong}", flush=True)
         return False
-    print(f"{trial.__name__}: passed, {said}", flush=True)
+    print(f"{getattr(trial, '__name__')}: passed, {said}", flush=True)
     return True
 
 
@@ -233,8 +237,14 @@ def main(words: list[str]) -> int | None:
     parser.add_argument("runs", metavar="RUNS", nargs="?", default=1000, type=tool.number(1, 1_000_000))
     runs, passed = parser.parse_args(words).runs, 0
     program.need()
-    for trial in TRIALS:
-        with tempfile.TemporaryDirectory() as folder:
-            passed += tried(trial, pathlib.Path(folder).resolve(), runs)
-    print(f"{passed} passed, {len(TRIALS) - passed} failed")
+    count = 0
+    with progress.Progress("endure", "trials", len(TRIALS)) as shown:
+        for count, trial in enumerate(TRIALS, 1):
+            with tempfile.TemporaryDirectory() as folder:
+                shown.clear()
+                passed += tried(trial, pathlib.Path(folder).resolve(), runs)
+            shown.step()
+    done = count - shown.interrupted
+    print(f"{passed} passed, {done - passed} failed")
+    shown.end()
     return tool.WRONG if passed < len(TRIALS) else tool.DONE

@@ -14,7 +14,7 @@ import collections
 import random
 from typing import Any
 
-from .. import limits, tool
+from .. import limits, progress, tool
 from ..guest import damage, guestfile, made, model
 from ..guest.rv32im import BY_NAME, WHOLE, encode
 from ..judging import legal, rejecting
@@ -152,23 +152,27 @@ def main(words: list[str]) -> int | None:
     draw, failed, seen = Draw(asked.seed), 0, collections.Counter()
     rejected: collections.Counter[Any]
     changes, rejected = random.Random(asked.seed), collections.Counter()
-    for number in range(asked.count):
-        file = draw.guest()
-        options = (draw.randrange(1, 9), draw.choice((20, 100, 300, 5000)), draw.choice((0, 1, 256)))
-        given = [("whole", file), *((kind.__name__, kind(draw, file)) for kind in damage.KINDS)]
-        for name, file in given:
-            refused = refusal(file)
-            seen[refused or ACCEPTED] += 1
-            kept = f"fuzz-{asked.seed}-{number}-{name}"
-            try:
-                text = judge(file, options, refused)
-                rejected[text and judge_histories(file, options, text, changes, f"{kept}.txt")] += 1
-            except report.Wrong as wrong:
-                failed += 1
-                print(f"{program.keep(f'{kept}.elf', file)}: run {' '.join(map(str, options))}: {wrong}")
+    with progress.Progress("fuzz", "guests", asked.count) as shown:
+        for number in range(asked.count):
+            file = draw.guest()
+            options = (draw.randrange(1, 9), draw.choice((20, 100, 300, 5000)), draw.choice((0, 1, 256)))
+            given = [("whole", file), *((kind.__name__, kind(draw, file)) for kind in damage.KINDS)]
+            for name, file in given:
+                refused = refusal(file)
+                kept = f"fuzz-{asked.seed}-{number}-{name}"
+                try:
+                    text = judge(file, options, refused)
+                    rejected[text and judge_histories(file, options, text, changes, f"{kept}.txt")] += 1
+                except report.Wrong as wrong:
+                    failed += 1
+                    shown.clear()
+                    print(f"{program.keep(f'{kept}.elf', file)}: run {' '.join(map(str, options))}: {wrong}")
+                seen[refused or ACCEPTED] += 1
+            shown.step()
     for what in sorted(seen, key=lambda what: int(what.split()[1]) if what != ACCEPTED else -1):
         print(f"{what}: {seen[what]}")
     for number, reason in enumerate(limits.REASONS, 1):
         print(f"rejected {number} {reason}: {rejected[reason]}")
     print(f"{sum(seen.values()) - failed} passed, {failed} failed")
+    shown.end()
     return tool.WRONG if failed else tool.DONE

@@ -20,7 +20,7 @@ import subprocess
 import tempfile
 from typing import Any, Iterator, NamedTuple, Optional, Tuple
 
-from .. import limits, tool
+from .. import limits, progress, tool
 from ..guest import guestfile, made, model
 from ..judging import legal, rejecting
 from ..reports import report
@@ -65,7 +65,7 @@ class Case(NamedTuple):
         return True
 
 
-def run(library: Any, case: Any, first: Any, last: Any) -> Any:
+def run(library: pathlib.Path, case: Case, first: int, last: int) -> Ended:
     """Runs the program while these allocations are refused."""
     told, tell = os.pipe()
     surroundings = {"LD_PRELOAD": str(library), "REFUSE": f"{first} {last}", "REFUSE_TELL": str(tell)}
@@ -90,30 +90,33 @@ def wrong_in(case: Case, ended: Ended, kept: int) -> str | None:
     return None
 
 
-def refuse_each(library: Any, case: Any, times: Any, later: Any) -> Any:
+def refuse_each(library: pathlib.Path, case: Case, times: int, later: bool) -> tuple[int, int, bool]:
     """Runs a case while each allocation is refused, and all later ones where that is asked."""
     first = [run(library, case, 1, 0) for _ in range(FIRST_RUNS)]
     kept = max(ended.kept for ended in first)
     greatest = max(ended.allocations for ended in first)
     counts: collections.Counter[Any]
     runs, counts, failed = 0, collections.Counter(), 0
-    while runs < times * (greatest + PAST):
-        number = runs // times + 1
-        ended = run(library, case, number, ALL if later else number)
-        greatest = max(greatest, ended.allocations or 0)
-        counts[ended.status] += 1
-        wrong = wrong_in(case, ended, kept)
-        if wrong:
-            failed += 1
-            print(f"{case.name}: allocation {number} {'and all later' if later else 'alone'}: {wrong}")
-        runs += 1
+    with progress.Progress("refuse", f"runs, {case.name}", times * (greatest + PAST)) as shown:
+        while runs < times * (greatest + PAST):
+            number = runs // times + 1
+            ended = run(library, case, number, ALL if later else number)
+            greatest = max(greatest, ended.allocations or 0)
+            counts[ended.status] += 1
+            wrong = wrong_in(case, ended, kept)
+            if wrong:
+                failed += 1
+                shown.clear()
+                print(f"{case.name}: allocation {number} {'and all later' if later else 'alone'}: {wrong}")
+            runs += 1
+            shown.step()
     statuses = ", ".join(f"{counts[status]} with status {status}" for status in sorted(counts))
     print(f"{case.name}, each of {greatest} allocations {'and all later ones' if later else 'alone'}: "
           f"{statuses}", flush=True)
-    return runs - failed, failed
+    return runs - failed, failed, shown.interrupted
 
 
-def asked(given: list[str]) -> Any:
+def asked(given: list[str]) -> tuple[tuple[str, ...], bytes]:
     """The words and the file of the run."""
     parser = tool.words("refuse", __doc__)
     for (name, (least, most)), usual in zip(limits.RUN.items(), (2, 2000, 8)):
@@ -126,7 +129,7 @@ def asked(given: list[str]) -> Any:
     return ("run", *(str(getattr(words, name)) for name in limits.RUN)), file
 
 
-def histories(words: Any, file: Any) -> Iterator[Any]:
+def histories(words: tuple[str, ...], file: bytes) -> Iterator[Case]:
     """The cases of a run's history: it is taken, counted and rejected."""
     status, text = program.run(words, file)
     if status:
@@ -145,12 +148,16 @@ def main(given: list[str]) -> int | None:
              Case("the usage line", ("stop",), b"", 1, limits.USAGE + "\n"),
              Case("a refused file", words, b"", 3, "refused 1 TooShort\n"))
     passed = failed = 0
+    interrupted = False
     with tempfile.TemporaryDirectory() as folder:
         library = pathlib.Path(folder) / "refuse.so"
         subprocess.run(["cc", "-O2", "-shared", "-fPIC", "-o", library, LIBRARY, "-ldl"], check=True)
         for case in cases:
             for later in (False, True):
-                good, bad = refuse_each(library, case, times if case.text is None else 1, later)
-                passed, failed = passed + good, failed + bad
+                if not interrupted:
+                    good, bad, interrupted = refuse_each(library, case, times if case.text is None else 1, later)
+                    passed, failed = passed + good, failed + bad
     print(f"{passed} passed, {failed} failed")
+    if interrupted:
+        raise KeyboardInterrupt
     return tool.WRONG if failed else tool.DONE

@@ -10,12 +10,14 @@ it is built, and N by model.py, in interleavings that are drawn from seeds.
 """
 from __future__ import annotations
 
+import contextlib
 import os
+import signal
 import sys
 from collections import Counter
 from typing import Any, Callable, Iterator, TYPE_CHECKING
 
-from .. import limits, tool
+from .. import limits, progress, tool
 from ..guest import guestfile
 from ..judging import legal
 from ..reports import report
@@ -172,6 +174,8 @@ def seen_text(found: search.Search) -> str:
     """How much of a guest's interleavings was seen."""
     if found.whole:
         return several(found.states, "state")
+    if not found.walks:
+        return f"more than {several(found.states, 'state')}: not all seen"
     return (f"more than {several(found.states, 'state')}: not all seen; about {found.left():.1e} are left, and "
             f"{several(len(found.walks), 'walk')} to the end were made")
 
@@ -205,15 +209,55 @@ def show_answer(guest: model.Guest, found: search.Search, asked: Namespace, rule
     return None
 
 
+def searched(guest: model.Guest, asked: Namespace, questions: dict[str, None]) -> search.Search:
+    """The search, which shows where it is, and stops between two steps where it is interrupted."""
+    before, expected = None, None
+    if asked.resume and os.path.exists(asked.resume):
+        before = tool.read_bytes(asked.resume, 1 << 40)
+    if asked.all:
+        expected = search.expected(guest, asked.fuel)
+        tool.note("explore", f"some {progress.number(expected)} states are expected, by how many sections the threads have; at most "
+                             f"{asked.states:,} are searched{' more' if before else ''} (--states)")
+    stopped: list[int] = []
+    with progress.Progress("explore", "states", expected) as shown, stopping(stopped):
+        def tell(states: int) -> bool:
+            shown.reach(states)
+            return bool(stopped)
+        found = search.Search(guest, asked.fuel, questions, asked.states, asked.processes, not asked.all, tell=tell,
+                              before=before)
+    shown.end()
+    return found
+
+
+@contextlib.contextmanager
+def stopping(stopped: list[int]) -> Iterator[None]:
+    """Takes a first interrupt as a wish to stop; a second one ends at once."""
+    def stop(number: int, _: object) -> None:
+        stopped.append(number)
+        signal.signal(signal.SIGINT, before)
+    before = signal.getsignal(signal.SIGINT)
+    if callable(before):
+        signal.signal(signal.SIGINT, stop)
+    try:
+        yield
+    finally:
+        signal.signal(signal.SIGINT, before)
+
+
 def search_all(guest: model.Guest, asked: Namespace) -> None:
     """Searches every interleaving for what was asked."""
     questions = asked.reach + asked.never
     try:
-        found = search.Search(guest, asked.fuel, dict.fromkeys(questions), asked.states, asked.processes, not asked.all)
+        found = searched(guest, asked, dict.fromkeys(questions))
     except rules.WrongRule as wrong:
         raise tool.Trouble(tool.WORDS, f"the rule is wrong: {wrong}") from None
     except sections.Collision as trouble:
         raise tool.Trouble(UNDECIDED, f"{trouble}; nothing is known") from None
+    except search.NoSearch as wrong:
+        raise tool.Trouble(tool.WRONG, f"{asked.resume}: {wrong}") from None
+    if asked.resume and not found.whole:
+        tool.write_file(asked.resume, found.kept())
+        tool.note("explore", f"the search stopped behind {several(found.states, 'state')}; the same words go on from {asked.resume}")
     reached = [show_answer(guest, found, asked, rule, "reachable") for rule in asked.reach]
     broken = [show_answer(guest, found, asked, rule, "broken") for rule in asked.never]
     if asked.all:
@@ -222,6 +266,8 @@ def search_all(guest: model.Guest, asked: Namespace) -> None:
         compare(guest, found, asked)
     if True in broken:
         raise tool.Trouble(tool.WRONG, f"never {asked.never[broken.index(True)]}: broken")
+    if found.is_stopped:
+        raise KeyboardInterrupt
     if None in reached + broken:
         raise tool.Trouble(UNDECIDED, "not all interleavings were seen; --states allows more")
 
@@ -266,6 +312,8 @@ def parsed(words: list[str]) -> tuple[Namespace, Any]:
                         help="status 3 and a history where RULE holds of an end")
     parser.add_argument("--states", metavar="N", type=tool.number(1, 10**9), default=10**6,
                         help="search at most N states (1000000)")
+    parser.add_argument("--resume", metavar="FILE", help="go on from where the search of these words stopped, and write "
+                        "there where this one stops")
     parser.add_argument("--processes", metavar="N", type=tool.number(1, 64), default=os.cpu_count() or 1,
                         help="search by N processes (one for each processor)")
     parser.add_argument("--runs", metavar="N", type=tool.number(1, 100000), help="samples: how many by each (32)")
@@ -282,6 +330,8 @@ def parsed(words: list[str]) -> tuple[Namespace, Any]:
         parser.error("--runs, --seed and --model are of samples, and go with no search but --all --runs")
     if asked.keep and searches and not asked.all:
         parser.error("--keep goes with --all or samples: --reach and --never print their history")
+    if asked.resume and not searches:
+        parser.error("--resume is of a search: --all, --reach or --never")
     return asked, searches
 
 

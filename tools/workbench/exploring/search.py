@@ -7,12 +7,14 @@ with the same number of blocks at one time.
 from __future__ import annotations
 
 import functools
+import hashlib
+import marshal
 import multiprocessing
 import random
 import signal
 import zlib
 from array import array
-from typing import Any, NamedTuple, TYPE_CHECKING, Tuple
+from typing import TYPE_CHECKING, Any, Callable, Iterable, NamedTuple, Tuple
 
 from . import live, rules, sections
 
@@ -22,6 +24,9 @@ if TYPE_CHECKING:
 ROOT = 2**64 - 1  # whence the first state is
 ALONE = 20000  # so many states are searched by one process before others are started
 WALKS = 256  # to the end, where not all was seen
+AT_ONCE = 1000  # so many states each share takes before it looks whether to stop
+VERSION = 1  # of what is kept of a search
+DIGEST = 64  # bytes of a digest
 
 
 class Way(NamedTuple):
@@ -108,7 +113,6 @@ class Share:
                     found[owner].setdefault(count + blocks, {}).setdefault(new, place + thread)
             if ended:
                 self.ends.append((state, len(self.whence) - 1, count))
-        waiting = {state: whence for state, whence in waiting.items() if state not in seen}
         if waiting:
             self.waiting[count] = waiting
         for number in range(before, len(self.ends)):
@@ -121,6 +125,18 @@ class Share:
         fresh = [(name, content, rounds.get(name)) for name, content in self.sections.fresh]
         self.sections.fresh.clear()
         return followed, fresh, [packed(states) for states in found], answers
+
+    def kept(self) -> bytes:
+        """All that this share found, as bytes."""
+        return marshal.dumps((self.seen, self.whence.tobytes(), self.waiting, self.ends, self.sections.contents,
+                              self.sections.rounds))
+
+    def go_on(self, kept: bytes) -> None:
+        """Goes on from what a share had found."""
+        self.seen, whence, self.waiting, self.ends, contents, self.sections.rounds = marshal.loads(kept)
+        self.whence.frombytes(whence)
+        self.sections.contents.update(contents)
+        self.sections.fresh.clear()
 
     def whence_of(self, place: int) -> int:
         return self.whence[place]
@@ -137,8 +153,8 @@ class Share:
         """Of the states that wait: how many there are, and how far the threads are in them."""
         rounds, places, count = self.sections.rounds, set(), 0
         for states in self.waiting.values():
-            count += len(states)
-            for state in states:
+            for state in states.keys() - self.seen:
+                count += 1
                 places.add(tuple(rounds[name] for name in self.sections.names(state)[0]))
         return count, places
 
@@ -146,7 +162,7 @@ class Share:
         """Walks from states that wait."""
         chance = random.Random(seed)
         waiting = [(state, whence, blocks) for blocks, states in sorted(self.waiting.items())
-                   for state, whence in states.items()]
+                   for state, whence in states.items() if state not in self.seen]
         return [self.walk(chance, *chance.choice(waiting)) for _ in range(many if waiting else 0)]
 
     def walk(self, chance: random.Random, state: bytes, whence: int, blocks: int) -> Walk:
@@ -200,6 +216,7 @@ class Shares:
             there.close()
             self.pipes.append(here)
         self.count = shares
+        self.sizes = len(guest.entries), [length for _, length in guest.guards]
 
     def all(self, name: str,
             *given: Any) -> list[Any]:
@@ -232,8 +249,15 @@ class Shares:
             pipe.close()
 
 
+class NoSearch(Exception):
+    """A file is not that of a search of this guest, with this fuel and these rules."""
+
+
 class Search:
     """A search with at most so many states: what it found.
+
+    While it goes on `tell` is called with the number of states so far, and where that answers True it stops. `before`
+    is what a search kept that stopped: this one goes on there, with at most so many states more.
 
     `whole` tells whether every interleaving was seen, and `states` how many states were. Where not all
     was, `walks` has some ways to the end, by chance, from where the search stopped.
@@ -241,9 +265,15 @@ class Search:
 
     answers: dict[Any, Any]
 
-    def __init__(self, guest: model.Guest, fuel: int, asked: Any = (), most: int = 10**6,
-                 processes: int = 1, until_answered: bool = False, walks: int = WALKS) -> None:
-        self.asked, self.until_answered, self.many = list(asked), until_answered, walks
+    def __init__(self, guest: model.Guest, fuel: int, asked: Iterable[str] = (), most: int = 10**6, processes: int = 1,
+                 until_answered: bool = False, walks: int = WALKS, tell: Callable[[int], bool] = lambda states: False,
+                 before: bytes | None = None) -> None:
+        self.asked, self.until_answered, self.many, self.tell = list(asked), until_answered, walks, tell
+        self.is_stopped = False
+        self.mark = hashlib.blake2b(repr((VERSION, guest.ranges, guest.entries, guest.guards, fuel, self.asked)).encode()).digest()
+        if before is not None:
+            self.resume(guest, fuel, most, before)
+            return
         try:
             self.search(guest, fuel, most, processes, False)
         except live.Elsewhere:
@@ -252,28 +282,62 @@ class Search:
 
     def search(self, guest: model.Guest, fuel: int, most: int, processes: int, whole: bool) -> None:
         """Searches in this process, and where that takes long in several."""
+        self.all_kept = whole
         self.shares = Shares(guest, fuel, self.asked, 1, whole)
-        self.rules = self.shares.alone.asked if self.shares.alone else {}
+        self.begin()
         self.run(min(most, ALONE) if processes > 1 else most)
-        if not self.whole and not self.done() and self.states < most:
+        if not self.whole and not self.done() and not self.is_stopped and self.states < most:
             del self.shares  # its memory goes before others have copies of it
             self.shares = Shares(guest, fuel, self.asked, processes, whole)
+            self.begin()
             self.run(most)
-        self.walks = [] if self.whole or self.done() else self.walk()
+        self.finish()
+
+    def begin(self) -> None:
+        self.states: int = 0
+        self.answers: dict[str, tuple[int, int]] = {}
+        self.shares.all("first")
+
+    def finish(self) -> None:
+        self.rules = {text: rules.Rule(text, *self.shares.sizes) for text in self.asked}
+        self.walks = [] if self.whole or self.done() or self.is_stopped else self.walk()
+
+    def resume(self, guest: model.Guest, fuel: int, most: int, before: bytes) -> None:
+        """Goes on where a search stopped, with as many processes as it had."""
+        try:
+            if before[:DIGEST] != hashlib.blake2b(before[DIGEST:]).digest():
+                raise ValueError
+            mark, self.all_kept, self.states, self.answers, parts = marshal.loads(before[DIGEST:])
+        except (ValueError, EOFError, TypeError):
+            raise NoSearch("it is no search that was kept, or is damaged") from None
+        if mark != self.mark:
+            raise NoSearch("it is a search of another guest, with other fuel or for other rules, or by another version")
+        self.shares = Shares(guest, fuel, self.asked, len(parts), self.all_kept)
+        self.shares.all("go_on", *[[part] for part in parts])
+        try:
+            self.run(self.states + most)
+            self.finish()
+        except live.Elsewhere:
+            self.shares.close()
+            self.search(guest, fuel, most, len(parts), True)
+
+    def kept(self) -> bytes:
+        """What a later search goes on from."""
+        content = marshal.dumps((self.mark, self.all_kept, self.states, self.answers, self.shares.all("kept")))
+        return hashlib.blake2b(content).digest() + content
 
     def done(self) -> bool:
         return self.until_answered and len(self.answers) == len(self.asked)
 
     def run(self, most: int) -> None:
-        """Takes level after level, up to so many states."""
-        self.states, self.answers = 0, {}
-        self.shares.all("first")
+        """Takes level after level, up to so many states, a large level in parts."""
         while True:
             counts = [number for number in self.shares.all("next_count") if number is not None]
             self.whole = not counts
-            if self.whole or self.states >= most or self.done():
+            self.is_stopped = not self.whole and self.tell(self.states)
+            if self.whole or self.is_stopped or self.states >= most or self.done():
                 return
-            self.level(min(counts), most - self.states)
+            self.level(min(counts), min(most - self.states, AT_ONCE * self.shares.count))
 
     def level(self, blocks: int, most: int) -> None:
         """Follows the states with so many blocks, and lets each share take what falls to it."""
@@ -335,7 +399,26 @@ class Search:
         waiting, places = 0, set()
         for count, some in self.shares.all("progress"):
             waiting, places = waiting + count, places | some
-        total = waiting / max(1, len(places))
-        for thread in range(len(self.walks[0].rounds)):
-            total *= 1 + sum(walk.rounds[thread] for walk in self.walks) / len(self.walks)
+        total = waiting / max(1, len(places)) * combinations(self.walks)
         return max(waiting, round(total) - self.states)
+
+
+def combinations(walks: list[Walk]) -> float:
+    """How many choices of places there are for the threads, by some ways to the end."""
+    total = 1.0
+    for thread in range(len(walks[0].rounds) if walks else 0):
+        total *= 1 + sum(walk.rounds[thread] for walk in walks) / len(walks)
+    return total
+
+
+def expected(guest: model.Guest, fuel: int, walks: int = 32) -> float:
+    """How many choices of places there are for the threads, by ways from the beginning to the end: about as many
+    states as a search meets where each choice is met with one state on average."""
+    for whole in False, True:
+        share = Share(guest, fuel, 0, 1, [], whole)
+        try:
+            share.first()
+            return combinations(share.walked(1, walks))
+        except live.Elsewhere:
+            pass
+    return 1.0

@@ -25,7 +25,7 @@ import time
 import types
 from typing import Any, Callable, Dict, Iterable, Iterator, List, NamedTuple, Optional, Tuple
 
-from .. import limits, tool
+from .. import limits, progress, tool
 from ..drawing import plots
 from ..guest import guestfile, model
 from ..reports import counts, report
@@ -205,9 +205,13 @@ def main(words: list[str]) -> None:
     settings = list(settings_of(asked, "model" if asked.model or why else "program"))
     table = csv.writer(sys.stdout, lineterminator="\n")
     table.writerow(["guest", *Setting._fields, "lock", *NUMBERS, *OF_NODES, "blocks", "turns", "seconds"])
-    done = []
-    for result in results(file, settings):
-        table.writerows(lines(os.path.basename(asked.guest), result, asked.locks))
-        done.append(result)
+    done: List[Result] = []
+    with progress.Progress("sweep", "runs", len(settings)) as shown:
+        for result in results(file, settings):
+            table.writerows(lines(os.path.basename(asked.guest), result, asked.locks))
+            done.append(result)
+            shown.step()
     sys.stdout.flush()
-    draw(asked, done)
+    if done:
+        draw(asked, done)
+    shown.end()
