@@ -208,7 +208,7 @@ class Use(Case):
         whole = run("explore", elf("stale"), "--all", "--never", "lock 0 word 0 != 73")
         for processes in "1", "2":
             file = str(TEMPORARY / f"search-{processes}")
-            words = ("explore", elf("stale"), "--all", "--never", "lock 0 word 0 != 73", "--states", "60", "--processes", processes,
+            words = ("explore", elf("stale"), "--all", "--never", "lock 0 word 0 != 73", "--states", "25", "--processes", processes,
                      "--resume", file)
             done, count = run(*words), 1
             while done.stdout.count(b"not all seen"):
@@ -216,6 +216,22 @@ class Use(Case):
                 done, count = run(*words), count + 1
             self.assertGreater(count, 2)
             self.assertEqual((done.returncode, done.stdout), (3, whole.stdout))
+
+    def test_several_processes_go_on_where_they_stopped(self) -> None:
+        guest, alone = guestfile.load(elf("stale")).guest, search.ALONE
+        whole = search.Search(guest, 20000)
+        search.ALONE = 10
+        try:
+            found = search.Search(guest, 20000, most=60, processes=3)
+            while not found.whole:
+                kept, states = found.kept(), found.states
+                found.shares.close()
+                found = search.Search(guest, 20000, most=60, before=kept)
+                self.assertGreater(found.states, states)
+        finally:
+            search.ALONE = alone
+        self.assertEqual((found.shares.count, found.states), (3, whole.states))
+        self.assertEqual({end: way().blocks for end, way in found.ends()}, {end: way().blocks for end, way in whole.ends()})
 
     def test_a_file_that_is_no_search_of_this_guest(self) -> None:
         file = TEMPORARY / "search"
@@ -295,7 +311,8 @@ class Use(Case):
                       ["--reach", "faults", "--keep", "folder"], ["32"], ["--runs", "0"]):
             with self.subTest(words=[word[:40] for word in words]):
                 self.one_line(run("explore", elf("first"), *words), 1)
-        self.one_line(run("explore", elf("first"), "--all", "--keep", "/dev/null/no"), 4)
+        done = run("explore", elf("first"), "--all", "--keep", "/dev/null/no")
+        self.assertEqual((done.returncode, done.stderr.count(b"\n")), (4, 2), done.stderr)
         self.one_line(run("explore", saved("none.elf", b"none"), "--all"), 3)
 
 

@@ -134,18 +134,72 @@ document.body.append(made);
 """
 
 
+# What the hands of a reader come to: the slider, the number, the choice of a lock's sections, the address, a lecture.
+HANDS = """
+const box = thing => by(thing).getBoundingClientRect(), slide = (id, to) => { by(id).value = to; by(id).dispatchEvent(new Event('input')); };
+const pressOn = id => by(id).click(), hands = {};
+slide('slide', 4); hands.slider = step; slide('stamp', 2); hands.stamp = step;
+by('of').value = '0'; by('of').dispatchEvent(new Event('change'));
+pressOn('first'); hands.sections = []; while (!by('sectionon').disabled) { pressOn('sectionon'); hands.sections.push(step); }
+by('of').value = 'passed'; by('of').dispatchEvent(new Event('change')); pressOn('first'); pressOn('sectionon'); hands.passed = step;
+location.hash = '#5'; fromAddress(); hands.address = step;
+hands.screen = [innerWidth, innerHeight, document.querySelector('main').getBoundingClientRect().bottom, box('slide').bottom];
+hands.seen = ['workers', 'locks', 'says'].map(id => box(id).bottom <= innerHeight);
+const size = () => parseFloat(getComputedStyle(by('says')).fontSize), small = size();
+document.dispatchEvent(new KeyboardEvent('keydown', { key: 'l' }));
+hands.lecture = [size() / small, getComputedStyle(by('bytebox')).display, box('says').left > box('map').right - 1, address()];
+hands.lectureSeen = box('says').bottom <= innerHeight && box('map').bottom <= innerHeight;
+pressOn('lecture'); hands.after = [size() === small, address()];
+const made = document.createElement('pre'); made.id = 'seen'; made.textContent = JSON.stringify(hands); document.body.append(made);
+"""
+
+
 @unittest.skipUnless(BROWSER, "no browser is there")
 class InABrowser(Case):
+    def browse(self, page_text: str, script: str = "", *words: str) -> tuple[str, str]:
+        """What the page is after a script, as text; and what the browser says, with all of the console."""
+        path = saved("page.html", page_text.replace("begin();\n</script>", "begin();\n" + script + "</script>"))
+        done = subprocess.run([str(BROWSER), "--headless", "--no-sandbox", "--disable-gpu", "--virtual-time-budget=2000",
+                               f"--user-data-dir={TEMPORARY / 'browser'}", "--window-size=1366,768", "--enable-logging=stderr",
+                               *(words or ("--dump-dom",)), f"file://{path}"],
+                              stdout=subprocess.PIPE, stderr=subprocess.PIPE, check=True, timeout=300, text=True)
+        self.assertNotIn("CONSOLE", done.stderr)
+        return done.stdout, done.stderr
+
+    def found(self, page_text: str, script: str) -> Any:
+        shown = re.search('<pre id="seen">(.*)</pre>', self.browse(page_text, script)[0])
+        assert shown
+        return json.loads(shown[1].replace("&lt;", "<").replace("&gt;", ">").replace("&amp;", "&"))
+
     def test_a_history_on_paper(self) -> None:
-        whole = made(BY_HAND, saved("one.elf", built(ONE, (0, 0), 1)))
-        path = saved("page.html", whole.replace("begin();\n</script>", "begin();\n" + LOOK + "</script>"))
-        done = subprocess.run([BROWSER, "--headless", "--no-sandbox", "--disable-gpu", "--virtual-time-budget=2000",  # type: ignore[list-item]
-                               f"--user-data-dir={TEMPORARY / 'browser'}", "--dump-dom", f"file://{path}"],
-                              stdout=subprocess.PIPE, stderr=subprocess.DEVNULL, check=True, timeout=300, text=True)
-        found = json.loads(re.search('<pre id="seen">(.*)</pre>', done.stdout)[1].replace("&lt;", "<").replace("&gt;", ">"))  # type: ignore[index]
+        found = self.found(made(BY_HAND, saved("one.elf", built(ONE, (0, 0), 1))), LOOK)
         self.check(found["seen"])
         # Shift and left arrow: to the section before; block 3 and then block 1 begin one.
         self.assertEqual([found[name] for name in ("back", "backTwice", "end", "section")], [3, 1, 6, 1])
+
+    def test_hands(self) -> None:
+        for guest in saved("one.elf", built(ONE, (0, 0), 1)), None:
+            hands = self.found(made(BY_HAND, guest), HANDS)
+            self.assertEqual((hands["slider"], hands["stamp"], hands["sections"], hands["passed"], hands["address"]),
+                             (4, 2, [1, 3], 3, 5))
+            # All but the explanations is on a screen of a laptop's size.
+            width, height, main, _ = hands["screen"]
+            self.assertEqual((width, main <= height, hands["seen"]), (1366, True, [True] * 3), hands)
+            larger, words, beside, address = hands["lecture"]
+            self.assertGreater(larger, 1.3)
+            self.assertEqual((words, beside, address, hands["lectureSeen"], hands["after"]),
+                             ("none", True, "#5-lecture", True, [True, "#5"]))
+
+    def test_an_error_of_the_console_is_found(self) -> None:
+        with self.assertRaises(AssertionError):
+            self.browse(made(BY_HAND, None), "throw new Error('no');")
+
+    def test_print(self) -> None:
+        path = TEMPORARY / "page.pdf"
+        self.browse(made(BY_HAND, saved("one.elf", built(ONE, (0, 0), 1))), "", f"--print-to-pdf={path}")
+        content = path.read_bytes()
+        self.assertTrue(content.startswith(b"%PDF-"))
+        self.assertIn(len(re.findall(rb"/Type\s*/Page\b", content)), (1, 2, 3))
 
     def check(self, seen: list[dict[str, Any]]) -> None:
         self.assertEqual([one["step"] for one in seen], list(range(7)))

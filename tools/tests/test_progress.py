@@ -30,7 +30,7 @@ class Shown(Case):
         self.assertRaises(KeyboardInterrupt, work.end)
 
     def test_on_a_terminal_alone(self) -> None:
-        words = [sys.executable, ROOT / "workbench.py", "sweep", elf("first"), "--model", "--runs", "2"]
+        words = [sys.executable, str(ROOT / "workbench.py"), "sweep", elf("first"), "--model", "--runs", "2"]
         done = subprocess.run(words, stdout=subprocess.PIPE, stderr=subprocess.PIPE, check=False)
         self.assertEqual((done.returncode, done.stderr), (0, b""))
         here, there = pty.openpty()

@@ -79,8 +79,8 @@ def opened(path: Path | str) -> IO[bytes]:
     return sys.stdin.buffer
 
 
-def read_bytes(path: Path | str, most: int) -> bytes:
-    """The first bytes of a file, at most so many."""
+def read_bytes(path: Path | str, most: int = -1) -> bytes:
+    """The first bytes of a file, at most so many; all of them where that is not said."""
     try:
         with opened(path) as file:
             return file.read(most)

@@ -205,10 +205,10 @@ def worker_items(workers: int) -> Iterator[tuple[str, str]]:
     """What the lanes of locks have."""
     for worker in range(workers):
         yield "".join(worker_parts(0, 0, worker)), f"worker {worker} has the lock"
-    yield moved_mark(0, 14), "another worker had it before"
-    yield stroke("has", WORKERS[0], 0, 9, 24), "between two blocks"
-    yield stroke("nobody", NOBODY, 0, 9, 24), "in a package that no worker has"
-    yield "", "nothing: the lock is free"
+    yield moved_mark(0, 14), "in a lock's lane: another worker had it before"
+    yield stroke("has", WORKERS[0], 0, 9, 24), "in a lock's lane: between two blocks"
+    yield stroke("nobody", NOBODY, 0, 9, 24), "in a lock's lane: in a package that no worker has"
+    yield "", "nothing in a lock's lane: the lock is free"
 
 
 def legend(picture: Picture, items: Any, head: str = "") -> None:
@@ -283,10 +283,8 @@ def detailed(line: timeline.Timeline, first: int, last: int, names: names.Names,
     """All blocks of some stamps, in strips."""
     longest, left = min(STRIP, last - first + 1), margin(names)
     picture = Picture(max(left + UNIT * longest + 60, NARROWEST), title)
-    legend(picture, [*colour_items(names), *mark_items()])
-    legend(picture, line_items(), "Lines:")
-    if line.text.guards:
-        legend(picture, worker_items(line.text.workers), "In the lanes of locks:")
+    legend(picture, [*colour_items(names), *mark_items(), *line_items(),
+                     *(worker_items(line.text.workers) if line.text.guards else ())])
     picture.add("", 6)
     for start in range(first, last + 1, STRIP):
         Strip(picture, line, names, left, start, min(start + STRIP - 1, last)).draw(line)

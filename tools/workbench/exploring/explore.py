@@ -189,7 +189,8 @@ def show_all(guest: model.Guest, found: search.Search, asked: Namespace) -> None
     def tell(place: int) -> str:
         way = ends[place][1]()
         return f"{several(way.blocks, 'block')}, sections of threads {order(way.threads) or '-'}"
-    show(guest, [end for end, _ in ends], asked.most, tell)
+    if ends:
+        show(guest, [end for end, _ in ends], asked.most, tell)
     if asked.keep:
         keep(asked.keep, (history(guest, asked.fuel, way().threads) for _, way in ends[:asked.most]))
 
@@ -213,7 +214,7 @@ def searched(guest: model.Guest, asked: Namespace, questions: dict[str, None]) -
     """The search, which shows where it is, and stops between two steps where it is interrupted."""
     before, expected = None, None
     if asked.resume and os.path.exists(asked.resume):
-        before = tool.read_bytes(asked.resume, 1 << 40)
+        before = tool.read_bytes(asked.resume)
     if asked.all:
         expected = search.expected(guest, asked.fuel)
         tool.note("explore", f"some {progress.number(expected)} states are expected, by how many sections the threads have; at most "
