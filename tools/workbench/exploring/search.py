@@ -127,16 +127,15 @@ class Share:
         return followed, fresh, [packed(states) for states in found], answers
 
     def kept(self) -> bytes:
-        """All that this share found, as bytes."""
+        """All that this share found, as bytes; with the parts that the other shares were not told of, as those of walks."""
         return marshal.dumps((self.seen, self.whence.tobytes(), self.waiting, self.ends, self.sections.contents,
-                              self.sections.rounds))
+                              self.sections.rounds, self.sections.fresh))
 
     def go_on(self, kept: bytes) -> None:
         """Goes on from what a share had found."""
-        self.seen, whence, self.waiting, self.ends, contents, self.sections.rounds = marshal.loads(kept)
+        (self.seen, whence, self.waiting, self.ends, self.sections.contents, self.sections.rounds,
+         self.sections.fresh) = marshal.loads(kept)
         self.whence.frombytes(whence)
-        self.sections.contents.update(contents)
-        self.sections.fresh.clear()
 
     def whence_of(self, place: int) -> int:
         return self.whence[place]
