@@ -1,6 +1,7 @@
 """Every command that the pages, the course and its answers name runs as it is written, in a checkout of its own,
 beside a program that is made up and answers by the model. What wants the proved program, the toolchain or hours, or
-has a word in capitals for something of the reader's, is looked at for its subcommand alone."""
+has a word in capitals for something of the reader's, is looked at for its subcommand alone; of many samples a few are
+made."""
 from __future__ import annotations
 
 import os
@@ -20,6 +21,7 @@ BEGINS = re.compile(r"\(?(cat|for|make|done|echo) ?|\./(workbench|tclocks)[ -]| 
 LEFT_OUT = re.compile(r"\./tclocks-build|\./workbench (check|fuzz|refuse|endure|facts|bench)\b|\brt |make .*(-B|CC=)|PATH/TO|\.\.(?!/)"
                       r"|\b(GUEST|REPORT|FOLDER|FILE|HISTORY|RULE|NAME|W F B|G K)\b|apt-get|git |sums$|same$|\[|tclocks (demo|gen|nodes)|(?<!/)my\.elf"
                       r"|^\./(workbench|tclocks) [a-z]+$|^\./workbench judge \S+$|1 F B")
+MANY = re.compile(r"--runs \d{2,}")
 COMPILER = shutil.which("riscv64-unknown-elf-gcc")
 
 
@@ -51,13 +53,14 @@ class Commands(Case):
         (root / "my").mkdir()
         for name in "c", "elf":
             shutil.copy(ROOT / "guests" / f"first.{name}", root / "my" / f"my.{name}")
-        count = 0
+        count, seen = 0, set()
         for page in PAGES:
-            for text in dict.fromkeys(commands_of(page)):
-                if LEFT_OUT.search(text) or not COMPILER and "make" in text:
+            for text in commands_of(page):
+                if text in seen or LEFT_OUT.search(text) or not COMPILER and "make" in text:
                     continue
+                seen.add(text)
                 with self.subTest(page=page.name, command=text):
-                    done = subprocess.run(["sh", "-c", text], cwd=root, stdin=subprocess.DEVNULL, stdout=subprocess.PIPE,
+                    done = subprocess.run(["sh", "-c", MANY.sub("--runs 20", text)], cwd=root, stdin=subprocess.DEVNULL, stdout=subprocess.PIPE,
                                           stderr=subprocess.PIPE, check=False, timeout=300, env={**os.environ, "HOME": str(TEMPORARY)})
                     self.assertEqual(done.returncode, 0, done.stderr.decode()[-300:])
                     self.assertNotIn(b"Traceback", done.stderr)

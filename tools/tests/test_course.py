@@ -3,7 +3,6 @@ that the pages name."""
 from __future__ import annotations
 
 import re
-import shlex
 import shutil
 import subprocess
 import unittest
@@ -116,15 +115,6 @@ class Guests(Case):
 
 
 class Pages(Case):
-    def test_runs_that_the_pages_name(self) -> None:
-        """Each `./workbench run`, with a seed, is a run of a guest that is there."""
-        found = {command for page in PAGES for command in re.findall(r"workbench run guests/[^`|>]*", page.read_text())
-                 if "$" not in command}
-        self.assertGreater(len(found), 5)
-        for command in found:
-            _, _, guest, *words = shlex.split(command)
-            self.assertEqual(run("run", ROOT / guest, *words[:3], "--seed", "0").returncode, 0, command)
-
     def test_history_on_nodes(self) -> None:
         """It is legal, and its sections stand as a line picks them with the bound 2, and with no other."""
         text = re.search(r"(?s)```\n(tclocks 2\nguest threads 8 .*?)```", PAGES[0].read_text())[1]  # type: ignore[index]

@@ -43,7 +43,7 @@ class Failed(Exception):
 class Measured:
     """What is measured: its words, and what its runs took."""
 
-    took: list[Any]
+    took: list[process.Took]
 
     def __init__(self, path: Path | None, *words: int | str) -> None:
         self.path, self.words, self.took = path, words, []

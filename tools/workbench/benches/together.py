@@ -81,7 +81,7 @@ def run(host: Host, name: str, workers: int, kind: str) -> Ran:
 
 def measure(host: Host, name: str, workers: int, runs: int, to: table.Table) -> dict[str, list[Ran]]:
     """Prints the lines of a guest. Answers the runs of each kind."""
-    found: dict[Any, Any] = {kind: [] for kind in GIVEN}
+    found: dict[str, list[Ran]] = {kind: [] for kind in GIVEN}
     for _ in range(runs):
         for kind in GIVEN:
             found[kind].append(run(host, name, workers, kind))
@@ -103,7 +103,7 @@ def sum_up(kind: str, ran: list[Ran]) -> None:
 def main(words: list[str]) -> None:
     asked = asked_of(words)
     process.choose(asked)
-    every: dict[Any, Any] = {kind: [] for kind in GIVEN}
+    every: dict[str, list[Ran]] = {kind: [] for kind in GIVEN}
     with tempfile.TemporaryDirectory() as folder:
         host = Host(folder)
         to = table.Table("together", asked, [*map(table.Column, (

@@ -104,7 +104,7 @@ class Shown:
 
     def __init__(self) -> None:
         self.runs = self.beside = self.adopting = self.adopted = 0
-        self.answers: collections.Counter[Any] = collections.Counter()
+        self.answers: collections.Counter[str] = collections.Counter()
 
     def add(self, text: str) -> None:
         """Counts a run, by its report."""
@@ -207,7 +207,7 @@ def main(words: list[str]) -> int | None:
     guests = [name for name in names if name not in PARTS]
     if guests:
         program.need()
-    answers: collections.Counter[Any]
+    answers: collections.Counter[str]
     answers, trials = collections.Counter(), len(names)
     for name in guests:
         is_right, answered = check(name, facts[name])

@@ -39,8 +39,8 @@ class Shelf:
 class Player:
     """Runs the blocks by the model, and keeps what those of a window change."""
 
-    starts: dict[Any, Any]
-    notes: dict[Any, Any]
+    starts: dict[int, str]
+    notes: dict[int, str]
     changes: list[Any]
 
     def __init__(self, file: guestfile.GuestFile, lines: sources.Sources, text: report.Report) -> None:

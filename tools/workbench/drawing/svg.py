@@ -151,7 +151,7 @@ def document(width: float, height: int, style: str, parts: list[str], title: str
 class Picture:
     """Parts below one another, and how high they are together."""
 
-    parts: list[Any]
+    parts: list[str]
 
     def __init__(self, width: float, title: str) -> None:
         self.width, self.height, self.parts = width, 0, []

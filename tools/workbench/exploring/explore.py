@@ -37,7 +37,7 @@ SHOWN = 60  # so many sections of a way are printed
 class Outcome:
     """How often it was seen by whom, and the first report of it with what made it."""
 
-    counts: Counter[Any]
+    counts: Counter[str]
 
     def __init__(self, lines: list[str], command: str) -> None:
         self.counts, self.lines, self.command = Counter(), lines, command
@@ -93,7 +93,7 @@ def by_model(path: str, guest: model.Guest, fuel: int, runs: int, seed: int) -> 
 
 def collect(sources: list[tuple[str, Iterator[Any]]]) -> list[tuple[rules.End, Outcome]]:
     """The outcomes of runs, by how they end: those with faults first, then those seen most often."""
-    outcomes: dict[Any, Any] = {}
+    outcomes: dict[rules.End, Outcome] = {}
     for name, runs in sources:
         for lines, command in runs:
             outcome = outcomes.setdefault(end_of(lines), Outcome(lines, command))
@@ -120,7 +120,7 @@ def show(guest: model.Guest, ends: list[rules.End], most: int, tell: Callable[..
 
 def show_same(values: dict[str, str]) -> None:
     """One line for the values of each thread and each lock."""
-    lines: dict[Any, Any] = {}
+    lines: dict[str, list[str]] = {}
     for name, value in values.items():
         owner, number, rest = name.split(" ", 2)
         lines.setdefault(f"{owner} {number}", []).append(f"{rest.split(' (')[0]} {value.split(' (')[0]}")

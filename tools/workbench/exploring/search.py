@@ -50,14 +50,14 @@ class Walk(NamedTuple):
 class Share:
     """The part of the states that falls to one process."""
 
-    seen: set[Any]
-    waiting: dict[Any, Any]
+    seen: set[bytes]
+    waiting: dict[int, dict[bytes, int]]
 
     def __init__(self, guest: model.Guest, fuel: int, number: int, shares: int, asked: list[str], whole: bool) -> None:
         self.sections = sections.Sections(guest, fuel, whole)
         self.number, self.shares = number, shares
         self.seen, self.whence, self.waiting = set(), array("Q"), {}  # waiting: blocks: state: whence
-        self.ends: list[Any] = []  # state, place in whence, blocks
+        self.ends: list[tuple[bytes, int, int]] = []  # state, place in whence, blocks
         self.asked = {text: rules.Rule(text, self.sections.threads, [
             len(lock.bytes) for lock in self.sections.machine.locks]) for text in asked}
 
@@ -261,8 +261,6 @@ class Search:
     `whole` tells whether every interleaving was seen, and `states` how many states were. Where not all
     was, `walks` has some ways to the end, by chance, from where the search stopped.
     """
-
-    answers: dict[Any, Any]
 
     def __init__(self, guest: model.Guest, fuel: int, asked: Iterable[str] = (), most: int = 10**6, processes: int = 1,
                  until_answered: bool = False, walks: int = WALKS, tell: Callable[[int], bool] = lambda states: False,

@@ -33,7 +33,7 @@ class Collision(Exception):
 class Change:
     """What a section does to a lock."""
 
-    after: dict[Any, Any]
+    after: dict[bytes, bytes]
 
     __slots__ = ("sections", "start", "stop", "held", "breaks", "took", "words", "sums", "after")
 
@@ -81,8 +81,8 @@ class Node:
     by the bytes there a result, another node where it depends on more, or () where a lock is held that
     it takes."""
 
-    known: frozenset[Any]
-    after: dict[Any, Any]
+    known: frozenset[tuple[int, int, int, int]]
+    after: dict[bytes, Any]
     __slots__ = ("known", "places", "after")
 
     def __init__(self, above: Node | None, places: list[tuple[int, int, int, int]]) -> None:
@@ -92,7 +92,7 @@ class Node:
 
 def merged(places: list[tuple[int, int, int, int]]) -> list[tuple[int, int, int, int]]:
     """Places of locks as few spans: start and stop of the lock's name, and of the bytes."""
-    spans: list[Any] = []
+    spans: list[tuple[int, int, int, int]] = []
     for start, stop, low, high in sorted(places):
         if spans and spans[-1][:2] == (start, stop) and spans[-1][3] == low:
             low = spans.pop()[2]
@@ -104,10 +104,10 @@ class Sections:
     """A guest's parts, and what its threads' sections come to. Unless `whole`, registers that code doesn't
     read again are 0 in the parts of threads; live.Elsewhere where it can't be known which these are."""
 
-    contents: dict[Any, Any]
-    starts: dict[Any, Any]
-    nodes: dict[Any, Any]
-    fresh: list[Any]
+    contents: dict[bytes, bytes]
+    starts: dict[bytes, Any]
+    nodes: dict[bytes, Any]
+    fresh: list[tuple[bytes, bytes]]
 
     def __init__(self, guest: model.Guest, fuel: int, whole: bool = False) -> None:
         self.live = None if whole else live.Live(guest)

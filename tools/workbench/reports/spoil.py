@@ -59,7 +59,7 @@ def spelling(draw: Random, blocks: list[report.Block]) -> str:
 
 def thread(draw: Random, blocks: list[report.Block]) -> str:
     """A block of a thread that is none, or has ended."""
-    ended: set[Any]
+    ended: set[int]
     count, ended, places = 1 + max(block.thread for block in blocks), set(), []
     for place, block in enumerate(blocks):
         places += [(place, number) for number in ended]
