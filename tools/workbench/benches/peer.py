@@ -17,7 +17,7 @@ import json
 import os
 import tempfile
 import types
-from typing import Any, TYPE_CHECKING
+from typing import TYPE_CHECKING
 
 from .. import limits, places, progress, tool
 from ..guest import model

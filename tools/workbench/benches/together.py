@@ -11,7 +11,7 @@ import os
 import re
 import statistics
 import tempfile
-from typing import Any, NamedTuple, TYPE_CHECKING
+from typing import NamedTuple, TYPE_CHECKING
 
 from .. import progress, tool
 from . import guests, process, table

@@ -18,7 +18,7 @@ import os
 import pathlib
 import subprocess
 import tempfile
-from typing import Any, Iterator, NamedTuple, Optional, Tuple
+from typing import Iterator, NamedTuple, Optional, Tuple
 
 from .. import limits, progress, tool
 from ..guest import guestfile, made, model
