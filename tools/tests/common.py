@@ -9,14 +9,12 @@ import shutil
 import subprocess
 import tempfile
 import unittest
-from typing import Any, TYPE_CHECKING
+from typing import Any
 
 from tools.workbench import places
 from tools.workbench.guest import guestfile, made
+from tools.workbench.reports import report
 from tools.workbench.running import delegation
-
-if TYPE_CHECKING:
-    from tools.workbench.reports import report
 
 ROOT, GUESTS, COURSE = places.ROOT, places.GUESTS, places.COURSE
 NAMES = sorted(json.loads((GUESTS / "facts.json").read_text()))

@@ -2,18 +2,15 @@
 that the pages name."""
 from __future__ import annotations
 
+from pathlib import Path
 import re
 import shutil
 import subprocess
 import unittest
-from typing import TYPE_CHECKING
 
 from tools.workbench.guest import guestfile
 from tools.workbench.running import delegation
 from .common import COURSE, GUESTS, ROOT, TEMPORARY, Case, elf, run, saved, with_program
-
-if TYPE_CHECKING:
-    from pathlib import Path
 
 ANSWERS = ROOT / "docs" / "answers"
 PAGES = (ROOT / "docs" / "TEACHING.md", ANSWERS / "README.md")

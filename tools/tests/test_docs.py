@@ -3,15 +3,12 @@ and pictures, excerpts and tables are those of these reports."""
 from __future__ import annotations
 
 import csv
+from pathlib import Path
 import re
 import subprocess
 import unittest
-from typing import TYPE_CHECKING
 
 from .common import GUESTS, ROOT, TEMPORARY, Case, elf, run
-
-if TYPE_CHECKING:
-    from pathlib import Path
 
 DOCS = ROOT / "docs"
 PICTURES = DOCS / "pictures"

@@ -3,16 +3,13 @@ runs on paper."""
 from __future__ import annotations
 
 import re
+from subprocess import CompletedProcess
 import unittest
-from typing import TYPE_CHECKING
 
 from tools.workbench.guest import guestfile, sources
 from tools.workbench.judging import legal, tracing
 from tools.workbench.reports import report
 from .common import BY_HAND, ONE, Case, built, elf, history, run, saved
-
-if TYPE_CHECKING:
-    from subprocess import CompletedProcess
 
 WHOLE = run("finish", saved("one.elf", built(ONE, (0, 0), 1)), given=BY_HAND).stdout
 

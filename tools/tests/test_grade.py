@@ -3,13 +3,11 @@ from __future__ import annotations
 
 import csv
 import shutil
+from subprocess import CompletedProcess
 import unittest
-from typing import Any, TYPE_CHECKING
+from typing import Any
 
 from .common import COURSE, EXIT, GUESTS, ONE, ROOT, TEMPORARY, Case, built, call, elf, run
-
-if TYPE_CHECKING:
-    from subprocess import CompletedProcess
 
 COURSE, ANSWERS = COURSE, ROOT / "docs" / "answers"
 TORN = "lock 3 word 0 != lock 3 word 1"

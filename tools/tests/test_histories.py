@@ -3,16 +3,13 @@ from __future__ import annotations
 
 import json
 import re
+from subprocess import CompletedProcess
 import unittest
-from typing import TYPE_CHECKING
 
 from tools.workbench.guest import guestfile, model
 from tools.workbench.reports import report
 from tools.workbench.running import delegation
 from .common import BY_HAND, BY_HAND_V1, EXIT, GUESTS, NAMES, ONE, PCS, TEMPORARY, Case, built, call, elf, history, run, saved
-
-if TYPE_CHECKING:
-    from subprocess import CompletedProcess
 
 
 class ByHand(Case):

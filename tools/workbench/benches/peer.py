@@ -12,21 +12,18 @@ the guest is one of guests/.
 """
 from __future__ import annotations
 
+from argparse import Namespace
 import io
 import json
 import os
+from pathlib import Path
 import tempfile
 import types
-from typing import TYPE_CHECKING
 
 from .. import limits, places, progress, tool
 from ..guest import model
 from ..reports import report
 from . import guests, process, table
-
-if TYPE_CHECKING:
-    from argparse import Namespace
-    from pathlib import Path
 
 FACTS = json.loads((places.GUESTS / "facts.json").read_text())
 AMPLE = 20000  # fuel with which the facts hold

@@ -8,16 +8,14 @@ and of `profile`; megabytes that are read in a second; how many times the second
 """
 from __future__ import annotations
 
+from argparse import Namespace
 import filecmp
 import os
 import tempfile
-from typing import Any, IO, TYPE_CHECKING
+from typing import Any, IO
 
 from .. import limits, progress, tool
 from . import guests, process, table
-
-if TYPE_CHECKING:
-    from argparse import Namespace
 
 USUAL = "sleeps", "hot-lock", "nested-locks", "shortest-blocks", "longest-history"
 COLUMNS = [table.Column(*column) for column in (

@@ -6,20 +6,18 @@ for the start.
 """
 from __future__ import annotations
 
+from argparse import Namespace
 import io
 import re
 import shutil
 import subprocess
 import tempfile
 from pathlib import Path
-from typing import TYPE_CHECKING, List, Tuple
+from typing import List, Tuple
 
 from .. import limits, progress, tool
 from ..running import program
 from . import guests, process, table
-
-if TYPE_CHECKING:
-    from argparse import Namespace
 
 Counter = Tuple[List[str], "re.Pattern[bytes]"]
 # The two fuels whose difference leaves the start out.

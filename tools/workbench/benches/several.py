@@ -15,21 +15,19 @@ faster while others are idle; with -e all are busy in each run, those that its w
 """
 from __future__ import annotations
 
+from argparse import Namespace
 import contextlib
 import os
+from pathlib import Path
 import shutil
 import statistics
 import subprocess
 import tempfile
 import time
-from typing import Any, Iterator, TYPE_CHECKING
+from typing import Any, Iterator
 
 from .. import limits, progress, tool
 from . import guests, process, table
-
-if TYPE_CHECKING:
-    from argparse import Namespace
-    from pathlib import Path
 
 USUAL = "hot-lock", "nested-locks", "sleeps", "memory", "many-ranges", "own-locks"
 

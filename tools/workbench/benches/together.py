@@ -7,17 +7,15 @@ one, and where it gives one: a library in LD_PRELOAD (threads.c) refuses all oth
 """
 from __future__ import annotations
 
+from argparse import Namespace
 import os
 import re
 import statistics
 import tempfile
-from typing import NamedTuple, TYPE_CHECKING
+from typing import NamedTuple
 
 from .. import progress, tool
 from . import guests, process, table
-
-if TYPE_CHECKING:
-    from argparse import Namespace
 
 OWN = "counter", "bank", "buffer", "philosophers"  # of guests/
 FUEL, BATCH = 20000, 8

@@ -8,14 +8,11 @@ and guarded bytes.
 """
 from __future__ import annotations
 
-from typing import TYPE_CHECKING
+from argparse import Namespace
 from .. import tool
 from ..guest import guestfile, names, sources
 from ..reports import timeline
 from . import overview, page, svg, textlanes, traceevents
-
-if TYPE_CHECKING:
-    from argparse import Namespace
 
 MOST = 2000  # blocks that are drawn each
 

@@ -4,14 +4,11 @@ from __future__ import annotations
 
 from collections import Counter
 from itertools import accumulate
-from typing import Any, Iterable, Iterator, TYPE_CHECKING
+from typing import Any, Iterable, Iterator
 
-from ..reports import timeline
+from ..guest import names
+from ..reports import report, timeline
 from . import svg
-
-if TYPE_CHECKING:
-    from ..guest import names
-    from ..reports import report
 
 COLUMNS, WIDE = 160, 960  # how many columns there are at most, and how wide all are
 PANEL, LANE, LANE_STEP = 90, 24, 30

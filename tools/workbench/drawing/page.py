@@ -6,16 +6,13 @@ from __future__ import annotations
 import json
 import pathlib
 import struct
-from typing import Any, Sequence, TYPE_CHECKING
+from typing import Any, Sequence
 
 from .. import limits, tool
+from ..guest import guestfile, model, names, sources
 from ..judging import legal, reasons
-from ..reports import report
+from ..reports import report, timeline
 from . import svg
-
-if TYPE_CHECKING:
-    from ..guest import guestfile, model, names, sources
-    from ..reports import timeline
 
 PAGE = pathlib.Path(__file__).resolve().parent / "page.html"
 MOST = 50000  # blocks of a page

@@ -3,13 +3,11 @@ lock. Workers and kinds are told apart by shape as well as by colour."""
 from __future__ import annotations
 
 import itertools
-from typing import Any, Callable, Iterator, TYPE_CHECKING
+from typing import Any, Callable, Iterator
 
 from ..reports.report import several
+from ..running import sweep
 from .svg import COLOURS, box, document, label, titled
-
-if TYPE_CHECKING:
-    from ..running import sweep
 
 WIDE, HIGH, GAP, LEFT, TOP = 360, 170, 50, 56, 84  # of a panel, and the margins
 CONTEXTS = "contexts to another node"  # of runs with nodes alone

@@ -6,15 +6,12 @@ from __future__ import annotations
 
 import html
 from collections import Counter
-from typing import Any, Iterator, TYPE_CHECKING
+from typing import Any, Iterator
 
+from ..guest import names
 from ..limits import SECTIONS
-from ..reports import timeline
+from ..reports import report, timeline
 from ..reports.report import several
-
-if TYPE_CHECKING:
-    from ..guest import names
-    from ..reports import report
 
 COLOURS = ("#0072B2", "#E69F00", "#009E73", "#CC79A7", "#56B4E9", "#D55E00", "#F0E442")
 WHITE_LETTERS = (0,)  # the colours on which white is read better than black

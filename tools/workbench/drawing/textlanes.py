@@ -1,17 +1,15 @@
 """Timelines for a terminal: a lane of characters for each thread, worker and lock."""
 from __future__ import annotations
 
+from argparse import Namespace
 import os
 import shutil
 import sys
-from typing import Any, Iterator, TYPE_CHECKING
+from typing import Any, Iterator
 
+from ..guest import names
 from ..reports import timeline
 from . import svg
-
-if TYPE_CHECKING:
-    from ..guest import names
-    from argparse import Namespace
 
 LETTERS = {"start": "s", "on": ".", "taken": "t", "adopted": "a", "granted": "g"}
 STATES = {timeline.ASLEEP: "z", timeline.SHIPPED: "n", timeline.WAITING: "-", timeline.WANTS: "~", timeline.HOLDS: "="}

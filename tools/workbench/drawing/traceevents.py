@@ -1,15 +1,12 @@
 """Timelines in the trace event format, which Perfetto (ui.perfetto.dev) and Chrome's viewer open."""
 from __future__ import annotations
 
+from argparse import Namespace
 import json
-from typing import Any, Iterator, TYPE_CHECKING
+from typing import Any, Iterator
 
-from ..reports import report
-
-if TYPE_CHECKING:
-    from ..guest import names
-    from ..reports import timeline
-    from argparse import Namespace
+from ..guest import names
+from ..reports import report, timeline
 
 # Lanes of a trace: the process and its first lane's number. No two lanes have one number, and
 # none is 0, which some viewers keep for the idle process.

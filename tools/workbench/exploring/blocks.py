@@ -3,15 +3,12 @@ own state and on the words of locks that it reads, and on nothing else. Which wo
 """
 from __future__ import annotations
 
-from typing import Any, Callable, Iterable, Optional, Sequence, TYPE_CHECKING, Tuple, Union
+from typing import Any, Callable, Iterable, Optional, Sequence, Tuple, Union
 from .. import limits
+from ..guest import model
 from ..guest.model import Fault
-from . import steps
+from . import live, steps
 from .steps import CALL, MASK, number
-
-if TYPE_CHECKING:
-    from . import live
-    from ..guest import model
 
 PAGE = 6  # a page of a thread's memory has 2^6 bytes
 EXIT, SPENT, FAULT = 1, 2, 16  # how a thread ended; fault F is FAULT + F

@@ -10,23 +10,20 @@ it is built, and N by model.py, in interleavings that are drawn from seeds.
 """
 from __future__ import annotations
 
+from argparse import Namespace
 import contextlib
 import os
 import signal
 import sys
 from collections import Counter
-from typing import Any, Callable, Iterator, TYPE_CHECKING
+from typing import Any, Callable, Iterator
 
 from .. import limits, progress, tool
-from ..guest import guestfile
+from ..guest import guestfile, model
 from ..judging import legal
 from ..reports import report
 from ..running import delegation, program
 from . import rules, search, sections
-
-if TYPE_CHECKING:
-    from ..guest import model
-    from argparse import Namespace
 
 OPTIONS = [(workers, batch) for batch in (8, 0, 1, 256) for workers in (1, 2, 4, 8)]
 UNDECIDED = 6  # the status where a search stopped before it had an answer
