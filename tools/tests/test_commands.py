@@ -25,6 +25,11 @@ MANY = re.compile(r"--runs \d{2,}")
 COMPILER = shutil.which("riscv64-unknown-elf-gcc")
 
 
+def fewer(text: str) -> str:
+    """A command with fewer samples, and a sweep with one run of each."""
+    return MANY.sub("--runs 20", text if "--runs" in text else re.sub(r"(\./workbench sweep \S+)", r"\1 --runs 1", text))
+
+
 def commands_of(page: pathlib.Path) -> list[str]:
     """The commands of a page, in their order: whole listings of commands, and what stands in a line."""
     found = []
@@ -60,7 +65,7 @@ class Commands(Case):
                     continue
                 seen.add(text)
                 with self.subTest(page=page.name, command=text):
-                    done = subprocess.run(["sh", "-c", MANY.sub("--runs 20", text)], cwd=root, stdin=subprocess.DEVNULL, stdout=subprocess.PIPE,
+                    done = subprocess.run(["sh", "-c", fewer(text)], cwd=root, stdin=subprocess.DEVNULL, stdout=subprocess.PIPE,
                                           stderr=subprocess.PIPE, check=False, timeout=300, env={**os.environ, "HOME": str(TEMPORARY)})
                     self.assertEqual(done.returncode, 0, done.stderr.decode()[-300:])
                     self.assertNotIn(b"Traceback", done.stderr)
