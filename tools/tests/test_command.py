@@ -1,0 +1,244 @@
+"""The command tclocks, over a folder with a toolchain and a program that are made up: what it runs,
+and that it passes on all that the program does; and its words, against the program's own rules."""
+from __future__ import annotations
+
+import pathlib
+import re
+import signal
+import subprocess
+import sys
+import time
+import unittest
+
+from .madeup import ROOT, Folder
+
+# The program's own line.
+USAGE = re.search(r'let line =\s+"(usage: [^"]*)\\n"', (ROOT / "crates/tc_main/src/answer.rt").read_text()).group(1).encode() + b"\n"  # type: ignore[union-attr]
+# Words that ask for something, and words that ask for nothing.
+FORMS = ("run 1 1 0", "run 8 65536 256", "run 4 20000 8", "gen 1", "gen 2000", "demo 1 1", "demo 2000 8",
+         "nodes 1 0 1 1 0", "nodes 8 256 8 65536 256", "nodes 2 4 4 2000 8", "replay 1 1 1 0", "replay 1048576 8 65536 256",
+         "profile 1 1 1 0", "profile 1048576 8 65536 256")
+WRONG = ("", "run", "run 1 1", "run 1 1 0 0", "run 0 10 1", "run 9 10 1", "run 2 010 1", "run 1 0 0", "run 1 65537 0",
+         "run 1 1 257", "run +1 1 0", "run -1 1 0", "run 1 1 99999999999999999999", "stop", "gen", "gen 0", "gen 01",
+         "gen 2001", "gen 1 1", "demo 5", "demo 0 1", "demo 2001 1", "demo 5 0", "demo 5 9", "demo 5 1 1", "--help",
+         "replay", "replay 92 1 100", "replay 0 1 100 0", "replay 1048577 1 100 0", "replay 092 1 100 0", "replay 92 1 100 0 0",
+         "profile 92 9 100 0", "profile 1 100 0", "nodes", "nodes 3 4 2 2000 8", "nodes 0 4 2 2000 8", "nodes 1 257 2 2000 8", "nodes 2 4 4 2000", "nodes 2 4 4 2000 8 8",
+         "--version", "-h", "Run 1 1 0", "run 1 1 ٣")
+
+
+def words_of_tests() -> list[list[bytes]]:
+    """The lists of words that the tests of the program hold for wrong."""
+    text = (ROOT / "crates/tc_tests/src/outside.rt").read_text()
+    table = re.search(r"(?s)\[[^=]*= ?&?\[(.*?)\n\];", text).group(1)  # type: ignore[union-attr]
+    lists = re.findall(r"&\[((?:b\"[^\"]*\"(?:, )?)*)\]", table)
+    return [[eval(word) for word in re.findall(r"b\"[^\"]*\"", words)] for words in lists]
+
+
+class Command(Folder):
+    """Runs of the built program."""
+
+    def setUp(self) -> None:
+        super().setUp()
+        self.build()
+
+    def test_what_is_built_is_run_without_a_word(self) -> None:
+        self.assertEqual(self.command("cat", given=b"bytes\0"), (0, b"bytes\0", ""))
+
+    def test_statuses_are_passed_on_and_three_have_a_line(self) -> None:
+        for number in range(8):
+            status, out, said = self.command("status", str(number))
+            self.assertEqual((status, out, said.count("\n")), (number, b"", number in (2, 4, 5)))
+
+    def test_a_signal_ends_the_program_too(self) -> None:
+        for how in (signal.SIGINT, signal.SIGTERM, signal.SIGHUP):
+            started = self.begin("wait")
+            self.assertEqual(started.stdout.readline(), b"here\n")  # type: ignore[union-attr]
+            time.sleep(0.3)
+            started.send_signal(how)
+            self.assertEqual(started.communicate(timeout=20), (b"", b""))
+            self.assertEqual(started.returncode, -how)
+            self.assertEqual(self.running("crates"), "")
+
+    def test_closed_streams_are_passed_on(self) -> None:
+        for closed, status in (("<&-", 1), (">&-", 1), ("2>&-", 0)):
+            done = subprocess.run(["sh", "-c", f'exec "$0" cat {closed}', self.root / "tclocks"], input=b"x",
+                                  env=self.environment, capture_output=True, check=False)
+            self.assertEqual((done.returncode, done.stdout), (status, b"x" * (not status)))
+
+    def test_a_newer_source_is_not_passed_over(self) -> None:
+        self.write("crates/tc_io/src/lib.rt", "// newer\n")
+        status, out, said = self.command("run", "1", "1", "0", given=b"x")
+        self.assertEqual((status, out), (0, b"sources: run 1 1 0\nx"))
+        self.assertRegex(said, r"^tclocks: the program is out of date: crates/tc_io/src/lib.rt is newer .*NOT PROVED.*\n$")
+
+    def test_an_old_program_runs_where_it_is_asked_for(self) -> None:
+        self.write("crates/tc_io/src/lib.rt", "// newer\n")
+        status, out, said = self.command("cat", given=b"x", TCLOCKS_PROGRAM="old")
+        self.assertEqual((status, out), (0, b"x"))
+        self.assertRegex(said, r"^tclocks: the program is out of date.*\n$")
+        status, out, said = self.command("cat", given=b"x", TCLOCKS_PROGRAM="built")
+        self.assertEqual((status, out, said.count("\n")), (127, b"", 1))
+
+    def test_a_source_of_another_crate_changes_nothing(self) -> None:
+        self.write("crates/tc_tests/src/lib.rt", "// newer\n")
+        self.assertEqual(self.command("cat", given=b"x"), (0, b"x", ""))
+
+    def test_a_tool_takes_no_program_that_is_out_of_date(self) -> None:
+        asked = [sys.executable, "-B", "-c", "from tools.workbench import tool; from tools.workbench.running import program; "
+                 "tool.run('check', lambda _: program.need(), [])"]
+        how = {"cwd": self.root, "env": self.environment, "capture_output": True, "check": False}
+        self.assertEqual(subprocess.run(asked, **how).returncode, 0)  # type: ignore[call-overload]
+        self.write("crates/low/src/lib.rt", "// newer\n")
+        done = subprocess.run(asked, **how)  # type: ignore[call-overload]
+        self.assertEqual((done.returncode, done.stderr.count(b"\n")), (2, 1))
+        self.assertIn(b"workbench check: the program is out of date: crates/low/src/lib.rt is newer", done.stderr)
+        how["env"] = {**self.environment, "TCLOCKS_PROGRAM": "old"}
+        self.assertEqual(subprocess.run(asked, **how).returncode, 0)  # type: ignore[call-overload]
+        self.assertNotIn("try", self.count())
+
+    def test_the_sources_run_where_they_are_asked_for(self) -> None:
+        status, out, said = self.command("demo", "1", "1", TCLOCKS_PROGRAM="sources")
+        self.assertEqual((status, out, said.count("\n")), (0, b"sources: demo 1 1\n", 1))
+        self.assertEqual(self.command("cat", TCLOCKS_PROGRAM="new")[0], 126)
+
+
+class Unproved(Folder):
+    """Runs of the sources, where there is no program."""
+
+    def test_words_input_output_and_status_are_the_programs_and_one_line_is_said(self) -> None:
+        status, out, said = self.command("run", "1", "3", "0", given=b"bytes\0")
+        self.assertEqual((status, out), (0, b"sources: run 1 3 0\nbytes\0"))
+        self.assertRegex(said, r"^tclocks: the program is not built; this run is NOT PROVED .*tclocks-build.*minutes.*\n$")
+        status, out, said = self.command("run", "3", "3", "0", given=b"x")
+        self.assertEqual((status, out, said.count("\n")), (3, b"refused\n", 1))
+        self.assertEqual(self.count(), ["try", "try"])
+
+    def test_only_a_run_reads(self) -> None:
+        with subprocess.Popen(["sleep", "30"], stdout=subprocess.PIPE) as silent:
+            for words in (("demo", "1", "1"), ("gen", "1")):
+                done = subprocess.run([self.root / "tclocks", *words], stdin=silent.stdout, env=self.environment,
+                                      capture_output=True, timeout=20, check=False)
+                self.assertEqual((done.returncode, done.stdout), (0, b"sources: " + " ".join(words).encode() + b"\n"))
+            silent.kill()
+
+    def test_a_history_is_read_behind_the_file(self) -> None:
+        given = bytes(1048577) + b"block 0"
+        for form in "replay", "profile":
+            status, out, _ = self.command(form, "1048576", "1", "1", "0", given=given)
+            self.assertEqual((status, out), (0, f"sources: {form} 1048576 1 1 0\n".encode() + given))
+        self.assertEqual(self.command("run", "1", "1", "0", given=given)[1], b"sources: run 1 1 0\n" + given[:1048577])
+
+    def test_an_input_that_pauses_is_read_to_its_end(self) -> None:
+        done = subprocess.run(["sh", "-c", '(echo a; sleep 3; echo b) | "$0" run 1 1 0', self.root / "tclocks"],
+                              env=self.environment, capture_output=True, check=False)
+        self.assertEqual(done.stdout, b"sources: run 1 1 0\na\nb\n")
+
+    def test_streams_that_fail_have_the_programs_statuses(self) -> None:
+        for words, shell, status in (("run 1 1 0", "<&-", 2), ("run 1 1 0", "</", 2), ("run 1 1 0", ">/dev/full", 4),
+                                     ("run 1 1 0", ">&-", 4), ("demo 1 1", "<&-", 0), ("run 3 1 0", ">&-", 3),
+                                     ("stop", ">/dev/full", 1), ("stop", ">&-", 1),
+                                     ("replay 1 1 1 0", "<&-", 2), ("profile 1 1 1 0", "</", 2), ("replay 1 1 1 0", ">&-", 4)):
+            done = subprocess.run(["sh", "-c", f'exec "$0" {words} {shell}', self.root / "tclocks"], input=b"x",
+                                  env=self.environment, capture_output=True, check=False)
+            self.assertEqual(done.returncode, status, (words, shell, done.stderr))
+        self.assertEqual(self.left_over(), [])
+
+    def test_wrong_words_start_nothing(self) -> None:
+        for words in WRONG:
+            self.assertEqual(self.command(*words.split(" ") * (words != "")), (1, USAGE, ""), words)
+        for words in ([b"\xff", b"1", b"1", b"0"], [b"run", b"\xff", b"1", b"0"], [b"gen", b"1\n"], [b"gen", b""]):  # type: ignore[assignment]
+            self.assertEqual(self.command(*words), (1, USAGE, ""), words)
+        self.assertEqual(self.count(), [])
+
+    def test_forms_are_run(self) -> None:
+        for words in FORMS:
+            self.assertEqual(self.command(*words.split())[1][:9], b"sources: ", words)
+
+    def test_what_a_run_without_proof_can_not_do_is_said(self) -> None:
+        for words, text in (("run 7 1 0", "more than 1 MiB"), ("run 7 2 0", "longer than the minute"),
+                            ("run 7 3 0", "could not run the sources")):
+            status, out, said = self.command(*words.split(), given=b"x")
+            self.assertEqual((status, out), (126, b""))
+            self.assertIn(text, said)
+        self.assertEqual(self.left_over(), [])
+
+    def test_a_signal_ends_it_and_leaves_nothing(self) -> None:
+        for how in (signal.SIGINT, signal.SIGTERM, signal.SIGHUP):
+            started = self.begin("run", "8", "1", "0")
+            started.stdin.close()  # type: ignore[union-attr]
+            self.wait_for("count")
+            started.send_signal(how)
+            self.assertEqual(started.wait(timeout=20), -how)
+            started.stdout.close()  # type: ignore[union-attr]
+            started.stderr.close()  # type: ignore[union-attr]
+            self.assertEqual((self.left_over(), self.running("bin/rt")), ([], ""))
+            (self.root / "count").unlink()
+
+    def test_without_the_toolchain(self) -> None:
+        (self.root / "bin/rt").unlink()
+        self.environment["PATH"] = f"{self.root / 'bin'}:/usr/bin:/bin"
+        status, out, said = self.command("run", "1", "1", "0")
+        self.assertEqual((status, out, said.count("\n")), (127, b"", 1))
+        self.assertEqual(self.command("--help"), (1, USAGE, ""))
+        self.assertEqual(self.command("run", "1", "1", "0", TCLOCKS_PROGRAM="built")[0], 127)
+
+    def test_without_bash(self) -> None:
+        if not pathlib.Path("/bin/dash").exists():
+            self.skipTest("there is no dash")
+        status, _, said = self.command("cat", shell=("/bin/dash",))
+        self.assertEqual((status, said.count("\n")), (126, 1))
+        self.assertIn("bash", said)
+
+
+class Rules(unittest.TestCase):
+    """The rules of words in the script are those of the program."""
+
+    def setUp(self) -> None:
+        self.script = (ROOT / "tclocks").read_text()
+
+    def test_the_usage_line_is_that_of_the_program(self) -> None:
+        self.assertIn(f'\nusage="{USAGE.decode().strip()}"\n', self.script)
+
+    def test_each_form_of_the_usage_line_has_its_limits(self) -> None:
+        forms = re.findall(r'^    "([a-z]+)((?: \d+-\d+)+)"$', self.script, re.M)
+        told = [form.split()[1:] for form in re.search(r'usage="usage: (.*)"', self.script).group(1).split(" | ")]  # type: ignore[union-attr]
+        self.assertEqual([[name, len(limits.split())] for name, limits in forms], [[form[0], len(form) - 1] for form in told])
+
+    def test_limits_are_those_of_the_program(self) -> None:
+        constants = {}
+        for path in ("tc_isa/src/limits.rt", "tc_elf/src/limits.rt", "tc_build/src/generate.rt", "tc_main/src/order.rt", "tc_main/src/words.rt"):
+            for name, value in re.findall(r"pub const (\w+): \w+ = ([\d_]+);", (ROOT / "crates" / path).read_text()):
+                constants[name] = int(value.replace("_", ""))
+        named = {name: value for name, value in constants.items() if name.startswith("MAX_")}
+        workers, fuel, batch, rounds, passes = (
+            named[name] for name in ("MAX_WORKERS", "MAX_FUEL", "MAX_BATCH", "MAX_ROUNDS", "MAX_PASSES"))
+        options = f"1-{workers} 1-{fuel} 0-{batch}"
+        for form in (f"run {options}", f"gen 1-{rounds}", f"demo 1-{rounds} 1-{workers}", f"nodes 1-{workers} 0-{passes} {options}",
+                     f"replay 1-{named['MAX_FILE']} {options}", f"profile 1-{named['MAX_FILE']} {options}"):
+            self.assertIn(f'    "{form}"\n', self.script)
+        self.assertIn(f"\nmost={named['MAX_FILE'] + 1}\n", self.script)
+        self.assertIn(f"\nhistory={named['MAX_HISTORY']}\n", self.script)
+
+    def test_the_programs_own_wrong_words_are_wrong_here(self) -> None:
+        lists = words_of_tests()
+        self.assertGreater(len(lists), 30)
+        for words in lists:
+            done = subprocess.run([ROOT / "tclocks", *words], stdin=subprocess.DEVNULL, capture_output=True, check=False,
+                                  env={"PATH": "/usr/bin:/bin"})
+            self.assertEqual((done.returncode, done.stdout, done.stderr), (1, USAGE, b""), words)
+
+    def test_the_built_program_answers_so(self) -> None:
+        program = ROOT / "crates/tclocks/out/tclocks"
+        if not program.exists():
+            self.skipTest("the program is not built")
+        for words in WRONG:
+            done = subprocess.run([program, *words.split(" ") * (words != "")], stdin=subprocess.DEVNULL,
+                                  capture_output=True, check=False)
+            self.assertEqual((done.returncode, done.stdout, done.stderr), (1, USAGE, b""), words)
+        for words in FORMS:
+            done = subprocess.run([program, *words.split()], stdin=subprocess.DEVNULL, capture_output=True, check=False)
+            self.assertNotEqual(done.returncode, 1, words)
+
+
+if __name__ == "__main__":
+    unittest.main()

@@ -1,0 +1,343 @@
+"""The search of every interleaving: that it misses no end and makes none up, what it answers to rules, and
+how it is used wrongly."""
+from __future__ import annotations
+
+import contextlib
+import io
+import random
+import signal
+import subprocess
+import time
+import unittest
+from typing import Any
+
+from tools.workbench import limits, tool
+from tools.workbench.exploring import explore, live, rules, search
+from tools.workbench.guest import guestfile, made, model
+from tools.workbench.guest.rv32im import encode
+from tools.workbench.judging import rejecting
+from tools.workbench.running import delegation, program
+from . import common, small
+from .common import GUESTS, NAMES, ROOT, TEMPORARY, Case, elf, run, saved
+
+
+
+def attentive() -> None:
+    """What is started in the background may ignore an interrupt, and would hand that on."""
+    signal.signal(signal.SIGINT, signal.default_int_handler)
+
+
+def searched(file: bytes, fuel: int, **more: Any) -> search.Search:
+    return search.Search(model.Guest(file), fuel, **more)
+
+
+class EveryInterleaving(Case):
+    """Against a search without any reduction, which shares no code with it but model.py's beginnings."""
+
+    def same(self, file: bytes, fuel: int, **more: Any) -> tuple[search.Search, dict[rules.End, int]]:
+        ends, states = small.plain(file, fuel)
+        found = searched(file, fuel, **more)
+        self.assertTrue(found.whole)
+        self.assertEqual({end: way().blocks for end, way in found.ends()}, ends)
+        self.assertLessEqual(found.states, states)
+        return found, ends
+
+    def test_twenty_small_guests(self) -> None:
+        kinds: set[Any] = set()
+        for seed in range(20):
+            with self.subTest(seed=seed):
+                _, ends = self.same(*small.guest(seed))
+                kinds.update(how for end in ends for how, _ in end.threads)
+        self.assertLessEqual({"exit", "spent", "fault 7", "fault 11"}, kinds)
+
+    def test_blocks_of_the_greatest_length(self) -> None:
+        loop = [encode("addi", 6, 0, 2047), encode("addi", 6, 6, 2), encode("addi", 6, 6, -1), encode("bne", 6, 0, -4)]
+        code = [encode("lui", small.BASE, made.DATA), *made.call(limits.LOCK, 0), *small.twice(random.Random(1), 0),
+                *loop, *loop, *small.twice(random.Random(2), 0), *made.call(limits.UNLOCK, 0), *small.EXIT]
+        _, ends = self.same(common.built(code, (0, 0), 1), 9000)
+        self.assertEqual(len(ends), 1)
+        self.assertGreater(next(iter(ends.values())), 8)
+
+    def test_a_return_to_a_place_behind_no_call(self) -> None:
+        """Which registers are read again is not known then, so all are kept."""
+        for link in live.LINKS:
+            code = [encode("lui", small.BASE, made.DATA), *made.call(limits.LOCK, 0), *small.load(0),
+                    encode("addi", 6, small.VALUE, 0), *small.twice(random.Random(1), 0), *made.call(limits.UNLOCK, 0),
+                    encode("auipc", link, 0), encode("addi", link, link, 16), encode("jalr", 0, link, 0), encode("ebreak"),
+                    *made.call(limits.LOCK, 0), *made.call(limits.UNLOCK, 0), encode("addi", 10, 6, 0), *small.EXIT]
+            found, ends = self.same(common.built(code, (0, 0), 1), 100)
+            self.assertIsNone(found.shares.alone.sections.live)  # type: ignore[union-attr]
+            self.assertEqual({tuple(x10 for _, x10 in end.threads) for end in ends}, {(0, 1), (1, 0)})
+
+    def test_a_return_by_the_other_link_register(self) -> None:
+        """A function is called by x1 and returns by x5, as that of a division does: nothing begins anew."""
+        word, link = small.VALUE, live.LINKS[1]
+        code = [encode("lui", 11, made.DATA), *made.call(limits.LOCK, 0), encode("lw", word, 11, 0),
+                encode("jal", 1, 4 * 8), encode("sw", word, 11, 0), *made.call(limits.UNLOCK, 0),
+                encode("addi", 10, word, 0), *small.EXIT, encode("addi", link, 1, 0),
+                encode("add", word, word, word), encode("addi", word, word, 1), encode("jalr", 0, link, 0)]
+        found, ends = self.same(common.built(code, (0, 0), 1), 100)
+        self.assertIsNotNone(found.shares.alone.sections.live)  # type: ignore[union-attr]
+        self.assertEqual({tuple(x10 for _, x10 in end.threads) for end in ends}, {(1, 3), (3, 1)})
+
+    def test_sums_of_two_words(self) -> None:
+        """Words of two locks are added and taken off one another, one of them twice: what the section comes to
+        depends on one, and on the other only as the sum that it is."""
+        for seed in range(4):
+            chance = random.Random(seed)
+            ways = [[encode("add", 7, 7, 9)], [encode("add", 9, 7, 9), encode("addi", 7, 9, 1)],
+                    [encode("sub", 7, 7, 9)], [encode("add", 7, 7, 7), encode("sub", 7, 7, 9)]]
+            code = []
+            for way in (ways[seed], chance.choice(ways)):
+                code.append([encode("lui", small.BASE, made.DATA), *made.call(limits.LOCK, 0), *made.call(limits.LOCK, 1),
+                             *small.load(0), encode("lw", small.OTHER, small.BASE, 4), *way, *small.store(0),
+                             *small.twice(chance, 1), *made.call(limits.UNLOCK, 1), *made.call(limits.UNLOCK, 0),
+                             *made.call(limits.LOCK, 1), *small.add(chance, 1), *made.call(limits.UNLOCK, 1), *small.EXIT])
+            file = made.elf(made.note([(made.CODE, 0), (made.CODE + 4 * len(code[0]), 0)],
+                                      [(made.DATA + 4 * lock, 4) for lock in range(2)]), code[0] + code[1], bytes([3, 0, 0, 0, 5, 0, 0, 0]), 8)
+            self.same(file, 100)
+
+    def test_a_lock_that_is_taken_for_some_bytes_alone(self) -> None:
+        """Thread 1 takes lock 1 only where the first word is odd. It is even behind the first step of thread 0,
+        which holds lock 1 then; so thread 1 can go on and be the first at lock 2."""
+        call, take, give = made.call, limits.LOCK, limits.UNLOCK
+        begin = [encode("lui", small.BASE, made.DATA)]
+        one = [*begin, *call(take, 0), *small.store(0, 0), *call(take, 1), *call(give, 0), *call(take, 2),
+               *small.load(2), encode("addi", 7, 7, 1), *small.store(2), *call(give, 1), *call(give, 2), *small.EXIT]
+        inner = [*call(take, 1), *call(give, 1)]
+        other = [*begin, *call(take, 0), *small.load(0), encode("andi", 7, 7, 1), encode("beq", 7, 0, 4 + 4 * len(inner)),
+                 *inner, *call(give, 0), *call(take, 2), *small.load(2), encode("add", 7, 7, 7), *small.store(2),
+                 *call(give, 2), *small.EXIT]
+        entries = [(made.CODE, 0), (made.CODE + 4 * len(one), 0)]
+        content = bytes([1, 0, 0, 0, 0, 0, 0, 0, 1, 0, 0, 0])
+        file = made.elf(made.note(entries, [(made.DATA + 4 * lock, 4) for lock in range(3)]), one + other, content, 12)
+        _, ends = self.same(file, 100)
+        self.assertEqual({(end.word(2, 0), end.locks[1][1]) for end in ends}, {(3, 1), (3, 2), (4, 1), (4, 2)})
+
+    def test_several_processes(self) -> None:
+        alone, search.ALONE = search.ALONE, 2
+        try:
+            for seed in (2, 5, 9):
+                found, ends = self.same(*small.guest(seed), processes=3)
+                self.assertEqual(found.shares.count, 3)
+        finally:
+            search.ALONE = alone
+
+    def test_ends_of_runs_are_among_them(self) -> None:
+        for name in ("exit", "first", "matrix", "faults", "stale"):
+            guest = guestfile.load(elf(name)).guest
+            found = search.Search(guest, 20000)
+            ends = {end for end, _ in found.ends()}
+            for seed in range(8):
+                run_, blocks = delegation.delegated(guest, 20000, 1 + seed % 4, seed)
+                self.assertIn(explore.end_of(list(run_.lines(blocks))), ends)
+
+    def test_ways_on_each_guest_come_to_their_ends_by_the_model(self) -> None:
+        for name in NAMES:
+            guest = guestfile.load(elf(name)).guest
+            found = search.Search(guest, 3000, most=40, walks=2)
+            ways = [way() for _, way in found.ends()][:2]
+            self.assertTrue(ways)
+            for way in ways:
+                lines = explore.history(guest, 3000, way.threads)
+                self.assertEqual(explore.end_of(lines), way.end)
+                self.assertEqual(sum(line.startswith("block ") for line in lines), way.blocks)
+                judged = run("judge", elf(name), given="\n".join(lines) + "\n")
+                self.says("a legal run, to the end of every thread", judged)
+
+
+class Use(Case):
+    def test_all(self) -> None:
+        done = run("explore", elf("stale"), "--all")
+        self.one_line(done, 0)
+        self.assertRegex(done.stderr.decode(), r"^workbench explore: some \d+ states are expected, .*; at most 1,000,000 are searched")
+        self.says("every interleaving: 2 outcomes, ", done)
+        self.says("lock 0 word 0 (00100000): 33 (0x21)", done)
+        self.says("lock 0 word 0 (00100000): 73 (0x49)", done)
+        self.assertIn(f"```\n{done.stdout.decode()}```\n", (ROOT / "docs/EXPLORE.md").read_text())
+
+    def test_samples_do_not_see_it(self) -> None:
+        done = run("explore", elf("stale"), "--runs", "20", "--model")
+        self.says("samples, 20 runs by the model: 1 outcome seen; there may be others", done)
+        self.says("word 0 73", done)
+
+    def test_runs_beside_all(self) -> None:
+        done = run("explore", elf("stale"), "--all", "--runs", "3", "--model")
+        self.one_line(done, 0)
+        self.says("\n\nsamples, 3 runs by the model: 1 outcome seen\n", done)
+
+    def test_a_run_that_the_search_has_not(self) -> None:
+        guest = guestfile.load(elf("stale")).guest
+        found = search.Search(guest, 20000)
+        found.ends = lambda: []  # type: ignore[assignment]
+        asked, _ = explore.parsed([elf("stale"), "--all", "--runs", "1", "--model"])
+        with contextlib.redirect_stdout(io.StringIO()), self.assertRaises(tool.Trouble) as trouble:
+            explore.compare(guest, found, asked)
+        self.assertEqual(trouble.exception.status, 3)
+
+    def test_reach(self) -> None:
+        done = run("explore", elf("stale"), "--reach", "lock 0 word 0 < 73")
+        self.assertEqual((done.returncode, done.stderr), (0, b""))
+        self.says("# lock 0 word 0 < 73: reachable, by this history of 28 blocks\n", done)
+        finished = run("finish", elf("stale"), given=done.stdout)
+        self.says("data 00100000 2100000002000000", finished)
+        self.says("a legal run", run("judge", elf("stale"), given=finished.stdout))
+        taken = [line.split()[3] for line in finished.stdout.decode().splitlines() if " kind taken " in line]
+        self.assertIn("100001", "".join(taken))
+        done = run("explore", elf("stale"), "--reach", "lock 0 word 0 == 72")
+        self.assertEqual((done.returncode, done.stderr), (0, b""))
+        self.says("# lock 0 word 0 == 72: in no interleaving (", done)
+
+    def test_never(self) -> None:
+        done = run("explore", elf("stale"), "--never", "faults or spent", "--never", "lock 0 word 0 != 73")
+        self.one_line(done, 3)
+        self.says("# faults or spent: in no interleaving (", done)
+        self.says("# lock 0 word 0 != 73: broken, by this history of 28 blocks\ntclocks 2\n", done)
+        done = run("explore", elf("first"), "--never", "lock 0 word 0 != 36 or lock 0 sections != 6 or broken")
+        self.assertEqual((done.returncode, done.stderr), (0, b""))
+
+    def test_not_all_seen(self) -> None:
+        done = run("explore", elf("stale"), "--never", "faults", "--states", "50", "--processes", "1")
+        self.one_line(done, 6)
+        self.says("# faults: not found; more than 50 states: not all seen; about ", done)
+        done = run("explore", elf("stale"), "--all", "--states", "50", "--most", "1", "--processes", "1")
+        self.one_line(done, 0)
+        self.assertTrue(done.stdout.startswith(b"more than 50 states: not all seen; about "), done.stdout)
+
+    def test_it_goes_on_where_it_stopped(self) -> None:
+        whole = run("explore", elf("stale"), "--all", "--never", "lock 0 word 0 != 73")
+        file = str(TEMPORARY / "kept-search")
+        words = ("explore", elf("stale"), "--all", "--never", "lock 0 word 0 != 73", "--states", "100", "--processes", "1",
+                 "--resume", file)
+        done, count = run(*words), 1
+        while done.stdout.count(b"not all seen"):
+            self.says(f"the same words go on from {file}", done)
+            done, count = run(*words), count + 1
+        self.assertEqual((count, done.returncode, done.stdout), (3, 3, whole.stdout))
+
+    def test_several_processes_go_on_where_they_stopped(self) -> None:
+        guest, alone = guestfile.load(elf("stale")).guest, search.ALONE
+        whole = search.Search(guest, 20000)
+        search.ALONE = 10
+        try:
+            found = search.Search(guest, 20000, most=60, processes=3)
+            while not found.whole:
+                kept, states = found.kept(), found.states
+                found.shares.close()
+                found = search.Search(guest, 20000, most=60, before=kept)
+                self.assertGreater(found.states, states)
+        finally:
+            search.ALONE = alone
+        self.assertEqual((found.shares.count, found.states), (3, whole.states))
+        self.assertEqual({end: way().blocks for end, way in found.ends()}, {end: way().blocks for end, way in whole.ends()})
+
+    def test_a_file_that_is_no_search_of_this_guest(self) -> None:
+        file = TEMPORARY / "search"
+        words = ("--never", "faults", "--states", "20", "--processes", "1", "--resume", str(file))
+        self.assertEqual(run("explore", elf("stale"), *words).returncode, 6)
+        kept = file.read_bytes()
+        for guest, content in (("first", kept), ("stale", kept[:-1]), ("stale", b""), ("stale", kept[:70] + b"!" + kept[71:])):
+            file.write_bytes(content)
+            self.one_line(run("explore", elf(guest), *words), 3)
+        self.one_line(run("explore", elf("stale"), "--runs", "1", "--model", "--resume", str(file)), 1)
+
+    def test_an_interrupt_tells_what_was_found(self) -> None:
+        started = subprocess.Popen([ROOT / "workbench", "explore", elf("philosophers"), "--all", "--most", "1"],
+                                   stdout=subprocess.PIPE, stderr=subprocess.PIPE, preexec_fn=attentive)
+        assert started.stderr
+        started.stderr.readline()  # how large it is expected to be
+        time.sleep(2)
+        started.send_signal(signal.SIGINT)
+        out, said = started.communicate(timeout=60)
+        self.assertEqual((started.returncode, said), (130, b"workbench explore: interrupted\n"), out)
+        self.assertIn(b": not all seen", out)
+
+    def test_estimate(self) -> None:
+        guest = guestfile.load(elf("stale")).guest
+        states = search.Search(guest, 20000).states
+        for most in (40, 150):
+            found = search.Search(guest, 20000, most=most, walks=64)
+            self.assertFalse(found.whole)
+            self.assertLess((states - most) / 8, found.left())
+            self.assertLess(found.left(), (states - most) * 8)
+
+    def test_keep(self) -> None:
+        folder = TEMPORARY / "every"
+        done = run("explore", elf("stale"), "--all", "--keep", str(folder))
+        self.assertEqual(done.returncode, 0)
+        ends = set()
+        for path in folder.iterdir():
+            self.says("a legal run, to the end of every thread", run("judge", elf("stale"), str(path)))
+            ends.add(explore.end_of(path.read_text().splitlines()))
+        self.assertEqual(len(ends), 2)
+
+    def test_replay_takes_the_history_of_each_outcome(self) -> None:
+        """By rejecting.py, and by the program where it is built: the answer is the report that is kept."""
+        outcomes = 0
+        for name, fuel in (("stale", 20000), ("first", 20), ("first", 20000), ("broken", 70), ("buffer", 90), ("ring", 80),
+                           ("sleepers", 40), ("philosophers", 60), ("faults", 20000)):
+            guest, file = guestfile.load(elf(name)).guest, (GUESTS / f"{name}.elf").read_bytes()
+            found = searched(file, fuel, most=2000, processes=1)
+            numbers = min(8, len(guest.entries)), fuel, explore.BATCH
+            for _, way in found.ends()[:40]:
+                text = "\n".join(explore.history(guest, fuel, way().threads)) + "\n"
+                lines = rejecting.history_of(text)
+                self.assertEqual(rejecting.Given(len(file), numbers, file + lines).answer("replay"), (0, text), name)
+                if not program.missing():
+                    self.assertEqual(program.run(("replay", len(file), *numbers), file + lines), (0, text), name)
+                outcomes += 1
+        self.assertGreater(outcomes, 100)
+
+    def test_faults_come_first(self) -> None:
+        """Thread 0 faults where thread 1 was there before it."""
+        one = [encode("lui", 5, made.DATA), *made.call(limits.LOCK, 0), encode("lw", 7, 5, 0), encode("beq", 7, 0, 8),
+               encode("ebreak"), *made.call(limits.UNLOCK, 0), *small.EXIT]
+        other = [encode("lui", 5, made.DATA), *made.call(limits.LOCK, 0), encode("sw", 17, 5, 0),
+                 *made.call(limits.UNLOCK, 0), *small.EXIT]
+        done = run("explore", saved("fault.elf", common.built(one + other, (0, len(one)), 1)), "--all")
+        text = done.stdout.decode()
+        self.says("every interleaving: 2 outcomes, ", done)
+        self.assertLess(text.index("thread 0 ends: fault 8"), text.index("thread 0 ends: exit"))
+
+    def test_wrong_uses(self) -> None:
+        for words in (["--reach", "lock 1 word 0 == 1"], ["--reach", "lock 0 word 2 == 1"], ["--reach", "thread 2 exit"],
+                      ["--never", ""], ["--never", "lock 0 word 0 =="], ["--never", "lock 0 word 0 = 1"],
+                      ["--never", "lock 0 words 0"], ["--never", "(faults"], ["--never", "faults)"], ["--reach"],
+                      ["--reach", "1 < 2 < 3"], ["--reach", "0x"], ["--reach", "thread 0"], ["--reach", "nobody"],
+                      ["--reach", "(" * 5000], ["--reach", "9" * 5000], ["--all", "--states", "0"],
+                      ["--all", "--processes", "0"], ["--reach", "faults", "--runs", "5"], ["--all", "--seed", "5"], ["--never", "faults", "--model"],
+                      ["--reach", "faults", "--keep", "folder"], ["32"], ["--runs", "0"]):
+            with self.subTest(words=[word[:40] for word in words]):
+                self.one_line(run("explore", elf("first"), *words), 1)
+        done = run("explore", elf("first"), "--all", "--keep", "/dev/null/no")
+        self.assertEqual((done.returncode, done.stderr.count(b"\n")), (4, 2), done.stderr)
+        self.one_line(run("explore", saved("none.elf", b"none"), "--all"), 3)
+
+
+class Rules(Case):
+    END = rules.End((("exit", 7), ("fault 4", 2**32 - 1), ("spent", 0)),
+                    ((0, 3, bytes([1, 0, 0, 0, 255, 255, 255, 255])), (1, 2, bytes(4))))
+
+    def test_values(self) -> None:
+        for text, value in (
+                ("lock 0 word 0", 1), ("lock 0 word 1", 2**32 - 1), ("lock 0 signed 1", -1), ("lock 0 sections", 3),
+                ("lock 1 broken", 1), ("thread 0 x10", 7), ("thread 1 signed x10", -1), ("thread 0 exit", 1),
+                ("thread 1 exit", 0), ("thread 1 fault", 4), ("thread 0 fault", 0), ("thread 2 spent", 1), ("faults", 1),
+                ("spent", 1), ("broken", 1), ("1 + 2 * 3 - -4", 11), ("(1 + 2) * 3", 9), ("0x10", 16), ("10 - 2 - 3", 5)):
+            self.assertEqual(rules.Rule(text, 3, [8, 4]).value(self.END), value, text)
+
+    def test_truth(self) -> None:
+        for text, holds in (
+                ("lock 0 word 0 == 1 and not thread 1 exit", True), ("faults or spent > 5", True), ("not faults", False),
+                ("not faults or broken", True), ("not (faults or broken)", False), ("lock 0 sections + lock 1 sections != 5", False),
+                ("1 <= 1 and 1 >= 1 and 1 < 2 and 2 > 1", True), ("faults == 1 and broken == 1 and thread 0 x10 * 2 == 14", True)):
+            self.assertEqual(rules.Rule(text, 3, [8, 4]).holds(self.END), holds, text)
+
+    def test_order_of_ends(self) -> None:
+        well, fault, spent = (rules.End(((how, 1),), ()) for how in ("exit", "fault 3", "spent"))
+        broken = rules.End((("exit", 0),), ((1, 1, bytes(4)),))
+        self.assertEqual(sorted([well, broken, spent, fault], key=rules.End.order), [fault, spent, broken, well])
+
+
+if __name__ == "__main__":
+    unittest.main()

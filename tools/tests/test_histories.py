@@ -1,0 +1,244 @@
+"""Histories by hand, and those that the model makes."""
+from __future__ import annotations
+
+import json
+import re
+from subprocess import CompletedProcess
+import unittest
+
+from tools.workbench.guest import guestfile, model
+from tools.workbench.reports import report
+from tools.workbench.running import delegation
+from .common import BY_HAND, BY_HAND_V1, EXIT, GUESTS, NAMES, ONE, PCS, TEMPORARY, Case, built, call, elf, history, run, saved
+
+
+class ByHand(Case):
+    """Two threads with one lock, whose histories are known on paper."""
+
+    def setUp(self) -> None:
+        self.guest = saved("one.elf", built(ONE, (0, 0), 1))
+
+    def test_legal_so_far_and_finished(self) -> None:
+        self.says("legal so far, 6 blocks", run("judge", self.guest, given=BY_HAND))
+        done = run("finish", self.guest, given=BY_HAND)
+        self.says("lock 0 sections 2 broken 0 bytes 4\ndata 00020000 02000000\nend", done)
+        self.says("a legal run, to the end of every thread", run("judge", self.guest, given=done.stdout))
+
+    def test_lines_without_stamps_and_with_threads_alone(self) -> None:
+        lines = re.sub("block [0-9]+ ", "", BY_HAND)
+        self.assertEqual(run("finish", self.guest, given=lines).stdout, run("finish", self.guest, given=BY_HAND).stdout)
+        short = ("run workers 2 fuel 100 batch 4\nthread 0\nthread 0\nthread 1 worker 1\n"
+                 "thread 1 kind adopted\nthread 0\nthread 1 worker 1")
+        self.assertEqual(run("finish", self.guest, given=short).stdout, run("finish", self.guest, given=BY_HAND).stdout)
+
+    def test_both_forms(self) -> None:
+        self.says("legal so far, 6 blocks", run("judge", self.guest, given=BY_HAND_V1))
+        self.says("block 1, line 5: pc is 00100008, and must be 0010000c",
+                  run("judge", self.guest, given=BY_HAND.replace("pc 0010000c", "pc 00100008", 1)))
+        for old, new in (("tclocks 2", "tclocks 1"), ("tclocks 2", "tclocks 3")):
+            self.one_line(run("judge", self.guest, given=BY_HAND.replace(old, new)), 3)
+        for text in (BY_HAND, BY_HAND_V1):
+            explained = run("explain", self.guest, "-", given=text).stdout.decode()
+            self.assertEqual(tuple(re.findall(r"# ([0-9a-f]{8})", explained)), PCS)
+
+    def test_first_block_that_is_not_legal(self) -> None:
+        changes = {"batch 4": ("batch 0", "block 3"), "adopted worker 0": ("adopted worker 1", "block 3"),
+                   "kind taken": ("kind granted", "block 1"),
+                   "turns 7 held 0 kind adopted": ("turns 6 held 0 kind adopted", "block 3"),
+                   "held 0 kind taken": ("held - kind on", "block 1"),
+                   "end exit\nblock 5": ("end cut\nblock 5", "block 4")}
+        for old, (new, place) in changes.items():
+            for tool in ("judge", "finish"):
+                done = run(tool, self.guest, given=BY_HAND.replace(old, new))
+                self.one_line(done, 3)
+                self.assertIn(place, done.stderr.decode())
+
+    def test_a_block_between_the_release_and_the_adopted_section(self) -> None:
+        """The worker that released the lock goes on with the waiter in its very next block."""
+        lines = BY_HAND.splitlines()
+        lines[6:8] = [lines[7].replace("block 4", "block 3"), lines[6].replace("block 3", "block 4")]
+        done = run("judge", self.guest, given="\n".join(lines) + "\n")
+        self.one_line(done, 3)
+        self.says("block 4: its kind is adopted, and must be taken: worker 0 released the lock and then ran block 3", done)
+
+    def test_what_would_have_been_legal(self) -> None:
+        done = run("finish", self.guest, given=BY_HAND.replace("batch 4", "batch 0"))
+        self.says("block 3 thread 1 turns 7 held 0 kind granted worker 0 pc 0010000c end unlocked 0"
+                  "  # or worker 1", done)
+        self.says("block 3 thread 0 turns 2 held - kind on", done)
+
+    def test_why_a_section_was_granted(self) -> None:
+        text = BY_HAND.replace("batch 4", "batch 0").replace("adopted", "granted")
+        self.says("\n  granted: thread 1 waited for lock 0 from block 2 on (worker 1); thread 0 released it in block 1, "
+                  "with 0 adopted sections in a row: the batch limit; away from the thread's own worker\n",
+                  run("explain", self.guest, "-", given=text))
+
+    def test_who_releases_does_not_wait(self) -> None:
+        """A thread that takes a lock twice in a row was not waiting for it."""
+        code = (*ONE[:10], *ONE[1:])
+        guest = saved("twice.elf", built(code, (0, 0), 1))
+        lines = "thread 0\nthread 0\nthread 0\nthread 0 kind {}\n"
+        self.assertEqual(run("finish", guest, given=lines.format("taken")).returncode, 0)
+        done = run("finish", guest, given=lines.format("adopted"))
+        self.assertEqual(done.returncode, 3)
+        self.says("did not wait", done)
+
+    def test_who_is_set_aside_does_not_wait(self) -> None:
+        """Worker 0 goes on with thread 0 behind thread 1's section: only then can it want the lock."""
+        lines = "run workers 2 fuel 1000 batch 1\nthread 0\nthread 1 worker 1\nthread 0\nthread 1 kind adopted\n"
+        done = run("finish", elf("first"), given=lines + "thread 0\nthread 1 worker 1\nthread 0 kind granted\n")
+        self.assertEqual(done.returncode, 3)
+        self.says("ran block 4 before thread 0 could wait", done)
+        late = lines.replace("thread 0\nthread 1 kind adopted", "thread 0\nthread 0\nthread 1 kind taken")
+        self.assertEqual(run("finish", elf("first"), given=late).returncode, 0)
+        done = run("finish", elf("first"), given=late.replace("kind taken", "kind adopted"))
+        self.says("it would have adopted at once", done)
+
+
+    def test_granted_without_waiting_is_beyond_the_theorem(self):
+        """Of an adopted section the theorem says it, of a granted one only the judge."""
+        lines = "run workers 2 fuel 1000 batch 1\nthread 0\nthread 1 worker 1\nthread 0\nthread 1 kind adopted\n"
+        beyond = "and the program's theorem does not say it"
+        done = run("finish", elf("first"), given=lines + "thread 0\nthread 1 worker 1\nthread 0 kind granted\n")
+        self.says(beyond, done)
+        done = run("judge", self.guest, given=BY_HAND.replace("kind taken", "kind granted"))
+        self.assertNotIn(beyond, done.stderr.decode())
+
+
+LOCKED = {lock: call(1, lock) + call(2, lock) + EXIT for lock in (0, 1)}
+BOTH = call(1, 0) + call(1, 1) + call(2, 1) + call(2, 0) + EXIT
+DOZE = (ONE[0],) + call(1, 0) + call(3, 3) + call(2, 0) + EXIT
+
+
+class OnPaper(Case):
+    """Histories with nested locks, sleeps and unlocks out of order, whose blocks are known."""
+
+    def finished(self, code: tuple[int, ...], entries: tuple[int, ...], guards: int, lines: str,
+                 options: tuple[str, str, str, str, str, str]) -> CompletedProcess[bytes]:
+        done = run("finish", saved("paper.elf", built(code, entries, guards)), *options, given=lines)
+        self.assertEqual((done.returncode, done.stderr), (0, b""))
+        return done
+
+    def test_nested_delegation(self) -> None:
+        """Thread 2 is adopted with lock 0 by worker 1, shipped with it to lock 1, and adopted by worker 0."""
+        code = LOCKED[1] + LOCKED[0] + BOTH
+        done = self.finished(code, (0, 8, 16), 2, """
+            thread 0 turns 2 worker 0 end wants 1
+            thread 1 turns 2 worker 1 end wants 0
+            thread 0 kind taken worker 0 end unlocked 1
+            thread 1 kind taken worker 1 end unlocked 0
+            thread 2 turns 2 worker 2 end wants 0
+            thread 2 turns 3 held 0 kind adopted worker 1 end wants 1
+            thread 2 turns 4 held 0,1 kind adopted worker 0 end unlocked 1
+            thread 2 turns 3 held 0 kind on worker 0 end unlocked 0
+            thread 0 worker 0 end exit
+            thread 1 worker 1 end exit
+            thread 2 worker 2 end exit
+            """, ("--workers", "3", "--batch", "4", "--fuel", "100"))
+        picture = run("draw", "-", "--text", given=done.stdout).stdout.decode()
+        self.assertIn("thread 2      sAAO  .", picture)
+        self.assertIn("\n          0         10\n", picture)
+        said = run("explain", TEMPORARY / "paper.elf", "-", given=done.stdout)
+        self.says("\n  adopted: thread 2 waited for lock 0 from block 4 on (worker 2); worker 1 released it in block 3 "
+                  "and runs the section, adopted section 1 in a row; away from the thread's own worker\n", said)
+        self.says("\n  adopted: thread 2 waited for lock 1 from block 5 on (worker 1), shipped with lock 0; worker 0 "
+                  "released it in block 2 and runs", said)
+
+    def test_sleep_inside_a_section(self) -> None:
+        done = self.finished(DOZE + ONE, (0, len(DOZE)), 1, """
+            thread 0 turns 3 worker 0 end wants 0
+            thread 0 turns 4 held 0 kind taken worker 0 end slept
+            thread 1 turns 3 worker 1 end wants 0
+            thread 0 turns 3 held 0 kind on worker 0 end unlocked 0
+            thread 1 kind adopted worker 0
+            thread 0 worker 0
+            thread 1 worker 1
+            """, ("--workers", "2", "--batch", "4", "--fuel", "100"))
+        self.says("data 00020000 01000000", done)
+        self.assertIn("asleep with lock 0 held", run("draw", "-", given=done.stdout).stdout.decode())
+
+    def test_unlock_out_of_order(self) -> None:
+        code = call(1, 0) + call(1, 1) + call(2, 0) + call(2, 1) + EXIT
+        done = run("simulate", saved("paper.elf", built(code, (0,), 2)), "1", "100", "4")
+        self.says("""block 0 thread 0 turns 2 held - kind start worker 0 pc 00100000 end wants 0
+block 1 thread 0 turns 3 held 0 kind taken worker 0 pc 00100008 end wants 1
+block 2 thread 0 turns 4 held 0,1 kind taken worker 0 pc 00100014 end unlocked 0
+block 3 thread 0 turns 3 held 1 kind on worker 0 pc 00100024 end unlocked 1
+block 4 thread 0 turns 2 held - kind on worker 0 pc 00100030 end exit
+thread 0 exit fuel 86""", done)
+
+
+class Cuts(Case):
+    """A thread without an end, and one that ends at once: 4,096 turns are a block, and the worker goes on."""
+
+    def setUp(self) -> None:
+        self.guest = saved("spin.elf", built((0x0000006F, *EXIT), (0, 1), 0))
+        self.options = ("--workers", "2", "--fuel", "6000")
+
+    def judged(self, lines: str) -> CompletedProcess[bytes]:
+        done = run("finish", self.guest, *self.options, given=lines)
+        return done if done.returncode else run("judge", self.guest, given=done.stdout)
+
+    def test_a_cut_parts_no_thread_from_its_worker(self) -> None:
+        on = "thread 0 end cut worker 0\nthread 1 worker 1\nthread 0 turns 1905 worker 0\n"
+        self.says("a legal run, to the end of every thread", self.judged(on))
+        for other, place in (("thread 0 end cut worker 0\nthread 1 worker 0\n", "block 1: worker 0 runs thread 1"),
+                             ("thread 0 end cut worker 0\nthread 0 worker 1\n", "block 1: worker 1 runs thread 0")):
+            done = self.judged(other)
+            self.assertEqual(done.returncode, 3)
+            self.says(f"{place}, but block 0 was cut: worker 0 goes on with thread 0", done)
+
+    def test_the_judge_refuses_what_was_changed(self) -> None:
+        done = run("finish", self.guest, *self.options, "--on", given="thread 0 worker 1\n")
+        self.says("a legal run, to the end of every thread", run("judge", self.guest, given=done.stdout))
+        text = done.stdout.decode()
+        self.assertIn("end cut", text)
+        self.one_line(run("judge", self.guest, given=text.replace("worker 1", "worker 0", 1)), 3)
+
+    def test_a_worker_that_is_left_out_is_one_that_may(self) -> None:
+        done = run("finish", self.guest, *self.options, given="thread 0\nthread 1\nthread 0\n")
+        self.assertEqual(re.findall("(?m)^block .* worker ([0-9])", done.stdout.decode()), ["0", "1", "0"])
+
+
+class Delegation(Case):
+    def test_histories_obey_the_batch_rule_as_it_is_written(self) -> None:
+        for name in ("counter", "philosophers", "sleepers", "broken"):
+            for seed, (workers, batch) in enumerate(((1, 4), (2, 0), (3, 1), (8, 256))):
+                blocks, text = history(name, workers, batch, seed, fuel=2000)
+                for lock in {lock for block in blocks for lock in block.held}:
+                    self.obeys([block for block in blocks if lock in block.held], lock, batch)
+                self.says("a legal run", run("judge", elf(name), given=text))
+
+    def obeys(self, blocks: list[report.Block], lock: int, limit: int) -> None:
+        row, before = 0, None
+        for block in blocks:
+            begins = block.begun == lock
+            ended = before is None or before.ends_thread or before.end == f"unlocked {lock}"
+            self.assertEqual(begins, ended)
+            if not begins:
+                self.assertEqual(block.thread, before.thread)  # type: ignore[attr-defined]
+            elif before is None:
+                self.assertEqual(block.kind, "taken")
+            elif block.kind == "adopted":
+                self.assertEqual((before.worker, before.end, before.held), (block.worker, f"unlocked {lock}", (lock,)))
+                self.assertLess(row, limit)
+            elif block.kind == "granted":
+                self.assertTrue(row == limit or before.ends_thread or before.held != (lock,))
+            row = (row + 1 if block.kind == "adopted" else 0) if begins else row
+            before = block
+
+    def test_delegation_is_seen(self) -> None:
+        blocks, _ = history("counter", 4, 8, 1)
+        kinds = {block.kind for block in blocks}
+        self.assertEqual(kinds, set(report.KINDS))  # type: ignore[attr-defined]
+        self.assertEqual({block.worker for block in blocks}, set(range(4)))
+
+    def test_facts_hold_in_delegated_runs(self) -> None:
+        facts = json.loads((GUESTS / "facts.json").read_text())
+        for name in NAMES:
+            run_, _ = delegation.delegated(guestfile.load(elf(name)).guest, 20000, 4, 2, 7)
+            self.assertEqual(list(model.differences(facts[name], run_.machine)), [])
+
+
+if __name__ == "__main__":
+    unittest.main()

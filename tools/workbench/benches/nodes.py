@@ -1,0 +1,54 @@
+"""Runs contended guests by `run` and by `nodes`, and prints the table of bench/README.md: what the order of the
+waiters changes. It is no test: it asserts no time.
+
+Seconds are the median of some runs, all else is their mean; the words take turns, so that other work on the machine
+is the same for all. Taken, adopted and granted are sections by their kind; changes, changes of node and other node
+are what ./workbench sweep calls `changes`, `changes_of_node` and `other_node`.
+"""
+from __future__ import annotations
+
+import argparse
+import statistics
+from typing import Any
+
+from .. import progress
+from ..running import sweep
+from . import guests, process, table
+
+OWN = ("counter", "bank", "buffer", "philosophers")  # of guests/
+OF_BENCH = ("hot-lock", "nested-locks")
+COLUMNS = ("taken", "adopted", "granted", "changes", *sweep.OF_NODES)
+NODES, BOUNDS = [0, 1, 2, 4], [0, 4, 256]
+
+
+def row(name: str, order: tuple[int, int, int], results: list[sweep.Result]) -> list[Any]:
+    """A line of the table, of an order's runs."""
+    _, nodes, bound = order
+    sums = [result.sums() for result in results]
+    cells = [statistics.mean(one[column] for one in sums) if nodes or column not in sweep.OF_NODES else None
+             for column in COLUMNS]
+    seconds = statistics.median(float(result.seconds) for result in results)
+    return [name, f"`nodes {nodes} {bound}`" if nodes else "`run`", *cells, seconds]
+
+
+def main(words: list[str]) -> None:
+    parser = process.words("nodes", __doc__, OWN + OF_BENCH, "all", "run")
+    process.add_number(parser, "runs", 5, "of each order")
+    asked = process.parsed(parser, words, OWN + OF_BENCH)
+    process.choose(asked)
+    settings = sorted(sweep.settings_of(argparse.Namespace(
+        workers=[asked.workers], batch=[asked.batch], fuel=asked.fuel, nodes=NODES, bound=BOUNDS, runs=asked.runs), "program"),
+        key=lambda setting: setting.run)
+    to = table.Table("nodes", asked, [table.Column("Guest"), table.Column("Words"), *(
+        table.Column(column.replace("_", " ").capitalize(), ",.0f") for column in COLUMNS), table.Column("Seconds", ".3f")])
+    names = asked.guests or OWN + OF_BENCH
+    with progress.Progress("bench nodes", "guests", len(names)) as shown:
+        for name in names:
+            shown.clear()
+            orders: dict[tuple[int, int, int], list[sweep.Result]] = {}
+            for result in sweep.results(guests.file_of(name), settings):
+                orders.setdefault(result.setting.order(), []).append(result)
+            for order, results in orders.items():
+                to.row(row(name, order, results), [(result.seconds, result.sums()) for result in results])
+            shown.step()
+    shown.end()

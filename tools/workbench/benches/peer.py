@@ -1,0 +1,156 @@
+"""Runs guests by the program and by a peer (peer.c: the same guests under ordinary pthread mutexes, with a log of
+blocks), in turn and on one processor, and prints a table of what each took. It is no test: it asserts no time; but the
+peer must run guests as the program does.
+
+Seconds and processor seconds are the least of some runs each. The program is run with one worker and the batch
+limit 0; the peer once with its log alone, and once with the text of the history too, which the program's report has. `To
+peer` and `to peer with text` are the processor seconds of the program in those of the peer.
+
+Before a guest is measured, the peer's history is given to `replay` of the program, which must print the peer's report;
+and how threads end, sections, and the bytes of guards must be those of the program's run, or of guests/facts.json where
+the guest is one of guests/.
+"""
+from __future__ import annotations
+
+from argparse import Namespace
+import io
+import json
+import os
+from pathlib import Path
+import tempfile
+import types
+
+from .. import limits, places, progress, tool
+from ..guest import model
+from ..reports import report
+from . import guests, process, table
+
+FACTS = json.loads((places.GUESTS / "facts.json").read_text())
+AMPLE = 20000  # fuel with which the facts hold
+COLUMNS = [table.Column("Guest"), table.Column("Turns", ","), table.Column("Blocks", ","), *(
+    table.Column(title, ".4f") for title in ("Program: seconds", "processor", "Peer: seconds", "processor",
+                                             "Peer with text: seconds", "processor")),
+    table.Column("To peer", ".2f"), table.Column("To peer with text", ".2f")]
+
+
+class Failed(Exception):
+    """What was otherwise than it must be."""
+
+
+class Measured:
+    """What is measured: its words, and what its runs took."""
+
+    took: list[process.Took]
+
+    def __init__(self, path: Path | None, *words: int | str) -> None:
+        self.path, self.words, self.took = path, words, []
+
+    def run(self, file: bytes, is_read: bool = False) -> bytes:
+        """A run over a file. Answers its report where that is to be read, else nothing."""
+        with tempfile.TemporaryFile() as given, tempfile.TemporaryFile() as written:
+            given.write(file)
+            given.seek(0)
+            status, took = process.run(self.words, given, written, self.path)
+            if status:
+                raise Failed(f"{'peer' if self.path else 'tclocks'} {' '.join(map(str, self.words))} ended with status {status}")
+            self.took.append(took)
+            written.seek(0)
+            return written.read() if is_read else b""
+
+    def seconds(self) -> float:
+        return float(min(took.seconds for took in self.took))
+
+    def busy(self) -> float:
+        return float(min(took.busy for took in self.took))
+
+
+def asked_of(words: list[str]) -> Namespace:
+    """What the words ask for."""
+    known = (*guests.GUESTS, *FACTS)
+    parser = process.words("peer", __doc__, known, "all")
+    process.add_number(parser, "fuel", limits.RUN["fuel"][1], "of each thread")
+    process.add_number(parser, "runs", 5, "of each")
+    parser.add_argument("-c", dest="core", metavar="CORE", type=tool.number(0, 9999),
+                        default=max(os.sched_getaffinity(0)), help="the processor on which all runs (the last one)")
+    asked = process.parsed(parser, words, known)
+    if asked.core not in os.sched_getaffinity(0):
+        parser.error(f"there is no processor {asked.core} here")
+    return asked
+
+
+def ends_of(text: bytes) -> report.Report:
+    """How threads and locks end, by a report without the lines of its blocks."""
+    first, ends = text[:200].splitlines(keepends=True)[:3], text[text.index(b"\nthread ") + 1:].splitlines(keepends=True)
+    read = report.Report(line.decode() for line in first + ends)
+    read.ends()
+    return read
+
+
+def check_ends(name: str, fuel: int, ours: report.Report, theirs: report.Report) -> None:
+    """How the peer's run ended, beside the facts of a guest or beside the program's run."""
+    if name not in FACTS:
+        seen, wanted = ([[(end.how, end.fuel) for end in read.thread_ends], read.lock_ends] for read in (theirs, ours))
+        if seen != wanted:
+            raise Failed("threads or locks end otherwise by the peer than by the program")
+    elif fuel >= AMPLE:
+        machine = types.SimpleNamespace(locks=theirs.lock_ends, threads=[
+            types.SimpleNamespace(end=end.how, x=end.x, pc=end.pc) for end in theirs.thread_ends])
+        for difference in model.differences(FACTS[name], machine):
+            raise Failed(f"by the peer: {difference}")
+
+
+def check(name: str, file: bytes, fuel: int, run: bytes, peer: bytes) -> tuple[int, int]:
+    """Checks the reports of the program and of the peer. Answers the turns and the blocks of the program's."""
+    history = peer[peer.index(b"\nblock ") + 1:peer.index(b"\nthread ") + 1]
+    if Measured(None, "replay", len(file), 1, fuel, 0).run(file + history, is_read=True) != peer:
+        raise Failed("replay prints another report of the peer's history than the peer")
+    check_ends(name, fuel, ends_of(run), ends_of(peer))
+    return process.counts(io.BytesIO(run))[:2]
+
+
+def measure(name: str, asked: Namespace, peer: Path, to: table.Table) -> list[float]:
+    """Prints the line of a guest, and answers its two ratios."""
+    file = guests.file_of(name)
+    ours = Measured(None, "run", 1, asked.fuel, 0)
+    log, text = Measured(peer, asked.fuel), Measured(peer, asked.fuel, "history")
+    counted = check(name, file, asked.fuel, ours.run(file, is_read=True), text.run(file, is_read=True))
+    for _ in range(asked.runs):
+        for one in ours, log, text:
+            one.run(file)
+    ratios = [ours.busy() / one.busy() for one in (log, text)]
+    to.row([name, *counted, *(number for one in (ours, log, text) for number in (one.seconds(), one.busy())), *ratios],
+           [one.took for one in (ours, log, text)])
+    return ratios
+
+
+def sum_up(folder: str, ratios: dict[str, list[float]]) -> None:
+    """Tells the ratios of a folder's guests in one line."""
+    log, text = ({name: pair[which] for name, pair in ratios.items()} for which in (0, 1))
+    print(f"Of {report.several(len(ratios), 'guest')} of {folder}, the program's processor seconds in those of the peer: "
+          f"{table.spread(log)}; in those of the peer with text: {table.spread(text)}.")
+
+
+def main(words: list[str]) -> int | None:
+    asked = asked_of(words)
+    process.choose(asked)
+    os.sched_setaffinity(0, {asked.core})
+    ratios, failed = {}, 0
+    with tempfile.TemporaryDirectory() as folder:
+        peer = process.compiled("peer.c", folder, "-pthread")
+        names, to = asked.guests or [*guests.GUESTS, *FACTS], table.Table("peer", asked, COLUMNS)
+        with progress.Progress("bench peer", "guests", len(names)) as shown:
+            for name in names:
+                shown.clear()
+                try:
+                    ratios[name] = measure(name, asked, peer, to)
+                except Failed as why:
+                    failed += 1
+                    print(f"{name}: {why}", flush=True)
+                shown.step()
+    for folder, names in ("bench/", guests.GUESTS), ("guests/", FACTS):
+        found = {name: ratios[name] for name in names if name in ratios}
+        if found:
+            print()
+            sum_up(folder, found)
+    shown.end()
+    return tool.WRONG if failed else tool.DONE

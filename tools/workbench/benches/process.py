@@ -1,0 +1,113 @@
+"""One run of the program, or of another one beside it, and what it took."""
+from __future__ import annotations
+
+import argparse
+import os
+import re
+import shutil
+import subprocess
+import time
+from pathlib import Path
+from typing import IO, Any, Iterable, NamedTuple
+
+from .. import limits, tool
+from ..running import program
+
+HERE = Path(__file__).resolve().parent
+TURNS = re.compile(rb"^block \d+ thread \d+ turns (\d+) ")
+# What ./tclocks adds to the environment of the program.
+ADDED = {"GLIBC_TUNABLES": "glibc.malloc.hugetlb=1"}
+
+
+class Took(NamedTuple):
+    """The seconds from the start to the end, those that the process was running, and its peak memory in bytes."""
+    seconds: float
+    busy: float
+    peak: int
+
+
+def words(bench: str, doc: str | None, known: Iterable[str], usual: str, *first: str) -> tool.Words:
+    """The parser of a bench's words: guests, the program, and where the raw results go."""
+    parser = tool.words(f"bench {bench}", doc, *first)
+    parser.add_argument("guests", metavar="GUEST", nargs="*", help=f"{', '.join(known)}; {usual} when left out")
+    parser.add_argument("-p", dest="program", metavar="PROGRAM", type=Path,
+                        help="the program that is measured (the one that ./tclocks-build has built)")
+    parser.add_argument("--results", metavar="FILE", help="keep the raw results there; bench table prints them")
+    return parser
+
+
+def add_number(parser: tool.Words, name: str, usual: int, says: str) -> None:
+    """A word for a number of a run: -b, -f; or -r for how many runs there are."""
+    least, most = limits.RUN.get(name, (1, 9999))
+    parser.add_argument(f"-{name[0]}", dest=name, metavar=name.upper(), type=tool.number(least, most), default=usual,
+                        help=f"{says} ({usual})")
+
+
+def add_list(parser: tool.Words, name: str, usual: list[int], says: str, least: int = 1) -> None:
+    """A word for several numbers of a run, as 1,4."""
+    one = tool.number(least, limits.RUN[name][1])
+    parser.add_argument(f"-{name[0]}", dest=name, metavar=f"{name.upper()},..", default=usual,
+                        type=lambda word: [*map(one, word.split(","))], help=f"{says} ({','.join(map(str, usual))})")
+
+
+def parsed(parser: tool.Words, given: list[str], known: Iterable[str]) -> argparse.Namespace:
+    """What the words ask for, of guests that are known."""
+    asked = parser.parse_intermixed_args(given)
+    wrong = [name for name in asked.guests if name not in known]
+    if wrong:
+        parser.error(f"there is no guest {wrong[0]!r}")
+    return asked
+
+
+def choose(asked: argparse.Namespace) -> None:
+    """Measures the program that was asked for. Trouble where it is not there, or was not built."""
+    if asked.program is None:
+        program.need()
+    elif not (asked.program.is_file() and os.access(asked.program, os.X_OK)):
+        raise tool.Trouble(tool.INPUT, f"{asked.program}: there is no such program")
+    else:
+        program.PATH = asked.program.absolute()
+
+
+def compiled(source: str, folder: str, *words: str) -> Path:
+    """A source of this folder, compiled into another one: its path."""
+    if not shutil.which("cc"):
+        raise tool.Trouble(tool.INPUT, "this needs a C compiler, and cc is not on the PATH")
+    made = Path(folder) / Path(source).stem
+    done = subprocess.run(["cc", "-O2", *words, "-o", made, HERE / source], stdout=subprocess.PIPE, stderr=subprocess.STDOUT,
+                          check=False)
+    if done.returncode:
+        said = done.stdout.decode(errors="replace").splitlines() or [f"status {done.returncode}"]
+        raise tool.Trouble(tool.INPUT, f"cc does not compile {source}: {said[0]}")
+    return made
+
+
+def run(words: tuple[Any, ...], given: IO[bytes], written: IO[bytes], path: Path | None = None,
+        surroundings: dict[str, str] | None = None) -> tuple[int, Took]:
+    """Runs the program, in the environment in which ./tclocks runs it, or what is at a path, over open files, each
+    from its place on: its status, and what it took. Surroundings are more variables of the environment."""
+    around: dict[str, str] = {**({} if path else ADDED), **os.environ, **(surroundings or {})}
+    path = path or program.PATH
+    streams = [(os.POSIX_SPAWN_DUP2, file.fileno(), number) for number, file in enumerate((given, written))]
+    began = time.perf_counter()
+    try:
+        number = os.posix_spawn(path, [*map(str, (path, *words))], around, file_actions=streams)
+    except OSError as error:
+        raise tool.Trouble(tool.INPUT, f"{path}: {error.strerror}") from None
+    _, ended, usage = os.wait4(number, 0)
+    seconds = time.perf_counter() - began
+    status = os.WEXITSTATUS(ended) if os.WIFEXITED(ended) else -os.WTERMSIG(ended)
+    return status, Took(seconds, usage.ru_utime + usage.ru_stime, usage.ru_maxrss * 1024)
+
+
+def counts(report: IO[bytes]) -> tuple[int, int, int]:
+    """The turns and the blocks of a report, a file, and its bytes."""
+    report.seek(0)
+    turns = blocks = size = 0
+    for line in report:
+        size += len(line)
+        found = TURNS.match(line)
+        if found:
+            turns += int(found.group(1))
+            blocks += 1
+    return turns, blocks, size

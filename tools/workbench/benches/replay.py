@@ -1,0 +1,99 @@
+"""Runs guests by one worker, gives each history back to `replay` and to `profile`, and prints what each took.
+It is no test: it asserts no time; but the report of `replay` must be that of the run.
+
+For each guest there are blocks and bytes of the history; processor seconds of the run, of a reading of the
+history (its last line is wrong, which is told when all lines are read, and before a block is run), of `replay`
+and of `profile`; megabytes that are read in a second; how many times the seconds and the peak memory of the run
+`replay` takes, and how many times the seconds of `replay` `profile` does; and the peaks in megabytes.
+"""
+from __future__ import annotations
+
+from argparse import Namespace
+import filecmp
+import os
+import tempfile
+from typing import Any, IO
+
+from .. import limits, progress, tool
+from . import guests, process, table
+
+USUAL = "sleeps", "hot-lock", "nested-locks", "shortest-blocks", "longest-history"
+COLUMNS = [table.Column(*column) for column in (
+    ("Guest",), ("Blocks", ","), ("Bytes", ","), ("Run", ".3f"), ("Reading", ".3f"), ("MB/second", ".0f"), ("Replay", ".3f"),
+    ("Profile", ".3f"), ("Replay/run", ".2f"), ("Profile/replay", ".2f"), ("Run MB", ".0f"), ("Replay MB", ".0f"),
+    ("Profile MB", ".0f"), ("Memory", ".2f"))]
+
+
+class Failed(Exception):
+    """What the program did otherwise."""
+
+
+def asked_of(words: list[str]) -> Namespace:
+    parser = process.words("replay", __doc__, guests.GUESTS, ", ".join(USUAL))
+    process.add_number(parser, "batch", 0, "batch limit")
+    process.add_list(parser, "fuel", [limits.RUN["fuel"][1]], "of each thread; of several numbers each gets a line")
+    process.add_number(parser, "runs", 1, "runs of each, of which the least numbers are told")
+    return process.parsed(parser, words, guests.GUESTS)
+
+
+def least(words: tuple[Any, ...], given: IO[bytes], status: int, runs: int) -> tuple[float, float, IO[bytes]]:
+    """The least seconds and the least peak of some runs over the same input, and the last one's output, a file."""
+    took = []
+    for _ in range(runs):
+        written = tempfile.NamedTemporaryFile()
+        given.seek(0)
+        ended, one = process.run(words, given, written)
+        if ended != status:
+            raise Failed(f"{' '.join(map(str, words))} ended with status {ended}, not {status}")
+        took.append(one)
+    return min(one.busy for one in took), min(one.peak for one in took) / 1e6, written
+
+
+def give_history(given: IO[bytes], report: IO[bytes]) -> tuple[int, int]:
+    """Writes a report's history behind the guest's file. Answers its blocks and bytes. No more of it than a line is
+    kept here, since up to where the program begins this process's memory counts as the program's."""
+    blocks = size = 0
+    given.seek(0, os.SEEK_END)
+    for line in report:
+        if line.startswith(b"block "):
+            given.write(line)
+            blocks, size = blocks + 1, size + len(line)
+    given.flush()
+    return blocks, size
+
+
+def measure(name: str, fuel: int, asked: Namespace, to: table.Table) -> None:
+    """Prints the line of a guest."""
+    with tempfile.TemporaryFile() as given:
+        file = given.write(guests.GUESTS[name]())
+        given.flush()
+        numbers = 1, fuel, asked.batch
+        run, run_peak, report = least(("run", *numbers), given, 0, asked.runs)
+        report.seek(0)
+        blocks, size = give_history(given, report)
+        replay, replay_peak, again = least(("replay", file, *numbers), given, 0, asked.runs)
+        if not filecmp.cmp(report.name, again.name, shallow=False):
+            raise Failed(f"replay {' '.join(map(str, (file, *numbers)))} prints another report than the run's")
+        profile, profile_peak, _ = least(("profile", file, *numbers), given, 0, asked.runs)
+        os.ftruncate(given.fileno(), file + size - 1)  # the last line loses its end
+        reading, _, _ = least(("replay", file, *numbers), given, limits.REJECTED, asked.runs)
+    to.row([name, blocks, size, run, reading, size / reading / 1e6, replay, profile, replay / run, profile / replay, run_peak,
+            replay_peak, profile_peak, replay_peak / run_peak])
+
+
+def main(words: list[str]) -> int | None:
+    asked = asked_of(words)
+    process.choose(asked)
+    lines = [(name, fuel) for name in asked.guests or USUAL for fuel in asked.fuel]
+    failed, to = 0, table.Table("replay", asked, COLUMNS)
+    with progress.Progress("bench replay", "lines", len(lines)) as shown:
+        for name, fuel in lines:
+            shown.clear()
+            try:
+                measure(name, fuel, asked, to)
+            except Failed as why:
+                failed += 1
+                print(f"{name}: {why}", flush=True)
+            shown.step()
+    shown.end()
+    return tool.WRONG if failed else tool.DONE

@@ -1,0 +1,138 @@
+"""Runs the largest guests and prints what each took. It is no test: it asserts no time.
+
+Guests of 16 threads are run, and for each there are turns, blocks, seconds, turns per second, processor
+seconds, peak memory in bytes, bytes of the report, and the processor's instructions for each turn and
+for the start.
+"""
+from __future__ import annotations
+
+from argparse import Namespace
+import io
+import re
+import shutil
+import subprocess
+import tempfile
+from pathlib import Path
+from typing import List, Tuple
+
+from .. import limits, progress, tool
+from ..running import program
+from . import guests, process, table
+
+Counter = Tuple[List[str], "re.Pattern[bytes]"]
+# The two fuels whose difference leaves the start out.
+FEW, MANY = 512, 1024
+COLUMNS = [table.Column(*column) for column in (
+    ("Guest",), ("Workers",), ("Turns", ","), ("Blocks", ","), ("Seconds", ".3f"), ("Turns/second", ",.0f"), ("Processor", ".3f"),
+    ("Peak memory", ","), ("Report bytes", ","), ("Per turn", ".0f"), ("Start", ",.0f"))]
+
+
+def asked_of(words: list[str]) -> Namespace:
+    """What the words ask for."""
+    parser = process.words("run", __doc__, guests.GUESTS, "all")
+    process.add_list(parser, "workers", [1], "1 to 8; of several numbers, as 1,4, each gets a line")
+    process.add_number(parser, "batch", 0, "batch limit")
+    process.add_number(parser, "fuel", limits.RUN["fuel"][1], "of each thread")
+    process.add_number(parser, "runs", 1, "runs, of which the one that took the least seconds is told")
+    parser.add_argument("-o", dest="folder", metavar="FOLDER", type=Path,
+                        help="only write the guests' files into a folder, which is made where it is not there")
+    asked = process.parsed(parser, words, guests.GUESTS)
+    asked.guests = asked.guests or list(guests.GUESTS)
+    return asked
+
+
+def counter() -> Counter | None:
+    """What counts instructions: the words before a command, and the form of what they print. None
+    where neither valgrind nor perf counts here."""
+    if shutil.which("valgrind"):
+        words = ["valgrind", "--tool=callgrind", "--callgrind-out-file=/dev/null"]
+        return words, re.compile(rb"Collected : (\d+)")
+    if shutil.which("perf"):
+        words = ["perf", "stat", "-x", ",", "-e", "instructions:u", "--"]
+        form = re.compile(rb"(?m)^(\d+),[^,]*,instructions")
+        if form.search(subprocess.run(words + ["true"], capture_output=True).stderr):
+            return words, form
+    return None
+
+
+def counted(name: str, asked: Namespace, fuel: int, how: Counter) -> tuple[int, int] | None:
+    """The instructions of one worker's run with that fuel, and its turns. None where they were not
+    counted."""
+    words, form = how
+    command = words + [*map(str, (program.PATH, "run", 1, fuel, asked.batch))]
+    ran = subprocess.run(command, input=guests.GUESTS[name](), capture_output=True)
+    found = form.search(ran.stderr)
+    if ran.returncode != 0 or not found:
+        return None
+    return int(found.group(1)), process.counts(io.BytesIO(ran.stdout))[0]
+
+
+def instructions(name: str, asked: Namespace, how: Counter | None) -> tuple[float | None, float | None]:
+    """The instructions for each turn, and those of a whole run without its turns."""
+    if how is None:
+        return None, None
+    few_ran, many_ran = (counted(name, asked, fuel, how) for fuel in (FEW, MANY))
+    if few_ran is None or many_ran is None:
+        return None, None
+    (few, less), (many, more) = few_ran, many_ran
+    if more == less:
+        return None, many
+    each = (many - few) / (more - less)
+    return each, many - each * more
+
+
+def ran(name: str, workers: int, asked: Namespace) -> tuple[process.Took, tuple[int, int, int]] | None:
+    """One run of a guest: what it took, and its turns, blocks and bytes of report. None where it did not end with
+    status 0."""
+    with tempfile.TemporaryFile() as guest, tempfile.TemporaryFile() as report:
+        guest.write(guests.GUESTS[name]())
+        guest.seek(0)
+        status, took = process.run(("run", workers, asked.fuel, asked.batch), guest, report)
+        if status:
+            print(f"{name}, {report_text(workers)} ended with status {status}")
+            return None
+        return took, process.counts(report)
+
+
+def report_text(workers: int) -> str:
+    return f"{workers} worker{'s' * (workers > 1)}"
+
+
+def measure(name: str, workers: int, asked: Namespace, how: Counter | None, to: table.Table) -> bool:
+    """Runs one guest and prints its line. Says whether the program ended with status 0. Instructions
+    are those of one worker, since several share the work otherwise in each run."""
+    runs = [one for one in (ran(name, workers, asked) for _ in range(asked.runs)) if one is not None]
+    if len(runs) < asked.runs:
+        return False
+    took, (turns, blocks, size) = min(runs)
+    each, start = instructions(name, asked, how) if workers == 1 else (None, None)
+    to.row([name, workers, turns, blocks, took.seconds, turns / took.seconds, took.busy, took.peak, size, each, start],
+           [one for one, _ in runs])
+    return True
+
+
+def write_all(folder: Path, names: list[str]) -> None:
+    """Writes the guests' files into a folder."""
+    tool.make_folder(folder)
+    for name in names:
+        tool.write_file(folder / f"{name}.elf", guests.GUESTS[name]())
+
+
+def main(words: list[str]) -> int | None:
+    asked = asked_of(words)
+    if asked.folder is not None:
+        write_all(asked.folder, asked.guests)
+        return tool.DONE
+    process.choose(asked)
+    how = counter()
+    if how is None:
+        print("Neither valgrind nor perf counts instructions here: those columns stay empty.")
+    lines = [(name, workers) for name in asked.guests for workers in asked.workers]
+    done, to = [], table.Table("run", asked, COLUMNS)
+    with progress.Progress("bench run", "lines", len(lines)) as shown:
+        for name, workers in lines:
+            shown.clear()
+            done.append(measure(name, workers, asked, how, to))
+            shown.step()
+    shown.end()
+    return tool.DONE if all(done) else tool.WRONG

@@ -1,0 +1,195 @@
+"""Runs guests by several numbers of workers in turn, and prints a table of what more workers give. It is no test: it
+asserts no time.
+
+Seconds are those of the whole process with its report, and processor seconds those that it was running on all
+processors together; of each the least of some runs is told, or with -m the median. Two columns are those of the most
+workers in those of the fewest. Three columns stay empty where there is no C compiler. One is what it costs that the most workers share one
+clock, in processor seconds: what they take more than one for as many additions to one word as the run has blocks. The
+second tells how free the processors are: it is the seconds of a loop of registers alone by as many threads as
+the most workers, in those by as many as the fewest, and 1.00 where each thread has a core for itself. The third tells
+what the first of the ratios could be here: it is that of a program that does nothing but such a loop, as long as the
+guest, whose turns its threads share. With -q only rounds count before and behind which the loop's number is small; the
+last column tells how many did, of how many. Where processors change their speed from run to run, -m is fairer: the least
+of one worker is that of one fast processor, and several workers seldom have as many of them at once. A processor may be
+faster while others are idle; with -e all are busy in each run, those that its workers leave idle with loops.
+"""
+from __future__ import annotations
+
+from argparse import Namespace
+import contextlib
+import os
+from pathlib import Path
+import shutil
+import statistics
+import subprocess
+import tempfile
+import time
+from typing import Any, Iterator
+
+from .. import limits, progress, tool
+from . import guests, process, table
+
+USUAL = "hot-lock", "nested-locks", "sleeps", "memory", "many-ranges", "own-locks"
+
+LOOP_TURNS = 20_000_000  # some tens of milliseconds
+ENDLESS = 1 << 48  # turns of a loop that is ended when what runs beside it has ended
+BEGIN = 0.002  # the seconds that such loops get to begin
+MOST_ROUNDS = 30  # of which one counts at least, on the mean, or the rest are not made
+
+
+def asked_of(words: list[str]) -> Namespace:
+    """What the words ask for."""
+    parser = process.words("several", __doc__, guests.GUESTS, ", ".join(USUAL))
+    process.add_list(parser, "workers", [1, 2, 4], "1 to 8 each")
+    process.add_number(parser, "batch", 8, "batch limit")
+    process.add_number(parser, "fuel", limits.RUN["fuel"][1], "of each thread")
+    process.add_number(parser, "runs", 9, "of each")
+    parser.add_argument("-q", dest="quiet", metavar="NUMBER", type=float,
+                        help="count only rounds before and behind which the number of the column Loop is at most this, as 1.1")
+    parser.add_argument("-e", dest="even", action="store_true",
+                        help="keep the processors busy that a run leaves idle, as many as the most workers take")
+    parser.add_argument("-m", dest="told", action="store_const", const=statistics.median, default=min,
+                        help="tell the median of the runs in the place of the least")
+    asked = process.parsed(parser, words, guests.GUESTS)
+    asked.workers = sorted({*asked.workers})
+    return asked
+
+
+def ran(words: tuple[Any, ...], file: bytes = b"", path: Path | None = None,
+        is_counted: bool = False) -> tuple[process.Took, int | None]:
+    """What a run of the program took, or of what is at the path, and its blocks where they are to be counted."""
+    with tempfile.TemporaryFile() as given, tempfile.TemporaryFile() as written:
+        given.write(file)
+        given.seek(0)
+        status, took = process.run(words, given, written, path)
+        if status:
+            raise tool.Trouble(tool.WRONG, f"{path or 'tclocks'} {' '.join(map(str, words))} ended with status {status}")
+        return took, process.counts(written)[1] if is_counted else None
+
+
+def taken(asked: Namespace, runs: Any, what: str) -> float:
+    """What runs took, the least or the median."""
+    return float(asked.told(getattr(took, what) for took, _ in runs))
+
+
+def shared(asked: Namespace, clock: Path | None, blocks: int) -> float:
+    """The processor seconds that the most threads take more than one for so many additions to one word."""
+    several, one = (taken(asked, [ran((threads, blocks), path=clock) for _ in range(asked.runs)], "busy")
+                    for threads in (asked.workers[-1], 1))
+    return several - one
+
+
+@contextlib.contextmanager
+def company(asked: Namespace, loop: Path | None, threads: int) -> Iterator[Any]:
+    """Keeps as many processors busy as these threads are fewer than the most workers, where that is asked for."""
+    others = asked.workers[-1] - threads if asked.even else 0
+    beside = subprocess.Popen([str(loop), str(others), str(ENDLESS)]) if others else None
+    try:
+        if beside:
+            time.sleep(BEGIN)
+        yield
+    finally:
+        if beside:
+            beside.kill()
+            beside.wait()
+
+
+def looped(asked: Namespace, loop: Path | None, threads: int, turns: int) -> float:
+    """The seconds of the loop by so many threads."""
+    with company(asked, loop, threads):
+        return ran((threads, turns), path=loop)[0].seconds
+
+
+def loops_of(asked: Namespace, loop: Path | None) -> Any:
+    """The seconds of the loop by the least and by the greatest number of workers."""
+    return [looped(asked, loop, threads, LOOP_TURNS) for threads in (asked.workers[0], asked.workers[-1])] if loop else None
+
+
+def ran_in_company(asked: Namespace, loop: Path | None, file: bytes, workers: int,
+                   is_counted: bool) -> tuple[process.Took, int | None]:
+    """What a run of a guest by so many workers took."""
+    with company(asked, loop, workers):
+        return ran(("run", workers, asked.fuel, asked.batch), file, is_counted=is_counted)
+
+
+def shared_loop(asked: Namespace, seconds: float, loops: list[list[float]], loop: Path | None) -> float:
+    """The seconds of a loop that takes as long as the guest, by the most threads that share its turns, in those by the
+    fewest."""
+    turns = int(LOOP_TURNS * seconds / asked.told(first for first, _ in loops))
+    runs = [[looped(asked, loop, threads, turns // threads) for threads in (asked.workers[0], asked.workers[-1])]
+            for _ in range(asked.runs)]
+    return of_loops(asked, runs)
+
+
+def of_loops(asked: Namespace, loops: list[list[float]]) -> float:
+    """The seconds of loops by the most threads in those by the fewest."""
+    return float(asked.told(last for _, last in loops) / asked.told(first for first, _ in loops))
+
+
+def is_quiet(asked: Namespace, loops: list[float]) -> bool:
+    """Whether the processors were free when the loops ran, where that is asked for."""
+    return asked.quiet is None or loops[1] <= asked.quiet * loops[0]
+
+
+def rounds(name: str, asked: Namespace, loop: Path | None) -> tuple[dict[int, list[tuple[Any, ...]]], list[list[float]], int]:
+    """The runs of a guest in rounds that count, by workers; the loops before and behind them; how many rounds were made."""
+    runs: dict[Any, Any]
+    loops: list[Any]
+    file, runs, loops, made = guests.GUESTS[name](), {workers: [] for workers in asked.workers}, [], 0
+    while len(runs[asked.workers[0]]) < asked.runs and made < MOST_ROUNDS * asked.runs:
+        made, before = made + 1, loops_of(asked, loop)
+        if not is_quiet(asked, before):
+            continue
+        found = {workers: ran_in_company(asked, loop, file, workers, not loops) for workers in asked.workers}
+        behind = loops_of(asked, loop)
+        if is_quiet(asked, behind):
+            loops += [before, behind]
+            for workers in asked.workers:
+                runs[workers].append(found[workers])
+    if not loops:
+        raise tool.Trouble(tool.INPUT, f"{name}: the processors were not free in one of {made} rounds")
+    return runs, loops, made
+
+
+def measure(name: str, asked: Namespace, clock: Path | None, loop: Path | None, to: table.Table) -> tuple[float, float]:
+    """Prints the line of a guest, and answers its two ratios."""
+    runs, loops, made = rounds(name, asked, loop)
+    seconds, busy = ([taken(asked, runs[workers], what) for workers in asked.workers] for what in ("seconds", "busy"))
+    ratios = seconds[-1] / seconds[0], busy[-1] / busy[0]
+    _, blocks = runs[asked.workers[-1]][0]
+    to.row([name, *seconds, *busy, *ratios, shared(asked, clock, blocks) if clock else None,
+            of_loops(asked, loops) if loop else None, shared_loop(asked, seconds[0], loops, loop) if loop else None,
+            f"{len(runs[asked.workers[-1]])} of {made}"],
+           {workers: [took for took, _ in found] for workers, found in runs.items()})
+    return ratios
+
+
+def main(words: list[str]) -> None:
+    asked = asked_of(words)
+    process.choose(asked)
+    wants_loop = [word for word, is_asked in (("-q", asked.quiet is not None), ("-e", asked.even)) if is_asked]
+    if wants_loop and not shutil.which("cc"):
+        raise tool.Trouble(tool.INPUT, f"{wants_loop[0]} needs a C compiler, and cc is not on the PATH")
+    each = [f"{workers} worker{'s' * (workers > 1)}" for workers in asked.workers]
+    of = f"{each[-1]} to {each[0]}"
+    columns = [("Guest", ""), *((f"Seconds: {one}" if one == each[0] else one, ".3f") for one in each),
+               *((f"Processor: {one}" if one == each[0] else one, ".3f") for one in each), (f"Seconds, {of}", ".2f"),
+               (f"Processor, {of}", ".2f"), (f"Clock, {of}", ".3f"), (f"Loop, {of}", ".2f"), (f"Shared loop, {of}", ".2f"),
+               ("Rounds", "")]
+    to = table.Table("several", asked, [table.Column(*column) for column in columns])
+    names, ratios = asked.guests or USUAL, {}
+    with tempfile.TemporaryDirectory() as folder:
+        clock, loop = (process.compiled(source, folder, "-pthread") if shutil.which("cc") else None
+                       for source in ("clock.c", "loop.c"))
+        with progress.Progress("bench several", "guests", len(names)) as shown:
+            for name in names:
+                shown.clear()
+                ratios[name] = measure(name, asked, clock, loop, to)
+                shown.step()
+    if not ratios:
+        return shown.end()
+    seconds, busy = ({name: pair[which] for name, pair in ratios.items()} for which in (0, 1))
+    told = "least" if asked.told is min else "median"
+    print(f"\nOn {len(os.sched_getaffinity(0))} processors, {told} of {asked.runs}, {of}: seconds {table.spread(seconds)}; "
+          f"processor seconds {table.spread(busy)}.")
+    shown.end()

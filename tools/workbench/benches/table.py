@@ -1,0 +1,89 @@
+"""Tables of the form that bench/README.md has them in, made of raw results, which a file keeps, a line of JSON for
+each; and lines that tell of them."""
+from __future__ import annotations
+
+import json
+import os
+import platform
+import statistics
+import time
+from typing import IO, Any, Iterable, NamedTuple, Sequence
+
+from .. import tool
+
+
+class Column(NamedTuple):
+    """A column: its title, and how its numbers are written, as `.3f`."""
+    title: str
+    form: str = ""
+
+
+def cell(value: Any, form: str) -> str:
+    return "" if value is None else value if isinstance(value, str) else format(value, form)
+
+
+def line(cells: Iterable[str]) -> str:
+    return "|" + "|".join(f" {text} " if text else " " for text in cells) + "|"
+
+
+class Table:
+    """Prints a table row by row, and keeps the raw results of its rows where a file is asked for."""
+
+    def __init__(self, bench: str, asked: Any, columns: Sequence[Column], about: str = "") -> None:
+        self.columns, self.file = columns, kept(asked.results)
+        words = {name: value if isinstance(value, (int, float, list, type(None))) else str(value)
+                 for name, value in vars(asked).items()}
+        self.keep({"bench": bench, "columns": columns, "about": about, "words": words, "when": time.strftime("%Y-%m-%d"),
+                   "processors": len(os.sched_getaffinity(0)), "machine": platform.machine()})
+        print("\n".join(head(columns)), flush=True)
+
+    def keep(self, record: dict[str, Any]) -> None:
+        if self.file:
+            self.file.write(json.dumps(record) + "\n")
+            self.file.flush()
+
+    def row(self, cells: Sequence[Any], runs: Any = None) -> None:
+        """A row of numbers and texts; `runs` is what each run took, of which they were made."""
+        self.keep({"cells": cells, "runs": runs})
+        print(row(self.columns, cells), flush=True)
+
+
+def kept(path: str | None) -> IO[str] | None:
+    if path is None:
+        return None
+    try:
+        return open(path, "w", encoding="utf-8")
+    except OSError as error:
+        raise tool.Trouble(tool.OUTPUT, f"{path}: {error.strerror}") from None
+
+
+def head(columns: Sequence[Column]) -> list[str]:
+    return [line(column.title for column in columns), "|---" * len(columns) + "|"]
+
+
+def row(columns: Sequence[Column], cells: Sequence[Any]) -> str:
+    return line(cell(value, column.form) for column, value in zip(columns, cells))
+
+
+def spread(ratios: dict[str, float]) -> str:
+    """The least, the greatest and the middle one of ratios, which are by name."""
+    names = sorted(ratios, key=ratios.__getitem__)
+    return (f"{ratios[names[0]]:.2f} ({names[0]}) to {ratios[names[-1]]:.2f} ({names[-1]}), median "
+            f"{statistics.median(ratios.values()):.2f}")
+
+
+DOC = """Prints the table of a file of raw results, as `./workbench bench NAME --results FILE` writes it."""
+
+
+def main(words: list[str]) -> None:
+    parser = tool.words("bench table", DOC)
+    parser.add_argument("file", metavar="FILE", help="of raw results; - is standard input")
+    asked = parser.parse_args(words)
+    try:
+        text = tool.read_bytes(asked.file, 1 << 28).decode("utf-8")
+        first, *rows = [json.loads(one) for one in text.splitlines()]
+        columns = [Column(*column) for column in first["columns"]]
+        lines = [*head(columns), *(row(columns, one["cells"]) for one in rows)]
+    except (ValueError, KeyError, TypeError):
+        raise tool.Trouble(tool.WRONG, f"{asked.file}: these are no results of a bench") from None
+    print("\n".join(lines))

@@ -1,0 +1,120 @@
+"""Makes many runs of short guests by several workers, and prints a table of how often the workers did run together.
+It is no test: it asserts no time; but each run must end with status 0.
+
+The table says in how many runs two workers or more ran blocks, and in how many a section was adopted; and the median
+and the least milliseconds of the whole process. Then the same where the host gives the program no thread beside its first
+one, and where it gives one: a library in LD_PRELOAD (threads.c) refuses all others. The three kinds of runs take turns.
+"""
+from __future__ import annotations
+
+from argparse import Namespace
+import os
+import re
+import statistics
+import tempfile
+from typing import NamedTuple
+
+from .. import progress, tool
+from . import guests, process, table
+
+OWN = "counter", "bank", "buffer", "philosophers"  # of guests/
+FUEL, BATCH = 20000, 8
+GIVEN = {"all": None, "one": 1, "none": 0}  # threads of the host beside the first one
+BLOCK = re.compile(rb"(?m)^block .* kind (\w+) worker (\d+) ")
+
+
+class Ran(NamedTuple):
+    """What a run was: whether two workers or more ran blocks, whether a section was adopted, and its milliseconds."""
+    several: bool
+    adopted: bool
+    milliseconds: float
+
+
+def asked_of(words: list[str]) -> Namespace:
+    """What the words ask for."""
+    known = (*OWN, *guests.GUESTS)
+    parser = process.words("together", __doc__, known, ", ".join(OWN))
+    process.add_list(parser, "workers", [4, 8], "2 to 8; of several numbers each gets lines", 2)
+    process.add_number(parser, "runs", 40, "of each")
+    return process.parsed(parser, words, known)
+
+
+class Host:
+    """What gives threads to the program, or refuses them."""
+
+    def __init__(self, folder: str) -> None:
+        self.library = process.compiled("threads.c", folder, "-shared", "-fPIC", "-ldl")
+        self.told = tempfile.TemporaryFile()
+        os.set_inheritable(self.told.fileno(), True)
+
+    def surroundings(self, threads: int) -> dict[str, str]:
+        return {"LD_PRELOAD": str(self.library), "THREADS": str(threads), "THREADS_TELL": str(self.told.fileno())}
+
+    def refused(self) -> int:
+        """How many were refused since it was asked."""
+        count = os.lseek(self.told.fileno(), 0, os.SEEK_END)
+        os.ftruncate(self.told.fileno(), 0)
+        os.lseek(self.told.fileno(), 0, os.SEEK_SET)
+        return count
+
+
+def run(host: Host, name: str, workers: int, kind: str) -> Ran:
+    """A run of a guest, where the host gives so many threads."""
+    threads = GIVEN[kind]
+    with tempfile.TemporaryFile() as given, tempfile.TemporaryFile() as written:
+        given.write(guests.file_of(name))
+        given.seek(0)
+        words = "run", workers, FUEL, BATCH
+        status, took = process.run(words, given, written, surroundings=None if threads is None else host.surroundings(threads))
+        if status:
+            raise tool.Trouble(tool.WRONG, f"tclocks {' '.join(map(str, words))} over {name} ended with status {status}, "
+                                           f"with {kind} of its threads")
+        written.seek(0)
+        blocks = BLOCK.findall(written.read())
+    refused = host.refused()
+    if threads is not None and threads < workers - 1 and not refused:
+        raise tool.Trouble(tool.INPUT, "no thread could be refused: is the program linked statically?")
+    return Ran(len({worker for _, worker in blocks}) > 1, any(found == b"adopted" for found, _ in blocks), 1000 * took.seconds)
+
+
+def measure(host: Host, name: str, workers: int, runs: int, to: table.Table) -> dict[str, list[Ran]]:
+    """Prints the lines of a guest. Answers the runs of each kind."""
+    found: dict[str, list[Ran]] = {kind: [] for kind in GIVEN}
+    for _ in range(runs):
+        for kind in GIVEN:
+            found[kind].append(run(host, name, workers, kind))
+    for kind, ran in found.items():
+        times = [one.milliseconds for one in ran]
+        to.row([name, workers, kind, runs, sum(one.several for one in ran), sum(one.adopted for one in ran),
+                statistics.median(times), min(times)], ran)
+    return found
+
+
+def sum_up(kind: str, ran: list[Ran]) -> None:
+    """Tells the runs of a kind in one line."""
+    times = [one.milliseconds for one in ran]
+    print(f"\nThreads of the host: {kind}. All of {len(ran)} runs ended with status 0; in {sum(one.several for one in ran)} two "
+          f"workers or more ran blocks, in {sum(one.adopted for one in ran)} a section was adopted; median "
+          f"{statistics.median(times):.1f} milliseconds, least {min(times):.1f}.")
+
+
+def main(words: list[str]) -> None:
+    asked = asked_of(words)
+    process.choose(asked)
+    every: dict[str, list[Ran]] = {kind: [] for kind in GIVEN}
+    with tempfile.TemporaryDirectory() as folder:
+        host = Host(folder)
+        to = table.Table("together", asked, [*map(table.Column, (
+            "Guest", "Workers", "Threads", "Runs", "By several", "With adopted")), table.Column("Median ms", ".1f"),
+            table.Column("Least ms", ".1f")])
+        lines = [(name, workers) for name in asked.guests or OWN for workers in asked.workers]
+        with progress.Progress("bench together", "of guests and workers", len(lines)) as shown:
+            for name, workers in lines:
+                shown.clear()
+                for kind, ran in measure(host, name, workers, asked.runs, to).items():
+                    every[kind] += ran
+                shown.step()
+    for kind, ran in every.items():
+        if ran:
+            sum_up(kind, ran)
+    shown.end()

@@ -1,0 +1,68 @@
+"""Draws the timeline of a report: lanes by thread, by worker and by lock over the stamps.
+
+It prints an SVG, which any browser shows; details are under the pointer. With --text it draws for a
+terminal. With --trace it prints the trace event format, which Perfetto (ui.perfetto.dev) and
+Chrome's viewer open. With --page it prints a page of HTML that steps through the run. Where the
+guest's file is given, threads and locks have the names of its symbols, and the page shows registers
+and guarded bytes.
+"""
+from __future__ import annotations
+
+from argparse import Namespace
+from .. import tool
+from ..guest import guestfile, names, sources
+from ..reports import timeline
+from . import overview, page, svg, textlanes, traceevents
+
+MOST = 2000  # blocks that are drawn each
+
+
+def print_svg(line: timeline.Timeline, called: names.Names, first: int, last: int, asked: Namespace) -> None:
+    draw = svg.detailed if last - first < asked.most else overview.draw
+    picture = draw(line, first, last, called, asked.title)
+    for sentence in svg.sentences(line, first, last):
+        picture.text(sentence)
+    print(picture.svg(line.text.guards), end="")
+
+
+def print_page(line: timeline.Timeline, called: names.Names, first: int, last: int, asked: Namespace) -> None:
+    guest = (asked.file, sources.load(asked.guest, asked.file)) if asked.guest else None
+    print(page.made(line, called, first, last, asked.title, guest), end="")
+
+
+def window(asked: Namespace, count: int) -> tuple[int, int]:
+    """The first and the last block that are drawn."""
+    last = count - 1 if asked.to is None else min(asked.to, count - 1)
+    if asked.first >= count:
+        raise tool.Trouble(tool.WRONG, f"the report has {count} blocks, and none from {asked.first} on")
+    if asked.first > last:
+        raise tool.Trouble(tool.WORDS, f"--from {asked.first} is behind --to {asked.to}")
+    return asked.first, last
+
+
+def main(words: list[str]) -> None:
+    parser = tool.words("draw", __doc__)
+    parser.add_argument("report", metavar="REPORT", help="a report; - is standard input")
+    forms = parser.add_mutually_exclusive_group()
+    forms.add_argument("--text", action="store_const", dest="form", const=textlanes.show, help="for a terminal")
+    forms.add_argument("--trace", action="store_const", dest="form", const=traceevents.show, help="trace events, JSON")
+    forms.add_argument("--page", action="store_const", dest="form", const=print_page,
+                       help="a page that steps through the run, HTML")
+    parser.add_argument("--guest", metavar="GUEST", help="the guest's file, for names, and for the page's bytes")
+    parser.add_argument("--from", metavar="A", dest="first", type=tool.number(0, 10**9), default=0,
+                        help="the first block that is drawn")
+    parser.add_argument("--to", metavar="B", type=tool.number(0, 10**9), help="the last block that is drawn")
+    parser.add_argument("--most", metavar="N", type=tool.number(1, 100000), default=MOST,
+                        help=f"draw each block where there are at most N, else columns ({MOST})")
+    parser.add_argument("--title", metavar="TEXT", help="the picture's heading")
+    parser.add_argument("--colour", action="store_true", help="with --text: colours even into a file")
+    asked = parser.parse_args(words)
+    asked.file = guestfile.load(asked.guest) if asked.guest else None
+    line = timeline.read(asked.report)
+    text = line.text
+    called = names.Names(text, asked.file)
+    asked.title = asked.title or text.title()
+    (asked.form or print_svg)(line, called, *window(asked, len(line.marks)), asked)
+    cut = text.cut_note()
+    if cut:
+        tool.note("draw", cut)

@@ -1,0 +1,178 @@
+"""A page of HTML that steps through a run. page.html is the page; this puts the run's data into it:
+the blocks, and, where the guest's file is given, what each block changes of registers and of guarded
+words, by model.py."""
+from __future__ import annotations
+
+import json
+import pathlib
+import struct
+from typing import Any, Sequence
+
+from .. import limits, tool
+from ..guest import guestfile, model, names, sources
+from ..judging import legal, reasons
+from ..reports import report, timeline
+from . import svg
+
+PAGE = pathlib.Path(__file__).resolve().parent / "page.html"
+MOST = 50000  # blocks of a page
+SHOWN = 64  # words of a lock that are all shown
+MARK = '"application/json">DATA</script>'
+
+
+class Shelf:
+    """Different texts, each with its number."""
+
+    def __init__(self) -> None:
+        self.numbers: dict[str, int] = {}
+
+    def put(self, text: str) -> int:
+        return self.numbers.setdefault(text, len(self.numbers))
+
+    def texts(self) -> list[str]:
+        return list(self.numbers)
+
+
+class Player:
+    """Runs the blocks by the model, and keeps what those of a window change."""
+
+    starts: dict[int, str]
+    notes: dict[int, str]
+    changes: list[Any]
+
+    def __init__(self, file: guestfile.GuestFile, lines: sources.Sources, text: report.Report) -> None:
+        self.file, self.lines, self.run = file, lines, legal.begin(file.guest, text)
+        self.machine = self.run.machine
+        self.starts, self.notes, self.changes = {}, {}, []
+        self.registers: list[list[int]] = []
+        self.bytes: list[bytes] = []
+
+    def begin_window(self) -> None:
+        self.registers = [state(thread) for thread in self.machine.threads]
+        self.bytes = [bytes(lock.bytes) for lock in self.machine.locks]
+
+    def skip(self, block: report.Block) -> None:
+        self.run.follow(block)
+
+    def play(self, block: report.Block) -> None:
+        """Runs a block of the window."""
+        thread = self.machine.threads[block.thread]
+        self.starts[block.stamp] = reasons.start_text(self.file, thread, self.lines)
+        before, locks = state(thread), [(lock, bytes(self.machine.locks[lock].bytes)) for lock in block.held]
+        self.run.follow(block)
+        after = state(thread)
+        registers = [(number, old ^ new) for number, (old, new) in enumerate(zip(before, after)) if old != new]
+        words = [(lock, place, old ^ new) for lock, were in locks
+                 for place, (old, new) in enumerate(zip(in_words(were), in_words(self.machine.locks[lock].bytes)))
+                 if old != new]
+        self.changes.append((registers, words))
+        if block.ends_thread:
+            self.notes[block.stamp] = reasons.ending(self.file, thread, block.held)
+
+    def shown(self, lock: int) -> Sequence[int]:
+        """The places of a lock's words that a page shows: all, or of a large guard those that change."""
+        count = len(self.bytes[lock]) // 4
+        if count <= SHOWN:
+            return range(count)
+        changed = {place for _, words in self.changes for number, place, _ in words if number == lock}
+        return sorted(changed)[:SHOWN] or range(SHOWN)
+
+    def data(self) -> dict[str, Any]:
+        words, places = [], {}
+        for number, lock in enumerate(self.machine.locks):
+            shown, values = self.shown(number), in_words(self.bytes[number])
+            places.update({(number, place): at for at, place in enumerate(shown)})
+            note = "" if len(shown) == len(values) else f"{len(shown)} of its {len(values)} words"
+            words.append({"values": [values[place] for place in shown], "note": note,
+                          "addresses": [lock.addresses.start + 4 * place for place in shown]})
+        changes = [[flat(registers), flat((lock, places[lock, place], change) for lock, place, change in changed
+                                          if (lock, place) in places)]
+                   for registers, changed in self.changes]
+        return {"registers": self.registers, "words": words, "changes": changes}
+
+
+def state(thread: model.Thread) -> list[int]:
+    """The registers, and the program counter behind them."""
+    return [*thread.x, thread.pc]
+
+
+def in_words(content: bytes) -> tuple[int, ...]:
+    return struct.unpack(f"<{len(content) // 4}I", content)
+
+
+def flat(rows: Any) -> list[int]:
+    return [value for row in rows for value in row]
+
+
+def played(guest: tuple[guestfile.GuestFile, sources.Sources], line: timeline.Timeline, first: int, last: int) -> Player:
+    """The player at the end of the window; `guest` is the guest's file and its lines."""
+    player = Player(*guest, line.text)
+    try:
+        for mark in line.marks[:first]:
+            player.skip(mark.block)
+        player.begin_window()
+        for mark in line.marks[first:last + 1]:
+            player.play(mark.block)
+    except report.Wrong as wrong:
+        raise tool.Trouble(tool.WRONG, f"not legal: {wrong} (./workbench judge)") from None
+    return player
+
+
+def row(mark: timeline.Mark, start: int, note: str) -> list[Any]:
+    block = mark.block
+    release = -1 if mark.release is None else mark.release.stamp
+    return [block.stamp, block.thread, block.worker, block.turns, limits.KINDS.index(block.kind), block.held,
+            block.pc, block.end, release, start, note]
+
+
+def nearest(marks: Any, threads: int) -> list[list[Any] | None]:
+    """Of each thread the first of some marks that is its own, or None."""
+    found: list[list[Any] | None] = [None] * threads
+    for mark in marks:
+        if found[mark.block.thread] is None:
+            found[mark.block.thread] = row(mark, 0, "")
+            if None not in found:
+                break
+    return found
+
+
+def broken_by(marks: list[timeline.Mark], locks: int) -> list[int]:
+    """Of each lock the stamp of the block that broke it, or -1: whose thread ended with it."""
+    found = [-1] * locks
+    for mark in marks:
+        for lock in mark.block.held if mark.block.ends_thread else ():
+            found[lock] = mark.block.stamp if found[lock] < 0 else found[lock]
+    return found
+
+
+def data(line: timeline.Timeline, called: names.Names, first: int, last: int, title: str,
+         guest: tuple[guestfile.GuestFile, sources.Sources] | None) -> dict[str, Any] | None:
+    """What the page's script reads."""
+    player = played(guest, line, first, last) if guest else None
+    texts, threads = Shelf(), line.text.threads
+    texts.put("")
+    rows = []
+    for mark in line.marks[first:last + 1]:
+        block = mark.block
+        start = player.starts[block.stamp] if player else f"pc {block.pc:08x}" if block.pc is not None else ""
+        rows.append(row(mark, texts.put(start), player.notes.get(block.stamp, "") if player else ""))
+    return {"title": title, "what": line.text.title(), "first": first, "workers": line.text.workers,
+            "threads": called.threads, "locks": [{"name": name} for name in called.locks],
+            "lockColours": [(svg.COLOURS[lock % 7], lock % 7 in svg.WHITE_LETTERS) for lock in range(line.text.guards)],
+            "workerColours": [(colour, place in svg.WHITE_WORKERS) for place, colour in enumerate(svg.WORKERS)],
+            "blocks": rows, "before": nearest(reversed(line.marks[:first]), threads),
+            "behind": nearest(line.marks[last + 1:], threads),
+            "broken": broken_by(line.marks, line.text.guards), "starts": texts.texts(),
+            **(player.data() if player else {"registers": None, "words": None, "changes": []})}
+
+
+def made(line: timeline.Timeline, called: names.Names, first: int, last: int, title: str,
+         guest: tuple[guestfile.GuestFile, sources.Sources] | None) -> str:
+    """The page of a window; `guest` is the guest's file and its lines, or None."""
+    if last - first >= MOST:
+        raise tool.Trouble(tool.WORDS, f"{last - first + 1} blocks are more than the {MOST} of a page; "
+                           "--from and --to give a part")
+    text = json.dumps(data(line, called, first, last, title, guest), separators=(",", ":"))
+    before, after = PAGE.read_text(encoding="utf-8").split(MARK)
+    # No text of the run can end the element that it stands in.
+    return before + MARK.replace("DATA", text.replace("<", "\\u003c")) + after

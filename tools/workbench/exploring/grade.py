@@ -1,0 +1,174 @@
+"""Grades a folder of guests by rules on how they end in every interleaving, and prints a table.
+
+The guests are the .elf files of the folder and of those in it, and the .c and .S files, which are built with
+the kit in a folder of their own; an .elf file beside its source is not looked at. --never RULE is right where
+RULE holds at the end of no interleaving, --reach RULE where it does at the end of one. ./workbench explore searches,
+and docs/EXPLORE.md tells of rules. With --keep FOLDER a history is written of each end that was found.
+
+  holds         no interleaving breaks the rule    broken      one does
+  reachable     one ends so                        never       none does
+  not known     the search stopped before; --states allows it more
+  no rule       the guest has not what the rule speaks of
+"""
+from __future__ import annotations
+
+import csv
+import os
+import pathlib
+import re
+import shutil
+import subprocess
+import sys
+import tempfile
+from typing import NamedTuple, TYPE_CHECKING
+
+from .. import limits, places, tool
+from ..guest import guestfile
+from . import rules
+
+if TYPE_CHECKING:
+    from argparse import Namespace
+
+ANSWERS = {("never", "in no interleaving"): "holds", ("never", "broken"): "broken",
+           ("reach", "in no interleaving"): "never", ("reach", "reachable"): "reachable"}
+RIGHT = ("holds", "reachable")
+SOURCES = (".c", ".S")
+
+
+class Rule(NamedTuple):
+    kind: str
+    text: str
+
+    def __str__(self) -> str:
+        return f"{self.kind} {self.text}"
+
+
+class Graded(NamedTuple):
+    """A guest's name, what came of its file, an answer to each rule, and the histories by rule."""
+    name: str
+    file: str
+    answers: list[str]
+    histories: dict[int, str]
+
+    @property
+    def right(self) -> int:
+        return sum(answer in RIGHT for answer in self.answers)
+
+
+def guests(folder: pathlib.Path) -> list[pathlib.Path]:
+    """The guests of a folder, by name."""
+    try:
+        found = sorted(path for path in folder.rglob("*") if path.suffix in (".elf", *SOURCES) and path.is_file())
+    except OSError as error:
+        raise tool.Trouble(tool.INPUT, f"{folder}: {error.strerror}") from None
+    return [path for path in found if path.suffix != ".elf"
+            or not any(path.with_suffix(suffix) in found for suffix in SOURCES)]
+
+
+def built(path: pathlib.Path, folder: pathlib.Path, march: str) -> tuple[pathlib.Path | None, str | None]:
+    """The file that a source is built as, or what the compiler says."""
+    for part in (path, *path.parent.glob("*.h")):
+        shutil.copy(part, folder)
+    done = subprocess.run(["make", "-s", "-f", places.KIT / "guest.mk", f"MARCH={march}", f"{path.stem}.elf"],
+                          cwd=folder, stdout=subprocess.PIPE, stderr=subprocess.STDOUT, check=False)
+    said = done.stdout.decode(errors="replace").splitlines()
+    wrong = next((line for line in said if "error" in line), said[0] if said else "")
+    return (folder / f"{path.stem}.elf", None) if done.returncode == 0 else (None, wrong)
+
+
+def answer(path: pathlib.Path, rule: Rule, asked: Namespace) -> tuple[str, str]:
+    """The answer to a rule, and its history, where there is one."""
+    done = subprocess.run([sys.executable, places.ROOT / "workbench.py", "explore", path, f"--{rule.kind}", rule.text, "--fuel", str(asked.fuel),
+                           "--states", str(asked.states)], stdout=subprocess.PIPE, stderr=subprocess.PIPE, check=False)
+    first, _, history = done.stdout.decode().partition("\n")
+    for (kind, said), answer_ in ANSWERS.items():
+        if kind == rule.kind and first.startswith(f"# {rule.text}: {said}"):
+            return answer_, history
+    if done.returncode == tool.WORDS:
+        return "no rule", ""
+    if first.startswith(f"# {rule.text}: "):
+        return "not known", ""
+    raise tool.Trouble(done.returncode or tool.WRONG, f"{path}: " + done.stderr.decode().strip().partition(": ")[2])
+
+
+def graded(name: str, path: pathlib.Path, asked: Namespace) -> Graded:
+    with tempfile.TemporaryDirectory() as folder:
+        file = path
+        if path.suffix != ".elf":
+            made, wrong = built(path, pathlib.Path(folder), asked.march)
+            if made is None:
+                tool.note("grade", f"{name} is not built: {wrong}")
+                return Graded(name, "not built", ["-"] * len(asked.rules), {})
+            file = made
+        try:
+            guestfile.check(guestfile.read(file))
+        except guestfile.Refused as refused:
+            return Graded(name, refused.line, ["-"] * len(asked.rules), {})
+        answers = [answer(file, rule, asked) for rule in asked.rules]
+    return Graded(name, "accepted", [said for said, _ in answers],
+                  {number: history for number, (_, history) in enumerate(answers, 1) if history})
+
+
+def keep(folder: str, one: Graded) -> None:
+    """Writes a guest's histories."""
+    tool.make_folder(folder)
+    for number, history in one.histories.items():
+        name = re.sub(r"[^\w.-]", "-", one.name)
+        tool.write_file(os.path.join(folder, f"{name}-rule-{number}.txt"), history)
+
+
+def print_text(rules: list[Rule], results: list[Graded]) -> None:
+    rows = [["guest", "file", *(f"rule {number}" for number in range(1, len(rules) + 1)), "right"]]
+    rows += [[one.name, one.file, *one.answers, f"{one.right} of {len(rules)}"] for one in results]
+    tool.print_columns(rows, str.ljust)
+    print()
+    for number, rule in enumerate(rules, 1):
+        print(f"rule {number}: {rule}")
+
+
+def print_csv(rules: list[Rule], results: list[Graded]) -> None:
+    """A line for each guest and rule."""
+    table = csv.writer(sys.stdout, lineterminator="\n")
+    table.writerow(["guest", "file", "kind", "rule", "answer", "right"])
+    for one in results:
+        for rule, said in zip(rules, one.answers):
+            table.writerow([one.name, one.file, *rule, said, int(said in RIGHT)])
+
+
+def asked_of(words: list[str]) -> Namespace:
+    parser = tool.words("grade", __doc__)
+    parser.add_argument("folder", metavar="FOLDER", help="of guests")
+    for kind in ("never", "reach"):
+        parser.add_argument(f"--{kind}", metavar="RULE", action="append", default=[])
+    parser.add_argument("--fuel", metavar="N", type=tool.number(*limits.RUN["fuel"]), default=20000, help="(20000)")
+    parser.add_argument("--states", metavar="N", type=tool.number(1, 10**9), default=200_000,
+                        help="search at most N states for each rule (200000)")
+    parser.add_argument("--march", choices=("rv32i", "rv32im"), default="rv32im", help="of sources (rv32im)")
+    parser.add_argument("--keep", metavar="FOLDER", dest="kept", help="write the histories into it")
+    parser.add_argument("--csv", action="store_true", help="a line for each guest and rule")
+    asked = parser.parse_args(words)
+    asked.rules = [Rule("never", text) for text in asked.never] + [Rule("reach", text) for text in asked.reach]
+    if not asked.rules:
+        parser.error("there is no rule: --never RULE or --reach RULE")
+    for rule in asked.rules:
+        try:  # by the largest guest
+            rules.Rule(rule.text, limits.THREADS[2], [limits.GUARD_BYTES[1]] * limits.GUARDS[2])
+        except rules.WrongRule as wrong:
+            parser.error(f"{rule}: the rule is wrong: {wrong}")
+    return asked
+
+
+def main(words: list[str]) -> None:
+    asked = asked_of(words)
+    folder = pathlib.Path(asked.folder)
+    if not folder.is_dir():
+        raise tool.Trouble(tool.INPUT, f"{folder}: there is no such folder")
+    found = guests(folder)
+    if not found:
+        raise tool.Trouble(tool.WRONG, f"{folder}: it has no guest, as .elf, .c or .S")
+    results = []
+    for path in found:
+        results.append(graded(str(path.relative_to(folder)), path, asked))
+        if asked.kept:
+            keep(asked.kept, results[-1])
+    (print_csv if asked.csv else print_text)(asked.rules, results)

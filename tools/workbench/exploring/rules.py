@@ -1,0 +1,196 @@
+"""Rules on how a guest ends, as `lock 0 word 2 == 1 and not thread 1 exit`.
+
+    word W of lock L     lock L word W        as a number from 0 to 2^32 - 1
+                         lock L signed W      from -2^31 to 2^31 - 1
+    its sections         lock L sections      how often it was taken
+    its broken flag      lock L broken        1 or 0
+    exit code            thread T x10         x10 at its end, and signed: thread T signed x10
+    how it ended         thread T exit, thread T spent     1 or 0
+                         thread T fault       the fault's number, 0 where it has none
+    counts               faults, spent, broken    of threads and of locks
+
+Numbers are decimal or 0x..; + - * and parentheses reckon without a limit; == != < <= > >= compare; `not`,
+`and`, `or` join, and all but 0 is true.
+"""
+from __future__ import annotations
+
+import operator
+import re
+from typing import Callable, Iterable, NamedTuple, Tuple
+
+from ..guest.rv32im import signed
+
+Value = Callable[["End"], int]  # of an end
+TOKEN = re.compile(r"\s*(0x[0-9a-fA-F]+|\d+|[a-z]\w*|==|!=|<=|>=|[-+*()<>])")
+COMPARISONS = {"==": operator.eq, "!=": operator.ne, "<": operator.lt, "<=": operator.le,
+               ">": operator.gt, ">=": operator.ge}
+SUMS = {"+": operator.add, "-": operator.sub}
+COUNTS: dict[str, Value] = {"faults": lambda end: sum(how.startswith("fault") for how, _ in end.threads),
+          "spent": lambda end: sum(how == "spent" for how, _ in end.threads),
+          "broken": lambda end: sum(broken for broken, _, _ in end.locks)}
+
+
+class WrongRule(Exception):
+    """What is wrong with a rule's words."""
+
+
+class End(NamedTuple):
+    """How a guest ended: of each thread how and x10, of each lock broken flag, sections and bytes."""
+    threads: Tuple[Tuple[str, int], ...]
+    locks: Tuple[Tuple[int, int, bytes], ...]
+
+    def order(self) -> tuple[int, int, int, End]:
+        """What an order of ends goes by: those with faults first, then those with spent threads, and with
+        broken locks."""
+        hows = [how for how, _ in self.threads]
+        return (-sum(how.startswith("fault") for how in hows), -hows.count("spent"),
+                -sum(broken for broken, _, _ in self.locks), self)
+
+    def word(self, lock: int, word: int) -> int:
+        return int.from_bytes(self.locks[lock][2][4 * word:4 * word + 4], "little")
+
+
+class Rule:
+    """A rule on the ends of a guest with so many threads and locks of so many bytes."""
+
+    def __init__(self, text: str, threads: int, sizes: list[int]) -> None:
+        self.text, self.threads, self.sizes, self.tokens = text, threads, sizes, []
+        at, text = 0, text.rstrip()
+        while at < len(text):
+            found = TOKEN.match(text, at)
+            if not found:
+                raise WrongRule(f"{text[at:at + 20]!r} is no part of a rule")
+            self.tokens.append(found[1])
+            at = found.end()
+        self.tokens.reverse()
+        try:
+            self.value = self.either()
+        except RecursionError:
+            raise WrongRule("it is nested too deep") from None
+        if self.tokens:
+            raise WrongRule(f"{self.tokens[-1]!r} stands behind its end")
+
+    def holds(self, end: End) -> bool:
+        return bool(self.value(end))
+
+    def next(self) -> str | None:
+        return self.tokens[-1] if self.tokens else None
+
+    def take(self, *wanted: str) -> str | None:
+        """The next token, if it is one of these (any where none are named), else None."""
+        if self.tokens and (not wanted or self.tokens[-1] in wanted):
+            return self.tokens.pop()
+        return None
+
+    def joined(self, word: str, read: Callable[[], Value], holds: Callable[[Iterable[int]], int]) -> Value:
+        """Parts with a word between, as one."""
+        parts = [read()]
+        while self.take(word):
+            parts.append(read())
+        return parts[0] if len(parts) == 1 else lambda end: holds(part(end) for part in parts)
+
+    def either(self) -> Value:
+        return self.joined("or", self.both, any)
+
+    def both(self) -> Value:
+        return self.joined("and", self.negated, all)
+
+    def negated(self) -> Value:
+        if self.take("not"):
+            part = self.negated()
+            return lambda end: not part(end)
+        return self.comparison()
+
+    def comparison(self) -> Value:
+        left = self.sum()
+        name = self.take(*COMPARISONS)
+        if name is None:
+            return left
+        right, compare = self.sum(), COMPARISONS[name]
+        if self.next() in COMPARISONS:
+            raise WrongRule(f"{self.next()!r} stands behind a comparison: join two by 'and'")
+        return lambda end: int(compare(left(end), right(end)))
+
+    def sum(self) -> Value:
+        value = self.product()
+        while True:
+            name = self.take(*SUMS)
+            if name is None:
+                return value
+            value = self.two(SUMS[name], value, self.product())
+
+    def product(self) -> Value:
+        value = self.factor()
+        while self.take("*"):
+            value = self.two(operator.mul, value, self.factor())
+        return value
+
+    @staticmethod
+    def two(operation: Callable[[int, int], int], left: Value, right: Value) -> Value:
+        return lambda end: operation(left(end), right(end))
+
+    def factor(self) -> Value:
+        if self.take("-"):
+            value = self.factor()
+            return lambda end: -value(end)
+        if self.take("("):
+            value = self.either()
+            if not self.take(")"):
+                raise WrongRule("a ')' is missing")
+            return value
+        token = self.take()
+        if token is None:
+            raise WrongRule("it stops in the middle")
+        if token[0].isdigit():
+            number = self.number(token)
+            return lambda end: number
+        if token == "lock":
+            return self.of_lock(self.below("lock", len(self.sizes)))
+        if token == "thread":
+            return self.of_thread(self.below("thread", self.threads))
+        if token in COUNTS:
+            return COUNTS[token]
+        raise WrongRule(f"{token!r} is no value: it wants a number, lock L .., thread T .., faults, spent or broken")
+
+    @staticmethod
+    def number(token: str) -> int:
+        try:
+            return int(token, 16 if token.startswith("0x") else 10)
+        except ValueError:
+            raise WrongRule(f"{token[:20]!r} is no number") from None
+
+    def below(self, what: str, count: int, named: str = "") -> int:
+        """A number of a thing of which there are so many."""
+        token = self.take()
+        if token is None or not token[0].isdigit():
+            raise WrongRule(f"behind '{what}' stands {token!r} and no number")
+        number = self.number(token)
+        if number >= count:
+            there = f"the {what}s{named} are 0 to {count - 1}" if count else f"there is no {what}{named}"
+            raise WrongRule(f"{what} {number}: {there}")
+        return number
+
+    def of_lock(self, lock: int) -> Value:
+        name = self.take()
+        if name in ("word", "signed"):
+            word = self.below("word", self.sizes[lock] // 4, f" of lock {lock}")
+            if name == "word":
+                return lambda end: end.word(lock, word)
+            return lambda end: signed(end.word(lock, word))
+        if name == "sections":
+            return lambda end: end.locks[lock][1]
+        if name == "broken":
+            return lambda end: end.locks[lock][0]
+        raise WrongRule(f"behind 'lock {lock}' stands {name!r}: it wants word W, signed W, sections or broken")
+
+    def of_thread(self, thread: int) -> Value:
+        name = self.take()
+        if name == "signed" and self.take("x10"):
+            return lambda end: signed(end.threads[thread][1])
+        if name == "x10":
+            return lambda end: end.threads[thread][1]
+        if name in ("exit", "spent"):
+            return lambda end: int(end.threads[thread][0] == name)
+        if name == "fault":
+            return lambda end: int(end.threads[thread][0][6:]) if end.threads[thread][0].startswith("fault") else 0
+        raise WrongRule(f"behind 'thread {thread}' stands {name!r}: it wants x10, signed x10, exit, spent or fault")

@@ -1,0 +1,204 @@
+"""A guest's instructions, decoded once: functions of the registers and of the running thread that
+answer the next program counter, or raise Fault and change nothing.
+
+They do what model.py does, only faster; tools/tests compares the two block by block.
+"""
+from __future__ import annotations
+
+from typing import TYPE_CHECKING, Callable, List, Union
+
+from ..guest import model, rv32im
+from ..guest.model import Fault
+from . import live
+
+if TYPE_CHECKING:
+    from . import blocks
+
+MASK = 0xFFFFFFFF
+
+
+class Sum:
+    """A word of a lock as a section found it, with a number that was added to it; what the word is was not
+    looked at so far."""
+
+    __slots__ = ("lock", "word", "found", "added")
+
+    def __init__(self, lock: blocks.Held, word: int, found: int, added: int) -> None:
+        self.lock, self.word, self.found, self.added = lock, word, found, added
+
+    def plus(self, number: int) -> Sum:
+        return Sum(self.lock, self.word, self.found, self.added + number & MASK)
+
+    def look(self) -> int:
+        """The number itself: what comes of the section depends on the word from here on."""
+        self.lock.read[self.word] = None
+        return self.value()
+
+    def value(self) -> int:
+        return self.found + self.added & MASK
+
+
+Registers = List[Union[int, Sum]]
+Step = Callable[[Registers, "blocks.Running"], int]
+Operation = Callable[[int, int], int]
+
+
+def number(x: Registers, register: int) -> int:
+    """A register as a number."""
+    value = x[register]
+    if isinstance(value, Sum):
+        value = x[register] = value.look()
+    return value
+
+
+def CALL(x: Registers, run: blocks.Running) -> int:
+    """Stands in the place of the step of an ECALL, and is never called."""
+    raise NotImplementedError
+
+
+class Code:
+    """The steps of a guest's instructions by their addresses. With a Live, a return must go where that
+    one takes for granted that it goes."""
+
+    def __init__(self, guest: model.Guest, known: live.Live | None = None) -> None:
+        self.guest, self.known = guest, known
+        self.steps: dict[int, Step] = {}
+
+    def at(self, pc: int) -> Step:
+        step = self.steps.get(pc)
+        if step is None:
+            word = self.guest.word(pc)
+            step = self.steps[pc] = raising(2) if word is None else self.decoded(rv32im.decode(word), pc)
+        return step
+
+    def decoded(self, what: rv32im.Instruction | None, pc: int) -> Step:
+        """The step of an instruction at an address."""
+        if what is None:
+            return raising(1)
+        name, to, a, b, value = what
+        after = pc + 4 & MASK
+        if name in ("lui", "auipc"):
+            return constant(to, value + (pc if name == "auipc" else 0) & MASK, after)
+        if name == "jal":
+            return raising(3) if value % 4 else constant(to, after, pc + value & MASK)
+        if name == "jalr":
+            jump = indirect(to, a, value, after)
+            return self.returning(self.known, jump) if self.known and live.is_return(what) else jump
+        if name in model.COMPARISONS:
+            return branch(model.COMPARISONS[name], a, b, pc + value & MASK, after)
+        if name in rv32im.WIDTHS:
+            width = rv32im.WIDTHS[name]
+            if name[0] == "s":
+                return store(a, b, value, width, after)
+            return load(to, a, value, width, name in model.SIGNED, after)
+        if name in ("add", "sub"):
+            a, b = (b, a) if name == "add" and to == b else (a, b)
+            return sum_of(to, a, b, 1 if name == "add" else -1, after)
+        if name == "addi":
+            return added(to, a, value, after)
+        if name in model.IMMEDIATES:
+            return with_immediate(to, a, value, model.OPERATIONS[model.IMMEDIATES[name]], after)
+        if name in model.OPERATIONS:
+            return with_registers(to, a, b, model.OPERATIONS[name], after)
+        return {"ecall": CALL, "ebreak": raising(8), "fence": constant(0, 0, after)}[name]
+
+    @staticmethod
+    def returning(known: live.Live, jump: Step) -> Step:
+        def step(x: Registers, run: blocks.Running) -> int:
+            to = jump(x, run)
+            known.expect(to)
+            return to
+        return step
+
+
+def raising(number: int) -> Step:
+    def step(x: Registers, run: blocks.Running) -> int:
+        raise Fault(number)
+    return step
+
+
+def constant(to: int, value: int, after: int) -> Step:
+    def step(x: Registers, run: blocks.Running) -> int:
+        if to:
+            x[to] = value
+        return after
+    return step
+
+
+def indirect(to: int, a: int, value: int, after: int) -> Step:
+    def step(x: Registers, run: blocks.Running) -> int:
+        target = number(x, a) + value & MASK - 1
+        if target & 2:
+            raise Fault(3)
+        if to:
+            x[to] = after
+        return target
+    return step
+
+
+def branch(compared: Callable[[int, int], bool], a: int, b: int, target: int, after: int) -> Step:
+    def step(x: Registers, run: blocks.Running) -> int:
+        if compared(number(x, a), number(x, b)):
+            if target % 4:
+                raise Fault(3)
+            return target
+        return after
+    return step
+
+
+def load(to: int, a: int, offset: int, width: int, extend: bool, after: int) -> Step:
+    def step(x: Registers, run: blocks.Running) -> int:
+        value = run.load(number(x, a) + offset & MASK, width, extend)
+        if to:
+            x[to] = value
+        return after
+    return step
+
+
+def store(a: int, b: int, offset: int, width: int, after: int) -> Step:
+    def step(x: Registers, run: blocks.Running) -> int:
+        run.store(number(x, a) + offset & MASK, width, x[b])
+        return after
+    return step
+
+
+def added(to: int, a: int, value: int, after: int) -> Step:
+    def step(x: Registers, run: blocks.Running) -> int:
+        if to:
+            before = x[a]
+            x[to] = before.plus(value) if isinstance(before, Sum) else before + value & MASK
+        return after
+    return step
+
+
+def sum_of(to: int, a: int, b: int, sign: int, after: int) -> Step:
+    """x[to] = x[a] + sign * x[b]. Of two Sums the second is looked at."""
+    def step(x: Registers, run: blocks.Running) -> int:
+        first, second = x[a], x[b]
+        if isinstance(second, Sum):
+            if not isinstance(first, Sum) and sign == 1:
+                first, second = second, first
+            else:
+                second = number(x, b)
+                first = x[a]  # which may be the same register
+        if to:
+            assert not isinstance(second, Sum)
+            x[to] = first.plus(sign * second) if isinstance(first, Sum) else first + sign * second & MASK
+        return after
+    return step
+
+
+def with_immediate(to: int, a: int, value: int, operation: Operation, after: int) -> Step:
+    def step(x: Registers, run: blocks.Running) -> int:
+        if to:
+            x[to] = operation(number(x, a), value) & MASK
+        return after
+    return step
+
+
+def with_registers(to: int, a: int, b: int, operation: Operation, after: int) -> Step:
+    def step(x: Registers, run: blocks.Running) -> int:
+        if to:
+            x[to] = operation(number(x, a), number(x, b)) & MASK
+        return after
+    return step

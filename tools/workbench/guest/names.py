@@ -1,0 +1,66 @@
+"""What threads and locks are called: by the guest's symbols where its file is given, else by number.
+
+A thread has the name of its entry's symbol, without the `_entry` of the kit, and its argument. A
+lock has the name of its guard's symbol; guards that lie side by side in one symbol are its elements.
+"""
+from __future__ import annotations
+
+from typing import TYPE_CHECKING
+
+from .. import tool
+from . import sources
+
+if TYPE_CHECKING:
+    from . import guestfile
+    from ..reports import report
+
+
+class Names:
+    def __init__(self, text: report.Report, file: guestfile.GuestFile | None = None) -> None:
+        """The names of a report's threads and locks; `file` is the guest's, or None."""
+        self.threads, self.workers, self.locks = [""] * text.threads, text.workers, [""] * text.guards
+        if file is None:
+            return
+        if (len(file.guest.entries), len(file.guest.guards)) != (text.threads, text.guards):
+            raise tool.Trouble(tool.WRONG, f"the report is of another guest: it has {text.threads} threads and "
+                               f"{text.guards} locks, and the guest {len(file.guest.entries)} and "
+                               f"{len(file.guest.guards)}")
+        self.threads = [thread_name(file, *entry) for entry in file.guest.entries]
+        self.locks = lock_names(file)
+
+    def thread(self, number: int) -> str:
+        return f"thread {number} {self.threads[number]}".rstrip()
+
+    def lock(self, number: int) -> str:
+        return f"lock {number} {self.locks[number]}".rstrip()
+
+    def lanes(self) -> tuple[list[str], list[str], list[str]]:
+        """The names of the lanes of threads, of workers and of locks."""
+        return ([*map(self.thread, range(len(self.threads)))], [f"worker {number}" for number in range(self.workers)],
+                [*map(self.lock, range(len(self.locks)))])
+
+
+def thread_name(file: guestfile.GuestFile, entry: int, argument: int) -> str:
+    name = sources.printable(file.name(entry))
+    if name.endswith("_entry"):
+        name = name[:-6]
+    shown = str(argument) if argument < 10**7 else hex(argument)
+    return f"{name}({shown})" if name else ""
+
+
+def lock_names(file: guestfile.GuestFile) -> list[str]:
+    """Names of the guards, as `counter`, `forks[2]` or `state+0x8`."""
+    places = []
+    for start, length in file.guest.guards:
+        name, _, offset = sources.printable(file.name(start)).partition("+0x")
+        places.append((name, int(offset or "0", 16), length))
+    return [lock_name(place, places) for place in places]
+
+
+def lock_name(place: tuple[str, int, int], places: list[tuple[str, int, int]]) -> str:
+    name, offset, length = place
+    sizes = [size for other, _, size in places if other == name]
+    offsets = [at for other, at, _ in places if other == name]
+    if name and len(sizes) > 1 and set(sizes) == {length} and all(at % length == 0 for at in offsets):
+        return f"{name}[{offset // length}]"
+    return name + (f"+{offset:#x}" if offset else "")

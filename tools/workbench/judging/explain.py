@@ -1,0 +1,194 @@
+"""Explains a guest's file, or the program's answer to it.
+
+Without a report it says what the file has, or why it is refused. With one it says where each
+block began (symbol and instruction, and the line of the source where the guest has debug data), how
+each adopted or granted section came about, and why each thread ended; a refusal is told with the
+numbers that disagree, and the line of a rejected history in a sentence. --thread, --lock and --block choose blocks: where several are given, those that
+all of them choose. After a usage line, --words says what is wrong with the words.
+"""
+from __future__ import annotations
+
+import argparse
+import copy
+import re
+from typing import Any, Iterator
+
+from .. import tool
+from ..guest import guestfile, sources
+from ..reports import counts, report
+from . import contexts, legal, reasons, tracing
+
+
+def explain_file(path: Any) -> None:
+    """What a file has, or why it is refused."""
+    try:
+        file = guestfile.GuestFile(guestfile.read(path))
+    except guestfile.Refused as refused:
+        print(refused)
+        return
+    guest = file.guest
+    for where, flags, _ in guest.ranges:
+        print(f"range {guestfile.span(where)}: " + ("code" if flags & 1 else "writable" if flags & 2 else "read-only"))
+    for number, (entry, argument) in enumerate(guest.entries):
+        print(f"thread {number}: argument {argument} ({argument:#x}), begins at {reasons.instruction(file, entry)}")
+    for number, guarded in enumerate(guest.spans):
+        name = file.name(guarded.start)
+        print(f"lock {number}: guards {len(guarded)} bytes, {guestfile.span(guarded)}"
+              + (f" <{name}>" if name else ""))
+
+
+def source_lines(path: str, file: guestfile.GuestFile) -> Any:
+    """The lines of the source that the file's debug data tells of."""
+    lines = sources.load(path, file)
+    if lines.trouble:
+        tool.note("explain", lines.trouble)
+    return lines
+
+
+class Chosen:
+    """Which blocks are shown."""
+
+    def __init__(self, asked: argparse.Namespace) -> None:
+        self.thread, self.lock, self.trace = asked.thread, asked.lock, asked.trace
+        self.first: int
+        self.last: int | None
+        self.first, self.last = asked.block or (0, None)
+        if asked.trace is not None and asked.block is None and self.thread is None and self.lock is None:
+            self.first = self.last = asked.trace
+
+    def check(self, text: report.Report) -> None:
+        for name, number, count in (("thread", self.thread, text.threads), ("lock", self.lock, text.guards)):
+            if number is not None and number >= count:
+                raise tool.Trouble(tool.WRONG, f"the report has {report.several(count, name)}, and no {name} {number}")
+
+    def block(self, block: report.Block) -> bool:
+        return ((self.thread is None or block.thread == self.thread)
+                and (self.lock is None or self.lock in block.held or block.wanted == self.lock)
+                and self.first <= block.stamp and (self.last is None or block.stamp <= self.last))
+
+    def thread_at_end(self, number: int) -> bool:
+        return self.thread in (None, number) and self.lock is None and self.last is None
+
+
+class Explainer:
+    """Follows the blocks by the model, which knows where each begins, and says it of the chosen ones."""
+
+    def __init__(self, file: guestfile.GuestFile, text: report.Report, lines: Any, chosen: Chosen,
+                 with_contexts: bool) -> None:
+        self.file, self.text, self.lines, self.chosen = file, text, lines, chosen
+        self.run, self.away = legal.begin(file.guest, text), counts.Away(text.threads)
+        self.last: dict[Any, Any] = {}
+        self.contexts = contexts.Contexts(self.run.machine) if with_contexts else None
+
+    def all(self) -> None:
+        for block in self.text.blocks():
+            said = list(self.block(block))
+            if self.chosen.block(block):
+                print("\n".join(said))
+        for number, thread in enumerate(self.run.machine.threads):
+            if thread.end is None and self.chosen.thread_at_end(number):
+                print(f"  thread {number} has not ended: it goes on at {reasons.start_text(self.file, thread, self.lines)}")
+        if self.contexts:
+            print(f"In all blocks: {self.contexts.total()}.")
+
+    def block(self, block: report.Block) -> Iterator[str]:
+        """Runs a block, and says what there is to say of it."""
+        thread, is_away = self.run.machine.threads[block.thread], self.away.is_away(block)
+        start, traced = reasons.start_text(self.file, thread, self.lines), []
+        if block.stamp == self.chosen.trace and thread.end is None:
+            traced = list(tracing.trace(self.run, self.file, self.lines, block.thread))
+        moved = list(self.contexts.before(block)) if self.contexts else []
+        batch = copy.copy(self.run.batches[block.begun]) if block.begun is not None and block.passed_on else None
+        self.run.follow(block, f", line {self.text.lines.at()}")
+        yield f"{block.line(self.text.version)}  # {start}"
+        if batch:
+            yield f"  {reasons.delegation(block, batch, self.last[block.thread], is_away)}"
+        yield from (f"  {line}" for line in moved)
+        yield from traced
+        if block.ends_thread:
+            held = f"; {report.locks_text(block.held)} broken" if block.held else ""
+            yield f"  thread {block.thread}: {reasons.ending(self.file, thread, block.held)}{held}"
+        self.last[block.thread] = block
+        if self.contexts:
+            self.contexts.after(block)
+
+
+def explain_report(path: str, file: guestfile.GuestFile, text: report.Report, asked: argparse.Namespace) -> None:
+    chosen = Chosen(asked)
+    chosen.check(text)
+    explainer = Explainer(file, text, source_lines(path, file), chosen, asked.contexts)
+    explainer.all()
+    count = explainer.run.count
+    for number in (asked.trace, asked.block and asked.block[0]):
+        if number is not None and number >= count:
+            raise tool.Trouble(tool.WRONG, f"the report has {report.several(count, 'block')}, and no block {number}")
+
+
+def refusal(path: Any, line: Any) -> Any:
+    """What is said of a refusal's line, by the guest's file."""
+    try:
+        guestfile.check(guestfile.read(path))
+    except guestfile.Refused as refused:
+        if refused.line == line:
+            return str(refused)
+        return f"the program said {line!r}, and this file is {refused}: is it the same file?"
+    return f"the program said {line!r}, and {path} isn't refused: is it the same file, and whole?"
+
+
+def words_text(words: Any) -> Any:
+    return reasons.usage(words) or "the words are right: the program doesn't answer them by the usage line"
+
+
+def answer(path: Any, line: Any, words: Any) -> Any:
+    """What is said of a line in the place of a report."""
+    if line.startswith("refused"):
+        return refusal(path, line)
+    if line.startswith("rejected"):
+        return reasons.rejection(line)
+    if words is None:
+        return "the words of the command were wrong; --words WORD.. behind the report says what is wrong with them"
+    return words_text(words)
+
+
+def stamps(word: str) -> tuple[int, int]:
+    """The type of a word: one block, or blocks as 3-9."""
+    found = re.fullmatch(r"(\d{1,9})(?:-(\d{1,9}))?", word, re.ASCII)
+    if not found or found[2] and int(found[2]) < int(found[1]):
+        raise argparse.ArgumentTypeError(f"{word!r} is no block, as 12, and no blocks, as 12-20")
+    return int(found[1]), int(found[2] or found[1])
+
+
+def words_of(parser: tool.Words) -> tool.Words:
+    parser.add_argument("report", metavar="REPORT", nargs="?", help="a report; - is standard input")
+    parser.add_argument("--thread", metavar="N", type=tool.number(0, 31), help="the blocks of this thread")
+    parser.add_argument("--lock", metavar="N", type=tool.number(0, 31),
+                        help="the blocks that hold this lock or end before its LOCK")
+    parser.add_argument("--block", metavar="A[-B]", type=stamps, help="this block, or these")
+    parser.add_argument("--trace", metavar="BLOCK", type=tool.number(0, 10**9),
+                        help="this block's instructions with their registers; alone, of this block only")
+    parser.add_argument("--contexts", action="store_true",
+                        help="what a context carries where another worker goes on with it, and where the locks' bytes go")
+    parser.add_argument("--words", nargs=argparse.REMAINDER, metavar="WORD",
+                        help="the words that ./tclocks was given, last of all")
+    return parser
+
+
+def main(words: list[str]) -> None:
+    asked = words_of(tool.words("explain", __doc__, "guest")).parse_args(words)
+    if asked.report is None:
+        of_report = ["contexts"] * asked.contexts + [name for name in ("thread", "lock", "block", "trace")
+                                                     if getattr(asked, name) is not None]
+        if of_report:
+            raise tool.Trouble(tool.WORDS, f"--{of_report[0]} is of a report, and there is none; ./workbench explain GUEST REPORT")
+        explain_file(asked.guest) if asked.words is None else print(words_text(asked.words))
+        return
+    try:
+        text = report.Report(tool.read_lines(asked.report))
+        explain_report(asked.guest, guestfile.load(asked.guest), text, asked)
+    except report.NoReport as given:
+        print(answer(asked.guest, given.line, asked.words))
+        return
+    except report.Wrong as wrong:
+        raise tool.Trouble(tool.WRONG, f"not legal: {wrong} (./workbench judge)") from None
+    if text.lines.next is None:
+        tool.note("explain", f"the report stops behind line {text.lines.at() - 1}")

@@ -1,0 +1,195 @@
+"""What the program answers to `replay` and to `profile`, by model.py: a guest's file and a history are
+read as docs/REPORT.md says, and the history is run again under ordinary mutexes, block by block.
+
+legal.py asks for more than the seven reasons do: that who was adopted or granted a lock can have waited,
+and that a cut parts no thread from its worker.
+"""
+from __future__ import annotations
+
+import itertools
+import re
+from typing import Any, Iterable
+
+from .. import limits, tool
+from ..guest import guestfile, model
+from ..limits import REASONS
+from ..reports import counts, report
+from ..running import program
+from . import legal
+
+TEXT, THREAD, OWNER, BLOCK, KIND, WORKER, INCOMPLETE = REASONS
+NUMBER = r"(0|[1-9]\d*)"
+LOCK = r"(?:[12]?\d|3[01])"
+FAULT = r"(?:[1-9]|1[0-2])"
+LINE = re.compile(
+    f"block {NUMBER} thread {NUMBER} turns {NUMBER} held (-|{LOCK}(?:,{LOCK})*) kind ({'|'.join(limits.KINDS)}) "
+    f"worker {NUMBER} pc ([0-9a-f]{{8}}) end ((?:wants|unlocked) {LOCK}|slept|cut|exit|fault {FAULT}|spent)", re.ASCII)
+DIGITS = 10  # no number of a line has more
+
+
+def block_of(line: str, stamp: int) -> report.Block | None:
+    """The block with this stamp that a line is, or None."""
+    found = LINE.fullmatch(line)
+    if not found or max(map(len, found.group(1, 2, 3, 6))) > DIGITS:
+        return None
+    read, thread, turns, held, kind, worker, pc, end = found.groups()
+    block = report.Block(int(read), int(thread), int(turns), tuple(map(int, re.findall(r"\d+", held))), kind,
+                         int(worker), int(pc, 16), end)
+    fits = (block.stamp == stamp and max(block.thread, block.worker) < 2**32 and 1 <= block.turns <= limits.TURNS
+            and all(low < high for low, high in zip(block.held, block.held[1:])))
+    return block if fits else None
+
+
+def read(text: bytes) -> tuple[list[report.Block], int | None]:
+    """The blocks of a history's text, up to the first line that is wrong; and the number of that line, or None."""
+    blocks: list[report.Block] = []
+    lines = text.decode("ascii", "replace").split("\n")
+    for number, line in enumerate(lines, 1):
+        if number == len(lines) and not line:
+            break
+        block = block_of(line, number - 1) if number < len(lines) else None
+        if block is None:
+            return blocks, number
+        blocks.append(block)
+    return blocks, None
+
+
+class Batch:
+    """The batch rule of one lock, behind some blocks that hold it."""
+
+    def __init__(self, limit: int) -> None:
+        self.limit, self.adopted = limit, 0
+        self.last: report.Block | None = None
+
+    def allows(self, lock: int, block: report.Block) -> bool:
+        """Whether a block may begin a section of the lock."""
+        if self.last is None:
+            return block.kind == "taken"
+        adopts = (self.last.end == f"unlocked {lock}" and self.last.held == (lock,) and self.adopted < self.limit)
+        return {"taken": True, "adopted": adopts and block.worker == self.last.worker, "granted": not adopts}[block.kind]
+
+    def add(self, begins: bool, block: report.Block) -> None:
+        if begins:
+            self.adopted = self.adopted + 1 if block.kind == "adopted" else 0
+        self.last = block
+
+
+class Checker:
+    """A guest's machine behind some blocks."""
+
+    def __init__(self, guest: model.Guest, workers: int, fuel: int, limit: int) -> None:
+        self.workers, self.machine = workers, model.Machine(guest, fuel)
+        self.batches = [Batch(limit) for _ in guest.guards]
+
+    def wrong(self, block: report.Block) -> str | None:
+        """Runs a block. Answers the first reason for which it is wrong, or None."""
+        threads = self.machine.threads
+        if block.thread >= len(threads) or threads[block.thread].end is not None:
+            return THREAD
+        thread = threads[block.thread]
+        lock, pc, is_first = self.machine.next_lock(thread), thread.pc, thread.blocks == 0
+        if lock is not None and self.machine.locks[lock].owner is not None:
+            return OWNER
+        turns, held, _, end = self.machine.run_block(block.thread)
+        if (block.turns, block.held, block.pc, block.end) != (turns, tuple(sorted(held)), pc, end):
+            return BLOCK
+        kinds = ("start" if is_first else "on",) if lock is None else limits.SECTIONS
+        if block.kind not in kinds or (lock is not None and not self.batches[lock].allows(lock, block)):
+            return KIND
+        for other in block.held:
+            self.batches[other].add(other == lock, block)
+        return WORKER if block.worker >= self.workers else None
+
+    def rejected(self, blocks: list[report.Block]) -> tuple[int, str] | None:
+        """The line and the reason of the first wrong place, or None."""
+        for number, block in enumerate(blocks, 1):
+            why = self.wrong(block)
+            if why:
+                return number, why
+        return (len(blocks) + 1, INCOMPLETE) if any(thread.end is None for thread in self.machine.threads) else None
+
+
+class Header:
+    """What the counts of a history want to know of its run."""
+
+    def __init__(self, guest: model.Guest, workers: int) -> None:
+        self.threads, self.guards, self.workers = len(guest.entries), len(guest.guards), workers
+        self.thread_ends = self.lock_ends = ()
+
+
+def profile_text(guest: model.Guest, blocks: list[report.Block], workers: int) -> str:
+    """What `profile` prints of blocks that are not rejected."""
+    counted = counts.Counts(Header(guest, workers))
+    for block in blocks:
+        counted.add(block)
+    return text_of(counted.profile_lines())
+
+
+def text_of(lines: Iterable[str]) -> str:
+    return "".join(f"{line}\n" for line in lines)
+
+
+def refused_line(size: int, given: bytes) -> str | None:
+    """The line of the refusal of what is given, of which the first bytes, so many, are the file. Or None."""
+    if len(given) > size + limits.HISTORY_BYTES:
+        return "refused 0 TooLarge"
+    if len(given) < size:
+        return "refused 17 ShortInput"
+    try:
+        guestfile.check(given[:size])
+    except guestfile.Refused as refused:
+        return refused.line
+    return None
+
+
+class Given:
+    """What is given behind the words `replay` or `profile`: a file of so many bytes and a history; with the
+    numbers of workers and fuel and the batch limit."""
+
+    def __init__(self, size: int, numbers: Any, given: bytes) -> None:
+        self.numbers = numbers
+        self.reason: str | None = None
+        self.early = self.begin(size, given)
+
+    def begin(self, size: int, given: bytes) -> tuple[int, str] | None:
+        """The answer to what is refused or rejected, or None."""
+        refused = refused_line(size, given)
+        if refused:
+            return tool.WRONG, text_of([refused])
+        self.guest = model.Guest(given[:size])
+        self.blocks, wrong = read(given[size:])
+        self.checker = Checker(self.guest, *self.numbers)
+        rejected = (wrong, TEXT) if wrong else self.checker.rejected(self.blocks)
+        if rejected is None:
+            return None
+        line, self.reason = rejected
+        return limits.REJECTED, text_of([f"rejected {line} {REASONS.index(self.reason) + 1} {self.reason}"])
+
+    def answer(self, form: str) -> tuple[int, str]:
+        """The status and the text of the program's answer."""
+        if self.early:
+            return self.early
+        if form == "profile":
+            return tool.DONE, profile_text(self.guest, self.blocks, self.numbers[0])
+        header = report.header_lines(2, len(self.guest.entries), len(self.guest.guards), *self.numbers)
+        blocks = (block.line(2) for block in self.blocks)
+        return tool.DONE, text_of(itertools.chain(header, blocks, legal.ending_lines(self.checker.machine)))
+
+
+def history_of(text: str) -> bytes:
+    """The lines of the blocks of a report, as they are given behind a file."""
+    return "".join(re.findall(r"(?m)^block .*\n", text)).encode("ascii")
+
+
+def ask(form: str, file: bytes, numbers: tuple[int, ...], history: bytes, wanted: tuple[int, str],
+        kept: str) -> None:
+    """Gives a file and a history to the program. Wrong where the answer is another one than is wanted; the
+    history is kept then, under a name."""
+    status, text = program.run((form, len(file), *numbers), file + history)
+    if (status, text) == wanted:
+        return
+    said, must = f"status {status}, {text[:80]!r}", f"status {wanted[0]}, {wanted[1][:80]!r}"
+    if not status and not wanted[0]:
+        pairs = itertools.zip_longest(text.splitlines(), wanted[1].splitlines())
+        said, must = next((line, other) for line, other in pairs if line != other)
+    raise report.Wrong(f"{form} answers {said!r}, and not {must!r}, to the history in {program.keep(kept, history)}")

@@ -1,0 +1,65 @@
+"""Has the history of a report run again: by the program where it is built, as ./tclocks replay N W F B does
+with the guest's file of N bytes and the block lines behind it, else by model.py, and prints the answer.
+
+W, F and B are those of the report's third line, where it has one. What stands behind the blocks is not read.
+The status is that of the program: 0 where the answer is the report, 3 where the guest is refused, 6 where the
+history is rejected.
+"""
+from __future__ import annotations
+
+import re
+import sys
+
+from .. import limits, tool
+from ..guest import guestfile
+from ..reports import byhand, report
+from ..running import program
+from . import reasons, rejecting
+
+REFUSED = "what was given is refused; ./workbench explain GUEST says why"
+
+
+def history_of(content: bytes) -> tuple[dict[str, int], bytes]:
+    """The numbers of a text's header, where it has one, and the lines of its blocks as bytes."""
+    lines = re.findall(rb"[^\n]*\n|[^\n]+\Z", content)
+    numbers: dict[str, int] | None = {}
+    if lines and lines[0].startswith(b"tclocks "):
+        numbers = report.options_of(lines[2].decode("ascii", "replace").rstrip("\n"), 3) if len(lines) > 2 else None
+        if not numbers:
+            raise report.Wrong("the third line must be 'run workers W fuel F batch B'")
+        lines = lines[3:]
+    behind = (place for place, line in enumerate(lines) if byhand.REST.match(line.decode("ascii", "replace")))
+    return numbers or {}, b"".join(lines[:next(behind, len(lines))])
+
+
+def answer(form: str, file: bytes, numbers: tuple[int, ...], history: bytes, by_model: bool) -> tuple[int, str]:
+    """The status and the text, and who answered."""
+    why = None if by_model else program.missing()
+    if by_model or why:
+        tool.note("replay", "by the model" + (f": {why}" if why else ""))
+        return rejecting.Given(len(file), numbers, file + history).answer(form)
+    tool.note("replay", "by the program")
+    return program.run((form, len(file), *numbers), file + history)
+
+
+def main(words: list[str]) -> None:
+    parser = tool.words("replay", __doc__, "guest")
+    parser.add_argument("report", metavar="REPORT", nargs="?", default="-",
+                        help="a report, or block lines alone; standard input where it is left out")
+    parser.add_argument("--profile", action="store_const", dest="form", const="profile", default="replay",
+                        help="as ./tclocks profile N W F B")
+    parser.add_argument("--model", action="store_true", help="by the model, where the program is built too")
+    for name, (least, most) in limits.RUN.items():
+        parser.add_argument(f"--{name}", type=tool.number(least, most), metavar="N", help="in the place of the report's")
+    asked = parser.parse_intermixed_args(words)
+    file = guestfile.read(asked.guest)
+    given, history = history_of(tool.read_bytes(asked.report, limits.HISTORY_BYTES + 1))
+    numbers = {**given, **{name: getattr(asked, name) for name in limits.RUN if getattr(asked, name) is not None}}
+    missing = [name for name in limits.RUN if name not in numbers]
+    if missing:
+        parser.error(f"the text has no header, and --{missing[0]} is missing")
+    status, text = answer(asked.form, file, tuple(numbers[name] for name in limits.RUN), history, asked.model)
+    sys.stdout.write(text)
+    if status:
+        why = reasons.rejection(text.strip()) if status == limits.REJECTED else REFUSED if status == tool.WRONG else f"the program ended with status {status}"
+        raise tool.Trouble(status, why)

@@ -1,0 +1,211 @@
+"""Counts of a report: by lock, by thread and by worker. Blocks are counted one by one, so that a
+report of any size needs little memory."""
+from __future__ import annotations
+
+from collections import Counter
+from typing import Any, Iterator, TYPE_CHECKING
+
+from ..limits import SECTIONS
+
+if TYPE_CHECKING:
+    from . import report
+
+MEANINGS = """
+  sections   of a lock, and how many of them were taken, adopted, granted
+  rows       of adopted sections, and longest, the most that stand in one
+  changes    of worker: how many sections, from the second on, have another worker than the lock's block before
+  home       how many sections, from the second on, have another home worker than the section before; the
+             home worker is that of the thread's block before, or the section's own where there is none. So often
+             the worker would have changed, had each section run where its thread came from
+  away       blocks of a section (of a lock: its sections' first blocks) that ran with another worker
+             than the thread's last block without a lock: its context was handed over
+  waiting    how many blocks stand between a thread's LOCK and its section, in sum, and the longest wait
+  fairness   of the waiting for a lock: 1 where each thread waited as long as the others, 1/N where one of
+             N threads waited alone (Jain's index of the threads' mean waits)
+  turns      of a lock: turns in which it was held
+  moves      of a thread: how many blocks have another worker than its block before
+
+sections, taken, adopted, granted, longest, changes and home of a lock, and blocks, turns and moves of a thread,
+are the numbers that ./tclocks profile prints.
+"""
+
+
+# The names of the numbers that the program prints with `profile`.
+LOCK_PROFILE = "sections", *SECTIONS, "longest", "changes", "home"
+THREAD_PROFILE = "blocks", "turns", "moves"
+
+
+class Away:
+    """Follows which worker each thread calls its own: the one that ran its last block without a
+    lock. A section's block that another worker runs is away."""
+
+    def __init__(self, threads: int) -> None:
+        self.own: list[int | None] = [None] * threads
+
+    def is_away(self, block: report.Block) -> bool:
+        own = self.own[block.thread]
+        if not block.held:
+            self.own[block.thread] = block.worker
+        return bool(block.held) and own is not None and own != block.worker
+
+
+class Waits:
+    """The waits of some sections: their sum and the longest."""
+
+    def __init__(self) -> None:
+        self.sections = self.sum = self.longest = 0
+
+    def add(self, wait: int) -> None:
+        self.sections += 1
+        self.sum += wait
+        self.longest = max(self.longest, wait)
+
+
+class LockCounts:
+    def __init__(self) -> None:
+        self.kinds: Counter[str] = Counter()
+        self.turns = self.away = 0
+        self.row = self.rows = self.longest = self.home = 0
+        self.changed: Counter[Any] = Counter()
+        self.came: Counter[Any] = Counter()  # by two workers: that before, and that of the section
+        self.worker: int | None = None
+        self.home_worker: int | None = None  # of the lock's block before, of its section before
+        self.waits: dict[int, Waits] = {}  # by thread
+
+    def add(self, block: report.Block) -> None:
+        """Counts a block that holds the lock."""
+        self.turns += block.turns
+        self.worker = block.worker
+
+    def begin(self, block: report.Block, before: report.Block | None, away: bool) -> None:
+        """A section of the lock begins with this block, and its thread's block before is given."""
+        home = block.worker if before is None else before.worker
+        if self.sections:
+            self.changed[self.worker, block.worker] += 1
+            self.home += home != self.home_worker
+        self.came[home, block.worker] += 1
+        self.home_worker = home
+        self.kinds[block.kind] += 1
+        self.away += away
+        self.row = self.row + 1 if block.kind == "adopted" else 0
+        self.rows += self.row == 1
+        self.longest = max(self.longest, self.row)
+        self.waits.setdefault(block.thread, Waits()).add(wait(block, before))
+
+    @property
+    def sections(self) -> int:
+        return sum(self.kinds.values())
+
+    @property
+    def changes(self) -> int:
+        return apart(self.changed)
+
+    @property
+    def waiting(self) -> int:
+        return sum(waits.sum for waits in self.waits.values())
+
+    @property
+    def longest_wait(self) -> int:
+        return max((waits.longest for waits in self.waits.values()), default=0)
+
+    @property
+    def fairness(self) -> float | None:
+        """None where no thread took the lock."""
+        means = [waits.sum / waits.sections for waits in self.waits.values()]
+        if not any(means):
+            return 1.0 if means else None
+        return round(sum(means) ** 2 / (len(means) * sum(mean * mean for mean in means)), 3)
+
+
+class ThreadCounts:
+    def __init__(self) -> None:
+        self.blocks = self.turns = self.held = self.moves = self.away = self.sleeps = 0
+        self.waits = Waits()
+        self.before: report.Block | None = None
+        self.end: str | None = None
+
+    def add(self, block: report.Block, away: bool) -> None:
+        self.blocks += 1
+        self.turns += block.turns
+        self.held += block.turns if block.held else 0
+        self.away += away
+        self.sleeps += block.end == "slept"
+        self.moves += self.before is not None and self.before.worker != block.worker
+        if block.begun is not None:
+            self.waits.add(wait(block, self.before))
+        self.before = block
+        self.end = block.end if block.ends_thread else None
+
+
+class WorkerCounts:
+    def __init__(self) -> None:
+        self.blocks = self.turns = self.away = 0
+
+    def add(self, block: report.Block, away: bool) -> None:
+        self.blocks += 1
+        self.turns += block.turns
+        self.away += away
+
+
+def apart(pairs: Counter[tuple[int, int]], nodes: int = 8) -> int:
+    """How many pairs of workers are of two workers, or of two nodes where there are fewer nodes than workers."""
+    return sum(count for (one, other), count in pairs.items() if one % nodes != other % nodes)
+
+
+def wait(block: report.Block, before: report.Block | None) -> int:
+    """How many blocks stand between a section and its thread's block before, which came to the LOCK."""
+    return 0 if before is None else block.stamp - before.stamp - 1
+
+
+class Counts:
+    """The counts of a report's blocks, and how its threads and locks end where it says so."""
+
+    def __init__(self, text: Any) -> None:
+        """Of a report, or of what else has numbers of threads, guards and workers."""
+        self.text = text
+        self.locks = [LockCounts() for _ in range(text.guards)]
+        self.threads = [ThreadCounts() for _ in range(text.threads)]
+        self.workers = [WorkerCounts() for _ in range(text.workers)]
+        self.away = Away(text.threads)
+
+    def add(self, block: report.Block) -> bool:
+        """Counts a block. Answers whether it ran away from its thread's own worker."""
+        away = self.away.is_away(block)
+        if block.begun is not None:
+            self.locks[block.begun].begin(block, self.threads[block.thread].before, away)
+        for lock in block.held:
+            self.locks[lock].add(block)
+        self.threads[block.thread].add(block, away)
+        self.workers[block.worker].add(block, away)
+        return away
+
+    def tables(self) -> Iterator[tuple[str, list[dict[str, Any]]]]:
+        """Each table as its name and its rows; a row is a dict of names and values."""
+        yield "lock", [self.lock_row(*item) for item in enumerate(self.locks)]
+        yield "thread", [self.thread_row(*item) for item in enumerate(self.threads)]
+        yield "worker", [{"worker": number, "blocks": worker.blocks, "turns": worker.turns,
+                          "away": worker.away} for number, worker in enumerate(self.workers)]
+
+    def profile_lines(self) -> Iterator[str]:
+        """The lines that the program prints of this history with `profile`."""
+        yield "tclocks profile 1"
+        for name, names in (("lock", LOCK_PROFILE), ("thread", THREAD_PROFILE)):
+            for row in dict(self.tables())[name]:
+                yield " ".join(f"{column} {row[column]}" for column in (name, *names))
+        yield "end"
+
+    def lock_row(self, number: int, lock: LockCounts) -> dict[str, Any]:
+        ends = self.text.lock_ends
+        return {"lock": number, "sections": lock.sections, **{kind: lock.kinds[kind] for kind in SECTIONS},
+                "longest": lock.longest, "changes": lock.changes, "home": lock.home, "away": lock.away,
+                "waiting": lock.waiting, "longest_wait": lock.longest_wait, "fairness": lock.fairness,
+                "turns": lock.turns, "broken": ends[number].broken if number < len(ends) else None}
+
+    def thread_row(self, number: int, thread: ThreadCounts) -> dict[str, Any]:
+        ends = self.text.thread_ends
+        end = ends[number] if number < len(ends) else None
+        return {"thread": number, "blocks": thread.blocks, "turns": thread.turns, "moves": thread.moves,
+                "turns_held": thread.held, "away": thread.away, "sleeps": thread.sleeps,
+                "waiting": thread.waits.sum, "longest_wait": thread.waits.longest, "end": thread.end,
+                "fuel_left": end.fuel if end else None,
+                "x10": end.x[10] if end and len(end.x) == 32 else None}

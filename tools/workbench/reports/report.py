@@ -1,0 +1,327 @@
+"""The text of a report: its header, its blocks, and how threads and locks end, read and written.
+
+Two forms are read: `tclocks 1`, and `tclocks 2`, in which a block line says the program counter
+at the block's start too. A text that stops early is read as far as it goes.
+"""
+from __future__ import annotations
+
+import re
+from typing import Iterable, Iterator, NamedTuple, Optional, Tuple
+
+from .. import limits, tool
+from ..limits import KINDS, PASSED_ON, SECTIONS
+
+NUMBER = r"(0|[1-9]\d{0,9})"
+HEX8 = r"([0-9a-f]{8})"
+GUEST = re.compile(f"guest threads {NUMBER} guards {NUMBER}")
+OPTIONS = re.compile(r"run workers (\S+) fuel (\S+) batch (\S+)")
+BLOCK = re.compile(f"block {NUMBER} thread {NUMBER} turns {NUMBER} held (-|[0-9,]+) "
+                   f"kind ({'|'.join(KINDS)}) worker {NUMBER}(?: pc {HEX8})? "
+                   r"end (wants \d+|unlocked \d+|slept|cut|exit|fault \d+|spent)")
+THREAD = re.compile(f"thread {NUMBER} (exit|fault \\d+|spent) fuel {NUMBER} pc {HEX8}")
+REGISTERS = re.compile(r"x(0|8|16|24)((?: [0-9a-f]{8}){8})")
+LOCK = re.compile(f"lock {NUMBER} sections {NUMBER} broken ([01]) bytes {NUMBER}")
+DATA = re.compile(f"data {HEX8} ((?:[0-9a-f]{{2}})+)")
+ANSWER = re.compile(r"refused \d{1,2} \w+|rejected \d{1,20} \d \w+|usage: .*")
+
+
+class Wrong(tool.Trouble):
+    """What is wrong with a report."""
+
+    def __init__(self, text: str) -> None:
+        super().__init__(tool.WRONG, text)
+
+
+class NoReport(Wrong):
+    """The program's answer in the place of a report: a refusal, the line of a rejected history, or the usage line."""
+
+    def __init__(self, line: str) -> None:
+        super().__init__(f"this is no report but the program's answer: {line}")
+        self.line = line
+
+
+class Block(NamedTuple):
+    stamp: int
+    thread: int
+    turns: int
+    held: Tuple[int, ...]
+    kind: str
+    worker: int
+    pc: Optional[int]
+    end: str
+
+    @property
+    def begun(self) -> int | None:
+        """The lock whose section it begins, or None."""
+        return self.held[-1] if self.kind in SECTIONS else None
+
+    @property
+    def passed_on(self) -> bool:
+        """Whether it begins a section that a waiter was given."""
+        return self.kind in PASSED_ON
+
+    @property
+    def wanted(self) -> int | None:
+        """The lock that it ends before, or None."""
+        return int(self.end[6:]) if self.end.startswith("wants") else None
+
+    @property
+    def ends_thread(self) -> bool:
+        return self.end in ("exit", "spent") or self.end.startswith("fault")
+
+    @property
+    def released(self) -> tuple[int, ...]:
+        if self.end.startswith("unlocked"):
+            return (int(self.end[9:]),)
+        return self.held if self.ends_thread else ()
+
+    @property
+    def kept(self) -> tuple[int, ...]:
+        """The locks that the thread holds after it."""
+        released = self.released
+        if not released:
+            return self.held
+        return tuple(lock for lock in self.held if lock not in released)
+
+    @property
+    def leaves_free(self) -> bool:
+        """Whether its thread goes on without any lock."""
+        return not self.ends_thread and not self.kept
+
+    def line(self, version: int) -> str:
+        pc = f" pc {self.pc:08x}" if version == 2 else ""
+        return (f"block {self.stamp} thread {self.thread} turns {self.turns} held "
+                f"{held_text(self.held)} kind {self.kind} worker {self.worker}{pc} end {self.end}")
+
+
+class ThreadEnd(NamedTuple):
+    how: str
+    fuel: int
+    pc: int
+    x: Tuple[int, ...]
+
+
+class LockEnd(NamedTuple):
+    sections: int
+    broken: int
+    address: int
+    bytes: bytes
+
+
+def held_text(held: tuple[int, ...]) -> str:
+    return ",".join(map(str, held)) or "-"
+
+
+def several(count: int, what: str) -> str:
+    """A number of things: '1 lock', '2 locks'."""
+    return f"{count} {what}{'s' * (count != 1)}"
+
+
+def locks_text(held: tuple[int, ...]) -> str:
+    """Locks in a sentence: 'lock 0', 'locks 0,1'."""
+    return f"lock{'s' * (len(held) > 1)} {held_text(held)}"
+
+
+def wrong_number(name: str, word: str) -> str | None:
+    """What is wrong with a word of this number, or None."""
+    least, most = limits.NUMBERS[name]
+    if not re.fullmatch(NUMBER, word):
+        why = ("it has a leading zero" if re.fullmatch("0[0-9]+", word)
+               else "it has too many digits" if word.isdigit() else "it is no number in digits alone")
+        return f"{name} is {word!r}: {why}"
+    return None if least <= int(word) <= most else f"{name} is {word}, which is not {least} to {most}"
+
+
+def options_of(line: str, number: int) -> dict[str, int] | None:
+    """The numbers of a line on options, by name; None where the line with this number is no such line."""
+    found = OPTIONS.fullmatch(line)
+    for name, word in zip(limits.RUN, found.groups()) if found else ():
+        if wrong_number(name, word):
+            raise Wrong(f"line {number}: {wrong_number(name, word)}")
+    return dict(zip(limits.RUN, map(int, found.groups()))) if found else None
+
+
+def header_lines(version: int, threads: int, guards: int, workers: int, fuel: int, batch: int) -> list[str]:
+    return [f"tclocks {version}", f"guest threads {threads} guards {guards}",
+            f"run workers {workers} fuel {fuel} batch {batch}"]
+
+
+def ending_lines(threads: Iterable[ThreadEnd], locks: Iterable[LockEnd]) -> Iterator[str]:
+    """What stands behind the blocks, of threads (ThreadEnd) and locks (LockEnd) that have ended."""
+    for number, thread in enumerate(threads):
+        yield f"thread {number} {thread.how} fuel {thread.fuel} pc {thread.pc:08x}"
+        for i in range(0, 32, 8):
+            yield f"x{i} " + " ".join(f"{value:08x}" for value in thread.x[i:i + 8])
+    for number, lock in enumerate(locks):
+        yield f"lock {number} sections {lock.sections} broken {lock.broken} bytes {len(lock.bytes)}"
+        for i in range(0, len(lock.bytes), 32):
+            yield f"data {lock.address + i:08x} {lock.bytes[i:i + 32].hex()}"
+    yield "end"
+
+
+class Lines:
+    """Numbered lines without their ends; one can be looked at before it is taken."""
+
+    def __init__(self, lines: Iterable[str]) -> None:
+        self.lines, self.number, self.cut = iter(lines), 0, False
+        self.next: str | None = None
+        self.take()
+
+    def take(self) -> str:
+        """The line in front, or '' behind the last whole one."""
+        line, self.next = self.next or "", next(self.lines, None)
+        self.number += 1
+        if self.next is not None and not self.next.endswith("\n"):
+            self.cut, self.next = True, None
+        elif self.next is not None:
+            self.next = self.next[:-1]
+        return line
+
+    def at(self) -> int:
+        """The number of the line in front."""
+        return self.number
+
+    def wrong(self, what: str) -> Wrong:
+        shown = "the text ends" if self.next is None else f"it is {self.next[:100]!r}"
+        return Wrong(f"line {self.at()} must be {what}: {shown}")
+
+
+class Report:
+    """A report that is read from its lines: the header at once, then `blocks`, then `ends`."""
+
+    def __init__(self, lines: Iterable[str]) -> None:
+        self.lines = Lines(lines)
+        self.version = self.first_line()
+        self.threads, self.guards = self.guest_line()
+        self.workers, self.fuel, self.batch = self.options_line()
+        self.thread_ends: list[ThreadEnd] = []
+        self.lock_ends: list[LockEnd] = []
+        self.whole = False
+
+    def first_line(self) -> int:
+        line = self.lines.next
+        if line is None:
+            raise Wrong("this is no report: it is empty, or stops in its first line")
+        if ANSWER.fullmatch(line):
+            raise NoReport(line[:200])
+        for form, what in ("demo", "the summary of a demo"), ("profile", "a profile"):
+            if line.startswith(f"tclocks {form} "):
+                raise Wrong(f"this is {what} and no report: it has no blocks")
+        if line not in ("tclocks 1", "tclocks 2"):
+            raise self.lines.wrong("'tclocks 1' or 'tclocks 2'")
+        return int(self.lines.take()[8:])
+
+    def guest_line(self) -> tuple[int, int]:
+        found = GUEST.fullmatch(self.lines.next or "")
+        if not found:
+            raise self.lines.wrong("'guest threads N guards M'")
+        threads, guards = map(int, found.groups())
+        for name, value, least, most in (
+                ("threads", threads, 1, limits.THREADS[self.version]),
+                ("guards", guards, 0, limits.GUARDS[self.version])):
+            if not least <= value <= most:
+                raise self.lines.wrong(f"about {least} to {most} {name}")
+        self.lines.take()
+        return threads, guards
+
+    def options_line(self) -> tuple[int, int, int]:
+        options = options_of(self.lines.next or "", self.lines.at())
+        if not options:
+            raise self.lines.wrong("'run workers W fuel F batch B'")
+        self.lines.take()
+        return options["workers"], options["fuel"], options["batch"]
+
+    def blocks(self) -> Iterator[Block]:
+        """The blocks in their order."""
+        stamp, sets = 0, {"-": ()}  # type: int, dict[str, tuple[int, ...]]
+        while self.lines.next is not None and self.lines.next.startswith("block "):
+            yield self.block(stamp, sets)
+            self.lines.take()
+            stamp += 1
+
+    def block(self, stamp: int, sets: dict[str, tuple[int, ...]]) -> Block:
+        found = BLOCK.fullmatch(self.lines.next or "")
+        if not found or (found[7] is None) != (self.version == 1):
+            raise self.lines.wrong(f"the line of block {stamp}")
+        read, thread, turns, held, kind, worker, pc, end = found.groups()
+        if held not in sets:
+            sets[held] = self.held_set(held, stamp)
+        block = Block(int(read), int(thread), int(turns), sets[held], kind, int(worker),
+                      None if pc is None else int(pc, 16), end)
+        if block.stamp != stamp:
+            raise self.lines.wrong(f"the line of block {stamp}")
+        for name, value, most in (("thread", block.thread, self.threads),
+                                  ("worker", block.worker, self.workers)):
+            if value >= most:
+                raise Wrong(f"block {stamp}, line {self.lines.at()}: there is no {name} {value}, "
+                            f"but {name}s 0 to {most - 1}")
+        if not 1 <= block.turns <= limits.TURNS or (kind in SECTIONS and not block.held):
+            raise Wrong(f"block {stamp}, line {self.lines.at()}: it has 1 to {limits.TURNS} turns, and a "
+                        "section's first block holds its lock")
+        return block
+
+    def held_set(self, held: str, stamp: int) -> tuple[int, ...]:
+        locks = tuple(int(word) for word in held.split(",") if word and len(word) < 3)
+        if held_text(locks) != held or list(locks) != sorted(set(locks)) or locks[-1] >= self.guards:
+            raise Wrong(f"block {stamp}, line {self.lines.at()}: held is {held!r}, which is no "
+                        f"ascending list of locks below {self.guards}")
+        return locks
+
+    def ends(self) -> None:
+        """Reads what stands behind the blocks, as far as it goes."""
+        while self.lines.next is not None and self.lines.next != "end":
+            self.part()
+        if self.lines.next == "end":
+            self.whole = True
+            self.lines.take()
+            if self.lines.next is not None or self.lines.cut:
+                raise Wrong(f"line {self.lines.at()}: something stands behind the line 'end'")
+
+    def part(self) -> None:
+        """A thread with its registers, or a lock with its bytes."""
+        line = self.lines.next or ""
+        thread, lock = THREAD.fullmatch(line), LOCK.fullmatch(line)
+        if thread and int(thread[1]) == len(self.thread_ends) < self.threads:
+            self.lines.take()
+            self.thread_ends.append(ThreadEnd(thread[2], int(thread[3]), int(thread[4], 16),
+                                              self.registers()))
+        elif lock and int(lock[1]) == len(self.lock_ends) < self.guards:
+            self.lines.take()
+            self.lock_ends.append(LockEnd(int(lock[2]), int(lock[3]), *self.data(int(lock[4]))))
+        else:
+            raise self.lines.wrong("how a thread or a lock ends, or 'end'")
+
+    def registers(self) -> tuple[int, ...]:
+        values: list[int] = []
+        for first in range(0, 32, 8):
+            if self.lines.next is None:
+                break
+            found = REGISTERS.fullmatch(self.lines.next)
+            if not found or int(found[1]) != first:
+                raise self.lines.wrong(f"the registers from x{first} on")
+            values += [int(word, 16) for word in found[2].split()]
+            self.lines.take()
+        return tuple(values)
+
+    def data(self, size: int) -> tuple[int, bytes]:
+        address, content = 0, b""
+        while len(content) < size and self.lines.next is not None:
+            found = DATA.fullmatch(self.lines.next)
+            if not found:
+                raise self.lines.wrong(f"bytes {len(content)} to {size - 1} of the lock")
+            address = address if content else int(found[1], 16)
+            content += bytes.fromhex(found[2])
+            self.lines.take()
+        return address, content
+
+    def title(self) -> str:
+        """What the header says, for headings."""
+        return ", ".join((several(self.threads, "thread"), several(self.guards, "lock"),
+                          several(self.workers, "worker"), f"fuel {self.fuel}", f"batch limit {self.batch}"))
+
+    def cut_note(self) -> str | None:
+        """What to say of a report that stops early, or None."""
+        if self.whole:
+            return None
+        return (f"the report stops behind line {self.lines.at() - 1}, without the line 'end'; "
+                "what it has up to there is used")

@@ -1,0 +1,147 @@
+"""Histories that were changed in one place or two. Each function takes a random.Random and the blocks of a
+history (report.Block), and gives a text. It aims at one of the reasons for which a history is rejected; which
+one it comes to, if any, is told by rejecting.py.
+"""
+from __future__ import annotations
+
+from typing import Any, TYPE_CHECKING
+from .. import limits
+from ..limits import KINDS
+from . import report
+
+if TYPE_CHECKING:
+    from random import Random
+
+ENDS = ("wants 0", "unlocked 0", "unlocked 31", "slept", "cut", "exit", "fault 7", "spent")
+HELD = (), (0,), (1, 2), (0, 31), (0, 1, 2, 3, 4)
+
+
+def text_of(blocks: Any) -> str:
+    return "".join(f"{block.line(2)}\n" for block in blocks)
+
+
+def with_block(blocks: list[report.Block], place: int, **parts: Any) -> str:
+    """The text with other parts in one block."""
+    return text_of([*blocks[:place], blocks[place]._replace(**parts), *blocks[place + 1:]])
+
+
+def other(draw: Random, value: Any,
+          values: Any) -> Any:
+    """Another value than this one."""
+    return draw.choice([one for one in values if one != value])
+
+
+def near(draw: Random, value: int, least: int, most: int) -> int:
+    """Another number in these limits, mostly a near one."""
+    return int(other(draw, value, [min(max(one, least), most) for one in (
+        least, most, value - 1, value + 1, value + 2, value + 3)]))
+
+
+def spelling(draw: Random, blocks: list[report.Block]) -> str:
+    """A line that is none, or a last one without its end."""
+    lines = [f"{block.line(2)}\n" for block in blocks]
+    place = draw.randrange(len(lines))
+    line, block = lines[place], blocks[place]
+    lines[place] = draw.choice((
+        line[:-1], line[:draw.randrange(len(line))], line.replace(" ", "  ", 1), line.upper(), line[:-1] + " \n",
+        "\n" + line, line + "\n", line[:-1] + "\r\n", " " + line, line.replace(" turns ", " turns 0"),
+        line.replace(" thread ", " thread +"), line.replace(f" pc {block.pc:08x}", ""),
+        line.replace(f" pc {block.pc:08x}", f" pc {block.pc:x}"), line.replace(" pc ", " pc 0"),
+        line.replace(f" end {block.end}", draw.choice((" end fault 0", " end fault 13", " end wants 32", " end cut 0",
+                                                       " end wants 00", " end unlocked", " end"))),
+        line.replace(f" held {report.held_text(block.held)} ", draw.choice((" held 32 ", " held 1,0 ", " held 2,2 ", " held 0,- ",
+                                                                            " held  ", " held 00 "))),
+        f"{block._replace(turns=draw.choice((0, limits.TURNS + 1, 2**32))).line(2)}\n",
+        f"{block._replace(thread=2**32 + block.thread).line(2)}\n", f"{block._replace(worker=2**32).line(2)}\n",
+        f"{block._replace(kind=block.kind[:-1]).line(2)}\n", f"{block._replace(stamp=block.stamp + draw.choice((-1, 1))).line(2)}\n"))
+    return "".join(lines)
+
+
+def thread(draw: Random, blocks: list[report.Block]) -> str:
+    """A block of a thread that is none, or has ended."""
+    ended: set[int]
+    count, ended, places = 1 + max(block.thread for block in blocks), set(), []
+    for place, block in enumerate(blocks):
+        places += [(place, number) for number in ended]
+        if block.ends_thread:
+            ended.add(block.thread)
+    if places and draw.random() < 0.7:
+        place, number = draw.choice(places)
+    else:
+        place, number = draw.randrange(len(blocks)), draw.choice((count, limits.THREADS[2], 2**32 - 1))
+    return with_block(blocks, place, thread=number)
+
+
+def owner(draw: Random, blocks: list[report.Block]) -> str:
+    """A block of a thread that wants a lock which another one has, where there is one."""
+    held: dict[Any, Any]
+    wants: dict[Any, Any]
+    wants, held, places = {}, {}, []
+    for place, block in enumerate(blocks):
+        held[block.thread] = held.get(block.thread, ())
+        places += [(place, number) for number, lock in wants.items()
+                   if any(lock in locks for one, locks in held.items() if one != number)]
+        wants.pop(block.thread, None)
+        if block.wanted is not None:
+            wants[block.thread] = block.wanted
+        held[block.thread] = block.kept
+    if not places:
+        return another_thread(draw, blocks)
+    place, number = draw.choice(places)
+    return with_block(blocks, place, thread=number)
+
+
+def another_thread(draw: Random, blocks: list[report.Block]) -> str:
+    """A block of any other thread that there is."""
+    place = draw.randrange(len(blocks))
+    return with_block(blocks, place, thread=draw.choice(sorted({block.thread for block in blocks})))
+
+
+def run(draw: Random, blocks: list[report.Block]) -> str:
+    """A block with other turns, locks, program counter or end."""
+    place = draw.randrange(len(blocks))
+    block = blocks[place]
+    part = draw.choice((
+        {"turns": near(draw, block.turns, 1, limits.TURNS)}, {"held": other(draw, block.held, HELD)},
+        {"held": block.held[:-1]}, {"pc": (block.pc + draw.choice((-4, 1, 4))) % 2**32}, {"end": other(draw, block.end, ENDS)}))
+    return with_block(blocks, place, **part)
+
+
+def kind(draw: Random, blocks: list[report.Block]) -> str:
+    """A block of another kind; mostly one that begins a section is given the kind of another section."""
+    places = [place for place, block in enumerate(blocks) if block.begun is not None]
+    if places and draw.random() < 0.8:
+        place = draw.choice(places)
+        kinds: tuple[str, ...] = limits.SECTIONS
+    else:
+        place, kinds = draw.randrange(len(blocks)), KINDS
+    return with_block(blocks, place, kind=other(draw, blocks[place].kind, kinds))
+
+
+def worker(draw: Random, blocks: list[report.Block]) -> str:
+    """A block of another worker, which there may be or not."""
+    place = draw.randrange(len(blocks))
+    count = 1 + max(block.worker for block in blocks)
+    return with_block(blocks, place, worker=draw.choice((0, 1, count - 1, count, limits.RUN["workers"][1], 2**32 - 1)))
+
+
+def front(draw: Random, blocks: list[report.Block]) -> str:
+    """The first blocks alone."""
+    return text_of(blocks[:draw.randrange(len(blocks))])
+
+
+def numbered(blocks: list[report.Block]) -> str:
+    """The text of these blocks with the stamps of their places."""
+    return text_of(block._replace(stamp=stamp) for stamp, block in enumerate(blocks))
+
+
+def moved(draw: Random, blocks: list[report.Block]) -> str:
+    """Two blocks in each other's place, one left out, or one twice."""
+    one, two = sorted(draw.randrange(len(blocks)) for _ in range(2))
+    return numbered(draw.choice((
+        [*blocks[:one], blocks[two], *blocks[one + 1:two], blocks[one], *blocks[two + 1:]] if one < two else blocks,
+        [*blocks[:one], *blocks[one + 1:]], [*blocks[:one], blocks[two], *blocks[one:]],
+        [*blocks[:one], *blocks[one + 1:two + 1], blocks[one], *blocks[two + 1:]])))
+
+
+FORMS = (spelling, thread, owner, run, kind, worker, front, moved)

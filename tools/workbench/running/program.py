@@ -1,0 +1,49 @@
+"""The built program. Nothing here builds it: who needs it says in one line that it isn't there."""
+from __future__ import annotations
+
+import os
+import pathlib
+import subprocess
+from typing import Any, Iterable
+
+from .. import places, tool
+
+PATH = places.ROOT / "crates" / "tclocks" / "out" / "tclocks"
+COMMAND = places.ROOT / "tclocks"
+BUILD = "./tclocks-build proves and builds it"
+NOT_BUILT = 127  # the command's own status
+
+
+def missing() -> str | None:
+    """Why there is no program to run: it isn't built, or a source is newer than it. None where there is one."""
+    if not os.access(PATH, os.X_OK):
+        return f"the program isn't built; {BUILD}"
+    asked = subprocess.run([COMMAND], env={"TCLOCKS_PROGRAM": "built", **os.environ}, stdin=subprocess.DEVNULL,
+                           stdout=subprocess.DEVNULL, stderr=subprocess.PIPE, check=False)
+    return asked.stderr.decode().strip().partition(": ")[2] if asked.returncode == NOT_BUILT else None
+
+
+def need() -> None:
+    """Trouble where there is none."""
+    why = missing()
+    if why:
+        raise tool.Trouble(tool.INPUT, why)
+
+
+def run(words: Iterable[Any], file: bytes) -> tuple[int, str]:
+    """What the program answers to words and a file's bytes: its status and its text."""
+    done = subprocess.run([PATH, *map(str, words)], input=file, stdout=subprocess.PIPE, check=False)
+    return done.returncode, done.stdout.decode("ascii", "replace")
+
+
+def keep(name: str, content: bytes) -> pathlib.Path:
+    """Keeps bytes that were given to the program, for who looks at its answer. Answers where."""
+    kept = places.GUESTS / "out" / name
+    kept.parent.mkdir(exist_ok=True)
+    kept.write_bytes(content)
+    return kept
+
+
+def pass_on(words: Iterable[Any], file: bytes) -> int:
+    """Lets the program write to standard output itself, and answers its status."""
+    return subprocess.run([PATH, *map(str, words)], input=file, check=False).returncode

@@ -1,0 +1,59 @@
+"""Runs a guest, by the program where it is built and else by the model, and prints its report.
+
+Output and status are those of ./tclocks run W F B < GUEST, or of nodes G K W F B with --nodes G K. Which of the
+two ran is said on standard error. With one worker both print the same; with several the program does what the
+host's scheduler makes of it, and the model takes the interleaving of its seed. A seed asks for the model.
+"""
+from __future__ import annotations
+
+from typing import Any, TYPE_CHECKING
+from .. import tool
+from ..guest import guestfile
+from ..judging import reasons
+from . import delegation, program
+
+if TYPE_CHECKING:
+    from argparse import Namespace
+
+
+ENDS = {tool.WRONG: "the file is refused; ./workbench explain GUEST says why", tool.OUTPUT: "standard output can't be written",
+        tool.MEMORY: "memory was refused"}
+
+
+def by_program(file: bytes, words: tuple[Any, ...]) -> None:
+    tool.note("run", "by the program")
+    status = program.pass_on(words, file)
+    if status:
+        raise tool.Trouble(status, ENDS.get(status, f"the program ended with status {status}"))
+
+
+def by_model(file: bytes, asked: Namespace, why: str | None) -> None:
+    try:
+        guest = guestfile.GuestFile(file).guest
+    except guestfile.Refused as refused:
+        print(refused.line)
+        raise tool.Trouble(tool.WRONG, ENDS[tool.WRONG]) from None
+    tool.note("run", "by the model" + ("" if asked.workers == 1 else f", in the interleaving of seed {asked.seed or 0}")
+              + (f": {why}" if why else ""))
+    nodes, bound = asked.nodes
+    run, blocks = delegation.delegated(guest, asked.fuel, asked.workers, asked.batch, asked.seed or 0, nodes=nodes, bound=bound)
+    for line in run.lines(blocks):
+        print(line)
+
+
+def main(words: list[str]) -> None:
+    parser = tool.words("run", __doc__, "guest", "run")
+    parser.add_argument("--seed", type=tool.number(0, 10**9), metavar="N", help="the model, in this interleaving (0)")
+    parser.add_argument("--nodes", metavar=("G", "K"), nargs=2, type=tool.number(0, 256), default=(0, 0),
+                        help="as ./tclocks nodes G K W F B")
+    asked = parser.parse_args(words)
+    wrong = reasons.usage([*map(str, ("nodes", *asked.nodes, asked.workers, asked.fuel, asked.batch))])
+    if asked.nodes != (0, 0) and wrong:
+        parser.error(wrong)
+    file = guestfile.read(asked.guest)
+    why = program.missing() if asked.seed is None else None
+    if why or asked.seed is not None:
+        by_model(file, asked, why)
+    else:
+        form = ("nodes", *asked.nodes) if asked.nodes[0] else ("run",)
+        by_program(file, (*form, asked.workers, asked.fuel, asked.batch))

@@ -1,0 +1,217 @@
+"""Runs a guest with each of some numbers of workers and batch limits, and prints what delegation did: a
+table (CSV) with one line for each run, or with --locks one for each lock of each run.
+
+The runs are those of the program where it is built, and else of the model, in the interleavings of its
+seeds; `by` says which. Numbers of a run are sums over its locks, and the greatest of longest and longest_wait;
+seconds are those that the program took, and none of the model, which tells of no time.
+
+With --nodes the runs are those of `nodes G K W F B`: worker W is on node W modulo G, and a lock is passed on to a
+waiter of the releaser's node first, but to none before one that was passed over K times (--bound). 0 nodes are
+`run W F B`. More nodes than workers are left out. Two more numbers are of a run with nodes:
+
+  changes_of_node   changes of worker between two nodes: so often the lock's bytes went to another node
+  other_node        sections whose home worker is on another node: so often a context did
+"""
+from __future__ import annotations
+
+import argparse
+import csv
+import itertools
+import multiprocessing
+import os
+import signal
+import sys
+import time
+import types
+from typing import Any, Callable, Dict, Iterable, Iterator, List, NamedTuple, Optional, Tuple
+
+from .. import limits, progress, tool
+from ..drawing import plots
+from ..guest import guestfile, model
+from ..reports import counts, report
+from . import delegation, program
+
+GREATEST = ("longest", "longest_wait")
+NUMBERS = ("sections", "taken", "adopted", "granted", "rows", "longest", "changes", "home", "away", "waiting",
+           "longest_wait")
+OF_NODES = ("changes_of_node", "other_node")
+
+
+class Setting(NamedTuple):
+    """The parameters of a run; the names are those of the table's columns."""
+    by: str
+    workers: int
+    batch: int
+    nodes: int
+    bound: int
+    fuel: int
+    run: int
+    seed: Optional[int]  # of the model
+
+    def order(self) -> tuple[int, int, int]:
+        """What its runs are told apart by beside the batch limit."""
+        return self.workers, self.nodes, self.bound
+
+    def words(self) -> tuple[Any, ...]:
+        form = ("nodes", self.nodes, self.bound) if self.nodes else ("run",)
+        return (*form, self.workers, self.fuel, self.batch)
+
+
+class Result(NamedTuple):
+    """What a run did: the numbers of each lock, the workers of its sections in their order, and the run's
+    blocks, turns and seconds."""
+    setting: Setting
+    locks: List[Dict[str, int]]
+    owners: List[bytearray]
+    blocks: int
+    turns: int
+    seconds: str
+
+    def sums(self) -> dict[str, int]:
+        """The numbers of all locks together."""
+        columns = {name: [lock[name] for lock in self.locks] or [0] for name in NUMBERS + OF_NODES}
+        return {name: max(column) if name in GREATEST else sum(column) for name, column in columns.items()}
+
+
+def numbers(least: int, most: int) -> Callable[[str], List[int]]:
+    """A type of a word: numbers in these limits with commas between them."""
+    one = tool.number(least, most)
+
+    def read(word: str) -> list[int]:
+        found = [one(part) for part in word.split(",")]
+        if len(set(found)) < len(found):
+            raise argparse.ArgumentTypeError(f"{word!r} has a number twice")
+        return found
+    return read
+
+
+def counted(setting: Setting, shape: Any, blocks: Iterable[report.Block], seconds: str = "") -> Result:
+    """The result of a run's blocks; its shape has the numbers of threads, locks and workers."""
+    result = counts.Counts(shape)
+    owners = [bytearray() for _ in range(shape.guards)]
+    for block in blocks:
+        result.add(block)
+        if block.begun is not None:
+            owners[block.begun].append(block.worker)
+    return Result(setting, [{"sections": lock.sections, **{kind: lock.kinds[kind] for kind in limits.SECTIONS},
+                             **{name: getattr(lock, name) for name in NUMBERS[4:]},
+                             **{name: counts.apart(pairs, setting.nodes or 1)
+                                for name, pairs in zip(OF_NODES, (lock.changed, lock.came))}} for lock in result.locks],
+                  owners, sum(worker.blocks for worker in result.workers),
+                  sum(worker.turns for worker in result.workers), seconds)
+
+
+def by_program(file: bytes, setting: Setting) -> Result:
+    """A run of the program."""
+    words = setting.words()
+    began = time.perf_counter()
+    status, text = program.run(words, file)
+    seconds = f"{time.perf_counter() - began:.3f}"
+    if status:
+        raise tool.Trouble(tool.WRONG, f"tclocks {' '.join(map(str, words))} ended with status {status}")
+    read = report.Report(text.splitlines(keepends=True))
+    return counted(setting, read, read.blocks(), seconds)
+
+
+def by_model(job: Tuple[bytes, Setting]) -> Result:
+    file, setting = job
+    run, blocks = delegation.delegated(model.Guest(file), setting.fuel, setting.workers, setting.batch, setting.seed or 0,
+                                       nodes=setting.nodes, bound=setting.bound)
+    shape = types.SimpleNamespace(threads=len(run.machine.threads), guards=len(run.machine.locks), workers=run.workers)
+    return counted(setting, shape, blocks)
+
+
+def results(file: bytes, settings: List[Setting]) -> Iterator[Result]:
+    """The results of runs: of the program one after another, so that their seconds are their own; of the model
+    with all processors."""
+    if settings[0].by == "program":
+        yield from (by_program(file, setting) for setting in settings)
+        return
+    processes = min(len(settings), os.cpu_count() or 1)
+    ignore = signal.signal, (signal.SIGINT, signal.SIG_IGN)  # an interruption is this process's own matter
+    with multiprocessing.Pool(processes, *ignore) as pool:
+        yield from pool.imap(by_model, [(file, setting) for setting in settings])
+
+
+def settings_of(asked: argparse.Namespace, by: str) -> Iterator[Setting]:
+    orders = [(nodes, bound) for nodes in asked.nodes for bound in (asked.bound if nodes else [0])]
+    every = [(workers, batch, order, run) for workers, batch, order, run in itertools.product(
+        asked.workers, asked.batch, orders, range(1, asked.runs + 1)) if order[0] <= workers]
+    for number, (workers, batch, (nodes, bound), run) in enumerate(every):
+        yield Setting(by, workers, batch, nodes, bound, asked.fuel, run, asked.seed + number if by == "model" else None)
+
+
+def lines(name: str, result: Result, each_lock: bool) -> Iterator[list[Any]]:
+    """The cells of a run's lines behind its parameters."""
+    found: Iterable[Any] = enumerate(result.locks) if each_lock else [("all", result.sums())]
+    setting = result.setting
+    parameters = {**setting._asdict(), **({} if setting.nodes else {"nodes": "", "bound": ""}),
+                  "seed": "" if setting.seed is None else setting.seed}
+    for lock, numbers_ in found:
+        yield [name, *parameters.values(), lock, *(numbers_[number] for number in NUMBERS),
+               *(numbers_[number] if setting.nodes else "" for number in OF_NODES), result.blocks, result.turns,
+               result.seconds]
+
+
+def draw(asked: argparse.Namespace, done: list[Result]) -> None:
+    """Writes the pictures that are asked for."""
+    name = os.path.basename(asked.guest)
+    if asked.plot:
+        tool.write_file(asked.plot, plots.panels(name, done))
+    if asked.strips:
+        lock = asked.lock
+        if lock is None:
+            lock = max(range(len(done[0].locks)), key=lambda lock: done[0].locks[lock]["sections"])
+        first = [result for result in done if result.setting.run == 1]
+        tool.write_file(asked.strips, plots.strips(name, first, lock, asked.sections))
+
+
+def asked_of(words: list[str]) -> argparse.Namespace:
+    parser = tool.words("sweep", __doc__ + counts.MEANINGS, "guest")
+    for name, usual in (("workers", "1,2,4,8"), ("batch", "0,1,8,256")):
+        parser.add_argument(f"--{name}", metavar="N,N..", type=numbers(*limits.RUN[name]), default=usual,
+                            help=f"({usual})")
+    parser.add_argument("--nodes", metavar="G,G..", type=numbers(0, limits.NUMBERS["nodes"][1]), default="0",
+                        help="of workers; 0 is an order without nodes (0)")
+    parser.add_argument("--bound", metavar="K,K..", type=numbers(*limits.NUMBERS["bound"]), default="4",
+                        help="so often a waiter may be passed over, with nodes (4)")
+    parser.add_argument("--runs", metavar="N", type=tool.number(1, 1000), default=3, help="of each (3)")
+    parser.add_argument("--fuel", metavar="N", type=tool.number(*limits.RUN["fuel"]), default=20000, help="(20000)")
+    parser.add_argument("--seed", metavar="N", type=tool.number(0, 10**9), default=1, help="of the model's first run (1)")
+    parser.add_argument("--model", action="store_true", help="the model, even where the program is built")
+    parser.add_argument("--locks", action="store_true", help="a line for each lock of each run")
+    parser.add_argument("--plot", metavar="FILE", help="write the numbers' plots into it (SVG)")
+    parser.add_argument("--strips", metavar="FILE", help="write a picture into it (SVG) of which worker had a lock's "
+                        "first sections, in the first run of each")
+    parser.add_argument("--lock", metavar="L", type=tool.number(0, limits.GUARDS[2] - 1),
+                        help="the lock of --strips (the one with the most sections)")
+    parser.add_argument("--sections", metavar="N", type=tool.number(1, 100_000), default=1000,
+                        help="so many sections of it (1000)")
+    asked = parser.parse_args(words)
+    if min(asked.nodes) > max(asked.workers):
+        parser.error("there are more --nodes than --workers")
+    return asked
+
+
+def main(words: list[str]) -> None:
+    asked = asked_of(words)
+    file = guestfile.read(asked.guest)
+    locks = len(guestfile.accepted(file, asked.guest).guest.guards)
+    if asked.strips and (asked.lock or 0) >= locks:
+        raise tool.Trouble(tool.WORDS, f"--strips: {asked.guest} has no lock {asked.lock or 0}")
+    why = None if asked.model else program.missing()
+    if why:
+        tool.note("sweep", f"by the model: {why}")
+    settings = list(settings_of(asked, "model" if asked.model or why else "program"))
+    table = csv.writer(sys.stdout, lineterminator="\n")
+    table.writerow(["guest", *Setting._fields, "lock", *NUMBERS, *OF_NODES, "blocks", "turns", "seconds"])
+    done: List[Result] = []
+    with progress.Progress("sweep", "runs", len(settings)) as shown:
+        for result in results(file, settings):
+            table.writerows(lines(os.path.basename(asked.guest), result, asked.locks))
+            done.append(result)
+            shown.step()
+    sys.stdout.flush()
+    if done:
+        draw(asked, done)
+    shown.end()

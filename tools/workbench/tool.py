@@ -1,0 +1,166 @@
+"""What the tools of this folder share: how they read, how they print, and how they end.
+
+Their statuses are those of the program: 0 done, 1 the words are wrong, 2 the input can't be
+read, 3 it isn't what it must be (refused, no report, not legal), 4 the output can't be written,
+5 memory was refused.
+Each status above 0 comes with one line on standard error.
+"""
+from __future__ import annotations
+
+import argparse
+import errno
+import gc
+import os
+import sys
+from typing import Callable, IO, Iterator, NoReturn, TYPE_CHECKING
+
+from . import limits
+
+if TYPE_CHECKING:
+    from pathlib import Path
+
+DONE, WORDS, INPUT, WRONG, OUTPUT, MEMORY, STOPPED = 0, 1, 2, 3, 4, 5, 130
+
+LONGEST_LINE = 4096
+
+
+class Trouble(Exception):
+    """Why a tool ends early: its status and its line."""
+
+    def __init__(self, status: int, text: str) -> None:
+        super().__init__(text)
+        self.status = status
+
+
+class Words(argparse.ArgumentParser):
+    """The words of a tool. Wrong ones are one line."""
+
+    def error(self, message: str) -> NoReturn:
+        usage = " ".join(self.format_usage().split())
+        raise Trouble(WORDS, f"{message}; {usage}")
+
+
+def called(tool: str) -> str:
+    """A tool's name as it is called: a subcommand of the workbench but for one that has a place of its own."""
+    return tool if "/" in tool else f"workbench {tool}".rstrip()
+
+
+def words(tool: str, description: str | None, *first: str) -> Words:
+    """The parser of a tool's words, with a guest's file and the numbers of a run where these come first."""
+    parser = Words(prog=called(tool), description=description, allow_abbrev=False,
+                   formatter_class=argparse.RawDescriptionHelpFormatter)
+    if "guest" in first:
+        parser.add_argument("guest", metavar="GUEST", help="the guest's file")
+    for name, (least, most) in limits.RUN.items() if "run" in first else ():
+        parser.add_argument(name, metavar=name.upper(), type=number(least, most), help=f"{least} to {most}")
+    return parser
+
+
+def number(least: int, most: int) -> Callable[[str], int]:
+    """A type of a word: a number in these limits."""
+    def read(word: str) -> int:
+        if not (word.isascii() and word.isdigit() and len(word) < 12 and least <= int(word) <= most):
+            raise argparse.ArgumentTypeError(f"{word!r} is no number from {least} to {most}")
+        return int(word)
+    return read
+
+
+def input_trouble(path: str | Path, error: OSError) -> Trouble:
+    name = "standard input" if path == "-" else path
+    return Trouble(INPUT, f"{name}: {error.strerror or error}")
+
+
+def opened(path: Path | str) -> IO[bytes]:
+    """A file for reading bytes; '-' is standard input."""
+    if path != "-":
+        return open(path, "rb")
+    if sys.stdin is None:
+        raise OSError(errno.EBADF, "it is closed")
+    return sys.stdin.buffer
+
+
+def read_bytes(path: Path | str, most: int = -1) -> bytes:
+    """The first bytes of a file, at most so many; all of them where that is not said."""
+    try:
+        with opened(path) as file:
+            return file.read(most)
+    except OSError as error:
+        raise input_trouble(path, error) from None
+
+
+def read_lines(path: str | Path) -> Iterator[str]:
+    """The lines of a text one by one, with their ends of line; a longer one comes in parts."""
+    try:
+        with opened(path) as file:
+            for line in iter(lambda: file.readline(LONGEST_LINE), b""):
+                yield line.decode("ascii", "replace")
+    except OSError as error:
+        raise input_trouble(path, error) from None
+
+
+def write_file(path: Path | str, content: bytes | str) -> None:
+    """Writes a text or bytes."""
+    try:
+        with open(path, "wb") as file:
+            file.write(content if isinstance(content, bytes) else content.encode("utf-8"))
+    except OSError as error:
+        raise Trouble(OUTPUT, f"{path}: {error.strerror}") from None
+
+
+def make_folder(path: Path | str) -> None:
+    try:
+        os.makedirs(path, exist_ok=True)
+    except OSError as error:
+        raise Trouble(OUTPUT, f"{path}: {error.strerror}") from None
+
+
+def print_columns(rows: list[list[str]], adjust: Callable[[str, int], str] = str.rjust) -> None:
+    """Prints rows of cells, each as wide as its column."""
+    widths = [max(map(len, column)) for column in zip(*rows)]
+    for row in rows:
+        print("  ".join(map(adjust, row, widths)).rstrip())
+
+
+def note(name: str, text: str) -> None:
+    """One line on standard error."""
+    if sys.stderr is not None:
+        sys.stderr.write(f"{called(name)}: {text}\n")
+
+
+def flush() -> None:
+    """Writes what was printed before a trouble; the trouble is what the tool ends with."""
+    if sys.stdout is not None:
+        try:
+            sys.stdout.flush()
+        except OSError:
+            pass
+
+
+def ended(name: str, status: int, text: str) -> int:
+    note(name, text)
+    if sys.stdout is not None:
+        # What is still in the buffer can't be written; nothing tries it again at the end.
+        os.dup2(os.open(os.devnull, os.O_WRONLY), sys.stdout.fileno())
+    return status
+
+
+def run(name: str, main: Callable[[list[str]], int | None], words: list[str]) -> None:
+    """Runs a tool with its words, and ends with its status."""
+    gc.disable()  # a million blocks are no cycles, and looking for some takes long
+    try:
+        if sys.stdout is None:
+            raise Trouble(OUTPUT, "standard output: it is closed")
+        status = main(words) or DONE
+        sys.stdout.flush()
+    except Trouble as trouble:
+        flush()
+        status = ended(name, trouble.status, str(trouble))
+    except BrokenPipeError:
+        status = ended(name, OUTPUT, "standard output: its reader has ended")
+    except OSError as error:
+        status = ended(name, OUTPUT, f"standard output: {error.strerror}")
+    except KeyboardInterrupt:
+        status = ended(name, STOPPED, "interrupted")
+    except MemoryError:
+        status = ended(name, MEMORY, "memory was refused")
+    sys.exit(status)
