@@ -94,8 +94,7 @@ class ByHand(Case):
         done = run("finish", elf("first"), given=late.replace("kind taken", "kind adopted"))
         self.says("it would have adopted at once", done)
 
-
-    def test_granted_without_waiting_is_beyond_the_theorem(self):
+    def test_granted_without_waiting_is_beyond_the_theorem(self) -> None:
         """Of an adopted section the theorem says it, of a granted one only the judge."""
         lines = "run workers 2 fuel 1000 batch 1\nthread 0\nthread 1 worker 1\nthread 0\nthread 1 kind adopted\n"
         beyond = "and the program's theorem does not say it"
