@@ -114,9 +114,9 @@ aside_next b d last (Some q) uncut e h = let a = (h.aside q e).goes.plain in pla
 -- the one that was set aside comes into hand
 pub aside_seat : (b : BenchView) (d e : DeskView) (o : Option PackageView) → IsSeated b [] d → o ≡ d.aside → e ≡ record d { aside = None } → IsSeated b (packed o) e × IsFit e.pass.knows.image e.pass.knows.worker o
 aside_seat b d e o h given rest = subst₂ (λ (x : Option PackageView) (z : DeskView). IsSeated b (packed x) z × IsFit z.pass.knows.image z.pass.knows.worker x) (sym given) (sym rest) (
-      seated b [] (packed d.aside) d d.pass d.sleepers d.now None h (still_same d.pass) refl (λ c n. absurd (let no : ⊥ = cc in no)) (subst (HasOut d.pass.knows) (sym (append-nil (packed d.aside))) h.out),
-      aside_fit b d d.aside refl h.fits,
-    )
+  seated b [] (packed d.aside) d d.pass d.sleepers d.now None h (still_same d.pass) refl (λ c n. absurd (let no : ⊥ = cc in no)) (subst (HasOut d.pass.knows) (sym (append-nil (packed d.aside))) h.out),
+  aside_fit b d d.aside refl h.fits,
+)
 
 pub taken_back : (b : BenchView) (d e : DeskView) (o : Option PackageView) → IsAtDesk b None d → o ≡ d.aside → e ≡ record d { aside = None } → IsAtDesk b o e
 taken_back b d e o h given rest = let at = aside_seat b d e o h.seat given rest in record {
@@ -256,10 +256,13 @@ answer end q x d e s granted aside newest last ended h = by end s ended (settled
     by (Unlocked i) (GoesOn p) ended still h = (good_after h.calls d.pass.knows e.pass.knows p h.adds h.unlocked.4.0, went_next i q x d e still ended granted aside last p h)
     by (Unlocked i) (Adopted p) ended still h = (good_after h.calls d.pass.knows e.pass.knows p h.adds h.unlocked.5, adopted_next i q x d e still ended p h)
     by (Unlocked i) Was_stopped ended still h = (unlock_seen i q x d e h, h.unlocked.3)
-    by Cut (GoesOn p) ended still h = subst (λ (z : PackageView). MayRunNow e.pass.knows z) (sym h.0) (h.2, record {
-      granted = nothing_behind (last_by e.pass.knows) q.granted granted;
-      together = together_same (last_by e.pass.knows) (last_of q.log) (still ∙ sym last);
-    })
+    by Cut (GoesOn p) ended still h = subst (λ (z : PackageView). MayRunNow e.pass.knows z) (sym h.0) (
+      h.2,
+      record {
+        granted = nothing_behind (last_by e.pass.knows) q.granted granted;
+        together = together_same (last_by e.pass.knows) (last_of q.log) (still ∙ sym last);
+      },
+    )
     by Cut s ended still h = absurd h
     by Slept (GoesOn p) ended still h = absurd h
     by Slept (Adopted p) ended still h = absurd h

@@ -36,13 +36,13 @@ invariant_of-result g c =
 pub returns-clause-carries : goal.returns-clause-carries
 returns-clause-carries g c = let same : c.run_block-ended.result ≡ c.args.end = search rules in record {
   plays = record {
-      own = c.commit.ensures.own.0 ∙ c.requires.plays.own;
-      two = c.requires.plays.two;
-      one = c.requires.plays.one;
-      uncut = ended_uncut c.args.end (last_by c.commit.new.pass.knows) c.requires.end
+    own = c.commit.ensures.own.0 ∙ c.requires.plays.own;
+    two = c.requires.plays.two;
+    one = c.requires.plays.one;
+    uncut = ended_uncut c.args.end (last_by c.commit.new.pass.knows) c.requires.end
         (ended_so c.args.end c.run_block-ended.new.self c.commit.result c.args.hand.pass.knows c.commit.new.pass.knows
         (subst (λ (x : End). HasBlock (λ (b : Block). b.end ≡ x) c.run_block-ended.new.self.pending) same c.run_block-ended.ensures.end) c.commit.ensures.seals);
-    };
+  };
   runs = ap (λ (v : Knows). v.image) c.commit.ensures.seals.now ∙ c.requires.image;
   locks = sealed_set c.args.image.now c.args.hand.carried c.reserve.new.self c.run_block-ended.new.self c.commit.new.package c.commit.result c.args.hand.pass.knows.worker c.in_ok-reserve.ensures.same c.run_block-ended.ensures.ran c.commit.ensures.context;
 }
