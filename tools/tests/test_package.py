@@ -2,9 +2,7 @@
 from __future__ import annotations
 
 import ast
-import os
 import pathlib
-import re
 import subprocess
 import sys
 import unittest
@@ -33,7 +31,7 @@ class Sources(Case):
         entries = sorted(GUESTS.iterdir())
         self.assertLessEqual(len([path for path in entries if path.name != "out"]), 40)
         for path in entries:
-            self.assertTrue(path.suffix in (".c", ".S", ".elf") or path.is_symlink()
+            self.assertTrue(path.suffix in (".c", ".S", ".elf") or path.name in command.EVERY
                             or path.name in ("facts.json", "Makefile", "README.md", "kit", "course", "out"), path)
 
 
@@ -61,17 +59,15 @@ class Launcher(Case):
             self.one_line(done, 1)
             self.says(part, done)
 
-    def test_old_names_are_links(self) -> None:
+    def test_old_names(self) -> None:
         wanted = run("simulate", elf("first"), "1", "1000", "0").stdout
         self.assertEqual(subprocess.run([GUESTS / "simulate", elf("first"), "1", "1000", "0"], stdout=subprocess.PIPE, check=True).stdout,
                          wanted)
-        for folder in GUESTS, ROOT / "bench":
-            for path in folder.iterdir():
-                if path.is_symlink():
-                    self.assertEqual(os.readlink(path), "../workbench")
-                    done = subprocess.run([path, "--help"], stdout=subprocess.PIPE, check=True)
-                    name = f"bench {path.name}" if folder.name == "bench" else path.name
-                    self.assertTrue(re.match(rf"usage: workbench {name} ", done.stdout.decode()), path)
+        for name in command.EVERY:
+            path = ROOT / name.replace(" ", "/") if name.startswith("bench ") else GUESTS / name
+            if path.exists():
+                done = subprocess.run([path, "--help"], stdout=subprocess.PIPE, check=True)
+                self.assertTrue(done.stdout.decode().startswith(f"usage: workbench {name} "), path)
 
 
 if __name__ == "__main__":

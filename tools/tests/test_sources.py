@@ -66,7 +66,7 @@ class OfTheCompiler(Case):
         report = run("simulate", path, "1", "1000", "0").stdout
         bare = TEMPORARY / "bare"
         bare.mkdir()
-        for name in ("sh", "python3", "basename", "dirname", "readlink"):
+        for name in ("sh", "python3", "readlink"):
             (bare / name).symlink_to(shutil.which(name) or "/none")
         done = run("explain", path, "-", given=report, env={"PATH": str(bare)})
         self.one_line(done, 0)
