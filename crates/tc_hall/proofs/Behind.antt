@@ -1,28 +1,24 @@
 -- A block that was run with a lock that was granted as Adopted comes behind the block that handed the lock over.
-use Rattle.std.proofs.Common.{◌≡◌, ℕ, ◌==◌, ◌≤◌, ◌||◌, Bool, true, false, List, [], ◌∷◌, length, sym, refl, ap, ◌∙◌, subst, inl, inr, arith, Option, Some, None}
+use Rattle.std.proofs.Common.{◌≡◌, ℕ, ◌==◌, ◌≤◌, ◌||◌, true, false, List, [], ◌∷◌, length, sym, refl, ap, ◌∙◌, subst, inl, inr, arith, Option, Some, None}
 use Rattle.std.proofs.lemmas.Bool.Decides.{eqb_tells}
 use Rattle.tc_elf.specs.Shown.{Shown}
-use Rattle.tc_journal.specs.Batch.{begins, is_adopted, is_lock, last_of, takes_of, unlocks}
-use Rattle.tc_journal.specs.Handing.{AreTogether, has_unlocked, is_cut, of_worker, was_cut, IsHandedOver}
+use Rattle.tc_journal.specs.Batch.{begins, is_adopted, is_lock, last_of, takes_of}
+use Rattle.tc_journal.specs.Handing.{AreTogether, has_unlocked, of_worker, was_cut, IsHandedOver}
 use Rattle.tc_journal.specs.declared.block.Block.{Block}
-use Rattle.tc_journal.specs.declared.block.End.{End}
-use Rattle.tc_journal.specs.declared.block.End.TheVariants.{Unlocked}
 use Rattle.tc_journal.specs.declared.block.Kind.TheVariants.{Adopted}
-use Rattle.tc_journal.proofs.Rows.{last_own, worker_of}
 use Rattle.tc_turn.specs.Turn.{next_lock}
 use Rattle.tc_mutex_spec.proofs.Replaying.{IsRecord, record_takes}
 use Rattle.tc_context.specs.declared.package.Grant.{Grant}
 use Rattle.tc_context.specs.Locks.{lock_in}
 use Rattle.tc_context.specs.Ran.{DidRun}
-use Rattle.tc_context.specs.View.{PackageView, HasBlock, IsSoundPackage, MayTake, granted_lock, kind_of}
+use Rattle.tc_context.specs.View.{PackageView, IsSoundPackage, MayTake, kind_of}
 use Rattle.tc_context.specs.Whole.{thread_in, whole}
 use Rattle.tc_context.proofs.Staging.{some_of}
-use Rattle.tc_segment.specs.View.{sealed_block}
 use Rattle.tc_hall.specs.declared.board.Call.{Call}
 use Rattle.tc_hall.specs.declared.board.Knows.{Knows}
 use Rattle.tc_hall.specs.Outs.{Called}
 use Rattle.tc_hall.specs.Rule.{grants_adopted, is_pinned, last_by}
-use Rattle.tc_hall.specs.Steps.{DidSeal, IsGrantedBehind}
+use Rattle.tc_hall.specs.Steps.{IsGrantedBehind}
 use Rattle.tc_hall.proofs.Cases.{apart}
 
 -- no block without a grant begins an Adopted section
@@ -75,30 +71,6 @@ together_uncut w t a b = record { goes_on = λ e. absurd (apart (was_cut w) a e)
 pub together_same : (of_worker of_thread : Option Block) → of_worker ≡ of_thread → AreTogether of_worker of_thread
 together_same w t one = record { goes_on = λ _. one; stays = λ _. one }
 
--- ---- by hand
-
-pub no_lock_behind : (last : Option Block) (o : Option Grant) → granted_lock o ≡ None → IsGrantedBehind last o
-no_lock_behind last None e = tt
-no_lock_behind last (Some g) e = absurd (let no : ⊥ = cc in no)
-
 -- calls of the pass seal no block
 pub same_last : (cs : List Call) (v w : Knows) → Called cs v w → last_by w ≡ last_by v
 same_last cs v w told = λ i. last_of (of_worker (told.sealed i) (told.worker i))
-
-unlocked_at : (last : Option Block) (k : ℕ) → HasBlock (λ (b : Block). b.end ≡ Unlocked k) last → has_unlocked k last ≡ true
-unlocked_at None k ended = absurd ended
-unlocked_at (Some b) k ended = ap (unlocks k) ended ∙ elim (eqb_tells k k) [ inl x ↦ x.0 | inr x ↦ absurd (x.1 refl) ]
-
-pub adopted_behind : (last : Option Block) (o : Option Grant) (k lock : ℕ) → lock ≡ k → HasBlock (λ (b : Block). b.end ≡ Unlocked k) last → o ≡ Some (record { lock = lock; kind = Adopted }) → IsGrantedBehind last o
-adopted_behind last o k lock same ended is = subst (IsGrantedBehind last) (sym is) (λ _. ap (λ (n : ℕ). has_unlocked n last) same ∙ unlocked_at last k ended)
-
--- a block was sealed that ended so
-pub ended_so : (end : End) (q : PackageView) (n : ℕ) (v w : Knows) → HasBlock (λ (b : Block). b.end ≡ end) q.pending → DidSeal q n v w → HasBlock (λ (b : Block). b.end ≡ end) (last_by w)
-ended_so end q n v w ended did =
-    subst (HasBlock (λ (b : Block). b.end ≡ end)) (sym (ap last_by did.now ∙ last_own worker_of v.sealed (sealed_block n v.worker did.block) v.worker refl))
-    (subst (HasBlock (λ (b : Block). b.end ≡ end)) did.pending ended)
-
--- it was not cut, where it ended otherwise
-pub ended_uncut : (end : End) (o : Option Block) → is_cut end ≡ false → HasBlock (λ (b : Block). b.end ≡ end) o → was_cut o ≡ false
-ended_uncut end None other ended = absurd ended
-ended_uncut end (Some b) other ended = ap is_cut ended ∙ other

@@ -22,7 +22,6 @@ pub mod Putting
 pub mod Dealt
 pub mod Waiting
 pub mod Behind
-pub mod InHand
 pub mod Crossing
 pub mod Shows
 pub mod Outlines

@@ -4,7 +4,6 @@ pub mod Rule
 pub mod Outs
 pub mod Steps
 pub mod Made
-pub mod Hands
 pub mod Effects
 pub mod Order
 pub mod Outline

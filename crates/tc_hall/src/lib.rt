@@ -15,7 +15,6 @@
 //!   `specs/Effects.antt`: the effect of each kind of operation on the table.
 //!   `specs/Outline.antt`, `specs/Shown.antt` and `specs/Ties.antt`: what a step is to the pure
 //!   machine of tc_core, and `specs/Lift.antt` what a whole order is. `specs/Made.antt`: what `new` makes. `specs/Places.antt`: the words of the places.
-//!   `specs/Hands.antt`: a hall of two threads and one lock, for the tests.
 //!   `specs/PassView.antt`: passes and halls as contracts see them.
 //! - `hall`: halls and their calls. `pass`: a worker's right to step. `place`: where packages are
 //!   put and from where they are claimed. `closed`: what a hall had at its end.

@@ -1,7 +1,5 @@
-mod hand;
-mod runs;
-
-ghost use Rattle.tc_hall.specs.Hands.{Plays};
+ghost use Rattle.std.specs.Prelude.{◌≡◌};
+ghost use Rattle.tc_hall.specs.Rule.{threads, locks};
 
 use crate::hall::{Hall, LockOut, NotReady, NotWaiting};
 use crate::pass::Pass;
@@ -9,6 +7,8 @@ use crate::place::Origin;
 use std::alloc::Global;
 use std::process::Abort;
 use std::test::Fail;
+use std::thread;
+use std::thread::Threads;
 use tc_elf::image::Image;
 use tc_elf::limits::MAX_FILE;
 use tc_elf::load::load;
@@ -37,8 +37,9 @@ fn one(alloc: Global) -> Result<Image, Refusal> {
 
 /// Looks at the words of both threads, and at the one for a stop, which is 0.
 fn look_around<R: Abort>(rt: &R, hall: &Hall, pass: &mut Pass, words: [u64; 2])
-    requires { Plays hall.now pass.old }
-    ensures { Plays hall.now pass.new }
+    requires two { threads hall.now.terms ≡ 2 }
+    requires own { pass.old.table ≡ hall.now.table }
+    ensures own { pass.new.table ≡ hall.now.table }
 {
     assert_eq!(rt; [hall.look(pass, 0), hall.look(pass, 1)], words);
     assert!(rt; !hall.stopped(pass));
@@ -46,8 +47,10 @@ fn look_around<R: Abort>(rt: &R, hall: &Hall, pass: &mut Pass, words: [u64; 2])
 
 /// A pass misses lock 0, which is out while thread 0 is.
 fn miss_lock<R: Abort>(rt: &R, hall: &Hall, pass: &mut Pass)
-    requires { Plays hall.now pass.old }
-    ensures { Plays hall.now pass.new }
+    requires two { threads hall.now.terms ≡ 2 }
+    requires one { locks hall.now.terms ≡ 1 }
+    requires own { pass.old.table ≡ hall.now.table }
+    ensures own { pass.new.table ≡ hall.now.table }
 {
     match hall.take(pass, 0) {
         Ok(_) => panic!(rt; "lock 0 is out"),
@@ -59,7 +62,9 @@ fn miss_lock<R: Abort>(rt: &R, hall: &Hall, pass: &mut Pass)
 /// What two passes see on a new hall, where the first of them has thread 0 and lock 0 out. What is
 /// refused changes no word.
 fn see_words<R: Abort>(rt: &R, hall: &Hall, zero: &mut Pass, other: &mut Pass)
-    requires { Plays hall.now zero.old × Plays hall.now other.old }
+    requires two { threads hall.now.terms ≡ 2 }
+    requires one { locks hall.now.terms ≡ 1 }
+    requires own { (zero.old.table ≡ hall.now.table) × (other.old.table ≡ hall.now.table) }
 {
     assert_eq!(rt; zero.worker(), 0);
     assert_eq!(rt; other.worker(), 1);
@@ -99,5 +104,52 @@ fn words_are_seen(rt: HostRuntime) -> Result<(), Fail> {
     let mut other = passes.pop().expect(&rt, "the second pass");
     let mut zero = passes.pop().expect(&rt, "the first pass");
     see_words(&rt, &hall, &mut zero, &mut other);
+    Ok(())
+}
+
+/// Claims thread 0, and answers the word that was seen where it was refused.
+fn refused(hall: &Hall, mut pass: Pass) -> Option<NotReady>
+    requires two { threads hall.now.terms ≡ 2 }
+    requires own { pass.table ≡ hall.now.table }
+{
+    hall.claim(&mut pass, 0, Origin::Ready).err()
+}
+
+/// Claims thread 0 from two threads of the host at once.
+fn race<R: Threads>(
+    rt: &R,
+    hall: &Hall,
+    zero: Pass,
+    other: Pass,
+) -> (Option<NotReady>, Option<NotReady>)
+    requires two { threads hall.now.terms ≡ 2 }
+    requires own { (zero.table ≡ hall.now.table) × (other.table ≡ hall.now.table) }
+{
+    thread::join(
+        rt,
+        move || -> Option<NotReady>
+            requires two { threads hall.now.terms ≡ 2 }
+            requires own { zero.table ≡ hall.now.table }
+        { refused(hall, zero) },
+        move || -> Option<NotReady>
+            requires two { threads hall.now.terms ≡ 2 }
+            requires own { other.table ≡ hall.now.table }
+        { refused(hall, other) },
+    )
+}
+
+/// One of them gets it, and the other sees with which worker it is out.
+#[test]
+fn one_of_two_threads_of_the_host_claims(rt: HostRuntime) -> Result<(), Fail> {
+    let image = one(rt.alloc())?;
+    assert_eq!(rt; image.threads(), 2);
+    let (hall, mut passes) = Hall::new(rt.alloc(), &image, 100, 2, 4)?;
+    let other = passes.pop().expect(&rt, "the second pass");
+    let zero = passes.pop().expect(&rt, "the first pass");
+    match race(&rt, &hall, zero, other) {
+        (None, Some(word)) => assert_eq!(rt; word, NotReady(512)),
+        (Some(word), None) => assert_eq!(rt; word, NotReady(513)),
+        _ => panic!(rt; "one worker gets the thread"),
+    }
     Ok(())
 }
