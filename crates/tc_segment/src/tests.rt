@@ -1,14 +1,12 @@
 use crate::state::LockState;
-use std::alloc::{AllocError, Global};
+use std::alloc::Global;
 use std::test::Fail;
 use tc_elf::image::Image;
 use tc_elf::limits::MAX_FILE;
 use tc_elf::load::load;
 use tc_elf::refusal::Refusal;
-use tc_isa::held::Held;
-use tc_isa::reg::Reg;
 use tc_isa::regs::Regs;
-use tc_journal::block::{Block, End, Kind};
+use tc_journal::block::Kind;
 
 /// A file with one thread, and a guard of 8 bytes at the address 0x00020004.
 const GUARDED: [u32; 55] = [
@@ -68,48 +66,5 @@ fn a_block_changes_the_guard(rt: HostRuntime) -> Result<(), Fail> {
     assert_eq!(rt; lock.sections(), 1);
     assert_eq!(rt; lock.entries(), 0);
     assert_eq!(rt; lock.run(), 0);
-    Ok(())
-}
-
-/// The entry of a block of two turns, by hand: a LOCK of lock 0, with the last fuel, and the turn that
-/// finds none.
-#[test]
-fn an_entry_is_opened_filled_and_closed(rt: HostRuntime) -> Result<(), Fail> {
-    let image = guarded(rt.alloc())?;
-    assert_eq!(rt; image.guards(), 1);
-    // ECALL, with the number of LOCK in x17 and lock 0 in x10, whose answer is 0.
-    assert_eq!(rt; image.fetch(0x0001_00c8), Some(0x0000_0073));
-    let start = Regs::start(0x0001_00c8, 0, 0).with(Reg::of(17), 1);
-    let end = start.at(0x0001_00cc);
-    let block = Block {
-        stamp: 0,
-        thread: 0,
-        turns: 2,
-        held: Held::none().plus(0),
-        kind: Kind::Taken,
-        worker: 0,
-        pc: 0x0001_00c8,
-        end: End::Spent,
-    };
-    let mut lock = LockState::new(rt.alloc(), &image, 0, 2)?;
-    lock.reserve(1)?;
-    lock.open_entry(start, 1);
-    lock.note_foreign(0);
-    lock.begin_section();
-    assert_eq!(rt; lock.entries(), 0);
-    lock.close_entry(&image, block, end);
-    assert_eq!(rt; lock.entries(), 1);
-    assert!(rt; lock.broken());
-    lock.seal(7, 3);
-    let entry = lock.entry(0);
-    assert_eq!(rt; entry.block.stamp, 7);
-    assert_eq!(rt; entry.block.worker, 3);
-    assert_eq!(rt; entry.block.turns, 2);
-    assert_eq!(rt; entry.fuel, 1);
-    assert_eq!(rt; entry.start, start);
-    assert_eq!(rt; entry.end, end);
-    assert_eq!(rt; entry.foreign, [0].as_slice());
-    assert!(rt; lock.allows(Kind::Granted, 0));
-    assert!(rt; !lock.allows(Kind::Adopted, 3));
     Ok(())
 }
