@@ -1,8 +1,6 @@
 -- Journals that grow.
 use Rattle.std.proofs.Common.{◌≡◌, ℕ, List, [], ◌∷◌, ◌++◌, refl}
-use Rattle.tc_elf.specs.Shown.{Shown}
-use Rattle.tc_turn.specs.Turn.{Mutex}
-use Rattle.tc_turn.specs.Replay.{Entry, Replays, replay_entry, replayed, AreReplayed}
+use Rattle.tc_segment.proofs.Vocabulary.{AreReplayed, Entry, Mutex, Replays, Shown, replay_entry, replayed}
 
 pub replayed-more : (image : Shown) (lock : ℕ) (old : Mutex) (es : List Entry) (e : Entry) → replayed image lock old (es ++ e ∷ []) ≡ replay_entry image lock e (replayed image lock old es)
 replayed-more image lock old [] e = refl

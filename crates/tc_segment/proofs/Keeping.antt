@@ -1,23 +1,16 @@
 -- What a lock state keeps through its calls.
 use Rattle.std.proofs.Common.{◌≡◌, ℕ, zero, suc, ◌+◌, ◌-◌, Bool, true, false, List, [], ◌∷◌, ◌++◌, map, set, length, take, drop, refl, sym, ap, subst, ◌∙◌, ◌<◌, ◌≤◌, arith, length-drop, length-append, inl, inr}
+use Rattle.tc_segment.proofs.Vocabulary.{AllFit, AreReplayed, Block, Closes, Entry, Extends, Fits, IsSoundLock, LockView, Mutex, OpenFits, Opened, Opening, Record, Registers, Replays, Shown, closed_with, entries, fresh_state, guard_at, lock_of, more_words, mutex_at_start, noted, opened_at, regs_at, replay_entry, replayed, shown, shown_journal, shown_open, with_closed, with_end}
+use Rattle.tc_segment.proofs.Vocabulary.{with_journal}
 use Rattle.std.specs.Prelude.{Option, Some, None, option_map, is_some, slice_get, if◌then◌else◌}
 use Rattle.std.proofs.Math.Seq.{get_or-append_seam}
 use Rattle.std.proofs.lemmas.Option.{slice_get-get_or, slice_get_cases}
 use Rattle.std.proofs.lemmas.List.{take_all, drop_all, take-append-le, drop-append-le}
 use Rattle.std.proofs.lemmas.List.FromFn.{length-map-range_with_len}
 use Rattle.tc_isa.specs.declared.limits.TheConstants.{MAX_BATCH}
-use Rattle.tc_elf.specs.Shown.{Shown, guard_at}
 use Rattle.tc_elf.specs.Kept.{IsGuard}
 use Rattle.tc_turn.specs.Memory.{starting_byte}
-use Rattle.tc_isa.specs.Registers.{Registers}
-use Rattle.tc_journal.specs.declared.block.Block.{Block}
-use Rattle.tc_turn.specs.Turn.{Mutex, mutex_at_start}
-use Rattle.tc_turn.specs.Replay.{Entry, Replays, replay_entry, replayed, AreReplayed}
-use Rattle.tc_segment.specs.declared.record.Record.{Record}
-use Rattle.tc_segment.specs.declared.record.Opening.{Opening}
-use Rattle.tc_segment.specs.View.{Opened, LockView, with_closed, entries, lock_of, replay_in, IsSoundLock, with_journal, opened_at, more_words, noted, entry_from, closed_with, with_end, Closes, fresh_state, strict_as}
-use Rattle.tc_segment.specs.Packed.{regs_at, Extends}
-use Rattle.tc_segment.specs.Kept.{shown, shown_open, shown_journal, Fits, AllFit, OpenFits}
+use Rattle.tc_segment.specs.View.{replay_in, entry_from, strict_as}
 use Rattle.tc_segment.proofs.Packing.{extends_same}
 use Rattle.tc_segment.proofs.Journals.{replayed-more, are_replayed-more}
 

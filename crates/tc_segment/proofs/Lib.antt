@@ -1,3 +1,4 @@
+pub mod Vocabulary
 pub mod Journals
 pub mod Packing
 pub mod Keeping

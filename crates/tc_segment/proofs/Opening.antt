@@ -1,17 +1,10 @@
 -- An entry that is opened.
 use Rattle.std.proofs.Common.{◌≡◌, ℕ, ◌-◌, ◌<◌, List, [], ◌∷◌, map, length, take, sym, ap, subst, ◌∙◌, arith}
+use Rattle.tc_segment.proofs.Vocabulary.{Contents, Edges, EndedAt, Entry, IsPlace, IsSoundLock, KeptLock, LockView, Record, Registers, StandsAt, StandsBeside, blocks_of, lock_of, mutex_at_start, opened_at, regs_at, replayed, run_of, shown, shown_journal, view_of, with_closed, with_journal}
 use Rattle.std.specs.Prelude.{Some, None, option_map, slice_get}
 use Rattle.std.proofs.lemmas.List.{length-map}
 use Rattle.std.proofs.lemmas.Option.{slice_get-map}
-use Rattle.tc_isa.specs.Registers.{Registers}
-use Rattle.tc_journal.specs.Batch.{run_of}
-use Rattle.tc_turn.specs.Turn.{mutex_at_start}
-use Rattle.tc_turn.specs.Replay.{Entry, replayed}
-use Rattle.tc_segment.specs.declared.record.Record.{Record}
-use Rattle.tc_segment.specs.declared.state.Contents.{Contents}
-use Rattle.tc_segment.specs.View.{LockView, IsSoundLock, with_closed, finish_in, last_finish, EndedAt, lock_of, with_journal, opened_at, blocks_of}
-use Rattle.tc_segment.specs.Kept.{shown, shown_journal, view_of, KeptLock}
-use Rattle.tc_segment.specs.Packed.{Edges, IsPlace, regs_at, StandsAt, StandsBeside}
+use Rattle.tc_segment.specs.View.{finish_in, last_finish}
 use Rattle.tc_segment.proofs.Packing.{stands_is, place_of-stands}
 use Rattle.tc_segment.proofs.Keeping.{edges_more, shown_grown, fits_grown, fits_at, entries_are, not_open, opened_journal, sound_opened}
 

@@ -1,20 +1,14 @@
 -- An entry that is sealed.
 use Rattle.std.proofs.Common.{◌≡◌, ℕ, ◌+◌, ◌≤◌, Bool, true, false, ◌&&◌, ◌<◌, List, [], ◌∷◌, ◌++◌, map, set, take, length, refl, sym, ap, subst, ◌∙◌, arith, append_assoc, append-nil, ◌==◌}
+use Rattle.tc_segment.proofs.Vocabulary.{AreReplayed, Block, Entry, IsSoundLock, IsStrict, LockView, Mutex, Opening, Record, Replays, Shown, Taken, block_in, block_of, blocks_of, entries, last_of, may_begin, mutex_at_start, replayed, run_after, run_of, sealed_as, sealed_block, sealed_entry, sealed_list, shown, shown_journal, shown_open, with_closed, with_journal}
 use Rattle.std.proofs.lemmas.List.{map-append, length-set, take-map, take_all, take_more_set}
 use Rattle.std.proofs.lemmas.Option.{slice_get_past, slice_get_within}
 use Rattle.std.specs.Prelude.{Option, Some, None, option_map, nat_lt, slice_get, if◌then◌else◌}
 use Rattle.std.proofs.lemmas.Bool.Decides.{nat_tests}
-use Rattle.tc_elf.specs.Shown.{Shown}
-use Rattle.tc_journal.specs.declared.block.Block.{Block}
 use Rattle.tc_journal.specs.declared.block.Kind.{Kind}
-use Rattle.tc_journal.specs.declared.block.Kind.TheVariants.{Start, On, Taken, Adopted, Granted}
-use Rattle.tc_turn.specs.Turn.{Mutex, mutex_at_start}
-use Rattle.tc_turn.specs.Replay.{Entry, Replays, replay_entry, replayed, AreReplayed}
-use Rattle.tc_segment.specs.declared.record.Record.{Record}
-use Rattle.tc_segment.specs.declared.record.Opening.{Opening}
-use Rattle.tc_journal.specs.Batch.{begins, unlocks, is_only, may_adopt, is_adopted, run_after, run_from, run_of, last_of, may_begin, allows_of, may_follow, ObeysAfter, Obeys, passes_on, PassesOnAfter, PassesOn}
-use Rattle.tc_segment.specs.View.{LockView, with_closed, entries, block_in, blocks_of, IsStrict, IsSoundLock, with_journal, sealed_block, sealed_entry, sealed_list, sealed_as}
-use Rattle.tc_segment.specs.Kept.{shown, block_of, shown_open, shown_journal}
+use Rattle.tc_journal.specs.declared.block.Kind.TheVariants.{Start, On, Adopted, Granted}
+use Rattle.tc_turn.specs.Replay.{replay_entry}
+use Rattle.tc_journal.specs.Batch.{begins, unlocks, is_only, may_adopt, is_adopted, run_from, allows_of, may_follow, ObeysAfter, Obeys, passes_on, PassesOnAfter, PassesOn}
 use Rattle.tc_segment.proofs.Journals.{replayed-more}
 use Rattle.tc_segment.proofs.Keeping.{entries_are}
 

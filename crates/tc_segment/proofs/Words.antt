@@ -1,7 +1,7 @@
 -- Words that are noted one after another.
 use Rattle.std.proofs.Common.{◌≡◌, ℕ, ◌+◌, ◌-◌, Bool, true, false, List, [], ◌++◌, length, refl, sym, ap, ◌∙◌, arith, append-nil, append_assoc, length-append}
+use Rattle.tc_segment.proofs.Vocabulary.{Journal, Opened, more_words, noted}
 use Rattle.std.specs.Prelude.{Option, Some, None, is_some, option_map, if◌then◌else◌}
-use Rattle.tc_segment.specs.View.{Journal, Opened, more_words, noted}
 
 more_nil : (o : Option Opened) → option_map (more_words []) o ≡ o
 more_nil None = refl

@@ -1,6 +1,6 @@
 use Rattle.std.proofs.Common.{◌/◌, ◌^◌, ◌<◌, ◌==◌, not, sym, ap, subst, ◌∙◌, arith, w32, Fits}
+use Rattle.tc_segment.proofs.Vocabulary.{mask_of}
 use Rattle.std.proofs.lemmas.Simd.{bitmask_splat}
-use Rattle.tc_segment.specs.Packed.{mask_of}
 use Rattle.tc_segment.proofs.Packing.{mask_lanes, mask_less, mask_first}
 use Rattle.tc_segment.proofs.packed.mask_of.Goals as goal
 

@@ -1,11 +1,9 @@
 use Rattle.std.proofs.Common.{◌≡◌, ℕ, ◌+◌, ◌-◌, ◌^◌, ◌<◌, ◌≤◌, ◌∷◌, ◌++◌, List, length, take, drop, set, sym, ap, subst, ◌∙◌, arith, append-nil, length-drop, length-set, w32}
+use Rattle.tc_segment.proofs.Vocabulary.{IsRegisters, Registers, bit_and, mask_of, nonzero, packed}
 use Rattle.std.specs.Prelude.{slice_index}
 use Rattle.std.specs.Int.{trailing_zeros}
-use Rattle.std.specs.Int.Bits.{bit_and}
 use Rattle.std.proofs.lemmas.List.{length-set, get_or-drop}
 use Rattle.std.proofs.lemmas.Nat.{and_le_r}
-use Rattle.tc_isa.specs.Registers.{Registers, IsRegisters}
-use Rattle.tc_segment.specs.Packed.{mask_of, nonzero, packed}
 use Rattle.tc_segment.proofs.Packing.{mask_less, picked, picked_all, picked_none, FirstPicked, first_picked, next_fits, stored, two_front}
 use Rattle.tc_segment.proofs.packed.pack.Goals as goal
 

@@ -1,5 +1,5 @@
 use Rattle.std.proofs.Common.{◌≡◌, ◌^◌, ◌<◌, ◌≤◌, ◌++◌, length, take, drop}
-use Rattle.tc_segment.specs.Packed.{packed}
+use Rattle.tc_segment.proofs.Vocabulary.{packed}
 use Rattle.tc_segment.proofs.Packing.{picked}
 use Rattle.tc_segment.proofs.packed.pack.Given as goal
 

@@ -1,5 +1,5 @@
 use Rattle.std.proofs.Common.{◌≡◌, ◌+◌, ◌-◌, ◌≤◌, ◌++◌, length, take, drop}
-use Rattle.tc_segment.specs.Packed.{regs_at, spread}
+use Rattle.tc_segment.proofs.Vocabulary.{regs_at, spread}
 use Rattle.tc_segment.proofs.packed.unpack.Given as goal
 
 -- the registers below this number are there, and the others come

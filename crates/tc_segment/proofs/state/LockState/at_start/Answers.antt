@@ -1,9 +1,6 @@
 use Rattle.std.proofs.Common.{◌≡◌, ◌∙◌, length, sym, ap, subst, arith}
-use Rattle.tc_elf.specs.Shown.{Shown, guard_at}
-use Rattle.tc_journal.specs.Batch.{run_of}
+use Rattle.tc_segment.proofs.Vocabulary.{AllFit, IsSoundLock, KeptLock, LockView, Shown, blocks_of, guard_at, run_of}
 use Rattle.tc_turn.specs.Memory.{starting_bytes}
-use Rattle.tc_segment.specs.View.{LockView, IsSoundLock, blocks_of}
-use Rattle.tc_segment.specs.Kept.{AllFit, KeptLock}
 use Rattle.tc_segment.proofs.Keeping.{fresh_view, sound_fresh}
 use Rattle.tc_segment.proofs.state.LockState.at_start.Goals as goal
 

@@ -1,6 +1,5 @@
 use Rattle.std.proofs.Common.{sym, subst}
-use Rattle.tc_isa.specs.Registers.{Registers}
-use Rattle.tc_segment.specs.View.{ClosesWith}
+use Rattle.tc_segment.proofs.Vocabulary.{ClosesWith, Registers}
 use Rattle.tc_segment.proofs.state.LockState.close_entry.Goals as goal
 
 pub close_packed-requires-clause-closes : goal.close_packed-requires-clause-closes

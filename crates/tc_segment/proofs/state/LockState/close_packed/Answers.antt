@@ -1,17 +1,9 @@
 use Rattle.std.proofs.Common.{◌≡◌, ℕ, true, List, [], ◌∷◌, ◌++◌, ◌+◌, ◌||◌, map, length, sym, ap, subst, ◌∙◌, arith, length-append}
+use Rattle.tc_segment.proofs.Vocabulary.{AllFit, Block, Closes, ClosesWith, Contents, Extends, IsSoundLock, Journal, KeptLock, LockView, OpenFits, Opening, Record, Registers, StandsAt, block_in, closed_with, mutex_at_start, replayed, run_of, shown, shown_journal, shown_open, view_of, with_end, with_journal}
 use Rattle.std.specs.Prelude.{Option, Some, None, option_map, is_some}
 use Rattle.std.proofs.lemmas.List.{length-map, map-append}
-use Rattle.tc_isa.specs.Registers.{Registers}
-use Rattle.tc_journal.specs.Batch.{ends_thread, run_of}
-use Rattle.tc_journal.specs.declared.block.Block.{Block}
-use Rattle.tc_turn.specs.Turn.{mutex_at_start}
-use Rattle.tc_turn.specs.Replay.{replayed}
-use Rattle.tc_segment.specs.declared.record.Record.{Record}
-use Rattle.tc_segment.specs.declared.record.Opening.{Opening}
-use Rattle.tc_segment.specs.declared.state.Contents.{Contents}
-use Rattle.tc_segment.specs.View.{LockView, Journal, IsSoundLock, block_in, Closes, ClosesWith, with_end, with_journal, closed_with}
-use Rattle.tc_segment.specs.Kept.{shown, shown_open, shown_journal, AllFit, OpenFits, view_of, count, KeptLock}
-use Rattle.tc_segment.specs.Packed.{StandsAt, Extends}
+use Rattle.tc_journal.specs.Batch.{ends_thread}
+use Rattle.tc_segment.specs.Kept.{count}
 use Rattle.tc_segment.proofs.Packing.{stands_is, place_of-stands}
 use Rattle.tc_segment.proofs.Keeping.{edges_more, shown_grown, fits_grown, fits_end, none_closed, closed_journal, sound_closed}
 use Rattle.tc_segment.proofs.state.LockState.close_packed.Goals as goal

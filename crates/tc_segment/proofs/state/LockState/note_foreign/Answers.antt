@@ -1,9 +1,6 @@
 use Rattle.std.proofs.Common.{◌≡◌, ℕ, [], List, ◌∷◌, ◌++◌, ◌-◌, ◌<◌, true, map, sym, ap, subst, ◌∙◌, arith}
+use Rattle.tc_segment.proofs.Vocabulary.{AllFit, Contents, IsSoundLock, KeptLock, LockView, OpenFits, blocks_of, noted, run_of, shown, shown_journal, view_of, with_journal}
 use Rattle.std.specs.Prelude.{is_some}
-use Rattle.tc_segment.specs.declared.state.Contents.{Contents}
-use Rattle.tc_journal.specs.Batch.{run_of}
-use Rattle.tc_segment.specs.View.{LockView, with_journal, noted, IsSoundLock, blocks_of}
-use Rattle.tc_segment.specs.Kept.{shown, shown_journal, AllFit, OpenFits, view_of, KeptLock}
 use Rattle.tc_segment.proofs.Keeping.{word_more, shown_grown, fits_grown, noted_journal, sound_noted, open_fits-more}
 use Rattle.tc_segment.proofs.state.LockState.note_foreign.Goals as goal
 

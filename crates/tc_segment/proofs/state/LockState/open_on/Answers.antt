@@ -1,13 +1,8 @@
 use Rattle.std.proofs.Common.{◌≡◌, ℕ, ◌-◌, ◌<◌, get_or, length, map, refl, sym, ap, subst, ◌∙◌, arith}
+use Rattle.tc_segment.proofs.Vocabulary.{Contents, EndedAt, KeptLock, LockView, Record, Registers, StandsBeside, lock_of, opened_at, shown, view_of, with_journal}
 use Rattle.std.specs.Prelude.{Some, None, slice_get, vec_len}
 use Rattle.std.proofs.lemmas.List.{length-map}
 use Rattle.std.proofs.lemmas.Option.{slice_get_read}
-use Rattle.tc_isa.specs.Registers.{Registers}
-use Rattle.tc_segment.specs.declared.record.Record.{Record}
-use Rattle.tc_segment.specs.declared.state.Contents.{Contents}
-use Rattle.tc_segment.specs.View.{LockView, EndedAt, lock_of, with_journal, opened_at}
-use Rattle.tc_segment.specs.Kept.{shown, view_of, KeptLock}
-use Rattle.tc_segment.specs.Packed.{StandsBeside}
 use Rattle.tc_segment.proofs.Packing.{extends_same}
 use Rattle.tc_segment.proofs.Opening.{opened_view, opened_kept, some_entry, ended_last, last_stands}
 use Rattle.tc_segment.proofs.state.LockState.open_on.Goals as goal

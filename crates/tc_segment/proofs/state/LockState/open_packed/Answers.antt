@@ -1,6 +1,5 @@
 use Rattle.std.proofs.Common.{◌<◌, sym, ap, subst, ◌∙◌}
-use Rattle.tc_segment.specs.View.{LockView, lock_of, with_journal, opened_at}
-use Rattle.tc_segment.specs.Kept.{view_of, KeptLock}
+use Rattle.tc_segment.proofs.Vocabulary.{KeptLock, LockView, lock_of, opened_at, view_of, with_journal}
 use Rattle.tc_segment.proofs.Opening.{opened_view, opened_kept}
 use Rattle.tc_segment.proofs.state.LockState.open_packed.Goals as goal
 

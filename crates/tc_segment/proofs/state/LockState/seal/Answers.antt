@@ -1,14 +1,10 @@
 use Rattle.std.proofs.Common.{◌≡◌, ℕ, ◌+◌, ◌<◌, ◌≤◌, [], ◌∷◌, ◌++◌, true, map, set, get_or, length, inl, inr, sym, ap, subst, ◌∙◌, arith}
+use Rattle.tc_segment.proofs.Vocabulary.{Contents, Entry, Fits, IsSoundLock, IsStrict, KeptLock, LockView, Record, block_in, blocks_of, option_map, run_after, run_of, sealed_as, sealed_block, sealed_entry, sealed_list, shown, shown_journal, view_of, with_journal}
 use Rattle.std.specs.Prelude.{Some, is_some, slice_get}
-use Rattle.std.specs.Option.{option_map}
 use Rattle.std.proofs.lemmas.List.{length-map, length-set, map-append, map-set}
 use Rattle.std.proofs.lemmas.Option.{slice_get-map, slice_get-get_or, slice_get_cases}
-use Rattle.tc_turn.specs.Replay.{Entry}
-use Rattle.tc_segment.specs.declared.record.Record.{Record}
-use Rattle.tc_segment.specs.declared.state.Contents.{Contents}
-use Rattle.tc_journal.specs.Batch.{run_of, run_after, may_follow, passes_on}
-use Rattle.tc_segment.specs.View.{LockView, with_journal, sealed_as, sealed_block, sealed_entry, sealed_list, IsStrict, IsSoundLock, block_in, blocks_of}
-use Rattle.tc_segment.specs.Kept.{shown, shown_journal, sealed_record, Fits, view_of, KeptLock}
+use Rattle.tc_journal.specs.Batch.{may_follow, passes_on}
+use Rattle.tc_segment.specs.Kept.{sealed_record}
 use Rattle.tc_segment.proofs.Keeping.{fits_at, fits_set}
 use Rattle.tc_segment.proofs.Sealing.{sealed_journal, sound_sealed, run-more, run_short}
 use Rattle.tc_segment.proofs.state.LockState.seal.Goals as goal
