@@ -1,18 +1,17 @@
 -- Machines that differ in the owners of locks alone: no turn tells them apart.
 use Rattle.std.proofs.Common.{◌≡◌, ℕ, zero, suc, ◌+◌, ◌==◌, sym, refl, ap, ◌∙◌, Option, Some, None}
+use Rattle.tc_hall.proofs.Vocabulary.{Mutex, Shown, State, Thread, end_at, end_rule, next_lock, outcome_of, unowned}
 use Rattle.std.specs.Prelude.{if◌then◌else◌, unwrap_or}
-use Rattle.tc_elf.specs.Shown.{Shown, guard_at}
+use Rattle.tc_elf.specs.Shown.{guard_at}
 use Rattle.tc_elf.specs.declared.image.Region.{Region}
 use Rattle.tc_elf.specs.declared.image.Region.TheVariants as region
 use Rattle.tc_exec.specs.Step.{wants_of}
 use Rattle.tc_exec.specs.declared.outcome.Want.{Want}
 use Rattle.tc_exec.specs.declared.outcome.Want.TheVariants as want
-use Rattle.tc_journal.specs.Rule.{end_rule}
 use Rattle.tc_turn.specs.Memory.{number_at, byte_from}
-use Rattle.tc_turn.specs.Replay.{unowned}
-use Rattle.tc_turn.specs.Turn.{Thread, Mutex, next_lock, next_act, act_with, answer_to, byte_at, lock_answer, thread_after, mutex_after, outcome_of}
-use Rattle.tc_mutex_spec.specs.Machine.{State, after}
-use Rattle.tc_mutex_spec.specs.Blocks.{reach, end_at}
+use Rattle.tc_turn.specs.Turn.{next_act, act_with, answer_to, byte_at, lock_answer, thread_after, mutex_after}
+use Rattle.tc_mutex_spec.specs.Machine.{after}
+use Rattle.tc_mutex_spec.specs.Blocks.{reach}
 use Rattle.tc_mutex_spec.proofs.Replaying.{unowned_after}
 
 pub record IsUnownedSame (m n : State) : Type 0 where

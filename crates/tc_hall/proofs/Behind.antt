@@ -1,23 +1,13 @@
 -- A block that was run with a lock that was granted as Adopted comes behind the block that handed the lock over.
 use Rattle.std.proofs.Common.{◌≡◌, ℕ, ◌==◌, ◌≤◌, ◌||◌, true, false, List, [], ◌∷◌, length, sym, refl, ap, ◌∙◌, subst, inl, inr, arith, Option, Some, None}
+use Rattle.tc_hall.proofs.Vocabulary.{AreTogether, Block, Call, Called, DidRun, Grant, IsHandedOver, Knows, PackageView, Shown, grants_adopted, is_pinned, last_by, last_of, lock_in, next_lock, of_worker, thread_in, was_cut, whole}
 use Rattle.std.proofs.lemmas.Bool.Decides.{eqb_tells}
-use Rattle.tc_elf.specs.Shown.{Shown}
-use Rattle.tc_journal.specs.Batch.{begins, is_adopted, is_lock, last_of, takes_of}
-use Rattle.tc_journal.specs.Handing.{AreTogether, has_unlocked, of_worker, was_cut, IsHandedOver}
-use Rattle.tc_journal.specs.declared.block.Block.{Block}
+use Rattle.tc_journal.specs.Batch.{begins, is_adopted, is_lock, takes_of}
+use Rattle.tc_journal.specs.Handing.{has_unlocked}
 use Rattle.tc_journal.specs.declared.block.Kind.TheVariants.{Adopted}
-use Rattle.tc_turn.specs.Turn.{next_lock}
 use Rattle.tc_mutex_spec.proofs.Replaying.{IsRecord, record_takes}
-use Rattle.tc_context.specs.declared.package.Grant.{Grant}
-use Rattle.tc_context.specs.Locks.{lock_in}
-use Rattle.tc_context.specs.Ran.{DidRun}
-use Rattle.tc_context.specs.View.{PackageView, IsSoundPackage, MayTake, kind_of}
-use Rattle.tc_context.specs.Whole.{thread_in, whole}
+use Rattle.tc_context.specs.View.{IsSoundPackage, MayTake, kind_of}
 use Rattle.tc_context.proofs.Staging.{some_of}
-use Rattle.tc_hall.specs.declared.board.Call.{Call}
-use Rattle.tc_hall.specs.declared.board.Knows.{Knows}
-use Rattle.tc_hall.specs.Outs.{Called}
-use Rattle.tc_hall.specs.Rule.{grants_adopted, is_pinned, last_by}
 use Rattle.tc_hall.specs.Steps.{IsGrantedBehind}
 use Rattle.tc_hall.proofs.Cases.{apart}
 

@@ -1,12 +1,7 @@
 -- What an option, a place of a list, a slot or a spot is, it is nothing else.
 use Rattle.std.proofs.Common.{◌≡◌, ◌⊎◌, ℕ, Bool, true, false, Option, Some, None, refl, inl, inr}
-use mathlib.Core.Option.{none, some}
+use Rattle.tc_hall.proofs.Vocabulary.{Cargo, Lock, LockView, Package, PackageView, Spot, home, inside, none, out, some}
 use mathlib.Core.Option as maybe
-use Rattle.tc_segment.specs.View.{LockView}
-use Rattle.tc_context.specs.View.{PackageView}
-use Rattle.tc_hall.specs.declared.board.Cargo.{Cargo}
-use Rattle.tc_hall.specs.declared.board.Cargo.TheVariants.{Package, Lock}
-use Rattle.tc_hall.specs.Rule.{Spot, home, inside, out}
 
 pub apart : (b : Bool) → b ≡ false → b ≡ true → ⊥
 apart b e f = cc (e, f)

@@ -1,46 +1,23 @@
 -- `commit` of a block ties to its turns and their Commit.
 use Rattle.std.proofs.Common.{◌≡◌, ◌≢◌, ℕ, zero, suc, ◌+◌, ◌-◌, ◌%◌, ◌<◌, ◌&&◌, Bool, true, false, List, [], ◌∷◌, ◌++◌, length, set, sym, refl, ap, ◌∙◌, subst, ⊎_elim, arith, Option, Some, None, slice_index, length-append, get_or-set_other}
+use Rattle.tc_hall.proofs.Vocabulary.{AreEnabled, At, Block, CLOCK, Commit, Core, DidRun, End, Hall, Has, HasLock, IsShown, Knows, LockAt, LockView, Lying, Moment, Mutex, Outline, Package, PackageAt, PackageView, Seals, Shown, Shows, ShowsLock, ShowsThread, State, Terms, Thread, after, after_events, after_seal, at_home, bare, commit_effect, get_elem?, has, in_hand, in_slot}
+use Rattle.tc_hall.proofs.Vocabulary.{is_running, kept, last_end, lock_in, lock_in_package, lock_in_slot, lock_of, lock_with_pass, locked_in, locks, machine_limits, option_map, outline, packed, place_shown, sealed_as, sealed_block, slot_word, some, some-injective, thread_in, threads, turns_by, unowned, whole, with_journal, with_pass, with_seal}
 use Rattle.std.specs.Prelude.{if◌then◌else◌, is_some}
-use Rattle.std.specs.Option.{option_map}
 use mathlib.Core.Logic.{dite}
-use mathlib.Core.Option.{some, some-injective}
 use native.Mathlib.Decide.{ℕ_discrete}
-use lib.ListN.{get_elem?}
 use Rattle.atomic_table.proofs.Lists.{at_set, set_here, set_else}
-use Rattle.tc_elf.specs.Shown.{Shown}
-use Rattle.tc_isa.specs.Sets.{has}
-use Rattle.tc_journal.specs.declared.block.Block.{Block}
-use Rattle.tc_journal.specs.declared.block.End.{End}
 use Rattle.tc_journal.proofs.Batching.{last_more}
-use Rattle.tc_turn.specs.Turn.{Thread, Mutex, is_running}
-use Rattle.tc_turn.specs.Replay.{unowned}
-use Rattle.tc_mutex_spec.specs.Machine.{State, can_turn}
+use Rattle.tc_mutex_spec.specs.Machine.{can_turn}
 use Rattle.tc_mutex_spec.specs.Locality.{Agree, Apart}
 use Rattle.tc_mutex_spec.specs.Blocks.{reach, Runs}
-use Rattle.tc_segment.specs.View.{LockView, kept, lock_of, with_journal, sealed_as, sealed_block}
 use Rattle.tc_context.specs.declared.context.Context.{Context}
-use Rattle.tc_context.specs.Locks.{lock_in, mutex_or}
-use Rattle.tc_context.specs.Whole.{thread_in, mutex_at, whole, set_of, block_locks}
-use Rattle.tc_context.specs.View.{PackageView, bare, with_seal, sealed_log}
-use Rattle.tc_context.specs.Ran.{DidRun}
+use Rattle.tc_context.specs.Locks.{mutex_or}
+use Rattle.tc_context.specs.Whole.{mutex_at, set_of, block_locks}
+use Rattle.tc_context.specs.View.{sealed_log}
 use Rattle.tc_context.proofs.Partway.{block_inside}
 use Rattle.tc_context.proofs.Staging.{some_of}
 use Rattle.tc_context.proofs.Running.{sealed_at}
-use Rattle.tc_core.specs.Core.{Core}
-use Rattle.tc_core.specs.Stories.{AreEnabled}
-use Rattle.tc_core.specs.declared.event.Event.TheVariants.{Commit}
-use Rattle.tc_core.specs.declared.place.ThreadPlace.TheVariants.{At}
-use Rattle.tc_hall.specs.declared.board.TheConstants.{CLOCK}
-use Rattle.tc_hall.specs.Places.{slot_word}
-use Rattle.tc_hall.specs.declared.board.Knows.{Knows}
-use Rattle.tc_hall.specs.declared.board.Terms.{Terms}
-use Rattle.tc_hall.specs.declared.board.Cargo.TheVariants.{Package}
-use Rattle.tc_hall.specs.Rule.{threads, locks, Has, HasLock, locked_in}
-use Rattle.tc_hall.specs.Steps.{Seals, after_seal}
-use Rattle.tc_hall.specs.Effects.{Hall, after, commit_effect}
-use Rattle.tc_hall.specs.Outline.{Outline, Lying, at_home, in_hand, packed, outline}
-use Rattle.tc_hall.specs.Shown.{IsShown, PackageAt, in_slot, with_pass, LockAt, lock_in_slot, lock_in_package, lock_with_pass, ShowsThread, ShowsLock, place_shown, last_end}
-use Rattle.tc_hall.specs.Ties.{machine_limits, after_events, Moment, Shows, turns_by, RunsThrough, CommitTie}
+use Rattle.tc_hall.specs.Ties.{RunsThrough, CommitTie}
 use Rattle.tc_hall.proofs.Shows.{home_hand, hand_packed}
 use Rattle.tc_hall.proofs.Outlines.{true_or_false}
 use Rattle.tc_hall.proofs.Alike.{IsUnownedSame, reach_same, end_same}

@@ -1,10 +1,8 @@
 -- Passes that are taken from a list of passes of one hall.
 use Rattle.std.proofs.Common.{◌≡◌, ℕ, List, [], ◌∷◌, ◌++◌, length, Option, Some, refl, ap, ◌∙◌}
+use Rattle.tc_hall.proofs.Vocabulary.{PassView, get_elem?, some}
 use Rattle.std.specs.Option.{option_to_list}
-use mathlib.Core.Option.{some}
-use lib.ListN.{get_elem?}
 use Rattle.atomic_table.proofs.Lists.{at_longer, at_last}
-use Rattle.tc_hall.specs.PassView.{PassView}
 
 abbrev pub AreAll : (PassView → Type 0) → List PassView → Type 0
 AreAll P passes = (i : ℕ) (p : PassView) → get_elem? passes i ≡ some p → P p

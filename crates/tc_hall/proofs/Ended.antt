@@ -1,27 +1,15 @@
 -- The packages and lock states of a hall that was closed.
 use Rattle.std.proofs.Common.{◌≡◌, ◌≢◌, ℕ, suc, ◌+◌, ◌<◌, Bool, true, false, List, [], ◌∷◌, ◌++◌, length, map, get_or, set, sym, refl, ap, ◌∙◌, subst, ⊎_elim, arith, Option, Some, None, length-append, get_or-set_other, get_or-set_same}
+use Rattle.tc_hall.proofs.Vocabulary.{AreTaken, Cargo, HasAll, HasSeenAll, IsEmptied, IsEnd, IsFree, IsLockHome, IsOrdered, KeptHall, Knows, Lawful, LiesLock, Lock, LockView, Package, PackageView, Spot, Terms, bare, get_elem?, home, inside, is_running, kept, length-map, locked_in, locks, none, out, some, some-injective, some-ne-none, threads}
 use mathlib.Core.Logic.{dite}
-use mathlib.Core.Option.{none, some, some-injective, some-ne-none}
 use mathlib.Core.Option as maybe
 use native.Mathlib.Decide.{ℕ_discrete}
-use lib.ListN.{get_elem?, length-map}
 use Rattle.atomic_table.specs.Table.{State, Final, Seen}
 use Rattle.atomic_table.proofs.Lists.{at_map}
 use Rattle.std.specs.Mem.Slots.Ownership.{Filled}
-use Rattle.tc_turn.specs.Turn.{is_running}
-use Rattle.tc_segment.specs.View.{LockView, kept}
-use Rattle.tc_context.specs.View.{PackageView, bare}
-use Rattle.tc_law.specs.Lawful.{Lawful}
 use Rattle.tc_mutex_spec.proofs.ListLaws.{there, at_place}
-use Rattle.tc_hall.specs.declared.board.Knows.{Knows}
-use Rattle.tc_hall.specs.declared.board.Terms.{Terms}
-use Rattle.tc_hall.specs.declared.board.Cargo.{Cargo}
-use Rattle.tc_hall.specs.declared.board.Cargo.TheVariants.{Package, Lock}
-use Rattle.tc_hall.specs.Rule.{locked_in, threads, locks, IsLockHome, LiesLock, Spot, home, inside, out, KeptHall}
-use Rattle.tc_hall.specs.Order.{IsOrdered}
 use Rattle.tc_hall.proofs.Ordering.{kept_of}
-use Rattle.tc_hall.specs.Steps.{HasSeenAll, HasAll, IsFree, IsEnd, IsPackage, IsLock}
-use Rattle.tc_hall.specs.Made.{AreTaken, IsEmptied}
+use Rattle.tc_hall.specs.Steps.{IsPackage, IsLock}
 use Rattle.tc_hall.proofs.Telling.{snoc_at}
 use Rattle.tc_hall.proofs.Moves.{home_of}
 use Rattle.tc_hall.proofs.Cases.{clash, same_package}

@@ -1,20 +1,12 @@
 -- After each order of operations every word is one of those that it may be.
 use Rattle.std.proofs.Common.{◌≡◌, ◌≢◌, ℕ, ◌+◌, ◌*◌, ◌<◌, ◌≤◌, List, [], ◌∷◌, length, replicate, set, sym, refl, ap, ◌∙◌, subst, arith, slice_index, length-set, get_or-set_other, get_or-set_same}
+use Rattle.tc_hall.proofs.Vocabulary.{CLOCK, Hall, IsLegal, IsOpening, KeptHall, Knows, Made, MayDo, Operation, Ready, STOP, Terms, after_operation, bare, claim, code_of, commit, free, get_elem?, hall_after, join, lay, length-replicate, locks, look, miss, put, reach, slot_word, some, split, stop, stopped, take, threads}
 use Rattle.std.proofs.lemmas.List.{get_or-replicate}
 use mathlib.Core.Logic.{dite}
-use mathlib.Core.Option.{some}
 use native.Mathlib.Decide.{ℕ_discrete}
-use lib.ListN.{get_elem?, length-replicate}
 use lib.Seq.{set-get_or}
-use Rattle.tc_context.specs.View.{bare}
-use Rattle.tc_hall.specs.declared.board.TheConstants.{LINE, CLOCK, STOP}
-use Rattle.tc_hall.specs.declared.place.Place.TheVariants.{Ready}
-use Rattle.tc_hall.specs.declared.board.Knows.{Knows}
-use Rattle.tc_hall.specs.declared.board.Terms.{Terms}
-use Rattle.tc_hall.specs.Places.{code_of, slot_word}
-use Rattle.tc_hall.specs.Rule.{threads, locks, KeptHall}
-use Rattle.tc_hall.specs.Effects.{Hall}
-use Rattle.tc_hall.specs.Order.{Operation, claim, take, miss, commit, put, free, look, stop, stopped, reach, lay, split, join, MayDo, Made, after_operation, hall_after, IsLegal, IsOpening, IsThreadWord, put_at, out_with, AreExact, HasExactWords}
+use Rattle.tc_hall.specs.declared.board.TheConstants.{LINE}
+use Rattle.tc_hall.specs.Order.{IsThreadWord, put_at, out_with, AreExact, HasExactWords}
 use Rattle.tc_hall.proofs.Moves.{is_out}
 use Rattle.tc_hall.proofs.Ordering.{kept_by}
 

@@ -1,9 +1,6 @@
 -- From the step that takes a slot, through what is done in it, to the step that gives it back.
 use Rattle.std.proofs.Common.{◌≡◌, ℕ, List, [], ◌∷◌, Option, Some, None, sym, ap, ◌∙◌}
-use Rattle.atomic_table.specs.Table.{rest}
-use Rattle.tc_hall.specs.declared.board.Knows.{Knows}
-use Rattle.tc_hall.specs.declared.board.Cargo.{Cargo}
-use Rattle.tc_hall.specs.Steps.{Sat}
+use Rattle.tc_hall.proofs.Vocabulary.{Cargo, Knows, Sat, rest}
 
 abbrev pub first_value : List (ℕ × Option Cargo) → Option Cargo
 first_value [] = None

@@ -1,16 +1,6 @@
 -- What lies in a slot is as the history leaves it.
 use Rattle.std.proofs.Common.{◌≡◌, ℕ, ◌<◌, refl, sym, ap, ◌∙◌}
-use mathlib.Core.Option.{some}
-use lib.ListN.{get_elem?}
-use Rattle.tc_journal.specs.History.{of_thread}
-use Rattle.tc_mutex_spec.specs.Blocks.{end_after}
-use Rattle.tc_segment.specs.View.{LockView, kept, lock_of}
-use Rattle.tc_context.specs.Whole.{thread_in}
-use Rattle.tc_context.specs.View.{PackageView}
-use Rattle.tc_hall.specs.declared.board.Knows.{Knows}
-use Rattle.tc_hall.specs.declared.board.Terms.{Terms}
-use Rattle.tc_hall.specs.Rule.{threads, IsHome, IsLockHome, KeptHall}
-use Rattle.tc_hall.specs.Steps.{IsAsLeft, IsStateAsLeft}
+use Rattle.tc_hall.proofs.Vocabulary.{IsAsLeft, IsHome, IsLockHome, IsStateAsLeft, KeptHall, Knows, LockView, PackageView, Terms, end_after, get_elem?, kept, lock_of, of_thread, some, thread_in, threads}
 use Rattle.tc_hall.proofs.Moves.{St}
 
 module _ (k : Terms) (s : St k) (r : KeptHall k s) (id : ℕ) where

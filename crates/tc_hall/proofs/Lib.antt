@@ -1,3 +1,4 @@
+pub mod Vocabulary
 pub mod Cases
 pub mod LockLists
 pub mod Outs

@@ -1,41 +1,18 @@
 -- A hall's order with the events of the lines is one list of events, by the tie of each step.
 use Rattle.std.proofs.Common.{◌≡◌, ◌≢◌, ℕ, zero, suc, ◌+◌, ◌-◌, ◌<◌, Bool, true, false, ◌==◌, List, [], ◌∷◌, ◌++◌, replicate, set, sym, refl, ap, ◌∙◌, subst, ⊎_elim, arith, Option, Some, None, slice_index, if◌then◌else◌}
+use Rattle.tc_hall.proofs.Vocabulary.{AreEnabled, AreStocked, Block, CLOCK, Cargo, Commit, Core, Custody, Done, Event, Hall, IsFree, IsOpening, KeptHall, Knows, Lock, LockAt, LockView, Lying, MayDo, MayFill, Moment, Operation, Package, PackageAt, PackageView, Parked, Place, Ready, Seals, Shows, ShowsLock, ShowsThread, Terms, Waiting, after, after_events, after_operation, claim}
+use Rattle.tc_hall.proofs.Vocabulary.{commit, commit_effect, free, get_elem?, in_slot, join, last_end, lay, lies_at, lock_in_package, lock_in_slot, lock_of, lock_with_pass, locked_in, locks, look, look_effect, machine_limits, miss, miss_effect, none, opening, outline, place_shown, put, reach, slot_word, some, some-injective, some-ne-none, split, starting, stop, stopped}
+use Rattle.tc_hall.proofs.Vocabulary.{stopped_effect, take, threads, turns_by, with_custody, with_pass}
 use Rattle.std.specs.Prelude.{nat_lt}
 use Rattle.std.proofs.lemmas.Bool.Decides.{nat_tests}
 use Rattle.std.proofs.lemmas.List.{get_or-replicate}
-use mathlib.Core.Option.{none, some, some-injective, some-ne-none}
 use mathlib.Core.Option as maybe
-use lib.ListN.{get_elem?}
 use lib.Seq.{set-get_or}
-use Rattle.atomic_table.specs.Table.{opening}
 use Rattle.atomic_table.proofs.Lists.{at_set, at_map}
-use Rattle.tc_journal.specs.declared.block.Block.{Block}
 use Rattle.tc_turn.specs.Turn.{thread_at_start, no_thread}
-use Rattle.tc_segment.specs.View.{LockView, lock_of}
-use Rattle.tc_context.specs.View.{PackageView}
-use Rattle.tc_core.specs.Core.{Core, with_custody}
-use Rattle.tc_core.specs.Stories.{AreEnabled}
 use Rattle.tc_core.specs.Events.{effect, entered, left_by_all}
-use Rattle.tc_core.specs.declared.event.Event.{Event}
-use Rattle.tc_core.specs.declared.event.Event.TheVariants.{Commit, Enter, Leave}
-use Rattle.tc_core.specs.declared.place.Custody.{Custody}
-use Rattle.tc_hall.specs.declared.board.TheConstants.{CLOCK}
-use Rattle.tc_hall.specs.Places.{slot_word}
-use Rattle.tc_hall.specs.declared.place.Place.{Place}
-use Rattle.tc_hall.specs.declared.place.Place.TheVariants.{Ready, Waiting, Parked, Done}
+use Rattle.tc_core.specs.declared.event.Event.TheVariants.{Enter, Leave}
 use Rattle.tc_hall.specs.declared.place.Origin.TheVariants as origin
-use Rattle.tc_hall.specs.declared.board.Knows.{Knows}
-use Rattle.tc_hall.specs.declared.board.Terms.{Terms}
-use Rattle.tc_hall.specs.declared.board.Cargo.{Cargo}
-use Rattle.tc_hall.specs.declared.board.Cargo.TheVariants.{Package, Lock}
-use Rattle.tc_hall.specs.Rule.{threads, locks, starting, locked_in, KeptHall}
-use Rattle.tc_hall.specs.Steps.{Seals, IsFree}
-use Rattle.tc_hall.specs.Made.{AreStocked}
-use Rattle.tc_hall.specs.Effects.{Hall, after, commit_effect, look_effect, stopped_effect, miss_effect}
-use Rattle.tc_hall.specs.Order.{Operation, claim, take, miss, commit, put, free, look, stop, stopped, reach, lay, split, join, MayFill, MayDo, after_operation, IsOpening}
-use Rattle.tc_hall.specs.Outline.{Lying, outline, lies_at}
-use Rattle.tc_hall.specs.Shown.{PackageAt, in_slot, with_pass, LockAt, lock_in_slot, lock_in_package, lock_with_pass, ShowsThread, ShowsLock, place_shown, last_end}
-use Rattle.tc_hall.specs.Ties.{machine_limits, after_events, turns_by, Moment, Shows}
 use Rattle.tc_hall.specs.Lift.{IsClaimed, alone, adopted, granted, IsPut, IsOf, Beat, operation, enter, leave, events_of, hall_of, start_of, core_after, MayLift, OpensShown, IsLifted, Lifts}
 use Rattle.tc_hall.proofs.Ordering.{kept_after, kept_by}
 use Rattle.tc_hall.proofs.Tying.{claim_tie, adopt_tie, put_tie, take_tie, free_tie, tell_tie, pass_tie}

@@ -1,20 +1,13 @@
 -- What the passes' lists of blocks say of the history stays true.
 use Rattle.std.proofs.Common.{◌≡◌, ◌≢◌, ◌⊎◌, ℕ, zero, suc, ◌<◌, ◌≤◌, ◌+◌, ◌==◌, Bool, true, false, List, [], ◌∷◌, ◌++◌, length, set, sym, refl, ap, ◌∙◌, subst, ⊎_elim, inl, inr, arith, append-nil, append_assoc, Some, None, if◌then◌else◌}
+use Rattle.tc_hall.proofs.Vocabulary.{AreApart, Block, Knows, Shown, clean, dealt, get_elem?, gone, last_by, last_of, merged, of_worker, some, some-injective, some-ne-none}
 use Rattle.std.proofs.lemmas.Bool.Decides.{eqb_tells}
 use Rattle.std.proofs.lemmas.List.Elements.{filter-append}
 use mathlib.Core.Logic.{dite}
-use mathlib.Core.Option.{some, some-injective, some-ne-none}
 use native.Mathlib.Decide.{ℕ_discrete}
-use lib.ListN.{get_elem?}
 use Rattle.atomic_table.proofs.Lists.{at_set, at_longer, at_snoc}
-use Rattle.tc_elf.specs.Shown.{Shown}
-use Rattle.tc_journal.specs.Batch.{last_of}
-use Rattle.tc_journal.specs.Handing.{of_worker}
-use Rattle.tc_journal.specs.declared.block.Block.{Block}
 use Rattle.tc_journal.proofs.Rows.{last_own, other_more, worker_of}
-use Rattle.tc_hall.specs.declared.board.Knows.{Knows}
-use Rattle.tc_hall.specs.Rule.{AreApart, AreListed, clean, last_by}
-use Rattle.tc_hall.specs.Steps.{dealt, merged, gone}
+use Rattle.tc_hall.specs.Rule.{AreListed}
 use Rattle.tc_hall.proofs.Cases.{apart}
 
 -- ---- lists

@@ -1,11 +1,7 @@
 -- Lists of lock states by number.
 use Rattle.std.proofs.Common.{◌≡◌, ℕ, zero, suc, ◌<◌, List, [], ◌∷◌, length, refl, sym, ap, arith, Option, Some, None}
-use mathlib.Core.Option.{some, some-injective, some-ne-none}
-use lib.ListN.{get_elem?}
-use Rattle.tc_segment.specs.View.{LockView, kept}
-use Rattle.tc_context.specs.Locks.{lock_in}
-use Rattle.tc_law.specs.Lawful.{with_states}
-use Rattle.tc_hall.specs.Steps.{or_kept, or_none, add_all, remove_all}
+use Rattle.tc_hall.proofs.Vocabulary.{LockView, add_all, get_elem?, kept, lock_in, remove_all, some, some-injective, some-ne-none, with_states}
+use Rattle.tc_hall.specs.Steps.{or_kept, or_none}
 
 clash : (a b : Option LockView) (l : LockView) → a ≡ b → a ≡ None → b ≡ Some l → ⊥
 clash a b l e f g = cc (e, f, g)

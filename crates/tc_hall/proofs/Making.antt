@@ -1,23 +1,12 @@
 -- How passes are made and joined.
 use Rattle.std.proofs.Common.{◌≡◌, ◌≢◌, ◌⊎◌, ℕ, zero, suc, ◌+◌, ◌<◌, ◌≤◌, Bool, true, false, List, [], ◌∷◌, ◌++◌, length, set, replicate, sym, refl, ap, ◌∙◌, subst, ⊎_elim, inl, inr, arith, Some, None}
+use Rattle.tc_hall.proofs.Vocabulary.{AreApart, AreLocksPlaced, ArePlaced, Block, Call, Free, HasStopped, Homes, IsFree, IsPass, Joins, KeptHall, Knows, Lies, LiesLock, LockView, Look, PackageView, Put, Shown, Splits, Spot, Stop, Stopped, Terms, clean, dealt, fresh, get_elem?, gone, home, inside, length-replicate, locks, merged, none, out, some, some-injective, some-ne-none}
+use Rattle.tc_hall.proofs.Vocabulary.{threads}
 use mathlib.Core.Logic.{dite}
-use mathlib.Core.Option.{none, some, some-injective, some-ne-none}
 use mathlib.Core.Option as maybe
 use native.Mathlib.Decide.{ℕ_discrete}
-use lib.ListN.{get_elem?, length-replicate}
-use Rattle.atomic_table.specs.Table.{Splits, Joins}
 use Rattle.atomic_table.proofs.Lists.{at_set, set_here, set_else, at_longer, at_snoc}
-use Rattle.tc_elf.specs.Shown.{Shown}
-use Rattle.tc_journal.specs.declared.block.Block.{Block}
-use Rattle.tc_segment.specs.View.{LockView}
-use Rattle.tc_context.specs.View.{PackageView}
 use Rattle.tc_mutex_spec.proofs.ListLaws.{there}
-use Rattle.tc_hall.specs.declared.board.Knows.{Knows}
-use Rattle.tc_hall.specs.declared.board.Terms.{Terms}
-use Rattle.tc_hall.specs.declared.board.Call.{Call}
-use Rattle.tc_hall.specs.declared.board.Call.TheVariants.{Look, Stop, Stopped, Put, Free}
-use Rattle.tc_hall.specs.Rule.{threads, locks, Homes, Lies, ArePlaced, Spot, home, inside, out, LiesLock, AreLocksPlaced, IsPass, HasStopped, AreApart, KeptHall, clean}
-use Rattle.tc_hall.specs.Steps.{dealt, fresh, merged, gone, IsFree}
 use Rattle.tc_hall.proofs.Telling.{snoc_at}
 use Rattle.tc_hall.proofs.Placing.{stays}
 use Rattle.tc_hall.proofs.Packing.{locks_stay}

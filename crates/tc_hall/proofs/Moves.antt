@@ -1,25 +1,14 @@
 -- Each step on a package keeps the rule.
 use Rattle.std.proofs.Common.{◌≡◌, ◌≢◌, ◌⊎◌, ℕ, ◌+◌, ◌<◌, Bool, true, false, List, [], ◌∷◌, length, set, sym, refl, ap, ◌∙◌, subst, ⊎_elim, inl, inr, arith, Option, Some, None, slice_index, length-set, get_or-set_other, get_or-set_same}
+use Rattle.tc_hall.proofs.Vocabulary.{CLOCK, Cargo, Gets, Has, HasLock, Homes, IsHome, IsPackageAfter, KeptHall, Knows, Lies, LockView, Package, PackageView, STOP, Terms, after_claim, after_miss, bare, get_elem?, gives, is_pinned, keeps, kept, locked_in, locks, none, slot_word, some, some-injective, some-ne-none, stepped, takes, threads}
 use mathlib.Core.Logic.{dite}
-use mathlib.Core.Option.{none, some, some-injective, some-ne-none}
 use mathlib.Core.Option as maybe
 use native.Mathlib.Decide.{ℕ_discrete}
-use lib.ListN.{get_elem?}
 use lib.Seq.{set-get_or}
-use Rattle.atomic_table.specs.Table.{State, keeps, takes, gives, stepped}
+use Rattle.atomic_table.specs.Table.{State}
 use Rattle.atomic_table.proofs.Lists.{at_set, set_here, set_else}
-use Rattle.tc_segment.specs.View.{LockView, kept}
-use Rattle.tc_context.specs.View.{PackageView, bare}
-use Rattle.tc_law.specs.Lawful.{IsPackageAfter}
 use Rattle.tc_mutex_spec.proofs.ListLaws.{there, at_place}
-use Rattle.tc_hall.specs.declared.board.TheConstants.{CLOCK, STOP}
-use Rattle.tc_hall.specs.Places.{slot_word}
-use Rattle.tc_hall.specs.declared.board.Knows.{Knows}
-use Rattle.tc_hall.specs.declared.board.Terms.{Terms}
-use Rattle.tc_hall.specs.declared.board.Cargo.{Cargo}
-use Rattle.tc_hall.specs.declared.board.Cargo.TheVariants.{Package}
-use Rattle.tc_hall.specs.Rule.{is_pinned, locked_in, threads, locks, Homes, Has, HasLock, IsHome, IsPackageOut, Lies, KeptHall}
-use Rattle.tc_hall.specs.Steps.{Gets, after_claim, after_miss}
+use Rattle.tc_hall.specs.Rule.{IsPackageOut}
 use Rattle.tc_hall.proofs.Placing.{moves, stays}
 use Rattle.tc_hall.proofs.Cases.{clash, same_some, clash_at, same_at, same_package, out_inside}
 use Rattle.tc_hall.proofs.Packing.{claims_locks, locks_stay}

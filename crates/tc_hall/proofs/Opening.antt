@@ -1,35 +1,20 @@
 -- How a hall opens, and how its passes are dealt.
 use Rattle.std.proofs.Common.{◌≡◌, ◌≢◌, ℕ, zero, suc, ◌+◌, ◌-◌, ◌*◌, ◌<◌, ◌≤◌, ◌||◌, true, false, List, [], ◌∷◌, ◌++◌, length, map, replicate, sym, refl, ap, ◌∙◌, subst, ⊎_elim, arith, Option, Some, None, slice_index, length-append}
+use Rattle.tc_hall.proofs.Vocabulary.{AreDealt, AreStocked, Block, Cargo, IsInLimits, IsMaker, IsPackageAfter, IsPass, KeptHall, Knows, Lawful, Lock, LockView, Package, PackageView, PassView, STOP, Shown, Terms, Thread, bare, clean, dealt, fits_granted, fresh, get_elem?, grants_adopted, home, is_pinned, is_running, kept, last_by, last_of, length-map, length-replicate}
+use Rattle.tc_hall.proofs.Vocabulary.{locked_in, locks, none, opening, slot_word, some, some-injective, some-ne-none, thread_in, threads, was_cut}
 use Rattle.std.specs.List.{fold}
 use Rattle.std.proofs.lemmas.List.{get_or-replicate, map-append}
 use mathlib.Core.Logic.{dite}
-use mathlib.Core.Option.{none, some, some-injective, some-ne-none}
 use native.Mathlib.Decide.{ℕ_discrete}
-use lib.ListN.{get_elem?, length-map, length-replicate}
-use Rattle.atomic_table.specs.Table.{opening}
 use Rattle.atomic_table.specs.Seated.{TableId}
 use Rattle.atomic_table.specs.declared.shared.Seat.{Seat}
 use Rattle.atomic_table.proofs.Lists.{at_longer, at_last, at_map}
-use Rattle.tc_elf.specs.Shown.{Shown}
-use Rattle.tc_journal.specs.Batch.{last_of}
-use Rattle.tc_journal.specs.Handing.{was_cut}
-use Rattle.tc_turn.specs.Turn.{Thread, is_running}
-use Rattle.tc_journal.specs.declared.block.Block.{Block}
-use Rattle.tc_segment.specs.View.{LockView, IsStrict, kept, fresh_state}
-use Rattle.tc_context.specs.View.{PackageView, IsFresh, Rests, bare, fits_granted}
-use Rattle.tc_context.specs.Whole.{thread_in}
-use Rattle.tc_law.specs.Lawful.{IsPackageAfter, Lawful, blocks_left}
+use Rattle.tc_segment.specs.View.{IsStrict, fresh_state}
+use Rattle.tc_context.specs.View.{IsFresh, Rests}
+use Rattle.tc_law.specs.Lawful.{blocks_left}
 use Rattle.tc_law.proofs.Lawful.{fresh_lawful}
-use Rattle.tc_hall.specs.declared.board.TheConstants.{STOP}
-use Rattle.tc_hall.specs.Places.{slot_word}
-use Rattle.tc_hall.specs.declared.board.Knows.{Knows}
-use Rattle.tc_hall.specs.declared.board.Terms.{Terms}
-use Rattle.tc_hall.specs.declared.board.Cargo.{Cargo}
-use Rattle.tc_hall.specs.declared.board.Cargo.TheVariants.{Package, Lock}
-use Rattle.tc_hall.specs.Rule.{grants_adopted, is_pinned, locked_in, threads, locks, home, IsPass, IsInLimits, KeptHall, clean, last_by, starting as first_view}
-use Rattle.tc_hall.specs.Steps.{dealt, fresh, IsNew}
-use Rattle.tc_hall.specs.Made.{AreStocked, AreDealt, IsMaker}
-use Rattle.tc_hall.specs.PassView.{PassView}
+use Rattle.tc_hall.specs.Rule.{starting as first_view}
+use Rattle.tc_hall.specs.Steps.{IsNew}
 use Rattle.tc_hall.proofs.Telling.{snoc_at}
 use Rattle.tc_hall.proofs.Making.{clean_free, clean_pass}
 use Rattle.tc_hall.proofs.Cases.{apart, clash, same_package}

@@ -1,26 +1,11 @@
 -- Each operation keeps what holds between any two steps, so it holds after every order of them.
 use Rattle.std.proofs.Common.{◌≡◌, ◌≢◌, ℕ, ◌+◌, ◌<◌, ◌≤◌, false, List, [], ◌∷◌, sym, refl, ap, ◌∙◌, subst, ⊎_elim, arith, Option, Some, None, slice_index}
-use mathlib.Core.Option.{some}
-use lib.ListN.{get_elem?}
+use Rattle.tc_hall.proofs.Vocabulary.{AreStocked, Block, CLOCK, Cargo, Hall, IsClaimable, IsInLimits, IsLegal, IsOpening, IsOrdered, IsSlotOut, KeptHall, Knows, LockView, MAX_GUARDS, Made, MayClaim, MayDo, MayFill, Operation, Package, PackageView, Place, Seals, Terms, after, after_operation, after_put, claim, claim_effect, code_of, commit, commit_effect, free, get_elem?, gives}
+use Rattle.tc_hall.proofs.Vocabulary.{hall_after, join, lay, locks, look, look_effect, miss, miss_effect, of_lock, of_package, opening, put, put_effect, reach, slot_word, some, split, starting, stepped, stop, stopped, stopped_effect, take, take_effect, threads}
 use Rattle.std.specs.Prelude.{replicate}
-use Rattle.atomic_table.specs.Table.{gives, stepped, opening}
 use Rattle.atomic_table.proofs.Lists.{set_else}
-use Rattle.tc_elf.specs.declared.limits.TheConstants.{MAX_GUARDS}
-use Rattle.tc_journal.specs.declared.block.Block.{Block}
-use Rattle.tc_segment.specs.View.{LockView}
-use Rattle.tc_context.specs.View.{PackageView}
-use Rattle.tc_hall.specs.declared.board.TheConstants.{CLOCK}
-use Rattle.tc_hall.specs.declared.place.Place.{Place}
-use Rattle.tc_hall.specs.declared.board.Knows.{Knows}
-use Rattle.tc_hall.specs.declared.board.Terms.{Terms}
-use Rattle.tc_hall.specs.declared.board.Cargo.{Cargo}
-use Rattle.tc_hall.specs.declared.board.Cargo.TheVariants.{Package}
-use Rattle.tc_hall.specs.Places.{code_of, slot_word}
-use Rattle.tc_hall.specs.Rule.{threads, locks, starting, IsInLimits, KeptHall}
-use Rattle.tc_hall.specs.Made.{AreStocked}
-use Rattle.tc_hall.specs.Steps.{Seals, after_put}
-use Rattle.tc_hall.specs.Effects.{Hall, after, claim_effect, commit_effect, put_effect, take_effect, look_effect, stopped_effect, miss_effect, reach_effect, lay_effect}
-use Rattle.tc_hall.specs.Order.{Operation, claim, take, miss, commit, put, free, look, stop, stopped, reach, lay, split, join, IsClaimable, MayClaim, MayTake, MayFill, IsSlotOut, of_package, of_lock, MayDo, MayCome, Made, after_operation, hall_after, IsLegal, IsOpening, IsOrdered}
+use Rattle.tc_hall.specs.Effects.{reach_effect, lay_effect}
+use Rattle.tc_hall.specs.Order.{MayTake, MayCome}
 use Rattle.tc_hall.proofs.Moves.{at_home_of, takes_home, misses, lay_kept, reach_kept}
 use Rattle.tc_hall.proofs.Telling.{place_codes, fills_kept, look_kept, stop_kept, see_kept}
 use Rattle.tc_hall.proofs.Sealing.{seals_kept}

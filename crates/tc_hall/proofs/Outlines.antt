@@ -1,21 +1,14 @@
 -- What the events make of the outline of a core.
 use Rattle.std.proofs.Common.{◌≡◌, ◌≢◌, ◌⊎◌, ℕ, ◌==◌, ◌&&◌, Bool, true, false, sym, refl, ap, ◌∙◌, subst, ⊎_elim, inl, inr, None}
+use Rattle.tc_hall.proofs.Vocabulary.{At, Core, Course, Custody, Granted, IsBetween, LockPlace, Loose, State, ThreadPlace, With, at_home, in_hand, is_loose, lies_at, lies_with, outline, packed, unowned, with_custody, with_place}
 use Rattle.std.specs.Prelude.{if◌then◌else◌}
 use Rattle.std.proofs.lemmas.Bool.Decides.{eqb_tells}
 use mathlib.Core.Logic.{dite}
 use native.Mathlib.Decide.{ℕ_discrete}
-use Rattle.tc_turn.specs.Replay.{unowned}
-use Rattle.tc_mutex_spec.specs.Machine.{State}
 use Rattle.tc_mutex_spec.proofs.BlocksAlike.{eq_self}
-use Rattle.tc_core.specs.Core.{Core, is_at, is_loose, with_place, with_custody}
-use Rattle.tc_core.specs.declared.place.Course.{Course}
-use Rattle.tc_core.specs.declared.place.Custody.{Custody}
-use Rattle.tc_core.specs.declared.place.ThreadPlace.{ThreadPlace}
-use Rattle.tc_core.specs.declared.place.ThreadPlace.TheVariants.{Ready, Waiting, Parked, Done, At}
-use Rattle.tc_core.specs.declared.place.LockPlace.{LockPlace}
-use Rattle.tc_core.specs.declared.place.LockPlace.TheVariants.{With, Granted, Loose}
+use Rattle.tc_core.specs.Core.{is_at}
+use Rattle.tc_core.specs.declared.place.ThreadPlace.TheVariants.{Ready, Waiting, Parked, Done}
 use Rattle.tc_core.specs.declared.place.LockPlace.TheVariants as place
-use Rattle.tc_hall.specs.Outline.{at_home, in_hand, packed, lies_with, lies_at, outline, IsBetween}
 use Rattle.tc_hall.specs.Ties.{is_with}
 use Rattle.tc_hall.proofs.Shows.{IsMoved, home_packed, home_hand, hand_packed, same_packed}
 

@@ -1,21 +1,11 @@
 -- How the effects on the view change what is out.
 use Rattle.std.proofs.Common.{◌≡◌, ℕ, zero, suc, ◌==◌, if◌then◌else◌, List, [], ◌∷◌, set, get_or, Option, Some, None, refl, sym, ap, ◌∙◌, ⊎_elim, get_or-set_other, Bool}
+use Rattle.tc_hall.proofs.Vocabulary.{Block, Called, Has, HasLock, Knows, LockView, PackageView, Place, add_all, after_claim, after_free, after_put, after_seal, after_take, bare, get_elem?, kept, lock_in, locked_in, option_map, outs, remove_all, sealed_as, some, some-injective, some-ne-none, with_journal, with_seal}
 use Rattle.std.proofs.lemmas.List.{append-nil}
-use Rattle.std.specs.Option.{option_map}
 use Rattle.std.proofs.lemmas.Bool.Decides.{eqb_tells}
-use mathlib.Core.Option.{some, some-injective, some-ne-none}
-use lib.ListN.{get_elem?}
-use Rattle.tc_journal.specs.declared.block.Block.{Block}
-use Rattle.tc_segment.specs.View.{LockView, kept, with_journal, sealed_as}
-use Rattle.tc_context.specs.Locks.{lock_in}
-use Rattle.tc_context.specs.View.{PackageView, bare, with_seal}
 use Rattle.tc_context.proofs.Running.{sealed_at}
 use Rattle.tc_mutex_spec.proofs.BlocksAlike.{eq_self}
-use Rattle.tc_hall.specs.declared.board.Knows.{Knows}
-use Rattle.tc_hall.specs.declared.place.Place.{Place}
-use Rattle.tc_hall.specs.Outs.{Outs, outs, erase, keep, unless, Pack, Loose, IsOut, CameOut, Called}
-use Rattle.tc_hall.specs.Rule.{Has, HasLock, locked_in}
-use Rattle.tc_hall.specs.Steps.{add_all, remove_all, after_claim, after_seal, after_put, after_take, after_free}
+use Rattle.tc_hall.specs.Outs.{Outs, erase, keep, unless, Pack, Loose, IsOut, CameOut}
 use Rattle.tc_hall.proofs.Cases.{clash, none_of}
 
 -- two functions that agree everywhere are the same outs

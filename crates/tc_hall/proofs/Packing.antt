@@ -1,22 +1,13 @@
 -- Where the locks are after a step of one pass.
 use Rattle.std.proofs.Common.{◌≡◌, ◌≢◌, ◌⊎◌, ℕ, ◌+◌, ◌<◌, false, List, length, set, sym, refl, ap, ◌∙◌, subst, ⊎_elim, arith, Option, Some, None, slice_index}
+use Rattle.tc_hall.proofs.Vocabulary.{AreLocksPlaced, Cargo, HasLock, Homes, IsLockOut, Knows, LiesLock, LockView, Package, PackageView, Spot, add_all, get_elem?, home, inside, kept, locked_in, none, out, remove_all, slot_word, some, some-injective, some-ne-none, with_states}
 use mathlib.Core.Logic.{dite}
-use mathlib.Core.Option.{none, some, some-injective, some-ne-none}
 use mathlib.Core.Option as maybe
 use native.Mathlib.Decide.{ℕ_discrete}
-use lib.ListN.{get_elem?}
 use Rattle.atomic_table.proofs.Lists.{at_set, set_here, set_else}
-use Rattle.tc_segment.specs.View.{LockView, kept}
-use Rattle.tc_context.specs.View.{PackageView}
-use Rattle.tc_law.specs.Lawful.{with_states}
 use Rattle.tc_law.proofs.Lawful.{with_states-at}
 use Rattle.tc_mutex_spec.proofs.ListLaws.{there}
-use Rattle.tc_hall.specs.Places.{slot_word}
-use Rattle.tc_hall.specs.declared.board.Knows.{Knows}
-use Rattle.tc_hall.specs.declared.board.Cargo.{Cargo}
-use Rattle.tc_hall.specs.declared.board.Cargo.TheVariants.{Package}
-use Rattle.tc_hall.specs.Rule.{Homes, HasLock, locked_in, Spot, home, inside, out, IsInside, IsLockOut, LiesLock, AreLocksPlaced}
-use Rattle.tc_hall.specs.Steps.{add_all, remove_all}
+use Rattle.tc_hall.specs.Rule.{IsInside}
 use Rattle.tc_hall.proofs.LockLists.{add_all-length, add_all-has, add_all-else, remove_all-length, remove_all-at, remove_all-else, with_states-has, with_states-else}
 use Rattle.tc_hall.proofs.Placing.{put, put_here, put_else}
 use Rattle.tc_hall.proofs.Cases.{clash, same_some, same_at, same_package, not_taken, out_inside, same_out}

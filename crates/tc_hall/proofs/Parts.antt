@@ -1,18 +1,10 @@
 -- The lists of each live pass are its part of the order.
 use Rattle.std.proofs.Common.{◌≡◌, ◌≢◌, ℕ, zero, suc, ◌≤◌, ◌==◌, Bool, true, false, List, [], ◌∷◌, ◌++◌, length, set, sym, refl, ap, ◌∙◌, subst, ⊎_elim, arith, length-set, length-append, if◌then◌else◌}
+use Rattle.tc_hall.proofs.Vocabulary.{Free, Hall, IsLegal, IsOpening, Knows, Look, Made, MayDo, Operation, Stop, Stopped, Terms, after_operation, claim, commit, dealt, free, fresh, get_elem?, gone, hall_after, join, lay, look, merged, miss, put, put_call, reach, sealed_block, some, some-injective, some-ne-none, split, starting, stop, stopped, take}
 use Rattle.std.proofs.lemmas.Bool.Decides.{nat_tests}
-use mathlib.Core.Option.{some, some-injective, some-ne-none}
-use lib.ListN.{get_elem?}
 use Rattle.atomic_table.proofs.Lists.{at_set}
 use Rattle.tc_mutex_spec.proofs.ListLaws.{there}
-use Rattle.tc_hall.specs.declared.board.Knows.{Knows}
-use Rattle.tc_hall.specs.declared.board.Terms.{Terms}
-use Rattle.tc_segment.specs.View.{sealed_block}
-use Rattle.tc_hall.specs.declared.board.Call.TheVariants.{Free, Look, Stop, Stopped}
-use Rattle.tc_hall.specs.Rule.{starting}
-use Rattle.tc_hall.specs.Steps.{dealt, fresh, merged, gone, put_call}
-use Rattle.tc_hall.specs.Effects.{Hall}
-use Rattle.tc_hall.specs.Order.{Operation, claim, take, miss, commit, put, free, look, stop, stopped, reach, lay, split, join, MayDo, Made, after_operation, hall_after, IsLegal, IsOpening, Notes, no_notes, noted, notes_of, HasNoted, HasOwnNotes}
+use Rattle.tc_hall.specs.Order.{Notes, no_notes, noted, notes_of, HasNoted, HasOwnNotes}
 use Rattle.tc_hall.proofs.Telling.{snoc_at}
 use Rattle.tc_hall.proofs.Cases.{apart}
 

@@ -1,18 +1,12 @@
 -- Where the packages are after a step that concerns one thread and one pass.
 use Rattle.std.proofs.Common.{◌≡◌, ◌≢◌, ◌⊎◌, ℕ, ◌+◌, ◌<◌, ◌==◌, Bool, true, false, cond, List, length, set, sym, ap, ◌∙◌, subst, ⊎_elim, arith, Option, Some, slice_index}
+use Rattle.tc_hall.proofs.Vocabulary.{ArePlaced, Has, Homes, IsInOrder, Knows, Lies, PackageView, STOP, get_elem?, none, slot_word, some, some-injective, some-ne-none}
 use Rattle.std.proofs.lemmas.Bool.Decides.{nat_tests}
 use mathlib.Core.Logic.{dite}
-use mathlib.Core.Option.{none, some, some-injective, some-ne-none}
 use mathlib.Core.Option as maybe
 use native.Mathlib.Decide.{ℕ_discrete}
-use lib.ListN.{get_elem?}
 use Rattle.atomic_table.proofs.Lists.{at_set, set_here, set_else}
-use Rattle.tc_context.specs.View.{PackageView}
 use Rattle.tc_mutex_spec.proofs.ListLaws.{there}
-use Rattle.tc_hall.specs.declared.board.TheConstants.{STOP}
-use Rattle.tc_hall.specs.Places.{slot_word}
-use Rattle.tc_hall.specs.declared.board.Knows.{Knows}
-use Rattle.tc_hall.specs.Rule.{Homes, Has, Lies, ArePlaced, IsInOrder}
 
 module _ {A : Type 0} where
   abbrev pub put : (ℕ → A) → ℕ → A → ℕ → A

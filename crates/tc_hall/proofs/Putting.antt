@@ -1,15 +1,6 @@
 -- What `put` and `free` ask and say, seen past the slot that the pass holds in between.
 use Rattle.std.proofs.Common.{◌≡◌, ℕ, [], ◌∷◌, Option, Some, None, refl, sym, ap, ◌∙◌, subst}
-use lib.ListN.{get_elem?}
-use Rattle.tc_segment.specs.View.{LockView}
-use Rattle.tc_context.specs.View.{PackageView}
-use Rattle.tc_hall.specs.declared.place.Place.{Place}
-use Rattle.tc_hall.specs.declared.board.Knows.{Knows}
-use Rattle.tc_hall.specs.declared.board.Terms.{Terms}
-use Rattle.tc_hall.specs.Places.{code_of, place_of}
-use Rattle.tc_hall.specs.declared.board.Call.TheVariants.{Free}
-use Rattle.tc_hall.specs.Outs.{outs, Called}
-use Rattle.tc_hall.specs.Steps.{MayPut, HasStop, made, seen, Gave, IsAsLeft, after_put, put_call, Freed, after_free}
+use Rattle.tc_hall.proofs.Vocabulary.{Called, Free, Freed, Gave, HasStop, IsAsLeft, Knows, LockView, MayPut, PackageView, Place, Terms, after_free, after_put, code_of, get_elem?, made, outs, place_of, put_call, seen}
 use Rattle.tc_hall.proofs.Outs.{put_outs, free_outs}
 use Rattle.tc_hall.proofs.Telling.{place_codes}
 

@@ -1,19 +1,10 @@
 -- What stays true of the passes when one of them has a new view.
 use Rattle.std.proofs.Common.{◌≡◌, ◌≢◌, ◌⊎◌, ℕ, ◌<◌, Bool, true, false, List, length, set, sym, refl, ap, ◌∙◌, subst, ⊎_elim, inl, slice_index, get_or-set_other}
+use Rattle.tc_hall.proofs.Vocabulary.{AreApart, Block, Call, Free, HasStopped, IsPass, Knows, Look, Put, STOP, Shown, Stop, Stopped, get_elem?, slot_word, some, some-injective}
 use mathlib.Core.Logic.{dite}
-use mathlib.Core.Option.{some, some-injective}
 use native.Mathlib.Decide.{ℕ_discrete}
-use lib.ListN.{get_elem?}
 use Rattle.atomic_table.proofs.Lists.{at_set, set_here, set_else}
-use Rattle.tc_elf.specs.Shown.{Shown}
-use Rattle.tc_journal.specs.declared.block.Block.{Block}
 use Rattle.tc_mutex_spec.proofs.ListLaws.{there}
-use Rattle.tc_hall.specs.declared.board.TheConstants.{STOP}
-use Rattle.tc_hall.specs.Places.{slot_word}
-use Rattle.tc_hall.specs.declared.board.Knows.{Knows}
-use Rattle.tc_hall.specs.declared.board.Call.{Call}
-use Rattle.tc_hall.specs.declared.board.Call.TheVariants.{Look, Stop, Stopped, Put, Free}
-use Rattle.tc_hall.specs.Rule.{IsPass, HasStopped, AreApart}
 use Rattle.tc_hall.proofs.Cases.{apart}
 
 pub record IsSameRank (v w : Knows) : Type 0 where

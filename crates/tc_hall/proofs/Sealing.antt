@@ -1,25 +1,14 @@
 -- `commit` keeps the rule.
 use Rattle.std.proofs.Common.{◌≡◌, ◌≢◌, ◌⊎◌, ℕ, zero, suc, ◌+◌, ◌*◌, ◌%◌, ◌^◌, ◌<◌, ◌≤◌, ◌==◌, Bool, true, false, List, [], ◌∷◌, ◌++◌, length, set, sym, refl, ap, ◌∙◌, subst, ⊎_elim, inl, inr, arith, Some, None, is_some, slice_index, length-set, length-append, get_or-set_other, get_or-set_same, if◌then◌else◌}
+use Rattle.tc_hall.proofs.Vocabulary.{AreTogether, Block, CLOCK, DidRun, DidSeal, IsHandedOver, IsPass, KeptHall, Knows, Lawful, LockView, MAX_THREADS, PackageView, Seals, Shown, Terms, after_seal, bare, end_after, get_elem?, has, keeps, kept, last_of, lock_in, locked_in, locks, none, of_thread, of_worker, sealed_as, sealed_block, slot_word, some, some-injective, some-ne-none}
+use Rattle.tc_hall.proofs.Vocabulary.{stepped, threads, with_journal, with_seal, with_states}
 use Rattle.std.specs.Prelude.{filter, Option}
 use Rattle.std.proofs.lemmas.Nat.{mul-le}
-use mathlib.Core.Option.{none, some, some-injective, some-ne-none}
-use lib.ListN.{get_elem?}
-use Rattle.atomic_table.specs.Table.{keeps, stepped}
 use Rattle.atomic_table.proofs.Lists.{set_here, set_else, at_longer, at_last}
-use Rattle.tc_isa.specs.Sets.{has}
-use Rattle.tc_elf.specs.declared.limits.TheConstants.{MAX_THREADS}
-use Rattle.tc_elf.specs.Shown.{Shown}
-use Rattle.tc_journal.specs.Batch.{last_of}
-use Rattle.tc_journal.specs.Handing.{of_worker, AreTogether, IsHandedOver, IsRunOn, IsStillAt}
-use Rattle.tc_journal.specs.History.{of_thread}
-use Rattle.tc_journal.specs.declared.block.Block.{Block}
+use Rattle.tc_journal.specs.Handing.{IsRunOn, IsStillAt}
 use Rattle.tc_journal.proofs.Rows.{ComesTogether, each_still, runs_on_from, stays_from, thread_of, worker_of}
-use Rattle.tc_mutex_spec.specs.Blocks.{end_after}
-use Rattle.tc_segment.specs.View.{LockView, kept, with_journal, sealed_as, sealed_block}
-use Rattle.tc_context.specs.Locks.{lock_in}
-use Rattle.tc_context.specs.View.{PackageView, Allows as AllowsBlock, bare, with_seal}
-use Rattle.tc_context.specs.Ran.{DidRun}
-use Rattle.tc_law.specs.Lawful.{Lawful, IsLimited, with_states}
+use Rattle.tc_context.specs.View.{Allows as AllowsBlock}
+use Rattle.tc_law.specs.Lawful.{IsLimited}
 use Rattle.tc_law.proofs.Following.{blocks_are}
 use Rattle.tc_law.proofs.Lawful.{appended, strict_states}
 use Rattle.tc_mutex_spec.proofs.ListLaws.{there}
@@ -27,12 +16,6 @@ use Rattle.tc_mutex_spec.proofs.Histories.{stamp_at}
 use Rattle.tc_context.proofs.Moved.{some_map}
 use Rattle.tc_context.proofs.Staging.{some_of}
 use Rattle.tc_context.proofs.Running.{sealed_at}
-use Rattle.tc_hall.specs.declared.board.TheConstants.{CLOCK}
-use Rattle.tc_hall.specs.Places.{slot_word}
-use Rattle.tc_hall.specs.declared.board.Knows.{Knows}
-use Rattle.tc_hall.specs.declared.board.Terms.{Terms}
-use Rattle.tc_hall.specs.Rule.{locked_in, threads, locks, IsPass, KeptHall}
-use Rattle.tc_hall.specs.Steps.{after_seal, Seals, DidSeal}
 use Rattle.tc_hall.proofs.Outs.{seal_outs, package_out}
 use Rattle.tc_hall.proofs.Placing.{moves}
 use Rattle.tc_hall.proofs.Packing.{seals_locks}

@@ -1,32 +1,18 @@
 -- What a hall shows after a package or a lock went from a slot to a pass, or back.
 use Rattle.std.proofs.Common.{◌≡◌, ◌≢◌, ◌⊎◌, ℕ, ◌+◌, ◌-◌, ◌<◌, Bool, true, false, List, [], ◌∷◌, ◌++◌, length, set, sym, refl, ap, ◌∙◌, subst, ⊎_elim, inl, inr, arith, Option, Some, None, slice_index, get_or-set_other, get_or-set_same}
+use Rattle.tc_hall.proofs.Vocabulary.{At, Cargo, Done, Hall, Has, HasLock, Homes, IsFree, IsShown, Knows, Lock, LockAt, LockView, Lying, Outline, Package, PackageAt, PackageView, Parked, Place, Ready, ShowsLock, ShowsThread, Terms, ThreadPlace, Waiting, after, after_claim, after_free, after_put, after_take, as_place, at_home, bare, claim_effect, code_of, get_elem?, in_hand}
+use Rattle.tc_hall.proofs.Vocabulary.{in_slot, is_claimable, kept, lies_with, lock_in_package, lock_in_slot, lock_of, lock_with_pass, locked_in, locks, none, packed, put_effect, slot_word, some, some-injective, some-ne-none, take_effect, threads, with_pass}
 use Rattle.std.specs.Prelude.{nat_lt, if◌then◌else◌}
 use Rattle.std.proofs.lemmas.Bool.Decides.{nat_tests}
 use mathlib.Core.Logic.{dite}
-use mathlib.Core.Option.{none, some, some-injective, some-ne-none}
 use mathlib.Core.Option as maybe
 use native.Mathlib.Decide.{ℕ_discrete}
-use lib.ListN.{get_elem?}
 use Rattle.atomic_table.proofs.Lists.{at_set, at_snoc, set_else}
-use Rattle.tc_segment.specs.View.{LockView, kept, lock_of}
-use Rattle.tc_context.specs.View.{PackageView, bare}
-use Rattle.tc_core.specs.Core.{is_claimable}
-use Rattle.tc_core.specs.declared.place.ThreadPlace.{ThreadPlace}
-use Rattle.tc_core.specs.declared.place.ThreadPlace.TheVariants.{At}
-use Rattle.tc_hall.specs.declared.board.Knows.{Knows}
-use Rattle.tc_hall.specs.declared.board.Terms.{Terms}
-use Rattle.tc_hall.specs.declared.board.Cargo.{Cargo}
-use Rattle.tc_hall.specs.declared.board.Cargo.TheVariants.{Package, Lock}
-use Rattle.tc_hall.specs.declared.place.Place.{Place}
-use Rattle.tc_hall.specs.declared.place.Place.TheVariants.{Ready, Waiting, Parked, Done}
 use Rattle.tc_hall.specs.declared.place.Origin.{Origin}
 use Rattle.tc_hall.specs.declared.place.Origin.TheVariants as origin
-use Rattle.tc_hall.specs.Places.{place_of, code_of, origin_code, slot_word}
-use Rattle.tc_hall.specs.Rule.{threads, locks, Homes, Has, HasLock, locked_in}
-use Rattle.tc_hall.specs.Steps.{after_claim, after_put, after_take, after_free, IsFree}
-use Rattle.tc_hall.specs.Effects.{Hall, after, claim_effect, put_effect, take_effect, free_effect}
-use Rattle.tc_hall.specs.Outline.{Outline, Lying, at_home, in_hand, packed, lies_with}
-use Rattle.tc_hall.specs.Shown.{IsShown, PackageAt, in_slot, with_pass, LockAt, lock_in_slot, lock_in_package, lock_with_pass, ShowsThread, ShowsLock, place_shown, as_place}
+use Rattle.tc_hall.specs.Places.{place_of, origin_code}
+use Rattle.tc_hall.specs.Effects.{free_effect}
+use Rattle.tc_hall.specs.Shown.{place_shown}
 use Rattle.tc_hall.proofs.LockLists.{add_all-else, remove_all-at}
 use Rattle.tc_hall.proofs.Telling.{place_codes}
 use Rattle.tc_hall.proofs.Cases.{some_or_none, same_at, same_package, none_of, clash, same_some}

@@ -1,27 +1,12 @@
 -- Each step of a pass on the table is an operation that may come there.
 use Rattle.std.proofs.Common.{◌≡◌, ℕ, ◌+◌, ◌%◌, ◌^◌, ◌<◌, ◌==◌, true, false, List, [], ◌∷◌, length, set, sym, refl, ap, ◌∙◌, subst, arith, Option, Some, None, slice_index}
-use mathlib.Core.Option.{none, some}
-use lib.ListN.{get_elem?}
+use Rattle.tc_hall.proofs.Vocabulary.{CLOCK, Cargo, DidSeal, Hall, HasLock, IsAsLeft, IsClaimable, IsFree, IsInRange, IsOrdered, IsPackageAfter, IsSlotOut, IsStateAfter, IsStateAsLeft, Joins, KeptHall, Knows, Lock, LockView, Look, MayFree, MayPut, Package, PackageView, Place, STOP, Sat, Seals, Splits, Stop, Stopped, Terms, after_claim, after_free, after_miss, after_put}
+use Rattle.tc_hall.proofs.Vocabulary.{after_seal, after_take, claim, code_of, commit, dealt, free, fresh, get_elem?, gives, gone, has, join, keeps, kept, lay, locks, look, merged, miss, none, of_lock, of_package, place_of, put, reach, sealed_block, slot_word, some, split, stepped, stop, stopped, take, takes, threads, with_call, with_seal}
 use prog.Atomic.{either}
-use Rattle.atomic_table.specs.Table.{step, Act, keeps, takes, gives, Valid, stepped, carried_after, Allows, Splits, Joins}
+use Rattle.atomic_table.specs.Table.{step, Act, Valid, carried_after, Allows}
 use Rattle.atomic_table.proofs.Lists.{set_here, set_else, exchanged}
-use Rattle.tc_isa.specs.Sets.{has}
-use Rattle.tc_segment.specs.View.{LockView, kept, sealed_block}
-use Rattle.tc_context.specs.View.{PackageView, with_seal}
-use Rattle.tc_law.specs.Lawful.{IsPackageAfter, IsStateAfter}
 use Rattle.tc_mutex_spec.proofs.ListLaws.{at_place}
-use Rattle.tc_hall.specs.declared.board.TheConstants.{CLOCK, STOP}
-use Rattle.tc_hall.specs.declared.place.Place.{Place}
-use Rattle.tc_hall.specs.declared.board.Knows.{Knows}
-use Rattle.tc_hall.specs.declared.board.Terms.{Terms}
-use Rattle.tc_hall.specs.declared.board.Call.TheVariants.{Look, Stop, Stopped}
-use Rattle.tc_hall.specs.declared.board.Cargo.{Cargo}
-use Rattle.tc_hall.specs.declared.board.Cargo.TheVariants.{Package, Lock}
-use Rattle.tc_hall.specs.Places.{code_of, place_of, IsInRange, slot_word}
-use Rattle.tc_hall.specs.Rule.{threads, locks, HasLock, KeptHall}
-use Rattle.tc_hall.specs.Steps.{Sat, Got, Took, MayPut, MayFree, Seals, DidSeal, IsAsLeft, IsStateAsLeft, IsFree, claimed, laid, reached, took_as, put_as, did_free, looked, stopping, saw_stopped, sealed_as, after_claim, after_take, after_put, after_free, after_miss, after_seal, with_call, dealt, fresh, merged, gone}
-use Rattle.tc_hall.specs.Order.{claim, take, miss, commit, put, free, look, stop, stopped, reach, lay, split, join, IsClaimable, of_package, of_lock, IsOrdered, IsSlotOut}
-use Rattle.tc_hall.specs.Effects.{Hall}
+use Rattle.tc_hall.specs.Steps.{Got, Took, claimed, laid, reached, took_as, put_as, did_free, looked, stopping, saw_stopped, sealed_as}
 use Rattle.tc_hall.proofs.Outs.{lock_came, no_call_taken}
 use Rattle.tc_hall.proofs.Moves.{some_same, home_of, is_out, taken, gets}
 use Rattle.tc_hall.proofs.Cases.{clash, home_out}

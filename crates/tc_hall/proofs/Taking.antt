@@ -1,25 +1,10 @@
 -- Each step on a lock keeps the rule.
 use Rattle.std.proofs.Common.{◌≡◌, ◌≢◌, ◌⊎◌, ℕ, ◌+◌, ◌<◌, Bool, false, List, [], ◌∷◌, length, set, sym, refl, ap, ◌∙◌, subst, ⊎_elim, inl, inr, arith, Option, Some, None, slice_index, length-set, get_or-set_other, get_or-set_same}
-use mathlib.Core.Option.{none, some, some-injective}
+use Rattle.tc_hall.proofs.Vocabulary.{Block, Call, Cargo, Free, HasLock, Homes, IsLockHome, IsLockOut, IsStateAfter, KeptHall, Knows, LiesLock, Lock, LockView, MayFree, Spot, Stop, Terms, after_free, after_take, get_elem?, gives, has, home, inside, kept, locks, none, out, slot_word, some, some-injective, stepped, takes, threads}
 use mathlib.Core.Option as maybe
-use lib.ListN.{get_elem?}
 use lib.Seq.{set-get_or}
-use Rattle.atomic_table.specs.Table.{takes, gives, stepped}
 use Rattle.atomic_table.proofs.Lists.{set_here, set_else, at_longer}
-use Rattle.tc_isa.specs.Sets.{has}
-use Rattle.tc_journal.specs.declared.block.Block.{Block}
-use Rattle.tc_segment.specs.View.{LockView, kept}
-use Rattle.tc_law.specs.Lawful.{IsStateAfter}
 use Rattle.tc_mutex_spec.proofs.ListLaws.{there, at_place}
-use Rattle.tc_hall.specs.Places.{slot_word}
-use Rattle.tc_hall.specs.declared.board.Knows.{Knows}
-use Rattle.tc_hall.specs.declared.board.Terms.{Terms}
-use Rattle.tc_hall.specs.declared.board.Call.{Call}
-use Rattle.tc_hall.specs.declared.board.Call.TheVariants.{Free, Stop}
-use Rattle.tc_hall.specs.declared.board.Cargo.{Cargo}
-use Rattle.tc_hall.specs.declared.board.Cargo.TheVariants.{Lock}
-use Rattle.tc_hall.specs.Rule.{threads, locks, Homes, HasLock, Spot, home, inside, out, IsLockHome, IsLockOut, LiesLock, KeptHall}
-use Rattle.tc_hall.specs.Steps.{MayFree, after_take, after_free}
 use Rattle.tc_hall.proofs.Placing.{stays}
 use Rattle.tc_hall.proofs.Packing.{IsElseLock, lock_moves, out_of}
 use Rattle.tc_hall.proofs.Listing.{listed_stays}

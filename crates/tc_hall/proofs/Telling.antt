@@ -1,38 +1,22 @@
 -- `put`, `look`, `stop`, `stopped` and `commit` keep the rule.
 use Rattle.std.proofs.Common.{◌≡◌, ◌≢◌, ◌⊎◌, ℕ, zero, suc, ◌+◌, ◌<◌, ◌≤◌, ◌==◌, Bool, true, false, List, [], ◌∷◌, ◌++◌, length, set, sym, refl, ap, ◌∙◌, subst, ⊎_elim, inl, inr, arith, Option, Some, None, slice_index, length-set, get_or-set_other, get_or-set_same}
-use mathlib.Core.Option.{none, some, some-injective, some-ne-none}
+use Rattle.tc_hall.proofs.Vocabulary.{CLOCK, Call, Cargo, Done, Grant, HasStop, HasStopped, IsAsLeft, IsInOrder, IsInRange, KeptHall, Knows, LockView, Look, MAX_GUARDS, MayPut, Package, PackageView, Parked, Place, Put, Ready, STOP, Sat, Stop, Stopped, Terms, Waiting, after_put, bare, code_of, fits_granted, get_elem?, gives, grants_adopted, keeps, kept, lock_in, locks, made}
+use Rattle.tc_hall.proofs.Vocabulary.{none, seen, slot_word, some, some-injective, some-ne-none, stepped, threads, with_call}
 use mathlib.Core.Option as maybe
-use lib.ListN.{get_elem?}
 use lib.Seq.{set-get_or}
-use Rattle.atomic_table.specs.Table.{keeps, gives, stepped}
 use Rattle.atomic_table.proofs.Lists.{set_here, set_else, at_longer, at_last}
-use Rattle.tc_elf.specs.declared.limits.TheConstants.{MAX_GUARDS}
 use Rattle.tc_journal.proofs.Batching.{any_worker}
-use Rattle.tc_segment.specs.View.{LockView, blocks_of, kept}
-use Rattle.tc_context.specs.declared.package.Grant.{Grant}
-use Rattle.tc_context.specs.Locks.{lock_in}
-use Rattle.tc_context.specs.View.{PackageView, bare, fits_of, fits_granted, fits_in}
+use Rattle.tc_segment.specs.View.{blocks_of}
+use Rattle.tc_context.specs.View.{fits_of, fits_in}
 use Rattle.tc_mutex_spec.proofs.ListLaws.{there}
-use Rattle.tc_hall.specs.declared.board.TheConstants.{CLOCK, STOP}
-use Rattle.tc_hall.specs.declared.place.Place.{Place}
-use Rattle.tc_hall.specs.declared.board.Knows.{Knows}
-use Rattle.tc_hall.specs.declared.board.Terms.{Terms}
-use Rattle.tc_hall.specs.declared.board.Call.{Call}
-use Rattle.tc_hall.specs.declared.board.Call.TheVariants.{Put, Look, Stop, Stopped}
-use Rattle.tc_hall.specs.declared.board.Cargo.{Cargo}
-use Rattle.tc_hall.specs.declared.board.Cargo.TheVariants.{Package}
-use Rattle.tc_hall.specs.Places.{code_of, place_of, slot_word}
-use Rattle.tc_hall.specs.Rule.{grants_adopted, threads, locks, IsInOrder, KeptHall}
-use Rattle.tc_hall.specs.Steps.{Sat, IsAsLeft, after_put, with_call, numbers, given_of, MayPut, HasStop, made, seen}
+use Rattle.tc_hall.specs.Places.{place_of}
+use Rattle.tc_hall.specs.Steps.{numbers, given_of}
 use Rattle.tc_hall.proofs.Placing.{moves, stays}
 use Rattle.tc_hall.proofs.Packing.{puts_locks, locks_stay}
 use Rattle.tc_hall.proofs.Listing.{listed_stays}
 use Rattle.tc_hall.proofs.Ranks.{apart_stays, stop_stays, IsTrueCall, pass_kept, passes_stay, done_still, stops_still, stops_back}
 use Rattle.std.proofs.lemmas.Bool.Decides.{nat_tests}
 use Rattle.std.proofs.Common.{◌-◌, if◌then◌else◌}
-use Rattle.tc_hall.specs.declared.place.Place.TheVariants.{Ready, Parked, Done, Waiting}
-use Rattle.tc_hall.specs.Places.{IsInRange}
-use Rattle.tc_hall.specs.Rule.{HasStopped}
 use Rattle.tc_hall.proofs.Moves.{St, is_out}
 use Rattle.tc_hall.proofs.Cases.{clash, same_some, clash_at}
 

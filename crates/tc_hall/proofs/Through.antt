@@ -1,28 +1,18 @@
 -- What the turns of a block and its Commit make of a core.
 use Rattle.std.proofs.Common.{◌≡◌, ◌≢◌, ℕ, zero, suc, ◌+◌, ◌==◌, ◌&&◌, Bool, true, false, not, [], ◌∷◌, ◌++◌, replicate, sym, refl, ap, ◌∙◌, subst, add-one, Option, Some, None}
+use Rattle.tc_hall.proofs.Vocabulary.{AreEnabled, At, Commit, Core, Course, Custody, End, Event, Granted, IsBetween, LockPlace, Loose, Shown, State, ThreadPlace, With, end_at, end_rule, lies_at, lies_with, next_lock, outcome_of, runs}
 use Rattle.std.specs.Prelude.{if◌then◌else◌, is_some}
 use mathlib.Core.Logic.{dite}
 use native.Mathlib.Decide.{ℕ_discrete}
-use Rattle.tc_elf.specs.Shown.{Shown}
-use Rattle.tc_journal.specs.Rule.{end_rule}
-use Rattle.tc_journal.specs.declared.block.End.{End}
-use Rattle.tc_turn.specs.Turn.{next_lock, next_act, outcome_of}
-use Rattle.tc_mutex_spec.specs.Machine.{State, after}
-use Rattle.tc_mutex_spec.specs.Blocks.{reach, end_at}
-use Rattle.tc_core.specs.Core.{Core, Limits, is_granted, is_number, with_of}
-use Rattle.tc_core.specs.Events.{is_enabled, effect, may_take, is_between, course_on, course_past, custody_on, custody_past, end_here, release_of, has_thread, runs}
-use Rattle.tc_core.specs.Stories.{AreEnabled, after_all}
-use Rattle.tc_core.specs.declared.event.Event.{Event}
-use Rattle.tc_core.specs.declared.event.Event.TheVariants.{Turn, Commit}
-use Rattle.tc_core.specs.declared.place.Course.{Course}
-use Rattle.tc_core.specs.declared.place.Custody.{Custody}
+use Rattle.tc_turn.specs.Turn.{next_act}
+use Rattle.tc_mutex_spec.specs.Machine.{after}
+use Rattle.tc_mutex_spec.specs.Blocks.{reach}
+use Rattle.tc_core.specs.Core.{Limits, is_granted, is_number, with_of}
+use Rattle.tc_core.specs.Events.{is_enabled, effect, may_take, is_between, course_on, course_past, custody_on, custody_past, end_here, release_of, has_thread}
+use Rattle.tc_core.specs.Stories.{after_all}
+use Rattle.tc_core.specs.declared.event.Event.TheVariants.{Turn}
 use Rattle.tc_core.specs.declared.place.Release.{Release}
-use Rattle.tc_core.specs.declared.place.ThreadPlace.{ThreadPlace}
-use Rattle.tc_core.specs.declared.place.ThreadPlace.TheVariants.{At}
-use Rattle.tc_core.specs.declared.place.LockPlace.{LockPlace}
-use Rattle.tc_core.specs.declared.place.LockPlace.TheVariants.{With, Granted, Loose}
 use Rattle.tc_core.specs.declared.place.LockPlace.TheVariants as place
-use Rattle.tc_hall.specs.Outline.{lies_at, lies_with, IsBetween}
 use Rattle.tc_hall.proofs.Outlines.{if_here, if_else, eq_from}
 
 -- one event more at the end

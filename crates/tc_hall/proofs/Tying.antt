@@ -1,41 +1,19 @@
 -- Each step keeps the rule, and ties to its events.
 use Rattle.std.proofs.Common.{◌≡◌, ◌≢◌, ℕ, ◌+◌, ◌<◌, ◌==◌, Bool, true, false, List, length, set, sym, refl, ap, ◌∙◌, subst, arith, Some, None, slice_index, get_or-set_other}
+use Rattle.tc_hall.proofs.Vocabulary.{At, Core, Custody, Done, Gets, Granted, Hall, Has, HasLock, IsShown, KeptHall, Knows, LockPlace, LockView, Look, Loose, MayClaim, MayFill, Moment, PackageView, Parked, Place, Ready, STOP, Shows, Stop, Stopped, Terms, Thread, ThreadPlace, Waiting, after, after_claim, after_miss, after_take, as_place, at_home, bare, claim_effect, code_of}
+use Rattle.tc_hall.proofs.Vocabulary.{dealt, fresh, get_elem?, gone, in_hand, is_claimable, is_loose, is_running, kept, last_end, lies_at, lies_with, lock_in_slot, lock_with_pass, locked_in, locks, merged, outline, packed, place_shown, put_effect, runs, slot_word, some, thread_in, threads, with_call, with_custody, with_pass, with_place}
 use Rattle.std.specs.Prelude.{nat_lt, is_some, not}
 use Rattle.std.proofs.lemmas.Bool.Decides.{nat_tests}
-use mathlib.Core.Option.{some}
-use lib.ListN.{get_elem?}
 use lib.Seq.{set-get_or}
 use Rattle.atomic_table.proofs.Lists.{set_here, set_else}
-use Rattle.tc_turn.specs.Turn.{Thread, is_running}
-use Rattle.tc_segment.specs.View.{LockView, kept}
-use Rattle.tc_context.specs.Whole.{thread_in}
-use Rattle.tc_context.specs.View.{PackageView, bare}
 use Rattle.tc_mutex_spec.proofs.BlocksAlike.{eq_self}
-use Rattle.tc_core.specs.declared.place.Custody.{Custody}
-use Rattle.tc_core.specs.Core.{Core, is_claimable, is_waiting, is_loose, is_slept, is_free_lock, with_place, with_custody}
-use Rattle.tc_core.specs.Events.{is_enabled, effect, runs, passed_to, taken_by, freed}
+use Rattle.tc_core.specs.Core.{is_waiting, is_slept, is_free_lock}
+use Rattle.tc_core.specs.Events.{is_enabled, effect, passed_to, taken_by, freed}
 use Rattle.tc_core.specs.declared.event.Event.TheVariants.{Finish}
-use Rattle.tc_core.specs.declared.place.ThreadPlace.{ThreadPlace}
-use Rattle.tc_core.specs.declared.place.ThreadPlace.TheVariants.{At}
 use Rattle.tc_core.specs.declared.place.ThreadPlace.TheVariants as at
-use Rattle.tc_core.specs.declared.place.LockPlace.{LockPlace}
-use Rattle.tc_core.specs.declared.place.LockPlace.TheVariants.{Granted, Loose}
-use Rattle.tc_hall.specs.declared.board.TheConstants.{STOP}
-use Rattle.tc_hall.specs.declared.board.Knows.{Knows}
-use Rattle.tc_hall.specs.declared.board.Terms.{Terms}
-use Rattle.tc_hall.specs.declared.board.Call.TheVariants.{Look, Stop, Stopped}
-use Rattle.tc_hall.specs.declared.place.Place.{Place}
-use Rattle.tc_hall.specs.declared.place.Place.TheVariants.{Ready, Waiting, Parked, Done}
-use Rattle.tc_hall.specs.Places.{code_of, slot_word}
-use Rattle.tc_hall.specs.Rule.{threads, locks, HasLock, KeptHall, locked_in, Has}
-use Rattle.tc_hall.specs.Steps.{Gets, after_claim, after_take, after_miss, with_call, dealt, fresh, merged, gone}
-use Rattle.tc_hall.specs.Effects.{Hall, after, claim_effect, put_effect}
-use Rattle.tc_hall.specs.Outline.{outline, in_hand, packed, at_home, lies_with, lies_at}
-use Rattle.tc_hall.specs.Shown.{IsShown, with_pass, lock_in_slot, lock_with_pass, place_shown, as_place, last_end}
-use Rattle.tc_hall.specs.Ties.{may_come, at_worker, loose_at, Moment, Shows, ClaimTie, IsLooseIn, CanPass, AdoptTie, AreInside, PutTie, TakeTie, FreeTie, TellTie, PassTie, Tied, silent}
+use Rattle.tc_hall.specs.Ties.{may_come, at_worker, loose_at, ClaimTie, IsLooseIn, CanPass, AdoptTie, AreInside, PutTie, TakeTie, FreeTie, TellTie, PassTie, Tied, silent}
 use Rattle.tc_hall.proofs.Shows.{shown_at, shown_code, shown_origin, origin_low, lies_put, lies_low, same_hand, claim_shown, put_shown, take_shown, free_shown, HadOut, had_same, had_more, had_less, still_shown}
 use Rattle.tc_hall.proofs.Outlines.{both, at_self, loose_self, with_lies, else_lies, home_free, Arrives, arrives, arrives_then, arrives_with, is_moved, custody_here, custody_else, all_come, others_come}
-use Rattle.tc_hall.specs.Order.{MayClaim, MayFill}
 use Rattle.tc_hall.proofs.Moves.{AtHome, at_home_of, gets, is_out, misses}
 use Rattle.tc_hall.proofs.Ordering.{claim_after, take_after, put_after}
 use Rattle.tc_hall.proofs.Outs.{has_out, lock_out}

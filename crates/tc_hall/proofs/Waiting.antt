@@ -1,10 +1,7 @@
 -- The package that `adopt` gives waits for the lock.
 use Rattle.std.proofs.Common.{◌≡◌, ℕ, ◌+◌, true, false, Some, None, refl, ⊎_elim, arith, ap}
-use Rattle.tc_isa.specs.Sets.{has}
-use Rattle.tc_context.specs.View.{PackageView, WantIsLawful, IsWaiting, granted_lock}
-use Rattle.tc_hall.specs.declared.board.Knows.{Knows}
-use Rattle.tc_hall.specs.Rule.{locked_in, IsInOrder}
-use Rattle.tc_hall.specs.Steps.{Gets}
+use Rattle.tc_hall.proofs.Vocabulary.{Gets, IsInOrder, IsWaiting, Knows, PackageView, has, locked_in}
+use Rattle.tc_context.specs.View.{WantIsLawful, granted_lock}
 use Rattle.tc_hall.proofs.Cases.{apart, clash, none_of}
 
 -- a lock that the thread doesn't hold, where none was granted, is not in a package that lies in its slot

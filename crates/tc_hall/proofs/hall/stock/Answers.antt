@@ -1,6 +1,5 @@
 use Rattle.std.proofs.Common.{◌≡◌, ℕ, [], ◌∷◌, ◌++◌, Option, ap, ◌∙◌, subst, arith}
-use Rattle.tc_hall.specs.declared.board.Cargo.{Cargo}
-use Rattle.tc_hall.specs.Made.{AreStocked}
+use Rattle.tc_hall.proofs.Vocabulary.{AreStocked, Cargo}
 use Rattle.tc_hall.proofs.Opening.{none_stocked, package_stocked, lock_stocked}
 use Rattle.tc_hall.proofs.hall.stock.Goals as goal
 

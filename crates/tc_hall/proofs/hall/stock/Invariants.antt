@@ -1,5 +1,5 @@
 use Rattle.std.proofs.Common.{◌+◌, ◌≤◌, vec_capacity}
-use Rattle.tc_hall.specs.Made.{AreStocked}
+use Rattle.tc_hall.proofs.Vocabulary.{AreStocked}
 use Rattle.tc_hall.proofs.hall.stock.Given as goal
 
 abbrev pub invariant-loop-t : goal.invariant-loop-t

@@ -1,5 +1,5 @@
 use Rattle.std.proofs.Common.{◌≡◌}
-use Rattle.tc_hall.specs.PassView.{PassView}
+use Rattle.tc_hall.proofs.Vocabulary.{PassView}
 use Rattle.tc_hall.proofs.Dealt.{last_two}
 use Rattle.tc_hall.proofs.tests.words_are_seen.Goals as goal
 

@@ -1,5 +1,5 @@
 use Rattle.std.proofs.Common.{subst}
-use Rattle.tc_context.specs.View.{IsWaiting}
+use Rattle.tc_hall.proofs.Vocabulary.{IsWaiting}
 use Rattle.tc_hall.proofs.Waiting.{awaits}
 use Rattle.tc_hall.proofs.hall.Hall.adopt.Goals as goal
 

@@ -1,13 +1,5 @@
 use Rattle.std.proofs.Common.{◌≡◌, ◌+◌, ◌<◌, ℕ, ◌∷◌, Option, Some, None, refl, sym, ap, ◌∙◌, subst, arith}
-use Rattle.atomic_table.specs.Table.{rest}
-use Rattle.tc_context.specs.View.{PackageView, bare}
-use Rattle.tc_hall.specs.declared.board.Knows.{Knows}
-use Rattle.tc_hall.specs.declared.board.Cargo.TheVariants.{Package}
-use Rattle.tc_hall.specs.PassView.{PassView, HallView}
-use Rattle.tc_hall.specs.Rule.{threads, Has}
-use Rattle.tc_hall.specs.declared.board.Terms.{Terms}
-use Rattle.tc_hall.specs.Steps.{Gets, IsAsLeft}
-use Rattle.tc_hall.specs.Order.{IsClaimable, of_package}
+use Rattle.tc_hall.proofs.Vocabulary.{Gets, HallView, Has, IsAsLeft, IsClaimable, Knows, Package, PackageView, PassView, Terms, bare, of_package, rest, threads}
 use Rattle.tc_hall.proofs.Stepping.{Claims, claims, Lays, lays}
 use Rattle.tc_hall.proofs.Outs.{has_out}
 use Rattle.tc_hall.proofs.Holding.{got_slot, got_found, got_carried, got_view, got_last, got_empty}

@@ -1,17 +1,5 @@
 use Rattle.std.proofs.Common.{◌≡◌, ◌+◌, ℕ, Option, Some, List, refl, sym, ap, ◌∙◌, subst, arith}
-use Rattle.std.specs.Mem.Slots.{slots_items, slots_filled, slots_len}
-use mathlib.Core.Option.{some}
-use lib.ListN.{get_elem?}
-use Rattle.tc_segment.specs.View.{LockView}
-use Rattle.tc_context.specs.View.{PackageView}
-use Rattle.tc_hall.specs.declared.board.Terms.{Terms}
-use Rattle.tc_hall.specs.declared.board.Knows.{Knows}
-use Rattle.tc_hall.specs.declared.board.Cargo.{Cargo}
-use Rattle.tc_hall.specs.declared.board.Cargo.TheVariants.{Package, Lock}
-use Rattle.tc_hall.specs.PassView.{PassView, HallView}
-use Rattle.tc_hall.specs.Rule.{threads, locks}
-use Rattle.tc_hall.specs.Steps.{HasSeenAll, HasAll, IsFree, IsEnd}
-use Rattle.tc_hall.specs.Made.{AreTaken, IsEmptied}
+use Rattle.tc_hall.proofs.Vocabulary.{AreTaken, Cargo, HallView, HasAll, HasSeenAll, IsEmptied, IsEnd, IsFree, Knows, Lock, LockView, Package, PackageView, PassView, Terms, get_elem?, locks, slots_filled, slots_items, slots_len, some, threads}
 use Rattle.tc_hall.proofs.Ended.{taken_none, taken_more, emptied_more, full_emptied, some_package, some_lock, ends}
 use Rattle.tc_hall.proofs.hall.Hall.close.Goals as goal
 

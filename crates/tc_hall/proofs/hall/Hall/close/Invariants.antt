@@ -1,9 +1,5 @@
 use Rattle.std.proofs.Common.{◌≡◌, ◌+◌, ◌≤◌, vec_capacity}
-use Rattle.std.specs.Mem.Slots.{slots_items, slots_filled, slots_len}
-use Rattle.tc_segment.specs.View.{LockView}
-use Rattle.tc_context.specs.View.{PackageView}
-use Rattle.tc_hall.specs.declared.board.Cargo.TheVariants.{Package, Lock}
-use Rattle.tc_hall.specs.Made.{AreTaken, IsEmptied}
+use Rattle.tc_hall.proofs.Vocabulary.{AreTaken, IsEmptied, Lock, LockView, Package, PackageView, slots_filled, slots_items, slots_len}
 use Rattle.tc_hall.proofs.hall.Hall.close.Given as goal
 
 abbrev pub invariant-loop-t : goal.invariant-loop-t

@@ -1,13 +1,5 @@
 use Rattle.std.proofs.Common.{◌≡◌, ◌<◌, ◌+◌, ℕ, [], ◌∷◌, Some, sym, ap, ◌∙◌, subst, arith}
-use Rattle.atomic_table.specs.Table.{rest}
-use Rattle.tc_segment.specs.View.{kept}
-use Rattle.tc_hall.specs.Places.{slot_word}
-use Rattle.tc_hall.specs.declared.board.Knows.{Knows}
-use Rattle.tc_hall.specs.declared.board.Cargo.TheVariants.{Lock}
-use Rattle.tc_hall.specs.PassView.{PassView, HallView}
-use Rattle.tc_hall.specs.Rule.{threads, locks}
-use Rattle.tc_hall.specs.Steps.{Sat, MayFree, Freed}
-use Rattle.tc_hall.specs.Order.{of_lock}
+use Rattle.tc_hall.proofs.Vocabulary.{Freed, HallView, Knows, Lock, MayFree, PassView, Sat, kept, locks, of_lock, rest, slot_word, threads}
 use Rattle.tc_hall.proofs.Cases.{clash}
 use Rattle.tc_hall.proofs.Stepping.{FreesAll, frees, Reaches, reaches}
 use Rattle.tc_hall.proofs.Putting.{freed}

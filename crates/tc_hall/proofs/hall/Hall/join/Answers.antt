@@ -1,6 +1,5 @@
 use Rattle.std.proofs.Common.{sym, ap, ◌∙◌, subst, arith}
-use Rattle.tc_hall.specs.PassView.{PassView, HallView}
-use Rattle.tc_hall.specs.Steps.{IsFree}
+use Rattle.tc_hall.proofs.Vocabulary.{HallView, IsFree, PassView}
 use Rattle.tc_hall.proofs.Stepping.{merges}
 use Rattle.tc_hall.proofs.hall.Hall.join.Goals as goal
 

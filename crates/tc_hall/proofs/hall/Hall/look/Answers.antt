@@ -1,7 +1,5 @@
 use Rattle.std.proofs.Common.{◌<◌, ℕ, ap, ◌∙◌, sym, subst, arith}
-use Rattle.tc_hall.specs.PassView.{PassView, HallView}
-use Rattle.tc_hall.specs.Rule.{threads}
-use Rattle.tc_hall.specs.Steps.{Sat}
+use Rattle.tc_hall.proofs.Vocabulary.{HallView, PassView, Sat, threads}
 use Rattle.tc_hall.proofs.Stepping.{Looks, looks}
 use Rattle.tc_hall.proofs.hall.Hall.look.Goals as goal
 

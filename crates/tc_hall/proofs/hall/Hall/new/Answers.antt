@@ -1,11 +1,5 @@
 use Rattle.std.proofs.Common.{◌≡◌, ◌≤◌, ◌+◌, ◌-◌, ℕ, length, replicate, sym, ap, ◌∙◌, subst, arith}
-use Rattle.tc_elf.specs.declared.limits.TheConstants.{MAX_THREADS, MAX_GUARDS}
-use Rattle.tc_elf.specs.Shown.{Shown}
-use Rattle.tc_hall.specs.declared.board.Terms.{Terms}
-use Rattle.tc_hall.specs.declared.board.Knows.{Knows}
-use Rattle.tc_hall.specs.Rule.{IsInLimits}
-use Rattle.tc_hall.specs.Places.{slot_word}
-use Rattle.tc_hall.specs.Made.{AreStocked}
+use Rattle.tc_hall.proofs.Vocabulary.{AreStocked, IsInLimits, Knows, MAX_GUARDS, MAX_THREADS, Shown, Terms, slot_word}
 use Rattle.tc_hall.proofs.Stepping.{splits}
 use Rattle.tc_hall.proofs.Ordering.{opens_order}
 use Rattle.tc_hall.proofs.Opening.{maker_first, maker_next, new_pass, new_made, last_pass, last_made, none_made}

@@ -1,5 +1,5 @@
 use Rattle.std.proofs.Common.{◌≤◌, length, vec_capacity}
-use Rattle.tc_hall.specs.Made.{IsMaker, AreDealt}
+use Rattle.tc_hall.proofs.Vocabulary.{AreDealt, IsMaker}
 use Rattle.tc_hall.proofs.hall.Hall.new.Given as goal
 
 abbrev pub invariant-loop-worker : goal.invariant-loop-worker

@@ -1,14 +1,5 @@
 use Rattle.std.proofs.Common.{◌≡◌, ◌<◌, ℕ, [], ◌∷◌, Option, Some, sym, ap, ◌∙◌, subst, arith}
-use Rattle.atomic_table.specs.Table.{rest}
-use Rattle.tc_context.specs.View.{bare}
-use Rattle.tc_hall.specs.declared.board.Knows.{Knows}
-use Rattle.tc_hall.specs.declared.board.Terms.{Terms}
-use Rattle.tc_hall.specs.declared.board.Cargo.TheVariants.{Package}
-use Rattle.tc_hall.specs.PassView.{PassView, HallView}
-use Rattle.tc_hall.specs.Places.{IsInRange, slot_word}
-use Rattle.tc_hall.specs.Rule.{threads, locks}
-use Rattle.tc_hall.specs.Steps.{Sat, MayPut, Gave, IsAsLeft}
-use Rattle.tc_hall.specs.Order.{of_package}
+use Rattle.tc_hall.proofs.Vocabulary.{Gave, HallView, IsAsLeft, IsInRange, Knows, MayPut, Package, PassView, Sat, Terms, bare, locks, of_package, rest, slot_word, threads}
 use Rattle.tc_hall.proofs.Cases.{clash}
 use Rattle.tc_hall.proofs.Stepping.{Reaches, reaches, FillsAs, Fills, fills}
 use Rattle.tc_hall.proofs.Putting.{may_put_as, left_as, gave}

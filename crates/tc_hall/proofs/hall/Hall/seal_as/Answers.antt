@@ -1,9 +1,6 @@
 use Rattle.std.proofs.Common.{sym, ap, ◌∙◌, subst, arith}
+use Rattle.tc_hall.proofs.Vocabulary.{DidSeal, HallView, Knows, PackageView, PassView, Seals}
 use Rattle.std.specs.Prelude.{Option}
-use Rattle.tc_context.specs.View.{PackageView}
-use Rattle.tc_hall.specs.declared.board.Knows.{Knows}
-use Rattle.tc_hall.specs.PassView.{PassView, HallView}
-use Rattle.tc_hall.specs.Steps.{Seals, DidSeal}
 use Rattle.tc_hall.proofs.Stepping.{SealsAll, seals}
 use Rattle.tc_hall.proofs.hall.Hall.seal_as.Goals as goal
 

@@ -1,5 +1,5 @@
 use Rattle.std.proofs.Common.{ap, ◌∙◌, sym, arith}
-use Rattle.tc_hall.specs.PassView.{PassView, HallView}
+use Rattle.tc_hall.proofs.Vocabulary.{HallView, PassView}
 use Rattle.tc_hall.proofs.Stepping.{sees}
 use Rattle.tc_hall.proofs.hall.Hall.stopped.Goals as goal
 

@@ -1,14 +1,6 @@
 use Rattle.std.proofs.Common.{◌≡◌, ◌+◌, ◌<◌, ℕ, ◌∷◌, Option, Some, None, sym, ap, ◌∙◌, subst, arith}
-use Rattle.atomic_table.specs.Table.{rest}
-use Rattle.tc_segment.specs.View.{LockView, kept}
-use Rattle.tc_hall.specs.declared.board.Knows.{Knows}
-use Rattle.tc_hall.specs.declared.board.Cargo.TheVariants.{Lock}
-use Rattle.tc_hall.specs.PassView.{PassView, HallView}
-use Rattle.tc_hall.specs.Places.{slot_word}
-use Rattle.tc_hall.specs.Rule.{threads, locks, HasLock}
-use Rattle.tc_hall.specs.declared.board.Terms.{Terms}
-use Rattle.tc_hall.specs.Steps.{Takes, IsStateAsLeft}
-use Rattle.tc_hall.specs.Order.{of_lock}
+use Rattle.tc_hall.proofs.Vocabulary.{HallView, HasLock, IsStateAsLeft, Knows, Lock, LockView, PassView, Terms, kept, locks, of_lock, rest, slot_word, threads}
+use Rattle.tc_hall.specs.Steps.{Takes}
 use Rattle.tc_hall.proofs.Stepping.{TakesAll, takes_lock, Lays, lays}
 use Rattle.tc_hall.proofs.Outs.{loose_out}
 use Rattle.tc_hall.proofs.Holding.{got_slot, got_found, got_carried, got_view, got_last, got_empty}
