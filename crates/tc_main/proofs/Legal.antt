@@ -1,11 +1,11 @@
 -- A legal run keeps the rules, and shows delegation.
+use Rattle.tc_isa.specs.declared.options.Options.{Options}
 use Rattle.tc_elf.specs.Shown.{Shown}
 use Rattle.tc_replay.proofs.Through.{in_order_from}
 use Rattle.tc_core.specs.Core.{Limits}
 use Rattle.tc_told.specs.Handover.{ShowsDelegation}
 use Rattle.tc_told.specs.Written.{KeepsRules}
 use Rattle.tc_told.proofs.Strict.{run_rules}
-use Rattle.tc_workers.specs.declared.options.Options.{Options}
 use Rattle.tc_report.specs.Results.{Results}
 use Rattle.tc_report.specs.Legal.{IsLegalRun}
 

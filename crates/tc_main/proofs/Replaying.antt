@@ -2,9 +2,7 @@
 use Rattle.std.proofs.Common.{◌≡◌, ℕ, ◌<◌, ◌≤◌, ◌^◌, ◌++◌, List, map, length, take, drop, inl, inr, refl, sym, ap, subst, ◌∙◌, arith}
 use Rattle.std.specs.Prelude.{Option, Some, None, codes, option_map}
 use Rattle.std.proofs.lemmas.Option.{same_Some}
-use Rattle.std.proofs.Math.Bridge.{le_prop}
-use mathlib.Core.HLevel.{is_prop→PathP}
-use Rattle.tc_isa.specs.declared.limits.TheConstants.{MAX_BATCH, MAX_FUEL, MAX_WORKERS}
+use Rattle.tc_isa.specs.declared.options.Options.{Options}
 use Rattle.tc_elf.specs.Loading.{subset}
 use Rattle.tc_elf.specs.Refused.{refusal_name, refusal_number}
 use Rattle.tc_elf.specs.declared.refusal.Refusal.{Refusal}
@@ -16,16 +14,11 @@ use Rattle.tc_segment.specs.View.{LockView, kept}
 use Rattle.tc_context.specs.View.{PackageView, bare}
 use Rattle.tc_law.specs.Lawful.{Lawful}
 use Rattle.tc_law.proofs.Lawful.{short_history}
-use Rattle.tc_replay.specs.Rejected.{IsAccepted, IsCompleteRun, IsRejected}
+use Rattle.tc_replay.specs.Rejected.{IsCompleteRun}
 use Rattle.tc_replay.specs.Taken.{CheckerView, HasTaken}
-use Rattle.tc_replay.specs.declared.terms.Terms.{Terms}
-use Rattle.tc_replay.specs.declared.reason.Reason.{Reason}
 use Rattle.tc_replay.specs.declared.reason.Rejected.{Rejected}
-use Rattle.tc_replay.proofs.Telling.{accepted_run}
-use Rattle.tc_workers.specs.declared.options.Options.{Options}
 use Rattle.tc_report.specs.Legal.{results_after}
 use Rattle.tc_report.specs.Report.{head_text, report_text, tail_text}
-use Rattle.tc_main.specs.Replayed.{terms_of}
 use Rattle.tc_main.specs.Top.{Rejects, Verdict, refused_line, rejected_line}
 use Rattle.tc_main.specs.Words.{AskFor, FitsInput, Input, Reads, file_and_history, history_asked, input_of, whole_file}
 use Rattle.tc_main.specs.Wrong.{IsWrong, IsWrongFile, IsWrongInput, IsWrongText}
@@ -66,9 +59,9 @@ asked_wrong asked size o bytes OutOfMemory is of wrong = tt
 
 -- ---- what is told
 
-module _ (v : CheckerView) (image : Shown) (o : Options) (h : List Block) (of : v.image ≡ image) (made : v.terms ≡ terms_of o) where
+module _ (v : CheckerView) (image : Shown) (o : Options) (h : List Block) (of : v.image ≡ image) (made : v.terms ≡ o) where
   pub law_of : (packages : List PackageView) (states : List LockView) → Lawful v.image v.terms.fuel v.terms.limit h (map bare packages) (map kept states) → Lawful image o.fuel o.limit h (map bare packages) (map kept states)
-  law_of packages states law = subst (λ (x : Shown × Terms). Lawful x.0 x.1.fuel x.1.limit h (map bare packages) (map kept states)) (λ i. (of i, made i)) law
+  law_of packages states law = subst (λ (x : Shown × Options). Lawful x.0 x.1.fuel x.1.limit h (map bare packages) (map kept states)) (λ i. (of i, made i)) law
 
 pub report_told : (image : Shown) (o : Options) (h : List Block) (packages : List PackageView) (states : List LockView) → Lawful image o.fuel o.limit h (map bare packages) (map kept states)
     → IsComplete image (end_after image o.fuel h) → report_text image o (results_after image o.fuel h) ≡ head_text image o ++ history_text h ++ tail_text image packages states
@@ -78,8 +71,8 @@ report_told image o h packages states law complete = told image o.fuel h package
 pub few_taken : (v : CheckerView) (h : List Block) → HasTaken v h → length h < 2 ^ 32
 few_taken v h taken = short_history v.image v.terms.fuel v.terms.limit h (map bare v.packages) taken.taken.0 taken.taken.1.limits taken.taken.1.law
 
-pub addable_taken : (v : CheckerView) (image : Shown) (terms : Terms) (h : List Block) → HasTaken v h → IsCompleteRun image terms h → CanAllBeAdded image h
-addable_taken v image terms h taken run = addable image terms.fuel h (end_after image terms.fuel h) run.tells taken.taken.1.law.history
+pub addable_taken : (v : CheckerView) (image : Shown) (o : Options) (h : List Block) → HasTaken v h → IsCompleteRun image o h → CanAllBeAdded image h
+addable_taken v image o h taken run = addable image o.fuel h (end_after image o.fuel h) run.tells taken.taken.1.law.history
 
 -- ---- what is read
 
@@ -142,26 +135,3 @@ fits asked most bytes for few input is =
     let same : for.input ≡ input = same_Some for.input input (sym for.is ∙ is) in
     let most_is : most ≡ input.most = for.most_is ∙ ap (λ (i : Input). i.most) same in
     omega (arith, few, most_is)
-
--- ---- the options are the terms of the history
-
-same_terms : (t : Terms) (o : Options) → t.workers ≡ o.workers → t.fuel ≡ o.fuel → t.limit ≡ o.limit → t ≡ terms_of o
-same_terms t o workers fuel limit = λ i. record {
-  workers = workers i;
-  fuel = fuel i;
-  limit = limit i;
-  some_workers = is_prop→PathP (λ j. 1 ≤ workers j) (λ j. le_prop) t.some_workers o.some_workers i;
-  most_workers = is_prop→PathP (λ j. workers j ≤ MAX_WORKERS) (λ j. le_prop) t.most_workers o.most_workers i;
-  some_fuel = is_prop→PathP (λ j. 1 ≤ fuel j) (λ j. le_prop) t.some_fuel o.some_fuel i;
-  most_fuel = is_prop→PathP (λ j. fuel j ≤ MAX_FUEL) (λ j. le_prop) t.most_fuel o.most_fuel i;
-  most_adopted = is_prop→PathP (λ j. limit j ≤ MAX_BATCH) (λ j. le_prop) t.most_adopted o.most_adopted i;
-}
-
-pub run_of : (image : Shown) (o : Options) (h : List Block) {t : Terms} → IsAccepted image t h → t.workers ≡ o.workers → t.fuel ≡ o.fuel → t.limit ≡ o.limit → IsCompleteRun image (terms_of o) h
-run_of image o h {t} accepted workers fuel limit = subst (λ (x : Terms). IsCompleteRun image x h) (same_terms t o workers fuel limit) (accepted_run image t h accepted)
-
-pub rejected_of : (image : Shown) (o : Options) (h : List Block) (line : ℕ) (r : Reason) {t : Terms} → IsRejected image t h line r → t.workers ≡ o.workers → t.fuel ≡ o.fuel → t.limit ≡ o.limit → IsRejected image (terms_of o) h line r
-rejected_of image o h line r {t} rejected workers fuel limit = subst (λ (x : Terms). IsRejected image x h line r) (same_terms t o workers fuel limit) rejected
-
-pub made_of : (x : Terms) (o : Options) {t : Terms} → x ≡ t → t.workers ≡ o.workers → t.fuel ≡ o.fuel → t.limit ≡ o.limit → x ≡ terms_of o
-made_of x o {t} made workers fuel limit = made ∙ same_terms t o workers fuel limit

@@ -2,6 +2,7 @@
 use Rattle.std.proofs.Common.{◌≡◌, ◌++◌, ℕ, List, map, sym, ◌∙◌, subst}
 use Rattle.std.specs.Prelude.{All}
 use Rattle.std.specs.List.Sorted.{IsPermutation}
+use Rattle.tc_isa.specs.declared.options.Options.{Options}
 use Rattle.tc_elf.specs.Shown.{Shown}
 use Rattle.tc_journal.specs.History.{HasEachStamp, IsInOrder}
 use Rattle.tc_journal.specs.Line.{history_text}
@@ -11,7 +12,6 @@ use Rattle.tc_context.specs.View.{PackageView, bare}
 use Rattle.tc_law.specs.Lawful.{Lawful, AreStrict}
 use Rattle.tc_hall.specs.PassView.{ClosedView}
 use Rattle.tc_workers.specs.Run.{IsWholeRun}
-use Rattle.tc_workers.specs.declared.options.Options.{Options}
 use Rattle.tc_report.specs.Legal.{IsLegalRun, results_after}
 use Rattle.tc_report.specs.Outcome.{IsOutcome, logs_of}
 use Rattle.tc_report.specs.Report.{head_text, tail_text}

@@ -8,7 +8,7 @@ use mathlib.Core.HLevel.{is_prop→PathP}
 use Rattle.std.proofs.Math.Bridge.{le_prop}
 use Rattle.tc_elf.specs.declared.limits.TheConstants.{MAX_FILE}
 use Rattle.tc_isa.specs.declared.limits.TheConstants.{MAX_BATCH, MAX_FUEL, MAX_WORKERS}
-use Rattle.tc_workers.specs.declared.options.Options.{Options}
+use Rattle.tc_isa.specs.declared.options.Options.{Options}
 use Rattle.tc_main.specs.Words.{AskFor, Input, IsWithinLimits, file_and_history, history_asked, input_of, option_words, spelling, whole_file}
 use Rattle.tc_main.specs.declared.order.Order.TheVariants.{Entry, Nodes}
 use Rattle.tc_main.specs.declared.words.Asked.{Asked}

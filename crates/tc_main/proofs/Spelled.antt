@@ -2,7 +2,7 @@
 use Rattle.std.proofs.Common.{◌≡◌, ℕ, List, [], Option, None, Some, get_or, ap, arith}
 use Rattle.std.specs.Prelude.{IfNone}
 use Rattle.std.proofs.lemmas.Fmt.{decimal_injective}
-use Rattle.tc_workers.specs.declared.options.Options.{Options}
+use Rattle.tc_isa.specs.declared.options.Options.{Options}
 use Rattle.tc_main.specs.Words.{option_words}
 
 -- options with the same words have the same number of workers

@@ -4,6 +4,7 @@ use Rattle.std.proofs.lemmas.Option.{same_Some, none-some}
 use Rattle.std.specs.Io.KnownBytes.{Consumes, IsAtEnd}
 use Rattle.tc_io.specs.Causes.{Rose}
 use Rattle.tc_io.specs.Stream.{Stream}
+use Rattle.tc_isa.specs.declared.options.Options.{Options}
 use Rattle.tc_elf.specs.Loading.{refusal}
 use Rattle.tc_elf.specs.Refused.{refusal_number}
 use Rattle.tc_elf.specs.Shown.{Shown}
@@ -12,9 +13,8 @@ use Rattle.tc_replay.specs.Rejected.{IsCompleteRun, IsRejected as IsRejectedAt}
 use Rattle.tc_replay.specs.declared.reason.Rejected.{Rejected as Rejection}
 use Rattle.tc_replay.proofs.Telling.{run_accepted}
 use Rattle.tc_replay.proofs.Wrong.{one_rejection, never_both}
-use Rattle.tc_workers.specs.declared.options.Options.{Options}
 use Rattle.tc_main.specs.Words.{AskFor, AskForNothing, AskToRead, Input, Reads, file_and_history, history_asked, input_of, whole_file}
-use Rattle.tc_main.specs.Replayed.{HasHistory, HasRun, IsRejection, terms_of}
+use Rattle.tc_main.specs.Replayed.{HasHistory, HasRun, IsRejection}
 use Rattle.tc_main.specs.Top.{Accepts, CanBeDone, Ends, HasInput, HasRead, IsRefused, IsRejectedFor, IsTextOf, IsWanted, MustRefuse, ReadsAll, RefusesBytes, Rejects}
 use Rattle.tc_main.specs.declared.status.Status.{Status}
 use Rattle.tc_main.specs.declared.status.Status.TheVariants.{Done, Usage, ReadFault, Refused, WriteFault, OutOfMemory, Rejected}
@@ -37,9 +37,9 @@ module _ (size : ℕ) (o : Options) (bytes : List ℕ) where
   never : (r : Rejection) → HasRun size o bytes → IsRejection size o bytes r → ⊥
   never r ran (inl text) = never_wrong (drop size bytes) ran.history r.line ran.is.text text.line
   never r ran (inr wrong) =
-      let run : IsCompleteRun wrong.image (terms_of o) wrong.history = subst (λ (x : Shown × List Block). IsCompleteRun x.0 (terms_of o) x.1)
+      let run : IsCompleteRun wrong.image o wrong.history = subst (λ (x : Shown × List Block). IsCompleteRun x.0 o x.1)
       (λ i. (same_guest size bytes ran.image wrong.image ran.history wrong.history ran.is wrong.is i, same_blocks size bytes ran.image wrong.image ran.history wrong.history ran.is wrong.is i)) ran.run in
-      never_both wrong.image (terms_of o) wrong.history r.line r.reason wrong.rejected (run_accepted wrong.image (terms_of o) wrong.history run)
+      never_both wrong.image o wrong.history r.line r.reason wrong.rejected (run_accepted wrong.image o wrong.history run)
 
   same_place : (r s : Rejection) → r.line ≡ s.line → r.reason ≡ s.reason → r ≡ s
   same_place r s line reason = λ i. record { line = line i; reason = reason i }
@@ -49,9 +49,9 @@ module _ (size : ℕ) (o : Options) (bytes : List ℕ) where
   one r s (inl a) (inr b) = absurd (never_wrong (drop size bytes) b.history r.line b.is.text a.line)
   one r s (inr a) (inl b) = absurd (never_wrong (drop size bytes) a.history s.line a.is.text b.line)
   one r s (inr a) (inr b) =
-      let there : IsRejectedAt b.image (terms_of o) b.history r.line r.reason = subst (λ (x : Shown × List Block). IsRejectedAt x.0 (terms_of o) x.1 r.line r.reason)
+      let there : IsRejectedAt b.image o b.history r.line r.reason = subst (λ (x : Shown × List Block). IsRejectedAt x.0 o x.1 r.line r.reason)
       (λ i. (same_guest size bytes a.image b.image a.history b.history a.is b.is i, same_blocks size bytes a.image b.image a.history b.history a.is b.is i)) a.rejected in
-      let same = one_rejection b.image (terms_of o) b.history r.line s.line r.reason s.reason there b.rejected in
+      let same = one_rejection b.image o b.history r.line s.line r.reason s.reason there b.rejected in
       same_place r s same.0 same.1
 
 -- so it is of what is asked

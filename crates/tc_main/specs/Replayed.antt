@@ -1,5 +1,6 @@
 -- A finished history of a guest: the first bytes are the guest's file, and the text of the history stands behind them.
 use Rattle.std.specs.Prelude.{◌≡◌, ℕ, ◌≤◌, ◌⊎◌, List, length, take, drop}
+use Rattle.tc_isa.specs.declared.options.Options.{Options}
 use Rattle.tc_elf.specs.Loading.{subset}
 use Rattle.tc_elf.specs.Shown.{Shown}
 use Rattle.tc_journal.specs.Reading.{IsTextOf as IsHistoryText, IsFirstWrong}
@@ -8,21 +9,6 @@ use Rattle.tc_journal.specs.declared.block.Block.{Block}
 use Rattle.tc_replay.specs.Rejected.{IsCompleteRun, IsRejected}
 use Rattle.tc_replay.specs.declared.reason.Reason.TheVariants as reason
 use Rattle.tc_replay.specs.declared.reason.Rejected.{Rejected}
-use Rattle.tc_replay.specs.declared.terms.Terms.{Terms}
-use Rattle.tc_workers.specs.declared.options.Options.{Options}
-
--- with what a history was made, where its guest was run with these options
-abbrev pub terms_of : Options → Terms
-terms_of o = record {
-  workers = o.workers;
-  fuel = o.fuel;
-  limit = o.limit;
-  some_workers = o.some_workers;
-  most_workers = o.most_workers;
-  some_fuel = o.some_fuel;
-  most_fuel = o.most_fuel;
-  most_adopted = o.most_adopted;
-}
 
 -- the first bytes, so many, are the file of this guest, and the text of this history stands behind them
 pub record HasHistory (size : ℕ) (bytes : List ℕ) (image : Shown) (h : List Block) : Type 0 where
@@ -35,7 +21,7 @@ pub record HasRun (size : ℕ) (o : Options) (bytes : List ℕ) : Type 0 where
   pub image : Shown
   pub history : List Block
   pub is : HasHistory size bytes image history
-  pub run : IsCompleteRun image (terms_of o) history
+  pub run : IsCompleteRun image o history
 
 -- behind the file of a guest stands no text of a history, and this line is the first that is wrong
 pub record HasWrongText (size : ℕ) (bytes : List ℕ) (r : Rejected) : Type 0 where
@@ -50,7 +36,7 @@ pub record HasWrongHistory (size : ℕ) (o : Options) (bytes : List ℕ) (r : Re
   pub image : Shown
   pub history : List Block
   pub is : HasHistory size bytes image history
-  pub rejected : IsRejected image (terms_of o) history r.line r.reason
+  pub rejected : IsRejected image o history r.line r.reason
 
 -- what stands behind the guest's file is rejected so
 abbrev pub IsRejection : ℕ → Options → List ℕ → Rejected → Type 0

@@ -3,6 +3,7 @@ use Rattle.std.specs.Prelude.{◌≡◌, ◌≢◌, ℕ, ◌+◌, ◌<◌, ◌�
 use Rattle.tc_io.specs.Causes.{Rose}
 use Rattle.tc_io.specs.Stream.{Stream}
 use Rattle.tc_io.specs.Taken.{FailsAmid, Gives, TakesAll, TakesCount}
+use Rattle.tc_isa.specs.declared.options.Options.{Options}
 use Rattle.tc_elf.specs.Loading.{refusal, subset}
 use Rattle.tc_elf.specs.Refused.{refusal_number, refusal_name}
 use Rattle.tc_elf.specs.Shown.{Shown}
@@ -18,7 +19,6 @@ use Rattle.tc_report.specs.Report.{report_text}
 use Rattle.tc_report.specs.Results.{Results}
 use Rattle.tc_report.specs.Summary.{summary_text}
 use Rattle.tc_main.specs.Words.{Input, AskFor, AskForNothing, AskToRead, Reads, history_asked, input_of}
-use Rattle.tc_workers.specs.declared.options.Options.{Options}
 use Rattle.tc_main.specs.declared.status.Status.{Status}
 use Rattle.tc_main.specs.declared.status.Status.TheVariants.{Done, Usage, ReadFault, Refused, WriteFault, OutOfMemory, Rejected}
 use Rattle.tc_main.specs.declared.words.Asked.{Asked}

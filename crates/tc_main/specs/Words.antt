@@ -1,9 +1,9 @@
 -- The words of the command line: `run W F B`, `gen N`, `demo N W`, `replay N W F B`, `nodes G K W F B` or
 -- `profile N W F B`, each number in decimal digits without a leading zero.
 use Rattle.std.specs.Prelude.{◌≡◌, ℕ, ◌+◌, ◌≤◌, List, [], ◌∷◌, length, take, Option, None, Some, codes, decimal}
+use Rattle.tc_isa.specs.declared.options.Options.{Options}
 use Rattle.tc_build.specs.declared.generate.TheConstants.{MAX_ROUNDS}
 use Rattle.tc_elf.specs.declared.limits.TheConstants.{MAX_FILE}
-use Rattle.tc_workers.specs.declared.options.Options.{Options}
 use Rattle.tc_main.specs.Orders.{IsOrderFor}
 use Rattle.tc_main.specs.declared.order.Order.TheVariants.{Entry, Nodes}
 use Rattle.tc_main.specs.declared.words.Asked.{Asked}

@@ -1,11 +1,11 @@
 -- Why there is no text for what is asked, by the bytes that were read for it.
 use Rattle.std.specs.Prelude.{◌≡◌, ◌≢◌, ℕ, ◌<◌, ◌≤◌, List, length, take, Some}
+use Rattle.tc_isa.specs.declared.options.Options.{Options}
 use Rattle.tc_elf.specs.Loading.{refusal}
 use Rattle.tc_elf.specs.declared.refusal.Refusal.TheVariants as refused
 use Rattle.tc_journal.specs.Reading.{IsFirstWrong}
 use Rattle.tc_journal.specs.Told.{told}
 use Rattle.tc_replay.specs.declared.reason.Reason.TheVariants as reason
-use Rattle.tc_workers.specs.declared.options.Options.{Options}
 use Rattle.tc_main.specs.Words.{Input, history_asked, input_of}
 use Rattle.tc_main.specs.Replayed.{IsRejection}
 use Rattle.tc_main.specs.Top.{Rejects}

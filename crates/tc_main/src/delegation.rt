@@ -10,7 +10,7 @@ ghost use Rattle.tc_journal.specs.declared.block.Block.{Block};
 ghost use Rattle.tc_journal.specs.declared.block.End.TheVariants.{Unlocked};
 ghost use Rattle.tc_told.specs.Handover.{first_of, BeginsAdopted, IsBehindRelease, HasWaited, BeginsWith, IsCutUp};
 ghost use Rattle.tc_told.specs.Written.{IsWritten};
-ghost use Rattle.tc_workers.specs.declared.options.Options.{Options};
+ghost use Rattle.tc_isa.specs.declared.options.Options.{Options};
 ghost use Rattle.tc_report.specs.Results.{Results};
 ghost use Rattle.tc_report.specs.Legal.{IsLegalRun};
 

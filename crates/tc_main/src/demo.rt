@@ -14,9 +14,9 @@ use tc_build::generate::generate;
 use tc_elf::image::Image;
 use tc_elf::load::load;
 use tc_elf::refusal::Refusal;
+use tc_isa::options::Options;
 use tc_report::summary::summary;
 use tc_workers::gate::Gate;
-use tc_workers::options::Options;
 
 /// The image of the generator's guest, as its file is loaded: nothing refuses it.
 fn generated_image(alloc: Global, rounds: u32) -> Result<Image, AllocError>

@@ -13,10 +13,10 @@ use std::sync::Wait;
 use std::thread::Threads;
 use tc_elf::image::Image;
 use tc_hall::closed::Closed;
+use tc_isa::options::Options;
 use tc_nodes::NodeQueue;
 use tc_workers::gate::Gate;
 use tc_workers::lines::{Lines, deal, empty_rows};
-use tc_workers::options::Options;
 use tc_workers::run_with;
 
 /// The queues of the image's locks, with seats for so many workers: the seats of a worker are on the

@@ -1,6 +1,7 @@
 //! A finished history of a guest: it is replayed, and its report or its profile is told.
 
 ghost use Rattle.std.specs.Prelude.{◌≡◌, ◌<◌, ◌≤◌, ◌^◌, IfOk, IfErr, length};
+ghost use Rattle.tc_isa.specs.declared.options.Options.{Options as AnyOptions};
 ghost use Rattle.tc_elf.specs.Loading.{subset};
 ghost use Rattle.tc_elf.specs.declared.limits.TheConstants.{MAX_FILE};
 ghost use Rattle.tc_journal.specs.Reading.{IsTextOf};
@@ -12,22 +13,20 @@ ghost use Rattle.tc_report.specs.Legal.{results_after};
 ghost use Rattle.tc_report.specs.Report.{report_text};
 ghost use Rattle.tc_main.specs.Replayed.{HasHistory};
 ghost use Rattle.tc_main.specs.Wrong.{IsWrongFile, IsWrongText, IsWrongInput};
-ghost use Rattle.tc_workers.specs.declared.options.Options.{Options as AnyOptions};
 
 use crate::wrong::Wrong;
 use std::alloc::{AllocError, Global};
 use tc_elf::image::Image;
 use tc_elf::load::load;
 use tc_elf::refusal::Refusal;
+use tc_isa::options::Options;
 use tc_journal::block::Block;
 use tc_journal::reading::{BadText, read};
 use tc_profile::{Profile, profile_text};
 use tc_replay::checker::Checker;
 use tc_replay::checking::{Verdict, checked};
 use tc_replay::reason::{Reason, Rejected};
-use tc_replay::terms::Terms;
 use tc_report::report::{lent, report_with, tail_of};
-use tc_workers::options::Options;
 
 /// A guest, a history of it with which nothing is wrong, and the checker that took the history.
 #[derive(Drop)]
@@ -86,17 +85,7 @@ pub(crate) fn replayed(
     let image = guest_of(alloc, file)?;
     let history = blocks_of(alloc, text)?;
     drop(bytes);
-    let Options {
-        workers,
-        fuel,
-        limit,
-    } = options;
-    let terms = Terms {
-        workers,
-        fuel,
-        limit,
-    };
-    match checked(alloc, &image, terms, &history)? {
+    match checked(alloc, &image, options, &history)? {
         Verdict::Accepted(checker) => Ok(Replay {
             image,
             history,

@@ -20,13 +20,13 @@ use tc_context::package::Package;
 use tc_elf::image::Image;
 use tc_hall::closed::Closed;
 use tc_io::Sink;
+use tc_isa::options::Options;
 use tc_journal::block::Block;
 use tc_journal::history::{in_order, merge_lent};
 use tc_report::report::{tail_of, write_report};
 use tc_report::written::Written;
 use tc_segment::state::LockState;
 use tc_workers::gate::Gate;
-use tc_workers::options::Options;
 use tc_workers::run_all;
 
 /// What each of the lock states keeps. A law: it goes over them, and does nothing.

@@ -11,10 +11,10 @@ use std::thread::Threads;
 use tc_build::build::build;
 use tc_elf::limits::MAX_FILE;
 use tc_elf::load::load;
+use tc_isa::options::Options;
 use tc_replay::reason::{Reason, Rejected};
 use tc_report::report::report;
 use tc_workers::gate::Open;
-use tc_workers::options::Options;
 
 /// A history that ends before its first block.
 const REJECTED: Rejected = Rejected {

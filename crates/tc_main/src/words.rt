@@ -1,11 +1,11 @@
 //! The words of the command line.
 
 ghost use Rattle.std.specs.Prelude.{◌≡◌, ℕ, ◌≤◌, ◌∷◌, MatchBool, IfSome, IfNone, decimal};
+ghost use Rattle.tc_isa.specs.declared.options.Options.{Options as Chosen};
 ghost use Rattle.tc_main.specs.Words.{AskFor, AskForNothing, option_words};
 ghost use Rattle.tc_elf.specs.declared.limits.TheConstants.{MAX_FILE};
 ghost use Rattle.tc_main.specs.declared.words.Asked.TheVariants.{Run, Generate, Demo as Demonstrate, Replay, Profile};
 ghost use Rattle.tc_main.specs.declared.order.Order.TheVariants.{Entry, Nodes};
-ghost use Rattle.tc_workers.specs.declared.options.Options.{Options as Chosen};
 
 use crate::order::{MAX_PASSES, Order};
 use itoa::Buffer;
@@ -14,8 +14,8 @@ use tc_build::generate::MAX_ROUNDS;
 use tc_elf::limits::MAX_FILE as MAX_BYTES;
 use tc_io::Word;
 use tc_isa::limits::{MAX_BATCH, MAX_FUEL, MAX_WORKERS};
+use tc_isa::options::Options;
 use tc_report::summary::DEMO_FUEL;
-use tc_workers::options::Options;
 
 /// The batch limit of a demonstration.
 pub const DEMO_LIMIT: u32 = 8;

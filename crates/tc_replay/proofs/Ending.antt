@@ -5,6 +5,7 @@ use Rattle.std.proofs.lemmas.Bool.Decides.{eqb_tells}
 use Rattle.std.proofs.lemmas.List.{length-map}
 use mathlib.Core.Option.{some, some-injective, some-ne-none}
 use lib.ListN.{get_elem?}
+use Rattle.tc_isa.specs.declared.options.Options.{Options as Terms}
 use Rattle.tc_elf.specs.Shown.{Shown}
 use Rattle.tc_journal.specs.declared.block.Block.{Block}
 use Rattle.tc_turn.specs.Turn.{Thread, is_running, thread_at_start, no_thread}
@@ -21,7 +22,6 @@ use Rattle.tc_law.specs.Lawful.{Lawful, StandsAt, owner_after}
 use Rattle.tc_law.proofs.Following.{holds_told}
 use Rattle.tc_replay.specs.Rejected.{IsFirstOn}
 use Rattle.tc_replay.specs.Taken.{AreTaken, CheckerView, HasTaken}
-use Rattle.tc_replay.specs.declared.terms.Terms.{Terms}
 use Rattle.tc_replay.proofs.Keeping.{at_map}
 use Rattle.tc_replay.proofs.Starting.{was_at, pushed_at, count_more}
 

@@ -5,6 +5,7 @@ use Rattle.std.specs.Option.{option_map}
 use Rattle.std.proofs.lemmas.Bool.Decides.{eqb_tells}
 use Rattle.tc_isa.specs.Sets.{has}
 use Rattle.tc_isa.specs.declared.limits.TheConstants.{MAX_TURNS}
+use Rattle.tc_isa.specs.declared.options.Options.{Options as Terms}
 use Rattle.tc_elf.specs.Shown.{Shown}
 use Rattle.tc_journal.specs.declared.block.Block.{Block}
 use Rattle.tc_turn.specs.Turn.{Thread, is_running, next_lock}
@@ -23,7 +24,6 @@ use Rattle.tc_law.proofs.Lawful.{rests_free}
 use Rattle.tc_replay.specs.Rejected.{IsOfThread}
 use Rattle.tc_replay.specs.Run.{grant_kind, IsGrantedFor, IsPrepared}
 use Rattle.tc_replay.specs.Taken.{Before, IsHome, IsCalm, IsWith, HasRoom, MayGrant, DidGrant, IsReadyFor}
-use Rattle.tc_replay.specs.declared.terms.Terms.{Terms}
 use Rattle.tc_replay.proofs.Telling.{right_obeys}
 use Rattle.tc_replay.proofs.Keeping.{follows_among}
 

@@ -1,6 +1,7 @@
 -- What a prepared package's block says of the recorded one.
 use Rattle.std.proofs.Common.{◌≡◌, ◌^◌, ◌<◌, true, List, sym, ap, subst, ◌∙◌}
 use Rattle.std.specs.Prelude.{Some}
+use Rattle.tc_isa.specs.declared.options.Options.{Options as Terms}
 use Rattle.tc_elf.specs.Shown.{Shown}
 use Rattle.tc_journal.specs.Batch.{last_of}
 use Rattle.tc_journal.specs.declared.block.Block.{Block}
@@ -11,7 +12,6 @@ use Rattle.tc_context.specs.Ran.{DidRun}
 use Rattle.tc_replay.specs.Rejected.{IsBlockOf, IsOfKind, IsRight, IsWrong}
 use Rattle.tc_replay.specs.Run.{HaveSameTurns, IsPrepared, IsRecorded}
 use Rattle.tc_replay.specs.declared.reason.Reason.TheVariants as reason
-use Rattle.tc_replay.specs.declared.terms.Terms.{Terms}
 use Rattle.tc_replay.proofs.Exact.{same_turns, is_block, exact_kind, same_block, kind_right}
 
 module _ (image : Shown) (terms : Terms) (h : List Block) (p v : PackageView) (b x : Block) (prepared : IsPrepared image terms h p b) (sound : IsSoundPackage p) (small : b.held < 2 ^ 32)

@@ -5,6 +5,7 @@ use Rattle.std.proofs.lemmas.List.{map-set}
 use mathlib.Core.Option.{some}
 use lib.ListN.{get_elem?}
 use Rattle.tc_isa.specs.Sets.{has}
+use Rattle.tc_isa.specs.declared.options.Options.{Options as Terms}
 use Rattle.tc_elf.specs.Shown.{Shown}
 use Rattle.tc_journal.specs.declared.block.Block.{Block}
 use Rattle.tc_turn.specs.Turn.{next_lock}
@@ -28,7 +29,6 @@ use Rattle.tc_law.proofs.Lawful.{appended, rests_free, held_owned}
 use Rattle.tc_replay.specs.Rejected.{IsRight, AreRightAfter}
 use Rattle.tc_replay.specs.Run.{IsPrepared, IsRecorded}
 use Rattle.tc_replay.specs.Taken.{AreLenient, Before, IsCalm, IsWith, IsReadyFor, after_taking}
-use Rattle.tc_replay.specs.declared.terms.Terms.{Terms}
 use Rattle.tc_replay.proofs.Lenient.{lenient_states}
 
 pub at_map : {A B : Type 0} (f : A → B) (l : List A) (i : ℕ) (a : A) → get_elem? l i ≡ some a → get_elem? (map f l) i ≡ some (f a)

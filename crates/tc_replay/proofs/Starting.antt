@@ -7,6 +7,7 @@ use Rattle.std.proofs.lemmas.List.{length-map}
 use Rattle.std.proofs.lemmas.List.Folds.{fold-map}
 use Rattle.std.proofs.lemmas.List.FromFn.{length-map-range_with_len, get_or-map-range_with_len}
 use mathlib.Core.Option.{some, some-injective, some-ne-none}
+use Rattle.tc_isa.specs.declared.options.Options.{Options as Terms}
 use Rattle.tc_elf.specs.Shown.{Shown}
 use Rattle.tc_mutex_spec.proofs.ListLaws.{there, at_place}
 use Rattle.tc_segment.specs.View.{LockView, fresh_state}
@@ -16,7 +17,6 @@ use Rattle.tc_context.specs.View.{PackageView, IsFresh, bare}
 use Rattle.tc_law.specs.Lawful.{Lawful, StandsAt, IsStateAfter, IsLimited, IsPackageAfter, blocks_left}
 use Rattle.tc_law.proofs.Lawful.{fresh_lawful}
 use Rattle.tc_replay.specs.Taken.{AreFreshPackages, AreTaken, IsHome, lenient_state}
-use Rattle.tc_replay.specs.declared.terms.Terms.{Terms}
 use Rattle.tc_replay.proofs.Keeping.{at_map}
 
 -- a list that is made by number

@@ -2,6 +2,7 @@
 use Rattle.std.proofs.Common.{◌≡◌, ◌≢◌, ℕ, ◌^◌, ◌<◌, true, false, List, map, length, refl, sym, ap, subst, ◌∙◌, ⊎_elim}
 use Rattle.std.specs.Prelude.{Option, Some, None, IfSome, is_some, if◌then◌else◌}
 use Rattle.tc_isa.specs.Sets.{has}
+use Rattle.tc_isa.specs.declared.options.Options.{Options as Terms}
 use Rattle.tc_elf.specs.Shown.{Shown}
 use Rattle.tc_journal.specs.declared.block.Block.{Block}
 use Rattle.tc_turn.specs.Turn.{Thread, is_running, next_lock}
@@ -17,7 +18,6 @@ use Rattle.tc_replay.specs.Run.{IsPrepared, IsRecorded, IsJudged}
 use Rattle.tc_replay.specs.Taken.{Before, IsCalm, IsNext, IsWith, HasRoom, MayGrant, DidGrant, IsReadyFor, StaysWith, TookOne, after_taking}
 use Rattle.tc_replay.specs.declared.reason.Reason.{Reason}
 use Rattle.tc_replay.specs.declared.reason.Reason.TheVariants as reason
-use Rattle.tc_replay.specs.declared.terms.Terms.{Terms}
 use Rattle.tc_replay.proofs.Keeping.{thread, taken_after, took_granted, block_set, follows_among}
 use Rattle.tc_replay.proofs.Handing.{roomier_with, roomier_calm, image_is, may, may_grant, absent, granted_with, granted_ready, granted_away, granted_prepared, plain_ready, plain_away, plain_prepared}
 

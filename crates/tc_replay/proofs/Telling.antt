@@ -3,6 +3,7 @@ use Rattle.std.proofs.Common.{◌≡◌, ℕ, ◌-◌, ◌<◌, Bool, true, fals
 use Rattle.std.specs.Prelude.{Option, Some, None, All, if◌then◌else◌}
 use Rattle.std.proofs.lemmas.List.Elements.{filter-append, All-nil, All-cons, All-head, All-tail}
 use Rattle.tc_isa.specs.Sets.{has}
+use Rattle.tc_isa.specs.declared.options.Options.{Options as Terms}
 use Rattle.tc_elf.specs.Shown.{Shown}
 use Rattle.tc_journal.specs.Batch.{may_follow, Obeys, ObeysAfter}
 use Rattle.tc_journal.specs.History.{of_lock}
@@ -14,7 +15,6 @@ use Rattle.tc_mutex_spec.specs.Blocks.{reach, end_at, Runs, Stands, TellsAfter, 
 use Rattle.tc_mutex_spec.proofs.Holds.{can_thread, can_open, open_none}
 use Rattle.tc_mutex_spec.proofs.Replaying.{turn_runs}
 use Rattle.tc_replay.specs.Rejected.{IsRight, AreRightAfter, IsAccepted, IsCompleteRun}
-use Rattle.tc_replay.specs.declared.terms.Terms.{Terms}
 
 -- ---- a thread has one block
 

@@ -7,6 +7,7 @@ use Rattle.std.specs.Prelude.{Option, Some, None, Result, Ok, is_some}
 use lib.ListN.{get_elem?}
 use mathlib.Core.Option.{some}
 use Rattle.std.specs.List.{range_with_len}
+use Rattle.tc_isa.specs.declared.options.Options.{Options as Terms}
 use Rattle.tc_elf.specs.Shown.{Shown}
 use Rattle.tc_journal.specs.History.{IsHistoryFrom, IsInOrder}
 use Rattle.tc_journal.specs.declared.block.Block.{Block}
@@ -22,7 +23,6 @@ use Rattle.tc_replay.specs.declared.checking.Verdict.TheVariants as verdict
 use Rattle.tc_replay.specs.declared.reason.Reason.{Reason}
 use Rattle.tc_replay.specs.declared.reason.Reason.TheVariants as reason
 use Rattle.tc_replay.specs.declared.reason.Rejected.{Rejected}
-use Rattle.tc_replay.specs.declared.terms.Terms.{Terms}
 use Rattle.tc_replay.proofs.Keeping.{at_map}
 
 -- a checker has taken one history

@@ -4,6 +4,7 @@ use Rattle.std.specs.Prelude.{Option, Some, None, Result, Ok, Err, OnErr}
 use Rattle.std.proofs.lemmas.List.{map-set, set-set, length-map}
 use mathlib.Core.Option.{some}
 use lib.ListN.{get_elem?}
+use Rattle.tc_isa.specs.declared.options.Options.{Options as Terms}
 use Rattle.tc_elf.specs.Shown.{Shown}
 use Rattle.tc_journal.specs.declared.block.Block.{Block}
 use Rattle.tc_turn.specs.Turn.{Thread, is_running}
@@ -17,7 +18,6 @@ use Rattle.tc_law.proofs.Lawful.{held_owned}
 use Rattle.tc_replay.specs.Rejected.{IsOfThread, IsWrong}
 use Rattle.tc_replay.specs.Taken.{AreAsLeft, AreTaken, Before, IsCalm, IsNext, IsWith, TookOne, after_taking}
 use Rattle.tc_replay.specs.declared.reason.Reason.TheVariants as reason
-use Rattle.tc_replay.specs.declared.terms.Terms.{Terms}
 use Rattle.tc_replay.proofs.Keeping.{at_map}
 use Rattle.tc_replay.proofs.Handing.{roomier_with, roomier_calm}
 

@@ -1,5 +1,6 @@
 -- A history is rejected at one place for one reason, and not where it is accepted.
 use Rattle.std.proofs.Common.{◌≡◌, ℕ, suc, List, [], ◌∷◌, ◌++◌, length, refl, sym, ap, subst, ◌∙◌, arith, append_assoc, append-nil}
+use Rattle.tc_isa.specs.declared.options.Options.{Options as Terms}
 use Rattle.tc_elf.specs.Shown.{Shown}
 use Rattle.tc_journal.specs.declared.block.Block.{Block}
 use Rattle.tc_mutex_spec.specs.Machine.{State}
@@ -7,7 +8,6 @@ use Rattle.tc_mutex_spec.specs.Blocks.{end_after, IsComplete}
 use Rattle.tc_replay.specs.Rejected.{IsWrong, IsRight, AreRightAfter, AreRight, IsWrongNext, IsRejected, IsAccepted}
 use Rattle.tc_replay.specs.declared.reason.Reason.{Reason}
 use Rattle.tc_replay.specs.declared.reason.Reason.TheVariants as reason
-use Rattle.tc_replay.specs.declared.terms.Terms.{Terms}
 
 module _ (image : Shown) (terms : Terms) where
   -- what is right is wrong for no reason

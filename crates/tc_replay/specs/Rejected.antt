@@ -1,6 +1,7 @@
 -- What is wrong with a finished history, and where: a block is wrong for the first reason for which it fails.
 use Rattle.std.specs.Prelude.{◌≡◌, ℕ, ◌+◌, ◌<◌, true, false, not, List, [], ◌∷◌, ◌++◌, length, Some, None, is_some, All}
 use Rattle.tc_isa.specs.Sets.{has}
+use Rattle.tc_isa.specs.declared.options.Options.{Options as Terms}
 use Rattle.tc_elf.specs.Shown.{Shown}
 use Rattle.tc_journal.specs.Batch.{is_section, Obeys}
 use Rattle.tc_journal.specs.History.{of_lock}
@@ -10,7 +11,6 @@ use Rattle.tc_mutex_spec.specs.Machine.{State}
 use Rattle.tc_mutex_spec.specs.Blocks.{locks_of_block, Runs, is_first, has_block, Tells, end_after, IsComplete}
 use Rattle.tc_replay.specs.declared.reason.Reason.{Reason}
 use Rattle.tc_replay.specs.declared.reason.Reason.TheVariants as reason
-use Rattle.tc_replay.specs.declared.terms.Terms.{Terms}
 
 -- ---- what a block has to meet, where the history before it leads to m
 

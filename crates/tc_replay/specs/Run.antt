@@ -1,5 +1,6 @@
 -- A recorded block beside the one that a package runs.
 use Rattle.std.specs.Prelude.{◌≡◌, ℕ, List, Option, Some, None, if◌then◌else◌}
+use Rattle.tc_isa.specs.declared.options.Options.{Options as Terms}
 use Rattle.tc_elf.specs.Shown.{Shown}
 use Rattle.tc_journal.specs.Batch.{is_section, Obeys}
 use Rattle.tc_journal.specs.History.{of_lock}
@@ -14,7 +15,6 @@ use Rattle.tc_mutex_spec.specs.Blocks.{Tells, end_after}
 use Rattle.tc_law.specs.History.{Follows}
 use Rattle.tc_replay.specs.Rejected.{IsOfThread, IsFree, IsRight, IsWrong}
 use Rattle.tc_replay.specs.declared.reason.Reason.{Reason}
-use Rattle.tc_replay.specs.declared.terms.Terms.{Terms}
 
 -- the two have the same turns, locks, pc and end
 pub record HaveSameTurns (a b : Block) : Type 0 where

@@ -2,6 +2,7 @@
 use Rattle.std.specs.Prelude.{◌≡◌, ◌≢◌, ℕ, ◌<◌, ◌≤◌, ◌⊎◌, ◌==◌, if◌then◌else◌, true, false, List, [], ◌∷◌, ◌++◌, map, set, length, Option, Some, None}
 use Rattle.tc_isa.specs.Sets.{has}
 use Rattle.tc_isa.specs.declared.limits.TheConstants.{MAX_TURNS}
+use Rattle.tc_isa.specs.declared.options.Options.{Options as Terms}
 use Rattle.tc_elf.specs.Shown.{Shown}
 use Rattle.tc_journal.specs.declared.block.Block.{Block}
 use Rattle.tc_mutex_spec.specs.Blocks.{IsComplete, end_after}
@@ -13,7 +14,6 @@ use Rattle.tc_law.specs.Lawful.{Lawful, StandsAt, IsAmong, IsLimited, owner_afte
 use Rattle.tc_replay.specs.Rejected.{AreRight, IsOfThread}
 use Rattle.tc_replay.specs.Run.{grant_kind}
 use Rattle.tc_replay.specs.declared.reason.Reason.{Reason}
-use Rattle.tc_replay.specs.declared.terms.Terms.{Terms}
 
 -- a checker: the packages of all threads, by number, the locks that are in none of them, and why it failed
 pub record CheckerView : Type 0 where

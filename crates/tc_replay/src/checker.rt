@@ -15,9 +15,9 @@ ghost use Rattle.tc_replay.specs.Taken.{AreFreshPackages, AreTaken, HasEnded, Ha
 ghost use Rattle.tc_replay.specs.declared.reason.Reason.{Reason as AnyReason};
 ghost use Rattle.tc_replay.specs.declared.reason.Take.TheVariants.{Wrong, OutOfMemory};
 
+use crate::Terms;
 use crate::judge::take_on;
 use crate::reason::{Reason, Take};
-use crate::terms::Terms;
 use std::alloc::{AllocError, Global};
 use std::marker::Model;
 use std::snapshot::Snapshot;

@@ -7,9 +7,9 @@ ghost use Rattle.tc_replay.specs.Taken.{CheckerView, HasEnded, HasTaken};
 ghost use Rattle.tc_replay.specs.declared.checking.Verdict.TheVariants.{Accepted as AsAccepted, Rejected as AsRejected};
 ghost use Rattle.tc_replay.specs.declared.reason.Rejected.{Rejected as AnyRejected};
 
+use crate::Terms;
 use crate::checker::Checker;
 use crate::reason::{Reason, Rejected, Take};
-use crate::terms::Terms;
 use std::alloc::{AllocError, Global};
 use tc_elf::image::Image;
 use tc_journal::block::Block;

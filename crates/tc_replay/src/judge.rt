@@ -12,8 +12,8 @@ ghost use Rattle.tc_replay.specs.Rejected.{IsWrong};
 ghost use Rattle.tc_replay.specs.declared.reason.Reason.{Reason as AnyReason};
 ghost use Rattle.tc_replay.specs.Run.{HaveSameTurns, IsJudged, IsPrepared, grant_kind};
 
+use crate::Terms;
 use crate::reason::Reason;
-use crate::terms::Terms;
 use std::alloc::AllocError;
 use tc_context::locks::LockSet;
 use tc_context::package::Package;

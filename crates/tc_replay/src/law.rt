@@ -1,11 +1,11 @@
 //! What a history that is not rejected is.
 
 ghost use Rattle.std.specs.Prelude.{◌≡◌, ℕ, List};
+ghost use Rattle.tc_isa.specs.declared.options.Options.{Options as AnyTerms};
 ghost use Rattle.tc_elf.specs.Shown.{Shown};
 ghost use Rattle.tc_journal.specs.declared.block.Block.{Block};
 ghost use Rattle.tc_replay.specs.Rejected.{IsAccepted, IsCompleteRun, IsRejected};
 ghost use Rattle.tc_replay.specs.declared.reason.Reason.{Reason as AnyReason};
-ghost use Rattle.tc_replay.specs.declared.terms.Terms.{Terms as AnyTerms};
 
 /// A history is accepted exactly where it tells a complete run, obeys the batch limit and has
 /// workers below the number. It is rejected at one line for one reason at most, and not where it is

@@ -13,9 +13,10 @@
 //! - `specs/Rejected.antt`: what is wrong with a history, and where. `specs/Taken.antt`: when a
 //!   checker has taken the blocks of a history. `specs/Run.antt`: a recorded block beside the one
 //!   that ran. `specs/Reasons.antt`: numbers and names of reasons.
-//! - `reason`, `terms`: why a history is rejected, and with what it was made. `judge`: one block of
-//!   one thread. `checker`: all threads, block by block. `checking`: a whole history. `law`: what a
-//!   history that is not rejected is.
+//! - `reason`: why a history is rejected. `judge`: one block of one thread. `checker`: all threads,
+//!   block by block. `checking`: a whole history. `law`: what a history that is not rejected is.
+//!
+//! The terms of a history, with what it was made, are the options of a run.
 #![tactic(auto)]
 
 pub mod checker;
@@ -23,7 +24,6 @@ pub mod checking;
 pub(crate) mod judge;
 pub mod law;
 pub mod reason;
-pub mod terms;
 #[cfg(test)]
 mod tests;
 
@@ -31,4 +31,4 @@ pub use crate::checker::Checker;
 pub use crate::checking::{Verdict, check, checked};
 pub use crate::law::rejecting;
 pub use crate::reason::{Reason, Rejected, Take};
-pub use crate::terms::Terms;
+pub use tc_isa::options::Options as Terms;

@@ -2,10 +2,10 @@
 
 ghost use Rattle.std.specs.Prelude.{◌≡◌, Some};
 
+use crate::Terms;
 use crate::checker::Checker;
 use crate::checking::{Verdict, check, checked};
 use crate::reason::Reason;
-use crate::terms::Terms;
 use std::alloc::{AllocError, Global};
 use std::process::Abort;
 use std::test::Fail;

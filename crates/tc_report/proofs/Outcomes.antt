@@ -5,6 +5,7 @@ use Rattle.std.specs.List.{range_with_len}
 use Rattle.std.proofs.lemmas.List.{length-map}
 use mathlib.Core.Option.{some}
 use lib.ListN.{get_elem?}
+use Rattle.tc_isa.specs.declared.options.Options.{Options}
 use Rattle.atomic_table.proofs.Lists.{at_map}
 use Rattle.tc_elf.specs.Shown.{Shown, guard_at}
 use Rattle.tc_journal.specs.Batch.{PassesOn}
@@ -23,7 +24,6 @@ use Rattle.tc_context.specs.Whole.{thread_in}
 use Rattle.tc_context.specs.View.{PackageView, bare}
 use Rattle.tc_law.specs.Lawful.{IsStateAfter, Lawful, AreStrict}
 use Rattle.tc_mutex_spec.proofs.ListLaws.{there, at_place}
-use Rattle.tc_workers.specs.declared.options.Options.{Options}
 use Rattle.tc_report.specs.Legal.{finished_in, guarded_in, results_after, IsLegalRun}
 use Rattle.tc_report.specs.Outcome.{IsOutcome}
 use Rattle.tc_report.specs.Report.{finished_of, guarded_of, package_text, state_text, packages_text, states_text, thread_text, lock_text, threads_text, locks_text, last_line, head_text, tail_text, report_text}

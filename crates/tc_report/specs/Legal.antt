@@ -1,6 +1,7 @@
 -- What a report tells of a run: the results of a legal run to the end of every thread.
 use Rattle.std.specs.Prelude.{◌≡◌, ℕ, ◌<◌, List, length, map, All}
 use Rattle.std.specs.List.{range_with_len}
+use Rattle.tc_isa.specs.declared.options.Options.{Options}
 use Rattle.tc_elf.specs.Shown.{Shown, guard_at}
 use Rattle.tc_journal.specs.Batch.{Obeys, PassesOn}
 use Rattle.tc_journal.specs.Handing.{of_worker, HandsOver, RunsOn, StaysAt}
@@ -9,7 +10,6 @@ use Rattle.tc_journal.specs.declared.block.Block.{Block}
 use Rattle.tc_mutex_spec.specs.Machine.{State}
 use Rattle.tc_mutex_spec.specs.Blocks.{Tells, IsComplete, end_after}
 use Rattle.tc_mutex_spec.specs.Entries.{HasJournal}
-use Rattle.tc_workers.specs.declared.options.Options.{Options}
 use Rattle.tc_report.specs.Results.{Results, Finished, Guarded}
 
 -- a thread of the machine, as the report prints it

@@ -4,13 +4,13 @@ use Rattle.std.specs.List.{range_with_len, flat_map, enumerate_from}
 use Rattle.tc_elf.specs.Shown.{Shown, guard_at}
 use Rattle.tc_isa.specs.Faults.{fault_number}
 use Rattle.tc_isa.specs.Registers.{Registers, get}
+use Rattle.tc_isa.specs.declared.options.Options.{Options}
 use Rattle.tc_journal.specs.Line.{history_text}
 use Rattle.tc_turn.specs.declared.status.Status.{Status}
 use Rattle.tc_turn.specs.declared.status.Status.TheVariants as status
 use Rattle.tc_journal.specs.Digits.{hex2, hex8}
 use Rattle.tc_segment.specs.View.{LockView}
 use Rattle.tc_context.specs.View.{PackageView, fuel_in, regs_in, status_in}
-use Rattle.tc_workers.specs.declared.options.Options.{Options}
 use Rattle.tc_report.specs.Results.{Results, Finished, Guarded}
 
 -- how a thread ended; no thread of a report runs

@@ -18,6 +18,7 @@ use std::thread::Threads;
 use tc_context::package::Package;
 use tc_elf::image::Image;
 use tc_io::Sink;
+use tc_isa::options::Options;
 use tc_isa::reg::Reg;
 use tc_isa::regs::Regs;
 use tc_journal::block::Block;
@@ -25,7 +26,6 @@ use tc_journal::digits::{Hex2, Hex8};
 use tc_journal::line::push_lent;
 use tc_segment::state::LockState;
 use tc_turn::status::Status;
-use tc_workers::options::Options;
 
 /// Writes how many threads and guards the guest has.
 #[tactic(auto, unfolding(crate::specs::Report::guest_line))]

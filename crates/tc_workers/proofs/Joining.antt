@@ -2,6 +2,7 @@
 use Rattle.std.proofs.Common.{◌≡◌, ◌⊎◌, ℕ, suc, ◌-◌, Bool, true, false, ◌||◌, List, [], ◌∷◌, ◌++◌, length, refl, sym, ap, ◌∙◌, subst, ⊎_elim, inl, inr, arith, None, get_or, map}
 use mathlib.Core.Option.{some}
 use lib.ListN.{get_elem?, length-map}
+use Rattle.tc_isa.specs.declared.options.Options.{Options}
 use Rattle.atomic_table.proofs.Lists.{at_longer, at_last, at_map}
 use Rattle.tc_elf.specs.Shown.{Shown}
 use Rattle.tc_turn.specs.Turn.{Thread, is_running}
@@ -20,7 +21,6 @@ use Rattle.tc_combiner.specs.View.{BenchView}
 use Rattle.tc_workers.specs.Worker.{IsAtWork}
 use Rattle.tc_workers.specs.Turns.{IsFinished}
 use Rattle.tc_workers.specs.Crew.{AreAtWork, AreHired, Counts, HasRun, HaveFinished}
-use Rattle.tc_workers.specs.declared.options.Options.{Options}
 use Rattle.tc_workers.specs.declared.worker.Worker.{Worker}
 use Rattle.tc_workers.specs.Run.{IsWholeRun}
 use Rattle.tc_workers.proofs.Hiring.{at_itself}

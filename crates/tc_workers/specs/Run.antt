@@ -1,5 +1,6 @@
 -- What a whole run gives.
 use Rattle.std.specs.Prelude.{◌<◌, List, All, map}
+use Rattle.tc_isa.specs.declared.options.Options.{Options}
 use Rattle.tc_elf.specs.Shown.{Shown}
 use Rattle.tc_journal.specs.Handing.{Delegates}
 use Rattle.tc_journal.specs.declared.block.Block.{Block}
@@ -8,7 +9,6 @@ use Rattle.tc_segment.specs.View.{kept}
 use Rattle.tc_context.specs.View.{bare}
 use Rattle.tc_law.specs.Lawful.{Lawful, AreStrict}
 use Rattle.tc_hall.specs.PassView.{ClosedView}
-use Rattle.tc_workers.specs.declared.options.Options.{Options}
 
 -- The stamps in the logs of all packages are the numbers from 0 on, each once, and in that order the blocks are a history that
 -- tells a run of the image's threads under ordinary mutexes to the end of every thread, and obeys the batch limit. Each package

@@ -14,7 +14,6 @@
 //!   the calls of the hall, as workers make them. `step`, `finished`: what a step and the end give.
 //! - `crew`: all workers beside one another. `bell`: where they wait for one another. `rests`: how one
 //!   rests that finds nothing. `lines`: the queues of all locks, and their seats. `run`: whole runs.
-//!   `options`: with what a guest is run.
 #![tactic(auto)]
 
 mod bell;
@@ -26,7 +25,6 @@ pub mod gate;
 mod go_on;
 mod leave;
 pub mod lines;
-pub mod options;
 mod rests;
 mod run;
 #[cfg(test)]
@@ -40,5 +38,5 @@ mod work;
 mod worker;
 
 pub use gate::{Gate, Open, Point};
-pub use options::Options;
 pub use run::{run_all, run_with};
+pub use tc_isa::options::Options;

@@ -13,7 +13,6 @@ use crate::crew::{hire, together};
 use crate::finished::Finished;
 use crate::gate::Gate;
 use crate::lines::{Lines, line_up};
-use crate::options::Options;
 use std::alloc::{AllocError, Global};
 use std::sync::Wait;
 use std::thread::Threads;
@@ -22,6 +21,7 @@ use tc_elf::image::Image;
 use tc_hall::closed::Closed;
 use tc_hall::hall::Hall;
 use tc_hall::pass::Pass;
+use tc_isa::options::Options;
 use tc_queue::{Queue, Waiters};
 use tc_ready::Ready;
 

@@ -4,7 +4,6 @@ ghost use Rattle.std.specs.Prelude.{◌≤◌};
 ghost use Rattle.tc_isa.specs.declared.limits.TheConstants.{MAX_WORKERS};
 
 use crate::gate::{Gate, Open, Point};
-use crate::options::Options;
 use crate::run::run_all;
 use crossbeam_utils::atomic::AtomicCell;
 use std::alloc::Global;
@@ -15,6 +14,7 @@ use std::thread::Threads;
 use tc_build::build::build;
 use tc_elf::load::load;
 use tc_hall::closed::Closed;
+use tc_isa::options::Options;
 use tc_turn::status::Status;
 
 /// A hundred sections, in each of which 1 is added to the guard's word.

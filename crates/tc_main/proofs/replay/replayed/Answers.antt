@@ -1,4 +1,4 @@
-use Rattle.std.proofs.Common.{◌∙◌, List, ℕ, length, take, drop, inr, refl, sym, subst, ap, arith}
+use Rattle.std.proofs.Common.{◌∙◌, List, ℕ, length, take, drop, inr, sym, subst, ap, arith}
 use Rattle.std.specs.Prelude.{Ok}
 use Rattle.tc_elf.specs.Loading.{subset}
 use Rattle.tc_journal.specs.History.{IsInOrder}
@@ -7,9 +7,9 @@ use Rattle.tc_journal.specs.Told.{told}
 use Rattle.tc_journal.specs.declared.block.Block.{Block}
 use Rattle.tc_replay.specs.Rejected.{IsCompleteRun, IsRejected}
 use Rattle.tc_replay.specs.Taken.{HasTaken}
+use Rattle.tc_replay.proofs.Telling.{accepted_run}
 use Rattle.tc_replay.proofs.Through.{in_order_from}
-use Rattle.tc_main.specs.Replayed.{HasHistory, terms_of}
-use Rattle.tc_main.proofs.Replaying.{made_of, rejected_of, run_of}
+use Rattle.tc_main.specs.Replayed.{HasHistory}
 use Rattle.tc_main.proofs.replay.replayed.Goals as goal
 
 pub checked-requires : goal.checked-requires
@@ -22,15 +22,15 @@ returns-in-Accepted-clause-replayed c =
     let image = c.in_ok-image.image in
     let same = c.deref-2.ensures.value in
     let is = c.in_ok-checker.was ∙ ap (λ v. Ok v) c.in-Accepted.is in
-    let run : IsCompleteRun image (terms_of o) c.deref-2.result.now =
-    run_of image o c.deref-2.result.now (c.checked.ensures.accepted c.in-Accepted.checker is) refl refl refl in
+    let run : IsCompleteRun image o c.deref-2.result.now =
+    accepted_run image o c.deref-2.result.now (c.checked.ensures.accepted c.in-Accepted.checker is) in
     let made = c.checked.ensures.made c.in-Accepted.checker is in
     record {
-      run = subst (IsCompleteRun image (terms_of o)) same run;
+      run = subst (IsCompleteRun image o) same run;
       taken = subst (HasTaken c.in-Accepted.checker) same (c.checked.ensures.taken c.in-Accepted.checker is);
       ended = c.checked.ensures.ended c.in-Accepted.checker is;
       image = made.0;
-      terms = made_of c.in-Accepted.checker.terms o made.1 refl refl refl;
+      terms = made.1;
     }
 
 pub returns-in-Rejected-clause-wrong : goal.returns-in-Rejected-clause-wrong
@@ -50,11 +50,10 @@ returns-in-Rejected-clause-wrong c =
       guest = guest;
       text = text;
     } in
-    let wrong : IsRejected image (terms_of o) c.deref-2.result.now r.line r.reason =
-    rejected_of image o c.deref-2.result.now r.line r.reason (c.checked.ensures.rejected r is) refl refl refl in
+    let wrong : IsRejected image o c.deref-2.result.now r.line r.reason = c.checked.ensures.rejected r is in
     inr (record {
       image = image;
       history = c.in_ok-history.history.items;
       is = history;
-      rejected = subst (λ (h : List Block). IsRejected image (terms_of o) h r.line r.reason) same wrong;
+      rejected = subst (λ (h : List Block). IsRejected image o h r.line r.reason) same wrong;
     })
