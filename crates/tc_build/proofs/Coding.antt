@@ -3,6 +3,7 @@ use Rattle.std.proofs.Common.{◌≡◌, ℕ, zero, suc, ◌+◌, List, [], ◌�
 use Rattle.std.specs.List.{flat_map, range_with_len}
 use Rattle.std.proofs.lemmas.List.{append-nil, map-append, length-map}
 use Rattle.std.proofs.lemmas.List.Concat.{flat_map-append}
+use Rattle.tc_isa.proofs.SetLemmas.{range_more}
 use Rattle.tc_isa.specs.Rows.{encoded}
 use Rattle.tc_isa.specs.declared.instr.Instr.{Instr}
 use Rattle.tc_build.specs.Code.{words_of, Adds}
@@ -19,10 +20,6 @@ length-words_of xs = length-map xs encoded
 pub both : (a b c : List ℕ) (xs ys : List Instr) → Adds a b xs → Adds b c ys → Adds a c (xs ++ ys)
 both a b c xs ys first second =
     second ∙ (ap (λ t. t ++ words_of ys) first ∙ (append_assoc a (words_of xs) (words_of ys) ∙ ap (λ t. a ++ t) (sym (words_of-append xs ys))))
-
-range_more : (a n j : ℕ) → a + n ≡ j → range_with_len a (suc n) ≡ range_with_len a n ++ j ∷ []
-range_more a zero j e = let same : a ≡ j = omega arith in ap (λ k. k ∷ []) same
-range_more a (suc n) j e = ap (λ xs. a ∷ xs) (range_more (a + 1) n j (omega arith))
 
 -- what is made of the numbers below n + 1
 pub flat_more : {X : Type 0} (f : ℕ → List X) (n : ℕ) → flat_map f (range_with_len 0 (n + 1)) ≡ flat_map f (range_with_len 0 n) ++ f n

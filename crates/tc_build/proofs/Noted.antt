@@ -2,7 +2,7 @@
 use Rattle.std.proofs.Common.{drop-drop, ◌≡◌, ℕ, zero, suc, ◌+◌, ◌*◌, ◌^◌, ◌<◌, ◌≤◌, ◌==◌, nat_lt, nat_le, ◌&&◌, ◌||◌, not, Bool, true, false, if◌then◌else◌, List, [], ◌∷◌, ◌++◌, length, drop, take, map, All, Some, get_or, eq-eqb, filter, refl, sym, ap, ◌∙◌, subst, arith}
 use Rattle.std.specs.List.{flat_map, range_with_len}
 use Rattle.std.specs.Option.{option_map}
-use Rattle.std.proofs.lemmas.Bool.{le-ltb}
+use Rattle.std.proofs.lemmas.Bool.{le-ltb, or_from}
 use Rattle.std.proofs.lemmas.Bool.Decides.{nat_tests}
 use Rattle.std.proofs.lemmas.List.{append-nil, ext_get_or, get_or-map, length-map, length-append}
 use Rattle.std.proofs.lemmas.List.FromFn.{length-map-range_with_len, get_or-map-range_with_len}
@@ -14,7 +14,6 @@ use Rattle.tc_elf.specs.Shown.{Entry, Guard}
 use Rattle.tc_elf.specs.Notes.{Note, is_tclocks, notes_in, first_note, descriptor_end, next_at, descriptors_of, is_bad_descriptor, has_room, described_layout, entries_from, guards_from}
 use Rattle.tc_build.specs.Build.{AreWords, word_bytes, pair_words, note_words, note_version}
 use Rattle.tc_build.specs.Described.{entry_of, guard_of}
-use Rattle.tc_build.proofs.Segments.{neither}
 use Rattle.tc_build.proofs.Reading.{word_here, drop-words, length-words}
 
 -- a segment of one note
@@ -124,9 +123,9 @@ descriptor_sound entries guards some threads locks =
     ap (λ x. has_room x (word_at d 4) (word_at d 8)) v ∙ (ap (λ x. has_room (note_version n m) x (word_at d 8)) t
     ∙ (ap (λ x. has_room (note_version n m) n x) g ∙ room_by n m (nat_le n 16 && nat_le m 16) refl threads locks)) in
     let whole : (length d == 12 + 8 * word_at d 4 + 8 * word_at d 8) ≡ true = eq-eqb (length d) (12 + 8 * word_at d 4 + 8 * word_at d 8) (omega arith) in
-    neither (nat_lt (length d) 12 || (word_at d 4 == 0) || not (has_room (word_at d 0) (word_at d 4) (word_at d 8))) (not (length d == 12 + 8 * word_at d 4 + 8 * word_at d 8))
-    (neither (nat_lt (length d) 12 || (word_at d 4 == 0)) (not (has_room (word_at d 0) (word_at d 4) (word_at d 8)))
-    (neither (nat_lt (length d) 12) (word_at d 4 == 0) short several) (ap not room))
+    or_from (nat_lt (length d) 12 || (word_at d 4 == 0) || not (has_room (word_at d 0) (word_at d 4) (word_at d 8))) (not (length d == 12 + 8 * word_at d 4 + 8 * word_at d 8))
+    (or_from (nat_lt (length d) 12 || (word_at d 4 == 0)) (not (has_room (word_at d 0) (word_at d 4) (word_at d 8)))
+    (or_from (nat_lt (length d) 12) (word_at d 4 == 0) short several) (ap not room))
     (ap not whole)
 
 pub found : (entries guards : List (ℕ × ℕ)) → length entries ≤ MAX_THREADS → length guards ≤ MAX_GUARDS → descriptors_of (flat_map word_bytes (note_words entries guards)) ≡ Some (descriptor entries guards ∷ [])

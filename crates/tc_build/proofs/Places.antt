@@ -1,14 +1,13 @@
 -- Nothing is wrong with the generator's entries and guards, so that nothing refuses its file.
 use Rattle.std.proofs.Common.{◌≡◌, ℕ, ◌+◌, ◌*◌, ◌%◌, ◌≤◌, ◌<◌, ◌==◌, nat_lt, nat_le, if◌then◌else◌, true, false, List, [], ◌∷◌, length, map, Some, None, refl, ap, ◌∙◌, arith, eq-eqb}
 use Rattle.std.specs.List.{list_any}
-use Rattle.std.proofs.lemmas.Bool.{lt-ltb}
+use Rattle.std.proofs.lemmas.Bool.{lt-ltb, or_from}
 use Rattle.std.proofs.lemmas.Bool.Decides.{nat_tests}
 use Rattle.tc_elf.specs.declared.refusal.Refusal.TheVariants as refused
 use Rattle.tc_elf.specs.Shown.{Range, Entry}
 use Rattle.tc_elf.specs.Refusals.{is_bad_entry, layout_refusal}
 use Rattle.tc_build.specs.Described.{described_ranges, code_range, data_range, entry_of, guard_of, place_refusal}
 use Rattle.tc_build.specs.Generator.{code_of, entries, fill, guards, generated}
-use Rattle.tc_build.proofs.Segments.{neither}
 use Rattle.tc_build.proofs.Sizes.{all_begin}
 
 abbrev two_ranges : List ℕ → List Range
@@ -33,6 +32,6 @@ nothing_refuses rounds =
     let some : 1 ≤ length code = omega arith in
     let sound = λ (t : ℕ) (inside : length (code_of rounds t) < length code). entry_sound code (length (code_of rounds t)) inside in
     let all : list_any (is_bad_entry (two_ranges code)) es ≡ false =
-    neither _ _ (sound 0 begin.first) (neither _ _ (sound 1 begin.second) (neither _ _ (sound 2 begin.third) (neither _ _ (sound 3 begin.fourth) refl))) in
+    or_from _ _ (sound 0 begin.first) (or_from _ _ (sound 1 begin.second) (or_from _ _ (sound 2 begin.third) (or_from _ _ (sound 3 begin.fourth) refl))) in
     ap (λ rs. layout_refusal rs (Some (record { entries = es; guards = map guard_of guards }))) (ranges_are code some)
     ∙ ap (λ bad. if bad then Some refused.BadEntry else None) all

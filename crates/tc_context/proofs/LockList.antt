@@ -5,6 +5,7 @@ use Rattle.std.proofs.lemmas.Bool.Decides.{eqb_tells}
 use Rattle.tc_mutex_spec.proofs.ListLaws.{get-set}
 use Rattle.tc_mutex_spec.proofs.OptionLaws.{option_map-id}
 use Rattle.std.proofs.lemmas.Option.{slice_get-get_or}
+use Rattle.std.proofs.lemmas.Bool.{and_parts}
 
 -- what a change leaves, it leaves where it is made in some cases alone
 pub when_field : {X Y : Type 0} (g : X → Y) (b : Bool) (f : X → X) (x : X) → g (f x) ≡ g x → g (when_in b f x) ≡ g x
@@ -21,10 +22,6 @@ pub unchanged : (held : ℕ → Bool) (f : ℕ → LockView → LockView) (locks
 unchanged held f locks none k = sym (option_map-id (when_in (held k) (f k)) (lock_in locks k) (λ l. ap (λ b. when_in b (f k) l) (none k)))
 
 -- ---- a walk over a set of locks
-
-and_true : (x y : Bool) → (x && y) ≡ true → y ≡ true
-and_true true y e = e
-and_true false y e = absurd (cc)
 
 -- the changes of the places outside a set: those at which a walk over the set has been
 abbrev pub outside : (ℕ → Bool) → (ℕ → LockView → LockView) → ℕ → LockView → LockView
@@ -53,7 +50,7 @@ walked_on held left rest f g n old mid new less has_n same walked changed = (
     | inr h ↦ ap (λ b. option_map (λ l. when_in b g l) (lock_in mid k)) h.0 ∙ option_map-id (λ l. l) (lock_in mid k) (λ l. refl) ∙ walked.0 k
         ∙ ap (λ b. option_map (λ l. when_in (not b) (f k) l) (lock_in old k)) (sym (less k ∙ ap (λ b. not b && left k) h.0))
   ])),
-  λ k h. walked.1 k (and_true (not (k == n)) (left k) (sym (less k) ∙ h)),
+  λ k h. walked.1 k ((and_parts (not (k == n)) (left k) (sym (less k) ∙ h)).1),
 )
 
 -- the context with other locks

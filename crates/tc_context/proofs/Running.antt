@@ -24,7 +24,7 @@ use Rattle.tc_context.proofs.Blocked.{record_is}
 use Rattle.std.proofs.lemmas.Bool.{not-false}
 use Rattle.std.proofs.lemmas.List.{map-append, length-map}
 use Rattle.std.proofs.lemmas.Option.{slice_get-map, slice_get_within}
-use Rattle.tc_mutex_spec.proofs.ListLaws.{get-set_same}
+use Rattle.tc_journal.proofs.Lists.{get-set_same}
 
 -- what a package needs for a block, beside room
 pub record MayRun (image : Shown) (p : PackageView) : Type 0 where

@@ -3,7 +3,7 @@ use Rattle.std.proofs.Common.{◌≡◌, ℕ, ◌<◌, ◌==◌, List, length, s
 use Rattle.std.specs.Prelude.{slice_get, unwrap_or, if◌then◌else◌}
 use Rattle.std.proofs.lemmas.Bool.Decides.{eqb_tells}
 use Rattle.std.proofs.lemmas.Option.{slice_get-get_or}
-use Rattle.tc_mutex_spec.proofs.ListLaws.{get-set_same, get-set_other}
+use Rattle.tc_journal.proofs.Lists.{get-set_same, get-set_other}
 use Rattle.tc_core.specs.Core.{Custody, first_custody}
 use Rattle.tc_core.specs.View.{custody_at}
 

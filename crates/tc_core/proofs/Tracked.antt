@@ -2,6 +2,7 @@
 use Rattle.std.proofs.Common.{◌≡◌, ◌≢◌, ℕ, ◌+◌, Bool, true, false, not, ◌&&◌, ◌||◌, ◌==◌, List, [], ◌∷◌, refl, sym, ap, subst, ◌∙◌, inl, inr}
 use Rattle.std.specs.Prelude.{Option, Some, None, if◌then◌else◌}
 use Rattle.std.proofs.lemmas.Bool.Decides.{eqb_tells}
+use Rattle.tc_journal.proofs.Locks.{has_none}
 use Rattle.tc_isa.specs.Registers.{Registers}
 use Rattle.tc_isa.specs.Sets.{has, without_lock}
 use Rattle.tc_isa.specs.declared.limits.TheConstants.{MAX_TURNS}
@@ -20,7 +21,7 @@ use Rattle.tc_turn.proofs.Turns.{act_takes, taken_was}
 use Rattle.tc_mutex_spec.specs.Machine.{State, after}
 use Rattle.tc_mutex_spec.proofs.Local.{after_thread, turn_apart}
 use Rattle.tc_mutex_spec.proofs.BlocksAlike.{covers_block}
-pub use Rattle.tc_mutex_spec.proofs.HeldSets.{none_has, with_has, without_has}
+pub use Rattle.tc_mutex_spec.proofs.HeldSets.{with_has, without_has}
 use Rattle.tc_core.specs.declared.event.Event.{Event}
 use Rattle.tc_core.specs.declared.event.Event.TheVariants.{Turn, Commit}
 use Rattle.tc_core.specs.Core.{Core, Limits, Course, Custody, Release, With, Loose, is_number, with_of, first_core}
@@ -71,15 +72,15 @@ kept_going h turns None = elim (turns == MAX_TURNS) as (λ b. held_past h (if b 
 -- what is held after a turn, past the block if that ends with it
 turn_kept : (d : Thread) (a : Option Act) (h turns k : ℕ) (o next : Option ℕ) → (took a ≡ None → o ≡ None) → ((lock : ℕ) (regs : Registers) → a ≡ Some (Called (Lock lock) regs) → o ≡ Some lock) → has h k ≡ d.held k
     → has (held_past (held_with h o) (end_rule (outcome_of a) turns next)) k ≡ (thread_after d a).held k
-turn_kept d None h turns k o next none some e = none_has k
+turn_kept d None h turns k o next none some e = has_none k
 turn_kept d (Some (Next regs put)) h turns k o next none some e = ap (λ x. has x k) (kept_going _ turns next) ∙ ap (λ x. has (held_with h x) k) (none refl) ∙ e
 turn_kept d (Some (Called (Lock lock) regs)) h turns k o next none some e =
     ap (λ x. has x k) (kept_going _ turns next) ∙ ap (λ x. has (held_with h x) k) (some lock regs refl) ∙ with_has h lock k ∙ ap (λ b. (k == lock) || b) e
 turn_kept d (Some (Called (Unlock lock) regs)) h turns k o next none some e =
     ap (λ x. has (without_lock (held_with h x) lock) k) (none refl) ∙ without_has h lock k ∙ ap (λ b. not (k == lock) && b) e
 turn_kept d (Some (Called (Sleep n) regs)) h turns k o next none some e = ap (λ x. has (held_with h x) k) (none refl) ∙ e
-turn_kept d (Some (Called Exit regs)) h turns k o next none some e = none_has k
-turn_kept d (Some (Faulted f)) h turns k o next none some e = none_has k
+turn_kept d (Some (Called Exit regs)) h turns k o next none some e = has_none k
+turn_kept d (Some (Faulted f)) h turns k o next none some e = has_none k
 
 -- a number is itself
 number_same : (t : ℕ) → is_number (Some t) t ≡ true
@@ -197,7 +198,7 @@ not_held true f = absurd (f refl)
 not_held false f = refl
 
 pub first_tracked : (image : Shown) (fuel : ℕ) → Tracks (first_core image fuel)
-first_tracked image fuel = record { with = λ t k. none_has k; kept = λ t k. none_has k ∙ not_held _ (started_none image fuel t k) }
+first_tracked image fuel = record { with = λ t k. has_none k; kept = λ t k. has_none k ∙ not_held _ (started_none image fuel t k) }
 
 pub is_tracked : (s : Story) → IsTracked (last_core s)
 is_tracked s =

@@ -1,14 +1,17 @@
 -- The batch rule by cases.
-use Rattle.std.proofs.Common.{◌≡◌, ℕ, ◌-◌, ◌<◌, ◌≤◌, ◌^◌, Bool, true, false, not, ◌&&◌, ◌||◌, List, [], ◌∷◌, ◌++◌, length, length-append, refl, ap, ◌∙◌, arith, inl, inr}
-use Rattle.std.specs.Prelude.{Option, Some, None, nat_lt, nat_le, slice_get}
+use Rattle.std.proofs.Common.{◌≡◌, ℕ, ◌-◌, ◌<◌, ◌≤◌, ◌^◌, Bool, true, false, not, ◌&&◌, ◌||◌, List, [], ◌∷◌, ◌++◌, length, length-append, append-nil, append_assoc, refl, sym, ap, subst, ◌∙◌, arith, inl, inr}
+use Rattle.std.specs.Prelude.{Option, Some, None, nat_lt, nat_le, slice_get, if◌then◌else◌}
 use Rattle.std.proofs.lemmas.Bool.Decides.{eqb_tells, nat_tests}
+use Rattle.std.proofs.lemmas.List.Elements.{filter-append}
 use Rattle.std.proofs.Math.Pow.{pow_mono}
+use Rattle.tc_isa.specs.Sets.{has}
 use Rattle.tc_journal.specs.declared.block.Block.{Block}
 use Rattle.tc_journal.specs.declared.block.End.{End}
 use Rattle.tc_journal.specs.declared.block.End.TheVariants.{Wants, Unlocked, Slept, Cut, Exit, Fault, Spent}
 use Rattle.tc_journal.specs.declared.block.Kind.{Kind}
 use Rattle.tc_journal.specs.declared.block.Kind.TheVariants.{Start, On, Taken, Adopted, Granted}
-use Rattle.tc_journal.specs.Batch.{is_adopted, ends_thread, unlocks, ends_section, is_only, may_adopt, has_cause, last_of, run_of, may_begin, allows_of}
+use Rattle.tc_journal.specs.Batch.{is_adopted, ends_thread, unlocks, ends_section, is_only, may_adopt, has_cause, last_of, run_of, run_from, run_after, may_begin, allows_of, may_follow, ObeysAfter, passes_on, PassesOnAfter}
+use Rattle.tc_journal.specs.History.{of_lock}
 
 -- below the limit or not
 limit_or : (run limit : ℕ) → not (nat_lt run limit) ≡ nat_le limit run
@@ -65,3 +68,22 @@ at_end (x ∷ bs) b = at_end bs b
 
 pub last_more : (bs : List Block) (b : Block) → last_of (bs ++ b ∷ []) ≡ Some b
 last_more bs b = ap (slice_get (bs ++ b ∷ [])) (let e : length (bs ++ b ∷ []) - 1 ≡ length bs = omega (arith, length-append bs (b ∷ [])) in e) ∙ at_end bs b
+
+-- ---- one block more
+
+pub of_lock-more : (h : List Block) (b : Block) (lock : ℕ) (v : Bool) → has b.held lock ≡ v → of_lock (h ++ b ∷ []) lock ≡ of_lock h lock ++ (if v then b ∷ [] else [])
+of_lock-more h b lock v e = filter-append (λ (c : Block). has c.held lock) h (b ∷ []) ∙ ap (λ w. of_lock h lock ++ (if w then b ∷ [] else [])) e
+
+pub run_from-more : (lock n : ℕ) (bs : List Block) (b : Block) → run_from lock n (bs ++ b ∷ []) ≡ run_after lock (run_from lock n bs) b
+run_from-more lock n [] b = refl
+run_from-more lock n (x ∷ bs) b = run_from-more lock (run_after lock n x) bs b
+
+pub obeys-more : (lock limit : ℕ) (before bs : List Block) (b : Block) → ObeysAfter lock limit before bs → may_follow lock limit (before ++ bs) b ≡ true → ObeysAfter lock limit before (bs ++ b ∷ [])
+obeys-more lock limit before [] b obeys next = (rw append-nil at next, tt)
+obeys-more lock limit before (x ∷ bs) b obeys next =
+    (obeys.0, obeys-more lock limit (before ++ x ∷ []) bs b obeys.1 (subst (λ xs. may_follow lock limit xs b ≡ true) (sym (append_assoc before (x ∷ []) bs)) next))
+
+pub passes-more : (lock : ℕ) (before bs : List Block) (b : Block) → PassesOnAfter lock before bs → passes_on lock (before ++ bs) b ≡ true → PassesOnAfter lock before (bs ++ b ∷ [])
+passes-more lock before [] b passes next = (rw append-nil at next, tt)
+passes-more lock before (x ∷ bs) b passes next =
+    (passes.0, passes-more lock (before ++ x ∷ []) bs b passes.1 (subst (λ xs. passes_on lock xs b ≡ true) (sym (append_assoc before (x ∷ []) bs)) next))

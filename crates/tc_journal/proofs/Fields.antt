@@ -67,7 +67,7 @@ lacks-kind_text Taken = refl
 lacks-kind_text Adopted = refl
 lacks-kind_text Granted = refl
 
-small_fault : (fault : GuestFault) → fault_number fault < 2 ^ 64
+pub small_fault : (fault : GuestFault) → fault_number fault < 2 ^ 64
 small_fault fault.Illegal = omega arith
 small_fault fault.Fetch = omega arith
 small_fault fault.JumpTarget = omega arith

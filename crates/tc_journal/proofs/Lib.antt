@@ -9,5 +9,6 @@ pub mod Fields
 pub mod Histories
 pub mod Merged
 pub mod Batching
+pub mod Lists
 pub mod Rows
 pub mod Buffers

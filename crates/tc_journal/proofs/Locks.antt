@@ -55,7 +55,7 @@ none_between p a (suc m) n (suc left) e none =
     ∙ ap (λ k. filter p (range_with_len k n)) from
 
 -- no lock is in the empty set
-has_none : (lock : ℕ) → has 0 lock ≡ false
+pub has_none : (lock : ℕ) → has 0 lock ≡ false
 has_none lock = rw (bit_at_above 0 0 lock (omega arith) (omega arith)) refl
 
 -- the next one below

@@ -3,7 +3,7 @@ use Rattle.std.proofs.Common.{◌≡◌, ℕ, zero, suc, ◌+◌, ◌<◌, ◌==
 use Rattle.std.specs.Prelude.{Contains, nat_lt}
 use Rattle.std.specs.List.{flat_map, range_with_len}
 use Rattle.std.specs.List.Sorted.{IsPermutation}
-use Rattle.std.proofs.lemmas.Bool.{lt-ltb, le-ltb}
+use Rattle.std.proofs.lemmas.Bool.{lt-ltb, le-ltb, cases_lt}
 use Rattle.std.proofs.lemmas.Bool.Decides.{eqb_tells}
 use Rattle.std.proofs.lemmas.List.{length-map}
 use Rattle.std.proofs.lemmas.List.Folds.{flat_map-map}
@@ -20,7 +20,7 @@ use Rattle.tc_mutex_spec.specs.Blocks.{end_after}
 use Rattle.tc_segment.specs.View.{LockView}
 use Rattle.tc_context.specs.View.{PackageView, bare}
 use Rattle.tc_law.specs.Lawful.{Lawful}
-use Rattle.tc_mutex_spec.proofs.ListLaws.{below_or, there, at_place, same_list}
+use Rattle.tc_mutex_spec.proofs.ListLaws.{there, at_place, same_list}
 use Rattle.tc_mutex_spec.proofs.Histories.{stamp_at, thread_at}
 use Rattle.tc_report.specs.Outcome.{log_in, logs_of}
 use Rattle.tc_report.proofs.Ranges.{by_number}
@@ -70,7 +70,7 @@ splits_at a b = elim (eqb_tells b.thread a) [
       let here : nat_lt b.thread a ≡ false = le-ltb b.thread a (let e = same.1 in omega arith) in
       let past : nat_lt b.thread (a + 1) ≡ true = lt-ltb b.thread (a + 1) (let e = same.1 in omega arith) in
       subst (λ (z : Bool × Bool × Bool). Splits (not z.0) z.1 (not z.2)) (λ i. (sym here i, sym same.0 i, sym past i)) tt
-  | inr other ↦ elim (below_or b.thread a) [
+  | inr other ↦ elim (cases_lt b.thread a) [
     | inl low ↦
         let here : nat_lt b.thread a ≡ true = lt-ltb b.thread a low in
         let past : nat_lt b.thread (a + 1) ≡ true = lt-ltb b.thread (a + 1) (omega (arith, low)) in

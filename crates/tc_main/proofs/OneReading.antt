@@ -23,7 +23,7 @@ use Rattle.tc_journal.specs.declared.block.Kind.{Kind}
 use Rattle.tc_journal.specs.declared.block.Kind.TheVariants.{Start, On, Taken, Adopted, Granted}
 use Rattle.tc_journal.specs.declared.block.End.{End}
 use Rattle.tc_journal.specs.declared.block.End.TheVariants.{Wants, Unlocked, Slept, Cut, Exit, Fault, Spent}
-use Rattle.tc_journal.proofs.Fields.{from_end, has_end, has_fields, pc_field}
+use Rattle.tc_journal.proofs.Fields.{from_end, has_end, has_fields, pc_field, small_fault}
 use Rattle.tc_journal.proofs.HexWord.{bytes, decoded, word_of_bytes}
 use Rattle.tc_journal.proofs.Histories.{none_begins}
 use Rattle.tc_journal.proofs.Sets.{AreLocks, AreLocks-locks_of, with_locks, with_locks-locks_of}
@@ -63,20 +63,6 @@ fault_is fault.BadCall = refl
 fault_is fault.BadLock = refl
 fault_is fault.LockOrder = refl
 fault_is fault.NotHeld = refl
-
-small_fault : (f : GuestFault) → fault_number f < 2 ^ 64
-small_fault fault.Illegal = omega arith
-small_fault fault.Fetch = omega arith
-small_fault fault.JumpTarget = omega arith
-small_fault fault.Load = omega arith
-small_fault fault.Store = omega arith
-small_fault fault.Misaligned = omega arith
-small_fault fault.Unguarded = omega arith
-small_fault fault.Break = omega arith
-small_fault fault.BadCall = omega arith
-small_fault fault.BadLock = omega arith
-small_fault fault.LockOrder = omega arith
-small_fault fault.NotHeld = omega arith
 
 -- the end that has this word, by its first two letters, and this number
 end_by : List ℕ → ℕ → End

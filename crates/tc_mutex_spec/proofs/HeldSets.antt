@@ -7,10 +7,8 @@ use Rattle.std.proofs.lemmas.Bool.Decides.{eqb_tells, nat_tests}
 use Rattle.std.proofs.Math.Nat.{pow-suc}
 use Rattle.std.proofs.lemmas.Nat.{and_assoc}
 use Rattle.std.proofs.lemmas.Nat.Bits.{and_pow, bit_at-zero, bit_at_and, bit_at_or, bit_at_xor, bit_at-lt, bit_at-pow_same, bit_at-pow_other}
+use Rattle.tc_journal.proofs.Locks.{has_none}
 use Rattle.tc_isa.specs.Sets.{has, with_lock, without_lock}
-
-pub none_has : (k : ℕ) → has 0 k ≡ false
-none_has k = ap (λ n. n == 1) (bit_at-zero k)
 
 pub with_has : (n lock k : ℕ) → has (with_lock n lock) k ≡ ((k == lock) || has n k)
 with_has n lock k = elim (eqb_tells k lock) [
@@ -50,7 +48,7 @@ past_last : (n : ℕ) → nat_lt n n ≡ false
 past_last n = grind (arith, nat_tests)
 
 pub set_has : (n : ℕ) (test : ℕ → Bool) (k : ℕ) → has (set_below n test) k ≡ (nat_lt k n && test k)
-set_has zero test k = none_has k ∙ ap (λ b. b && test k) (let none : false ≡ nat_lt k 0 = grind (arith, nat_tests) in none)
+set_has zero test k = has_none k ∙ ap (λ b. b && test k) (let none : false ≡ nat_lt k 0 = grind (arith, nat_tests) in none)
 set_has (suc n) test k = go (test n) refl (set_has n test k)
   where
     go : (v : Bool) → test n ≡ v → has (set_below n test) k ≡ (nat_lt k n && test k) → has (if v then with_lock (set_below n test) n else set_below n test) k ≡ (nat_lt k (suc n) && test k)

@@ -2,6 +2,7 @@
 use Rattle.std.proofs.Common.{◌≡◌, ◌≢◌, ◌↔◌, ℕ, zero, suc, ◌<◌, Bool, true, false, not, ◌&&◌, ◌==◌, List, [], ◌∷◌, length, refl, sym, ap, subst, ◌∙◌, arith, inl, inr}
 use Rattle.std.specs.Prelude.{Option, Some, None, if◌then◌else◌, nat_lt, option_and_then}
 use Rattle.std.proofs.lemmas.Bool.Decides.{eqb_tells, nat_tests}
+use Rattle.std.proofs.lemmas.Bool.{and_parts}
 use Rattle.tc_elf.specs.Shown.{Shown, guard_at}
 use Rattle.tc_elf.specs.declared.image.Region.{Region}
 use Rattle.tc_elf.specs.declared.image.Region.TheVariants as region
@@ -53,10 +54,6 @@ held_owner image t d (Some (Called (Sleep n) regs)) k l h e = h e
 held_owner image t d (Some (Called Exit regs)) k l h e = absurd (cc)
 held_owner image t d (Some (Faulted f)) k l h e = absurd (cc)
 
-both : (a b : Bool) → (a && b) ≡ true → (a ≡ true) × (b ≡ true)
-both true b e = (refl, e)
-both false b e = absurd (cc)
-
 -- a lock that the turn takes has no owner before it
 pub open_none : (o : Option ℕ) (locks : ℕ → Mutex) (k : ℕ) → is_open o locks ≡ true → o ≡ Some k → (locks k).owner ≡ None
 open_none o locks k is e = free (locks k).owner (ap (λ x. is_open x locks) (sym e) ∙ is)
@@ -68,11 +65,11 @@ open_none o locks k is e = free (locks k).owner (ap (λ x. is_open x locks) (sym
 -- a turn that is defined is one of a thread
 pub can_thread : (image : Shown) (m : State) (t : ℕ) → can_turn image m t ≡ true → t < length image.entries
 unfolding can_turn
-can_thread image m t e = (let test : nat_lt t (length image.entries) ≡ true = (both _ _ e).0 in grind (arith, nat_tests))
+can_thread image m t e = (let test : nat_lt t (length image.entries) ≡ true = (and_parts _ _ e).0 in grind (arith, nat_tests))
 
 pub can_open : (image : Shown) (m : State) (t : ℕ) → can_turn image m t ≡ true → is_open (next_lock image (m.threads t)) m.locks ≡ true
 unfolding can_turn
-can_open image m t e = (both _ _ (both _ _ e).1).1
+can_open image m t e = (and_parts _ _ (and_parts _ _ e).1).1
 
 -- a lock that another thread owns isn't touched
 others_lock : (image : Shown) (m : State) (t u k : ℕ) → IsHeldByOwner m → can_turn image m t ≡ true → u ≢ t → (m.locks k).owner ≡ Some u → (after image m t).locks k ≡ m.locks k

@@ -8,18 +8,7 @@ use mathlib.Core.Option.{some, some-injective, some-ne-none}
 use lib.ListN.{get_elem?}
 use Rattle.std.proofs.lemmas.List.FromFn.{length-map-range_with_len, get_or-map-range_with_len}
 use Rattle.std.proofs.lemmas.Option.{slice_get-get_or, slice_get_past}
-
-pub get-set_same : {A : Type 0} (xs : List A) (i : ℕ) (x : A) → i < length xs → slice_get (set xs i x) i ≡ Some x
-get-set_same [] i x lt = absurd (omega arith)
-get-set_same (y ∷ xs) zero x lt = refl
-get-set_same (y ∷ xs) (suc i) x lt = get-set_same xs i x (omega arith)
-
-pub get-set_other : {A : Type 0} (xs : List A) (i k : ℕ) (x : A) → k ≢ i → slice_get (set xs i x) k ≡ slice_get xs k
-get-set_other [] i k x ne = refl
-get-set_other (y ∷ xs) zero zero x ne = absurd (ne refl)
-get-set_other (y ∷ xs) zero (suc k) x ne = refl
-get-set_other (y ∷ xs) (suc i) zero x ne = refl
-get-set_other (y ∷ xs) (suc i) (suc k) x ne = get-set_other xs i k x (λ e. ne (ap suc e))
+use Rattle.tc_journal.proofs.Lists.{get-set_same, get-set_other}
 
 -- the item at each place
 pub get-set : {A : Type 0} (xs : List A) (i k : ℕ) (x : A) → i < length xs → slice_get (set xs i x) k ≡ (if k == i then Some x else slice_get xs k)
@@ -33,9 +22,6 @@ get_or-set xs i k x d lt = elim (eqb_tells k i) [
   | inl e ↦ ap (λ j. get_or (set xs i x) j d) e.1 ∙ get_or-set_same xs i x d lt ∙ ap (λ b. if b then x else get_or xs k d) (sym e.0)
   | inr e ↦ get_or-set_other xs i k x d e.1 ∙ ap (λ b. if b then x else get_or xs k d) (sym e.0)
 ]
-
-pub below_or : (a b : ℕ) → (a < b) ⊎ (b ≤ a)
-below_or a b = grind arith
 
 -- a list that a loop made, item by item
 pub made_get : {A : Type 0} (f : ℕ → A) (n k : ℕ) (d : A) → k < n → slice_get (map f (range_with_len 0 n)) k ≡ Some (f k)

@@ -3,6 +3,7 @@ use Rattle.std.proofs.Common.{◌≡◌, ◌≢◌, ℕ, Bool, true, false, ◌|
 use Rattle.std.specs.Prelude.{Option, Some, None, IfSome, if◌then◌else◌}
 use Rattle.std.proofs.lemmas.Bool.Decides.{eqb_tells}
 use Rattle.std.proofs.lemmas.List.Elements.{filter-append}
+use Rattle.std.proofs.lemmas.Bool.{or_from}
 use Rattle.tc_isa.specs.Sets.{has}
 use Rattle.tc_elf.specs.Shown.{Shown}
 use Rattle.tc_journal.specs.Batch.{unlocks, ends_thread, ends_section, last_of}
@@ -15,9 +16,6 @@ use Rattle.tc_mutex_spec.specs.Blocks.{locks_of_block, reach, Stands, TellsAfter
 use Rattle.tc_mutex_spec.proofs.BlocksAlike.{runs_apart}
 use Rattle.tc_mutex_spec.proofs.Holds.{can_open, open_none, holds_reach, holds_start}
 use Rattle.tc_mutex_spec.proofs.Going.{in_block, block_survives, block_gives}
-
-nor : (a b : Bool) → a ≡ false → b ≡ false → (a || b) ≡ false
-nor a b e f = λ i. e i || f i
 
 module _ (image : Shown) (seen : List Block) (m to : State) (b : Block) (stands : Stands image seen m b to) (inv : IsHeldByOwner m) (k : ℕ) where
   abbrev d : Thread
@@ -52,7 +50,7 @@ module _ (image : Shown) (seen : List Block) (m to : State) (b : Block) (stands 
       go : (v : Bool) → (last.threads b.thread).held k ≡ v → (last.locks k).owner ≡ owner_by k (Some b)
       go true e =
           let on = block_survives image m to b.thread b.turns b.end stands.runs k e in
-          (after b.thread k).0 e ∙ sym (ap (λ v. if v then None else Some b.thread) (nor (unlocks k b.end) (ends_thread b.end) on.0 on.1))
+          (after b.thread k).0 e ∙ sym (ap (λ v. if v then None else Some b.thread) (or_from (unlocks k b.end) (ends_thread b.end) on.0 on.1))
       go false e =
           none (last.locks k).owner refl e ∙ sym (ap (λ v. if v then None else Some b.thread) (block_gives image m to b.thread b.turns b.end stands.runs k h e))
 

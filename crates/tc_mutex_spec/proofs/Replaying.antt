@@ -1,7 +1,7 @@
 -- A block's entry replays.
 use Rattle.std.proofs.Common.{◌≡◌, ℕ, zero, suc, ◌+◌, ◌-◌, ◌<◌, ◌≤◌, Bool, true, false, not, ◌&&◌, ◌||◌, ◌==◌, List, [], ◌∷◌, ◌++◌, length, refl, sym, ap, ◌∙◌, arith, add-one, inl, inr}
 use Rattle.std.specs.Prelude.{Option, Some, None, is_some, if◌then◌else◌}
-use Rattle.std.proofs.lemmas.Bool.{and_parts}
+use Rattle.std.proofs.lemmas.Bool.{and_parts, and_from}
 use Rattle.std.proofs.lemmas.Bool.Decides.{eqb_tells}
 use Rattle.tc_isa.specs.Sets.{has}
 use Rattle.tc_elf.specs.Shown.{Shown}
@@ -22,7 +22,7 @@ use Rattle.tc_turn.specs.declared.status.Status.{Status}
 use Rattle.tc_turn.specs.declared.status.Status.TheVariants.{Running, Exited, Faulted as Failed, SpentFuel}
 use Rattle.tc_turn.specs.Turn.{Thread, Mutex, next_lock, next_act, taken_by, lock_answer, answer_to, outcome_of, thread_after, mutex_after, guard_with, given_up, when, is_running}
 use Rattle.tc_turn.specs.Replay.{bare, unowned, Tape, first_or, rest_of, is_cons, guard_number, is_own_guard, takes_word, tape_answer, tape_act, tape_takes, fits_lock, tape_ok, tape_after, tapes, tape_end, tape_of, tape_in, Replays, ended, replay_entry, word_of, words_from}
-use Rattle.tc_turn.proofs.Turns.{taken_was, next_free, next_wants}
+use Rattle.tc_turn.proofs.Turns.{taken_was, next_free, next_wants, next_fueled}
 use Rattle.tc_turn.proofs.Words.{words_more}
 use Rattle.tc_mutex_spec.specs.Machine.{State, can_turn, after}
 use Rattle.tc_mutex_spec.specs.Blocks.{locks_of_block, reach, end_at, Runs}
@@ -134,10 +134,6 @@ told image b lock wanted (Some k) own locks th left free =
       | inr e ↦ ap (λ c. if c then lock_answer (locks k) == lock_answer (locks lock) else true) e.0
     ])
 
-next_fuel : (image : Shown) (d : Thread) (k : ℕ) → next_lock image d ≡ Some k → (d.fuel == 0) ≡ false
-unfolding next_lock
-next_fuel image d k = elim (d.fuel == 0) as (λ b. (if b then None else taken_by (act_of image d.held d.regs 0)) ≡ Some k → b ≡ false) [ true ↦ λ e. absurd (cc) | false ↦ λ e. refl ]
-
 next_bare : (image : Shown) (d : Thread) → next_lock image (bare d) ≡ next_lock image d
 unfolding next_lock
 next_bare image d = refl
@@ -148,15 +144,12 @@ step_act image lock t m left =
     let d = m.threads t in
     act_is image (d.fuel == 0) (act_of image d.held d.regs) lock (wants_of image d.held d.regs) (next_lock image d) d.own m.locks (bare d) left
 
-both_true : (a b : Bool) → a ≡ true → b ≡ true → (a && b) ≡ true
-both_true a b p q = λ i. p i && q i
-
 step_ok : (image : Shown) (lock t : ℕ) (m : State) (left : List ℕ) → tape_ok image lock (tape_at lock t m (word_at image lock m t ++ left)) ≡ true
 unfolding tape_ok tape_takes next_lock word_of
 step_ok image lock t m left =
     let d = m.threads t in
-    both_true _ _ (has_word image (d.fuel == 0) lock (wants_of image d.held d.regs) (next_lock image d) d.own m.locks left)
-    (told image (d.fuel == 0) lock (wants_of image d.held d.regs) (next_lock image d) d.own m.locks (bare d) left (λ k e. (next_fuel image d k e, next_wants image d k e)))
+    and_from _ _ (has_word image (d.fuel == 0) lock (wants_of image d.held d.regs) (next_lock image d) d.own m.locks left)
+    (told image (d.fuel == 0) lock (wants_of image d.held d.regs) (next_lock image d) d.own m.locks (bare d) left (λ k e. (next_fueled image d k e, next_wants image d k e)))
 
 step_left : (image : Shown) (lock t : ℕ) (m : State) (left : List ℕ) → (if tape_takes image lock (tape_at lock t m (word_at image lock m t ++ left)) then rest_of (word_at image lock m t ++ left) else word_at image lock m t ++ left) ≡ left
 unfolding tape_takes next_lock word_of

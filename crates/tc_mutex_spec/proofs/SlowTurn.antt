@@ -5,6 +5,8 @@ use Rattle.std.specs.Option.{option_map}
 use Rattle.std.proofs.lemmas.Bool.Decides.{nat_tests, eqb_tells}
 use Rattle.std.proofs.lemmas.List.{length-set}
 use Rattle.std.proofs.lemmas.Option.{slice_get-get_or, slice_get_past}
+use Rattle.std.proofs.lemmas.Bool.{cases_lt}
+use Rattle.tc_journal.proofs.Lists.{get-set_same, get-set_other}
 use Rattle.tc_isa.specs.Sets.{has}
 use Rattle.tc_elf.specs.Shown.{Shown}
 use Rattle.tc_exec.specs.declared.outcome.Act.{Act}
@@ -13,7 +15,7 @@ use Rattle.tc_turn.specs.Reads.{Covers}
 use Rattle.tc_turn.proofs.Turns.{leaves, next_known, held_known}
 use Rattle.tc_mutex_spec.specs.Machine.{after}
 use Rattle.tc_mutex_spec.specs.Slow.{Plain, thread_or, mutex_or, no_mutex, thread_at, mutex_at, state_of, Suits}
-use Rattle.tc_mutex_spec.proofs.ListLaws.{get-set, get-set_same, get-set_other, below_or}
+use Rattle.tc_mutex_spec.proofs.ListLaws.{get-set}
 
 -- all locks of the image cover the turn of a thread that holds no other
 covers_known : (image : Shown) (d : Thread) → ((k : ℕ) → d.held k ≡ true → k < length image.guards) → Covers image (λ k. nat_lt k (length image.guards)) d
@@ -28,7 +30,7 @@ mutex_turned : (image : Shown) (t : ℕ) (d : Thread) (old new : List Mutex) (k 
     → mutex_at new k ≡ mutex_after image t d.held (next_act image d (mutex_at old)) k (mutex_at old k)
 mutex_turned image t d old new k held long each =
     let f : Mutex → Mutex = mutex_after image t d.held (next_act image d (mutex_at old)) k in
-    elim (below_or k (length old)) [
+    elim (cases_lt k (length old)) [
       | inl lt ↦ (let here = slice_get-get_or old k no_mutex lt in
           ap mutex_or (each ∙ ap (option_map f) here) ∙ ap (λ o. f (mutex_or o)) (sym here))
       | inr le ↦ (let past = slice_get_past old k le in

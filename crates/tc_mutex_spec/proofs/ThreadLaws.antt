@@ -5,10 +5,11 @@ use Rattle.std.specs.List.{range_with_len}
 use Rattle.std.specs.Option.{option_map}
 use Rattle.std.proofs.lemmas.Bool.Decides.{nat_tests}
 use Rattle.std.proofs.lemmas.Option.{slice_get-map}
+use Rattle.std.proofs.lemmas.Bool.{cases_lt}
 use Rattle.tc_elf.specs.Shown.{Shown}
 use Rattle.tc_turn.specs.Turn.{Thread, Guest, thread_of, thread_at_start, no_thread}
 use Rattle.tc_mutex_spec.specs.Slow.{thread_or, thread_at}
-use Rattle.tc_mutex_spec.proofs.ListLaws.{below_or, made_get, made_past}
+use Rattle.tc_mutex_spec.proofs.ListLaws.{made_get, made_past}
 
 shown : (o : Option Guest) → thread_or o ≡ unwrap_or (option_map thread_of o) no_thread
 shown None = refl
@@ -20,7 +21,7 @@ start_each image fuel n threads made t =
     let f : ℕ → Thread = thread_at_start image fuel in
     shown (slice_get threads t)
     ∙ ap (λ o. unwrap_or o no_thread) (sym (slice_get-map thread_of threads t) ∙ ap (λ xs. slice_get xs t) made)
-    ∙ elim (below_or t n) [
+    ∙ elim (cases_lt t n) [
       | inl lt ↦ (let test : nat_lt t n ≡ true = grind (arith, nat_tests) in
           ap (λ o. unwrap_or o no_thread) (made_get f n t no_thread lt) ∙ sym (ap (λ b. if b then f t else no_thread) test))
       | inr le ↦ (let test : nat_lt t n ≡ false = grind (arith, nat_tests) in

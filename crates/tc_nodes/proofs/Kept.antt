@@ -1,5 +1,6 @@
 -- No turn that the line took in is lost.
 use Rattle.std.proofs.Common.{◌≡◌, ◌⊎◌, ℕ, ◌≤◌, ◌==◌, ◌||◌, Bool, true, false, cond, List, [], ◌∷◌, ◌++◌, length, sym, refl, ap, ◌∙◌, subst, ⊎_elim, inl, inr, arith, lt_of_not-le, Option, Some, None, eq-eqb}
+use Rattle.std.proofs.lemmas.Bool.{or_left, or_right}
 use mathlib.Core.Logic.{dite}
 use mathlib.Core.Option.{some, some-injective, some-ne-none}
 use native.Mathlib.Decide.{dec_le}
@@ -21,7 +22,7 @@ use Rattle.tc_nodes.specs.Laws.{IsAnswered, KeepsTurns, KeepsBound}
 use Rattle.tc_nodes.proofs.Sound.{sound_after}
 use Rattle.tc_nodes.proofs.Lists.{something_there}
 use Rattle.tc_nodes.proofs.Stepping.{no_calls}
-use Rattle.tc_nodes.proofs.Turns.{falsely, turn_self, turn_same, or_left, or_right}
+use Rattle.tc_nodes.proofs.Turns.{falsely, turn_self, turn_same}
 
 -- some `next` answered u
 abbrev pub WasAnswered : List Made → Turn → Type 0

@@ -1,6 +1,7 @@
 -- A new queue keeps the rule.
 use Rattle.std.proofs.Common.{◌<◌, ◌≡◌, ⊎_elim, ◌%◌, ℕ, zero, suc, ◌+◌, ◌≤◌, List, [], ◌∷◌, ◌++◌, All, length, replicate, get_or, sym, refl, ap, ◌∙◌, subst, arith}
 use Rattle.std.proofs.lemmas.List.{length-replicate}
+use Rattle.tc_queue.proofs.Opening.{zeros}
 use mathlib.Core.Option.{some, some-injective, some-ne-none}
 use lib.ListN.{get_elem?}
 use Rattle.atomic_table.specs.Seated.{TableId}
@@ -12,11 +13,6 @@ use Rattle.tc_nodes.specs.Steps.{Sitting}
 use Rattle.tc_nodes.specs.View.{NodeQueueView, NodeSeatView, IsSeatOf, IsNewSeat, AreNewSeats}
 use Rattle.tc_nodes.specs.Order.{first_known, empty_stand, IsOrdered}
 use Rattle.tc_nodes.proofs.Lists.{at_end}
-
-zeros : (n i : ℕ) → ◌≡◌ {A = ℕ} (get_or (replicate n 0) i 0) 0
-zeros zero i = refl
-zeros (suc n) zero = refl
-zeros (suc n) (suc i) = zeros n i
 
 only : (v w : Known) (id : ℕ) → get_elem? (v ∷ []) id ≡ some w → v ≡ w
 only v w zero e = some-injective v w e

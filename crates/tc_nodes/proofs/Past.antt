@@ -1,5 +1,6 @@
 -- The line that a history leaves: the turns that wait, each with its passes counted over the whole history.
 use Rattle.std.proofs.Common.{◌≡◌, ◌⊎◌, ℕ, zero, suc, ◌+◌, ◌≤◌, ◌==◌, ◌&&◌, ◌||◌, not, Bool, true, false, cond, List, [], ◌∷◌, ◌++◌, length, sym, refl, ap, ◌∙◌, subst, inl, inr, ⊎_elim, arith, Option, Some, None}
+use Rattle.std.proofs.lemmas.Bool.{and_parts, not-true, or_parts, or_left, or_right}
 use mathlib.Core.Option.{some, some-injective, some-ne-none}
 use lib.ListN.{get_elem?}
 use Rattle.tc_queue.specs.declared.turn.Turn.{Turn}
@@ -7,7 +8,7 @@ use Rattle.tc_nodes.specs.declared.line.Waiter.{Waiter}
 use Rattle.tc_nodes.specs.declared.cells.Placed.{Placed}
 use Rattle.tc_nodes.specs.Line.{is_turn, has_turn, first_of, or_else, picked, newcomer, line_without, line_after, IsSteady}
 use Rattle.tc_nodes.specs.Picks.{Did, Arrived, Answered, arrivals, has_come, is_it, is_answered, waits, is_after, bit, is_pass, passes, first_that, oldest, oldest_of, answer_by, answer, HaveComeOnce}
-use Rattle.tc_nodes.proofs.Turns.{falsely, turn_self, turn_same, other_turn, or_right, or_left, neither, came_other, come_front, not_before, not_after, once_more}
+use Rattle.tc_nodes.proofs.Turns.{falsely, turn_self, turn_same, other_turn, came_other, come_front, not_before, not_after, once_more}
 use Rattle.tc_nodes.proofs.Steady.{looser, steady_more, steady_picked}
 
 -- each pick was answered as it should be, and no turn arrived twice
@@ -47,7 +48,7 @@ rows-append is count (c ∷ xs) ys = by_test (is c) (rows-append is count xs ys)
 has_row : (is : Placed → Bool) (count : Turn → ℕ) (cs : List Placed) (u : Turn) → has_come u cs ≡ false → has_turn u (rows is count cs) ≡ false
 has_row is count [] u none = refl
 has_row is count (c ∷ cs) u none =
-    let two = neither (is_turn u c.turn) (has_come u cs) none in
+    let two = or_parts (is_turn u c.turn) (has_come u cs) none in
     by_test (is c) two.0 (has_row is count cs u two.1)
   where
     by_test : (b : Bool) → is_turn u c.turn ≡ false → has_turn u (rows is count cs) ≡ false → has_turn u (cond b (row c (count c.turn) ∷ rows is count cs) (rows is count cs)) ≡ false
@@ -109,14 +110,6 @@ picked_is most node past = ⊎_elim
 
 -- ---- who is answered came, and was not answered before
 
-still : (b : Bool) → not b ≡ true → b ≡ false
-still true e = absurd (falsely (sym e))
-still false e = refl
-
-and_left : (a b : Bool) → (a && b) ≡ true → a ≡ true
-and_left true b e = refl
-and_left false b e = absurd (falsely (sym e))
-
 -- a turn that waits
 abbrev pub Awaits : List Did → Turn → Type 0
 Awaits past x = (has_come x (arrivals past) ≡ true) × (is_answered x past ≡ false)
@@ -124,7 +117,7 @@ Awaits past x = (has_come x (arrivals past) ≡ true) × (is_answered x past ≡
 awaits : (past : List Did) (is : Placed → Bool) (x : Turn) → ((c : Placed) → is c ≡ true → waits past c ≡ true) → first_that is (arrivals past) ≡ Some x → Awaits past x
 awaits past is x all e =
     let c = found is (arrivals past) x e in
-    subst (Awaits past) c.3 (c.1, still (is_answered c.0.turn past) (all c.0 c.2))
+    subst (Awaits past) c.3 (c.1, not-true (is_answered c.0.turn past) (all c.0 c.2))
 
 by_node : (most node : ℕ) (past : List Did) (x o : Turn) (b : Bool) (z : Option Turn) → (Some o ≡ Some x → Awaits past x) → (z ≡ Some x → Awaits past x) → cond b (Some o) (or_else z o) ≡ Some x → Awaits past x
 by_node most node past x o true z first other e = first e
@@ -138,7 +131,7 @@ answer_awaits most node past x e = by_oldest (oldest past) refl e
     by_oldest None is said = absurd (cc said)
     by_oldest (Some o) is said = by_node most node past x o (passes past o == most) (oldest_of node past)
         (λ (same : Some o ≡ Some x). awaits past (waits past) x (λ c h. h) (is ∙ same))
-        (λ (there : oldest_of node past ≡ Some x). awaits past (λ c. waits past c && (c.node == node)) x (λ c h. and_left (waits past c) (c.node == node) h) there)
+        (λ (there : oldest_of node past ≡ Some x). awaits past (λ c. waits past c && (c.node == node)) x (λ c h. (and_parts (waits past c) (c.node == node) h).0) there)
         said
 
 -- ---- an arrival

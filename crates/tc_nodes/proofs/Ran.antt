@@ -1,6 +1,7 @@
 -- A line over a whole list of operations.
 use Rattle.std.proofs.Common.{◌≡◌, ℕ, ◌+◌, ◌<◌, ◌≤◌, ◌||◌, Bool, true, false, cond, List, [], ◌∷◌, ◌++◌, length, length-append, take, drop, get_or, take-append-drop, take_all, sym, refl, ap, ◌∙◌, subst, ⊎_elim, append_assoc, append-nil, arith, Option, Some, ne_eqb}
 use Rattle.std.proofs.lemmas.List.{take_more}
+use Rattle.std.proofs.lemmas.Bool.{or_left, or_right}
 use mathlib.Core.Option.{some, some-ne-none}
 use lib.ListN.{get_elem?}
 use Rattle.tc_queue.specs.declared.turn.Turn.{Turn}
@@ -11,7 +12,7 @@ use Rattle.tc_nodes.specs.declared.cells.Placed.{Placed}
 use Rattle.tc_nodes.specs.Line.{LineView, has_turn, is_refused, arrived, picked, newcomer, line_after, with_waiting}
 use Rattle.tc_nodes.specs.Picks.{Did, Arrived, Answered, arrivals, has_come, is_it, is_answered, waits, passes, answer, after_op, history, answers, picks, arriving, HaveComeOnce, IsOnce, IsBounded}
 use Rattle.tc_nodes.proofs.Lists.{at_end}
-use Rattle.tc_nodes.proofs.Turns.{falsely, turn_self, or_right, or_left, once_front, new_one}
+use Rattle.tc_nodes.proofs.Turns.{falsely, turn_self, once_front, new_one}
 use Rattle.tc_nodes.proofs.Past.{IsPast, line_of, picked_is, answer_awaits, line_arrived, line_answered, new_in_line, few_rows, steady_past, row_bound}
 
 pub arriving-append : (xs ys : List Op) → arriving (xs ++ ys) ≡ arriving xs ++ arriving ys

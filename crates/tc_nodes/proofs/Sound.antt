@@ -1,5 +1,6 @@
 -- What is so after a legal order of steps, and the packing of cells.
 use Rattle.std.proofs.Common.{◌≡◌, ℕ, ◌+◌, ◌/◌, ◌%◌, ◌≤◌, ◌==◌, Bool, true, false, cond, List, [], ◌∷◌, ◌++◌, sym, refl, ap, ◌∙◌, subst, arith, Option, Some, None}
+use Rattle.std.proofs.lemmas.Option.{none-some, same_Some}
 use Rattle.tc_queue.specs.declared.turn.Turn.{Turn}
 use Rattle.tc_queue.specs.declared.turn.Departure.TheVariants.{Left, Followed}
 use Rattle.tc_queue.specs.Words.{IsTurn, turn_word, turn_at}
@@ -30,12 +31,6 @@ cell_back n (Some p) few is =
     (λ j. with_node (apart.1 j) (turn_at (apart.0 j))) ∙ ap (with_node p.node) (turns_packed.there p.turn turn)
 
 -- ---- what is there is in range
-
-same_some : {A : Type 0} (a b : A) → Some a ≡ Some b → a ≡ b
-same_some a b e = cc e
-
-nothing : {A : Type 0} (a : A) → None ≡ Some a → ⊥
-nothing a e = absurd (cc e)
 
 turns_more : (n : ℕ) (u : Turn) (node : ℕ) (ws : List Waiter) → AreTurns n ws → IsTurn n u → AreTurns n (ws ++ newcomer u node ∷ [])
 turns_more n u node [] are is = (is, tt)
@@ -90,7 +85,7 @@ cell_set n q i c all is j = by_test (j == i)
     by_test false = all j
 
 pub sound_after : (k : Terms) (order : List Made) → IsLegal k order → IsSound k.threads k.bound (queue_after k order)
-sound_after k [] legal = record { cells = λ j p e. absurd (nothing p e); line = record { of_threads = refl; of_bound = refl; turns = tt; steady = tt } }
+sound_after k [] legal = record { cells = λ j p e. absurd (none-some p e); line = record { of_threads = refl; of_bound = refl; turns = tt; steady = tt } }
 sound_after k (m ∷ before) legal = by_call m.call legal.0 (sound_after k before legal.1)
   where
     n : ℕ
@@ -102,13 +97,13 @@ sound_after k (m ∷ before) legal = by_call m.call legal.0 (sound_after k befor
     by_call : (c : Call) → MayCome k q m.seat (calls_of m.seat before) c → IsSound n k.bound q → IsSound n k.bound (plain_after q m.seat c)
     by_call (Enter u a) may is = record { cells = is.cells; line = is.line }
     by_call (Link place u node) may is = record {
-      cells = cell_set n q (place % 64) _ is.cells (λ p e. subst (IsPlaced n) (same_some _ p e) (record { turn = may.0; node = may.1 }));
+      cells = cell_set n q (place % 64) _ is.cells (λ p e. subst (IsPlaced n) (same_Some _ p e) (record { turn = may.0; node = may.1 }));
       line = is.line;
     }
     by_call (Take true) may is = record { cells = is.cells; line = is.line }
     by_call (Take false) may is = is
     by_call (Read number found took) may is = record {
-      cells = cell_set n q (number % 64) None is.cells (λ p e. absurd (nothing p e));
+      cells = cell_set n q (number % 64) None is.cells (λ p e. absurd (none-some p e));
       line = line_read n k.bound found q.stand (subst (IsFound n) (sym may.2) (is.cells (number % 64))) is.line;
     }
     by_call (Next u node a) may is = record { cells = is.cells; line = line_picked n k.bound node q.stand is.line }

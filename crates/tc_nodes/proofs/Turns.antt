@@ -1,5 +1,6 @@
 -- Turns that are equal or not, and lists of arrivals.
 use Rattle.std.proofs.Common.{◌≡◌, ◌==◌, ◌&&◌, ◌||◌, Bool, true, false, cond, List, [], ◌∷◌, ◌++◌, sym, refl, ap, ◌∙◌, inl, inr, ◌⊎◌, eqb-true, eq-eqb}
+use Rattle.std.proofs.lemmas.Bool.{and_parts, or_parts, or_left, or_right}
 use Rattle.tc_queue.specs.declared.turn.Turn.{Turn}
 use Rattle.tc_nodes.specs.declared.cells.Placed.{Placed}
 use Rattle.tc_nodes.specs.Line.{is_turn}
@@ -8,16 +9,12 @@ use Rattle.tc_nodes.specs.Picks.{has_come, is_after, HaveComeOnce}
 pub falsely : true ≡ false → ⊥
 falsely e = absurd (cc e)
 
-both : (a b : Bool) → (a && b) ≡ true → (a ≡ true) × (b ≡ true)
-both true b e = (refl, e)
-both false b e = absurd (cc e)
-
 pub turn_self : (u : Turn) → is_turn u u ≡ true
 turn_self u = ap (λ (b : Bool). b && (u.number == u.number)) (eq-eqb u.thread u.thread refl) ∙ eq-eqb u.number u.number refl
 
 pub turn_same : (u v : Turn) → is_turn u v ≡ true → u ≡ v
 turn_same u v e =
-    let two = both (u.thread == v.thread) (u.number == v.number) e in
+    let two = and_parts (u.thread == v.thread) (u.number == v.number) e in
     let thread = eqb-true u.thread v.thread two.0 in
     let number = eqb-true u.number v.number two.1 in
     λ i. record { thread = thread i; number = number i }
@@ -34,19 +31,6 @@ other_turn u v e = by_test (is_turn v u) refl
     by_test true is = absurd (falsely (sym is ∙ (ap (λ (w : Turn). is_turn w u) (turn_same v u is) ∙ (ap (is_turn u) (sym (turn_same v u is)) ∙ e))))
     by_test false is = refl
 
-pub or_right : (a b : Bool) → b ≡ true → (a || b) ≡ true
-or_right true b e = refl
-or_right false b e = e
-
-pub or_left : (a b : Bool) → a ≡ true → (a || b) ≡ true
-or_left true b e = refl
-or_left false b e = absurd (falsely (sym e))
-
--- neither holds where one of two does not
-pub neither : (a b : Bool) → (a || b) ≡ false → (a ≡ false) × (b ≡ false)
-neither true b e = absurd (falsely e)
-neither false b e = (refl, e)
-
 -- one that came is another than one that did not
 pub came_other : (w x : Turn) (cs : List Placed) → has_come w cs ≡ true → has_come x cs ≡ false → is_turn w x ≡ false
 came_other w x cs here away = by_test (is_turn w x) refl
@@ -58,7 +42,7 @@ came_other w x cs here away = by_test (is_turn w x) refl
 pub come_front : (u : Turn) (xs ys : List Placed) → has_come u (xs ++ ys) ≡ false → has_come u xs ≡ false
 come_front u [] ys e = refl
 come_front u (c ∷ xs) ys e =
-    let two = neither (is_turn u c.turn) (has_come u (xs ++ ys)) e in
+    let two = or_parts (is_turn u c.turn) (has_come u (xs ++ ys)) e in
     ap (λ (b : Bool). b || has_come u xs) two.0 ∙ come_front u xs ys two.1
 
 pub come_longer : (u : Turn) (xs ys : List Placed) → has_come u xs ≡ true → has_come u (xs ++ ys) ≡ true
@@ -73,12 +57,12 @@ come_longer u (c ∷ xs) ys e = by_test (is_turn u c.turn) (come_longer u xs ys)
 pub not_before : (u x : Turn) (cs : List Placed) → has_come u cs ≡ false → is_after u x cs ≡ false
 not_before u x [] e = refl
 not_before u x (c ∷ cs) e =
-    let two = neither (is_turn u c.turn) (has_come u cs) e in
+    let two = or_parts (is_turn u c.turn) (has_come u cs) e in
     ap (λ (b : Bool). cond b (has_come x cs) (is_after u x cs)) two.0 ∙ not_before u x cs two.1
 
 pub not_after : (u x : Turn) (cs : List Placed) → has_come x cs ≡ false → is_after u x cs ≡ false
 not_after u x [] e = refl
-not_after u x (c ∷ cs) e = by_test (is_turn u c.turn) (neither (is_turn x c.turn) (has_come x cs) e).1 (not_after u x cs)
+not_after u x (c ∷ cs) e = by_test (is_turn u c.turn) (or_parts (is_turn x c.turn) (has_come x cs) e).1 (not_after u x cs)
   where
     by_test : (b : Bool) → has_come x cs ≡ false → (has_come x cs ≡ false → is_after u x cs ≡ false) → cond b (has_come x cs) (is_after u x cs) ≡ false
     by_test true none more = none
@@ -104,13 +88,13 @@ new_one (x ∷ xs) c ys once =
 pub once_more : (xs : List Placed) (c : Placed) → HaveComeOnce xs → has_come c.turn xs ≡ false → HaveComeOnce (xs ++ c ∷ [])
 once_more [] c once none = (refl, tt)
 once_more (x ∷ xs) c once none =
-    let two = neither (is_turn c.turn x.turn) (has_come c.turn xs) none in (
+    let two = or_parts (is_turn c.turn x.turn) (has_come c.turn xs) none in (
       more xs once.0,
       once_more xs c once.1 two.1,
     )
   where
     more : (l : List Placed) → has_come x.turn l ≡ false → has_come x.turn (l ++ c ∷ []) ≡ false
-    more [] e = ap (λ (b : Bool). b || false) (other_turn c.turn x.turn (neither (is_turn c.turn x.turn) (has_come c.turn xs) none).0)
+    more [] e = ap (λ (b : Bool). b || false) (other_turn c.turn x.turn (or_parts (is_turn c.turn x.turn) (has_come c.turn xs) none).0)
     more (y ∷ l) e =
-        let two = neither (is_turn x.turn y.turn) (has_come x.turn l) e in
+        let two = or_parts (is_turn x.turn y.turn) (has_come x.turn l) e in
         ap (λ (b : Bool). b || has_come x.turn (l ++ c ∷ [])) two.0 ∙ more l two.1

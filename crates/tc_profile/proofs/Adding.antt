@@ -8,7 +8,7 @@ use Rattle.tc_isa.proofs.SetLemmas.{has_above}
 use Rattle.tc_journal.specs.declared.block.Block.{Block}
 use Rattle.tc_profile.specs.declared.tally.LockTally.{LockTally}
 use Rattle.tc_profile.specs.Tally.{lock_after, added}
-use Rattle.tc_profile.proofs.Places.{get-set_same, get-set_other}
+use Rattle.tc_journal.proofs.Lists.{get-set_same, get-set_other}
 
 -- the locks below n have the block
 abbrev pub added_below : ℕ → ℕ → Block → ℕ → LockTally → LockTally

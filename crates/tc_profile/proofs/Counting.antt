@@ -60,10 +60,6 @@ count_of-le test xs = omega (arith, kept-le (at_place test) (placed xs), placed-
 
 -- ---- streaks
 
-pub run_from-push : (lock n : ℕ) (bs : List Block) (b : Block) → run_from lock n (bs ++ b ∷ []) ≡ run_after lock (run_from lock n bs) b
-run_from-push lock n [] b = refl
-run_from-push lock n (x ∷ bs) b = run_from-push lock (run_after lock n x) bs b
-
 streak_le : (begun adopted : Bool) (n : ℕ) → (if begun then (if adopted then n + 1 else 0) else n) ≤ n + 1
 streak_le true true n = omega arith
 streak_le true false n = omega arith

@@ -4,6 +4,7 @@ use Rattle.std.specs.Prelude.{Option, Some, None, option_map, slice_get, filter,
 use Rattle.std.proofs.lemmas.Bool.Decides.{eqb_tells}
 use Rattle.std.proofs.lemmas.List.{map-append, length-map}
 use Rattle.std.proofs.lemmas.List.Sums.{sum_by_push}
+use Rattle.tc_journal.proofs.Batching.{of_lock-more, run_from-more}
 use Rattle.tc_isa.specs.Sets.{has}
 use Rattle.tc_isa.specs.declared.limits.TheConstants.{MAX_TURNS}
 use Rattle.tc_journal.specs.Batch.{is_section, is_adopted, top_below, is_lock, begins, run_of, last_of}
@@ -14,7 +15,7 @@ use Rattle.tc_profile.specs.declared.tally.LockTally.{LockTally}
 use Rattle.tc_profile.specs.declared.tally.ThreadTally.{ThreadTally}
 use Rattle.tc_profile.specs.Profile.{last_in, placed, at_place, count_of, is_other, differs, changes_in, worker_of, is_taken, is_granted, longest_in, is_change, worker_or_own, home_worker, homes_of, thread_profile}
 use Rattle.tc_profile.specs.Tally.{lock_tally, thread_tally, plus, with_section, with_last, lock_after, thread_after, home_in}
-use Rattle.tc_profile.proofs.Counting.{last_in-push, filter-push, kept-push, kept-le, placed-push, placed-length, count_of-push, count_of-le, run_from-push, run_from-le, longest_in-push, longest_in-ge}
+use Rattle.tc_profile.proofs.Counting.{last_in-push, filter-push, kept-push, kept-le, placed-push, placed-length, count_of-push, count_of-le, run_from-le, longest_in-push, longest_in-ge}
 
 -- ---- a block that begins a section of a lock has the lock
 
@@ -95,7 +96,7 @@ module _ (lock : ℕ) (bs : List Block) (b : Block) (hs : List ℕ) (home : ℕ)
   streak_within = longest_in-ge lock bs
 
   streak : (v : Bool) → begins lock b ≡ v → run_of lock (bs ++ b ∷ []) ≡ (if v then (if is_adopted b.kind then run_of lock bs + 1 else 0) else run_of lock bs)
-  streak v e = run_from-push lock 0 bs b ∙ ap (λ w. if w then (if is_adopted b.kind then run_of lock bs + 1 else 0) else run_of lock bs) e
+  streak v e = run_from-more lock 0 bs b ∙ ap (λ w. if w then (if is_adopted b.kind then run_of lock bs + 1 else 0) else run_of lock bs) e
 
   longest : longest_in lock (bs ++ b ∷ []) ≡ max (longest_in lock bs) (run_of lock (bs ++ b ∷ []))
   longest = longest_in-push lock bs b
@@ -181,14 +182,11 @@ module _ (lock : ℕ) (bs : List Block) (b : Block) (hs : List ℕ) (home : ℕ)
 
 -- ---- the whole history
 
-of_lock-push : (h : List Block) (b : Block) (lock : ℕ) (v : Bool) → has b.held lock ≡ v → of_lock (h ++ b ∷ []) lock ≡ of_lock h lock ++ (if v then b ∷ [] else [])
-of_lock-push h b lock v e = filter-push (λ (c : Block). has c.held lock) h b ∙ ap (λ w. of_lock h lock ++ (if w then b ∷ [] else [])) e
-
 pub lock_grows : (h : List Block) (b : Block) (lock : ℕ) → length h < 2 ^ 32 → has b.held lock ≡ true → lock_tally (h ++ b ∷ []) lock ≡ lock_after lock b (home_worker h b) (lock_tally h lock)
 lock_grows h b lock few held = by (begins lock b) refl
   where
     blocks : of_lock (h ++ b ∷ []) lock ≡ of_lock h lock ++ b ∷ []
-    blocks = of_lock-push h b lock true held
+    blocks = of_lock-more h b lock true held
 
     few_blocks : length (of_lock h lock) < 2 ^ 32
     few_blocks = omega (arith, few, kept-le (λ (c : Block). has c.held lock) h)
@@ -206,7 +204,7 @@ lock_grows h b lock few held = by (begins lock b) refl
 
 pub lock_stays : (h : List Block) (b : Block) (lock : ℕ) → has b.held lock ≡ false → lock_tally (h ++ b ∷ []) lock ≡ lock_tally h lock
 lock_stays h b lock out =
-    let blocks : of_lock (h ++ b ∷ []) lock ≡ of_lock h lock = of_lock-push h b lock false out ∙ append-nil (of_lock h lock) in
+    let blocks : of_lock (h ++ b ∷ []) lock ≡ of_lock h lock = of_lock-more h b lock false out ∙ append-nil (of_lock h lock) in
     let homes : homes_of (h ++ b ∷ []) lock ≡ homes_of h lock = homes_of-push h b lock false (none_begun lock b out) ∙ append-nil (homes_of h lock) in
     λ i. tally_of lock (blocks i) (homes i)
 

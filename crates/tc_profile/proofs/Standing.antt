@@ -12,7 +12,7 @@ use Rattle.tc_profile.specs.declared.tally.ThreadTally.{ThreadTally}
 use Rattle.tc_profile.specs.Profile.{home_worker}
 use Rattle.tc_profile.specs.Tally.{lock_tally, thread_tally, lock_after, thread_after, added, home_in}
 use Rattle.tc_profile.specs.Stands.{Tallies, StandsFor}
-use Rattle.tc_profile.proofs.Places.{get-set_same, get-set_other}
+use Rattle.tc_journal.proofs.Lists.{get-set_same, get-set_other}
 use Rattle.tc_profile.proofs.Growing.{lock_grows, lock_stays, thread_grows, thread_stays, home_is, turns_grow}
 
 -- lists of the same things at each place are as long as one another

@@ -1,5 +1,6 @@
 -- What is so after a legal order of calls.
 use Rattle.std.proofs.Common.{◌≡◌, ◌≢◌, ℕ, zero, suc, ◌<◌, ◌==◌, Bool, true, false, cond, List, [], ◌∷◌, ◌++◌, All, sym, refl, ap, ◌∙◌, subst, ⊎_elim, arith, Option, Some, None, eqb-true, eq-eqb, ne_eqb}
+use Rattle.std.proofs.lemmas.Option.{none-some, same_Some}
 use mathlib.Core.Logic.{dite}
 use mathlib.Core.Option.{some, some-ne-none}
 use native.Mathlib.Decide.{ℕ_discrete}
@@ -21,33 +22,27 @@ pub record IsSound (n : ℕ) (q : Plain) : Type 0 where
   pub tail : IsTail n q.tail
   pub links : (t : ℕ) → IsLink n (q.links t)
 
-same_some : {A : Type 0} (a b : A) → Some a ≡ Some b → a ≡ b
-same_some a b e = cc e
-
-nothing : {A : Type 0} (a : A) → None ≡ Some a → ⊥
-nothing a e = absurd (cc e)
-
 pub still_tail : (n : ℕ) (tail : Option Turn) (u : Turn) → IsTail n tail → IsTail n (tail_without u tail)
 still_tail n None u is = is
 still_tail n (Some last) u is = by_test (is_last u (Some last))
   where
     by_test : (v : Bool) → IsTail n (cond v None (Some last))
-    by_test true x e = absurd (nothing x e)
+    by_test true x e = absurd (none-some x e)
     by_test false x e = is x e
 
 pub sound_after : (n : ℕ) (order : List Made) → IsLegal n order → IsSound n (queue_after order)
-sound_after n [] legal = record { tail = λ u e. absurd (nothing u e); links = λ t l e. absurd (nothing l e) }
+sound_after n [] legal = record { tail = λ u e. absurd (none-some u e); links = λ t l e. absurd (none-some l e) }
 sound_after n (m ∷ before) legal = by_call m.call legal.0 (sound_after n before legal.1)
   where
     q : Plain
     q = queue_after before
 
     by_call : (c : Call) → MayCome n q (calls_of m.seat before) c → IsSound n q → IsSound n (plain_after q c)
-    by_call (Enter u a) may is = record { tail = λ x e. subst (IsTurn n) (same_some u x e) may.0; links = is.links }
+    by_call (Enter u a) may is = record { tail = λ x e. subst (IsTurn n) (same_Some u x e) may.0; links = is.links }
     by_call (Link b u) may is = record { tail = is.tail; links = λ t. by_thread (t == b.thread) t }
       where
         by_thread : (v : Bool) (t : ℕ) → IsLink n (cond v (Some (record { before = b.number; behind = u })) (q.links t))
-        by_thread true t l e = subst (IsLinked n) (same_some _ l e) (record { numbered = may.0.numbered; small = may.0.small; behind = may.1 })
+        by_thread true t l e = subst (IsLinked n) (same_Some _ l e) (record { numbered = may.0.numbered; small = may.0.small; behind = may.1 })
         by_thread false t l e = is.links t l e
     by_call (Next u a) may is = is
     by_call (Leave u a) may is = record { tail = still_tail n q.tail u is.tail; links = is.links }
@@ -90,7 +85,7 @@ linked_now n m before t l earlier (Enter u a) may e = earlier e
 linked_now n m before t l earlier (Link b u) may e = dite (ℕ_discrete t b.thread)
     (λ (same : t ≡ b.thread).
     let new : Linked = record { before = b.number; behind = u } in
-    let pair : new ≡ l = same_some new l (sym (ap (λ (v : Bool). cond v (Some new) ((queue_after before).links t)) (eq-eqb t b.thread same)) ∙ e) in
+    let pair : new ≡ l = same_Some new l (sym (ap (λ (v : Bool). cond v (Some new) ((queue_after before).links t)) (eq-eqb t b.thread same)) ∙ e) in
     subst (λ (z : Linked). WasEntered before z.behind (turn_with t z.before)) pair
     (subst (λ (k : ℕ). WasEntered before u (turn_with k b.number)) (sym same) (m.seat, (may.2.0, may.2.1))))
     (λ (ne : t ≢ b.thread). earlier (sym (ap (λ (v : Bool). cond v (Some (record { before = b.number; behind = u })) ((queue_after before).links t)) (ne_eqb t b.thread ne)) ∙ e))
@@ -98,18 +93,18 @@ linked_now n m before t l earlier (Next u a) may e = earlier e
 linked_now n m before t l earlier (Leave u a) may e = earlier e
 
 pub linked_was_entered : (n : ℕ) (order : List Made) (t : ℕ) (l : Linked) → IsLegal n order → (queue_after order).links t ≡ Some l → WasEntered order l.behind (turn_with t l.before)
-linked_was_entered n [] t l legal e = absurd (nothing l e)
+linked_was_entered n [] t l legal e = absurd (none-some l e)
 linked_was_entered n (m ∷ before) t l legal e = still_entered m before l.behind (turn_with t l.before) (linked_now n m before t l (linked_was_entered n before t l legal.1) m.call legal.0 e)
 
 -- ---- what `next` answered was entered
 
 answered : (u : Turn) (link : Option Linked) (x : Turn) → answer_to_next u link ≡ Some x → (l : Linked) × (link ≡ Some l) × (l.before ≡ u.number) × (l.behind ≡ x)
-answered u None x e = absurd (nothing x e)
+answered u None x e = absurd (none-some x e)
 answered u (Some l) x e = by_test (l.before == u.number) refl
   where
     by_test : (v : Bool) → (l.before == u.number) ≡ v → (k : Linked) × (Some l ≡ Some k) × (k.before ≡ u.number) × (k.behind ≡ x)
-    by_test true is = (l, refl, eqb-true l.before u.number is, same_some l.behind x (sym (ap (λ (b : Bool). cond b (Some l.behind) None) is) ∙ e))
-    by_test false is = absurd (nothing x (sym (ap (λ (b : Bool). cond b (Some l.behind) None) is) ∙ e))
+    by_test true is = (l, refl, eqb-true l.before u.number is, same_Some l.behind x (sym (ap (λ (b : Bool). cond b (Some l.behind) None) is) ∙ e))
+    by_test false is = absurd (none-some x (sym (ap (λ (b : Bool). cond b (Some l.behind) None) is) ∙ e))
 
 same_next : (u w : Turn) (a b : Option Turn) → Next u a ≡ Next w b → (u ≡ w) × (a ≡ b)
 same_next u w a b e = (cc e, cc e)

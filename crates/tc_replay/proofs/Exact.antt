@@ -4,6 +4,7 @@ use Rattle.std.specs.Prelude.{Option, Some, None, is_some, if◌then◌else◌}
 use Rattle.std.specs.Int.{bit_at}
 use Rattle.std.proofs.lemmas.Bool.Decides.{eqb_tells}
 use Rattle.std.proofs.lemmas.Nat.Bits.{same_from_bits_below, bit_at-lt}
+use Rattle.tc_journal.proofs.Batching.{of_lock-more}
 use Rattle.tc_isa.specs.Sets.{has}
 use Rattle.tc_isa.proofs.SetLemmas.{has_above}
 use Rattle.tc_elf.specs.Shown.{Shown}
@@ -28,7 +29,7 @@ use Rattle.tc_law.specs.History.{Follows, StateFollows, Grows}
 use Rattle.tc_law.proofs.Following.{grown, obeyed, blocks_are}
 use Rattle.tc_replay.specs.Rejected.{IsBlockOf, IsOfKind}
 use Rattle.tc_replay.specs.Run.{HaveSameTurns, IsGrantedFor}
-use Rattle.tc_replay.proofs.Telling.{runs_one, of_lock_push, obeys_last}
+use Rattle.tc_replay.proofs.Telling.{runs_one, obeys_last}
 
 -- the last block of a history stands behind the others
 pub tells_last : (image : Shown) (seen h : List Block) (from last : State) (b : Block) → TellsAfter image seen from (h ++ b ∷ []) last → Stands image (seen ++ h) (led_to image from h) b last
@@ -196,7 +197,7 @@ module _ (image : Shown) (fuel limit : ℕ) (h : List Block) (p v : PackageView)
       held = of.held k ∙ ap (λ o. locks_of_block d.held o k) next ∙ ap (λ v. v || d.held k) (eq_self k)
 
       pushed : of_lock (h ++ b ∷ []) k ≡ of_lock h k ++ b ∷ []
-      pushed = of_lock_push h b k true held
+      pushed = of_lock-more h b k true held
 
       obeys : Obeys k limit (of_lock h k ++ b ∷ [])
       obeys = subst (Obeys k limit) pushed (kind.obeys k held)

@@ -3,6 +3,7 @@ use Rattle.std.proofs.Common.{◌≡◌, ◌≢◌, ◌⊎◌, ℕ, ◌<◌, ◌
 use Rattle.std.specs.Prelude.{Option, Some, None, is_some, if◌then◌else◌}
 use Rattle.std.specs.Option.{option_map}
 use Rattle.std.proofs.lemmas.Bool.Decides.{eqb_tells}
+use Rattle.tc_context.proofs.Staging.{same_set}
 use Rattle.tc_isa.specs.Sets.{has}
 use Rattle.tc_isa.specs.declared.limits.TheConstants.{MAX_TURNS}
 use Rattle.tc_isa.specs.declared.options.Options.{Options as Terms}
@@ -36,9 +37,6 @@ at_rest_kept image k l x same rest = (rests_kept image k l).0 (subst (IsAtRest i
 was_there : (old new : List (Option LockView)) → SameLocks old new → (k : ℕ) (l : LockView) → lock_in new k ≡ Some l → (x : LockView) × (lock_in old k ≡ Some x) × (kept l ≡ kept x)
 was_there old new same k l e = map_some kept (lock_in old k) (kept l) (sym (same k) ∙ ap (option_map kept) e)
 
-same_some : (old new : List (Option LockView)) → SameLocks old new → (k : ℕ) → is_some (lock_in new k) ≡ is_some (lock_in old k)
-same_some old new same k = sym (some_map kept (lock_in new k)) ∙ ap is_some (same k) ∙ some_map kept (lock_in old k)
-
 none_of : (o : Option LockView) → is_some o ≡ false → o ≡ None
 none_of None e = refl
 none_of (Some l) e = absurd (cc)
@@ -48,7 +46,7 @@ module _ (image : Shown) (terms : Terms) (before : Before) (home room : List (Op
   thread_same = ap (λ (x : PackageView). x.context.thread) roomier.rest
 
   set_same : (k : ℕ) → set_of q.context k ≡ set_of p.context k
-  set_same k = same_some p.context.locks q.context.locks roomier.locks k
+  set_same k = same_set p.context.locks q.context.locks roomier.locks k
 
   pub roomier_with : IsWith image terms before room q
   roomier_with = record {
@@ -63,7 +61,7 @@ module _ (image : Shown) (terms : Terms) (before : Before) (home room : List (Op
     pending = ap (λ (x : PackageView). x.pending) roomier.rest ∙ at.pending;
     others = λ u x ne e. at.others u x (λ s. ne (s ∙ sym thread_same)) e;
     home_is = λ k l e. (let x = was_there home room same k l e in let is = at.home_is k x.0 x.1 in record { rest = at_rest_kept image k l x.0 x.2 is.rest; place = subst (StandsAt before.states k) (sym x.2) is.place });
-    owned = λ k lt e. ⊎_elim (λ here. inl (set_same k ∙ here)) (λ owns. inr owns) (at.owned k lt (none_of (lock_in home k) (sym (same_some home room same k) ∙ ap is_some e)));
+    owned = λ k lt e. ⊎_elim (λ here. inl (set_same k ∙ here)) (λ owns. inr owns) (at.owned k lt (none_of (lock_in home k) (sym (same_set home room same k) ∙ ap is_some e)));
   }
 
   pub roomier_calm : IsCalm p → IsCalm q

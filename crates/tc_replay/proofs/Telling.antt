@@ -2,6 +2,7 @@
 use Rattle.std.proofs.Common.{◌≡◌, ℕ, ◌-◌, ◌<◌, Bool, true, false, ◌⊎◌, List, [], ◌∷◌, ◌++◌, refl, sym, ap, subst, ◌∙◌, arith, append_assoc, append-nil, inl, inr}
 use Rattle.std.specs.Prelude.{Option, Some, None, All, if◌then◌else◌}
 use Rattle.std.proofs.lemmas.List.Elements.{filter-append, All-nil, All-cons, All-head, All-tail}
+use Rattle.tc_journal.proofs.Batching.{of_lock-more}
 use Rattle.tc_isa.specs.Sets.{has}
 use Rattle.tc_isa.specs.declared.options.Options.{Options as Terms}
 use Rattle.tc_elf.specs.Shown.{Shown}
@@ -49,9 +50,6 @@ pub led_push : (image : Shown) (m : State) (h : List Block) (b : Block) → led_
 led_push image m [] b = refl
 led_push image m (x ∷ h) b = led_push image (reach image m x.thread x.turns) h b
 
-pub of_lock_push : (h : List Block) (b : Block) (k : ℕ) (v : Bool) → has b.held k ≡ v → of_lock (h ++ b ∷ []) k ≡ of_lock h k ++ (if v then b ∷ [] else [])
-of_lock_push h b k v e = filter-append (λ (c : Block). has c.held k) h (b ∷ []) ∙ ap (λ w. of_lock h k ++ (if w then b ∷ [] else [])) e
-
 obeys_front : (lock limit : ℕ) (before xs ys : List Block) → ObeysAfter lock limit before (xs ++ ys) → ObeysAfter lock limit before xs
 obeys_front lock limit before [] ys obeys = tt
 obeys_front lock limit before (x ∷ xs) ys obeys = (obeys.0, obeys_front lock limit (before ++ x ∷ []) xs ys obeys.1)
@@ -83,7 +81,7 @@ module _ (image : Shown) (terms : Terms) where
     where
       by : (v : Bool) → has b.held k ≡ v → Obeys k terms.limit (of_lock (h ++ b ∷ []) k)
       by true e = right.kind.obeys k e
-      by false e = subst (Obeys k terms.limit) (sym (of_lock_push h b k false e ∙ append-nil (of_lock h k))) (obeys k)
+      by false e = subst (Obeys k terms.limit) (sym (of_lock-more h b k false e ∙ append-nil (of_lock h k))) (obeys k)
 
   right_tells : (seen h : List Block) → AreRightAfter image terms seen h → TellsAfter image seen (led_to image from seen) h (led_to image from (seen ++ h))
   right_tells seen [] right = ap (led_to image from) (sym (append-nil seen))

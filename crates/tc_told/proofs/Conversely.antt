@@ -7,6 +7,7 @@ use Rattle.std.proofs.lemmas.Bool.Decides.{nat_tests, eqb_tells}
 use Rattle.std.specs.List.{range_with_len}
 use Rattle.std.proofs.lemmas.List.{map-append}
 use Rattle.std.proofs.lemmas.List.Elements.{All-append, All-cons, All-nil}
+use Rattle.tc_journal.proofs.Batching.{obeys-more, passes-more}
 use Rattle.tc_isa.specs.Sets.{has}
 use Rattle.tc_elf.specs.Shown.{Shown}
 use Rattle.tc_journal.specs.Batch.{is_section, is_lock, begins, ends_section, may_follow, passes_on, Obeys, ObeysAfter, PassesOn, PassesOnAfter}
@@ -39,18 +40,6 @@ use Rattle.tc_told.proofs.Committed.{IsNext, begins_is, keeps, lock_in, lock_out
 use Rattle.tc_told.proofs.Standing.{Stand, stand_of, is_fresh, of_one, IsLockAt, stays_so, closed_so, may_so}
 use Rattle.tc_told.proofs.Small.{known_start, known_tells, block_small}
 use Rattle.tc_told.proofs.Ruled.{IsThreadAt, Ruled, thread_still, moved, on_turn, on_enter, on_take, on_adopt, on_grant, on_leave, on_free}
-
--- the batch rule over one block more
-obeys-more : (lock limit : ℕ) (before bs : List Block) (b : Block) → ObeysAfter lock limit before bs → may_follow lock limit (before ++ bs) b ≡ true → ObeysAfter lock limit before (bs ++ b ∷ [])
-obeys-more lock limit before [] b obeys next = (rw append-nil at next, tt)
-obeys-more lock limit before (x ∷ bs) b obeys next =
-    (obeys.0, obeys-more lock limit (before ++ x ∷ []) bs b obeys.1 (subst (λ xs. may_follow lock limit xs b ≡ true) (sym (append_assoc before (x ∷ []) bs)) next))
-
--- and passing on
-passes-more : (lock : ℕ) (before bs : List Block) (b : Block) → PassesOnAfter lock before bs → passes_on lock (before ++ bs) b ≡ true → PassesOnAfter lock before (bs ++ b ∷ [])
-passes-more lock before [] b passes next = (rw append-nil at next, tt)
-passes-more lock before (x ∷ bs) b passes next =
-    (passes.0, passes-more lock (before ++ x ∷ []) bs b passes.1 (subst (λ xs. passes_on lock xs b ≡ true) (sym (append_assoc before (x ∷ []) bs)) next))
 
 -- one stamp more
 ordered-more : (a : ℕ) (h : List Block) (b : Block) → map (λ (c : Block). c.stamp) h ≡ range_with_len a (length h) → b.stamp ≡ a + length h

@@ -6,6 +6,7 @@ use Rattle.std.proofs.lemmas.Bool.Decides.{eqb_tells}
 use Rattle.std.proofs.lemmas.List.Elements.{All-cons, All-nil}
 use Rattle.std.proofs.lemmas.Nat.{pow_pos, and_le_l}
 use Rattle.std.proofs.lemmas.Nat.Bits.{same_from_bits, bit_at_and, bit_at_ones, bit_at_ones_above, bit_at-lt}
+use Rattle.std.proofs.lemmas.Bool.{cases_lt}
 use Rattle.tc_isa.specs.Sets.{has}
 use Rattle.tc_elf.specs.Shown.{Shown}
 use Rattle.tc_journal.specs.declared.block.Block.{Block}
@@ -26,13 +27,10 @@ IsSmall b = b.held < 2 ^ 32
 abbrev pub HoldKnown : Shown → State → Type 0
 HoldKnown image m = (t k : ℕ) → (m.threads t).held k ≡ true → k < length image.guards
 
-or_past : (a b : ℕ) → (a < b) ⊎ (b ≤ a)
-or_past a b = grind arith
-
 -- a number without bits from the place w on
 below_from_bits : (w n : ℕ) → ((i : ℕ) → w ≤ i → bit_at n i ≡ 0) → n < 2 ^ w
 below_from_bits w n none =
-    let same : n ≡ bit_and (2 ^ w - 1) n = same_from_bits n (bit_and (2 ^ w - 1) n) (λ i. elim (or_past i w) [
+    let same : n ≡ bit_and (2 ^ w - 1) n = same_from_bits n (bit_and (2 ^ w - 1) n) (λ i. elim (cases_lt i w) [
       | inl lt ↦ omega (arith, bit_at_and (2 ^ w - 1) n i, bit_at_ones w i lt, bit_at-lt n i)
       | inr le ↦ omega (arith, bit_at_and (2 ^ w - 1) n i, bit_at_ones_above w i le, none i le)
     ]) in

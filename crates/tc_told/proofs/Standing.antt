@@ -11,7 +11,7 @@ use Rattle.tc_journal.specs.Batch.{is_section, is_adopted, is_passed, is_lock, b
 use Rattle.tc_journal.specs.declared.block.Block.{Block}
 use Rattle.tc_journal.specs.declared.block.Kind.{Kind}
 use Rattle.tc_journal.specs.declared.block.Kind.TheVariants as kind
-use Rattle.tc_journal.proofs.Batching.{last_more}
+use Rattle.tc_journal.proofs.Batching.{last_more, run_from-more}
 use Rattle.tc_turn.specs.Turn.{next_lock}
 use Rattle.tc_mutex_spec.specs.Machine.{State}
 use Rattle.tc_mutex_spec.proofs.BlocksAlike.{eq_self}
@@ -24,7 +24,7 @@ use Rattle.tc_core.specs.Lines.{is_in_line, is_first, is_second, rest_of}
 use Rattle.tc_core.specs.Core.{is_free_lock, is_granted, is_loose, is_number, with_of}
 use Rattle.tc_core.specs.Events.{custody_past, entered, taken_by, passed_to, left_by_all, freed}
 use Rattle.tc_told.specs.Written.{Written}
-use Rattle.tc_told.proofs.Custodies.{run-more, past_held, past_loose}
+use Rattle.tc_told.proofs.Custodies.{past_held, past_loose}
 
 -- what matters of a thread: the turns of its block, the lock that its next turn takes, the one that the first turn of its block
 -- takes, and how the block begins
@@ -397,7 +397,7 @@ module _ (limit k : ℕ) (bs : List Block) (at : ℕ → Stand) (x : Custody) (i
           go (Loose w) h e each r = absurd (cc)
 
       streak : x.run ≡ run_of k (bs ++ b ∷ [])
-      streak = go (is_fresh k (at t)) refl with_t.3 ∙ sym (run-more k 0 bs b)
+      streak = go (is_fresh k (at t)) refl with_t.3 ∙ sym (run_from-more k 0 bs b)
         where
           go : (v : Bool) → is_fresh k (at t) ≡ v → Taken limit k bs (at t).kind t x.run v → x.run ≡ run_after k (run_of k bs) b
           go true e r = r.run ∙ (λ i. if sym (begin ∙ e) i then (if is_adopted (sym kind_is i) then run_of k bs + 1 else 0) else run_of k bs)

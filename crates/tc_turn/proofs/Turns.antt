@@ -2,6 +2,7 @@
 use Rattle.std.proofs.Common.{◌≡◌, ◌≢◌, ◌⊎◌, ℕ, ◌<◌, Bool, true, false, length, ◌==◌, refl, sym, ap, ◌∙◌, arith, inl, inr}
 use Rattle.std.specs.Prelude.{if◌then◌else◌, unwrap_or, Option, Some, None}
 use Rattle.std.proofs.lemmas.Bool.Decides.{eqb_tells, nat_tests}
+use Rattle.std.proofs.lemmas.Bool.{false_from_ne_true}
 use Rattle.tc_isa.specs.Registers.{Registers}
 use Rattle.tc_isa.specs.declared.limits.TheConstants.{MAX_TURNS}
 use Rattle.tc_elf.specs.Shown.{Shown, guard_at}
@@ -127,13 +128,9 @@ mutex_still image t held (Some (Called (Sleep n) regs)) k l u = refl
 mutex_still image t held (Some (Called Exit regs)) k l u = rw u.out refl
 mutex_still image t held (Some (Faulted f)) k l u = rw u.out refl
 
-set_false : (b : Bool) → (b ≡ true → ⊥) → b ≡ false
-set_false true h = absurd (h refl)
-set_false false h = refl
-
 untouched : (image : Shown) (set : ℕ → Bool) (d : Thread) (answer k : ℕ) → Covers image set d → set k ≡ false → Untouched d.held (act_with image d answer) k
 untouched image set d answer k covers out = record {
-  out = set_false (d.held k) (λ h. let s = covers.held k h in cc);
+  out = false_from_ne_true (d.held k) (λ h. let s = covers.held k h in cc);
   put = λ regs put lock e place. put_is_held image d.held d.regs answer regs put lock (act_some image d answer _ e) place;
   lock = λ regs e. let s = covers.next k (act_takes image d answer k regs e) in cc;
   unlock = λ regs lock e. unlock_is_held image d.held d.regs answer regs lock (act_some image d answer _ e);

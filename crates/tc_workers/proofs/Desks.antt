@@ -1,6 +1,6 @@
 -- A desk at work, through its calls.
 use Rattle.std.proofs.Common.{◌≡◌, ◌⊎◌, ⊎_elim, ℕ, ◌∷◌, ◌&&◌, Bool, true, false, List, [], ◌++◌, length, refl, sym, ap, ◌∙◌, subst, subst₂, append-nil, Option, Some, None}
-use Rattle.std.proofs.lemmas.Bool.{or_parts}
+use Rattle.std.proofs.lemmas.Bool.{or_parts, false_from_ne_true}
 use Rattle.std.proofs.lemmas.List.{length-set}
 use Rattle.tc_elf.specs.Shown.{Shown}
 use Rattle.tc_journal.specs.Batch.{last_of, unlocks}
@@ -184,13 +184,9 @@ front_true : (a b c : Bool) → (a && b && c) ≡ true → a ≡ true
 front_true true b c e = refl
 front_true false b c e = absurd (let no : ⊥ = cc in no)
 
-not_true : (b : Bool) → (b ≡ true → ⊥) → b ≡ false
-not_true false never = refl
-not_true true never = absurd (never refl)
-
 -- what stands together with a block that was not cut, was not cut
 uncut_too : (last before : Option Block) → AreTogether last before → was_cut before ≡ false → was_cut last ≡ false
-uncut_too last before both uncut = not_true (was_cut last) (λ e. let f : true ≡ false = sym e ∙ (ap was_cut (both.goes_on e) ∙ uncut) in let n : ⊥ = cc in n)
+uncut_too last before both uncut = false_from_ne_true (was_cut last) (λ e. let f : true ≡ false = sym e ∙ (ap was_cut (both.goes_on e) ∙ uncut) in let n : ⊥ = cc in n)
 
 -- a lock was taken from its home for it
 taken_next : (i n : ℕ) (l : LockView) (last : Option Block) (q p : PackageView) → was_cut last ≡ false → was_cut (last_of q.log) ≡ false → DidTake i l n q p → RunsBehind last p

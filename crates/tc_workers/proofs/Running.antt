@@ -2,6 +2,7 @@
 use Rattle.std.proofs.Common.{◌≡◌, ◌≢◌, ◌⊎◌, ⊎_elim, inl, inr, ℕ, ◌==◌, ◌||◌, Bool, true, false, if◌then◌else◌, List, [], ◌∷◌, get_or, refl, sym, ap, ◌∙◌, subst, arith, Option, Some, None}
 use Rattle.std.specs.Option.{option_map}
 use Rattle.std.proofs.lemmas.Bool.Decides.{eqb_tells}
+use Rattle.tc_mutex_spec.proofs.Going.{in_block}
 use Rattle.tc_isa.specs.Sets.{has}
 use Rattle.tc_elf.specs.Shown.{Shown}
 use Rattle.tc_journal.specs.Batch.{last_of}
@@ -82,12 +83,6 @@ module _ (p q : PackageView) (r : IsRoomier p q) where
 
 -- ---- a block
 
-pub is_running_is : (s : Status) → is_running s ≡ true → s ≡ Running
-is_running_is Running e = refl
-is_running_is Exited e = absurd (cc)
-is_running_is (Faulted f) e = absurd (cc)
-is_running_is SpentFuel e = absurd (cc)
-
 -- the desk may seal it
 pub may_commit : (d : DeskView) (p n : PackageView) → HasOut d.pass.knows (Pack p ∷ packed d.aside) → fits_of p d.pass.knows.worker ≡ true → DidRun d.pass.knows.image p n → HandsPending d.pass.knows n → AreTogether (last_by d.pass.knows) (last_of p.log) → MayCommit d n
 may_commit d p n out fits ran handed both = record {
@@ -104,9 +99,9 @@ same_bools true b to from = sym (to refl)
 same_bools false true to from = from refl
 same_bools false false to from = refl
 
-in_block : (held : ℕ → Bool) (next : Option ℕ) (i : ℕ) → (held i ≡ true) ⊎ (next ≡ Some i) → locks_of_block held next i ≡ true
-in_block held None i h = ⊎_elim (λ (e : held i ≡ true). e) (λ (e : None ≡ Some i). absurd (none_some None i refl e)) h
-in_block held (Some k) i h = either (i == k) (held i) (⊎_elim (λ (e : held i ≡ true). inr e) (λ (e : Some k ≡ Some i). inl (ap (λ (z : ℕ). i == z) (same k i e) ∙ same_number i)) h)
+into_block : (held : ℕ → Bool) (next : Option ℕ) (i : ℕ) → (held i ≡ true) ⊎ (next ≡ Some i) → locks_of_block held next i ≡ true
+into_block held None i h = ⊎_elim (λ (e : held i ≡ true). e) (λ (e : None ≡ Some i). absurd (none_some None i refl e)) h
+into_block held (Some k) i h = either (i == k) (held i) (⊎_elim (λ (e : held i ≡ true). inr e) (λ (e : Some k ≡ Some i). inl (ap (λ (z : ℕ). i == z) (same k i e) ∙ same_number i)) h)
   where
     same : (k i : ℕ) → Some k ≡ Some i → k ≡ i
     same k i e = cc e
@@ -114,13 +109,6 @@ in_block held (Some k) i h = either (i == k) (held i) (⊎_elim (λ (e : held i 
     either : (a b : Bool) → (a ≡ true) ⊎ (b ≡ true) → (a || b) ≡ true
     either true b h = refl
     either false b h = ⊎_elim (λ (e : false ≡ true). absurd (cc e)) (λ (e : b ≡ true). e) h
-
-of_block : (held : ℕ → Bool) (next : Option ℕ) (i : ℕ) → locks_of_block held next i ≡ true → (held i ≡ true) ⊎ (next ≡ Some i)
-of_block held None i h = inl h
-of_block held (Some k) i h = ⊎_elim
-    (λ (z : ((i == k) ≡ true) × (i ≡ k)). inr (ap (λ (n : ℕ). Some n) (sym z.1)))
-    (λ (z : ((i == k) ≡ false) × (i ≢ k)). inl (sym (ap (λ (b : Bool). b || held i) z.0) ∙ h))
-    (eqb_tells i k)
 
 module _ (image : Shown) (p : PackageView) (is : p.image ≡ image) (sound : IsSoundPackage p) (own : HasNoOther p) (runs : Runs p) (want : WantIsGranted image p) where
   granted_tells : (i : ℕ) (o : Option Grant) → MayTake p.image p.context o → granted_lock o ≡ Some i → (next_lock image (thread_in p.context) ≡ Some i) × (set_of p.context i ≡ true)
@@ -132,12 +120,12 @@ module _ (image : Shown) (p : PackageView) (is : p.image ≡ image) (sound : IsS
   block_has i = same_bools (set_of p.context i) (block_locks image p.context i)
       (λ here.
       let l = some_of (lock_in p.context.locks i) here in
-      in_block (has p.context.guest.held) (next_lock image (thread_in p.context)) i
+      into_block (has p.context.guest.held) (next_lock image (thread_in p.context)) i
       (⊎_elim (λ (e : has p.context.guest.held i ≡ true). inl e) (λ (e : granted_lock p.granted ≡ Some i). inr (granted_tells i p.granted sound.grant e).0) (own i l.0 l.1)))
       (λ mine. ⊎_elim
       (λ (e : has p.context.guest.held i ≡ true). sound.held i e)
       (λ (e : next_lock image (thread_in p.context) ≡ Some i). (granted_tells i p.granted sound.grant (want i (ap (λ (b : Bool). if b then next_lock image (thread_in p.context) else None) runs ∙ e))).1)
-      (of_block (has p.context.guest.held) (next_lock image (thread_in p.context)) i mine))
+      (in_block (has p.context.guest.held) (next_lock image (thread_in p.context)) i mine))
 
   pub may_settle : (worker stamp : ℕ) (end : End) (n : PackageView) → DidRun image p n → HasBlock (λ b. b.end ≡ end) n.pending → MaySettle image worker end (with_seal stamp worker n)
   may_settle worker stamp end n ran ended =
