@@ -128,8 +128,8 @@ def guest(seed: int) -> tuple[bytes, int]:
     """The file of a guest, and its fuel."""
     chance = random.Random(seed)
     threads, locks = chance.choice(((2, 1), (2, 2), (2, 3), (3, 1), (3, 2), (3, 3), (2, 3), (3, 3)))
-    words: list[Any]
-    words, entries = [], []
+    words: list[int] = []
+    entries = []
     for thread in range(threads):
         entries.append((made.CODE + 4 * len(words), chance.randrange(9)))
         words += [encode("lui", BASE, made.DATA), encode("addi", NOTED, 10, 0)]
@@ -169,9 +169,9 @@ def end_of(machine: model.Machine) -> rules.End:
 def plain(file: bytes, fuel: int) -> tuple[dict[rules.End, int], int]:
     """Every end with the least number of blocks that lead to it, and how many states there are."""
     machine = model.Machine(model.Guest(file), fuel)
-    ends: dict[Any, Any]
-    seen: set[Any]
-    now, seen, ends, blocks = {key(machine): machine}, set(), {}, 0
+    ends: dict[rules.End, int] = {}
+    seen: set[Any] = set()
+    now, blocks = {key(machine): machine}, 0
     while now:
         after: dict[Any, Any] = {}
         for machine in now.values():

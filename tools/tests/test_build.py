@@ -117,7 +117,3 @@ class Version(unittest.TestCase):
         self.assertRegex(said, rf"^tclocks {re.escape(named)}( \(.+\))?\n$")
         self.assertTrue(f"version {named}" in (ROOT / "README.md").read_text(), named)
         self.assertRegex((ROOT / "CHANGELOG.md").read_text(), rf"(?m)^## {re.escape(named)}$")
-
-
-if __name__ == "__main__":
-    unittest.main()

@@ -238,7 +238,3 @@ class Rules(unittest.TestCase):
         for words in FORMS:
             done = subprocess.run([program, *words.split()], stdin=subprocess.DEVNULL, capture_output=True, check=False)
             self.assertNotEqual(done.returncode, 1, words)
-
-
-if __name__ == "__main__":
-    unittest.main()

@@ -1,19 +1,17 @@
-"""The course: the tool run, the guests of the exercises, the histories and guests of the answers, and the commands
-that the pages name."""
+"""The course: the tool run, the guests of the exercises, the histories and guests of the answers, and a
+history of the page."""
 from __future__ import annotations
 
 from pathlib import Path
 import re
 import shutil
 import subprocess
-import unittest
 
 from tools.workbench.guest import guestfile
 from tools.workbench.running import delegation
-from .common import COURSE, GUESTS, ROOT, TEMPORARY, Case, elf, run, saved, with_program
+from .common import COURSE, GUESTS, ROOT, TEMPORARY, Case, elf, run, saved, script
 
 ANSWERS = ROOT / "docs" / "answers"
-PAGES = (ROOT / "docs" / "TEACHING.md", ANSWERS / "README.md")
 BUILT = [COURSE / f"{name}.elf" for name in ("hot", "pair", "queue")] + [ANSWERS / f"{name}.elf" for name in ("pair", "queue")]
 
 
@@ -23,38 +21,28 @@ class Run(Case):
     def test_it_is_what_simulate_prints(self) -> None:
         for words, seed in ((("1", "42", "0"), "0"), (("4", "20000", "8"), "3")):
             done = run("run", elf("first"), *words, "--seed", seed)
-            self.assertEqual(done.stdout, run("simulate", elf("first"), *words, "--seed", seed).stdout)
+            self.assertEqual(done.stdout.decode(), self.well("simulate", elf("first"), *words, "--seed", seed))
             self.one_line(done, 0)
             self.says("by the model", done)
 
     def test_the_program_where_it_is_built(self) -> None:
-        root = with_program("echoing", '#!/bin/sh\necho "$@"\nwc -c\nexit 0\n')
-        done = run("run", elf("exit"), "2", "100", "8", root=root)
+        by = script("echoing", '#!/bin/sh\necho "$@"\nwc -c\nexit 0\n')
+        done = run("run", elf("exit"), "2", "100", "8", by=by)
         self.assertEqual((done.returncode, done.stdout), (0, b"run 2 100 8\n92\n"))
         self.assertEqual(done.stderr, b"workbench run: by the program\n")
-        self.says("by the model", run("run", elf("exit"), "2", "100", "8", "--seed", "1", root=root))
+        self.says("by the model", run("run", elf("exit"), "2", "100", "8", "--seed", "1", by=by))
 
     def test_statuses_of_the_program_are_passed_on(self) -> None:
         for status in (3, 4, 5, 7):
-            root = with_program(f"status-{status}", f"#!/bin/sh\necho refused 1 TooShort\nexit {status}\n")
-            done = run("run", elf("exit"), "1", "1", "0", root=root)
+            by = script(f"status-{status}", f"#!/bin/sh\necho refused 1 TooShort\nexit {status}\n")
+            done = run("run", elf("exit"), "1", "1", "0", by=by)
             self.assertEqual((done.returncode, done.stdout, done.stderr.count(b"\n")), (status, b"refused 1 TooShort\n", 2))
 
     def test_a_refused_file(self) -> None:
         done = run("run", saved("short.elf", b"short"), "1", "1", "0", "--seed", "0")
         self.assertEqual(done.stdout, b"refused 1 TooShort\n")
         self.one_line(done, 3)
-
-    def test_wrong_uses(self) -> None:
-        for words in ((), (elf("first"),), (elf("first"), "1", "1"), (elf("first"), "0", "1", "0"),
-                      (elf("first"), "1", "65537", "0"), (elf("first"), "1", "1", "257"), (elf("first"), "1", "1", "0", "0"),
-                      (elf("first"), "1", "1", "0", "--seed", "x"), (elf("first"), "1", "1", "0", "--model"), (elf("first"), "1", "1", "0", "--nodes", "2", "0"),
-                      (elf("first"), "1", "1", "0", "--nodes", "0", "1"), (elf("first"), "1", "1", "0", "--nodes", "1")):
-            self.one_line(run("run", *words), 1)
-        self.one_line(run("run", "/no/such/file", "1", "1", "0"), 2)
-        with open("/dev/full", "wb") as full:
-            done = run("run", elf("first"), "1", "100", "0", "--seed", "0", stdout=full)
-        self.assertEqual((done.returncode, done.stderr.count(b"\n")), (4, 2))
+        self.full("run", elf("first"), "1", "100", "0", "--seed", "0", lines=2)
 
 
 def words_of(path: Path, text: bytes) -> list[list[int]]:
@@ -79,17 +67,12 @@ class Guests(Case):
         for folder, name, wanted in ((COURSE, "pair", [[6], [3], [3], [1, 0]]), (COURSE, "queue", [[6], [63, 4]]),
                                      (ANSWERS, "pair", None)):
             guest = folder / f"{name}.elf"
-            done = run("finish", guest, ANSWERS / f"{name}.txt", "--on")
-            self.assertEqual((done.returncode, done.stderr), (0, b""))
-            found = words_of(guest, done.stdout)
+            found = words_of(guest, self.well("finish", guest, ANSWERS / f"{name}.txt", "--on").encode())
             self.assertEqual(found[3][0] == found[3][1] if wanted is None else found, wanted or True)
         # With the lock of the desk taken first, the others can't draw before customer 0 is served.
-        self.one_line_behind("would take lock 0, which thread 0 has", ANSWERS / "queue.elf", ANSWERS / "queue.txt")
-
-    def one_line_behind(self, text: str, guest: Path, history: Path) -> None:
-        done = run("finish", guest, history)
+        done = run("finish", ANSWERS / "queue.elf", ANSWERS / "queue.txt")
         self.assertEqual(done.returncode, 3)
-        self.says(text, done)
+        self.says("would take lock 0, which thread 0 has", done)
 
     def test_delegation_of_the_queues(self) -> None:
         """Under the desk's lock nothing is adopted of the numbers' lock, and nothing granted of the desk's."""
@@ -114,7 +97,7 @@ class Guests(Case):
 class Pages(Case):
     def test_history_on_nodes(self) -> None:
         """It is legal, and its sections stand as a line picks them with the bound 2, and with no other."""
-        text = re.search(r"(?s)```\n(tclocks 2\nguest threads 8 .*?)```", PAGES[0].read_text())[1]  # type: ignore[index]
+        text = re.search(r"(?s)```\n(tclocks 2\nguest threads 8 .*?)```", (ROOT / "docs" / "TEACHING.md").read_text())[1]  # type: ignore[index]
         self.says("legal so far, 16 blocks", run("judge", elf("counter"), given=text))
         found = re.findall(r"thread (\d) .* kind adopted worker 0 ", text)
         for bound in range(6):
@@ -129,12 +112,3 @@ class Pages(Case):
                     break
                 hall.line[0].remove(chosen)
             self.assertEqual(str(chosen) == found[-1], bound == 2, bound)
-
-    def test_links(self) -> None:
-        for page in PAGES:
-            for link in re.findall(r"\]\(([^)#:]+)[)#]", page.read_text()):
-                self.assertTrue((page.parent / link).exists(), (page, link))
-
-
-if __name__ == "__main__":
-    unittest.main()

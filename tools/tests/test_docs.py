@@ -1,17 +1,26 @@
 """What the pages show of runs of the program: the reports that are kept beside the pictures are legal,
-and pictures, excerpts and tables are those of these reports."""
+pictures, excerpts and tables are those of these reports, and the commands that the pages name run."""
 from __future__ import annotations
 
 import csv
+import os
 from pathlib import Path
 import re
+import shutil
 import subprocess
-import unittest
 
-from .common import GUESTS, ROOT, TEMPORARY, Case, elf, run
+from tools.workbench import command
+from .common import GUESTS, MADE_UP, ROOT, TEMPORARY, Case, elf, run, script
 
 DOCS = ROOT / "docs"
 PICTURES = DOCS / "pictures"
+PAGES = [*ROOT.glob("*.md"), *DOCS.rglob("*.md"), GUESTS / "README.md", ROOT / "bench" / "README.md"]
+BEGINS = re.compile(r"\(?(cat|for|make|done|echo) ?|\./(workbench|tclocks)[ -]|  |$")
+LEFT_OUT = re.compile(r"\./tclocks-build|\./workbench (check|fuzz|refuse|endure|facts|bench)\b|\brt |make .*(-B|CC=)|PATH/TO|\.\.(?!/)"
+                      r"|\b(GUEST|REPORT|FOLDER|FILE|HISTORY|RULE|NAME|W F B|G K)\b|apt-get|git |sums$|same$|\[|tclocks (demo|gen|nodes)|(?<!/)my\.elf"
+                      r"|^\./(workbench|tclocks) [a-z]+$|^\./workbench judge \S+$|1 F B")
+MANY = re.compile(r"--runs \d{2,}")
+COMPILER = shutil.which("riscv64-unknown-elf-gcc")
 KEPT = {"counter": "counter", "philosophers": "philosophers", "first": "first", "first-alone": "first"}
 
 
@@ -25,15 +34,6 @@ class Kept(Case):
         subprocess.run([PICTURES / "make", TEMPORARY], check=True, stderr=subprocess.DEVNULL)
         for name in (*KEPT, "overview", "stays", "sweep"):
             self.assertEqual((PICTURES / f"{name}.svg").read_bytes(), (TEMPORARY / f"{name}.svg").read_bytes(), name)
-
-    def test_table_of_data_that_stays(self) -> None:
-        """Its numbers are those of the command that the page gives."""
-        page = (DOCS / "TEACHING.md").read_text()
-        command = re.search("^./workbench (sweep guests/course/hot.elf .*) --strips my.svg$", page, re.M)[1].split()  # type: ignore[index]
-        rows = list(csv.DictReader(run(command[0], ROOT / command[1], *command[2:]).stdout.decode().splitlines()))
-        lines = [f"| {row['batch']} | {int(row['taken']):,} | {int(row['adopted']):,} | {int(row['granted']):,} | "
-                 f"{int(row['changes']):,} times | {int(row['away']):,} |" for row in rows]
-        self.assertIn("\n".join(lines), page)
 
     def test_lines_of_the_delegated_history(self) -> None:
         page = (DOCS / "TEACHING.md").read_text()
@@ -67,10 +67,8 @@ def anchors(page: Path) -> list[str]:
 
 class Pages(Case):
     def test_links_lead_somewhere(self) -> None:
-        root = DOCS.parent
-        pages = [*root.glob("*.md"), *DOCS.glob("*.md"), *GUESTS.glob("*.md"), *root.glob("bench/*.md"), *root.glob("tools/*.md")]
-        self.assertGreater(len(pages), 12)
-        for page in pages:
+        self.assertGreater(len(PAGES), 12)
+        for page in PAGES:
             text = re.sub(r"(?s)```.*?```", "", page.read_text())
             for target in re.findall(r"\]\(([^)\s]+)\)", text):
                 if "://" in target:
@@ -87,5 +85,63 @@ class Pages(Case):
         self.assertTrue(6 <= rows <= 12, rows)
 
 
-if __name__ == "__main__":
-    unittest.main()
+def fewer(text: str) -> str:
+    """A command with fewer samples, and a sweep with one short run of each."""
+    sweep = r"\./workbench sweep \S+(?!.*--strips)"
+    return MANY.sub("--runs 4", re.sub(f"({sweep})", r"\1 --fuel 2000" + " --runs 1" * ("--runs" not in text), text))
+
+
+def commands_of(page: Path) -> list[str]:
+    """The commands of a page, in their order: whole listings of commands, and what stands in a line."""
+    found = []
+    for listing, inline in re.findall(r"(?s)```[^\n]*\n(.*?)```|`([^`\n]*)`", page.read_text()):
+        lines = listing.splitlines()
+        if listing and all(BEGINS.match(line) for line in lines) and any("./" in line or line.startswith("make") for line in lines):
+            found += [listing] if re.search(r"(?m)^(for|done|limit)|\\$|\|$|\|\n", listing) else lines
+        elif re.match(r"(\(cat [^)]*\) \| )?\./(workbench|tclocks) \w|make -", inline):
+            found.append(inline)
+    return found
+
+
+class Commands(Case):
+    """Every command that the pages, the course and its answers name runs as it is written, in a checkout of its own, beside
+    a program that is made up and answers by the model. What wants the proved program, the toolchain or hours, or has a word
+    in capitals for something of the reader's, is looked at for its subcommand alone; of many samples a few are made."""
+
+    def test_each_subcommand_that_is_named_is_there(self) -> None:
+        names = {name for name in command.EVERY}
+        for page in PAGES:
+            for words in re.findall(r"\./workbench ((?:bench )?[a-z]+)", page.read_text()):
+                self.assertIn(words, names | {"bench"}, page)
+
+    def table_of_data_that_stays(self, page: str, said: str) -> None:
+        """Its numbers are those of the command that the page gives."""
+        lines = [f"| {row['batch']} | {int(row['taken']):,} | {int(row['adopted']):,} | {int(row['granted']):,} | "
+                 f"{int(row['changes']):,} times | {int(row['away']):,} |" for row in csv.DictReader(said.splitlines())]
+        self.assertIn("\n".join(lines), page)
+
+    def test_they_run_as_they_are_written(self) -> None:
+        root = TEMPORARY / "commands"
+        for folder in "guests", "tools", "docs", "bench":
+            shutil.copytree(ROOT / folder, root / folder, ignore=shutil.ignore_patterns("out", "tests"))
+        for file in "workbench", "workbench.py":
+            shutil.copy(ROOT / file, root)
+        shutil.copy(script("tclocks", MADE_UP), root)
+        (root / "my").mkdir()
+        for name in "c", "elf":
+            shutil.copy(ROOT / "guests" / f"first.{name}", root / "my" / f"my.{name}")
+        count, seen = 0, set()
+        for page in PAGES:
+            for text in commands_of(page):
+                if text in seen or LEFT_OUT.search(text) or not COMPILER and "make" in text:
+                    continue
+                seen.add(text)
+                with self.subTest(page=page.name, command=text):
+                    done = subprocess.run(["sh", "-c", fewer(text)], cwd=root, stdin=subprocess.DEVNULL, stdout=subprocess.PIPE,
+                                          stderr=subprocess.PIPE, check=False, timeout=300, env={**os.environ, "HOME": str(TEMPORARY)})
+                    self.assertEqual(done.returncode, 0, done.stderr.decode()[-300:])
+                    self.assertNotIn(b"Traceback", done.stderr)
+                if "hot.elf" in text and "--strips" in text:
+                    self.table_of_data_that_stays(page.read_text(), done.stdout.decode())
+                count += 1
+        self.assertGreater(count, 40)

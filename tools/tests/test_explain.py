@@ -4,7 +4,6 @@ from __future__ import annotations
 
 import re
 from subprocess import CompletedProcess
-import unittest
 
 from tools.workbench.guest import guestfile, sources
 from tools.workbench.judging import legal, tracing
@@ -36,10 +35,6 @@ class Filters(Case):
                               (("--trace", "1.5"), 1)):
             done = explained(*words)
             self.one_line(done, status)
-
-    def test_choices_without_a_report(self) -> None:
-        for words in (("--thread", "0"), ("--trace", "1"), ("--contexts",)):
-            self.one_line(run("explain", elf("first"), *words), 1)
 
 
 class Traces(Case):
@@ -92,7 +87,3 @@ class Contexts(Case):
         said = run("explain", elf("philosophers"), "-", "--contexts", given=text).stdout.decode()
         self.assertRegex(said, r"context of thread \d .*; in its package lock \d, 8 bytes")
         self.assertRegex(said, r"\d+ bytes of stack in use")
-
-
-if __name__ == "__main__":
-    unittest.main()

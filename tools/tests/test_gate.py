@@ -69,7 +69,3 @@ class Gate(unittest.TestCase):
         done = subprocess.run(["sh", "-c", 'cd / && bash "$0" <&-', self.root / ".ci" / "run"], stdout=subprocess.PIPE, check=False,
                               env={**os.environ, "PATH": str(self.root / "bin")}, text=True)
         self.assertEqual((done.returncode, done.stdout.splitlines()[-1]), (0, "11 passed, 0 failed"))
-
-
-if __name__ == "__main__":
-    unittest.main()

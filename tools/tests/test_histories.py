@@ -4,7 +4,6 @@ from __future__ import annotations
 import json
 import re
 from subprocess import CompletedProcess
-import unittest
 
 from tools.workbench.guest import guestfile, model
 from tools.workbench.reports import report
@@ -237,7 +236,3 @@ class Delegation(Case):
         for name in NAMES:
             run_, _ = delegation.delegated(guestfile.load(elf(name)).guest, 20000, 4, 2, 7)
             self.assertEqual(list(model.differences(facts[name], run_.machine)), [])
-
-
-if __name__ == "__main__":
-    unittest.main()

@@ -17,7 +17,3 @@ class Values(unittest.TestCase):
             for name, value in zip(heading.split(",")[2:], values):
                 said = model.OPERATIONS[name](a, b)
                 self.assertEqual(said % 2**32, value, f"{name} of {a:08x} and {b:08x}")
-
-
-if __name__ == "__main__":
-    unittest.main()

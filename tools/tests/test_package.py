@@ -5,7 +5,6 @@ import ast
 import pathlib
 import subprocess
 import sys
-import unittest
 
 from tools.workbench import command
 from .common import GUESTS, ROOT, Case, elf, run
@@ -45,13 +44,6 @@ class Launcher(Case):
         self.assertEqual(subprocess.run([sys.executable, "-m", "workbench", "--help"], cwd=ROOT, stdout=subprocess.PIPE,
                                         check=True).stdout, done.stdout)
 
-    def test_each_subcommand_has_help(self) -> None:
-        for name in command.EVERY:
-            if name.startswith("bench "):
-                done = run(name, "--help")
-                self.assertEqual((done.returncode, done.stderr), (0, b""), name)
-                self.says(f"usage: workbench {name} ", done)
-
     def test_wrong_words(self) -> None:
         for words, part in (((), "a subcommand is missing"), (("nobody",), "no subcommand 'nobody'"), (("--fast",), "'--fast'"),
                             (("bench",), "bench is one of bench run, "), (("bench", "x"), "bench is one of")):
@@ -68,7 +60,3 @@ class Launcher(Case):
             if path.exists():
                 done = subprocess.run([path, "--help"], stdout=subprocess.PIPE, check=True)
                 self.assertTrue(done.stdout.decode().startswith(f"usage: workbench {name} "), path)
-
-
-if __name__ == "__main__":
-    unittest.main()

@@ -30,8 +30,7 @@ def data_of(text: str) -> dict[str, Any]:
     return json.loads(re.search(r'<script id="data" type="application/json">(.*)</script>', text)[1])  # type: ignore[index, no-any-return]
 
 
-def after(data: dict[str, Any],
-          count: int) -> tuple[list[list[int]], list[list[int]]]:
+def after(data: dict[str, Any], count: int) -> tuple[list[list[int]], list[list[int]]]:
     """Registers and words behind so many blocks of a page."""
     registers, words = [list(values) for values in data["registers"]], [list(lock["values"]) for lock in data["words"]]
     for block, (changed, stored) in zip(data["blocks"][:count], data["changes"]):
@@ -218,7 +217,3 @@ class InABrowser(Case):
         self.assertIn("x7 t2\t00000002 was 00000000", seen[3]["registers"])
         # Behind the last block both have ended, and the lock is free.
         self.assertEqual((seen[6]["ended"].split(), seen[6]["home"].split()), (["0", "exit", "1", "exit"], ["0", "free"]))
-
-
-if __name__ == "__main__":
-    unittest.main()

@@ -2,7 +2,6 @@
 from __future__ import annotations
 
 import re
-import unittest
 import xml.etree.ElementTree
 from typing import Any, Callable
 
@@ -130,8 +129,8 @@ class Pictures(Case):
 
     def test_overview_moves_are_those_of_the_blocks(self) -> None:
         blocks, text = history("philosophers", 4, 8, 1)
-        workers: dict[Any, Any]
-        workers, moves = {}, 0
+        workers: dict[int, int] = {}
+        moves = 0
         for block in blocks:
             for lock in block.held:
                 moves += workers.get(lock, block.worker) != block.worker
@@ -156,7 +155,3 @@ class Pictures(Case):
                               (("--to", "x"), 1), (("--text", "--page"), 1), (("--guest", "/no/such/file"), 2),
                               (("--guest", saved("no.elf", b"no guest")), 3)):
             self.one_line(run("draw", "-", *words, given=whole), status)
-
-
-if __name__ == "__main__":
-    unittest.main()

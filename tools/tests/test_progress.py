@@ -5,7 +5,6 @@ import os
 import pty
 import subprocess
 import sys
-import unittest
 
 from tools.workbench import progress
 from .common import ROOT, Case, elf
@@ -41,7 +40,3 @@ class Shown(Case):
         self.assertEqual(again.stdout, done.stdout)
         self.assertIn(b"workbench sweep: 0 of 32 runs", said)
         self.assertTrue(said.endswith(b"\r\x1b[K"), said)
-
-
-if __name__ == "__main__":
-    unittest.main()

@@ -7,7 +7,6 @@ import collections
 import random
 import re
 import subprocess
-import unittest
 
 from tools.workbench import limits
 from tools.workbench.judging import rejecting
@@ -217,20 +216,6 @@ class Tool(Case):
                 self.says(f"workbench replay: line {line.split()[1]} of the history: ", done)
         done = run("replay", saved("none.elf", b"none"), given=whole)
         self.assertEqual((done.returncode, done.stdout), (3, b"refused 1 TooShort\n"))
-
-    def test_wrong_uses(self) -> None:
-        blocks = rejecting.history_of((DOCS / "pictures" / "first.txt").read_text())
-        for words in ((), (elf("first"), "--frobnicate"), (elf("first"), "--workers", "9"), (elf("first"), "-"),
-                      (elf("first"), "-", "--workers", "1", "--fuel", "1")):
-            self.one_line(run("replay", *words, given=blocks), 1)
-        for words in (("/no/such/file",), (elf("first"), "/no/such/file"), (elf("first"), str(GUESTS))):
-            self.one_line(run("replay", *words), 2)
         for text in (b"tclocks 2\n", b"tclocks 2\nguest threads 2 guards 1\nrun workers 9 fuel 1 batch 0\n"):
             self.one_line(run("replay", elf("first"), given=text), 3)
-        with open("/dev/full", "wb") as full:
-            done = run("replay", elf("first"), str(DOCS / "pictures" / "first.txt"), stdout=full)
-            self.assertEqual((done.returncode, done.stderr.count(b"\n")), (4, 2))
-
-
-if __name__ == "__main__":
-    unittest.main()
+        self.full("replay", elf("first"), str(DOCS / "pictures" / "first.txt"), lines=2)

@@ -4,13 +4,12 @@ from __future__ import annotations
 import csv
 import json
 import re
-import unittest
 import xml.etree.ElementTree
 from typing import Any
 
 from tools.workbench.guest import guestfile
 from tools.workbench.running import delegation
-from .common import BY_HAND, GUESTS, NAMES, ONE, ROOT, TEMPORARY, Case, built, elf, run, saved, with_program
+from .common import BY_HAND, GUESTS, NAMES, ONE, ROOT, TEMPORARY, Case, built, elf, run, saved, script
 
 
 def table(done: Any) -> Any:
@@ -90,10 +89,9 @@ class Sweep(Case):
 
     def test_by_the_program(self) -> None:
         """One that is made up, in the place of the built one."""
-        root = with_program("sweeping", f'#!/bin/sh\n[ "$1" = run ] || exit 1\nshift\n'
-                                         f'exec {ROOT}/workbench simulate - "$@" --seed 5\n')
+        by = script("sweeping", f'#!/bin/sh\n[ "$1" = run ] || exit 1\nshift\nexec {ROOT}/workbench simulate - "$@" --seed 5\n')
         words = ("--workers", "2", "--batch", "8", "--runs", "2", "--fuel", "900")
-        by_program = run("sweep", elf("counter"), *words, "--plot", str(TEMPORARY / "seconds.svg"), root=root)
+        by_program = run("sweep", elf("counter"), *words, "--plot", str(TEMPORARY / "seconds.svg"), by=by)
         self.assertEqual(by_program.stderr, b"")
         by_model = table(run("sweep", elf("counter"), *words, "--model", "--seed", "5"))
         for row in table(by_program):
@@ -101,7 +99,7 @@ class Sweep(Case):
             self.assertGreater(float(row["seconds"]), 0)
             self.assertEqual({**row, "by": "model", "seed": "5", "seconds": "", "run": "1"}, by_model[0])
         self.assertIn("Seconds", (TEMPORARY / "seconds.svg").read_text())
-        self.one_line(run("sweep", elf("counter"), root=with_program("failing", "#!/bin/sh\nexit 5\n")), 3)
+        self.one_line(run("sweep", elf("counter"), by=script("failing", "#!/bin/sh\nexit 5\n")), 3)
 
     def test_each_guest(self) -> None:
         for name in NAMES:
@@ -132,27 +130,9 @@ class Sweep(Case):
             "--strips", str(path))
         self.assertIn("worker 0: 2 of these sections, in 1 stretch<", path.read_text())
 
-
-class WrongUses(Case):
-    def test_words(self) -> None:
-        for words in ((), ("--workers", "0"), ("--workers", "9"), ("--workers", "1,1"), ("--workers", "1,"),
-                      ("--batch", "257"), ("--batch", "x"), ("--runs", "0"), ("--fuel", "65537"), ("--seed", "-1"),
-                      ("--sections", "0"), ("--nodes", "9"), ("--nodes", "x"), ("--bound", "257"), ("--nodes", "2", "--workers", "1"),
-                      ("--strips", "x.svg", "--lock", "1"), ("more",)):
-            done = run("sweep", *([elf("first")] if words else []), *words)
-            self.one_line(done, 1)
-            self.assertEqual(done.stdout, b"")
-        self.one_line(run("sweep", elf("exit"), "--strips", "x.svg"), 1)
-
-    def test_files(self) -> None:
+    def test_wrong_files(self) -> None:
         quick = ("--workers", "1", "--batch", "0", "--runs", "1", "--model")
-        self.one_line(run("sweep", "/no/such/file"), 2)
         self.one_line(run("sweep", saved("text.elf", BY_HAND)), 3)
         for option in ("--plot", "--strips"):
             self.one_line(run("sweep", elf("first"), *quick, option, "/no/such/folder/x.svg"), 4)
-        with open("/dev/full", "wb") as full:
-            self.one_line(run("sweep", elf("first"), *quick, stdout=full), 4)
-
-
-if __name__ == "__main__":
-    unittest.main()
+        self.full("sweep", elf("first"), *quick)

@@ -3,7 +3,6 @@ from __future__ import annotations
 
 import json
 import re
-import unittest
 from typing import Any
 
 from tools.workbench import limits
@@ -66,7 +65,6 @@ class Explanations(Case):
             done = run("explain", elf("first"), "--words", *words.split())
             self.assertEqual(done.returncode, 0)
             self.says(part, done)
-
 
     def test_a_rejected_history(self) -> None:
         for name, part in (("Text", "no block line"), ("Thread", "no such thread"), ("Owner", "another one has"), ("Block", "its turns"),
@@ -180,7 +178,3 @@ end
         self.assertEqual(done.returncode, 0)
         for path in folder.iterdir():
             self.says("a legal run", run("judge", elf("buffer"), str(path)))
-
-
-if __name__ == "__main__":
-    unittest.main()

@@ -5,7 +5,6 @@ from __future__ import annotations
 
 import json
 import re
-import unittest
 from typing import Any
 
 from .common import ROOT, Case, history, run, saved
@@ -80,7 +79,3 @@ class Trace(Case):
         complete, _ = self.check(saved("traced.txt", text), "--from", "40", "--to", "99")
         self.assertTrue(all(40 <= event["ts"] and event["ts"] + event["dur"] <= 100 for event in complete))
         self.assertEqual(sum(event["pid"] == 2 for event in complete), 60)
-
-
-if __name__ == "__main__":
-    unittest.main()

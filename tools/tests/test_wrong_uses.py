@@ -2,8 +2,8 @@
 from __future__ import annotations
 
 import json
+import shlex
 import subprocess
-import unittest
 
 from tools.workbench import limits
 from .common import GUESTS, ROOT, TEMPORARY, Case, elf, history, run, saved
@@ -14,26 +14,14 @@ class WrongUses(Case):
              "finish": [elf("first")], "explore": [], "simulate": []}
     TOOLS = ("judge", "summary", "draw", "explain", "finish")
 
-    def test_no_words(self) -> None:
-        for tool in self.WORDS:
-            self.one_line(run(tool), 1)
-
-    def test_unknown_word(self) -> None:
-        for tool in self.WORDS:
-            self.one_line(run(tool, "--frobnicate"), 1)
-
-    def test_missing_file_and_folder(self) -> None:
-        for path in ("/no/such/file", str(GUESTS)):
-            for tool in self.TOOLS:
-                self.one_line(run(tool, *self.WORDS[tool], path), 2)
-            for tool, more in (("judge", []), ("explain", []), ("finish", []), ("explore", []),
-                               ("simulate", ["1", "1", "0"])):
-                self.one_line(run(tool, path, *more), 2)  # type: ignore[misc]
-
-    def test_files_without_end(self) -> None:
-        for tool in self.TOOLS:
-            self.one_line(run(tool, *self.WORDS[tool], "/dev/zero"), 3)
-        self.one_line(run("judge", "/dev/zero"), 3)
+    def test_each_is_answered_by_one_line(self) -> None:
+        for line in (ROOT / "tools" / "tests" / "wrong-uses.txt").read_text().splitlines():
+            status, *words = shlex.split(line, comments=True) or ["-"]
+            if words:
+                with self.subTest(line=line):
+                    done = run(words[0], *(word.replace("guests/", f"{GUESTS}/") for word in words[1:]))
+                    self.one_line(done, int(status))
+                    self.assertTrue(done.stderr.startswith(f"workbench {words[0]}".encode()) and not done.stdout, done)
 
     def test_standard_input_is_a_folder_or_closed(self) -> None:
         for tool in self.TOOLS:
@@ -52,8 +40,7 @@ class WrongUses(Case):
                 "finish": [elf("sleepers"), path], "judge": [elf("sleepers"), path],
                 "simulate": [elf("sleepers"), "1", "20000", "0"], "explore": [elf("first"), "--runs", "2", "--model"]}
         for tool, words in uses.items():
-            with open("/dev/full", "wb") as full:
-                self.one_line(run(tool, *words, stdout=full), 4)
+            self.full(tool, *words)
             closed = subprocess.run(["sh", "-c", '"$0" "$@" >&-', ROOT / "workbench", tool, *words],
                                     stderr=subprocess.PIPE, check=False)
             self.one_line(closed, 4)
@@ -81,8 +68,6 @@ class WrongUses(Case):
                       "workers 1 fuel 9 batch 257", "workers 01 fuel 9 batch 0", "workers 1 fuel +9 batch 0"):
             text = f"tclocks 1\nguest threads 2 guards 1\nrun {words}\n"
             self.one_line(run("judge", elf("first"), given=text), 3)
-        for words in (("9", "1", "0"), ("1", "0", "0"), ("1", "1", "257"), ("1", "x", "0")):  # type: ignore[assignment]
-            self.one_line(run("simulate", elf("first"), *words), 1)
 
     def test_noise(self) -> None:
         for tool in self.TOOLS:
@@ -119,7 +104,3 @@ class Large(Case):
         self.assertIn(b"too many to draw each", picture)
         self.assertLess(len(picture), 20_000_000)
         path.unlink()
-
-
-if __name__ == "__main__":
-    unittest.main()

@@ -7,17 +7,15 @@ Each status above 0 comes with one line on standard error.
 """
 from __future__ import annotations
 
+from pathlib import Path
 import argparse
 import errno
 import gc
 import os
 import sys
-from typing import Callable, IO, Iterator, NoReturn, TYPE_CHECKING
+from typing import Callable, IO, Iterator, NoReturn
 
 from . import limits
-
-if TYPE_CHECKING:
-    from pathlib import Path
 
 DONE, WORDS, INPUT, WRONG, OUTPUT, MEMORY, STOPPED = 0, 1, 2, 3, 4, 5, 130
 

@@ -40,10 +40,9 @@ class Failed(Exception):
 class Measured:
     """What is measured: its words, and what its runs took."""
 
-    took: list[process.Took]
-
     def __init__(self, path: Path | None, *words: int | str) -> None:
-        self.path, self.words, self.took = path, words, []
+        self.path, self.words = path, words
+        self.took: list[process.Took] = []
 
     def run(self, file: bytes, is_read: bool = False) -> bytes:
         """A run over a file. Answers its report where that is to be read, else nothing."""

@@ -133,9 +133,8 @@ def is_quiet(asked: Namespace, loops: list[float]) -> bool:
 
 def rounds(name: str, asked: Namespace, loop: Path | None) -> tuple[dict[int, list[tuple[Any, ...]]], list[list[float]], int]:
     """The runs of a guest in rounds that count, by workers; the loops before and behind them; how many rounds were made."""
-    runs: dict[Any, Any]
-    loops: list[Any]
-    file, runs, loops, made = guests.GUESTS[name](), {workers: [] for workers in asked.workers}, [], 0
+    runs: dict[int, list[tuple[Any, ...]]] = {workers: [] for workers in asked.workers}
+    file, loops, made = guests.GUESTS[name](), [], 0  # type: bytes, list[Any], int
     while len(runs[asked.workers[0]]) < asked.runs and made < MOST_ROUNDS * asked.runs:
         made, before = made + 1, loops_of(asked, loop)
         if not is_quiet(asked, before):

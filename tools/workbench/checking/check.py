@@ -207,8 +207,8 @@ def main(words: list[str]) -> int | None:
     guests = [name for name in names if name not in PARTS]
     if guests:
         program.need()
-    answers: collections.Counter[str]
-    answers, trials = collections.Counter(), len(names)
+    answers: collections.Counter[str] = collections.Counter()
+    trials = len(names)
     for name in guests:
         is_right, answered = check(name, facts[name])
         passed, answers = passed + is_right, answers + answered

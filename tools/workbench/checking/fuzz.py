@@ -95,8 +95,8 @@ class Draw(random.Random):
 
     def guest(self) -> bytes:
         """A whole file: a note, code, and data behind whose end a few zeros stand."""
-        words: list[Any]
-        words, entries, locks = [], [], self.randrange(self.choice((7, 7, 7, 33)))
+        words: list[int] = []
+        entries, locks = [], self.randrange(self.choice((7, 7, 7, 33)))
         for _ in range(self.randrange(1, self.choice((5, 5, 5, 33)))):
             entries.append((made.CODE + 4 * len(words), self.getrandbits(32)))
             words += self.thread(locks)
@@ -148,10 +148,9 @@ def main(words: list[str]) -> int | None:
     parser.add_argument("seed", metavar="SEED", nargs="?", default=1, type=tool.number(0, 2**32))
     asked = parser.parse_args(words)
     program.need()
-    seen: collections.Counter[Any]
-    draw, failed, seen = Draw(asked.seed), 0, collections.Counter()
-    rejected: collections.Counter[Any]
-    changes, rejected = random.Random(asked.seed), collections.Counter()
+    draw, changes, failed = Draw(asked.seed), random.Random(asked.seed), 0
+    seen: collections.Counter[str] = collections.Counter()
+    rejected: collections.Counter[Any] = collections.Counter()
     with progress.Progress("fuzz", "guests", asked.count) as shown:
         for number in range(asked.count):
             file = draw.guest()

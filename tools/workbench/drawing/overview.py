@@ -72,8 +72,7 @@ class Columns:
         for lock in gap.held if gap.worker is not None else ():
             self.spread(self.has, gap, (lock, gap.worker))
 
-    def spread(self, counters: list[Counter[Any]], span: timeline.Gap | timeline.Stay,
-               what: Any) -> None:
+    def spread(self, counters: list[Counter[Any]], span: timeline.Gap | timeline.Stay, what: Any) -> None:
         """Adds a span's stamps to the columns in which they lie."""
         start, stop = span.first - self.first, span.last - self.first + 1
         while start < stop:
@@ -94,8 +93,7 @@ class Columns:
         return f"blocks {start} to {start + self.size(column) - 1}"
 
 
-def bars(x: float, wide: float, bottom: int, high: int, shares: list[float],
-         colours: Any) -> Iterator[str]:
+def bars(x: float, wide: float, bottom: int, high: int, shares: list[float], colours: Any) -> Iterator[str]:
     """Bars on one another: each share is a part of the height."""
     for (top, share), colour in zip(zip(accumulate(shares), shares), colours):
         if share:
@@ -149,8 +147,7 @@ class Overview:
         self.picture.add("", PANEL + 10)
         self.stamps()
 
-    def lane(self, head: str, shares: list[list[int]], colours: Any,
-             names: Any, highest: float = 1) -> None:
+    def lane(self, head: str, shares: list[list[int]], colours: Any, names: Any, highest: float = 1) -> None:
         """A lane of shares of all stamps; what is left is nothing of these."""
         top = self.picture.height
         self.picture.add(svg.label(10, top + 16, head))

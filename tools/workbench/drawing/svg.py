@@ -148,11 +148,9 @@ def document(width: float, height: int, style: str, parts: list[str], title: str
 class Picture:
     """Parts below one another, and how high they are together."""
 
-    parts: list[str]
-
     def __init__(self, width: float, title: str) -> None:
-        self.width, self.height, self.parts = width, 0, []
-        self.title = title
+        self.width, self.height, self.title = width, 0, title
+        self.parts: list[str] = []
         self.add(label(10, 20, title, "h"), 30)
 
     def add(self, part: str, height: int = 0) -> None:

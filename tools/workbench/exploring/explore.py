@@ -34,10 +34,9 @@ SHOWN = 60  # so many sections of a way are printed
 class Outcome:
     """How often it was seen by whom, and the first report of it with what made it."""
 
-    counts: Counter[str]
-
     def __init__(self, lines: list[str], command: str) -> None:
-        self.counts, self.lines, self.command = Counter(), lines, command
+        self.lines, self.command = lines, command
+        self.counts: Counter[str] = Counter()
 
     def seen(self) -> str:
         counts = " and ".join(f"{count} by the {name}" for name, count in self.counts.items())

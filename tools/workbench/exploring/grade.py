@@ -12,6 +12,7 @@ and docs/EXPLORE.md tells of rules. With --keep FOLDER a history is written of e
 """
 from __future__ import annotations
 
+from argparse import Namespace
 import csv
 import os
 import pathlib
@@ -20,14 +21,11 @@ import shutil
 import subprocess
 import sys
 import tempfile
-from typing import NamedTuple, TYPE_CHECKING
+from typing import NamedTuple
 
 from .. import limits, places, tool
 from ..guest import guestfile
 from . import rules
-
-if TYPE_CHECKING:
-    from argparse import Namespace
 
 ANSWERS = {("never", "in no interleaving"): "holds", ("never", "broken"): "broken",
            ("reach", "in no interleaving"): "never", ("reach", "reachable"): "reachable"}

@@ -8,11 +8,7 @@ is told of an ended thread, and it can end anywhere.
 """
 from __future__ import annotations
 
-from typing import TYPE_CHECKING
-from ..guest import rv32im
-
-if TYPE_CHECKING:
-    from ..guest import model
+from ..guest import model, rv32im
 
 ALL = 2**32 - 1
 X10 = 10
@@ -30,14 +26,11 @@ def is_return(what: rv32im.Instruction) -> bool:
 class Live:
     """The registers that code can still read, by its addresses, as bits."""
 
-    returns: set[int]
-    reads: dict[int, tuple[int, int]]
-    bits: dict[int, int]
-    before: dict[int, list[int]]
-
     def __init__(self, guest: model.Guest) -> None:
-        self.guest, self.returns, self.reads, self.bits = guest, set(), {}, {}
-        self.before = {}  # by an address: from where code goes on there
+        self.guest = guest
+        self.returns: set[int] = set()
+        self.reads: dict[int, tuple[int, int]] = {}
+        self.before: dict[int, list[int]] = {}  # by an address: from where code goes on there
         found = [entry for entry, _ in guest.entries]
         returning: list[int] = []
         while found:

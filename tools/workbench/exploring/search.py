@@ -14,12 +14,10 @@ import random
 import signal
 import zlib
 from array import array
-from typing import TYPE_CHECKING, Any, Callable, Iterable, NamedTuple, Tuple
+from typing import Any, Callable, Iterable, NamedTuple, Tuple
 
+from ..guest import model
 from . import live, rules, sections
-
-if TYPE_CHECKING:
-    from ..guest import model
 
 ROOT = 2**64 - 1  # whence the first state is
 ALONE = 20000  # so many states are searched by one process before others are started
@@ -50,13 +48,11 @@ class Walk(NamedTuple):
 class Share:
     """The part of the states that falls to one process."""
 
-    seen: set[bytes]
-    waiting: dict[int, dict[bytes, int]]
-
     def __init__(self, guest: model.Guest, fuel: int, number: int, shares: int, asked: list[str], whole: bool) -> None:
         self.sections = sections.Sections(guest, fuel, whole)
         self.number, self.shares = number, shares
-        self.seen, self.whence, self.waiting = set(), array("Q"), {}  # waiting: blocks: state: whence
+        self.seen: set[bytes] = set()
+        self.whence, self.waiting = array("Q"), {}  # type: array[int], dict[int, dict[bytes, int]]  # blocks: state: whence
         self.ends: list[tuple[bytes, int, int]] = []  # state, place in whence, blocks
         self.asked = {text: rules.Rule(text, self.sections.threads, [
             len(lock.bytes) for lock in self.sections.machine.locks]) for text in asked}
@@ -89,12 +85,11 @@ class Share:
                 if state not in self.seen:
                     waiting.setdefault(state, one)
 
-    def level(self, count: int,
-              most: int) -> tuple[int, list[tuple[bytes, bytes, int | None]], list[list[Any]], dict[str, int]]:
+    def level(self, count: int, most: int) -> tuple[int, list[Any], list[list[Any]], dict[str, int]]:
         """Follows the states with so many blocks, at most so many of them. Answers how many, the new
         parts, the states for each share, and which rules hold of which end."""
-        found: list[Any]
-        followed, found, answers, before = 0, [{} for _ in range(self.shares)], {}, len(self.ends)
+        found: list[Any] = [{} for _ in range(self.shares)]
+        followed, answers, before = 0, {}, len(self.ends)
         seen, waiting = self.seen, self.waiting.pop(count, {})
         found[self.number] = self.waiting
         while waiting and followed < most:
@@ -217,8 +212,7 @@ class Shares:
         self.count = shares
         self.sizes = len(guest.entries), [length for _, length in guest.guards]
 
-    def all(self, name: str,
-            *given: Any) -> list[Any]:
+    def all(self, name: str, *given: Any) -> list[Any]:
         """What each share answers to a call; `given` has a list of words for each, or words for all."""
         words = given if given and isinstance(given[0], list) else [given] * self.count
         if self.alone:
@@ -392,8 +386,7 @@ class Search:
         """An estimate of how many states were not seen. A thread that has k sections to its end can be at
         k + 1 places, and as many states are taken to be at each choice of places as there are on average
         among those where the search stopped."""
-        places: set[Any]
-        waiting, places = 0, set()
+        waiting, places = 0, set()  # type: int, set[Any]
         for count, some in self.shares.all("progress"):
             waiting, places = waiting + count, places | some
         total = waiting / max(1, len(places)) * combinations(self.walks)

@@ -33,12 +33,11 @@ class Collision(Exception):
 class Change:
     """What a section does to a lock."""
 
-    after: dict[bytes, bytes]
-
     __slots__ = ("sections", "start", "stop", "held", "breaks", "took", "words", "sums", "after")
 
     def __init__(self, sections: Sections, lock: int, state: blocks.Held) -> None:
-        self.sections, self.after = sections, {}
+        self.sections = sections
+        self.after: dict[bytes, bytes] = {}
         self.start, self.stop = sections.span(lock)
         self.held, self.breaks, self.took = state.held, state.breaks, state.took
         self.words = [(place(word), bytes(state.bytes[4 * word:4 * word + 4]))
@@ -81,13 +80,12 @@ class Node:
     by the bytes there a result, another node where it depends on more, or () where a lock is held that
     it takes."""
 
-    known: frozenset[tuple[int, int, int, int]]
-    after: dict[bytes, Any]
     __slots__ = ("known", "places", "after")
 
     def __init__(self, above: Node | None, places: list[tuple[int, int, int, int]]) -> None:
-        self.known = frozenset(places) | (above.known if above else frozenset())
-        self.places, self.after = merged(places), {}
+        self.known: frozenset[tuple[int, int, int, int]] = frozenset(places) | (above.known if above else frozenset())
+        self.places = merged(places)
+        self.after: dict[bytes, Any] = {}
 
 
 def merged(places: list[tuple[int, int, int, int]]) -> list[tuple[int, int, int, int]]:
@@ -104,17 +102,14 @@ class Sections:
     """A guest's parts, and what its threads' sections come to. Unless `whole`, registers that code doesn't
     read again are 0 in the parts of threads; live.Elsewhere where it can't be known which these are."""
 
-    contents: dict[bytes, bytes]
-    starts: dict[bytes, Any]
-    nodes: dict[bytes, Any]
-    fresh: list[tuple[bytes, bytes]]
-
     def __init__(self, guest: model.Guest, fuel: int, whole: bool = False) -> None:
         self.live = None if whole else live.Live(guest)
         self.machine = model.Machine(guest, fuel)
         self.threads, self.locks = len(guest.entries), len(guest.guards)
         self.guest = blocks.Guest(guest, self.live)
-        self.contents, self.starts, self.nodes, self.fresh = {}, {}, {}, []
+        self.contents: dict[bytes, bytes] = {}
+        self.starts, self.nodes = {}, {}  # type: dict[bytes, Any], dict[bytes, Any]
+        self.fresh: list[tuple[bytes, bytes]] = []
         self.rounds: dict[Any, Any] = {}  # of a thread's part: how many sections its thread had when it was first met
 
     def span(self, lock: int) -> tuple[int, int]:

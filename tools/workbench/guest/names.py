@@ -5,14 +5,10 @@ lock has the name of its guard's symbol; guards that lie side by side in one sym
 """
 from __future__ import annotations
 
-from typing import TYPE_CHECKING
 
 from .. import tool
-from . import sources
-
-if TYPE_CHECKING:
-    from . import guestfile
-    from ..reports import report
+from ..reports import report
+from . import guestfile, sources
 
 
 class Names:

@@ -3,14 +3,11 @@ own, and the locks in its package; and where the bytes of a lock come from."""
 from __future__ import annotations
 
 from collections import Counter
-from typing import Iterator, TYPE_CHECKING
+from typing import Iterator
 
 from .. import limits
-from ..guest import rv32im
+from ..guest import model, rv32im
 from ..reports import report
-
-if TYPE_CHECKING:
-    from ..guest import model
 
 
 class Context:

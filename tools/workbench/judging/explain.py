@@ -50,9 +50,7 @@ class Chosen:
 
     def __init__(self, asked: argparse.Namespace) -> None:
         self.thread, self.lock, self.trace = asked.thread, asked.lock, asked.trace
-        self.first: int
-        self.last: int | None
-        self.first, self.last = asked.block or (0, None)
+        self.first, self.last = asked.block or (0, None)  # type: int, int | None
         if asked.trace is not None and asked.block is None and self.thread is None and self.lock is None:
             self.first = self.last = asked.trace
 

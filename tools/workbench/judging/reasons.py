@@ -2,14 +2,11 @@
 with the numbers that tell it."""
 from __future__ import annotations
 
-from typing import Callable, TYPE_CHECKING
+from typing import Callable
 from .. import limits
-from ..guest import guestfile, rv32im, sources
+from ..guest import guestfile, model, rv32im, sources
 from ..reports import report
-
-if TYPE_CHECKING:
-    from . import legal
-    from ..guest import model
+from . import legal
 
 EXTENSIONS = {0x2F: "an atomic instruction (A)", 0x07: "a floating-point load", 0x27: "a floating-point store",
               0x53: "a floating-point instruction", 0x73: "a CSR or privileged instruction",

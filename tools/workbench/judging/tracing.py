@@ -3,16 +3,12 @@ that it loads or stores, by a copy of the model."""
 from __future__ import annotations
 
 import copy
-from typing import Any, Iterator, TYPE_CHECKING
+from typing import Any, Iterator
 
 from .. import limits
-from ..guest import model, rv32im
+from ..guest import guestfile, model, rv32im
 from ..reports import report
-from . import reasons
-
-if TYPE_CHECKING:
-    from . import legal
-    from ..guest import guestfile
+from . import legal, reasons
 
 
 def values(numbers: Any, x: list[int]) -> str:

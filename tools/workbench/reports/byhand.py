@@ -8,13 +8,11 @@ the stamp. The header's lines may be missing. What stands behind the blocks is n
 from __future__ import annotations
 
 import re
-from typing import Any, Iterable, TYPE_CHECKING
+from typing import Any, Iterable
 
 from .. import limits
+from ..judging import legal
 from . import report
-
-if TYPE_CHECKING:
-    from ..judging import legal
 
 PARTS = re.compile(r"(thread|turns|worker) (\d{1,9})\b|held (-|[\d,]+)|kind (\w+)|pc ([0-9a-f]{8})\b"
                    r"|end (wants \d+|unlocked \d+|slept|cut|exit|fault \d+|spent)")

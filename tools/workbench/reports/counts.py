@@ -3,12 +3,10 @@ report of any size needs little memory."""
 from __future__ import annotations
 
 from collections import Counter
-from typing import Any, Iterator, TYPE_CHECKING
+from typing import Any, Iterator
 
 from ..limits import SECTIONS
-
-if TYPE_CHECKING:
-    from . import report
+from . import report
 
 MEANINGS = """
   sections   of a lock, and how many of them were taken, adopted, granted

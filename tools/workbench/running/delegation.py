@@ -11,13 +11,11 @@ import collections
 import heapq
 import itertools
 import random
-from typing import Generator, Iterator, TYPE_CHECKING
+from typing import Generator, Iterator
 
 from ..judging import legal
 from ..reports import report
-
-if TYPE_CHECKING:
-    from ..guest import model
+from ..guest import model
 
 READY, WAITING, PARKED, TAKEN, DONE = "ready", "waiting", "parked", "taken", "done"
 
@@ -26,11 +24,9 @@ class Worker:
     """A worker: its clock of blocks, its sleepers, the thread that it set aside, and those that it
     made ready and offers, the oldest first."""
 
-    sleepers: list[tuple[int, int]]
-    aside: int | None
-
     def __init__(self, number: int) -> None:
-        self.number, self.clock, self.sleepers, self.aside = number, 0, [], None
+        self.number, self.clock = number, 0
+        self.sleepers, self.aside = [], None  # type: list[tuple[int, int]], int | None
         self.offers: collections.deque[int] = collections.deque()
 
 

@@ -6,14 +6,12 @@ host's scheduler makes of it, and the model takes the interleaving of its seed. 
 """
 from __future__ import annotations
 
-from typing import Any, TYPE_CHECKING
+from argparse import Namespace
+from typing import Any
 from .. import tool
 from ..guest import guestfile
 from ..judging import reasons
 from . import delegation, program
-
-if TYPE_CHECKING:
-    from argparse import Namespace
 
 
 ENDS = {tool.WRONG: "the file is refused; ./workbench explain GUEST says why", tool.OUTPUT: "standard output can't be written",
