@@ -13,7 +13,7 @@ from tools.workbench.drawing import page
 from tools.workbench.guest import made as maker
 from tools.workbench.guest import guestfile, names, sources
 from tools.workbench.reports import report, timeline
-from .common import BY_HAND, BY_HAND_V1, ONE, TEMPORARY, Case, built, elf, history, run, saved
+from .common import BY_HAND, BY_HAND_V1, ONE, ROOT, TEMPORARY, Case, built, elf, history, run, saved
 
 BROWSER = next(filter(None, map(shutil.which, ("chromium", "chromium-browser", "google-chrome"))), None)
 
@@ -117,42 +117,6 @@ class File(Case):
         self.says("--from and --to give a part", done)
 
 
-# What the page has at each block, and what keys do: written into the element `seen`.
-LOOK = """
-const seen = [], key = (name, shift) => document.dispatchEvent(new KeyboardEvent('keydown', { key: name, shiftKey: !!shift }));
-const look = () => seen.push({ step, says: by('says').innerText, workers: workers.map(box => box.innerText),
-	line: lockRows[0].lastChild.innerText, home: lockRows[0].children[1].innerText, ready: by('ready').innerText,
-	ended: by('ended').innerText, registers: by('registers').innerText, bytes: by('bytes').innerText });
-go(0); look();
-for (let i = 0; i < 6; i++) { key('ArrowRight'); look(); }
-key('ArrowLeft', true); const back = step; key('ArrowLeft', true); const backTwice = step;
-key('End'); const end = step; key('Home'); key('ArrowRight', true);
-const made = document.createElement('pre'); made.id = 'seen';
-made.textContent = JSON.stringify({ seen, back, backTwice, end, section: step });
-document.body.append(made);
-"""
-
-
-# What the hands of a reader come to: the slider, the number, the choice of a lock's sections, the address, a lecture.
-HANDS = """
-const box = thing => by(thing).getBoundingClientRect(), slide = (id, to) => { by(id).value = to; by(id).dispatchEvent(new Event('input')); };
-const pressOn = id => by(id).click(), hands = {};
-slide('slide', 4); hands.slider = step; slide('stamp', 2); hands.stamp = step;
-by('of').value = '0'; by('of').dispatchEvent(new Event('change'));
-pressOn('first'); hands.sections = []; while (!by('sectionon').disabled) { pressOn('sectionon'); hands.sections.push(step); }
-by('of').value = 'passed'; by('of').dispatchEvent(new Event('change')); pressOn('first'); pressOn('sectionon'); hands.passed = step;
-location.hash = '#5'; fromAddress(); hands.address = step;
-hands.screen = [innerWidth, innerHeight, document.querySelector('main').getBoundingClientRect().bottom, box('slide').bottom];
-hands.seen = ['workers', 'locks', 'says'].map(id => box(id).bottom <= innerHeight);
-const size = () => parseFloat(getComputedStyle(by('says')).fontSize), small = size();
-document.dispatchEvent(new KeyboardEvent('keydown', { key: 'l' }));
-hands.lecture = [size() / small, getComputedStyle(by('bytebox')).display, box('says').left > box('map').right - 1, address()];
-hands.lectureSeen = box('says').bottom <= innerHeight && box('map').bottom <= innerHeight;
-pressOn('lecture'); hands.after = [size() === small, address()];
-const made = document.createElement('pre'); made.id = 'seen'; made.textContent = JSON.stringify(hands); document.body.append(made);
-"""
-
-
 @unittest.skipUnless(BROWSER, "no browser is there")
 class InABrowser(Case):
     def browse(self, page_text: str, script: str = "", *words: str) -> tuple[str, str]:
@@ -165,20 +129,22 @@ class InABrowser(Case):
         self.assertNotIn("CONSOLE", done.stderr)
         return done.stdout, done.stderr
 
-    def found(self, page_text: str, script: str) -> Any:
+    def found(self, page_text: str, name: str) -> Any:
+        """What a script of this folder finds in a page."""
+        script = (ROOT / "tools" / "tests" / name).read_text()
         shown = re.search('<pre id="seen">(.*)</pre>', self.browse(page_text, script)[0])
         assert shown
         return json.loads(shown[1].replace("&lt;", "<").replace("&gt;", ">").replace("&amp;", "&"))
 
     def test_a_history_on_paper(self) -> None:
-        found = self.found(made(BY_HAND, saved("one.elf", built(ONE, (0, 0), 1))), LOOK)
+        found = self.found(made(BY_HAND, saved("one.elf", built(ONE, (0, 0), 1))), "page-steps.js")
         self.check(found["seen"])
         # Shift and left arrow: to the section before; block 3 and then block 1 begin one.
         self.assertEqual([found[name] for name in ("back", "backTwice", "end", "section")], [3, 1, 6, 1])
 
     def test_hands(self) -> None:
         for guest in saved("one.elf", built(ONE, (0, 0), 1)), None:
-            hands = self.found(made(BY_HAND, guest), HANDS)
+            hands = self.found(made(BY_HAND, guest), "page-hands.js")
             self.assertEqual((hands["slider"], hands["stamp"], hands["sections"], hands["passed"], hands["address"]),
                              (4, 2, [1, 3], 3, 5))
             # All but the explanations is on a screen of a laptop's size.

@@ -1,13 +1,14 @@
-"""What the tools print."""
+"""What the tools print; and products and quotients of the model, against values that come from outside of this repository."""
 from __future__ import annotations
 
 import json
 import re
+import unittest
 from typing import Any
 
 from tools.workbench import limits
-from tools.workbench.guest import guestfile
-from .common import BY_HAND, EXIT, GUESTS, NAMES, ONE, TEMPORARY, Case, built, call, elf, history, run, saved
+from tools.workbench.guest import guestfile, model
+from .common import BY_HAND, EXIT, GUESTS, NAMES, ONE, ROOT, TEMPORARY, Case, built, call, elf, history, run, saved
 
 
 class Explanations(Case):
@@ -178,3 +179,16 @@ end
         self.assertEqual(done.returncode, 0)
         for path in folder.iterdir():
             self.says("a legal run", run("judge", elf("buffer"), str(path)))
+
+
+VALUES = ROOT / "crates" / "value_vectors" / "stdin"
+
+
+class Values(unittest.TestCase):
+    def test_products_and_quotients(self) -> None:
+        heading, *lines = VALUES.read_text().splitlines()
+        for line in lines:
+            a, b, *values = (int(value, 16) for value in line.split(","))
+            for name, value in zip(heading.split(",")[2:], values):
+                said = model.OPERATIONS[name](a, b)
+                self.assertEqual(said % 2**32, value, f"{name} of {a:08x} and {b:08x}")
