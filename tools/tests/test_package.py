@@ -79,7 +79,7 @@ class Shown(Case):
 
     def test_an_interrupt_ends_the_work_and_is_kept(self) -> None:
         with progress.Progress("fuzz", "guests") as work:
-            work.step()
+            work.reach(1)
             raise KeyboardInterrupt
         self.assertEqual((work.done, work.interrupted), (1, True))
         self.assertRaises(KeyboardInterrupt, work.end)

@@ -152,7 +152,7 @@ def main(words: list[str]) -> int | None:
     seen: collections.Counter[str] = collections.Counter()
     rejected: collections.Counter[Any] = collections.Counter()
     with progress.Progress("fuzz", "guests", asked.count) as shown:
-        for number in range(asked.count):
+        for number in shown.each(range(asked.count)):
             file = draw.guest()
             options = (draw.randrange(1, 9), draw.choice((20, 100, 300, 5000)), draw.choice((0, 1, 256)))
             given = [("whole", file), *((kind.__name__, kind(draw, file)) for kind in damage.KINDS)]
@@ -167,7 +167,6 @@ def main(words: list[str]) -> int | None:
                     shown.clear()
                     print(f"{program.keep(f'{kept}.elf', file)}: run {' '.join(map(str, options))}: {wrong}")
                 seen[refused or ACCEPTED] += 1
-            shown.step()
     for what in sorted(seen, key=lambda what: int(what.split()[1]) if what != ACCEPTED else -1):
         print(f"{what}: {seen[what]}")
     for number, reason in enumerate(limits.REASONS, 1):

@@ -109,7 +109,7 @@ def refuse_each(library: pathlib.Path, case: Case, times: int, later: bool) -> t
                 shown.clear()
                 print(f"{case.name}: allocation {number} {'and all later' if later else 'alone'}: {wrong}")
             runs += 1
-            shown.step()
+            shown.reach(runs)
     statuses = ", ".join(f"{counts[status]} with status {status}" for status in sorted(counts))
     print(f"{case.name}, each of {greatest} allocations {'and all later ones' if later else 'alone'}: "
           f"{statuses}", flush=True)
