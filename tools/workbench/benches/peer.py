@@ -112,9 +112,7 @@ def main(words: list[str]) -> int | None:
     process.add_number(parser, "runs", 5, "of each")
     parser.add_argument("-c", dest="core", metavar="CORE", type=tool.number(0, 9999),
                         default=max(os.sched_getaffinity(0)), help="the processor on which all runs (the last one)")
-    asked = process.parsed(parser, words, known)
-    if asked.core not in os.sched_getaffinity(0):
-        parser.error(f"there is no processor {asked.core} here")
+    asked = process.parsed(parser, words, known, os.sched_getaffinity(0))
     os.sched_setaffinity(0, {asked.core})
     ratios, failed = {}, 0
     with tempfile.TemporaryDirectory() as folder:

@@ -56,13 +56,15 @@ def add_list(parser: tool.Words, name: str, usual: list[int], says: str, least: 
                         type=lambda word: [*map(one, word.split(","))], help=f"{says} ({','.join(map(str, usual))})")
 
 
-def parsed(parser: tool.Words, given: list[str], known: Iterable[str]) -> argparse.Namespace:
+def parsed(parser: tool.Words, given: list[str], known: Iterable[str], cores: Iterable[int] = ()) -> argparse.Namespace:
     """What the words ask for, of guests that are known; the program that is asked for is the one that runs from here on.
     Trouble where it is not there, or was not built."""
     asked = parser.parse_intermixed_args(given)
     wrong = [name for name in asked.guests if name not in known]
     if wrong:
         parser.error(f"there is no guest {wrong[0]!r}")
+    if cores and asked.core not in cores:
+        parser.error(f"there is no processor {asked.core} here")
     if asked.program is not None:
         if not (asked.program.is_file() and os.access(asked.program, os.X_OK)):
             raise tool.Trouble(tool.INPUT, f"{asked.program}: there is no such program")

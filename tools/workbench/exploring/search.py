@@ -70,6 +70,9 @@ class Share:
     def next_count(self) -> int | None:
         return min(self.waiting, default=None)
 
+    def whence_of(self, place: int) -> int:
+        return self.whence[place]
+
     def take(self, parts: Any, states: Any) -> None:
         """Takes what other shares found: parts, and states with their numbers of blocks and whence."""
         for name, content, rounds in parts:
@@ -101,11 +104,12 @@ class Share:
             seen.add(state)
             self.whence.append(whence)
             ended = True
-            for thread, new, blocks in self.sections.successors(state):
-                ended = False
-                if new not in seen:
-                    owner = self.owner(new)
-                    found[owner].setdefault(count + blocks, {}).setdefault(new, place + thread)
+            for thread in range(self.sections.threads):
+                section = self.sections.result(state, thread)
+                if section:
+                    ended, new = False, self.sections.behind(state, sections.NAME * thread, section)
+                    if new not in seen:
+                        found[self.owner(new)].setdefault(count + section.count, {}).setdefault(new, place + thread)
             if ended:
                 self.ends.append((state, len(self.whence) - 1, count))
         if waiting:
@@ -119,7 +123,9 @@ class Share:
         rounds = self.sections.rounds
         fresh = [(name, content, rounds.get(name)) for name, content in self.sections.fresh]
         self.sections.fresh.clear()
-        return followed, fresh, [packed(states) for states in found], answers
+        packed = [[(blocks, b"".join(some), array("Q", some.values()).tobytes()) for blocks, some in states.items()]
+                  for states in found]
+        return followed, fresh, packed, answers
 
     def kept(self) -> bytes:
         """All that this share found, as bytes; with the parts that the other shares were not told of, as those of walks."""
@@ -131,9 +137,6 @@ class Share:
         (self.seen, whence, self.waiting, self.ends, self.sections.contents, self.sections.rounds,
          self.sections.fresh) = marshal.loads(kept)
         self.whence.frombytes(whence)
-
-    def whence_of(self, place: int) -> int:
-        return self.whence[place]
 
     def end(self, number: int) -> tuple[rules.End, int, int]:
         """How it ends in the end with a number, its place and its number of blocks."""
@@ -170,14 +173,9 @@ class Share:
                 state, blocks = self.sections.behind(state, sections.NAME * thread, found), blocks + found.count
                 threads.append(thread)
                 rounds[thread] += 1
-            elif self.sections.has_ended(state, thread):
+            elif self.sections.contents[state[sections.NAME * thread:][:sections.NAME]][0] != sections.RUNNING:
                 able.remove(thread)
         return Walk(whence, self.sections.end(state), tuple(threads), blocks, tuple(rounds))
-
-
-def packed(states: dict[Any, Any]) -> list[Any]:
-    """States by their numbers of blocks, as bytes."""
-    return [(count, b"".join(some), array("Q", some.values()).tobytes()) for count, some in states.items()]
 
 
 def serve(pipe: Any, *words: Any) -> None:

@@ -84,18 +84,12 @@ class Node:
 
     def __init__(self, above: Node | None, places: list[tuple[int, int, int, int]]) -> None:
         self.known: frozenset[tuple[int, int, int, int]] = frozenset(places) | (above.known if above else frozenset())
-        self.places = merged(places)
+        self.places: list[tuple[int, int, int, int]] = []  # as few spans: start and stop of the lock's name, and of the bytes
+        for start, stop, low, high in sorted(places):
+            if self.places and self.places[-1][:2] == (start, stop) and self.places[-1][3] == low:
+                low = self.places.pop()[2]
+            self.places.append((start, stop, low, high))
         self.after: dict[bytes, Any] = {}
-
-
-def merged(places: list[tuple[int, int, int, int]]) -> list[tuple[int, int, int, int]]:
-    """Places of locks as few spans: start and stop of the lock's name, and of the bytes."""
-    spans: list[tuple[int, int, int, int]] = []
-    for start, stop, low, high in sorted(places):
-        if spans and spans[-1][:2] == (start, stop) and spans[-1][3] == low:
-            low = spans.pop()[2]
-        spans.append((start, stop, low, high))
-    return spans
 
 
 class Sections:
@@ -238,14 +232,6 @@ class Sections:
             found = node.after.get(self.key(node, state))
         return self.follow(name, state, node) if found is None else found
 
-    def successors(self, state: bytes) -> Iterator[tuple[int, bytes, int]]:
-        """What the next section of each thread that can have one comes to: the thread's number, the
-        state, and how many blocks it has."""
-        for number in range(self.threads):
-            found = self.result(state, number)
-            if found:
-                yield number, self.behind(state, NAME * number, found), found.count
-
     @staticmethod
     def behind(state: bytes, place: int, found: Result) -> bytes:
         """The state behind a section of the thread whose name stands at a place."""
@@ -267,9 +253,6 @@ class Sections:
         """The names of the threads' parts, and of the locks' parts."""
         names = [state[at:at + NAME] for at in range(0, len(state), NAME)]
         return names[:self.threads], names[self.threads:]
-
-    def has_ended(self, state: bytes, thread: int) -> bool:
-        return bool(self.contents[state[NAME * thread:NAME * thread + NAME]][0] != RUNNING)
 
     def end(self, state: bytes) -> rules.End:
         """How the guest ended in a state in which every thread has."""

@@ -8,6 +8,7 @@ from __future__ import annotations
 
 import itertools
 import re
+import types
 from typing import Any, Iterable
 
 from .. import limits, tool
@@ -109,17 +110,10 @@ class Checker:
         return (len(blocks) + 1, INCOMPLETE) if any(thread.end is None for thread in self.machine.threads) else None
 
 
-class Header:
-    """What the counts of a history want to know of its run."""
-
-    def __init__(self, guest: model.Guest, workers: int) -> None:
-        self.threads, self.guards, self.workers = len(guest.entries), len(guest.guards), workers
-        self.thread_ends = self.lock_ends = ()
-
-
 def profile_text(guest: model.Guest, blocks: list[report.Block], workers: int) -> str:
     """What `profile` prints of blocks that are not rejected."""
-    counted = counts.Counts(Header(guest, workers))
+    counted = counts.Counts(types.SimpleNamespace(threads=len(guest.entries), guards=len(guest.guards), workers=workers,
+                                                  thread_ends=(), lock_ends=()))
     for block in blocks:
         counted.add(block)
     return text_of(counted.profile_lines())

@@ -181,8 +181,7 @@ class Counts:
         """Each table as its name and its rows; a row is a dict of names and values."""
         yield "lock", [self.lock_row(*item) for item in enumerate(self.locks)]
         yield "thread", [self.thread_row(*item) for item in enumerate(self.threads)]
-        yield "worker", [{"worker": number, "blocks": worker.blocks, "turns": worker.turns,
-                          "away": worker.away} for number, worker in enumerate(self.workers)]
+        yield "worker", [{"worker": number, **vars(worker)} for number, worker in enumerate(self.workers)]
 
     def profile_lines(self) -> Iterator[str]:
         """The lines that the program prints of this history with `profile`."""

@@ -69,7 +69,7 @@ def thread(draw: Random, blocks: list[report.Block]) -> str:
 
 
 def owner(draw: Random, blocks: list[report.Block]) -> str:
-    """A block of a thread that wants a lock which another one has, where there is one."""
+    """A block of a thread that wants a lock which another one has; of any thread where there is none."""
     wants, held, places = {}, {}, []  # type: dict[int, int], dict[int, tuple[int, ...]], list[Any]
     for place, block in enumerate(blocks):
         held[block.thread] = held.get(block.thread, ())
@@ -80,15 +80,9 @@ def owner(draw: Random, blocks: list[report.Block]) -> str:
             wants[block.thread] = block.wanted
         held[block.thread] = block.kept
     if not places:
-        return another_thread(draw, blocks)
+        return with_block(blocks, draw.randrange(len(blocks)), thread=draw.choice(sorted({block.thread for block in blocks})))
     place, number = draw.choice(places)
     return with_block(blocks, place, thread=number)
-
-
-def another_thread(draw: Random, blocks: list[report.Block]) -> str:
-    """A block of any other thread that there is."""
-    place = draw.randrange(len(blocks))
-    return with_block(blocks, place, thread=draw.choice(sorted({block.thread for block in blocks})))
 
 
 def run(draw: Random, blocks: list[report.Block]) -> str:

@@ -20,10 +20,6 @@ def read(path: str) -> counts.Counts:
     return counted
 
 
-def shown(value: float | None) -> str:
-    return "?" if value is None else str(value)
-
-
 def print_text(counted: counts.Counts) -> None:
     text = counted.text
     blocks = sum(worker.blocks for worker in counted.workers)
@@ -34,12 +30,7 @@ def print_text(counted: counts.Counts) -> None:
             continue
         names = [name.replace("_", " ") for name in rows[0]]
         print()
-        tool.print_columns([names, *([shown(value) for value in row.values()] for row in rows)])
-
-
-def print_json(counted: counts.Counts) -> None:
-    print(json.dumps({**parameters(counted.text), "whole": counted.text.whole,
-                      **{f"by_{name}": rows for name, rows in counted.tables()}}, indent=1))
+        tool.print_columns([names, *(["?" if value is None else str(value) for value in row.values()] for row in rows)])
 
 
 def parameters(text: report.Report) -> dict[str, int]:
@@ -57,18 +48,14 @@ def print_csv(counted: Any) -> None:
                     writer.writerow([*run.values(), name, row[name], key, "" if value is None else value])
 
 
-def print_profile(counted: counts.Counts) -> None:
-    for line in counted.profile_lines():
-        print(line)
-
-
 def main(words: list[str]) -> None:
     parser = tool.words("summary", __doc__ + counts.MEANINGS)
     parser.add_argument("report", metavar="REPORT", help="a report; - is standard input")
     forms = parser.add_mutually_exclusive_group()
-    forms.add_argument("--json", action="store_const", dest="form", const=print_json)
+    forms.add_argument("--json", action="store_const", dest="form", const=lambda counted: print(json.dumps(
+        {**parameters(counted.text), "whole": counted.text.whole, **{f"by_{name}": rows for name, rows in counted.tables()}}, indent=1)))
     forms.add_argument("--csv", action="store_const", dest="form", const=print_csv)
-    forms.add_argument("--profile", action="store_const", dest="form", const=print_profile,
+    forms.add_argument("--profile", action="store_const", dest="form", const=lambda counted: print(*counted.profile_lines(), sep="\n"),
                        help="what the program prints of the history with `profile`")
     asked = parser.parse_args(words)
     counted = read(asked.report)
