@@ -75,6 +75,10 @@ class Lanes(Case):
         self.assertIn("thread 1, blocks 2 to 2: wants lock 0", run("draw", "-", given=cut).stdout.decode())
 
 
+def drawn(*of: Any) -> svg.Picture:
+    return overview.Overview(*of).draw()
+
+
 def picture(text: str, name: str, first: int = 0, last: int | None = None,
             draw: Callable[..., Any] = svg.detailed) -> str:
     """The SVG of some blocks, with the names of a guest."""
@@ -91,7 +95,7 @@ class Names(Case):
                              ("ring", ("thread 5 passer(0xffffff00)", "lock 0 ring")),
                              ("faults", ("thread 1 t1(1793)", "lock 4 cell4"))):
             text = history(name, 3, 2, 1, fuel=100)[1]
-            for said in (picture(text, name), picture(text, name, draw=overview.draw)):
+            for said in (picture(text, name), picture(text, name, draw=drawn)):
                 for part in wanted:
                     self.assertIn(f">{part}</text>", said, name)
 
@@ -114,14 +118,14 @@ class Pictures(Case):
     def test_each_is_well_formed(self) -> None:
         for name in NAMES:
             blocks, text = history(name, 4, 1, 3, fuel=400)
-            for said in (picture(text, name), picture(text, name, draw=overview.draw),
+            for said in (picture(text, name), picture(text, name, draw=drawn),
                          picture(text, name, min(5, len(blocks) - 1), min(30, len(blocks) - 1))):
                 root = xml.etree.ElementTree.fromstring(said)
                 self.assertEqual(root.tag, "{http://www.w3.org/2000/svg}svg")
 
     def test_overview_counts(self) -> None:
         blocks, text = history("philosophers", 4, 8, 1)
-        said = picture(text, "", draw=overview.draw)
+        said = picture(text, "", draw=drawn)
         columns = re.findall(r"<title>blocks (\d+) to (\d+): ((?:[a-z, ]+ [0-9.]+%(?:, )?)+)</title>", said)
         self.assertEqual((int(columns[0][0]), int(columns[-1][1])), (0, len(blocks) - 1))
         for first, last, shares in columns:
@@ -139,7 +143,7 @@ class Pictures(Case):
             for lock in block.held:
                 moves += workers.get(lock, block.worker) != block.worker
                 workers[lock] = block.worker
-        said = picture(text, "", draw=overview.draw)
+        said = picture(text, "", draw=drawn)
         panel = said[said.index("Moves of a lock"):said.index("Threads that wait")]
         self.assertEqual(sum(map(int, re.findall(r"lock \d (\d+)(?=[,<])", panel))), moves)
 

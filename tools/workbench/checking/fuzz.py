@@ -135,11 +135,8 @@ def judge_histories(file: Any, options: Any, text: Any, draw: Any, kept: Any) ->
     """Gives a report's history back, and a changed one. Answers why the changed one is rejected."""
     history = rejecting.history_of(text)
     blocks, _ = rejecting.read(history)
-    for one in history, draw.choice(spoil.FORMS)(draw, blocks).encode("ascii"):
-        given = rejecting.Given(len(file), options, file + one)
-        for form in "replay", "profile":
-            rejecting.ask(form, file, options, one, given.answer(form), kept)
-    return given.reason
+    rejecting.ask_both(file, options, history, kept)
+    return rejecting.ask_both(file, options, draw.choice(spoil.FORMS)(draw, blocks).encode("ascii"), kept).reason
 
 
 def main(words: list[str]) -> int | None:

@@ -165,20 +165,20 @@ class Overview:
         blocks = columns.last - columns.first + 1
         picture.text(f"{blocks} blocks are too many to draw each: a column stands for {columns.each} blocks. "
                      f"--from {columns.first} --to {columns.first + 399} draws the first 400 in full.")
-        self.draw_kinds()
+        self.head("Kinds of blocks, in percent:", self.items(KINDS))
+        names, colours = zip(*KINDS)
+        self.panel([[100 * kinds[place] / columns.size(column) for place in range(len(KINDS))]
+                    for column, kinds in enumerate(columns.kinds)], colours, names, 100, "%")
         if self.text.guards:
-            self.draw_moves()
-            self.draw_waits()
+            locks = range(self.text.guards)
+            self.lock_panel(f"Moves of a lock to another worker, in {columns.each} blocks:",
+                            [[moves[lock] for lock in locks] for moves in columns.moves])
+            self.lock_panel("Threads that wait for a lock, on average:",
+                            [[waits[lock] / columns.size(column) for lock in locks] for column, waits in enumerate(columns.waits)])
             self.draw_locks()
         self.draw_workers()
         self.draw_threads()
         return picture
-
-    def draw_kinds(self) -> None:
-        self.head("Kinds of blocks, in percent:", self.items(KINDS))
-        names, colours = zip(*KINDS)
-        self.panel([[100 * kinds[place] / self.columns.size(column) for place in range(len(KINDS))]
-                    for column, kinds in enumerate(self.columns.kinds)], colours, names, 100, "%")
 
     def lock_panel(self, title: str, rows: list[list[float]]) -> None:
         locks = range(self.text.guards)
@@ -186,15 +186,6 @@ class Overview:
         self.head(title, self.items(zip(names, colours)))
         highest = max(1.0, *(float(sum(row)) for row in rows))
         self.panel(rows, colours, names, round(highest, 2))
-
-    def draw_moves(self) -> None:
-        self.lock_panel(f"Moves of a lock to another worker, in {self.columns.each} blocks:",
-                        [[moves[lock] for lock in range(self.text.guards)] for moves in self.columns.moves])
-
-    def draw_waits(self) -> None:
-        self.lock_panel("Threads that wait for a lock, on average:",
-                        [[waits[lock] / self.columns.size(column) for lock in range(self.text.guards)]
-                         for column, waits in enumerate(self.columns.waits)])
 
     def draw_locks(self) -> None:
         workers = range(self.text.workers)
@@ -225,7 +216,3 @@ class Overview:
             self.lane(self.names.thread(thread), [[does[thread, state] for state in range(len(STATES))]
                                                   for does in self.columns.threads], colours, names)
         self.stamps()
-
-
-def draw(line: timeline.Timeline, first: int, last: int, names: names.Names, title: str) -> svg.Picture:
-    return Overview(line, first, last, names, title).draw()

@@ -131,12 +131,6 @@ def gap_parts(x: float, y: int, width: int, gap: timeline.Gap) -> Iterator[str]:
         yield chip(x + UNIT / 2, middle, gap.wanted)
 
 
-def stay_parts(x: float, y: int, width: int, stay: timeline.Stay) -> list[str]:
-    if stay.worker is None:
-        return [stroke("nobody", NOBODY, x, y + HEIGHT / 2, width)]
-    return [stroke("has", WORKERS[stay.worker], x, y + HEIGHT / 2, width)]
-
-
 def document(width: float, height: int, style: str, parts: list[str], title: str = "") -> str:
     """A picture's file."""
     title = f"<title>{html.escape(title)}</title>\n" if title else ""
@@ -172,28 +166,25 @@ class Picture:
         return document(self.width, self.height + 10, STYLE, [defined, *self.parts], self.title)
 
 
-def colour_items(names: names.Names) -> Iterator[tuple[str, str]]:
+def items(names: names.Names, workers: int) -> Iterator[tuple[str, str]]:
+    """The parts of the legend with their texts; the last ones are of the lanes of locks, where there are some."""
     yield box(0, 0, UNIT, HEIGHT, PLAIN, "on"), "no lock held (s: the thread's start)"
     for lock in range(len(names.locks)):
         yield box(0, 0, UNIT, HEIGHT, fill(lock)), names.lock(lock)
-
-
-def mark_items() -> Iterator[tuple[str, str]]:
     for kind, text in (("taken", "taken: the lock was free"),
                        ("adopted", "adopted: run by the worker that released"),
                        ("granted", "granted: handed on, for any worker")):
         yield (f'<rect class="{kind}" x="1" y="1" width="{UNIT - 2}" height="{HEIGHT - 2}" fill="#fff"/>'
                + label(UNIT / 2, 13, LETTERS[kind], "l"), text)
     yield away_mark(7, 15), "away from the thread's own worker"
-
-
-def line_items() -> Iterator[tuple[str, str]]:
     blue = fill(0)
     yield stroke("waiting", blue, 0, 9, 24) + chip(7, 9, 0), "waits for a lock, here lock 0"
     yield stroke("wants", blue, 0, 9, 24) + chip(7, 9, 0), "wants a lock, and finds it free"
     yield stroke("asleep", blue, 0, 9, 24) + label(12, 6, "z", "l"), "asleep with locks held"
     yield stroke("shipped", blue, 0, 9, 24), "shipped with locks held (nested)"
     yield stroke("holds", blue, 0, 9, 24), "holds locks between two blocks"
+    if names.locks:
+        yield from worker_items(workers)
 
 
 def worker_items(workers: int) -> Iterator[tuple[str, str]]:
@@ -249,8 +240,9 @@ class Strip:
             parts = gap_parts(*self.place(gap, self.threads + LANE * gap.thread), gap)
             self.picture.add(titled(gap.sentence(), parts))
         for stay in line.stays(self.first, self.last):
-            kept = stay_parts(*self.place(stay, self.locks + LANE * stay.lock), stay)
-            self.picture.add(titled(stay.sentence(), kept))
+            x, y, width = self.place(stay, self.locks + LANE * stay.lock)
+            kind, colour = ("nobody", NOBODY) if stay.worker is None else ("has", WORKERS[stay.worker])
+            self.picture.add(titled(stay.sentence(), [stroke(kind, colour, x, y + HEIGHT / 2, width)]))
         for mark in marks:
             self.picture.add(titled(mark.sentence(), self.mark_parts(mark)))
         self.picture.add("", self.height)
@@ -278,8 +270,7 @@ def detailed(line: timeline.Timeline, first: int, last: int, names: names.Names,
     """All blocks of some stamps, in strips."""
     longest, left = min(STRIP, last - first + 1), margin(names)
     picture = Picture(max(left + UNIT * longest + 60, NARROWEST), title)
-    legend(picture, [*colour_items(names), *mark_items(), *line_items(),
-                     *(worker_items(line.text.workers) if line.text.guards else ())])
+    legend(picture, items(names, line.text.workers))
     picture.add("", 6)
     for start in range(first, last + 1, STRIP):
         Strip(picture, line, names, left, start, min(start + STRIP - 1, last)).draw(line)
