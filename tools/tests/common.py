@@ -140,10 +140,11 @@ def history(name: str, workers: int, batch: int, seed: int | None, fuel: int = 2
 
 
 class Case(unittest.TestCase):
-    def one_line(self, done: subprocess.CompletedProcess[bytes], status: int) -> None:
-        """It ended with this status and one line on standard error, and no traceback."""
+    def one_line(self, done: subprocess.CompletedProcess[bytes], status: int, text: str = "") -> None:
+        """It ended with this status and one line on standard error, and no traceback; and said a text."""
         self.assertEqual((done.returncode, done.stderr.count(b"\n")), (status, 1), done.stderr)
         self.assertNotIn(b"Traceback", done.stderr + (done.stdout or b""))
+        self.assertIn(text, ((done.stdout or b"") + done.stderr).decode())
 
     def says(self, text: str, done: subprocess.CompletedProcess[bytes]) -> None:
         self.assertIn(text, (done.stdout + done.stderr).decode())

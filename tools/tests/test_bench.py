@@ -37,13 +37,10 @@ class Bench(Case):
 
     def test_without_the_program(self) -> None:
         for name, words in BENCHES:
-            done = run(f"bench {name}", *words, by="/no/such/file")
-            self.one_line(done, 2)
-            self.says("./tclocks-build", done)
+            self.one_line(run(f"bench {name}", *words, by="/no/such/file"), 2, "./tclocks-build")
             for path in "/no/such/file", "/", __file__:
                 done = run(f"bench {name}", *words, "-p", path)
-                self.one_line(done, 2)
-                self.says(f"workbench bench {name}: {path}: there is no such program", done)
+                self.one_line(done, 2, f"workbench bench {name}: {path}: there is no such program")
 
     def test_nodes(self) -> None:
         """With one seed each order's line has the numbers of its sweep."""
@@ -106,8 +103,7 @@ exec {ROOT}/workbench run - "$@" --seed 1 $orders 2>/dev/null
             self.assertEqual([row[10] for row in self.table("several", *more, *words)[0][2:]], ["1 of 1"])
         # No two threads take less time than one.
         done = run("bench several", "-p", PROGRAM, "-q", "0.01", "-w", "1,2", *words)
-        self.one_line(done, 2)
-        self.says("workbench bench several: hot-lock: the processors were not free in one of 30 rounds\n", done)
+        self.one_line(done, 2, "workbench bench several: hot-lock: the processors were not free in one of 30 rounds\n")
 
     @COMPILER
     def test_together(self) -> None:
@@ -122,8 +118,7 @@ exec {ROOT}/workbench run - "$@" --seed 1 $orders 2>/dev/null
     def test_together_with_a_program_whose_threads_can_not_be_refused(self) -> None:
         alone = script("alone-program", MADE_UP.replace("range(1, numbers[0])", "()"))
         done = run("bench together", "-p", alone, "-r", "1", "-w", "2", "buffer")
-        self.one_line(done, 2)
-        self.says("no thread could be refused", done)
+        self.one_line(done, 2, "no thread could be refused")
 
     @COMPILER
     def test_peer_runs_guests_as_the_model(self) -> None:
@@ -150,8 +145,7 @@ exec {ROOT}/workbench run - "$@" --seed 1 $orders 2>/dev/null
         for name in "peer", "together":
             done = subprocess.run([sys.executable, ROOT / "workbench.py", "bench", name, "-p", PROGRAM],
                                   env={"PATH": "/no/such/folder"}, capture_output=True, check=False)
-            self.one_line(done, 2)
-            self.says("cc is not on the PATH", done)
+            self.one_line(done, 2, "cc is not on the PATH")
 
     @COMPILER
     def test_the_peer_refuses(self) -> None:

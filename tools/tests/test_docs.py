@@ -162,8 +162,7 @@ class Run(Case):
         for words, seed in ((("1", "42", "0"), "0"), (("4", "20000", "8"), "3")):
             done = run("run", elf("first"), *words, "--seed", seed)
             self.assertEqual(done.stdout.decode(), self.well("simulate", elf("first"), *words, "--seed", seed))
-            self.one_line(done, 0)
-            self.says("by the model", done)
+            self.one_line(done, 0, "by the model")
 
     def test_the_program_where_it_is_built(self) -> None:
         by = script("echoing", '#!/bin/sh\necho "$@"\nwc -c\nexit 0\n')

@@ -39,8 +39,7 @@ class Filters(Case):
         for words, status in ((("--thread", "2"), 3), (("--lock", "1"), 3), (("--block", "6"), 3), (("--trace", "6"), 3),
                               (("--block", "3-2"), 1), (("--block", "x"), 1), (("--block", "1-"), 1), (("--thread", "-1"), 1),
                               (("--trace", "1.5"), 1)):
-            done = explained(*words)
-            self.one_line(done, status)
+            self.one_line(explained(*words), status)
 
 
 class Traces(Case):
@@ -154,5 +153,4 @@ class OfTheCompiler(Case):
             (bare / name).symlink_to(shutil.which(name) or "/none")
         done = subprocess.run([ROOT / "workbench", "explain", path, "-"], input=report, capture_output=True, check=False,
                               env={"PATH": str(bare)})
-        self.one_line(done, 0)
-        self.says("is on the PATH to read it", done)
+        self.one_line(done, 0, "is on the PATH to read it")

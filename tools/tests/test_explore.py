@@ -161,8 +161,7 @@ class Use(Case):
 
     def test_runs_beside_all(self) -> None:
         done = run("explore", elf("stale"), "--all", "--runs", "3", "--model")
-        self.one_line(done, 0)
-        self.says("\n\nsamples, 3 runs by the model: 1 outcome seen\n", done)
+        self.one_line(done, 0, "\n\nsamples, 3 runs by the model: 1 outcome seen\n")
 
     def test_a_run_that_the_search_has_not(self) -> None:
         guest = guestfile.load(elf("stale")).guest
@@ -188,16 +187,14 @@ class Use(Case):
 
     def test_never(self) -> None:
         done = run("explore", elf("stale"), "--never", "faults or spent", "--never", "lock 0 word 0 != 73")
-        self.one_line(done, 3)
-        self.says("# faults or spent: in no interleaving (", done)
+        self.one_line(done, 3, "# faults or spent: in no interleaving (")
         self.says("# lock 0 word 0 != 73: broken, by this history of 28 blocks\ntclocks 2\n", done)
         done = run("explore", elf("first"), "--never", "lock 0 word 0 != 36 or lock 0 sections != 6 or broken")
         self.assertEqual((done.returncode, done.stderr), (0, b""))
 
     def test_not_all_seen(self) -> None:
         done = run("explore", elf("stale"), "--never", "faults", "--states", "50", "--processes", "1")
-        self.one_line(done, 6)
-        self.says("# faults: not found; more than 50 states: not all seen; about ", done)
+        self.one_line(done, 6, "# faults: not found; more than 50 states: not all seen; about ")
         done = run("explore", elf("stale"), "--all", "--states", "50", "--most", "1", "--processes", "1")
         self.one_line(done, 0)
         self.assertTrue(done.stdout.startswith(b"more than 50 states: not all seen; about "), done.stdout)

@@ -61,8 +61,7 @@ class Grade(Case):
 
     def test_a_search_that_stops(self) -> None:
         place = folder("large", {"counter.elf": elf("counter")})
-        done = run("grade", place, "--never", "lock 0 sections != 480", "--states", "20")
-        self.says("not known", done)
+        self.says("not known", run("grade", place, "--never", "lock 0 sections != 480", "--states", "20"))
 
     def test_sources(self) -> None:
         if shutil.which("riscv64-unknown-elf-gcc") is None:

@@ -57,8 +57,7 @@ class ByHand(Case):
         lines = BY_HAND.splitlines()
         lines[6:8] = [lines[7].replace("block 4", "block 3"), lines[6].replace("block 3", "block 4")]
         done = run("judge", self.guest, given="\n".join(lines) + "\n")
-        self.one_line(done, 3)
-        self.says("block 4: its kind is adopted, and must be taken: worker 0 released the lock and then ran block 3", done)
+        self.one_line(done, 3, "block 4: its kind is adopted, and must be taken: worker 0 released the lock and then ran block 3")
 
     def test_what_would_have_been_legal(self) -> None:
         done = run("finish", self.guest, given=BY_HAND.replace("batch 4", "batch 0"))

@@ -52,8 +52,7 @@ class Launcher(Case):
         for words, part in (((), "a subcommand is missing"), (("nobody",), "no subcommand 'nobody'"), (("--fast",), "'--fast'"),
                             (("bench",), "bench is one of bench run, "), (("bench", "x"), "bench is one of")):
             done = subprocess.run([ROOT / "workbench", *words], stdout=subprocess.PIPE, stderr=subprocess.PIPE, check=False)
-            self.one_line(done, 1)
-            self.says(part, done)
+            self.one_line(done, 1, part)
 
     def test_old_names(self) -> None:
         wanted = run("simulate", elf("first"), "1", "1000", "0").stdout

@@ -112,9 +112,7 @@ class File(Case):
         long = BY_HAND[:BY_HAND.index("block 0")] + "".join(
             f"block {stamp} thread 0 turns 4096 held - kind {'on' if stamp else 'start'} worker 0 pc 00100000 end cut\n"
             for stamp in range(page.MOST + 1)) + "end\n"
-        done = run("draw", "-", "--page", given=long)
-        self.one_line(done, 1)
-        self.says("--from and --to give a part", done)
+        self.one_line(run("draw", "-", "--page", given=long), 1, "--from and --to give a part")
 
 
 @unittest.skipUnless(BROWSER, "no browser is there")

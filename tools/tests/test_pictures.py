@@ -110,8 +110,7 @@ class Names(Case):
 
     def test_another_guest(self) -> None:
         done = run("draw", "-", "--guest", elf("philosophers"), given=WAITS)
-        self.one_line(done, 3)
-        self.says("the report is of another guest: it has 2 threads and 1 locks, and the guest 5 and 6", done)
+        self.one_line(done, 3, "the report is of another guest: it has 2 threads and 1 locks, and the guest 5 and 6")
 
 
 class Pictures(Case):

@@ -43,9 +43,7 @@ class Words(Case):
 
     def test_without_a_program(self) -> None:
         for name, words in (("check", ("first",)), ("fuzz", ("1",)), ("refuse", ()), ("endure", ("1",))):
-            done = run(name, *words, by="/no/such/file")
-            self.one_line(done, 2)
-            self.says("the program isn't built", done)
+            self.one_line(run(name, *words, by="/no/such/file"), 2, "the program isn't built")
 
 
 class Parts(Case):

@@ -54,9 +54,7 @@ class WrongUses(Case):
     def test_refusal_or_usage_line_in_the_place_of_a_report(self) -> None:
         for line in ("refused 9 BadLoad", "rejected 12 3 Owner", "refused 17 ShortInput", limits.USAGE):
             for tool in ("judge", "summary", "draw"):
-                done = run(tool, *self.WORDS[tool], "-", given=line + "\n")
-                self.one_line(done, 3)
-                self.says(line, done)
+                self.one_line(run(tool, *self.WORDS[tool], "-", given=line + "\n"), 3, line)
 
     def test_a_summary_or_a_profile_in_the_place_of_a_report(self) -> None:
         for line in "tclocks demo 3", "tclocks profile 1":
