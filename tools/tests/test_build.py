@@ -11,7 +11,7 @@ import subprocess
 import tempfile
 import unittest
 
-from .madeup import ROOT, Folder
+from .common import ROOT, Folder
 
 
 class Building(Folder):

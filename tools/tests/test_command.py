@@ -10,7 +10,7 @@ import sys
 import time
 import unittest
 
-from .madeup import ROOT, Folder
+from .common import ROOT, Folder
 
 # The program's own line.
 USAGE = re.search(r'let line =\s+"(usage: [^"]*)\\n"', (ROOT / "crates/tc_main/src/answer.rt").read_text()).group(1).encode() + b"\n"  # type: ignore[union-attr]

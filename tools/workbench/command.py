@@ -20,7 +20,7 @@ GROUPS: Tuple[Tuple[str, Tuple[Subcommand, ...]], ...] = (
         Subcommand("sweep", "running.sweep", "run with many numbers of workers and batch limits: a table, and plots"))),
     ("look", (
         Subcommand("draw", "drawing.draw", "draw a report: a picture, lanes for a terminal, or a page to step through"),
-        Subcommand("summary", "reports.summary", "count what a report says, by lock, by thread and by worker"),
+        Subcommand("summary", "reports.counts", "count what a report says, by lock, by thread and by worker"),
         Subcommand("explain", "judging.explain", "say of a file what it has, of a report why each block came"))),
     ("judge", (
         Subcommand("judge", "judging.judge", "say whether a report is that of a legal run"),

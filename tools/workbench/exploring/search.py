@@ -17,7 +17,7 @@ from array import array
 from typing import Any, Callable, Iterable, NamedTuple, Tuple
 
 from ..guest import model
-from . import live, rules, sections
+from . import rules, sections, steps
 
 ROOT = 2**64 - 1  # whence the first state is
 ALONE = 20000  # so many states are searched by one process before others are started
@@ -189,7 +189,7 @@ def serve(pipe: Any, *words: Any) -> None:
             answer = getattr(share, name)(*given)
         except EOFError:
             return
-        except (MemoryError, sections.Collision, live.Elsewhere) as trouble:
+        except (MemoryError, sections.Collision, steps.Elsewhere) as trouble:
             answer = trouble
         pipe.send(answer)
 
@@ -265,7 +265,7 @@ class Search:
             return
         try:
             self.search(guest, fuel, most, processes, False)
-        except live.Elsewhere:
+        except steps.Elsewhere:
             self.shares.close()
             self.search(guest, fuel, most, processes, True)
 
@@ -306,7 +306,7 @@ class Search:
         try:
             self.run(self.states + most)
             self.finish()
-        except live.Elsewhere:
+        except steps.Elsewhere:
             self.shares.close()
             self.search(guest, fuel, most, len(parts), True)
 
@@ -407,6 +407,6 @@ def expected(guest: model.Guest, fuel: int, walks: int = 32) -> float:
         try:
             share.first()
             return combinations(share.walked(1, walks))
-        except live.Elsewhere:
+        except steps.Elsewhere:
             pass
     return 1.0

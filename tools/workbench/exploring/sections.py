@@ -13,7 +13,7 @@ from typing import Any, Iterator
 
 from .. import limits
 from ..guest import model
-from . import blocks, live, rules, steps
+from . import blocks, rules, steps
 
 MOST_THREADS = max(limits.THREADS.values())
 NAME = 8  # bytes of a part's name
@@ -94,10 +94,10 @@ class Node:
 
 class Sections:
     """A guest's parts, and what its threads' sections come to. Unless `whole`, registers that code doesn't
-    read again are 0 in the parts of threads; live.Elsewhere where it can't be known which these are."""
+    read again are 0 in the parts of threads; steps.Elsewhere where it can't be known which these are."""
 
     def __init__(self, guest: model.Guest, fuel: int, whole: bool = False) -> None:
-        self.live = None if whole else live.Live(guest)
+        self.live = None if whole else steps.Live(guest)
         self.machine = model.Machine(guest, fuel)
         self.threads, self.locks = len(guest.entries), len(guest.guards)
         self.guest = blocks.Guest(guest, self.live)
@@ -128,7 +128,7 @@ class Sections:
         if run.end:
             content = THREAD.pack(run.end, 0, steps.number(run.x, 10))
         else:
-            held, read = sorted(run.held()), self.live.at(run.pc) if self.live else live.ALL
+            held, read = sorted(run.held()), self.live.at(run.pc) if self.live else steps.ALL
             x = [steps.number(run.x, register) if read >> register & 1 else 0 for register in range(32)]
             parts = [THREAD.pack(RUNNING, len(held), x[10]), REST.pack(*x, run.pc, run.fuel), bytes(held)]
             for number in sorted(run.pages):

@@ -16,7 +16,7 @@ from typing import Any, Iterator
 from .. import tool
 from ..guest import guestfile, sources
 from ..reports import counts, report
-from . import contexts, legal, reasons, tracing
+from . import legal, reasons, tracing
 
 
 def explain_file(path: Any) -> None:
@@ -68,7 +68,7 @@ class Explainer:
         self.file, self.text, self.lines, self.chosen = file, text, lines, chosen
         self.run, self.away = legal.begin(file.guest, text), counts.Away(text.threads)
         self.last: dict[Any, Any] = {}
-        self.contexts = contexts.Contexts(self.run.machine) if with_contexts else None
+        self.contexts = tracing.Contexts(self.run.machine) if with_contexts else None
 
     def all(self) -> None:
         for block in self.text.blocks():

@@ -2,12 +2,18 @@
 report of any size needs little memory."""
 from __future__ import annotations
 
+import csv
+import json
+import sys
 from collections import Counter
 from typing import Any, Iterator
 
+from .. import limits, tool
 from ..limits import SECTIONS
 from . import report
 
+SUMMARY = """Counts what a report says: by lock, by thread and by worker.
+"""
 MEANINGS = """
   sections   of a lock, and how many of them were taken, adopted, granted
   rows       of adopted sections, and longest, the most that stand in one
@@ -206,3 +212,56 @@ class Counts:
                 "waiting": thread.waits.sum, "longest_wait": thread.waits.longest, "end": thread.end,
                 "fuel_left": end.fuel if end else None,
                 "x10": end.x[10] if end and len(end.x) == 32 else None}
+
+
+def read(path: str) -> Counts:
+    text = report.Report(tool.read_lines(path))
+    counted = Counts(text)
+    for block in text.blocks():
+        counted.add(block)
+    text.ends()
+    return counted
+
+
+def print_text(counted: Counts) -> None:
+    text = counted.text
+    blocks = sum(worker.blocks for worker in counted.workers)
+    turns = sum(worker.turns for worker in counted.workers)
+    print(f"{report.several(blocks, 'block')}, {report.several(turns, 'turn')}, {text.title()}")
+    for _, rows in counted.tables():
+        if not rows:
+            continue
+        names = [name.replace("_", " ") for name in rows[0]]
+        print()
+        tool.print_columns([names, *(["?" if value is None else str(value) for value in row.values()] for row in rows)])
+
+
+def parameters(text: report.Report) -> dict[str, int]:
+    return {name: getattr(text, name) for name in limits.RUN}
+
+
+def print_csv(counted: Any) -> None:
+    """One value a line, with the parameters of the run, so that the tables of all runs are one."""
+    writer, run = csv.writer(sys.stdout, lineterminator="\n"), parameters(counted.text)
+    writer.writerow([*run, "of", "number", "name", "value"])
+    for name, rows in counted.tables():
+        for row in rows:
+            for key, value in row.items():
+                if key != name:
+                    writer.writerow([*run.values(), name, row[name], key, "" if value is None else value])
+
+
+def main(words: list[str]) -> None:
+    parser = tool.words("summary", SUMMARY + MEANINGS)
+    parser.add_argument("report", metavar="REPORT", help="a report; - is standard input")
+    forms = parser.add_mutually_exclusive_group()
+    forms.add_argument("--json", action="store_const", dest="form", const=lambda counted: print(json.dumps(
+        {**parameters(counted.text), "whole": counted.text.whole, **{f"by_{name}": rows for name, rows in counted.tables()}}, indent=1)))
+    forms.add_argument("--csv", action="store_const", dest="form", const=print_csv)
+    forms.add_argument("--profile", action="store_const", dest="form", const=lambda counted: print(*counted.profile_lines(), sep="\n"),
+                       help="what the program prints of the history with `profile`")
+    asked = parser.parse_args(words)
+    counted = read(asked.report)
+    (asked.form or print_text)(counted)
+    if counted.text.cut_note():
+        tool.note("summary", counted.text.cut_note())
