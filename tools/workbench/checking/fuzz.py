@@ -67,11 +67,6 @@ class Draw(random.Random):
         rare = self.choice((self.getrandbits(32), WHOLE["ebreak"], encode("fence", 0, 0, 0xFF)))
         return [rare if self.random() < 0.05 else upper]
 
-    def guest_call(self) -> list[int]:
-        number = self.choice((limits.LOCK, limits.UNLOCK, limits.SLEEP, 4))
-        sleep = self.choice((0, 1, 9, limits.SLEPT, limits.SLEPT + 1))
-        return made.call(number, sleep if number == limits.SLEEP else self.randrange(5))
-
     def section(self, locks: int) -> list[int]:
         """Takes and releases some locks, mostly in an order that is lawful."""
         chosen = sorted(self.sample(range(locks), self.randrange(min(locks, 5) + 1)))
@@ -90,7 +85,9 @@ class Draw(random.Random):
             draw = self.choice((self.arithmetic, self.arithmetic, self.jump, self.other, None))
             words += draw() if draw else self.section(locks)
             if self.random() < 0.03:
-                words += self.guest_call() + self.access()
+                number = self.choice((limits.LOCK, limits.UNLOCK, limits.SLEEP, 4))
+                sleep = self.choice((0, 1, 9, limits.SLEPT, limits.SLEPT + 1))
+                words += made.call(number, sleep if number == limits.SLEEP else self.randrange(5)) + self.access()
         return words + made.call(limits.EXIT, 0)
 
     def guest(self) -> bytes:

@@ -29,10 +29,8 @@ class Player:
         self.starts: dict[int, str] = {}
         self.notes: dict[int, str] = {}
         self.changes: list[Any] = []
-
-    def begin_window(self) -> None:
-        self.registers = [state(thread) for thread in self.machine.threads]
-        self.bytes = [bytes(lock.bytes) for lock in self.machine.locks]
+        self.registers: list[list[int]] = []
+        self.bytes: list[bytes] = []
 
     def play(self, block: report.Block) -> None:
         """Runs a block of the window."""
@@ -90,7 +88,8 @@ def played(guest: tuple[guestfile.GuestFile, sources.Sources], line: timeline.Ti
     try:
         for mark in line.marks[:first]:
             player.run.follow(mark.block)
-        player.begin_window()
+        player.registers = [state(thread) for thread in player.machine.threads]
+        player.bytes = [bytes(lock.bytes) for lock in player.machine.locks]
         for mark in line.marks[first:last + 1]:
             player.play(mark.block)
     except report.Wrong as wrong:

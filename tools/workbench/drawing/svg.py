@@ -44,14 +44,6 @@ def fill(lock: int) -> str:
     return COLOURS[lock] if lock < len(COLOURS) else f"url(#p{lock})"
 
 
-def patterns(locks: int) -> Iterator[str]:
-    """What tells locks of one colour apart."""
-    for lock in range(len(COLOURS), locks):
-        colour = COLOURS[lock % len(COLOURS)]
-        yield (f'<pattern id="p{lock}" width="6" height="6" patternUnits="userSpaceOnUse">'
-               f'<rect width="6" height="6" fill="{colour}"/>{PATTERNS[lock // len(COLOURS)]}</pattern>')
-
-
 def box(x: float, y: float, width: float, height: float, colour: str, kind: str = "k") -> str:
     return f'<rect class="{kind}" x="{x:g}" y="{y:g}" width="{width:g}" height="{height:g}" fill="{colour}"/>'
 
@@ -162,7 +154,11 @@ class Picture:
         self.add(label(10, self.height + 12, row), 16)
 
     def svg(self, locks: int) -> str:
-        defined = f"<defs>{''.join(patterns(locks))}</defs>"
+        defined = "<defs>"
+        for lock in range(len(COLOURS), locks):  # what tells locks of one colour apart
+            defined += (f'<pattern id="p{lock}" width="6" height="6" patternUnits="userSpaceOnUse"><rect width="6" height="6" '
+                        f'fill="{COLOURS[lock % len(COLOURS)]}"/>{PATTERNS[lock // len(COLOURS)]}</pattern>')
+        defined += "</defs>"
         return document(self.width, self.height + 10, STYLE, [defined, *self.parts], self.title)
 
 

@@ -56,9 +56,6 @@ class Chosen:
                 and (self.lock is None or self.lock in block.held or block.wanted == self.lock)
                 and self.first <= block.stamp and (self.last is None or block.stamp <= self.last))
 
-    def thread_at_end(self, number: int) -> bool:
-        return self.thread in (None, number) and self.lock is None and self.last is None
-
 
 class Explainer:
     """Follows the blocks by the model, which knows where each begins, and says it of the chosen ones."""
@@ -76,7 +73,7 @@ class Explainer:
             if self.chosen.block(block):
                 print("\n".join(said))
         for number, thread in enumerate(self.run.machine.threads):
-            if thread.end is None and self.chosen.thread_at_end(number):
+            if thread.end is None and self.chosen.thread in (None, number) and self.chosen.lock is self.chosen.last is None:
                 print(f"  thread {number} has not ended: it goes on at {reasons.start_text(self.file, thread, self.lines)}")
         if self.contexts:
             print(f"In all blocks: {self.contexts.total()}.")

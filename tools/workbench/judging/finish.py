@@ -8,7 +8,7 @@ from __future__ import annotations
 
 import re
 import sys
-from typing import IO, Any, Callable, Iterable, Iterator
+from typing import Any, Callable, Iterable, Iterator
 
 from .. import limits, tool
 from ..guest import guestfile
@@ -118,11 +118,6 @@ def possible(run: legal.Run) -> Iterator[str]:
             yield f"# thread {number} wants lock {lock}, which thread {run.machine.locks[lock].owner} has"
 
 
-def print_lines(lines: Any, to: IO[str] | None = None) -> None:
-    for line in lines:
-        print(line, file=to)
-
-
 def follow(begin: Callable[..., Any], lines: list[Line]) -> tuple[legal.Run, list[report.Block]]:
     """The run of some lines, and their blocks."""
     run, blocks = begin(), []
@@ -133,17 +128,9 @@ def follow(begin: Callable[..., Any], lines: list[Line]) -> tuple[legal.Run, lis
             run = begin()
             for block in blocks:
                 run.step(block.thread, block.kind, block.worker)
-            print_lines([f"# legal there, as block {run.count}:", *possible(run)])
+            print(f"# legal there, as block {run.count}:", *possible(run), sep="\n")
             raise tool.Trouble(tool.WRONG, f"not legal: {wrong}") from None
     return run, blocks
-
-
-def print_report(run: legal.Run, blocks: list[report.Block]) -> None:
-    """The whole report, or as far as it goes; what could come next goes to standard error."""
-    print_lines(run.lines(blocks))
-    if not run.is_over():
-        sys.stdout.flush()
-        print_lines([f"# legal so far, {run.count} blocks; what could come next:", *possible(run)], sys.stderr)
 
 
 def main(words: list[str]) -> None:
@@ -163,4 +150,7 @@ def main(words: list[str]) -> None:
                                            options["version"]), history.blocks)
     if asked.on:
         blocks += run.go_on()
-    print_report(run, blocks)
+    print(*run.lines(blocks), sep="\n")
+    if not run.is_over():
+        sys.stdout.flush()
+        print(f"# legal so far, {run.count} blocks; what could come next:", *possible(run), sep="\n", file=sys.stderr)

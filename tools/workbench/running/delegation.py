@@ -90,24 +90,18 @@ class Hall:
             hand, worker.aside = worker.aside, None
             return hand
         due = min((sleeper for sleeper in worker.sleepers if sleeper[0] <= worker.clock), default=None)
+        ready = [t for t, place in enumerate(self.place) if place == READY]
         if due is not None:
             worker.sleepers.remove(due)
-            found: int | None = due[1]
-        else:
-            found = self.pick_ready(worker)
-        if found is not None:
-            self.place[found] = TAKEN
-        return found
-
-    def pick_ready(self, worker: Worker) -> int | None:
-        """A thread that is ready, or None: any where workers race; by one worker alone the oldest
-        offer, else the least thread."""
-        ready = [t for t, place in enumerate(self.place) if place == READY]
-        if not ready:
+            found = due[1]
+        elif not ready:
             return None
-        if self.run.workers > 1:
-            return self.chance.choice(ready)
-        return worker.offers.popleft() if worker.offers else ready[0]
+        elif self.run.workers > 1:  # where workers race any that is ready; by one alone the oldest offer, else the least
+            found = self.chance.choice(ready)
+        else:
+            found = worker.offers.popleft() if worker.offers else ready[0]
+        self.place[found] = TAKEN
+        return found
 
     def make_ready(self, worker: Worker, thread: int) -> None:
         self.place[thread] = READY

@@ -7,7 +7,7 @@ host's scheduler makes of it, and the model takes the interleaving of its seed. 
 from __future__ import annotations
 
 from argparse import Namespace
-from typing import Any
+
 from .. import tool
 from ..guest import guestfile
 from ..judging import reasons
@@ -16,13 +16,6 @@ from . import delegation, program
 
 ENDS = {tool.WRONG: "the file is refused; ./workbench explain GUEST says why", tool.OUTPUT: "standard output can't be written",
         tool.MEMORY: "memory was refused"}
-
-
-def by_program(file: bytes, words: tuple[Any, ...]) -> None:
-    tool.note("run", "by the program")
-    status = program.pass_on(words, file)
-    if status:
-        raise tool.Trouble(status, ENDS.get(status, f"the program ended with status {status}"))
 
 
 def by_model(file: bytes, asked: Namespace, why: str | None) -> None:
@@ -72,4 +65,7 @@ def main(words: list[str]) -> None:
         by_model(file, asked, why)
     else:
         form = ("nodes", *asked.nodes) if asked.nodes[0] else ("run",)
-        by_program(file, (*form, asked.workers, asked.fuel, asked.batch))
+        tool.note("run", "by the program")
+        status = program.run((*form, asked.workers, asked.fuel, asked.batch), file, None)[0]
+        if status:
+            raise tool.Trouble(status, ENDS.get(status, f"the program ended with status {status}"))
