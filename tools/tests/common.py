@@ -135,6 +135,10 @@ def run(tool: str, *words: pathlib.Path | str, given: bytes | str = b"", stdout:
                                            None if stdout else out.read(), said.read())
 
 
+GUEST = saved("one.elf", built(ONE, (0, 0), 1))
+FINISHED = run("finish", GUEST, given=BY_HAND).stdout
+
+
 def history(name: str, workers: int, batch: int, seed: int | None, fuel: int = 20000,
             version: int = 2) -> tuple[list[report.Block], str]:
     made_run, blocks = delegation.delegated(guestfile.load(elf(name)).guest, fuel, workers, batch, seed, version)

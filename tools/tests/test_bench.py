@@ -16,7 +16,7 @@ from typing import Any
 from tools.workbench.benches import guests
 from tools.workbench.guest import guestfile
 from tools.workbench.running import delegation
-from .common import BY_HAND, GUESTS, MADE_UP, NAMES, ONE, ROOT, TEMPORARY, Case, built, elf, run, saved, script
+from .common import BY_HAND, GUEST, GUESTS, MADE_UP, NAMES, ROOT, TEMPORARY, Case, elf, run, saved, script
 
 
 BENCHES = ("run", ()), ("nodes", ("4", "100", "8")), ("replay", ()), ("peer", ()), ("several", ()), ("together", ())
@@ -278,7 +278,7 @@ class Sweep(Case):
     def test_strips_on_paper(self) -> None:
         """The two sections of a guest that counts once are of worker 0 alone."""
         path = TEMPORARY / "paper.svg"
-        run("sweep", saved("one.elf", built(ONE, (0, 0), 1)), "--workers", "1", "--batch", "0", "--runs", "1", "--model",
+        run("sweep", GUEST, "--workers", "1", "--batch", "0", "--runs", "1", "--model",
             "--strips", str(path))
         self.assertIn("worker 0: 2 of these sections, in 1 stretch<", path.read_text())
 

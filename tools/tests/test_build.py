@@ -43,8 +43,7 @@ class Building(Folder):
 
     def test_one_processor_does_one_after_the_other(self) -> None:
         self.build("--jobs", "1")
-        words = [line.split()[0] for line in self.times() if line]
-        self.assertEqual(words, ["begun", "ended"] * 4)
+        self.assertEqual([line.split()[0] for line in self.times() if line], ["begun", "ended"] * 4)
 
     def test_two_builds_at_once_are_one_after_the_other(self) -> None:
         first, second = (self.begin(script="tclocks-build") for _ in range(2))

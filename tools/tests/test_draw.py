@@ -16,7 +16,7 @@ from typing import Any, Callable
 from tools.workbench.drawing import overview, page, svg
 from tools.workbench.guest import guestfile, made as maker, names, sources
 from tools.workbench.reports import report, timeline
-from .common import BY_HAND, BY_HAND_V1, NAMES, ONE, ROOT, TEMPORARY, Case, built, elf, history, run, saved
+from .common import BY_HAND, BY_HAND_V1, FINISHED, GUEST, NAMES, ONE, ROOT, TEMPORARY, Case, elf, history, run, saved
 
 
 BROWSER = next(filter(None, map(shutil.which, ("chromium", "chromium-browser", "google-chrome"))), None)
@@ -105,14 +105,11 @@ class File(Case):
         self.assertEqual(data_of(whole)["title"], "</script><b>&\u2028")
 
     def test_the_tool(self) -> None:
-        guest = saved("one.elf", built(ONE, (0, 0), 1))
-        whole = run("finish", guest, given=BY_HAND).stdout
-        done = run("draw", "-", "--page", "--guest", guest, "--title", "a run", given=whole)
-        self.assertEqual((done.returncode, done.stdout.decode()), (0, made(BY_HAND, guest)))
+        done = run("draw", "-", "--page", "--guest", GUEST, "--title", "a run", given=FINISHED)
+        self.assertEqual((done.returncode, done.stdout.decode()), (0, made(BY_HAND, GUEST)))
 
     def test_wrong_uses(self) -> None:
-        guest = saved("one.elf", built(ONE, (0, 0), 1))
-        self.one_line(run("draw", "-", "--page", "--guest", guest, given=BY_HAND.replace("turns 7", "turns 6")), 3)
+        self.one_line(run("draw", "-", "--page", "--guest", GUEST, given=BY_HAND.replace("turns 7", "turns 6")), 3)
         long = BY_HAND[:BY_HAND.index("block 0")] + "".join(
             f"block {stamp} thread 0 turns 4096 held - kind {'on' if stamp else 'start'} worker 0 pc 00100000 end cut\n"
             for stamp in range(page.MOST + 1)) + "end\n"
@@ -139,13 +136,13 @@ class InABrowser(Case):
         return json.loads(shown[1].replace("&lt;", "<").replace("&gt;", ">").replace("&amp;", "&"))
 
     def test_a_history_on_paper(self) -> None:
-        found = self.found(made(BY_HAND, saved("one.elf", built(ONE, (0, 0), 1))), "page-steps.js")
+        found = self.found(made(BY_HAND, GUEST), "page-steps.js")
         self.check(found["seen"])
         # Shift and left arrow: to the section before; block 3 and then block 1 begin one.
         self.assertEqual([found[name] for name in ("back", "backTwice", "end", "section")], [3, 1, 6, 1])
 
     def test_hands(self) -> None:
-        for guest in saved("one.elf", built(ONE, (0, 0), 1)), None:
+        for guest in GUEST, None:
             hands = self.found(made(BY_HAND, guest), "page-hands.js")
             self.assertEqual((hands["slider"], hands["stamp"], hands["sections"], hands["passed"], hands["address"]),
                              (4, 2, [1, 3], 3, 5))
@@ -163,7 +160,7 @@ class InABrowser(Case):
 
     def test_print(self) -> None:
         path = TEMPORARY / "page.pdf"
-        self.browse(made(BY_HAND, saved("one.elf", built(ONE, (0, 0), 1))), "", f"--print-to-pdf={path}")
+        self.browse(made(BY_HAND, GUEST), "", f"--print-to-pdf={path}")
         content = path.read_bytes()
         self.assertTrue(content.startswith(b"%PDF-"))
         self.assertIn(len(re.findall(rb"/Type\s*/Page\b", content)), (1, 2, 3))
@@ -278,8 +275,7 @@ class Names(Case):
             self.assertIn(part, run("draw", "-", "--guest", elf("counter"), form, given=text).stdout.decode())
 
     def test_a_guest_without_symbols(self) -> None:
-        guest = saved("one.elf", built(ONE, (0, 0), 1))
-        self.assertEqual(run("draw", "-", "--guest", guest, given=WAITS).stdout, run("draw", "-", given=WAITS).stdout)
+        self.assertEqual(run("draw", "-", "--guest", GUEST, given=WAITS).stdout, run("draw", "-", given=WAITS).stdout)
 
     def test_another_guest(self) -> None:
         done = run("draw", "-", "--guest", elf("philosophers"), given=WAITS)
@@ -330,7 +326,7 @@ class Pictures(Case):
         self.assertEqual(stamps, set(range(100, 120)))
 
     def test_wrong_windows_and_words(self) -> None:
-        whole = run("finish", saved("one.elf", built(ONE, (0, 0), 1)), given=BY_HAND).stdout
+        whole = FINISHED
         for words, status in ((("--from", "4", "--to", "3"), 1), (("--from", "6"), 3), (("--from", "-1"), 1),
                               (("--to", "x"), 1), (("--text", "--page"), 1), (("--guest", "/no/such/file"), 2),
                               (("--guest", saved("no.elf", b"no guest")), 3)):

@@ -437,8 +437,7 @@ class Use(Case):
 
     def test_keep(self) -> None:
         folder = TEMPORARY / "every"
-        done = run("explore", elf("stale"), "--all", "--keep", str(folder))
-        self.assertEqual(done.returncode, 0)
+        self.assertEqual(run("explore", elf("stale"), "--all", "--keep", str(folder)).returncode, 0)
         ends = set()
         for path in folder.iterdir():
             self.says("a legal run, to the end of every thread", run("judge", elf("stale"), str(path)))

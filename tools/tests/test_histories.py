@@ -15,36 +15,33 @@ from tools.workbench.guest import guestfile, model
 from tools.workbench.judging import rejecting
 from tools.workbench.reports import report, spoil
 from tools.workbench.running import delegation, program
-from .common import BY_HAND, BY_HAND_V1, EXIT, GUESTS, NAMES, ONE, PCS, ROOT, TEMPORARY, Case, built, call, elf, history, run, saved
+from .common import BY_HAND, BY_HAND_V1, EXIT, GUEST, GUESTS, NAMES, ONE, PCS, ROOT, TEMPORARY, Case, built, call, elf, history, run, saved
 
 
 class ByHand(Case):
     """Two threads with one lock, whose histories are known on paper."""
 
-    def setUp(self) -> None:
-        self.guest = saved("one.elf", built(ONE, (0, 0), 1))
-
     def test_legal_so_far_and_finished(self) -> None:
-        self.says("legal so far, 6 blocks", run("judge", self.guest, given=BY_HAND))
-        done = run("finish", self.guest, given=BY_HAND)
+        self.says("legal so far, 6 blocks", run("judge", GUEST, given=BY_HAND))
+        done = run("finish", GUEST, given=BY_HAND)
         self.says("lock 0 sections 2 broken 0 bytes 4\ndata 00020000 02000000\nend", done)
-        self.says("a legal run, to the end of every thread", run("judge", self.guest, given=done.stdout))
+        self.says("a legal run, to the end of every thread", run("judge", GUEST, given=done.stdout))
 
     def test_lines_without_stamps_and_with_threads_alone(self) -> None:
         lines = re.sub("block [0-9]+ ", "", BY_HAND)
-        self.assertEqual(run("finish", self.guest, given=lines).stdout, run("finish", self.guest, given=BY_HAND).stdout)
+        self.assertEqual(run("finish", GUEST, given=lines).stdout, run("finish", GUEST, given=BY_HAND).stdout)
         short = ("run workers 2 fuel 100 batch 4\nthread 0\nthread 0\nthread 1 worker 1\n"
                  "thread 1 kind adopted\nthread 0\nthread 1 worker 1")
-        self.assertEqual(run("finish", self.guest, given=short).stdout, run("finish", self.guest, given=BY_HAND).stdout)
+        self.assertEqual(run("finish", GUEST, given=short).stdout, run("finish", GUEST, given=BY_HAND).stdout)
 
     def test_both_forms(self) -> None:
-        self.says("legal so far, 6 blocks", run("judge", self.guest, given=BY_HAND_V1))
+        self.says("legal so far, 6 blocks", run("judge", GUEST, given=BY_HAND_V1))
         self.says("block 1, line 5: pc is 00100008, and must be 0010000c",
-                  run("judge", self.guest, given=BY_HAND.replace("pc 0010000c", "pc 00100008", 1)))
+                  run("judge", GUEST, given=BY_HAND.replace("pc 0010000c", "pc 00100008", 1)))
         for old, new in (("tclocks 2", "tclocks 1"), ("tclocks 2", "tclocks 3")):
-            self.one_line(run("judge", self.guest, given=BY_HAND.replace(old, new)), 3)
+            self.one_line(run("judge", GUEST, given=BY_HAND.replace(old, new)), 3)
         for text in (BY_HAND, BY_HAND_V1):
-            explained = run("explain", self.guest, "-", given=text).stdout.decode()
+            explained = run("explain", GUEST, "-", given=text).stdout.decode()
             self.assertEqual(tuple(re.findall(r"# ([0-9a-f]{8})", explained)), PCS)
 
     def test_first_block_that_is_not_legal(self) -> None:
@@ -55,7 +52,7 @@ class ByHand(Case):
                    "end exit\nblock 5": ("end cut\nblock 5", "block 4")}
         for old, (new, place) in changes.items():
             for tool in ("judge", "finish"):
-                done = run(tool, self.guest, given=BY_HAND.replace(old, new))
+                done = run(tool, GUEST, given=BY_HAND.replace(old, new))
                 self.one_line(done, 3)
                 self.assertIn(place, done.stderr.decode())
 
@@ -63,11 +60,11 @@ class ByHand(Case):
         """The worker that released the lock goes on with the waiter in its very next block."""
         lines = BY_HAND.splitlines()
         lines[6:8] = [lines[7].replace("block 4", "block 3"), lines[6].replace("block 3", "block 4")]
-        done = run("judge", self.guest, given="\n".join(lines) + "\n")
+        done = run("judge", GUEST, given="\n".join(lines) + "\n")
         self.one_line(done, 3, "block 4: its kind is adopted, and must be taken: worker 0 released the lock and then ran block 3")
 
     def test_what_would_have_been_legal(self) -> None:
-        done = run("finish", self.guest, given=BY_HAND.replace("batch 4", "batch 0"))
+        done = run("finish", GUEST, given=BY_HAND.replace("batch 4", "batch 0"))
         self.says("block 3 thread 1 turns 7 held 0 kind granted worker 0 pc 0010000c end unlocked 0"
                   "  # or worker 1", done)
         self.says("block 3 thread 0 turns 2 held - kind on", done)
@@ -76,7 +73,7 @@ class ByHand(Case):
         text = BY_HAND.replace("batch 4", "batch 0").replace("adopted", "granted")
         self.says("\n  granted: thread 1 waited for lock 0 from block 2 on (worker 1); thread 0 released it in block 1, "
                   "with 0 adopted sections in a row: the batch limit; away from the thread's own worker\n",
-                  run("explain", self.guest, "-", given=text))
+                  run("explain", GUEST, "-", given=text))
 
     def test_who_releases_does_not_wait(self) -> None:
         """A thread that takes a lock twice in a row was not waiting for it."""
@@ -105,7 +102,7 @@ class ByHand(Case):
         beyond = "and the program's theorem does not say it"
         done = run("finish", elf("first"), given=lines + "thread 0\nthread 1 worker 1\nthread 0 kind granted\n")
         self.says(beyond, done)
-        done = run("judge", self.guest, given=BY_HAND.replace("kind taken", "kind granted"))
+        done = run("judge", GUEST, given=BY_HAND.replace("kind taken", "kind granted"))
         self.assertNotIn(beyond, done.stderr.decode())
 
 
@@ -233,8 +230,7 @@ class Delegation(Case):
 
     def test_delegation_is_seen(self) -> None:
         blocks, _ = history("counter", 4, 8, 1)
-        kinds = {block.kind for block in blocks}
-        self.assertEqual(kinds, set(report.KINDS))  # type: ignore[attr-defined]
+        self.assertEqual({block.kind for block in blocks}, set(report.KINDS))  # type: ignore[attr-defined]
         self.assertEqual({block.worker for block in blocks}, set(range(4)))
 
     def test_facts_hold_in_delegated_runs(self) -> None:
@@ -360,8 +356,7 @@ class Changed(Case):
         for form, reason in zip(spoil.FORMS, limits.REASONS):
             seen: collections.Counter[Any] = collections.Counter()
             for _ in range(12):
-                lines = form(draw, blocks)
-                answered = answer("replay", file, (3, 400, 2), lines)
+                answered = answer("replay", file, (3, 400, 2), form(draw, blocks))
                 self.assertEqual(answered[0] == 0, answered[1][:8] == "tclocks ")
                 seen[answered[1].split()[-1]] += 1
             self.assertGreater(seen[reason], 2, (form.__name__, seen))

@@ -177,17 +177,18 @@ class WrongUses(Case):
 
 class Large(Case):
     def test_hundred_megabytes(self) -> None:
-        path = TEMPORARY / "large.txt"
-        with open(path, "w") as file:
-            file.write("tclocks 2\nguest threads 16 guards 16\nrun workers 8 fuel 65536 batch 256\n")
-            for stamp in range(1_040_000):
-                file.write(f"block {stamp} thread {stamp % 16} turns 4096 held 12,13,14,15 kind adopted "
-                           f"worker {stamp % 8} pc 00100000 end unlocked 15\n")
+        """Counted; and a quarter of them drawn."""
+        path, part, blocks = TEMPORARY / "large.txt", TEMPORARY / "part.txt", 1_040_000
+        for file, most in (path, blocks), (part, blocks // 4):
+            with open(file, "w") as written:
+                written.write("tclocks 2\nguest threads 16 guards 16\nrun workers 8 fuel 65536 batch 256\n")
+                written.writelines(f"block {stamp} thread {stamp % 16} turns 4096 held 12,13,14,15 kind adopted worker {stamp % 8} "
+                                   "pc 00100000 end unlocked 15\n" for stamp in range(most))
         self.assertGreater(path.stat().st_size, 100_000_000)
-        both = [subprocess.Popen([ROOT / "workbench", tool, str(path), *words], stdout=subprocess.PIPE, stderr=subprocess.DEVNULL)  # type: ignore[misc]
-                for tool, words in (("summary", ["--json"]), ("draw", []))]
+        both = [subprocess.Popen([ROOT / "workbench", *words], stdout=subprocess.PIPE, stderr=subprocess.DEVNULL)
+                for words in (("summary", str(path), "--json"), ("draw", str(part)))]
         summary, picture = (tool.communicate()[0] for tool in both)
-        self.assertEqual(json.loads(summary)["by_lock"][15]["adopted"], 1_040_000)
+        self.assertEqual(json.loads(summary)["by_lock"][15]["adopted"], blocks)
         self.assertIn(b"too many to draw each", picture)
         self.assertLess(len(picture), 20_000_000)
         path.unlink()

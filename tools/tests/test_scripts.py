@@ -186,8 +186,7 @@ class Bytes(Case):
 
     def test_written_files_are_read_again(self) -> None:
         note = elf32.note([(made.CODE, 7), (made.CODE + 4, 8)], [(made.DATA, 4)])
-        file = made.elf(note, made.call(limits.EXIT, 3), b"\1\2", 8)
-        guest = guestfile.GuestFile(file).guest
+        guest = guestfile.GuestFile(made.elf(note, made.call(limits.EXIT, 3), b"\1\2", 8)).guest
         self.assertEqual((guest.entries, guest.guards), ([(made.CODE, 7), (made.CODE + 4, 8)], [(made.DATA, 4)]))
         self.assertEqual([(place.start, len(place), flags, content) for place, flags, content in guest.ranges],
                          [(made.CODE, 12, 5, bytes.fromhex("130530009308d00573000000")),

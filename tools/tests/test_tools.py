@@ -17,7 +17,7 @@ from tools.workbench import limits
 from tools.workbench.guest import guestfile, model, sources
 from tools.workbench.judging import legal, tracing
 from tools.workbench.reports import report
-from .common import BY_HAND, EXIT, GUESTS, NAMES, ONE, ROOT, TEMPORARY, Case, built, call, elf, history, run, saved
+from .common import EXIT, FINISHED, GUEST, GUESTS, NAMES, ONE, ROOT, TEMPORARY, Case, built, call, elf, history, run, saved
 
 
 class Explanations(Case):
@@ -87,8 +87,7 @@ class Explanations(Case):
 
 class Tables(Case):
     def test_summary(self) -> None:
-        guest = saved("one.elf", built(ONE, (0, 0), 1))
-        text = run("finish", guest, given=BY_HAND).stdout
+        text = FINISHED
         counts = json.loads(run("summary", "-", "--json", given=text).stdout)
         self.assertEqual(counts["by_lock"], [{
             "lock": 0, "sections": 2, "taken": 1, "adopted": 1, "granted": 0, "longest": 1, "changes": 0, "home": 1,
@@ -161,19 +160,16 @@ end
             blocks = text.count("\nblock ")
             by_worker = [event for event in trace["traceEvents"] if event["pid"] == 2 and event["ph"] == "X"]
             self.assertEqual(len(by_worker), blocks)
-            lanes = run("draw", "-", "--text", given=text).stdout.decode()
-            self.assertIn("thread 0", lanes)
+            self.assertIn("thread 0", run("draw", "-", "--text", given=text).stdout.decode())
 
     def test_draw_by_hand(self) -> None:
-        guest = saved("one.elf", built(ONE, (0, 0), 1))
-        lanes = run("draw", "-", "--text", given=run("finish", guest, given=BY_HAND).stdout).stdout.decode()
+        lanes = run("draw", "-", "--text", given=FINISHED).stdout.decode()
         for lane in ("thread 0  st  .x", "thread 1    sA .", "worker 0  00 10", "worker 1    1  1"):
             self.assertIn(f"\n{lane}\n", lanes)
 
     def test_each_tool_on_each_guest(self) -> None:
         for name in NAMES:
-            text = run("simulate", elf(name), "3", "600", "2", "--seed", "5").stdout
-            path = saved(f"{name}.txt", text)
+            path = saved(f"{name}.txt", run("simulate", elf(name), "3", "600", "2", "--seed", "5").stdout)
             for tool, words in (("summary", [path]), ("draw", [path]), ("draw", [path, "--text"]),
                                 ("draw", [path, "--trace"]),
                                 ("explain", [elf(name), path]), ("explain", [elf(name)]), ("judge", [elf(name), path]),
@@ -203,11 +199,8 @@ class Values(unittest.TestCase):
                 self.assertEqual(said % 2**32, value, f"{name} of {a:08x} and {b:08x}")
 
 
-WHOLE = run("finish", saved("one.elf", built(ONE, (0, 0), 1)), given=BY_HAND).stdout
-
-
-def explained(*words: str, given: bytes = WHOLE) -> CompletedProcess[bytes]:
-    return run("explain", saved("one.elf", built(ONE, (0, 0), 1)), "-", *words, given=given)
+def explained(*words: str, given: bytes = FINISHED) -> CompletedProcess[bytes]:
+    return run("explain", GUEST, "-", *words, given=given)
 
 
 def stamps(done: CompletedProcess[bytes]) -> list[int]:

@@ -184,8 +184,7 @@ class Overview:
         locks = range(self.text.guards)
         names, colours = [self.names.lock(lock) for lock in locks], [svg.fill(lock) for lock in locks]
         self.head(title, self.items(zip(names, colours)))
-        highest = max(1.0, *(float(sum(row)) for row in rows))
-        self.panel(rows, colours, names, round(highest, 2))
+        self.panel(rows, colours, names, round(max(1.0, *(float(sum(row)) for row in rows)), 2))
 
     def draw_locks(self) -> None:
         workers = range(self.text.workers)

@@ -70,8 +70,7 @@ def lock_stroke(kind: str, lock: int, x: float, y: float, width: int) -> str:
 
 def block_parts(x: float, y: int, block: report.Block, letter: str, away: bool) -> Iterator[str]:
     """A block's box: a stripe for each lock, the innermost on top, with an outline by kind."""
-    count = max(1, len(block.held))
-    high = HEIGHT / count
+    high = HEIGHT / max(1, len(block.held))
     for i, lock in enumerate(block.held):
         yield box(x, y + HEIGHT - high * (i + 1), UNIT, high, fill(lock))
     if block.held:

@@ -317,5 +317,4 @@ def parsed(words: list[str]) -> tuple[Namespace, Any]:
 
 def main(words: list[str]) -> None:
     asked, searches = parsed(words)
-    guest = guestfile.load(asked.guest).guest
-    (search_all if searches else samples)(guest, asked)
+    (search_all if searches else samples)(guestfile.load(asked.guest).guest, asked)

@@ -387,8 +387,7 @@ class Search:
         waiting, places = 0, set()  # type: int, set[Any]
         for count, some in self.shares.all("progress"):
             waiting, places = waiting + count, places | some
-        total = waiting / max(1, len(places)) * combinations(self.walks)
-        return max(waiting, round(total) - self.states)
+        return max(waiting, round(waiting / max(1, len(places)) * combinations(self.walks)) - self.states)
 
 
 def combinations(walks: list[Walk]) -> float:

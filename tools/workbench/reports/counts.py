@@ -76,11 +76,6 @@ class LockCounts:
         self.home_worker: int | None = None  # of the lock's block before, of its section before
         self.waits: dict[int, Waits] = {}  # by thread
 
-    def add(self, block: report.Block) -> None:
-        """Counts a block that holds the lock."""
-        self.turns += block.turns
-        self.worker = block.worker
-
     def begin(self, block: report.Block, before: report.Block | None, away: bool) -> None:
         """A section of the lock begins with this block, and its thread's block before is given."""
         home = block.worker if before is None else before.worker
@@ -177,8 +172,10 @@ class Counts:
         away = self.away.is_away(block)
         if block.begun is not None:
             self.locks[block.begun].begin(block, self.threads[block.thread].before, away)
-        for lock in block.held:
-            self.locks[lock].add(block)
+        for number in block.held:
+            lock = self.locks[number]
+            lock.turns += block.turns
+            lock.worker = block.worker
         self.threads[block.thread].add(block, away)
         self.workers[block.worker].add(block, away)
         return away

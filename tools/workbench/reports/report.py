@@ -243,11 +243,10 @@ class Report:
                       None if pc is None else int(pc, 16), end)
         if block.stamp != stamp:
             raise self.lines.wrong(f"the line of block {stamp}")
-        for name, value, most in (("thread", block.thread, self.threads),
-                                  ("worker", block.worker, self.workers)):
-            if value >= most:
-                raise Wrong(f"block {stamp}, line {self.lines.number}: there is no {name} {value}, "
-                            f"but {name}s 0 to {most - 1}")
+        if block.thread >= self.threads or block.worker >= self.workers:
+            name, value, most = (("thread", block.thread, self.threads) if block.thread >= self.threads
+                                 else ("worker", block.worker, self.workers))
+            raise Wrong(f"block {stamp}, line {self.lines.number}: there is no {name} {value}, but {name}s 0 to {most - 1}")
         if not 1 <= block.turns <= limits.TURNS or (kind in SECTIONS and not block.held):
             raise Wrong(f"block {stamp}, line {self.lines.number}: it has 1 to {limits.TURNS} turns, and a "
                         "section's first block holds its lock")

@@ -205,8 +205,7 @@ def delegated(guest: model.Guest, fuel: int, workers: int, limit: int, seed: int
     """The history that the seed stands for, which one worker alone does not look at: the run and
     its blocks."""
     hall = Hall(guest, workers, fuel, limit, seed, version, nodes, bound)
-    blocks = hall.history()
-    return hall.run, blocks
+    return hall.run, hall.history()
 
 
 def check_alone(guest: model.Guest, fuel: int, limit: int, report_text: str) -> None:
