@@ -2,19 +2,25 @@
 from docs, from facts.json and from guests whose runs are known on paper."""
 from __future__ import annotations
 
+import contextlib
 import json
+import os
 import pathlib
 import re
 import shutil
+import signal
 import subprocess
+import sys
 import tempfile
+import time
+import traceback
 import unittest
-from typing import Any
+from typing import IO, Any
 
-from tools.workbench import places
+from tools.workbench import command, places
 from tools.workbench.guest import guestfile, made
 from tools.workbench.reports import report
-from tools.workbench.running import delegation
+from tools.workbench.running import delegation, program
 
 ROOT, GUESTS, COURSE = places.ROOT, places.GUESTS, places.COURSE
 NAMES = sorted(json.loads((GUESTS / "facts.json").read_text()))
@@ -39,6 +45,30 @@ BY_HAND_V1 = re.sub(" pc [0-9a-f]{8}", "", BY_HAND).replace("tclocks 2", "tclock
 PCS = ("00100000", "0010000c", "00100000", "0010000c", "00100028", "00100028")
 
 
+# A program that is made up: it answers by the model, and to `replay` of so much fuel with another report. It has as
+# many workers as it gets threads.
+MADE_UP = f"""#!/usr/bin/env -S PYTHONPATH={ROOT} {sys.executable}
+import sys, threading
+from tools.workbench.guest import model
+from tools.workbench.judging import rejecting
+from tools.workbench.running import delegation
+form, *numbers = sys.argv[1:]
+given, numbers = sys.stdin.buffer.read(), [*map(int, numbers)]
+if form == "run":
+    try:
+        for worker in range(1, numbers[0]):
+            threading.Thread(target=int).start()
+    except RuntimeError:
+        numbers[0] = worker
+    run, blocks = delegation.delegated(model.Guest(given), numbers[1], numbers[0], numbers[2])
+    status, text = 0, "\\n".join(run.lines(blocks)) + "\\n"
+else:
+    status, text = rejecting.Given(numbers[0], numbers[1:], given).answer(form)
+sys.stdout.write(text.replace("fuel 13 ", "fuel 14 ", form == "replay"))
+sys.exit(status)
+"""
+
+
 def call(number: int, value: int) -> tuple[int, int, int]:
     """addi x10,x0,value; addi x17,x0,number; ecall."""
     return (value << 20 | 0x513, number << 20 | 0x893, 0x73)
@@ -60,38 +90,53 @@ def saved(name: str, content: bytes | str) -> str:
     return str(path)
 
 
+def script(name: str, text: str) -> str:
+    """The path of a program that is made up."""
+    path = saved(name, text)
+    os.chmod(path, 0o755)
+    return path
+
+
 def elf(name: str) -> str:
     return str(GUESTS / f"{name}.elf")
 
 
-def run(tool: str, *words: pathlib.Path | str, given: bytes | str = b"", root: pathlib.Path = places.ROOT,
-        **more: Any) -> subprocess.CompletedProcess[bytes]:
-    """Runs a tool of a checkout."""
-    given = given if isinstance(given, bytes) else given.encode("ascii")
-    how: dict[str, Any] = {"input": given} if "stdin" not in more else {}
-    return subprocess.run([root / "workbench", *tool.split(), *words], stdout=more.pop("stdout", subprocess.PIPE), stderr=subprocess.PIPE,
-                          check=False, timeout=120, **how, **more)
+def run(tool: str, *words: pathlib.Path | str, given: bytes | str = b"", stdout: IO[bytes] | None = None,
+        by: str | None = None) -> subprocess.CompletedProcess[bytes]:
+    """Runs a tool by a copy of this process, which has the modules already; `by` is another program than the built one."""
+    given, asked = given if isinstance(given, bytes) else given.encode("ascii"), [*tool.split(), *map(str, words)]
+    with tempfile.TemporaryFile() as read, tempfile.TemporaryFile() as out, tempfile.TemporaryFile() as said:
+        read.write(given)
+        read.seek(0)
+        child = os.fork()
+        if not child:
+            for number, file in enumerate((read, stdout or out, said)):
+                os.dup2(file.fileno(), number)
+            sys.stdin, sys.stdout, sys.stderr = open(0), open(1, "w"), open(2, "w")
+            sys.argv[1:], status = asked, 1
+            if by:
+                program.PATH, program.COMMAND = pathlib.Path(by), pathlib.Path("false")
+            signal.alarm(120)
+            try:
+                command.main()
+            except SystemExit as ended:
+                status = int(ended.code or 0)
+            except BaseException:
+                traceback.print_exc()
+            finally:
+                sys.stderr.flush()
+                with contextlib.suppress(OSError):
+                    sys.stdout.flush()
+                os._exit(status)
+        _, status = os.waitpid(child, 0)
+        for file in out, said:
+            file.seek(0)
+        return subprocess.CompletedProcess(asked, os.WEXITSTATUS(status) if os.WIFEXITED(status) else -os.WTERMSIG(status),
+                                           None if stdout else out.read(), said.read())
 
 
-def checkout(name: str) -> pathlib.Path:
-    """A copy of the tools and the guests, beside which no program was built."""
-    root = TEMPORARY / name
-    left = shutil.ignore_patterns("__pycache__", "out", "tests")
-    for folder in "guests", "tools":
-        shutil.copytree(ROOT / folder, root / folder, symlinks=True, ignore=left)
-    for file in "workbench", "workbench.py":
-        shutil.copy(ROOT / file, root)
-    return root
-
-
-def with_program(name: str, text: str) -> pathlib.Path:
-    """A checkout with a program that is made up and, by the command, not out of date."""
-    root = checkout(name)
-    for path, script in ((root / "crates" / "tclocks" / "out" / "tclocks", text), (root / "tclocks", "#!/bin/sh\nexit 1\n")):
-        path.parent.mkdir(parents=True, exist_ok=True)
-        path.write_text(script)
-        path.chmod(0o755)
-    return root
+GUEST = saved("one.elf", built(ONE, (0, 0), 1))
+FINISHED = run("finish", GUEST, given=BY_HAND).stdout
 
 
 def history(name: str, workers: int, batch: int, seed: int | None, fuel: int = 20000,
@@ -101,10 +146,92 @@ def history(name: str, workers: int, batch: int, seed: int | None, fuel: int = 2
 
 
 class Case(unittest.TestCase):
-    def one_line(self, done: subprocess.CompletedProcess[bytes], status: int) -> None:
-        """It ended with this status and one line on standard error, and no traceback."""
+    def one_line(self, done: subprocess.CompletedProcess[bytes], status: int, text: str = "") -> None:
+        """It ended with this status and one line on standard error, and no traceback; and said a text."""
         self.assertEqual((done.returncode, done.stderr.count(b"\n")), (status, 1), done.stderr)
         self.assertNotIn(b"Traceback", done.stderr + (done.stdout or b""))
+        self.assertIn(text, ((done.stdout or b"") + done.stderr).decode())
 
     def says(self, text: str, done: subprocess.CompletedProcess[bytes]) -> None:
         self.assertIn(text, (done.stdout + done.stderr).decode())
+
+    def well(self, tool: str, *words: pathlib.Path | str, **more: Any) -> str:
+        """What a tool prints, which ends with status 0 and says nothing else."""
+        done = run(tool, *words, **more)
+        self.assertEqual((done.returncode, done.stderr), (0, b""), (tool, words, done.stdout[-300:]))
+        return done.stdout.decode()
+
+    def full(self, tool: str, *words: pathlib.Path | str, lines: int = 1, **more: Any) -> None:
+        """A tool whose output goes to a full disk."""
+        with open("/dev/full", "wb") as full:
+            done = run(tool, *words, stdout=full, **more)
+        self.assertEqual((done.returncode, done.stderr.count(b"\n")), (4, lines), done.stderr)
+
+
+class Folder(unittest.TestCase):
+    """A checkout with a toolchain and a program that are made up, for the tests of the command tclocks and of the script that
+    builds it."""
+
+    @classmethod
+    def setUpClass(cls) -> None:
+        # A job in the background ignores some signals, and would hand that on.
+        for number in (signal.SIGINT, signal.SIGHUP, signal.SIGTERM):
+            if signal.getsignal(number) == signal.SIG_IGN:
+                signal.signal(number, signal.SIG_DFL)
+
+    def setUp(self) -> None:
+        self.folder = tempfile.TemporaryDirectory()
+        self.addCleanup(self.folder.cleanup)
+        self.root = pathlib.Path(self.folder.name).resolve()
+        for crate in ("low", "side", "middle", "tc_io", "tc_tests", "tclocks"):
+            self.write(f"crates/{crate}/src/lib.rt", f"// {crate}\n")
+        self.write("guests/exit.elf", "")
+        own = "__init__.py", "limits.py", "places.py", "tool.py", "running/__init__.py", "running/program.py"
+        names = "tclocks", "tclocks-build", "CITATION.cff", "tools/__init__.py", *(f"tools/workbench/{name}" for name in own)
+        for folder, some in ((ROOT, names), (ROOT / "tools" / "tests" / "made-up", ("bin/rt", "program", "crates.txt"))):
+            for name in some:
+                (self.root / name).parent.mkdir(parents=True, exist_ok=True)
+                shutil.copy(folder / name, self.root / name)
+        (self.root / "tmp").mkdir()
+        self.environment = {**os.environ, "PATH": f"{self.root / 'bin'}:{os.environ['PATH']}", "SLEEP": "0.5",
+                            "COUNT": str(self.root / "count"), "TIMES": str(self.root / "times"), "FAILING": "", "MEET": "",
+                            "PROGRAM": str(self.root / "program"), "TMPDIR": str(self.root / "tmp")}
+        self.environment.pop("TCLOCKS_PROGRAM", None)
+
+    def write(self, name: str, text: str) -> None:
+        path = self.root / name
+        path.parent.mkdir(parents=True, exist_ok=True)
+        path.write_text(text)
+
+    def begin(self, *words: str, shell: tuple[str, ...] = (), script: str = "tclocks",
+              **more: Any) -> subprocess.Popen[bytes]:
+        return subprocess.Popen([*shell, self.root / script, *words], env={**self.environment, **more},
+                                stdin=subprocess.PIPE, stdout=subprocess.PIPE, stderr=subprocess.PIPE)
+
+    def command(self, *words: str, given: bytes = b"", **more: Any) -> tuple[int, bytes, str]:
+        """The status, the output and what was said."""
+        started = self.begin(*words, **more)
+        out, said = started.communicate(given, timeout=60)
+        return started.returncode, out, said.decode()
+
+    def build(self, *words: str, **more: Any) -> tuple[int, bytes, str]:
+        return self.command(*words, script="tclocks-build", **more)
+
+    def count(self) -> list[str]:
+        """What the toolchain was asked for by the command."""
+        path = self.root / "count"
+        return [line.split()[0] for line in path.read_text().splitlines()] if path.exists() else []
+
+    def wait_for(self, name: str) -> None:
+        """Waits until a file or a folder is there."""
+        until = time.monotonic() + 50
+        while not (self.root / name).exists():
+            self.assertLess(time.monotonic(), until, name)
+            time.sleep(0.05)
+
+    def left_over(self) -> list[Any]:
+        """What is left of runs without proof."""
+        return sorted(path.name for path in (self.root / "tmp").iterdir())
+
+    def running(self, what: str) -> str:
+        return subprocess.run(["pgrep", "-f", f"sh {self.root}/{what}"], check=False, stdout=subprocess.PIPE).stdout.decode()

@@ -1,301 +1,290 @@
-"""The scripts that measure, as far as they need no program."""
+"""The scripts that measure, by a program that is made up; and sweeps: their table against simulate and summary, and their
+pictures."""
 from __future__ import annotations
 
 import csv
 import json
 import pathlib
+import re
 import shutil
 import subprocess
 import sys
 import unittest
+import xml.etree.ElementTree
 from typing import Any
 
+from tools.workbench.benches import guests
 from tools.workbench.guest import guestfile
-from .common import ROOT, TEMPORARY, Case, checkout, elf, run, saved, with_program
+from tools.workbench.running import delegation
+from .common import BY_HAND, GUEST, GUESTS, MADE_UP, NAMES, ROOT, TEMPORARY, Case, elf, run, saved, script
 
-BENCHES = ROOT / "tools" / "workbench" / "benches"
 
-
-def bench(*words: str | pathlib.Path, name: str = "run", root: Any = ROOT) -> subprocess.CompletedProcess[bytes]:
-    return run(f"bench {name}", *words, root=root)
+BENCHES = ("run", ()), ("nodes", ("4", "100", "8")), ("replay", ()), ("peer", ()), ("several", ()), ("together", ())
+PROGRAM = script("measured", MADE_UP)
+COMPILER = unittest.skipUnless(shutil.which("cc"), "there is no C compiler")
 
 
 class Bench(Case):
+    def table(self, name: str, *words: str, status: int = 0) -> tuple[list[list[str]], list[str]]:
+        """The cells of a table's lines, and the lines behind it."""
+        done = run(f"bench {name}", "-p", PROGRAM, *words)
+        self.assertEqual((done.returncode, done.stderr), (status, b""), done.stdout)
+        lines = done.stdout.decode().splitlines()
+        return ([[cell.strip() for cell in line.split("|")[1:-1]] for line in lines if line.startswith("|")],
+                [line for line in lines if line and not line.startswith("|")])
+
     def test_the_folder_of_guests_is_made(self) -> None:
         folder = TEMPORARY / "some" / "new" / "folder"
         for _ in range(2):
-            done = bench("-o", folder, "sleeps", "hot-lock")
-            self.assertEqual((done.returncode, done.stdout, done.stderr), (0, b"", b""))
+            self.assertEqual(self.well("bench run", "-o", folder, "sleeps", "hot-lock"), "")
         self.assertEqual(sorted(path.name for path in folder.iterdir()), ["hot-lock.elf", "sleeps.elf"])
         for path in folder.iterdir():
             self.assertEqual(len(guestfile.load(str(path)).guest.entries), 16)
 
-    def test_words(self) -> None:
-        done = bench("--help")
-        self.assertEqual((done.returncode, done.stderr), (0, b""))
-        self.says("usage: workbench bench run", done)
-        for words in (("nobody",), ("-w", "9"), ("-w", "1,"), ("-b", "257"), ("-f", "0"), ("-r", "0"), ("-x",)):
-            done = bench(*words)
-            self.one_line(done, 1)
-            self.assertTrue(done.stderr.startswith(b"workbench bench run: "))
-
-    def test_a_folder_that_can_not_be_made(self) -> None:
-        file = TEMPORARY / "file"
-        file.write_bytes(b"")
-        self.one_line(bench("-o", file, "sleeps"), 4)
-        self.one_line(bench("-o", "/proc/none", "sleeps"), 4)
-
-    def test_without_a_program_it_starts_nothing(self) -> None:
-        copy = checkout("checkout")
-        for name, words in (("run", ("sleeps",)), ("nodes", ("4", "100", "8")), ("replay", ("sleeps",)), ("peer", ()),
-                            ("several", ()), ("together", ())):
-            done = bench(*words, name=name, root=copy)
-            self.one_line(done, 2)
-            self.says("./tclocks-build", done)
-
-    def test_another_program_that_is_not_there(self) -> None:
-        for name, words in (("run", ()), ("nodes", ("4", "100", "8")), ("replay", ()), ("peer", ()), ("several", ()),
-                            ("together", ())):
+    def test_without_the_program(self) -> None:
+        for name, words in BENCHES:
+            self.one_line(run(f"bench {name}", *words, by="/no/such/file"), 2, "./tclocks-build")
             for path in "/no/such/file", "/", __file__:
-                done = bench(*words, "-p", path, name=name)
-                self.one_line(done, 2)
-                self.says(f"workbench bench {name}: {path}: there is no such program", done)
+                done = run(f"bench {name}", *words, "-p", path)
+                self.one_line(done, 2, f"workbench bench {name}: {path}: there is no such program")
 
-
-class Nodes(Case):
-    def test_words(self) -> None:
-        done = bench("--help", name="nodes")
-        self.assertEqual((done.returncode, done.stderr), (0, b""))
-        self.says("usage: workbench bench nodes", done)
-        for words in ((), ("9", "1", "1"), ("1", "1", "1", "nobody"), ("1", "1", "1", "-r", "0")):
-            self.one_line(bench(*words, name="nodes"), 1)
-
-    def test_the_table(self) -> None:
-        """By a program that is made up: with one seed each order's line has the numbers of its sweep."""
-        root = with_program("orders", f"""#!/bin/sh
+    def test_nodes(self) -> None:
+        """With one seed each order's line has the numbers of its sweep."""
+        by = script("orders", f"""#!/bin/sh
 if [ "$1" = nodes ]; then orders="--nodes $2 $3"; shift 2; fi
 shift
 exec {ROOT}/workbench run - "$@" --seed 1 $orders 2>/dev/null
 """)
-        done = bench("2", "200", "8", "counter", "hot-lock", "-r", "1", name="nodes", root=root)
-        self.assertEqual((done.returncode, done.stderr), (0, b""))
-        rows = [[cell.strip() for cell in line.split("|")[1:-1]] for line in done.stdout.decode().splitlines()]
+        rows, _ = self.table("nodes", "-p", by, "2", "200", "8", "counter", "hot-lock", "-r", "1")
         self.assertEqual(rows[0], ["Guest", "Words", "Taken", "Adopted", "Granted", "Changes", "Changes of node",
                                    "Other node", "Seconds"])
         words = ["`run`", *(f"`nodes {nodes} {bound}`" for nodes in (1, 2) for bound in (0, 4, 256))]
         self.assertEqual([row[:2] for row in rows[2:]], [[name, word] for name in ("counter", "hot-lock") for word in words])
-        swept = run("sweep", elf("counter"), "--workers", "2", "--batch", "8", "--nodes", "0,1,2", "--bound", "0,4,256",
-                    "--runs", "1", "--fuel", "200", root=root)
-        self.assertEqual([row[2:8] for row in rows[2:9]],
-                         [[row[name] for name in ("taken", "adopted", "granted", "changes", "changes_of_node",
-                                                         "other_node")]
-                          for row in csv.DictReader(swept.stdout.decode().splitlines())])
+        swept = self.well("sweep", elf("counter"), "--workers", "2", "--batch", "8", "--nodes", "0,1,2", "--bound", "0,4,256",
+                          "--runs", "1", "--fuel", "200", by=by)
+        names = "taken", "adopted", "granted", "changes", "changes_of_node", "other_node"
+        self.assertEqual([row[2:8] for row in rows[2:9]], [[row[name] for name in names] for row in csv.DictReader(swept.splitlines())])
 
-
-# A program that is made up: it answers by the model, and to `replay` of so much fuel with another report. It has as
-# many workers as it gets threads.
-MADE_UP = f"""#!/usr/bin/env -S PYTHONPATH={ROOT} {sys.executable}
-import sys, threading
-from tools.workbench.guest import model
-from tools.workbench.judging import rejecting
-from tools.workbench.running import delegation
-form, *numbers = sys.argv[1:]
-given, numbers = sys.stdin.buffer.read(), [*map(int, numbers)]
-if form == "run":
-    try:
-        for worker in range(1, numbers[0]):
-            threading.Thread(target=int).start()
-    except RuntimeError:
-        numbers[0] = worker
-    run, blocks = delegation.delegated(model.Guest(given), numbers[1], numbers[0], numbers[2])
-    status, text = 0, "\\n".join(run.lines(blocks)) + "\\n"
-else:
-    status, text = rejecting.Given(numbers[0], numbers[1:], given).answer(form)
-sys.stdout.write(text.replace("fuel 13 ", "fuel 14 ", form == "replay"))
-sys.exit(status)
-"""
-
-
-class Replay(Case):
-    def test_words(self) -> None:
-        done = bench("--help", name="replay")
-        self.assertEqual((done.returncode, done.stderr), (0, b""))
-        self.says("usage: workbench bench replay", done)
-        for words in (("nobody",), ("-f", "0"), ("-f", "1,"), ("-b", "257"), ("-r", "0"), ("-w", "1")):
-            self.one_line(bench(*words, name="replay"), 1)
-
-    def test_the_table(self) -> None:
-        root = with_program("replays", MADE_UP)
-        done = bench("-f", "13,20", "hot-lock", "longest-history", name="replay", root=root)
-        self.assertEqual((done.returncode, done.stderr), (3, b""))
-        table, told = rows(done)
-        self.assertEqual([row[0] for row in table], ["Guest", "---", "hot-lock", "longest-history"])
+    def test_replay(self) -> None:
+        rows, told = self.table("replay", "-f", "13,20", "hot-lock", "longest-history", status=3)
+        self.assertEqual([row[0] for row in rows], ["Guest", "---", "hot-lock", "longest-history"])
         self.assertEqual([line.partition(":")[0] for line in told], ["hot-lock", "longest-history"])
         for line in told:
             self.assertIn("prints another report than the run's", line)
         # One worker runs a thread after another: each has its own first block, and then takes and gives the lock.
-        text = run("run", "-", "1", "20", "0", "--seed", "0", given=guests_file("hot-lock")).stdout.decode()
+        text = run("run", "-", "1", "20", "0", "--seed", "0", given=guests.GUESTS["hot-lock"]()).stdout.decode()
         history = "".join(line for line in text.splitlines(keepends=True) if line.startswith("block "))
-        self.assertEqual(table[2][1:3], [f"{history.count(chr(10)):,}", f"{len(history):,}"])
+        self.assertEqual(rows[2][1:3], [f"{history.count(chr(10)):,}", f"{len(history):,}"])
 
-
-def rows(done: subprocess.CompletedProcess[bytes]) -> tuple[list[list[str]], list[str]]:
-    """The cells of a table's lines, and the lines behind it."""
-    lines = done.stdout.decode().splitlines()
-    return ([[cell.strip() for cell in line.split("|")[1:-1]] for line in lines if line.startswith("|")],
-            [line for line in lines if line and not line.startswith("|")])
-
-
-@unittest.skipUnless(shutil.which("cc"), "there is no C compiler")
-class Peer(Case):
-    def setUp(self) -> None:
-        self.made_up = saved("peer-program", MADE_UP)
-        pathlib.Path(self.made_up).chmod(0o755)
-
-    def peer(self, *words: str) -> subprocess.CompletedProcess[bytes]:
-        return bench("-p", self.made_up, "-r", "1", *words, name="peer")
-
-    def test_guests_run_as_by_the_model(self) -> None:
-        """The model takes the peer's history, and comes to the same report."""
-        names = ["own-locks", "nested-locks", "sleeps", "memory"]
-        done = self.peer("-f", "100", *names)
-        self.assertEqual((done.returncode, done.stderr), (0, b""), done.stdout)
-        table, told = rows(done)
-        self.assertEqual([row[:2] for row in table[2:]], [[name, "1,616"] for name in names])  # 16 threads: 100 turns and a spent one
-        self.assertEqual(len(told), 1)
-        self.assertTrue(told[0].startswith("Of 4 guests of bench/, "))
-
-    def test_what_is_known_of_guests_holds(self) -> None:
-        done = self.peer("-f", "20000", "counter", "faults")
-        self.assertEqual((done.returncode, done.stderr), (0, b""), done.stdout)
-        self.assertEqual([row[1] for row in rows(done)[0][2:]], ["6,848", "62"])
-
-    def test_another_report(self) -> None:
-        done = self.peer("-f", "13", "hot-lock", "sleeps")
-        self.assertEqual((done.returncode, done.stderr), (3, b""))
-        for name in "hot-lock", "sleeps":
-            self.says(f"{name}: replay prints another report of the peer's history than the peer", done)
-
-    def test_words(self) -> None:
-        self.says("usage: workbench bench peer", bench("--help", name="peer"))
-        for words in (("nobody",), ("-f", "0"), ("-r", "0"), ("-c", "9999"), ("-w", "1")):
-            self.one_line(bench(*words, name="peer"), 1)
-
-    def test_without_a_compiler(self) -> None:
-        for name in "peer", "together":
-            done = subprocess.run([sys.executable, ROOT / "workbench.py", "bench", name, "-p", self.made_up], env={"PATH": "/no/such/folder"},
-                                  stdout=subprocess.PIPE, stderr=subprocess.PIPE, check=False)
-            self.one_line(done, 2)
-            self.says("cc is not on the PATH", done)
-
-    def test_the_peer_refuses(self) -> None:
-        peer = TEMPORARY / "peer"
-        subprocess.run(["cc", "-O2", "-pthread", "-o", peer, BENCHES / "peer.c"], check=True)
-        file = pathlib.Path(elf("counter")).read_bytes()
-        for given in b"", file[:80], bytes(100):
-            done = subprocess.run([peer, "100"], input=given, stdout=subprocess.PIPE, stderr=subprocess.PIPE, check=False)
-            self.assertEqual((done.returncode, done.stdout, done.stderr), (3, b"", b"peer: this is no guest\n"))
-        done = subprocess.run([peer], stdout=subprocess.PIPE, stderr=subprocess.PIPE, check=False)
-        self.assertEqual((done.returncode, done.stderr), (1, b"peer: usage: peer FUEL [history] < GUEST\n"))
-
-
-class Results(Case):
     def test_the_table_is_made_of_the_raw_results(self) -> None:
-        root, file = with_program("results", MADE_UP), TEMPORARY / "results.json"
-        done = bench("-f", "20", "hot-lock", "sleeps", "--results", str(file), name="replay", root=root)
-        self.assertEqual((done.returncode, done.stderr), (0, b""))
-        self.assertEqual(bench(file, name="table").stdout, done.stdout)
+        file = TEMPORARY / "results.json"
+        done = self.well("bench replay", "-p", PROGRAM, "-f", "20", "hot-lock", "sleeps", "--results", file)
+        self.assertEqual(self.well("bench table", file), done)
         first, *others = [json.loads(line) for line in file.read_text().splitlines()]
         self.assertEqual((first["bench"], first["words"]["guests"]), ("replay", ["hot-lock", "sleeps"]))
         self.assertEqual([one["cells"][0] for one in others], ["hot-lock", "sleeps"])
-
-    def test_wrong_uses(self) -> None:
-        self.one_line(bench("sleeps", "--results", "/proc/none", name="replay", root=with_program("kept", MADE_UP)), 4)
-        self.one_line(bench("/no/such/file", name="table"), 2)
+        self.one_line(run("bench replay", "-p", PROGRAM, "sleeps", "--results", "/proc/none"), 4)
         for text in "", "{}", "[]", "{\"columns\": [3]}", "no":
-            self.one_line(bench(saved("wrong.json", text), name="table"), 3)
+            self.one_line(run("bench table", saved("wrong.json", text)), 3)
 
-
-class Several(Case):
-    def test_words(self) -> None:
-        self.says("usage: workbench bench several", bench("--help", name="several"))
-        for words in (("nobody",), ("-f", "0"), ("-w", "1,"), ("-w", "9"), ("-b", "257"), ("-r", "0"), ("-q", "free")):
-            self.one_line(bench(*words, name="several"), 1)
-
-    def test_the_table(self) -> None:
-        made_up = saved("several-program", MADE_UP)
-        pathlib.Path(made_up).chmod(0o755)
-        done = bench("-p", made_up, "-r", "1", "-f", "20", "-w", "2,1", "hot-lock", "own-locks", name="several")
-        self.assertEqual((done.returncode, done.stderr), (0, b""), done.stdout)
-        table, told = rows(done)
-        self.assertEqual(table[0], ["Guest", "Seconds: 1 worker", "2 workers", "Processor: 1 worker", "2 workers",
-                                    "Seconds, 2 workers to 1 worker", "Processor, 2 workers to 1 worker",
-                                    "Clock, 2 workers to 1 worker", "Loop, 2 workers to 1 worker",
-                                    "Shared loop, 2 workers to 1 worker", "Rounds"])
-        self.assertEqual([(row[0], len(row), row[10]) for row in table[2:]],
+    def test_several(self) -> None:
+        rows, told = self.table("several", "-r", "1", "-f", "20", "-w", "2,1", "hot-lock", "own-locks")
+        self.assertEqual(rows[0], ["Guest", "Seconds: 1 worker", "2 workers", "Processor: 1 worker", "2 workers", *(
+            f"{what}, 2 workers to 1 worker" for what in ("Seconds", "Processor", "Clock", "Loop", "Shared loop")), "Rounds"])
+        self.assertEqual([(row[0], len(row), row[10]) for row in rows[2:]],
                          [("hot-lock", 11, "1 of 1"), ("own-locks", 11, "1 of 1")])
-        self.assertEqual([[bool(cell) for cell in row[7:10]] for row in table[2:]], [[bool(shutil.which("cc"))] * 3] * 2)
+        self.assertEqual([[bool(cell) for cell in row[7:10]] for row in rows[2:]], [[bool(shutil.which("cc"))] * 3] * 2)
         self.assertEqual(len(told), 1)
         self.assertIn("least of 1, 2 workers to 1 worker", told[0])
 
-    def test_medians(self) -> None:
-        made_up = saved("median-program", MADE_UP)
-        pathlib.Path(made_up).chmod(0o755)
-        done = bench("-m", "-p", made_up, "-r", "3", "-f", "20", "-w", "1,2", "hot-lock", name="several")
-        self.assertEqual((done.returncode, done.stderr), (0, b""), done.stdout)
-        table, told = rows(done)
-        self.assertEqual([(row[0], row[10]) for row in table[2:]], [("hot-lock", "3 of 3")])
+    def test_several_by_medians(self) -> None:
+        rows, told = self.table("several", "-m", "-r", "3", "-f", "20", "-w", "1,2", "hot-lock")
+        self.assertEqual([(row[0], row[10]) for row in rows[2:]], [("hot-lock", "3 of 3")])
         self.assertIn("median of 3, 2 workers to 1 worker", told[0])
 
-    @unittest.skipUnless(shutil.which("cc"), "there is no C compiler")
-    def test_runs_in_company(self) -> None:
-        made_up = saved("even-program", MADE_UP)
-        pathlib.Path(made_up).chmod(0o755)
-        done = bench("-e", "-p", made_up, "-r", "1", "-f", "20", "-w", "1,3", "hot-lock", name="several")
-        self.assertEqual((done.returncode, done.stderr), (0, b""), done.stdout)
-        self.assertEqual([row[10] for row in rows(done)[0][2:]], ["1 of 1"])
-
-    @unittest.skipUnless(shutil.which("cc"), "there is no C compiler")
-    def test_rounds_in_which_processors_were_free(self) -> None:
-        made_up = saved("quiet-program", MADE_UP)
-        pathlib.Path(made_up).chmod(0o755)
-        words = "-p", made_up, "-r", "1", "-f", "20", "-w", "1,2", "hot-lock"
-        done = bench("-q", "1000", *words, name="several")
-        self.assertEqual((done.returncode, done.stderr), (0, b""), done.stdout)
-        self.assertEqual([row[10] for row in rows(done)[0][2:]], ["1 of 1"])
+    @COMPILER
+    def test_several_in_company_and_where_processors_were_free(self) -> None:
+        words = "-r", "1", "-f", "20", "hot-lock"
+        for more in ("-e", "-w", "1,3"), ("-q", "1000", "-w", "1,2"):
+            self.assertEqual([row[10] for row in self.table("several", *more, *words)[0][2:]], ["1 of 1"])
         # No two threads take less time than one.
-        done = bench("-q", "0.01", *words, name="several")
-        self.assertEqual((done.returncode, done.stderr), (2, b"workbench bench several: hot-lock: the processors were not free in one of 30 rounds\n"))
+        done = run("bench several", "-p", PROGRAM, "-q", "0.01", "-w", "1,2", *words)
+        self.one_line(done, 2, "workbench bench several: hot-lock: the processors were not free in one of 30 rounds\n")
 
-
-@unittest.skipUnless(shutil.which("cc"), "there is no C compiler")
-class Together(Case):
-    def test_words(self) -> None:
-        self.says("usage: workbench bench together", bench("--help", name="together"))
-        for words in (("nobody",), ("-w", "1"), ("-w", "4,"), ("-r", "0")):
-            self.one_line(bench(*words, name="together"), 1)
-
-    def test_the_table(self) -> None:
-        made_up = saved("together-program", MADE_UP)
-        pathlib.Path(made_up).chmod(0o755)
-        done = bench("-p", made_up, "-r", "2", "-w", "2,3", "buffer", name="together")
-        self.assertEqual((done.returncode, done.stderr), (0, b""), done.stdout)
-        table, told = rows(done)
-        self.assertEqual([row[:5] for row in table[2:]], [
+    @COMPILER
+    def test_together(self) -> None:
+        rows, told = self.table("together", "-r", "2", "-w", "2,3", "buffer")
+        self.assertEqual([row[:5] for row in rows[2:]], [
             ["buffer", workers, threads, "2", "0" if threads == "none" else "2"]
             for workers in ("2", "3") for threads in ("all", "one", "none")])
         self.assertEqual([line.partition(" of 4 runs ended with status 0; ")[0] for line in told],
                          [f"Threads of the host: {threads}. All" for threads in ("all", "one", "none")])
 
-    def test_a_program_whose_threads_can_not_be_refused(self) -> None:
-        made_up = saved("alone-program", MADE_UP.replace("range(1, numbers[0])", "()"))
-        pathlib.Path(made_up).chmod(0o755)
-        done = bench("-p", made_up, "-r", "1", "-w", "2", "buffer", name="together")
-        self.one_line(done, 2)
-        self.says("no thread could be refused", done)
+    @COMPILER
+    def test_together_with_a_program_whose_threads_can_not_be_refused(self) -> None:
+        alone = script("alone-program", MADE_UP.replace("range(1, numbers[0])", "()"))
+        done = run("bench together", "-p", alone, "-r", "1", "-w", "2", "buffer")
+        self.one_line(done, 2, "no thread could be refused")
+
+    @COMPILER
+    def test_peer_runs_guests_as_the_model(self) -> None:
+        """The model takes the peer's history, and comes to the same report."""
+        names = ["own-locks", "nested-locks", "sleeps", "memory"]
+        rows, told = self.table("peer", "-r", "1", "-f", "100", *names)
+        self.assertEqual([row[:2] for row in rows[2:]], [[name, "1,616"] for name in names])  # 16 threads: 100 turns and a spent one
+        self.assertEqual(len(told), 1)
+        self.assertTrue(told[0].startswith("Of 4 guests of bench/, "))
+
+    @COMPILER
+    def test_peer_and_what_is_known_of_guests(self) -> None:
+        rows, _ = self.table("peer", "-r", "1", "-f", "20000", "counter", "faults")
+        self.assertEqual([row[1] for row in rows[2:]], ["6,848", "62"])
+
+    @COMPILER
+    def test_peer_and_another_report(self) -> None:
+        _, told = self.table("peer", "-r", "1", "-f", "13", "hot-lock", "sleeps", status=3)
+        for name, line in zip(("hot-lock", "sleeps"), told):
+            self.assertIn(f"{name}: replay prints another report of the peer's history than the peer", line)
+
+    @COMPILER
+    def test_peer_and_together_without_a_compiler(self) -> None:
+        for name in "peer", "together":
+            done = subprocess.run([sys.executable, ROOT / "workbench.py", "bench", name, "-p", PROGRAM],
+                                  env={"PATH": "/no/such/folder"}, capture_output=True, check=False)
+            self.one_line(done, 2, "cc is not on the PATH")
+
+    @COMPILER
+    def test_the_peer_refuses(self) -> None:
+        peer, file = TEMPORARY / "peer", pathlib.Path(elf("counter")).read_bytes()
+        subprocess.run(["cc", "-O2", "-pthread", "-o", peer, ROOT / "tools/workbench/benches/peer.c"], check=True)
+        for given in b"", file[:80], bytes(100):
+            done = subprocess.run([peer, "100"], input=given, capture_output=True, check=False)
+            self.assertEqual((done.returncode, done.stdout, done.stderr), (3, b"", b"peer: this is no guest\n"))
+        done = subprocess.run([peer], capture_output=True, check=False)
+        self.assertEqual((done.returncode, done.stderr), (1, b"peer: usage: peer FUEL [history] < GUEST\n"))
 
 
-def guests_file(name: str) -> bytes:
-    """The file of a guest of bench/."""
-    bench("-o", TEMPORARY / "guests", name)
-    return (TEMPORARY / "guests" / f"{name}.elf").read_bytes()
+def table(done: Any) -> Any:
+    return list(csv.DictReader(done.stdout.decode().splitlines()))
+
+
+class Sweep(Case):
+    def test_each_line_is_the_run_of_its_seed(self) -> None:
+        done = run("sweep", elf("philosophers"), "--workers", "1,4", "--batch", "0,8", "--runs", "2", "--model", "--seed", "9")
+        rows = table(done)
+        self.assertEqual([(row["workers"], row["batch"], row["run"]) for row in rows],
+                         [(w, b, r) for w in "14" for b in "08" for r in "12"])
+        for row in rows:
+            text = run("simulate", elf("philosophers"), row["workers"], row["fuel"], row["batch"],
+                       "--seed", row["seed"]).stdout
+            locks = json.loads(run("summary", "-", "--json", given=text).stdout)["by_lock"]
+            for name in ("sections", "taken", "adopted", "granted", "changes", "home", "away", "waiting"):
+                self.assertEqual(int(row[name]), sum(lock[name] for lock in locks), name)
+            for name in ("longest", "longest_wait"):
+                self.assertEqual(int(row[name]), max(lock[name] for lock in locks), name)
+            self.assertEqual((row["guest"], row["by"], row["lock"], row["seconds"]),
+                             ("philosophers.elf", "model", "all", ""))
+            self.assertEqual(int(row["blocks"]), text.count(b"\nblock "))
+
+    def test_standard_input(self) -> None:
+        words = ("--workers", "1", "--batch", "0", "--runs", "1", "--model")
+        done = run("sweep", "-", *words, given=(GUESTS / "first.elf").read_bytes())
+        self.assertEqual(done.stdout.replace(b"\n-,", b"\nfirst.elf,"), run("sweep", elf("first"), *words).stdout)
+
+    def test_a_line_for_each_lock(self) -> None:
+        rows = table(run("sweep", elf("philosophers"), "--workers", "2", "--batch", "1", "--runs", "1", "--model", "--locks"))
+        self.assertEqual([(row["lock"], row["sections"]) for row in rows],
+                         [(str(lock), "24") for lock in range(5)] + [("5", "60")])
+
+    def test_what_batch_limits_say(self) -> None:
+        """With 0 nothing is adopted; with B no row is longer, and the data stays."""
+        rows = {row["batch"]: row for row in table(run(
+            "sweep", elf("counter"), "--workers", "4", "--batch", "0,1,256", "--runs", "1", "--model"))}
+        self.assertEqual((rows["0"]["adopted"], rows["0"]["rows"], rows["1"]["longest"]), ("0", "0", "1"))
+        self.assertLessEqual(int(rows["256"]["granted"]), 480 // 257)
+        self.assertLess(10 * int(rows["256"]["changes"]), int(rows["0"]["changes"]))
+
+    def test_nodes(self) -> None:
+        """With one node nobody is on another one; more nodes than workers are left out; each run is that of guests/run."""
+        words = ("--workers", "2,4", "--batch", "8", "--nodes", "0,1,2,4", "--bound", "0,3", "--runs", "1", "--model")
+        rows = table(run("sweep", elf("counter"), *words, "--plot", str(TEMPORARY / "nodes.svg")))
+        self.assertEqual([(row["workers"], row["nodes"], row["bound"]) for row in rows],
+                         [("2", "", "")] + [("2", n, k) for n in "12" for k in "03"]
+                         + [("4", "", "")] + [("4", n, k) for n in "124" for k in "03"])
+        for row in rows:
+            if row["nodes"] in ("", "1"):
+                self.assertEqual([row[name] or "0" for name in ("changes_of_node", "other_node")], ["0", "0"])
+            if row["nodes"] == row["workers"]:
+                self.assertEqual(row["changes_of_node"], row["changes"])
+            more = ("--nodes", row["nodes"], row["bound"]) if row["nodes"] else ()
+            text = run("run", elf("counter"), row["workers"], row["fuel"], row["batch"], "--seed", row["seed"], *more).stdout
+            self.says("a legal run, to the end of every thread", run("judge", elf("counter"), given=text))
+            self.assertEqual(row["adopted"], str(text.count(b" kind adopted ")))
+        self.assertIn("4 workers, 2 nodes, bound 3", (TEMPORARY / "nodes.svg").read_text())
+
+    def test_whom_a_line_prefers(self) -> None:
+        """One waiter of node 1 came before two of node 0, and a worker of node 0 passes the lock on three times."""
+        guest, worker = guestfile.load(elf("counter")).guest, delegation.Worker(0)
+        for nodes, bound, wanted in ((0, 0, [1, 2, 3]), (2, 0, [1, 2, 3]), (2, 1, [2, 1, 3]), (2, 2, [2, 3, 1])):
+            hall = delegation.Hall(guest, 4, 100, 8, 0, nodes=nodes, bound=bound)
+            hall.line[0] = [0, 1, 2, 3]
+            hall.linked, hall.shipped = {(thread, 0) for thread in (1, 2, 3)}, {1: [3, 0], 2: [2, 0], 3: [0, 0]}
+            found = []
+            for _ in wanted:
+                found.append(hall.next_in_line(0, worker))
+                hall.line[0].remove(found[-1])
+            self.assertEqual(found, wanted, (nodes, bound))
+
+    def test_a_guest_without_locks(self) -> None:
+        row, = table(run("sweep", elf("exit"), "--workers", "1", "--batch", "0", "--runs", "1", "--model"))
+        self.assertEqual((row["sections"], row["longest"], row["blocks"], row["turns"]), ("0", "0", "1", "2"))
+
+    def test_by_the_program(self) -> None:
+        """One that is made up, in the place of the built one."""
+        by = script("sweeping", f'#!/bin/sh\n[ "$1" = run ] || exit 1\nshift\nexec {ROOT}/workbench simulate - "$@" --seed 5\n')
+        words = ("--workers", "2", "--batch", "8", "--runs", "2", "--fuel", "900")
+        by_program = run("sweep", elf("counter"), *words, "--plot", str(TEMPORARY / "seconds.svg"), by=by)
+        self.assertEqual(by_program.stderr, b"")
+        by_model = table(run("sweep", elf("counter"), *words, "--model", "--seed", "5"))
+        for row in table(by_program):
+            self.assertEqual((row["by"], row["seed"]), ("program", ""))
+            self.assertGreater(float(row["seconds"]), 0)
+            self.assertEqual({**row, "by": "model", "seed": "5", "seconds": "", "run": "1"}, by_model[0])
+        self.assertIn("Seconds", (TEMPORARY / "seconds.svg").read_text())
+        self.one_line(run("sweep", elf("counter"), by=script("failing", "#!/bin/sh\nexit 5\n")), 3)
+
+    def test_each_guest(self) -> None:
+        for name in NAMES:
+            words = [] if name == "exit" else ["--strips", str(TEMPORARY / f"{name}.svg")]
+            done = run("sweep", elf(name), "--workers", "3", "--batch", "2", "--runs", "1", "--fuel", "600", "--model",
+                       "--plot", str(TEMPORARY / f"{name}-plot.svg"), *words)
+            self.assertEqual((done.returncode, done.stderr, len(table(done))), (0, b"", 1), name)
+
+    def test_pictures(self) -> None:
+        plot, strips = TEMPORARY / "plot.svg", TEMPORARY / "strips.svg"
+        for name in ("counter", "philosophers", "first"):
+            done = run("sweep", elf(name), "--workers", "1,3", "--batch", "0,2,256", "--runs", "2", "--model",
+                       "--plot", str(plot), "--strips", str(strips), "--sections", "100")
+            self.assertEqual(done.returncode, 0)
+            for path in (plot, strips):
+                text = path.read_text()
+                xml.etree.ElementTree.fromstring(text)
+                self.assertNotIn("<script", text)
+            self.assertNotIn("Seconds", plot.read_text())
+        moved = re.findall(r"in (\d+) sections the lock changed its worker (\d+) times", strips.read_text())
+        rows = [row for row in table(done) if row["run"] == "1"]
+        self.assertEqual(moved, [(row["sections"], row["changes"]) for row in rows])
+
+    def test_strips_on_paper(self) -> None:
+        """The two sections of a guest that counts once are of worker 0 alone."""
+        path = TEMPORARY / "paper.svg"
+        run("sweep", GUEST, "--workers", "1", "--batch", "0", "--runs", "1", "--model",
+            "--strips", str(path))
+        self.assertIn("worker 0: 2 of these sections, in 1 stretch<", path.read_text())
+
+    def test_wrong_files(self) -> None:
+        quick = ("--workers", "1", "--batch", "0", "--runs", "1", "--model")
+        self.one_line(run("sweep", saved("text.elf", BY_HAND)), 3)
+        for option in ("--plot", "--strips"):
+            self.one_line(run("sweep", elf("first"), *quick, option, "/no/such/folder/x.svg"), 4)
+        self.full("sweep", elf("first"), *quick)

@@ -2,6 +2,7 @@
 and that it passes on all that the program does; and its words, against the program's own rules."""
 from __future__ import annotations
 
+import ast
 import pathlib
 import re
 import signal
@@ -10,7 +11,7 @@ import sys
 import time
 import unittest
 
-from .madeup import ROOT, Folder
+from .common import ROOT, Folder
 
 # The program's own line.
 USAGE = re.search(r'let line =\s+"(usage: [^"]*)\\n"', (ROOT / "crates/tc_main/src/answer.rt").read_text()).group(1).encode() + b"\n"  # type: ignore[union-attr]
@@ -24,14 +25,6 @@ WRONG = ("", "run", "run 1 1", "run 1 1 0 0", "run 0 10 1", "run 9 10 1", "run 2
          "replay", "replay 92 1 100", "replay 0 1 100 0", "replay 1048577 1 100 0", "replay 092 1 100 0", "replay 92 1 100 0 0",
          "profile 92 9 100 0", "profile 1 100 0", "nodes", "nodes 3 4 2 2000 8", "nodes 0 4 2 2000 8", "nodes 1 257 2 2000 8", "nodes 2 4 4 2000", "nodes 2 4 4 2000 8 8",
          "--version", "-h", "Run 1 1 0", "run 1 1 ٣")
-
-
-def words_of_tests() -> list[list[bytes]]:
-    """The lists of words that the tests of the program hold for wrong."""
-    text = (ROOT / "crates/tc_tests/src/outside.rt").read_text()
-    table = re.search(r"(?s)\[[^=]*= ?&?\[(.*?)\n\];", text).group(1)  # type: ignore[union-attr]
-    lists = re.findall(r"&\[((?:b\"[^\"]*\"(?:, )?)*)\]", table)
-    return [[eval(word) for word in re.findall(r"b\"[^\"]*\"", words)] for words in lists]
 
 
 class Command(Folder):
@@ -220,9 +213,12 @@ class Rules(unittest.TestCase):
         self.assertIn(f"\nhistory={named['MAX_HISTORY']}\n", self.script)
 
     def test_the_programs_own_wrong_words_are_wrong_here(self) -> None:
-        lists = words_of_tests()
+        table = re.search(r"(?s)\[[^=]*= ?&?\[(.*?)\n\];", (ROOT / "crates/tc_tests/src/outside.rt").read_text())
+        assert table
+        lists = re.findall(r"&\[((?:b\"[^\"]*\"(?:, )?)*)\]", table[1])
         self.assertGreater(len(lists), 30)
-        for words in lists:
+        for listed in lists:
+            words = [ast.literal_eval(word) for word in re.findall(r"b\"[^\"]*\"", listed)]
             done = subprocess.run([ROOT / "tclocks", *words], stdin=subprocess.DEVNULL, capture_output=True, check=False,
                                   env={"PATH": "/usr/bin:/bin"})
             self.assertEqual((done.returncode, done.stdout, done.stderr), (1, USAGE, b""), words)
@@ -238,7 +234,3 @@ class Rules(unittest.TestCase):
         for words in FORMS:
             done = subprocess.run([program, *words.split()], stdin=subprocess.DEVNULL, capture_output=True, check=False)
             self.assertNotEqual(done.returncode, 1, words)
-
-
-if __name__ == "__main__":
-    unittest.main()

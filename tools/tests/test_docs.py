@@ -1,17 +1,30 @@
-"""What the pages show of runs of the program: the reports that are kept beside the pictures are legal,
-and pictures, excerpts and tables are those of these reports."""
+"""What the pages show of runs of the program: the reports that are kept beside the pictures are legal, pictures, excerpts and
+tables are those of these reports, and the commands that the pages name run. And the course: the tool run, the guests of the
+exercises, and the histories and guests of the answers."""
 from __future__ import annotations
 
 import csv
-from pathlib import Path
+import os
 import re
+import shutil
 import subprocess
-import unittest
+from pathlib import Path
 
-from .common import GUESTS, ROOT, TEMPORARY, Case, elf, run
+from tools.workbench import command
+from tools.workbench.guest import guestfile
+from tools.workbench.running import delegation
+from .common import COURSE, GUESTS, MADE_UP, ROOT, TEMPORARY, Case, elf, run, saved, script
+
 
 DOCS = ROOT / "docs"
 PICTURES = DOCS / "pictures"
+PAGES = [*ROOT.glob("*.md"), *DOCS.rglob("*.md"), GUESTS / "README.md", ROOT / "bench" / "README.md"]
+BEGINS = re.compile(r"\(?(cat|for|make|done|echo) ?|\./(workbench|tclocks)[ -]|  |$")
+LEFT_OUT = re.compile(r"\./tclocks-build|\./workbench (check|fuzz|refuse|endure|facts|bench)\b|\brt |make .*(-B|CC=)|PATH/TO|\.\.(?!/)"
+                      r"|\b(GUEST|REPORT|FOLDER|FILE|HISTORY|RULE|NAME|W F B|G K)\b|apt-get|git |sums$|same$|\[|tclocks (demo|gen|nodes)|(?<!/)my\.elf"
+                      r"|^\./(workbench|tclocks) [a-z]+$|^\./workbench judge \S+$|1 F B")
+MANY = re.compile(r"--runs \d{2,}")
+COMPILER = shutil.which("riscv64-unknown-elf-gcc")
 KEPT = {"counter": "counter", "philosophers": "philosophers", "first": "first", "first-alone": "first"}
 
 
@@ -25,15 +38,6 @@ class Kept(Case):
         subprocess.run([PICTURES / "make", TEMPORARY], check=True, stderr=subprocess.DEVNULL)
         for name in (*KEPT, "overview", "stays", "sweep"):
             self.assertEqual((PICTURES / f"{name}.svg").read_bytes(), (TEMPORARY / f"{name}.svg").read_bytes(), name)
-
-    def test_table_of_data_that_stays(self) -> None:
-        """Its numbers are those of the command that the page gives."""
-        page = (DOCS / "TEACHING.md").read_text()
-        command = re.search("^./workbench (sweep guests/course/hot.elf .*) --strips my.svg$", page, re.M)[1].split()  # type: ignore[index]
-        rows = list(csv.DictReader(run(command[0], ROOT / command[1], *command[2:]).stdout.decode().splitlines()))
-        lines = [f"| {row['batch']} | {int(row['taken']):,} | {int(row['adopted']):,} | {int(row['granted']):,} | "
-                 f"{int(row['changes']):,} times | {int(row['away']):,} |" for row in rows]
-        self.assertIn("\n".join(lines), page)
 
     def test_lines_of_the_delegated_history(self) -> None:
         page = (DOCS / "TEACHING.md").read_text()
@@ -67,10 +71,8 @@ def anchors(page: Path) -> list[str]:
 
 class Pages(Case):
     def test_links_lead_somewhere(self) -> None:
-        root = DOCS.parent
-        pages = [*root.glob("*.md"), *DOCS.glob("*.md"), *GUESTS.glob("*.md"), *root.glob("bench/*.md"), *root.glob("tools/*.md")]
-        self.assertGreater(len(pages), 12)
-        for page in pages:
+        self.assertGreater(len(PAGES), 12)
+        for page in PAGES:
             text = re.sub(r"(?s)```.*?```", "", page.read_text())
             for target in re.findall(r"\]\(([^)\s]+)\)", text):
                 if "://" in target:
@@ -87,5 +89,165 @@ class Pages(Case):
         self.assertTrue(6 <= rows <= 12, rows)
 
 
-if __name__ == "__main__":
-    unittest.main()
+def fewer(text: str) -> str:
+    """A command with fewer samples, and a sweep with one short run of each."""
+    sweep = r"\./workbench sweep \S+(?!.*--strips)"
+    return MANY.sub("--runs 4", re.sub(f"({sweep})", r"\1 --fuel 2000" + " --runs 1" * ("--runs" not in text), text))
+
+
+def commands_of(page: Path) -> list[str]:
+    """The commands of a page, in their order: whole listings of commands, and what stands in a line."""
+    found = []
+    for listing, inline in re.findall(r"(?s)```[^\n]*\n(.*?)```|`([^`\n]*)`", page.read_text()):
+        lines = listing.splitlines()
+        if listing and all(BEGINS.match(line) for line in lines) and any("./" in line or line.startswith("make") for line in lines):
+            found += [listing] if re.search(r"(?m)^(for|done|limit)|\\$|\|$|\|\n", listing) else lines
+        elif re.match(r"(\(cat [^)]*\) \| )?\./(workbench|tclocks) \w|make -", inline):
+            found.append(inline)
+    return found
+
+
+class Commands(Case):
+    """Every command that the pages, the course and its answers name runs as it is written, in a checkout of its own, beside
+    a program that is made up and answers by the model. What wants the proved program, the toolchain or hours, or has a word
+    in capitals for something of the reader's, is looked at for its subcommand alone; of many samples a few are made."""
+
+    def test_each_subcommand_that_is_named_is_there(self) -> None:
+        names = {name for name in command.EVERY}
+        for page in PAGES:
+            for words in re.findall(r"\./workbench ((?:bench )?[a-z]+)", page.read_text()):
+                self.assertIn(words, names | {"bench"}, page)
+
+    def table_of_data_that_stays(self, page: str, said: str) -> None:
+        """Its numbers are those of the command that the page gives."""
+        lines = [f"| {row['batch']} | {int(row['taken']):,} | {int(row['adopted']):,} | {int(row['granted']):,} | "
+                 f"{int(row['changes']):,} times | {int(row['away']):,} |" for row in csv.DictReader(said.splitlines())]
+        self.assertIn("\n".join(lines), page)
+
+    def test_they_run_as_they_are_written(self) -> None:
+        root = TEMPORARY / "commands"
+        for folder in "guests", "tools", "docs", "bench":
+            shutil.copytree(ROOT / folder, root / folder, ignore=shutil.ignore_patterns("out", "tests"))
+        for file in "workbench", "workbench.py":
+            shutil.copy(ROOT / file, root)
+        shutil.copy(script("tclocks", MADE_UP), root)
+        (root / "my").mkdir()
+        for name in "c", "elf":
+            shutil.copy(ROOT / "guests" / f"first.{name}", root / "my" / f"my.{name}")
+        count, seen = 0, set()
+        for page in PAGES:
+            for text in commands_of(page):
+                if text in seen or LEFT_OUT.search(text) or not COMPILER and "make" in text:
+                    continue
+                seen.add(text)
+                with self.subTest(page=page.name, command=text):
+                    done = subprocess.run(["sh", "-c", fewer(text)], cwd=root, stdin=subprocess.DEVNULL, stdout=subprocess.PIPE,
+                                          stderr=subprocess.PIPE, check=False, timeout=300, env={**os.environ, "HOME": str(TEMPORARY)})
+                    self.assertEqual(done.returncode, 0, done.stderr.decode()[-300:])
+                    self.assertNotIn(b"Traceback", done.stderr)
+                if "hot.elf" in text and "--strips" in text:
+                    self.table_of_data_that_stays(page.read_text(), done.stdout.decode())
+                count += 1
+        self.assertGreater(count, 40)
+
+
+ANSWERS = ROOT / "docs" / "answers"
+BUILT = [COURSE / f"{name}.elf" for name in ("hot", "pair", "queue")] + [ANSWERS / f"{name}.elf" for name in ("pair", "queue")]
+
+
+class Run(Case):
+    """By the model, as a seed asks for: the program may be built here."""
+
+    def test_it_is_what_simulate_prints(self) -> None:
+        for words, seed in ((("1", "42", "0"), "0"), (("4", "20000", "8"), "3")):
+            done = run("run", elf("first"), *words, "--seed", seed)
+            self.assertEqual(done.stdout.decode(), self.well("simulate", elf("first"), *words, "--seed", seed))
+            self.one_line(done, 0, "by the model")
+
+    def test_the_program_where_it_is_built(self) -> None:
+        by = script("echoing", '#!/bin/sh\necho "$@"\nwc -c\nexit 0\n')
+        done = run("run", elf("exit"), "2", "100", "8", by=by)
+        self.assertEqual((done.returncode, done.stdout), (0, b"run 2 100 8\n92\n"))
+        self.assertEqual(done.stderr, b"workbench run: by the program\n")
+        self.says("by the model", run("run", elf("exit"), "2", "100", "8", "--seed", "1", by=by))
+
+    def test_statuses_of_the_program_are_passed_on(self) -> None:
+        for status in (3, 4, 5, 7):
+            by = script(f"status-{status}", f"#!/bin/sh\necho refused 1 TooShort\nexit {status}\n")
+            done = run("run", elf("exit"), "1", "1", "0", by=by)
+            self.assertEqual((done.returncode, done.stdout, done.stderr.count(b"\n")), (status, b"refused 1 TooShort\n", 2))
+
+    def test_a_refused_file(self) -> None:
+        done = run("run", saved("short.elf", b"short"), "1", "1", "0", "--seed", "0")
+        self.assertEqual(done.stdout, b"refused 1 TooShort\n")
+        self.one_line(done, 3)
+        self.full("run", elf("first"), "1", "100", "0", "--seed", "0", lines=2)
+
+
+def words_of(path: Path, text: bytes) -> list[list[int]]:
+    """The words of each lock after a report."""
+    locks = re.findall(r"^data [0-9a-f]{8} ([0-9a-f]+)$", text.decode(), re.M)
+    self_ = guestfile.load(str(path)).guest
+    assert len(locks) == len(self_.guards)
+    return [[int.from_bytes(bytes.fromhex(lock)[at:at + 4], "little") for at in range(0, len(lock) // 2, 4)]
+            for lock in locks]
+
+
+class Guests(Case):
+    def test_by_one_worker(self) -> None:
+        """Numbers that the sources say; nobody is passed where each thread runs to its end."""
+        for name, wanted in (("hot", [[1250 * sum(range(1, 9)), 10000]]), ("pair", [[6], [3], [3], [3, 3]]),
+                             ("queue", [[6], [63, 0]])):
+            text = run("simulate", COURSE / f"{name}.elf", "1", "20000", "0").stdout
+            self.assertEqual(words_of(COURSE / f"{name}.elf", text), wanted)
+            self.assertEqual(re.findall(rb"^thread \d+ (\w+)", text, re.M), [b"exit"] * text.count(b"\nthread "))
+
+    def test_histories_of_the_answers(self) -> None:
+        for folder, name, wanted in ((COURSE, "pair", [[6], [3], [3], [1, 0]]), (COURSE, "queue", [[6], [63, 4]]),
+                                     (ANSWERS, "pair", None)):
+            guest = folder / f"{name}.elf"
+            found = words_of(guest, self.well("finish", guest, ANSWERS / f"{name}.txt", "--on").encode())
+            self.assertEqual(found[3][0] == found[3][1] if wanted is None else found, wanted or True)
+        # With the lock of the desk taken first, the others can't draw before customer 0 is served.
+        done = run("finish", ANSWERS / "queue.elf", ANSWERS / "queue.txt")
+        self.assertEqual(done.returncode, 3)
+        self.says("would take lock 0, which thread 0 has", done)
+
+    def test_delegation_of_the_queues(self) -> None:
+        """Under the desk's lock nothing is adopted of the numbers' lock, and nothing granted of the desk's."""
+        for seed in range(6):
+            text = run("simulate", ANSWERS / "queue.elf", "4", "20000", "8", "--seed", str(seed)).stdout.decode()
+            self.assertNotIn(" held 0 kind adopted", text)
+            self.assertIsNone(re.search(r" held (0,)?1 kind granted", text))
+
+    def test_built_files_are_those_of_the_sources(self) -> None:
+        compiler = shutil.which("riscv64-unknown-elf-gcc")
+        version = compiler and subprocess.run([compiler, "--version"], capture_output=True, check=False).stdout
+        if not version or b" 12.2.0" not in version:
+            self.skipTest("there is no gcc 12.2.0 for RISC-V")
+        for place, built in enumerate(BUILT):
+            folder = TEMPORARY / f"built-{place}"
+            folder.mkdir()
+            shutil.copy(built.with_suffix(".c"), folder)
+            subprocess.run(["make", "-s", "-f", GUESTS / "kit" / "guest.mk", "MARCH=rv32i", built.name], cwd=folder, check=True)
+            self.assertEqual((folder / built.name).read_bytes(), built.read_bytes(), built)
+
+
+class History(Case):
+    def test_history_on_nodes(self) -> None:
+        """It is legal, and its sections stand as a line picks them with the bound 2, and with no other."""
+        text = re.search(r"(?s)```\n(tclocks 2\nguest threads 8 .*?)```", (ROOT / "docs" / "TEACHING.md").read_text())[1]  # type: ignore[index]
+        self.says("legal so far, 16 blocks", run("judge", elf("counter"), given=text))
+        found = re.findall(r"thread (\d) .* kind adopted worker 0 ", text)
+        for bound in range(6):
+            hall = delegation.Hall(guestfile.load(elf("counter")).guest, 4, 100, 8, 0, nodes=2, bound=bound)
+            for come, picked in zip(("12345", "", "2", "4", "", "", ""), found):
+                for thread in map(int, come):
+                    hall.line[0] = (hall.line[0] or [0]) + [thread]
+                    hall.linked.add((thread, 0))
+                    hall.shipped[thread] = [thread % 2, 0]
+                chosen = hall.next_in_line(0, delegation.Worker(0))
+                if str(chosen) != picked:
+                    break
+                hall.line[0].remove(chosen)
+            self.assertEqual(str(chosen) == found[-1], bound == 2, bound)

@@ -1,25 +1,203 @@
-"""The search of every interleaving: that it misses no end and makes none up, what it answers to rules, and
-how it is used wrongly."""
+"""The search of every interleaving: that it misses no end and makes none up, what it answers to rules, and how it is used
+wrongly. And the grader, over folders of guests with known answers."""
 from __future__ import annotations
 
 import contextlib
+import copy
+import csv
 import io
 import random
+import shutil
 import signal
 import subprocess
 import time
-import unittest
 from typing import Any
 
 from tools.workbench import limits, tool
-from tools.workbench.exploring import explore, live, rules, search
+from tools.workbench.exploring import explore, rules, search, steps
 from tools.workbench.guest import guestfile, made, model
 from tools.workbench.guest.rv32im import encode
 from tools.workbench.judging import rejecting
 from tools.workbench.running import delegation, program
-from . import common, small
-from .common import GUESTS, NAMES, ROOT, TEMPORARY, Case, elf, run, saved
+from .common import COURSE, GUESTS, NAMES, ONE, ROOT, TEMPORARY, Case, built, call, elf, run, saved
 
+
+# Small guests that are drawn from a seed, and a search of all their interleavings by model.py without any reduction: every
+# block of every thread that can run one is a step, also those that take no lock.
+BASE, NOTED, VALUE, OTHER, STACK = 5, 8, 7, 9, 2  # registers
+EXIT = made.call(limits.EXIT, 0)[1:]
+ANSWER = [encode("addi", 10, NOTED, 0)]  # the exit code is what the thread noted
+
+
+def load(lock: int) -> list[int]:
+    return [encode("lw", VALUE, BASE, 4 * lock)]
+
+
+def store(lock: int, register: int = VALUE) -> list[int]:
+    return [encode("sw", register, BASE, 4 * lock)]
+
+
+def twice(chance: random.Random, lock: int) -> list[int]:
+    """The word becomes 2 * word + k: what comes of two of these depends on their order."""
+    return load(lock) + [encode("add", VALUE, VALUE, VALUE), encode("addi", VALUE, VALUE, chance.randrange(1, 4))] + store(lock)
+
+
+def add(chance: random.Random, lock: int) -> list[int]:
+    """A number is added to the word, and what it was is not looked at."""
+    return load(lock) + [encode("addi", VALUE, VALUE, chance.randrange(-2, 3))] + store(lock)
+
+
+def note(chance: random.Random, lock: int) -> list[int]:
+    """What the thread notes becomes 3 times that and the word."""
+    return load(lock) + [encode("add", OTHER, NOTED, NOTED), encode("add", NOTED, OTHER, NOTED),
+                         encode("add", NOTED, NOTED, VALUE)]
+
+
+def choose(chance: random.Random, lock: int) -> list[int]:
+    """Where the word is odd it becomes 0, and some more turns are had."""
+    return load(lock) + [encode("andi", VALUE, VALUE, 1), encode("beq", VALUE, 0, 12), *store(lock, 0), encode("addi", 0, 0, 0)]
+
+
+def keep(chance: random.Random, lock: int) -> list[int]:
+    """The word goes to the stack and to memory of the thread's own, and comes back."""
+    return load(lock) + [encode("sw", VALUE, STACK, -4), encode("sw", VALUE, BASE, 224), encode("lw", OTHER, STACK, -4),
+                         encode("sub", NOTED, NOTED, OTHER)]
+
+
+def narrow(chance: random.Random, lock: int) -> list[int]:
+    """A byte of the word is written, and a half of it read."""
+    return [encode("sb", NOTED, BASE, 4 * lock + 1), encode("lh", VALUE, BASE, 4 * lock), encode("xor", NOTED, NOTED, VALUE)]
+
+
+def flag(chance: random.Random, lock: int) -> list[int]:
+    """The answer of the LOCK before, where nothing stands between, is noted."""
+    return [encode("add", NOTED, NOTED, 10)]
+
+
+def sleep(chance: random.Random, lock: int) -> list[int]:
+    return made.call(3, chance.randrange(3))
+
+
+WORK = (twice, add, note, choose, keep, narrow, flag, sleep)
+
+
+def work(chance: random.Random, lock: int) -> list[int]:
+    return [word for _ in range(chance.randrange(1, 3)) for word in chance.choice(WORK)(chance, lock)]
+
+
+def single(chance: random.Random, locks: int) -> list[int]:
+    lock = chance.randrange(locks)
+    return made.call(1, lock) + work(chance, lock) + made.call(2, lock)
+
+
+def nested(chance: random.Random, locks: int) -> list[int]:
+    low, high = sorted(chance.sample(range(locks), 2))
+    code = made.call(1, low) + (work(chance, low) if chance.random() < 0.5 else [])
+    code += made.call(1, high) + work(chance, high) + work(chance, low)
+    first, second = chance.choice(((low, high), (high, low)))
+    return code + made.call(2, first) + work(chance, second) + made.call(2, second)
+
+
+def hand_over_hand(chance: random.Random, locks: int) -> list[int]:
+    """Each lock is released when the next one is held."""
+    code = made.call(1, 0) + work(chance, 0)
+    for lock in range(1, locks):
+        code += made.call(1, lock) + work(chance, lock) + made.call(2, lock - 1)
+        if chance.random() < 0.3:
+            code += made.call(3, 1)
+    return code + made.call(2, locks - 1)
+
+
+def sometimes(chance: random.Random, locks: int) -> list[int]:
+    """The last lock is taken only where the first one's word is odd."""
+    inner = made.call(1, locks - 1) + work(chance, locks - 1) + made.call(2, locks - 1)
+    return made.call(1, 0) + work(chance, 0) + load(0) + [
+        encode("andi", VALUE, VALUE, 1), encode("beq", VALUE, 0, 4 + 4 * len(inner)), *inner, *made.call(2, 0)]
+
+
+def section(chance: random.Random, locks: int) -> list[int]:
+    kinds = [single] + [nested, nested, sometimes] * (locks > 1) + [hand_over_hand, hand_over_hand] * (locks > 2)
+    return chance.choice(kinds)(chance, locks)
+
+
+def end(chance: random.Random, locks: int) -> list[int]:
+    """How a thread's code ends: mostly well, else with a lock held, by a fault or in a loop."""
+    held = made.call(1, chance.randrange(locks)) if chance.random() < 0.6 else []
+    kind = chance.randrange(9)
+    if kind == 0:
+        return held + work(chance, 0) + [encode("ebreak")]
+    if kind == 1:
+        return held + [encode("jal", 0, 0)]
+    if kind == 2:
+        return held + load(locks - 1) + ANSWER + EXIT  # fault 7 but with the last lock
+    if kind == 3:
+        return held + made.call(1, 0) + ANSWER + EXIT  # fault 11 where a lock is held
+    if kind == 4:
+        return held + ANSWER + EXIT
+    return ANSWER + EXIT
+
+
+def guest(seed: int) -> tuple[bytes, int]:
+    """The file of a guest, and its fuel."""
+    chance = random.Random(seed)
+    threads, locks = chance.choice(((2, 1), (2, 2), (2, 3), (3, 1), (3, 2), (3, 3), (2, 3), (3, 3)))
+    words: list[int] = []
+    entries = []
+    for thread in range(threads):
+        entries.append((made.CODE + 4 * len(words), chance.randrange(9)))
+        words += [encode("lui", BASE, made.DATA), encode("addi", NOTED, 10, 0)]
+        for _ in range(chance.choice((1, 1, 2) if threads == 2 else (1,))):
+            words += section(chance, locks)
+        words += end(chance, locks)
+    guards = [(made.DATA + 4 * lock, 4) for lock in range(locks)]
+    content = bytes(chance.randrange(1, 5) if at % 4 == 0 else 0 for at in range(4 * locks))
+    return made.elf(made.note(entries, guards), words, content, 256), chance.choice((25, 50, 90, 200))
+
+
+def stepped(machine: model.Machine, number: int) -> model.Machine:
+    """A copy of a machine in which a thread ran a block."""
+    new = copy.copy(machine)
+    new.threads, new.locks = list(machine.threads), [copy.copy(lock) for lock in machine.locks]
+    thread = new.threads[number] = copy.copy(machine.threads[number])
+    thread.x, thread.held, thread.stack = thread.x[:], set(thread.held), bytearray(thread.stack)
+    thread.own = {place: bytearray(content) for place, content in thread.own.items()}
+    for lock in new.locks:
+        lock.bytes = bytearray(lock.bytes)
+    new.run_block(number)
+    return new
+
+
+def key(machine: model.Machine) -> tuple[tuple[tuple[Any, ...], tuple[Any, ...]], tuple[tuple[bytes, int | None, int, int], tuple[bytes, int | None, int, int], tuple[bytes, int | None, int, int]]]:
+    """All that what comes next, and what is told of the end, depends on."""
+    return (tuple((thread.pc, tuple(thread.x), thread.fuel, tuple(sorted(thread.held)), thread.end,  # type: ignore[return-value]
+                   bytes(thread.stack), *map(bytes, thread.own.values())) for thread in machine.threads),
+            tuple((bytes(lock.bytes), lock.owner, lock.broken, lock.sections) for lock in machine.locks))
+
+
+def end_of(machine: model.Machine) -> rules.End:
+    return rules.End(tuple((thread.end, thread.x[10]) for thread in machine.threads),  # type: ignore[misc]
+                     tuple((lock.broken, lock.sections, bytes(lock.bytes)) for lock in machine.locks))
+
+
+def plain(file: bytes, fuel: int) -> tuple[dict[rules.End, int], int]:
+    """Every end with the least number of blocks that lead to it, and how many states there are."""
+    machine = model.Machine(model.Guest(file), fuel)
+    ends: dict[rules.End, int] = {}
+    seen: set[Any] = set()
+    now, blocks = {key(machine): machine}, 0
+    while now:
+        after: dict[Any, Any] = {}
+        for machine in now.values():
+            if all(thread.end for thread in machine.threads):
+                ends.setdefault(end_of(machine), blocks)
+            for number, thread in enumerate(machine.threads):
+                lock = machine.next_lock(thread)
+                if thread.end is None and (lock is None or machine.locks[lock].owner is None):
+                    new = stepped(machine, number)
+                    after.setdefault(key(new), new)
+        seen.update(now)
+        now, blocks = {name: new for name, new in after.items() if name not in seen}, blocks + 1
+    return ends, len(seen)
 
 
 def attentive() -> None:
@@ -35,7 +213,7 @@ class EveryInterleaving(Case):
     """Against a search without any reduction, which shares no code with it but model.py's beginnings."""
 
     def same(self, file: bytes, fuel: int, **more: Any) -> tuple[search.Search, dict[rules.End, int]]:
-        ends, states = small.plain(file, fuel)
+        ends, states = plain(file, fuel)
         found = searched(file, fuel, **more)
         self.assertTrue(found.whole)
         self.assertEqual({end: way().blocks for end, way in found.ends()}, ends)
@@ -46,37 +224,37 @@ class EveryInterleaving(Case):
         kinds: set[Any] = set()
         for seed in range(20):
             with self.subTest(seed=seed):
-                _, ends = self.same(*small.guest(seed))
+                _, ends = self.same(*guest(seed))
                 kinds.update(how for end in ends for how, _ in end.threads)
         self.assertLessEqual({"exit", "spent", "fault 7", "fault 11"}, kinds)
 
     def test_blocks_of_the_greatest_length(self) -> None:
         loop = [encode("addi", 6, 0, 2047), encode("addi", 6, 6, 2), encode("addi", 6, 6, -1), encode("bne", 6, 0, -4)]
-        code = [encode("lui", small.BASE, made.DATA), *made.call(limits.LOCK, 0), *small.twice(random.Random(1), 0),
-                *loop, *loop, *small.twice(random.Random(2), 0), *made.call(limits.UNLOCK, 0), *small.EXIT]
-        _, ends = self.same(common.built(code, (0, 0), 1), 9000)
+        code = [encode("lui", BASE, made.DATA), *made.call(limits.LOCK, 0), *twice(random.Random(1), 0),
+                *loop, *loop, *twice(random.Random(2), 0), *made.call(limits.UNLOCK, 0), *EXIT]
+        _, ends = self.same(built(code, (0, 0), 1), 9000)
         self.assertEqual(len(ends), 1)
         self.assertGreater(next(iter(ends.values())), 8)
 
     def test_a_return_to_a_place_behind_no_call(self) -> None:
         """Which registers are read again is not known then, so all are kept."""
-        for link in live.LINKS:
-            code = [encode("lui", small.BASE, made.DATA), *made.call(limits.LOCK, 0), *small.load(0),
-                    encode("addi", 6, small.VALUE, 0), *small.twice(random.Random(1), 0), *made.call(limits.UNLOCK, 0),
+        for link in steps.LINKS:
+            code = [encode("lui", BASE, made.DATA), *made.call(limits.LOCK, 0), *load(0),
+                    encode("addi", 6, VALUE, 0), *twice(random.Random(1), 0), *made.call(limits.UNLOCK, 0),
                     encode("auipc", link, 0), encode("addi", link, link, 16), encode("jalr", 0, link, 0), encode("ebreak"),
-                    *made.call(limits.LOCK, 0), *made.call(limits.UNLOCK, 0), encode("addi", 10, 6, 0), *small.EXIT]
-            found, ends = self.same(common.built(code, (0, 0), 1), 100)
+                    *made.call(limits.LOCK, 0), *made.call(limits.UNLOCK, 0), encode("addi", 10, 6, 0), *EXIT]
+            found, ends = self.same(built(code, (0, 0), 1), 100)
             self.assertIsNone(found.shares.alone.sections.live)  # type: ignore[union-attr]
             self.assertEqual({tuple(x10 for _, x10 in end.threads) for end in ends}, {(0, 1), (1, 0)})
 
     def test_a_return_by_the_other_link_register(self) -> None:
         """A function is called by x1 and returns by x5, as that of a division does: nothing begins anew."""
-        word, link = small.VALUE, live.LINKS[1]
+        word, link = VALUE, steps.LINKS[1]
         code = [encode("lui", 11, made.DATA), *made.call(limits.LOCK, 0), encode("lw", word, 11, 0),
                 encode("jal", 1, 4 * 8), encode("sw", word, 11, 0), *made.call(limits.UNLOCK, 0),
-                encode("addi", 10, word, 0), *small.EXIT, encode("addi", link, 1, 0),
+                encode("addi", 10, word, 0), *EXIT, encode("addi", link, 1, 0),
                 encode("add", word, word, word), encode("addi", word, word, 1), encode("jalr", 0, link, 0)]
-        found, ends = self.same(common.built(code, (0, 0), 1), 100)
+        found, ends = self.same(built(code, (0, 0), 1), 100)
         self.assertIsNotNone(found.shares.alone.sections.live)  # type: ignore[union-attr]
         self.assertEqual({tuple(x10 for _, x10 in end.threads) for end in ends}, {(1, 3), (3, 1)})
 
@@ -89,10 +267,10 @@ class EveryInterleaving(Case):
                     [encode("sub", 7, 7, 9)], [encode("add", 7, 7, 7), encode("sub", 7, 7, 9)]]
             code = []
             for way in (ways[seed], chance.choice(ways)):
-                code.append([encode("lui", small.BASE, made.DATA), *made.call(limits.LOCK, 0), *made.call(limits.LOCK, 1),
-                             *small.load(0), encode("lw", small.OTHER, small.BASE, 4), *way, *small.store(0),
-                             *small.twice(chance, 1), *made.call(limits.UNLOCK, 1), *made.call(limits.UNLOCK, 0),
-                             *made.call(limits.LOCK, 1), *small.add(chance, 1), *made.call(limits.UNLOCK, 1), *small.EXIT])
+                code.append([encode("lui", BASE, made.DATA), *made.call(limits.LOCK, 0), *made.call(limits.LOCK, 1),
+                             *load(0), encode("lw", OTHER, BASE, 4), *way, *store(0),
+                             *twice(chance, 1), *made.call(limits.UNLOCK, 1), *made.call(limits.UNLOCK, 0),
+                             *made.call(limits.LOCK, 1), *add(chance, 1), *made.call(limits.UNLOCK, 1), *EXIT])
             file = made.elf(made.note([(made.CODE, 0), (made.CODE + 4 * len(code[0]), 0)],
                                       [(made.DATA + 4 * lock, 4) for lock in range(2)]), code[0] + code[1], bytes([3, 0, 0, 0, 5, 0, 0, 0]), 8)
             self.same(file, 100)
@@ -101,13 +279,13 @@ class EveryInterleaving(Case):
         """Thread 1 takes lock 1 only where the first word is odd. It is even behind the first step of thread 0,
         which holds lock 1 then; so thread 1 can go on and be the first at lock 2."""
         call, take, give = made.call, limits.LOCK, limits.UNLOCK
-        begin = [encode("lui", small.BASE, made.DATA)]
-        one = [*begin, *call(take, 0), *small.store(0, 0), *call(take, 1), *call(give, 0), *call(take, 2),
-               *small.load(2), encode("addi", 7, 7, 1), *small.store(2), *call(give, 1), *call(give, 2), *small.EXIT]
+        begin = [encode("lui", BASE, made.DATA)]
+        one = [*begin, *call(take, 0), *store(0, 0), *call(take, 1), *call(give, 0), *call(take, 2),
+               *load(2), encode("addi", 7, 7, 1), *store(2), *call(give, 1), *call(give, 2), *EXIT]
         inner = [*call(take, 1), *call(give, 1)]
-        other = [*begin, *call(take, 0), *small.load(0), encode("andi", 7, 7, 1), encode("beq", 7, 0, 4 + 4 * len(inner)),
-                 *inner, *call(give, 0), *call(take, 2), *small.load(2), encode("add", 7, 7, 7), *small.store(2),
-                 *call(give, 2), *small.EXIT]
+        other = [*begin, *call(take, 0), *load(0), encode("andi", 7, 7, 1), encode("beq", 7, 0, 4 + 4 * len(inner)),
+                 *inner, *call(give, 0), *call(take, 2), *load(2), encode("add", 7, 7, 7), *store(2),
+                 *call(give, 2), *EXIT]
         entries = [(made.CODE, 0), (made.CODE + 4 * len(one), 0)]
         content = bytes([1, 0, 0, 0, 0, 0, 0, 0, 1, 0, 0, 0])
         file = made.elf(made.note(entries, [(made.DATA + 4 * lock, 4) for lock in range(3)]), one + other, content, 12)
@@ -118,7 +296,7 @@ class EveryInterleaving(Case):
         alone, search.ALONE = search.ALONE, 2
         try:
             for seed in (2, 5, 9):
-                found, ends = self.same(*small.guest(seed), processes=3)
+                found, ends = self.same(*guest(seed), processes=3)
                 self.assertEqual(found.shares.count, 3)
         finally:
             search.ALONE = alone
@@ -163,8 +341,7 @@ class Use(Case):
 
     def test_runs_beside_all(self) -> None:
         done = run("explore", elf("stale"), "--all", "--runs", "3", "--model")
-        self.one_line(done, 0)
-        self.says("\n\nsamples, 3 runs by the model: 1 outcome seen\n", done)
+        self.one_line(done, 0, "\n\nsamples, 3 runs by the model: 1 outcome seen\n")
 
     def test_a_run_that_the_search_has_not(self) -> None:
         guest = guestfile.load(elf("stale")).guest
@@ -190,16 +367,14 @@ class Use(Case):
 
     def test_never(self) -> None:
         done = run("explore", elf("stale"), "--never", "faults or spent", "--never", "lock 0 word 0 != 73")
-        self.one_line(done, 3)
-        self.says("# faults or spent: in no interleaving (", done)
+        self.one_line(done, 3, "# faults or spent: in no interleaving (")
         self.says("# lock 0 word 0 != 73: broken, by this history of 28 blocks\ntclocks 2\n", done)
         done = run("explore", elf("first"), "--never", "lock 0 word 0 != 36 or lock 0 sections != 6 or broken")
         self.assertEqual((done.returncode, done.stderr), (0, b""))
 
     def test_not_all_seen(self) -> None:
         done = run("explore", elf("stale"), "--never", "faults", "--states", "50", "--processes", "1")
-        self.one_line(done, 6)
-        self.says("# faults: not found; more than 50 states: not all seen; about ", done)
+        self.one_line(done, 6, "# faults: not found; more than 50 states: not all seen; about ")
         done = run("explore", elf("stale"), "--all", "--states", "50", "--most", "1", "--processes", "1")
         self.one_line(done, 0)
         self.assertTrue(done.stdout.startswith(b"more than 50 states: not all seen; about "), done.stdout)
@@ -239,7 +414,6 @@ class Use(Case):
         for guest, content in (("first", kept), ("stale", kept[:-1]), ("stale", b""), ("stale", kept[:70] + b"!" + kept[71:])):
             file.write_bytes(content)
             self.one_line(run("explore", elf(guest), *words), 3)
-        self.one_line(run("explore", elf("stale"), "--runs", "1", "--model", "--resume", str(file)), 1)
 
     def test_an_interrupt_tells_what_was_found(self) -> None:
         started = subprocess.Popen([ROOT / "workbench", "explore", elf("philosophers"), "--all", "--most", "1"],
@@ -263,8 +437,7 @@ class Use(Case):
 
     def test_keep(self) -> None:
         folder = TEMPORARY / "every"
-        done = run("explore", elf("stale"), "--all", "--keep", str(folder))
-        self.assertEqual(done.returncode, 0)
+        self.assertEqual(run("explore", elf("stale"), "--all", "--keep", str(folder)).returncode, 0)
         ends = set()
         for path in folder.iterdir():
             self.says("a legal run, to the end of every thread", run("judge", elf("stale"), str(path)))
@@ -291,24 +464,18 @@ class Use(Case):
     def test_faults_come_first(self) -> None:
         """Thread 0 faults where thread 1 was there before it."""
         one = [encode("lui", 5, made.DATA), *made.call(limits.LOCK, 0), encode("lw", 7, 5, 0), encode("beq", 7, 0, 8),
-               encode("ebreak"), *made.call(limits.UNLOCK, 0), *small.EXIT]
+               encode("ebreak"), *made.call(limits.UNLOCK, 0), *EXIT]
         other = [encode("lui", 5, made.DATA), *made.call(limits.LOCK, 0), encode("sw", 17, 5, 0),
-                 *made.call(limits.UNLOCK, 0), *small.EXIT]
-        done = run("explore", saved("fault.elf", common.built(one + other, (0, len(one)), 1)), "--all")
+                 *made.call(limits.UNLOCK, 0), *EXIT]
+        done = run("explore", saved("fault.elf", built(one + other, (0, len(one)), 1)), "--all")
         text = done.stdout.decode()
         self.says("every interleaving: 2 outcomes, ", done)
         self.assertLess(text.index("thread 0 ends: fault 8"), text.index("thread 0 ends: exit"))
 
-    def test_wrong_uses(self) -> None:
-        for words in (["--reach", "lock 1 word 0 == 1"], ["--reach", "lock 0 word 2 == 1"], ["--reach", "thread 2 exit"],
-                      ["--never", ""], ["--never", "lock 0 word 0 =="], ["--never", "lock 0 word 0 = 1"],
-                      ["--never", "lock 0 words 0"], ["--never", "(faults"], ["--never", "faults)"], ["--reach"],
-                      ["--reach", "1 < 2 < 3"], ["--reach", "0x"], ["--reach", "thread 0"], ["--reach", "nobody"],
-                      ["--reach", "(" * 5000], ["--reach", "9" * 5000], ["--all", "--states", "0"],
-                      ["--all", "--processes", "0"], ["--reach", "faults", "--runs", "5"], ["--all", "--seed", "5"], ["--never", "faults", "--model"],
-                      ["--reach", "faults", "--keep", "folder"], ["32"], ["--runs", "0"]):
-            with self.subTest(words=[word[:40] for word in words]):
-                self.one_line(run("explore", elf("first"), *words), 1)
+
+    def test_wrong_files_and_long_rules(self) -> None:
+        for rule in "(" * 5000, "9" * 5000:
+            self.one_line(run("explore", elf("first"), "--reach", rule), 1)
         done = run("explore", elf("first"), "--all", "--keep", "/dev/null/no")
         self.assertEqual((done.returncode, done.stderr.count(b"\n")), (4, 2), done.stderr)
         self.one_line(run("explore", saved("none.elf", b"none"), "--all"), 3)
@@ -339,5 +506,77 @@ class Rules(Case):
         self.assertEqual(sorted([well, broken, spent, fault], key=rules.End.order), [fault, spent, broken, well])
 
 
-if __name__ == "__main__":
-    unittest.main()
+ANSWERS = ROOT / "docs" / "answers"
+TORN = "lock 3 word 0 != lock 3 word 1"
+# Two threads that each count one up under the lock, but look at the word in a section of its own before.
+LOST = (0x000202B7, *call(1, 0), 0x0002A383, *call(2, 0), *call(1, 0), 0x00138393, 0x0072A023, *call(2, 0), *EXIT)
+
+
+def folder(name: str, files: dict[str, Any]) -> str:
+    """A folder of these files, by name: bytes, or the path of one to copy."""
+    place = TEMPORARY / name
+    for inner, content in files.items():
+        path = place / inner
+        path.parent.mkdir(parents=True, exist_ok=True)
+        if isinstance(content, bytes):
+            path.write_bytes(content)
+        else:
+            shutil.copy(content, path)
+    return str(place)
+
+
+class Grade(Case):
+    def test_a_folder_of_students(self) -> None:
+        """Their names are those of the files; one is right, one loses an addition, one is refused, and one has
+        no such lock."""
+        place = folder("students", {"anna/guest.elf": built(ONE, (0, 0), 1), "ben/guest.elf": built(LOST, (0, 0), 1),
+                                    "cleo.elf": built(ONE, (0, 0), 1)[:100], "dora.elf": built(EXIT, (0,), 0)})
+        kept = TEMPORARY / "kept"
+        said = self.well("grade", place, "--never", "lock 0 word 0 != 2", "--reach", "lock 0 sections == 2", "--keep", str(kept))
+        table = [line.split("  ") for line in said.partition("\n\n")[0].splitlines()]
+        self.assertEqual([[cell.strip() for cell in row if cell] for row in table], [
+            ["guest", "file", "rule 1", "rule 2", "right"],
+            ["anna/guest.elf", "accepted", "holds", "reachable", "2 of 2"],
+            ["ben/guest.elf", "accepted", "broken", "never", "0 of 2"],
+            ["cleo.elf", "refused 7 BadHeader", "-", "-", "0 of 2"],
+            ["dora.elf", "accepted", "no rule", "no rule", "0 of 2"]])
+        self.assertIn("rule 1: never lock 0 word 0 != 2\nrule 2: reach lock 0 sections == 2\n", said)
+        history = kept / "ben-guest.elf-rule-1.txt"
+        self.says("a legal run, to the end of every thread", run("judge", f"{place}/ben/guest.elf", history))
+        self.assertIn("\ndata 00020000 01000000\n", history.read_text())
+        self.assertEqual(sorted(path.name for path in kept.iterdir()), ["anna-guest.elf-rule-2.txt", history.name])
+
+    def test_answers_of_the_course(self) -> None:
+        place = folder("course", {"asked.elf": COURSE / "pair.elf", "answered.elf": ANSWERS / "pair.elf"})
+        rows = list(csv.DictReader(run("grade", place, "--never", TORN, "--csv").stdout.decode().splitlines()))
+        self.assertEqual([tuple(row.values()) for row in rows],
+                         [("answered.elf", "accepted", "never", TORN, "holds", "1"),
+                          ("asked.elf", "accepted", "never", TORN, "broken", "0")])
+        place = folder("queues", {"asked.elf": COURSE / "queue.elf", "answered.elf": ANSWERS / "queue.elf"})
+        for rule, answers in (("lock 1 word 1 > 4", "holds holds"), ("lock 1 word 1 > 3", "holds broken"),
+                              ("lock 1 word 1 > 0", "holds broken")):
+            rows = csv.DictReader(run("grade", place, "--never", rule, "--csv").stdout.decode().splitlines())  # type: ignore[assignment]
+            self.assertEqual([row["answer"] for row in rows], answers.split(), rule)
+
+    def test_a_search_that_stops(self) -> None:
+        place = folder("large", {"counter.elf": elf("counter")})
+        self.says("not known", run("grade", place, "--never", "lock 0 sections != 480", "--states", "20"))
+
+    def test_sources(self) -> None:
+        if shutil.which("riscv64-unknown-elf-gcc") is None:
+            self.skipTest("there is no compiler for RISC-V")
+        place = folder("sources", {"a.c": GUESTS / "first.c", "a.elf": b"of no interest", "b.c": b"int main(void) { return 0 }",
+                                   "c/c.S": GUESTS / "faults.S"})
+        done = run("grade", place, "--never", "lock 0 word 0 != 36", "--never", "faults")
+        self.assertEqual(done.returncode, 0)
+        self.assertIn(b"workbench grade: b.c is not built: b.c:1:", done.stderr)
+        cells = [" ".join(line.split()) for line in done.stdout.decode().splitlines()[1:4]]
+        self.assertEqual(cells, ["a.c accepted holds holds 2 of 2", "b.c not built - - 0 of 2",
+                                 "c/c.S accepted broken broken 0 of 2"])
+        self.assertEqual(sorted(path.name for path in (TEMPORARY / "sources").rglob("*.elf")), ["a.elf"])
+
+    def test_wrong_uses(self) -> None:
+        place = folder("one", {"one.elf": built(ONE, (0, 0), 1)})
+        self.one_line(run("grade", folder("empty", {"notes.txt": b"none"}), "--never", "faults"), 3)
+        self.one_line(run("grade", place, "--reach", "faults == 0", "--keep", "/proc/none"), 4)
+        self.full("grade", place, "--never", "faults")

@@ -8,7 +8,6 @@ import importlib.util
 import io
 import json
 import random
-import unittest
 from unittest import mock
 from typing import Any, Callable
 
@@ -18,10 +17,7 @@ from tools.workbench.guest import damage, elf32, guestfile, made, model, rv32im
 from tools.workbench.judging import rejecting
 from tools.workbench.reports import report, spoil
 from tools.workbench.running import delegation, program
-from .common import BY_HAND, GUESTS, NAMES, ONE, ROOT, Case, built, checkout, history, run, saved
-
-SCRIPTS = ("check", "fuzz", "refuse", "endure", "facts")
-TOOLS = sorted(name for name in command.EVERY if name not in SCRIPTS)
+from .common import BY_HAND, GUESTS, NAMES, ONE, ROOT, Case, built, history, run, saved
 
 
 def script(name: str) -> Any:
@@ -36,29 +32,18 @@ class Words(Case):
     def test_help_has_no_effect(self) -> None:
         before = {path: path.stat().st_mtime_ns for path in (*GUESTS.rglob("*"), *(ROOT / "tools").rglob("*"))
                   if path.is_file() and "__pycache__" not in path.parts}
-        for name in (*SCRIPTS, *TOOLS):
-            done = run(name, "--help")
-            self.assertEqual((done.returncode, done.stderr), (0, b""), name)
-            self.assertTrue(done.stdout.startswith(f"usage: workbench {name} ".encode()), name)
+        for name in command.EVERY:
+            self.assertTrue(self.well(name, "--help").startswith(f"usage: workbench {name} "), name)
         self.assertEqual({path: path.stat().st_mtime_ns for path in before}, before)
-
-    def test_wrong_words(self) -> None:
-        for name, words in (("check", ("nobody",)), ("check", ("--fast",)), ("fuzz", ("0",)), ("fuzz", ("1", "-1")),
-                            ("fuzz", ("1", "2", "3")), ("refuse", ("9",)), ("refuse", ("1", "1", "257")),
-                            ("endure", ("none",)), ("facts", ("now",))):
-            self.one_line(run(name, *words), 1)
-        self.one_line(run("refuse", "1", "1", "1", "/no/such/file"), 2)
 
     def test_the_usage_line_is_the_program_s(self) -> None:
         """As the command, which is held to the program, has it."""
         self.assertIn(f'usage="{limits.USAGE}"', (ROOT / "tclocks").read_text())
 
+
     def test_without_a_program(self) -> None:
-        copy = checkout("copy")
         for name, words in (("check", ("first",)), ("fuzz", ("1",)), ("refuse", ()), ("endure", ("1",))):
-            done = run(name, *words, root=copy)
-            self.one_line(done, 2)
-            self.says("the program isn't built", done)
+            self.one_line(run(name, *words, by="/no/such/file"), 2, "the program isn't built")
 
 
 class Parts(Case):
@@ -110,7 +95,6 @@ class Parts(Case):
         for key, value in (("x10", [5, 8]), ("sections", [7]), ("ends", ["exit", "spent"]), ("turns", [51, 50])):
             with self.assertRaises(report.Wrong):
                 check.check_facts({**known, key: value}, machine, check.AMPLE)
-
 
     def test_runs_of_several_workers_and_with_adopted_sections_are_counted(self) -> None:
         check = script("check")
@@ -202,8 +186,7 @@ class Bytes(Case):
 
     def test_written_files_are_read_again(self) -> None:
         note = elf32.note([(made.CODE, 7), (made.CODE + 4, 8)], [(made.DATA, 4)])
-        file = made.elf(note, made.call(limits.EXIT, 3), b"\1\2", 8)
-        guest = guestfile.GuestFile(file).guest
+        guest = guestfile.GuestFile(made.elf(note, made.call(limits.EXIT, 3), b"\1\2", 8)).guest
         self.assertEqual((guest.entries, guest.guards), ([(made.CODE, 7), (made.CODE + 4, 8)], [(made.DATA, 4)]))
         self.assertEqual([(place.start, len(place), flags, content) for place, flags, content in guest.ranges],
                          [(made.CODE, 12, 5, bytes.fromhex("130530009308d00573000000")),
@@ -237,7 +220,3 @@ class Bytes(Case):
         for name, make in guests.GUESTS.items():
             file = guestfile.GuestFile(make())
             self.assertEqual(len(file.guest.entries), 32 if name == "longest-history" else 16, name)
-
-
-if __name__ == "__main__":
-    unittest.main()

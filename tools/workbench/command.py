@@ -1,13 +1,13 @@
 """The subcommands of the workbench, in groups with a line each."""
 import importlib
 import sys
-from typing import List, NamedTuple, Optional, Tuple
+from typing import List, NamedTuple, Tuple
 
 from . import tool
 
 
 class Subcommand(NamedTuple):
-    """A tool: its words, the module that has its main, and what it does in a line."""
+    """A tool: its words, the module that has its main (or what else runs it), and what it does in a line."""
     name: str
     module: str
     line: str
@@ -16,11 +16,11 @@ class Subcommand(NamedTuple):
 GROUPS: Tuple[Tuple[str, Tuple[Subcommand, ...]], ...] = (
     ("run", (
         Subcommand("run", "running.run", "print a report: by the program where it is built, else by the model"),
-        Subcommand("simulate", "running.simulate", "print a report by the model, in the interleaving of a seed"),
+        Subcommand("simulate", "running.run:simulate", "print a report by the model, in the interleaving of a seed"),
         Subcommand("sweep", "running.sweep", "run with many numbers of workers and batch limits: a table, and plots"))),
     ("look", (
         Subcommand("draw", "drawing.draw", "draw a report: a picture, lanes for a terminal, or a page to step through"),
-        Subcommand("summary", "reports.summary", "count what a report says, by lock, by thread and by worker"),
+        Subcommand("summary", "reports.counts", "count what a report says, by lock, by thread and by worker"),
         Subcommand("explain", "judging.explain", "say of a file what it has, of a report why each block came"))),
     ("judge", (
         Subcommand("judge", "judging.judge", "say whether a report is that of a legal run"),
@@ -49,15 +49,6 @@ EVERY = {one.name: one for _, group in GROUPS for one in group}
 USAGE = "usage: workbench SUBCOMMAND [WORD ..] | workbench SUBCOMMAND --help"
 
 
-def help_lines() -> List[str]:
-    """All subcommands by group."""
-    width = max(map(len, EVERY))
-    lines = [USAGE, "", "Tools over guests, reports and the program tclocks. Statuses are those of the program."]
-    for title, group in GROUPS:
-        lines += ["", f"{title}:", *(f"  {one.name:{width}}  {one.line}" for one in group)]
-    return lines
-
-
 def find(words: List[str]) -> Tuple[Subcommand, List[str]]:
     """The subcommand that words begin with, and the words behind it."""
     for count in 2, 1:
@@ -70,12 +61,13 @@ def find(words: List[str]) -> Tuple[Subcommand, List[str]]:
     raise tool.Trouble(tool.WORDS, f"{what}; ./workbench --help lists them")
 
 
-def show_help(words: List[str]) -> Optional[int]:
-    """Prints the subcommands, or says that words are wrong."""
-    if words[:1] in (["--help"], ["-h"], ["help"]):
-        print("\n".join(help_lines()))
-        return tool.DONE
-    find(words)
+def show_help(words: List[str]) -> int:
+    """Prints all subcommands by group, or says that words are wrong."""
+    if words[:1] not in (["--help"], ["-h"], ["help"]):
+        find(words)
+    print(USAGE, "", "Tools over guests, reports and the program tclocks. Statuses are those of the program.", sep="\n")
+    for title, group in GROUPS:
+        print(f"\n{title}:", *(f"  {one.name:{max(map(len, EVERY))}}  {one.line}" for one in group), sep="\n")
     return tool.DONE
 
 
@@ -86,4 +78,5 @@ def main() -> None:
         one, rest = find(words)
     except tool.Trouble:
         tool.run("", show_help, words)
-    tool.run(one.name, importlib.import_module(f".{one.module}", __package__).main, rest)
+    module, _, function = one.module.partition(":")
+    tool.run(one.name, getattr(importlib.import_module(f".{module}", __package__), function or "main"), rest)

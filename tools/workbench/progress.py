@@ -5,10 +5,12 @@ import os
 import sys
 import time
 from types import TracebackType
+from typing import Iterable, Iterator, TypeVar
 
 from . import tool
 
 EACH = 0.2  # seconds between two writings
+Piece = TypeVar("Piece")
 
 
 class Progress:
@@ -26,15 +28,16 @@ class Progress:
         return self
 
     def __exit__(self, kind: type[BaseException] | None, _: BaseException | None, __: TracebackType | None) -> bool:
-        if self.is_shown:
-            sys.stderr.write("\r\x1b[K")
-            sys.stderr.flush()
+        self.clear()
         self.interrupted |= kind is KeyboardInterrupt
         return kind is KeyboardInterrupt
 
-    def step(self, count: int = 1) -> None:
-        """So much more is done."""
-        self.reach(self.done + count)
+    def each(self, work: Iterable[Piece]) -> Iterator[Piece]:
+        """Each piece of work, with room for lines of its own; it is done when the next one is asked for."""
+        for one in work:
+            self.clear()
+            yield one
+            self.reach(self.done + 1)
 
     def reach(self, done: int) -> None:
         """So much is done in all."""

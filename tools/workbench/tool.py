@@ -7,17 +7,16 @@ Each status above 0 comes with one line on standard error.
 """
 from __future__ import annotations
 
+from pathlib import Path
 import argparse
+import contextlib
 import errno
 import gc
 import os
 import sys
-from typing import Callable, IO, Iterator, NoReturn, TYPE_CHECKING
+from typing import Callable, IO, Iterator, NoReturn
 
 from . import limits
-
-if TYPE_CHECKING:
-    from pathlib import Path
 
 DONE, WORDS, INPUT, WRONG, OUTPUT, MEMORY, STOPPED = 0, 1, 2, 3, 4, 5, 130
 
@@ -65,53 +64,44 @@ def number(least: int, most: int) -> Callable[[str], int]:
     return read
 
 
-def input_trouble(path: str | Path, error: OSError) -> Trouble:
-    name = "standard input" if path == "-" else path
-    return Trouble(INPUT, f"{name}: {error.strerror or error}")
+@contextlib.contextmanager
+def opened(path: Path | str) -> Iterator[IO[bytes]]:
+    """A file for reading bytes, or Trouble; '-' is standard input."""
+    try:
+        if path == "-" and sys.stdin is None:
+            raise OSError(errno.EBADF, "it is closed")
+        with open(path, "rb") if path != "-" else sys.stdin.buffer as file:
+            yield file
+    except OSError as error:
+        raise Trouble(INPUT, f"{'standard input' if path == '-' else path}: {error.strerror or error}") from None
 
 
-def opened(path: Path | str) -> IO[bytes]:
-    """A file for reading bytes; '-' is standard input."""
-    if path != "-":
-        return open(path, "rb")
-    if sys.stdin is None:
-        raise OSError(errno.EBADF, "it is closed")
-    return sys.stdin.buffer
+@contextlib.contextmanager
+def writing(path: Path | str) -> Iterator[None]:
+    """Trouble where what is at a path can't be written."""
+    try:
+        yield
+    except OSError as error:
+        raise Trouble(OUTPUT, f"{path}: {error.strerror}") from None
 
 
 def read_bytes(path: Path | str, most: int = -1) -> bytes:
     """The first bytes of a file, at most so many; all of them where that is not said."""
-    try:
-        with opened(path) as file:
-            return file.read(most)
-    except OSError as error:
-        raise input_trouble(path, error) from None
+    with opened(path) as file:
+        return file.read(most)
 
 
 def read_lines(path: str | Path) -> Iterator[str]:
     """The lines of a text one by one, with their ends of line; a longer one comes in parts."""
-    try:
-        with opened(path) as file:
-            for line in iter(lambda: file.readline(LONGEST_LINE), b""):
-                yield line.decode("ascii", "replace")
-    except OSError as error:
-        raise input_trouble(path, error) from None
+    with opened(path) as file:
+        for line in iter(lambda: file.readline(LONGEST_LINE), b""):
+            yield line.decode("ascii", "replace")
 
 
 def write_file(path: Path | str, content: bytes | str) -> None:
     """Writes a text or bytes."""
-    try:
-        with open(path, "wb") as file:
-            file.write(content if isinstance(content, bytes) else content.encode("utf-8"))
-    except OSError as error:
-        raise Trouble(OUTPUT, f"{path}: {error.strerror}") from None
-
-
-def make_folder(path: Path | str) -> None:
-    try:
-        os.makedirs(path, exist_ok=True)
-    except OSError as error:
-        raise Trouble(OUTPUT, f"{path}: {error.strerror}") from None
+    with writing(path), open(path, "wb") as file:
+        file.write(content if isinstance(content, bytes) else content.encode("utf-8"))
 
 
 def print_columns(rows: list[list[str]], adjust: Callable[[str, int], str] = str.rjust) -> None:
@@ -125,15 +115,6 @@ def note(name: str, text: str) -> None:
     """One line on standard error."""
     if sys.stderr is not None:
         sys.stderr.write(f"{called(name)}: {text}\n")
-
-
-def flush() -> None:
-    """Writes what was printed before a trouble; the trouble is what the tool ends with."""
-    if sys.stdout is not None:
-        try:
-            sys.stdout.flush()
-        except OSError:
-            pass
 
 
 def ended(name: str, status: int, text: str) -> int:
@@ -153,7 +134,8 @@ def run(name: str, main: Callable[[list[str]], int | None], words: list[str]) ->
         status = main(words) or DONE
         sys.stdout.flush()
     except Trouble as trouble:
-        flush()
+        with contextlib.suppress(OSError, AttributeError):  # what was printed before; the trouble is what it ends with
+            sys.stdout.flush()
         status = ended(name, trouble.status, str(trouble))
     except BrokenPipeError:
         status = ended(name, OUTPUT, "standard output: its reader has ended")

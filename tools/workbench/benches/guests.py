@@ -72,8 +72,7 @@ def memory() -> bytes:
 
 def hot_lock() -> bytes:
     """One lock, and a short section that adds one to a word of its guard."""
-    base = [encode("lui", 8, DATA)]
-    return elf(base + for_ever(lock(0) + add_one(8) + unlock(0)), 1)
+    return elf([encode("lui", 8, DATA)] + for_ever(lock(0) + add_one(8) + unlock(0)), 1)
 
 
 def own_locks() -> bytes:
@@ -86,8 +85,7 @@ def own_locks() -> bytes:
 def nested_locks() -> bytes:
     """Four locks, taken one in the other and given up again."""
     taken = [one for number in range(4) for one in lock(number)]
-    given = [one for number in reversed(range(4)) for one in unlock(number)]
-    return elf(for_ever(taken + given), 4)
+    return elf(for_ever(taken + [one for number in reversed(range(4)) for one in unlock(number)]), 4)
 
 
 def sleeps() -> bytes:

@@ -35,7 +35,6 @@ def main(words: list[str]) -> None:
     parser = process.words("nodes", __doc__, OWN + OF_BENCH, "all", "run")
     process.add_number(parser, "runs", 5, "of each order")
     asked = process.parsed(parser, words, OWN + OF_BENCH)
-    process.choose(asked)
     settings = sorted(sweep.settings_of(argparse.Namespace(
         workers=[asked.workers], batch=[asked.batch], fuel=asked.fuel, nodes=NODES, bound=BOUNDS, runs=asked.runs), "program"),
         key=lambda setting: setting.run)
@@ -43,12 +42,10 @@ def main(words: list[str]) -> None:
         table.Column(column.replace("_", " ").capitalize(), ",.0f") for column in COLUMNS), table.Column("Seconds", ".3f")])
     names = asked.guests or OWN + OF_BENCH
     with progress.Progress("bench nodes", "guests", len(names)) as shown:
-        for name in names:
-            shown.clear()
+        for name in shown.each(names):
             orders: dict[tuple[int, int, int], list[sweep.Result]] = {}
             for result in sweep.results(guests.file_of(name), settings):
                 orders.setdefault(result.setting.order(), []).append(result)
             for order, results in orders.items():
                 to.row(row(name, order, results), [(result.seconds, result.sums()) for result in results])
-            shown.step()
     shown.end()

@@ -24,6 +24,7 @@ from .. import limits, places, progress, tool
 from ..guest import model
 from ..reports import report
 from . import guests, process, table
+from .process import Failed
 
 FACTS = json.loads((places.GUESTS / "facts.json").read_text())
 AMPLE = 20000  # fuel with which the facts hold
@@ -33,49 +34,23 @@ COLUMNS = [table.Column("Guest"), table.Column("Turns", ","), table.Column("Bloc
     table.Column("To peer", ".2f"), table.Column("To peer with text", ".2f")]
 
 
-class Failed(Exception):
-    """What was otherwise than it must be."""
-
-
 class Measured:
     """What is measured: its words, and what its runs took."""
 
-    took: list[process.Took]
-
     def __init__(self, path: Path | None, *words: int | str) -> None:
-        self.path, self.words, self.took = path, words, []
+        self.path, self.words = path, words
+        self.took: list[process.Took] = []
 
     def run(self, file: bytes, is_read: bool = False) -> bytes:
         """A run over a file. Answers its report where that is to be read, else nothing."""
-        with tempfile.TemporaryFile() as given, tempfile.TemporaryFile() as written:
-            given.write(file)
-            given.seek(0)
-            status, took = process.run(self.words, given, written, self.path)
+        with process.over(file, self.words, self.path) as (status, took, written):
             if status:
                 raise Failed(f"{'peer' if self.path else 'tclocks'} {' '.join(map(str, self.words))} ended with status {status}")
             self.took.append(took)
-            written.seek(0)
             return written.read() if is_read else b""
 
-    def seconds(self) -> float:
-        return float(min(took.seconds for took in self.took))
-
-    def busy(self) -> float:
-        return float(min(took.busy for took in self.took))
-
-
-def asked_of(words: list[str]) -> Namespace:
-    """What the words ask for."""
-    known = (*guests.GUESTS, *FACTS)
-    parser = process.words("peer", __doc__, known, "all")
-    process.add_number(parser, "fuel", limits.RUN["fuel"][1], "of each thread")
-    process.add_number(parser, "runs", 5, "of each")
-    parser.add_argument("-c", dest="core", metavar="CORE", type=tool.number(0, 9999),
-                        default=max(os.sched_getaffinity(0)), help="the processor on which all runs (the last one)")
-    asked = process.parsed(parser, words, known)
-    if asked.core not in os.sched_getaffinity(0):
-        parser.error(f"there is no processor {asked.core} here")
-    return asked
+    def least(self, what: str) -> float:
+        return float(min(getattr(took, what) for took in self.took))
 
 
 def ends_of(text: bytes) -> report.Report:
@@ -117,8 +92,8 @@ def measure(name: str, asked: Namespace, peer: Path, to: table.Table) -> list[fl
     for _ in range(asked.runs):
         for one in ours, log, text:
             one.run(file)
-    ratios = [ours.busy() / one.busy() for one in (log, text)]
-    to.row([name, *counted, *(number for one in (ours, log, text) for number in (one.seconds(), one.busy())), *ratios],
+    ratios = [ours.least("busy") / one.least("busy") for one in (log, text)]
+    to.row([name, *counted, *(one.least(what) for one in (ours, log, text) for what in ("seconds", "busy")), *ratios],
            [one.took for one in (ours, log, text)])
     return ratios
 
@@ -131,22 +106,25 @@ def sum_up(folder: str, ratios: dict[str, list[float]]) -> None:
 
 
 def main(words: list[str]) -> int | None:
-    asked = asked_of(words)
-    process.choose(asked)
+    known = (*guests.GUESTS, *FACTS)
+    parser = process.words("peer", __doc__, known, "all")
+    process.add_number(parser, "fuel", limits.RUN["fuel"][1], "of each thread")
+    process.add_number(parser, "runs", 5, "of each")
+    parser.add_argument("-c", dest="core", metavar="CORE", type=tool.number(0, 9999),
+                        default=max(os.sched_getaffinity(0)), help="the processor on which all runs (the last one)")
+    asked = process.parsed(parser, words, known, os.sched_getaffinity(0))
     os.sched_setaffinity(0, {asked.core})
     ratios, failed = {}, 0
     with tempfile.TemporaryDirectory() as folder:
         peer = process.compiled("peer.c", folder, "-pthread")
         names, to = asked.guests or [*guests.GUESTS, *FACTS], table.Table("peer", asked, COLUMNS)
         with progress.Progress("bench peer", "guests", len(names)) as shown:
-            for name in names:
-                shown.clear()
+            for name in shown.each(names):
                 try:
                     ratios[name] = measure(name, asked, peer, to)
                 except Failed as why:
                     failed += 1
                     print(f"{name}: {why}", flush=True)
-                shown.step()
     for folder, names in ("bench/", guests.GUESTS), ("guests/", FACTS):
         found = {name: ratios[name] for name in names if name in ratios}
         if found:

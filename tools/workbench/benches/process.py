@@ -2,13 +2,15 @@
 from __future__ import annotations
 
 import argparse
+import contextlib
 import os
 import re
 import shutil
 import subprocess
+import tempfile
 import time
 from pathlib import Path
-from typing import IO, Any, Iterable, NamedTuple
+from typing import IO, Any, Iterable, Iterator, NamedTuple
 
 from .. import limits, tool
 from ..running import program
@@ -17,6 +19,10 @@ HERE = Path(__file__).resolve().parent
 TURNS = re.compile(rb"^block \d+ thread \d+ turns (\d+) ")
 # What ./tclocks adds to the environment of the program.
 ADDED = {"GLIBC_TUNABLES": "glibc.malloc.hugetlb=1"}
+
+
+class Failed(Exception):
+    """What was otherwise than it must be."""
 
 
 class Took(NamedTuple):
@@ -50,23 +56,22 @@ def add_list(parser: tool.Words, name: str, usual: list[int], says: str, least: 
                         type=lambda word: [*map(one, word.split(","))], help=f"{says} ({','.join(map(str, usual))})")
 
 
-def parsed(parser: tool.Words, given: list[str], known: Iterable[str]) -> argparse.Namespace:
-    """What the words ask for, of guests that are known."""
+def parsed(parser: tool.Words, given: list[str], known: Iterable[str], cores: Iterable[int] = ()) -> argparse.Namespace:
+    """What the words ask for, of guests that are known; the program that is asked for is the one that runs from here on.
+    Trouble where it is not there, or was not built."""
     asked = parser.parse_intermixed_args(given)
     wrong = [name for name in asked.guests if name not in known]
     if wrong:
         parser.error(f"there is no guest {wrong[0]!r}")
-    return asked
-
-
-def choose(asked: argparse.Namespace) -> None:
-    """Measures the program that was asked for. Trouble where it is not there, or was not built."""
-    if asked.program is None:
-        program.need()
-    elif not (asked.program.is_file() and os.access(asked.program, os.X_OK)):
-        raise tool.Trouble(tool.INPUT, f"{asked.program}: there is no such program")
-    else:
+    if cores and asked.core not in cores:
+        parser.error(f"there is no processor {asked.core} here")
+    if asked.program is not None:
+        if not (asked.program.is_file() and os.access(asked.program, os.X_OK)):
+            raise tool.Trouble(tool.INPUT, f"{asked.program}: there is no such program")
         program.PATH = asked.program.absolute()
+    elif getattr(asked, "folder", None) is None:
+        program.need()
+    return asked
 
 
 def compiled(source: str, folder: str, *words: str) -> Path:
@@ -100,9 +105,20 @@ def run(words: tuple[Any, ...], given: IO[bytes], written: IO[bytes], path: Path
     return status, Took(seconds, usage.ru_utime + usage.ru_stime, usage.ru_maxrss * 1024)
 
 
+@contextlib.contextmanager
+def over(file: bytes, words: tuple[Any, ...], path: Path | None = None,
+         surroundings: dict[str, str] | None = None) -> Iterator[tuple[int, Took, IO[bytes]]]:
+    """Runs it over the bytes of a file: its status, what it took, and what it wrote."""
+    with tempfile.TemporaryFile() as given, tempfile.TemporaryFile() as written:
+        given.write(file)
+        given.seek(0)
+        status, took = run(words, given, written, path, surroundings)
+        written.seek(0)
+        yield status, took, written
+
+
 def counts(report: IO[bytes]) -> tuple[int, int, int]:
     """The turns and the blocks of a report, a file, and its bytes."""
-    report.seek(0)
     turns = blocks = size = 0
     for line in report:
         size += len(line)

@@ -16,24 +16,13 @@ from typing import Any, IO
 
 from .. import limits, progress, tool
 from . import guests, process, table
+from .process import Failed
 
 USUAL = "sleeps", "hot-lock", "nested-locks", "shortest-blocks", "longest-history"
 COLUMNS = [table.Column(*column) for column in (
     ("Guest",), ("Blocks", ","), ("Bytes", ","), ("Run", ".3f"), ("Reading", ".3f"), ("MB/second", ".0f"), ("Replay", ".3f"),
     ("Profile", ".3f"), ("Replay/run", ".2f"), ("Profile/replay", ".2f"), ("Run MB", ".0f"), ("Replay MB", ".0f"),
     ("Profile MB", ".0f"), ("Memory", ".2f"))]
-
-
-class Failed(Exception):
-    """What the program did otherwise."""
-
-
-def asked_of(words: list[str]) -> Namespace:
-    parser = process.words("replay", __doc__, guests.GUESTS, ", ".join(USUAL))
-    process.add_number(parser, "batch", 0, "batch limit")
-    process.add_list(parser, "fuel", [limits.RUN["fuel"][1]], "of each thread; of several numbers each gets a line")
-    process.add_number(parser, "runs", 1, "runs of each, of which the least numbers are told")
-    return process.parsed(parser, words, guests.GUESTS)
 
 
 def least(words: tuple[Any, ...], given: IO[bytes], status: int, runs: int) -> tuple[float, float, IO[bytes]]:
@@ -82,18 +71,19 @@ def measure(name: str, fuel: int, asked: Namespace, to: table.Table) -> None:
 
 
 def main(words: list[str]) -> int | None:
-    asked = asked_of(words)
-    process.choose(asked)
+    parser = process.words("replay", __doc__, guests.GUESTS, ", ".join(USUAL))
+    process.add_number(parser, "batch", 0, "batch limit")
+    process.add_list(parser, "fuel", [limits.RUN["fuel"][1]], "of each thread; of several numbers each gets a line")
+    process.add_number(parser, "runs", 1, "runs of each, of which the least numbers are told")
+    asked = process.parsed(parser, words, guests.GUESTS)
     lines = [(name, fuel) for name in asked.guests or USUAL for fuel in asked.fuel]
     failed, to = 0, table.Table("replay", asked, COLUMNS)
     with progress.Progress("bench replay", "lines", len(lines)) as shown:
-        for name, fuel in lines:
-            shown.clear()
+        for name, fuel in shown.each(lines):
             try:
                 measure(name, fuel, asked, to)
             except Failed as why:
                 failed += 1
                 print(f"{name}: {why}", flush=True)
-            shown.step()
     shown.end()
     return tool.WRONG if failed else tool.DONE

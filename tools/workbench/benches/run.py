@@ -11,11 +11,11 @@ import io
 import re
 import shutil
 import subprocess
-import tempfile
 from pathlib import Path
 from typing import List, Tuple
 
 from .. import limits, progress, tool
+from ..reports import report
 from ..running import program
 from . import guests, process, table
 
@@ -25,20 +25,6 @@ FEW, MANY = 512, 1024
 COLUMNS = [table.Column(*column) for column in (
     ("Guest",), ("Workers",), ("Turns", ","), ("Blocks", ","), ("Seconds", ".3f"), ("Turns/second", ",.0f"), ("Processor", ".3f"),
     ("Peak memory", ","), ("Report bytes", ","), ("Per turn", ".0f"), ("Start", ",.0f"))]
-
-
-def asked_of(words: list[str]) -> Namespace:
-    """What the words ask for."""
-    parser = process.words("run", __doc__, guests.GUESTS, "all")
-    process.add_list(parser, "workers", [1], "1 to 8; of several numbers, as 1,4, each gets a line")
-    process.add_number(parser, "batch", 0, "batch limit")
-    process.add_number(parser, "fuel", limits.RUN["fuel"][1], "of each thread")
-    process.add_number(parser, "runs", 1, "runs, of which the one that took the least seconds is told")
-    parser.add_argument("-o", dest="folder", metavar="FOLDER", type=Path,
-                        help="only write the guests' files into a folder, which is made where it is not there")
-    asked = process.parsed(parser, words, guests.GUESTS)
-    asked.guests = asked.guests or list(guests.GUESTS)
-    return asked
 
 
 def counter() -> Counter | None:
@@ -84,18 +70,11 @@ def instructions(name: str, asked: Namespace, how: Counter | None) -> tuple[floa
 def ran(name: str, workers: int, asked: Namespace) -> tuple[process.Took, tuple[int, int, int]] | None:
     """One run of a guest: what it took, and its turns, blocks and bytes of report. None where it did not end with
     status 0."""
-    with tempfile.TemporaryFile() as guest, tempfile.TemporaryFile() as report:
-        guest.write(guests.GUESTS[name]())
-        guest.seek(0)
-        status, took = process.run(("run", workers, asked.fuel, asked.batch), guest, report)
+    with process.over(guests.GUESTS[name](), ("run", workers, asked.fuel, asked.batch)) as (status, took, written):
         if status:
-            print(f"{name}, {report_text(workers)} ended with status {status}")
+            print(f"{name}, {report.several(workers, 'worker')} ended with status {status}")
             return None
-        return took, process.counts(report)
-
-
-def report_text(workers: int) -> str:
-    return f"{workers} worker{'s' * (workers > 1)}"
+        return took, process.counts(written)
 
 
 def measure(name: str, workers: int, asked: Namespace, how: Counter | None, to: table.Table) -> bool:
@@ -111,28 +90,29 @@ def measure(name: str, workers: int, asked: Namespace, how: Counter | None, to: 
     return True
 
 
-def write_all(folder: Path, names: list[str]) -> None:
-    """Writes the guests' files into a folder."""
-    tool.make_folder(folder)
-    for name in names:
-        tool.write_file(folder / f"{name}.elf", guests.GUESTS[name]())
-
-
 def main(words: list[str]) -> int | None:
-    asked = asked_of(words)
+    parser = process.words("run", __doc__, guests.GUESTS, "all")
+    process.add_list(parser, "workers", [1], "1 to 8; of several numbers, as 1,4, each gets a line")
+    process.add_number(parser, "batch", 0, "batch limit")
+    process.add_number(parser, "fuel", limits.RUN["fuel"][1], "of each thread")
+    process.add_number(parser, "runs", 1, "runs, of which the one that took the least seconds is told")
+    parser.add_argument("-o", dest="folder", metavar="FOLDER", type=Path,
+                        help="only write the guests' files into a folder, which is made where it is not there")
+    asked = process.parsed(parser, words, guests.GUESTS)
+    names = asked.guests or list(guests.GUESTS)
     if asked.folder is not None:
-        write_all(asked.folder, asked.guests)
+        with tool.writing(asked.folder):
+            asked.folder.mkdir(parents=True, exist_ok=True)
+        for name in names:
+            tool.write_file(asked.folder / f"{name}.elf", guests.GUESTS[name]())
         return tool.DONE
-    process.choose(asked)
     how = counter()
     if how is None:
         print("Neither valgrind nor perf counts instructions here: those columns stay empty.")
-    lines = [(name, workers) for name in asked.guests for workers in asked.workers]
+    lines = [(name, workers) for name in names for workers in asked.workers]
     done, to = [], table.Table("run", asked, COLUMNS)
     with progress.Progress("bench run", "lines", len(lines)) as shown:
-        for name, workers in lines:
-            shown.clear()
+        for name, workers in shown.each(lines):
             done.append(measure(name, workers, asked, how, to))
-            shown.step()
     shown.end()
     return tool.DONE if all(done) else tool.WRONG

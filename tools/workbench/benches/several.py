@@ -27,6 +27,7 @@ import time
 from typing import Any, Iterator
 
 from .. import limits, progress, tool
+from ..reports import report
 from . import guests, process, table
 
 USUAL = "hot-lock", "nested-locks", "sleeps", "memory", "many-ranges", "own-locks"
@@ -37,31 +38,10 @@ BEGIN = 0.002  # the seconds that such loops get to begin
 MOST_ROUNDS = 30  # of which one counts at least, on the mean, or the rest are not made
 
 
-def asked_of(words: list[str]) -> Namespace:
-    """What the words ask for."""
-    parser = process.words("several", __doc__, guests.GUESTS, ", ".join(USUAL))
-    process.add_list(parser, "workers", [1, 2, 4], "1 to 8 each")
-    process.add_number(parser, "batch", 8, "batch limit")
-    process.add_number(parser, "fuel", limits.RUN["fuel"][1], "of each thread")
-    process.add_number(parser, "runs", 9, "of each")
-    parser.add_argument("-q", dest="quiet", metavar="NUMBER", type=float,
-                        help="count only rounds before and behind which the number of the column Loop is at most this, as 1.1")
-    parser.add_argument("-e", dest="even", action="store_true",
-                        help="keep the processors busy that a run leaves idle, as many as the most workers take")
-    parser.add_argument("-m", dest="told", action="store_const", const=statistics.median, default=min,
-                        help="tell the median of the runs in the place of the least")
-    asked = process.parsed(parser, words, guests.GUESTS)
-    asked.workers = sorted({*asked.workers})
-    return asked
-
-
 def ran(words: tuple[Any, ...], file: bytes = b"", path: Path | None = None,
         is_counted: bool = False) -> tuple[process.Took, int | None]:
     """What a run of the program took, or of what is at the path, and its blocks where they are to be counted."""
-    with tempfile.TemporaryFile() as given, tempfile.TemporaryFile() as written:
-        given.write(file)
-        given.seek(0)
-        status, took = process.run(words, given, written, path)
+    with process.over(file, words, path) as (status, took, written):
         if status:
             raise tool.Trouble(tool.WRONG, f"{path or 'tclocks'} {' '.join(map(str, words))} ended with status {status}")
         return took, process.counts(written)[1] if is_counted else None
@@ -105,13 +85,6 @@ def loops_of(asked: Namespace, loop: Path | None) -> Any:
     return [looped(asked, loop, threads, LOOP_TURNS) for threads in (asked.workers[0], asked.workers[-1])] if loop else None
 
 
-def ran_in_company(asked: Namespace, loop: Path | None, file: bytes, workers: int,
-                   is_counted: bool) -> tuple[process.Took, int | None]:
-    """What a run of a guest by so many workers took."""
-    with company(asked, loop, workers):
-        return ran(("run", workers, asked.fuel, asked.batch), file, is_counted=is_counted)
-
-
 def shared_loop(asked: Namespace, seconds: float, loops: list[list[float]], loop: Path | None) -> float:
     """The seconds of a loop that takes as long as the guest, by the most threads that share its turns, in those by the
     fewest."""
@@ -133,14 +106,16 @@ def is_quiet(asked: Namespace, loops: list[float]) -> bool:
 
 def rounds(name: str, asked: Namespace, loop: Path | None) -> tuple[dict[int, list[tuple[Any, ...]]], list[list[float]], int]:
     """The runs of a guest in rounds that count, by workers; the loops before and behind them; how many rounds were made."""
-    runs: dict[Any, Any]
-    loops: list[Any]
-    file, runs, loops, made = guests.GUESTS[name](), {workers: [] for workers in asked.workers}, [], 0
+    runs: dict[int, list[tuple[Any, ...]]] = {workers: [] for workers in asked.workers}
+    file, loops, made = guests.GUESTS[name](), [], 0  # type: bytes, list[Any], int
     while len(runs[asked.workers[0]]) < asked.runs and made < MOST_ROUNDS * asked.runs:
         made, before = made + 1, loops_of(asked, loop)
         if not is_quiet(asked, before):
             continue
-        found = {workers: ran_in_company(asked, loop, file, workers, not loops) for workers in asked.workers}
+        found = {}
+        for workers in asked.workers:
+            with company(asked, loop, workers):
+                found[workers] = ran(("run", workers, asked.fuel, asked.batch), file, is_counted=not loops)
         behind = loops_of(asked, loop)
         if is_quiet(asked, behind):
             loops += [before, behind]
@@ -165,12 +140,28 @@ def measure(name: str, asked: Namespace, clock: Path | None, loop: Path | None, 
 
 
 def main(words: list[str]) -> None:
-    asked = asked_of(words)
-    process.choose(asked)
+    parser = process.words("several", __doc__, guests.GUESTS, ", ".join(USUAL))
+    process.add_list(parser, "workers", [1, 2, 4], "1 to 8 each")
+    process.add_number(parser, "batch", 8, "batch limit")
+    process.add_number(parser, "fuel", limits.RUN["fuel"][1], "of each thread")
+    process.add_number(parser, "runs", 9, "of each")
+    parser.add_argument("-q", dest="quiet", metavar="NUMBER", type=float,
+                        help="count only rounds before and behind which the number of the column Loop is at most this, as 1.1")
+    parser.add_argument("-e", dest="even", action="store_true",
+                        help="keep the processors busy that a run leaves idle, as many as the most workers take")
+    parser.add_argument("-m", dest="told", action="store_const", const=statistics.median, default=min,
+                        help="tell the median of the runs in the place of the least")
+    asked = process.parsed(parser, words, guests.GUESTS)
+    asked.workers = sorted({*asked.workers})
+    measure_all(asked)
+
+
+def measure_all(asked: Namespace) -> None:
+    """Prints the table, and what it tells in a line."""
     wants_loop = [word for word, is_asked in (("-q", asked.quiet is not None), ("-e", asked.even)) if is_asked]
     if wants_loop and not shutil.which("cc"):
         raise tool.Trouble(tool.INPUT, f"{wants_loop[0]} needs a C compiler, and cc is not on the PATH")
-    each = [f"{workers} worker{'s' * (workers > 1)}" for workers in asked.workers]
+    each = [report.several(workers, "worker") for workers in asked.workers]
     of = f"{each[-1]} to {each[0]}"
     columns = [("Guest", ""), *((f"Seconds: {one}" if one == each[0] else one, ".3f") for one in each),
                *((f"Processor: {one}" if one == each[0] else one, ".3f") for one in each), (f"Seconds, {of}", ".2f"),
@@ -182,10 +173,8 @@ def main(words: list[str]) -> None:
         clock, loop = (process.compiled(source, folder, "-pthread") if shutil.which("cc") else None
                        for source in ("clock.c", "loop.c"))
         with progress.Progress("bench several", "guests", len(names)) as shown:
-            for name in names:
-                shown.clear()
+            for name in shown.each(names):
                 ratios[name] = measure(name, asked, clock, loop, to)
-                shown.step()
     if not ratios:
         return shown.end()
     seconds, busy = ({name: pair[which] for name, pair in ratios.items()} for which in (0, 1))

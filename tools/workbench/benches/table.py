@@ -51,10 +51,8 @@ class Table:
 def kept(path: str | None) -> IO[str] | None:
     if path is None:
         return None
-    try:
+    with tool.writing(path):
         return open(path, "w", encoding="utf-8")
-    except OSError as error:
-        raise tool.Trouble(tool.OUTPUT, f"{path}: {error.strerror}") from None
 
 
 def head(columns: Sequence[Column]) -> list[str]:

@@ -7,7 +7,6 @@ one, and where it gives one: a library in LD_PRELOAD (threads.c) refuses all oth
 """
 from __future__ import annotations
 
-from argparse import Namespace
 import os
 import re
 import statistics
@@ -28,15 +27,6 @@ class Ran(NamedTuple):
     several: bool
     adopted: bool
     milliseconds: float
-
-
-def asked_of(words: list[str]) -> Namespace:
-    """What the words ask for."""
-    known = (*OWN, *guests.GUESTS)
-    parser = process.words("together", __doc__, known, ", ".join(OWN))
-    process.add_list(parser, "workers", [4, 8], "2 to 8; of several numbers each gets lines", 2)
-    process.add_number(parser, "runs", 40, "of each")
-    return process.parsed(parser, words, known)
 
 
 class Host:
@@ -61,15 +51,11 @@ class Host:
 def run(host: Host, name: str, workers: int, kind: str) -> Ran:
     """A run of a guest, where the host gives so many threads."""
     threads = GIVEN[kind]
-    with tempfile.TemporaryFile() as given, tempfile.TemporaryFile() as written:
-        given.write(guests.file_of(name))
-        given.seek(0)
-        words = "run", workers, FUEL, BATCH
-        status, took = process.run(words, given, written, surroundings=None if threads is None else host.surroundings(threads))
+    words, around = ("run", workers, FUEL, BATCH), None if threads is None else host.surroundings(threads)
+    with process.over(guests.file_of(name), words, surroundings=around) as (status, took, written):
         if status:
             raise tool.Trouble(tool.WRONG, f"tclocks {' '.join(map(str, words))} over {name} ended with status {status}, "
                                            f"with {kind} of its threads")
-        written.seek(0)
         blocks = BLOCK.findall(written.read())
     refused = host.refused()
     if threads is not None and threads < workers - 1 and not refused:
@@ -99,8 +85,11 @@ def sum_up(kind: str, ran: list[Ran]) -> None:
 
 
 def main(words: list[str]) -> None:
-    asked = asked_of(words)
-    process.choose(asked)
+    known = (*OWN, *guests.GUESTS)
+    parser = process.words("together", __doc__, known, ", ".join(OWN))
+    process.add_list(parser, "workers", [4, 8], "2 to 8; of several numbers each gets lines", 2)
+    process.add_number(parser, "runs", 40, "of each")
+    asked = process.parsed(parser, words, known)
     every: dict[str, list[Ran]] = {kind: [] for kind in GIVEN}
     with tempfile.TemporaryDirectory() as folder:
         host = Host(folder)
@@ -109,11 +98,9 @@ def main(words: list[str]) -> None:
             table.Column("Least ms", ".1f")])
         lines = [(name, workers) for name in asked.guests or OWN for workers in asked.workers]
         with progress.Progress("bench together", "of guests and workers", len(lines)) as shown:
-            for name, workers in lines:
-                shown.clear()
+            for name, workers in shown.each(lines):
                 for kind, ran in measure(host, name, workers, asked.runs, to).items():
                     every[kind] += ran
-                shown.step()
     for kind, ran in every.items():
         if ran:
             sum_up(kind, ran)

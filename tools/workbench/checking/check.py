@@ -92,11 +92,7 @@ def give_changed(file: bytes, words: tuple[Any, ...], blocks: list[report.Block]
                  kept: str) -> Iterator[str]:
     """Gives changed histories, one of each form, and answers for which reasons they are rejected."""
     for form in spoil.FORMS:
-        history, numbers = form(draw, blocks).encode("ascii"), words[-3:]
-        given = rejecting.Given(len(file), numbers, file + history)
-        for ask in "replay", "profile":
-            rejecting.ask(ask, file, numbers, history, given.answer(ask), kept)
-        yield given.reason or TAKEN
+        yield rejecting.ask_both(file, words[-3:], form(draw, blocks).encode("ascii"), kept).reason or TAKEN
 
 
 class Shown:
@@ -207,8 +203,8 @@ def main(words: list[str]) -> int | None:
     guests = [name for name in names if name not in PARTS]
     if guests:
         program.need()
-    answers: collections.Counter[str]
-    answers, trials = collections.Counter(), len(names)
+    answers: collections.Counter[str] = collections.Counter()
+    trials = len(names)
     for name in guests:
         is_right, answered = check(name, facts[name])
         passed, answers = passed + is_right, answers + answered

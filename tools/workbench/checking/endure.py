@@ -115,10 +115,9 @@ def runs_in_a_row(place: Place, runs: int) -> str:
     file = made.counting(4)
     peaks = []
     with progress.Progress("endure", "runs in a row", runs) as shown:
-        for _ in range(runs):
+        for _ in shown.each(range(runs)):
             peaks.append(place.peak(file, COUNTING))
             place.is_clean()
-            shown.step()
     shown.end()
     some = max(1, runs // 10)
     first, last = statistics.median(peaks[:some]), statistics.median(peaks[-some:])
@@ -239,11 +238,9 @@ def main(words: list[str]) -> int | None:
     program.need()
     count = 0
     with progress.Progress("endure", "trials", len(TRIALS)) as shown:
-        for count, trial in enumerate(TRIALS, 1):
+        for count, trial in shown.each(enumerate(TRIALS, 1)):
             with tempfile.TemporaryDirectory() as folder:
-                shown.clear()
                 passed += tried(trial, pathlib.Path(folder).resolve(), runs)
-            shown.step()
     done = count - shown.interrupted
     print(f"{passed} passed, {done - passed} failed")
     shown.end()

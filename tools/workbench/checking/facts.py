@@ -60,8 +60,7 @@ def bank() -> dict[str, list[Any]]:
             total += amount
         moved.append(total)
     assert sum(account[0] for account in accounts) == 36000
-    return exits(moved, [words(*account) for account in accounts],
-                 [account[3] for account in accounts])
+    return exits(moved, [words(*account) for account in accounts], [account[3] for account in accounts])
 
 
 def philosophers() -> dict[str, list[Any]]:
@@ -99,8 +98,7 @@ def matrix() -> dict[str, list[Any]]:
     left = [[1000 * (thread + 1) + i * 37 - 5000 for i in range(8)] for thread in range(8)]
     rows = [[sum(a * right[i][j] for i, a in enumerate(line)) for j in range(8)] for line in left]
     trace = sum(rows[i][i] for i in range(8))
-    return exits([row[7] for row in rows],
-                 [words(8, trace, *[value for row in rows for value in row])], [8])
+    return exits([row[7] for row in rows], [words(8, trace, *[value for row in rows for value in row])], [8])
 
 
 def sensors() -> dict[str, list[Any]]:

@@ -67,11 +67,6 @@ class Draw(random.Random):
         rare = self.choice((self.getrandbits(32), WHOLE["ebreak"], encode("fence", 0, 0, 0xFF)))
         return [rare if self.random() < 0.05 else upper]
 
-    def guest_call(self) -> list[int]:
-        number = self.choice((limits.LOCK, limits.UNLOCK, limits.SLEEP, 4))
-        sleep = self.choice((0, 1, 9, limits.SLEPT, limits.SLEPT + 1))
-        return made.call(number, sleep if number == limits.SLEEP else self.randrange(5))
-
     def section(self, locks: int) -> list[int]:
         """Takes and releases some locks, mostly in an order that is lawful."""
         chosen = sorted(self.sample(range(locks), self.randrange(min(locks, 5) + 1)))
@@ -90,13 +85,15 @@ class Draw(random.Random):
             draw = self.choice((self.arithmetic, self.arithmetic, self.jump, self.other, None))
             words += draw() if draw else self.section(locks)
             if self.random() < 0.03:
-                words += self.guest_call() + self.access()
+                number = self.choice((limits.LOCK, limits.UNLOCK, limits.SLEEP, 4))
+                sleep = self.choice((0, 1, 9, limits.SLEPT, limits.SLEPT + 1))
+                words += made.call(number, sleep if number == limits.SLEEP else self.randrange(5)) + self.access()
         return words + made.call(limits.EXIT, 0)
 
     def guest(self) -> bytes:
         """A whole file: a note, code, and data behind whose end a few zeros stand."""
-        words: list[Any]
-        words, entries, locks = [], [], self.randrange(self.choice((7, 7, 7, 33)))
+        words: list[int] = []
+        entries, locks = [], self.randrange(self.choice((7, 7, 7, 33)))
         for _ in range(self.randrange(1, self.choice((5, 5, 5, 33)))):
             entries.append((made.CODE + 4 * len(words), self.getrandbits(32)))
             words += self.thread(locks)
@@ -135,11 +132,8 @@ def judge_histories(file: Any, options: Any, text: Any, draw: Any, kept: Any) ->
     """Gives a report's history back, and a changed one. Answers why the changed one is rejected."""
     history = rejecting.history_of(text)
     blocks, _ = rejecting.read(history)
-    for one in history, draw.choice(spoil.FORMS)(draw, blocks).encode("ascii"):
-        given = rejecting.Given(len(file), options, file + one)
-        for form in "replay", "profile":
-            rejecting.ask(form, file, options, one, given.answer(form), kept)
-    return given.reason
+    rejecting.ask_both(file, options, history, kept)
+    return rejecting.ask_both(file, options, draw.choice(spoil.FORMS)(draw, blocks).encode("ascii"), kept).reason
 
 
 def main(words: list[str]) -> int | None:
@@ -148,12 +142,11 @@ def main(words: list[str]) -> int | None:
     parser.add_argument("seed", metavar="SEED", nargs="?", default=1, type=tool.number(0, 2**32))
     asked = parser.parse_args(words)
     program.need()
-    seen: collections.Counter[Any]
-    draw, failed, seen = Draw(asked.seed), 0, collections.Counter()
-    rejected: collections.Counter[Any]
-    changes, rejected = random.Random(asked.seed), collections.Counter()
+    draw, changes, failed = Draw(asked.seed), random.Random(asked.seed), 0
+    seen: collections.Counter[str] = collections.Counter()
+    rejected: collections.Counter[Any] = collections.Counter()
     with progress.Progress("fuzz", "guests", asked.count) as shown:
-        for number in range(asked.count):
+        for number in shown.each(range(asked.count)):
             file = draw.guest()
             options = (draw.randrange(1, 9), draw.choice((20, 100, 300, 5000)), draw.choice((0, 1, 256)))
             given = [("whole", file), *((kind.__name__, kind(draw, file)) for kind in damage.KINDS)]
@@ -168,7 +161,6 @@ def main(words: list[str]) -> int | None:
                     shown.clear()
                     print(f"{program.keep(f'{kept}.elf', file)}: run {' '.join(map(str, options))}: {wrong}")
                 seen[refused or ACCEPTED] += 1
-            shown.step()
     for what in sorted(seen, key=lambda what: int(what.split()[1]) if what != ACCEPTED else -1):
         print(f"{what}: {seen[what]}")
     for number, reason in enumerate(limits.REASONS, 1):

@@ -95,8 +95,8 @@ def refuse_each(library: pathlib.Path, case: Case, times: int, later: bool) -> t
     first = [run(library, case, 1, 0) for _ in range(FIRST_RUNS)]
     kept = max(ended.kept for ended in first)
     greatest = max(ended.allocations for ended in first)
-    counts: collections.Counter[int]
-    runs, counts, failed = 0, collections.Counter(), 0
+    counts: collections.Counter[int] = collections.Counter()
+    runs = failed = 0
     with progress.Progress("refuse", f"runs, {case.name}", times * (greatest + PAST)) as shown:
         while runs < times * (greatest + PAST):
             number = runs // times + 1
@@ -109,7 +109,7 @@ def refuse_each(library: pathlib.Path, case: Case, times: int, later: bool) -> t
                 shown.clear()
                 print(f"{case.name}: allocation {number} {'and all later' if later else 'alone'}: {wrong}")
             runs += 1
-            shown.step()
+            shown.reach(runs)
     statuses = ", ".join(f"{counts[status]} with status {status}" for status in sorted(counts))
     print(f"{case.name}, each of {greatest} allocations {'and all later ones' if later else 'alone'}: "
           f"{statuses}", flush=True)

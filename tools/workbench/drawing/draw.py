@@ -18,8 +18,8 @@ MOST = 2000  # blocks that are drawn each
 
 
 def print_svg(line: timeline.Timeline, called: names.Names, first: int, last: int, asked: Namespace) -> None:
-    draw = svg.detailed if last - first < asked.most else overview.draw
-    picture = draw(line, first, last, called, asked.title)
+    of = line, first, last, called, asked.title
+    picture = svg.detailed(*of) if last - first < asked.most else overview.Overview(*of).draw()
     for sentence in svg.sentences(line, first, last):
         picture.text(sentence)
     print(picture.svg(line.text.guards), end="")

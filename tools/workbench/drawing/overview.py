@@ -72,8 +72,7 @@ class Columns:
         for lock in gap.held if gap.worker is not None else ():
             self.spread(self.has, gap, (lock, gap.worker))
 
-    def spread(self, counters: list[Counter[Any]], span: timeline.Gap | timeline.Stay,
-               what: Any) -> None:
+    def spread(self, counters: list[Counter[Any]], span: timeline.Gap | timeline.Stay, what: Any) -> None:
         """Adds a span's stamps to the columns in which they lie."""
         start, stop = span.first - self.first, span.last - self.first + 1
         while start < stop:
@@ -94,8 +93,7 @@ class Columns:
         return f"blocks {start} to {start + self.size(column) - 1}"
 
 
-def bars(x: float, wide: float, bottom: int, high: int, shares: list[float],
-         colours: Any) -> Iterator[str]:
+def bars(x: float, wide: float, bottom: int, high: int, shares: list[float], colours: Any) -> Iterator[str]:
     """Bars on one another: each share is a part of the height."""
     for (top, share), colour in zip(zip(accumulate(shares), shares), colours):
         if share:
@@ -149,8 +147,7 @@ class Overview:
         self.picture.add("", PANEL + 10)
         self.stamps()
 
-    def lane(self, head: str, shares: list[list[int]], colours: Any,
-             names: Any, highest: float = 1) -> None:
+    def lane(self, head: str, shares: list[list[int]], colours: Any, names: Any, highest: float = 1) -> None:
         """A lane of shares of all stamps; what is left is nothing of these."""
         top = self.picture.height
         self.picture.add(svg.label(10, top + 16, head))
@@ -168,36 +165,26 @@ class Overview:
         blocks = columns.last - columns.first + 1
         picture.text(f"{blocks} blocks are too many to draw each: a column stands for {columns.each} blocks. "
                      f"--from {columns.first} --to {columns.first + 399} draws the first 400 in full.")
-        self.draw_kinds()
+        self.head("Kinds of blocks, in percent:", self.items(KINDS))
+        names, colours = zip(*KINDS)
+        self.panel([[100 * kinds[place] / columns.size(column) for place in range(len(KINDS))]
+                    for column, kinds in enumerate(columns.kinds)], colours, names, 100, "%")
         if self.text.guards:
-            self.draw_moves()
-            self.draw_waits()
+            locks = range(self.text.guards)
+            self.lock_panel(f"Moves of a lock to another worker, in {columns.each} blocks:",
+                            [[moves[lock] for lock in locks] for moves in columns.moves])
+            self.lock_panel("Threads that wait for a lock, on average:",
+                            [[waits[lock] / columns.size(column) for lock in locks] for column, waits in enumerate(columns.waits)])
             self.draw_locks()
         self.draw_workers()
         self.draw_threads()
         return picture
 
-    def draw_kinds(self) -> None:
-        self.head("Kinds of blocks, in percent:", self.items(KINDS))
-        names, colours = zip(*KINDS)
-        self.panel([[100 * kinds[place] / self.columns.size(column) for place in range(len(KINDS))]
-                    for column, kinds in enumerate(self.columns.kinds)], colours, names, 100, "%")
-
     def lock_panel(self, title: str, rows: list[list[float]]) -> None:
         locks = range(self.text.guards)
         names, colours = [self.names.lock(lock) for lock in locks], [svg.fill(lock) for lock in locks]
         self.head(title, self.items(zip(names, colours)))
-        highest = max(1.0, *(float(sum(row)) for row in rows))
-        self.panel(rows, colours, names, round(highest, 2))
-
-    def draw_moves(self) -> None:
-        self.lock_panel(f"Moves of a lock to another worker, in {self.columns.each} blocks:",
-                        [[moves[lock] for lock in range(self.text.guards)] for moves in self.columns.moves])
-
-    def draw_waits(self) -> None:
-        self.lock_panel("Threads that wait for a lock, on average:",
-                        [[waits[lock] / self.columns.size(column) for lock in range(self.text.guards)]
-                         for column, waits in enumerate(self.columns.waits)])
+        self.panel(rows, colours, names, round(max(1.0, *(float(sum(row)) for row in rows)), 2))
 
     def draw_locks(self) -> None:
         workers = range(self.text.workers)
@@ -228,7 +215,3 @@ class Overview:
             self.lane(self.names.thread(thread), [[does[thread, state] for state in range(len(STATES))]
                                                   for does in self.columns.threads], colours, names)
         self.stamps()
-
-
-def draw(line: timeline.Timeline, first: int, last: int, names: names.Names, title: str) -> svg.Picture:
-    return Overview(line, first, last, names, title).draw()

@@ -20,39 +20,17 @@ SHOWN = 64  # words of a lock that are all shown
 MARK = '"application/json">DATA</script>'
 
 
-class Shelf:
-    """Different texts, each with its number."""
-
-    def __init__(self) -> None:
-        self.numbers: dict[str, int] = {}
-
-    def put(self, text: str) -> int:
-        return self.numbers.setdefault(text, len(self.numbers))
-
-    def texts(self) -> list[str]:
-        return list(self.numbers)
-
-
 class Player:
     """Runs the blocks by the model, and keeps what those of a window change."""
-
-    starts: dict[int, str]
-    notes: dict[int, str]
-    changes: list[Any]
 
     def __init__(self, file: guestfile.GuestFile, lines: sources.Sources, text: report.Report) -> None:
         self.file, self.lines, self.run = file, lines, legal.begin(file.guest, text)
         self.machine = self.run.machine
-        self.starts, self.notes, self.changes = {}, {}, []
+        self.starts: dict[int, str] = {}
+        self.notes: dict[int, str] = {}
+        self.changes: list[Any] = []
         self.registers: list[list[int]] = []
         self.bytes: list[bytes] = []
-
-    def begin_window(self) -> None:
-        self.registers = [state(thread) for thread in self.machine.threads]
-        self.bytes = [bytes(lock.bytes) for lock in self.machine.locks]
-
-    def skip(self, block: report.Block) -> None:
-        self.run.follow(block)
 
     def play(self, block: report.Block) -> None:
         """Runs a block of the window."""
@@ -109,8 +87,9 @@ def played(guest: tuple[guestfile.GuestFile, sources.Sources], line: timeline.Ti
     player = Player(*guest, line.text)
     try:
         for mark in line.marks[:first]:
-            player.skip(mark.block)
-        player.begin_window()
+            player.run.follow(mark.block)
+        player.registers = [state(thread) for thread in player.machine.threads]
+        player.bytes = [bytes(lock.bytes) for lock in player.machine.locks]
         for mark in line.marks[first:last + 1]:
             player.play(mark.block)
     except report.Wrong as wrong:
@@ -149,20 +128,18 @@ def data(line: timeline.Timeline, called: names.Names, first: int, last: int, ti
          guest: tuple[guestfile.GuestFile, sources.Sources] | None) -> dict[str, Any] | None:
     """What the page's script reads."""
     player = played(guest, line, first, last) if guest else None
-    texts, threads = Shelf(), line.text.threads
-    texts.put("")
-    rows = []
+    texts, threads, rows = {"": 0}, line.text.threads, []  # texts: each with its number
     for mark in line.marks[first:last + 1]:
         block = mark.block
         start = player.starts[block.stamp] if player else f"pc {block.pc:08x}" if block.pc is not None else ""
-        rows.append(row(mark, texts.put(start), player.notes.get(block.stamp, "") if player else ""))
+        rows.append(row(mark, texts.setdefault(start, len(texts)), player.notes.get(block.stamp, "") if player else ""))
     return {"title": title, "what": line.text.title(), "first": first, "workers": line.text.workers,
             "threads": called.threads, "locks": [{"name": name} for name in called.locks],
             "lockColours": [(svg.COLOURS[lock % 7], lock % 7 in svg.WHITE_LETTERS) for lock in range(line.text.guards)],
             "workerColours": [(colour, place in svg.WHITE_WORKERS) for place, colour in enumerate(svg.WORKERS)],
             "blocks": rows, "before": nearest(reversed(line.marks[:first]), threads),
             "behind": nearest(line.marks[last + 1:], threads),
-            "broken": broken_by(line.marks, line.text.guards), "starts": texts.texts(),
+            "broken": broken_by(line.marks, line.text.guards), "starts": list(texts),
             **(player.data() if player else {"registers": None, "words": None, "changes": []})}
 
 

@@ -114,24 +114,6 @@ class Panel:
                 self.parts.append(label(x + wide / 2, self.y + HIGH + 11, below, "axis mid"))
 
 
-def longest_mean(result: sweep.Result) -> float:
-    """How many adopted sections a row has in the mean."""
-    sums = result.sums()
-    return sums["adopted"] / sums["rows"] if sums["rows"] else 0
-
-
-def each_wait(result: sweep.Result) -> float:
-    sums = result.sums()
-    return sums["waiting"] / sums["sections"] if sums["sections"] else 0
-
-
-def kinds_legend(x: int, y: int) -> Iterator[str]:
-    for kind, colour in KINDS.items():
-        yield box(x, y - 8, 9, 9, colour)
-        yield label(x + 13, y, kind)
-        x += 75
-
-
 def orders_legend(sweep: Sweep, x: int, y: int) -> Iterator[str]:
     """A part for each line; with nodes they are long, and four stand in a row."""
     for which, order in enumerate(sweep.orders):
@@ -144,24 +126,25 @@ def orders_legend(sweep: Sweep, x: int, y: int) -> Iterator[str]:
         x += 225 if sweep.nodes else 105
 
 
-def number_of(name: str) -> Callable[..., Any]:
-    return lambda result: result.sums()[name]
+def ratio(one: str, other: str = "") -> Callable[[sweep.Result], float]:
+    """A number of a run, in another one where that is named."""
+    return lambda result: result.sums()[one] / (result.sums()[other] or 1 if other else 1)
 
 
 def panels(name: str, results: list[sweep.Result]) -> str:
     """The plots of a sweep."""
     sweep = Sweep(results)
     wanted: list[tuple[str | None, str, Callable[..., float], Callable[..., float] | None]] = [
-              (None, "Sections by kind (a bar for each number of workers)", number_of("sections"), None),
-              ("changes of worker", "Changes of a lock's worker (thin: had sections run at home)", number_of("changes"),
-               number_of("home")),
-              ("sections away", "Sections away from their thread's worker", number_of("away"), None),
-              ("adopted in a row", "Adopted sections in a row (thin: the longest row)", longest_mean,
-               number_of("longest")),
-              ("blocks waited", "Blocks between LOCK and section, each", each_wait, None)]
+              (None, "Sections by kind (a bar for each number of workers)", ratio("sections"), None),
+              ("changes of worker", "Changes of a lock's worker (thin: had sections run at home)", ratio("changes"),
+               ratio("home")),
+              ("sections away", "Sections away from their thread's worker", ratio("away"), None),
+              ("adopted in a row", "Adopted sections in a row (thin: the longest row)", ratio("adopted", "rows"),
+               ratio("longest")),
+              ("blocks waited", "Blocks between LOCK and section, each", ratio("waiting", "sections"), None)]
     if sweep.nodes:
         wanted.append((CONTEXTS, "Contexts to another node (thin: changes of a lock's node)",
-                       number_of("other_node"), number_of("changes_of_node")))
+                       ratio("other_node"), ratio("changes_of_node")))
     if results[0].seconds:
         wanted.append(("seconds", "Seconds", lambda result: float(result.seconds), None))
     setting, parts = results[0].setting, []
@@ -179,7 +162,10 @@ def panels(name: str, results: list[sweep.Result]) -> str:
     runs = max(result.setting.run for result in results)
     title = f"{name}, fuel {setting.fuel}, {runs} run{'s' * (runs > 1)} of each by the {setting.by}"
     kinds_at = (LEFT, above - TOP + 40) if sweep.nodes else (LEFT + 105 * len(sweep.orders) + 20, 40)
-    head = [label(LEFT, 20, title, "h"), *orders_legend(sweep, LEFT, 40), *kinds_legend(*kinds_at)]
+    head = [label(LEFT, 20, title, "h"), *orders_legend(sweep, LEFT, 40)]
+    for place, (kind, colour) in enumerate(KINDS.items()):
+        x, y = kinds_at[0] + 75 * place, kinds_at[1]
+        head += [box(x, y - 8, 9, 9, colour), label(x + 13, y, kind)]
     return document(2 * (WIDE + LEFT + GAP), above + (len(wanted) + 1) // 2 * (HIGH + 70), STYLE, head + parts)
 
 

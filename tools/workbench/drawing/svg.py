@@ -44,14 +44,6 @@ def fill(lock: int) -> str:
     return COLOURS[lock] if lock < len(COLOURS) else f"url(#p{lock})"
 
 
-def patterns(locks: int) -> Iterator[str]:
-    """What tells locks of one colour apart."""
-    for lock in range(len(COLOURS), locks):
-        colour = COLOURS[lock % len(COLOURS)]
-        yield (f'<pattern id="p{lock}" width="6" height="6" patternUnits="userSpaceOnUse">'
-               f'<rect width="6" height="6" fill="{colour}"/>{PATTERNS[lock // len(COLOURS)]}</pattern>')
-
-
 def box(x: float, y: float, width: float, height: float, colour: str, kind: str = "k") -> str:
     return f'<rect class="{kind}" x="{x:g}" y="{y:g}" width="{width:g}" height="{height:g}" fill="{colour}"/>'
 
@@ -78,8 +70,7 @@ def lock_stroke(kind: str, lock: int, x: float, y: float, width: int) -> str:
 
 def block_parts(x: float, y: int, block: report.Block, letter: str, away: bool) -> Iterator[str]:
     """A block's box: a stripe for each lock, the innermost on top, with an outline by kind."""
-    count = max(1, len(block.held))
-    high = HEIGHT / count
+    high = HEIGHT / max(1, len(block.held))
     for i, lock in enumerate(block.held):
         yield box(x, y + HEIGHT - high * (i + 1), UNIT, high, fill(lock))
     if block.held:
@@ -131,12 +122,6 @@ def gap_parts(x: float, y: int, width: int, gap: timeline.Gap) -> Iterator[str]:
         yield chip(x + UNIT / 2, middle, gap.wanted)
 
 
-def stay_parts(x: float, y: int, width: int, stay: timeline.Stay) -> list[str]:
-    if stay.worker is None:
-        return [stroke("nobody", NOBODY, x, y + HEIGHT / 2, width)]
-    return [stroke("has", WORKERS[stay.worker], x, y + HEIGHT / 2, width)]
-
-
 def document(width: float, height: int, style: str, parts: list[str], title: str = "") -> str:
     """A picture's file."""
     title = f"<title>{html.escape(title)}</title>\n" if title else ""
@@ -148,11 +133,9 @@ def document(width: float, height: int, style: str, parts: list[str], title: str
 class Picture:
     """Parts below one another, and how high they are together."""
 
-    parts: list[str]
-
     def __init__(self, width: float, title: str) -> None:
-        self.width, self.height, self.parts = width, 0, []
-        self.title = title
+        self.width, self.height, self.title = width, 0, title
+        self.parts: list[str] = []
         self.add(label(10, 20, title, "h"), 30)
 
     def add(self, part: str, height: int = 0) -> None:
@@ -170,32 +153,33 @@ class Picture:
         self.add(label(10, self.height + 12, row), 16)
 
     def svg(self, locks: int) -> str:
-        defined = f"<defs>{''.join(patterns(locks))}</defs>"
+        defined = "<defs>"
+        for lock in range(len(COLOURS), locks):  # what tells locks of one colour apart
+            defined += (f'<pattern id="p{lock}" width="6" height="6" patternUnits="userSpaceOnUse"><rect width="6" height="6" '
+                        f'fill="{COLOURS[lock % len(COLOURS)]}"/>{PATTERNS[lock // len(COLOURS)]}</pattern>')
+        defined += "</defs>"
         return document(self.width, self.height + 10, STYLE, [defined, *self.parts], self.title)
 
 
-def colour_items(names: names.Names) -> Iterator[tuple[str, str]]:
+def items(names: names.Names, workers: int) -> Iterator[tuple[str, str]]:
+    """The parts of the legend with their texts; the last ones are of the lanes of locks, where there are some."""
     yield box(0, 0, UNIT, HEIGHT, PLAIN, "on"), "no lock held (s: the thread's start)"
     for lock in range(len(names.locks)):
         yield box(0, 0, UNIT, HEIGHT, fill(lock)), names.lock(lock)
-
-
-def mark_items() -> Iterator[tuple[str, str]]:
     for kind, text in (("taken", "taken: the lock was free"),
                        ("adopted", "adopted: run by the worker that released"),
                        ("granted", "granted: handed on, for any worker")):
         yield (f'<rect class="{kind}" x="1" y="1" width="{UNIT - 2}" height="{HEIGHT - 2}" fill="#fff"/>'
                + label(UNIT / 2, 13, LETTERS[kind], "l"), text)
     yield away_mark(7, 15), "away from the thread's own worker"
-
-
-def line_items() -> Iterator[tuple[str, str]]:
     blue = fill(0)
     yield stroke("waiting", blue, 0, 9, 24) + chip(7, 9, 0), "waits for a lock, here lock 0"
     yield stroke("wants", blue, 0, 9, 24) + chip(7, 9, 0), "wants a lock, and finds it free"
     yield stroke("asleep", blue, 0, 9, 24) + label(12, 6, "z", "l"), "asleep with locks held"
     yield stroke("shipped", blue, 0, 9, 24), "shipped with locks held (nested)"
     yield stroke("holds", blue, 0, 9, 24), "holds locks between two blocks"
+    if names.locks:
+        yield from worker_items(workers)
 
 
 def worker_items(workers: int) -> Iterator[tuple[str, str]]:
@@ -251,8 +235,9 @@ class Strip:
             parts = gap_parts(*self.place(gap, self.threads + LANE * gap.thread), gap)
             self.picture.add(titled(gap.sentence(), parts))
         for stay in line.stays(self.first, self.last):
-            kept = stay_parts(*self.place(stay, self.locks + LANE * stay.lock), stay)
-            self.picture.add(titled(stay.sentence(), kept))
+            x, y, width = self.place(stay, self.locks + LANE * stay.lock)
+            kind, colour = ("nobody", NOBODY) if stay.worker is None else ("has", WORKERS[stay.worker])
+            self.picture.add(titled(stay.sentence(), [stroke(kind, colour, x, y + HEIGHT / 2, width)]))
         for mark in marks:
             self.picture.add(titled(mark.sentence(), self.mark_parts(mark)))
         self.picture.add("", self.height)
@@ -280,8 +265,7 @@ def detailed(line: timeline.Timeline, first: int, last: int, names: names.Names,
     """All blocks of some stamps, in strips."""
     longest, left = min(STRIP, last - first + 1), margin(names)
     picture = Picture(max(left + UNIT * longest + 60, NARROWEST), title)
-    legend(picture, [*colour_items(names), *mark_items(), *line_items(),
-                     *(worker_items(line.text.workers) if line.text.guards else ())])
+    legend(picture, items(names, line.text.workers))
     picture.add("", 6)
     for start in range(first, last + 1, STRIP):
         Strip(picture, line, names, left, start, min(start + STRIP - 1, last)).draw(line)

@@ -26,8 +26,7 @@ def lanes(group: dict[str, int], name: str, heads: list[str]) -> Iterator[dict[s
         yield {"ph": "M", "name": "thread_sort_index", **lane(group, number), "args": {"sort_index": number}}
 
 
-def events(line: timeline.Timeline, called: names.Names, first: int,
-           last: int) -> Iterator[dict[str, Any]]:
+def events(line: timeline.Timeline, called: names.Names, first: int, last: int) -> Iterator[dict[str, Any]]:
     """The trace: a stamp is a microsecond."""
     for group, name, heads in zip((THREADS, WORKERS, LOCKS), ("threads", "workers", "locks"), called.lanes()):
         yield from lanes(group, name, heads)

@@ -7,7 +7,7 @@ from typing import Any, Callable, Iterable, Optional, Sequence, Tuple, Union
 from .. import limits
 from ..guest import model
 from ..guest.model import Fault
-from . import live, steps
+from . import steps
 from .steps import CALL, MASK, number
 
 PAGE = 6  # a page of a thread's memory has 2^6 bytes
@@ -113,7 +113,7 @@ class Away(Exception):
 class Guest:
     """A guest's code and places, for the threads that run it."""
 
-    def __init__(self, guest: model.Guest, known: live.Live | None = None) -> None:
+    def __init__(self, guest: model.Guest, known: steps.Live | None = None) -> None:
         self.code, self.places, self.locks = steps.Code(guest, known), Places(guest), len(guest.guards)
 
 

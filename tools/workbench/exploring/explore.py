@@ -34,14 +34,9 @@ SHOWN = 60  # so many sections of a way are printed
 class Outcome:
     """How often it was seen by whom, and the first report of it with what made it."""
 
-    counts: Counter[str]
-
     def __init__(self, lines: list[str], command: str) -> None:
-        self.counts, self.lines, self.command = Counter(), lines, command
-
-    def seen(self) -> str:
-        counts = " and ".join(f"{count} by the {name}" for name, count in self.counts.items())
-        return f"{counts}, as of {self.command}"
+        self.lines, self.command = lines, command
+        self.counts: Counter[str] = Counter()
 
 
 def end_of(lines: list[str]) -> rules.End:
@@ -68,7 +63,7 @@ def cells(guest: model.Guest, end: rules.End) -> Iterator[tuple[str, str]]:
             yield f"lock {number} word {at // 4} ({guest.spans[number].start + at:08x})", f"{value} ({value:#x})"
 
 
-def by_program(path: Any, fuel: Any, runs: Any) -> Iterator[Any]:
+def by_program(path: str, fuel: int, runs: int) -> Iterator[tuple[list[str], str]]:
     """Reports of the built program with their commands."""
     file = guestfile.read(path)
     for i in range(runs):
@@ -88,22 +83,17 @@ def by_model(path: str, guest: model.Guest, fuel: int, runs: int, seed: int) -> 
         yield list(run.lines(blocks)), f"./workbench simulate {path} {workers} {fuel} {batch} --seed {seed + i}"
 
 
-def collect(sources: list[tuple[str, Iterator[Any]]]) -> list[tuple[rules.End, Outcome]]:
-    """The outcomes of runs, by how they end: those with faults first, then those seen most often."""
-    outcomes: dict[rules.End, Outcome] = {}
-    for name, runs in sources:
-        for lines, command in runs:
-            outcome = outcomes.setdefault(end_of(lines), Outcome(lines, command))
-            outcome.counts[name] += 1
-    return sorted(outcomes.items(), key=lambda item: (*item[0].order()[:3], -sum(item[1].counts.values())))
-
-
 def show(guest: model.Guest, ends: list[rules.End], most: int, tell: Callable[..., Any]) -> None:
     """Prints what is the same in all ends, and of each what isn't; `tell` says more of the end at a place."""
     tables = [dict(cells(guest, end)) for end in ends]
     differ = {name for name in tables[0] if len({table.get(name) for table in tables}) > 1}
     print("the same in all:" if len(ends) > 1 else "it is:")
-    show_same({name: value for name, value in tables[0].items() if name not in differ})
+    lines: dict[str, list[str]] = {}  # one for the values of each thread and each lock
+    for name, value in tables[0].items():
+        if name not in differ:
+            owner, number, rest = name.split(" ", 2)
+            lines.setdefault(f"{owner} {number}", []).append(f"{rest.split(' (')[0]} {value.split(' (')[0]}")
+    print(*(f"  {name}: {', '.join(parts)}" for name, parts in lines.items()), sep="\n")
     for place, table in enumerate(tables[:most] if differ else ()):
         print(f"\noutcome {place + 1}, {tell(place)}")
         for name, value in table.items():
@@ -115,18 +105,9 @@ def show(guest: model.Guest, ends: list[rules.End], most: int, tell: Callable[..
         print(f"\n{len(ends) - most} more outcomes; --most shows more")
 
 
-def show_same(values: dict[str, str]) -> None:
-    """One line for the values of each thread and each lock."""
-    lines: dict[str, list[str]] = {}
-    for name, value in values.items():
-        owner, number, rest = name.split(" ", 2)
-        lines.setdefault(f"{owner} {number}", []).append(f"{rest.split(' (')[0]} {value.split(' (')[0]}")
-    for name, parts in lines.items():
-        print(f"  {name}: {', '.join(parts)}")
-
-
 def keep(folder: str, histories: Iterator[Any]) -> None:
-    tool.make_folder(folder)
+    with tool.writing(folder):
+        os.makedirs(folder, exist_ok=True)
     for number, lines in enumerate(histories, 1):
         tool.write_file(os.path.join(folder, f"outcome-{number}.txt"), "\n".join(lines) + "\n")
     sys.stdout.flush()
@@ -161,12 +142,6 @@ def several(count: int, what: str) -> str:
     return f"{count:,} {what}{'s' * (count != 1)}"
 
 
-def order(threads: tuple[int, ...]) -> str:
-    """The threads of a way, in their order."""
-    shown = " ".join(map(str, threads[:SHOWN]))
-    return shown + (f" .. ({len(threads) - SHOWN} more)" if len(threads) > SHOWN else "")
-
-
 def seen_text(found: search.Search) -> str:
     """How much of a guest's interleavings was seen."""
     if found.whole:
@@ -185,7 +160,8 @@ def show_all(guest: model.Guest, found: search.Search, asked: Namespace) -> None
 
     def tell(place: int) -> str:
         way = ends[place][1]()
-        return f"{several(way.blocks, 'block')}, sections of threads {order(way.threads) or '-'}"
+        shown, more = " ".join(map(str, way.threads[:SHOWN])), len(way.threads) - SHOWN
+        return f"{several(way.blocks, 'block')}, sections of threads {shown or '-'}" + (f" .. ({more} more)" if more > 0 else "")
     if ends:
         show(guest, [end for end, _ in ends], asked.most, tell)
     if asked.keep:
@@ -272,16 +248,16 @@ def search_all(guest: model.Guest, asked: Namespace) -> None:
 
 def compare(guest: model.Guest, found: search.Search, asked: Namespace) -> None:
     """Makes runs too: where every interleaving was seen, each must come to an outcome that is there."""
-    names, outcomes = sampled(guest, asked)
-    print(f"\n{names}: {several(len(outcomes), 'outcome')} seen")
+    outcomes = sampled(guest, asked, "\n", "")
     known = {end for end, _ in found.ends()}
     for end, outcome in outcomes:
         if found.whole and end not in known:
             raise tool.Trouble(tool.WRONG, f"the search has not the outcome of {outcome.command}")
 
 
-def sampled(guest: model.Guest, asked: Namespace) -> tuple[str, list[tuple[rules.End, Outcome]]]:
-    """Looks at some runs: how many of whom, and their outcomes."""
+def sampled(guest: model.Guest, asked: Namespace, before: str, behind: str) -> list[tuple[rules.End, Outcome]]:
+    """Looks at some runs, and says in a line how many of whom. Answers their outcomes, by how they end: those with faults
+    first, then those seen most often."""
     why = None if asked.model else program.missing()
     if why:
         tool.note("explore", f"{why}; so the model alone makes runs")
@@ -289,14 +265,20 @@ def sampled(guest: model.Guest, asked: Namespace) -> tuple[str, list[tuple[rules
     sources = [("model", by_model(asked.guest, guest, asked.fuel, runs, seed))]
     if not (asked.model or why):
         sources.insert(0, ("program", by_program(asked.guest, asked.fuel, runs)))
-    return f"samples, {' and '.join(f'{runs} runs by the {name}' for name, _ in sources)}", collect(sources)
+    outcomes: dict[rules.End, Outcome] = {}
+    for name, some in sources:
+        for lines, command in some:
+            outcomes.setdefault(end_of(lines), Outcome(lines, command)).counts[name] += 1
+    print(f"{before}samples, {' and '.join(f'{runs} runs by the {name}' for name, _ in sources)}: "
+          f"{several(len(outcomes), 'outcome')} seen{behind}")
+    return sorted(outcomes.items(), key=lambda item: (*item[0].order()[:3], -sum(item[1].counts.values())))
 
 
 def samples(guest: model.Guest, asked: Namespace) -> None:
     """Prints the outcomes of some runs."""
-    names, outcomes = sampled(guest, asked)
-    print(f"{names}: {several(len(outcomes), 'outcome')} seen; there may be others (--all looks at every interleaving)")
-    show(guest, [end for end, _ in outcomes], asked.most, lambda place: outcomes[place][1].seen())
+    outcomes = sampled(guest, asked, "", "; there may be others (--all looks at every interleaving)")
+    show(guest, [end for end, _ in outcomes], asked.most, lambda place: " and ".join(
+        f"{count} by the {name}" for name, count in outcomes[place][1].counts.items()) + f", as of {outcomes[place][1].command}")
     if asked.keep:
         keep(asked.keep, (outcome.lines for _, outcome in outcomes))
 
@@ -335,5 +317,4 @@ def parsed(words: list[str]) -> tuple[Namespace, Any]:
 
 def main(words: list[str]) -> None:
     asked, searches = parsed(words)
-    guest = guestfile.load(asked.guest).guest
-    (search_all if searches else samples)(guest, asked)
+    (search_all if searches else samples)(guestfile.load(asked.guest).guest, asked)

@@ -12,6 +12,7 @@ and docs/EXPLORE.md tells of rules. With --keep FOLDER a history is written of e
 """
 from __future__ import annotations
 
+from argparse import Namespace
 import csv
 import os
 import pathlib
@@ -20,17 +21,13 @@ import shutil
 import subprocess
 import sys
 import tempfile
-from typing import NamedTuple, TYPE_CHECKING
+from typing import NamedTuple
 
 from .. import limits, places, tool
-from ..guest import guestfile
-from . import rules
+from ..guest import guestfile, model
+from . import explore, rules, search, sections
 
-if TYPE_CHECKING:
-    from argparse import Namespace
-
-ANSWERS = {("never", "in no interleaving"): "holds", ("never", "broken"): "broken",
-           ("reach", "in no interleaving"): "never", ("reach", "reachable"): "reachable"}
+ANSWERS = {"never": ("broken", "holds"), "reach": ("reachable", "never")}  # where an interleaving ends so, and where none does
 RIGHT = ("holds", "reachable")
 SOURCES = (".c", ".S")
 
@@ -41,6 +38,21 @@ class Rule(NamedTuple):
 
     def __str__(self) -> str:
         return f"{self.kind} {self.text}"
+
+    def answer(self, path: pathlib.Path, asked: Namespace) -> tuple[str, str]:
+        """The answer of a guest to it, and its history, where there is one."""
+        guest = model.Guest(guestfile.read(path))
+        try:
+            found = search.Search(guest, asked.fuel, [self.text], asked.states, os.cpu_count() or 1, True)
+        except rules.WrongRule:
+            return "no rule", ""
+        except sections.Collision as trouble:
+            raise tool.Trouble(explore.UNDECIDED, f"{path}: {trouble}; nothing is known") from None
+        way = found.answer(self.text)
+        found.shares.close()
+        if way:
+            return ANSWERS[self.kind][0], "\n".join(explore.history(guest, asked.fuel, way.threads)) + "\n"
+        return ANSWERS[self.kind][1] if found.whole else "not known", ""
 
 
 class Graded(NamedTuple):
@@ -76,21 +88,6 @@ def built(path: pathlib.Path, folder: pathlib.Path, march: str) -> tuple[pathlib
     return (folder / f"{path.stem}.elf", None) if done.returncode == 0 else (None, wrong)
 
 
-def answer(path: pathlib.Path, rule: Rule, asked: Namespace) -> tuple[str, str]:
-    """The answer to a rule, and its history, where there is one."""
-    done = subprocess.run([sys.executable, places.ROOT / "workbench.py", "explore", path, f"--{rule.kind}", rule.text, "--fuel", str(asked.fuel),
-                           "--states", str(asked.states)], stdout=subprocess.PIPE, stderr=subprocess.PIPE, check=False)
-    first, _, history = done.stdout.decode().partition("\n")
-    for (kind, said), answer_ in ANSWERS.items():
-        if kind == rule.kind and first.startswith(f"# {rule.text}: {said}"):
-            return answer_, history
-    if done.returncode == tool.WORDS:
-        return "no rule", ""
-    if first.startswith(f"# {rule.text}: "):
-        return "not known", ""
-    raise tool.Trouble(done.returncode or tool.WRONG, f"{path}: " + done.stderr.decode().strip().partition(": ")[2])
-
-
 def graded(name: str, path: pathlib.Path, asked: Namespace) -> Graded:
     with tempfile.TemporaryDirectory() as folder:
         file = path
@@ -104,14 +101,15 @@ def graded(name: str, path: pathlib.Path, asked: Namespace) -> Graded:
             guestfile.check(guestfile.read(file))
         except guestfile.Refused as refused:
             return Graded(name, refused.line, ["-"] * len(asked.rules), {})
-        answers = [answer(file, rule, asked) for rule in asked.rules]
+        answers = [rule.answer(file, asked) for rule in asked.rules]
     return Graded(name, "accepted", [said for said, _ in answers],
                   {number: history for number, (_, history) in enumerate(answers, 1) if history})
 
 
 def keep(folder: str, one: Graded) -> None:
     """Writes a guest's histories."""
-    tool.make_folder(folder)
+    with tool.writing(folder):
+        os.makedirs(folder, exist_ok=True)
     for number, history in one.histories.items():
         name = re.sub(r"[^\w.-]", "-", one.name)
         tool.write_file(os.path.join(folder, f"{name}-rule-{number}.txt"), history)

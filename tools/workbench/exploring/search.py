@@ -14,12 +14,10 @@ import random
 import signal
 import zlib
 from array import array
-from typing import TYPE_CHECKING, Any, Callable, Iterable, NamedTuple, Tuple
+from typing import Any, Callable, Iterable, NamedTuple, Tuple
 
-from . import live, rules, sections
-
-if TYPE_CHECKING:
-    from ..guest import model
+from ..guest import model
+from . import rules, sections, steps
 
 ROOT = 2**64 - 1  # whence the first state is
 ALONE = 20000  # so many states are searched by one process before others are started
@@ -50,13 +48,11 @@ class Walk(NamedTuple):
 class Share:
     """The part of the states that falls to one process."""
 
-    seen: set[bytes]
-    waiting: dict[int, dict[bytes, int]]
-
     def __init__(self, guest: model.Guest, fuel: int, number: int, shares: int, asked: list[str], whole: bool) -> None:
         self.sections = sections.Sections(guest, fuel, whole)
         self.number, self.shares = number, shares
-        self.seen, self.whence, self.waiting = set(), array("Q"), {}  # waiting: blocks: state: whence
+        self.seen: set[bytes] = set()
+        self.whence, self.waiting = array("Q"), {}  # type: array[int], dict[int, dict[bytes, int]]  # blocks: state: whence
         self.ends: list[tuple[bytes, int, int]] = []  # state, place in whence, blocks
         self.asked = {text: rules.Rule(text, self.sections.threads, [
             len(lock.bytes) for lock in self.sections.machine.locks]) for text in asked}
@@ -74,6 +70,9 @@ class Share:
     def next_count(self) -> int | None:
         return min(self.waiting, default=None)
 
+    def whence_of(self, place: int) -> int:
+        return self.whence[place]
+
     def take(self, parts: Any, states: Any) -> None:
         """Takes what other shares found: parts, and states with their numbers of blocks and whence."""
         for name, content, rounds in parts:
@@ -89,12 +88,11 @@ class Share:
                 if state not in self.seen:
                     waiting.setdefault(state, one)
 
-    def level(self, count: int,
-              most: int) -> tuple[int, list[tuple[bytes, bytes, int | None]], list[list[Any]], dict[str, int]]:
+    def level(self, count: int, most: int) -> tuple[int, list[Any], list[list[Any]], dict[str, int]]:
         """Follows the states with so many blocks, at most so many of them. Answers how many, the new
         parts, the states for each share, and which rules hold of which end."""
-        found: list[Any]
-        followed, found, answers, before = 0, [{} for _ in range(self.shares)], {}, len(self.ends)
+        found: list[Any] = [{} for _ in range(self.shares)]
+        followed, answers, before = 0, {}, len(self.ends)
         seen, waiting = self.seen, self.waiting.pop(count, {})
         found[self.number] = self.waiting
         while waiting and followed < most:
@@ -106,11 +104,12 @@ class Share:
             seen.add(state)
             self.whence.append(whence)
             ended = True
-            for thread, new, blocks in self.sections.successors(state):
-                ended = False
-                if new not in seen:
-                    owner = self.owner(new)
-                    found[owner].setdefault(count + blocks, {}).setdefault(new, place + thread)
+            for thread in range(self.sections.threads):
+                section = self.sections.result(state, thread)
+                if section:
+                    ended, new = False, self.sections.behind(state, sections.NAME * thread, section)
+                    if new not in seen:
+                        found[self.owner(new)].setdefault(count + section.count, {}).setdefault(new, place + thread)
             if ended:
                 self.ends.append((state, len(self.whence) - 1, count))
         if waiting:
@@ -124,7 +123,9 @@ class Share:
         rounds = self.sections.rounds
         fresh = [(name, content, rounds.get(name)) for name, content in self.sections.fresh]
         self.sections.fresh.clear()
-        return followed, fresh, [packed(states) for states in found], answers
+        packed = [[(blocks, b"".join(some), array("Q", some.values()).tobytes()) for blocks, some in states.items()]
+                  for states in found]
+        return followed, fresh, packed, answers
 
     def kept(self) -> bytes:
         """All that this share found, as bytes; with the parts that the other shares were not told of, as those of walks."""
@@ -136,9 +137,6 @@ class Share:
         (self.seen, whence, self.waiting, self.ends, self.sections.contents, self.sections.rounds,
          self.sections.fresh) = marshal.loads(kept)
         self.whence.frombytes(whence)
-
-    def whence_of(self, place: int) -> int:
-        return self.whence[place]
 
     def end(self, number: int) -> tuple[rules.End, int, int]:
         """How it ends in the end with a number, its place and its number of blocks."""
@@ -175,14 +173,9 @@ class Share:
                 state, blocks = self.sections.behind(state, sections.NAME * thread, found), blocks + found.count
                 threads.append(thread)
                 rounds[thread] += 1
-            elif self.sections.has_ended(state, thread):
+            elif self.sections.contents[state[sections.NAME * thread:][:sections.NAME]][0] != sections.RUNNING:
                 able.remove(thread)
         return Walk(whence, self.sections.end(state), tuple(threads), blocks, tuple(rounds))
-
-
-def packed(states: dict[Any, Any]) -> list[Any]:
-    """States by their numbers of blocks, as bytes."""
-    return [(count, b"".join(some), array("Q", some.values()).tobytes()) for count, some in states.items()]
 
 
 def serve(pipe: Any, *words: Any) -> None:
@@ -196,7 +189,7 @@ def serve(pipe: Any, *words: Any) -> None:
             answer = getattr(share, name)(*given)
         except EOFError:
             return
-        except (MemoryError, sections.Collision, live.Elsewhere) as trouble:
+        except (MemoryError, sections.Collision, steps.Elsewhere) as trouble:
             answer = trouble
         pipe.send(answer)
 
@@ -217,8 +210,7 @@ class Shares:
         self.count = shares
         self.sizes = len(guest.entries), [length for _, length in guest.guards]
 
-    def all(self, name: str,
-            *given: Any) -> list[Any]:
+    def all(self, name: str, *given: Any) -> list[Any]:
         """What each share answers to a call; `given` has a list of words for each, or words for all."""
         words = given if given and isinstance(given[0], list) else [given] * self.count
         if self.alone:
@@ -273,7 +265,7 @@ class Search:
             return
         try:
             self.search(guest, fuel, most, processes, False)
-        except live.Elsewhere:
+        except steps.Elsewhere:
             self.shares.close()
             self.search(guest, fuel, most, processes, True)
 
@@ -314,7 +306,7 @@ class Search:
         try:
             self.run(self.states + most)
             self.finish()
-        except live.Elsewhere:
+        except steps.Elsewhere:
             self.shares.close()
             self.search(guest, fuel, most, len(parts), True)
 
@@ -392,12 +384,10 @@ class Search:
         """An estimate of how many states were not seen. A thread that has k sections to its end can be at
         k + 1 places, and as many states are taken to be at each choice of places as there are on average
         among those where the search stopped."""
-        places: set[Any]
-        waiting, places = 0, set()
+        waiting, places = 0, set()  # type: int, set[Any]
         for count, some in self.shares.all("progress"):
             waiting, places = waiting + count, places | some
-        total = waiting / max(1, len(places)) * combinations(self.walks)
-        return max(waiting, round(total) - self.states)
+        return max(waiting, round(waiting / max(1, len(places)) * combinations(self.walks)) - self.states)
 
 
 def combinations(walks: list[Walk]) -> float:
@@ -416,6 +406,6 @@ def expected(guest: model.Guest, fuel: int, walks: int = 32) -> float:
         try:
             share.first()
             return combinations(share.walked(1, walks))
-        except live.Elsewhere:
+        except steps.Elsewhere:
             pass
     return 1.0

@@ -13,7 +13,7 @@ from typing import Any, Iterator
 
 from .. import limits
 from ..guest import model
-from . import blocks, live, rules, steps
+from . import blocks, rules, steps
 
 MOST_THREADS = max(limits.THREADS.values())
 NAME = 8  # bytes of a part's name
@@ -33,12 +33,11 @@ class Collision(Exception):
 class Change:
     """What a section does to a lock."""
 
-    after: dict[bytes, bytes]
-
     __slots__ = ("sections", "start", "stop", "held", "breaks", "took", "words", "sums", "after")
 
     def __init__(self, sections: Sections, lock: int, state: blocks.Held) -> None:
-        self.sections, self.after = sections, {}
+        self.sections = sections
+        self.after: dict[bytes, bytes] = {}
         self.start, self.stop = sections.span(lock)
         self.held, self.breaks, self.took = state.held, state.breaks, state.took
         self.words = [(place(word), bytes(state.bytes[4 * word:4 * word + 4]))
@@ -81,40 +80,30 @@ class Node:
     by the bytes there a result, another node where it depends on more, or () where a lock is held that
     it takes."""
 
-    known: frozenset[tuple[int, int, int, int]]
-    after: dict[bytes, Any]
     __slots__ = ("known", "places", "after")
 
     def __init__(self, above: Node | None, places: list[tuple[int, int, int, int]]) -> None:
-        self.known = frozenset(places) | (above.known if above else frozenset())
-        self.places, self.after = merged(places), {}
-
-
-def merged(places: list[tuple[int, int, int, int]]) -> list[tuple[int, int, int, int]]:
-    """Places of locks as few spans: start and stop of the lock's name, and of the bytes."""
-    spans: list[tuple[int, int, int, int]] = []
-    for start, stop, low, high in sorted(places):
-        if spans and spans[-1][:2] == (start, stop) and spans[-1][3] == low:
-            low = spans.pop()[2]
-        spans.append((start, stop, low, high))
-    return spans
+        self.known: frozenset[tuple[int, int, int, int]] = frozenset(places) | (above.known if above else frozenset())
+        self.places: list[tuple[int, int, int, int]] = []  # as few spans: start and stop of the lock's name, and of the bytes
+        for start, stop, low, high in sorted(places):
+            if self.places and self.places[-1][:2] == (start, stop) and self.places[-1][3] == low:
+                low = self.places.pop()[2]
+            self.places.append((start, stop, low, high))
+        self.after: dict[bytes, Any] = {}
 
 
 class Sections:
     """A guest's parts, and what its threads' sections come to. Unless `whole`, registers that code doesn't
-    read again are 0 in the parts of threads; live.Elsewhere where it can't be known which these are."""
-
-    contents: dict[bytes, bytes]
-    starts: dict[bytes, Any]
-    nodes: dict[bytes, Any]
-    fresh: list[tuple[bytes, bytes]]
+    read again are 0 in the parts of threads; steps.Elsewhere where it can't be known which these are."""
 
     def __init__(self, guest: model.Guest, fuel: int, whole: bool = False) -> None:
-        self.live = None if whole else live.Live(guest)
+        self.live = None if whole else steps.Live(guest)
         self.machine = model.Machine(guest, fuel)
         self.threads, self.locks = len(guest.entries), len(guest.guards)
         self.guest = blocks.Guest(guest, self.live)
-        self.contents, self.starts, self.nodes, self.fresh = {}, {}, {}, []
+        self.contents: dict[bytes, bytes] = {}
+        self.starts, self.nodes = {}, {}  # type: dict[bytes, Any], dict[bytes, Any]
+        self.fresh: list[tuple[bytes, bytes]] = []
         self.rounds: dict[Any, Any] = {}  # of a thread's part: how many sections its thread had when it was first met
 
     def span(self, lock: int) -> tuple[int, int]:
@@ -139,7 +128,7 @@ class Sections:
         if run.end:
             content = THREAD.pack(run.end, 0, steps.number(run.x, 10))
         else:
-            held, read = sorted(run.held()), self.live.at(run.pc) if self.live else live.ALL
+            held, read = sorted(run.held()), self.live.at(run.pc) if self.live else steps.ALL
             x = [steps.number(run.x, register) if read >> register & 1 else 0 for register in range(32)]
             parts = [THREAD.pack(RUNNING, len(held), x[10]), REST.pack(*x, run.pc, run.fuel), bytes(held)]
             for number in sorted(run.pages):
@@ -243,14 +232,6 @@ class Sections:
             found = node.after.get(self.key(node, state))
         return self.follow(name, state, node) if found is None else found
 
-    def successors(self, state: bytes) -> Iterator[tuple[int, bytes, int]]:
-        """What the next section of each thread that can have one comes to: the thread's number, the
-        state, and how many blocks it has."""
-        for number in range(self.threads):
-            found = self.result(state, number)
-            if found:
-                yield number, self.behind(state, NAME * number, found), found.count
-
     @staticmethod
     def behind(state: bytes, place: int, found: Result) -> bytes:
         """The state behind a section of the thread whose name stands at a place."""
@@ -272,9 +253,6 @@ class Sections:
         """The names of the threads' parts, and of the locks' parts."""
         names = [state[at:at + NAME] for at in range(0, len(state), NAME)]
         return names[:self.threads], names[self.threads:]
-
-    def has_ended(self, state: bytes, thread: int) -> bool:
-        return bool(self.contents[state[NAME * thread:NAME * thread + NAME]][0] != RUNNING)
 
     def end(self, state: bytes) -> rules.End:
         """How the guest ended in a state in which every thread has."""

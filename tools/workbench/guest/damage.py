@@ -7,13 +7,10 @@ that is refused.
 from __future__ import annotations
 
 import struct
-from typing import TYPE_CHECKING
 
+from ..checking import fuzz
 from . import elf32, made
 from .elf32 import word
-
-if TYPE_CHECKING:
-    from ..checking import fuzz
 
 ODD = (0, 1, 3, 5, 7, 17, 65540, 0x100002, 0x7FFFC000, 0xFFFFFFFF)
 OFFSET, ADDRESS, FILE_SIZE, MEMORY = 1, 2, 4, 5  # words of a program header

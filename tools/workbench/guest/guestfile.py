@@ -5,15 +5,12 @@ disagree. What an accepted file means is model.Guest.
 """
 from __future__ import annotations
 
+from pathlib import Path
 import bisect
 import struct
-from typing import TYPE_CHECKING
 
 from .. import limits, tool
 from . import elf32, model
-
-if TYPE_CHECKING:
-    from pathlib import Path
 
 STACK = limits.STACK
 

@@ -5,14 +5,10 @@ lock has the name of its guard's symbol; guards that lie side by side in one sym
 """
 from __future__ import annotations
 
-from typing import TYPE_CHECKING
 
 from .. import tool
-from . import sources
-
-if TYPE_CHECKING:
-    from . import guestfile
-    from ..reports import report
+from ..reports import report
+from . import guestfile, sources
 
 
 class Names:
@@ -50,17 +46,12 @@ def thread_name(file: guestfile.GuestFile, entry: int, argument: int) -> str:
 
 def lock_names(file: guestfile.GuestFile) -> list[str]:
     """Names of the guards, as `counter`, `forks[2]` or `state+0x8`."""
-    places = []
+    places: dict[str, list[tuple[int, int]]] = {}  # by name: offset and length
+    found = []
     for start, length in file.guest.guards:
         name, _, offset = sources.printable(file.name(start)).partition("+0x")
-        places.append((name, int(offset or "0", 16), length))
-    return [lock_name(place, places) for place in places]
-
-
-def lock_name(place: tuple[str, int, int], places: list[tuple[str, int, int]]) -> str:
-    name, offset, length = place
-    sizes = [size for other, _, size in places if other == name]
-    offsets = [at for other, at, _ in places if other == name]
-    if name and len(sizes) > 1 and set(sizes) == {length} and all(at % length == 0 for at in offsets):
-        return f"{name}[{offset // length}]"
-    return name + (f"+{offset:#x}" if offset else "")
+        found.append((name, int(offset or "0", 16), length))
+        places.setdefault(name, []).append(found[-1][1:])
+    is_array = {name: name and len(some) > 1 and all(length == some[0][1] and at % length == 0 for at, length in some)
+                for name, some in places.items()}
+    return [f"{name}[{at // length}]" if is_array[name] else name + (f"+{at:#x}" if at else "") for name, at, length in found]

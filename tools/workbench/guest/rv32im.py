@@ -125,10 +125,3 @@ def registers(what: Instruction) -> tuple[tuple[int, ...], int]:
         return (), 0
     operands = OPERANDS[BY_NAME[what.name][0]]
     return tuple(getattr(what, name) for name in operands if name in ("a", "b")), what.to if "to" in operands else 0
-
-
-def jump_target(word: int, pc: int, x: list[int]) -> int:
-    """Where a word jumps with these registers, if it does: the address as it is computed."""
-    what = decode(word)
-    assert what
-    return ((x[what.a] + what.value) & ~1 if what.name == "jalr" else pc + what.value) % 2**32

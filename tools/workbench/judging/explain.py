@@ -16,7 +16,7 @@ from typing import Any, Iterator
 from .. import tool
 from ..guest import guestfile, sources
 from ..reports import counts, report
-from . import contexts, legal, reasons, tracing
+from . import legal, reasons, tracing
 
 
 def explain_file(path: Any) -> None:
@@ -37,22 +37,12 @@ def explain_file(path: Any) -> None:
               + (f" <{name}>" if name else ""))
 
 
-def source_lines(path: str, file: guestfile.GuestFile) -> Any:
-    """The lines of the source that the file's debug data tells of."""
-    lines = sources.load(path, file)
-    if lines.trouble:
-        tool.note("explain", lines.trouble)
-    return lines
-
-
 class Chosen:
     """Which blocks are shown."""
 
     def __init__(self, asked: argparse.Namespace) -> None:
         self.thread, self.lock, self.trace = asked.thread, asked.lock, asked.trace
-        self.first: int
-        self.last: int | None
-        self.first, self.last = asked.block or (0, None)
+        self.first, self.last = asked.block or (0, None)  # type: int, int | None
         if asked.trace is not None and asked.block is None and self.thread is None and self.lock is None:
             self.first = self.last = asked.trace
 
@@ -66,9 +56,6 @@ class Chosen:
                 and (self.lock is None or self.lock in block.held or block.wanted == self.lock)
                 and self.first <= block.stamp and (self.last is None or block.stamp <= self.last))
 
-    def thread_at_end(self, number: int) -> bool:
-        return self.thread in (None, number) and self.lock is None and self.last is None
-
 
 class Explainer:
     """Follows the blocks by the model, which knows where each begins, and says it of the chosen ones."""
@@ -78,7 +65,7 @@ class Explainer:
         self.file, self.text, self.lines, self.chosen = file, text, lines, chosen
         self.run, self.away = legal.begin(file.guest, text), counts.Away(text.threads)
         self.last: dict[Any, Any] = {}
-        self.contexts = contexts.Contexts(self.run.machine) if with_contexts else None
+        self.contexts = tracing.Contexts(self.run.machine) if with_contexts else None
 
     def all(self) -> None:
         for block in self.text.blocks():
@@ -86,7 +73,7 @@ class Explainer:
             if self.chosen.block(block):
                 print("\n".join(said))
         for number, thread in enumerate(self.run.machine.threads):
-            if thread.end is None and self.chosen.thread_at_end(number):
+            if thread.end is None and self.chosen.thread in (None, number) and self.chosen.lock is self.chosen.last is None:
                 print(f"  thread {number} has not ended: it goes on at {reasons.start_text(self.file, thread, self.lines)}")
         if self.contexts:
             print(f"In all blocks: {self.contexts.total()}.")
@@ -99,7 +86,7 @@ class Explainer:
             traced = list(tracing.trace(self.run, self.file, self.lines, block.thread))
         moved = list(self.contexts.before(block)) if self.contexts else []
         batch = copy.copy(self.run.batches[block.begun]) if block.begun is not None and block.passed_on else None
-        self.run.follow(block, f", line {self.text.lines.at()}")
+        self.run.follow(block, f", line {self.text.lines.number}")
         yield f"{block.line(self.text.version)}  # {start}"
         if batch:
             yield f"  {reasons.delegation(block, batch, self.last[block.thread], is_away)}"
@@ -113,18 +100,23 @@ class Explainer:
             self.contexts.after(block)
 
 
-def explain_report(path: str, file: guestfile.GuestFile, text: report.Report, asked: argparse.Namespace) -> None:
-    chosen = Chosen(asked)
+def explain_report(file: guestfile.GuestFile, text: report.Report, asked: argparse.Namespace) -> None:
+    chosen, lines = Chosen(asked), sources.load(asked.guest, file)
     chosen.check(text)
-    explainer = Explainer(file, text, source_lines(path, file), chosen, asked.contexts)
+    if lines.trouble:
+        tool.note("explain", lines.trouble)
+    explainer = Explainer(file, text, lines, chosen, asked.contexts)
     explainer.all()
-    count = explainer.run.count
     for number in (asked.trace, asked.block and asked.block[0]):
-        if number is not None and number >= count:
-            raise tool.Trouble(tool.WRONG, f"the report has {report.several(count, 'block')}, and no block {number}")
+        if number is not None and number >= explainer.run.count:
+            raise tool.Trouble(tool.WRONG, f"the report has {report.several(explainer.run.count, 'block')}, and no block {number}")
 
 
-def refusal(path: Any, line: Any) -> Any:
+def said_of(words: list[str]) -> str:
+    return reasons.usage(words) or "the words are right: the program doesn't answer them by the usage line"
+
+
+def refusal(path: str, line: str) -> str:
     """What is said of a refusal's line, by the guest's file."""
     try:
         guestfile.check(guestfile.read(path))
@@ -133,21 +125,6 @@ def refusal(path: Any, line: Any) -> Any:
             return str(refused)
         return f"the program said {line!r}, and this file is {refused}: is it the same file?"
     return f"the program said {line!r}, and {path} isn't refused: is it the same file, and whole?"
-
-
-def words_text(words: Any) -> Any:
-    return reasons.usage(words) or "the words are right: the program doesn't answer them by the usage line"
-
-
-def answer(path: Any, line: Any, words: Any) -> Any:
-    """What is said of a line in the place of a report."""
-    if line.startswith("refused"):
-        return refusal(path, line)
-    if line.startswith("rejected"):
-        return reasons.rejection(line)
-    if words is None:
-        return "the words of the command were wrong; --words WORD.. behind the report says what is wrong with them"
-    return words_text(words)
 
 
 def stamps(word: str) -> tuple[int, int]:
@@ -180,15 +157,18 @@ def main(words: list[str]) -> None:
                                                      if getattr(asked, name) is not None]
         if of_report:
             raise tool.Trouble(tool.WORDS, f"--{of_report[0]} is of a report, and there is none; ./workbench explain GUEST REPORT")
-        explain_file(asked.guest) if asked.words is None else print(words_text(asked.words))
+        explain_file(asked.guest) if asked.words is None else print(said_of(asked.words))
         return
     try:
         text = report.Report(tool.read_lines(asked.report))
-        explain_report(asked.guest, guestfile.load(asked.guest), text, asked)
+        explain_report(guestfile.load(asked.guest), text, asked)
     except report.NoReport as given:
-        print(answer(asked.guest, given.line, asked.words))
+        print(refusal(asked.guest, given.line) if given.line.startswith("refused")
+              else reasons.rejection(given.line) if given.line.startswith("rejected")
+              else said_of(asked.words or []) if asked.words is not None
+              else "the words of the command were wrong; --words WORD.. behind the report says what is wrong with them")
         return
     except report.Wrong as wrong:
         raise tool.Trouble(tool.WRONG, f"not legal: {wrong} (./workbench judge)") from None
     if text.lines.next is None:
-        tool.note("explain", f"the report stops behind line {text.lines.at() - 1}")
+        tool.note("explain", f"the report stops behind line {text.lines.number - 1}")

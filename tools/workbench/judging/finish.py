@@ -6,18 +6,94 @@ stands behind # is not read. Where a block can't be, it prints what would have b
 """
 from __future__ import annotations
 
+import re
 import sys
-from typing import Any, Callable, IO, Iterator
+from typing import Any, Callable, Iterable, Iterator
 
 from .. import limits, tool
 from ..guest import guestfile
-from ..reports import byhand, report
+from ..reports import report
 from . import legal
+
+PARTS = re.compile(r"(thread|turns|worker) (\d{1,9})\b|held (-|[\d,]+)|kind (\w+)|pc ([0-9a-f]{8})\b"
+                   r"|end (wants \d+|unlocked \d+|slept|cut|exit|fault \d+|spent)")
+REST = re.compile(r"(thread \d+ (exit|fault|spent)|x\d+ |lock |data |end$)")
+
+
+class Line:
+    """A line's parts: numbers and texts by name, and where it stands. It may have the parts of a block line, in their order
+    or another, with or without `block` and the stamp, and needs no more than its thread."""
+
+    def __init__(self, number: int, text: str) -> None:
+        self.number = number
+        self.parts: dict[str, Any] = {}
+        found = re.fullmatch(r"(?:block(?: (\d{1,9}))? )?(.*)", text)
+        assert found
+        self.stamp, rest = found[1], found[2]
+        at = 0
+        while at < len(rest):
+            part = PARTS.match(rest, at)
+            if not part:
+                raise report.Wrong(f"line {number}: {rest[at:at + 60]!r} is no part of a block line (thread T, "
+                                   "turns K, held H, kind K, worker W, pc HEX8, end E)")
+            self.add(part)
+            at = part.end()
+            while rest[at:at + 1] == " ":
+                at += 1
+        if "thread" not in self.parts:
+            raise report.Wrong(f"line {number}: it names no thread")
+
+    def add(self, part: re.Match[str]) -> None:
+        name, digits, held, kind, pc, end = part.groups()
+        for key, value in ((name, digits and int(digits)), ("held", held), ("kind", kind),
+                           ("pc", pc), ("end", end)):
+            if value is not None:
+                if key in self.parts:
+                    raise report.Wrong(f"line {self.number}: {key} stands there twice")
+                self.parts[key] = value
+
+    def check(self, run: legal.Run) -> None:
+        """Wrong where the line names something that the run doesn't have."""
+        for name, count in (("thread", len(run.machine.threads)), ("worker", run.workers)):
+            if self.parts.get(name, 0) >= count:
+                raise report.Wrong(f"block {run.count}, line {self.number}: there is no {name} "
+                                   f"{self.parts[name]}, but {name}s 0 to {count - 1}")
+        if self.stamp is not None and int(self.stamp) != run.count:
+            raise report.Wrong(f"block {run.count}, line {self.number}: its stamp is {self.stamp} (without stamps "
+                               "the blocks are numbered in their order)")
+        if self.parts.get("kind", "on") not in limits.KINDS:
+            raise report.Wrong(f"block {run.count}, line {self.number}: there is no kind {self.parts['kind']!r}")
+
+
+class History:
+    """A history that was written by hand: a header, where there is one, whose lines may be missing, and the lines of
+    blocks. What stands behind the blocks is not read."""
+
+    def __init__(self, lines: Iterable[str]) -> None:
+        self.header: dict[str, int] = {}
+        self.blocks: list[Line] = []
+        for number, line in enumerate(lines, 1):
+            text = " ".join(line.split("#")[0].split())
+            if REST.match(text):
+                break
+            if text and not self.header_line(number, text):
+                self.blocks.append(Line(number, text))
+
+    def header_line(self, number: int, text: str) -> bool:
+        if self.blocks:
+            return False
+        if text in ("tclocks 1", "tclocks 2"):
+            self.header["version"] = int(text[8:])
+            return True
+        found = report.options_of(text, number)
+        self.header.update(found or {})
+        return bool(found or report.GUEST.fullmatch(text))
+
 
 DEFAULTS = {"version": 2, "workers": 8, "fuel": 20000, "batch": 8}
 
 
-def step(run: legal.Run, line: byhand.Line) -> report.Block:
+def step(run: legal.Run, line: Line) -> report.Block:
     """Runs the block of a line, and answers it; Wrong where it can't be."""
     line.check(run)
     parts = line.parts
@@ -42,12 +118,7 @@ def possible(run: legal.Run) -> Iterator[str]:
             yield f"# thread {number} wants lock {lock}, which thread {run.machine.locks[lock].owner} has"
 
 
-def print_lines(lines: Any, to: IO[str] | None = None) -> None:
-    for line in lines:
-        print(line, file=to)
-
-
-def follow(begin: Callable[..., Any], lines: list[byhand.Line]) -> tuple[legal.Run, list[report.Block]]:
+def follow(begin: Callable[..., Any], lines: list[Line]) -> tuple[legal.Run, list[report.Block]]:
     """The run of some lines, and their blocks."""
     run, blocks = begin(), []
     for line in lines:
@@ -57,17 +128,9 @@ def follow(begin: Callable[..., Any], lines: list[byhand.Line]) -> tuple[legal.R
             run = begin()
             for block in blocks:
                 run.step(block.thread, block.kind, block.worker)
-            print_lines([f"# legal there, as block {run.count}:", *possible(run)])
+            print(f"# legal there, as block {run.count}:", *possible(run), sep="\n")
             raise tool.Trouble(tool.WRONG, f"not legal: {wrong}") from None
     return run, blocks
-
-
-def print_report(run: legal.Run, blocks: list[report.Block]) -> None:
-    """The whole report, or as far as it goes; what could come next goes to standard error."""
-    print_lines(run.lines(blocks))
-    if not run.is_over():
-        sys.stdout.flush()
-        print_lines([f"# legal so far, {run.count} blocks; what could come next:", *possible(run)], sys.stderr)
 
 
 def main(words: list[str]) -> None:
@@ -80,11 +143,14 @@ def main(words: list[str]) -> None:
                             help=f"where the history has no header ({DEFAULTS[name]})")
     asked = parser.parse_intermixed_args(words)
     guest = guestfile.load(asked.guest).guest
-    history = byhand.History(tool.read_lines(asked.history))
+    history = History(tool.read_lines(asked.history))
     given = {name: getattr(asked, name) for name in limits.RUN if getattr(asked, name) is not None}
     options = {**DEFAULTS, **history.header, **given}
     run, blocks = follow(lambda: legal.Run(guest, options["workers"], options["fuel"], options["batch"],
                                            options["version"]), history.blocks)
     if asked.on:
         blocks += run.go_on()
-    print_report(run, blocks)
+    print(*run.lines(blocks), sep="\n")
+    if not run.is_over():
+        sys.stdout.flush()
+        print(f"# legal so far, {run.count} blocks; what could come next:", *possible(run), sep="\n", file=sys.stderr)

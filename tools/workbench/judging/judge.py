@@ -30,5 +30,4 @@ def main(words: list[str]) -> None:
         raise tool.Trouble(tool.WRONG, f"{answer} (./workbench explain says more)") from None
     except report.Wrong as wrong:
         raise tool.Trouble(tool.WRONG, f"not legal: {wrong}") from None
-    print("a legal run, to the end of every thread" if whole
-          else f"legal so far, {run.count} blocks")
+    print("a legal run, to the end of every thread" if whole else f"legal so far, {run.count} blocks")

@@ -221,7 +221,7 @@ def replay(guest: model.Guest, lines: Iterable[str]) -> tuple[Run, bool]:
     text = report.Report(lines)
     run = begin(guest, text)
     for block in text.blocks():
-        run.follow(block, f", line {text.lines.at()}")
+        run.follow(block, f", line {text.lines.number}")
     if text.lines.next is None:
         return run, False
     for expected in run.ending_lines():
@@ -229,7 +229,7 @@ def replay(guest: model.Guest, lines: Iterable[str]) -> tuple[Run, bool]:
             raise text.lines.wrong(repr(expected))
         text.lines.take()
     if text.lines.next is not None or text.lines.cut:
-        raise Wrong(f"line {text.lines.at()}: something stands behind the line 'end'")
+        raise Wrong(f"line {text.lines.number}: something stands behind the line 'end'")
     return run, True
 
 

@@ -2,14 +2,11 @@
 with the numbers that tell it."""
 from __future__ import annotations
 
-from typing import Callable, TYPE_CHECKING
+from typing import Callable
 from .. import limits
-from ..guest import guestfile, rv32im, sources
+from ..guest import guestfile, model, rv32im, sources
 from ..reports import report
-
-if TYPE_CHECKING:
-    from . import legal
-    from ..guest import model
+from . import legal
 
 EXTENSIONS = {0x2F: "an atomic instruction (A)", 0x07: "a floating-point load", 0x27: "a floating-point store",
               0x53: "a floating-point instruction", 0x73: "a CSR or privileged instruction",
@@ -83,12 +80,9 @@ def illegal(file: guestfile.GuestFile, thread: model.Thread, _: tuple[int, ...])
 
 def fetch(file: guestfile.GuestFile, thread: model.Thread) -> str:
     return (f"the program counter {place(file, thread.pc)} lies in no executable range "
-            f"({region(file, thread.pc)}; executable: {executable(file)})"
+            f"({region(file, thread.pc)}; executable: "
+            + ", ".join(guestfile.span(where) for where, flags, _ in file.guest.ranges if flags & 1) + ")"
             + ("; x1 was 0 at the start, so a return from the first function comes here" * (thread.pc == 0)))
-
-
-def executable(file: guestfile.GuestFile) -> str:
-    return ", ".join(guestfile.span(where) for where, flags, _ in file.guest.ranges if flags & 1)
 
 
 def region(file: guestfile.GuestFile, address: int) -> str:
@@ -109,7 +103,9 @@ def region(file: guestfile.GuestFile, address: int) -> str:
 
 
 def target(file: guestfile.GuestFile, thread: model.Thread, _: tuple[int, ...]) -> str:
-    address = rv32im.jump_target(file.guest.word(thread.pc) or 0, thread.pc, thread.x)
+    what = rv32im.decode(file.guest.word(thread.pc) or 0)
+    assert what
+    address = ((thread.x[what.a] + what.value) & ~1 if what.name == "jalr" else thread.pc + what.value) % 2**32
     return f"it goes to {address:08x}, which is no multiple of 4"
 
 
@@ -127,10 +123,6 @@ def access(file: guestfile.GuestFile, thread: model.Thread, held: tuple[int, ...
     return f"{said}; {region(file, address)}"
 
 
-def stop(*_: object) -> str:
-    return "EBREAK, as of __builtin_trap"
-
-
 def bad_call(_: guestfile.GuestFile, thread: model.Thread, __: tuple[int, ...]) -> str:
     number, value = thread.x[17], thread.x[10]
     if number == 3:
@@ -146,17 +138,11 @@ def bad_lock(file: guestfile.GuestFile, thread: model.Thread, held: tuple[int, .
     return f"{call_text(thread)}: {there}"
 
 
-def lock_order(_: guestfile.GuestFile, thread: model.Thread, held: tuple[int, ...]) -> str:
-    return (f"LOCK {thread.x[10]} with {report.held_text(held)} held: a lock must be greater than each that "
-            "is held")
-
-
-def not_held(_: guestfile.GuestFile, thread: model.Thread, held: tuple[int, ...]) -> str:
-    return f"UNLOCK {thread.x[10]}, which isn't held (held: {report.held_text(held)})"
-
-
-FAULTS: dict[int, Callable[[guestfile.GuestFile, model.Thread, tuple[int, ...]], str]] = {1: illegal, 3: target, 4: access, 5: access, 6: access, 7: access, 8: stop, 9: bad_call,
-          10: bad_lock, 11: lock_order, 12: not_held}
+FAULTS: dict[int, Callable[[guestfile.GuestFile, model.Thread, tuple[int, ...]], str]] = {
+    1: illegal, 3: target, 4: access, 5: access, 6: access, 7: access, 8: lambda *_: "EBREAK, as of __builtin_trap",
+    9: bad_call, 10: bad_lock, 11: lambda _, thread, held: (
+        f"LOCK {thread.x[10]} with {report.held_text(held)} held: a lock must be greater than each that is held"),
+    12: lambda _, thread, held: f"UNLOCK {thread.x[10]}, which isn't held (held: {report.held_text(held)})"}
 
 
 # Of the line at which a history is rejected.

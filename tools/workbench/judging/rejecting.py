@@ -8,6 +8,7 @@ from __future__ import annotations
 
 import itertools
 import re
+import types
 from typing import Any, Iterable
 
 from .. import limits, tool
@@ -54,32 +55,12 @@ def read(text: bytes) -> tuple[list[report.Block], int | None]:
     return blocks, None
 
 
-class Batch:
-    """The batch rule of one lock, behind some blocks that hold it."""
-
-    def __init__(self, limit: int) -> None:
-        self.limit, self.adopted = limit, 0
-        self.last: report.Block | None = None
-
-    def allows(self, lock: int, block: report.Block) -> bool:
-        """Whether a block may begin a section of the lock."""
-        if self.last is None:
-            return block.kind == "taken"
-        adopts = (self.last.end == f"unlocked {lock}" and self.last.held == (lock,) and self.adopted < self.limit)
-        return {"taken": True, "adopted": adopts and block.worker == self.last.worker, "granted": not adopts}[block.kind]
-
-    def add(self, begins: bool, block: report.Block) -> None:
-        if begins:
-            self.adopted = self.adopted + 1 if block.kind == "adopted" else 0
-        self.last = block
-
-
 class Checker:
     """A guest's machine behind some blocks."""
 
     def __init__(self, guest: model.Guest, workers: int, fuel: int, limit: int) -> None:
         self.workers, self.machine = workers, model.Machine(guest, fuel)
-        self.batches = [Batch(limit) for _ in guest.guards]
+        self.batches = [legal.Batch(limit) for _ in guest.guards]
 
     def wrong(self, block: report.Block) -> str | None:
         """Runs a block. Answers the first reason for which it is wrong, or None."""
@@ -94,11 +75,21 @@ class Checker:
         if (block.turns, block.held, block.pc, block.end) != (turns, tuple(sorted(held)), pc, end):
             return BLOCK
         kinds = ("start" if is_first else "on",) if lock is None else limits.SECTIONS
-        if block.kind not in kinds or (lock is not None and not self.batches[lock].allows(lock, block)):
+        if block.kind not in kinds or (lock is not None and not self.allows(self.batches[lock], block)):
             return KIND
-        for other in block.held:
-            self.batches[other].add(other == lock, block)
+        if lock is not None:
+            self.batches[lock].begin(block.kind)
+        for released in block.released:
+            self.batches[released].release(block)
         return WORKER if block.worker >= self.workers else None
+
+    @staticmethod
+    def allows(batch: legal.Batch, block: report.Block) -> bool:
+        """Whether a block may begin a section of a lock, by its batch rule."""
+        if batch.last is None:
+            return block.kind == "taken"
+        adopts = batch.last.leaves_free and batch.adopted < batch.limit
+        return {"taken": True, "adopted": adopts and block.worker == batch.last.worker, "granted": not adopts}[block.kind]
 
     def rejected(self, blocks: list[report.Block]) -> tuple[int, str] | None:
         """The line and the reason of the first wrong place, or None."""
@@ -109,17 +100,10 @@ class Checker:
         return (len(blocks) + 1, INCOMPLETE) if any(thread.end is None for thread in self.machine.threads) else None
 
 
-class Header:
-    """What the counts of a history want to know of its run."""
-
-    def __init__(self, guest: model.Guest, workers: int) -> None:
-        self.threads, self.guards, self.workers = len(guest.entries), len(guest.guards), workers
-        self.thread_ends = self.lock_ends = ()
-
-
 def profile_text(guest: model.Guest, blocks: list[report.Block], workers: int) -> str:
     """What `profile` prints of blocks that are not rejected."""
-    counted = counts.Counts(Header(guest, workers))
+    counted = counts.Counts(types.SimpleNamespace(threads=len(guest.entries), guards=len(guest.guards), workers=workers,
+                                                  thread_ends=(), lock_ends=()))
     for block in blocks:
         counted.add(block)
     return text_of(counted.profile_lines())
@@ -179,6 +163,14 @@ class Given:
 def history_of(text: str) -> bytes:
     """The lines of the blocks of a report, as they are given behind a file."""
     return "".join(re.findall(r"(?m)^block .*\n", text)).encode("ascii")
+
+
+def ask_both(file: bytes, numbers: tuple[int, ...], history: bytes, kept: str) -> Given:
+    """Gives a file and a history to both forms. Answers what the model has of it; Wrong where an answer is another one."""
+    given = Given(len(file), numbers, file + history)
+    for form in "replay", "profile":
+        ask(form, file, numbers, history, given.answer(form), kept)
+    return given
 
 
 def ask(form: str, file: bytes, numbers: tuple[int, ...], history: bytes, wanted: tuple[int, str],

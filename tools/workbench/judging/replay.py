@@ -12,9 +12,9 @@ import sys
 
 from .. import limits, tool
 from ..guest import guestfile
-from ..reports import byhand, report
+from ..reports import report
 from ..running import program
-from . import reasons, rejecting
+from . import finish, reasons, rejecting
 
 REFUSED = "what was given is refused; ./workbench explain GUEST says why"
 
@@ -28,7 +28,7 @@ def history_of(content: bytes) -> tuple[dict[str, int], bytes]:
         if not numbers:
             raise report.Wrong("the third line must be 'run workers W fuel F batch B'")
         lines = lines[3:]
-    behind = (place for place, line in enumerate(lines) if byhand.REST.match(line.decode("ascii", "replace")))
+    behind = (place for place, line in enumerate(lines) if finish.REST.match(line.decode("ascii", "replace")))
     return numbers or {}, b"".join(lines[:next(behind, len(lines))])
 
 

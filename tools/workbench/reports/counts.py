@@ -2,14 +2,18 @@
 report of any size needs little memory."""
 from __future__ import annotations
 
+import csv
+import json
+import sys
 from collections import Counter
-from typing import Any, Iterator, TYPE_CHECKING
+from typing import Any, Iterator
 
+from .. import limits, tool
 from ..limits import SECTIONS
+from . import report
 
-if TYPE_CHECKING:
-    from . import report
-
+SUMMARY = """Counts what a report says: by lock, by thread and by worker.
+"""
 MEANINGS = """
   sections   of a lock, and how many of them were taken, adopted, granted
   rows       of adopted sections, and longest, the most that stand in one
@@ -71,11 +75,6 @@ class LockCounts:
         self.worker: int | None = None
         self.home_worker: int | None = None  # of the lock's block before, of its section before
         self.waits: dict[int, Waits] = {}  # by thread
-
-    def add(self, block: report.Block) -> None:
-        """Counts a block that holds the lock."""
-        self.turns += block.turns
-        self.worker = block.worker
 
     def begin(self, block: report.Block, before: report.Block | None, away: bool) -> None:
         """A section of the lock begins with this block, and its thread's block before is given."""
@@ -173,8 +172,10 @@ class Counts:
         away = self.away.is_away(block)
         if block.begun is not None:
             self.locks[block.begun].begin(block, self.threads[block.thread].before, away)
-        for lock in block.held:
-            self.locks[lock].add(block)
+        for number in block.held:
+            lock = self.locks[number]
+            lock.turns += block.turns
+            lock.worker = block.worker
         self.threads[block.thread].add(block, away)
         self.workers[block.worker].add(block, away)
         return away
@@ -183,8 +184,7 @@ class Counts:
         """Each table as its name and its rows; a row is a dict of names and values."""
         yield "lock", [self.lock_row(*item) for item in enumerate(self.locks)]
         yield "thread", [self.thread_row(*item) for item in enumerate(self.threads)]
-        yield "worker", [{"worker": number, "blocks": worker.blocks, "turns": worker.turns,
-                          "away": worker.away} for number, worker in enumerate(self.workers)]
+        yield "worker", [{"worker": number, **vars(worker)} for number, worker in enumerate(self.workers)]
 
     def profile_lines(self) -> Iterator[str]:
         """The lines that the program prints of this history with `profile`."""
@@ -209,3 +209,56 @@ class Counts:
                 "waiting": thread.waits.sum, "longest_wait": thread.waits.longest, "end": thread.end,
                 "fuel_left": end.fuel if end else None,
                 "x10": end.x[10] if end and len(end.x) == 32 else None}
+
+
+def read(path: str) -> Counts:
+    text = report.Report(tool.read_lines(path))
+    counted = Counts(text)
+    for block in text.blocks():
+        counted.add(block)
+    text.ends()
+    return counted
+
+
+def print_text(counted: Counts) -> None:
+    text = counted.text
+    blocks = sum(worker.blocks for worker in counted.workers)
+    turns = sum(worker.turns for worker in counted.workers)
+    print(f"{report.several(blocks, 'block')}, {report.several(turns, 'turn')}, {text.title()}")
+    for _, rows in counted.tables():
+        if not rows:
+            continue
+        names = [name.replace("_", " ") for name in rows[0]]
+        print()
+        tool.print_columns([names, *(["?" if value is None else str(value) for value in row.values()] for row in rows)])
+
+
+def parameters(text: report.Report) -> dict[str, int]:
+    return {name: getattr(text, name) for name in limits.RUN}
+
+
+def print_csv(counted: Any) -> None:
+    """One value a line, with the parameters of the run, so that the tables of all runs are one."""
+    writer, run = csv.writer(sys.stdout, lineterminator="\n"), parameters(counted.text)
+    writer.writerow([*run, "of", "number", "name", "value"])
+    for name, rows in counted.tables():
+        for row in rows:
+            for key, value in row.items():
+                if key != name:
+                    writer.writerow([*run.values(), name, row[name], key, "" if value is None else value])
+
+
+def main(words: list[str]) -> None:
+    parser = tool.words("summary", SUMMARY + MEANINGS)
+    parser.add_argument("report", metavar="REPORT", help="a report; - is standard input")
+    forms = parser.add_mutually_exclusive_group()
+    forms.add_argument("--json", action="store_const", dest="form", const=lambda counted: print(json.dumps(
+        {**parameters(counted.text), "whole": counted.text.whole, **{f"by_{name}": rows for name, rows in counted.tables()}}, indent=1)))
+    forms.add_argument("--csv", action="store_const", dest="form", const=print_csv)
+    forms.add_argument("--profile", action="store_const", dest="form", const=lambda counted: print(*counted.profile_lines(), sep="\n"),
+                       help="what the program prints of the history with `profile`")
+    asked = parser.parse_args(words)
+    counted = read(asked.report)
+    (asked.form or print_text)(counted)
+    if counted.text.cut_note():
+        tool.note("summary", counted.text.cut_note())

@@ -177,13 +177,9 @@ class Lines:
             self.next = self.next[:-1]
         return line
 
-    def at(self) -> int:
-        """The number of the line in front."""
-        return self.number
-
     def wrong(self, what: str) -> Wrong:
         shown = "the text ends" if self.next is None else f"it is {self.next[:100]!r}"
-        return Wrong(f"line {self.at()} must be {what}: {shown}")
+        return Wrong(f"line {self.number} must be {what}: {shown}")
 
 
 class Report:
@@ -193,7 +189,11 @@ class Report:
         self.lines = Lines(lines)
         self.version = self.first_line()
         self.threads, self.guards = self.guest_line()
-        self.workers, self.fuel, self.batch = self.options_line()
+        options = options_of(self.lines.next or "", self.lines.number)
+        if not options:
+            raise self.lines.wrong("'run workers W fuel F batch B'")
+        self.lines.take()
+        self.workers, self.fuel, self.batch = (options[name] for name in limits.RUN)
         self.thread_ends: list[ThreadEnd] = []
         self.lock_ends: list[LockEnd] = []
         self.whole = False
@@ -224,13 +224,6 @@ class Report:
         self.lines.take()
         return threads, guards
 
-    def options_line(self) -> tuple[int, int, int]:
-        options = options_of(self.lines.next or "", self.lines.at())
-        if not options:
-            raise self.lines.wrong("'run workers W fuel F batch B'")
-        self.lines.take()
-        return options["workers"], options["fuel"], options["batch"]
-
     def blocks(self) -> Iterator[Block]:
         """The blocks in their order."""
         stamp, sets = 0, {"-": ()}  # type: int, dict[str, tuple[int, ...]]
@@ -250,20 +243,19 @@ class Report:
                       None if pc is None else int(pc, 16), end)
         if block.stamp != stamp:
             raise self.lines.wrong(f"the line of block {stamp}")
-        for name, value, most in (("thread", block.thread, self.threads),
-                                  ("worker", block.worker, self.workers)):
-            if value >= most:
-                raise Wrong(f"block {stamp}, line {self.lines.at()}: there is no {name} {value}, "
-                            f"but {name}s 0 to {most - 1}")
+        if block.thread >= self.threads or block.worker >= self.workers:
+            name, value, most = (("thread", block.thread, self.threads) if block.thread >= self.threads
+                                 else ("worker", block.worker, self.workers))
+            raise Wrong(f"block {stamp}, line {self.lines.number}: there is no {name} {value}, but {name}s 0 to {most - 1}")
         if not 1 <= block.turns <= limits.TURNS or (kind in SECTIONS and not block.held):
-            raise Wrong(f"block {stamp}, line {self.lines.at()}: it has 1 to {limits.TURNS} turns, and a "
+            raise Wrong(f"block {stamp}, line {self.lines.number}: it has 1 to {limits.TURNS} turns, and a "
                         "section's first block holds its lock")
         return block
 
     def held_set(self, held: str, stamp: int) -> tuple[int, ...]:
         locks = tuple(int(word) for word in held.split(",") if word and len(word) < 3)
         if held_text(locks) != held or list(locks) != sorted(set(locks)) or locks[-1] >= self.guards:
-            raise Wrong(f"block {stamp}, line {self.lines.at()}: held is {held!r}, which is no "
+            raise Wrong(f"block {stamp}, line {self.lines.number}: held is {held!r}, which is no "
                         f"ascending list of locks below {self.guards}")
         return locks
 
@@ -275,7 +267,7 @@ class Report:
             self.whole = True
             self.lines.take()
             if self.lines.next is not None or self.lines.cut:
-                raise Wrong(f"line {self.lines.at()}: something stands behind the line 'end'")
+                raise Wrong(f"line {self.lines.number}: something stands behind the line 'end'")
 
     def part(self) -> None:
         """A thread with its registers, or a lock with its bytes."""
@@ -323,5 +315,5 @@ class Report:
         """What to say of a report that stops early, or None."""
         if self.whole:
             return None
-        return (f"the report stops behind line {self.lines.at() - 1}, without the line 'end'; "
+        return (f"the report stops behind line {self.lines.number - 1}, without the line 'end'; "
                 "what it has up to there is used")

@@ -4,13 +4,11 @@ one it comes to, if any, is told by rejecting.py.
 """
 from __future__ import annotations
 
-from typing import Any, TYPE_CHECKING
+from random import Random
+from typing import Any
 from .. import limits
 from ..limits import KINDS
 from . import report
-
-if TYPE_CHECKING:
-    from random import Random
 
 ENDS = ("wants 0", "unlocked 0", "unlocked 31", "slept", "cut", "exit", "fault 7", "spent")
 HELD = (), (0,), (1, 2), (0, 31), (0, 1, 2, 3, 4)
@@ -25,8 +23,7 @@ def with_block(blocks: list[report.Block], place: int, **parts: Any) -> str:
     return text_of([*blocks[:place], blocks[place]._replace(**parts), *blocks[place + 1:]])
 
 
-def other(draw: Random, value: Any,
-          values: Any) -> Any:
+def other(draw: Random, value: Any, values: Any) -> Any:
     """Another value than this one."""
     return draw.choice([one for one in values if one != value])
 
@@ -59,8 +56,7 @@ def spelling(draw: Random, blocks: list[report.Block]) -> str:
 
 def thread(draw: Random, blocks: list[report.Block]) -> str:
     """A block of a thread that is none, or has ended."""
-    ended: set[int]
-    count, ended, places = 1 + max(block.thread for block in blocks), set(), []
+    count, ended, places = 1 + max(block.thread for block in blocks), set(), []  # type: int, set[int], list[Any]
     for place, block in enumerate(blocks):
         places += [(place, number) for number in ended]
         if block.ends_thread:
@@ -73,10 +69,8 @@ def thread(draw: Random, blocks: list[report.Block]) -> str:
 
 
 def owner(draw: Random, blocks: list[report.Block]) -> str:
-    """A block of a thread that wants a lock which another one has, where there is one."""
-    held: dict[Any, Any]
-    wants: dict[Any, Any]
-    wants, held, places = {}, {}, []
+    """A block of a thread that wants a lock which another one has; of any thread where there is none."""
+    wants, held, places = {}, {}, []  # type: dict[int, int], dict[int, tuple[int, ...]], list[Any]
     for place, block in enumerate(blocks):
         held[block.thread] = held.get(block.thread, ())
         places += [(place, number) for number, lock in wants.items()
@@ -86,15 +80,9 @@ def owner(draw: Random, blocks: list[report.Block]) -> str:
             wants[block.thread] = block.wanted
         held[block.thread] = block.kept
     if not places:
-        return another_thread(draw, blocks)
+        return with_block(blocks, draw.randrange(len(blocks)), thread=draw.choice(sorted({block.thread for block in blocks})))
     place, number = draw.choice(places)
     return with_block(blocks, place, thread=number)
-
-
-def another_thread(draw: Random, blocks: list[report.Block]) -> str:
-    """A block of any other thread that there is."""
-    place = draw.randrange(len(blocks))
-    return with_block(blocks, place, thread=draw.choice(sorted({block.thread for block in blocks})))
 
 
 def run(draw: Random, blocks: list[report.Block]) -> str:

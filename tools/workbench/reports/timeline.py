@@ -73,12 +73,9 @@ class Stay(NamedTuple):
 class Timeline:
     """The marks and gaps of a report's blocks, and the counts of all."""
 
-    marks: list[Mark]
-    gaps: list[Gap]
-    handings: list[Stay]
-
     def __init__(self, text: report.Report) -> None:
-        self.text, self.marks, self.gaps, self.handings = text, [], [], []
+        self.text = text
+        self.marks, self.gaps, self.handings = [], [], []  # type: list[Mark], list[Gap], list[Stay]
         self.counts = counts.Counts(text)
         self.last: list[report.Block | None] = [None] * text.threads
         self.released: list[report.Block | None] = [None] * text.guards  # the block that released the lock last

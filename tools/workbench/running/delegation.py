@@ -11,13 +11,11 @@ import collections
 import heapq
 import itertools
 import random
-from typing import Generator, Iterator, TYPE_CHECKING
+from typing import Generator, Iterator
 
 from ..judging import legal
 from ..reports import report
-
-if TYPE_CHECKING:
-    from ..guest import model
+from ..guest import model
 
 READY, WAITING, PARKED, TAKEN, DONE = "ready", "waiting", "parked", "taken", "done"
 
@@ -26,11 +24,9 @@ class Worker:
     """A worker: its clock of blocks, its sleepers, the thread that it set aside, and those that it
     made ready and offers, the oldest first."""
 
-    sleepers: list[tuple[int, int]]
-    aside: int | None
-
     def __init__(self, number: int) -> None:
-        self.number, self.clock, self.sleepers, self.aside = number, 0, [], None
+        self.number, self.clock = number, 0
+        self.sleepers, self.aside = [], None  # type: list[tuple[int, int]], int | None
         self.offers: collections.deque[int] = collections.deque()
 
 
@@ -94,24 +90,18 @@ class Hall:
             hand, worker.aside = worker.aside, None
             return hand
         due = min((sleeper for sleeper in worker.sleepers if sleeper[0] <= worker.clock), default=None)
+        ready = [t for t, place in enumerate(self.place) if place == READY]
         if due is not None:
             worker.sleepers.remove(due)
-            found: int | None = due[1]
-        else:
-            found = self.pick_ready(worker)
-        if found is not None:
-            self.place[found] = TAKEN
-        return found
-
-    def pick_ready(self, worker: Worker) -> int | None:
-        """A thread that is ready, or None: any where workers race; by one worker alone the oldest
-        offer, else the least thread."""
-        ready = [t for t, place in enumerate(self.place) if place == READY]
-        if not ready:
+            found = due[1]
+        elif not ready:
             return None
-        if self.run.workers > 1:
-            return self.chance.choice(ready)
-        return worker.offers.popleft() if worker.offers else ready[0]
+        elif self.run.workers > 1:  # where workers race any that is ready; by one alone the oldest offer, else the least
+            found = self.chance.choice(ready)
+        else:
+            found = worker.offers.popleft() if worker.offers else ready[0]
+        self.place[found] = TAKEN
+        return found
 
     def make_ready(self, worker: Worker, thread: int) -> None:
         self.place[thread] = READY
@@ -215,8 +205,7 @@ def delegated(guest: model.Guest, fuel: int, workers: int, limit: int, seed: int
     """The history that the seed stands for, which one worker alone does not look at: the run and
     its blocks."""
     hall = Hall(guest, workers, fuel, limit, seed, version, nodes, bound)
-    blocks = hall.history()
-    return hall.run, blocks
+    return hall.run, hall.history()
 
 
 def check_alone(guest: model.Guest, fuel: int, limit: int, report_text: str) -> None:

@@ -30,10 +30,11 @@ def need() -> None:
         raise tool.Trouble(tool.INPUT, why)
 
 
-def run(words: Iterable[Any], file: bytes) -> tuple[int, str]:
-    """What the program answers to words and a file's bytes: its status and its text."""
-    done = subprocess.run([PATH, *map(str, words)], input=file, stdout=subprocess.PIPE, check=False)
-    return done.returncode, done.stdout.decode("ascii", "replace")
+def run(words: Iterable[Any], file: bytes, to: int | None = subprocess.PIPE) -> tuple[int, str]:
+    """What the program answers to words and a file's bytes: its status and its text, which goes to standard output where
+    `to` is None."""
+    done = subprocess.run([PATH, *map(str, words)], input=file, stdout=to, check=False)
+    return done.returncode, (done.stdout or b"").decode("ascii", "replace")
 
 
 def keep(name: str, content: bytes) -> pathlib.Path:
@@ -42,8 +43,3 @@ def keep(name: str, content: bytes) -> pathlib.Path:
     kept.parent.mkdir(exist_ok=True)
     kept.write_bytes(content)
     return kept
-
-
-def pass_on(words: Iterable[Any], file: bytes) -> int:
-    """Lets the program write to standard output itself, and answers its status."""
-    return subprocess.run([PATH, *map(str, words)], input=file, check=False).returncode

@@ -6,25 +6,16 @@ host's scheduler makes of it, and the model takes the interleaving of its seed. 
 """
 from __future__ import annotations
 
-from typing import Any, TYPE_CHECKING
+from argparse import Namespace
+
 from .. import tool
 from ..guest import guestfile
 from ..judging import reasons
 from . import delegation, program
 
-if TYPE_CHECKING:
-    from argparse import Namespace
-
 
 ENDS = {tool.WRONG: "the file is refused; ./workbench explain GUEST says why", tool.OUTPUT: "standard output can't be written",
         tool.MEMORY: "memory was refused"}
-
-
-def by_program(file: bytes, words: tuple[Any, ...]) -> None:
-    tool.note("run", "by the program")
-    status = program.pass_on(words, file)
-    if status:
-        raise tool.Trouble(status, ENDS.get(status, f"the program ended with status {status}"))
 
 
 def by_model(file: bytes, asked: Namespace, why: str | None) -> None:
@@ -37,8 +28,26 @@ def by_model(file: bytes, asked: Namespace, why: str | None) -> None:
               + (f": {why}" if why else ""))
     nodes, bound = asked.nodes
     run, blocks = delegation.delegated(guest, asked.fuel, asked.workers, asked.batch, asked.seed or 0, nodes=nodes, bound=bound)
-    for line in run.lines(blocks):
-        print(line)
+    print(*run.lines(blocks), sep="\n")
+
+
+SIMULATE = """Prints the report of a legal run of a guest, made by model.py and without the program.
+
+What one worker does is determined: ./tclocks prints the same. Several workers delegate in an
+interleaving that the seed stands for; the program's is another one each time.
+"""
+
+
+def simulate(words: list[str]) -> None:
+    parser = tool.words("simulate", SIMULATE, "guest", "run")
+    parser.add_argument("--seed", type=tool.number(0, 10**9), default=0,
+                        help="the interleaving of several workers, 0 if it is not given")
+    parser.add_argument("--form", type=int, choices=(1, 2), default=2,
+                        help="1: block lines without the program counter, as they were before")
+    asked = parser.parse_args(words)
+    guest = guestfile.load(asked.guest).guest
+    run, blocks = delegation.delegated(guest, asked.fuel, asked.workers, asked.batch, asked.seed, asked.form)
+    print(*run.lines(blocks), sep="\n")
 
 
 def main(words: list[str]) -> None:
@@ -56,4 +65,7 @@ def main(words: list[str]) -> None:
         by_model(file, asked, why)
     else:
         form = ("nodes", *asked.nodes) if asked.nodes[0] else ("run",)
-        by_program(file, (*form, asked.workers, asked.fuel, asked.batch))
+        tool.note("run", "by the program")
+        status = program.run((*form, asked.workers, asked.fuel, asked.batch), file, None)[0]
+        if status:
+            raise tool.Trouble(status, ENDS.get(status, f"the program ended with status {status}"))

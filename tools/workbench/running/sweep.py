@@ -207,10 +207,9 @@ def main(words: list[str]) -> None:
     table.writerow(["guest", *Setting._fields, "lock", *NUMBERS, *OF_NODES, "blocks", "turns", "seconds"])
     done: List[Result] = []
     with progress.Progress("sweep", "runs", len(settings)) as shown:
-        for result in results(file, settings):
+        for result in shown.each(results(file, settings)):
             table.writerows(lines(os.path.basename(asked.guest), result, asked.locks))
             done.append(result)
-            shown.step()
     sys.stdout.flush()
     if done:
         draw(asked, done)
