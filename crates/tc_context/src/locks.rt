@@ -312,7 +312,7 @@ impl LockSet {
         self.reserve_each(held)
     }
 
-    // Blocks without locks don't pay for a call of it.
+    /// Blocks without locks don't pay for a call of it.
     #[inline(never)]
     fn reserve_each(&mut self, held: Held) -> Result<(), AllocError>
         ensures ok { OnOk result (Changed (roomy_in (has held) 1 MAX_TURNS) self.old self.new) }

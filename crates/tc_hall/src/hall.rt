@@ -86,7 +86,7 @@ impl Model for Hall {
         × (h.locks ≤ MAX_GUARDS) };
 }
 
-// The package that lay in a slot.
+/// The package that lay in a slot.
 fn package_of(cargo: Option<Cargo>) -> Package
     requires { IsPackage cargo }
     ensures { HoldsPackage cargo result }
@@ -98,7 +98,7 @@ fn package_of(cargo: Option<Cargo>) -> Package
     }
 }
 
-// The lock state that lay in a slot.
+/// The lock state that lay in a slot.
 fn lock_of(cargo: Option<Cargo>) -> LockState
     requires { IsLock cargo }
     ensures { HoldsLock cargo result }
@@ -110,8 +110,8 @@ fn lock_of(cargo: Option<Cargo>) -> LockState
     }
 }
 
-// The packages of all threads, ready, and then the states of all locks. The packages share the
-// code, which is decoded here, and the memory with which they begin.
+/// The packages of all threads, ready, and then the states of all locks. The packages share the
+/// code, which is decoded here, and the memory with which they begin.
 fn stock(alloc: Global, image: &Image, fuel: u32, limit: u32) -> Result<Vec<Slot>, AllocError>
     requires { (1 ≤ fuel) × (fuel ≤ MAX_FUEL) × (limit ≤ MAX_BATCH) }
     ensures { IfOk result (λ v. AreStocked image.now (length image.now.entries)
@@ -243,7 +243,7 @@ impl Hall {
         drop(self);
     }
 
-    // The package of a thread whose word is this, in a hall of J's terms.
+    /// The package of a thread whose word is this, in a hall of J's terms.
     fn claim_from<J: Under>(&self, pass: &mut Pass, t: u32, code: u64) -> Result<Package, u64>
         requires own { pass.old.table ≡ self.now.table }
         requires picked { J.terms ≡ Some self.now.terms }
@@ -312,7 +312,7 @@ impl Hall {
         }
     }
 
-    // Puts the package, in a hall of J's terms.
+    /// Puts the package, in a hall of J's terms.
     fn put_as<J: Under>(&self, pass: &mut Pass, package: Package, place: Place)
         requires own { pass.old.table ≡ self.now.table }
         requires picked { J.terms ≡ Some self.now.terms }
@@ -351,7 +351,7 @@ impl Hall {
         self.put_as::<Brand>(pass, package, place);
     }
 
-    // Takes J's lock.
+    /// Takes J's lock.
     fn take_as<J: Wanted>(&self, pass: &mut Pass, lock: u32) -> Result<LockState, LockOut>
         requires own { pass.old.table ≡ self.now.table }
         requires picked { (J.number ≡ Some lock) × (J.terms ≡ Some self.now.terms) }
@@ -442,7 +442,7 @@ impl Hall {
         self.board.shared.load::<Stopped>(&mut pass.seat, STOP) == 1
     }
 
-    // The step that seals the block of J's package.
+    /// The step that seals the block of J's package.
     fn seal_as<J: Asked>(&self, pass: &mut Pass, package: &Package) -> u64
         requires own { pass.old.table ≡ self.now.table }
         requires picked { J.picked ≡ Some «package».now }

@@ -13,14 +13,14 @@ impl<J: Under> Play<Slot, Knows> for Claim<J> {
     ghost then = { claimed J.terms };
 }
 
-// Gives the slot back, empty.
+/// Gives the slot back, empty.
 pub(crate) struct Lay;
 
 impl Play<Slot, Knows> for Lay {
     ghost then = { laid };
 }
 
-// Takes the empty slot, to fill it.
+/// Takes the empty slot, to fill it.
 pub(crate) struct Reach;
 
 impl Play<Slot, Knows> for Reach {
@@ -121,7 +121,7 @@ impl<J: Wanted> Play<Slot, Knows> for Take<J> {
     ghost then = { took_as J.terms J.number };
 }
 
-// Makes another pass.
+/// Makes another pass.
 pub(crate) struct Deal;
 
 impl Split<Knows> for Deal {

@@ -11,8 +11,8 @@ fn a_word_keeps_its_bytes(rt: HostRuntime) -> Result<(), Fail> {
     Ok(())
 }
 
-// Call n counts from 0. Where a failure in call n changes nothing, fewer than n + 1 calls are made:
-// each read takes a byte or is the last one.
+/// Call n counts from 0. Where a failure in call n changes nothing, fewer than n + 1 calls are made:
+/// each read takes a byte or is the last one.
 #[test]
 fn reads_all_to_the_end_or_says_why(rt: HostRuntime) -> Result<(), Fail> {
     let five = b"12345".as_slice();
@@ -61,7 +61,7 @@ fn a_source_goes_on_after_a_failed_read(rt: HostRuntime) -> Result<(), Fail> {
     Ok(())
 }
 
-// As above: no write is made once nothing is left.
+/// As above: no write is made once nothing is left.
 #[test]
 fn writes_all_or_a_front(rt: HostRuntime) -> Result<(), Fail> {
     let text = b"0123456789abcdef0123456789abcdef".as_slice();

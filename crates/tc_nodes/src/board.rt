@@ -99,7 +99,7 @@ impl Play<Stand, Known> for Read {
     ghost then = { Reads };
 }
 
-// Puts the line back, from which a turn was picked.
+/// Puts the line back, from which a turn was picked.
 pub(crate) struct Return<J> {
     marker: PhantomData<J>,
 }
@@ -108,7 +108,7 @@ impl<J: Named> Play<Stand, Known> for Return<J> {
     ghost then = { Returns J.own J.node };
 }
 
-// Puts the line back, in which somebody waits.
+/// Puts the line back, in which somebody waits.
 pub(crate) struct Stay<J> {
     marker: PhantomData<J>,
 }
@@ -125,7 +125,7 @@ impl<J: Named> Play<Stand, Known> for Leave<J> {
     ghost then = { Leaves J.own };
 }
 
-// Puts the line back, as it is.
+/// Puts the line back, as it is.
 pub(crate) struct PutBack;
 
 impl Play<Stand, Known> for PutBack {

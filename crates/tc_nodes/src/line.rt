@@ -57,7 +57,7 @@ impl Line {
         self.waiting.is_empty()
     }
 
-    // Whether the turn waits.
+    /// Whether the turn waits.
     fn has(&self, turn: Turn) -> bool
         ensures { result ≡ has_turn turn self.now.waiting }
     {
@@ -87,8 +87,8 @@ impl Line {
         true
     }
 
-    // Whom a holder on this node is to pick: the oldest waiter where it was passed over as often as
-    // may be, else the oldest of this node, else the oldest.
+    /// Whom a holder on this node is to pick: the oldest waiter where it was passed over as often as
+    /// may be, else the oldest of this node, else the oldest.
     fn chosen(&self, node: u32) -> Option<Turn>
         ensures { result ≡ picked self.now.bound node self.now.waiting }
     {
@@ -116,7 +116,7 @@ impl Line {
     }
 }
 
-// Takes the turn out of the line, and counts a pass for each before it.
+/// Takes the turn out of the line, and counts a pass for each before it.
 #[tactic(auto, using(crate::proofs::Steady::steady_at))]
 fn take_out(waiting: &mut Vec<Waiter>, turn: Turn)
     requires few { IsSteady 256 waiting.old.items }

@@ -25,7 +25,7 @@ use std::marker::{Brand, Model};
 use std::sync::Wait;
 use tc_queue::{Departure, Turn};
 
-// The count, the word of the line, and the cells.
+/// The count, the word of the line, and the cells.
 const WORDS: usize = 66;
 
 /// The waiters of one lock, each on a node.
@@ -184,7 +184,7 @@ impl NodeQueue {
         answer
     }
 
-    // Takes the line, where it is home.
+    /// Takes the line, where it is home.
     fn try_take(&self, place: &mut Place) -> bool
         requires { IsAt self.now HasNoSlot place.old }
         ensures { DidAt (Tries result) place.old place.new }
@@ -192,7 +192,7 @@ impl NodeQueue {
         self.board.shared.compare_exchange::<Take>(place, 1, 0, 1) == 0
     }
 
-    // Takes the line, with as many tries as it takes.
+    /// Takes the line, with as many tries as it takes.
     fn take<R: Wait>(&self, rt: &R, place: &mut Place)
         requires { IsAt self.now HasNoSlot place.old }
         ensures { DidAt IsTaken place.old place.new }
@@ -206,7 +206,7 @@ impl NodeQueue {
         }
     }
 
-    // The number of the cell that is to be read next.
+    /// The number of the cell that is to be read next.
     fn next_cell(&self, place: &mut Place) -> u64
         requires { IsAt self.now HasLine place.old }
         ensures { DidAt (IsNextCell result) place.old place.new }
@@ -215,7 +215,7 @@ impl NodeQueue {
         stand.read.wrapping_add(1)
     }
 
-    // Puts what was found in a cell into the line.
+    /// Puts what was found in a cell into the line.
     fn put_in(&self, place: &mut Place, found: Placed)
         requires { IsAt self.now HasSlot place.old }
         ensures { DidAt (Becomes (stand_after (Some found))) place.old place.new }
@@ -225,7 +225,7 @@ impl NodeQueue {
         stand.line.arrive(found.turn, found.node);
     }
 
-    // Reads the next cell, and says whether something was there.
+    /// Reads the next cell, and says whether something was there.
     fn read_cell(&self, place: &mut Place) -> bool
         requires { IsAt self.now HasLine place.old }
         ensures { DidAt (DidRead result) place.old place.new }
@@ -244,7 +244,7 @@ impl NodeQueue {
         }
     }
 
-    // Reads cells up to an empty one.
+    /// Reads cells up to an empty one.
     fn fill<R: Wait>(&self, rt: &R, place: &mut Place)
         requires { IsAt self.now HasOwnLine place.old }
         ensures { DidAt IsFilled place.old place.new }
@@ -256,7 +256,7 @@ impl NodeQueue {
         }
     }
 
-    // Picks from the line in hand.
+    /// Picks from the line in hand.
     fn pick(&self, place: &mut Place, node: u32) -> Option<Turn>
         requires { IsAt self.now HasLine place.old }
         ensures { DidAt (Picks node result) place.old place.new }
@@ -265,7 +265,7 @@ impl NodeQueue {
         stand.line.pick(node)
     }
 
-    // Picks from the line, and puts it back.
+    /// Picks from the line, and puts it back.
     fn give<J: Named>(&self, place: &mut Place, own: &Turn, node: u32) -> Option<Turn>
         requires may { MayStepAt self.now HasLine own.now J.own place.old }
         requires node { node ≡ J.node }
@@ -277,7 +277,7 @@ impl NodeQueue {
         answer
     }
 
-    // Whether somebody waits in the line in hand.
+    /// Whether somebody waits in the line in hand.
     fn has_waiter(&self, place: &mut Place) -> bool
         requires { IsAt self.now HasLine place.old }
         ensures { DidAt (TellsWaiting result) place.old place.new }
@@ -286,7 +286,7 @@ impl NodeQueue {
         !stand.line.is_empty()
     }
 
-    // Puts the line back, in which somebody waits.
+    /// Puts the line back, in which somebody waits.
     fn stay<J: Named>(&self, place: &mut Place, own: &Turn)
         requires { MayStepAt self.now HasWaiter own.now J.own place.old }
         ensures { DidAt (λ m n. n ≡ (did_stay own.now m.0, [])) place.old place.new }
@@ -295,7 +295,7 @@ impl NodeQueue {
         self.board.shared.store::<board::Stay<J>>(place, 1, 0);
     }
 
-    // No cell was read since nobody was there.
+    /// No cell was read since nobody was there.
     fn forget_cells(&self, place: &mut Place)
         requires { IsAt self.now HasSlot place.old }
         ensures { DidAt (Becomes (stand_left Left)) place.old place.new }
@@ -304,7 +304,7 @@ impl NodeQueue {
         stand.read = 0;
     }
 
-    // Sets the count to 0, where everyone who entered was read but the first.
+    /// Sets the count to 0, where everyone who entered was read but the first.
     fn exchange<J: Named>(&self, place: &mut Place, own: &Turn) -> Departure
         requires { MayStepAt self.now HasNoWaiter own.now J.own place.old }
         ensures { DidAt (DidExchange own.now result) place.old place.new }
@@ -322,7 +322,7 @@ impl NodeQueue {
         Departure::Left
     }
 
-    // Puts the line back as it is.
+    /// Puts the line back as it is.
     fn put_back(&self, place: &mut Place)
         requires { IsAt self.now HasLine place.old }
         ensures { DidAt (λ m n. n ≡ (did_put_back m.0, [])) place.old place.new }

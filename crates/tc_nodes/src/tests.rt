@@ -19,8 +19,8 @@ fn turn(thread: u32, number: u64) -> Turn
     Turn { thread, number }
 }
 
-// Three turns arrive, thread 0's on node 1 and those of threads 1 and 2 on node 0; then node 0 picks
-// four times.
+/// Three turns arrive, thread 0's on node 1 and those of threads 1 and 2 on node 0; then node 0 picks
+/// four times.
 fn picks(alloc: Global, bound: u32) -> Result<Vec<Option<Turn>>, AllocError>
     requires { bound ≤ 256 }
 {
@@ -53,7 +53,7 @@ fn nobody_is_passed_over_more_often_than_the_bound(rt: HostRuntime) -> Result<()
     Ok(())
 }
 
-// Seat 0 makes its calls for thread 0, and seat 1 for thread 1.
+/// Seat 0 makes its calls for thread 0, and seat 1 for thread 1.
 fn take_turns<R: Abort + Wait>(rt: &R, queue: &NodeQueue, zero: &mut NodeSeat, one: &mut NodeSeat)
     requires threads { queue.now.threads ≡ 2 }
     requires seats { IsSeatOf queue.now zero.old × IsSeatOf queue.now one.old }

@@ -18,7 +18,7 @@ fn turn(thread: u32, number: u64) -> Turn
     Turn { thread, number }
 }
 
-// Seat 0 makes its calls for thread 0, and seat 1 for thread 1.
+/// Seat 0 makes its calls for thread 0, and seat 1 for thread 1.
 fn take_turns<R: Abort>(rt: &R, queue: &Queue, zero: &mut QueueSeat, one: &mut QueueSeat)
     requires threads { queue.now.threads ≡ 2 }
     requires seats { IsOwnSeatOf queue.now zero.old × IsOwnSeatOf queue.now one.old }

@@ -46,7 +46,7 @@ impl Protocol<u32, Log> for Ruled {
     ghost guest = { fresh };
 }
 
-// The worker offers a thread.
+/// The worker offers a thread.
 struct Gives;
 
 impl Outcome<u32, Log> for Gives {
@@ -55,7 +55,7 @@ impl Outcome<u32, Log> for Gives {
     ghost then = { given };
 }
 
-// Another worker takes the first offer.
+/// Another worker takes the first offer.
 struct Takes;
 
 impl Outcome<u32, Log> for Takes {
@@ -64,7 +64,7 @@ impl Outcome<u32, Log> for Takes {
     ghost then = { took };
 }
 
-// The worker takes the first offer from its own deque, or finds none.
+/// The worker takes the first offer from its own deque, or finds none.
 struct Pops;
 
 impl Outcome<u32, Log> for Pops {
@@ -86,7 +86,7 @@ impl Asked for Brand {
     ghost threads = { 0 };
 }
 
-// Tells a new deque how many threads there are.
+/// Tells a new deque how many threads there are.
 struct Opens<J> {
     marker: PhantomData<J>,
 }
@@ -99,7 +99,7 @@ impl<J: Asked> Split<Log> for Opens<J> {
     ghost right = { λ v. opened J.threads };
 }
 
-// Makes a pass for another worker.
+/// Makes a pass for another worker.
 struct Deals;
 
 impl Split<Log> for Deals {
@@ -147,7 +147,7 @@ impl Model for OwnEnd {
         × (0 < o.threads) };
 }
 
-// A new deque is told how many threads there are, which J picks.
+/// A new deque is told how many threads there are, which J picks.
 fn open_as<J: Asked>(mut worker: Owner, threads: u32) -> Owner
     requires picked { threads ≡ J.threads }
     requires fresh { (worker_view worker ≡ fresh) × (worker_port worker ≡ 0) × (0 < threads) }

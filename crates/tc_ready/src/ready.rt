@@ -38,7 +38,7 @@ impl Model for Ready {
         × All (IsEndFor r.own.threads) r.ends.items };
 }
 
-// A deque for each worker.
+/// A deque for each worker.
 fn owners(alloc: Global, workers: u32, threads: u32, room: u32) -> Result<Vec<OwnEnd>, AllocError>
     requires { 0 < threads }
     ensures { IfOk result (λ os. (length os.items ≡ workers) × All (IsNew threads room) os.items) }
@@ -51,7 +51,7 @@ fn owners(alloc: Global, workers: u32, threads: u32, room: u32) -> Result<Vec<Ow
     Ok(owners)
 }
 
-// An end of each deque.
+/// An end of each deque.
 fn ends(alloc: Global, owners: &mut Vec<OwnEnd>) -> Result<Vec<OtherEnd>, AllocError>
     ensures same { owners.new.items ≡ owners.old.items }
     ensures ends { IfOk result (λ es. es.items ≡ map new_end owners.old.items) }
@@ -64,7 +64,7 @@ fn ends(alloc: Global, owners: &mut Vec<OwnEnd>) -> Result<Vec<OtherEnd>, AllocE
     Ok(ends)
 }
 
-// Each deque with its ends, into the empty list.
+/// Each deque with its ends, into the empty list.
 fn assembled(
     mut crew: Vec<Ready>,
     owners: Vec<OwnEnd>,
@@ -90,7 +90,7 @@ fn assembled(
     crew
 }
 
-// The first thread that is seen ready.
+/// The first thread that is seen ready.
 fn scan(hall: &Hall, pass: &mut Pass, count: u32) -> Option<u32>
     requires own { pass.old.table ≡ hall.now.table }
     requires count { count ≡ threads hall.now.terms }
@@ -161,7 +161,7 @@ impl Ready {
         self.number
     }
 
-    // The first offer of the worker with this number, unless another worker was first.
+    /// The first offer of the worker with this number, unless another worker was first.
     fn steal_at(&mut self, j: usize) -> Option<u32>
         requires { j < length self.old.stolen }
         ensures { MatchOption result (self.new ≡ self.old) (λ t. StoleAt j t self.old self.new) }
@@ -169,7 +169,7 @@ impl Ready {
         self.ends[j].steal()
     }
 
-    // An offer of another worker, those with a low number first.
+    /// An offer of another worker, those with a low number first.
     fn steal(&mut self) -> Option<u32>
         ensures { MatchOption result (self.new ≡ self.old) (λ t. StoleOne t self.old self.new) }
     {

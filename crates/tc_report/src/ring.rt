@@ -34,24 +34,24 @@ struct Places<H: History> {
 }
 
 impl<H: History> Places<H> {
-    // Takes what stands at the place of this piece.
+    /// Takes what stands at the place of this piece.
     fn take(&mut self, number: usize) -> Place<H> {
         let at = number % self.places.len();
         replace(&mut self.places[at], Place::Taken)
     }
 
-    // Puts something at the place of this piece.
+    /// Puts something at the place of this piece.
     fn put(&mut self, number: usize, place: Place<H>) {
         let at = number % self.places.len();
         self.places[at] = place;
     }
 
-    // Whether each piece is made or being made.
+    /// Whether each piece is made or being made.
     fn all_begun(&self) -> bool {
         self.next >= self.count
     }
 
-    // The next piece is being made: its number, and the room for it. None where that is in use.
+    /// The next piece is being made: its number, and the room for it. None where that is in use.
     fn begin(&mut self) -> Option<(usize, Room<H>)> {
         let number = self.next;
         match self.take(number) {
@@ -66,8 +66,8 @@ impl<H: History> Places<H> {
         }
     }
 
-    // The piece of this number, or the room for it where nobody has begun to make it. None where one is
-    // making it.
+    /// The piece of this number, or the room for it where nobody has begun to make it. None where one is
+    /// making it.
     fn find(&mut self, number: usize) -> Option<Place<H>> {
         match self.take(number) {
             Place::Taken => None,
@@ -107,14 +107,14 @@ impl<H: History> Ring<H> {
         })
     }
 
-    // Puts something at the place of this piece. Whoever waits looks again.
+    /// Puts something at the place of this piece. Whoever waits looks again.
     fn put<R: Wait>(&self, rt: &R, number: usize, place: Place<H>) {
         self.places.lock(rt).put(number, place);
         self.changed.notify_all();
     }
 
-    // The number of the next piece to be made, with the room for it. It waits while that is in use. None
-    // where no piece is left to be made.
+    /// The number of the next piece to be made, with the room for it. It waits while that is in use. None
+    /// where no piece is left to be made.
     fn begin<R: Wait>(&self, rt: &R) -> Option<(usize, Room<H>)> {
         let mut places = self.places.lock(rt);
         for _ in rt.forever() {
@@ -142,7 +142,7 @@ impl<H: History> Ring<H> {
         }
     }
 
-    // The piece of this number, or the room for it. It waits while one is making it.
+    /// The piece of this number, or the room for it. It waits while one is making it.
     fn find<R: Wait>(&self, rt: &R, number: usize) -> Place<H> {
         let mut places = self.places.lock(rt);
         for _ in rt.forever() {

@@ -95,7 +95,7 @@ fn streams_of_std_are_passed_on(rt: HostRuntime) -> Result<(), Fail> {
     Ok(())
 }
 
-// Each read of a source is one read of its reader, which fails just where that one does.
+/// Each read of a source is one read of its reader, which fails just where that one does.
 #[test]
 fn a_reader_of_std_reads_on_after_failed_reads(rt: HostRuntime) -> Result<(), Fail> {
     for fails in [
@@ -125,7 +125,7 @@ fn a_reader_of_std_reads_on_after_failed_reads(rt: HostRuntime) -> Result<(), Fa
     Ok(())
 }
 
-// The second write fails, or takes nothing.
+/// The second write fails, or takes nothing.
 #[test]
 fn a_writer_of_std_writes_on_after_a_failed_write(rt: HostRuntime) -> Result<(), Fail> {
     for second in [None, Some(0)] {
