@@ -1,6 +1,7 @@
 -- One turn of a package: what its thread and its locks are after it, and the words that its journals note.
 use Rattle.std.proofs.Common.{◌≡◌, ℕ, ◌≤◌, Bool, true, false, not, ◌||◌, ◌&&◌, ◌==◌, List, length, refl, sym, ap, subst, ◌∙◌, arith, [], ◌∷◌, ◌++◌, Option, Some, None, is_some, if◌then◌else◌, IfSome}
-use Rattle.tc_context.proofs.Vocabulary.{option_map, has, Shown, guard_at, Thread, act_with, thread_after, mutex_after, guard_with, given_up, when, taken, released, Mutex, next_lock, answer_to, LockView, Journal, guard_of, with_store, with_section, with_break, with_journal, noted, lock_in, mutex_of, mutex_or, IsLockOf, AreOf, when_in, stored_in, turned, TurnReady, StoreReady, TurnFits, StoreFits, Changed, noted_in, Context, mutex_at, journal_in, journal_at, Keeps, thread_in, set_of, act_in, noted_when, IsTurn, AreOpen, DidTurn}
+use Rattle.tc_context.proofs.Vocabulary.{option_map, has, Shown, guard_at, Thread, act_with, thread_after, mutex_after, guard_with, given_up, when, taken, released, Mutex, next_lock, answer_to, LockView, Journal, guard_of, with_store, with_section, with_break, with_journal, noted, lock_in, mutex_of, mutex_or, IsLockOf}
+use Rattle.tc_context.proofs.Vocabulary.{AreOf, when_in, stored_in, turned, TurnReady, StoreReady, TurnFits, StoreFits, Changed, noted_in, Context, mutex_at, journal_in, journal_at, Keeps, thread_in, set_of, act_in, noted_when, IsTurn, AreOpen, DidTurn}
 use Rattle.tc_elf.specs.Places.{in_guard}
 use Rattle.tc_elf.specs.declared.image.Region.{Region}
 use Rattle.tc_exec.specs.Told.{IsAct, IsPut}

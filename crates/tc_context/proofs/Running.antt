@@ -1,6 +1,8 @@
 -- What running a block makes of a package, and sealing it.
 use Rattle.std.proofs.Common.{◌≡◌, ℕ, ◌-◌, ◌<◌, ◌≤◌, Bool, true, false, not, ◌||◌, ◌&&◌, ◌==◌, List, [], ◌∷◌, ◌++◌, map, length, refl, sym, ap, subst, ◌∙◌, inl, inr, set, arith, Option, Some, None, is_some, if◌then◌else◌, IfSome, slice_get, length-set}
-use Rattle.tc_context.proofs.Vocabulary.{option_map, has, Shown, is_section, begins, is_lock, takes_of, last_of, may_go_on, ends_section, passes_to, Block, Thread, is_running, next_lock, LockView, IsStrict, Journal, last_finish, block_in, blocks_of, with_journal, sealed_block, sealed_entry, sealed_list, sealed_as, Context, lock_in, AreOf, slot_of, when_in, Changed, sealed_all, sealed_in, EachHeld, CanSeal, thread_in, whole, set_of, AreEnded, journal_in, journal_at, CanGo, RunsAs, entry_of, with_entry, entered, Journals, IsReady, AreReady, PackageView, granted_lock, kind_of, waiting_in, IsReserved, IsPending, IsStored, IsAfter, IsLeft, IsGranted, MayTake, IsSoundPackage, Allows, fits_in, fits_granted, fits_of, WantIsGranted, IsIdle, IsAt, EndsWith, sealed_log, with_seal}
+use Rattle.tc_context.proofs.Vocabulary.{option_map, has, Shown, is_section, begins, is_lock, takes_of, last_of, may_go_on, ends_section, passes_to, Block, Thread, is_running, next_lock, LockView, IsStrict, Journal, last_finish, block_in, blocks_of, with_journal, sealed_block, sealed_entry, sealed_list, sealed_as}
+use Rattle.tc_context.proofs.Vocabulary.{Context, lock_in, AreOf, slot_of, when_in, Changed, sealed_all, sealed_in, EachHeld, CanSeal, thread_in, whole, set_of, AreEnded, journal_in, journal_at, CanGo, RunsAs, entry_of, with_entry, entered, Journals, IsReady, AreReady, PackageView, granted_lock, kind_of, waiting_in}
+use Rattle.tc_context.proofs.Vocabulary.{IsReserved, IsPending, IsStored, IsAfter, IsLeft, IsGranted, MayTake, IsSoundPackage, Allows, fits_in, fits_granted, fits_of, WantIsGranted, IsIdle, IsAt, EndsWith, sealed_log, with_seal}
 use Rattle.std.proofs.lemmas.Bool.Decides.{eqb_tells}
 use Rattle.tc_journal.specs.Batch.{allows_of, passes_on, may_follow}
 use Rattle.tc_turn.specs.declared.status.Status.TheVariants.{Running}

@@ -1,6 +1,7 @@
 -- What a package keeps, through each of its calls.
 use Rattle.std.proofs.Common.{◌≡◌, ℕ, ◌<◌, ◌≤◌, Bool, true, false, not, ◌||◌, ◌&&◌, ◌==◌, List, map, filter, length, refl, sym, ap, subst, ◌∙◌, arith, inl, inr, Option, Some, None, IfSome, is_some, slice_index_or, set, if◌then◌else◌, length-set, get_or-set_same, get_or-set_other}
-use Rattle.tc_context.proofs.Vocabulary.{option_map, has, MAX_TURNS, Shown, is_section, last_of, may_go_on, ends_section, passes_to, passes_on, Block, Thread, is_running, next_lock, LockView, IsAtRest, kept, block_in, blocks_of, with_journal, with_room, Context, lock_in, AreOf, Changed, IsPlaced, SameLocks, roomy_in, thread_in, set_of, PackageView, granted_lock, want_of, number_in, waiting_in, IsNumber, IsFresh, Rests, IsIdle, IsAt, IsStored, IsLeft, EndsWith, IsGranted, MayPassTo, MayTake, IsSoundPackage, IsWanted, LastIsSealed, IsWaiting, IsRoomier, with_grant, without_lock, guest_in, view_of, KeptPackage}
+use Rattle.tc_context.proofs.Vocabulary.{option_map, has, MAX_TURNS, Shown, is_section, last_of, may_go_on, ends_section, passes_to, passes_on, Block, Thread, is_running, next_lock, LockView, IsAtRest, kept, block_in, blocks_of, with_journal, with_room, Context, lock_in, AreOf, Changed, IsPlaced, SameLocks, roomy_in, thread_in, set_of, PackageView, granted_lock}
+use Rattle.tc_context.proofs.Vocabulary.{want_of, number_in, waiting_in, IsNumber, IsFresh, Rests, IsIdle, IsAt, IsStored, IsLeft, EndsWith, IsGranted, MayPassTo, MayTake, IsSoundPackage, IsWanted, LastIsSealed, IsWaiting, IsRoomier, with_grant, without_lock, guest_in, view_of, KeptPackage}
 use Rattle.std.specs.List.{range_with_len}
 use Rattle.tc_isa.specs.Sets.{locks_of}
 use Rattle.tc_isa.specs.declared.limits.TheConstants.{MAX_HELD}

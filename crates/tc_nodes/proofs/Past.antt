@@ -84,7 +84,9 @@ head : (is : Placed → Bool) (count : Turn → ℕ) (cs : List Placed) → ((fi
 head is count [] = inl (refl, refl)
 head is count (c ∷ cs) = by_test (is c) (head is count cs)
   where
-    by_test : (b : Bool) → ((first_that is cs ≡ None) × (rows is count cs ≡ [])) ⊎ ((d : Placed) × (ws : List Waiter) × (first_that is cs ≡ Some d.turn) × (rows is count cs ≡ row d (count d.turn) ∷ ws)) → ((cond b (Some c.turn) (first_that is cs) ≡ None) × (cond b (row c (count c.turn) ∷ rows is count cs) (rows is count cs) ≡ [])) ⊎ ((d : Placed) × (ws : List Waiter) × (cond b (Some c.turn) (first_that is cs) ≡ Some d.turn) × (cond b (row c (count c.turn) ∷ rows is count cs) (rows is count cs) ≡ row d (count d.turn) ∷ ws))
+    by_test : (b : Bool)
+        → ((first_that is cs ≡ None) × (rows is count cs ≡ [])) ⊎ ((d : Placed) × (ws : List Waiter) × (first_that is cs ≡ Some d.turn) × (rows is count cs ≡ row d (count d.turn) ∷ ws))
+        → ((cond b (Some c.turn) (first_that is cs) ≡ None) × (cond b (row c (count c.turn) ∷ rows is count cs) (rows is count cs) ≡ [])) ⊎ ((d : Placed) × (ws : List Waiter) × (cond b (Some c.turn) (first_that is cs) ≡ Some d.turn) × (cond b (row c (count c.turn) ∷ rows is count cs) (rows is count cs) ≡ row d (count d.turn) ∷ ws))
     by_test true rest = inr (c, rows is count cs, refl, refl)
     by_test false rest = rest
 

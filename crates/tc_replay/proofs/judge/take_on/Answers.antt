@@ -31,17 +31,23 @@ returns-then-not-grant_wanted-clause-wrong c r e before next =
     (sym (roomy_want c.args.image.now c.want-want.result c.args.«package».now c.make_room.new.«package» c.in_ok-make_room.ensures.same.rooms c.want-want.ensures) ∙ away.1) away.2)
 
 pub run_recorded-wrong-requires : goal.run_recorded-wrong-requires
-run_recorded-wrong-requires c = (c.requires.0.history, (off_from c.args.image.now c.args.terms c.requires.0 c.args.home.now c.make_room.new.home c.grant_wanted.new.home c.args.«package».now c.make_room.new.«package» c.grant_wanted.new.«package» c.args.block.now c.want-want.result c.requires.1 c.in_ok-make_room.ensures.same.rooms c.in_ok-make_room.ensures.same.home c.keeps-2.ensures.want c.want-want.ensures c.in_ok-make_room.ensures.reserved c.in_ok-make_room.ensures.room (c.grant_wanted.ensures.granted c.if-not-grant_wanted.false) c.grant_wanted.ensures.none).prepared)
+run_recorded-wrong-requires c = (
+  c.requires.0.history,
+  (off_from c.args.image.now c.args.terms c.requires.0 c.args.home.now c.make_room.new.home c.grant_wanted.new.home c.args.«package».now c.make_room.new.«package» c.grant_wanted.new.«package» c.args.block.now c.want-want.result c.requires.1
+      c.in_ok-make_room.ensures.same.rooms c.in_ok-make_room.ensures.same.home c.keeps-2.ensures.want c.want-want.ensures c.in_ok-make_room.ensures.reserved c.in_ok-make_room.ensures.room (c.grant_wanted.ensures.granted c.if-not-grant_wanted.false) c.grant_wanted.ensures.none).prepared,
+)
 
 pub returns-then-is_some-clause-wrong : goal.returns-then-is_some-clause-wrong
 returns-then-is_some-clause-wrong c r e before next =
     let some : c.run_recorded-wrong.result ≡ Some r = cc in
     subst (λ (o : Option Reason). IsJudged c.args.image.now c.args.terms before.history c.grant_wanted.new.«package» c.run_recorded-wrong.new.«package» c.args.block.now o) some
-    (c.run_recorded-wrong.ensures before.history (off_from c.args.image.now c.args.terms before c.args.home.now c.make_room.new.home c.grant_wanted.new.home c.args.«package».now c.make_room.new.«package» c.grant_wanted.new.«package» c.args.block.now c.want-want.result next c.in_ok-make_room.ensures.same.rooms c.in_ok-make_room.ensures.same.home c.keeps-2.ensures.want c.want-want.ensures c.in_ok-make_room.ensures.reserved c.in_ok-make_room.ensures.room (c.grant_wanted.ensures.granted c.if-not-grant_wanted.false) c.grant_wanted.ensures.none).prepared)
+    (c.run_recorded-wrong.ensures before.history (off_from c.args.image.now c.args.terms before c.args.home.now c.make_room.new.home c.grant_wanted.new.home c.args.«package».now c.make_room.new.«package» c.grant_wanted.new.«package» c.args.block.now c.want-want.result next
+    c.in_ok-make_room.ensures.same.rooms c.in_ok-make_room.ensures.same.home c.keeps-2.ensures.want c.want-want.ensures c.in_ok-make_room.ensures.reserved c.in_ok-make_room.ensures.room (c.grant_wanted.ensures.granted c.if-not-grant_wanted.false) c.grant_wanted.ensures.none).prepared)
 
 pub bring_released-requires : goal.bring_released-requires
 bring_released-requires c =
-    let off = off_from c.args.image.now c.args.terms c.requires.0 c.args.home.now c.make_room.new.home c.grant_wanted.new.home c.args.«package».now c.make_room.new.«package» c.grant_wanted.new.«package» c.args.block.now c.want-want.result c.requires.1 c.in_ok-make_room.ensures.same.rooms c.in_ok-make_room.ensures.same.home c.keeps-2.ensures.want c.want-want.ensures c.in_ok-make_room.ensures.reserved c.in_ok-make_room.ensures.room (c.grant_wanted.ensures.granted c.if-not-grant_wanted.false) c.grant_wanted.ensures.none in
+    let off = off_from c.args.image.now c.args.terms c.requires.0 c.args.home.now c.make_room.new.home c.grant_wanted.new.home c.args.«package».now c.make_room.new.«package» c.grant_wanted.new.«package» c.args.block.now c.want-want.result c.requires.1
+    c.in_ok-make_room.ensures.same.rooms c.in_ok-make_room.ensures.same.home c.keeps-2.ensures.want c.want-want.ensures c.in_ok-make_room.ensures.reserved c.in_ok-make_room.ensures.room (c.grant_wanted.ensures.granted c.if-not-grant_wanted.false) c.grant_wanted.ensures.none in
     let nothing = sym c.is_some.ensures ∙ c.if-is_some.false in
     let judged = c.run_recorded-wrong.ensures c.requires.0.history off.prepared in record {
       pending = (at_after c.args.image.now c.args.terms c.requires.0 c.grant_wanted.new.home c.grant_wanted.new.«package» c.run_recorded-wrong.new.«package» c.args.block.now off c.requires.1.stamp (omega (arith, c.if-prove.false)) c.run_recorded-wrong.result nothing judged).pending;
@@ -51,6 +57,7 @@ bring_released-requires c =
 
 pub returns-clause-took : goal.returns-clause-took
 returns-clause-took c e before next =
-    let off = off_from c.args.image.now c.args.terms before c.args.home.now c.make_room.new.home c.grant_wanted.new.home c.args.«package».now c.make_room.new.«package» c.grant_wanted.new.«package» c.args.block.now c.want-want.result next c.in_ok-make_room.ensures.same.rooms c.in_ok-make_room.ensures.same.home c.keeps-2.ensures.want c.want-want.ensures c.in_ok-make_room.ensures.reserved c.in_ok-make_room.ensures.room (c.grant_wanted.ensures.granted c.if-not-grant_wanted.false) c.grant_wanted.ensures.none in
+    let off = off_from c.args.image.now c.args.terms before c.args.home.now c.make_room.new.home c.grant_wanted.new.home c.args.«package».now c.make_room.new.«package» c.grant_wanted.new.«package» c.args.block.now c.want-want.result next
+    c.in_ok-make_room.ensures.same.rooms c.in_ok-make_room.ensures.same.home c.keeps-2.ensures.want c.want-want.ensures c.in_ok-make_room.ensures.reserved c.in_ok-make_room.ensures.room (c.grant_wanted.ensures.granted c.if-not-grant_wanted.false) c.grant_wanted.ensures.none in
     took c.args.image.now c.args.terms before c.grant_wanted.new.home c.grant_wanted.new.«package» c.run_recorded-wrong.new.«package» c.args.block.now off next.stamp (omega (arith, c.if-prove.false)) c.run_recorded-wrong.result (sym c.is_some.ensures ∙ c.if-is_some.false) (c.run_recorded-wrong.ensures before.history off.prepared)
     c.bring_released.new.home c.bring_released.new.«package» c.bring_released.ensures.at c.bring_released.ensures.calm c.bring_released.ensures.rest
