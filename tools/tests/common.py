@@ -103,8 +103,9 @@ def elf(name: str) -> str:
 
 def run(tool: str, *words: pathlib.Path | str, given: bytes | str = b"", stdout: IO[bytes] | None = None,
         by: str | None = None) -> subprocess.CompletedProcess[bytes]:
-    """Runs a tool by a copy of this process, which has the modules already; `by` is another program than the built one."""
-    given, asked = given if isinstance(given, bytes) else given.encode("ascii"), [*tool.split(), *map(str, words)]
+    """Runs a tool by a copy of this process, which has the modules already; `by` is another program than the
+    built one."""
+    given, asked = given if isinstance(given, bytes) else given.encode(), [*tool.split(), *map(str, words)]
     with tempfile.TemporaryFile() as read, tempfile.TemporaryFile() as out, tempfile.TemporaryFile() as said:
         read.write(given)
         read.seek(0)
@@ -131,8 +132,8 @@ def run(tool: str, *words: pathlib.Path | str, given: bytes | str = b"", stdout:
         _, status = os.waitpid(child, 0)
         for file in out, said:
             file.seek(0)
-        return subprocess.CompletedProcess(asked, os.WEXITSTATUS(status) if os.WIFEXITED(status) else -os.WTERMSIG(status),
-                                           None if stdout else out.read(), said.read())
+        status = os.WEXITSTATUS(status) if os.WIFEXITED(status) else -os.WTERMSIG(status)
+        return subprocess.CompletedProcess(asked, status, None if stdout else out.read(), said.read())
 
 
 GUEST = saved("one.elf", built(ONE, (0, 0), 1))
@@ -169,8 +170,8 @@ class Case(unittest.TestCase):
 
 
 class Folder(unittest.TestCase):
-    """A checkout with a toolchain and a program that are made up, for the tests of the command tclocks and of the script that
-    builds it."""
+    """A checkout with a toolchain and a program that are made up, for the tests of the command tclocks and of
+    the script that builds it."""
 
     @classmethod
     def setUpClass(cls) -> None:
@@ -187,8 +188,9 @@ class Folder(unittest.TestCase):
             self.write(f"crates/{crate}/src/lib.rt", f"// {crate}\n")
         self.write("guests/exit.elf", "")
         own = "__init__.py", "limits.py", "places.py", "tool.py", "running/__init__.py", "running/program.py"
-        names = "tclocks", "tclocks-build", "CITATION.cff", "tools/__init__.py", *(f"tools/workbench/{name}" for name in own)
-        for folder, some in ((ROOT, names), (ROOT / "tools" / "tests" / "made-up", ("bin/rt", "program", "crates.txt"))):
+        names = ["tclocks", "tclocks-build", "CITATION.cff", "tools/__init__.py"]
+        names += [f"tools/workbench/{name}" for name in own]
+        for folder, some in (ROOT, names), (ROOT / "tools/tests/made-up", ["bin/rt", "program", "crates.txt"]):
             for name in some:
                 (self.root / name).parent.mkdir(parents=True, exist_ok=True)
                 shutil.copy(folder / name, self.root / name)

@@ -1,5 +1,5 @@
-"""The script that builds the program, over a folder with a toolchain that is made up; and the gate .ci/run, over one with an
-rt and a workbench that are."""
+"""The script that builds the program, over a folder with a toolchain that is made up; and the gate .ci/run,
+over one with an rt and a workbench that are."""
 from __future__ import annotations
 
 import os

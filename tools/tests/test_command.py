@@ -213,7 +213,8 @@ class Rules(unittest.TestCase):
         self.assertIn(f"\nhistory={named['MAX_HISTORY']}\n", self.script)
 
     def test_the_programs_own_wrong_words_are_wrong_here(self) -> None:
-        table = re.search(r"(?s)\[[^=]*= ?&?\[(.*?)\n\];", (ROOT / "crates/tc_tests/src/outside.rt").read_text())
+        table = re.search(r"(?s)\[[^=]*= ?&?\[(.*?)\n\];",
+                          (ROOT / "crates/tc_tests/src/outside.rt").read_text())
         assert table
         lists = re.findall(r"&\[((?:b\"[^\"]*\"(?:, )?)*)\]", table[1])
         self.assertGreater(len(lists), 30)

@@ -1,5 +1,5 @@
-"""The search of every interleaving: that it misses no end and makes none up, what it answers to rules, and how it is used
-wrongly. And the grader, over folders of guests with known answers."""
+"""The search of every interleaving: that it misses no end and makes none up, what it answers to rules, and
+how it is used wrongly. And the grader, over folders of guests with known answers."""
 from __future__ import annotations
 
 import contextlib
@@ -21,16 +21,16 @@ from tools.workbench.running import delegation, program
 from .common import COURSE, EXIT, GUESTS, NAMES, ONE, ROOT, TEMPORARY, Case, built, call, elf, run, saved
 
 
-# Small guests that are drawn from a seed, and a search of all their interleavings by model.py without any reduction: every
-# block of every thread that can run one is a step, also those that take no lock.
-# x5 is where the data is, x7 and x9 have values, x8 what the thread notes, which becomes its exit code. What is done under
-# a lock whose word is at `at`, and between which numbers `k` is drawn:
+# Small guests that are drawn from a seed, and a search of all their interleavings by model.py without any
+# reduction: every block of every thread that can run one is a step, also those that take no lock.
+# x5 is where the data is, x7 and x9 have values, x8 what the thread notes, which becomes its exit code. What is
+# done under a lock whose word is at `at`, and between which numbers `k` is drawn:
 WORK = (
     ("lw 7 5 {at}; add 7 7 7; addi 7 7 {k}; sw 7 5 {at}", 1, 4),  # 2 * word + k: of two of these the order tells
-    ("lw 7 5 {at}; addi 7 7 {k}; sw 7 5 {at}", -2, 3),  # a number is added, and what the word was is not looked at
+    ("lw 7 5 {at}; addi 7 7 {k}; sw 7 5 {at}", -2, 3),  # what the word was is not looked at
     ("lw 7 5 {at}; add 9 8 8; add 8 9 8; add 8 8 7", 0, 0),  # what is noted becomes 3 times that and the word
-    ("lw 7 5 {at}; andi 7 7 1; beq 7 0 12; sw 0 5 {at}; addi 0 0 0", 0, 0),  # an odd word becomes 0, with some more turns
-    ("lw 7 5 {at}; sw 7 2 -4; sw 7 5 224; lw 9 2 -4; sub 8 8 9", 0, 0),  # by the stack and memory of the thread's own
+    ("lw 7 5 {at}; andi 7 7 1; beq 7 0 12; sw 0 5 {at}; addi 0 0 0", 0, 0),  # an odd word becomes 0
+    ("lw 7 5 {at}; sw 7 2 -4; sw 7 5 224; lw 9 2 -4; sub 8 8 9", 0, 0),  # by stack and memory of its own
     ("sb 8 5 {byte}; lh 7 5 {at}; xor 8 8 7", 0, 0),  # a byte is written, and a half read
     ("add 8 8 10", 0, 0),  # the answer of the LOCK before, where nothing stands between
     ("SLEEP {k}", 0, 3))
@@ -44,7 +44,8 @@ def one_of(chance: random.Random, lock: int, text: str, low: int, high: int) -> 
 
 
 def work(chance: random.Random, lock: int) -> list[int]:
-    return [word for _ in range(chance.randrange(1, 3)) for word in one_of(chance, lock, *chance.choice(WORK))]
+    return [word for _ in range(chance.randrange(1, 3))
+            for word in one_of(chance, lock, *chance.choice(WORK))]
 
 
 def single(chance: random.Random, locks: int) -> list[int]:
@@ -73,8 +74,8 @@ def hand_over_hand(chance: random.Random, locks: int) -> list[int]:
 def sometimes(chance: random.Random, locks: int) -> list[int]:
     """The last lock is taken only where the first one's word is odd."""
     inner = made.call(1, locks - 1) + work(chance, locks - 1) + made.call(2, locks - 1)
-    return [*made.call(1, 0), *work(chance, 0), *made.code(f"lw 7 5 0; andi 7 7 1; beq 7 0 {4 + 4 * len(inner)}"), *inner,
-            *made.call(2, 0)]
+    return [*made.call(1, 0), *work(chance, 0),
+            *made.code(f"lw 7 5 0; andi 7 7 1; beq 7 0 {4 + 4 * len(inner)}"), *inner, *made.call(2, 0)]
 
 
 def section(chance: random.Random, locks: int) -> list[int]:
@@ -476,7 +477,8 @@ class Grade(Case):
         place = folder("students", {"anna/guest.elf": built(ONE, (0, 0), 1), "ben/guest.elf": built(LOST, (0, 0), 1),
                                     "cleo.elf": built(ONE, (0, 0), 1)[:100], "dora.elf": built(EXIT, (0,), 0)})
         kept = TEMPORARY / "kept"
-        said = self.well("grade", place, "--never", "lock 0 word 0 != 2", "--reach", "lock 0 sections == 2", "--keep", str(kept))
+        said = self.well("grade", place, "--never", "lock 0 word 0 != 2", "--reach", "lock 0 sections == 2",
+                         "--keep", str(kept))
         table = [line.split("  ") for line in said.partition("\n\n")[0].splitlines()]
         self.assertEqual([[cell.strip() for cell in row if cell] for row in table], [
             ["guest", "file", "rule 1", "rule 2", "right"],

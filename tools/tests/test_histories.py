@@ -1,5 +1,6 @@
-"""Histories by hand, and those that the model makes; and what `replay` and `profile` answer by rejecting.py: on paper, to
-histories that are changed, and in the exercise on wrong histories, with what ./workbench judge says of the same ones."""
+"""Histories by hand, and those that the model makes; and what `replay` and `profile` answer by rejecting.py:
+on paper, to histories that are changed, and in the exercise on wrong histories, with what ./workbench judge
+says of the same ones."""
 from __future__ import annotations
 
 import collections
@@ -267,7 +268,8 @@ class Answers(Case):
                                ("held -", "held 0", "1 4 Block"), ("end exit", "end spent", "1 4 Block"),
                                ("00010054", "00010058", "1 4 Block")):
             for form in ("replay", "profile"):
-                self.assertEqual(answer(form, EXIT_FILE, numbers, OF_EXIT.replace(old, new)), (6, f"rejected {said}\n"), new)
+                self.assertEqual(answer(form, EXIT_FILE, numbers, OF_EXIT.replace(old, new)),
+                                 (6, f"rejected {said}\n"), new)
 
     def test_an_owner(self) -> None:
         """Thread 0 sleeps with lock 0, and thread 1 runs on from its LOCK."""
@@ -323,7 +325,8 @@ end
         most, limits.HISTORY_BYTES = limits.HISTORY_BYTES, len(OF_EXIT)
         self.addCleanup(setattr, limits, "HISTORY_BYTES", most)
         self.assertEqual(answer("profile", EXIT_FILE, (1, 100, 0), OF_EXIT)[0], 0)
-        self.assertEqual(answer("profile", EXIT_FILE, (1, 100, 0), OF_EXIT + "x"), (3, "refused 0 TooLarge\n"))
+        self.assertEqual(answer("profile", EXIT_FILE, (1, 100, 0), OF_EXIT + "x"),
+                         (3, "refused 0 TooLarge\n"))
 
     def test_lines(self) -> None:
         """What is a line and what is none, whatever the guest."""

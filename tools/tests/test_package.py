@@ -1,5 +1,6 @@
-"""The package as a whole: its subcommands, its types, the grammar of Python 3.8, what stands in guests/; how long work shows
-where it is; wrong uses of each tool, reports that were cut, and one of 100 MB: one line each, and no traceback."""
+"""The package as a whole: its subcommands, its types, the grammar of Python 3.8, what stands in guests/; how
+long work shows where it is; wrong uses of each tool, reports that were cut, and one of 100 MB: one line each,
+and no traceback."""
 from __future__ import annotations
 
 import ast
@@ -110,7 +111,8 @@ class WrongUses(Case):
                 with self.subTest(line=line):
                     done = run(words[0], *(word.replace("guests/", f"{GUESTS}/") for word in words[1:]))
                     self.one_line(done, int(status))
-                    self.assertTrue(done.stderr.startswith(f"workbench {words[0]}".encode()) and not done.stdout, done)
+                    self.assertTrue(done.stderr.startswith(f"workbench {words[0]}".encode())
+                                    and not done.stdout, done)
 
     def test_standard_input_is_a_folder_or_closed(self) -> None:
         for tool in self.TOOLS:

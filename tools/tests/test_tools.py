@@ -1,6 +1,6 @@
-"""What the tools print, and what explain says of chosen blocks, of one block's instructions, of contexts, and of lines of the
-source, where the compiler is there; and products and quotients of the model, against values that come from outside of this
-repository."""
+"""What the tools print, and what explain says of chosen blocks, of one block's instructions, of contexts, and
+of lines of the source, where the compiler is there; and products and quotients of the model, against values
+that come from outside of this repository."""
 from __future__ import annotations
 
 import json
@@ -331,6 +331,6 @@ class OfTheCompiler(Case):
         bare.mkdir()
         for name in ("sh", "python3", "readlink"):
             (bare / name).symlink_to(shutil.which(name) or "/none")
-        done = subprocess.run([ROOT / "workbench", "explain", path, "-"], input=report, capture_output=True, check=False,
-                              env={"PATH": str(bare)})
+        done = subprocess.run([ROOT / "workbench", "explain", path, "-"], input=report, capture_output=True,
+                              check=False, env={"PATH": str(bare)})
         self.one_line(done, 0, "is on the PATH to read it")

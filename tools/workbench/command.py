@@ -65,7 +65,8 @@ def show_help(words: List[str]) -> int:
     """Prints all subcommands by group, or says that words are wrong."""
     if words[:1] not in (["--help"], ["-h"], ["help"]):
         find(words)
-    print(USAGE, "", "Tools over guests, reports and the program tclocks. Statuses are those of the program.", sep="\n")
+    print(USAGE, "", "Tools over guests, reports and the program tclocks. Statuses are those of the program.",
+          sep="\n")
     for title, group in GROUPS:
         print(f"\n{title}:", *(f"  {one.name:{max(map(len, EVERY))}}  {one.line}" for one in group), sep="\n")
     return tool.DONE

@@ -39,7 +39,8 @@ def again(body: list[int], behind: str = "jal 0") -> list[int]:
 
 def arithmetic() -> bytes:
     """Arithmetic without locks, one block for each 4,096 turns."""
-    return elf(again(code("addi 5 5 1; slli 6 5 3; xor 7 7 6; add 8 8 7; srli 9 8 5; sub 12 9 5; and 13 12 8; sltu 14 13 12")), 0)
+    return elf(again(code("addi 5 5 1; slli 6 5 3; xor 7 7 6; add 8 8 7; srli 9 8 5; sub 12 9 5; and 13 12 8; "
+                          "sltu 14 13 12")), 0)
 
 
 def memory() -> bytes:
@@ -54,7 +55,8 @@ def hot_lock() -> bytes:
 
 def own_locks() -> bytes:
     """The same, but each thread has a lock of its own: the one with its number."""
-    return elf(code(f"addi 9 10 0; slli 8 9 6; lui 7 {DATA}; add 8 8 7") + again(code(f"LOCK x9; {ADD_ONE} UNLOCK x9")), THREADS)
+    base = code(f"addi 9 10 0; slli 8 9 6; lui 7 {DATA}; add 8 8 7")
+    return elf(base + again(code(f"LOCK x9; {ADD_ONE} UNLOCK x9")), THREADS)
 
 
 def nested_locks() -> bytes:
@@ -68,12 +70,13 @@ def sleeps() -> bytes:
 
 
 def mailboxes(sections: int = 1500) -> bytes:
-    """Each thread but the first looks into its own guard, again and again, and sleeps in between, until it finds a word
-    there; the first one posts these words, behind so many sections of its own lock, each with some arithmetic before it.
-    The thread's number is in x9, its guard's address in x8."""
+    """Each thread but the first looks into its own guard, again and again, and sleeps in between, until it
+    finds a word there; the first one posts these words, behind so many sections of its own lock, each with
+    some arithmetic before it. The thread's number is in x9, its guard's address in x8."""
     base = code(f"addi 9 10 0; slli 8 9 6; lui 7 {DATA}; add 8 7 8")
     wait = again(code("LOCK x9; lw 5 8 0; UNLOCK x9; bne 5 0 20; SLEEP 0")) + code("EXIT 0")
-    work = again(code(8 * "addi 12 12 1; xor 13 13 12;" + f"LOCK 0; {ADD_ONE} UNLOCK 0; addi 20 20 -1"), "bne 20 0")
+    work = again(code(8 * "addi 12 12 1; xor 13 13 12;" + f"LOCK 0; {ADD_ONE} UNLOCK 0; addi 20 20 -1"),
+                 "bne 20 0")
     post = again(code(f"LOCK x21; addi 8 8 {GUARD_BYTES}; sw 23 8 0; UNLOCK x21; addi 21 21 1"), "bne 21 24")
     return elf([*base, *code(f"beq 9 0 {4 * (1 + len(wait))}"), *wait, *code(f"addi 20 0 {sections}"), *work,
                 *code(f"addi 21 0 1; addi 23 0 1; addi 24 0 {THREADS}"), *post, *code("EXIT 0")], THREADS)
@@ -110,8 +113,8 @@ def many_ranges() -> bytes:
     return elf(code(f"lui 8 {ranges[-1][0]}") + again(code("addi 8 8 0;" + 4 * ADD_ONE)), 16, ranges)
 
 
-MAKERS: tuple[Callable[[], bytes], ...] = (arithmetic, memory, hot_lock, own_locks, nested_locks, sleeps, mailboxes,
-                                           shortest_blocks, longest_history, many_ranges)
+MAKERS: tuple[Callable[[], bytes], ...] = (arithmetic, memory, hot_lock, own_locks, nested_locks, sleeps,
+                                           mailboxes, shortest_blocks, longest_history, many_ranges)
 GUESTS: dict[str, Callable[[], bytes]] = {getattr(maker, "__name__").replace("_", "-"): maker for maker in MAKERS}
 GUESTS.update({f"{size}-image": functools.partial(image, kibibytes)
                for size, kibibytes in (("quarter", 240), ("half", 480), ("large", 960))})

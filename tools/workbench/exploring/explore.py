@@ -38,6 +38,9 @@ class Outcome:
         self.lines, self.command = lines, command
         self.counts: Counter[str] = Counter()
 
+    def seen(self) -> str:
+        return " and ".join(f"{count} by the {name}" for name, count in self.counts.items()) + f", as of {self.command}"
+
 
 def end_of(lines: list[str]) -> rules.End:
     """How a whole report says that the guest ended."""
@@ -161,7 +164,8 @@ def show_all(guest: model.Guest, found: search.Search, asked: Namespace) -> None
     def tell(place: int) -> str:
         way = ends[place][1]()
         shown, more = " ".join(map(str, way.threads[:SHOWN])), len(way.threads) - SHOWN
-        return f"{several(way.blocks, 'block')}, sections of threads {shown or '-'}" + (f" .. ({more} more)" if more > 0 else "")
+        shown += f" .. ({more} more)" if more > 0 else ""
+        return f"{several(way.blocks, 'block')}, sections of threads {shown or '-'}"
     if ends:
         show(guest, [end for end, _ in ends], asked.most, tell)
     if asked.keep:
@@ -255,9 +259,10 @@ def compare(guest: model.Guest, found: search.Search, asked: Namespace) -> None:
             raise tool.Trouble(tool.WRONG, f"the search has not the outcome of {outcome.command}")
 
 
-def sampled(guest: model.Guest, asked: Namespace, before: str, behind: str) -> list[tuple[rules.End, Outcome]]:
-    """Looks at some runs, and says in a line how many of whom. Answers their outcomes, by how they end: those with faults
-    first, then those seen most often."""
+def sampled(guest: model.Guest, asked: Namespace, before: str,
+            behind: str) -> list[tuple[rules.End, Outcome]]:
+    """Looks at some runs, and says in a line how many of whom. Answers their outcomes, by how they end: those
+    with faults first, then those seen most often."""
     why = None if asked.model else program.missing()
     if why:
         tool.note("explore", f"{why}; so the model alone makes runs")
@@ -277,8 +282,7 @@ def sampled(guest: model.Guest, asked: Namespace, before: str, behind: str) -> l
 def samples(guest: model.Guest, asked: Namespace) -> None:
     """Prints the outcomes of some runs."""
     outcomes = sampled(guest, asked, "", "; there may be others (--all looks at every interleaving)")
-    show(guest, [end for end, _ in outcomes], asked.most, lambda place: " and ".join(
-        f"{count} by the {name}" for name, count in outcomes[place][1].counts.items()) + f", as of {outcomes[place][1].command}")
+    show(guest, [end for end, _ in outcomes], asked.most, lambda place: outcomes[place][1].seen())
     if asked.keep:
         keep(asked.keep, (outcome.lines for _, outcome in outcomes))
 

@@ -23,9 +23,9 @@ def call(number: int, value: int) -> list[int]:
 
 
 def code(text: str, **numbers: int) -> list[int]:
-    """The words of instructions, which have ; between them: names with operands in the order of rv32im.OPERANDS, and guest
-    calls as LOCK 0, or LOCK x9 where register 9 has the number; EXIT alone takes x10 as it is. Numbers stand for names in
-    braces."""
+    """The words of instructions, which have ; between them: names with operands in the order of
+    rv32im.OPERANDS, and guest calls as LOCK 0, or LOCK x9 where register 9 has the number; EXIT alone takes
+    x10 as it is. Numbers stand for names in braces."""
     words: list[int] = []
     for name, *operands in filter(None, map(str.split, text.format(**numbers).split(";"))):
         if name not in CALLS:
@@ -47,5 +47,6 @@ def elf(notes: bytes, words: Any, data: bytes, memory: int) -> bytes:
 
 def counting(threads: int) -> bytes:
     """The file of threads that each add 1 to a word under lock 0, a hundred times."""
-    words = code(f"lui 5 {DATA}; addi 6 0 100; LOCK 0; lw 7 5 0; addi 7 7 1; sw 7 5 0; UNLOCK 0; addi 6 6 -1; bne 6 0 -40; EXIT")
+    words = code(f"lui 5 {DATA}; addi 6 0 100; LOCK 0; lw 7 5 0; addi 7 7 1; sw 7 5 0; UNLOCK 0; addi 6 6 -1; "
+                 "bne 6 0 -40; EXIT")
     return elf(note([(CODE, 0)] * threads, [(DATA, 4)]), words, bytes(4), 4)

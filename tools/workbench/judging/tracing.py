@@ -1,6 +1,7 @@
-"""One block turn by turn: each instruction with the registers that it reads and sets, and the memory that it loads or
-stores, by a copy of the model. And what a thread's context carries when another worker goes on with it: registers, stack,
-memory of its own, and the locks in its package; and where the bytes of a lock come from."""
+"""One block turn by turn: each instruction with the registers that it reads and sets, and the memory that it
+loads or stores, by a copy of the model. And what a thread's context carries when another worker goes on with
+it: registers, stack, memory of its own, and the locks in its package; and where the bytes of a lock come
+from."""
 from __future__ import annotations
 
 import copy

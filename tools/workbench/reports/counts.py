@@ -233,6 +233,11 @@ def print_text(counted: Counts) -> None:
         tool.print_columns([names, *(["?" if value is None else str(value) for value in row.values()] for row in rows)])
 
 
+def print_json(counted: Counts) -> None:
+    tables = {f"by_{name}": rows for name, rows in counted.tables()}
+    print(json.dumps({**parameters(counted.text), "whole": counted.text.whole, **tables}, indent=1))
+
+
 def parameters(text: report.Report) -> dict[str, int]:
     return {name: getattr(text, name) for name in limits.RUN}
 
@@ -252,10 +257,10 @@ def main(words: list[str]) -> None:
     parser = tool.words("summary", SUMMARY + MEANINGS)
     parser.add_argument("report", metavar="REPORT", help="a report; - is standard input")
     forms = parser.add_mutually_exclusive_group()
-    forms.add_argument("--json", action="store_const", dest="form", const=lambda counted: print(json.dumps(
-        {**parameters(counted.text), "whole": counted.text.whole, **{f"by_{name}": rows for name, rows in counted.tables()}}, indent=1)))
+    forms.add_argument("--json", action="store_const", dest="form", const=print_json)
     forms.add_argument("--csv", action="store_const", dest="form", const=print_csv)
-    forms.add_argument("--profile", action="store_const", dest="form", const=lambda counted: print(*counted.profile_lines(), sep="\n"),
+    forms.add_argument("--profile", action="store_const", dest="form",
+                       const=lambda counted: print(*counted.profile_lines(), sep="\n"),
                        help="what the program prints of the history with `profile`")
     asked = parser.parse_args(words)
     counted = read(asked.report)
