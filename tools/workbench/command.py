@@ -23,7 +23,7 @@ GROUPS: Tuple[Tuple[str, Tuple[Subcommand, ...]], ...] = (
         Subcommand("summary", "reports.counts", "count what a report says, by lock, by thread and by worker"),
         Subcommand("explain", "judging.explain", "say of a file what it has, of a report why each block came"))),
     ("judge", (
-        Subcommand("judge", "judging.judge", "say whether a report is that of a legal run"),
+        Subcommand("judge", "judging.legal", "say whether a report is that of a legal run"),
         Subcommand("replay", "judging.replay", "have the history of a report run again"),
         Subcommand("finish", "judging.finish", "judge a history that was written by hand, and print the whole report"))),
     ("explore", (

@@ -90,10 +90,7 @@ class Rule:
         return parts[0] if len(parts) == 1 else lambda end: holds(part(end) for part in parts)
 
     def either(self) -> Value:
-        return self.joined("or", self.both, any)
-
-    def both(self) -> Value:
-        return self.joined("and", self.negated, all)
+        return self.joined("or", lambda: self.joined("and", self.negated, all), any)
 
     def negated(self) -> Value:
         if self.take("not"):

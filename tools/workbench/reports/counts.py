@@ -5,6 +5,7 @@ from __future__ import annotations
 import csv
 import json
 import sys
+import types
 from collections import Counter
 from typing import Any, Iterator
 
@@ -136,16 +137,6 @@ class ThreadCounts:
         self.end = block.end if block.ends_thread else None
 
 
-class WorkerCounts:
-    def __init__(self) -> None:
-        self.blocks = self.turns = self.away = 0
-
-    def add(self, block: report.Block, away: bool) -> None:
-        self.blocks += 1
-        self.turns += block.turns
-        self.away += away
-
-
 def apart(pairs: Counter[tuple[int, int]], nodes: int = 8) -> int:
     """How many pairs of workers are of two workers, or of two nodes where there are fewer nodes than workers."""
     return sum(count for (one, other), count in pairs.items() if one % nodes != other % nodes)
@@ -164,7 +155,7 @@ class Counts:
         self.text = text
         self.locks = [LockCounts() for _ in range(text.guards)]
         self.threads = [ThreadCounts() for _ in range(text.threads)]
-        self.workers = [WorkerCounts() for _ in range(text.workers)]
+        self.workers = [types.SimpleNamespace(blocks=0, turns=0, away=0) for _ in range(text.workers)]
         self.away = Away(text.threads)
 
     def add(self, block: report.Block) -> bool:
@@ -177,7 +168,8 @@ class Counts:
             lock.turns += block.turns
             lock.worker = block.worker
         self.threads[block.thread].add(block, away)
-        self.workers[block.worker].add(block, away)
+        worker = self.workers[block.worker]
+        worker.blocks, worker.turns, worker.away = worker.blocks + 1, worker.turns + block.turns, worker.away + away
         return away
 
     def tables(self) -> Iterator[tuple[str, list[dict[str, Any]]]]:
