@@ -190,7 +190,8 @@ class Folder(unittest.TestCase):
         own = "__init__.py", "limits.py", "places.py", "tool.py", "running/__init__.py", "running/program.py"
         names = ["tclocks", "tclocks-build", "CITATION.cff", "tools/__init__.py"]
         names += [f"tools/workbench/{name}" for name in own]
-        for folder, some in (ROOT, names), (ROOT / "tools/tests/made-up", ["bin/rt", "program", "crates.txt"]):
+        for folder, some in (ROOT, names), (ROOT / "tools/tests/made-up",
+                                            ["bin/rt", "program", "crates.txt"]):
             for name in some:
                 (self.root / name).parent.mkdir(parents=True, exist_ok=True)
                 shutil.copy(folder / name, self.root / name)

@@ -91,7 +91,8 @@ exec {ROOT}/workbench run - "$@" --seed 1 $orders 2>/dev/null
 
     def test_several(self) -> None:
         rows, told = self.table("several", "-r", "1", "-f", "20", "-w", "2,1", "hot-lock", "own-locks")
-        names = (f"{what}, 2 workers to 1 worker" for what in ("Seconds", "Processor", "Clock", "Loop", "Shared loop"))
+        names = (f"{what}, 2 workers to 1 worker"
+                 for what in ("Seconds", "Processor", "Clock", "Loop", "Shared loop"))
         self.assertEqual(rows[0], ["Guest", "Seconds: 1 worker", "2 workers", "Processor: 1 worker", "2 workers",
                                    *names, "Rounds"])
         self.assertEqual([(row[0], len(row), row[10]) for row in rows[2:]],

@@ -1,6 +1,7 @@
-"""The command tclocks, over a folder with a toolchain and a program that are made up: what it runs, and that it
-passes on all that the program does; and its words, against the program's own rules. The script that builds the
-program, over the same folder. And the gate .ci/run, over one with an rt and a workbench that are made up."""
+"""The command tclocks, over a folder with a toolchain and a program that are made up: what it runs, and that
+it passes on all that the program does; and its words, against the program's own rules. The script that builds
+the program, over the same folder. And the gate .ci/run, over one with an rt and a workbench that are made
+up."""
 from __future__ import annotations
 
 import ast
@@ -368,8 +369,9 @@ class Gate(unittest.TestCase):
         """The status and the lines of the gate."""
         self.script("bin/rt", f'[ "$1" = ci ] && [ $# = 1 ] || exit 9\n{rt}')
         self.script("workbench", f'[ "$*" = "check tools" ] || exit 9\necho tested\n{workbench}')
-        done = subprocess.run(["bash", self.root / ".ci" / "run"], stdin=subprocess.DEVNULL, stdout=subprocess.PIPE,
-                              stderr=subprocess.PIPE, check=False, env={**os.environ, "PATH": str(self.root / "bin")}, text=True)
+        done = subprocess.run(["bash", self.root / ".ci" / "run"], stdin=subprocess.DEVNULL,
+                              capture_output=True, check=False,
+                              env={**os.environ, "PATH": str(self.root / "bin")}, text=True)
         self.assertEqual(done.stderr, "")
         return done.returncode, done.stdout.splitlines()
 

@@ -143,8 +143,9 @@ class Commands(Case):
                     continue
                 seen.add(text)
                 with self.subTest(page=page.name, command=text):
-                    done = subprocess.run(["sh", "-c", fewer(text)], cwd=root, stdin=subprocess.DEVNULL, stdout=subprocess.PIPE,
-                                          stderr=subprocess.PIPE, check=False, timeout=300, env={**os.environ, "HOME": str(TEMPORARY)})
+                    done = subprocess.run(["sh", "-c", fewer(text)], cwd=root, stdin=subprocess.DEVNULL,
+                                          capture_output=True, check=False, timeout=300,
+                                          env={**os.environ, "HOME": str(TEMPORARY)})
                     self.assertEqual(done.returncode, 0, done.stderr.decode()[-300:])
                     self.assertNotIn(b"Traceback", done.stderr)
                 if "hot.elf" in text and "--strips" in text:

@@ -124,7 +124,7 @@ class InABrowser(Case):
         done = subprocess.run([str(BROWSER), "--headless", "--no-sandbox", "--disable-gpu", "--virtual-time-budget=2000",
                                f"--user-data-dir={TEMPORARY / 'browser'}", "--window-size=1366,768", "--enable-logging=stderr",
                                *(words or ("--dump-dom",)), f"file://{path}"],
-                              stdout=subprocess.PIPE, stderr=subprocess.PIPE, check=True, timeout=300, text=True)
+                              capture_output=True, check=True, timeout=300, text=True)
         self.assertNotIn("CONSOLE", done.stderr)
         return done.stdout, done.stderr
 

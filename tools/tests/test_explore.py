@@ -23,7 +23,8 @@ from .common import COURSE, EXIT, GUESTS, NAMES, ONE, ROOT, TEMPORARY, Case, bui
 
 # Small guests that are drawn from a seed, and a search of all their interleavings by model.py without any
 # reduction: every block of every thread that can run one is a step, also those that take no lock.
-# x5 is where the data is, x7 and x9 have values, x8 what the thread notes, which becomes its exit code. What is
+# x5 is where the data is, x7 and x9 have values, x8 what the thread notes, which becomes its exit code. What
+# is
 # done under a lock whose word is at `at`, and between which numbers `k` is drawn:
 WORK = (
     ("lw 7 5 {at}; add 7 7 7; addi 7 7 {k}; sw 7 5 {at}", 1, 4),  # 2 * word + k: of two of these the order tells
@@ -113,20 +114,14 @@ def guest(seed: int) -> tuple[bytes, int]:
 
 def stepped(machine: model.Machine, number: int) -> model.Machine:
     """A copy of a machine in which a thread ran a block."""
-    new = copy.copy(machine)
-    new.threads, new.locks = list(machine.threads), [copy.copy(lock) for lock in machine.locks]
-    thread = new.threads[number] = copy.copy(machine.threads[number])
-    thread.x, thread.held, thread.stack = thread.x[:], set(thread.held), bytearray(thread.stack)
-    thread.own = {place: bytearray(content) for place, content in thread.own.items()}
-    for lock in new.locks:
-        lock.bytes = bytearray(lock.bytes)
+    new = copy.deepcopy(machine, {id(machine.guest): machine.guest})
     new.run_block(number)
     return new
 
 
-def key(machine: model.Machine) -> tuple[tuple[tuple[Any, ...], tuple[Any, ...]], tuple[tuple[bytes, int | None, int, int], tuple[bytes, int | None, int, int], tuple[bytes, int | None, int, int]]]:
+def key(machine: model.Machine) -> Any:
     """All that what comes next, and what is told of the end, depends on."""
-    return (tuple((thread.pc, tuple(thread.x), thread.fuel, tuple(sorted(thread.held)), thread.end,  # type: ignore[return-value]
+    return (tuple((thread.pc, tuple(thread.x), thread.fuel, tuple(sorted(thread.held)), thread.end,
                    bytes(thread.stack), *map(bytes, thread.own.values())) for thread in machine.threads),
             tuple((bytes(lock.bytes), lock.owner, lock.broken, lock.sections) for lock in machine.locks))
 

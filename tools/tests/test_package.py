@@ -1,7 +1,7 @@
-"""The package as a whole: its subcommands, its types, the grammar of Python 3.8, what stands in guests/; how long
-work shows where it is; wrong uses of each tool, reports that were cut, and one of 100 MB: one line each, and no
-traceback. And the scripts that check the program and write facts.json, as far as they need no program: what they
-draw, and what they find wrong."""
+"""The package as a whole: its subcommands, its types, the grammar of Python 3.8, what stands in guests/; how
+long work shows where it is; wrong uses of each tool, reports that were cut, and one of 100 MB: one line each,
+and no traceback. And the scripts that check the program and write facts.json, as far as they need no program:
+what they draw, and what they find wrong."""
 from __future__ import annotations
 
 import ast
@@ -66,7 +66,7 @@ class Launcher(Case):
     def test_wrong_words(self) -> None:
         for words, part in (((), "a subcommand is missing"), (("nobody",), "no subcommand 'nobody'"), (("--fast",), "'--fast'"),
                             (("bench",), "bench is one of bench run, "), (("bench", "x"), "bench is one of")):
-            done = subprocess.run([ROOT / "workbench", *words], stdout=subprocess.PIPE, stderr=subprocess.PIPE, check=False)
+            done = subprocess.run([ROOT / "workbench", *words], capture_output=True, check=False)
             self.one_line(done, 1, part)
 
     def test_old_names(self) -> None:
@@ -100,7 +100,7 @@ class Shown(Case):
 
     def test_on_a_terminal_alone(self) -> None:
         words = [sys.executable, str(ROOT / "workbench.py"), "sweep", elf("first"), "--model", "--runs", "2"]
-        done = subprocess.run(words, stdout=subprocess.PIPE, stderr=subprocess.PIPE, check=False)
+        done = subprocess.run(words, capture_output=True, check=False)
         self.assertEqual((done.returncode, done.stderr), (0, b""))
         here, there = pty.openpty()
         again = subprocess.run(words, stdout=subprocess.PIPE, stderr=there, check=False)
@@ -134,7 +134,7 @@ class WrongUses(Case):
                                         stdout=file, stderr=subprocess.PIPE, check=False)
             self.one_line(closed, 2)
             folder = subprocess.run(["sh", "-c", '"$0" "$@" < /', ROOT / "workbench", tool, *self.WORDS[tool], "-"],
-                                    stdout=subprocess.PIPE, stderr=subprocess.PIPE, check=False)
+                                    capture_output=True, check=False)
             self.one_line(folder, 2)
 
     def test_output_that_fails(self) -> None:

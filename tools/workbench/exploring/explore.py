@@ -39,7 +39,8 @@ class Outcome:
         self.counts: Counter[str] = Counter()
 
     def seen(self) -> str:
-        return " and ".join(f"{count} by the {name}" for name, count in self.counts.items()) + f", as of {self.command}"
+        return " and ".join(f"{count} by the {name}" for name,
+                            count in self.counts.items()) + f", as of {self.command}"
 
 
 def end_of(lines: list[str]) -> rules.End:

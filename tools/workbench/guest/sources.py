@@ -54,7 +54,7 @@ class Sources:
         asked = "".join(f"{address:#x}\n" for where in self.code for address in where[::4])
         try:
             done = subprocess.run([reader, "-a", "-i", "-e", self.path], input=asked.encode("ascii"),
-                                  stdout=subprocess.PIPE, stderr=subprocess.PIPE, check=False, timeout=SECONDS)
+                                  capture_output=True, check=False, timeout=SECONDS)
         except (OSError, subprocess.TimeoutExpired):
             return {}
         return {int(address, 16): [Place(name.replace("\\", "/").rsplit("/", 1)[-1], int(line)) for name, line in FRAME.findall(said)

@@ -83,7 +83,8 @@ class Context:
         self.registers = [rv32im.REGISTERS[number] for number, value in enumerate(thread.x) if value]
         self.stack = limits.STACK.stop - thread.x[2] if thread.x[2] in limits.STACK else 0
         contents = ((own, machine.guest.ranges[place][2]) for place, own in thread.own.items())
-        self.data = sum(one != other for own, content in contents if own != content for one, other in zip(own, content))
+        self.data = sum(one != other for own, content in contents if own != content for one,
+                        other in zip(own, content))
         self.held = held
         self.guarded = sum(len(machine.locks[lock].bytes) for lock in held)
 
