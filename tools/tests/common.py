@@ -4,6 +4,7 @@ from __future__ import annotations
 
 import contextlib
 import json
+import multiprocessing
 import os
 import pathlib
 import re
@@ -125,6 +126,8 @@ def run(tool: str, *words: pathlib.Path | str, given: bytes | str = b"", stdout:
             except BaseException:
                 traceback.print_exc()
             finally:
+                for one in multiprocessing.active_children():
+                    one.terminate()
                 sys.stderr.flush()
                 with contextlib.suppress(OSError):
                     sys.stdout.flush()
