@@ -115,7 +115,7 @@ def run(tool: str, *words: pathlib.Path | str, given: bytes | str = b"", stdout:
             for number, file in enumerate((read, stdout or out, said)):
                 os.dup2(file.fileno(), number)
             sys.stdin, sys.stdout, sys.stderr = open(0), open(1, "w"), open(2, "w")
-            sys.argv[1:], status = asked, 1
+            sys.argv[1:], status, others = asked, 1, set(multiprocessing.active_children())
             if by:
                 program.PATH, program.COMMAND = pathlib.Path(by), pathlib.Path("false")
             signal.alarm(120)
@@ -126,7 +126,7 @@ def run(tool: str, *words: pathlib.Path | str, given: bytes | str = b"", stdout:
             except BaseException:
                 traceback.print_exc()
             finally:
-                for one in multiprocessing.active_children():
+                for one in set(multiprocessing.active_children()) - others:
                     one.terminate()
                 sys.stderr.flush()
                 with contextlib.suppress(OSError):
