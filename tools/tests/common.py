@@ -16,6 +16,7 @@ import tempfile
 import time
 import traceback
 import unittest
+import warnings
 from typing import IO, Any
 
 from tools.workbench import command, places
@@ -40,6 +41,12 @@ block 2 thread 1 turns 3 held - kind start worker 1 pc 00100000 end wants 0
 block 3 thread 1 turns 7 held 0 kind adopted worker 0 pc 0010000c end unlocked 0
 block 4 thread 0 turns 2 held - kind on worker 0 pc 00100028 end exit
 block 5 thread 1 turns 2 held - kind on worker 1 pc 00100028 end exit
+"""
+PROFILE = """tclocks profile 1
+lock 0 sections 2 taken 1 adopted 1 granted 0 longest 1 changes 0 home 1
+thread 0 blocks 3 turns 12 moves 0
+thread 1 blocks 3 turns 12 moves 2
+end
 """
 # The same in the form of before, without the program counters.
 BY_HAND_V1 = re.sub(" pc [0-9a-f]{8}", "", BY_HAND).replace("tclocks 2", "tclocks 1")
@@ -118,7 +125,8 @@ def run(tool: str, *words: pathlib.Path | str, given: bytes | str = b"", stdout:
             sys.argv[1:], status, others = asked, 1, set(multiprocessing.active_children())
             if by:
                 program.PATH, program.COMMAND = pathlib.Path(by), pathlib.Path("false")
-            signal.alarm(120)
+            signal.alarm(600)
+            warnings.simplefilter("ignore")  # which a test asks for, and a tool does not
             try:
                 command.main()
             except SystemExit as ended:
@@ -213,6 +221,11 @@ class Folder(unittest.TestCase):
               **more: Any) -> subprocess.Popen[bytes]:
         return subprocess.Popen([*shell, self.root / script, *words], env={**self.environment, **more},
                                 stdin=subprocess.PIPE, stdout=subprocess.PIPE, stderr=subprocess.PIPE)
+
+    def shell(self, text: str) -> subprocess.CompletedProcess[bytes]:
+        """Runs a line of the shell, in which $0 is the command."""
+        return subprocess.run(["sh", "-c", text, self.root / "tclocks"], input=b"x", env=self.environment,
+                              capture_output=True, check=False)
 
     def command(self, *words: str, given: bytes = b"", **more: Any) -> tuple[int, bytes, str]:
         """The status, the output and what was said."""

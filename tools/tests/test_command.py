@@ -60,8 +60,7 @@ class Command(Folder):
 
     def test_closed_streams_are_passed_on(self) -> None:
         for closed, status in (("<&-", 1), (">&-", 1), ("2>&-", 0)):
-            done = subprocess.run(["sh", "-c", f'exec "$0" cat {closed}', self.root / "tclocks"], input=b"x",
-                                  env=self.environment, capture_output=True, check=False)
+            done = self.shell(f'exec "$0" cat {closed}')
             self.assertEqual((done.returncode, done.stdout), (status, b"x" * (not status)))
 
     def test_a_newer_source_is_not_passed_over(self) -> None:
@@ -128,8 +127,7 @@ class Unproved(Folder):
         self.assertEqual(self.command("run", "1", "1", "0", given=given)[1], b"sources: run 1 1 0\n" + given[:1048577])
 
     def test_an_input_that_pauses_is_read_to_its_end(self) -> None:
-        done = subprocess.run(["sh", "-c", '(echo a; sleep 3; echo b) | "$0" run 1 1 0', self.root / "tclocks"],
-                              env=self.environment, capture_output=True, check=False)
+        done = self.shell('(echo a; sleep 3; echo b) | "$0" run 1 1 0')
         self.assertEqual(done.stdout, b"sources: run 1 1 0\na\nb\n")
 
     def test_streams_that_fail_have_the_programs_statuses(self) -> None:
@@ -137,8 +135,7 @@ class Unproved(Folder):
                                      ("run 1 1 0", ">&-", 4), ("demo 1 1", "<&-", 0), ("run 3 1 0", ">&-", 3),
                                      ("stop", ">/dev/full", 1), ("stop", ">&-", 1),
                                      ("replay 1 1 1 0", "<&-", 2), ("profile 1 1 1 0", "</", 2), ("replay 1 1 1 0", ">&-", 4)):
-            done = subprocess.run(["sh", "-c", f'exec "$0" {words} {shell}', self.root / "tclocks"], input=b"x",
-                                  env=self.environment, capture_output=True, check=False)
+            done = self.shell(f'exec "$0" {words} {shell}')
             self.assertEqual(done.returncode, status, (words, shell, done.stderr))
         self.assertEqual(self.left_over(), [])
 

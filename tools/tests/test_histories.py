@@ -16,7 +16,7 @@ from tools.workbench.guest import guestfile, model
 from tools.workbench.judging import rejecting
 from tools.workbench.reports import report, spoil
 from tools.workbench.running import delegation, program
-from .common import BY_HAND, BY_HAND_V1, EXIT, GUEST, GUESTS, NAMES, ONE, PCS, ROOT, TEMPORARY, Case, built, call, elf, history, run, saved
+from .common import BY_HAND, BY_HAND_V1, EXIT, GUEST, GUESTS, NAMES, ONE, PCS, PROFILE, ROOT, TEMPORARY, Case, built, call, elf, history, run, saved
 
 
 class ByHand(Case):
@@ -312,12 +312,8 @@ block 3 thread 1 turns 7 held 0 kind taken worker 1 pc 0010003c end unlocked 0
             self.assertIn(status, (0, 6))
 
     def test_a_profile(self) -> None:
-        self.assertEqual(answer("profile", built(ONE, (0, 0), 1), (2, 100, 4), rejecting.history_of(BY_HAND).decode()), (0, """tclocks profile 1
-lock 0 sections 2 taken 1 adopted 1 granted 0 longest 1 changes 0 home 1
-thread 0 blocks 3 turns 12 moves 0
-thread 1 blocks 3 turns 12 moves 2
-end
-"""))
+        self.assertEqual(answer("profile", built(ONE, (0, 0), 1), (2, 100, 4), rejecting.history_of(BY_HAND).decode()),
+                         (0, PROFILE))
 
     def test_what_is_refused(self) -> None:
         for size, said in ((93, "refused 17 ShortInput"), (51, "refused 1 TooShort"), (91, "refused 9 BadLoad")):

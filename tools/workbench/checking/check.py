@@ -114,9 +114,7 @@ class Shown:
         """Which kind of run there was not, or None."""
         if not self.beside:
             return f"one worker alone ran in each of {report.several(self.runs, 'run')}"
-        if not self.adopted:
-            return f"no section was adopted in {report.several(self.runs, 'run')}"
-        return None
+        return None if self.adopted else f"no section was adopted in {report.several(self.runs, 'run')}"
 
     def __str__(self) -> str:
         return (f"{report.several(self.runs, 'run')}, {self.beside} by two workers or more, "

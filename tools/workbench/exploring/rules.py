@@ -78,9 +78,7 @@ class Rule:
 
     def take(self, *wanted: str) -> str | None:
         """The next token, if it is one of these (any where none are named), else None."""
-        if self.tokens and (not wanted or self.tokens[-1] in wanted):
-            return self.tokens.pop()
-        return None
+        return self.tokens.pop() if self.tokens and (not wanted or self.tokens[-1] in wanted) else None
 
     def joined(self, word: str, read: Callable[[], Value], holds: Callable[[Iterable[int]], int]) -> Value:
         """Parts with a word between, as one."""

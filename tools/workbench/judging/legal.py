@@ -183,8 +183,7 @@ class Run:
     def lines(self, blocks: list[Block]) -> Iterator[str]:
         """A report of these blocks, to its end where each thread has ended."""
         yield from self.header_lines()
-        for block in blocks:
-            yield block.line(self.version)
+        yield from (block.line(self.version) for block in blocks)
         if self.is_over():
             yield from self.ending_lines()
 
@@ -201,9 +200,7 @@ def ending_lines(machine: model.Machine) -> Iterator[str]:
 
 def shown(name: str, block: Block) -> str | int:
     value = getattr(block, name)
-    if name == "held":
-        return report.held_text(value)
-    return f"{value:08x}" if name == "pc" else value
+    return report.held_text(value) if name == "held" else f"{value:08x}" if name == "pc" else value
 
 
 def begin(guest: model.Guest, text: report.Report) -> Run:

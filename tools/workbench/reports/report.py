@@ -79,9 +79,7 @@ class Block(NamedTuple):
     def kept(self) -> tuple[int, ...]:
         """The locks that the thread holds after it."""
         released = self.released
-        if not released:
-            return self.held
-        return tuple(lock for lock in self.held if lock not in released)
+        return tuple(lock for lock in self.held if lock not in released) if released else self.held
 
     @property
     def leaves_free(self) -> bool:
