@@ -4,6 +4,7 @@ from __future__ import annotations
 
 import contextlib
 import json
+import multiprocessing
 import os
 import pathlib
 import re
@@ -15,6 +16,7 @@ import tempfile
 import time
 import traceback
 import unittest
+import warnings
 from typing import IO, Any
 
 from tools.workbench import command, places
@@ -39,6 +41,12 @@ block 2 thread 1 turns 3 held - kind start worker 1 pc 00100000 end wants 0
 block 3 thread 1 turns 7 held 0 kind adopted worker 0 pc 0010000c end unlocked 0
 block 4 thread 0 turns 2 held - kind on worker 0 pc 00100028 end exit
 block 5 thread 1 turns 2 held - kind on worker 1 pc 00100028 end exit
+"""
+PROFILE = """tclocks profile 1
+lock 0 sections 2 taken 1 adopted 1 granted 0 longest 1 changes 0 home 1
+thread 0 blocks 3 turns 12 moves 0
+thread 1 blocks 3 turns 12 moves 2
+end
 """
 # The same in the form of before, without the program counters.
 BY_HAND_V1 = re.sub(" pc [0-9a-f]{8}", "", BY_HAND).replace("tclocks 2", "tclocks 1")
@@ -103,8 +111,9 @@ def elf(name: str) -> str:
 
 def run(tool: str, *words: pathlib.Path | str, given: bytes | str = b"", stdout: IO[bytes] | None = None,
         by: str | None = None) -> subprocess.CompletedProcess[bytes]:
-    """Runs a tool by a copy of this process, which has the modules already; `by` is another program than the built one."""
-    given, asked = given if isinstance(given, bytes) else given.encode("ascii"), [*tool.split(), *map(str, words)]
+    """Runs a tool by a copy of this process, which has the modules already; `by` is another program than the
+    built one."""
+    given, asked = given if isinstance(given, bytes) else given.encode(), [*tool.split(), *map(str, words)]
     with tempfile.TemporaryFile() as read, tempfile.TemporaryFile() as out, tempfile.TemporaryFile() as said:
         read.write(given)
         read.seek(0)
@@ -113,10 +122,11 @@ def run(tool: str, *words: pathlib.Path | str, given: bytes | str = b"", stdout:
             for number, file in enumerate((read, stdout or out, said)):
                 os.dup2(file.fileno(), number)
             sys.stdin, sys.stdout, sys.stderr = open(0), open(1, "w"), open(2, "w")
-            sys.argv[1:], status = asked, 1
+            sys.argv[1:], status, others = asked, 1, set(multiprocessing.active_children())
             if by:
                 program.PATH, program.COMMAND = pathlib.Path(by), pathlib.Path("false")
-            signal.alarm(120)
+            signal.alarm(600)
+            warnings.simplefilter("ignore")  # which a test asks for, and a tool does not
             try:
                 command.main()
             except SystemExit as ended:
@@ -124,6 +134,8 @@ def run(tool: str, *words: pathlib.Path | str, given: bytes | str = b"", stdout:
             except BaseException:
                 traceback.print_exc()
             finally:
+                for one in set(multiprocessing.active_children()) - others:
+                    one.terminate()
                 sys.stderr.flush()
                 with contextlib.suppress(OSError):
                     sys.stdout.flush()
@@ -131,8 +143,8 @@ def run(tool: str, *words: pathlib.Path | str, given: bytes | str = b"", stdout:
         _, status = os.waitpid(child, 0)
         for file in out, said:
             file.seek(0)
-        return subprocess.CompletedProcess(asked, os.WEXITSTATUS(status) if os.WIFEXITED(status) else -os.WTERMSIG(status),
-                                           None if stdout else out.read(), said.read())
+        status = os.WEXITSTATUS(status) if os.WIFEXITED(status) else -os.WTERMSIG(status)
+        return subprocess.CompletedProcess(asked, status, None if stdout else out.read(), said.read())
 
 
 GUEST = saved("one.elf", built(ONE, (0, 0), 1))
@@ -169,8 +181,8 @@ class Case(unittest.TestCase):
 
 
 class Folder(unittest.TestCase):
-    """A checkout with a toolchain and a program that are made up, for the tests of the command tclocks and of the script that
-    builds it."""
+    """A checkout with a toolchain and a program that are made up, for the tests of the command tclocks and of
+    the script that builds it."""
 
     @classmethod
     def setUpClass(cls) -> None:
@@ -187,8 +199,10 @@ class Folder(unittest.TestCase):
             self.write(f"crates/{crate}/src/lib.rt", f"// {crate}\n")
         self.write("guests/exit.elf", "")
         own = "__init__.py", "limits.py", "places.py", "tool.py", "running/__init__.py", "running/program.py"
-        names = "tclocks", "tclocks-build", "CITATION.cff", "tools/__init__.py", *(f"tools/workbench/{name}" for name in own)
-        for folder, some in ((ROOT, names), (ROOT / "tools" / "tests" / "made-up", ("bin/rt", "program", "crates.txt"))):
+        names = ["tclocks", "tclocks-build", "CITATION.cff", "tools/__init__.py"]
+        names += [f"tools/workbench/{name}" for name in own]
+        for folder, some in (ROOT, names), (ROOT / "tools/tests/made-up",
+                                            ["bin/rt", "program", "crates.txt"]):
             for name in some:
                 (self.root / name).parent.mkdir(parents=True, exist_ok=True)
                 shutil.copy(folder / name, self.root / name)
@@ -207,6 +221,11 @@ class Folder(unittest.TestCase):
               **more: Any) -> subprocess.Popen[bytes]:
         return subprocess.Popen([*shell, self.root / script, *words], env={**self.environment, **more},
                                 stdin=subprocess.PIPE, stdout=subprocess.PIPE, stderr=subprocess.PIPE)
+
+    def shell(self, text: str) -> subprocess.CompletedProcess[bytes]:
+        """Runs a line of the shell, in which $0 is the command."""
+        return subprocess.run(["sh", "-c", text, self.root / "tclocks"], input=b"x", env=self.environment,
+                              capture_output=True, check=False)
 
     def command(self, *words: str, given: bytes = b"", **more: Any) -> tuple[int, bytes, str]:
         """The status, the output and what was said."""

@@ -1,5 +1,5 @@
-"""The scripts that measure, by a program that is made up; and sweeps: their table against simulate and summary, and their
-pictures."""
+"""The scripts that measure, by a program that is made up; and sweeps: their table against simulate and
+summary, and their pictures."""
 from __future__ import annotations
 
 import csv
@@ -19,7 +19,7 @@ from tools.workbench.running import delegation
 from .common import BY_HAND, GUEST, GUESTS, MADE_UP, NAMES, ROOT, TEMPORARY, Case, elf, run, saved, script
 
 
-BENCHES = ("run", ()), ("nodes", ("4", "100", "8")), ("replay", ()), ("peer", ()), ("several", ()), ("together", ())
+BENCHES = {"run": (), "nodes": ("4", "100", "8"), "replay": (), "peer": (), "several": (), "together": ()}
 PROGRAM = script("measured", MADE_UP)
 COMPILER = unittest.skipUnless(shutil.which("cc"), "there is no C compiler")
 
@@ -42,7 +42,7 @@ class Bench(Case):
             self.assertEqual(len(guestfile.load(str(path)).guest.entries), 16)
 
     def test_without_the_program(self) -> None:
-        for name, words in BENCHES:
+        for name, words in BENCHES.items():
             self.one_line(run(f"bench {name}", *words, by="/no/such/file"), 2, "./tclocks-build")
             for path in "/no/such/file", "/", __file__:
                 done = run(f"bench {name}", *words, "-p", path)
@@ -60,10 +60,11 @@ exec {ROOT}/workbench run - "$@" --seed 1 $orders 2>/dev/null
                                    "Other node", "Seconds"])
         words = ["`run`", *(f"`nodes {nodes} {bound}`" for nodes in (1, 2) for bound in (0, 4, 256))]
         self.assertEqual([row[:2] for row in rows[2:]], [[name, word] for name in ("counter", "hot-lock") for word in words])
-        swept = self.well("sweep", elf("counter"), "--workers", "2", "--batch", "8", "--nodes", "0,1,2", "--bound", "0,4,256",
-                          "--runs", "1", "--fuel", "200", by=by)
+        swept = self.well("sweep", elf("counter"), "--workers", "2", "--batch", "8", "--nodes", "0,1,2",
+                          "--bound", "0,4,256", "--runs", "1", "--fuel", "200", by=by)
         names = "taken", "adopted", "granted", "changes", "changes_of_node", "other_node"
-        self.assertEqual([row[2:8] for row in rows[2:9]], [[row[name] for name in names] for row in csv.DictReader(swept.splitlines())])
+        self.assertEqual([row[2:8] for row in rows[2:9]],
+                         [[row[name] for name in names] for row in csv.DictReader(swept.splitlines())])
 
     def test_replay(self) -> None:
         rows, told = self.table("replay", "-f", "13,20", "hot-lock", "longest-history", status=3)
@@ -72,7 +73,8 @@ exec {ROOT}/workbench run - "$@" --seed 1 $orders 2>/dev/null
         for line in told:
             self.assertIn("prints another report than the run's", line)
         # One worker runs a thread after another: each has its own first block, and then takes and gives the lock.
-        text = run("run", "-", "1", "20", "0", "--seed", "0", given=guests.GUESTS["hot-lock"]()).stdout.decode()
+        text = run("run", "-", "1", "20", "0", "--seed", "0",
+                   given=guests.GUESTS["hot-lock"]()).stdout.decode()
         history = "".join(line for line in text.splitlines(keepends=True) if line.startswith("block "))
         self.assertEqual(rows[2][1:3], [f"{history.count(chr(10)):,}", f"{len(history):,}"])
 
@@ -89,11 +91,14 @@ exec {ROOT}/workbench run - "$@" --seed 1 $orders 2>/dev/null
 
     def test_several(self) -> None:
         rows, told = self.table("several", "-r", "1", "-f", "20", "-w", "2,1", "hot-lock", "own-locks")
-        self.assertEqual(rows[0], ["Guest", "Seconds: 1 worker", "2 workers", "Processor: 1 worker", "2 workers", *(
-            f"{what}, 2 workers to 1 worker" for what in ("Seconds", "Processor", "Clock", "Loop", "Shared loop")), "Rounds"])
+        names = (f"{what}, 2 workers to 1 worker"
+                 for what in ("Seconds", "Processor", "Clock", "Loop", "Shared loop"))
+        self.assertEqual(rows[0], ["Guest", "Seconds: 1 worker", "2 workers", "Processor: 1 worker", "2 workers",
+                                   *names, "Rounds"])
         self.assertEqual([(row[0], len(row), row[10]) for row in rows[2:]],
                          [("hot-lock", 11, "1 of 1"), ("own-locks", 11, "1 of 1")])
-        self.assertEqual([[bool(cell) for cell in row[7:10]] for row in rows[2:]], [[bool(shutil.which("cc"))] * 3] * 2)
+        self.assertEqual([[bool(cell) for cell in row[7:10]] for row in rows[2:]],
+                         [[bool(shutil.which("cc"))] * 3] * 2)
         self.assertEqual(len(told), 1)
         self.assertIn("least of 1, 2 workers to 1 worker", told[0])
 
@@ -109,7 +114,8 @@ exec {ROOT}/workbench run - "$@" --seed 1 $orders 2>/dev/null
             self.assertEqual([row[10] for row in self.table("several", *more, *words)[0][2:]], ["1 of 1"])
         # No two threads take less time than one.
         done = run("bench several", "-p", PROGRAM, "-q", "0.01", "-w", "1,2", *words)
-        self.one_line(done, 2, "workbench bench several: hot-lock: the processors were not free in one of 30 rounds\n")
+        self.one_line(done, 2,
+                      "workbench bench several: hot-lock: the processors were not free in one of 30 rounds\n")
 
     @COMPILER
     def test_together(self) -> None:
@@ -131,7 +137,8 @@ exec {ROOT}/workbench run - "$@" --seed 1 $orders 2>/dev/null
         """The model takes the peer's history, and comes to the same report."""
         names = ["own-locks", "nested-locks", "sleeps", "memory"]
         rows, told = self.table("peer", "-r", "1", "-f", "100", *names)
-        self.assertEqual([row[:2] for row in rows[2:]], [[name, "1,616"] for name in names])  # 16 threads: 100 turns and a spent one
+        # 16 threads: 100 turns and a spent one
+        self.assertEqual([row[:2] for row in rows[2:]], [[name, "1,616"] for name in names])
         self.assertEqual(len(told), 1)
         self.assertTrue(told[0].startswith("Of 4 guests of bench/, "))
 
@@ -156,7 +163,8 @@ exec {ROOT}/workbench run - "$@" --seed 1 $orders 2>/dev/null
     @COMPILER
     def test_the_peer_refuses(self) -> None:
         peer, file = TEMPORARY / "peer", pathlib.Path(elf("counter")).read_bytes()
-        subprocess.run(["cc", "-O2", "-pthread", "-o", peer, ROOT / "tools/workbench/benches/peer.c"], check=True)
+        subprocess.run(["cc", "-O2", "-pthread", "-o", peer, ROOT / "tools/workbench/benches/peer.c"],
+                       check=True)
         for given in b"", file[:80], bytes(100):
             done = subprocess.run([peer, "100"], input=given, capture_output=True, check=False)
             self.assertEqual((done.returncode, done.stdout, done.stderr), (3, b"", b"peer: this is no guest\n"))

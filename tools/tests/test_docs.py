@@ -1,6 +1,6 @@
-"""What the pages show of runs of the program: the reports that are kept beside the pictures are legal, pictures, excerpts and
-tables are those of these reports, and the commands that the pages name run. And the course: the tool run, the guests of the
-exercises, and the histories and guests of the answers."""
+"""What the pages show of runs of the program: the reports that are kept beside the pictures are legal,
+pictures, excerpts and tables are those of these reports, and the commands that the pages name run. And the
+course: the tool run, the guests of the exercises, and the histories and guests of the answers."""
 from __future__ import annotations
 
 import csv
@@ -92,7 +92,8 @@ class Pages(Case):
 def fewer(text: str) -> str:
     """A command with fewer samples, and a sweep with one short run of each."""
     sweep = r"\./workbench sweep \S+(?!.*--strips)"
-    return MANY.sub("--runs 4", re.sub(f"({sweep})", r"\1 --fuel 2000" + " --runs 1" * ("--runs" not in text), text))
+    return MANY.sub("--runs 4",
+                    re.sub(f"({sweep})", r"\1 --fuel 2000" + " --runs 1" * ("--runs" not in text), text))
 
 
 def commands_of(page: Path) -> list[str]:
@@ -108,9 +109,10 @@ def commands_of(page: Path) -> list[str]:
 
 
 class Commands(Case):
-    """Every command that the pages, the course and its answers name runs as it is written, in a checkout of its own, beside
-    a program that is made up and answers by the model. What wants the proved program, the toolchain or hours, or has a word
-    in capitals for something of the reader's, is looked at for its subcommand alone; of many samples a few are made."""
+    """Every command that the pages, the course and its answers name runs as it is written, in a checkout of
+    its own, beside a program that is made up and answers by the model. What wants the proved program, the
+    toolchain or hours, or has a word in capitals for something of the reader's, is looked at for its
+    subcommand alone; of many samples a few are made."""
 
     def test_each_subcommand_that_is_named_is_there(self) -> None:
         names = {name for name in command.EVERY}
@@ -141,8 +143,9 @@ class Commands(Case):
                     continue
                 seen.add(text)
                 with self.subTest(page=page.name, command=text):
-                    done = subprocess.run(["sh", "-c", fewer(text)], cwd=root, stdin=subprocess.DEVNULL, stdout=subprocess.PIPE,
-                                          stderr=subprocess.PIPE, check=False, timeout=300, env={**os.environ, "HOME": str(TEMPORARY)})
+                    done = subprocess.run(["sh", "-c", fewer(text)], cwd=root, stdin=subprocess.DEVNULL,
+                                          capture_output=True, check=False, timeout=300,
+                                          env={**os.environ, "HOME": str(TEMPORARY)})
                     self.assertEqual(done.returncode, 0, done.stderr.decode()[-300:])
                     self.assertNotIn(b"Traceback", done.stderr)
                 if "hot.elf" in text and "--strips" in text:
@@ -161,7 +164,8 @@ class Run(Case):
     def test_it_is_what_simulate_prints(self) -> None:
         for words, seed in ((("1", "42", "0"), "0"), (("4", "20000", "8"), "3")):
             done = run("run", elf("first"), *words, "--seed", seed)
-            self.assertEqual(done.stdout.decode(), self.well("simulate", elf("first"), *words, "--seed", seed))
+            self.assertEqual(done.stdout.decode(),
+                             self.well("simulate", elf("first"), *words, "--seed", seed))
             self.one_line(done, 0, "by the model")
 
     def test_the_program_where_it_is_built(self) -> None:

@@ -1,8 +1,8 @@
-"""What draw shows of locks, names and long runs: the expected lanes are those of histories on paper. The page that steps
-through a run: its data, compared with what the report says; and, where a browser is there, what it shows of a history on
-paper. And the trace event format, by its rules and by what Perfetto and Chrome's viewer need of it: complete events,
-metadata and flows alone; lanes that have names, numbers of their own, and no two events at once; flows whose two ends lie
-in events."""
+"""What draw shows of locks, names and long runs: the expected lanes are those of histories on paper. The page
+that steps through a run: its data, compared with what the report says; and, where a browser is there, what it
+shows of a history on paper. And the trace event format, by its rules and by what Perfetto and Chrome's viewer
+need of it: complete events, metadata and flows alone; lanes that have names, numbers of their own, and no two
+events at once; flows whose two ends lie in events."""
 from __future__ import annotations
 
 import json
@@ -124,7 +124,7 @@ class InABrowser(Case):
         done = subprocess.run([str(BROWSER), "--headless", "--no-sandbox", "--disable-gpu", "--virtual-time-budget=2000",
                                f"--user-data-dir={TEMPORARY / 'browser'}", "--window-size=1366,768", "--enable-logging=stderr",
                                *(words or ("--dump-dom",)), f"file://{path}"],
-                              stdout=subprocess.PIPE, stderr=subprocess.PIPE, check=True, timeout=300, text=True)
+                              capture_output=True, check=True, timeout=300, text=True)
         self.assertNotIn("CONSOLE", done.stderr)
         return done.stdout, done.stderr
 
@@ -275,11 +275,13 @@ class Names(Case):
             self.assertIn(part, run("draw", "-", "--guest", elf("counter"), form, given=text).stdout.decode())
 
     def test_a_guest_without_symbols(self) -> None:
-        self.assertEqual(run("draw", "-", "--guest", GUEST, given=WAITS).stdout, run("draw", "-", given=WAITS).stdout)
+        self.assertEqual(run("draw", "-", "--guest", GUEST, given=WAITS).stdout,
+                         run("draw", "-", given=WAITS).stdout)
 
     def test_another_guest(self) -> None:
         done = run("draw", "-", "--guest", elf("philosophers"), given=WAITS)
-        self.one_line(done, 3, "the report is of another guest: it has 2 threads and 1 locks, and the guest 5 and 6")
+        self.one_line(done, 3,
+                      "the report is of another guest: it has 2 threads and 1 locks, and the guest 5 and 6")
 
 
 class Pictures(Case):

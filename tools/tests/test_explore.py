@@ -1,5 +1,5 @@
-"""The search of every interleaving: that it misses no end and makes none up, what it answers to rules, and how it is used
-wrongly. And the grader, over folders of guests with known answers."""
+"""The search of every interleaving: that it misses no end and makes none up, what it answers to rules, and
+how it is used wrongly. And the grader, over folders of guests with known answers."""
 from __future__ import annotations
 
 import contextlib
@@ -13,76 +13,40 @@ import subprocess
 import time
 from typing import Any
 
-from tools.workbench import limits, tool
+from tools.workbench import tool
 from tools.workbench.exploring import explore, rules, search, steps
 from tools.workbench.guest import guestfile, made, model
-from tools.workbench.guest.rv32im import encode
 from tools.workbench.judging import rejecting
 from tools.workbench.running import delegation, program
-from .common import COURSE, GUESTS, NAMES, ONE, ROOT, TEMPORARY, Case, built, call, elf, run, saved
+from .common import COURSE, EXIT, GUESTS, NAMES, ONE, ROOT, TEMPORARY, Case, built, call, elf, run, saved
 
 
-# Small guests that are drawn from a seed, and a search of all their interleavings by model.py without any reduction: every
-# block of every thread that can run one is a step, also those that take no lock.
-BASE, NOTED, VALUE, OTHER, STACK = 5, 8, 7, 9, 2  # registers
-EXIT = made.call(limits.EXIT, 0)[1:]
-ANSWER = [encode("addi", 10, NOTED, 0)]  # the exit code is what the thread noted
+# Small guests that are drawn from a seed, and a search of all their interleavings by model.py without any
+# reduction: every block of every thread that can run one is a step, also those that take no lock.
+# x5 is where the data is, x7 and x9 have values, x8 what the thread notes, which becomes its exit code. What
+# is
+# done under a lock whose word is at `at`, and between which numbers `k` is drawn:
+WORK = (
+    ("lw 7 5 {at}; add 7 7 7; addi 7 7 {k}; sw 7 5 {at}", 1, 4),  # 2 * word + k: of two of these the order tells
+    ("lw 7 5 {at}; addi 7 7 {k}; sw 7 5 {at}", -2, 3),  # what the word was is not looked at
+    ("lw 7 5 {at}; add 9 8 8; add 8 9 8; add 8 8 7", 0, 0),  # what is noted becomes 3 times that and the word
+    ("lw 7 5 {at}; andi 7 7 1; beq 7 0 12; sw 0 5 {at}; addi 0 0 0", 0, 0),  # an odd word becomes 0
+    ("lw 7 5 {at}; sw 7 2 -4; sw 7 5 224; lw 9 2 -4; sub 8 8 9", 0, 0),  # by stack and memory of its own
+    ("sb 8 5 {byte}; lh 7 5 {at}; xor 8 8 7", 0, 0),  # a byte is written, and a half read
+    ("add 8 8 10", 0, 0),  # the answer of the LOCK before, where nothing stands between
+    ("SLEEP {k}", 0, 3))
+TWICE, ADD = WORK[:2]
+ANSWER = "addi 10 8 0; EXIT"
 
 
-def load(lock: int) -> list[int]:
-    return [encode("lw", VALUE, BASE, 4 * lock)]
-
-
-def store(lock: int, register: int = VALUE) -> list[int]:
-    return [encode("sw", register, BASE, 4 * lock)]
-
-
-def twice(chance: random.Random, lock: int) -> list[int]:
-    """The word becomes 2 * word + k: what comes of two of these depends on their order."""
-    return load(lock) + [encode("add", VALUE, VALUE, VALUE), encode("addi", VALUE, VALUE, chance.randrange(1, 4))] + store(lock)
-
-
-def add(chance: random.Random, lock: int) -> list[int]:
-    """A number is added to the word, and what it was is not looked at."""
-    return load(lock) + [encode("addi", VALUE, VALUE, chance.randrange(-2, 3))] + store(lock)
-
-
-def note(chance: random.Random, lock: int) -> list[int]:
-    """What the thread notes becomes 3 times that and the word."""
-    return load(lock) + [encode("add", OTHER, NOTED, NOTED), encode("add", NOTED, OTHER, NOTED),
-                         encode("add", NOTED, NOTED, VALUE)]
-
-
-def choose(chance: random.Random, lock: int) -> list[int]:
-    """Where the word is odd it becomes 0, and some more turns are had."""
-    return load(lock) + [encode("andi", VALUE, VALUE, 1), encode("beq", VALUE, 0, 12), *store(lock, 0), encode("addi", 0, 0, 0)]
-
-
-def keep(chance: random.Random, lock: int) -> list[int]:
-    """The word goes to the stack and to memory of the thread's own, and comes back."""
-    return load(lock) + [encode("sw", VALUE, STACK, -4), encode("sw", VALUE, BASE, 224), encode("lw", OTHER, STACK, -4),
-                         encode("sub", NOTED, NOTED, OTHER)]
-
-
-def narrow(chance: random.Random, lock: int) -> list[int]:
-    """A byte of the word is written, and a half of it read."""
-    return [encode("sb", NOTED, BASE, 4 * lock + 1), encode("lh", VALUE, BASE, 4 * lock), encode("xor", NOTED, NOTED, VALUE)]
-
-
-def flag(chance: random.Random, lock: int) -> list[int]:
-    """The answer of the LOCK before, where nothing stands between, is noted."""
-    return [encode("add", NOTED, NOTED, 10)]
-
-
-def sleep(chance: random.Random, lock: int) -> list[int]:
-    return made.call(3, chance.randrange(3))
-
-
-WORK = (twice, add, note, choose, keep, narrow, flag, sleep)
+def one_of(chance: random.Random, lock: int, text: str, low: int, high: int) -> list[int]:
+    """The words of one of WORK."""
+    return made.code(text, at=4 * lock, byte=4 * lock + 1, k=chance.randrange(low, high) if high else 0)
 
 
 def work(chance: random.Random, lock: int) -> list[int]:
-    return [word for _ in range(chance.randrange(1, 3)) for word in chance.choice(WORK)(chance, lock)]
+    return [word for _ in range(chance.randrange(1, 3))
+            for word in one_of(chance, lock, *chance.choice(WORK))]
 
 
 def single(chance: random.Random, locks: int) -> list[int]:
@@ -111,8 +75,8 @@ def hand_over_hand(chance: random.Random, locks: int) -> list[int]:
 def sometimes(chance: random.Random, locks: int) -> list[int]:
     """The last lock is taken only where the first one's word is odd."""
     inner = made.call(1, locks - 1) + work(chance, locks - 1) + made.call(2, locks - 1)
-    return made.call(1, 0) + work(chance, 0) + load(0) + [
-        encode("andi", VALUE, VALUE, 1), encode("beq", VALUE, 0, 4 + 4 * len(inner)), *inner, *made.call(2, 0)]
+    return [*made.call(1, 0), *work(chance, 0),
+            *made.code(f"lw 7 5 0; andi 7 7 1; beq 7 0 {4 + 4 * len(inner)}"), *inner, *made.call(2, 0)]
 
 
 def section(chance: random.Random, locks: int) -> list[int]:
@@ -125,16 +89,10 @@ def end(chance: random.Random, locks: int) -> list[int]:
     held = made.call(1, chance.randrange(locks)) if chance.random() < 0.6 else []
     kind = chance.randrange(9)
     if kind == 0:
-        return held + work(chance, 0) + [encode("ebreak")]
-    if kind == 1:
-        return held + [encode("jal", 0, 0)]
-    if kind == 2:
-        return held + load(locks - 1) + ANSWER + EXIT  # fault 7 but with the last lock
-    if kind == 3:
-        return held + made.call(1, 0) + ANSWER + EXIT  # fault 11 where a lock is held
-    if kind == 4:
-        return held + ANSWER + EXIT
-    return ANSWER + EXIT
+        return held + work(chance, 0) + made.code("ebreak")
+    # A loop; fault 7 but with the last lock; fault 11 where a lock is held; a lock that is held.
+    ends = {1: "jal 0 0", 2: f"lw 7 5 {4 * (locks - 1)};{ANSWER}", 3: f"LOCK 0;{ANSWER}", 4: ANSWER}
+    return (held if kind in ends else []) + made.code(ends.get(kind, ANSWER))
 
 
 def guest(seed: int) -> tuple[bytes, int]:
@@ -145,7 +103,7 @@ def guest(seed: int) -> tuple[bytes, int]:
     entries = []
     for thread in range(threads):
         entries.append((made.CODE + 4 * len(words), chance.randrange(9)))
-        words += [encode("lui", BASE, made.DATA), encode("addi", NOTED, 10, 0)]
+        words += made.code(f"lui 5 {made.DATA}; addi 8 10 0")
         for _ in range(chance.choice((1, 1, 2) if threads == 2 else (1,))):
             words += section(chance, locks)
         words += end(chance, locks)
@@ -156,20 +114,14 @@ def guest(seed: int) -> tuple[bytes, int]:
 
 def stepped(machine: model.Machine, number: int) -> model.Machine:
     """A copy of a machine in which a thread ran a block."""
-    new = copy.copy(machine)
-    new.threads, new.locks = list(machine.threads), [copy.copy(lock) for lock in machine.locks]
-    thread = new.threads[number] = copy.copy(machine.threads[number])
-    thread.x, thread.held, thread.stack = thread.x[:], set(thread.held), bytearray(thread.stack)
-    thread.own = {place: bytearray(content) for place, content in thread.own.items()}
-    for lock in new.locks:
-        lock.bytes = bytearray(lock.bytes)
+    new = copy.deepcopy(machine, {id(machine.guest): machine.guest})
     new.run_block(number)
     return new
 
 
-def key(machine: model.Machine) -> tuple[tuple[tuple[Any, ...], tuple[Any, ...]], tuple[tuple[bytes, int | None, int, int], tuple[bytes, int | None, int, int], tuple[bytes, int | None, int, int]]]:
+def key(machine: model.Machine) -> Any:
     """All that what comes next, and what is told of the end, depends on."""
-    return (tuple((thread.pc, tuple(thread.x), thread.fuel, tuple(sorted(thread.held)), thread.end,  # type: ignore[return-value]
+    return (tuple((thread.pc, tuple(thread.x), thread.fuel, tuple(sorted(thread.held)), thread.end,
                    bytes(thread.stack), *map(bytes, thread.own.values())) for thread in machine.threads),
             tuple((bytes(lock.bytes), lock.owner, lock.broken, lock.sections) for lock in machine.locks))
 
@@ -205,6 +157,15 @@ def attentive() -> None:
     signal.signal(signal.SIGINT, signal.default_int_handler)
 
 
+BEGIN = f"lui 5 {made.DATA};"
+
+
+def of_two(one: list[int], other: list[int], data: list[int]) -> bytes:
+    """The file of two threads with a lock for each word of the data."""
+    return made.elf(made.note([(made.CODE, 0), (made.CODE + 4 * len(one), 0)], [(made.DATA + 4 * lock, 4) for lock in range(len(data))]),
+                    one + other, b"".join(word.to_bytes(4, "little") for word in data), 4 * len(data))
+
+
 def searched(file: bytes, fuel: int, **more: Any) -> search.Search:
     return search.Search(model.Guest(file), fuel, **more)
 
@@ -229,9 +190,9 @@ class EveryInterleaving(Case):
         self.assertLessEqual({"exit", "spent", "fault 7", "fault 11"}, kinds)
 
     def test_blocks_of_the_greatest_length(self) -> None:
-        loop = [encode("addi", 6, 0, 2047), encode("addi", 6, 6, 2), encode("addi", 6, 6, -1), encode("bne", 6, 0, -4)]
-        code = [encode("lui", BASE, made.DATA), *made.call(limits.LOCK, 0), *twice(random.Random(1), 0),
-                *loop, *loop, *twice(random.Random(2), 0), *made.call(limits.UNLOCK, 0), *EXIT]
+        loop = made.code("addi 6 0 2047; addi 6 6 2; addi 6 6 -1; bne 6 0 -4")
+        one, other = (one_of(random.Random(seed), 0, *TWICE) for seed in (1, 2))
+        code = [*made.code(f"{BEGIN} LOCK 0"), *one, *loop, *loop, *other, *made.code("UNLOCK 0; EXIT")]
         _, ends = self.same(built(code, (0, 0), 1), 9000)
         self.assertEqual(len(ends), 1)
         self.assertGreater(next(iter(ends.values())), 8)
@@ -239,21 +200,16 @@ class EveryInterleaving(Case):
     def test_a_return_to_a_place_behind_no_call(self) -> None:
         """Which registers are read again is not known then, so all are kept."""
         for link in steps.LINKS:
-            code = [encode("lui", BASE, made.DATA), *made.call(limits.LOCK, 0), *load(0),
-                    encode("addi", 6, VALUE, 0), *twice(random.Random(1), 0), *made.call(limits.UNLOCK, 0),
-                    encode("auipc", link, 0), encode("addi", link, link, 16), encode("jalr", 0, link, 0), encode("ebreak"),
-                    *made.call(limits.LOCK, 0), *made.call(limits.UNLOCK, 0), encode("addi", 10, 6, 0), *EXIT]
+            code = [*made.code(f"{BEGIN} LOCK 0; lw 7 5 0; addi 6 7 0"), *one_of(random.Random(1), 0, *TWICE), *made.code(
+                "UNLOCK 0; auipc {x} 0; addi {x} {x} 16; jalr 0 {x} 0; ebreak; LOCK 0; UNLOCK 0; addi 10 6 0; EXIT", x=link)]
             found, ends = self.same(built(code, (0, 0), 1), 100)
             self.assertIsNone(found.shares.alone.sections.live)  # type: ignore[union-attr]
             self.assertEqual({tuple(x10 for _, x10 in end.threads) for end in ends}, {(0, 1), (1, 0)})
 
     def test_a_return_by_the_other_link_register(self) -> None:
         """A function is called by x1 and returns by x5, as that of a division does: nothing begins anew."""
-        word, link = VALUE, steps.LINKS[1]
-        code = [encode("lui", 11, made.DATA), *made.call(limits.LOCK, 0), encode("lw", word, 11, 0),
-                encode("jal", 1, 4 * 8), encode("sw", word, 11, 0), *made.call(limits.UNLOCK, 0),
-                encode("addi", 10, word, 0), *EXIT, encode("addi", link, 1, 0),
-                encode("add", word, word, word), encode("addi", word, word, 1), encode("jalr", 0, link, 0)]
+        code = made.code(f"lui 11 {made.DATA}; LOCK 0; lw 7 11 0; jal 1 32; sw 7 11 0; UNLOCK 0; addi 10 7 0; EXIT; "
+                         "addi 5 1 0; add 7 7 7; addi 7 7 1; jalr 0 5 0")
         found, ends = self.same(built(code, (0, 0), 1), 100)
         self.assertIsNotNone(found.shares.alone.sections.live)  # type: ignore[union-attr]
         self.assertEqual({tuple(x10 for _, x10 in end.threads) for end in ends}, {(1, 3), (3, 1)})
@@ -263,33 +219,19 @@ class EveryInterleaving(Case):
         depends on one, and on the other only as the sum that it is."""
         for seed in range(4):
             chance = random.Random(seed)
-            ways = [[encode("add", 7, 7, 9)], [encode("add", 9, 7, 9), encode("addi", 7, 9, 1)],
-                    [encode("sub", 7, 7, 9)], [encode("add", 7, 7, 7), encode("sub", 7, 7, 9)]]
-            code = []
-            for way in (ways[seed], chance.choice(ways)):
-                code.append([encode("lui", BASE, made.DATA), *made.call(limits.LOCK, 0), *made.call(limits.LOCK, 1),
-                             *load(0), encode("lw", OTHER, BASE, 4), *way, *store(0),
-                             *twice(chance, 1), *made.call(limits.UNLOCK, 1), *made.call(limits.UNLOCK, 0),
-                             *made.call(limits.LOCK, 1), *add(chance, 1), *made.call(limits.UNLOCK, 1), *EXIT])
-            file = made.elf(made.note([(made.CODE, 0), (made.CODE + 4 * len(code[0]), 0)],
-                                      [(made.DATA + 4 * lock, 4) for lock in range(2)]), code[0] + code[1], bytes([3, 0, 0, 0, 5, 0, 0, 0]), 8)
-            self.same(file, 100)
+            ways = "add 7 7 9", "add 9 7 9; addi 7 9 1", "sub 7 7 9", "add 7 7 7; sub 7 7 9"
+            code = [[*made.code(f"{BEGIN} LOCK 0; LOCK 1; lw 7 5 0; lw 9 5 4; {way}; sw 7 5 0"), *one_of(chance, 1, *TWICE),
+                     *made.code("UNLOCK 1; UNLOCK 0; LOCK 1"), *one_of(chance, 1, *ADD), *made.code("UNLOCK 1; EXIT")]
+                    for way in (ways[seed], chance.choice(ways))]
+            self.same(of_two(code[0], code[1], [3, 5]), 100)
 
     def test_a_lock_that_is_taken_for_some_bytes_alone(self) -> None:
         """Thread 1 takes lock 1 only where the first word is odd. It is even behind the first step of thread 0,
         which holds lock 1 then; so thread 1 can go on and be the first at lock 2."""
-        call, take, give = made.call, limits.LOCK, limits.UNLOCK
-        begin = [encode("lui", BASE, made.DATA)]
-        one = [*begin, *call(take, 0), *store(0, 0), *call(take, 1), *call(give, 0), *call(take, 2),
-               *load(2), encode("addi", 7, 7, 1), *store(2), *call(give, 1), *call(give, 2), *EXIT]
-        inner = [*call(take, 1), *call(give, 1)]
-        other = [*begin, *call(take, 0), *load(0), encode("andi", 7, 7, 1), encode("beq", 7, 0, 4 + 4 * len(inner)),
-                 *inner, *call(give, 0), *call(take, 2), *load(2), encode("add", 7, 7, 7), *store(2),
-                 *call(give, 2), *EXIT]
-        entries = [(made.CODE, 0), (made.CODE + 4 * len(one), 0)]
-        content = bytes([1, 0, 0, 0, 0, 0, 0, 0, 1, 0, 0, 0])
-        file = made.elf(made.note(entries, [(made.DATA + 4 * lock, 4) for lock in range(3)]), one + other, content, 12)
-        _, ends = self.same(file, 100)
+        one = made.code(f"{BEGIN} LOCK 0; sw 0 5 0; LOCK 1; UNLOCK 0; LOCK 2; lw 7 5 8; addi 7 7 1; sw 7 5 8; UNLOCK 1; UNLOCK 2; EXIT")
+        other = made.code(f"{BEGIN} LOCK 0; lw 7 5 0; andi 7 7 1; beq 7 0 28; LOCK 1; UNLOCK 1; UNLOCK 0; LOCK 2; lw 7 5 8; "
+                          "add 7 7 7; sw 7 5 8; UNLOCK 2; EXIT")
+        _, ends = self.same(of_two(one, other, [1, 0, 1]), 100)
         self.assertEqual({(end.word(2, 0), end.locks[1][1]) for end in ends}, {(3, 1), (3, 2), (4, 1), (4, 2)})
 
     def test_several_processes(self) -> None:
@@ -463,10 +405,8 @@ class Use(Case):
 
     def test_faults_come_first(self) -> None:
         """Thread 0 faults where thread 1 was there before it."""
-        one = [encode("lui", 5, made.DATA), *made.call(limits.LOCK, 0), encode("lw", 7, 5, 0), encode("beq", 7, 0, 8),
-               encode("ebreak"), *made.call(limits.UNLOCK, 0), *EXIT]
-        other = [encode("lui", 5, made.DATA), *made.call(limits.LOCK, 0), encode("sw", 17, 5, 0),
-                 *made.call(limits.UNLOCK, 0), *EXIT]
+        one = made.code(f"{BEGIN} LOCK 0; lw 7 5 0; beq 7 0 8; ebreak; UNLOCK 0; EXIT")
+        other = made.code(f"{BEGIN} LOCK 0; sw 17 5 0; UNLOCK 0; EXIT")
         done = run("explore", saved("fault.elf", built(one + other, (0, len(one)), 1)), "--all")
         text = done.stdout.decode()
         self.says("every interleaving: 2 outcomes, ", done)
@@ -532,7 +472,8 @@ class Grade(Case):
         place = folder("students", {"anna/guest.elf": built(ONE, (0, 0), 1), "ben/guest.elf": built(LOST, (0, 0), 1),
                                     "cleo.elf": built(ONE, (0, 0), 1)[:100], "dora.elf": built(EXIT, (0,), 0)})
         kept = TEMPORARY / "kept"
-        said = self.well("grade", place, "--never", "lock 0 word 0 != 2", "--reach", "lock 0 sections == 2", "--keep", str(kept))
+        said = self.well("grade", place, "--never", "lock 0 word 0 != 2", "--reach", "lock 0 sections == 2",
+                         "--keep", str(kept))
         table = [line.split("  ") for line in said.partition("\n\n")[0].splitlines()]
         self.assertEqual([[cell.strip() for cell in row if cell] for row in table], [
             ["guest", "file", "rule 1", "rule 2", "right"],

@@ -1,5 +1,6 @@
-"""Histories by hand, and those that the model makes; and what `replay` and `profile` answer by rejecting.py: on paper, to
-histories that are changed, and in the exercise on wrong histories, with what ./workbench judge says of the same ones."""
+"""Histories by hand, and those that the model makes; and what `replay` and `profile` answer by rejecting.py:
+on paper, to histories that are changed, and in the exercise on wrong histories, with what ./workbench judge
+says of the same ones."""
 from __future__ import annotations
 
 import collections
@@ -15,7 +16,7 @@ from tools.workbench.guest import guestfile, model
 from tools.workbench.judging import rejecting
 from tools.workbench.reports import report, spoil
 from tools.workbench.running import delegation, program
-from .common import BY_HAND, BY_HAND_V1, EXIT, GUEST, GUESTS, NAMES, ONE, PCS, ROOT, TEMPORARY, Case, built, call, elf, history, run, saved
+from .common import BY_HAND, BY_HAND_V1, EXIT, GUEST, GUESTS, NAMES, ONE, PCS, PROFILE, ROOT, TEMPORARY, Case, built, call, elf, history, run, saved
 
 
 class ByHand(Case):
@@ -267,7 +268,8 @@ class Answers(Case):
                                ("held -", "held 0", "1 4 Block"), ("end exit", "end spent", "1 4 Block"),
                                ("00010054", "00010058", "1 4 Block")):
             for form in ("replay", "profile"):
-                self.assertEqual(answer(form, EXIT_FILE, numbers, OF_EXIT.replace(old, new)), (6, f"rejected {said}\n"), new)
+                self.assertEqual(answer(form, EXIT_FILE, numbers, OF_EXIT.replace(old, new)),
+                                 (6, f"rejected {said}\n"), new)
 
     def test_an_owner(self) -> None:
         """Thread 0 sleeps with lock 0, and thread 1 runs on from its LOCK."""
@@ -310,12 +312,8 @@ block 3 thread 1 turns 7 held 0 kind taken worker 1 pc 0010003c end unlocked 0
             self.assertIn(status, (0, 6))
 
     def test_a_profile(self) -> None:
-        self.assertEqual(answer("profile", built(ONE, (0, 0), 1), (2, 100, 4), rejecting.history_of(BY_HAND).decode()), (0, """tclocks profile 1
-lock 0 sections 2 taken 1 adopted 1 granted 0 longest 1 changes 0 home 1
-thread 0 blocks 3 turns 12 moves 0
-thread 1 blocks 3 turns 12 moves 2
-end
-"""))
+        self.assertEqual(answer("profile", built(ONE, (0, 0), 1), (2, 100, 4), rejecting.history_of(BY_HAND).decode()),
+                         (0, PROFILE))
 
     def test_what_is_refused(self) -> None:
         for size, said in ((93, "refused 17 ShortInput"), (51, "refused 1 TooShort"), (91, "refused 9 BadLoad")):
@@ -323,7 +321,8 @@ end
         most, limits.HISTORY_BYTES = limits.HISTORY_BYTES, len(OF_EXIT)
         self.addCleanup(setattr, limits, "HISTORY_BYTES", most)
         self.assertEqual(answer("profile", EXIT_FILE, (1, 100, 0), OF_EXIT)[0], 0)
-        self.assertEqual(answer("profile", EXIT_FILE, (1, 100, 0), OF_EXIT + "x"), (3, "refused 0 TooLarge\n"))
+        self.assertEqual(answer("profile", EXIT_FILE, (1, 100, 0), OF_EXIT + "x"),
+                         (3, "refused 0 TooLarge\n"))
 
     def test_lines(self) -> None:
         """What is a line and what is none, whatever the guest."""

@@ -1,6 +1,6 @@
-"""What the tools print, and what explain says of chosen blocks, of one block's instructions, of contexts, and of lines of the
-source, where the compiler is there; and products and quotients of the model, against values that come from outside of this
-repository."""
+"""What the tools print, and what explain says of chosen blocks, of one block's instructions, of contexts, and
+of lines of the source, where the compiler is there; and products and quotients of the model, against values
+that come from outside of this repository."""
 from __future__ import annotations
 
 import json
@@ -17,7 +17,7 @@ from tools.workbench import limits
 from tools.workbench.guest import guestfile, model, sources
 from tools.workbench.judging import legal, tracing
 from tools.workbench.reports import report
-from .common import EXIT, FINISHED, GUEST, GUESTS, NAMES, ONE, ROOT, TEMPORARY, Case, built, call, elf, history, run, saved
+from .common import EXIT, FINISHED, GUEST, GUESTS, NAMES, ONE, PROFILE, ROOT, TEMPORARY, Case, built, call, elf, history, run, saved
 
 
 class Explanations(Case):
@@ -98,12 +98,7 @@ class Tables(Case):
         self.assertEqual({name: counts[name] for name in ("workers", "fuel", "batch")},
                          {"workers": 2, "fuel": 100, "batch": 4})
         self.says("\n2,100,4,lock,0,adopted,1\n", run("summary", "-", "--csv", given=text))
-        self.assertEqual(run("summary", "-", "--profile", given=text).stdout.decode(), """tclocks profile 1
-lock 0 sections 2 taken 1 adopted 1 granted 0 longest 1 changes 0 home 1
-thread 0 blocks 3 turns 12 moves 0
-thread 1 blocks 3 turns 12 moves 2
-end
-""")
+        self.assertEqual(self.well("summary", "-", "--profile", given=text), PROFILE)
 
     def test_one_worker_moves_nothing(self) -> None:
         """Two locks, held together, by one thread: five blocks of 2, 3, 4, 3 and 2 turns."""
@@ -156,11 +151,6 @@ end
             self.assertTrue(picture.startswith("<svg") and picture.endswith("</svg>\n"))
             self.assertNotIn("<script", picture)
             self.assertIn("away from the thread", picture)
-            trace = json.loads(run("draw", "-", "--trace", given=text).stdout)
-            blocks = text.count("\nblock ")
-            by_worker = [event for event in trace["traceEvents"] if event["pid"] == 2 and event["ph"] == "X"]
-            self.assertEqual(len(by_worker), blocks)
-            self.assertIn("thread 0", run("draw", "-", "--text", given=text).stdout.decode())
 
     def test_draw_by_hand(self) -> None:
         lanes = run("draw", "-", "--text", given=FINISHED).stdout.decode()
@@ -331,6 +321,6 @@ class OfTheCompiler(Case):
         bare.mkdir()
         for name in ("sh", "python3", "readlink"):
             (bare / name).symlink_to(shutil.which(name) or "/none")
-        done = subprocess.run([ROOT / "workbench", "explain", path, "-"], input=report, capture_output=True, check=False,
-                              env={"PATH": str(bare)})
+        done = subprocess.run([ROOT / "workbench", "explain", path, "-"], input=report, capture_output=True,
+                              check=False, env={"PATH": str(bare)})
         self.one_line(done, 0, "is on the PATH to read it")

@@ -23,7 +23,7 @@ GROUPS: Tuple[Tuple[str, Tuple[Subcommand, ...]], ...] = (
         Subcommand("summary", "reports.counts", "count what a report says, by lock, by thread and by worker"),
         Subcommand("explain", "judging.explain", "say of a file what it has, of a report why each block came"))),
     ("judge", (
-        Subcommand("judge", "judging.judge", "say whether a report is that of a legal run"),
+        Subcommand("judge", "judging.legal", "say whether a report is that of a legal run"),
         Subcommand("replay", "judging.replay", "have the history of a report run again"),
         Subcommand("finish", "judging.finish", "judge a history that was written by hand, and print the whole report"))),
     ("explore", (
@@ -65,7 +65,8 @@ def show_help(words: List[str]) -> int:
     """Prints all subcommands by group, or says that words are wrong."""
     if words[:1] not in (["--help"], ["-h"], ["help"]):
         find(words)
-    print(USAGE, "", "Tools over guests, reports and the program tclocks. Statuses are those of the program.", sep="\n")
+    print(USAGE, "", "Tools over guests, reports and the program tclocks. Statuses are those of the program.",
+          sep="\n")
     for title, group in GROUPS:
         print(f"\n{title}:", *(f"  {one.name:{max(map(len, EVERY))}}  {one.line}" for one in group), sep="\n")
     return tool.DONE

@@ -73,7 +73,8 @@ def opened(path: Path | str) -> Iterator[IO[bytes]]:
         with open(path, "rb") if path != "-" else sys.stdin.buffer as file:
             yield file
     except OSError as error:
-        raise Trouble(INPUT, f"{'standard input' if path == '-' else path}: {error.strerror or error}") from None
+        raise Trouble(INPUT,
+                      f"{'standard input' if path == '-' else path}: {error.strerror or error}") from None
 
 
 @contextlib.contextmanager
@@ -134,7 +135,8 @@ def run(name: str, main: Callable[[list[str]], int | None], words: list[str]) ->
         status = main(words) or DONE
         sys.stdout.flush()
     except Trouble as trouble:
-        with contextlib.suppress(OSError, AttributeError):  # what was printed before; the trouble is what it ends with
+        # What was printed before is written; the trouble is what it ends with.
+        with contextlib.suppress(OSError, AttributeError):
             sys.stdout.flush()
         status = ended(name, trouble.status, str(trouble))
     except BrokenPipeError:

@@ -56,9 +56,10 @@ def add_list(parser: tool.Words, name: str, usual: list[int], says: str, least: 
                         type=lambda word: [*map(one, word.split(","))], help=f"{says} ({','.join(map(str, usual))})")
 
 
-def parsed(parser: tool.Words, given: list[str], known: Iterable[str], cores: Iterable[int] = ()) -> argparse.Namespace:
-    """What the words ask for, of guests that are known; the program that is asked for is the one that runs from here on.
-    Trouble where it is not there, or was not built."""
+def parsed(parser: tool.Words, given: list[str], known: Iterable[str],
+           cores: Iterable[int] = ()) -> argparse.Namespace:
+    """What the words ask for, of guests that are known; the program that is asked for is the one that runs
+    from here on. Trouble where it is not there, or was not built."""
     asked = parser.parse_intermixed_args(given)
     wrong = [name for name in asked.guests if name not in known]
     if wrong:

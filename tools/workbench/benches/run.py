@@ -70,7 +70,8 @@ def instructions(name: str, asked: Namespace, how: Counter | None) -> tuple[floa
 def ran(name: str, workers: int, asked: Namespace) -> tuple[process.Took, tuple[int, int, int]] | None:
     """One run of a guest: what it took, and its turns, blocks and bytes of report. None where it did not end with
     status 0."""
-    with process.over(guests.GUESTS[name](), ("run", workers, asked.fuel, asked.batch)) as (status, took, written):
+    words = "run", workers, asked.fuel, asked.batch
+    with process.over(guests.GUESTS[name](), words) as (status, took, written):
         if status:
             print(f"{name}, {report.several(workers, 'worker')} ended with status {status}")
             return None

@@ -114,9 +114,7 @@ class Shown:
         """Which kind of run there was not, or None."""
         if not self.beside:
             return f"one worker alone ran in each of {report.several(self.runs, 'run')}"
-        if not self.adopted:
-            return f"no section was adopted in {report.several(self.runs, 'run')}"
-        return None
+        return None if self.adopted else f"no section was adopted in {report.several(self.runs, 'run')}"
 
     def __str__(self) -> str:
         return (f"{report.several(self.runs, 'run')}, {self.beside} by two workers or more, "
@@ -175,15 +173,18 @@ def check_types() -> bool:
 
 def check_tools() -> bool:
     """Runs the files of tests/ at the same time."""
-    runs = [subprocess.Popen([sys.executable, "-m", "unittest", "-q", f"tools.tests.{path.stem}"], cwd=places.ROOT,
+    runs = [subprocess.Popen([sys.executable, "-m", "unittest", "-v", f"tools.tests.{path.stem}"], cwd=places.ROOT,
                              stdout=subprocess.PIPE, stderr=subprocess.STDOUT, text=True)
             for path in sorted((places.ROOT / "tools" / "tests").glob("test_*.py"))]
-    failed = 0
+    failed, left_out = 0, set()
     for tests in runs:
         said = tests.communicate()[0]
+        left_out.update(re.findall(r" skipped ['\"](.*)['\"]$", said, re.M))
         if tests.returncode:
             failed += 1
-            print(said, end="")
+            print(said[max(0, said.find("=" * 70)):], end="")
+    for why in sorted(left_out):
+        print(f"tools: some tests are left out: {why}")
     print(f"tools: {'FAILED' if failed else 'passed'}, {len(runs)} files of tests", flush=True)
     return not failed
 

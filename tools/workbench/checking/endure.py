@@ -48,8 +48,8 @@ def need(holds: object, text: str) -> None:
 def sleeping(threads: int) -> bytes:
     """The largest guest, with 32 threads: each takes the last four of 32 locks and sleeps with them
     until its fuel is spent, in blocks of one turn. The data fill the memory that a file may have."""
-    words = [word for lock in range(28, 32) for word in made.call(limits.LOCK, lock)]
-    words += made.call(limits.SLEEP, 0)[:2] + [made.ECALL] * limits.RUN["fuel"][1]
+    words = made.code("LOCK 28; LOCK 29; LOCK 30; LOCK 31; addi 10 0 0; addi 17 0 3")
+    words += [made.ECALL] * limits.RUN["fuel"][1]
     memory = limits.FILE_BYTES - 4 * len(words)
     guards = [(made.DATA + 4 * lock, 4) for lock in range(limits.GUARDS[2])]
     return made.elf(made.note([(made.CODE, 0)] * threads, guards, 2), words, b"", memory)

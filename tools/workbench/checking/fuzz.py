@@ -86,8 +86,9 @@ class Draw(random.Random):
             words += draw() if draw else self.section(locks)
             if self.random() < 0.03:
                 number = self.choice((limits.LOCK, limits.UNLOCK, limits.SLEEP, 4))
-                sleep = self.choice((0, 1, 9, limits.SLEPT, limits.SLEPT + 1))
-                words += made.call(number, sleep if number == limits.SLEEP else self.randrange(5)) + self.access()
+                value = self.choice((0, 1, 9, limits.SLEPT, limits.SLEPT + 1))
+                value = value if number == limits.SLEEP else self.randrange(5)
+                words += made.call(number, value) + self.access()
         return words + made.call(limits.EXIT, 0)
 
     def guest(self) -> bytes:
@@ -133,7 +134,8 @@ def judge_histories(file: Any, options: Any, text: Any, draw: Any, kept: Any) ->
     history = rejecting.history_of(text)
     blocks, _ = rejecting.read(history)
     rejecting.ask_both(file, options, history, kept)
-    return rejecting.ask_both(file, options, draw.choice(spoil.FORMS)(draw, blocks).encode("ascii"), kept).reason
+    changed = draw.choice(spoil.FORMS)(draw, blocks).encode("ascii")
+    return rejecting.ask_both(file, options, changed, kept).reason
 
 
 def main(words: list[str]) -> int | None:

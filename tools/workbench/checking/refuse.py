@@ -85,9 +85,7 @@ def wrong_in(case: Case, ended: Ended, kept: int) -> str | None:
         return f"it ended with status {ended.status} and said {ended.said[:200]!r}"
     if not (case.is_whole(ended) or ended.status == 5 and not ended.written and ended.refused):
         return f"status {ended.status} with {len(ended.written)} bytes written"
-    if ended.kept > kept:
-        return f"{ended.kept} pieces of memory were not given back"
-    return None
+    return f"{ended.kept} pieces of memory were not given back" if ended.kept > kept else None
 
 
 def refuse_each(library: pathlib.Path, case: Case, times: int, later: bool) -> tuple[int, int, bool]:

@@ -155,14 +155,15 @@ class Picture:
     def svg(self, locks: int) -> str:
         defined = "<defs>"
         for lock in range(len(COLOURS), locks):  # what tells locks of one colour apart
-            defined += (f'<pattern id="p{lock}" width="6" height="6" patternUnits="userSpaceOnUse"><rect width="6" height="6" '
-                        f'fill="{COLOURS[lock % len(COLOURS)]}"/>{PATTERNS[lock // len(COLOURS)]}</pattern>')
+            defined += (f'<pattern id="p{lock}" width="6" height="6" patternUnits="userSpaceOnUse">'
+                        f'<rect width="6" height="6" fill="{COLOURS[lock % len(COLOURS)]}"/>{PATTERNS[lock // len(COLOURS)]}</pattern>')
         defined += "</defs>"
         return document(self.width, self.height + 10, STYLE, [defined, *self.parts], self.title)
 
 
 def items(names: names.Names, workers: int) -> Iterator[tuple[str, str]]:
-    """The parts of the legend with their texts; the last ones are of the lanes of locks, where there are some."""
+    """The parts of the legend with their texts; the last ones are of the lanes of locks, where there are
+    some."""
     yield box(0, 0, UNIT, HEIGHT, PLAIN, "on"), "no lock held (s: the thread's start)"
     for lock in range(len(names.locks)):
         yield box(0, 0, UNIT, HEIGHT, fill(lock)), names.lock(lock)

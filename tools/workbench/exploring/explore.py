@@ -38,6 +38,10 @@ class Outcome:
         self.lines, self.command = lines, command
         self.counts: Counter[str] = Counter()
 
+    def seen(self) -> str:
+        return " and ".join(f"{count} by the {name}" for name,
+                            count in self.counts.items()) + f", as of {self.command}"
+
 
 def end_of(lines: list[str]) -> rules.End:
     """How a whole report says that the guest ended."""
@@ -63,24 +67,20 @@ def cells(guest: model.Guest, end: rules.End) -> Iterator[tuple[str, str]]:
             yield f"lock {number} word {at // 4} ({guest.spans[number].start + at:08x})", f"{value} ({value:#x})"
 
 
-def by_program(path: str, fuel: int, runs: int) -> Iterator[tuple[list[str], str]]:
-    """Reports of the built program with their commands."""
-    file = guestfile.read(path)
+def runs_of(name: str, guest: model.Guest, asked: Namespace, runs: int, seed: int) -> Iterator[tuple[list[str], str]]:
+    """Reports by the program or by the model, with their commands."""
+    file = guestfile.read(asked.guest)
     for i in range(runs):
         workers, batch = OPTIONS[i % len(OPTIONS)]
-        words = f"run {workers} {fuel} {batch}"
-        status, text = program.run(tuple(words.split()), file)
-        if status:
-            raise tool.Trouble(tool.WRONG, f"./tclocks {words} ended with status {status}")
-        yield text.splitlines(), f"./tclocks {words} < {path}"
-
-
-def by_model(path: str, guest: model.Guest, fuel: int, runs: int, seed: int) -> Iterator[tuple[list[str], str]]:
-    """Reports of the model with their commands."""
-    for i in range(runs):
-        workers, batch = OPTIONS[i % len(OPTIONS)]
-        run, blocks = delegation.delegated(guest, fuel, workers, batch, seed + i)
-        yield list(run.lines(blocks)), f"./workbench simulate {path} {workers} {fuel} {batch} --seed {seed + i}"
+        numbers = f"{workers} {asked.fuel} {batch}"
+        if name == "model":
+            run, blocks = delegation.delegated(guest, asked.fuel, workers, batch, seed + i)
+            yield list(run.lines(blocks)), f"./workbench simulate {asked.guest} {numbers} --seed {seed + i}"
+        else:
+            status, text = program.run(("run", *numbers.split()), file)
+            if status:
+                raise tool.Trouble(tool.WRONG, f"./tclocks run {numbers} ended with status {status}")
+            yield text.splitlines(), f"./tclocks run {numbers} < {asked.guest}"
 
 
 def show(guest: model.Guest, ends: list[rules.End], most: int, tell: Callable[..., Any]) -> None:
@@ -161,7 +161,8 @@ def show_all(guest: model.Guest, found: search.Search, asked: Namespace) -> None
     def tell(place: int) -> str:
         way = ends[place][1]()
         shown, more = " ".join(map(str, way.threads[:SHOWN])), len(way.threads) - SHOWN
-        return f"{several(way.blocks, 'block')}, sections of threads {shown or '-'}" + (f" .. ({more} more)" if more > 0 else "")
+        shown += f" .. ({more} more)" if more > 0 else ""
+        return f"{several(way.blocks, 'block')}, sections of threads {shown or '-'}"
     if ends:
         show(guest, [end for end, _ in ends], asked.most, tell)
     if asked.keep:
@@ -255,21 +256,20 @@ def compare(guest: model.Guest, found: search.Search, asked: Namespace) -> None:
             raise tool.Trouble(tool.WRONG, f"the search has not the outcome of {outcome.command}")
 
 
-def sampled(guest: model.Guest, asked: Namespace, before: str, behind: str) -> list[tuple[rules.End, Outcome]]:
-    """Looks at some runs, and says in a line how many of whom. Answers their outcomes, by how they end: those with faults
-    first, then those seen most often."""
+def sampled(guest: model.Guest, asked: Namespace, before: str,
+            behind: str) -> list[tuple[rules.End, Outcome]]:
+    """Looks at some runs, and says in a line how many of whom. Answers their outcomes, by how they end: those
+    with faults first, then those seen most often."""
     why = None if asked.model else program.missing()
     if why:
         tool.note("explore", f"{why}; so the model alone makes runs")
     runs, seed = asked.runs or 32, 1 if asked.seed is None else asked.seed
-    sources = [("model", by_model(asked.guest, guest, asked.fuel, runs, seed))]
-    if not (asked.model or why):
-        sources.insert(0, ("program", by_program(asked.guest, asked.fuel, runs)))
+    names = ["program", "model"] if not (asked.model or why) else ["model"]
     outcomes: dict[rules.End, Outcome] = {}
-    for name, some in sources:
-        for lines, command in some:
+    for name in names:
+        for lines, command in runs_of(name, guest, asked, runs, seed):
             outcomes.setdefault(end_of(lines), Outcome(lines, command)).counts[name] += 1
-    print(f"{before}samples, {' and '.join(f'{runs} runs by the {name}' for name, _ in sources)}: "
+    print(f"{before}samples, {' and '.join(f'{runs} runs by the {name}' for name in names)}: "
           f"{several(len(outcomes), 'outcome')} seen{behind}")
     return sorted(outcomes.items(), key=lambda item: (*item[0].order()[:3], -sum(item[1].counts.values())))
 
@@ -277,8 +277,7 @@ def sampled(guest: model.Guest, asked: Namespace, before: str, behind: str) -> l
 def samples(guest: model.Guest, asked: Namespace) -> None:
     """Prints the outcomes of some runs."""
     outcomes = sampled(guest, asked, "", "; there may be others (--all looks at every interleaving)")
-    show(guest, [end for end, _ in outcomes], asked.most, lambda place: " and ".join(
-        f"{count} by the {name}" for name, count in outcomes[place][1].counts.items()) + f", as of {outcomes[place][1].command}")
+    show(guest, [end for end, _ in outcomes], asked.most, lambda place: outcomes[place][1].seen())
     if asked.keep:
         keep(asked.keep, (outcome.lines for _, outcome in outcomes))
 

@@ -27,7 +27,8 @@ from .. import limits, places, tool
 from ..guest import guestfile, model
 from . import explore, rules, search, sections
 
-ANSWERS = {"never": ("broken", "holds"), "reach": ("reachable", "never")}  # where an interleaving ends so, and where none does
+# Where an interleaving ends so, and where none does.
+ANSWERS = {"never": ("broken", "holds"), "reach": ("reachable", "never")}
 RIGHT = ("holds", "reachable")
 SOURCES = (".c", ".S")
 

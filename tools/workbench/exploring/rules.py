@@ -78,9 +78,7 @@ class Rule:
 
     def take(self, *wanted: str) -> str | None:
         """The next token, if it is one of these (any where none are named), else None."""
-        if self.tokens and (not wanted or self.tokens[-1] in wanted):
-            return self.tokens.pop()
-        return None
+        return self.tokens.pop() if self.tokens and (not wanted or self.tokens[-1] in wanted) else None
 
     def joined(self, word: str, read: Callable[[], Value], holds: Callable[[Iterable[int]], int]) -> Value:
         """Parts with a word between, as one."""
@@ -90,10 +88,7 @@ class Rule:
         return parts[0] if len(parts) == 1 else lambda end: holds(part(end) for part in parts)
 
     def either(self) -> Value:
-        return self.joined("or", self.both, any)
-
-    def both(self) -> Value:
-        return self.joined("and", self.negated, all)
+        return self.joined("or", lambda: self.joined("and", self.negated, all), any)
 
     def negated(self) -> Value:
         if self.take("not"):

@@ -109,7 +109,8 @@ class Share:
                 if section:
                     ended, new = False, self.sections.behind(state, sections.NAME * thread, section)
                     if new not in seen:
-                        found[self.owner(new)].setdefault(count + section.count, {}).setdefault(new, place + thread)
+                        states = found[self.owner(new)].setdefault(count + section.count, {})
+                        states.setdefault(new, place + thread)
             if ended:
                 self.ends.append((state, len(self.whence) - 1, count))
         if waiting:

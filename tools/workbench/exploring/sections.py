@@ -83,8 +83,10 @@ class Node:
     __slots__ = ("known", "places", "after")
 
     def __init__(self, above: Node | None, places: list[tuple[int, int, int, int]]) -> None:
-        self.known: frozenset[tuple[int, int, int, int]] = frozenset(places) | (above.known if above else frozenset())
-        self.places: list[tuple[int, int, int, int]] = []  # as few spans: start and stop of the lock's name, and of the bytes
+        self.known: frozenset[tuple[int, int, int, int]] = frozenset(places).union(above.known if above
+                                                                                   else ())
+        # As few spans: start and stop of the lock's name, and of the bytes.
+        self.places: list[tuple[int, int, int, int]] = []
         for start, stop, low, high in sorted(places):
             if self.places and self.places[-1][:2] == (start, stop) and self.places[-1][3] == low:
                 low = self.places.pop()[2]

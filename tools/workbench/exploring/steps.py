@@ -69,13 +69,13 @@ def is_return(what: rv32im.Instruction) -> bool:
 
 
 class Live:
-    """Which registers a guest's code can still read, by its addresses, as bits: a register that is written before it is read
-    again, on every way on, has a value that nothing depends on.
+    """Which registers a guest's code can still read, by its addresses, as bits: a register that is written
+    before it is read again, on every way on, has a value that nothing depends on.
 
     Every branch is taken to go both ways, and a return (jalr x0,0(x1), or x5, which functions that a compiler
-    calls for a division return by) to every place behind a call; where a return goes elsewhere, `expect` says so,
-    and nothing of this may be used. At other indirect jumps all registers count as read. x10 always does, since it
-    is told of an ended thread, and it can end anywhere.
+    calls for a division return by) to every place behind a call; where a return goes elsewhere, `expect` says
+    so, and nothing of this may be used. At other indirect jumps all registers count as read. x10 always does,
+    since it is told of an ended thread, and it can end anywhere.
     """
 
     def __init__(self, guest: model.Guest) -> None:

@@ -52,6 +52,7 @@ def lock_names(file: guestfile.GuestFile) -> list[str]:
         name, _, offset = sources.printable(file.name(start)).partition("+0x")
         found.append((name, int(offset or "0", 16), length))
         places.setdefault(name, []).append(found[-1][1:])
-    is_array = {name: name and len(some) > 1 and all(length == some[0][1] and at % length == 0 for at, length in some)
-                for name, some in places.items()}
-    return [f"{name}[{at // length}]" if is_array[name] else name + (f"+{at:#x}" if at else "") for name, at, length in found]
+    arrays = [name for name, some in places.items() if name and len(some) > 1
+              and all(length == some[0][1] and at % length == 0 for at, length in some)]
+    return [f"{name}[{at // length}]" if name in arrays else name + (f"+{at:#x}" if at else "")
+            for name, at, length in found]

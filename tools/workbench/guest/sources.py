@@ -54,10 +54,10 @@ class Sources:
         asked = "".join(f"{address:#x}\n" for where in self.code for address in where[::4])
         try:
             done = subprocess.run([reader, "-a", "-i", "-e", self.path], input=asked.encode("ascii"),
-                                  stdout=subprocess.PIPE, stderr=subprocess.PIPE, check=False, timeout=SECONDS)
+                                  capture_output=True, check=False, timeout=SECONDS)
         except (OSError, subprocess.TimeoutExpired):
             return {}
-        return {int(address, 16): [Place(base(name), int(line)) for name, line in FRAME.findall(said)
+        return {int(address, 16): [Place(name.replace("\\", "/").rsplit("/", 1)[-1], int(line)) for name, line in FRAME.findall(said)
                                    if name != "??" and int(line)]
                 for address, said in ANSWER.findall(done.stdout.decode("utf-8", "replace"))}
 
@@ -79,10 +79,6 @@ class Sources:
             self.texts[place.file] = next(filter(None, read), [])
         text = self.texts[place.file]
         return text[place.line - 1].strip() if 0 < place.line <= len(text) else ""
-
-
-def base(name: str) -> str:
-    return name.replace("\\", "/").rsplit("/", 1)[-1]
 
 
 def printable(text: str) -> str:

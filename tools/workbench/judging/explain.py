@@ -73,7 +73,8 @@ class Explainer:
             if self.chosen.block(block):
                 print("\n".join(said))
         for number, thread in enumerate(self.run.machine.threads):
-            if thread.end is None and self.chosen.thread in (None, number) and self.chosen.lock is self.chosen.last is None:
+            is_chosen = self.chosen.thread in (None, number) and self.chosen.lock is self.chosen.last is None
+            if thread.end is None and is_chosen:
                 print(f"  thread {number} has not ended: it goes on at {reasons.start_text(self.file, thread, self.lines)}")
         if self.contexts:
             print(f"In all blocks: {self.contexts.total()}.")
@@ -109,7 +110,8 @@ def explain_report(file: guestfile.GuestFile, text: report.Report, asked: argpar
     explainer.all()
     for number in (asked.trace, asked.block and asked.block[0]):
         if number is not None and number >= explainer.run.count:
-            raise tool.Trouble(tool.WRONG, f"the report has {report.several(explainer.run.count, 'block')}, and no block {number}")
+            count = report.several(explainer.run.count, "block")
+            raise tool.Trouble(tool.WRONG, f"the report has {count}, and no block {number}")
 
 
 def said_of(words: list[str]) -> str:

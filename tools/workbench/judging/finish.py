@@ -21,8 +21,8 @@ REST = re.compile(r"(thread \d+ (exit|fault|spent)|x\d+ |lock |data |end$)")
 
 
 class Line:
-    """A line's parts: numbers and texts by name, and where it stands. It may have the parts of a block line, in their order
-    or another, with or without `block` and the stamp, and needs no more than its thread."""
+    """A line's parts: numbers and texts by name, and where it stands. It may have the parts of a block line,
+    in their order or another, with or without `block` and the stamp, and needs no more than its thread."""
 
     def __init__(self, number: int, text: str) -> None:
         self.number = number
@@ -66,8 +66,8 @@ class Line:
 
 
 class History:
-    """A history that was written by hand: a header, where there is one, whose lines may be missing, and the lines of
-    blocks. What stands behind the blocks is not read."""
+    """A history that was written by hand: a header, where there is one, whose lines may be missing, and the
+    lines of blocks. What stands behind the blocks is not read."""
 
     def __init__(self, lines: Iterable[str]) -> None:
         self.header: dict[str, int] = {}
@@ -153,4 +153,5 @@ def main(words: list[str]) -> None:
     print(*run.lines(blocks), sep="\n")
     if not run.is_over():
         sys.stdout.flush()
-        print(f"# legal so far, {run.count} blocks; what could come next:", *possible(run), sep="\n", file=sys.stderr)
+        print(f"# legal so far, {run.count} blocks; what could come next:", *possible(run), sep="\n",
+              file=sys.stderr)

@@ -5,8 +5,8 @@ from __future__ import annotations
 import copy
 from typing import Iterable, Iterator
 
-from .. import limits
-from ..guest import model
+from .. import limits, tool
+from ..guest import guestfile, model
 from ..reports import report
 from ..reports.report import Block, Wrong
 
@@ -183,8 +183,7 @@ class Run:
     def lines(self, blocks: list[Block]) -> Iterator[str]:
         """A report of these blocks, to its end where each thread has ended."""
         yield from self.header_lines()
-        for block in blocks:
-            yield block.line(self.version)
+        yield from (block.line(self.version) for block in blocks)
         if self.is_over():
             yield from self.ending_lines()
 
@@ -201,9 +200,7 @@ def ending_lines(machine: model.Machine) -> Iterator[str]:
 
 def shown(name: str, block: Block) -> str | int:
     value = getattr(block, name)
-    if name == "held":
-        return report.held_text(value)
-    return f"{value:08x}" if name == "pc" else value
+    return report.held_text(value) if name == "held" else f"{value:08x}" if name == "pc" else value
 
 
 def begin(guest: model.Guest, text: report.Report) -> Run:
@@ -239,3 +236,32 @@ def replay_whole(guest: model.Guest, text: str) -> model.Machine:
     if not whole:
         raise Wrong("the report stops early")
     return run.machine
+
+
+JUDGE = """Says whether a report is that of a legal run, or which block or line is not, and why.
+
+A report that stops behind a block line is judged so far. The statuses are those of
+guests/README.md: 0 where it is legal, 3 where it isn't.
+
+What the program's theorem says of each report that it writes, the judge asks of this one: that the
+history is a run under ordinary mutexes, that sections obey the batch rule and are passed on to other
+threads, that an adopted section is the next block of the worker that released the lock, that a cut
+parts no thread from its worker, and that threads and locks end as printed. One thing it asks beyond
+the theorem: that the thread of a granted section came to its LOCK before the next block of the worker
+that released the lock.
+"""
+
+
+def main(words: list[str]) -> None:
+    parser = tool.words("judge", JUDGE, "guest")
+    parser.add_argument("report", metavar="REPORT", nargs="?", default="-",
+                        help="a report; standard input where it is left out")
+    asked = parser.parse_intermixed_args(words)
+    guest = guestfile.load(asked.guest).guest
+    try:
+        run, whole = replay(guest, tool.read_lines(asked.report))
+    except report.NoReport as answer:
+        raise tool.Trouble(tool.WRONG, f"{answer} (./workbench explain says more)") from None
+    except Wrong as wrong:
+        raise tool.Trouble(tool.WRONG, f"not legal: {wrong}") from None
+    print("a legal run, to the end of every thread" if whole else f"legal so far, {run.count} blocks")

@@ -105,7 +105,8 @@ def region(file: guestfile.GuestFile, address: int) -> str:
 def target(file: guestfile.GuestFile, thread: model.Thread, _: tuple[int, ...]) -> str:
     what = rv32im.decode(file.guest.word(thread.pc) or 0)
     assert what
-    address = ((thread.x[what.a] + what.value) & ~1 if what.name == "jalr" else thread.pc + what.value) % 2**32
+    address = ((thread.x[what.a] + what.value) & ~1 if what.name == "jalr"
+               else thread.pc + what.value) % 2**32
     return f"it goes to {address:08x}, which is no multiple of 4"
 
 

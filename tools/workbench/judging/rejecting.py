@@ -89,7 +89,8 @@ class Checker:
         if batch.last is None:
             return block.kind == "taken"
         adopts = batch.last.leaves_free and batch.adopted < batch.limit
-        return {"taken": True, "adopted": adopts and block.worker == batch.last.worker, "granted": not adopts}[block.kind]
+        return {"taken": True, "adopted": adopts and block.worker == batch.last.worker,
+                "granted": not adopts}[block.kind]
 
     def rejected(self, blocks: list[report.Block]) -> tuple[int, str] | None:
         """The line and the reason of the first wrong place, or None."""
@@ -166,7 +167,8 @@ def history_of(text: str) -> bytes:
 
 
 def ask_both(file: bytes, numbers: tuple[int, ...], history: bytes, kept: str) -> Given:
-    """Gives a file and a history to both forms. Answers what the model has of it; Wrong where an answer is another one."""
+    """Gives a file and a history to both forms. Answers what the model has of it; Wrong where an answer is
+    another one."""
     given = Given(len(file), numbers, file + history)
     for form in "replay", "profile":
         ask(form, file, numbers, history, given.answer(form), kept)

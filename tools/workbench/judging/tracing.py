@@ -1,6 +1,7 @@
-"""One block turn by turn: each instruction with the registers that it reads and sets, and the memory that it loads or
-stores, by a copy of the model. And what a thread's context carries when another worker goes on with it: registers, stack,
-memory of its own, and the locks in its package; and where the bytes of a lock come from."""
+"""One block turn by turn: each instruction with the registers that it reads and sets, and the memory that it
+loads or stores, by a copy of the model. And what a thread's context carries when another worker goes on with
+it: registers, stack, memory of its own, and the locks in its package; and where the bytes of a lock come
+from."""
 from __future__ import annotations
 
 import copy
@@ -81,7 +82,9 @@ class Context:
     def __init__(self, machine: model.Machine, thread: model.Thread, held: tuple[int, ...]) -> None:
         self.registers = [rv32im.REGISTERS[number] for number, value in enumerate(thread.x) if value]
         self.stack = limits.STACK.stop - thread.x[2] if thread.x[2] in limits.STACK else 0
-        self.data = changed(machine, thread)
+        contents = ((own, machine.guest.ranges[place][2]) for place, own in thread.own.items())
+        self.data = sum(one != other for own, content in contents if own != content for one,
+                        other in zip(own, content))
         self.held = held
         self.guarded = sum(len(machine.locks[lock].bytes) for lock in held)
 
@@ -90,16 +93,6 @@ class Context:
                 f"{report.several(self.stack, 'byte')} of stack in use, {report.several(self.data, 'byte')} of its own "
                 "data changed" + (f"; in its package {report.locks_text(self.held)}, "
                                   f"{report.several(self.guarded, 'byte')}" if self.held else ""))
-
-
-def changed(machine: model.Machine, thread: model.Thread) -> int:
-    """How many bytes of a thread's own memory aren't as the file has them."""
-    count = 0
-    for place, own in thread.own.items():
-        content = machine.guest.ranges[place][2]
-        if own != content:
-            count += sum(one != other for one, other in zip(own, content))
-    return count
 
 
 class Contexts:

@@ -5,6 +5,7 @@ from __future__ import annotations
 import csv
 import json
 import sys
+import types
 from collections import Counter
 from typing import Any, Iterator
 
@@ -136,16 +137,6 @@ class ThreadCounts:
         self.end = block.end if block.ends_thread else None
 
 
-class WorkerCounts:
-    def __init__(self) -> None:
-        self.blocks = self.turns = self.away = 0
-
-    def add(self, block: report.Block, away: bool) -> None:
-        self.blocks += 1
-        self.turns += block.turns
-        self.away += away
-
-
 def apart(pairs: Counter[tuple[int, int]], nodes: int = 8) -> int:
     """How many pairs of workers are of two workers, or of two nodes where there are fewer nodes than workers."""
     return sum(count for (one, other), count in pairs.items() if one % nodes != other % nodes)
@@ -164,7 +155,7 @@ class Counts:
         self.text = text
         self.locks = [LockCounts() for _ in range(text.guards)]
         self.threads = [ThreadCounts() for _ in range(text.threads)]
-        self.workers = [WorkerCounts() for _ in range(text.workers)]
+        self.workers = [types.SimpleNamespace(blocks=0, turns=0, away=0) for _ in range(text.workers)]
         self.away = Away(text.threads)
 
     def add(self, block: report.Block) -> bool:
@@ -177,7 +168,8 @@ class Counts:
             lock.turns += block.turns
             lock.worker = block.worker
         self.threads[block.thread].add(block, away)
-        self.workers[block.worker].add(block, away)
+        worker = self.workers[block.worker]
+        worker.blocks, worker.turns, worker.away = worker.blocks + 1, worker.turns + block.turns, worker.away + away
         return away
 
     def tables(self) -> Iterator[tuple[str, list[dict[str, Any]]]]:
@@ -233,6 +225,11 @@ def print_text(counted: Counts) -> None:
         tool.print_columns([names, *(["?" if value is None else str(value) for value in row.values()] for row in rows)])
 
 
+def print_json(counted: Counts) -> None:
+    tables = {f"by_{name}": rows for name, rows in counted.tables()}
+    print(json.dumps({**parameters(counted.text), "whole": counted.text.whole, **tables}, indent=1))
+
+
 def parameters(text: report.Report) -> dict[str, int]:
     return {name: getattr(text, name) for name in limits.RUN}
 
@@ -252,10 +249,10 @@ def main(words: list[str]) -> None:
     parser = tool.words("summary", SUMMARY + MEANINGS)
     parser.add_argument("report", metavar="REPORT", help="a report; - is standard input")
     forms = parser.add_mutually_exclusive_group()
-    forms.add_argument("--json", action="store_const", dest="form", const=lambda counted: print(json.dumps(
-        {**parameters(counted.text), "whole": counted.text.whole, **{f"by_{name}": rows for name, rows in counted.tables()}}, indent=1)))
+    forms.add_argument("--json", action="store_const", dest="form", const=print_json)
     forms.add_argument("--csv", action="store_const", dest="form", const=print_csv)
-    forms.add_argument("--profile", action="store_const", dest="form", const=lambda counted: print(*counted.profile_lines(), sep="\n"),
+    forms.add_argument("--profile", action="store_const", dest="form",
+                       const=lambda counted: print(*counted.profile_lines(), sep="\n"),
                        help="what the program prints of the history with `profile`")
     asked = parser.parse_args(words)
     counted = read(asked.report)

@@ -79,9 +79,7 @@ class Block(NamedTuple):
     def kept(self) -> tuple[int, ...]:
         """The locks that the thread holds after it."""
         released = self.released
-        if not released:
-            return self.held
-        return tuple(lock for lock in self.held if lock not in released)
+        return tuple(lock for lock in self.held if lock not in released) if released else self.held
 
     @property
     def leaves_free(self) -> bool:
@@ -246,7 +244,8 @@ class Report:
         if block.thread >= self.threads or block.worker >= self.workers:
             name, value, most = (("thread", block.thread, self.threads) if block.thread >= self.threads
                                  else ("worker", block.worker, self.workers))
-            raise Wrong(f"block {stamp}, line {self.lines.number}: there is no {name} {value}, but {name}s 0 to {most - 1}")
+            raise Wrong(f"block {stamp}, line {self.lines.number}: there is no {name} {value}, "
+                        f"but {name}s 0 to {most - 1}")
         if not 1 <= block.turns <= limits.TURNS or (kind in SECTIONS and not block.held):
             raise Wrong(f"block {stamp}, line {self.lines.number}: it has 1 to {limits.TURNS} turns, and a "
                         "section's first block holds its lock")

@@ -80,7 +80,8 @@ def owner(draw: Random, blocks: list[report.Block]) -> str:
             wants[block.thread] = block.wanted
         held[block.thread] = block.kept
     if not places:
-        return with_block(blocks, draw.randrange(len(blocks)), thread=draw.choice(sorted({block.thread for block in blocks})))
+        return with_block(blocks, draw.randrange(len(blocks)),
+                          thread=draw.choice(sorted({block.thread for block in blocks})))
     place, number = draw.choice(places)
     return with_block(blocks, place, thread=number)
 

@@ -96,7 +96,7 @@ class Hall:
             found = due[1]
         elif not ready:
             return None
-        elif self.run.workers > 1:  # where workers race any that is ready; by one alone the oldest offer, else the least
+        elif self.run.workers > 1:  # any, where workers race; by one alone the oldest offer, else the least
             found = self.chance.choice(ready)
         else:
             found = worker.offers.popleft() if worker.offers else ready[0]
