@@ -29,7 +29,7 @@ stamps_split a (b ∷ front) back e =
     let r = stamps_split (a + 1) front back rest in
     ((λ i. first i ∷ r.0 i), r.1 ∙ ap (λ n. range_with_len n (length back)) (let z : a + 1 + length front ≡ a + length (b ∷ front) = omega arith in z))
 
-tells_split : (image : Shown) (seen front back : List Block) (m last : State) → TellsAfter image seen m (front ++ back) last
+pub tells_split : (image : Shown) (seen front back : List Block) (m last : State) → TellsAfter image seen m (front ++ back) last
     → (mid : State) × TellsAfter image seen m front mid × TellsAfter image (seen ++ front) mid back last
 tells_split image seen [] back m last tells = (m, refl, subst (λ xs. TellsAfter image xs m back last) (sym (append-nil seen)) tells)
 tells_split image seen (b ∷ front) back m last tells =

@@ -16,6 +16,7 @@ pub mod Closing
 pub mod InParts
 pub mod Strict
 pub mod Thinned
+pub mod Waiting
 pub mod Succession
 pub mod Counted
 pub mod Adopters

@@ -19,16 +19,19 @@ use Rattle.tc_journal.specs.declared.block.Kind.TheVariants.{Start, On, Taken, A
 use Rattle.tc_turn.specs.Turn.{Thread, next_lock}
 use Rattle.tc_turn.proofs.Turns.{next_known}
 use Rattle.tc_mutex_spec.specs.Machine.{State, start}
-use Rattle.tc_mutex_spec.specs.Blocks.{TellsAfter, locks_of_block}
+use Rattle.tc_mutex_spec.specs.Blocks.{TellsAfter, Tells, locks_of_block}
 use Rattle.tc_mutex_spec.proofs.BlocksAlike.{eq_self, runs_apart}
 use Rattle.tc_mutex_spec.proofs.Leaving.{block_releases}
+use Rattle.tc_mutex_spec.proofs.Progress.{can_runs}
 use Rattle.tc_core.specs.Core.{Limits}
 use Rattle.tc_core.proofs.Quiet.{both}
-use Rattle.tc_told.specs.Handover.{first_of, ShowsDelegation, BeginsAdopted, IsBehindRelease, HasWaited, BeginsWith, IsCutUp}
+use Rattle.tc_told.specs.Handover.{first_of, ShowsDelegation, BeginsAdopted, IsBehindRelease, FollowsAtOnce, HasWaited, BeginsWith, IsCutUp}
 use Rattle.tc_told.proofs.Committed.{IsNext, begins_is, keeps}
 use Rattle.tc_told.proofs.Openings.{passed, adopt_ends}
 use Rattle.tc_told.proofs.Ruling.{Rules, rule_now, rules_on}
 use Rattle.tc_told.proofs.Realized.{takes_it}
+use Rattle.tc_told.proofs.InParts.{tells_split}
+use Rattle.tc_told.proofs.Waiting.{waits}
 use Rattle.tc_told.proofs.Thinned.{first_some, with_it, behind_none, none_of, not_in_none, first_is, last_is, last_there, same_last, stands_behind}
 
 -- ---- the rules, at a block
@@ -124,6 +127,14 @@ placed image limits seen (x ∷ before) b after m last history tells workers rul
     (placed image limits (seen ++ x ∷ []) before b after tells.0 last (subst (λ n. IsHistoryFrom n (before ++ b ∷ after)) (sym (length-append seen (x ∷ []))) history.2) tells.2
     (All-tail (λ (c : Block). c.worker < limits.workers) x (before ++ b ∷ after) workers) (λ k lt. rules_on itself limits seen (before ++ b ∷ after) x k (rules k lt)))
 
+-- a section begins with a turn that takes its lock
+takes_next : (image : Shown) (limits : Limits) (seen : List Block) (m : State) (b : Block) (to : State) (lock : ℕ) → IsNext image limits seen m b to → begins lock b ≡ true → next_lock image (m.threads b.thread) ≡ Some lock
+takes_next image limits seen m b to lock is begin = it (next_lock image (m.threads b.thread)) (sym (begins_is image limits seen m to b is lock) ∙ begin)
+  where
+    it : (o : Option ℕ) → is_lock o lock ≡ true → o ≡ Some lock
+    it None e = absurd (cc)
+    it (Some j) e = ap Some (sym (eqb-true lock j e))
+
 -- while no block has the lock, its thread has no block
 none_of_holder : (image : Shown) (seen bs after : List Block) (m last : State) (t lock : ℕ) → TellsAfter image seen m (bs ++ after) last → (m.threads t).held lock ≡ true → of_lock bs lock ≡ [] → of_thread bs t ≡ []
 none_of_holder image seen [] after m last t lock tells held none = refl
@@ -145,11 +156,11 @@ none_of_holder image seen (x ∷ bs) after m last t lock tells held none =
 
 -- b, at this place, begins an Adopted section of the lock
 record Hands (before : List Block) (lock : ℕ) (b : Block) : Type 0 where
-  pub waited : HasWaited before lock b
-  pub last_of_worker : last_of (of_worker before b.worker) ≡ Some waited.release
-  pub last_of_lock : last_of (of_lock before lock) ≡ Some waited.release
-  pub worker : waited.release.worker ≡ b.worker
-  pub held : has waited.release.held lock ≡ true
+  pub at_once : FollowsAtOnce before lock b
+  pub last_of_worker : last_of (of_worker before b.worker) ≡ Some at_once.release
+  pub last_of_lock : last_of (of_lock before lock) ≡ Some at_once.release
+  pub worker : at_once.release.worker ≡ b.worker
+  pub held : has at_once.release.held lock ≡ true
 
 module _ (image : Shown) (limits : Limits) (fuel : ℕ) (h : List Block) (rules : ShowsDelegation image limits fuel h) where
   delegates : Delegates h
@@ -172,12 +183,8 @@ module _ (image : Shown) (limits : Limits) (fuel : ℕ) (h : List Block) (rules 
   begun before b after lock place begin =
       let at = place_of before b after place in
       let d = at.from.threads b.thread in
-      let next = it (next_lock image d) (sym (begins_is image limits before at.from at.to b at.is lock) ∙ begin) in
+      let next = takes_next image limits before at.from b at.to lock at.is begin in
       (next_known image d lock next, at.is.stands.held lock ∙ takes_it d.held lock (next_lock image d) next)
-    where
-      it : (o : Option ℕ) → is_lock o lock ≡ true → o ≡ Some lock
-      it None e = absurd (cc)
-      it (Some j) e = ap Some (sym (eqb-true lock j e))
 
   hands : (before : List Block) (b : Block) (after : List Block) (lock : ℕ) → h ≡ before ++ b ∷ after → BeginsAdopted lock b → Hands before lock b
   hands before b after lock place adopted =
@@ -195,7 +202,7 @@ module _ (image : Shown) (limits : Limits) (fuel : ℕ) (h : List Block) (rules 
       let has_p = releaser_has mine.sooner p.0 (mine.later ++ b ∷ after) lock there p.2 in
       let same = same_last is_its has_it mine.sooner mine.later its.sooner its.later p.0 q.0 (sym mine.place ∙ its.place) mine.none (ap (λ w. w == b.worker) q.2 ∙ eq_self b.worker) its.none has_p in
       record {
-        waited = record {
+        at_once = record {
           sooner = mine.sooner;
           release = p.0;
           between = mine.later;
@@ -214,10 +221,18 @@ module _ (image : Shown) (limits : Limits) (fuel : ℕ) (h : List Block) (rules 
   pub released : (before after : List Block) (lock : ℕ) (b : Block) → h ≡ before ++ b ∷ after → BeginsAdopted lock b → IsBehindRelease before lock b
   released before after lock b place adopted =
       let r = hands before b after lock place adopted in
-      record { release = r.waited.release; last_of_worker = r.last_of_worker; last_of_lock = r.last_of_lock; unlocked = r.waited.unlocked; thread = r.waited.thread }
+      record { release = r.at_once.release; last_of_worker = r.last_of_worker; last_of_lock = r.last_of_lock; unlocked = r.at_once.unlocked; thread = r.at_once.thread }
 
-  pub waited : (before after : List Block) (lock : ℕ) (b : Block) → h ≡ before ++ b ∷ after → BeginsAdopted lock b → HasWaited before lock b
-  waited before after lock b place adopted = (hands before b after lock place adopted).waited
+  pub at_once : (before after : List Block) (lock : ℕ) (b : Block) → h ≡ before ++ b ∷ after → BeginsAdopted lock b → FollowsAtOnce before lock b
+  at_once before after lock b place adopted = (hands before b after lock place adopted).at_once
+
+  pub waited : (before after : List Block) (lock : ℕ) (b : Block) → h ≡ before ++ b ∷ after → begins lock b ≡ true → HasWaited image fuel before lock b
+  waited before after lock b place begin =
+      let at = place_of before b after place in
+      let parts = tells_split image [] before (b ∷ after) (start image fuel) rules.last (subst (λ l. Tells image fuel l rules.last) place rules.tells) in
+      let is : IsNext image limits before parts.0 b parts.2.0 = record { stands = parts.2.1; stamp = at.is.stamp; held = at.is.held; worker = at.is.worker } in
+      let runs = is.stands.runs in
+      waits image fuel before parts.0 parts.1 lock b (can_runs image parts.0 b.thread (runs.defined 0 runs.some), takes_next image limits before parts.0 b parts.2.0 lock is begin)
 
   pub next : (before after : List Block) (lock : ℕ) (p b : Block) → h ≡ before ++ p ∷ after → p.end ≡ Unlocked lock → first_of (of_lock after lock) ≡ Some b → BeginsAdopted lock b → first_of (of_worker after p.worker) ≡ Some b
   next before after lock p b place unlocked first adopted =
@@ -227,9 +242,9 @@ module _ (image : Shown) (limits : Limits) (fuel : ℕ) (h : List Block) (rules 
       let at = first_is has_it after b some.0 some.1 in
       let there : h ≡ (before ++ p ∷ at.sooner) ++ b ∷ at.later = place ∙ ap (λ l. before ++ p ∷ l) at.place ∙ sym (append_assoc before (p ∷ at.sooner) (b ∷ at.later)) in
       let r = hands (before ++ p ∷ at.sooner) b at.later lock there adopted in
-      let same = same_last has_it has_it before at.sooner r.waited.sooner r.waited.between p r.waited.release r.waited.place at.none r.held r.waited.no_holder (releaser_has before p after lock place unlocked) in
+      let same = same_last has_it has_it before at.sooner r.at_once.sooner r.at_once.between p r.at_once.release r.at_once.place at.none r.held r.at_once.no_holder (releaser_has before p after lock place unlocked) in
       let worker : b.worker ≡ p.worker = sym r.worker ∙ ap (λ (c : Block). c.worker) (sym same.0) in
-      let idle : of_worker at.sooner p.worker ≡ [] = (λ i. of_worker (same.1 i) (sym worker i)) ∙ r.waited.no_block in
+      let idle : of_worker at.sooner p.worker ≡ [] = (λ i. of_worker (same.1 i) (sym worker i)) ∙ r.at_once.no_block in
       ap first_of (ap (λ l. of_worker l p.worker) at.place ∙ behind_none is_its at.sooner (b ∷ at.later) idle ∙ with_it is_its b at.later (ap (λ w. w == p.worker) worker ∙ eq_self p.worker))
 
   -- behind a block of the lock that was cut, the next one of the lock is the next one of the worker

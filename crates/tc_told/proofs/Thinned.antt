@@ -1,6 +1,6 @@
 -- The blocks of a history that pass a test: where the first and the last of them stand in it.
 use Rattle.std.proofs.Common.{◌≡◌, suc, ◌-◌, Bool, true, false, cond, List, [], ◌∷◌, ◌++◌, length, filter, refl, sym, ap, subst, ◌∙◌, append_assoc, append-nil, arith}
-use Rattle.std.specs.Prelude.{Option, Some, slice_get}
+use Rattle.std.specs.Prelude.{Option, Some, None, slice_get}
 use Rattle.std.proofs.lemmas.List.Elements.{filter-append}
 use Rattle.tc_journal.specs.Batch.{last_of}
 use Rattle.tc_journal.specs.Handing.{EachBehind}
@@ -30,6 +30,11 @@ last_deeper x y bs =
     let here : length (x ∷ y ∷ bs) - 1 ≡ suc (length bs) = omega arith in
     let there : length bs ≡ length (y ∷ bs) - 1 = omega arith in
     ap (slice_get (x ∷ y ∷ bs)) here ∙ ap (slice_get (y ∷ bs)) there
+
+pub no_last : (bs : List Block) → last_of bs ≡ None → bs ≡ []
+no_last [] e = refl
+no_last (x ∷ []) e = absurd (cc)
+no_last (x ∷ y ∷ bs) e = absurd (let none = no_last (y ∷ bs) (sym (last_deeper x y bs) ∙ e) in cc)
 
 pub first_some : (bs : List Block) (b : Block) → first_of bs ≡ Some b → (more : List Block) × (bs ≡ b ∷ more)
 first_some [] b e = absurd (cc)

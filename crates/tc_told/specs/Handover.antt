@@ -1,13 +1,15 @@
 -- What the laws of delegation show of a section, at the place of its first block in a history.
-use Rattle.std.specs.Prelude.{◌≡◌, ◌≢◌, ℕ, ◌<◌, true, List, [], ◌∷◌, ◌++◌, length, slice_get, All, Option, Some}
+use Rattle.std.specs.Prelude.{◌≡◌, ◌≢◌, ℕ, ◌<◌, ◌==◌, Bool, true, false, List, [], ◌∷◌, ◌++◌, length, slice_get, All, Option, Some, IfSome}
 use Rattle.tc_elf.specs.Shown.{Shown}
 use Rattle.tc_journal.specs.Batch.{begins, is_adopted, last_of, Obeys, PassesOn}
 use Rattle.tc_journal.specs.Handing.{of_worker, Delegates}
-use Rattle.tc_journal.specs.History.{IsHistory, of_lock}
+use Rattle.tc_journal.specs.History.{IsHistory, of_lock, of_thread}
 use Rattle.tc_journal.specs.declared.block.Block.{Block}
-use Rattle.tc_journal.specs.declared.block.End.TheVariants.{Unlocked, Cut}
+use Rattle.tc_journal.specs.declared.block.End.{End}
+use Rattle.tc_journal.specs.declared.block.End.TheVariants.{Wants, Unlocked, Slept, Cut, Exit, Fault, Spent}
+use Rattle.tc_turn.specs.Turn.{Thread, is_running, next_lock}
 use Rattle.tc_mutex_spec.specs.Machine.{State}
-use Rattle.tc_mutex_spec.specs.Blocks.{Tells}
+use Rattle.tc_mutex_spec.specs.Blocks.{Tells, end_after}
 use Rattle.tc_core.specs.Core.{Limits}
 
 -- the history tells a run under ordinary mutexes; by the workers that it names, the blocks of each lock obey the batch limit and pass
@@ -39,7 +41,7 @@ pub record IsBehindRelease (before : List Block) (lock : ℕ) (b : Block) : Type
   pub thread : release.thread ≢ b.thread
 
 -- between the block that released the lock, one of another thread, and b its worker ran no block, and no block had the lock
-pub record HasWaited (before : List Block) (lock : ℕ) (b : Block) : Type 0 where
+pub record FollowsAtOnce (before : List Block) (lock : ℕ) (b : Block) : Type 0 where
   pub sooner : List Block
   pub release : Block
   pub between : List Block
@@ -48,6 +50,31 @@ pub record HasWaited (before : List Block) (lock : ℕ) (b : Block) : Type 0 whe
   pub thread : release.thread ≢ b.thread
   pub no_block : of_worker between b.worker ≡ []
   pub no_holder : of_lock between lock ≡ []
+
+-- the thread goes on, and its next turn is a lawful LOCK of this lock
+abbrev pub IsAtLock : Shown → ℕ → Thread → Type 0
+IsAtLock image lock d = (is_running d.status ≡ true) × (next_lock image d ≡ Some lock)
+
+-- a block may end so where its thread's next turn is a LOCK of this lock: it wants the lock, or it unlocked one or slept
+abbrev pub may_end_at : ℕ → End → Bool
+may_end_at lock (Wants k) = k == lock
+may_end_at lock (Unlocked k) = true
+may_end_at lock Slept = true
+may_end_at lock Cut = false
+may_end_at lock Exit = false
+may_end_at lock (Fault f) = false
+may_end_at lock Spent = false
+
+-- after `sooner`, which ends with the last block of b's thread before b, and is empty where there is none, that thread was at its
+-- LOCK of the lock; and from there to b it ran no block
+pub record HasWaited (image : Shown) (fuel : ℕ) (before : List Block) (lock : ℕ) (b : Block) : Type 0 where
+  pub sooner : List Block
+  pub later : List Block
+  pub place : before ≡ sooner ++ later
+  pub last_of_thread : last_of sooner ≡ last_of (of_thread before b.thread)
+  pub ended : IfSome (last_of sooner) (λ c. may_end_at lock c.end ≡ true)
+  pub at_lock : IsAtLock image lock ((end_after image fuel sooner).threads b.thread)
+  pub no_block : of_thread later b.thread ≡ []
 
 -- the list begins with these blocks
 pub record BeginsWith (front bs : List Block) : Type 0 where

@@ -1,4 +1,5 @@
-//! How an adopted section follows the one before it, and where a section runs.
+//! How an adopted section follows the one before it, how a thread comes to its section, and where a
+//! section runs.
 
 ghost use Rattle.std.specs.Prelude.{◌≡◌, ℕ, true, List, ◌∷◌, ◌++◌, Some};
 ghost use Rattle.tc_elf.specs.Shown.{Shown};
@@ -8,7 +9,7 @@ ghost use Rattle.tc_journal.specs.History.{of_lock};
 ghost use Rattle.tc_journal.specs.declared.block.Block.{Block};
 ghost use Rattle.tc_journal.specs.declared.block.End.TheVariants.{Unlocked};
 ghost use Rattle.tc_core.specs.Core.{Limits};
-ghost use Rattle.tc_told.specs.Handover.{first_of, ShowsDelegation, BeginsAdopted, IsBehindRelease, HasWaited, BeginsWith, IsCutUp};
+ghost use Rattle.tc_told.specs.Handover.{first_of, ShowsDelegation, BeginsAdopted, IsBehindRelease, FollowsAtOnce, HasWaited, BeginsWith, IsCutUp};
 
 /// What each history shows that keeps the rules, by the workers that it names, and delegates,
 /// finished or not. A law: it does nothing when it is called.
@@ -19,9 +20,14 @@ pub fn handover()
         → ShowsDelegation image limits fuel h → h ≡ before ++ b ∷ after → BeginsAdopted lock b
         → IsBehindRelease before lock b }
     // Between the release and the section neither its worker ran a block nor had a block the lock.
-    ensures waited { (image : Shown) (limits : Limits) (fuel : ℕ) (h before after : List Block) (lock : ℕ) (b : Block)
+    ensures at_once { (image : Shown) (limits : Limits) (fuel : ℕ) (h before after : List Block) (lock : ℕ) (b : Block)
         → ShowsDelegation image limits fuel h → h ≡ before ++ b ∷ after → BeginsAdopted lock b
-        → HasWaited before lock b }
+        → FollowsAtOnce before lock b }
+    // The thread of each section was at its LOCK from its block before on, or from the start, and ran
+    // nothing until the section: who is adopted has waited there.
+    ensures waited { (image : Shown) (limits : Limits) (fuel : ℕ) (h before after : List Block) (lock : ℕ) (b : Block)
+        → ShowsDelegation image limits fuel h → h ≡ before ++ b ∷ after → begins lock b ≡ true
+        → HasWaited image fuel before lock b }
     // Where a released lock is adopted, the waiter's block is the worker's next.
     ensures next { (image : Shown) (limits : Limits) (fuel : ℕ) (h before after : List Block) (lock : ℕ) (p b : Block)
         → ShowsDelegation image limits fuel h → h ≡ before ++ p ∷ after → p.end ≡ Unlocked lock

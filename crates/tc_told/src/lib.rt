@@ -11,7 +11,7 @@
 //!
 //! `handover::handover` says what a history that keeps the rules, by the workers that it names, shows
 //! of delegation where it also keeps the laws of tc_journal's `specs/Handing.antt`: who had the lock
-//! before an adopted section, and where a section runs.
+//! before an adopted section, since when its thread was at its LOCK, and where a section runs.
 //!
 //! - `specs/Written.antt`: what events write, which histories keep the rules, and how events end.
 //! - `realization`, `handover`: the laws; `specs/Handover.antt` has the words of the second.

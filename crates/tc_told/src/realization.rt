@@ -16,7 +16,8 @@ ghost use Rattle.tc_told.specs.Written.{IsWritten, IsWrittenInParts, IsWrittenTo
 /// A history is written by events of the pure machine, each enabled when it comes, just where it
 /// tells a run of the image, with workers that there are, obeys the batch limit, whoever ran its
 /// blocks, and passes sections on to other threads. This holds of every image with as many locks as
-/// a held set has places for, and of every fuel, number of workers, batch limit and history. A law: it does nothing when it is called.
+/// a held set has places for, and of every fuel, number of workers, batch limit and history. A law:
+/// it does nothing when it is called.
 pub fn realization()
     ensures exact { (image : Shown) (limits : Limits) (fuel : ℕ) (h : List Block)
         → length image.guards ≤ PLACES
