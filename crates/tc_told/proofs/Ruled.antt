@@ -35,7 +35,7 @@ use Rattle.tc_core.proofs.Parts.{no_end}
 use Rattle.tc_core.proofs.Tracked.{Tracks, tracked_after}
 use Rattle.tc_core.proofs.Unfinished.{Keeps, done_of, keeps_quiet, keeps_turn}
 use Rattle.tc_told.specs.Written.{Beginning, Written, write, as_of_one}
-use Rattle.tc_told.proofs.Committed.{keeps, held_with_has, is_lock_other, taken_is, takes_or}
+use Rattle.tc_told.proofs.Committed.{held_with_has, is_lock_other, taken_is, takes_or}
 use Rattle.tc_told.proofs.Standing.{Stand, stand_of, Rule, Waits, IsGranted, is_fresh, IsReleased, IsLockAt, PassesBy, stays_so, first_in, entered_so, free_waits, second_waits, released_is, taken_so, passed_so, locked_so, left_so, freed_so}
 
 -- a thread whose last block but this led to d, with the held set and the pc of its block
