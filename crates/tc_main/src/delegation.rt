@@ -8,7 +8,7 @@ ghost use Rattle.tc_journal.specs.Handing.{of_worker};
 ghost use Rattle.tc_journal.specs.History.{of_lock};
 ghost use Rattle.tc_journal.specs.declared.block.Block.{Block};
 ghost use Rattle.tc_journal.specs.declared.block.End.TheVariants.{Unlocked};
-ghost use Rattle.tc_told.specs.Handover.{first_of, BeginsAdopted, IsBehindRelease, HasWaited, BeginsWith, IsCutUp};
+ghost use Rattle.tc_told.specs.Handover.{first_of, BeginsAdopted, IsBehindRelease, FollowsAtOnce, HasWaited, BeginsWith, IsCutUp};
 ghost use Rattle.tc_told.specs.Written.{IsWritten};
 ghost use Rattle.tc_workers.specs.declared.options.Options.{Options};
 ghost use Rattle.tc_report.specs.Results.{Results};
@@ -24,9 +24,10 @@ pub fn delegation()
         → IsWritten image (record { workers = o.workers; batch = o.limit }) o.fuel results.history }
 {}
 
-/// What the history of each legal run shows of its sections: an adopted one follows the release of its
-/// lock in the very next block of its worker, and runs there without a break unless its thread
-/// sleeps, takes a lock or releases another one. A law: it does nothing when it is called.
+/// What the history of each legal run shows of its sections: an adopted one, whose thread waited at its
+/// LOCK, follows the release of its lock in the very next block of its worker, and runs there without a
+/// break unless its thread sleeps, takes a lock or releases another one. A law: it does nothing when it
+/// is called.
 pub fn handover()
     // An adopted section begins where the section before it ended: the last block of its worker
     // is the last block of its lock, released the lock, and is of another thread.
@@ -35,10 +36,16 @@ pub fn handover()
         → results.history ≡ before ++ b ∷ after → BeginsAdopted lock b
         → IsBehindRelease before lock b }
     // Between the release and the section neither its worker ran a block nor had a block the lock.
-    ensures waited { (image : Shown) (o : Options) (results : Results) (before after : List Block) (lock : ℕ) (b : Block)
+    ensures at_once { (image : Shown) (o : Options) (results : Results) (before after : List Block) (lock : ℕ) (b : Block)
         → IsLegalRun image o results
         → results.history ≡ before ++ b ∷ after → BeginsAdopted lock b
-        → HasWaited before lock b }
+        → FollowsAtOnce before lock b }
+    // The thread of each section was at its LOCK from its block before on, or from the start, and ran
+    // nothing until the section: who is adopted has waited there.
+    ensures waited { (image : Shown) (o : Options) (results : Results) (before after : List Block) (lock : ℕ) (b : Block)
+        → IsLegalRun image o results
+        → results.history ≡ before ++ b ∷ after → begins lock b ≡ true
+        → HasWaited image o.fuel before lock b }
     // Where a released lock is adopted, the waiter's block is the worker's next.
     ensures next { (image : Shown) (o : Options) (results : Results) (before after : List Block) (lock : ℕ) (p b : Block)
         → IsLegalRun image o results
