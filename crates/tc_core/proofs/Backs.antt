@@ -1,10 +1,9 @@
 -- Where no thread is given back in vain, or each one that is claimed takes a turn first, so many events come at most.
 use Rattle.std.proofs.Common.{◌≡◌, ◌≢◌, ℕ, ◌≤◌, Bool, true, false, ◌||◌, ◌==◌, List, [], ◌∷◌, ◌++◌, length, refl, sym, ap, subst, ◌∙◌, append_assoc, inl, inr}
 use Rattle.std.specs.Prelude.{Some, if◌then◌else◌}
-use Rattle.std.proofs.lemmas.Bool.{false_from_ne_true}
+use Rattle.std.proofs.lemmas.Bool.{false_from_ne_true, and_parts, both_ways}
 use Rattle.std.proofs.lemmas.Bool.Decides.{eqb_tells}
 use Rattle.tc_elf.specs.Shown.{Shown}
-use Rattle.tc_mutex_spec.proofs.Progress.{false_true}
 use Rattle.tc_core.specs.declared.event.Event.{Event}
 use Rattle.tc_core.specs.declared.event.Event.TheVariants.{Claim, Turn, Commit, Enter, Take, Ship, Adopt, Grant, Leave, Free, HandBack, Park, Finish}
 use Rattle.tc_core.specs.Lines.{is_in_line}
@@ -12,7 +11,7 @@ use Rattle.tc_core.specs.Core.{Core, Limits, Course, Ready, Parked, is_at, is_nu
 use Rattle.tc_core.specs.Events.{is_enabled, effect, has_thread, may_go_back}
 use Rattle.tc_core.specs.Stories.{AreEnabled, Story, turn_of, turns_of}
 use Rattle.tc_core.specs.Alive.{given_back, worked_on, is_worked_on, NoneInVain, AreClaimsUsed, most_events}
-use Rattle.tc_core.proofs.Quiet.{both, pick_other}
+use Rattle.tc_core.proofs.Quiet.{pick_other}
 use Rattle.tc_core.proofs.Work.{number_is, thread_at}
 use Rattle.tc_core.proofs.Standing.{some_eq}
 use Rattle.tc_core.proofs.Ending.{rest_on, NoneAgain, few_events}
@@ -60,7 +59,7 @@ back_after rests came e inv t r = go (is_number (given_back e) t) (is_number (wo
 none_again : (es : List Event) (rests : ℕ → Bool) (came all : List Event) → came ++ es ≡ all → NoneInVain all → RestBack rests came → NoneAgain rests es
 none_again [] rests came all whole used inv = tt
 none_again (e ∷ es) rests came all whole used inv = (
-  λ t back. false_from_ne_true (rests t) (λ r. (let is = inv t r in false_true _ is.none (used t is.before is.between es is.back e (sym whole ∙ ap (λ xs. xs ++ e ∷ es) is.all) is.gave back))),
+  λ t back. false_from_ne_true (rests t) (λ r. (let is = inv t r in both_ways _ is.none (used t is.before is.between es is.back e (sym whole ∙ ap (λ xs. xs ++ e ∷ es) is.all) is.gave back))),
   none_again es (rest_on rests e) (came ++ e ∷ []) all (append_assoc came (e ∷ []) es ∙ whole) used (back_after rests came e inv),
 )
 
@@ -100,7 +99,7 @@ more came e t out is = record {
 -- something is done with a thread: another one rests as before
 worked : (u t : ℕ) (rests : ℕ → Bool) → (if u == t then false else rests t) ≡ true → (t ≢ u) × (rests t ≡ true)
 worked u t rests r = elim (eqb_tells u t) [
-  | inl e ↦ absurd (false_true _ (ap (λ b. if b then false else rests t) e.0) r)
+  | inl e ↦ absurd (both_ways _ (ap (λ b. if b then false else rests t) e.0) r)
   | inr e ↦ ((λ same. e.1 (sym same)), sym (ap (λ b. if b then false else rests t) e.0) ∙ r)
 ]
 
@@ -120,7 +119,7 @@ module _ (image : Shown) (c : Core) (rests : ℕ → Bool) (came : List Event) (
   -- a thread that is given back is at no worker
   given : (e : Event) (u t v : ℕ) (x : Course) → is_in_line (turn_of e) t ≡ false → is_at x.place v ≡ false → (if u == t then true else rests t) ≡ true → is_at (if t == u then x else c.course t).place v ≡ true → IsClaimed (came ++ e ∷ []) t
   given e u t v x out away r at = elim (eqb_tells t u) [
-    | inl h ↦ absurd (false_true _ (ap (λ b. is_at (if b then x else c.course t).place v) h.0 ∙ away) at)
+    | inl h ↦ absurd (both_ways _ (ap (λ b. is_at (if b then x else c.course t).place v) h.0 ∙ away) at)
     | inr h ↦ more came e t out (inv t v (backed u t rests h.1 r) (other t u v x h.1 at))
   ]
 
@@ -153,8 +152,11 @@ module _ (image : Shown) (c : Core) (rests : ℕ → Bool) (came : List Event) (
 
 back_at : (image : Shown) (limits : Limits) (c : Core) (e : Event) (t : ℕ) → is_enabled image limits c e ≡ true → given_back e ≡ Some t → (w : ℕ) × (is_at (c.course t).place w ≡ true)
 unfolding is_enabled
-back_at image limits c (HandBack w u) t on e = (w, subst (λ n. is_at (c.course n).place w ≡ true) (some_eq u t e) (thread_at image limits c w u (both (has_thread image limits c w u) _ on).0))
-back_at image limits c (Park w u) t on e = (w, subst (λ n. is_at (c.course n).place w ≡ true) (some_eq u t e) (thread_at image limits c w u (both (has_thread image limits c w u) _ (both (may_go_back image limits c w u) _ on).0).0))
+back_at image limits c (HandBack w u) t on e =
+    (w, subst (λ n. is_at (c.course n).place w ≡ true) (some_eq u t e) (thread_at image limits c w u (and_parts (has_thread image limits c w u) _ on).0))
+back_at image limits c (Park w u) t on e =
+    (let may = (and_parts (may_go_back image limits c w u) _ on).0 in
+    (w, subst (λ n. is_at (c.course n).place w ≡ true) (some_eq u t e) (thread_at image limits c w u (and_parts (has_thread image limits c w u) _ may).0)))
 back_at image limits c e t on is = absurd (cc)
 
 not_yet : (image : Shown) (limits : Limits) (c : Core) (rests : ℕ → Bool) (came es all : List Event) (e : Event) → came ++ e ∷ es ≡ all → AreClaimsUsed all → is_enabled image limits c e ≡ true → RestClaimed c rests came
@@ -162,7 +164,7 @@ not_yet : (image : Shown) (limits : Limits) (c : Core) (rests : ℕ → Bool) (c
 not_yet image limits c rests came es all e whole used on inv t back = false_from_ne_true (rests t) (λ r. (
     let at = back_at image limits c e t on back in
     let is = inv t at.0 r at.1 in
-    false_true _ is.none (used is.worker t is.before is.between es e (sym whole ∙ ap (λ xs. xs ++ e ∷ es) is.all) back)))
+    both_ways _ is.none (used is.worker t is.before is.between es e (sym whole ∙ ap (λ xs. xs ++ e ∷ es) is.all) back)))
 
 claimed_again : (image : Shown) (limits : Limits) (es : List Event) (c : Core) (rests : ℕ → Bool) (came all : List Event) → came ++ es ≡ all → AreClaimsUsed all → AreEnabled image limits c es → RestClaimed c rests came → NoneAgain rests es
 claimed_again image limits [] c rests came all whole used on inv = tt

@@ -1,6 +1,7 @@
 -- No lock is adopted more often in a row than the batch limit says.
 use Rattle.std.proofs.Common.{◌≡◌, ℕ, ◌+◌, ◌<◌, ◌≤◌, Bool, true, false, not, ◌&&◌, ◌==◌, List, [], ◌∷◌, refl, sym, ap, subst, ◌∙◌, arith, inl, inr}
 use Rattle.std.specs.Prelude.{Option, Some, None, nat_lt, if◌then◌else◌}
+use Rattle.std.proofs.lemmas.Bool.{and_parts}
 use Rattle.std.proofs.lemmas.Bool.Decides.{nat_tests, eqb_tells}
 use Rattle.tc_elf.specs.Shown.{Shown}
 use Rattle.tc_journal.specs.Batch.{unlocks, is_only}
@@ -9,7 +10,7 @@ use Rattle.tc_core.specs.declared.event.Event.TheVariants.{Claim, Turn, Commit, 
 use Rattle.tc_core.specs.Core.{Core, Limits, Custody, Release, With, Loose, is_number, with_of, first_core}
 use Rattle.tc_core.specs.Events.{is_enabled, effect, may_pass, is_adoptable, adopts, custody_on, custody_past}
 use Rattle.tc_core.specs.Stories.{AreEnabled, Story, begins_batch, is_adopt, adopts_ahead, KeepsBatch}
-use Rattle.tc_core.proofs.Quiet.{both, changed_same}
+use Rattle.tc_core.proofs.Quiet.{changed_same}
 
 -- how the sections in a row count on
 abbrev run_on : ℕ → ℕ → Event → ℕ
@@ -56,12 +57,12 @@ run_is image lock c (Finish w t) = same_run _ _ refl
 pub below : (limits : Limits) (lock run : ℕ) (o : Option Release) → is_adoptable limits lock run o ≡ true → run < limits.batch
 below limits lock run None e = absurd (cc)
 below limits lock run (Some r) e =
-    (let l : nat_lt run limits.batch ≡ true = (both (unlocks lock r.end && is_only r.held lock) _ e).1 in grind (arith, nat_tests))
+    (let l : nat_lt run limits.batch ≡ true = (and_parts (unlocks lock r.end && is_only r.held lock) _ e).1 in grind (arith, nat_tests))
 
 run_below : (image : Shown) (limits : Limits) (lock : ℕ) (c : Core) (e : Event) → is_enabled image limits c e ≡ true → (c.custody lock).run ≤ limits.batch → run_on lock (c.custody lock).run e ≤ limits.batch
 unfolding is_enabled
 run_below image limits lock c (Adopt w t k) on le = elim (eqb_tells k lock) [
-  | inl h ↦ (let l = below limits k (c.custody k).run (c.custody k).last (both (may_pass image limits c w t k) (adopts limits c k) on).1 in
+  | inl h ↦ (let l = below limits k (c.custody k).run (c.custody k).last (and_parts (may_pass image limits c w t k) (adopts limits c k) on).1 in
       let m : (c.custody lock).run < limits.batch = subst (λ j. (c.custody j).run < limits.batch) h.1 l in rw h.0 (omega arith))
   | inr h ↦ rw h.0 (omega arith)
 ]

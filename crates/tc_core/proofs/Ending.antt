@@ -1,6 +1,7 @@
 -- Who never gives a thread back comes to the end of all.
 use Rattle.std.proofs.Common.{◌≡◌, ◌⊎◌, ℕ, zero, suc, ◌+◌, ◌*◌, ◌<◌, ◌≤◌, ◌≢◌, Bool, true, false, ◌==◌, List, [], ◌∷◌, length, refl, sym, ap, subst, ◌∙◌, arith, inl, inr}
 use Rattle.std.specs.Prelude.{Some, if◌then◌else◌}
+use Rattle.std.proofs.lemmas.Bool.{and_parts}
 use Rattle.std.proofs.lemmas.Bool.Decides.{eqb_tells}
 use Rattle.tc_elf.specs.Shown.{Shown}
 use Rattle.tc_elf.specs.declared.limits.TheConstants.{MAX_GUARDS}
@@ -13,7 +14,7 @@ use Rattle.tc_core.specs.Core.{Core, Limits, Course, ThreadPlace, Ready, Waiting
 use Rattle.tc_core.specs.Events.{is_enabled, effect, is_worker, is_thread, course_on, course_past, end_here, passed_to}
 use Rattle.tc_core.specs.Stories.{AreEnabled, Story, after_all, last_core}
 use Rattle.tc_core.specs.Alive.{is_work, work_of, most_onward, is_back, backs_of, given_back, worked_on, most_events, IsOver, CanGo, Step, CanEnd}
-use Rattle.tc_core.proofs.Quiet.{both, pick_mine, pick_other, changed_same}
+use Rattle.tc_core.proofs.Quiet.{pick_mine, pick_other, changed_same}
 use Rattle.tc_core.proofs.Known.{known}
 use Rattle.tc_core.proofs.Work.{one_if, one_most, left_of, takes, left_in}
 use Rattle.tc_core.proofs.Standing.{Stands, stands_after, story_stands}
@@ -82,7 +83,7 @@ claim_spares : (image : Shown) (limits : Limits) (c : Core) (w u : ℕ) → is_e
 unfolding spare effect is_enabled
 claim_spares image limits c w u on =
     let t = takes image limits c (Claim w u) on in
-    let n = claim_claimed image c w u (known image limits c (Claim w u) on) (both (is_thread image u) _ (both (is_worker limits w) _ on).1).1 in
+    let n = claim_claimed image c w u (known image limits c (Claim w u) on) (and_parts (is_thread image u) _ (and_parts (is_worker limits w) _ on).1).1 in
     omega (arith, t, n)
 
 -- who gives a thread back adds one claim

@@ -1,6 +1,8 @@
 -- A lock that is granted has no owner, so each enabled turn is defined.
-use Rattle.std.proofs.Common.{◌≡◌, ◌≢◌, ℕ, Bool, true, false, not, ◌&&◌, ◌==◌, List, [], ◌∷◌, length, refl, sym, ap, subst, ◌∙◌, inl, inr}
+use Rattle.std.proofs.Common.{◌≡◌, ◌≢◌, ℕ, Bool, true, false, not, ◌&&◌, List, [], ◌∷◌, length, refl, sym, ap, subst, ◌∙◌, inl, inr}
+use Rattle.std.specs.Cmp.Derive.{both_true}
 use Rattle.std.specs.Prelude.{Option, Some, None, nat_lt, is_some, if◌then◌else◌, option_and_then}
+use Rattle.std.proofs.lemmas.Bool.{and_parts, not-true, eqb-true}
 use Rattle.std.proofs.lemmas.Bool.Decides.{eqb_tells}
 use Rattle.tc_elf.specs.Shown.{Shown}
 use Rattle.tc_turn.specs.Turn.{Thread, is_running, next_lock, next_act, thread_after}
@@ -17,7 +19,7 @@ use Rattle.tc_core.specs.Core.{Core, Limits, Custody, LockPlace, Release, With, 
 use Rattle.tc_core.specs.Events.{is_enabled, effect, has_thread, is_worker, is_thread, runs, is_between, may_take, custody_on, custody_past, after_turn}
 use Rattle.tc_core.specs.View.{IsSoundCore}
 use Rattle.tc_core.specs.Stories.{AreEnabled, after_all, turns_of}
-use Rattle.tc_core.proofs.Quiet.{both, Quiet, quiet_event}
+use Rattle.tc_core.proofs.Quiet.{Quiet, quiet_event}
 
 pub quiet_sound : (c d : Core) → Quiet c d → IsSoundCore c → IsSoundCore d
 quiet_sound c d quiet sound = record {
@@ -38,25 +40,18 @@ pub record MayTurn (image : Shown) (c : Core) (t : ℕ) : Type 0 where
   pub open_block : is_some (c.course t).ended ≡ false
   pub take : may_take (next_lock image (c.machine.threads t)) t c ≡ true
 
-pub not_true : (b : Bool) → not b ≡ true → b ≡ false
-not_true true e = cc
-not_true false e = refl
-
 pub may_turn : (image : Shown) (limits : Limits) (c : Core) (w t : ℕ) → is_enabled image limits c (Turn w t) ≡ true → MayTurn image c t
 unfolding is_enabled
 may_turn image limits c w t e =
-    let a = both (has_thread image limits c w t) _ e in let p = both (is_worker limits w) _ a.0 in let q = both (is_thread image t) _ p.1 in
-    let b = both (runs c t) _ a.1 in let r = both _ _ b.1 in
-    record { thread = q.0; running = b.0; open_block = not_true _ r.0; take = r.1 }
-
-eq_zero : (n : ℕ) → (n == 0) ≡ true → n ≡ 0
-eq_zero n h = elim (eqb_tells n 0) [ inl x ↦ x.1 | inr x ↦ absurd (let f = x.0 in cc) ]
+    let a = and_parts (has_thread image limits c w t) _ e in let p = and_parts (is_worker limits w) _ a.0 in let q = and_parts (is_thread image t) _ p.1 in
+    let b = and_parts (runs c t) _ a.1 in let r = and_parts _ _ b.1 in
+    record { thread = q.0; running = b.0; open_block = not-true _ r.0; take = r.1 }
 
 -- where a lock is taken, the block has no turn yet, and the lock is with nobody
 pub take_facts : (image : Shown) (c : Core) (t lock : ℕ) → MayTurn image c t → next_lock image (c.machine.threads t) ≡ Some lock → ((c.course t).turns ≡ 0) × (with_of (c.custody lock).place ≡ None)
 take_facts image c t lock may e =
-    let p = both (is_between c t) (is_granted (c.custody lock).place t) (ap (λ o. may_take o t c) (sym e) ∙ may.take) in
-    (eq_zero (c.course t).turns p.0, granted_none (c.custody lock).place t p.1)
+    let p = and_parts (is_between c t) (is_granted (c.custody lock).place t) (ap (λ o. may_take o t c) (sym e) ∙ may.take) in
+    (eqb-true (c.course t).turns 0 p.0, granted_none (c.custody lock).place t p.1)
 
 free_owner : (o : Option ℕ) → ((u : ℕ) → o ≡ Some u → ⊥) → is_free o ≡ true
 free_owner None h = refl
@@ -68,12 +63,9 @@ open_lock image c t sound may (Some k) e =
     let none = (take_facts image c t k may e).1 in
     free_owner (c.machine.locks k).owner (λ u h. let w = sound.with u k ((sound.owners u k).1 h) in cc)
 
-all_true : (a b c : Bool) → a ≡ true → b ≡ true → c ≡ true → (a && (b && c)) ≡ true
-all_true a b c p q r = λ i. p i && (q i && r i)
-
 pub turn_can : (image : Shown) (c : Core) (t : ℕ) → IsSoundCore c → MayTurn image c t → can_turn image c.machine t ≡ true
 unfolding can_turn
-turn_can image c t sound may = all_true _ _ _ may.thread may.running (open_lock image c t sound may _ refl)
+turn_can image c t sound may = both_true may.thread (both_true may.running (open_lock image c t sound may _ refl))
 
 -- ---- a lock's place after a turn
 

@@ -2,6 +2,7 @@
 use Rattle.std.proofs.Common.{◌≡◌, ◌⊎◌, ℕ, zero, suc, ◌+◌, ◌<◌, ◌≤◌, Bool, true, false, not, ◌==◌, List, [], ◌∷◌, length, refl, sym, ap, subst, ◌∙◌, arith, inl, inr}
 use Rattle.std.specs.Cmp.Derive.{both_true}
 use Rattle.std.specs.Prelude.{Option, Some, None, nat_lt, is_some}
+use Rattle.std.proofs.lemmas.Bool.{both_ways}
 use Rattle.std.proofs.lemmas.Bool.Decides.{nat_tests}
 use Rattle.tc_isa.specs.Sets.{has}
 use Rattle.tc_elf.specs.Shown.{Shown}
@@ -12,7 +13,6 @@ use Rattle.tc_turn.proofs.Turns.{next_known, next_free}
 use Rattle.tc_mutex_spec.proofs.BlocksAlike.{eq_self}
 use Rattle.tc_mutex_spec.proofs.Replaying.{next_above}
 use Rattle.tc_mutex_spec.proofs.Sums.{all_or}
-use Rattle.tc_mutex_spec.proofs.Progress.{false_true}
 use Rattle.tc_core.specs.declared.event.Event.{Event}
 use Rattle.tc_core.specs.declared.event.Event.TheVariants.{Claim, Turn, Commit, Enter, Take, Ship, Adopt, Grant, Leave, Free, Finish}
 use Rattle.tc_core.specs.declared.place.LockPlace.TheVariants as place
@@ -151,7 +151,7 @@ module _ (image : Shown) (limits : Limits) (c : Core) (s : Stands image limits c
       sym (tr.kept t k) ∙ ap (λ o. has (held_past (c.course t).held o) k) none ∙ is
 
   with_not_done : (t k : ℕ) → (c.custody k).place ≡ With t → (c.course t).place ≡ Done → ⊥
-  with_not_done t k e h = (let d = (s.seated t).done h in false_true _ (s.ends t k d.status) (with_held t k e d.block))
+  with_not_done t k e h = (let d = (s.seated t).done h in both_ways _ (s.ends t k d.status) (with_held t k e d.block))
 
   -- ---- a thread that is at a worker
 
@@ -164,7 +164,7 @@ module _ (image : Shown) (limits : Limits) (c : Core) (s : Stands image limits c
       go (With u) e = absurd (
           let same : u ≡ t = first_one (c.custody k).line u t (with_first u k e) first in
           let held = with_held t k (e ∙ ap (λ v. With v) same) wants.ended in
-          false_true _ (next_free image (c.machine.threads t) k wants.next) held)
+          both_ways _ (next_free image (c.machine.threads t) k wants.next) held)
       go (Granted u) e = (
           let g : is_granted (c.custody k).place u ≡ true = ap (λ p. is_granted p u) e ∙ eq_self u in
           let same : u ≡ t = first_one (c.custody k).line u t (given_first (c.custody k) u (s.staged k) g).1 first in
@@ -196,7 +196,7 @@ module _ (image : Shown) (limits : Limits) (c : Core) (s : Stands image limits c
       by_status true run e = none e run (next_lock image (c.machine.threads t)) refl
       by_status false run e = elim ((s.blocks t).goes e) [
         | inl z ↦ go_finish w t at run z
-        | inr y ↦ absurd (false_true _ run y.0)
+        | inr y ↦ absurd (both_ways _ run y.0)
       ]
 
       by_end : (o : Option End) → (c.course t).ended ≡ o → Goes image limits c
@@ -220,7 +220,7 @@ module _ (image : Shown) (limits : Limits) (c : Core) (s : Stands image limits c
     where
       go : t < length image.entries → (p : ThreadPlace) → (c.course t).place ≡ p → is_kept p k ≡ true → Goes image limits c
       go is_t Ready e h = absurd (cc)
-      go is_t (Waiting j) e h = absurd (false_true _ ((s.fits t k).waiting (ap (λ p. is_waiting p k) e ∙ h)).1 first)
+      go is_t (Waiting j) e h = absurd (both_ways _ ((s.fits t k).waiting (ap (λ p. is_waiting p k) e ∙ h)).1 first)
       go is_t Parked e h = absurd (cc)
       go is_t Done e h = absurd (cc)
       go is_t (At v) e h = go_take v t k (has_t v t is_t (ap (λ p. is_at p v) e ∙ eq_self v)) lt first free

@@ -1,15 +1,12 @@
 -- A line has each thread once, so it is no longer than there are threads.
-use Rattle.std.proofs.Common.{◌≡◌, ℕ, ◌+◌, ◌<◌, Bool, true, false, ◌==◌, List, [], ◌∷◌, ◌++◌, length, refl, arith, inl, inr}
-use Rattle.std.specs.Prelude.{nat_eq, ◌||◌}
+use Rattle.std.proofs.Common.{◌≡◌, ℕ, ◌+◌, ◌<◌, true, false, ◌==◌, List, [], ◌∷◌, ◌++◌, length, refl, arith, inl, inr}
+use Rattle.std.specs.Prelude.{nat_eq}
 use Rattle.std.specs.List.{list_any, IsDistinct, AllByRecursion}
+use Rattle.std.proofs.lemmas.Bool.{or_parts}
 use Rattle.std.proofs.lemmas.Bool.Decides.{eqb_tells}
 use Rattle.std.proofs.lemmas.Map.Steps.{length-le_from_distinct_below}
 use Rattle.tc_core.specs.Lines.{is_in_line, rest_of}
 use Rattle.tc_core.specs.View.{AreBelow, IsLine}
-
-pub is_false : (a b : Bool) → (a || b) ≡ false → (a ≡ false) × (b ≡ false)
-is_false true b e = absurd (cc)
-is_false false b e = (refl, e)
 
 member_below : (n : ℕ) (line : List ℕ) → AreBelow n line → (q : ℕ) → list_any (nat_eq q) line ≡ true → q < n
 member_below n [] below q e = absurd (cc)
@@ -29,7 +26,7 @@ differ_more u t (v ∷ vs) all ne = (all.0, differ_more u t vs all.1 ne)
 once_more : (t : ℕ) (line : List ℕ) → IsDistinct nat_eq line → is_in_line line t ≡ false → IsDistinct nat_eq (line ++ t ∷ [])
 unfolding IsDistinct
 once_more t [] once out = (tt, tt)
-once_more t (u ∷ us) once out = (let p = is_false (u == t) (is_in_line us t) out in (differ_more u t us once.0 p.0, once_more t us once.1 p.1))
+once_more t (u ∷ us) once out = (let p = or_parts (u == t) (is_in_line us t) out in (differ_more u t us once.0 p.0, once_more t us once.1 p.1))
 
 pub line_more : (n t : ℕ) (line : List ℕ) → IsLine n line → t < n → is_in_line line t ≡ false → IsLine n (line ++ t ∷ [])
 line_more n t line is lt out = record { below = below_more n t line is.below lt; once = once_more t line is.once out }

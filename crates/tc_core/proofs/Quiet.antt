@@ -1,17 +1,16 @@
 -- Events that change no thread, no lock and no block.
-use Rattle.std.proofs.Common.{◌≡◌, ◌≢◌, ℕ, Bool, true, false, not, ◌&&◌, ◌==◌, refl, sym, ap, ◌∙◌, inl, inr}
+use Rattle.std.proofs.Common.{◌≡◌, ◌≢◌, ℕ, Bool, true, false, not, ◌==◌, refl, sym, ap, ◌∙◌, inl, inr}
 use Rattle.std.specs.Prelude.{Option, None, if◌then◌else◌}
+use Rattle.std.proofs.lemmas.Bool.{and_parts, not-true}
+pub use Rattle.std.proofs.lemmas.Bool.{and_parts as both}
 use Rattle.std.proofs.lemmas.Bool.Decides.{eqb_tells}
 use Rattle.tc_elf.specs.Shown.{Shown}
 use Rattle.tc_core.specs.declared.event.Event.{Event}
 use Rattle.tc_core.specs.declared.event.Event.TheVariants.{Claim, Turn, Commit, Enter, Take, Ship, Adopt, Grant, Leave, Free, HandBack, Park, Finish}
 use Rattle.tc_core.specs.declared.place.LockPlace.TheVariants as place
-use Rattle.tc_core.specs.Core.{Core, Limits, Course, Custody, LockPlace, ThreadPlace, With, Granted, Loose, is_free_lock, is_loose, with_of, with_custody, with_place}
-use Rattle.tc_core.specs.Events.{is_enabled, effect, has_thread, has_lock, is_worker, is_lock, may_pass, adopts}
-
-pub both : (a b : Bool) → (a && b) ≡ true → (a ≡ true) × (b ≡ true)
-both true b e = (refl, e)
-both false b e = absurd (cc)
+use Rattle.tc_core.specs.Lines.{is_second}
+use Rattle.tc_core.specs.Core.{Core, Limits, Course, Custody, LockPlace, ThreadPlace, With, Granted, Loose, is_waiting, is_free_lock, is_loose, with_of, with_custody, with_place}
+use Rattle.tc_core.specs.Events.{is_enabled, effect, has_thread, has_lock, is_worker, is_thread, is_lock, may_pass, adopts}
 
 unfoldable pub owned : Core → ℕ → Option ℕ
 owned c k = with_of (c.custody k).place
@@ -81,10 +80,23 @@ loose_none (Loose v) w e = refl
 
 -- what has_lock says
 pub lock_is_loose : (image : Shown) (limits : Limits) (c : Core) (w lock : ℕ) → has_lock image limits c w lock ≡ true → is_loose (c.custody lock).place w ≡ true
-lock_is_loose image limits c w lock e = (both _ _ (both (is_worker limits w) _ e).1).1
+lock_is_loose image limits c w lock e = (and_parts _ _ (and_parts (is_worker limits w) _ e).1).1
 
 pub passes_loose : (image : Shown) (limits : Limits) (c : Core) (w t lock : ℕ) → may_pass image limits c w t lock ≡ true → is_loose (c.custody lock).place w ≡ true
-passes_loose image limits c w t lock e = lock_is_loose image limits c w lock (both (has_lock image limits c w lock) _ e).0
+passes_loose image limits c w t lock e = lock_is_loose image limits c w lock (and_parts (has_lock image limits c w lock) _ e).0
+
+-- what passing a lock on asks
+pub record Passes (c : Core) (w t k : ℕ) : Type 0 where
+  pub loose : is_loose (c.custody k).place w ≡ true
+  pub left : (c.custody k).left ≡ false
+  pub second : is_second (c.custody k).line t ≡ true
+  pub waiting : is_waiting (c.course t).place k ≡ true
+
+pub passes : (image : Shown) (limits : Limits) (c : Core) (w t k : ℕ) → may_pass image limits c w t k ≡ true → Passes c w t k
+passes image limits c w t k e =
+    let p = and_parts (has_lock image limits c w k) _ e in let q = and_parts _ _ p.1 in
+    let r = and_parts (is_thread image t) _ q.1 in let s = and_parts _ _ r.1 in
+    record { loose = lock_is_loose image limits c w k p.0; left = not-true _ q.0; second = s.0; waiting = s.1 }
 
 -- ---- the eleven events
 
@@ -101,14 +113,17 @@ quiet_event image limits c (Turn w t) on is = absurd (cc)
 quiet_event image limits c (Commit w t) on is = absurd (cc)
 quiet_event image limits c (Enter w t lock) on is = quiet_custody c lock _ refl
 quiet_event image limits c (Take w t lock) on is =
-    quiet_custody c lock _ (sym (free_none _ (both _ _ (both (is_lock image lock) _ (both (has_thread image limits c w t) _ on).1).1).1))
+    quiet_custody c lock _ (sym (free_none _ (and_parts _ _ (and_parts (is_lock image lock) _ (and_parts (has_thread image limits c w t) _ on).1).1).1))
 quiet_event image limits c (Ship w t lock) on is = quiet_course c t _
 quiet_event image limits c (Adopt w t lock) on is =
-    quiet_pass c t lock _ _ (sym (loose_none _ w (passes_loose image limits c w t lock (both (may_pass image limits c w t lock) (adopts limits c lock) on).0)))
+    (let may = (and_parts (may_pass image limits c w t lock) (adopts limits c lock) on).0 in
+    quiet_pass c t lock _ _ (sym (loose_none _ w (passes_loose image limits c w t lock may))))
 quiet_event image limits c (Grant w t lock) on is =
-    quiet_pass c t lock _ _ (sym (loose_none _ w (passes_loose image limits c w t lock (both (may_pass image limits c w t lock) (not (adopts limits c lock)) on).0)))
+    (let may = (and_parts (may_pass image limits c w t lock) (not (adopts limits c lock)) on).0 in
+    quiet_pass c t lock _ _ (sym (loose_none _ w (passes_loose image limits c w t lock may))))
 quiet_event image limits c (Leave w lock) on is = quiet_custody c lock _ refl
-quiet_event image limits c (Free w lock) on is = quiet_custody c lock _ (sym (loose_none _ w (lock_is_loose image limits c w lock (both (has_lock image limits c w lock) _ on).0)))
+quiet_event image limits c (Free w lock) on is =
+    quiet_custody c lock _ (sym (loose_none _ w (lock_is_loose image limits c w lock (and_parts (has_lock image limits c w lock) _ on).0)))
 quiet_event image limits c (HandBack w t) on is = quiet_course c t _
 quiet_event image limits c (Park w t) on is = quiet_course c t _
 quiet_event image limits c (Finish w t) on is = quiet_course c t _

@@ -1,6 +1,7 @@
 -- Each entry into a line is given the lock once at most, and takes it once at most, in the order of entry.
-use Rattle.std.proofs.Common.{◌≡◌, ◌≢◌, ◌⊎◌, ℕ, Bool, true, false, not, ◌&&◌, ◌==◌, List, [], ◌∷◌, ◌++◌, refl, sym, ap, subst, ◌∙◌, append_assoc, append-nil, inl, inr}
+use Rattle.std.proofs.Common.{◌≡◌, ◌≢◌, ◌⊎◌, ℕ, Bool, true, false, not, ◌&&◌, ◌==◌, List, [], ◌∷◌, ◌++◌, refl, sym, ap, subst, ◌∙◌, append_assoc, append-nil, arith, inl, inr}
 use Rattle.std.specs.Prelude.{Option, Some, None, if◌then◌else◌}
+use Rattle.std.proofs.lemmas.Bool.{and_parts, not-true}
 use Rattle.std.proofs.lemmas.Bool.Decides.{eqb_tells}
 use Rattle.tc_elf.specs.Shown.{Shown}
 use Rattle.tc_turn.specs.Turn.{next_lock}
@@ -8,11 +9,11 @@ use Rattle.tc_core.specs.declared.event.Event.{Event}
 use Rattle.tc_core.specs.declared.event.Event.TheVariants.{Claim, Turn, Commit, Enter, Take, Ship, Adopt, Grant, Leave, Free, HandBack, Park, Finish}
 use Rattle.tc_core.specs.declared.place.LockPlace.TheVariants as place
 use Rattle.tc_core.specs.Lines.{is_first, is_second, is_single, rest_of, IsFrontOf}
-use Rattle.tc_core.specs.Core.{Core, Limits, Custody, LockPlace, Release, With, Granted, Loose, is_free_lock, is_loose, is_granted, is_number, with_of, first_core}
-use Rattle.tc_core.specs.Events.{is_enabled, effect, has_thread, has_lock, is_lock, is_thread, is_between, may_take, may_pass, adopts, custody_on, custody_past, passed_to}
+use Rattle.tc_core.specs.Core.{Core, Limits, Custody, LockPlace, Release, With, Granted, Loose, is_free_lock, is_loose, is_granted, is_number, with_of, with_custody, first_core}
+use Rattle.tc_core.specs.Events.{is_enabled, effect, has_thread, has_lock, is_lock, is_between, may_take, may_pass, adopts, custody_on, custody_past, passed_to}
 use Rattle.tc_core.specs.Stories.{AreEnabled, after_all, Story, lock_by, locks_by, locks_of, enter_of, enters_of, grant_of, grants_of}
-use Rattle.tc_core.proofs.Quiet.{both, pick_mine, pick_other, lock_is_loose}
-use Rattle.tc_core.proofs.Erasure.{not_true, may_turn}
+use Rattle.tc_core.proofs.Quiet.{Passes, passes, pick_mine, pick_other, lock_is_loose}
+use Rattle.tc_core.proofs.Erasure.{may_turn}
 
 -- ---- how far a line is
 
@@ -34,9 +35,8 @@ first_is : (line : List ℕ) (t : ℕ) → is_first line t ≡ true → line ≡
 first_is [] t e = absurd (cc)
 first_is (u ∷ us) t e = elim (eqb_tells u t) [ inl h ↦ ap (λ v. v ∷ us) h.1 | inr h ↦ absurd (let f = h.0 in cc) ]
 
-first_more : (line : List ℕ) (t u : ℕ) → is_first line t ≡ true → is_first (line ++ u ∷ []) t ≡ true
-first_more [] t u e = absurd (cc)
-first_more (v ∷ vs) t u e = e
+pub first_more : (line : List ℕ) (t u : ℕ) → is_first line t ≡ true → is_first (line ++ u ∷ []) t ≡ true
+first_more line t u e = grind arith
 
 ahead : (gone line entered xs : List ℕ) (t : ℕ) → entered ≡ gone ++ line → is_first line t ≡ true → xs ≡ gone ++ t ∷ [] → IsFrontOf xs entered
 ahead gone line entered xs t all e l =
@@ -185,7 +185,7 @@ module _ (image : Shown) (limits : Limits) (lock : ℕ) (c : Core) (granted lock
   turned t (Some k) may = elim (eqb_tells k lock) [
     | inl h ↦ subst (λ j. is_granted (c.custody j).place t ≡ true → Served (custody_on (Some j) t lock (c.custody lock)) (granted ++ []) (locked ++ (if j == lock then t ∷ [] else [])) (entered ++ [])) (sym h.1)
         (λ was. served_by (pick_mine lock _ _) (none granted) (here lock locked t) (none entered) (locked_now (c.custody lock) granted locked entered t was s))
-        (both (is_between c t) _ may).1
+        (and_parts (is_between c t) _ may).1
     | inr h ↦ served_by (elsewhere k lock _ _ h.1) (none granted) (there k lock locked t h.1) (none entered) s
   ]
 
@@ -205,28 +205,16 @@ module _ (image : Shown) (limits : Limits) (lock : ℕ) (c : Core) (granted lock
     | inr h ↦ served_by (elsewhere k lock _ _ h.1) (there k lock granted t h.1) (none locked) (none entered) s
   ]
 
-  -- what passing a lock on asks
-  abbrev Passes : ℕ → ℕ → ℕ → Type 0
-  Passes w t k = (is_loose (c.custody k).place w ≡ true) × ((c.custody k).left ≡ false) × (is_second (c.custody k).line t ≡ true)
+  -- lock k is passed on to t
+  abbrev Passed : ℕ → ℕ → ℕ → Type 0
+  Passed t run k =
+      Served ((with_custody c k (passed_to (c.custody k) t run)).custody lock) (granted ++ (if k == lock then t ∷ [] else [])) (locked ++ []) (entered ++ [])
 
-  passes : (w t k : ℕ) → may_pass image limits c w t k ≡ true → Passes w t k
-  passes w t k e =
-      let p = both (has_lock image limits c w k) _ e in let q = both _ _ p.1 in let r = both (is_thread image t) _ q.1 in
-      (lock_is_loose image limits c w k p.0, not_true _ q.0, (both _ _ r.1).0)
-
-  serves_adopt : (w t k : ℕ) → Passes w t k → After image lock c (Adopt w t k) granted locked entered
-  unfolding effect
-  serves_adopt w t k may = elim (eqb_tells k lock) [
-    | inl h ↦ subst (λ j. Passes w t j → After image lock c (Adopt w t j) granted locked entered) (sym h.1)
-        (λ may. served_by (pick_mine lock _ _) (here lock granted t) (none locked) (none entered) (passed_now (c.custody lock) granted locked entered w t _ may.0 may.1 may.2 s)) may
-    | inr h ↦ served_by (elsewhere k lock _ _ h.1) (there k lock granted t h.1) (none locked) (none entered) s
-  ]
-
-  serves_grant : (w t k : ℕ) → Passes w t k → After image lock c (Grant w t k) granted locked entered
-  unfolding effect
-  serves_grant w t k may = elim (eqb_tells k lock) [
-    | inl h ↦ subst (λ j. Passes w t j → After image lock c (Grant w t j) granted locked entered) (sym h.1)
-        (λ may. served_by (pick_mine lock _ _) (here lock granted t) (none locked) (none entered) (passed_now (c.custody lock) granted locked entered w t _ may.0 may.1 may.2 s)) may
+  serves_pass : (w t k run : ℕ) → Passes c w t k → Passed t run k
+  serves_pass w t k run may = elim (eqb_tells k lock) [
+    | inl h ↦ subst (λ j. Passes c w t j → Passed t run j) (sym h.1)
+        (λ (p : Passes c w t lock). served_by (pick_mine lock _ _) (here lock granted t) (none locked) (none entered)
+        (passed_now (c.custody lock) granted locked entered w t run p.loose p.left p.second s)) may
     | inr h ↦ served_by (elsewhere k lock _ _ h.1) (there k lock granted t h.1) (none locked) (none entered) s
   ]
 
@@ -252,12 +240,15 @@ module _ (image : Shown) (limits : Limits) (lock : ℕ) (c : Core) (granted lock
   serves (Turn w t) on = turned t (next_lock image (c.machine.threads t)) (may_turn image limits c w t on).take
   serves (Commit w t) on = stay (loose_now (c.custody lock) granted locked entered w t _ _ s)
   serves (Enter w t k) on = serves_enter w t k
-  serves (Take w t k) on = (let p = both (is_lock image k) _ (both (has_thread image limits c w t) _ on).1 in let q = both _ _ p.1 in serves_take w t k q.0 q.1)
+  serves (Take w t k) on =
+      (let p = and_parts (is_lock image k) _ (and_parts (has_thread image limits c w t) _ on).1 in let q = and_parts _ _ p.1 in serves_take w t k q.0 q.1)
   serves (Ship w t k) on = stay s
-  serves (Adopt w t k) on = serves_adopt w t k (passes w t k (both (may_pass image limits c w t k) (adopts limits c k) on).0)
-  serves (Grant w t k) on = serves_grant w t k (passes w t k (both (may_pass image limits c w t k) (not (adopts limits c k)) on).0)
-  serves (Leave w k) on = (let p = both (has_lock image limits c w k) _ on in let q = both _ _ p.1 in serves_leave w k (lock_is_loose image limits c w k p.0) (not_true _ q.0) q.1)
-  serves (Free w k) on = (let p = both (has_lock image limits c w k) _ on in serves_free w k (lock_is_loose image limits c w k p.0) p.1)
+  serves (Adopt w t k) on = serves_pass w t k _ (passes image limits c w t k (and_parts (may_pass image limits c w t k) (adopts limits c k) on).0)
+  serves (Grant w t k) on = serves_pass w t k 0 (passes image limits c w t k (and_parts (may_pass image limits c w t k) (not (adopts limits c k)) on).0)
+  serves (Leave w k) on =
+      (let p = and_parts (has_lock image limits c w k) _ on in let q = and_parts _ _ p.1 in
+      serves_leave w k (lock_is_loose image limits c w k p.0) (not-true _ q.0) q.1)
+  serves (Free w k) on = (let p = and_parts (has_lock image limits c w k) _ on in serves_free w k (lock_is_loose image limits c w k p.0) p.1)
   serves (HandBack w t) on = stay s
   serves (Park w t) on = stay s
   serves (Finish w t) on = stay s

@@ -1,6 +1,7 @@
 -- The locks of a thread's block are those that are with it.
 use Rattle.std.proofs.Common.{◌≡◌, ◌≢◌, ℕ, ◌+◌, Bool, true, false, not, ◌&&◌, ◌||◌, ◌==◌, List, [], ◌∷◌, refl, sym, ap, subst, ◌∙◌, inl, inr}
 use Rattle.std.specs.Prelude.{Option, Some, None, if◌then◌else◌}
+use Rattle.std.proofs.lemmas.Bool.{false_from_ne_true}
 use Rattle.std.proofs.lemmas.Bool.Decides.{eqb_tells}
 use Rattle.tc_journal.proofs.Locks.{has_none}
 use Rattle.tc_isa.specs.Registers.{Registers}
@@ -20,7 +21,7 @@ use Rattle.tc_turn.specs.Turn.{Thread, Mutex, taken_by, next_lock, next_act, ans
 use Rattle.tc_turn.proofs.Turns.{act_takes, taken_was}
 use Rattle.tc_mutex_spec.specs.Machine.{State, after}
 use Rattle.tc_mutex_spec.proofs.Local.{after_thread, turn_apart}
-use Rattle.tc_mutex_spec.proofs.BlocksAlike.{covers_block}
+use Rattle.tc_mutex_spec.proofs.BlocksAlike.{eq_self, covers_block}
 pub use Rattle.tc_mutex_spec.proofs.HeldSets.{with_has, without_has}
 use Rattle.tc_core.specs.declared.event.Event.{Event}
 use Rattle.tc_core.specs.declared.event.Event.TheVariants.{Turn, Commit}
@@ -82,10 +83,6 @@ turn_kept d (Some (Called (Sleep n) regs)) h turns k o next none some e = ap (λ
 turn_kept d (Some (Called Exit regs)) h turns k o next none some e = has_none k
 turn_kept d (Some (Faulted f)) h turns k o next none some e = has_none k
 
--- a number is itself
-number_same : (t : ℕ) → is_number (Some t) t ≡ true
-number_same t = elim (eqb_tells t t) [ inl e ↦ e.0 | inr e ↦ absurd (e.1 refl) ]
-
 number_other : (t u : ℕ) → u ≢ t → is_number (Some t) u ≡ false
 number_other t u ne = elim (eqb_tells t u) [ inl e ↦ absurd (ne (sym e.1)) | inr e ↦ e.0 ]
 
@@ -93,7 +90,7 @@ number_other t u ne = elim (eqb_tells t u) [ inl e ↦ absurd (ne (sym e.1)) | i
 with_mine : (h t k : ℕ) (o : Option ℕ) (x : Custody) → has h k ≡ is_number (with_of x.place) t → has (held_with h o) k ≡ is_number (with_of (custody_on o t k x).place) t
 with_mine h t k None x e = e
 with_mine h t k (Some lock) x e = with_has h lock k ∙ (elim (k == lock) as (λ b. (b || has h k) ≡ is_number (with_of (if b then record x { place = With t } else x).place) t) [
-  | true ↦ sym (number_same t)
+  | true ↦ sym (eq_self t)
   | false ↦ e
 ])
 
@@ -134,7 +131,7 @@ tracked_turn image c t may tr =
 -- ---- a commit
 
 past_mine : (b held : Bool) (w t : ℕ) (r : Option Release) (x : Custody) → b ≡ held → (held ≡ true → with_of x.place ≡ Some t) → b ≡ is_number (with_of (custody_past w t held r x).place) t
-past_mine b true w t r x e f = e ∙ sym (go (is_number (with_of x.place) t) (ap (λ o. is_number o t) (f refl) ∙ number_same t))
+past_mine b true w t r x e f = e ∙ sym (go (is_number (with_of x.place) t) (ap (λ o. is_number o t) (f refl) ∙ eq_self t))
   where
     go : (y : Bool) → is_number (with_of x.place) t ≡ true → is_number (with_of (if y && false then record x { place = Loose w; last = r } else x).place) t ≡ true
     go true h = h
@@ -193,12 +190,8 @@ tracked image limits [] c sound tr on = tr
 tracked image limits (e ∷ es) c sound tr on =
     tracked image limits es (effect image c e) (sound_after image limits c e on.0 sound) (tracked_after image limits c e on.0 sound tr) on.1
 
-not_held : (b : Bool) → (b ≡ true → ⊥) → false ≡ b
-not_held true f = absurd (f refl)
-not_held false f = refl
-
 pub first_tracked : (image : Shown) (fuel : ℕ) → Tracks (first_core image fuel)
-first_tracked image fuel = record { with = λ t k. has_none k; kept = λ t k. has_none k ∙ not_held _ (started_none image fuel t k) }
+first_tracked image fuel = record { with = λ t k. has_none k; kept = λ t k. has_none k ∙ sym (false_from_ne_true _ (started_none image fuel t k)) }
 
 pub is_tracked : (s : Story) → IsTracked (last_core s)
 is_tracked s =

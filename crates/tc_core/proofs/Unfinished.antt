@@ -1,6 +1,7 @@
 -- The finished blocks in commit order, and then the unfinished ones in order of thread, lead to the core's machine.
 use Rattle.std.proofs.Common.{◌≡◌, ◌≢◌, ℕ, zero, suc, ◌+◌, ◌<◌, Bool, true, false, not, ◌&&◌, ◌==◌, List, [], ◌∷◌, refl, sym, ap, subst, ◌∙◌, arith, inl, inr}
 use Rattle.std.specs.Prelude.{Option, Some, None, is_some, if◌then◌else◌, option_and_then}
+use Rattle.std.proofs.lemmas.Bool.{and_parts}
 use Rattle.std.proofs.lemmas.Bool.Decides.{eqb_tells}
 use Rattle.tc_elf.specs.Shown.{Shown}
 use Rattle.tc_journal.specs.declared.block.End.{End}
@@ -16,7 +17,7 @@ use Rattle.tc_core.specs.View.{IsSoundCore}
 use Rattle.tc_core.specs.Stories.{AreEnabled, after_all, counts_on, blocks_from}
 use Rattle.tc_core.specs.Theorem.{AreBlocks}
 use Rattle.tc_core.proofs.Gathers.{Gathers, HasEnds}
-use Rattle.tc_core.proofs.Quiet.{both, Quiet, owned, pick_mine, pick_other, quiet_event}
+use Rattle.tc_core.proofs.Quiet.{Quiet, owned, pick_mine, pick_other, quiet_event}
 use Rattle.tc_core.proofs.Erasure.{MayTurn, may_turn, quiet_sound, take_facts, turn_can, turn_sound, turn_is, commit_sound, commit_machine, taken_other, taken_same, past_kept}
 use Rattle.tc_core.proofs.Gathering.{Extends, Ends, extended, new_end, committed, other_ends}
 
@@ -138,7 +139,7 @@ some_end (Some e) h = (e, refl)
 
 commit_may : (image : Shown) (limits : Limits) (c : Core) (w t : ℕ) → is_enabled image limits c (Commit w t) ≡ true → is_some (c.course t).ended ≡ true
 unfolding is_enabled
-commit_may image limits c w t e = (both (has_thread image limits c w t) _ e).1
+commit_may image limits c w t e = (and_parts (has_thread image limits c w t) _ e).1
 
 pub block_runs : (image : Shown) (c : Core) (base : State) (t : ℕ) → Keeps image c base → is_some (c.course t).ended ≡ true → (end : End) × Runs image base t (done_of c t) end (reach image base t (done_of c t))
 unfolding done_of ended_of

@@ -2,8 +2,9 @@
 use Rattle.std.proofs.Common.{◌≡◌, ◌⊎◌, ℕ, ◌-◌, ◌<◌, true, false, ◌||◌, ◌==◌, List, [], ◌∷◌, ◌++◌, length, refl, sym, ap, subst, ◌∙◌, append_assoc, arith, inl, inr}
 use Rattle.std.specs.Prelude.{nat_eq}
 use Rattle.std.specs.List.{IsDistinct, AllByRecursion}
-use Rattle.std.proofs.lemmas.Bool.Decides.{eqb_tells}
+use Rattle.std.proofs.lemmas.Bool.{or_parts}
 use Rattle.std.proofs.lemmas.List.{append_cancel_left}
+use Rattle.tc_mutex_spec.proofs.BlocksAlike.{eq_self}
 use Rattle.tc_core.specs.declared.event.Event.{Event}
 use Rattle.tc_core.specs.declared.event.Event.TheVariants.{Enter}
 use Rattle.tc_core.specs.Lines.{is_in_line, rest_of, IsFrontOf}
@@ -13,24 +14,21 @@ use Rattle.tc_core.specs.Stories.{AreEnabled, Story, after_all, locks_by, enters
 use Rattle.tc_core.specs.Alive.{Wait, IsBrief}
 use Rattle.tc_core.proofs.Quiet.{pick_mine}
 use Rattle.tc_core.proofs.Known.{known}
-use Rattle.tc_core.proofs.Numbers.{is_false, line_rest, line_room}
+use Rattle.tc_core.proofs.Numbers.{line_rest, line_room}
 use Rattle.tc_core.proofs.Served.{Owed, owed, served_after, in_order}
 use Rattle.tc_core.proofs.Lines.{first_lines, lines_all, enabled_front, enabled_back}
 
 -- ---- lists
 
-itself : (t : ℕ) → (t == t) ≡ true
-itself t = elim (eqb_tells t t) [ inl h ↦ h.0 | inr h ↦ absurd (h.1 refl) ]
-
 -- what comes before t in a list is a front of what stands before t there
 before_it : (g r rest n : List ℕ) (t : ℕ) → g ++ rest ≡ r ++ t ∷ n → is_in_line g t ≡ false → IsFrontOf g r
 before_it [] r rest n t e out = (r, refl)
 before_it (x ∷ g) [] rest n t e out =
-    absurd (let h : x ≡ t = cc in let f : (t == t) ≡ false = (ap (λ u. u == t) (sym h) ∙ (is_false (x == t) (is_in_line g t) out).0) in let y = itself t in cc)
+    absurd (let h : x ≡ t = cc in let f : (t == t) ≡ false = (ap (λ u. u == t) (sym h) ∙ (or_parts (x == t) (is_in_line g t) out).0) in let y = eq_self t in cc)
 before_it (x ∷ g) (y ∷ r) rest n t e out =
     let h : x ≡ y = cc in
     let tail : g ++ rest ≡ r ++ t ∷ n = cc in
-    let q = before_it g r rest n t tail (is_false (x == t) (is_in_line g t) out).1 in
+    let q = before_it g r rest n t tail (or_parts (x == t) (is_in_line g t) out).1 in
     (q.0, (λ i. h i ∷ q.1 i))
 
 grants_append : (lock : ℕ) (xs ys : List Event) → grants_of lock (xs ++ ys) ≡ grants_of lock xs ++ grants_of lock ys
@@ -60,13 +58,13 @@ length_front [] [] n lt = lt
 length_front [] (y ∷ ys) n lt = omega arith
 length_front (x ∷ xs) ys n lt = (let rec : length xs < n - 1 = length_front xs ys (n - 1) (omega arith) in omega arith)
 
-in_rest : (line : List ℕ) (t : ℕ) → is_in_line (rest_of line) t ≡ true → is_in_line line t ≡ true
+pub in_rest : (line : List ℕ) (t : ℕ) → is_in_line (rest_of line) t ≡ true → is_in_line line t ≡ true
 in_rest [] t e = e
 in_rest (u ∷ us) t e = elim (u == t) as (λ b. (b || is_in_line us t) ≡ true) [ true ↦ refl | false ↦ e ]
 
 out_rest : (line : List ℕ) (t : ℕ) → is_in_line line t ≡ false → is_in_line (rest_of line) t ≡ false
 out_rest [] t e = e
-out_rest (u ∷ us) t e = (is_false (u == t) (is_in_line us t) e).1
+out_rest (u ∷ us) t e = (or_parts (u == t) (is_in_line us t) e).1
 
 -- ---- the wait
 

@@ -1,6 +1,7 @@
 -- The unfinished blocks follow in order of thread.
 use Rattle.std.proofs.Common.{◌≡◌, ◌≢◌, ◌⊎◌, ℕ, zero, suc, ◌<◌, ◌≤◌, true, ◌==◌, [], ◌∷◌, length, replicate, refl, sym, ap, ◌∙◌, arith, inl, inr}
 use Rattle.std.specs.Prelude.{Option, Some, nat_lt, if◌then◌else◌, option_and_then}
+use Rattle.std.proofs.lemmas.Bool.{and_parts}
 use Rattle.std.proofs.lemmas.Bool.Decides.{nat_tests, eqb_tells}
 use Rattle.tc_elf.specs.Shown.{Shown}
 use Rattle.tc_mutex_spec.specs.Machine.{State, can_turn, turns, run_from, start}
@@ -10,7 +11,7 @@ use Rattle.tc_core.specs.Core.{first_core}
 use Rattle.tc_core.specs.Stories.{Story, last_core, blocks_of}
 use Rattle.tc_core.specs.Theorem.{pairs_of, unfinished, IsGathered}
 use Rattle.tc_core.proofs.Gathers.{Gathers}
-use Rattle.tc_core.proofs.Quiet.{both, owned, pick_mine, pick_other}
+use Rattle.tc_core.proofs.Quiet.{owned, pick_mine, pick_other}
 use Rattle.tc_core.proofs.Erasure.{first_sound}
 use Rattle.tc_core.proofs.Gathering.{Ends, committed, all_whole}
 use Rattle.tc_core.proofs.Unfinished.{done_of, ended_of, Keeps, Gathered, gathered}
@@ -54,7 +55,7 @@ folded image m base owned done g (suc n) =
 
 within : (image : Shown) (m : State) (t : ℕ) → can_turn image m t ≡ true → t < length image.entries
 unfolding can_turn
-within image m t e = (let h : nat_lt t (length image.entries) ≡ true = (both _ _ e).0 in grind (arith, nat_tests))
+within image m t e = (let h : nat_lt t (length image.entries) ≡ true = (and_parts _ _ e).0 in grind (arith, nat_tests))
 
 -- a thread past the image's has no turn
 past_zero : (image : Shown) (m base : State) (owned : ℕ → Option ℕ) (done : ℕ → ℕ) → Gathers image m base owned done → (t : ℕ) → length image.entries ≤ t → done t ≡ 0

@@ -1,6 +1,7 @@
 -- Each event but Claim, HandBack and Park takes from what is left to do, and no event adds to it.
 use Rattle.std.proofs.Common.{◌≡◌, ◌≢◌, ℕ, ◌+◌, ◌*◌, ◌<◌, ◌≤◌, Bool, true, false, not, ◌&&◌, ◌||◌, ◌==◌, List, [], ◌∷◌, ◌++◌, length, length-append, refl, sym, ap, subst, ◌∙◌, arith, inl, inr}
 use Rattle.std.specs.Prelude.{Option, Some, None, is_some, if◌then◌else◌}
+use Rattle.std.proofs.lemmas.Bool.{and_parts, not-true}
 use Rattle.std.proofs.lemmas.Bool.Decides.{eqb_tells}
 use Rattle.tc_elf.specs.Shown.{Shown}
 use Rattle.tc_turn.specs.Turn.{next_lock}
@@ -17,8 +18,8 @@ use Rattle.tc_core.specs.Core.{Core, Limits, Course, Custody, LockPlace, ThreadP
 use Rattle.tc_core.specs.Events.{is_enabled, effect, is_worker, is_thread, is_lock, has_thread, has_lock, runs, is_between, may_pass, may_go_back, adopts, course_on, course_past, custody_on, custody_past, end_here, release_of, taken_by, freed, left_by_all, after_turn}
 use Rattle.tc_core.specs.Stories.{AreEnabled, Story, after_all, turn_of, turns_of}
 use Rattle.tc_core.specs.Alive.{is_work, work_of, most_work, IsBounded}
-use Rattle.tc_core.proofs.Quiet.{both, pick_mine, pick_other, changed_same, lock_is_loose}
-use Rattle.tc_core.proofs.Erasure.{not_true, MayTurn, may_turn}
+use Rattle.tc_core.proofs.Quiet.{passes, pick_mine, pick_other, changed_same, lock_is_loose}
+use Rattle.tc_core.proofs.Erasure.{MayTurn, may_turn}
 use Rattle.tc_core.proofs.Known.{known}
 use Rattle.tc_core.proofs.Parts.{turn_thread, on_line, past_line}
 
@@ -115,7 +116,7 @@ waiting_one Done k e = absurd (cc)
 waiting_one (At v) k e = absurd (cc)
 
 pub thread_at : (image : Shown) (limits : Limits) (c : Core) (w t : ℕ) → has_thread image limits c w t ≡ true → is_at (c.course t).place w ≡ true
-thread_at image limits c w t e = (both (is_thread image t) _ (both (is_worker limits w) _ e).1).1
+thread_at image limits c w t e = (and_parts (is_thread image t) _ (and_parts (is_worker limits w) _ e).1).1
 
 place_moves : (image : Shown) (c : Core) (t : ℕ) (at : ThreadPlace) (a b : ℕ) → t < length image.entries → place_left at + a ≤ place_left (c.course t).place + b → place_sum image (with_place c t at) + a ≤ place_sum image c + b
 place_moves image c t at a b lt here =
@@ -186,7 +187,7 @@ in_more : (line : List ℕ) (t : ℕ) → is_in_line (line ++ t ∷ []) t ≡ tr
 in_more [] t = elim (eqb_tells t t) [ inl h ↦ rw h.0 | inr h ↦ absurd (h.1 refl) ]
 in_more (v ∷ vs) t = elim (v == t) as (λ b. (b || is_in_line (vs ++ t ∷ []) t) ≡ true) [ true ↦ refl | false ↦ in_more vs t ]
 
-pub in_more_other : (line : List ℕ) (t u : ℕ) → u ≢ t → is_in_line (line ++ t ∷ []) u ≡ is_in_line line u
+in_more_other : (line : List ℕ) (t u : ℕ) → u ≢ t → is_in_line (line ++ t ∷ []) u ≡ is_in_line line u
 in_more_other [] t u ne = elim (eqb_tells t u) [ inl h ↦ absurd (ne (sym h.1)) | inr h ↦ rw h.0 ]
 in_more_other (v ∷ vs) t u ne = ap (λ b. (v == u) || b) (in_more_other vs t u ne)
 
@@ -229,7 +230,8 @@ past_lock w t held r x = go (is_number (with_of x.place) t && not held) refl
   where
     go : (b : Bool) → (is_number (with_of x.place) t && not held) ≡ b
         → lock_left (if b then record x { place = Loose w; last = r } else x).place (if b then record x { place = Loose w; last = r } else x).left ≤ lock_left x.place x.left
-    go true e = (let f = with_four x.place x.left t (both (is_number (with_of x.place) t) (not held) e).0 in let m = lock_most (Loose w) x.left in omega arith)
+    go true e =
+        (let f = with_four x.place x.left t (and_parts (is_number (with_of x.place) t) (not held) e).0 in let m = lock_most (Loose w) x.left in omega arith)
     go false e = omega arith
 
 -- ---- a turn
@@ -322,18 +324,6 @@ more_place image d t at lt here =
     let n = enters_place image d t at in
     omega (arith, p, e, n))
 
--- what a lock passed on asks
-pub record Passes (image : Shown) (c : Core) (w t k : ℕ) : Type 0 where
-  pub loose : is_loose (c.custody k).place w ≡ true
-  pub left : (c.custody k).left ≡ false
-  pub second : is_first (rest_of (c.custody k).line) t ≡ true
-  pub waiting : is_waiting (c.course t).place k ≡ true
-
-pub passes : (image : Shown) (limits : Limits) (c : Core) (w t k : ℕ) → may_pass image limits c w t k ≡ true → Passes image c w t k
-passes image limits c w t k e =
-    let p = both (has_lock image limits c w k) _ e in let q = both _ _ p.1 in let r = both (is_thread image t) _ q.1 in let s = both _ _ r.1 in
-    record { loose = lock_is_loose image limits c w k p.0; left = not_true _ q.0; second = s.0; waiting = s.1 }
-
 pass_takes : (image : Shown) (limits : Limits) (c : Core) (w t k run : ℕ) (at : ThreadPlace) → may_pass image limits c w t k ≡ true → t < length image.entries → k < length image.guards → place_left at ≡ 2
     → left_of image (with_place (with_custody c k (record (c.custody k) { place = Granted t; line = rest_of (c.custody k).line; run = run })) t at) + 1 ≤ left_of image c
 pass_takes image limits c w t k run at e lt low two =
@@ -349,44 +339,46 @@ pass_takes image limits c w t k run at e lt low two =
 pub takes : (image : Shown) (limits : Limits) (c : Core) (e : Event) → is_enabled image limits c e ≡ true → left_of image (effect image c e) + (if is_work e then 1 else 0) ≤ left_of image c
 unfolding is_enabled effect
 takes image limits c (Claim w t) on =
-    (let two = claimed_two (c.course t).place (both (is_thread image t) _ (both (is_worker limits w) _ on).1).1 in
+    (let two = claimed_two (c.course t).place (and_parts (is_thread image t) _ (and_parts (is_worker limits w) _ on).1).1 in
     only_place image c t (At w) 0 (known image limits c (Claim w t) on) (omega (arith, two)))
 takes image limits c (Turn w t) on = turn_takes image c t (may_turn image limits c w t on)
-takes image limits c (Commit w t) on = commit_takes image c w t (known image limits c (Commit w t) on) (both (has_thread image limits c w t) _ on).1
+takes image limits c (Commit w t) on = commit_takes image c w t (known image limits c (Commit w t) on) (and_parts (has_thread image limits c w t) _ on).1
 takes image limits c (Enter w t k) on =
-    let p = both (has_thread image limits c w t) _ on in let q = both (is_lock image k) _ p.1 in let r = both (runs c t) _ q.1 in let s = both (is_between c t) _ r.1 in let u = both _ _ s.1 in
+    let p = and_parts (has_thread image limits c w t) _ on in let q = and_parts (is_lock image k) _ p.1 in
+    let r = and_parts (runs c t) _ q.1 in let s = and_parts (is_between c t) _ r.1 in let u = and_parts _ _ s.1 in
     let numbers = known image limits c (Enter w t k) on in
-    enter_takes image c t k numbers.0 numbers.1 (number_is (next_lock image (c.machine.threads t)) k u.0) (not_true _ u.1)
+    enter_takes image c t k numbers.0 numbers.1 (number_is (next_lock image (c.machine.threads t)) k u.0) (not-true _ u.1)
 takes image limits c (Take w t k) on =
-    let p = both (is_lock image k) _ (both (has_thread image limits c w t) _ on).1 in let q = both (is_first (c.custody k).line t) _ p.1 in
+    let p = and_parts (is_lock image k) _ (and_parts (has_thread image limits c w t) _ on).1 in let q = and_parts (is_first (c.custody k).line t) _ p.1 in
     let one = free_one (c.custody k).place (c.custody k).left q.1 in
     custody_takes image c k (taken_by (c.custody k) t) 1 (known image limits c (Take w t k) on) (omega (arith, one)) (λ u. refl)
 takes image limits c (Ship w t k) on =
-    let two = at_two (c.course t).place w (thread_at image limits c w t (both (has_thread image limits c w t) _ on).0) in
+    let two = at_two (c.course t).place w (thread_at image limits c w t (and_parts (has_thread image limits c w t) _ on).0) in
     only_place image c t (Waiting k) 1 (known image limits c (Ship w t k) on) (omega (arith, two))
 takes image limits c (Adopt w t k) on =
     let numbers = known image limits c (Adopt w t k) on in
-    pass_takes image limits c w t k ((c.custody k).run + 1) (At w) (both (may_pass image limits c w t k) (adopts limits c k) on).0 numbers.0 numbers.1 refl
+    pass_takes image limits c w t k ((c.custody k).run + 1) (At w) (and_parts (may_pass image limits c w t k) (adopts limits c k) on).0 numbers.0 numbers.1 refl
 takes image limits c (Grant w t k) on =
     let numbers = known image limits c (Grant w t k) on in
-    pass_takes image limits c w t k 0 Ready (both (may_pass image limits c w t k) _ on).0 numbers.0 numbers.1 refl
+    pass_takes image limits c w t k 0 Ready (and_parts (may_pass image limits c w t k) _ on).0 numbers.0 numbers.1 refl
 takes image limits c (Leave w k) on =
-    let p = both (has_lock image limits c w k) _ on in let q = both _ _ p.1 in
-    let four = loose_is (c.custody k).place w (c.custody k).left false (lock_is_loose image limits c w k p.0) (not_true _ q.0) in
+    let p = and_parts (has_lock image limits c w k) _ on in let q = and_parts _ _ p.1 in
+    let four = loose_is (c.custody k).place w (c.custody k).left false (lock_is_loose image limits c w k p.0) (not-true _ q.0) in
     let two = loose_is (c.custody k).place w true true (lock_is_loose image limits c w k p.0) refl in
     line_takes image c k (head_of (c.custody k).line) (left_by_all (c.custody k)) 1 (known image limits c (Leave w k) on) (omega (arith, four, two)) (λ u ne. single_in (c.custody k).line u q.1 ne)
 takes image limits c (Free w k) on =
-    let p = both (has_lock image limits c w k) _ on in
+    let p = and_parts (has_lock image limits c w k) _ on in
     let two = loose_is (c.custody k).place w (c.custody k).left true (lock_is_loose image limits c w k p.0) p.1 in
     custody_takes image c k (freed (c.custody k)) 1 (known image limits c (Free w k) on) (omega (arith, two)) (λ u. refl)
 takes image limits c (HandBack w t) on =
-    let two = at_two (c.course t).place w (thread_at image limits c w t (both (has_thread image limits c w t) _ on).0) in
+    let two = at_two (c.course t).place w (thread_at image limits c w t (and_parts (has_thread image limits c w t) _ on).0) in
     only_place image c t Ready 0 (known image limits c (HandBack w t) on) (omega (arith, two))
 takes image limits c (Park w t) on =
-    let two = at_two (c.course t).place w (thread_at image limits c w t (both (has_thread image limits c w t) _ (both (may_go_back image limits c w t) _ on).0).0) in
+    let has = (and_parts (has_thread image limits c w t) _ (and_parts (may_go_back image limits c w t) _ on).0).0 in
+    let two = at_two (c.course t).place w (thread_at image limits c w t has) in
     only_place image c t Parked 0 (known image limits c (Park w t) on) (omega (arith, two))
 takes image limits c (Finish w t) on =
-    let two = at_two (c.course t).place w (thread_at image limits c w t (both (has_thread image limits c w t) _ on).0) in
+    let two = at_two (c.course t).place w (thread_at image limits c w t (and_parts (has_thread image limits c w t) _ on).0) in
     only_place image c t Done 1 (known image limits c (Finish w t) on) (omega (arith, two))
 
 -- ---- all events

@@ -3,6 +3,7 @@ use Rattle.std.proofs.Common.{◌≡◌, ◌≢◌, ℕ, zero, suc, ◌+◌, ◌
 use Rattle.std.proofs.Math.Bool.{or-true, or-false}
 use Rattle.std.specs.Prelude.{Some, if◌then◌else◌}
 use Rattle.std.specs.Option.{option_map}
+use Rattle.std.proofs.lemmas.Bool.{and_parts}
 use Rattle.std.proofs.lemmas.Bool.Decides.{nat_tests, eqb_tells}
 use Rattle.std.specs.List.{range_with_len}
 use Rattle.std.proofs.lemmas.List.{map-append}
@@ -28,7 +29,7 @@ use Rattle.tc_core.specs.declared.place.Custody.{Custody}
 use Rattle.tc_core.specs.Core.{Limits, is_number, with_of}
 use Rattle.tc_core.specs.Events.{is_enabled, effect, has_thread, is_worker, course_past, custody_past, release_of, after_commit}
 use Rattle.tc_core.specs.Stories.{AreEnabled}
-use Rattle.tc_core.proofs.Quiet.{both, pick_mine, pick_other}
+use Rattle.tc_core.proofs.Quiet.{pick_mine, pick_other}
 use Rattle.tc_core.proofs.Tracked.{tracked_after, first_tracked}
 use Rattle.tc_core.proofs.Unfinished.{done_of, ended_of, keeps_commit, block_runs}
 use Rattle.tc_core.proofs.Whole.{first_keeps}
@@ -97,7 +98,9 @@ module _ (image : Shown) (limits : Limits) (fuel : ℕ) (base : State) (s : Writ
 
   worker_in : w < limits.workers
   unfolding is_enabled
-  worker_in = (let e : is_worker limits w ≡ true = (both (is_worker limits w) _ (both (has_thread image limits s.core w t) _ on).0).0 in grind (arith, nat_tests))
+  worker_in =
+      (let e : is_worker limits w ≡ true = (and_parts (is_worker limits w) _ (and_parts (has_thread image limits s.core w t) _ on).0).0 in
+      grind (arith, nat_tests))
 
   stands_is : Stands image s.history base b to
   stands_is = record { runs = runs; held = (is.threads t).locks runs.some; pc = (is.threads t).from; section = (is.threads t).section runs.some; first = (is.threads t).starts }

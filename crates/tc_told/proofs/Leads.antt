@@ -1,6 +1,7 @@
 -- Events that come one after the other, and what stays as they come.
 use Rattle.std.proofs.Common.{◌≡◌, ℕ, true, List, [], ◌∷◌, ◌++◌, refl, sym, subst}
 use Rattle.std.specs.Prelude.{is_some}
+use Rattle.std.proofs.lemmas.Bool.{and_parts}
 use Rattle.tc_elf.specs.Shown.{Shown}
 use Rattle.tc_core.specs.declared.event.Event.{Event}
 use Rattle.tc_core.specs.declared.event.Event.TheVariants.{Commit}
@@ -8,7 +9,6 @@ use Rattle.tc_core.specs.Core.{Core, Limits}
 use Rattle.tc_core.specs.Events.{is_enabled, has_thread}
 use Rattle.tc_core.specs.View.{IsSoundCore}
 use Rattle.tc_core.specs.Stories.{AreEnabled}
-use Rattle.tc_core.proofs.Quiet.{both}
 use Rattle.tc_core.proofs.Erasure.{sound_after}
 use Rattle.tc_core.proofs.Tracked.{Tracks, tracked_after}
 use Rattle.tc_told.specs.Written.{Written, write, write_all}
@@ -59,4 +59,4 @@ and_then image limits s P Q first next =
 -- a Commit that may come is of a block that has ended
 pub ends_it : (image : Shown) (limits : Limits) (c : Core) (w t : ℕ) → is_enabled image limits c (Commit w t) ≡ true → is_some (c.course t).ended ≡ true
 unfolding is_enabled
-ends_it image limits c w t on = (both (has_thread image limits c w t) _ on).1
+ends_it image limits c w t on = (and_parts (has_thread image limits c w t) _ on).1

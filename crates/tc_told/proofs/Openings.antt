@@ -3,6 +3,7 @@ use Rattle.std.proofs.Common.{◌≡◌, ℕ, ◌+◌, ◌<◌, Bool, true, fals
 use Rattle.std.specs.Cmp.Derive.{both_true}
 use Rattle.std.specs.Prelude.{Option, Some, None, is_some, nat_lt, if◌then◌else◌}
 use Rattle.std.specs.Option.{option_map}
+use Rattle.std.proofs.lemmas.Bool.{and_parts, not-true}
 use Rattle.std.proofs.lemmas.Bool.Decides.{nat_tests, eqb_tells}
 use Rattle.tc_elf.specs.Shown.{Shown}
 use Rattle.tc_journal.specs.Batch.{begins, is_lock, is_section, ends_section, unlocks, ends_thread, is_only, may_adopt, may_begin, may_go_on, may_follow, allows_of, passes_on, passes_to, last_of, run_of, run_after, is_adopted}
@@ -26,8 +27,7 @@ use Rattle.tc_core.specs.Lines as line
 use Rattle.tc_core.specs.Core.{Limits, is_claimable, is_slept}
 use Rattle.tc_core.specs.Events.{is_enabled, effect, is_worker, is_thread, is_adoptable, entered, taken_by, passed_to, left_by_all, freed}
 use Rattle.tc_core.specs.Events as events
-use Rattle.tc_core.proofs.Quiet.{both, pick_mine, pick_other, quiet_event}
-use Rattle.tc_core.proofs.Erasure.{not_true}
+use Rattle.tc_core.proofs.Quiet.{pick_mine, pick_other, quiet_event}
 use Rattle.tc_told.specs.Written.{Written, write, place_after}
 use Rattle.tc_told.proofs.Leads.{Kept, Leads, stays, comes, and_then}
 use Rattle.tc_told.proofs.Front.{place_by, line_by, kind_by, Front, between_quiet}
@@ -47,7 +47,8 @@ unfolding passes_on
 passed k bs b begin e = ap (λ v. if v then passes_to (last_of bs) b.kind b.thread else true) (sym begin) ∙ e
 
 pub adopt_ends : (c : Block) (k run limit : ℕ) → may_adopt c k run limit ≡ true → ends_section k c ≡ true
-adopt_ends c k run limit e = (let u = both (unlocks k c.end) (is_only c.held k) (both _ (nat_lt run limit) e).0 in ap (λ v. v || ends_thread c.end) u.0)
+adopt_ends c k run limit e =
+    (let u = and_parts (unlocks k c.end) (is_only c.held k) (and_parts _ (nat_lt run limit) e).0 in ap (λ v. v || ends_thread c.end) u.0)
 
 -- the kind of a block that takes no lock
 kind_none : (kd : Kind) (seen : Bool) → is_section kd ≡ false → is_first kd ≡ not seen → kind_by seen ≡ kd
@@ -277,10 +278,11 @@ module _ (image : Shown) (limits : Limits) (seen : List Block) (m to : State) (b
       by_kind kind.Taken (Some c) e last rule pass = taken_on c e last rule
       by_kind kind.Adopted None e last rule pass = absurd (cc)
       by_kind kind.Adopted (Some c) e last rule pass =
-          (let r = both (may_adopt c k (run_of k bs) limits.batch) _ rule in adopted c e last r.0 (not_true (c.thread == t) pass))
+          (let r = and_parts (may_adopt c k (run_of k bs) limits.batch) _ rule in adopted c e last r.0 (not-true (c.thread == t) pass))
       by_kind kind.Granted None e last rule pass = absurd (cc)
       by_kind kind.Granted (Some c) e last rule pass =
-          (let r = both (ends_section k c) _ rule in granted c e last r.0 (not_true (may_adopt c k (run_of k bs) limits.batch) r.1) (not_true (c.thread == t) pass))
+          (let r = and_parts (ends_section k c) _ rule in
+          granted c e last r.0 (not-true (may_adopt c k (run_of k bs) limits.batch) r.1) (not-true (c.thread == t) pass))
 
       section : may_follow k limits.batch (map of_one bs) (of_one b) ≡ true → passes_on k bs b ≡ true → Leads image limits s Op
       section follow pass = by_kind b.kind (last_of bs) refl refl (allowed k limits.batch bs b begin follow) (passed k bs b begin pass)

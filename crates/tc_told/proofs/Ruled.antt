@@ -2,7 +2,7 @@
 use Rattle.std.proofs.Common.{◌≡◌, ◌≢◌, ℕ, ◌+◌, ◌<◌, Bool, true, false, not, ◌&&◌, ◌==◌, List, refl, sym, ap, subst, ◌∙◌, arith, inl, inr}
 use Rattle.std.specs.Cmp.Derive.{both_true}
 use Rattle.std.specs.Prelude.{Option, Some, None, All, is_some, if◌then◌else◌}
-use Rattle.std.proofs.lemmas.Bool.{eqb-true}
+use Rattle.std.proofs.lemmas.Bool.{eqb-true, and_parts, not-true}
 use Rattle.std.proofs.lemmas.Bool.Decides.{eqb_tells}
 use Rattle.tc_isa.specs.Sets.{has}
 use Rattle.tc_elf.specs.Shown.{Shown}
@@ -29,14 +29,15 @@ use Rattle.tc_core.specs.Core.{Limits, is_free_lock, is_granted, is_loose}
 use Rattle.tc_core.specs.Events.{is_enabled, effect, has_thread, has_lock, is_thread, is_between, may_pass, adopts, is_adoptable, held_with, entered, taken_by, passed_to, left_by_all, freed, custody_on, after_turn, end_here, course_on}
 use Rattle.tc_core.specs.Events as events
 use Rattle.tc_core.proofs.Gathering.{from_set}
-use Rattle.tc_core.proofs.Quiet.{both, Quiet, is_quiet, quiet_event, pick_mine, pick_other, lock_is_loose}
-use Rattle.tc_core.proofs.Erasure.{MayTurn, may_turn, not_true, take_facts, taken_other, turn_is}
+use Rattle.tc_core.proofs.Quiet.{Quiet, is_quiet, quiet_event, pick_mine, pick_other, lock_is_loose}
+use Rattle.tc_core.proofs.Erasure.{MayTurn, may_turn, take_facts, taken_other, turn_is}
 use Rattle.tc_core.proofs.Parts.{no_end}
 use Rattle.tc_core.proofs.Tracked.{Tracks, tracked_after}
 use Rattle.tc_core.proofs.Unfinished.{Keeps, done_of, keeps_quiet, keeps_turn}
+use Rattle.tc_core.proofs.Standing.{first_in}
 use Rattle.tc_told.specs.Written.{Beginning, Written, write, as_of_one}
 use Rattle.tc_told.proofs.Committed.{held_with_has, is_lock_other, taken_is, takes_or}
-use Rattle.tc_told.proofs.Standing.{Stand, stand_of, Rule, Waits, IsGranted, is_fresh, IsReleased, IsLockAt, PassesBy, stays_so, first_in, entered_so, free_waits, second_waits, released_is, taken_so, passed_so, locked_so, left_so, freed_so}
+use Rattle.tc_told.proofs.Standing.{Stand, stand_of, Rule, Waits, IsGranted, is_fresh, IsReleased, IsLockAt, PassesBy, stays_so, entered_so, free_waits, second_waits, released_is, taken_so, passed_so, locked_so, left_so, freed_so}
 
 -- a thread whose last block but this led to d, with the held set and the pc of its block
 pub record IsThreadAt (image : Shown) (seen : List Block) (custody : ℕ → Custody) (t held pc : ℕ) (d : Thread) (a : Stand) : Type 0 where
@@ -222,10 +223,11 @@ module _ (image : Shown) (limits : Limits) (fuel : ℕ) (base : State) (s : Writ
   pub on_enter : (w t lock : ℕ) → is_enabled image limits s.core (Enter w t lock) ≡ true → Now (write image s (Enter w t lock))
   unfolding effect is_enabled
   on_enter w t lock on =
-      let p = both (has_thread image limits s.core w t) _ on in let q = both (events.is_lock image lock) _ p.1 in let r = both (events.runs s.core t) _ q.1 in let u = both (is_between s.core t) _ r.1 in let v = both _ _ u.1 in
+      let p = and_parts (has_thread image limits s.core w t) _ on in let q = and_parts (events.is_lock image lock) _ p.1 in
+      let r = and_parts (events.runs s.core t) _ q.1 in let u = and_parts (is_between s.core t) _ r.1 in let v = and_parts _ _ u.1 in
       let none : (at t).turns ≡ 0 = eqb-true (s.core.course t).turns 0 u.0 in
       let next : (at t).next ≡ Some lock = from_set _ lock v.0 in
-      let out : is_in_line (x_of lock).line t ≡ false = not_true _ v.1 in
+      let out : is_in_line (x_of lock).line t ≡ false = not-true _ v.1 in
       let wants : Waits lock (at t) = record {
         turns = none;
         next = next;
@@ -237,19 +239,20 @@ module _ (image : Shown) (limits : Limits) (fuel : ℕ) (base : State) (s : Writ
   pub on_leave : (w lock : ℕ) → is_enabled image limits s.core (Leave w lock) ≡ true → Now (write image s (Leave w lock))
   unfolding effect is_enabled
   on_leave w lock on =
-      let p = both (has_lock image limits s.core w lock) _ on in
+      let p = and_parts (has_lock image limits s.core w lock) _ on in
       shifted (Leave w lock) on refl refl refl lock (left_by_all (x_of lock)) refl (λ k e. e) (left_so limits.batch lock (of_lock s.history lock) at (x_of lock) (is.locks lock) w (has_it w lock p.0))
 
   pub on_free : (w lock : ℕ) → is_enabled image limits s.core (Free w lock) ≡ true → Now (write image s (Free w lock))
   unfolding effect is_enabled
   on_free w lock on =
-      let p = both (has_lock image limits s.core w lock) _ on in
+      let p = and_parts (has_lock image limits s.core w lock) _ on in
       shifted (Free w lock) on refl refl refl lock (freed (x_of lock)) refl (λ k e. loose_grants (x_of lock).place w k (has_it w lock p.0) e) (freed_so limits.batch lock (of_lock s.history lock) at (x_of lock) (is.locks lock) w (has_it w lock p.0) p.1)
 
   pub on_take : (w t lock : ℕ) → is_enabled image limits s.core (Take w t lock) ≡ true → Now (write image s (Take w t lock))
   unfolding effect is_enabled
   on_take w t lock on =
-      let p = both (has_thread image limits s.core w t) _ on in let q = both (events.is_lock image lock) _ p.1 in let r = both (line.is_first (x_of lock).line t) _ q.1 in
+      let p = and_parts (has_thread image limits s.core w t) _ on in let q = and_parts (events.is_lock image lock) _ p.1 in
+      let r = and_parts (line.is_first (x_of lock).line t) _ q.1 in
       granted_to (Take w t lock) on refl refl t lock kind.Taken (taken_by (x_of lock) t) refl refl (λ u e. free_grants (x_of lock).place u r.1 e) refl refl
       (free_waits limits.batch lock (of_lock s.history lock) at (x_of lock) (is.locks lock) t r.1 r.0)
       (λ f others mine. taken_so limits.batch lock (of_lock s.history lock) at (x_of lock) (is.locks lock) t f others mine r.1 r.0)
@@ -260,8 +263,8 @@ module _ (image : Shown) (limits : Limits) (fuel : ℕ) (base : State) (s : Writ
 
   passes_it : (w t lock : ℕ) → may_pass image limits s.core w t lock ≡ true → Passes w t lock
   passes_it w t lock e =
-      let p = both (has_lock image limits s.core w lock) _ e in let q = both _ _ p.1 in let r = both (is_thread image t) _ q.1 in
-      (has_it w lock p.0, not_true _ q.0, (both _ _ r.1).0)
+      let p = and_parts (has_lock image limits s.core w lock) _ e in let q = and_parts _ _ p.1 in let r = and_parts (is_thread image t) _ q.1 in
+      (has_it w lock p.0, not-true _ q.0, (and_parts _ _ r.1).0)
 
   released : (w t lock : ℕ) → Passes w t lock → IsReleased lock (of_lock s.history lock) (x_of lock)
   released w t lock may = released_is limits.batch lock (of_lock s.history lock) at (x_of lock) (is.locks lock) w may.0
@@ -273,7 +276,7 @@ module _ (image : Shown) (limits : Limits) (fuel : ℕ) (base : State) (s : Writ
   pub on_adopt : (w t lock : ℕ) → is_enabled image limits s.core (Adopt w t lock) ≡ true → Now (write image s (Adopt w t lock))
   unfolding effect is_enabled
   on_adopt w t lock on =
-      let p = both (may_pass image limits s.core w t lock) (adopts limits s.core lock) on in
+      let p = and_parts (may_pass image limits s.core w t lock) (adopts limits s.core lock) on in
       let may = passes_it w t lock p.0 in
       let r = released w t lock may in
       granted_to (Adopt w t lock) on refl refl t lock kind.Adopted (passed_to (x_of lock) t ((x_of lock).run + 1)) refl refl (λ u e. loose_grants (x_of lock).place w u may.0 e) refl refl
@@ -284,7 +287,7 @@ module _ (image : Shown) (limits : Limits) (fuel : ℕ) (base : State) (s : Writ
   pub on_grant : (w t lock : ℕ) → is_enabled image limits s.core (Grant w t lock) ≡ true → Now (write image s (Grant w t lock))
   unfolding effect is_enabled
   on_grant w t lock on =
-      let p = both (may_pass image limits s.core w t lock) (not (adopts limits s.core lock)) on in
+      let p = and_parts (may_pass image limits s.core w t lock) (not (adopts limits s.core lock)) on in
       let may = passes_it w t lock p.0 in
       let r = released w t lock may in
       granted_to (Grant w t lock) on refl refl t lock kind.Granted (passed_to (x_of lock) t 0) refl refl (λ u e. loose_grants (x_of lock).place w u may.0 e) refl refl
@@ -330,7 +333,7 @@ module _ (image : Shown) (limits : Limits) (fuel : ℕ) (base : State) (s : Writ
     some_turn = elim (eqb_tells (later t).turns 0) [ inl h ↦ absurd (omega (arith, h.1, more)) | inr h ↦ h.0 ]
 
     granted_it : (k : ℕ) → taken ≡ Some k → is_granted (x_of k).place t ≡ true
-    granted_it k e = (both (is_between s.core t) _ (ap (λ o. events.may_take o t s.core) (sym e) ∙ may.take)).1
+    granted_it k e = (and_parts (is_between s.core t) _ (ap (λ o. events.may_take o t s.core) (sym e) ∙ may.take)).1
 
     first_is : (at t).turns ≡ 0 → (at t).first ≡ taken
     first_is e = ap (next_lock image) (base_thread t e)

@@ -1,10 +1,11 @@
 -- How threads and locks stand to the blocks that are written, after any events.
-use Rattle.std.proofs.Common.{◌≡◌, ◌≢◌, ℕ, ◌+◌, ◌-◌, Bool, true, false, not, ◌&&◌, ◌||◌, ◌==◌, List, [], ◌∷◌, ◌++◌, length, map, refl, sym, ap, subst, ◌∙◌, inl, inr}
+use Rattle.std.proofs.Common.{◌≡◌, ◌≢◌, ℕ, ◌+◌, ◌-◌, Bool, true, false, not, ◌&&◌, ◌||◌, ◌==◌, List, [], ◌∷◌, ◌++◌, length, map, refl, sym, ap, subst, ◌∙◌, arith, inl, inr}
 use Rattle.std.specs.Cmp.Derive.{both_true}
 use Rattle.std.specs.Prelude.{Option, Some, None, slice_get, if◌then◌else◌}
 use Rattle.std.specs.Option.{option_map}
 use Rattle.std.proofs.lemmas.Bool.Decides.{eqb_tells}
 use Rattle.std.proofs.lemmas.List.{length-map}
+use Rattle.std.proofs.lemmas.List.Folds.{list_any-append}
 use Rattle.std.proofs.lemmas.Option.{slice_get-map}
 use Rattle.tc_elf.specs.Shown.{Shown}
 use Rattle.tc_journal.specs.Batch.{is_section, is_adopted, is_passed, is_lock, begins, ends_section, may_begin, may_go_on, may_follow, allows_of, passes_to, passes_on, last_of, run_of, run_from, run_after}
@@ -23,6 +24,9 @@ use Rattle.tc_core.specs.declared.place.Release.{Release}
 use Rattle.tc_core.specs.Lines.{is_in_line, is_first, is_second, rest_of}
 use Rattle.tc_core.specs.Core.{is_free_lock, is_granted, is_loose, is_number, with_of}
 use Rattle.tc_core.specs.Events.{custody_past, entered, taken_by, passed_to, left_by_all, freed}
+use Rattle.tc_core.proofs.Served.{first_more}
+use Rattle.tc_core.proofs.Waiting.{in_rest}
+use Rattle.tc_core.proofs.Standing.{first_in}
 use Rattle.tc_told.specs.Written.{Written}
 use Rattle.tc_told.proofs.Custodies.{past_held, past_loose}
 
@@ -122,16 +126,7 @@ pub record IsLockAt (limit k : ℕ) (bs : List Block) (at : ℕ → Stand) (x : 
   pub rule : Rule limit k bs at x x.place
 
 in_more : (line : List ℕ) (t u : ℕ) → is_in_line (line ++ t ∷ []) u ≡ (is_in_line line u || (t == u))
-in_more [] t u = go (t == u)
-  where
-    go : (v : Bool) → (v || false) ≡ v
-    go true = refl
-    go false = refl
-in_more (v ∷ vs) t u = go (v == u) (is_in_line vs u) (t == u) (is_in_line (vs ++ t ∷ []) u) (in_more vs t u)
-  where
-    go : (a b c d : Bool) → d ≡ (b || c) → (a || d) ≡ ((a || b) || c)
-    go true b c d e = refl
-    go false b c d e = e
+in_more line t u = grind (arith, list_any-append (λ v. v == u) line (t ∷ []))
 
 once_more : (line : List ℕ) (t : ℕ) → Once line → is_in_line line t ≡ false → Once (line ++ t ∷ [])
 once_more [] t once out = (refl, tt)
@@ -155,30 +150,14 @@ once_rest (u ∷ us) once = once.1
 
 -- the first of a line is not in the rest of it
 rest_differs : (line : List ℕ) (t u : ℕ) → Once line → is_first line t ≡ true → is_in_line (rest_of line) u ≡ true → u ≢ t
-rest_differs [] t u once first in_rest e = absurd (cc)
-rest_differs (v ∷ vs) t u once first in_rest e = elim (eqb_tells v t) [
-  | inl h ↦ (let same : u ≡ v = e ∙ sym h.1 in let f : true ≡ false = sym in_rest ∙ ap (λ y. is_in_line vs y) same ∙ once.0 in cc)
+rest_differs [] t u once first later e = absurd (cc)
+rest_differs (v ∷ vs) t u once first later e = elim (eqb_tells v t) [
+  | inl h ↦ (let same : u ≡ v = e ∙ sym h.1 in let f : true ≡ false = sym later ∙ ap (λ y. is_in_line vs y) same ∙ once.0 in cc)
   | inr h ↦ (let f : true ≡ false = sym first ∙ h.0 in cc)
 ]
 
-in_rest : (line : List ℕ) (u : ℕ) → is_in_line (rest_of line) u ≡ true → is_in_line line u ≡ true
-in_rest [] u e = absurd (cc)
-in_rest (v ∷ vs) u e = go (v == u) (is_in_line vs u) e
-  where
-    go : (a b : Bool) → b ≡ true → (a || b) ≡ true
-    go true b e = refl
-    go false b e = e
-
-pub first_in : (line : List ℕ) (t : ℕ) → is_first line t ≡ true → is_in_line line t ≡ true
-first_in [] t e = absurd (cc)
-first_in (v ∷ vs) t e = ap (λ b. b || is_in_line vs t) e
-
 second_in : (line : List ℕ) (t : ℕ) → is_second line t ≡ true → is_in_line (rest_of line) t ≡ true
 second_in line t e = first_in (rest_of line) t e
-
-first_more : (line : List ℕ) (t u : ℕ) → is_first line t ≡ true → is_first (line ++ u ∷ []) t ≡ true
-first_more [] t u e = absurd (cc)
-first_more (v ∷ vs) t u e = e
 
 -- who comes last in a line is in the rest of it, or was so
 rest_more : (line : List ℕ) (t u : ℕ) → is_in_line (rest_of (line ++ t ∷ [])) u ≡ true → (is_in_line (rest_of line) u || (t == u)) ≡ true

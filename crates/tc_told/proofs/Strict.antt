@@ -3,6 +3,7 @@ use Rattle.std.proofs.Common.{◌≡◌, ℕ, ◌+◌, ◌<◌, Bool, true, fals
 use Rattle.std.specs.Cmp.Derive.{both_true}
 use Rattle.std.specs.Option.{option_map}
 use Rattle.std.specs.Prelude.{Option, Some, None, All, if◌then◌else◌}
+use Rattle.std.proofs.lemmas.Bool.{and_parts}
 use Rattle.std.proofs.lemmas.List.{map-append}
 use Rattle.std.proofs.lemmas.List.Elements.{All-cons, All-nil}
 use Rattle.tc_elf.specs.Shown.{Shown}
@@ -14,7 +15,6 @@ use Rattle.tc_journal.specs.declared.block.Kind.TheVariants as kind
 use Rattle.tc_mutex_spec.specs.Machine.{State}
 use Rattle.tc_mutex_spec.specs.Blocks.{Tells}
 use Rattle.tc_core.specs.Core.{Limits}
-use Rattle.tc_core.proofs.Quiet.{both}
 use Rattle.tc_told.specs.Written.{IsWritten, KeepsRules}
 use Rattle.tc_told.proofs.Small.{IsSmall}
 use Rattle.tc_told.proofs.Standing.{of_one, last_one, run_one}
@@ -27,7 +27,7 @@ begin_one k limit None run kind.Taken w e = refl
 begin_one k limit None run kind.Adopted w e = absurd (cc)
 begin_one k limit None run kind.Granted w e = absurd (cc)
 begin_one k limit (Some b) run kind.Taken w e = e
-begin_one k limit (Some b) run kind.Adopted w e = both_true (both (may_adopt b k run limit) _ e).0 refl
+begin_one k limit (Some b) run kind.Adopted w e = both_true (and_parts (may_adopt b k run limit) _ e).0 refl
 begin_one k limit (Some b) run kind.Granted w e = e
 
 go_on_one : (k : ℕ) (o : Option Block) (t : ℕ) → may_go_on k o t ≡ true → may_go_on k (option_map of_one o) t ≡ true

@@ -2,6 +2,7 @@
 use Rattle.std.proofs.Common.{◌≡◌, ◌≢◌, ℕ, zero, suc, ◌+◌, ◌<◌, true, not, ◌==◌, length, refl, ap, subst, ◌∙◌, arith}
 use Rattle.std.specs.Cmp.Derive.{both_true}
 use Rattle.std.specs.Prelude.{Option, Some, None, is_some, nat_lt}
+use Rattle.std.proofs.lemmas.Bool.{and_parts}
 use Rattle.tc_elf.specs.Shown.{Shown}
 use Rattle.tc_journal.specs.Rule.{end_rule}
 use Rattle.tc_journal.specs.declared.block.End.{End}
@@ -17,7 +18,7 @@ use Rattle.tc_core.specs.declared.place.LockPlace.TheVariants.{Granted}
 use Rattle.tc_core.specs.declared.place.Course.{Course}
 use Rattle.tc_core.specs.Core.{Core, Limits, is_at, is_granted}
 use Rattle.tc_core.specs.Events.{is_enabled, effect, is_worker, is_thread, may_take, held_with, end_here, course_on, custody_on}
-use Rattle.tc_core.proofs.Quiet.{both, pick_mine, pick_other}
+use Rattle.tc_core.proofs.Quiet.{pick_mine, pick_other}
 use Rattle.tc_told.specs.Written.{Written}
 use Rattle.tc_told.proofs.Leads.{Kept, Leads, comes, and_then}
 
@@ -34,7 +35,7 @@ open_next outcome.Went n None e = refl
 -- a thread that has a turn is one and runs
 pub can_parts : (image : Shown) (m : State) (t : ℕ) → can_turn image m t ≡ true → (is_thread image t ≡ true) × (is_running (m.threads t).status ≡ true)
 unfolding can_turn
-can_parts image m t e = (let p = both (nat_lt t (length image.entries)) _ e in (p.0, (both _ _ p.1).0))
+can_parts image m t e = (let p = and_parts (nat_lt t (length image.entries)) _ e in (p.0, (and_parts _ _ p.1).0))
 
 -- the worker has the thread, which has no turn in its block, and its next turn may take the lock that it takes, if any
 pub record Starts (image : Shown) (limits : Limits) (m : State) (w t : ℕ) (s : Written) : Type 0 where

@@ -1,39 +1,33 @@
 -- What the program's writer does in a step, as what events write.
-use Rattle.std.proofs.Common.{◌≡◌, ℕ, ◌<◌, Bool, true, not, List, [], length, sym, ap, subst, ◌∙◌, arith}
+use Rattle.std.proofs.Common.{◌≡◌, ℕ, ◌<◌, Bool, true, List, [], length, sym, ap, subst, ◌∙◌}
 use Rattle.std.specs.Prelude.{Option, IfSome}
-use Rattle.std.proofs.lemmas.Bool.Decides.{nat_tests}
+use Rattle.std.proofs.lemmas.Bool.{and_parts}
 use Rattle.tc_elf.specs.Shown.{Shown}
 use Rattle.tc_journal.specs.declared.block.Block.{Block}
 use Rattle.tc_journal.specs.declared.block.Kind.TheVariants.{Start}
 use Rattle.tc_core.specs.declared.event.Event.{Event}
 use Rattle.tc_core.specs.declared.event.Event.TheVariants.{Claim, Turn, Commit, Enter, Take, Ship, Adopt, Grant, Leave, Free, HandBack, Park, Finish}
 use Rattle.tc_core.specs.Core.{Core, Limits, first_core}
-use Rattle.tc_core.specs.Events.{is_enabled, is_worker, is_thread, has_thread, has_lock, may_pass}
+use Rattle.tc_core.specs.Events.{is_enabled, has_thread}
 use Rattle.tc_core.specs.View.{CoreView, core_of, limits_of, Stepped}
-use Rattle.tc_core.proofs.Quiet.{both}
+use Rattle.tc_core.proofs.Known.{known, of_thread}
 use Rattle.tc_told.specs.Written.{Beginning, Written, said_by, with_said, block_by, with_block, first_written}
 use Rattle.tc_told.specs.View.{WriterView, beginning_at, written_of, DidWrite}
 
 abbrev IsKnown : Shown → Option (ℕ × Beginning) → Type 0
 IsKnown image said = IfSome said (λ p. p.0 < length image.entries)
 
-of_thread : (image : Shown) (limits : Limits) (s : Written) (w t : ℕ) → has_thread image limits s.core w t ≡ true → t < length image.entries
-of_thread image limits s w t e = (let known : is_thread image t ≡ true = (both (is_thread image t) _ (both (is_worker limits w) _ e).1).0 in grind (arith, nat_tests))
-
-of_pass : (image : Shown) (limits : Limits) (s : Written) (w t lock : ℕ) → may_pass image limits s.core w t lock ≡ true → t < length image.entries
-of_pass image limits s w t lock e = (let known : is_thread image t ≡ true = (both (is_thread image t) _ (both (not (s.core.custody lock).left) _ (both (has_lock image limits s.core w lock) _ e).1).1).0 in grind (arith, nat_tests))
-
 -- an event that is enabled says something of threads that there are
 pub said_known : (image : Shown) (limits : Limits) (s : Written) (e : Event) → is_enabled image limits s.core e ≡ true → IsKnown image (said_by s e)
 unfolding is_enabled
 said_known image limits s (Claim w t) on = tt
 said_known image limits s (Turn w t) on = tt
-said_known image limits s (Commit w t) on = of_thread image limits s w t (both (has_thread image limits s.core w t) _ on).0
+said_known image limits s (Commit w t) on = known image limits s.core (Commit w t) on
 said_known image limits s (Enter w t lock) on = tt
-said_known image limits s (Take w t lock) on = of_thread image limits s w t (both (has_thread image limits s.core w t) _ on).0
+said_known image limits s (Take w t lock) on = of_thread image limits s.core w t (and_parts (has_thread image limits s.core w t) _ on).0
 said_known image limits s (Ship w t lock) on = tt
-said_known image limits s (Adopt w t lock) on = of_pass image limits s w t lock (both (may_pass image limits s.core w t lock) _ on).0
-said_known image limits s (Grant w t lock) on = of_pass image limits s w t lock (both (may_pass image limits s.core w t lock) _ on).0
+said_known image limits s (Adopt w t lock) on = (known image limits s.core (Adopt w t lock) on).0
+said_known image limits s (Grant w t lock) on = (known image limits s.core (Grant w t lock) on).0
 said_known image limits s (Leave w lock) on = tt
 said_known image limits s (Free w lock) on = tt
 said_known image limits s (HandBack w t) on = tt
