@@ -137,7 +137,23 @@ class InABrowser(Case):
 
     def test_a_history_on_paper(self) -> None:
         found = self.found(made(BY_HAND, GUEST), "page-steps.js")
-        self.check(found["seen"])
+        seen = found["seen"]
+        self.assertEqual([one["step"] for one in seen], list(range(7)))
+        # Block 1: worker 0 has thread 0 with lock 0. Thread 1 has not begun.
+        self.assertEqual([text.split() for text in seen[1]["workers"]], [["worker", "0", "0", "0"], ["worker", "1"]])
+        self.assertEqual((seen[1]["home"], seen[1]["ready"].split()), ("with thread 0, worker 0", ["1", "not", "begun"]))
+        self.assertIn("00000001 was 00000000", seen[1]["bytes"])
+        # Block 2: thread 1 comes to its LOCK behind block 1, before worker 0 has done the release.
+        self.assertEqual(seen[2]["workers"][1].split()[:3], ["worker", "1", "1"])
+        self.assertEqual(seen[2]["home"], "0 with worker 0, which releases it")
+        # Block 3: worker 0 runs the adopted section of thread 1, and thread 0 is ready.
+        self.assertEqual([text.split() for text in seen[3]["workers"]], [["worker", "0", "1", "0"], ["worker", "1"]])
+        self.assertIn("block 1 released it, and the same worker goes on with this section: adopted", seen[3]["says"])
+        self.assertIn("The context came from worker 1, which ran its block 2.", seen[3]["says"])
+        self.assertIn("00000002 was 00000001", seen[3]["bytes"])
+        self.assertIn("x7 t2\t00000002 was 00000000", seen[3]["registers"])
+        # Behind the last block both have ended, and the lock is free.
+        self.assertEqual((seen[6]["ended"].split(), seen[6]["home"].split()), (["0", "exit", "1", "exit"], ["0", "free"]))
         # Shift and left arrow: to the section before; block 3 and then block 1 begin one.
         self.assertEqual([found[name] for name in ("back", "backTwice", "end", "section")], [3, 1, 6, 1])
 
@@ -164,24 +180,6 @@ class InABrowser(Case):
         content = path.read_bytes()
         self.assertTrue(content.startswith(b"%PDF-"))
         self.assertIn(len(re.findall(rb"/Type\s*/Page\b", content)), (1, 2, 3))
-
-    def check(self, seen: list[dict[str, Any]]) -> None:
-        self.assertEqual([one["step"] for one in seen], list(range(7)))
-        # Block 1: worker 0 has thread 0 with lock 0. Thread 1 has not begun.
-        self.assertEqual([text.split() for text in seen[1]["workers"]], [["worker", "0", "0", "0"], ["worker", "1"]])
-        self.assertEqual((seen[1]["home"], seen[1]["ready"].split()), ("with thread 0, worker 0", ["1", "not", "begun"]))
-        self.assertIn("00000001 was 00000000", seen[1]["bytes"])
-        # Block 2: thread 1 comes to its LOCK behind block 1, before worker 0 has done the release.
-        self.assertEqual(seen[2]["workers"][1].split()[:3], ["worker", "1", "1"])
-        self.assertEqual(seen[2]["home"], "0 with worker 0, which releases it")
-        # Block 3: worker 0 runs the adopted section of thread 1, and thread 0 is ready.
-        self.assertEqual([text.split() for text in seen[3]["workers"]], [["worker", "0", "1", "0"], ["worker", "1"]])
-        self.assertIn("block 1 released it, and the same worker goes on with this section: adopted", seen[3]["says"])
-        self.assertIn("The context came from worker 1, which ran its block 2.", seen[3]["says"])
-        self.assertIn("00000002 was 00000001", seen[3]["bytes"])
-        self.assertIn("x7 t2\t00000002 was 00000000", seen[3]["registers"])
-        # Behind the last block both have ended, and the lock is free.
-        self.assertEqual((seen[6]["ended"].split(), seen[6]["home"].split()), (["0", "exit", "1", "exit"], ["0", "free"]))
 
 
 # Threads 0 and 1 come to their LOCK, and worker 0 runs both sections: thread 1 waits in block 2.

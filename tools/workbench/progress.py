@@ -28,14 +28,13 @@ class Progress:
         return self
 
     def __exit__(self, kind: type[BaseException] | None, _: BaseException | None, __: TracebackType | None) -> bool:
-        self.clear()
+        clear()
         self.interrupted |= kind is KeyboardInterrupt
         return kind is KeyboardInterrupt
 
     def each(self, work: Iterable[Piece]) -> Iterator[Piece]:
-        """Each piece of work, with room for lines of its own; it is done when the next one is asked for."""
+        """Each piece of work, which is done when the next one is asked for."""
         for one in work:
-            self.clear()
             yield one
             self.reach(self.done + 1)
 
@@ -44,12 +43,6 @@ class Progress:
         self.done = done
         if self.is_shown and time.monotonic() >= self.written + EACH:
             self.show()
-
-    def clear(self) -> None:
-        """Makes room for a line of the work's own."""
-        if self.is_shown:
-            sys.stderr.write("\r\x1b[K")
-            sys.stderr.flush()
 
     def show(self) -> None:
         if self.is_shown:
@@ -73,6 +66,13 @@ class Progress:
         """Ends the tool too where the work was interrupted."""
         if self.interrupted:
             raise KeyboardInterrupt
+
+
+def clear() -> None:
+    """Makes room for a line of the work's own."""
+    if sys.stderr is not None and sys.stderr.isatty():
+        sys.stderr.write("\r\x1b[K")
+        sys.stderr.flush()
 
 
 def number(value: float) -> str:

@@ -124,6 +124,7 @@ def main(words: list[str]) -> int | None:
                     ratios[name] = measure(name, asked, peer, to)
                 except Failed as why:
                     failed += 1
+                    progress.clear()
                     print(f"{name}: {why}", flush=True)
     for folder, names in ("bench/", guests.GUESTS), ("guests/", FACTS):
         found = {name: ratios[name] for name in names if name in ratios}

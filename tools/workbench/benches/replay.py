@@ -84,6 +84,7 @@ def main(words: list[str]) -> int | None:
                 measure(name, fuel, asked, to)
             except Failed as why:
                 failed += 1
+                progress.clear()
                 print(f"{name}: {why}", flush=True)
     shown.end()
     return tool.WRONG if failed else tool.DONE

@@ -73,6 +73,7 @@ def ran(name: str, workers: int, asked: Namespace) -> tuple[process.Took, tuple[
     words = "run", workers, asked.fuel, asked.batch
     with process.over(guests.GUESTS[name](), words) as (status, took, written):
         if status:
+            progress.clear()
             print(f"{name}, {report.several(workers, 'worker')} ended with status {status}")
             return None
         return took, process.counts(written)

@@ -9,7 +9,7 @@ import statistics
 import time
 from typing import IO, Any, Iterable, NamedTuple, Sequence
 
-from .. import tool
+from .. import progress, tool
 
 
 class Column(NamedTuple):
@@ -45,6 +45,7 @@ class Table:
     def row(self, cells: Sequence[Any], runs: Any = None) -> None:
         """A row of numbers and texts; `runs` is what each run took, of which they were made."""
         self.keep({"cells": cells, "runs": runs})
+        progress.clear()
         print(row(self.columns, cells), flush=True)
 
 

@@ -225,8 +225,10 @@ def tried(trial: Callable[[Place, int], str], folder: pathlib.Path, runs: int) -
         said = trial(place, runs)
         place.is_clean()
     except (Wrong, subprocess.TimeoutExpired) as wrong:
+        progress.clear()
         print(f"{getattr(trial, '__name__')}: FAILED: {wrong}", flush=True)
         return False
+    progress.clear()
     print(f"{getattr(trial, '__name__')}: passed, {said}", flush=True)
     return True
 

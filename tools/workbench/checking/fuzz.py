@@ -160,7 +160,7 @@ def main(words: list[str]) -> int | None:
                     rejected[text and judge_histories(file, options, text, changes, f"{kept}.txt")] += 1
                 except report.Wrong as wrong:
                     failed += 1
-                    shown.clear()
+                    progress.clear()
                     print(f"{program.keep(f'{kept}.elf', file)}: run {' '.join(map(str, options))}: {wrong}")
                 seen[refused or ACCEPTED] += 1
     for what in sorted(seen, key=lambda what: int(what.split()[1]) if what != ACCEPTED else -1):

@@ -32,16 +32,6 @@ def history_of(content: bytes) -> tuple[dict[str, int], bytes]:
     return numbers or {}, b"".join(lines[:next(behind, len(lines))])
 
 
-def answer(form: str, file: bytes, numbers: tuple[int, ...], history: bytes, by_model: bool) -> tuple[int, str]:
-    """The status and the text, and who answered."""
-    why = None if by_model else program.missing()
-    if by_model or why:
-        tool.note("replay", "by the model" + (f": {why}" if why else ""))
-        return rejecting.Given(len(file), numbers, file + history).answer(form)
-    tool.note("replay", "by the program")
-    return program.run((form, len(file), *numbers), file + history)
-
-
 def main(words: list[str]) -> None:
     parser = tool.words("replay", __doc__, "guest")
     parser.add_argument("report", metavar="REPORT", nargs="?", default="-",
@@ -58,7 +48,13 @@ def main(words: list[str]) -> None:
     missing = [name for name in limits.RUN if name not in numbers]
     if missing:
         parser.error(f"the text has no header, and --{missing[0]} is missing")
-    status, text = answer(asked.form, file, tuple(numbers[name] for name in limits.RUN), history, asked.model)
+    why, of_run = None if asked.model else program.missing(), tuple(numbers[name] for name in limits.RUN)
+    if asked.model or why:
+        tool.note("replay", "by the model" + (f": {why}" if why else ""))
+        status, text = rejecting.Given(len(file), of_run, file + history).answer(asked.form)
+    else:
+        tool.note("replay", "by the program")
+        status, text = program.run((asked.form, len(file), *of_run), file + history)
     sys.stdout.write(text)
     if status:
         why = reasons.rejection(text.strip()) if status == limits.REJECTED else REFUSED if status == tool.WRONG else f"the program ended with status {status}"

@@ -208,6 +208,7 @@ def main(words: list[str]) -> None:
     done: List[Result] = []
     with progress.Progress("sweep", "runs", len(settings)) as shown:
         for result in shown.each(results(file, settings)):
+            progress.clear()
             table.writerows(lines(os.path.basename(asked.guest), result, asked.locks))
             done.append(result)
     sys.stdout.flush()
