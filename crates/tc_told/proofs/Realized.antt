@@ -1,14 +1,10 @@
 -- Each history that tells a run and keeps the rules of its locks is one that events of the pure machine write.
-use Rattle.std.proofs.Common.{◌≡◌, ℕ, ◌+◌, ◌<◌, Bool, true, false, ◌||◌, List, [], ◌∷◌, ◌++◌, length, map, refl, sym, ap, subst, ◌∙◌, append-nil, append_assoc, length-append, arith}
+use Rattle.std.proofs.Common.{◌≡◌, ℕ, ◌+◌, ◌<◌, Bool, true, ◌||◌, List, [], ◌∷◌, ◌++◌, length, map, refl, sym, ap, subst, ◌∙◌, append-nil, append_assoc, length-append, arith}
 use Rattle.std.specs.Prelude.{Option, Some, nat_lt, if◌then◌else◌, All}
 use Rattle.std.proofs.lemmas.Bool.Decides.{nat_tests}
 use Rattle.std.specs.List.{range_with_len}
-use Rattle.std.proofs.lemmas.List.{map-append}
-use Rattle.std.proofs.lemmas.List.Elements.{All-head, All-tail, filter-append}
-use Rattle.tc_isa.specs.Sets.{has}
+use Rattle.std.proofs.lemmas.List.Elements.{All-head, All-tail}
 use Rattle.tc_elf.specs.Shown.{Shown}
-use Rattle.tc_journal.specs.Batch.{ObeysAfter, PassesOnAfter, may_follow, passes_on}
-use Rattle.tc_journal.specs.History.{of_lock}
 use Rattle.tc_journal.specs.declared.block.Block.{Block}
 use Rattle.tc_turn.specs.Turn.{is_running, thread_at_start, no_thread, next_lock}
 use Rattle.tc_turn.proofs.Turns.{next_known}
@@ -19,7 +15,7 @@ use Rattle.tc_core.specs.declared.place.ThreadPlace.TheVariants.{Ready, Done}
 use Rattle.tc_core.specs.Core.{Limits}
 use Rattle.tc_core.proofs.Erasure.{first_sound}
 use Rattle.tc_core.proofs.Tracked.{first_tracked}
-use Rattle.tc_told.specs.Written.{Written, first_written, as_of_one, IsWritten, KeepsRules}
+use Rattle.tc_told.specs.Written.{Written, first_written, IsWritten, KeepsRules}
 use Rattle.tc_told.proofs.Leads.{Kept, Leads, stays, and_then}
 use Rattle.tc_told.proofs.Front.{Front}
 use Rattle.tc_told.proofs.Standing.{of_one}
