@@ -1,7 +1,7 @@
 -- From every state between blocks, further blocks lead to the end of every thread. They may all be of one worker, which goes on
 -- with each thread whose block was cut, with each section taken.
 use Rattle.std.proofs.Common.{◌≡◌, ℕ, zero, suc, ◌+◌, ◌<◌, ◌≤◌, Bool, true, false, not, ◌&&◌, ◌||◌, ◌==◌, List, [], ◌∷◌, ◌++◌, length, length-append, map, refl, sym, ap, subst, ◌∙◌, arith, inl, inr, append-nil, ◌⊎◌, filter}
-use Rattle.std.specs.Prelude.{Option, Some, None, IfSome, All, nat_lt, nat_le, ◌*◌, ◌^◌, is_some, if◌then◌else◌}
+use Rattle.std.specs.Prelude.{Option, Some, None, IfSome, All, nat_le, ◌*◌, ◌^◌, is_some, if◌then◌else◌}
 use Rattle.std.specs.List.{range_with_len}
 use Rattle.std.proofs.lemmas.Bool.Decides.{nat_tests, eqb_tells}
 use Rattle.std.proofs.Math.Pow.{pow_mono}

@@ -1,6 +1,6 @@
 -- A history that tells a run gives each lock its journal, and RV32IM replays the journal to the lock as the run leaves it.
 use Rattle.std.proofs.Common.{◌≡◌, ℕ, ◌≤◌, Bool, true, false, ◌||◌, List, [], ◌∷◌, ◌++◌, length, refl, sym, ap, subst, ◌∙◌, arith}
-use Rattle.std.specs.Prelude.{Option, None}
+use Rattle.std.specs.Prelude.{None}
 use Rattle.tc_isa.specs.Sets.{has}
 use Rattle.tc_elf.specs.Shown.{Shown}
 use Rattle.tc_elf.specs.declared.limits.TheConstants.{MAX_GUARDS}
