@@ -5,3 +5,4 @@ pub mod Replayed
 pub mod Top
 pub mod Wrong
 pub mod Accepted
+pub mod Existence

@@ -15,12 +15,13 @@
 //!   report and of a summary, of tc_report.
 //! - `status`: how the program ends. `top`: the top call.
 //! - `delegation`: what the history of a legal run is to the pure machine of tc_core, and what it shows of
-//!   each section.
+//!   each section. `existence`: that there is a legal run.
 #![tactic(auto)]
 
 mod answer;
 pub mod delegation;
 mod demo;
+pub mod existence;
 mod nodes;
 pub mod order;
 mod replay;

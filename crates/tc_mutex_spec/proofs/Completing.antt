@@ -1,23 +1,26 @@
--- From every state between blocks, further blocks lead to the end of every thread. They may all be of one worker, with each
--- section taken.
-use Rattle.std.proofs.Common.{◌≡◌, ℕ, zero, suc, ◌+◌, ◌<◌, ◌≤◌, Bool, true, false, not, ◌&&◌, ◌||◌, ◌==◌, List, [], ◌∷◌, ◌++◌, length, length-append, map, refl, sym, ap, subst, ◌∙◌, arith, inl, inr, append-nil}
-use Rattle.std.specs.Prelude.{Option, Some, None, All, nat_lt, nat_le, ◌*◌, ◌^◌, is_some, if◌then◌else◌}
+-- From every state between blocks, further blocks lead to the end of every thread. They may all be of one worker, which goes on
+-- with each thread whose block was cut, with each section taken.
+use Rattle.std.proofs.Common.{◌≡◌, ℕ, zero, suc, ◌+◌, ◌<◌, ◌≤◌, Bool, true, false, not, ◌&&◌, ◌||◌, ◌==◌, List, [], ◌∷◌, ◌++◌, length, length-append, map, refl, sym, ap, subst, ◌∙◌, arith, inl, inr, append-nil, ◌⊎◌, filter}
+use Rattle.std.specs.Prelude.{Option, Some, None, IfSome, All, nat_le, ◌*◌, ◌^◌, is_some, if◌then◌else◌}
 use Rattle.std.specs.List.{range_with_len}
 use Rattle.std.proofs.lemmas.Bool.Decides.{nat_tests, eqb_tells}
 use Rattle.std.proofs.Math.Pow.{pow_mono}
 use Rattle.std.proofs.lemmas.Nat.{mul-le}
-use Rattle.std.proofs.lemmas.List.Elements.{All-nil, All-cons, filter-append}
+use Rattle.std.proofs.lemmas.List.Elements.{All-nil, All-cons, All-head, All-tail, All-filter, filter-append}
 use Rattle.tc_isa.specs.Sets.{has}
 use Rattle.tc_elf.specs.Shown.{Shown}
 use Rattle.tc_isa.specs.declared.limits.TheConstants.{MAX_FUEL, MAX_TURNS}
 use Rattle.tc_elf.specs.declared.limits.TheConstants.{MAX_GUARDS, MAX_THREADS}
-use Rattle.tc_journal.specs.Batch.{is_section, is_passed, is_lock, begins, ends_section, last_of, run_of, may_begin, may_go_on, allows_of, may_follow, ObeysAfter, passes_to, passes_on, PassesOnAfter}
-use Rattle.tc_journal.specs.History.{IsEnd, IsBlock, IsHistoryFrom, of_lock}
+use Rattle.tc_journal.specs.Batch.{is_section, is_adopted, is_passed, is_lock, begins, ends_thread, ends_section, last_of, run_of, may_begin, may_go_on, allows_of, may_follow, ObeysAfter, passes_to, passes_on, PassesOnAfter}
+use Rattle.tc_journal.specs.Handing.{of_worker, EachBehind, IsHandedOver, IsRunOn, IsStillAt, is_cut}
+use Rattle.tc_journal.specs.History.{IsEnd, IsBlock, IsHistoryFrom, of_lock, of_thread}
 use Rattle.tc_journal.specs.declared.block.Block.{Block}
 use Rattle.tc_journal.specs.declared.block.End.{End}
 use Rattle.tc_journal.specs.declared.block.End.TheVariants.{Wants, Unlocked, Slept, Cut, Exit, Fault, Spent}
 use Rattle.tc_journal.specs.declared.block.Kind.{Kind}
-use Rattle.tc_journal.specs.declared.block.Kind.TheVariants.{Start, On, Taken}
+use Rattle.tc_journal.specs.declared.block.Kind.TheVariants.{Start, On, Taken, Adopted, Granted}
+use Rattle.tc_journal.proofs.Batching.{last_more}
+use Rattle.tc_journal.proofs.Rows.{worker_of, last_own}
 use Rattle.tc_turn.specs.Turn.{Thread, is_running, next_lock, next_act}
 use Rattle.tc_turn.proofs.Turns.{next_known, goes_on}
 use Rattle.tc_mutex_spec.specs.Machine.{State, start, is_open, can_turn, after}
@@ -29,12 +32,12 @@ use Rattle.tc_mutex_spec.proofs.Local.{after_thread}
 use Rattle.tc_mutex_spec.proofs.Replaying.{record_takes}
 use Rattle.tc_mutex_spec.proofs.BlockEnds.{left}
 use Rattle.tc_mutex_spec.proofs.Going.{in_block}
-use Rattle.tc_mutex_spec.proofs.Leaving.{block_next, block_releases}
+use Rattle.tc_mutex_spec.proofs.Leaving.{block_next, block_cut, block_runs, block_releases}
 use Rattle.tc_mutex_spec.proofs.Owners.{owner_after}
 use Rattle.tc_mutex_spec.proofs.HeldSets.{set_below, set_is, set_small}
 use Rattle.tc_mutex_spec.proofs.Placed.{ArePlaced, placed_reach, placed_start}
 use Rattle.tc_mutex_spec.proofs.Sums.{below_last}
-use Rattle.tc_mutex_spec.proofs.Progress.{IsSane, can_runs, sane_turn, start_sane, turns_sum, turn_left, turns_turn, first_turns, next_turn}
+use Rattle.tc_mutex_spec.proofs.Progress.{IsSane, Reached, Goes, can_runs, reached, may_turn, start_sane, turns_sum, turn_left, turns_turn, first_turns, next_turn}
 
 -- ---- a thread that may take a turn has a block
 
@@ -50,16 +53,13 @@ record HasRun (image : Shown) (m : State) (t : ℕ) : Type 0 where
 
 -- a turn that ends no block takes no lock next, so the next one is defined
 next_defined : (image : Shown) (m : State) (t k : ℕ) → can_turn image (reach image m t k) t ≡ true → end_at image m t k ≡ None → can_turn image (reach image m t (suc k)) t ≡ true
-unfolding can_turn
 next_defined image m t k can none =
     let from : State = reach image m t k in
     let d : Thread = from.threads t in
     let on = goes_on d (next_act image d from.locks) (k + 1) (next_lock image ((after image from t).threads t)) none in
-    let lt = can_thread image from t can in
-    let in_range : nat_lt t (length image.entries) ≡ true = grind (arith, nat_tests) in
-    let runs : is_running ((after image from t).threads t).status ≡ true = ap (λ (x : Thread). is_running x.status) (after_thread image from t) ∙ ap is_running on.2 ∙ can_runs image from t can in
-    let open_lock : is_open (next_lock image ((after image from t).threads t)) (after image from t).locks ≡ true = ap (λ o. is_open o (after image from t).locks) on.0 in
-    λ i. in_range i && (runs i && open_lock i)
+    may_turn image (after image from t) t (can_thread image from t can)
+    (ap (λ (x : Thread). is_running x.status) (after_thread image from t) ∙ ap is_running on.2 ∙ can_runs image from t can)
+    (ap (λ o. is_open o (after image from t).locks) on.0)
 
 begun_more : (image : Shown) (m : State) (t k : ℕ) → Begun image m t k → end_at image m t k ≡ None → Begun image m t (suc k)
 begun_more image m t k b none = record {
@@ -134,10 +134,6 @@ goes_further k t (Some b) e = (elim (ends_section k b) as (λ v. (if v then None
   | false ↦ λ h. (let same : b.thread ≡ t = cc in ap (λ u. u == t) same ∙ eq_self t)
 ]) e
 
-none_passed : (o : Option Block) (kind : Kind) (t : ℕ) → is_passed kind ≡ false → passes_to o kind t ≡ true
-none_passed None kind t e = refl
-none_passed (Some b) kind t e = ap (λ v. not (v && (b.thread == t))) e
-
 -- no block has more turns than one may have
 turns_most : (image : Shown) (m to : State) (t n : ℕ) (e : End) → Runs image m t n e to → n ≤ MAX_TURNS
 turns_most image m to t n e runs = go (nat_le n MAX_TURNS) refl
@@ -155,8 +151,13 @@ record IsSmall (image : Shown) (seen : List Block) (m : State) : Type 0 where
   placed : ArePlaced m
   stamps : length seen + turns_sum image m < 2 ^ 64
 
-module _ (image : Shown) (few : length image.guards ≤ MAX_GUARDS) (seen : List Block) (m : State) (t : ℕ) (s : IsSane image m) (run : HasRun image m t)
-    (owners : (k : ℕ) → (m.locks k).owner ≡ owner_by k (last_of (of_lock seen k))) where
+-- what holds behind the blocks that were seen: the last one of each lock tells its owner, and the thread of the last one may take a turn, if it was cut
+record IsBetween (image : Shown) (seen : List Block) (m : State) : Type 0 where
+  sane : IsSane image m
+  owners : (k : ℕ) → (m.locks k).owner ≡ owner_by k (last_of (of_lock seen k))
+  cut : IfSome (last_of (of_worker seen 0)) (λ p. p.end ≡ Cut → can_turn image m p.thread ≡ true)
+
+module _ (image : Shown) (few : length image.guards ≤ MAX_GUARDS) (seen : List Block) (m : State) (here : IsBetween image seen m) (t : ℕ) (run : HasRun image m t) where
   abbrev set : ℕ → Bool
   set = locks_of_block (m.threads t).held (next_lock image (m.threads t))
 
@@ -176,7 +177,7 @@ module _ (image : Shown) (few : length image.guards ≤ MAX_GUARDS) (seen : List
   to = reach image m t run.turns
 
   set_known : (k : ℕ) → set k ≡ true → k < length image.guards
-  set_known k e = elim (in_block (m.threads t).held (next_lock image (m.threads t)) k e) [ inl was ↦ s.known t k was | inr took ↦ next_known image (m.threads t) k took ]
+  set_known k e = elim (in_block (m.threads t).held (next_lock image (m.threads t)) k e) [ inl was ↦ here.sane.known t k was | inr took ↦ next_known image (m.threads t) k took ]
 
   block_stands : Stands image seen m block to
   block_stands = record {
@@ -190,13 +191,13 @@ module _ (image : Shown) (few : length image.guards ≤ MAX_GUARDS) (seen : List
   takes : (o : Option ℕ) → next_lock image (m.threads t) ≡ o → (k : ℕ) → begins k block ≡ is_lock o k
   takes o e k = ap (λ x. is_lock x k) (record_takes image m block (record {
     few = omega arith;
-    small = λ j h. (let l = s.known t j h in omega arith);
+    small = λ j h. (let l = here.sane.known t j h in omega arith);
     held = block_stands.held;
     section = block_stands.section;
   }) ∙ e)
 
   goes_with : (k : ℕ) → (m.threads t).held k ≡ true → may_go_on k (last_of (of_lock seen k)) t ≡ true
-  goes_with k h = goes_further k t (last_of (of_lock seen k)) (sym (owners k) ∙ (s.owners t k).0 h)
+  goes_with k h = goes_further k t (last_of (of_lock seen k)) (sym (here.owners k) ∙ (here.sane.owners t k).0 h)
 
   follows : (limit k : ℕ) → has block.held k ≡ true → may_follow k limit (of_lock seen k) block ≡ true
   unfolding may_follow allows_of
@@ -208,17 +209,10 @@ module _ (image : Shown) (few : length image.guards ≤ MAX_GUARDS) (seen : List
         | inl x ↦ (
             let free = open_none (next_lock image (m.threads t)) m.locks k (can_open image m t (run.runs.defined 0 run.runs.some)) (e ∙ ap Some (sym x.1)) in
             (λ i. if (takes (Some lock) e k ∙ x.0) i then may_begin k limit (last_of (of_lock seen k)) (run_of k (of_lock seen k)) (kind_of (e i) (has_block seen t)) 0 else may_go_on k (last_of (of_lock seen k)) t)
-            ∙ begins_anew k limit (run_of k (of_lock seen k)) (last_of (of_lock seen k)) (sym (owners k) ∙ free))
+            ∙ begins_anew k limit (run_of k (of_lock seen k)) (last_of (of_lock seen k)) (sym (here.owners k) ∙ free))
         | inr x ↦ ap (λ v. if v then may_begin k limit (last_of (of_lock seen k)) (run_of k (of_lock seen k)) block.kind 0 else may_go_on k (last_of (of_lock seen k)) t) (takes (Some lock) e k ∙ x.0)
             ∙ goes_with k (sym (ap (λ v. v || (m.threads t).held k) x.0) ∙ in_set)
       ]
-
-  passes : (k : ℕ) → passes_on k (of_lock seen k) block ≡ true
-  unfolding passes_on
-  passes k = (elim (begins k block) as (λ v. (if v then passes_to (last_of (of_lock seen k)) block.kind t else true) ≡ true) [
-    | true ↦ none_passed (last_of (of_lock seen k)) block.kind t (kind_passed (next_lock image (m.threads t)) (has_block seen t))
-    | false ↦ refl
-  ])
 
   -- its end names a lock of the image, if any
   end_is : (e : End) → run.end ≡ e → IsEnd e
@@ -242,23 +236,24 @@ module _ (image : Shown) (few : length image.guards ≤ MAX_GUARDS) (seen : List
     end = end_is run.end refl;
   }
 
-  owners_after : (k : ℕ) → (to.locks k).owner ≡ owner_by k (last_of (of_lock (seen ++ block ∷ []) k))
-  owners_after k = owner_after image k seen (block ∷ []) m to s.owners (owners k) (to, block_stands, refl)
+  -- where it was cut, its thread may take a turn
+  cut_goes : run.end ≡ Cut → can_turn image to t ≡ true
+  cut_goes is =
+      may_turn image to t (can_thread image m t (run.runs.defined 0 run.runs.some))
+      (block_runs image m to t run.turns run.end run.runs ∙ ap (λ e. not (ends_thread e)) is)
+      (ap (λ o. is_open o to.locks) (block_cut image m to t run.turns run.end run.runs is))
+
+  came : Reached image m t run.turns
+  came = reached image m t run.turns run.runs.defined here.sane
+
+  between : IsBetween image (seen ++ block ∷ []) to
+  between = record {
+    sane = came.sane;
+    owners = λ k. owner_after image k seen (block ∷ []) m to here.sane.owners (here.owners k) (to, block_stands, refl);
+    cut = subst (λ o. IfSome o (λ p. p.end ≡ Cut → can_turn image to p.thread ≡ true)) (sym (last_own worker_of seen block 0 refl)) cut_goes;
+  }
 
 -- ---- blocks to the end
-
--- after n turns of t
-record Reached (image : Shown) (m : State) (t n : ℕ) : Type 0 where
-  sane : IsSane image (reach image m t n)
-  short : n + turns_sum image (reach image m t n) ≤ turns_sum image m
-
-reached : (image : Shown) (m : State) (t n : ℕ) → ((k : ℕ) → k < n → can_turn image (reach image m t k) t ≡ true) → IsSane image m → Reached image m t n
-reached image m t zero can s = record { sane = s; short = omega arith }
-reached image m t (suc n) can s =
-    let r = reached image m t n (λ k lt. can k (omega arith)) s in
-    let here = can n (omega arith) in
-    let falls = turns_turn image (reach image m t n) t (can_thread image (reach image m t n) t here) (can_runs image (reach image m t n) t here) in
-    record { sane = sane_turn image (reach image m t n) t here r.sane; short = (let x = r.short in omega (arith, x, falls)) }
 
 record Completes (image : Shown) (seen : List Block) (m : State) : Type 0 where
   rest : List Block
@@ -268,34 +263,35 @@ record Completes (image : Shown) (seen : List Block) (m : State) : Type 0 where
   order : map (λ (b : Block). b.stamp) rest ≡ range_with_len (length seen) (length rest)
   numbers : IsSmall image seen m → IsHistoryFrom (length seen) rest
   workers : All (λ (b : Block). b.worker ≡ 0) rest
+  taken : All (λ (b : Block). is_passed b.kind ≡ false) rest
   obeys : (limit k : ℕ) → ObeysAfter k limit (of_lock seen k) (of_lock rest k)
-  passes : (k : ℕ) → PassesOnAfter k (of_lock seen k) (of_lock rest k)
+  runs_on : (w : ℕ) → EachBehind IsRunOn (of_worker seen w) (of_worker rest w)
 
-of_more : (seen : List Block) (b : Block) (k : ℕ) (v : Bool) → has b.held k ≡ v → of_lock (seen ++ b ∷ []) k ≡ of_lock seen k ++ (if v then b ∷ [] else [])
-of_more seen b k v e = filter-append (λ (c : Block). has c.held k) seen (b ∷ []) ∙ ap (λ x. of_lock seen k ++ (if x then b ∷ [] else [])) e
-
--- a block more before what is ahead of a lock
-ahead_more : (P : List Block → List Block → Type 0) (seen rest : List Block) (b : Block) (k : ℕ) → (has b.held k ≡ true → P (of_lock seen k ++ b ∷ []) (of_lock rest k) → P (of_lock seen k) (b ∷ of_lock rest k)) → P (of_lock (seen ++ b ∷ []) k) (of_lock rest k) → P (of_lock seen k) (of_lock (b ∷ rest) k)
-ahead_more P seen rest b k first p = go (has b.held k) refl
+-- a block more before what is ahead of those that a test picks
+ahead_more : (test : Block → Bool) (P : List Block → List Block → Type 0) (seen rest : List Block) (b : Block)
+    → (test b ≡ true → P (filter test seen ++ b ∷ []) (filter test rest) → P (filter test seen) (b ∷ filter test rest))
+    → P (filter test (seen ++ b ∷ [])) (filter test rest) → P (filter test seen) (filter test (b ∷ rest))
+ahead_more test P seen rest b first p = go (test b) refl (subst (λ bs. P bs (filter test rest)) (filter-append test seen (b ∷ [])) p)
   where
-    go : (v : Bool) → has b.held k ≡ v → P (of_lock seen k) (if v then b ∷ of_lock rest k else of_lock rest k)
-    go true e = first e (subst (λ bs. P bs (of_lock rest k)) (of_more seen b k true e) p)
-    go false e = subst (λ bs. P bs (of_lock rest k)) (of_more seen b k false e ∙ append-nil (of_lock seen k)) p
+    go : (v : Bool) → test b ≡ v → P (filter test seen ++ (if v then b ∷ [] else [])) (filter test rest) → P (filter test seen) (if v then b ∷ filter test rest else filter test rest)
+    go true e q = first e q
+    go false e q = subst (λ bs. P bs (filter test rest)) (append-nil (filter test seen)) q
 
-completes_more : (image : Shown) (few : length image.guards ≤ MAX_GUARDS) (seen : List Block) (m : State) (t : ℕ) (s : IsSane image m) (run : HasRun image m t) (owners : (k : ℕ) → (m.locks k).owner ≡ owner_by k (last_of (of_lock seen k)))
-    → Completes image (seen ++ block image few seen m t s run owners ∷ []) (reach image m t run.turns) → Completes image seen m
-completes_more image few seen m t s run owners r =
-    let b : Block = block image few seen m t s run owners in
+completes_more : (image : Shown) (few : length image.guards ≤ MAX_GUARDS) (seen : List Block) (m : State) (here : IsBetween image seen m) (t : ℕ) (run : HasRun image m t)
+    → ((b : Block) → b.thread ≡ t → IsRunOn (last_of (of_worker seen 0)) b) → Completes image (seen ++ block image few seen m here t run ∷ []) (reach image m t run.turns) → Completes image seen m
+completes_more image few seen m here t run next r =
+    let b : Block = block image few seen m here t run in
     let more : length (seen ++ b ∷ []) ≡ length seen + 1 = length-append seen (b ∷ []) in
-    let came = reached image m t run.turns run.runs.defined s in
+    let came = came image few seen m here t run in
+    let behind : (w : ℕ) → (0 == w) ≡ true → IsRunOn (last_of (of_worker seen w)) b = λ w h. subst (λ v. IsRunOn (last_of (of_worker seen v)) b) (let e : 0 ≡ w = grind (arith, nat_tests) in e) (next b refl) in
     record {
       rest = b ∷ r.rest;
       last = r.last;
-      tells = (reach image m t run.turns, block_stands image few seen m t s run owners, r.tells);
+      tells = (reach image m t run.turns, block_stands image few seen m here t run, r.tells);
       complete = r.complete;
       order = ap (λ xs. length seen ∷ xs) (r.order ∙ ap (λ n. range_with_len n (length r.rest)) more);
       numbers = λ small. (
-        block_is image few seen m t s run owners small,
+        block_is image few seen m here t run small,
         refl,
         subst (λ n. IsHistoryFrom n r.rest) more (r.numbers (record {
           threads = small.threads;
@@ -304,30 +300,95 @@ completes_more image few seen m t s run owners r =
         })),
       );
       workers = All-cons (λ (c : Block). c.worker ≡ 0) b r.rest refl r.workers;
-      obeys = λ limit k. ahead_more (ObeysAfter k limit) seen r.rest b k (λ h p. (follows image few seen m t s run owners limit k h, p)) (r.obeys limit k);
-      passes = λ k. ahead_more (PassesOnAfter k) seen r.rest b k (λ h p. (passes image few seen m t s run owners k, p)) (r.passes k);
+      taken = All-cons (λ (c : Block). is_passed c.kind ≡ false) b r.rest (kind_passed (next_lock image (m.threads t)) (has_block seen t)) r.taken;
+      obeys = λ limit k. ahead_more (λ c. has c.held k) (ObeysAfter k limit) seen r.rest b (λ h p. (follows image few seen m here t run limit k h, p)) (r.obeys limit k);
+      runs_on = λ w. ahead_more (λ c. c.worker == w) (EachBehind IsRunOn) seen r.rest b (λ h p. (behind w h, p)) (r.runs_on w);
     }
 
 completes_now : (image : Shown) (seen : List Block) (m : State) → IsComplete image m → Completes image seen m
-completes_now image seen m over = record { rest = []; last = m; tells = refl; complete = over; order = refl; numbers = λ small. tt; workers = All-nil (λ (b : Block). b.worker ≡ 0); obeys = λ limit k. tt; passes = λ k. tt }
+completes_now image seen m over = record {
+  rest = [];
+  last = m;
+  tells = refl;
+  complete = over;
+  order = refl;
+  numbers = λ small. tt;
+  workers = All-nil (λ (b : Block). b.worker ≡ 0);
+  taken = All-nil (λ (b : Block). is_passed b.kind ≡ false);
+  obeys = λ limit k. tt;
+  runs_on = λ w. tt;
+}
 
-completes_from : (image : Shown) → length image.guards ≤ MAX_GUARDS → (n : ℕ) (seen : List Block) (m : State) → IsSane image m → ((k : ℕ) → (m.locks k).owner ≡ owner_by k (last_of (of_lock seen k))) → turns_sum image m ≤ n → Completes image seen m
-completes_from image few zero seen m s owners most = elim (next_turn image m s few) [
-  | inl g ↦ absurd (let f = turns_turn image m g.0 (can_thread image m g.0 g.1) (can_runs image m g.0 g.1) in omega arith)
+-- a thread that may take a turn, and is that of the last block if that was cut
+record GoesBehind (image : Shown) (last : Option Block) (m : State) : Type 0 where
+  thread : ℕ
+  can : can_turn image m thread ≡ true
+  behind : (b : Block) → b.thread ≡ thread → IsRunOn last b
+
+cut_or : (e : End) → (e ≡ Cut) ⊎ (is_cut e ≡ false)
+cut_or (Wants k) = inr refl
+cut_or (Unlocked k) = inr refl
+cut_or Slept = inr refl
+cut_or Cut = inl refl
+cut_or Exit = inr refl
+cut_or (Fault f) = inr refl
+cut_or Spent = inr refl
+
+next_behind : (image : Shown) (last : Option Block) (m : State) → IfSome last (λ p. p.end ≡ Cut → can_turn image m p.thread ≡ true) → Goes image m ⊎ IsComplete image m → GoesBehind image last m ⊎ IsComplete image m
+next_behind image last m cut (inr over) = inr over
+next_behind image None m cut (inl g) = inl (record { thread = g.0; can = g.1; behind = λ b is. tt })
+next_behind image (Some p) m cut (inl g) = inl (elim (cut_or p.end) [
+  | inl was ↦ record { thread = p.thread; can = cut was; behind = λ b is was. is }
+  | inr not ↦ record { thread = g.0; can = g.1; behind = λ b is was. absurd (let n : true ≡ false = sym (ap is_cut was) ∙ not in cc) }
+])
+
+completes_from : (image : Shown) → length image.guards ≤ MAX_GUARDS → (n : ℕ) (seen : List Block) (m : State) → IsBetween image seen m → turns_sum image m ≤ n → Completes image seen m
+completes_from image few zero seen m here most = elim (next_behind image (last_of (of_worker seen 0)) m here.cut (next_turn image m here.sane few)) [
+  | inl g ↦ absurd (let f = turns_turn image m g.thread (can_thread image m g.thread g.can) (can_runs image m g.thread g.can) in omega arith)
   | inr over ↦ completes_now image seen m over
 ]
-completes_from image few (suc n) seen m s owners most = elim (next_turn image m s few) [
+completes_from image few (suc n) seen m here most = elim (next_behind image (last_of (of_worker seen 0)) m here.cut (next_turn image m here.sane few)) [
   | inl g ↦ (
-      let run = has_run image m g.0 g.1 in
-      let r = reached image m g.0 run.turns run.runs.defined s in
-      completes_more image few seen m g.0 s run owners (completes_from image few n (seen ++ block image few seen m g.0 s run owners ∷ []) (reach image m g.0 run.turns) r.sane (owners_after image few seen m g.0 s run owners)
-      (let x = r.short in let some = run.runs.some in omega (arith, x, some))))
+      let run = has_run image m g.thread g.can in
+      completes_more image few seen m here g.thread run g.behind
+      (completes_from image few n (seen ++ block image few seen m here g.thread run ∷ []) (reach image m g.thread run.turns) (between image few seen m here g.thread run)
+      (let x = (came image few seen m here g.thread run).short in let some = run.runs.some in omega (arith, x, some))))
   | inr over ↦ completes_now image seen m over
 ]
+
+-- ---- what follows where no section is passed on, and one worker runs all
+
+-- each block stands so behind the one before it, where it would behind each one like it
+all_behind : (Stands : Option Block → Block → Type 0) (P : Block → Type 0) → ((o : Option Block) (b : Block) → IfSome o P → P b → Stands o b) → (before bs : List Block) → IfSome (last_of before) P → All P bs → EachBehind Stands before bs
+all_behind Stands P each before [] last all = tt
+all_behind Stands P each before (b ∷ bs) last all =
+    let first = All-head P b bs all in
+    (each (last_of before) b last first, all_behind Stands P each (before ++ b ∷ []) bs (subst (λ o. IfSome o P) (sym (last_more before b)) first) (All-tail P b bs all))
+
+not_adopted : (kind : Kind) → is_passed kind ≡ false → is_adopted kind ≡ true → ⊥
+not_adopted Start e f = cc
+not_adopted On e f = cc
+not_adopted Taken e f = cc
+not_adopted Adopted e f = cc
+not_adopted Granted e f = cc
+
+still_at : (o : Option Block) (b : Block) → IfSome o (λ p. p.worker ≡ 0) → b.worker ≡ 0 → IsStillAt o b
+still_at None b last e = tt
+still_at (Some p) b last e = λ cut. e ∙ sym last
+
+none_passed : (k : ℕ) (before bs : List Block) → All (λ (b : Block). is_passed b.kind ≡ false) bs → PassesOnAfter k before bs
+unfolding passes_on
+none_passed k before [] all = tt
+none_passed k before (b ∷ bs) all = (first (begins k b) (last_of before), none_passed k (before ++ b ∷ []) bs (All-tail (λ (b : Block). is_passed b.kind ≡ false) b bs all))
+  where
+    first : (v : Bool) (o : Option Block) → (if v then passes_to o b.kind b.thread else true) ≡ true
+    first false o = refl
+    first true None = refl
+    first true (Some p) = ap (λ v. not (v && (p.thread == b.thread))) (All-head (λ (b : Block). is_passed b.kind ≡ false) b bs all)
 
 pub complete_history : (image : Shown) (fuel : ℕ) → length image.guards ≤ MAX_GUARDS → CompleteHistory image fuel
 complete_history image fuel few =
-    let r = completes_from image few (turns_sum image (start image fuel)) [] (start image fuel) (start_sane image fuel) (λ k. refl) (omega arith) in
+    let r = completes_from image few (turns_sum image (start image fuel)) [] (start image fuel) (record { sane = start_sane image fuel; owners = λ k. refl; cut = tt }) (omega arith) in
     record {
       history = r.rest;
       last = r.last;
@@ -342,6 +403,12 @@ complete_history image fuel few =
             omega (arith, f, n, x, most));
       });
       workers = r.workers;
+      taken = r.taken;
       obeys = r.obeys;
-      passes = r.passes;
+      passes = λ k. none_passed k [] (of_lock r.rest k) (All-filter (λ b. has b.held k) (λ (b : Block). is_passed b.kind ≡ false) r.rest r.taken);
+      delegates = record {
+        handed = λ w. all_behind IsHandedOver (λ b. is_passed b.kind ≡ false) (λ o b last e lock begin adopted. absurd (not_adopted b.kind e adopted)) [] (of_worker r.rest w) tt (All-filter (λ b. b.worker == w) (λ (b : Block). is_passed b.kind ≡ false) r.rest r.taken);
+        runs_on = r.runs_on;
+        stays = λ t. all_behind IsStillAt (λ b. b.worker ≡ 0) still_at [] (of_thread r.rest t) tt (All-filter (λ b. b.thread == t) (λ (b : Block). b.worker ≡ 0) r.rest r.workers);
+      };
     }

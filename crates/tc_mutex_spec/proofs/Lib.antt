@@ -22,3 +22,4 @@ pub mod Sums
 pub mod Progress
 pub mod Placed
 pub mod Completing
+pub mod Journals

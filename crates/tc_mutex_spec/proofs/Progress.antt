@@ -7,7 +7,7 @@ use Rattle.tc_elf.specs.declared.limits.TheConstants.{MAX_GUARDS}
 use Rattle.tc_turn.specs.Turn.{Thread, Mutex, thread_at_start, no_thread, is_running, next_lock, next_act, thread_after}
 use Rattle.tc_turn.proofs.Turns.{held_known}
 use Rattle.tc_mutex_spec.specs.Machine.{State, start, is_free, is_open, can_turn, after, turn, turns, IsHeldByOwner}
-use Rattle.tc_mutex_spec.specs.Blocks.{IsComplete}
+use Rattle.tc_mutex_spec.specs.Blocks.{reach, IsComplete}
 use Rattle.tc_mutex_spec.specs.Progress.{Run, most_turns, CanRunOn}
 use Rattle.tc_mutex_spec.proofs.Folding.{turn-defined}
 use Rattle.tc_mutex_spec.proofs.Holds.{holds_after, holds_start, can_thread}
@@ -107,7 +107,25 @@ start_sane image fuel = record {
     go t true e h = grind (arith, nat_tests)
     go t false e h = absurd (cc)
 
+-- after n turns of t
+pub record Reached (image : Shown) (m : State) (t n : ℕ) : Type 0 where
+  pub sane : IsSane image (reach image m t n)
+  pub short : n + turns_sum image (reach image m t n) ≤ turns_sum image m
+
+pub reached : (image : Shown) (m : State) (t n : ℕ) → ((k : ℕ) → k < n → can_turn image (reach image m t k) t ≡ true) → IsSane image m → Reached image m t n
+reached image m t zero can s = record { sane = s; short = omega arith }
+reached image m t (suc n) can s =
+    let r = reached image m t n (λ k lt. can k (omega arith)) s in
+    let here = can n (omega arith) in
+    let falls = turns_turn image (reach image m t n) t (can_thread image (reach image m t n) t here) (can_runs image (reach image m t n) t here) in
+    record { sane = sane_turn image (reach image m t n) t here r.sane; short = (let x = r.short in omega (arith, x, falls)) }
+
 -- ---- somebody may take a turn
+
+-- a thread that runs may, where it takes no lock that has an owner
+pub may_turn : (image : Shown) (m : State) (t : ℕ) → t < length image.entries → is_running (m.threads t).status ≡ true → is_open (next_lock image (m.threads t)) m.locks ≡ true → can_turn image m t ≡ true
+unfolding can_turn
+may_turn image m t lt run open_lock = (let in_range : nat_lt t (length image.entries) ≡ true = grind (arith, nat_tests) in λ i. in_range i && (run i && open_lock i))
 
 abbrev pub Goes : Shown → State → Type 0
 Goes image m = (t : ℕ) × (can_turn image m t ≡ true)
@@ -120,18 +138,14 @@ record IsBlocked (image : Shown) (m : State) (t : ℕ) : Type 0 where
   owns : (m.locks lock).owner ≡ Some owner
 
 turns_or : (image : Shown) (m : State) (t : ℕ) → t < length image.entries → is_running (m.threads t).status ≡ true → Goes image m ⊎ IsBlocked image m t
-unfolding can_turn
 turns_or image m t lt run = go (next_lock image (m.threads t)) refl
   where
-    may : is_open (next_lock image (m.threads t)) m.locks ≡ true → (nat_lt t (length image.entries) && (is_running (m.threads t).status && is_open (next_lock image (m.threads t)) m.locks)) ≡ true
-    may open_lock = (let in_range : nat_lt t (length image.entries) ≡ true = grind (arith, nat_tests) in λ i. in_range i && (run i && open_lock i))
-
     by_owner : (k : ℕ) → next_lock image (m.threads t) ≡ Some k → (o : Option ℕ) → (m.locks k).owner ≡ o → Goes image m ⊎ IsBlocked image m t
-    by_owner k next None e = inl (t, may (ap (λ o. is_open o m.locks) next ∙ ap is_free e))
+    by_owner k next None e = inl (t, may_turn image m t lt run (ap (λ o. is_open o m.locks) next ∙ ap is_free e))
     by_owner k next (Some u) e = inr (record { lock = k; owner = u; next = next; owns = e })
 
     go : (o : Option ℕ) → next_lock image (m.threads t) ≡ o → Goes image m ⊎ IsBlocked image m t
-    go None next = inl (t, may (ap (λ o. is_open o m.locks) next))
+    go None next = inl (t, may_turn image m t lt run (ap (λ o. is_open o m.locks) next))
     go (Some k) next = by_owner k next (m.locks k).owner refl
 
 held_runs : (image : Shown) (m : State) (u k : ℕ) → IsSane image m → (m.threads u).held k ≡ true → is_running (m.threads u).status ≡ true

@@ -1,9 +1,10 @@
 -- What is ahead of a run: how many turns it may have, and how it can go on to the end of every thread.
-use Rattle.std.specs.Prelude.{◌≡◌, ℕ, ◌+◌, ◌*◌, ◌^◌, ◌<◌, ◌≤◌, List, length, All, Some}
+use Rattle.std.specs.Prelude.{◌≡◌, ℕ, ◌+◌, ◌*◌, ◌^◌, ◌<◌, ◌≤◌, false, List, length, All, Some}
 use Rattle.tc_isa.specs.declared.limits.TheConstants.{MAX_FUEL}
 use Rattle.tc_elf.specs.Shown.{Shown, entry_at}
 use Rattle.tc_elf.specs.declared.limits.TheConstants.{MAX_THREADS}
-use Rattle.tc_journal.specs.Batch.{Obeys, PassesOn}
+use Rattle.tc_journal.specs.Batch.{is_passed, Obeys, PassesOn}
+use Rattle.tc_journal.specs.Handing.{Delegates}
 use Rattle.tc_journal.specs.History.{IsHistory, IsInOrder, of_lock}
 use Rattle.tc_journal.specs.declared.block.Block.{Block}
 use Rattle.tc_mutex_spec.specs.Machine.{State, start}
@@ -36,7 +37,8 @@ pub record IsSized (image : Shown) (fuel : ℕ) : Type 0 where
   pub most_fuel : fuel ≤ MAX_FUEL
 
 -- a history that tells a run to the end of every thread. All its blocks are of worker 0, so of a worker that there is where
--- there is any; and the blocks of each lock obey every batch limit, and pass its sections on to other threads
+-- there is any, and no section is passed on. So the blocks of each lock obey every batch limit, and pass its sections on to
+-- other threads; and worker 0 goes on with each thread whose block was cut, so the history shows delegation
 pub record CompleteHistory (image : Shown) (fuel : ℕ) : Type 0 where
   pub history : List Block
   pub last : State
@@ -45,5 +47,7 @@ pub record CompleteHistory (image : Shown) (fuel : ℕ) : Type 0 where
   pub order : IsInOrder history
   pub numbers : IsSized image fuel → IsHistory history
   pub workers : All (λ (b : Block). b.worker ≡ 0) history
+  pub taken : All (λ (b : Block). is_passed b.kind ≡ false) history
   pub obeys : (limit k : ℕ) → Obeys k limit (of_lock history k)
   pub passes : (k : ℕ) → PassesOn k (of_lock history k)
+  pub delegates : Delegates history

@@ -10,7 +10,7 @@ ghost use Rattle.tc_turn.specs.Reads.{Covers};
 ghost use Rattle.tc_mutex_spec.specs.Machine.{State, can_turn, after, turns, run_from, run, start, spread, IsHeldByOwner};
 ghost use Rattle.tc_mutex_spec.specs.Locality.{Agree, Apart};
 ghost use Rattle.tc_mutex_spec.specs.Blocks.{locks_of_block, Runs, Stands, Tells, owner_by};
-ghost use Rattle.tc_mutex_spec.specs.Entries.{entry_of};
+ghost use Rattle.tc_mutex_spec.specs.Entries.{entry_of, HasJournal};
 ghost use Rattle.tc_mutex_spec.specs.Progress.{Run, most_turns, CanRunOn, CompleteHistory};
 ghost use Rattle.tc_journal.specs.Batch.{ends_section, last_of};
 ghost use Rattle.tc_journal.specs.History.{of_lock, schedule};
@@ -68,6 +68,9 @@ pub fn histories()
     // The schedule of a history that tells is a run, which leads where the history does.
     ensures runs { (image : Shown) (fuel : ℕ) (h : List Block) (m : State)
         → Tells image fuel h m → run image fuel (schedule h) ≡ Some m }
+    // And gives each lock its journal, which RV32IM replays to the lock as the run leaves it.
+    ensures journals { (image : Shown) (fuel : ℕ) (h : List Block) (m : State) (k : ℕ)
+        → length image.guards ≤ MAX_GUARDS → Tells image fuel h m → HasJournal image fuel h m k }
 {}
 
 /// In every state that turns reach from the start, a thread holds a lock exactly where it is the
@@ -96,7 +99,7 @@ pub fn progress()
     // And can go on until each thread has ended.
     ensures ends { (r : Run) → length r.image.guards ≤ MAX_GUARDS → CanRunOn r.image r.last }
     // So there is a history of the whole: of one worker, and with every section taken it is right
-    // for each number of workers and each batch limit.
+    // for each number of workers and each batch limit, and shows delegation.
     ensures complete { (image : Shown) (fuel : ℕ) → length image.guards ≤ MAX_GUARDS
         → CompleteHistory image fuel }
 {}

@@ -1,15 +1,17 @@
--- That there is a history which keeps the rules.
+-- That there is a history which keeps the rules and shows delegation.
 use Rattle.std.specs.Prelude.{ℕ, List}
 use Rattle.tc_elf.specs.Shown.{Shown}
 use Rattle.tc_journal.specs.History.{IsHistory}
 use Rattle.tc_journal.specs.declared.block.Block.{Block}
 use Rattle.tc_mutex_spec.specs.Blocks.{IsComplete}
 use Rattle.tc_core.specs.Core.{Limits}
+use Rattle.tc_told.specs.Handover.{ShowsDelegation}
 use Rattle.tc_told.specs.Written.{KeepsRules}
 
--- a history that keeps the rules, and goes to the end of every thread
+-- a history that keeps the rules, by the workers that it names too, shows delegation, and goes to the end of every thread
 pub record HasHistory (image : Shown) (limits : Limits) (fuel : ℕ) : Type 0 where
   pub history : List Block
   pub numbers : IsHistory history
   pub rules : KeepsRules image limits fuel history
+  pub shows : ShowsDelegation image limits fuel history
   pub complete : IsComplete image rules.last
