@@ -35,8 +35,7 @@ fn check_source<R: Threads + Wait + Sync + Abort>(
     } else {
         (Status::Done, SMALLEST_REPORT)
     };
-    assert_eq!(rt; ran.status, status, "call {call}, pieces of {most}");
-    assert_eq!(rt; ran.text(), text, "call {call}, pieces of {most}");
+    ran.check(rt, status, text.as_bytes(), &[call, most]);
     Ok(())
 }
 
@@ -126,12 +125,7 @@ fn check_sink<R: Threads + Wait + Sync + Abort>(
     } else {
         case.whole
     };
-    assert_eq!(rt; ran.status, status, "call {call}, pieces of {most}");
-    assert_eq!(rt;
-        ran.written.as_slice(),
-        &text[..taken],
-        "call {call}, pieces of {most}"
-    );
+    ran.check(rt, status, &text[..taken], &[call, most]);
     Ok(())
 }
 
@@ -171,15 +165,14 @@ fn faults_are_told_for_each_number_of_workers(rt: HostRuntime) -> Result<(), Fai
             ..CALM
         };
         let ran = run_with(&rt, rt.alloc(), &words, &SMALLEST, &failing)?;
-        assert!(rt; ran.status == Status::ReadFault && ran.written.is_empty());
+        ran.check(&rt, Status::ReadFault, b"", &[]);
         let failing = Outside {
             most: 16,
             failing_writes: &[1],
             ..CALM
         };
         let ran = run_with(&rt, rt.alloc(), &words, &SMALLEST, &failing)?;
-        assert_eq!(rt; ran.status, Status::WriteFault);
-        assert_eq!(rt; ran.written.as_slice(), b"tclocks 2\nguest ".as_slice());
+        ran.check(&rt, Status::WriteFault, b"tclocks 2\nguest ", &[]);
     }
     Ok(())
 }

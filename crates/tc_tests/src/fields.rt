@@ -114,8 +114,7 @@ fn check<R: Threads + Wait + Sync + Abort>(
             None => (Status::Done, SMALLEST_REPORT),
         };
         let (offset, _, value, _) = *field;
-        assert_eq!(rt; ran.status, status, "{value} at {offset}");
-        assert_eq!(rt; ran.text(), text, "{value} at {offset}");
+        ran.check(rt, status, text.as_bytes(), &[offset, value as usize]);
     }
     Ok(())
 }

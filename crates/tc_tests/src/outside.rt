@@ -77,11 +77,10 @@ fn answers_other_words_by_the_usage_line(rt: HostRuntime) -> Result<(), Fail> {
         failing_reads: &[0],
         ..CALM
     };
-    for words in &NO_FORM {
+    assert_eq!(rt; Status::Usage.number(), 1);
+    for (case, words) in NO_FORM.iter().enumerate() {
         let ran = run_with(&rt, rt.alloc(), words, &SMALLEST, &outside)?;
-        assert_eq!(rt; ran.status, Status::Usage);
-        assert_eq!(rt; ran.status.number(), 1);
-        assert_eq!(rt; ran.written.as_slice(), USAGE.as_bytes());
+        ran.check(&rt, Status::Usage, USAGE.as_bytes(), &[case]);
     }
     Ok(())
 }

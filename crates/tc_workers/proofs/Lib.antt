@@ -7,4 +7,3 @@ pub mod Crossing
 pub mod Hiring
 pub mod Joining
 pub mod Rows
-pub mod Playing

@@ -5,11 +5,10 @@ use mathlib.Core.Option.{some, some-injective}
 use lib.ListN.{get_elem?}
 use Rattle.atomic_table.proofs.Lists.{at_longer, at_last}
 use Rattle.tc_mutex_spec.proofs.ListLaws.{there, set_at, at_place}
-use Rattle.tc_elf.specs.Shown.{Shown}
 use Rattle.tc_queue.specs.Lines.{SeatView, IsSeatOf}
 use Rattle.tc_queue.specs.View.{QueueView}
 use Rattle.tc_hall.proofs.Telling.{snoc_at}
-use Rattle.tc_workers.specs.Crew.{AreLines, AreSeatsOf}
+use Rattle.tc_workers.specs.Crew.{AreSeatsOf}
 use Rattle.tc_workers.specs.Rows.{AreDealtOut}
 use Rattle.tc_workers.proofs.Hiring.{at_itself}
 
@@ -111,11 +110,3 @@ queues_more n qs more q all new is i r e = ⊎_elim
     (λ (h : get_elem? qs i ≡ some r). all i r h)
     (λ (h : (i ≡ length qs) × (q ≡ r)). subst (λ (x : QueueView). x.threads ≡ n) h.1 new)
     (snoc_at qs q r i (sym (ap (λ (l : List QueueView). get_elem? l i) is) ∙ e))
-
--- the view of a queue of this crate is itself
-pub map_same : {A : Type 0} (xs : List A) → map (λ (x : A). x) xs ≡ xs
-map_same [] = refl
-map_same (x ∷ xs) = ap (λ l. x ∷ l) (map_same xs)
-
-pub same_lines : {X : Type 0} (image : Shown) (workers : ℕ) (qs rs : List QueueView) (seen : X → List SeatView) (xs : List X) → AreLines image workers qs seen xs → rs ≡ qs → AreLines image workers rs seen xs
-same_lines image workers qs rs seen xs lines same = subst (λ (l : List QueueView). AreLines image workers l seen xs) (sym same) lines

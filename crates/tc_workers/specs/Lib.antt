@@ -5,4 +5,3 @@ pub mod Turns
 pub mod Crew
 pub mod Rows
 pub mod Run
-pub mod Scripts

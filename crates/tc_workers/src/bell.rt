@@ -18,7 +18,7 @@ const YIELDS: u32 = 100_000;
 /// before the others begin, and sleep at it while they find nothing. It has no meaning, so every
 /// contract holds for every number in it.
 #[derive(Drop)]
-pub(crate) struct Bell {
+pub struct Bell {
     strokes: AtomicU64,
     workers: u64,
     // How many workers have begun and not ended, and don't sleep at it.
@@ -27,7 +27,7 @@ pub(crate) struct Bell {
 
 impl Bell {
     /// That of so many workers, of whom none has begun.
-    pub(crate) fn new(workers: u64) -> Bell {
+    pub fn new(workers: u64) -> Bell {
         Bell {
             strokes: AtomicU64::new(0),
             workers,

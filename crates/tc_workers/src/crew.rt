@@ -37,7 +37,7 @@ fn hire_one<Q: Waiters>(
 }
 
 /// A worker for each pass, who has not begun. The one with the greatest number comes first.
-pub(crate) fn hire<Q: Waiters>(
+pub fn hire<Q: Waiters>(
     alloc: Global,
     bench: &Bench<'_, Q>,
     mut passes: Vec<Pass>,
@@ -85,7 +85,7 @@ fn serve<R: Wait, G: Gate, Q: Waiters>(
 
 /// Runs the workers beside one another until all have ended, and joins their passes into one.
 #[cycle(crew)]
-pub(crate) fn together<R: Threads + Wait + Sync, G: Gate, Q: Waiters>(
+pub fn together<R: Threads + Wait + Sync, G: Gate, Q: Waiters>(
     rt: &R,
     bench: &Bench<'_, Q>,
     gate: &G,

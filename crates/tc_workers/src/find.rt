@@ -18,7 +18,7 @@ use tc_hall::place::Origin;
 use tc_queue::Waiters;
 
 /// The number of the desk's worker.
-pub fn number<Q: Waiters>(desk: &mut Desk<Q>) -> u32
+pub(crate) fn number<Q: Waiters>(desk: &mut Desk<Q>) -> u32
     ensures number { result ≡ desk.old.pass.knows.worker }
     ensures same { desk.new ≡ desk.old }
 {
@@ -133,7 +133,7 @@ fn seek<G: Gate, Q: Waiters>(
 
 /// Goes on with the package that is set aside, else with a sleeper that is due, else with a thread
 /// that is ready. Where there is none, a rest is asked for.
-pub fn find<G: Gate, Q: Waiters>(
+pub(crate) fn find<G: Gate, Q: Waiters>(
     bench: &Bench<'_, Q>,
     gate: &G,
     rests: &mut Rests<'_>,

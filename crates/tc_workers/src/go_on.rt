@@ -151,7 +151,7 @@ fn give_up<Q: Waiters>(bench: &Bench<'_, Q>, desk: &mut Desk<Q>, package: Packag
 
 /// Acquires the lock that the package wants, where it is not granted; else runs a block of it, where
 /// there is room for one, and settles it.
-pub fn go_on<R: Wait, G: Gate, Q: Waiters>(
+pub(crate) fn go_on<R: Wait, G: Gate, Q: Waiters>(
     rt: &R,
     bench: &Bench<'_, Q>,
     gate: &G,

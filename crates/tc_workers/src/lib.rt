@@ -7,35 +7,32 @@
 //!   package comes to, and why. `specs/GoOn.antt`: what is done with a package in hand, what a worker
 //!   does after its desk's answer, and the threads that it offers. `specs/Turns.antt`: its steps, and
 //!   its end. `specs/Crew.antt`: a crew of workers and their queues. `specs/Rows.antt`: rows of seats.
-//!   `specs/Run.antt`: what a whole run gives. `specs/Scripts.antt`: a desk that is driven by hand, for
-//!   tests.
+//!   `specs/Run.antt`: what a whole run gives.
 //! - `gate`: whom a worker tells how far it is. `worker`: workers. `work`: a worker's steps, in their
 //!   order. `find`, `go_on`, `leave`: how it finds a package, goes on with one, and leaves. `calls`:
 //!   the calls of the hall, as workers make them. `step`, `finished`: what a step and the end give.
 //! - `crew`: all workers beside one another. `bell`: where they wait for one another. `rests`: how one
 //!   rests that finds nothing. `lines`: the queues of all locks, and their seats. `run`: whole runs.
+//!
+//! The parts of a run are public, so that others may drive desks by hand, as tc_workers_tests does: a crew
+//! is hired by `hire` and runs by `together`, and `claim`, `wanted_lock`, `seal_block` and `next` are what
+//! a worker does between its calls of its desk.
 #![tactic(auto)]
 
-mod bell;
+pub mod bell;
 mod calls;
-mod crew;
-mod find;
-mod finished;
+pub mod crew;
+pub mod find;
+pub mod finished;
 pub mod gate;
-mod go_on;
+pub mod go_on;
 mod leave;
 pub mod lines;
 mod rests;
 mod run;
-#[cfg(test)]
-mod scripts;
-mod step;
-#[cfg(test)]
-mod stops;
-#[cfg(test)]
-mod tests;
+pub mod step;
 mod work;
-mod worker;
+pub mod worker;
 
 pub use gate::{Gate, Open, Point};
 pub use run::{run_all, run_with};

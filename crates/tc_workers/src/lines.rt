@@ -46,11 +46,7 @@ pub fn deal<S: Drop>(rows: &mut Vec<Vec<S>>, mut seats: Vec<S>) -> Result<(), Al
 }
 
 /// The queues of the image's locks, with seats for so many workers.
-pub(crate) fn line_up(
-    alloc: Global,
-    image: &Image,
-    workers: u32,
-) -> Result<Lines<Queue>, AllocError>
+pub fn line_up(alloc: Global, image: &Image, workers: u32) -> Result<Lines<Queue>, AllocError>
     requires { 1 ≤ workers }
     ensures { IfOk result (λ lines. AreLines image.now workers lines.queues.items
         (λ row. map seat_as row.items) lines.rows.items) }

@@ -7,6 +7,8 @@ use tc_ready::Ready;
 /// A worker: its desk, and the threads that it may try next.
 #[derive(Drop)]
 pub struct Worker<Q: Waiters> {
-    pub(crate) desk: Desk<Q>,
-    pub(crate) ready: Ready,
+    /// The desk.
+    pub desk: Desk<Q>,
+    /// The threads.
+    pub ready: Ready,
 }

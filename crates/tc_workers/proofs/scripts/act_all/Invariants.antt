@@ -1,5 +1,0 @@
-use Rattle.tc_workers.specs.Scripts.{IsPlaying}
-use Rattle.tc_workers.proofs.scripts.act_all.Given as goal
-
-abbrev pub invariant-loop-action : goal.invariant-loop-action
-invariant-loop-action g l = IsPlaying l.bench l.player.desk l.player.hand l.player.end

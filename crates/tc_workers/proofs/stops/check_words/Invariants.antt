@@ -1,6 +1,0 @@
-use Rattle.std.proofs.Common.{◌≡◌, length}
-use Rattle.tc_workers.specs.Scripts.{IsAtHall}
-use Rattle.tc_workers.proofs.stops.check_words.Given as goal
-
-abbrev pub invariant-loop-t : goal.invariant-loop-t
-invariant-loop-t g l = IsAtHall l.bench l.pass
