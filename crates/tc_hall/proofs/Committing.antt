@@ -1,7 +1,7 @@
 -- `commit` of a block ties to its turns and their Commit.
-use Rattle.std.proofs.Common.{◌≡◌, ◌≢◌, ℕ, zero, suc, ◌+◌, ◌-◌, ◌%◌, ◌<◌, ◌&&◌, Bool, true, false, List, [], ◌∷◌, ◌++◌, length, set, sym, refl, ap, ◌∙◌, subst, ⊎_elim, arith, Option, Some, None, slice_index, length-append, get_or-set_other}
-use Rattle.tc_hall.proofs.Vocabulary.{AreEnabled, At, Block, CLOCK, Commit, Core, DidRun, End, Hall, Has, HasLock, IsShown, Knows, LockAt, LockView, Lying, Moment, Mutex, Outline, Package, PackageAt, PackageView, Seals, Shown, Shows, ShowsLock, ShowsThread, State, Terms, Thread, after, after_events, after_seal, at_home, bare, commit_effect, get_elem?, has, in_hand, in_slot}
-use Rattle.tc_hall.proofs.Vocabulary.{is_running, kept, last_end, lock_in, lock_in_package, lock_in_slot, lock_of, lock_with_pass, locked_in, locks, machine_limits, option_map, outline, packed, place_shown, sealed_as, sealed_block, slot_word, some, some-injective, thread_in, threads, turns_by, unowned, whole, with_journal, with_pass, with_seal}
+use Rattle.std.proofs.Common.{◌≡◌, ◌≢◌, ℕ, zero, suc, ◌+◌, ◌-◌, ◌%◌, ◌<◌, ◌&&◌, Bool, true, false, List, [], ◌∷◌, ◌++◌, length, set, sym, refl, ap, ◌∙◌, subst, ⊎_elim, arith, Option, Some, None, length-append, get_or-set_other}
+use Rattle.tc_hall.proofs.Vocabulary.{AreEnabled, At, Block, CLOCK, Commit, Core, DidRun, End, Event, Hall, Has, HasLock, IsShown, Knows, LockAt, LockView, Lying, Mutex, Outline, Package, PackageAt, PackageView, Seals, Shown, Shows, ShowsLock, ShowsThread, State, Terms, Thread, after, after_events, after_seal, at_home, bare, commit, commit_effect, get_elem?, has, in_hand}
+use Rattle.tc_hall.proofs.Vocabulary.{in_slot, is_running, kept, last_end, lock_in, lock_in_package, lock_in_slot, lock_of, lock_with_pass, locked_in, locks, machine_limits, option_map, outline, packed, place_shown, sealed_as, sealed_block, slot_word, some, some-injective, thread_in, threads, turns_by, unowned, whole, with_journal, with_pass, with_seal}
 use Rattle.std.specs.Prelude.{if◌then◌else◌, is_some}
 use mathlib.Core.Logic.{dite}
 use native.Mathlib.Decide.{ℕ_discrete}
@@ -17,15 +17,14 @@ use Rattle.tc_context.specs.View.{sealed_log}
 use Rattle.tc_context.proofs.Partway.{block_inside}
 use Rattle.tc_context.proofs.Staging.{some_of}
 use Rattle.tc_context.proofs.Running.{sealed_at}
-use Rattle.tc_hall.specs.Ties.{RunsThrough, CommitTie}
+use Rattle.tc_hall.specs.Ties.{RunsThrough}
 use Rattle.tc_hall.proofs.Shows.{home_hand, hand_packed}
 use Rattle.tc_hall.proofs.Outlines.{true_or_false}
 use Rattle.tc_hall.proofs.Alike.{IsUnownedSame, reach_same, end_same}
 use Rattle.tc_hall.proofs.Through.{ended_by, partway, IsCommitted, committed}
-use Rattle.tc_hall.proofs.Tying.{out_at, at_it, apart}
+use Rattle.tc_hall.proofs.Tying.{out_at, at_it, apart, Moment, Asking, Showing}
 use Rattle.tc_hall.proofs.LockLists.{add_all-has, add_all-else}
 use Rattle.tc_hall.proofs.Moves.{is_out}
-use Rattle.tc_hall.proofs.Sealing.{seals_kept}
 use Rattle.tc_hall.proofs.Cases.{apart as never_both, some_or_none, same_some, same_at, not_taken, not_empty, none_of}
 use Rattle.tc_hall.proofs.Taking.{is_lock_out}
 use Rattle.tc_context.proofs.Moved.{map_some}
@@ -311,12 +310,16 @@ module _ (k : Terms) (m : Moment k) (q : PackageView) (a : Seals m.view q) where
         }
 
 -- `commit` of a block of n turns is n times Turn, and then Commit
-pub commit_tie : CommitTie
-commit_tie k m q a = record {
-  kept = seals_kept k m.state m.rule m.id m.view q a m.live m.pass;
-  asks = λ c seen given. subst (λ (z : ℕ × Block). RunsThrough k m.view.worker z.0 z.1.turns z.1.end c) (λ i. (sym (thread_is k m q a) i, block_is k m q a i)) (runs_here k m q a c seen);
-  shows = λ c seen given.
-      subst (λ (z : ℕ × Block). AreEnabled k.image.value (machine_limits k) c (turns_by m.view.worker z.0 z.1.turns ++ Commit m.view.worker z.0 ∷ [])
-      → Shows k (after m.state m.id (commit_effect m.view (slice_index m.state.words CLOCK) a.ran.block q)) (after_events k c (turns_by m.view.worker z.0 z.1.turns ++ Commit m.view.worker z.0 ∷ [])))
-      (λ i. (sym (thread_is k m q a) i, block_is k m q a i)) (shows_after k m q a c seen (slice_index m.state.words CLOCK));
-}
+module _ (k : Terms) (m : Moment k) (q : PackageView) (a : Seals m.view q) (stamp : ℕ) (b : Block) (same : a.ran.block ≡ b) where
+  these_are : (q.context.thread ≡ a.before.context.thread) × ((ran' k m q a).block ≡ b)
+  these_are = (thread_is k m q a, block_is k m q a ∙ same)
+
+  pub commit_asking : Asking k m (commit stamp b q)
+  commit_asking c es seen is = subst (λ (z : ℕ × Block). RunsThrough k m.view.worker z.0 z.1.turns z.1.end c) (λ i. (sym these_are.0 i, these_are.1 i)) (runs_here k m q a c seen)
+
+  pub commit_showing : Showing k m (commit stamp b q)
+  commit_showing c es seen is enabled =
+      let these : es ≡ turns_by m.view.worker a.before.context.thread (ran' k m q a).block.turns ++ Commit m.view.worker a.before.context.thread ∷ [] =
+      is ∙ ap (λ (z : ℕ × Block). turns_by m.view.worker z.0 z.1.turns ++ Commit m.view.worker z.0 ∷ []) (λ i. (these_are.0 i, sym these_are.1 i)) in
+      subst (λ (z : Block × List Event). Shows k (after m.state m.id (commit_effect m.view stamp z.0 q)) (after_events k c z.1)) (λ i. (same i, sym these i))
+      (shows_after k m q a c seen stamp (subst (AreEnabled k.image.value (machine_limits k) c) these enabled))

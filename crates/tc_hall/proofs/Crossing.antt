@@ -62,12 +62,22 @@ context_send = search (sendable, crosses, Guest_moves.the_send, locks_send) dept
 context_sync : IsSync Context.the_row
 context_sync = search (sendable, crosses, Guest_moves.the_sync, locks_sync) depth 20
 
+ruleset lent = (sendable, crosses)
+
+ruleset code_crosses = (lent, code_send, code_sync)
+
+ruleset memory_crosses = (lent, Memory_moves.the_send, Memory_moves.the_sync)
+
+ruleset parts_send = (sendable, Grant_moves.the_send, Block_moves.the_send, Edge_moves.the_send)
+
+ruleset parts_sync = (sendable, Grant_moves.the_sync, Block_moves.the_sync, Edge_moves.the_sync)
+
 -- field by field, since one search for all is too long
 contents_send : IsSend Contents.the_row
-contents_send = declared_send Contents.the_type (search crosses, (search (sendable, crosses, code_send, code_sync), (search (sendable, crosses, Memory_moves.the_send, Memory_moves.the_sync) depth 20, (context_send, (search (sendable, crosses) depth 20, (search (sendable, crosses) depth 20, (search (sendable, Grant_moves.the_send) depth 20, (search (sendable, Block_moves.the_send) depth 20, (search (sendable, crosses, Block_moves.the_send), (search sendable, (search sendable, (search sendable, (search sendable, (search (sendable, Edge_moves.the_send) depth 20, tt))))))))))))))
+contents_send = declared_send Contents.the_type (search crosses, (search code_crosses, (search memory_crosses depth 20, (context_send, (search lent depth 20, (search lent depth 20, (search parts_send depth 20, (search parts_send depth 20, (search (lent, Block_moves.the_send), (search sendable, (search sendable, (search sendable, (search sendable, (search parts_send depth 20, tt))))))))))))))
 
 contents_sync : IsSync Contents.the_row
-contents_sync = declared_sync Contents.the_type (search crosses, (search (sendable, crosses, code_send, code_sync), (search (sendable, crosses, Memory_moves.the_send, Memory_moves.the_sync) depth 20, (context_sync, (search (sendable, crosses) depth 20, (search (sendable, crosses) depth 20, (search (sendable, Grant_moves.the_sync) depth 20, (search (sendable, Block_moves.the_sync) depth 20, (search (sendable, crosses, Block_moves.the_sync), (search sendable, (search sendable, (search sendable, (search sendable, (search (sendable, Edge_moves.the_sync) depth 20, tt))))))))))))))
+contents_sync = declared_sync Contents.the_type (search crosses, (search code_crosses, (search memory_crosses depth 20, (context_sync, (search lent depth 20, (search lent depth 20, (search parts_sync depth 20, (search parts_sync depth 20, (search (lent, Block_moves.the_sync), (search sendable, (search sendable, (search sendable, (search sendable, (search parts_sync depth 20, tt))))))))))))))
 
 pub package_send : IsSend Package.the_row
 package_send = search (sendable, crosses, contents_send) depth 20

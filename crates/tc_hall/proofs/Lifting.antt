@@ -1,26 +1,24 @@
 -- A hall's order with the events of the lines is one list of events, by the tie of each step.
-use Rattle.std.proofs.Common.{◌≡◌, ◌≢◌, ℕ, zero, suc, ◌+◌, ◌-◌, ◌<◌, Bool, true, false, ◌==◌, List, [], ◌∷◌, ◌++◌, replicate, set, sym, refl, ap, ◌∙◌, subst, ⊎_elim, arith, Option, Some, None, slice_index, if◌then◌else◌}
-use Rattle.tc_hall.proofs.Vocabulary.{AreEnabled, AreStocked, Block, CLOCK, Cargo, Commit, Core, Custody, Done, Event, Hall, IsFree, IsOpening, KeptHall, Knows, Lock, LockAt, LockView, Lying, MayDo, MayFill, Moment, Operation, Package, PackageAt, PackageView, Parked, Place, Ready, Seals, Shows, ShowsLock, ShowsThread, Terms, Waiting, after, after_events, after_operation, claim}
-use Rattle.tc_hall.proofs.Vocabulary.{commit, commit_effect, free, get_elem?, in_slot, join, last_end, lay, lies_at, lock_in_package, lock_in_slot, lock_of, lock_with_pass, locked_in, locks, look, look_effect, machine_limits, miss, miss_effect, none, opening, outline, place_shown, put, reach, slot_word, some, some-injective, some-ne-none, split, starting, stop, stopped}
-use Rattle.tc_hall.proofs.Vocabulary.{stopped_effect, take, threads, turns_by, with_custody, with_pass}
+use Rattle.std.proofs.Common.{◌≡◌, ℕ, zero, suc, ◌+◌, ◌-◌, ◌<◌, Bool, true, false, ◌==◌, List, [], ◌∷◌, ◌++◌, replicate, sym, refl, ap, ◌∙◌, subst, arith, Option, Some, None, slice_index, if◌then◌else◌}
+use Rattle.tc_hall.proofs.Vocabulary.{AreEnabled, AreStocked, Cargo, Core, Custody, Event, Hall, IsFree, IsOpening, KeptHall, Knows, Lock, LockAt, LockView, Look, Lying, MayDo, Operation, Package, PackageAt, PackageView, Ready, STOP, Shows, ShowsLock, ShowsThread, Stopped, Terms, after_events, after_miss, after_operation, claim, commit, free, get_elem?, in_slot, join}
+use Rattle.tc_hall.proofs.Vocabulary.{last_end, lay, lies_at, lock_in_package, lock_in_slot, lock_of, lock_with_pass, locked_in, locks, look, machine_limits, miss, none, opening, outline, place_shown, put, reach, slot_word, some, some-injective, some-ne-none, split, starting, stop, stopped, take, threads, with_call, with_custody, with_pass}
 use Rattle.std.specs.Prelude.{nat_lt}
 use Rattle.std.proofs.lemmas.Bool.Decides.{nat_tests}
 use Rattle.std.proofs.lemmas.List.{get_or-replicate}
 use mathlib.Core.Option as maybe
-use lib.Seq.{set-get_or}
-use Rattle.atomic_table.proofs.Lists.{at_set, at_map}
+use Rattle.atomic_table.proofs.Lists.{at_map}
 use Rattle.tc_turn.specs.Turn.{thread_at_start, no_thread}
 use Rattle.tc_core.specs.Events.{effect, entered, left_by_all}
 use Rattle.tc_core.specs.declared.event.Event.TheVariants.{Enter, Leave}
 use Rattle.tc_hall.specs.declared.place.Origin.TheVariants as origin
-use Rattle.tc_hall.specs.Lift.{IsClaimed, alone, adopted, granted, IsPut, IsOf, Beat, operation, enter, leave, events_of, hall_of, start_of, core_after, MayLift, OpensShown, IsLifted, Lifts}
+use Rattle.tc_hall.specs.Lift.{Beat, operation, enter, leave, events_of, hall_of, start_of, core_after, MayLift, OpensShown, IsLifted, Lifts}
 use Rattle.tc_hall.proofs.Ordering.{kept_after, kept_by}
-use Rattle.tc_hall.proofs.Tying.{claim_tie, adopt_tie, put_tie, take_tie, free_tie, tell_tie, pass_tie}
-use Rattle.tc_hall.proofs.Taking.{is_lock_out}
-use Rattle.tc_hall.proofs.Shows.{shown_code, had_same, still_shown}
+use Rattle.tc_hall.proofs.Shows.{shown_code}
 use Rattle.tc_hall.proofs.Making.{clean_free}
 use Rattle.tc_hall.proofs.Cases.{clash, clash_at, same_package, same_lock}
-use Rattle.tc_hall.proofs.Committing.{commit_tie}
+use Rattle.tc_hall.proofs.Tying.{Moment, Asking, Showing, claim_asking, claim_showing, put_asking, put_showing, take_asking, take_showing, free_asking, free_showing, found_shown, stop_shown, slot_moved, split_shown, join_shown}
+use Rattle.tc_hall.proofs.Committing.{commit_asking, commit_showing}
+use Rattle.tc_hall.specs.Ties.{AreAsked, Ties}
 
 after_more : (k : Terms) (c : Core) (xs ys : List Event) → after_events k c (xs ++ ys) ≡ after_events k (after_events k c xs) ys
 after_more k c [] ys = refl
@@ -59,60 +57,47 @@ left_shown : (k : Terms) (s : Hall) (c : Core) (w lock : ℕ) → Shows k s c �
 unfolding effect
 left_shown k s c w lock seen = line_shown k s c lock (left_by_all (c.custody lock)) refl seen
 
-module _ (k : Terms) (s : Hall) (r : KeptHall k s) (id : ℕ) (v : Knows) (at : get_elem? s.views id ≡ some v) (live : v.spent ≡ false) (c : Core) (seen : Shows k s c) where
-  abbrev m : Moment k
-  m = record { state = s; rule = r; id = id; view = v; pass = at; live = live }
+-- ---- the tie of each operation
 
-  claimed : (t : ℕ) (q : PackageView) (es : List Event) → MayDo k s id v (claim t q) → IsClaimed k s c v t es → AreEnabled k.image.value (machine_limits k) c es → Shows k (after_operation k s id v (claim t q)) (after_events k c es)
-  claimed t q es may (alone o) enabled = ⊎_elim
-      (λ (z : slice_index s.words (slot_word t) ≡ 0). (claim_tie k m t q origin.Ready may z).shows c seen tt enabled)
-      (λ (z : slice_index s.words (slot_word t) ≡ 1). (claim_tie k m t q origin.Parked may z).shows c seen tt enabled) o
-  claimed t q es may (adopted lock l word has loose) enabled = (adopt_tie k m t lock q l may ((is_lock_out k s r id lock v l at has).0) word has).adopt.shows c seen loose enabled
-  claimed t q es may (granted lock l word has loose) enabled = (adopt_tie k m t lock q l may ((is_lock_out k s r id lock v l at has).0) word has).grant.shows c seen loose enabled
+module _ (k : Terms) (m : Moment k) where
+  asking : (o : Operation) → MayDo k m.state m.id m.view o → Asking k m o
+  asking (claim t q) may c es seen is = claim_asking k m t q may c es seen is
+  asking (take i l) may c es seen is = take_asking k m i l may c es seen is
+  asking (commit stamp b q) may c es seen is = commit_asking k m q may.1 stamp b may.2 c es seen is
+  asking (put q place) may c es seen is = put_asking k m q place may c es seen is
+  asking (free l) may c es seen is = free_asking k m l may.1 c es seen is
+  asking (miss word wanted found) may c es seen is = subst (AreAsked k c m.view (miss word wanted found)) (sym is) tt
+  asking (look t found) may c es seen is = subst (AreAsked k c m.view (look t found)) (sym is) tt
+  asking stop may c es seen is = subst (AreAsked k c m.view stop) (sym is) tt
+  asking (stopped found) may c es seen is = subst (AreAsked k c m.view (stopped found)) (sym is) tt
+  asking (reach slot) may c es seen is = subst (AreAsked k c m.view (reach slot)) (sym is) tt
+  asking (lay slot) may c es seen is = subst (AreAsked k c m.view (lay slot)) (sym is) tt
+  asking split may c es seen is = subst (AreAsked k c m.view split) (sym is) tt
+  asking (join other w) may c es seen is = subst (AreAsked k c m.view (join other w)) (sym is) tt
 
-  -- of events that are these
-  at_these : (s' : Hall) (es these : List Event) → es ≡ these → AreEnabled k.image.value (machine_limits k) c es → (AreEnabled k.image.value (machine_limits k) c these → Shows k s' (after_events k c these)) → Shows k s' (after_events k c es)
-  at_these s' es these same enabled f = subst (λ (z : List Event). Shows k s' (after_events k c z)) (sym same) (f (subst (AreEnabled k.image.value (machine_limits k) c) same enabled))
+  showing : (o : Operation) → MayDo k m.state m.id m.view o → Showing k m o
+  showing (claim t q) may c es seen is enabled = claim_showing k m t q may c es seen is enabled
+  showing (take i l) may c es seen is enabled = take_showing k m i l may c es seen is enabled
+  showing (commit stamp b q) may c es seen is enabled = commit_showing k m q may.1 stamp b may.2 c es seen is enabled
+  showing (put q place) may c es seen is enabled = put_showing k m q place may c es seen is enabled
+  showing (free l) may c es seen is enabled = free_showing k m l may.1 c es seen is enabled
+  showing (miss word wanted found) may c es seen is enabled = found_shown k m c es seen is word found (after_miss m.view word found) may.0 refl refl refl
+  showing (look t found) may c es seen is enabled = found_shown k m c es seen is (slot_word t) found (with_call m.view (Look t found)) may.1 refl refl refl
+  showing stop may c es seen is enabled = stop_shown k m c es seen is
+  showing (stopped found) may c es seen is enabled = found_shown k m c es seen is STOP found (with_call m.view (Stopped found)) may refl refl refl
+  showing (reach slot) may c es seen is enabled = slot_moved k m c es seen is slot none (Some slot) (λ x e. some-ne-none (Some x) (sym e))
+  showing (lay slot) may c es seen is enabled = slot_moved k m c es seen is slot (some None) None (λ x e. clash_at (some None) x refl e)
+  showing split may c es seen is enabled = split_shown k m c es seen is
+  showing (join other w) may c es seen is enabled = join_shown k m c es seen is other w
 
-  of_none : (s' : Hall) (es : List Event) → es ≡ [] → Shows k s' c → Shows k s' (after_events k c es)
-  of_none s' es nothing shows = subst (λ (z : List Event). Shows k s' (after_events k c z)) (sym nothing) shows
-
-  placed : (q : PackageView) (place : Place) (es : List Event) → MayFill k v q place → IsPut k c v q place es → AreEnabled k.image.value (machine_limits k) c es → Shows k (after_operation k s id v (put q place)) (after_events k c es)
-  placed q Ready es may is enabled = at_these _ es _ is.1 enabled (λ e. ((put_tie k m q).ready may).shows c seen is.0 e)
-  placed q (Waiting lock) es may is enabled = at_these _ es _ is.1 enabled (λ e. ((put_tie k m q).waiting lock may).shows c seen is.0 e)
-  placed q Parked es may is enabled = at_these _ es _ is.2 enabled (λ e. ((put_tie k m q).parked is.1 may).shows c seen is.0 e)
-  placed q Done es may is enabled = at_these _ es _ is.1 enabled (λ e. ((put_tie k m q).done may).shows c seen is.0 e)
-
-  sealed : (b : Block) (q : PackageView) (es : List Event) (a : Seals v q) → a.ran.block ≡ b → es ≡ turns_by v.worker q.context.thread b.turns ++ Commit v.worker q.context.thread ∷ [] → AreEnabled k.image.value (machine_limits k) c es
-      → Shows k (after s id (commit_effect v (slice_index s.words CLOCK) b q)) (after_events k c es)
-  sealed b q es a is these enabled = subst
-      (λ (z : Block). es ≡ turns_by v.worker q.context.thread z.turns ++ Commit v.worker q.context.thread ∷ [] → Shows k (after s id (commit_effect v (slice_index s.words CLOCK) z q)) (after_events k c es)) is
-      (λ e. at_these _ es _ e enabled (λ f. (commit_tie k m q a).shows c seen tt f)) these
-
-  -- an empty slot goes into the pass's hand, or back, and the word stays
-  slot_moved : (slot word : ℕ) (b : maybe.Option (Option Cargo)) (w : Knows) → ((x : Cargo) → b ≢ some (Some x)) → w.packages ≡ v.packages → w.locks ≡ v.locks → w.worker ≡ v.worker
-      → Shows k record { words = set s.words word (slice_index s.words word); homes = set s.homes slot b; views = set s.views id w } c
-  slot_moved slot word b w empty packages locks' worker = record {
-    between = seen.between;
-    shown = still_shown k s.words _ s.homes _ s.views _ (λ u. ap (λ (z : List ℕ). slice_index z (slot_word u)) (set-get_or s.words word 0))
-        (λ u x e. ⊎_elim (λ (z : (u ≡ slot) × (b ≡ some (Some x))). absurd (empty x z.1)) (λ (z : (u ≢ slot) × (get_elem? s.homes u ≡ some (some (Some x)))). z.1) (at_set s.homes slot u b (some (Some x)) e))
-        (had_same s.views id v w at packages locks' worker) (outline c) seen.shown;
-  }
-
-  shown_after : (o : Operation) (es : List Event) → MayDo k s id v o → IsOf k s c v o es → AreEnabled k.image.value (machine_limits k) c es → Shows k (after_operation k s id v o) (after_events k c es)
-  shown_after (claim t q) es may is enabled = claimed t q es may is enabled
-  shown_after (take i l) es may is enabled = at_these _ es _ is.3 enabled (λ e. (take_tie k m is.0 i l is.1 is.2 may).shows c seen tt e)
-  shown_after (miss word wanted found) es may is enabled = of_none _ es is (subst (λ (z : ℕ). Shows k (after s id (miss_effect v word z)) c) may.0 (((tell_tie k m).missed word).shows c seen tt tt))
-  shown_after (commit stamp b q) es may is enabled = subst (λ (z : ℕ). Shows k (after s id (commit_effect v z b q)) (after_events k c es)) may.0 (sealed b q es may.1 may.2 is enabled)
-  shown_after (put q place) es may is enabled = placed q place es may is enabled
-  shown_after (free l) es may is enabled = at_these _ es _ is.1 enabled (λ e. (free_tie k m l may.0 may.1).shows c seen is.0 e)
-  shown_after (look t found) es may is enabled = of_none _ es is (subst (λ (z : ℕ). Shows k (after s id (look_effect v t z)) c) may.1 (((tell_tie k m).look t).shows c seen tt tt))
-  shown_after stop es may is enabled = of_none _ es is ((tell_tie k m).stop.shows c seen tt tt)
-  shown_after (stopped found) es may is enabled = of_none _ es is (subst (λ (z : ℕ). Shows k (after s id (stopped_effect v z)) c) may ((tell_tie k m).stopped.shows c seen tt tt))
-  shown_after (reach slot) es may is enabled = of_none _ es is (slot_moved slot (slot_word slot) none (record v { hand = Some slot }) (λ x e. some-ne-none (Some x) (sym e)) refl refl refl)
-  shown_after (lay slot) es may is enabled = of_none _ es is (slot_moved slot (slot_word slot) (some None) (record v { hand = None }) (λ x e. clash_at (some None) x refl e) refl refl refl)
-  shown_after split es may is enabled = of_none _ es is (((pass_tie k m).made may.0 may.1).shows c seen tt tt)
-  shown_after (join other w) es may is enabled = of_none _ es is (((pass_tie k m).joined other w may.0 may.1 may.2 may.3).shows c seen tt tt)
+pub ties : Ties
+ties k s m rule may =
+    let moment : Moment k = record { state = s; rule = rule; id = m.pass; view = m.knew; pass = may.pass; live = may.live } in
+    record {
+      kept = kept_after k s rule m.pass m.knew may.pass may.live m.operation may.may;
+      asks = asking k moment m.operation may.may;
+      shows = showing k moment m.operation may.may;
+    }
 
 -- ---- the first state
 
@@ -180,7 +165,7 @@ module _ (k : Terms) (s : Hall) (begins : IsOpening k s) where
       let h : Hall = hall_of k s before in record {
         enabled = enabled_more k (start_of k) (events_of before) es was.enabled may.2;
         shows = subst (Shows k (after_operation k h m.pass m.knew m.operation)) (sym (after_more k (start_of k) (events_of before) es))
-            (shown_after k h (kept_at before may.3) m.pass m.knew may.0.pass may.0.live (core_after k before) was.shows m.operation es may.0.may may.1 may.2);
+            ((ties k h m (kept_at before may.3) may.0).shows (core_after k before) es was.shows may.1 may.2);
       }
   lifted (enter w t lock ∷ before) may =
       let was = lifted before may.1 in record {

@@ -196,7 +196,8 @@ module _ (k : Terms) where
             (λ u q _ e. full_still s.homes t a b slot full u q e) (λ u q _ e. full_back s.homes t b full' u q e) (ap (λ (z : Knows). z.locks) same) (ap (λ (z : Knows). z.spent) same)
             (λ i e. absurd (to (threads k + i) (λ e. omega arith) e)) (λ i e. absurd (back (threads k + i) (λ e. omega arith) e)) r.locks_placed;
         passes = passes_stay k.image.value k.workers r.told.history r.told.history s.words s.words (λ b e. e) (λ u e. e) (λ e. e) s.views id w r.passes
-            (pass_same k.image.value k.workers r.told.history r.told.history s.words s.words (λ b e. e) (λ u e. e) (λ e. e) v w old (ap (λ (z : Knows). z.worker) same, ap (λ (z : Knows). z.spent) same, ap (λ (z : Knows). z.image) same, ap (λ (z : Knows). length z.pinned) same) (ap (λ (z : Knows). z.joined) same) (ap (λ (z : Knows). z.sealed) same) (ap (λ (z : Knows). z.calls) same) (ap (λ (z : Knows). z.pinned) same));
+            (pass_same k.image.value k.workers r.told.history r.told.history s.words s.words (λ b e. e) (λ u e. e) (λ e. e) v w old (ap (λ (z : Knows). z.worker) same, ap (λ (z : Knows). z.spent) same, ap (λ (z : Knows). z.image) same, ap (λ (z : Knows). length z.pinned) same)
+            (ap (λ (z : Knows). z.joined) same) (ap (λ (z : Knows). z.sealed) same) (ap (λ (z : Knows). z.calls) same) (ap (λ (z : Knows). z.pinned) same));
         stop = λ e. stop_stays s.views id v w at (λ i e. (i, ap (λ (z : Knows). get_elem? z.calls i) same ∙ e)) (r.stop e);
         apart = apart_stays s.views id v w at record { worker = ap (λ (z : Knows). z.worker) same; maker = ap (λ (z : Knows). z.maker) same; made = ap (λ (z : Knows). z.made) same; spent = ap (λ (z : Knows). z.spent) same; joined = ap (λ (z : Knows). z.joined) same } live r.apart;
         listed = listed_stays r.told.history s.views id v w at r.listed record { worker = ap (λ (z : Knows). z.worker) same; maker = ap (λ (z : Knows). z.maker) same; made = let e = ap (λ (z : Knows). z.made) same in omega arith; spent = ap (λ (z : Knows). z.spent) same; joined = ap (λ (z : Knows). z.joined) same; sealed = ap (λ (z : Knows). z.sealed) same };

@@ -1,6 +1,6 @@
 -- Each step of a pass on the table is an operation that may come there.
 use Rattle.std.proofs.Common.{◌≡◌, ℕ, ◌+◌, ◌%◌, ◌^◌, ◌<◌, ◌==◌, true, false, List, [], ◌∷◌, length, set, sym, refl, ap, ◌∙◌, subst, arith, Option, Some, None, slice_index}
-use Rattle.tc_hall.proofs.Vocabulary.{CLOCK, Cargo, DidSeal, Hall, HasLock, IsAsLeft, IsClaimable, IsFree, IsInRange, IsOrdered, IsPackageAfter, IsSlotOut, IsStateAfter, IsStateAsLeft, Joins, KeptHall, Knows, Lock, LockView, Look, MayFree, MayPut, Package, PackageView, Place, STOP, Sat, Seals, Splits, Stop, Stopped, Terms, after_claim, after_free, after_miss, after_put}
+use Rattle.tc_hall.proofs.Vocabulary.{CLOCK, Cargo, DidSeal, Hall, HasLock, IsAsLeft, IsClaimable, IsFree, IsInRange, IsOrdered, IsPackageAfter, IsSlotOut, IsStateAfter, Joins, KeptHall, Knows, Lock, LockView, Look, MayFree, MayPut, Package, PackageView, Place, STOP, Sat, Seals, Splits, Stop, Stopped, Terms, after_claim, after_free, after_miss, after_put}
 use Rattle.tc_hall.proofs.Vocabulary.{after_seal, after_take, claim, code_of, commit, dealt, free, fresh, get_elem?, gives, gone, has, join, keeps, kept, lay, locks, look, merged, miss, none, of_lock, of_package, place_of, put, reach, sealed_block, slot_word, some, split, stepped, stop, stopped, take, takes, threads, with_call, with_seal}
 use prog.Atomic.{either}
 use Rattle.atomic_table.specs.Table.{step, Act, Valid, carried_after, Allows}
@@ -8,7 +8,7 @@ use Rattle.atomic_table.proofs.Lists.{set_here, set_else, exchanged}
 use Rattle.tc_mutex_spec.proofs.ListLaws.{at_place}
 use Rattle.tc_hall.specs.Steps.{Got, Took, claimed, laid, reached, took_as, put_as, did_free, looked, stopping, saw_stopped, sealed_as}
 use Rattle.tc_hall.proofs.Outs.{lock_came, no_call_taken}
-use Rattle.tc_hall.proofs.Moves.{some_same, home_of, is_out, taken, gets}
+use Rattle.tc_hall.proofs.Moves.{home_of, is_out, taken, gets}
 use Rattle.tc_hall.proofs.Cases.{clash, home_out}
 use Rattle.tc_hall.proofs.Telling.{place_codes, filled, as_left}
 use Rattle.tc_hall.proofs.Left.{left_home, left_state}
@@ -138,17 +138,17 @@ module _ (k : Terms) where
 
   -- ---- take and free, and the slot of a lock
 
-  abbrev pub TakesAll : Option Terms → ℕ → ℕ → Option ℕ → ℕ → Knows → List (ℕ × Option Cargo) → Type 0
-  TakesAll p slots id o word v c = Allows (IsOrdered k) slots id (v, c) word (λ x. either (x == 0) 1 x) (took_as p o (step slots word 0 1 none) (v, c))
+  abbrev pub TakesAll : Option Terms → ℕ → ℕ → ℕ → Knows → List (ℕ × Option Cargo) → Type 0
+  TakesAll o slots id word v c = Allows (IsOrdered k) slots id (v, c) word (λ x. either (x == 0) 1 x) (took_as o (step slots word 0 1 none) (v, c))
 
-  pub takes_lock : (slots id i : ℕ) (v : Knows) (c : List (ℕ × Option Cargo)) → c ≡ [] → i < locks k → v.spent ≡ false → v.hand ≡ None → TakesAll (Some k) slots id (Some i) (slot_word (threads k + i)) v c
-  takes_lock slots id i v c empty below live idle = subst (TakesAll (Some k) slots id (Some i) (slot_word (threads k + i)) v) (sym empty) (λ s d deep at small.
+  pub takes_lock : (slots id i : ℕ) (v : Knows) (c : List (ℕ × Option Cargo)) → c ≡ [] → i < locks k → v.spent ≡ false → v.hand ≡ None → TakesAll (Some k) slots id (slot_word (threads k + i)) v c
+  takes_lock slots id i v c empty below live idle = subst (TakesAll (Some k) slots id (slot_word (threads k + i)) v) (sym empty) (λ s d deep at small.
       let r : KeptHall k s = kept_of k s d in
       let n : ℕ = threads k in
       let j : ℕ = slot_word (n + i) in
       let found : ℕ = slice_index s.words j in
       let place = at_place r.told.segments i (omega (arith, r.told.law.all_states)) in
-      let F : ℕ → Type 0 = λ x. (w : Knows) × (a : Act (Option Cargo)) × Valid s.homes [] a × IsOrdered k (stepped s j x id [] w a) × took_as (Some k) (Some i) (step slots j 0 1 none) (v, []) found (w, carried_after [] a) in
+      let F : ℕ → Type 0 = λ x. (w : Knows) × (a : Act (Option Cargo)) × Valid s.homes [] a × IsOrdered k (stepped s j x id [] w a) × took_as (Some k) (step slots j 0 1 none) (v, []) found (w, carried_after [] a) in
       exchanged found 0 1 F
       (λ hit. let lies = lock_home_of n s.words s.homes s.views i place.0 (r.locks_placed.spot i) (r.locks_placed.each i place.0 place.1) hit in
       let h = lies.1 in
@@ -164,28 +164,29 @@ module _ (k : Terms) where
         h.slot,
         next k s d id v (take i l) at live record { free = idle; below = below; word = hit; slot = h.slot },
         (
-          (λ _ u slot same e. subst (λ (z : ℕ × ℕ). Took (Some k) z.0 z.1 (v, []) (w, (n + i, Some (Lock l)) ∷ [])) (λ y. (sym (some_same u i same) y, (let x : n + i ≡ slot = omega arith in x) y)) (
-            l,
-            taken,
-            record {
-              now = refl;
-              rest = record {
-                number = number;
-                of = ap (λ (z : LockView). z.journal.image) h.same ∙ (after.follows.of ∙ sym ((r.passes id v at).of live));
-                opened = ap (λ (z : LockView). z.journal.opened) h.same ∙ after.opened;
-                closed = ap (λ (z : LockView). z.journal.closed) h.same ∙ after.closed;
-                ended = h.rests;
-              };
-              came = lock_came v l (subst (λ (z : ℕ). HasLock taken z (kept l)) (sym number) here) (λ x has. home_out (r.locks_placed.spot l.number) id (ap r.locks_placed.spot number ∙ lies.0) (r.locks_placed.owned id v l.number x at has).0);
-              called = no_call_taken v l;
-            },
-            refl,
-            (λ m is. subst (λ (z : Terms). IsStateAsLeft z v i l) (terms_are k m is) (left_state k s r id i v place.0 h at place.1)),
-          )),
+          (λ _ k' u slot is at' e. let same : k ≡ k' = terms_are k k' is in let wide' : threads k ≡ threads k' = ap threads same in let number' : i ≡ u = omega arith in let slot' : n + i ≡ slot = omega arith in
+              subst (λ (z : Terms × ℕ × ℕ). Took z.0 z.1 z.2 (v, []) (w, (n + i, Some (Lock l)) ∷ [])) (λ y. (same y, number' y, slot' y)) (
+                l,
+                taken,
+                record {
+                  now = refl;
+                  rest = record {
+                    number = number;
+                    of = ap (λ (z : LockView). z.journal.image) h.same ∙ (after.follows.of ∙ sym ((r.passes id v at).of live));
+                    opened = ap (λ (z : LockView). z.journal.opened) h.same ∙ after.opened;
+                    closed = ap (λ (z : LockView). z.journal.closed) h.same ∙ after.closed;
+                    ended = h.rests;
+                  };
+                  came = lock_came v l (subst (λ (z : ℕ). HasLock taken z (kept l)) (sym number) here) (λ x has. home_out (r.locks_placed.spot l.number) id (ap r.locks_placed.spot number ∙ lies.0) (r.locks_placed.owned id v l.number x at has).0);
+                  called = no_call_taken v l;
+                },
+                refl,
+                left_state k s r id i v place.0 h at place.1,
+              )),
           (λ miss. absurd (miss hit)),
         ),
       ))
-      (λ other. (after_miss v j found, keeps, tt, next k s d id v (miss j 0 found) at live (refl, other), ((λ hit _ _ _ _. absurd (other hit)), (λ _. refl)))))
+      (λ other. (after_miss v j found, keeps, tt, next k s d id v (miss j 0 found) at live (refl, other), ((λ hit _ _ _ _ _ _. absurd (other hit)), (λ _. refl)))))
 
   abbrev pub FreesAll : ℕ → ℕ → ℕ → Knows → List (ℕ × Option Cargo) → Type 0
   FreesAll slots id word v c = Allows (IsOrdered k) slots id (v, c) word (λ _. 0) (λ _. did_free (step slots word 0 0 none) (v, c) 0)

@@ -1,26 +1,52 @@
--- Each step keeps the rule, and ties to its events.
-use Rattle.std.proofs.Common.{◌≡◌, ◌≢◌, ℕ, ◌+◌, ◌<◌, ◌==◌, Bool, true, false, List, length, set, sym, refl, ap, ◌∙◌, subst, arith, Some, None, slice_index, get_or-set_other}
-use Rattle.tc_hall.proofs.Vocabulary.{At, Core, Custody, Done, Gets, Granted, Hall, Has, HasLock, IsShown, KeptHall, Knows, LockPlace, LockView, Look, Loose, MayClaim, MayFill, Moment, PackageView, Parked, Place, Ready, STOP, Shows, Stop, Stopped, Terms, Thread, ThreadPlace, Waiting, after, after_claim, after_miss, after_take, as_place, at_home, bare, claim_effect, code_of}
-use Rattle.tc_hall.proofs.Vocabulary.{dealt, fresh, get_elem?, gone, in_hand, is_claimable, is_loose, is_running, kept, last_end, lies_at, lies_with, lock_in_slot, lock_with_pass, locked_in, locks, merged, outline, packed, place_shown, put_effect, runs, slot_word, some, thread_in, threads, with_call, with_custody, with_pass, with_place}
+-- Each operation but `commit` ties to its events.
+use Rattle.std.proofs.Common.{◌≡◌, ◌≢◌, ℕ, ◌+◌, ◌<◌, ◌==◌, Bool, true, false, List, length, set, sym, refl, ap, ◌∙◌, subst, arith, Some, None, slice_index, get_or-set_other, ⊎_elim, Option, []}
+use Rattle.tc_hall.proofs.Vocabulary.{AreEnabled, At, Cargo, Core, Custody, Done, Event, Gets, Granted, Hall, Has, HasLock, Homes, IsShown, KeptHall, Knows, LockPlace, LockView, Loose, MayClaim, MayFill, MayFree, Operation, PackageView, Parked, Place, Ready, STOP, Shows, Stop, Terms, Thread, ThreadPlace, Waiting, after, after_claim, after_events, after_operation, after_take}
+use Rattle.tc_hall.proofs.Vocabulary.{as_place, at_home, bare, claim, claim_effect, code_of, dealt, free, fresh, get_elem?, gone, in_hand, is_claimable, is_loose, is_running, join, kept, last_end, lies_at, lies_with, lock_in_slot, lock_with_pass, locked_in, locks, machine_limits, merged, outline, packed, place_shown, put, put_effect, runs, slot_word, some, split, stop, take}
+use Rattle.tc_hall.proofs.Vocabulary.{thread_in, threads, with_call, with_custody, with_pass, with_place}
 use Rattle.std.specs.Prelude.{nat_lt, is_some, not}
 use Rattle.std.proofs.lemmas.Bool.Decides.{nat_tests}
 use lib.Seq.{set-get_or}
-use Rattle.atomic_table.proofs.Lists.{set_here, set_else}
+use Rattle.atomic_table.proofs.Lists.{set_here, at_set}
 use Rattle.tc_mutex_spec.proofs.BlocksAlike.{eq_self}
 use Rattle.tc_core.specs.Core.{is_waiting, is_slept, is_free_lock}
 use Rattle.tc_core.specs.Events.{is_enabled, effect, passed_to, taken_by, freed}
-use Rattle.tc_core.specs.declared.event.Event.TheVariants.{Finish}
+use Rattle.tc_core.specs.declared.event.Event.TheVariants.{Finish, Claim}
 use Rattle.tc_core.specs.declared.place.ThreadPlace.TheVariants as at
-use Rattle.tc_hall.specs.Ties.{may_come, at_worker, loose_at, ClaimTie, IsLooseIn, CanPass, AdoptTie, AreInside, PutTie, TakeTie, FreeTie, TellTie, PassTie, Tied, silent}
-use Rattle.tc_hall.proofs.Shows.{shown_at, shown_code, shown_origin, origin_low, lies_put, lies_low, same_hand, claim_shown, put_shown, take_shown, free_shown, HadOut, had_same, had_more, had_less, still_shown}
+use Rattle.tc_hall.specs.Ties.{may_come, at_worker, loose_at, IsLooseIn, CanPass, AreInside, IsOf, AreAsked, alone, adopted, granted}
+use Rattle.tc_hall.proofs.Shows.{shown_at, shown_code, shown_origin, lies_put, lies_low, same_hand, claim_shown, put_shown, take_shown, free_shown, HadOut, had_same, had_more, had_less, still_shown}
 use Rattle.tc_hall.proofs.Outlines.{both, at_self, loose_self, with_lies, else_lies, home_free, Arrives, arrives, arrives_then, arrives_with, is_moved, custody_here, custody_else, all_come, others_come}
-use Rattle.tc_hall.proofs.Moves.{AtHome, at_home_of, gets, is_out, misses}
-use Rattle.tc_hall.proofs.Ordering.{claim_after, take_after, put_after}
+use Rattle.tc_hall.proofs.Moves.{AtHome, at_home_of, gets, is_out}
 use Rattle.tc_hall.proofs.Outs.{has_out, lock_out}
 use Rattle.tc_hall.proofs.Cases.{same_out, none_of}
-use Rattle.tc_hall.proofs.Making.{deals, joins, clean_free, gone_free}
-use Rattle.tc_hall.proofs.Telling.{code_low, look_kept, stop_kept, see_kept}
-use Rattle.tc_hall.proofs.Taking.{lock_at_home, is_lock_out, free_kept}
+use Rattle.tc_hall.proofs.Making.{clean_free, gone_free}
+use Rattle.tc_hall.proofs.Telling.{code_low}
+use Rattle.tc_hall.proofs.Taking.{lock_at_home, is_lock_out}
+use Rattle.tc_hall.specs.declared.place.Origin.{Origin}
+use Rattle.tc_hall.specs.declared.place.Origin.TheVariants as origin
+use Rattle.tc_hall.specs.Places.{origin_code}
+use mathlib.Core.Option as maybe
+use Rattle.tc_hall.specs.Order.{MayTake}
+use Rattle.tc_hall.proofs.Ordering.{claimable_low}
+
+-- a state of the hall that meets the rule, and a live pass in it
+pub record Moment (k : Terms) : Type 0 where
+  pub state : Hall
+  pub rule : KeptHall k state
+  pub id : ℕ
+  pub view : Knows
+  pub pass : get_elem? state.views id ≡ some view
+  pub live : view.spent ≡ false
+
+-- what the events of an operation ask, and what the hall shows after them
+abbrev pub Asking : (k : Terms) → Moment k → Operation → Type 0
+Asking k m o = (c : Core) (es : List Event) → Shows k m.state c → IsOf k m.state c m.view o es → AreAsked k c m.view o es
+
+abbrev pub Showing : (k : Terms) → Moment k → Operation → Type 0
+Showing k m o = (c : Core) (es : List Event) → Shows k m.state c → IsOf k m.state c m.view o es → AreEnabled k.image.value (machine_limits k) c es → Shows k (after_operation k m.state m.id m.view o) (after_events k c es)
+
+-- of events that are these
+after_these : (k : Terms) (s' : Hall) (c : Core) (es these : List Event) → es ≡ these → Shows k s' (after_events k c these) → Shows k s' (after_events k c es)
+after_these k s' c es these same shows = subst (λ (z : List Event). Shows k s' (after_events k c z)) (sym same) shows
 
 module _ (k : Terms) (m : Moment k) where
   abbrev s : Hall
@@ -64,7 +90,14 @@ module _ (k : Terms) (m : Moment k) where
 
   -- ---- claim and adopt
 
-  module _ (t : ℕ) (q : PackageView) (a : MayClaim k m.state m.view t q) (low : slice_index m.state.words (slot_word t) < 512) where
+  -- a lock that the pass has out is one of the hall's
+  below_lock : (lock : ℕ) (l : LockView) → HasLock m.view lock l → lock < locks k
+  below_lock lock l has = (is_lock_out k m.state m.rule m.id lock m.view l m.pass has).0
+
+  module _ (t : ℕ) (q : PackageView) (a : MayClaim k m.state m.view t q) where
+    low : slice_index m.state.words (slot_word t) < 512
+    low = (claimable_low k (slice_index m.state.words (slot_word t)) m.rule.told.limits.locks a.word).0
+
     at_its_home : AtHome k m.state m.rule t q
     at_its_home = at_home_of k m.state m.rule t q a.below low a.slot
 
@@ -85,69 +118,61 @@ module _ (k : Terms) (m : Moment k) where
     rests : (c : Core) → IsShown k m.state (outline c) → lies_with (c.course t).place t ≡ packed t
     rests c o = ap (λ (z : ThreadPlace). lies_with z t) (o.place t a.below) ∙ lies_low (slice_index m.state.words (slot_word t)) t low
 
--- `claim` is Claim
-pub claim_tie : ClaimTie
-unfolding is_enabled effect
-claim_tie k m t q from a word =
-    let low : slice_index m.state.words (slot_word t) < 512 = subst (λ (z : ℕ). z < 512) (sym word) (origin_low from) in
-    record {
-      kept = claim_after k m.state m.rule m.id m.view m.pass m.live t q a;
-      asks = λ c seen given. both (nat_lt m.view.worker k.workers) _ (worker_is k m)
-          (both (nat_lt t (threads k)) _ (let b = a.below in grind (arith, nat_tests)) (ap is_claimable (seen.shown.place t a.below ∙ ap place_shown word) ∙ shown_origin from));
-      shows = λ c seen given enabled. let c' : Core = with_place c t (At m.view.worker) in let arrive = arrives c t (At m.view.worker) in record {
-        between = arrive.between seen.between;
-        shown = claim_shows k m t q a low c c' seen.shown arrive (all_come c c' t m.view.worker arrive (rests k m t q a low c seen.shown) (λ i. refl));
-      };
-    }
+-- what Claim asks
+claim_asks : (k : Terms) (m : Moment k) (t : ℕ) (q : PackageView) (from : Origin) → MayClaim k m.state m.view t q → slice_index m.state.words (slot_word t) ≡ origin_code from → (c : Core) → Shows k m.state c → may_come k c (Claim m.view.worker t) ≡ true
+unfolding is_enabled
+claim_asks k m t q from a word c seen =
+    both (nat_lt m.view.worker k.workers) _ (worker_is k m)
+    (both (nat_lt t (threads k)) _ (let b = a.below in grind (arith, nat_tests)) (ap is_claimable (seen.shown.place t a.below ∙ ap place_shown word) ∙ shown_origin from))
 
 -- the step of `adopt`, whatever the events make of the core
-adopt_shows : (k : Terms) (m : Moment k) (t lock : ℕ) (q : PackageView) (l : LockView) → MayClaim k m.state m.view t q → (low : slice_index m.state.words (slot_word t) < 512) → lock < locks k → HasLock m.view lock l → (c c' : Core) → Shows k m.state c → IsLooseIn lock c
+adopt_shows : (k : Terms) (m : Moment k) (t lock : ℕ) (q : PackageView) (l : LockView) → MayClaim k m.state m.view t q → HasLock m.view lock l → (c c' : Core) → Shows k m.state c → IsLooseIn lock c
     → Arrives c c' t (At m.view.worker) → (c'.custody lock).place ≡ Granted t → ((i : ℕ) → i ≢ lock → (c'.custody i).place ≡ (c.custody i).place) → Shows k (after m.state m.id (claim_effect m.view t q)) c'
-adopt_shows k m t lock q l a low below has c c' seen loose arrive granted same = record {
+adopt_shows k m t lock q l a has c c' seen loose arrive given same = record {
   between = arrive.between seen.between;
-  shown = claim_shows k m t q a low c c' seen.shown arrive
-      (others_come c c' t m.view.worker arrive (rests k m t q a low c seen.shown) lock (loose_here k m c seen.shown lock l below has loose) granted same);
+  shown = claim_shows k m t q a c c' seen.shown arrive
+      (others_come c c' t m.view.worker arrive (rests k m t q a c seen.shown) lock (loose_here k m c seen.shown lock l (below_lock k m lock l has) has loose) given same);
 }
 
-adopt_asks : (k : Terms) (m : Moment k) (t lock : ℕ) (l : LockView) → t < threads k → lock < locks k → slice_index m.state.words (slot_word t) ≡ 256 + lock → 256 + lock < 512 → HasLock m.view lock l → (c : Core) → Shows k m.state c → IsLooseIn lock c → CanPass k m.view.worker t lock c
-adopt_asks k m t lock l below below_lock word low has c seen loose = (
-  loose_it k m c lock below_lock (ap (λ (z : LockPlace). is_loose z m.view.worker) (loose_here k m c seen.shown lock l below_lock has loose) ∙ eq_self m.view.worker),
-  (let b : nat_lt t (threads k) ≡ true = grind (arith, nat_tests) in b),
-  ap (λ (z : ThreadPlace). is_waiting z lock) (seen.shown.place t below ∙ (ap place_shown word ∙ shown_code (Waiting lock) low)) ∙ eq_self lock,
-)
+adopt_asks : (k : Terms) (m : Moment k) (t lock : ℕ) (l : LockView) → t < threads k → slice_index m.state.words (slot_word t) ≡ 256 + lock → HasLock m.view lock l → (c : Core) → Shows k m.state c → IsLooseIn lock c → CanPass k m.view.worker t lock c
+adopt_asks k m t lock l below word has c seen loose =
+    let below_it = below_lock k m lock l has in
+    let fits : 256 + lock < 512 = (let b = m.rule.told.limits.locks in omega (arith, b, below_it)) in (
+      loose_it k m c lock below_it (ap (λ (z : LockPlace). is_loose z m.view.worker) (loose_here k m c seen.shown lock l below_it has loose) ∙ eq_self m.view.worker),
+      (let b : nat_lt t (threads k) ≡ true = grind (arith, nat_tests) in b),
+      ap (λ (z : ThreadPlace). is_waiting z lock) (seen.shown.place t below ∙ (ap place_shown word ∙ shown_code (Waiting lock) fits)) ∙ eq_self lock,
+    )
 
--- `adopt` is Adopt, or Grant and Claim
-pub adopt_tie : AdoptTie
+-- `claim` is Claim, Adopt, or Grant and Claim
+pub claim_asking : (k : Terms) (m : Moment k) (t : ℕ) (q : PackageView) → MayClaim k m.state m.view t q → Asking k m (claim t q)
+claim_asking k m t q a c es seen (alone o) = ⊎_elim
+    (λ (z : slice_index m.state.words (slot_word t) ≡ 0). claim_asks k m t q origin.Ready a z c seen)
+    (λ (z : slice_index m.state.words (slot_word t) ≡ 1). claim_asks k m t q origin.Parked a z c seen) o
+claim_asking k m t q a c es seen (adopted lock l word has loose) = adopt_asks k m t lock l a.below word has c seen loose
+claim_asking k m t q a c es seen (granted lock l word has loose) = adopt_asks k m t lock l a.below word has c seen loose
+
+pub claim_showing : (k : Terms) (m : Moment k) (t : ℕ) (q : PackageView) → MayClaim k m.state m.view t q → Showing k m (claim t q)
 unfolding effect
-adopt_tie k m t lock q l a below word has =
-    let fits : 256 + lock < 512 = (let b = m.rule.told.limits.locks in omega (arith, b, below)) in
-    let low : slice_index m.state.words (slot_word t) < 512 = subst (λ (z : ℕ). z < 512) (sym word) fits in
-    let kept = claim_after k m.state m.rule m.id m.view m.pass m.live t q a in
-    let asks = adopt_asks k m t lock l a.below below word fits has in
-    record {
-      adopt = record {
-        kept = kept;
-        asks = asks;
-        shows = λ c seen loose enabled.
-            let x = passed_to (c.custody lock) t ((c.custody lock).run + 1) in
-            let c1 : Core = with_custody c lock x in
-            adopt_shows k m t lock q l a low below has c (with_place c1 t (At m.view.worker)) seen loose
-            (arrives_with c lock x (with_place c1 t (At m.view.worker)) t (At m.view.worker) (arrives c1 t (At m.view.worker)))
-            (ap (λ (z : Custody). z.place) (custody_here c lock lock x refl)) (λ i ne. ap (λ (z : Custody). z.place) (custody_else c lock i x ne));
-      };
-      grant = record {
-        kept = kept;
-        asks = asks;
-        shows = λ c seen loose enabled.
-            let x = passed_to (c.custody lock) t 0 in
-            let c1 : Core = with_custody c lock x in
-            let c2 : Core = with_place c1 t at.Ready in
-            let c3 : Core = with_place c2 t (At m.view.worker) in
-            adopt_shows k m t lock q l a low below has c c3 seen loose
-            (arrives_then c c2 c3 t at.Ready (At m.view.worker) (arrives_with c lock x c2 t at.Ready (arrives c1 t at.Ready)) (arrives c2 t (At m.view.worker)))
-            (ap (λ (z : Custody). z.place) (custody_here c lock lock x refl)) (λ i ne. ap (λ (z : Custody). z.place) (custody_else c lock i x ne));
-      };
+claim_showing k m t q a c es seen (alone o) enabled =
+    let c' : Core = with_place c t (At m.view.worker) in
+    let arrive = arrives c t (At m.view.worker) in record {
+      between = arrive.between seen.between;
+      shown = claim_shows k m t q a c c' seen.shown arrive (all_come c c' t m.view.worker arrive (rests k m t q a c seen.shown) (λ i. refl));
     }
+claim_showing k m t q a c es seen (adopted lock l word has loose) enabled =
+    let x = passed_to (c.custody lock) t ((c.custody lock).run + 1) in
+    let c1 : Core = with_custody c lock x in
+    adopt_shows k m t lock q l a has c (with_place c1 t (At m.view.worker)) seen loose
+    (arrives_with c lock x (with_place c1 t (At m.view.worker)) t (At m.view.worker) (arrives c1 t (At m.view.worker)))
+    (ap (λ (z : Custody). z.place) (custody_here c lock lock x refl)) (λ i ne. ap (λ (z : Custody). z.place) (custody_else c lock i x ne))
+claim_showing k m t q a c es seen (granted lock l word has loose) enabled =
+    let x = passed_to (c.custody lock) t 0 in
+    let c1 : Core = with_custody c lock x in
+    let c2 : Core = with_place c1 t at.Ready in
+    let c3 : Core = with_place c2 t (At m.view.worker) in
+    adopt_shows k m t lock q l a has c c3 seen loose
+    (arrives_then c c2 c3 t at.Ready (At m.view.worker) (arrives_with c lock x c2 t at.Ready (arrives c1 t at.Ready)) (arrives c2 t (At m.view.worker)))
+    (ap (λ (z : Custody). z.place) (custody_here c lock lock x refl)) (λ i ne. ap (λ (z : Custody). z.place) (custody_else c lock i x ne))
 
 -- ---- put
 
@@ -190,114 +215,112 @@ module _ (k : Terms) (m : Moment k) (place : Place) (q : PackageView) (a : MayFi
   it_runs : (c : Core) (b : Bool) → Shows k m.state c → is_running q.context.guest.status ≡ b → runs c q.context.thread ≡ b
   it_runs c b seen e = ap (λ (z : Thread). is_running z.status) (its_thread c seen) ∙ e
 
+finishes : (k : Terms) (m : Moment k) (t : ℕ) (c : Core) → at_worker k c m.view.worker t ≡ true → runs c t ≡ false → (c.course t).turns ≡ 0 → may_come k c (Finish m.view.worker t) ≡ true
+unfolding is_enabled
+finishes k m t c here ended between = both _ _ here (both (not (runs c t)) _ (ap not ended) (ap (λ (z : ℕ). z == 0) between))
+
 -- `put` is HandBack, Ship, Park or Finish, by its place
-pub put_tie : PutTie
-unfolding is_enabled effect
-put_tie k m q = record {
-  ready = λ a. record {
-    kept = put_after k m.state m.rule m.id m.view m.pass m.live q Ready a;
-    asks = λ c seen inside. (at_its_worker k m Ready q a c seen, it_runs k m Ready q a c true seen (a.may.order.runs (λ e. omega arith)));
-    shows = λ c seen inside enabled. put_shows k m Ready q a c seen inside;
-  };
-  waiting = λ lock a. record {
-    kept = put_after k m.state m.rule m.id m.view m.pass m.live q (Waiting lock) a;
-    asks = λ c seen inside. (at_its_worker k m (Waiting lock) q a c seen, (let b = a.range in let e : nat_lt lock (locks k) ≡ true = grind (arith, nat_tests) in e));
-    shows = λ c seen inside enabled. put_shows k m (Waiting lock) q a c seen inside;
-  };
-  parked = λ slept a. record {
-    kept = put_after k m.state m.rule m.id m.view m.pass m.live q Parked a;
-    asks = λ c seen inside. (at_its_worker k m Parked q a c seen, it_runs k m Parked q a c true seen (a.may.order.runs (λ e. omega arith)), ap is_slept (its_last k m Parked q a c seen ∙ slept));
-    shows = λ c seen inside enabled. put_shows k m Parked q a c seen inside;
-  };
-  done = λ a. record {
-    kept = put_after k m.state m.rule m.id m.view m.pass m.live q Done a;
-    asks = λ c seen inside. finishes c (at_its_worker k m Done q a c seen) (it_runs k m Done q a c false seen (a.may.order.ended refl).0) (seen.between q.context.thread).0;
-    shows = λ c seen inside enabled. put_shows k m Done q a c seen inside;
-  };
-}
-  where
-    finishes : (c : Core) → at_worker k c m.view.worker q.context.thread ≡ true → runs c q.context.thread ≡ false → (c.course q.context.thread).turns ≡ 0 → may_come k c (Finish m.view.worker q.context.thread) ≡ true
-    finishes c here ended between = both _ _ here (both (not (runs c q.context.thread)) _ (ap not ended) (ap (λ (z : ℕ). z == 0) between))
+pub put_asking : (k : Terms) (m : Moment k) (q : PackageView) (place : Place) → MayFill k m.view q place → Asking k m (put q place)
+put_asking k m q Ready a c es seen is = subst (AreAsked k c m.view (put q Ready)) (sym is.1) (at_its_worker k m Ready q a c seen, it_runs k m Ready q a c true seen (a.may.order.runs (λ e. omega arith)))
+put_asking k m q (Waiting lock) a c es seen is =
+    subst (AreAsked k c m.view (put q (Waiting lock))) (sym is.1) (at_its_worker k m (Waiting lock) q a c seen, (let b = a.range in let e : nat_lt lock (locks k) ≡ true = grind (arith, nat_tests) in e))
+put_asking k m q Parked a c es seen is =
+    subst (AreAsked k c m.view (put q Parked)) (sym is.2)
+    (at_its_worker k m Parked q a c seen, it_runs k m Parked q a c true seen (a.may.order.runs (λ e. omega arith)), ap is_slept (its_last k m Parked q a c seen ∙ is.1))
+put_asking k m q Done a c es seen is =
+    subst (AreAsked k c m.view (put q Done)) (sym is.1)
+    (finishes k m q.context.thread c (at_its_worker k m Done q a c seen) (it_runs k m Done q a c false seen (a.may.order.ended refl).0) (seen.between q.context.thread).0)
+
+pub put_showing : (k : Terms) (m : Moment k) (q : PackageView) (place : Place) → MayFill k m.view q place → Showing k m (put q place)
+unfolding effect
+put_showing k m q Ready a c es seen is enabled = after_these k _ c es _ is.1 (put_shows k m Ready q a c seen is.0)
+put_showing k m q (Waiting lock) a c es seen is enabled = after_these k _ c es _ is.1 (put_shows k m (Waiting lock) q a c seen is.0)
+put_showing k m q Parked a c es seen is enabled = after_these k _ c es _ is.2 (put_shows k m Parked q a c seen is.0)
+put_showing k m q Done a c es seen is enabled = after_these k _ c es _ is.1 (put_shows k m Done q a c seen is.0)
 
 -- ---- take and free
 
 -- `take` for a thread that is at the worker is Take
-pub take_tie : TakeTie
-unfolding effect
-take_tie k m t i l below_thread at_worker' a =
-    let h = lock_at_home k m.state m.rule i l a.below a.word a.slot in
-    let number : l.number ≡ i = ap (λ (z : LockView). z.number) (sym h.same) ∙ h.number in
-    let has : HasLock (after_take m.view l) i (kept l) = subst (λ (z : ℕ). get_elem? (set m.view.locks z (Some (kept l))) i ≡ some (Some (kept l))) (sym number) (set_here m.view.locks i (Some (kept l)) (let b = a.below in let c = m.rule.locks_placed.sized m.id m.view m.pass m.live in omega arith)) in
-    record {
-      kept = take_after k m.state m.rule m.id m.view m.pass m.live i l a;
-      asks = λ c seen given. (
-        at_it k m c t below_thread (out_at k m c seen.shown t below_thread at_worker'),
-        (let b = a.below in let e : nat_lt i (locks k) ≡ true = grind (arith, nat_tests) in e),
-        ap is_free_lock (home_free c.course (c.custody i).place (seen.shown.lock i l at_home a.below (lock_in_slot a.slot refl)).lies),
-      );
-      shows = λ c seen given enabled.
-          let x = taken_by (c.custody i) t in
-          let c' : Core = with_custody c i x in
-          record {
-            between = seen.between;
-            shown = take_shown k m.state m.id m.view m.pass (outline c) (outline c') seen.shown i l a.below number a.slot has
-                (record { thread = λ u. refl; last = λ u. refl; lock = λ j. refl }) (λ u. refl)
-                (ap (λ (z : Custody). lies_at c.course z.place) (custody_here c i i x refl) ∙ ap (λ (z : ThreadPlace). lies_with z t) (out_at k m c seen.shown t below_thread at_worker'))
-                (λ j ne. ap (λ (z : Custody). lies_at c.course z.place) (custody_else c i j x ne));
-          };
-    }
+module _ (k : Terms) (m : Moment k) (i : ℕ) (l : LockView) (a : MayTake k m.state m.view i l) where
+  pub take_asking : Asking k m (take i l)
+  take_asking c es seen is = subst (AreAsked k c m.view (take i l)) (sym is.3) (
+    at_it k m c is.0 is.1 (out_at k m c seen.shown is.0 is.1 is.2),
+    (let b = a.below in let e : nat_lt i (locks k) ≡ true = grind (arith, nat_tests) in e),
+    ap is_free_lock (home_free c.course (c.custody i).place (seen.shown.lock i l at_home a.below (lock_in_slot a.slot refl)).lies),
+  )
+
+  pub take_showing : Showing k m (take i l)
+  unfolding effect
+  take_showing c es seen is enabled =
+      let h = lock_at_home k m.state m.rule i l a.below a.word a.slot in
+      let number : l.number ≡ i = ap (λ (z : LockView). z.number) (sym h.same) ∙ h.number in
+      let has : HasLock (after_take m.view l) i (kept l) = subst (λ (z : ℕ). get_elem? (set m.view.locks z (Some (kept l))) i ≡ some (Some (kept l))) (sym number) (set_here m.view.locks i (Some (kept l)) (let b = a.below in let c = m.rule.locks_placed.sized m.id m.view m.pass m.live in omega arith)) in
+      let x = taken_by (c.custody i) is.0 in
+      let c' : Core = with_custody c i x in
+      after_these k _ c es _ is.3 record {
+        between = seen.between;
+        shown = take_shown k m.state m.id m.view m.pass (outline c) (outline c') seen.shown i l a.below number a.slot has
+            (record { thread = λ u. refl; last = λ u. refl; lock = λ j. refl }) (λ u. refl)
+            (ap (λ (z : Custody). lies_at c.course z.place) (custody_here c i i x refl) ∙ ap (λ (z : ThreadPlace). lies_with z is.0) (out_at k m c seen.shown is.0 is.1 is.2))
+            (λ j ne. ap (λ (z : Custody). lies_at c.course z.place) (custody_else c i j x ne));
+      }
 
 -- `free` is Free
-pub free_tie : FreeTie
-unfolding effect
-free_tie k m l hand may =
-    let below : l.number < locks k = (is_lock_out k m.state m.rule m.id l.number m.view (kept l) m.pass may.has).0 in
-    record {
-      kept = free_kept k m.state m.rule m.id m.view l m.pass hand m.live may;
-      asks = λ c seen loose. loose_it k m c l.number below (ap (λ (z : LockPlace). is_loose z m.view.worker) (loose_here k m c seen.shown l.number (kept l) below may.has loose) ∙ eq_self m.view.worker);
-      shows = λ c seen loose enabled.
-          let x = freed (c.custody l.number) in
-          let c' : Core = with_custody c l.number x in
-          record {
-            between = seen.between;
-            shown = free_shown k m.state m.id m.view m.pass (outline c) (outline c') seen.shown l below may.has (λ j y n ne at' has. apart k m j l.number y n (kept l) ne at' has may.has)
-                (record { thread = λ u. refl; last = λ u. refl; lock = λ j. refl }) (λ u. refl)
-                (ap (λ (z : Custody). lies_at c.course z.place) (custody_here c l.number l.number x refl))
-                (λ j ne. ap (λ (z : Custody). lies_at c.course z.place) (custody_else c l.number j x ne));
-          };
-    }
+module _ (k : Terms) (m : Moment k) (l : LockView) (may : MayFree m.view l) where
+  below : l.number < locks k
+  below = below_lock k m l.number (kept l) may.has
 
--- ---- steps with no event
+  pub free_asking : Asking k m (free l)
+  free_asking c es seen is =
+      subst (AreAsked k c m.view (free l)) (sym is.1)
+      (loose_it k m c l.number below (ap (λ (z : LockPlace). is_loose z m.view.worker) (loose_here k m c seen.shown l.number (kept l) below may.has is.0) ∙ eq_self m.view.worker))
 
--- the rule is kept, no word of a thread changes, and no view has more out
-ties_to_none : (k : Terms) (s : Hall) (ws' : List ℕ) (vs' : List Knows) → KeptHall k record { words = ws'; homes = s.homes; views = vs' } → ((u : ℕ) → slice_index ws' (slot_word u) ≡ slice_index s.words (slot_word u)) → HadOut s.views vs' → Tied k s (silent record { words = ws'; homes = s.homes; views = vs' })
-ties_to_none k s ws' vs' kept words had = record {
-  kept = kept;
-  asks = λ c seen given. tt;
-  shows = λ c seen given enabled. record { between = seen.between; shown = still_shown k s.words ws' s.homes s.homes s.views vs' words (λ u x e. e) had (outline c) seen.shown };
-}
+  pub free_showing : Showing k m (free l)
+  unfolding effect
+  free_showing c es seen is enabled =
+      let x = freed (c.custody l.number) in
+      let c' : Core = with_custody c l.number x in
+      after_these k _ c es _ is.1 record {
+        between = seen.between;
+        shown = free_shown k m.state m.id m.view m.pass (outline c) (outline c') seen.shown l below may.has (λ j y n ne at' has. apart k m j l.number y n (kept l) ne at' has may.has)
+            (record { thread = λ u. refl; last = λ u. refl; lock = λ j. refl }) (λ u. refl)
+            (ap (λ (z : Custody). lies_at c.course z.place) (custody_here c l.number l.number x refl))
+            (λ j ne. ap (λ (z : Custody). lies_at c.course z.place) (custody_else c l.number j x ne));
+      }
 
-pub tell_tie : TellTie
-tell_tie k m = record {
-  look = λ t. ties_to_none k m.state _ _ (look_kept k m.state m.rule m.id t m.view m.pass m.live) (again (slot_word t)) (same (with_call m.view (Look t (slice_index m.state.words (slot_word t)))) refl refl refl);
-  stop = ties_to_none k m.state _ _ (stop_kept k m.state m.rule m.id m.view m.pass m.live) (λ u. get_or-set_other m.state.words STOP (slot_word u) 1 0 (λ z. omega arith)) (same (with_call m.view Stop) refl refl refl);
-  stopped = ties_to_none k m.state _ _ (see_kept k m.state m.rule m.id m.view m.pass m.live) (again STOP) (same (with_call m.view (Stopped (slice_index m.state.words STOP))) refl refl refl);
-  missed = λ word. ties_to_none k m.state _ _ (misses k m.state word m.id m.view m.pass m.live m.rule) (again word) (same (after_miss m.view word (slice_index m.state.words word)) refl refl refl);
-}
-  where
-    again : (j u : ℕ) → slice_index (set m.state.words j (slice_index m.state.words j)) (slot_word u) ≡ slice_index m.state.words (slot_word u)
-    again j u = ap (λ (z : List ℕ). slice_index z (slot_word u)) (set-get_or m.state.words j 0)
+-- ---- operations with no event
 
-    same : (x : Knows) → x.packages ≡ m.view.packages → x.locks ≡ m.view.locks → x.worker ≡ m.view.worker → HadOut m.state.views (set m.state.views m.id x)
-    same x = had_same m.state.views m.id m.view x m.pass
+module _ (k : Terms) (m : Moment k) (c : Core) (es : List Event) (seen : Shows k m.state c) (is : es ≡ []) where
+  -- where no word of a thread changes, no slot has more in it and no view has more out, the core is shown still
+  unmoved : (ws' : List ℕ) (hs' : Homes) (vs' : List Knows) → ((u : ℕ) → slice_index ws' (slot_word u) ≡ slice_index m.state.words (slot_word u))
+      → ((u : ℕ) (x : Cargo) → get_elem? hs' u ≡ some (some (Some x)) → get_elem? m.state.homes u ≡ some (some (Some x))) → HadOut m.state.views vs' → Shows k record { words = ws'; homes = hs'; views = vs' } (after_events k c es)
+  unmoved ws' hs' vs' words homes had = after_these k _ c es [] is record {
+    between = seen.between;
+    shown = still_shown k m.state.words ws' m.state.homes hs' m.state.views vs' words homes had (outline c) seen.shown;
+  }
 
-pub pass_tie : PassTie
-pass_tie k m = record {
-  made = λ makes room. ties_to_none k m.state m.state.words _ (deals k m.id m.view m.live makes room m.state m.rule m.pass) (λ u. refl)
+  -- a word is found and left
+  pub found_shown : (word found : ℕ) (w : Knows) → slice_index m.state.words word ≡ found → w.packages ≡ m.view.packages → w.locks ≡ m.view.locks → w.worker ≡ m.view.worker
+      → Shows k record { words = set m.state.words word found; homes = m.state.homes; views = set m.state.views m.id w } (after_events k c es)
+  found_shown word found w e packages locks' worker =
+      unmoved _ _ _ (λ u. ap (λ (z : List ℕ). slice_index z (slot_word u)) (ap (set m.state.words word) (sym e) ∙ set-get_or m.state.words word 0)) (λ u x f. f) (had_same m.state.views m.id m.view w m.pass packages locks' worker)
+
+  pub stop_shown : Shows k (after_operation k m.state m.id m.view stop) (after_events k c es)
+  stop_shown = unmoved _ _ _ (λ u. get_or-set_other m.state.words STOP (slot_word u) 1 0 (λ z. omega arith)) (λ u x f. f) (had_same m.state.views m.id m.view (with_call m.view Stop) m.pass refl refl refl)
+
+  -- an empty slot goes into the pass's hand, or back, and the word stays
+  pub slot_moved : (slot : ℕ) (b : maybe.Option (Option Cargo)) (o : Option ℕ) → ((x : Cargo) → b ≢ some (Some x))
+      → Shows k record { words = set m.state.words (slot_word slot) (slice_index m.state.words (slot_word slot)); homes = set m.state.homes slot b; views = set m.state.views m.id (record m.view { hand = o }) } (after_events k c es)
+  slot_moved slot b o empty =
+      unmoved _ _ _ (λ u. ap (λ (z : List ℕ). slice_index z (slot_word u)) (set-get_or m.state.words (slot_word slot) 0))
+      (λ u x e. ⊎_elim (λ (z : (u ≡ slot) × (b ≡ some (Some x))). absurd (empty x z.1)) (λ (z : (u ≢ slot) × (get_elem? m.state.homes u ≡ some (some (Some x)))). z.1) (at_set m.state.homes slot u b (some (Some x)) e))
+      (had_same m.state.views m.id m.view (record m.view { hand = o }) m.pass refl refl refl)
+
+  pub split_shown : Shows k (after_operation k m.state m.id m.view split) (after_events k c es)
+  split_shown = unmoved _ _ _ (λ u. refl) (λ u x f. f)
       (had_more m.state.views (set m.state.views m.id (dealt m.view)) (fresh m.view) (had_same m.state.views m.id m.view (dealt m.view) m.pass refl refl refl)
-      (clean_free m.view.image (length m.view.packages) (length m.view.locks) m.view.made false));
-  joined = λ other x at' live ne free.
-      let both' : Knows = merged m.view x in
-      ties_to_none k m.state m.state.words _ (joins k m.id m.view other x m.live live free m.state m.rule m.pass ne (set_else m.state.views m.id other both' ne ∙ at')) (λ u. refl)
-      (had_less m.state.views (set m.state.views m.id both') other gone (had_same m.state.views m.id m.view both' m.pass refl refl refl) gone_free);
-}
+      (clean_free m.view.image (length m.view.packages) (length m.view.locks) m.view.made false))
+
+  pub join_shown : (other : ℕ) (w : Knows) → Shows k (after_operation k m.state m.id m.view (join other w)) (after_events k c es)
+  join_shown other w = unmoved _ _ _ (λ u. refl) (λ u x f. f)
+      (had_less m.state.views (set m.state.views m.id (merged m.view w)) other gone (had_same m.state.views m.id m.view (merged m.view w) m.pass refl refl refl) gone_free)

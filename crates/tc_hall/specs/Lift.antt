@@ -1,55 +1,14 @@
 -- Whole runs: the operations of a hall in their order, with events of the lines put in between, are one list of events of the
 -- pure machine.
-use Rattle.std.specs.Prelude.{◌≡◌, ◌⊎◌, ℕ, ◌+◌, ◌<◌, true, List, [], ◌∷◌, ◌++◌, slice_index, Some}
-use Rattle.tc_journal.specs.declared.block.End.TheVariants.{Slept}
-use Rattle.tc_segment.specs.View.{LockView}
-use Rattle.tc_context.specs.View.{PackageView}
+use Rattle.std.specs.Prelude.{◌≡◌, ℕ, ◌+◌, true, List, [], ◌∷◌, ◌++◌}
 use Rattle.tc_core.specs.Core.{Core, first_core}
 use Rattle.tc_core.specs.Stories.{AreEnabled}
 use Rattle.tc_core.specs.declared.event.Event.{Event}
-use Rattle.tc_core.specs.declared.event.Event.TheVariants.{Claim, Commit, Enter, Take, Ship, Adopt, Grant, Leave, Free, HandBack, Park, Finish}
-use Rattle.tc_hall.specs.Places.{slot_word}
-use Rattle.tc_hall.specs.declared.place.TheConstants.{READY, PARKED, WAITING, OUT}
-use Rattle.tc_hall.specs.declared.place.Place.{Place}
-use Rattle.tc_hall.specs.declared.place.Place.TheVariants.{Ready, Waiting, Parked, Done}
-use Rattle.tc_hall.specs.declared.board.Knows.{Knows}
+use Rattle.tc_core.specs.declared.event.Event.TheVariants.{Enter, Leave}
 use Rattle.tc_hall.specs.declared.board.Terms.{Terms}
-use Rattle.tc_hall.specs.Rule.{threads, HasLock}
 use Rattle.tc_hall.specs.Effects.{Hall}
-use Rattle.tc_hall.specs.Order.{Operation, claim, take, miss, commit, put, free, look, stop, stopped, reach, lay, split, join, Made, MayCome, after_operation, IsOpening}
-use Rattle.tc_hall.specs.Shown.{last_end}
-use Rattle.tc_hall.specs.Ties.{machine_limits, may_come, after_events, turns_by, IsLooseIn, AreInside, Shows}
-
--- a package is claimed where it is ready or parked: Claim; or, by a pass that has the lock for which it waits, where that is
--- loose: Adopt, or Grant and Claim
-pub data IsClaimed (k : Terms) (s : Hall) (c : Core) (v : Knows) (t : ℕ) : List Event → Type 0 where
-  alone : (slice_index s.words (slot_word t) ≡ READY) ⊎ (slice_index s.words (slot_word t) ≡ PARKED) → IsClaimed k s c v t (Claim v.worker t ∷ [])
-  adopted : (lock : ℕ) (l : LockView) → slice_index s.words (slot_word t) ≡ WAITING + lock → HasLock v lock l → IsLooseIn lock c → IsClaimed k s c v t (Adopt v.worker t lock ∷ [])
-  granted : (lock : ℕ) (l : LockView) → slice_index s.words (slot_word t) ≡ WAITING + lock → HasLock v lock l → IsLooseIn lock c → IsClaimed k s c v t (Grant v.worker t lock ∷ Claim v.worker t ∷ [])
-
--- a package is put with the locks that are with its thread or granted to it, and as parked only after a sleep
-abbrev pub IsPut : Terms → Core → Knows → PackageView → Place → List Event → Type 0
-IsPut k c v q Ready es = AreInside k q c × (es ≡ HandBack v.worker q.context.thread ∷ [])
-IsPut k c v q (Waiting lock) es = AreInside k q c × (es ≡ Ship v.worker q.context.thread lock ∷ [])
-IsPut k c v q Parked es = AreInside k q c × (last_end q.log ≡ Some Slept) × (es ≡ Park v.worker q.context.thread ∷ [])
-IsPut k c v q Done es = AreInside k q c × (es ≡ Finish v.worker q.context.thread ∷ [])
-
--- the operation of a pass that knows v is these events
-abbrev pub IsOf : Terms → Hall → Core → Knows → Operation → List Event → Type 0
-IsOf k s c v (claim t q) es = IsClaimed k s c v t es
-IsOf k s c v (commit stamp b q) es = es ≡ turns_by v.worker q.context.thread b.turns ++ Commit v.worker q.context.thread ∷ []
-IsOf k s c v (put q place) es = IsPut k c v q place es
--- a lock is taken for a thread that is at the pass's worker
-IsOf k s c v (take i l) es = (t : ℕ) × (t < threads k) × (slice_index s.words (slot_word t) ≡ OUT + v.worker) × (es ≡ Take v.worker t i ∷ [])
-IsOf k s c v (free l) es = IsLooseIn l.number c × (es ≡ Free v.worker l.number ∷ [])
-IsOf k s c v (miss word wanted found) es = es ≡ []
-IsOf k s c v (look t found) es = es ≡ []
-IsOf k s c v stop es = es ≡ []
-IsOf k s c v (stopped found) es = es ≡ []
-IsOf k s c v (reach slot) es = es ≡ []
-IsOf k s c v (lay slot) es = es ≡ []
-IsOf k s c v split es = es ≡ []
-IsOf k s c v (join other w) es = es ≡ []
+use Rattle.tc_hall.specs.Order.{Made, MayCome, after_operation, IsOpening}
+use Rattle.tc_hall.specs.Ties.{machine_limits, may_come, after_events, IsOf, Shows}
 
 -- an operation of the hall with the events that it is, or an event of a line, which no word of a hall shows
 pub data Beat : Type 0 where

@@ -29,7 +29,7 @@ use Rattle.tc_hall.specs.declared.board.Call.TheVariants.{Put, Free, Look, Stop,
 use Rattle.tc_hall.specs.declared.board.Cargo.{Cargo}
 use Rattle.tc_hall.specs.declared.board.Cargo.TheVariants.{Package, Lock}
 use Rattle.tc_hall.specs.Places.{code_of, place_of, slot_word}
-use Rattle.tc_hall.specs.Rule.{Has, HasLock, IsInOrder, grants_adopted, is_pinned, last_by, locked_in, clean}
+use Rattle.tc_hall.specs.Rule.{Has, HasLock, IsInOrder, grants_adopted, is_pinned, last_by, locked_in, clean, threads}
 use Rattle.tc_hall.specs.Outs.{outs, erase, Pack, Loose, IsOut, CameOut, Called}
 use Rattle.tc_hall.specs.PassView.{PassView}
 
@@ -249,12 +249,12 @@ Got o word t m m' = (q : PackageView) × (w : Knows) × Gets word t q m.0 w × (
 abbrev pub claimed : Option Terms → At → Sat → ℕ → Sat → Type 0
 claimed o st m r m' = (r ≡ st.first → (t : ℕ) → st.word ≡ slot_word t → Got o st.first t m m') × (r ≢ st.first → m' ≡ (after_miss m.0 st.word r, m.1))
 
--- the same of the state of lock i
-abbrev pub Took : Option Terms → ℕ → ℕ → Sat → Sat → Type 0
-Took o i slot m m' = (l : LockView) × (w : Knows) × Takes i l m.0 w × (m' ≡ (record w { hand = Some slot }, (slot, Some (Lock l)) ∷ m.1)) × ((k : Terms) → o ≡ Some k → IsStateAsLeft k m.0 i l)
+-- the same of the state of lock i, in a hall of these terms
+abbrev pub Took : Terms → ℕ → ℕ → Sat → Sat → Type 0
+Took k i slot m m' = (l : LockView) × (w : Knows) × Takes i l m.0 w × (m' ≡ (record w { hand = Some slot }, (slot, Some (Lock l)) ∷ m.1)) × IsStateAsLeft k m.0 i l
 
-abbrev pub took_as : Option Terms → Option ℕ → At → Sat → ℕ → Sat → Type 0
-took_as o of st m r m' = (r ≡ st.first → (i slot : ℕ) → of ≡ Some i → st.word ≡ slot_word slot → Took o i slot m m') × (r ≢ st.first → m' ≡ (after_miss m.0 st.word r, m.1))
+abbrev pub took_as : Option Terms → At → Sat → ℕ → Sat → Type 0
+took_as o st m r m' = (r ≡ st.first → (k : Terms) (i slot : ℕ) → o ≡ Some k → slot ≡ threads k + i → st.word ≡ slot_word slot → Took k i slot m m') × (r ≢ st.first → m' ≡ (after_miss m.0 st.word r, m.1))
 
 abbrev pub laid : At → Sat → ℕ → Sat → Type 0
 laid st m r m' = m' ≡ (record m.0 { hand = None }, rest m.1)

@@ -18,7 +18,6 @@ use crate::pass::Pass;
 use crate::place::{OUT, Origin, Place, WAITING};
 use crate::plays::{
     Asked, Claim, Deal, Fill, Free, Lay, Look, Merge, Reach, Seal, Stop, Stopped, Take, Under,
-    Wanted,
 };
 use atomic_table::{Refused, Table};
 use std::alloc::{AllocError, Global};
@@ -351,10 +350,10 @@ impl Hall {
         self.put_as::<Brand>(pass, package, place);
     }
 
-    /// Takes J's lock.
-    fn take_as<J: Wanted>(&self, pass: &mut Pass, lock: u32) -> Result<LockState, LockOut>
+    /// Takes a lock, in a hall of J's terms.
+    fn take_as<J: Under>(&self, pass: &mut Pass, lock: u32) -> Result<LockState, LockOut>
         requires own { pass.old.table ≡ self.now.table }
-        requires picked { (J.number ≡ Some lock) × (J.terms ≡ Some self.now.terms) }
+        requires picked { J.terms ≡ Some self.now.terms }
         requires lock { lock < locks self.now.terms }
         ensures own { IsSamePass pass.old pass.new }
         ensures result { MatchResult result

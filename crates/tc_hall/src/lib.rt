@@ -13,13 +13,29 @@
 //! - `specs/Order.antt`: the rule of the table, one order of all operations. `specs/Rule.antt`: what
 //!   holds between any two of them. `specs/Steps.antt`: what each call says of its pass.
 //!   `specs/Effects.antt`: the effect of each kind of operation on the table.
-//!   `specs/Outline.antt`, `specs/Shown.antt` and `specs/Ties.antt`: what a step is to the pure
-//!   machine of tc_core, and `specs/Lift.antt` what a whole order is. `specs/Made.antt`: what `new` makes. `specs/Places.antt`: the words of the places.
-//!   `specs/PassView.antt`: passes and halls as contracts see them.
+//!   `specs/Outline.antt`, `specs/Shown.antt` and `specs/Ties.antt`: what an operation is to the pure
+//!   machine of tc_core, and `specs/Lift.antt` what a whole order is. `specs/Made.antt`: what `new`
+//!   makes. `specs/Places.antt`: the words of the places. `specs/PassView.antt`: passes and halls as
+//!   contracts see them.
 //! - `hall`: halls and their calls. `pass`: a worker's right to step. `place`: where packages are
 //!   put and from where they are claimed. `closed`: what a hall had at its end.
 //! - `showing`: `order`, which states what holds after every order of operations; `tie`, which states
-//!   that each operation is an event of the pure machine or none, and `lift`, that whole orders are. `board`: the table, and what a pass knows. `plays`: what each kind of step on it tells.
+//!   that each operation is events of the pure machine or none, and `lift`, that whole orders are.
+//!   `board`: the table, and what a pass knows. `plays`: what each kind of step on it tells.
+//!
+//! The files of proofs/, by what they prove:
+//!
+//! - `order`: `Ordering`, from `Opening` (a new hall), `Moves` (packages), `Taking` (locks), `Telling`
+//!   (words), `Sealing` (`commit`) and `Making` (passes); `Parts`, the lists of passes; `Exact`, the
+//!   words. Below these `Placing` (where packages are), `Packing` (where locks are), `Listing` (lists
+//!   of blocks) and `Ranks` (passes).
+//! - `tie` and `lift`: `Lifting`, from `Tying` and, for `commit`, `Committing`, `Through` and `Alike`.
+//!   Below these `Shows` (what a hall shows) and `Outlines` (what events make of it).
+//! - The calls of a hall: `Stepping`, each step is an operation; `Holding` and `Putting`, what is done
+//!   with a slot in hand; `Outs`, what is out; `Left`, what lies in a slot; `Waiting` for `adopt` and
+//!   `Ended` for `close`.
+//! - For the crates above: `Behind`, `Crossing` and `Dealt`. For all: `Cases`, `LockLists`, and
+//!   `Vocabulary`, which has the words.
 #![tactic(auto)]
 
 pub mod board;

@@ -95,30 +95,12 @@ impl<J: Asked> Play<Slot, Knows> for Seal<J> {
     ghost then = { sealed_as J.picked };
 }
 
-/// The lock that is taken, and the terms of the hall. Each call picks them.
-pub trait Wanted {
-    ghost use Rattle.std.specs.Prelude.{Option, ℕ};
-    ghost use Rattle.tc_hall.specs.declared.board.Terms.{Terms};
-
-    ghost number: { Option ℕ };
-
-    ghost terms: { Option Terms };
-}
-
-impl Wanted for Brand {
-    ghost use Rattle.std.specs.Prelude.{None};
-
-    ghost number = { None };
-
-    ghost terms = { None };
-}
-
 pub(crate) struct Take<J> {
     marker: PhantomData<J>,
 }
 
-impl<J: Wanted> Play<Slot, Knows> for Take<J> {
-    ghost then = { took_as J.terms J.number };
+impl<J: Under> Play<Slot, Knows> for Take<J> {
+    ghost then = { took_as J.terms };
 }
 
 /// Makes another pass.

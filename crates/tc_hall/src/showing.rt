@@ -1,20 +1,15 @@
 //! What the steps of a hall are to the pure machine.
 
-ghost use Rattle.tc_hall.specs.Ties.{ClaimTie, AdoptTie, PutTie, TakeTie, FreeTie, CommitTie, TellTie, PassTie};
+ghost use Rattle.tc_hall.specs.Ties.{Ties};
 ghost use Rattle.tc_hall.specs.Order.{IsKept, HasOwnNotes, HasExactWords};
 ghost use Rattle.tc_hall.specs.Lift.{OpensShown, Lifts};
 
-/// In every state of a hall that meets its rule, each step keeps the rule; and what it shows is an
-/// event of the pure machine, or none. This holds of every hall, every pass, and every call.
+/// In every state of a hall that meets its rule, each operation that may come there keeps the rule;
+/// and what it shows is events of the pure machine, or none. This holds of every hall, every pass,
+/// and every operation: what its events ask of places, of statuses and of the ends of blocks holds,
+/// and where they may come, the hall shows the machine after them.
 pub fn tie()
-    ensures claim { ClaimTie }
-    ensures adopt { AdoptTie }
-    ensures put { PutTie }
-    ensures take { TakeTie }
-    ensures free { FreeTie }
-    ensures commit { CommitTie }
-    ensures tells { TellTie }
-    ensures passes { PassTie }
+    ensures ties { Ties }
 {}
 
 /// What holds between any two operations of a hall, whatever their order: the rules of places, words

@@ -1,4 +1,4 @@
-ghost use Rattle.std.specs.Prelude.{◌≡◌};
+ghost use Rattle.std.specs.Prelude.{◌≡◌, IfOk};
 ghost use Rattle.tc_hall.specs.Rule.{threads, locks};
 
 use crate::hall::{Hall, LockOut, NotReady, NotWaiting};
@@ -33,6 +33,21 @@ fn one(alloc: Global) -> Result<Image, Refusal> {
         bytes.extend_from_slice(&word.to_le_bytes())?;
     }
     load(alloc, &bytes[..bytes.len().min(MAX_FILE)])
+}
+
+/// A hall of two workers over that guest, with the pass of each.
+fn open<R: Abort>(rt: &R, alloc: Global) -> Result<(Hall, Pass, Pass), Fail>
+    ensures two { IfOk result (λ r. threads r.0.terms ≡ 2) }
+    ensures one { IfOk result (λ r. locks r.0.terms ≡ 1) }
+    ensures own { IfOk result (λ r. (r.1.table ≡ r.0.table) × (r.2.table ≡ r.0.table)) }
+{
+    let image = one(alloc)?;
+    assert_eq!(rt; image.threads(), 2);
+    assert_eq!(rt; image.guards(), 1);
+    let (hall, mut passes) = Hall::new(alloc, &image, 100, 2, 4)?;
+    let other = passes.pop().expect(rt, "the second pass");
+    let zero = passes.pop().expect(rt, "the first pass");
+    Ok((hall, zero, other))
 }
 
 /// Looks at the words of both threads, and at the one for a stop, which is 0.
@@ -97,41 +112,34 @@ fn see_words<R: Abort>(rt: &R, hall: &Hall, zero: &mut Pass, other: &mut Pass)
 
 #[test]
 fn words_are_seen(rt: HostRuntime) -> Result<(), Fail> {
-    let image = one(rt.alloc())?;
-    assert_eq!(rt; image.threads(), 2);
-    assert_eq!(rt; image.guards(), 1);
-    let (hall, mut passes) = Hall::new(rt.alloc(), &image, 100, 2, 4)?;
-    let mut other = passes.pop().expect(&rt, "the second pass");
-    let mut zero = passes.pop().expect(&rt, "the first pass");
+    let (hall, mut zero, mut other) = open(&rt, rt.alloc())?;
     see_words(&rt, &hall, &mut zero, &mut other);
     Ok(())
 }
 
 /// Claims thread 0, and answers the word that was seen where it was refused.
-fn refused(hall: &Hall, mut pass: Pass) -> Option<NotReady>
+fn refused(hall: &Hall, mut pass: Pass) -> Option<u64>
     requires two { threads hall.now.terms ≡ 2 }
     requires own { pass.table ≡ hall.now.table }
 {
-    hall.claim(&mut pass, 0, Origin::Ready).err()
+    match hall.claim(&mut pass, 0, Origin::Ready) {
+        Ok(_) => None,
+        Err(word) => Some(word.0),
+    }
 }
 
 /// Claims thread 0 from two threads of the host at once.
-fn race<R: Threads>(
-    rt: &R,
-    hall: &Hall,
-    zero: Pass,
-    other: Pass,
-) -> (Option<NotReady>, Option<NotReady>)
+fn race<R: Threads>(rt: &R, hall: &Hall, zero: Pass, other: Pass) -> (Option<u64>, Option<u64>)
     requires two { threads hall.now.terms ≡ 2 }
     requires own { (zero.table ≡ hall.now.table) × (other.table ≡ hall.now.table) }
 {
     thread::join(
         rt,
-        move || -> Option<NotReady>
+        move || -> Option<u64>
             requires two { threads hall.now.terms ≡ 2 }
             requires own { zero.table ≡ hall.now.table }
         { refused(hall, zero) },
-        move || -> Option<NotReady>
+        move || -> Option<u64>
             requires two { threads hall.now.terms ≡ 2 }
             requires own { other.table ≡ hall.now.table }
         { refused(hall, other) },
@@ -141,14 +149,10 @@ fn race<R: Threads>(
 /// One of them gets it, and the other sees with which worker it is out.
 #[test]
 fn one_of_two_threads_of_the_host_claims(rt: HostRuntime) -> Result<(), Fail> {
-    let image = one(rt.alloc())?;
-    assert_eq!(rt; image.threads(), 2);
-    let (hall, mut passes) = Hall::new(rt.alloc(), &image, 100, 2, 4)?;
-    let other = passes.pop().expect(&rt, "the second pass");
-    let zero = passes.pop().expect(&rt, "the first pass");
+    let (hall, zero, other) = open(&rt, rt.alloc())?;
     match race(&rt, &hall, zero, other) {
-        (None, Some(word)) => assert_eq!(rt; word, NotReady(512)),
-        (Some(word), None) => assert_eq!(rt; word, NotReady(513)),
+        (None, Some(word)) => assert_eq!(rt; word, 512),
+        (Some(word), None) => assert_eq!(rt; word, 513),
         _ => panic!(rt; "one worker gets the thread"),
     }
     Ok(())

@@ -34,7 +34,8 @@ load-requires g c =
     let view = got_view c.args.t (Package got.0) got.1 c.pass.inside.seat.me c.compare_exchange-found.new.seat.me got.3 in (
       did.0 ∙ own,
       omega (arith, c.self.invariant.0, c.self.invariant.1, c.word_of-word.ensures),
-      subst (λ (z : ℕ). Lays c.self.inside.board.shared.key c.self.inside.board.shared.table_id.slots c.compare_exchange-found.new.seat.id z m1.0 ((c.args.t, c.take-cargo.new.self) ∷ rest m1.1)) (sym c.word_of-word.ensures) (lays c.self.inside.board.shared.key _ _ c.args.t m1.0 _ (got_carried c.args.t (Package got.0) got.1 c.pass.inside.seat.me c.compare_exchange-found.new.seat.me got.3 c.pass.invariant.0 c.take-cargo.new.self c.take-cargo.ensures.left)
+      subst (λ (z : ℕ). Lays c.self.inside.board.shared.key c.self.inside.board.shared.table_id.slots c.compare_exchange-found.new.seat.id z m1.0 ((c.args.t, c.take-cargo.new.self) ∷ rest m1.1)) (sym c.word_of-word.ensures)
+          (lays c.self.inside.board.shared.key _ _ c.args.t m1.0 _ (got_carried c.args.t (Package got.0) got.1 c.pass.inside.seat.me c.compare_exchange-found.new.seat.me got.3 c.pass.invariant.0 c.take-cargo.new.self c.take-cargo.ensures.left)
           (ap (λ (z : Knows). z.hand) view) (ap (λ (z : Knows). z.spent) view ∙ (ap (λ (z : Knows). z.spent) got.2.now ∙ c.pass.invariant.3)) (of_package c.args.t (bare got.0) refl (subst (λ (z : Knows × ℕ). Has z.0 z.1 (bare got.0)) (λ i. (sym view i, got.2.thread i)) (has_out got.1 got.0 got.2.came.out)))),
     )
 

@@ -17,7 +17,8 @@ compare_exchange-found-requires g c =
     let m = c.self.invariant.3 in (
       own,
       omega (arith, c.self.invariant.1, c.word_of-word.ensures),
-      subst (λ (z : Option Terms × Option ℕ × ℕ). TakesAll key z.0 c.self.inside.board.shared.table_id.slots seat.id z.1 z.2 seat.me.0 seat.me.1) (λ i. (sym (c.requires.picked.1 ∙ ap (λ (h : HallView). Some h.terms) (sym c.self.view_is)) i, sym c.requires.picked.0 i, sym word i)) (takes_lock key _ seat.id c.args.lock seat.me.0 seat.me.1 c.pass.invariant.0 below c.pass.invariant.3 c.pass.invariant.1),
+      subst (λ (z : Option Terms × ℕ). TakesAll key z.0 c.self.inside.board.shared.table_id.slots seat.id z.1 seat.me.0 seat.me.1) (λ i. (sym (c.requires.picked ∙ ap (λ (h : HallView). Some h.terms) (sym c.self.view_is)) i, sym word i))
+          (takes_lock key _ seat.id c.args.lock seat.me.0 seat.me.1 c.pass.invariant.0 below c.pass.invariant.3 c.pass.invariant.1),
     )
 
 pub slot_mut-requires : goal.slot_mut-requires
@@ -25,7 +26,7 @@ slot_mut-requires g c =
     let own = ap (λ (p : PassView). p.table) c.pass.view_is ∙ (c.requires.own ∙ sym (ap (λ (h : HallView). h.table) c.self.view_is)) in
     let did = c.compare_exchange-found.ensures in
     let slot : ℕ = c.self.inside.threads + c.args.lock in
-    let got = did.2.0 c.if-found-ne0.false c.args.lock slot c.requires.picked.0 c.word_of-word.ensures in
+    let got = did.2.0 c.if-found-ne0.false c.self.inside.board.shared.key c.args.lock slot (c.requires.picked ∙ ap (λ (h : HallView). Some h.terms) (sym c.self.view_is)) (let n = c.self.invariant.0 in omega arith) c.word_of-word.ensures in
     (did.0 ∙ own, got_slot slot (Lock got.0) got.1 c.pass.inside.seat.me c.compare_exchange-found.new.seat.me got.3)
 
 pub load-requires : goal.load-requires
@@ -34,7 +35,7 @@ load-requires g c =
     let key = c.self.inside.board.shared.key in
     let did = c.compare_exchange-found.ensures in
     let slot : ℕ = c.self.inside.threads + c.args.lock in
-    let got = did.2.0 c.if-found-ne0.false c.args.lock slot c.requires.picked.0 c.word_of-word.ensures in
+    let got = did.2.0 c.if-found-ne0.false c.self.inside.board.shared.key c.args.lock slot (c.requires.picked ∙ ap (λ (h : HallView). Some h.terms) (sym c.self.view_is)) (let n = c.self.invariant.0 in omega arith) c.word_of-word.ensures in
     let m1 = c.compare_exchange-found.new.seat.me in
     let below : c.args.lock < locks key = subst (λ (h : HallView). c.args.lock < locks h.terms) (sym c.self.view_is) c.requires.lock in
     let m = c.self.invariant.3 in
@@ -50,13 +51,13 @@ load-requires g c =
 pub lock_of-requires : goal.lock_of-requires
 lock_of-requires g c =
     let slot : ℕ = c.self.inside.threads + c.args.lock in
-    let got = c.compare_exchange-found.ensures.2.0 c.if-found-ne0.false c.args.lock slot c.requires.picked.0 c.word_of-word.ensures in
+    let got = c.compare_exchange-found.ensures.2.0 c.if-found-ne0.false c.self.inside.board.shared.key c.args.lock slot (c.requires.picked ∙ ap (λ (h : HallView). Some h.terms) (sym c.self.view_is)) (let n = c.self.invariant.0 in omega arith) c.word_of-word.ensures in
     (got.0, c.take-cargo.ensures.found ∙ got_found slot (Lock got.0) got.1 c.pass.inside.seat.me c.compare_exchange-found.new.seat.me got.3 c.slot_mut.result.now c.slot_mut.ensures.value)
 
 pub invariant_of-pass-2 : goal.invariant_of-pass-2
 invariant_of-pass-2 g c =
     let slot : ℕ = c.self.inside.threads + c.args.lock in
-    let got = c.compare_exchange-found.ensures.2.0 c.if-found-ne0.false c.args.lock slot c.requires.picked.0 c.word_of-word.ensures in
+    let got = c.compare_exchange-found.ensures.2.0 c.if-found-ne0.false c.self.inside.board.shared.key c.args.lock slot (c.requires.picked ∙ ap (λ (h : HallView). Some h.terms) (sym c.self.view_is)) (let n = c.self.invariant.0 in omega arith) c.word_of-word.ensures in
     let free : got.1.hand ≡ None = ap (λ (z : Knows). z.hand) got.2.now ∙ c.pass.invariant.1 in
     let m = c.pass.inside.seat.me in
     let last = got_last slot (Lock got.0) got.1 m c.compare_exchange-found.new.seat.me got.3 c.pass.invariant.0 free c.load.new.seat.me c.load.ensures.2 in (
@@ -69,7 +70,7 @@ invariant_of-pass-2 g c =
 pub returns-clause-result : goal.returns-clause-result
 returns-clause-result g c =
     let slot : ℕ = c.self.inside.threads + c.args.lock in
-    let got = c.compare_exchange-found.ensures.2.0 c.if-found-ne0.false c.args.lock slot c.requires.picked.0 c.word_of-word.ensures in
+    let got = c.compare_exchange-found.ensures.2.0 c.if-found-ne0.false c.self.inside.board.shared.key c.args.lock slot (c.requires.picked ∙ ap (λ (h : HallView). Some h.terms) (sym c.self.view_is)) (let n = c.self.invariant.0 in omega arith) c.word_of-word.ensures in
     let m = c.pass.inside.seat.me in
     let free : got.1.hand ≡ None = ap (λ (z : Knows). z.hand) got.2.now ∙ c.pass.invariant.1 in
     let last = got_last slot (Lock got.0) got.1 m c.compare_exchange-found.new.seat.me got.3 c.pass.invariant.0 free c.load.new.seat.me c.load.ensures.2 in
@@ -81,10 +82,10 @@ returns-clause-result g c =
 pub returns-clause-left : goal.returns-clause-left
 returns-clause-left g c =
     let slot : ℕ = c.self.inside.threads + c.args.lock in
-    let got = c.compare_exchange-found.ensures.2.0 c.if-found-ne0.false c.args.lock slot c.requires.picked.0 c.word_of-word.ensures in
+    let got = c.compare_exchange-found.ensures.2.0 c.if-found-ne0.false c.self.inside.board.shared.key c.args.lock slot (c.requires.picked ∙ ap (λ (h : HallView). Some h.terms) (sym c.self.view_is)) (let n = c.self.invariant.0 in omega arith) c.word_of-word.ensures in
     let m = c.pass.inside.seat.me in
     let key : Terms = c.self.inside.board.shared.key in
     let found = c.take-cargo.ensures.found ∙ got_found slot (Lock got.0) got.1 m c.compare_exchange-found.new.seat.me got.3 c.slot_mut.result.now c.slot_mut.ensures.value in
     let same : got.0 ≡ c.lock_of.result = cc (found, c.lock_of.ensures) in
     subst (λ (z : HallView × PassView). IsStateAsLeft z.0.terms z.1.knows c.args.lock c.lock_of.result) (λ i. (c.self.view_is i, c.pass.view_is i))
-    (subst (λ (q : LockView). IsStateAsLeft key m.0 c.args.lock q) same (got.4 key (c.requires.picked.1 ∙ ap (λ (h : HallView). Some h.terms) (sym c.self.view_is))))
+    (subst (λ (q : LockView). IsStateAsLeft key m.0 c.args.lock q) same got.4)

@@ -1,10 +1,10 @@
 use Rattle.std.proofs.Common.{◌≡◌}
 use Rattle.tc_hall.proofs.Vocabulary.{PassView}
 use Rattle.tc_hall.proofs.Dealt.{last_two}
-use Rattle.tc_hall.proofs.tests.words_are_seen.Goals as goal
+use Rattle.tc_hall.proofs.tests.open.Goals as goal
 
-pub see_words-requires-clause-own : goal.see_words-requires-clause-own
-see_words-requires-clause-own g c =
+pub returns-clause-own : goal.returns-clause-own
+returns-clause-own g c =
     let hall = c.in_ok-hall.hall in
     let P : PassView → Type 0 = λ p. p.table ≡ hall.table in
     let both = last_two P c.in_ok-hall.passes.items c.pop.new.self.items c.pop-2.new.self.items c.pop.result c.pop-2.result c.expect-other.result c.expect-zero.result
