@@ -40,17 +40,18 @@ want_after image held (Store kind addr value) = Nothing
 want_after image held Call = Nothing
 want_after image held (Fault f) = Nothing
 
--- the instruction that does this loads nothing, and has this effect, before which the registers have their part; the effect
--- tells whether it went to the next word
-pub record Goes (turn : Act) (before after : Registers) (effect : Effect) : Type 0 where
-  pub act : (image : Shown) (held : ℕ → Bool) (answer : ℕ) → turn ≡ act_after image held after answer effect
-  pub want : (image : Shown) (held : ℕ → Bool) → want_after image held effect ≡ Nothing
+-- what does this to a thread, and loads this, has this effect, before which the registers have their part; the effect tells
+-- whether it went to the next word
+pub record HasEffect (does : Shown → (ℕ → Bool) → ℕ → Act) (loads : Shown → (ℕ → Bool) → Want) (before after : Registers) (effect : Effect) : Type 0 where
+  pub act : (image : Shown) (held : ℕ → Bool) (answer : ℕ) → does image held answer ≡ act_after image held after answer effect
+  pub want : (image : Shown) (held : ℕ → Bool) → loads image held ≡ want_after image held effect
   pub kept : is_done effect ≡ false → after ≡ before
   pub went : effect ≡ Went → after.pc ≡ (before.pc + 4) % 2 ^ 32
 
--- the instruction has this effect, before which the registers have their part; the effect tells whether it went to the next word
-pub record Executes (instr : Instr) (before after : Registers) (effect : Effect) : Type 0 where
-  pub act : (image : Shown) (held : ℕ → Bool) (answer : ℕ) → act_by image held before answer instr ≡ act_after image held after answer effect
-  pub want : (image : Shown) (held : ℕ → Bool) → wants_by image held before instr ≡ want_after image held effect
-  pub kept : is_done effect ≡ false → after ≡ before
-  pub went : effect ≡ Went → after.pc ≡ (before.pc + 4) % 2 ^ 32
+-- what does this to the registers alone loads nothing, and has this effect
+abbrev pub Goes : Act → Registers → Registers → Effect → Type 0
+Goes turn before after effect = HasEffect (λ image held answer. turn) (λ image held. Nothing) before after effect
+
+-- the instruction has this effect
+abbrev pub Executes : Instr → Registers → Registers → Effect → Type 0
+Executes instr before after effect = HasEffect (λ image held answer. act_by image held before answer instr) (λ image held. wants_by image held before instr) before after effect

@@ -61,6 +61,18 @@ pub(crate) fn write_byte(bytes: &mut [u8], at: usize, byte: u8)
     bytes[at + 1] = low;
 }
 
+/// Writes the digits of a word from a place on, those of its last byte first.
+#[tactic(auto, unfolding(crate::specs::Digits::hex8))]
+pub(crate) fn write_word(bytes: &mut [u8], at: usize, word: u32)
+    requires { at + 8 ≤ length bytes.old }
+    ensures { drop at bytes.new ≡ hex8 word ++ drop (at + 8) bytes.old }
+{
+    write_byte(bytes, at + 6, (word & 0xff) as u8);
+    write_byte(bytes, at + 4, (word >> 8 & 0xff) as u8);
+    write_byte(bytes, at + 2, (word >> 16 & 0xff) as u8);
+    write_byte(bytes, at, (word >> 24 & 0xff) as u8);
+}
+
 /// Writes a text from a place on, its last byte first. The texts of a line are short and known where
 /// they are written, so that this becomes one or two stores there.
 fn write_text(bytes: &mut [u8], at: usize, text: &[u8])
@@ -121,17 +133,6 @@ impl<'a> Buffer<'a> {
         self.start = write_number(number, self.bytes, end);
     }
 
-    /// Puts a byte in front, as two digits.
-    fn put_byte(&mut self, byte: u8)
-        requires { 2 + length self.old ≤ ROOM }
-        ensures value { self.new ≡ hex2 byte ++ self.old }
-        ensures len { length self.new ≡ 2 + length self.old }
-    {
-        let at = self.start - 2;
-        write_byte(self.bytes, at, byte);
-        self.start = at;
-    }
-
     /// Puts a word in front, as eight digits.
     #[tactic(auto, unfolding(crate::specs::Digits::hex8))]
     pub fn put_word(&mut self, word: u32)
@@ -139,10 +140,9 @@ impl<'a> Buffer<'a> {
         ensures value { self.new ≡ hex8 word ++ self.old }
         ensures len { length self.new ≡ 8 + length self.old }
     {
-        self.put_byte((word & 0xff) as u8);
-        self.put_byte((word >> 8 & 0xff) as u8);
-        self.put_byte((word >> 16 & 0xff) as u8);
-        self.put_byte((word >> 24 & 0xff) as u8);
+        let at = self.start - 8;
+        write_word(self.bytes, at, word);
+        self.start = at;
     }
 
     /// What is written. What was put in front each time is a text, so this is one too: that is proved

@@ -3,7 +3,7 @@
 ghost use Rattle.std.specs.Prelude.{◌≡◌, IsUtf8};
 ghost use Rattle.tc_journal.specs.Digits.{hex2, hex8};
 
-use crate::buffer::write_byte;
+use crate::buffer::{write_byte, write_word};
 use std::fmt;
 use std::str::from_utf8_unchecked;
 
@@ -34,15 +34,11 @@ impl fmt::Display for Hex2 {
 }
 
 /// The digits of a word.
-#[tactic(auto, unfolding(crate::specs::Digits::hex8))]
-fn digits_of(word: u32) -> [u8; 8]
+fn eight_of(word: u32) -> [u8; 8]
     ensures { result ≡ hex8 word }
 {
     let mut digits = [0; 8];
-    write_byte(&mut digits, 6, (word & 0xff) as u8);
-    write_byte(&mut digits, 4, (word >> 8 & 0xff) as u8);
-    write_byte(&mut digits, 2, (word >> 16 & 0xff) as u8);
-    write_byte(&mut digits, 0, (word >> 24 & 0xff) as u8);
+    write_word(&mut digits, 0, word);
     digits
 }
 
@@ -57,7 +53,7 @@ impl fmt::Display for Hex8 {
     ghost output = { λ h. Some (hex8 h.0) };
 
     fn fmt<W: fmt::Write>(&self, f: &mut fmt::Formatter<W>) -> fmt::Result {
-        let digits = digits_of(self.0);
+        let digits = eight_of(self.0);
         f.write_str(unsafe { from_utf8_unchecked(&digits) })
     }
 }

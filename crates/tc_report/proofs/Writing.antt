@@ -53,7 +53,7 @@ lines_split k blocks =
     ∙ ap (flat_map block_line) (sym (map-append block (take k blocks) (drop k blocks)) ∙ ap (map block) (take-append-drop k blocks))
 
 -- the lines of the first pieces, and those of the next one
-pub next_piece : (blocks : List (Bor Block)) (n : ℕ) → lines_of (take (n * BLOCKS) blocks) ++ piece_of blocks n ≡ lines_of (take ((n + 1) * BLOCKS) blocks)
+next_piece : (blocks : List (Bor Block)) (n : ℕ) → lines_of (take (n * BLOCKS) blocks) ++ piece_of blocks n ≡ lines_of (take ((n + 1) * BLOCKS) blocks)
 next_piece blocks n =
     let block : Bor Block → Block = λ b. b.now in
     let here : List (Bor Block) = take (n * BLOCKS) blocks in
@@ -62,5 +62,13 @@ next_piece blocks n =
     sym (ap lines_of more ∙ ap (flat_map block_line) (map-append block here next) ∙ flat_map-append block_line (map block here) (map block next))
 
 -- and those of the pieces behind it
-pub pieces_split : (blocks : List (Bor Block)) (n : ℕ) → (lines_of (take (n * BLOCKS) blocks) ++ piece_of blocks n) ++ lines_of (drop ((n + 1) * BLOCKS) blocks) ≡ lines_of blocks
+pieces_split : (blocks : List (Bor Block)) (n : ℕ) → (lines_of (take (n * BLOCKS) blocks) ++ piece_of blocks n) ++ lines_of (drop ((n + 1) * BLOCKS) blocks) ≡ lines_of blocks
 pieces_split blocks n = ap (λ t. t ++ lines_of (drop ((n + 1) * BLOCKS) blocks)) (next_piece blocks n) ∙ lines_split ((n + 1) * BLOCKS) blocks
+
+-- the first pieces were given, and this is the text of the next one
+module _ (before mid now : Stream) (blocks : List (Bor Block)) (n : ℕ) (text : List ℕ) (is : text ≡ piece_of blocks n) (given : Gives before mid (lines_of (take (n * BLOCKS) blocks))) where
+  pub piece_fails : FailsAmid mid now text → FailsAmid before now (lines_of blocks)
+  piece_fails failed = subst (FailsAmid before now) (pieces_split blocks n) (fails_early before now _ _ (fails_later before mid now _ _ given (subst (FailsAmid mid now) is failed)))
+
+  pub piece_given : Gives mid now text → Gives before now (lines_of (take ((n + 1) * BLOCKS) blocks))
+  piece_given next = subst (Gives before now) (next_piece blocks n) (gives_more before mid now _ _ given (subst (Gives mid now) is next))

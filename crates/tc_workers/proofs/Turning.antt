@@ -1,5 +1,5 @@
 -- The steps of a worker: what comes of its search, its offers, and its end.
-use Rattle.std.proofs.Common.{◌≡◌, ◌≢◌, ℕ, ◌<◌, Bool, true, false, List, [], ◌∷◌, ◌++◌, All, length, map, Option, Some, None, refl, inl, inr, sym, ap, ◌∙◌, arith, append_assoc, append-nil, subst}
+use Rattle.std.proofs.Common.{◌≡◌, ◌≢◌, ◌⊎◌, ℕ, ◌<◌, Bool, true, false, List, [], ◌∷◌, ◌++◌, All, length, map, Option, Some, None, refl, inl, inr, sym, ap, ◌∙◌, arith, append_assoc, append-nil, subst}
 use Rattle.std.proofs.lemmas.List.{map-append}
 use Rattle.std.proofs.Math.Nat.{le-min, min-le_left, min-le_right, mul-le-mul_left}
 use Rattle.std.specs.Prelude.{MatchBool, ◌≤◌, ◌+◌, ◌*◌, ◌/◌, min}
@@ -21,7 +21,7 @@ use Rattle.tc_combiner.specs.View.{BenchView, DeskView}
 use Rattle.tc_combiner.specs.Walks.{TakesDown}
 use Rattle.tc_workers.specs.GoOn.{CanHave, GoesOn, HasOffered}
 use Rattle.tc_workers.specs.Search.{Finds, IsSearch, IsTakenUp, IsTry}
-use Rattle.tc_workers.specs.Turns.{HasBegun, HasWorked, IsFinished, Proceeds, Reaches, Steps, TakesStep, last_step, more, proceeds}
+use Rattle.tc_workers.specs.Turns.{HasBegun, HasWorked, IsFinished, MakesStep, Proceeds, Reaches, Steps, TakesStep, last_step, more, proceeds}
 use Rattle.tc_workers.specs.Worker.{HasLeft, IsAtDesk, IsAtWork, IsStill, LookedAtStop, WorkerSteps, worker_of}
 use Rattle.tc_workers.specs.declared.step.Step.{Step}
 use Rattle.tc_workers.specs.declared.step.Step.TheVariants.{On, AllDone, Stopped}
@@ -61,12 +61,11 @@ went_through b hand q x y z s did begun steps goes = (
 
 -- steps, and one more where it was made
 reached : {Q S P : Type 0} (b : BenchView) (w : Worker Q S P) (hand : Option PackageView) (x : Worker Q S P) (at : Option PackageView) (y : Worker Q S P) → Steps b w hand x → Reaches b hand x at y → Steps b w at y
-reached {Q} {S} {P} b w hand x at y steps (inl same) = subst (λ (o : Option PackageView). Steps b w o y) (sym same.0) (subst (λ (v : Worker Q S P). Steps b w hand v) (sym same.1) steps)
-reached b w hand x at y steps (inr took) = more hand at x y steps took
-
--- it came out so
-came_out : {Q S P : Type 0} (b : BenchView) (hand : Option PackageView) (x y z : Worker Q S P) (s r : Step) → z ≡ y → r ≡ s → WorkerSteps b x y s × TakesStep b hand x y s → WorkerSteps b x z r × TakesStep b hand x z r
-came_out {Q} {S} {P} b hand x y z s r is same h = subst (λ (t : Step). WorkerSteps b x z t × TakesStep b hand x z t) (sym same) (subst (λ (w : Worker Q S P). WorkerSteps b x w s × TakesStep b hand x w s) (sym is) h)
+reached {Q} {S} {P} b w hand x at y steps reaches = go reaches.first
+  where
+    go : ((at ≡ hand) × (y ≡ x)) ⊎ TakesStep b hand x y (On at) → Steps b w at y
+    go (inl same) = subst (λ (o : Option PackageView). Steps b w o y) (sym same.0) (subst (λ (v : Worker Q S P). Steps b w hand v) (sym same.1) steps)
+    go (inr took) = more hand at x y steps took
 
 -- steps that came to this one
 pub record CameTo {Q S P : Type 0} (b : BenchView) (w z : Worker Q S P) (r : Step) : Type 0 where
@@ -77,15 +76,14 @@ pub record CameTo {Q S P : Type 0} (b : BenchView) (w z : Worker Q S P) (r : Ste
   pub steps : Steps b w at y
   pub did : WorkerSteps b y z r × TakesStep b at y z r
 
-pub came_to : {Q S P : Type 0} (b : BenchView) (w : Worker Q S P) (hand : Option PackageView) (x : Worker Q S P) (at : Option PackageView) (y e z : Worker Q S P) (s r : Step) → IsStill w.desk.pass x.desk.pass → x.ready.threads ≡ threads b.hall.terms → Steps b w hand x → IsStill x.desk.pass y.desk.pass → y.ready.threads ≡ x.ready.threads → Reaches b hand x at y
-    → z ≡ e → r ≡ s → WorkerSteps b y e s × TakesStep b at y e s → CameTo b w z r
-came_to b w hand x at y e z s r still ready steps then on first is same h = record {
-  at = at;
-  y = y;
-  still = still_then w.desk.pass x.desk.pass y.desk.pass still then;
-  ready = on ∙ ready;
-  steps = reached b w hand x at y steps first;
-  did = came_out b at y e z s r is same h;
+pub came_to : {Q S P : Type 0} (b : BenchView) (w x z : Worker Q S P) (hand : Option PackageView) (r : Step) → IsStill w.desk.pass x.desk.pass → x.ready.threads ≡ threads b.hall.terms → Steps b w hand x → MakesStep b hand x z r → CameTo b w z r
+came_to b w x z hand r still ready steps made = record {
+  at = made.at;
+  y = made.y;
+  still = still_then w.desk.pass x.desk.pass made.y.desk.pass still made.reached.still;
+  ready = made.reached.ready ∙ ready;
+  steps = reached b w hand x made.at made.y steps made.reached;
+  did = (made.steps, made.takes);
 }
 
 finished : (k : Terms) (p q : PassView) (e : DeskView) (a : Bool) → IsStill p e.pass → HasLeft e → (a ≡ true → HasSeenAll (threads k) e.pass.knows) → (a ≡ false → HasStop e.pass.knows) → q ≡ e.pass → IsFinished k p q a

@@ -1,5 +1,7 @@
 -- The steps of a worker, one after another, and its end.
-use Rattle.std.specs.Prelude.{◌≡◌, ◌⊎◌, ◌∷◌, ◌++◌, Bool, true, false, Option, Some, None, Result, MatchResult}
+use Rattle.core.specs.declared.ops.ControlFlow.{ControlFlow}
+use Rattle.std.specs.ControlFlow.{MatchControlFlow}
+use Rattle.std.specs.Prelude.{◌≡◌, ◌⊎◌, ◌∷◌, ◌++◌, Bool, true, false, Option, Some, None}
 use Rattle.tc_context.specs.View.{PackageView}
 use Rattle.tc_hall.specs.declared.board.Call.TheVariants.{Stopped as Seen}
 use Rattle.tc_hall.specs.declared.board.Terms.{Terms}
@@ -37,18 +39,26 @@ pub record HasBegun {Q S P : Type 0} (hand : Option PackageView) (q : PackageVie
   pub saw : SawNoStop x y
 
 -- no step was made, or one that left the worker with this in hand
-abbrev pub Reaches : {Q S P : Type 0} → BenchView → Option PackageView → Worker Q S P → Option PackageView → Worker Q S P → Type 0
-Reaches b hand x at y = ((at ≡ hand) × (y ≡ x)) ⊎ TakesStep b hand x y (On at)
-
--- a step was begun with a package, or made, and perhaps one before it
-pub record Begins {Q S P : Type 0} (b : BenchView) (hand : Option PackageView) (x z : Worker Q S P) (r : Result PackageView Step) : Type 0 where
-  pub at : Option PackageView
-  pub y : Worker Q S P
+pub record Reaches {Q S P : Type 0} (b : BenchView) (hand : Option PackageView) (x : Worker Q S P) (at : Option PackageView) (y : Worker Q S P) : Type 0 where
   pub still : IsStill x.desk.pass y.desk.pass
   pub ready : y.ready.threads ≡ x.ready.threads
-  pub first : Reaches b hand x at y
-  pub steps : MatchResult r (λ p. WorkerSteps b y z (On (Some p))) (λ s. WorkerSteps b y z s)
-  pub takes : MatchResult r (λ p. HasBegun at p y z) (λ s. TakesStep b at y z s)
+  pub first : ((at ≡ hand) × (y ≡ x)) ⊎ TakesStep b hand x y (On at)
+
+-- a step was begun with a package, or made, and perhaps one before it
+pub record Begins {Q S P : Type 0} (b : BenchView) (hand : Option PackageView) (x z : Worker Q S P) (r : ControlFlow Step PackageView) : Type 0 where
+  pub at : Option PackageView
+  pub y : Worker Q S P
+  pub reached : Reaches b hand x at y
+  pub steps : MatchControlFlow r (λ p. WorkerSteps b y z (On (Some p))) (λ s. WorkerSteps b y z s)
+  pub takes : MatchControlFlow r (λ p. HasBegun at p y z) (λ s. TakesStep b at y z s)
+
+-- a step was made, and perhaps one before it
+pub record MakesStep {Q S P : Type 0} (b : BenchView) (hand : Option PackageView) (x z : Worker Q S P) (s : Step) : Type 0 where
+  pub at : Option PackageView
+  pub y : Worker Q S P
+  pub reached : Reaches b hand x at y
+  pub steps : WorkerSteps b y z s
+  pub takes : TakesStep b at y z s
 
 -- steps one after another of a worker who began as x with nothing in hand
 pub data Steps {Q S P : Type 0} (b : BenchView) (x : Worker Q S P) : Option PackageView → Worker Q S P → Type 0 where

@@ -1,9 +1,10 @@
 //! A worker's work: its steps, until it ends.
 
-ghost use Rattle.std.specs.Prelude.{◌≡◌, Some, None, MatchResult};
+ghost use Rattle.std.specs.ControlFlow.{MatchControlFlow};
+ghost use Rattle.std.specs.Prelude.{◌≡◌, Some, None};
 ghost use Rattle.tc_workers.specs.declared.step.Step.TheVariants.{On};
 ghost use Rattle.tc_workers.specs.Worker.{HasLeft, IsAtWork, WorkerSteps};
-ghost use Rattle.tc_workers.specs.Turns.{Begins, HasBegun, HasWorked, IsFinished, TakesStep};
+ghost use Rattle.tc_workers.specs.Turns.{Begins, HasBegun, HasWorked, IsFinished, MakesStep, TakesStep};
 
 use crate::bell::Bell;
 use crate::calls;
@@ -15,13 +16,15 @@ use crate::leave::leave;
 use crate::rests::Rests;
 use crate::step::Step;
 use crate::worker::Worker;
+use std::ops::ControlFlow;
+use std::ops::ControlFlow::{Break, Continue};
 use std::sync::Wait;
 use tc_combiner::Bench;
 use tc_context::package::Package;
 use tc_queue::Waiters;
 
-// Begins a step: looks at STOP, and gives the package in hand, with which the worker goes on. Where it
-// has none, or sees the stop, this is the whole step: it finds one, or leaves.
+/// Begins a step: looks at STOP, and continues with the package in hand. Where the worker has none, or
+/// sees the stop, this is the whole step: it finds one, or leaves.
 #[inline(always)]
 fn begin_step<G: Gate, Q: Waiters>(
     bench: &Bench<'_, Q>,
@@ -29,49 +32,73 @@ fn begin_step<G: Gate, Q: Waiters>(
     rests: &mut Rests<'_>,
     worker: &mut Worker<Q>,
     hand: Option<Package>,
-) -> Result<Package, Step>
+) -> ControlFlow<Step, Package>
     requires work { IsAtWork bench.now hand worker.old }
-    ensures steps { MatchResult result (λ p. WorkerSteps bench.now worker.old worker.new (On (Some «p»)))
+    ensures steps { MatchControlFlow result
+        (λ p. WorkerSteps bench.now worker.old worker.new (On (Some «p»)))
         (λ s. WorkerSteps bench.now worker.old worker.new s) }
-    ensures takes { MatchResult result (λ p. HasBegun hand «p» worker.old worker.new)
+    ensures takes { MatchControlFlow result (λ p. HasBegun hand «p» worker.old worker.new)
         (λ s. TakesStep bench.now hand worker.old worker.new s) }
 {
     if calls::stopped(bench, &mut worker.desk) {
         leave(bench, &mut worker.desk, hand);
-        return Err(Step::Stopped);
+        return Break(Step::Stopped);
     }
     match hand {
-        None => Err(find(bench, gate, rests, worker)),
-        Some(package) => Ok(package),
+        None => Break(find(bench, gate, rests, worker)),
+        Some(package) => Continue(package),
     }
 }
 
-// Begins a step. Where it finds a package, that is a whole step, and the next one is begun with it at
-// once, unless a rest was asked for: so most steps cost no turn of the worker's loop.
+/// Begins a step. Where it finds a package, that is a whole step, and the next one is begun with it at
+/// once, unless a rest was asked for: so most steps cost no turn of the worker's loop.
 fn begin<G: Gate, Q: Waiters>(
     bench: &Bench<'_, Q>,
     gate: &G,
     rests: &mut Rests<'_>,
     worker: &mut Worker<Q>,
     hand: Option<Package>,
-) -> Result<Package, Step>
+) -> ControlFlow<Step, Package>
     requires work { IsAtWork bench.now hand worker.old }
     ensures { Begins bench.now hand worker.old worker.new result }
 {
     match begin_step(bench, gate, rests, worker, hand) {
-        Ok(package) => Ok(package),
-        Err(Step::On(Some(package))) => {
+        Continue(package) => Continue(package),
+        Break(Step::On(Some(package))) => {
             if rests.are_asked() {
-                return Err(Step::On(Some(package)));
+                return Break(Step::On(Some(package)));
             }
             begin_step(bench, gate, rests, worker, Some(package))
         }
-        Err(Step::On(None)) => Err(Step::On(None)),
-        Err(step) => Err(step),
+        Break(Step::On(None)) => Break(Step::On(None)),
+        Break(step) => Break(step),
     }
 }
 
-// What the end of a worker gives that has left.
+/// Makes a step, or two. Where a rest was asked for, the worker rests after it.
+fn make_step<R: Wait, G: Gate, Q: Waiters>(
+    rt: &R,
+    bench: &Bench<'_, Q>,
+    gate: &G,
+    rests: &mut Rests<'_>,
+    worker: &mut Worker<Q>,
+    hand: Option<Package>,
+) -> Step
+    requires work { IsAtWork bench.now hand worker.old }
+    ensures { MakesStep bench.now hand worker.old worker.new result }
+{
+    match begin(bench, gate, rests, worker, hand) {
+        Continue(package) => go_on(rt, bench, gate, worker, package),
+        Break(step) => {
+            if rests.are_asked() {
+                rests.rest(rt, worker.desk.now());
+            }
+            step
+        }
+    }
+}
+
+/// What the end of a worker gives that has left.
 fn finished<Q: Waiters>(worker: Worker<Q>, all_done: bool) -> Finished
     requires { HasLeft worker.desk }
     ensures pass { result.pass ≡ worker.desk.pass }
@@ -98,16 +125,7 @@ pub fn work<R: Wait, G: Gate, Q: Waiters>(
     let mut rests = Rests::new(bell);
     let mut hand = None;
     for _ in rt.forever() {
-        let step = match begin(bench, gate, &mut rests, &mut worker, hand) {
-            Ok(package) => go_on(rt, bench, gate, &mut worker, package),
-            Err(step) => {
-                if rests.are_asked() {
-                    rests.rest(rt, worker.desk.now());
-                }
-                step
-            }
-        };
-        match step {
+        match make_step(rt, bench, gate, &mut rests, &mut worker, hand) {
             Step::On(next) => hand = next,
             Step::AllDone => return finished(worker, true),
             Step::Stopped => return finished(worker, false),

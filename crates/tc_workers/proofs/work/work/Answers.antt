@@ -3,9 +3,8 @@ use Rattle.tc_workers.specs.Turns.{HasWorked, IsFinished, Steps, TakesStep, more
 use Rattle.tc_workers.specs.Worker.{IsAtWork, WorkerSteps}
 use Rattle.tc_workers.specs.declared.step.Step.{Step}
 use Rattle.tc_workers.proofs.Passes.{still_same, still_then}
-use Rattle.tc_workers.proofs.Turning.{CameTo, came_to, ended, went_through}
+use Rattle.tc_workers.proofs.Turning.{came_to, ended}
 use Rattle.tc_workers.proofs.work.work.Goals as goal
-use Rattle.tc_workers.proofs.work.work.Goals.{in-Ok, in-Err+then-are_asked, in-Err+else-are_asked}
 
 pub loop-init : goal.loop-init
 loop-init g c =
@@ -16,16 +15,9 @@ loop-init g c =
 pub loop-preserved : goal.loop-preserved
 loop-preserved g c =
     let b = c.args.bench.now in
-    let hand = c.loop.hand in
     let x = c.loop.worker in
-    let z = c.match-begin.worker in
-    let r = c.match-begin.step in
-    let came : CameTo b c.args.worker z r = elim c.match-begin.branch [
-      | in-Ok w ↦ came_to b c.args.worker hand x w.in-Ok.ensures.at w.in-Ok.ensures.y w.go_on-step.new.worker z w.go_on-step.result r c.loop.invariant.2 c.loop.invariant.3.ready c.loop.invariant.4 w.in-Ok.ensures.still w.in-Ok.ensures.ready w.in-Ok.ensures.first w.worker-is w.step-is
-          (went_through b w.in-Ok.ensures.at w.in-Ok.«package» w.in-Ok.ensures.y c.begin.new.worker w.go_on-step.new.worker w.go_on-step.result w.in-Ok.ensures.steps w.in-Ok.ensures.takes w.go_on-step.ensures.steps w.go_on-step.ensures.goes_on)
-      | in-Err+then-are_asked w ↦ came_to b c.args.worker hand x w.in-Err.ensures.at w.in-Err.ensures.y c.begin.new.worker z w.in-Err.step r c.loop.invariant.2 c.loop.invariant.3.ready c.loop.invariant.4 w.in-Err.ensures.still w.in-Err.ensures.ready w.in-Err.ensures.first w.worker-is w.step-is (w.in-Err.ensures.steps, w.in-Err.ensures.takes)
-      | in-Err+else-are_asked w ↦ came_to b c.args.worker hand x w.in-Err.ensures.at w.in-Err.ensures.y c.begin.new.worker z w.in-Err.step r c.loop.invariant.2 c.loop.invariant.3.ready c.loop.invariant.4 w.in-Err.ensures.still w.in-Err.ensures.ready w.in-Err.ensures.first w.worker-is w.step-is (w.in-Err.ensures.steps, w.in-Err.ensures.takes)
-    ] in
+    let z = c.make_step.new.worker in
+    let came = came_to b c.args.worker x z c.loop.hand c.make_step.result c.loop.invariant.2 c.loop.invariant.3.ready c.loop.invariant.4 c.make_step.ensures in
     let y = came.y in
     let next = c.in-On.next in
     let on = subst (λ (s : Step). WorkerSteps b y z s) c.in-On.is came.did.0 in
@@ -38,16 +30,9 @@ loop-preserved g c =
 pub returns-in-AllDone : goal.returns-in-AllDone
 returns-in-AllDone g c =
     let b = c.args.bench.now in
-    let hand = c.loop.hand in
     let x = c.loop.worker in
-    let z = c.match-begin.worker in
-    let r = c.match-begin.step in
-    let came : CameTo b c.args.worker z r = elim c.match-begin.branch [
-      | in-Ok w ↦ came_to b c.args.worker hand x w.in-Ok.ensures.at w.in-Ok.ensures.y w.go_on-step.new.worker z w.go_on-step.result r c.loop.invariant.2 c.loop.invariant.3.ready c.loop.invariant.4 w.in-Ok.ensures.still w.in-Ok.ensures.ready w.in-Ok.ensures.first w.worker-is w.step-is
-          (went_through b w.in-Ok.ensures.at w.in-Ok.«package» w.in-Ok.ensures.y c.begin.new.worker w.go_on-step.new.worker w.go_on-step.result w.in-Ok.ensures.steps w.in-Ok.ensures.takes w.go_on-step.ensures.steps w.go_on-step.ensures.goes_on)
-      | in-Err+then-are_asked w ↦ came_to b c.args.worker hand x w.in-Err.ensures.at w.in-Err.ensures.y c.begin.new.worker z w.in-Err.step r c.loop.invariant.2 c.loop.invariant.3.ready c.loop.invariant.4 w.in-Err.ensures.still w.in-Err.ensures.ready w.in-Err.ensures.first w.worker-is w.step-is (w.in-Err.ensures.steps, w.in-Err.ensures.takes)
-      | in-Err+else-are_asked w ↦ came_to b c.args.worker hand x w.in-Err.ensures.at w.in-Err.ensures.y c.begin.new.worker z w.in-Err.step r c.loop.invariant.2 c.loop.invariant.3.ready c.loop.invariant.4 w.in-Err.ensures.still w.in-Err.ensures.ready w.in-Err.ensures.first w.worker-is w.step-is (w.in-Err.ensures.steps, w.in-Err.ensures.takes)
-    ] in
+    let z = c.make_step.new.worker in
+    let came = came_to b c.args.worker x z c.loop.hand c.make_step.result c.loop.invariant.2 c.loop.invariant.3.ready c.loop.invariant.4 c.make_step.ensures in
     let y = came.y in
     let steps = subst (λ (s : Step). WorkerSteps b y z s) c.in-AllDone.is came.did.0 in
     let takes = subst (λ (s : Step). TakesStep b came.at y z s) c.in-AllDone.is came.did.1 in
@@ -57,16 +42,9 @@ returns-in-AllDone g c =
 pub returns-in-Stopped : goal.returns-in-Stopped
 returns-in-Stopped g c =
     let b = c.args.bench.now in
-    let hand = c.loop.hand in
     let x = c.loop.worker in
-    let z = c.match-begin.worker in
-    let r = c.match-begin.step in
-    let came : CameTo b c.args.worker z r = elim c.match-begin.branch [
-      | in-Ok w ↦ came_to b c.args.worker hand x w.in-Ok.ensures.at w.in-Ok.ensures.y w.go_on-step.new.worker z w.go_on-step.result r c.loop.invariant.2 c.loop.invariant.3.ready c.loop.invariant.4 w.in-Ok.ensures.still w.in-Ok.ensures.ready w.in-Ok.ensures.first w.worker-is w.step-is
-          (went_through b w.in-Ok.ensures.at w.in-Ok.«package» w.in-Ok.ensures.y c.begin.new.worker w.go_on-step.new.worker w.go_on-step.result w.in-Ok.ensures.steps w.in-Ok.ensures.takes w.go_on-step.ensures.steps w.go_on-step.ensures.goes_on)
-      | in-Err+then-are_asked w ↦ came_to b c.args.worker hand x w.in-Err.ensures.at w.in-Err.ensures.y c.begin.new.worker z w.in-Err.step r c.loop.invariant.2 c.loop.invariant.3.ready c.loop.invariant.4 w.in-Err.ensures.still w.in-Err.ensures.ready w.in-Err.ensures.first w.worker-is w.step-is (w.in-Err.ensures.steps, w.in-Err.ensures.takes)
-      | in-Err+else-are_asked w ↦ came_to b c.args.worker hand x w.in-Err.ensures.at w.in-Err.ensures.y c.begin.new.worker z w.in-Err.step r c.loop.invariant.2 c.loop.invariant.3.ready c.loop.invariant.4 w.in-Err.ensures.still w.in-Err.ensures.ready w.in-Err.ensures.first w.worker-is w.step-is (w.in-Err.ensures.steps, w.in-Err.ensures.takes)
-    ] in
+    let z = c.make_step.new.worker in
+    let came = came_to b c.args.worker x z c.loop.hand c.make_step.result c.loop.invariant.2 c.loop.invariant.3.ready c.loop.invariant.4 c.make_step.ensures in
     let y = came.y in
     let steps = subst (λ (s : Step). WorkerSteps b y z s) c.in-Stopped.is came.did.0 in
     let takes = subst (λ (s : Step). TakesStep b came.at y z s) c.in-Stopped.is came.did.1 in
