@@ -2,7 +2,7 @@
 use Rattle.std.specs.Prelude.{List}
 use Rattle.tc_elf.specs.Shown.{Shown}
 use Rattle.tc_journal.specs.declared.block.Block.{Block}
-use Rattle.tc_workers.specs.declared.options.Options.{Options}
+use Rattle.tc_isa.specs.declared.options.Options.{Options}
 use Rattle.tc_report.specs.Legal.{IsLegalRun, results_after}
 
 -- a history that is that of a legal run of the guest with these options: its results are those that the run leaves

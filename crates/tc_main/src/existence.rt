@@ -4,7 +4,7 @@ ghost use Rattle.std.specs.Prelude.{◌<◌, ◌≤◌, length};
 ghost use Rattle.tc_elf.specs.Shown.{Shown};
 ghost use Rattle.tc_elf.specs.declared.limits.TheConstants.{MAX_GUARDS};
 ghost use Rattle.tc_mutex_spec.specs.Progress.{IsSized};
-ghost use Rattle.tc_workers.specs.declared.options.Options.{Options};
+ghost use Rattle.tc_isa.specs.declared.options.Options.{Options};
 ghost use Rattle.tc_main.specs.Existence.{HasLegalRun};
 
 /// Of every guest with the numbers of a file there is a legal run, to the end of every thread, for

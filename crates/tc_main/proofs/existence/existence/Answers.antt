@@ -7,7 +7,7 @@ use Rattle.tc_mutex_spec.specs.Progress.{IsSized}
 use Rattle.tc_mutex_spec.proofs.Entries.{tells_end}
 use Rattle.tc_mutex_spec.proofs.Journals.{has_journal}
 use Rattle.tc_told.proofs.Complete.{has_history}
-use Rattle.tc_workers.specs.declared.options.Options.{Options}
+use Rattle.tc_isa.specs.declared.options.Options.{Options}
 use Rattle.tc_main.specs.Existence.{HasLegalRun}
 use Rattle.tc_main.proofs.Legal.{limits_of}
 use Rattle.tc_main.proofs.existence.existence.Goals as goal
