@@ -201,9 +201,9 @@ left_all {k = k} {b = b} {q = q} {p = p} {rest = rest} {ss = ss} {ts = ts} {h = 
 
 -- ---- what the next may ask
 
-pub may_next : {hall : HallView} {b : Block} {q p : PackageView} {rest next i n : ℕ} {ss ts : List SeatView} {h g : Hands} {now : Bool} → MayAct hall (Pack q ∷ []) n h → Ending hall.terms b (change q p) rest (change ss ts) (change h g) now → has rest i ≡ true → i < 32 → ((j : ℕ) → has next j ≡ (not (j == i) && has rest j))
+pub may_next : {hall : HallView} {b : Block} {q p : PackageView} {rest n : ℕ} {ss ts : List SeatView} {h g : Hands} {now : Bool} (next i : ℕ) → MayAct hall (Pack q ∷ []) n h → Ending hall.terms b (change q p) rest (change ss ts) (change h g) now → has rest i ≡ true → i < 32 → ((j : ℕ) → has next j ≡ (not (j == i) && has rest j))
     → MayAct hall (Pack p ∷ []) 1 g
-may_next {hall = hall} {q = q} {p = p} {rest = rest} {next = next} {i = i} {h = h} {g = g} m y waits small each = record { at = at_after hall y.calls (Pack q ∷ []) (Pack p ∷ []) h.pass g.pass h.aside g.aside m.at y.acted.acts y.aside; room = (let less = less_few rest next i each waits small in let old = y.room in omega arith) }
+may_next {hall = hall} {q = q} {p = p} {rest = rest} {h = h} {g = g} next i m y waits small each = record { at = at_after hall y.calls (Pack q ∷ []) (Pack p ∷ []) h.pass g.pass h.aside g.aside m.at y.acted.acts y.aside; room = (let less = less_few rest next i each waits small in let old = y.room in omega arith) }
 
 pub may_release : {k : Terms} {b : Block} {q p : PackageView} {rest i : ℕ} {ss ts : List SeatView} {h g : Hands} {now : Bool} → MayEnd k h.pass.knows b q → Ending k b (change q p) rest (change ss ts) (change h g) now → has rest i ≡ true → MayRelease k g.pass.knows i b p
 may_release {k = k} {b = b} {i = i} m y waits = record {

@@ -1,4 +1,4 @@
-use Rattle.std.proofs.Common.{◌<◌, map, length, arith, rules}
+use Rattle.std.proofs.Common.{◌<◌, false, map, length, arith, rules}
 use Rattle.tc_combiner.proofs.Vocabulary.{Change, DidLeave, Hands, PackageView, SeatView, change, length-map, locks}
 use Rattle.tc_combiner.proofs.Ending.{leaves_first, leaves_home, leaves_more, left_all, less_falls, may_next, may_release, none_left, seat_in}
 use Rattle.tc_combiner.proofs.Seats.{at_seat}
@@ -29,7 +29,7 @@ bounds-seats-lock g c =
 
 pub end_one-stopped-requires-clause-may : goal.end_one-stopped-requires-clause-may
 end_one-stopped-requires-clause-may g c = λ κs b. record {
-  hands = may_next c.requires.hands c.loop-lock.invariant c.in-Some.ensures.value.0 c.in-Some.ensures.bound c.less-rest.ensures.each;
+  hands = may_next c.less-rest.result c.in-Some.lock c.requires.hands c.loop-lock.invariant c.in-Some.ensures.value.0 c.in-Some.ensures.bound c.less-rest.ensures.each;
   release = may_release c.requires.may c.loop-lock.invariant c.in-Some.ensures.value.0;
 }
 
@@ -58,7 +58,7 @@ returns g c = left_all (none_left _ _ c.first_release.result c.first_release.ens
 
 pub bring_home-requires : goal.bring_home-requires
 bring_home-requires g c = record {
-  hands = may_next c.requires.hands c.loop-lock.invariant c.in-Some.ensures.value.0 c.in-Some.ensures.bound c.less-rest.ensures.each;
+  hands = may_next c.less-rest.result c.in-Some.lock c.requires.hands c.loop-lock.invariant c.in-Some.ensures.value.0 c.in-Some.ensures.bound c.less-rest.ensures.each;
   release = may_release c.requires.may c.loop-lock.invariant c.in-Some.ensures.value.0;
 }
 
