@@ -1,6 +1,7 @@
 -- What became of a package that wants a lock, from its parts.
 use Rattle.std.proofs.Common.{◌≡◌, ◌+◌, min, ℕ, List, [], ◌∷◌, ◌++◌, refl, sym, ap, ◌∙◌, subst, arith, Option, Some, None, if◌then◌else◌}
-use Rattle.tc_combiner.proofs.Vocabulary.{AcquiredAs, Acquires, Acts, Behind, Call, DidFirst, DidGrant, DidTake, Did_stop, Done, Enter, First, FirstAs, GoesOn, HallView, Hands, IsAtHall, IsAtRest, IsSameSeat, IsWaiting, Item, Link, LockView, Loose, MAX_NUMBER, MayAsk, MayGive, MayGoOn, Pack, PackageView, PassView, PutAllBack, Ready, Runs, SeatView, Settled, Shipped, Shown, Taken, Terms, Turn, Waiting, Wants_lock, back, counted, locked_in, next_turn, packed, place_back, put_call, ready_in, saw, threads, with_line, with_turns}
+use Rattle.tc_combiner.proofs.Vocabulary.{AcquiredAs, Acquires, Acts, Behind, Call, Change, DeskStep, DidFirst, DidGrant, DidTake, Did_stop, Done, Enter, First, FirstAs, GoesOn, HallView, Hands, IsAtHall, IsAtRest, IsSameSeat, IsWaiting, Item, Link, LockView, Loose, MAX_NUMBER, MayAsk, MayGive, MayGoOn, Pack}
+use Rattle.tc_combiner.proofs.Vocabulary.{PackageView, PassView, PutAllBack, Ready, Runs, SeatView, Settled, Shipped, Taken, TakenAs, Terms, Turn, Waiting, Wants_lock, at_none, back, by_hands, change, counted, locked_in, next_turn, packed, place_back, put_call, ready_in, saw, threads, with_line, with_turns}
 use Rattle.tc_combiner.proofs.Acting.{acts_by, acts_still, acts_then, owned_by, takes_none}
 use Rattle.tc_combiner.proofs.Owning.{counts_in, granted_with, takes_in}
 use Rattle.tc_combiner.proofs.Answering.{keeps_answers, wider}
@@ -8,7 +9,7 @@ use Rattle.tc_combiner.proofs.Packages.{no_other, plain_gives, taken_good, wants
 
 -- ---- packages that are put back
 
-pub puts_both : (q o : PackageView) (h g : Hands) (m : PassView) → h.aside ≡ Some o → Runs o → g.aside ≡ None → g.ready.items ≡ [] → Acts (put_call q (place_back q) ∷ []) (Pack q ∷ []) [] h.pass m → Acts (put_call o (place_back o) ∷ []) (Pack o ∷ []) [] m g.pass → PutAllBack q h g
+pub puts_both : (q o : PackageView) (h g : Hands) (m : PassView) → h.aside ≡ Some o → Runs o → g.aside ≡ None → g.ready.items ≡ [] → Acts (put_call q (place_back q) ∷ []) (Pack q ∷ []) [] h.pass m → Acts (put_call o (place_back o) ∷ []) (Pack o ∷ []) [] m g.pass → PutAllBack q (change h g)
 puts_both q o h g m e runs none same a b =
     let ready : place_back o ≡ Ready = ap (λ x. if x then Ready else Done) runs in
     let first : Acts (put_call q (place_back q) ∷ []) (Pack q ∷ Pack o ∷ []) (Pack o ∷ []) h.pass m = record { own = a.own; adds = a.adds; moves = λ d us w. a.moves d (Pack o ∷ us) w } in
@@ -18,7 +19,7 @@ puts_both q o h g m e runs none same a b =
 
 -- ---- the first of its line
 
-pub takes_first : (k : Terms) (i n : ℕ) (l : LockView) (q r : PackageView) (h g : Hands) → IsAtRest q.image i l → DidGrant l Taken n q r → IsWaiting q i → MayGoOn k q → Acts [] [] (Loose l ∷ []) h.pass g.pass → g.ready.items ≡ h.ready.items → g.aside ≡ h.aside → DidFirst k i n q h g (Some r)
+pub takes_first : (k : Terms) (i n : ℕ) (l : LockView) (q r : PackageView) (h g : Hands) → IsAtRest q.image i l → DidGrant l Taken n q r → IsWaiting q i → MayGoOn k q → Acts [] [] (Loose l ∷ []) h.pass g.pass → g.ready.items ≡ h.ready.items → g.aside ≡ h.aside → DidFirst k i n q (change h g) (Some r)
 takes_first k i n l q r h g rest d waits m a same keeps =
     let free : locked_in q l.number ≡ None = subst (λ (j : ℕ). locked_in q j ≡ None) (sym rest.number) waits.absent in
     let t : DidTake i l n q r = record { rest = rest; grant = d } in
@@ -29,7 +30,7 @@ takes_first k i n l q r h g rest d waits m a same keeps =
       became = (refl, keeps, (l, t), taken_good i l n _ h.pass.knows.worker k.image.value q r t m.of m.plain m.runs);
     }
 
-pub stops_first : (k : Terms) (i n : ℕ) (q : PackageView) (h m g : Hands) → Acts saw [] [] h.pass m.pass → m.aside ≡ h.aside → PutAllBack q m g → DidFirst k i n q h g None
+pub stops_first : (k : Terms) (i n : ℕ) (q : PackageView) (h m g : Hands) → Acts saw [] [] h.pass m.pass → m.aside ≡ h.aside → PutAllBack q (change m g) → DidFirst k i n q (change h g) None
 stops_first k i n q h m g a e p = record {
   calls = saw ++ back q h.aside;
   acts = subst (λ (x : Option PackageView). Acts (saw ++ back q h.aside) (Pack q ∷ packed h.aside) (packed x) h.pass g.pass) (sym p.aside)
@@ -38,6 +39,11 @@ stops_first k i n q h m g a e p = record {
   ready = p.ready;
   became = (refl, p.aside);
 }
+
+-- the seats count for nothing there
+first_at : {A B : Type 0} (k : Terms) (q : PackageView) (seats : Change A) (others : Change B) (hands : Change Hands) (i n : ℕ) (cs : List Call) (r : Option PackageView) → FirstAs (by_hands k q seats hands) i n cs r → FirstAs (by_hands k q others hands) i n cs r
+first_at k q seats others hands i n cs (Some r) h = h
+first_at k q seats others hands i n cs None h = h
 
 -- ---- with its number counted
 
@@ -59,17 +65,18 @@ is_counted q p n t e f g = record {
 }
 
 module _ (hall : HallView) (i : ℕ) (u : Turn) (q p : PackageView) (s t : SeatView) (h g : Hands) (c : IsCounted q p u) (at : IsAtHall hall (Pack q ∷ packed h.aside) h) where
-  first_as : (cs : List Call) (r : Option PackageView) → FirstAs hall.terms.image.value h.pass.knows.worker i u.number p h.aside g.aside cs r → FirstAs hall.terms.image.value h.pass.knows.worker i (next_turn q).number (counted q) h.aside g.aside cs r
-  first_as cs r d = subst (λ (x : PackageView). FirstAs hall.terms.image.value h.pass.knows.worker i (next_turn q).number x h.aside g.aside cs r) c.is (subst (λ (x : Turn). FirstAs hall.terms.image.value h.pass.knows.worker i x.number p h.aside g.aside cs r) c.turn d)
+  first_as : (cs : List Call) (r : Option PackageView) → FirstAs (by_hands hall.terms p at_none (change h g)) i u.number cs r → TakenAs (by_hands hall.terms q (change s t) (change h g)) i cs r
+  first_as cs r d = subst (λ (x : PackageView). FirstAs (by_hands hall.terms x (change s t) (change h g)) i (next_turn q).number cs r) c.is
+      (subst (λ (x : Turn). FirstAs (by_hands hall.terms p (change s t) (change h g)) i x.number cs r) c.turn (first_at hall.terms p at_none (change s t) (change h g) i u.number cs r d))
 
-  pub goes_on : (r : PackageView) → t ≡ with_line s (Enter u First) → DidFirst hall.terms i u.number p h g (Some r) → Acquires hall.terms i q s t h g (GoesOn r)
+  pub goes_on : (r : PackageView) → t ≡ with_line s (Enter u First) → DidFirst hall.terms i u.number p (change h g) (Some r) → Acquires hall.terms i q (change s t) (change h g) (GoesOn r)
   goes_on r line d = record {
     calls = d.calls;
     answers = keeps_answers hall d.calls q h g (GoesOn r) at (turned q p _ (packed h.aside) (Pack r ∷ packed g.aside) d.calls h.pass g.pass c.is d.acts) (takes_none (threads hall.terms) h.ready.items g.ready.items d.calls d.ready (ap ready_in d.became.0)) d.became.1;
     became = (subst (λ (x : Turn). t ≡ with_line s (Enter x First)) c.turn line, first_as d.calls (Some r) d.became);
   }
 
-  pub stops_second : t ≡ with_line s (Enter u First) → DidFirst hall.terms i u.number p h g None → Acquires hall.terms i q s t h g Did_stop
+  pub stops_second : t ≡ with_line s (Enter u First) → DidFirst hall.terms i u.number p (change h g) None → Acquires hall.terms i q (change s t) (change h g) Did_stop
   stops_second line d = record {
     calls = d.calls;
     answers = record {
@@ -80,7 +87,7 @@ module _ (hall : HallView) (i : ℕ) (u : Turn) (q p : PackageView) (s t : SeatV
     became = (subst (λ (x : Turn). t ≡ with_line s (Enter x First)) c.turn line, first_as d.calls None d.became);
   }
 
-  pub ships : (mark : ℕ) (r : SeatView) → t ≡ with_line s (Enter u (Behind mark)) → r ≡ with_line t (Link mark u) → Acts (put_call p (Waiting i) ∷ []) (Pack p ∷ []) [] h.pass g.pass → g.ready.items ≡ h.ready.items → g.aside ≡ h.aside → Acquires hall.terms i q s r h g Shipped
+  pub ships : (mark : ℕ) (r : SeatView) → t ≡ with_line s (Enter u (Behind mark)) → r ≡ with_line t (Link mark u) → Acts (put_call p (Waiting i) ∷ []) (Pack p ∷ []) [] h.pass g.pass → g.ready.items ≡ h.ready.items → g.aside ≡ h.aside → Acquires hall.terms i q (change s r) (change h g) Shipped
   ships mark r first later a f n = record {
     calls = put_call p (Waiting i) ∷ [];
     answers = keeps_answers hall (put_call p (Waiting i) ∷ []) q h g Shipped at
@@ -107,8 +114,8 @@ may_wait hall i q h at m = plain_gives hall (Waiting i) q (packed h.aside) h.pas
   ready = λ g e. let f = m.plain.granted in let n : ⊥ = cc in absurd n;
 })
 
-pub same_seat : (image : Shown) (worker i : ℕ) (q : PackageView) (s t : SeatView) (a b : Option PackageView) (cs : List Call) (r : Settled) → AcquiredAs image worker i q s t a b cs r → IsSameSeat s t
-same_seat image worker i q s t a b cs (GoesOn r) h = subst (λ (x : SeatView). IsSameSeat s x) (sym h.0) (refl, refl)
-same_seat image worker i q s t a b cs Shipped h = subst (λ (x : SeatView). IsSameSeat s x) (sym h.1) (refl, refl)
-same_seat image worker i q s t a b cs Did_stop h = subst (λ (x : SeatView). IsSameSeat s x) (sym h.0) (refl, refl)
-same_seat image worker i q s t a b cs r h = absurd h
+pub same_seat : (x : DeskStep SeatView) (i : ℕ) (cs : List Call) (r : Settled) → AcquiredAs x i cs r → IsSameSeat x.seats.old x.seats.new
+same_seat x i cs (GoesOn r) h = subst (λ (t : SeatView). IsSameSeat x.seats.old t) (sym h.0) (refl, refl)
+same_seat x i cs Shipped h = subst (λ (t : SeatView). IsSameSeat x.seats.old t) (sym h.1) (refl, refl)
+same_seat x i cs Did_stop h = subst (λ (t : SeatView). IsSameSeat x.seats.old t) (sym h.0) (refl, refl)
+same_seat x i cs r h = absurd h

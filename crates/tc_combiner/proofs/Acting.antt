@@ -1,6 +1,7 @@
 -- Calls of a pass, one after another, with each call that counts.
 use Rattle.std.proofs.Common.{◌≡◌, ◌≢◌, ◌==◌, ◌<◌, ◌≤◌, ◌+◌, ℕ, Bool, true, false, cond, arith, All, List, [], ◌∷◌, ◌++◌, length, length-append, filter, refl, sym, ap, ◌∙◌, subst, append_assoc, append-nil, Some, None, Option}
-use Rattle.tc_combiner.proofs.Vocabulary.{Acted, Acts, All-nil, AreAsked, AskedTimes, Asks, Call, Called, Came, Departure, HallView, Hands, HaveNoStop, IsAt, IsSamePass, Item, Knows, Leave, LineCall, MAX_HELD, MayAct, Miss, Moves, Next, Owned, Owns, PackageView, PassView, Put, Ready, Refused, SawStopped, SeatView, Stop, Stopped, TakesDown, Terms, Tried, TriedAs, Try_stopped, Turn, WaitedAs, Waits, after_miss, after_stopped, counts, erase, nat_tests, outs, ready_in, saw, saw_if, threads, unanswered, with_line}
+use Rattle.tc_combiner.proofs.Vocabulary.{Acted, Acts, All-nil, AreAsked, AskedTimes, Asks, Call, Called, Came, Departure, HallView, Hands, HaveNoStop, IsAt, IsSamePass, Item, Knows, Leave, LineCall, MAX_HELD, MayAct, Miss, Moves, Next, Owned, Owns, PackageView, PassView, Put, Ready}
+use Rattle.tc_combiner.proofs.Vocabulary.{Refused, SawStopped, SeatView, Stop, Stopped, TakesDown, Terms, Tried, TriedAs, Try_stopped, Turn, WaitedAs, Waits, after_miss, after_stopped, change, counts, erase, nat_tests, outs, ready_in, saw, saw_if, threads, unanswered, with_line}
 use Rattle.std.proofs.lemmas.List.Elements.{filter-append, All-append}
 use Rattle.tc_combiner.proofs.Owning.{moves_none, rotate, unrotate}
 
@@ -170,8 +171,8 @@ pub may_still : (hall : HallView) (ds : List Call) (xs ys : List Item) (n : ℕ)
 may_still hall ds xs ys n h g m a r s = record { at = at_after hall ds xs ys h.pass g.pass h.aside g.aside m.at a s; room = subst (λ (l : List ℕ). length l + n ≤ MAX_HELD) (sym r) m.room }
 
 -- calls that put no thread as ready
-pub acted_by : (k : Terms) (ds : List Call) (xs ys : List Item) (h g : Hands) → Acts ds xs ys h.pass g.pass → g.ready.items ≡ h.ready.items → ready_in ds ≡ [] → Acted k ds xs ys h g
+pub acted_by : (k : Terms) (ds : List Call) (xs ys : List Item) (h g : Hands) → Acts ds xs ys h.pass g.pass → g.ready.items ≡ h.ready.items → ready_in ds ≡ [] → Acted k ds xs ys (change h g)
 acted_by k ds xs ys h g a r none = record { acts = a; readied = takes_none (threads k) h.ready.items g.ready.items ds r none }
 
-pub acted_then : (k : Terms) (ds es : List Call) (xs ys zs : List Item) (h m g : Hands) → Acted k ds xs ys h m → Acted k es ys zs m g → Acted k (ds ++ es) xs zs h g
+pub acted_then : (k : Terms) (ds es : List Call) (xs ys zs : List Item) (h m g : Hands) → Acted k ds xs ys (change h m) → Acted k es ys zs (change m g) → Acted k (ds ++ es) xs zs (change h g)
 acted_then k ds es xs ys zs h m g a b = record { acts = acts_then ds es xs ys zs h.pass m.pass g.pass a.acts b.acts; readied = takes_then (threads k) h.ready.items m.ready.items g.ready.items ds es a.readied b.readied }

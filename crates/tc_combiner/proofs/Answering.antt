@@ -1,6 +1,6 @@
 -- What the hands answer: one after another, and with packages put back.
 use Rattle.std.proofs.Common.{◌≡◌, ℕ, List, [], ◌∷◌, ◌++◌, sym, ◌∙◌, subst, Option}
-use Rattle.tc_combiner.proofs.Vocabulary.{Acted, Acts, Adds, Answers, Call, Did_stop, HallView, Hands, HasReadied, IsAt, IsAtHall, IsGood, IsGoodFor, Item, Knows, Pack, PackageView, PassView, PutAllBack, Settled, Shown, TakesDown, Terms, back, carried, packed, threads}
+use Rattle.tc_combiner.proofs.Vocabulary.{Acted, Acts, Adds, Answers, Call, Did_stop, HallView, Hands, HasReadied, IsAt, IsAtHall, IsGood, IsGoodFor, Item, Knows, Pack, PackageView, PassView, PutAllBack, Settled, Shown, TakesDown, Terms, back, carried, change, packed, threads}
 use Rattle.tc_combiner.proofs.Acting.{acts_then, at_after, takes_then}
 
 -- ---- the threads that were put as ready
@@ -18,7 +18,7 @@ wider cs q h g e a = subst (λ (o : Option PackageView). Acts cs (Pack q ∷ pac
 changed : (cs : List Call) (q p : PackageView) (xs : List Item) (v w : PassView) → Acts cs (Pack q ∷ []) (Pack p ∷ []) v w → Acts cs (Pack q ∷ xs) (Pack p ∷ xs) v w
 changed cs q p xs v w a = record { own = a.own; adds = a.adds; moves = λ b zs o. a.moves b (xs ++ zs) o }
 
-pub then_answers : (k : Terms) (cs ds : List Call) (q p : PackageView) (h m g : Hands) (r : Settled) → Acted k cs (Pack q ∷ []) (Pack p ∷ []) h m → m.aside ≡ h.aside → Answers k ds p m g r → Answers k (cs ++ ds) q h g r
+pub then_answers : (k : Terms) (cs ds : List Call) (q p : PackageView) (h m g : Hands) (r : Settled) → Acted k cs (Pack q ∷ []) (Pack p ∷ []) (change h m) → m.aside ≡ h.aside → Answers k ds p (change m g) r → Answers k (cs ++ ds) q (change h g) r
 then_answers k cs ds q p h m g r a e b = record {
   acts = acts_then cs ds (Pack q ∷ packed h.aside) (Pack p ∷ packed h.aside) (carried r ++ packed g.aside) h.pass m.pass g.pass
       (changed cs q p (packed h.aside) h.pass m.pass a.acts)
@@ -28,15 +28,15 @@ then_answers k cs ds q p h m g r a e b = record {
 }
 
 -- so the hands may act on
-pub then_at : (hall : HallView) (cs : List Call) (q p : PackageView) (h m : Hands) → IsAtHall hall (Pack q ∷ packed h.aside) h → Acted hall.terms cs (Pack q ∷ []) (Pack p ∷ []) h m → m.aside ≡ h.aside → IsAtHall hall (Pack p ∷ packed m.aside) m
+pub then_at : (hall : HallView) (cs : List Call) (q p : PackageView) (h m : Hands) → IsAtHall hall (Pack q ∷ packed h.aside) h → Acted hall.terms cs (Pack q ∷ []) (Pack p ∷ []) (change h m) → m.aside ≡ h.aside → IsAtHall hall (Pack p ∷ packed m.aside) m
 then_at hall cs q p h m may a e = subst (λ (o : Option PackageView). IsAt hall (Pack p ∷ packed o) m.pass m.aside) (sym e) (at_after hall cs (Pack q ∷ packed h.aside) (Pack p ∷ packed h.aside) h.pass m.pass h.aside m.aside may (changed cs q p (packed h.aside) h.pass m.pass a.acts) e)
 
 -- a call that left what is set aside
-pub keeps_answers : (hall : HallView) (cs : List Call) (q : PackageView) (h g : Hands) (r : Settled) → IsAtHall hall (Pack q ∷ packed h.aside) h → Acts cs (Pack q ∷ packed h.aside) (carried r ++ packed g.aside) h.pass g.pass → HasReadied (threads hall.terms) r h.ready.items g.ready.items cs → g.aside ≡ h.aside → Answers hall.terms cs q h g r
+pub keeps_answers : (hall : HallView) (cs : List Call) (q : PackageView) (h g : Hands) (r : Settled) → IsAtHall hall (Pack q ∷ packed h.aside) h → Acts cs (Pack q ∷ packed h.aside) (carried r ++ packed g.aside) h.pass g.pass → HasReadied (threads hall.terms) r h.ready.items g.ready.items cs → g.aside ≡ h.aside → Answers hall.terms cs q (change h g) r
 keeps_answers hall cs q h g r may a told e = record { acts = a; readied = told; aside = λ b f. may.aside b (sym e ∙ f) }
 
 -- all was put back
-pub back_answers : (k : Terms) (q : PackageView) (h g : Hands) → PutAllBack q h g → Answers k (back q h.aside) q h g Did_stop
+pub back_answers : (k : Terms) (q : PackageView) (h g : Hands) → PutAllBack q (change h g) → Answers k (back q h.aside) q (change h g) Did_stop
 back_answers k q h g a = record {
   acts = subst (λ (o : Option PackageView). Acts (back q h.aside) (Pack q ∷ packed h.aside) (packed o) h.pass g.pass) (sym a.aside) a.acts;
   readied = a.ready;

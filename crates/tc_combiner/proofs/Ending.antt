@@ -1,7 +1,8 @@
 -- The locks of a thread that has ended, one after another.
 use Rattle.std.proofs.Common.{◌≡◌, ◌≢◌, ◌<◌, ◌≤◌, inl, inr, ℕ, zero, suc, ◌^◌, ◌+◌, ◌-◌, ◌*◌, Bool, true, false, not, ◌&&◌, ◌==◌, cond, List, [], ◌∷◌, ◌++◌, length, map, filter, get_or, refl, sym, ap, ◌∙◌, subst, subst₂, arith, append_assoc, append-nil, Option, Some, None, is_some, slice_index_or}
 use Rattle.std.proofs.lemmas.Bool.{and_right, cond-false, cond-true, or_right}
-use Rattle.tc_combiner.proofs.Vocabulary.{Acts, AreSameSeats, AreSeats, Asks, AtSeat, Block, Call, DidLeave, DidLeaveAll, Did_stop, Done, Ending, Ends, HallView, Hands, Has_ended, IsAtHall, IsEmptied, IsInOrder, IsPlain, IsSeatFor, IsSoundPackage, Knows, LeftAs, LeftInOrder, LockView, MAX_HELD, MayAct, MayEnd, MayGive, MayRelease, OneLeft, Pack, PackageView, PutAllBack, QueueView, SeatView, SeatsLeft, Terms, Turn, back, bare, dite, ends_thread, has, is_running, last_of, locked_in, locks, nat_tests, no_seat, packed, put_call, seat_at, threads, turn_of, unlocks, was_cut, ℕ_discrete}
+use Rattle.tc_combiner.proofs.Vocabulary.{Acts, AreSameSeats, AreSeats, Asks, AtSeat, Block, Call, Change, DeskStep, DidLeave, DidLeaveAll, Did_stop, Done, Ending, Ends, HallView, Hands, Has_ended, IsAtHall, IsEmptied, IsInOrder, IsPlain, IsSeatFor, IsSoundPackage, Knows, LeftAs, LeftInOrder, LockView, MAX_HELD, MayAct, MayEnd, MayGive}
+use Rattle.tc_combiner.proofs.Vocabulary.{MayRelease, OneLeft, Pack, PackageView, PutAllBack, QueueView, SeatView, SeatsLeft, Terms, Turn, at_lock, back, bare, by_hands, change, dite, ends_thread, has, is_running, last_of, locked_in, locks, nat_tests, no_seat, packed, put_call, seat_at, threads, turn_of, unlocks, was_cut, ℕ_discrete}
 use Rattle.std.proofs.lemmas.Bool.Decides.{eqb_tells}
 use Rattle.std.specs.List.{range_with_len}
 use Rattle.tc_isa.specs.Sets.{without_lock, locks_of}
@@ -90,11 +91,32 @@ locks_first rest next i each waits least small = least_first (has rest) (has nex
 same_turn : (p q : PackageView) (i : ℕ) → bare p ≡ bare q → p.numbers ≡ q.numbers → turn_of p i ≡ turn_of q i
 same_turn p q i same numbers = λ j. record { thread = (same j).context.thread; number = slice_index_or (numbers j) i 0 }
 
--- the lock of a package that is q but for the locks before
-left_was : (k : Terms) (b : Block) (q p r : PackageView) (i : ℕ) (s z t y : SeatView) (h g : Hands) (was is : Bool) → bare p ≡ bare q → p.numbers ≡ q.numbers → z ≡ s → y ≡ t → (d : DidLeave k i b p r z t h g was is) → LeftAs k.image.value d.state b (turn_of q i) s y d.calls was is
-left_was k b q p r i s z t y h g was is same numbers first last d = subst (λ (u : Turn). LeftAs k.image.value d.state b u s y d.calls was is) (same_turn p q i same numbers) (subst₂ (λ (c e : SeatView). LeftAs k.image.value d.state b (turn_of p i) c e d.calls was is) first (sym last) d.became)
+-- what becomes of a lock does not depend on what else the desk has
+left_any : (x : DeskStep SeatView) (worker : ℕ) (q : PackageView) (aside : Change (Option PackageView)) (l : LockView) (b : Block) (own : Turn) (cs : List Call) (was is : Bool) → LeftAs x l b own cs was is → LeftAs (record x { worker = worker; given = q; aside = aside }) l b own cs was is
+left_any x worker q aside l b own cs false false h = h
+left_any x worker q aside l b own cs false true h = h
+left_any x worker q aside l b own cs true false h = h
+left_any x worker q aside l b own cs true true h = h
 
-pub leaves_first : (hall : HallView) (b : Block) (q : PackageView) (ss : List SeatView) (h : Hands) → MayAct hall (Pack q ∷ []) (length (locks_of b.held)) h → ((j : ℕ) → is_some (locked_in q j) ≡ has b.held j) → Ending hall.terms b q q b.held ss ss h h false
+order_any : (x : DeskStep (List SeatView)) (aside : Change (Option PackageView)) (b : Block) (is : List ℕ) (cs : List Call) (was end : Bool) → LeftInOrder x b is cs was end → LeftInOrder (record x { aside = aside }) b is cs was end
+order_any x aside b [] cs was end h = h
+order_any x aside b (i ∷ is) cs was end h =
+    let one = h.0 in (
+      record { state = one.state; here = one.here; calls = one.calls; stopped = one.stopped; became = left_any (at_lock i x) x.worker x.given aside one.state b (turn_of x.given i) one.calls was one.stopped one.became },
+      h.1,
+      h.2,
+      order_any x aside b is h.1 one.stopped end h.3,
+    )
+
+-- the lock of a package that is q but for the locks before
+left_was : (k : Terms) (b : Block) (q p r : PackageView) (i : ℕ) (s z t y : SeatView) (hands : Change Hands) (h g : Hands) (was is : Bool) → bare p ≡ bare q → p.numbers ≡ q.numbers → z ≡ s → y ≡ t → (d : DidLeave k i b (change p r) (change z t) (change h g) (change was is))
+    → LeftAs (by_hands k q (change s y) hands) d.state b (turn_of q i) d.calls was is
+left_was k b q p r i s z t y hands h g was is same numbers first last d =
+    let at : LeftAs (by_hands k q (change z t) hands) d.state b (turn_of p i) d.calls was is = left_any (by_hands k p (change z t) (change h g)) hands.old.pass.knows.worker q (change hands.old.aside hands.new.aside) d.state b (turn_of p i) d.calls was is d.became in
+    subst (λ (u : Turn). LeftAs (by_hands k q (change s y) hands) d.state b u d.calls was is) (same_turn p q i same numbers)
+    (subst₂ (λ (c e : SeatView). LeftAs (by_hands k q (change c e) hands) d.state b (turn_of p i) d.calls was is) first (sym last) at)
+
+pub leaves_first : (hall : HallView) (b : Block) (q : PackageView) (ss : List SeatView) (h : Hands) → MayAct hall (Pack q ∷ []) (length (locks_of b.held)) h → ((j : ℕ) → is_some (locked_in q j) ≡ has b.held j) → Ending hall.terms b (change q q) b.held (change ss ss) (change h h) false
 leaves_first hall b q ss h m locks = record {
   calls = [];
   acted = acted_by hall.terms [] (Pack q ∷ []) (Pack q ∷ []) h h (acts_none h.pass (Pack q ∷ [])) refl refl;
@@ -113,11 +135,11 @@ leaves_first hall b q ss h m locks = record {
   order = λ us es end agree l. l;
 }
 
-pub leaves_more : (k : Terms) (b : Block) (q p r : PackageView) (rest next i : ℕ) (ss ts us : List SeatView) (h g m : Hands) (was is : Bool) → Ending k b q p rest ss ts h g was → has rest i ≡ true → ((j : ℕ) → has rest j ≡ true → i ≤ j) → i < 32 → ((j : ℕ) → has next j ≡ (not (j == i) && has rest j))
-    → AtSeat i ts us (λ s t. DidLeave k i b p r s t g m was is) → Ending k b q r next ss us h m is
-leaves_more k b q p r rest next i ss ts us h g m was is y waits least small each at =
+leaves_one : (k : Terms) (b : Block) (q p r : PackageView) (rest next i : ℕ) (ss ts us : List SeatView) (h g m : Hands) (was is : Bool) → Ending k b (change q p) rest (change ss ts) (change h g) was → has rest i ≡ true → ((j : ℕ) → has rest j ≡ true → i ≤ j) → i < 32 → ((j : ℕ) → has next j ≡ (not (j == i) && has rest j))
+    → AtSeat i ts us (λ s t. DidLeave k i b (change p r) (change s t) (change g m) (change was is)) → Ending k b (change q r) next (change ss us) (change h m) is
+leaves_one k b q p r rest next i ss ts us h g m was is y waits least small each at =
     let d = at.here in
-    let few = few_more d (few_left k.image.value d.state b (turn_of p i) (seat_at ts i) (seat_at us i) d.calls was is d.became) in record {
+    let few = few_more d (few_left (by_hands k p (change (seat_at ts i) (seat_at us i)) (change g m)) d.state b (turn_of p i) d.calls was is d.became) in record {
       calls = y.calls ++ d.calls;
       acted = acted_then k y.calls d.calls (Pack q ∷ []) (Pack p ∷ []) (Pack r ∷ []) h g m y.acted d.acted;
       aside = d.aside ∙ y.aside;
@@ -136,36 +158,55 @@ leaves_more k b q p r rest next i ss ts us h g m was is y waits least small each
           (λ (ne : j ≢ i). subst (λ (a : SeatView). Asks (turn_of q j) (seat_at ss j) a) (sym (at.others j ne)) (y.asks j held (gone_in rest next i j each f ne)));
       order = λ vs es end agree l.
           let here : seat_at vs i ≡ seat_at us i = agree i (each i ∙ but_lock (i == i) (has rest i) true (grind (arith, nat_tests))) in
-          let x : OneLeft k.image.value b q i (seat_at ss i) (seat_at vs i) was = record {
+          let x : DeskStep (List SeatView) = by_hands k q (change ss vs) (change h g) in
+          let z : DeskStep (List SeatView) = by_hands k q (change ss vs) (change h m) in
+          let one : OneLeft (at_lock i x) b i was = record {
             state = d.state;
             here = sym (y.left i waits) ∙ d.taken.was;
             calls = d.calls;
             stopped = is;
-            became = left_was k b q p r i (seat_at ss i) (seat_at ts i) (seat_at us i) (seat_at vs i) g m was is y.same y.numbers (y.wait i waits) here d;
+            became = left_was k b q p r i (seat_at ss i) (seat_at ts i) (seat_at us i) (seat_at vs i) (change h g) g m was is y.same y.numbers (y.wait i waits) here d;
           } in
-          let all : LeftInOrder k.image.value b q ss vs (locks_of rest) (d.calls ++ es) was end = subst (λ (n : List ℕ). LeftInOrder k.image.value b q ss vs n (d.calls ++ es) was end) (sym (locks_first rest next i each waits least small)) (x, es, refl, l) in
-          subst (λ (c : List Call). LeftInOrder k.image.value b q ss vs (locks_of b.held) c false end) (sym (append_assoc y.calls d.calls es))
-          (y.order vs (d.calls ++ es) end (λ j f. agree j (each j ∙ and_right (not (j == i)) (has rest j) f) ∙ at.others j (λ e. let z : has rest i ≡ false = ap (has rest) (sym e) ∙ f in let n : ⊥ = cc in n)) all);
+          let others : LeftInOrder x b (locks_of next) es is end = order_any z x.aside b (locks_of next) es is end l in
+          let all : LeftInOrder x b (locks_of rest) (d.calls ++ es) was end = subst (λ (n : List ℕ). LeftInOrder x b n (d.calls ++ es) was end) (sym (locks_first rest next i each waits least small)) (one, es, refl, others) in
+          order_any x z.aside b (locks_of b.held) ((y.calls ++ d.calls) ++ es) false end
+          (subst (λ (c : List Call). LeftInOrder x b (locks_of b.held) c false end) (sym (append_assoc y.calls d.calls es))
+          (y.order vs (d.calls ++ es) end (λ j f. agree j (each j ∙ and_right (not (j == i)) (has rest j) f) ∙ at.others j (λ e. let z : has rest i ≡ false = ap (has rest) (sym e) ∙ f in let n : ⊥ = cc in n)) all));
     }
 
-pub left_all : (k : Terms) (b : Block) (q p : PackageView) (rest : ℕ) (ss ts : List SeatView) (h g : Hands) (now : Bool) → rest ≡ 0 → Ending k b q p rest ss ts h g now → DidLeaveAll k b q p ss ts h g now
+module _ {k : Terms} {b : Block} {q p : PackageView} {rest : ℕ} {ss ts : List SeatView} {h g : Hands} {was : Bool} (y : Ending k b (change q p) rest (change ss ts) (change h g) was) where
+  -- the run was not stopped before
+  pub leaves_more : {r : PackageView} {next i : ℕ} {us : List SeatView} {m : Hands} {is : Bool} → was ≡ false → has rest i ≡ true → ((j : ℕ) → has rest j ≡ true → i ≤ j) → i < 32 → ((j : ℕ) → has next j ≡ (not (j == i) && has rest j))
+      → AtSeat i ts us (λ s t. DidLeave k i b (change p r) (change s t) (change g m) (change false is)) → Ending k b (change q r) next (change ss us) (change h m) is
+  leaves_more {r = r} {next = next} {i = i} {us = us} {m = m} {is = is} e waits least small each at = leaves_one k b q p r rest next i ss ts us h g m false is (subst (λ (x : Bool). Ending k b (change q p) rest (change ss ts) (change h g) x) e y) waits least small each at
+
+  -- it was
+  pub leaves_home : {r : PackageView} {next i : ℕ} {m : Hands} → was ≡ true → has rest i ≡ true → ((j : ℕ) → has rest j ≡ true → i ≤ j) → i < 32 → ((j : ℕ) → has next j ≡ (not (j == i) && has rest j))
+      → ((s : SeatView) → DidLeave k i b (change p r) (change s s) (change g m) (change true true)) → Ending k b (change q r) next (change ss ts) (change h m) was
+  leaves_home {r = r} {next = next} {i = i} {m = m} e waits least small each home =
+      let at : AtSeat i ts ts (λ s t. DidLeave k i b (change p r) (change s t) (change g m) (change true true)) = record { same = seats_first ts; others = λ j ne. refl; here = home (seat_at ts i) } in
+      subst (λ (x : Bool). Ending k b (change q r) next (change ss ts) (change h m) x) (sym e)
+      (leaves_one k b q p r rest next i ss ts ts h g m true true (subst (λ (x : Bool). Ending k b (change q p) rest (change ss ts) (change h g) x) e y) waits least small each at)
+
+pub left_all : {k : Terms} {b : Block} {q p : PackageView} {rest : ℕ} {ss ts : List SeatView} {h g : Hands} {now : Bool} → rest ≡ 0 → Ending k b (change q p) rest (change ss ts) (change h g) now → DidLeaveAll k b (change q p) (change ss ts) (change h g) now
 unfolding locks_of
-left_all k b q p rest ss ts h g now none y0 = let y : Ending k b q p 0 ss ts h g now = subst (λ (n : ℕ). Ending k b q p n ss ts h g now) none y0 in record {
+left_all {k = k} {b = b} {q = q} {p = p} {rest = rest} {ss = ss} {ts = ts} {h = h} {g = g} {now = now} none y0 = let y : Ending k b (change q p) 0 (change ss ts) (change h g) now = subst (λ (n : ℕ). Ending k b (change q p) n (change ss ts) (change h g) now) none y0 in record {
   calls = y.calls;
   acted = y.acted;
   aside = y.aside;
   emptied = record { same = y.same; granted = y.granted; free = λ j. y.gone j (nothing_left j) };
-  seats = record { count = y.count; others = y.others; asks = λ j held. y.asks j held (nothing_left j) };
-  order = subst (λ (c : List Call). LeftInOrder k.image.value b q ss ts (locks_of b.held) c false now) (append-nil y.calls) (y.order ts [] now (λ j f. refl) (refl, refl));
+  seats_left = record { count = y.count; others = y.others; asks = λ j held. y.asks j held (nothing_left j) };
+  order = subst (λ (c : List Call). LeftInOrder (by_hands k q (change ss ts) (change h g)) b (locks_of b.held) c false now) (append-nil y.calls) (y.order ts [] now (λ j f. refl) (refl, refl));
 }
 
 -- ---- what the next may ask
 
-pub may_next : (hall : HallView) (b : Block) (q p : PackageView) (rest next i n : ℕ) (ss ts : List SeatView) (h g : Hands) (now : Bool) → MayAct hall (Pack q ∷ []) n h → Ending hall.terms b q p rest ss ts h g now → has rest i ≡ true → i < 32 → ((j : ℕ) → has next j ≡ (not (j == i) && has rest j)) → MayAct hall (Pack p ∷ []) 1 g
-may_next hall b q p rest next i n ss ts h g now m y waits small each = record { at = at_after hall y.calls (Pack q ∷ []) (Pack p ∷ []) h.pass g.pass h.aside g.aside m.at y.acted.acts y.aside; room = (let less = less_few rest next i each waits small in let old = y.room in omega arith) }
+pub may_next : {hall : HallView} {b : Block} {q p : PackageView} {rest n : ℕ} {ss ts : List SeatView} {h g : Hands} {now : Bool} (next i : ℕ) → MayAct hall (Pack q ∷ []) n h → Ending hall.terms b (change q p) rest (change ss ts) (change h g) now → has rest i ≡ true → i < 32 → ((j : ℕ) → has next j ≡ (not (j == i) && has rest j))
+    → MayAct hall (Pack p ∷ []) 1 g
+may_next {hall = hall} {q = q} {p = p} {rest = rest} {h = h} {g = g} next i m y waits small each = record { at = at_after hall y.calls (Pack q ∷ []) (Pack p ∷ []) h.pass g.pass h.aside g.aside m.at y.acted.acts y.aside; room = (let less = less_few rest next i each waits small in let old = y.room in omega arith) }
 
-pub may_release : (k : Terms) (b : Block) (q p : PackageView) (rest i : ℕ) (ss ts : List SeatView) (h g : Hands) (now : Bool) → MayEnd k h.pass.knows b q → Ending k b q p rest ss ts h g now → has rest i ≡ true → MayRelease k g.pass.knows i b p
-may_release k b q p rest i ss ts h g now m y waits = record {
+pub may_release : {k : Terms} {b : Block} {q p : PackageView} {rest i : ℕ} {ss ts : List SeatView} {h g : Hands} {now : Bool} → MayEnd k h.pass.knows b q → Ending k b (change q p) rest (change ss ts) (change h g) now → has rest i ≡ true → MayRelease k g.pass.knows i b p
+may_release {k = k} {b = b} {i = i} m y waits = record {
   lock = m.known i (y.within i waits);
   of = ap (λ (c : PackageView). c.image) y.same ∙ (m.of ∙ sym y.acted.acts.adds.told.image);
   thread = subst (λ (t : ℕ). t < threads k) (sym (ap (λ (c : PackageView). c.context.thread) y.same)) m.thread;
@@ -202,27 +243,39 @@ emptied_order t v b q p m s h = record {
   ready = λ g e. let f : p.granted ≡ None = h.granted ∙ m.granted in let k : ⊥ = cc in absurd k;
 }
 
-module _ (hall : HallView) (b : Block) (q p : PackageView) (ss ts : List SeatView) (h m : Hands) (may : MayEnd hall.terms h.pass.knows b q) (hands : MayAct hall (Pack q ∷ packed h.aside) MAX_HELD h) where
-  pub at_end : (end : Bool) → DidLeaveAll hall.terms b q p ss ts h m end → IsAtHall hall (Pack p ∷ packed m.aside) m
+module _ {hall : HallView} {b : Block} {q p : PackageView} {ss ts : List SeatView} {h m : Hands} (may : MayEnd hall.terms h.pass.knows b q) (hands : MayAct hall (Pack q ∷ packed h.aside) MAX_HELD h) where
+  pub at_end : (end : Bool) → DidLeaveAll hall.terms b (change q p) (change ss ts) (change h m) end → IsAtHall hall (Pack p ∷ packed m.aside) m
   at_end end d = then_at hall d.calls q p h m hands.at d.acted d.aside
 
-  pub may_done : (end : Bool) → IsSoundPackage q → DidLeaveAll hall.terms b q p ss ts h m end → MayGive hall m.pass Done p
+  pub may_done : (end : Bool) → IsSoundPackage q → DidLeaveAll hall.terms b (change q p) (change ss ts) (change h m) end → MayGive hall m.pass Done p
   may_done end s d = plain_gives hall Done p (packed m.aside) m.pass m.aside (at_end end d) (emptied_plain hall.terms h.pass.knows b q p may d.emptied) tt (emptied_order hall.terms h.pass.knows b q p may s d.emptied)
 
-  pub ends_done : (g : Hands) → DidLeaveAll hall.terms b q p ss ts h m false → Acts (put_call p Done ∷ []) (Pack p ∷ []) [] m.pass g.pass → g.ready.items ≡ m.ready.items → g.aside ≡ m.aside → Ends hall.terms b q ss ts h g Has_ended
-  ends_done g d a e f = record {
+  then_order : (g : Hands) (end : Bool) (d : DidLeaveAll hall.terms b (change q p) (change ss ts) (change h m) end) → LeftInOrder (by_hands hall.terms q (change ss ts) (change h g)) b (locks_of b.held) d.calls false end
+  then_order g end d = order_any (by_hands hall.terms q (change ss ts) (change h m)) (change h.aside g.aside) b (locks_of b.held) d.calls false end d.order
+
+  done_by : (end is : Bool) → is ≡ end → DidLeaveAll hall.terms b (change q p) (change ss ts) (change h m) is → DidLeaveAll hall.terms b (change q p) (change ss ts) (change h m) end
+  done_by end is e d = subst (λ (x : Bool). DidLeaveAll hall.terms b (change q p) (change ss ts) (change h m) x) e d
+
+  ends_as : (g : Hands) → DidLeaveAll hall.terms b (change q p) (change ss ts) (change h m) false → Acts (put_call p Done ∷ []) (Pack p ∷ []) [] m.pass g.pass → g.ready.items ≡ m.ready.items → g.aside ≡ m.aside → Ends hall.terms b q (change ss ts) (change h g) Has_ended
+  ends_as g d a e f = record {
     calls = d.calls ++ put_call p Done ∷ [];
     answers = then_answers hall.terms d.calls (put_call p Done ∷ []) q p h m g Has_ended d.acted d.aside
         (keeps_answers hall (put_call p Done ∷ []) p m g Has_ended (at_end false d) (wider (put_call p Done ∷ []) p m g f a) (takes_none (threads hall.terms) m.ready.items g.ready.items (put_call p Done ∷ []) e refl) f);
-    became = (d.seats, (p, d.calls, refl, d.emptied, d.order, f ∙ d.aside));
+    became = (d.seats_left, (p, d.calls, refl, d.emptied, then_order g false d, f ∙ d.aside));
   }
 
-  pub ends_stopped : (g : Hands) → DidLeaveAll hall.terms b q p ss ts h m true → PutAllBack p m g → Ends hall.terms b q ss ts h g Did_stop
-  ends_stopped g d a = record {
+  stops_as : (g : Hands) → DidLeaveAll hall.terms b (change q p) (change ss ts) (change h m) true → PutAllBack p (change m g) → Ends hall.terms b q (change ss ts) (change h g) Did_stop
+  stops_as g d a = record {
     calls = d.calls ++ back p m.aside;
     answers = then_answers hall.terms d.calls (back p m.aside) q p h m g Did_stop d.acted d.aside (back_answers hall.terms p m g a);
-    became = (d.seats, (p, d.calls, ap (λ (o : Option PackageView). d.calls ++ back p o) d.aside, d.emptied, d.order, a.aside));
+    became = (d.seats_left, (p, d.calls, ap (λ (o : Option PackageView). d.calls ++ back p o) d.aside, d.emptied, then_order g true d, a.aside));
   }
+
+  pub ends_done : (g : Hands) (is : Bool) → is ≡ false → DidLeaveAll hall.terms b (change q p) (change ss ts) (change h m) is → Acts (put_call p Done ∷ []) (Pack p ∷ []) [] m.pass g.pass → g.ready.items ≡ m.ready.items → g.aside ≡ m.aside → Ends hall.terms b q (change ss ts) (change h g) Has_ended
+  ends_done g is e d a f n = ends_as g (done_by false is e d) a f n
+
+  pub ends_stopped : (g : Hands) (is : Bool) → is ≡ true → DidLeaveAll hall.terms b (change q p) (change ss ts) (change h m) is → PutAllBack p (change m g) → Ends hall.terms b q (change ss ts) (change h g) Did_stop
+  ends_stopped g is e d a = stops_as g (done_by true is e d) a
 
 pub same_seats : (b : Block) (q : PackageView) (ss ts : List SeatView) → SeatsLeft b q ss ts → AreSameSeats ss ts
 same_seats b q ss ts h = record {

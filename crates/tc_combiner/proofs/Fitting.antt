@@ -1,6 +1,7 @@
 -- A desk that fits a bench still fits it after its calls.
 use Rattle.std.proofs.Common.{◌≡◌, ◌<◌, ◌≤◌, ℕ, List, length, get_or, map, Vec, sym, ap, ◌∙◌, subst, subst₂, ◌∷◌, ◌++◌, arith, Option, Some}
-use Rattle.tc_combiner.proofs.Vocabulary.{AreSameSeats, AreSeats, BenchView, DeskView, Did_adopt, FitsBench, GoesOn, Hands, HasSeats, IsAside, IsAt, IsInHand, IsSamePass, IsSeatFor, IsSoundPackage, Item, Keeps, KeepsParts, Knows, MayAcquire, MayAsk, Owned, Pack, PackageView, PassView, QueueView, Rest, SeatView, Settled, Shown, WantIsLawful, Wants_lock, carried, desk_of, get_or_default, length-map, locks, no_seat, packed, seat_at, threads, want_of}
+use Rattle.tc_combiner.proofs.Vocabulary.{AreSameSeats, AreSeats, BenchView, DeskView, Did_adopt, FitsBench, GoesOn, Hands, HasSeats, IsAside, IsAt, IsInHand, IsSamePass, IsSeatFor, IsSoundPackage, Item, Keeps, KeepsParts, Knows, MayAcquire, MayAsk, Owned}
+use Rattle.tc_combiner.proofs.Vocabulary.{Pack, PackageView, PassView, QueueView, Rest, SeatView, Settled, Shown, WantIsLawful, Wants_lock, carried, desk_of, desk_with, get_or_default, length-map, locks, no_seat, packed, seat_at, threads}
 use Rattle.tc_combiner.proofs.Acting.{owned_by}
 use Rattle.tc_combiner.proofs.Packages.{wants_runs}
 use Rattle.tc_context.proofs.Staging.{wants_uncut}
@@ -37,24 +38,24 @@ aside_out w (GoesOn q) xs o = without_first w (Pack q) xs o
 aside_out w (Did_adopt q) xs o = without_first w (Pack q) xs o
 aside_out w r xs o = o
 
-pub kept : (b : BenchView) (q : PackageView) (ss ts : List SeatView) (x y : Rest) (p : PassView) (a : Option PackageView) (g : Hands) (hs : List ℕ) (r : Settled) → FitsBench b (desk_of p ss x.sleepers x.clock a hs) → Owned p.knows (Pack q ∷ packed a) → KeepsParts b.hall.terms q ss ts x y p a g r → Keeps b q (desk_of p ss x.sleepers x.clock a hs) (desk_of g.pass ts y.sleepers y.clock g.aside g.ready.items) r
-kept b q ss ts x y p a g hs r fits hand k = record {
-  works = record { own = k.acts.own; now = k.clock; room = k.room };
-  moves = k.acts.moves;
-  readied = (k.calls, k.acts.adds, k.readied);
-  fits = fits_after b p g.pass ss ts x.sleepers y.sleepers x.clock y.clock a g.aside hs g.ready.items fits k.acts.own k.acts.adds.told.image k.seats k.room k.aside (aside_out g.pass.knows r (packed g.aside) (owned_by p.knows g.pass.knows (Pack q ∷ packed a) (carried r ++ packed g.aside) k.acts.moves hand));
-}
+pub kept : (b : BenchView) (q : PackageView) (d e : DeskView) (r : Settled) → FitsBench b d → IsInHand d q → KeepsParts b.hall.terms q d e r → Keeps b q d e r
+kept b q d e r fits hand k =
+    let out : Owned e.pass.knows (packed e.aside) = aside_out e.pass.knows r (packed e.aside) (owned_by d.pass.knows e.pass.knows (Pack q ∷ packed d.aside) (carried r ++ packed e.aside) k.acts.moves hand) in record {
+      works = record { own = k.acts.own; now = k.clock; room = k.room };
+      moves = k.acts.moves;
+      readied = (k.calls, k.acts.adds, k.readied);
+      fits = fits_after b d.pass e.pass d.seats e.seats d.sleepers e.sleepers d.now e.now d.aside e.aside d.handed e.handed fits k.acts.own k.acts.adds.told.image k.seats k.room k.aside out;
+    }
 
 -- so it is of the desk whose parts these are, and what else was done with these parts was done with the desk
 module _ {S Z : Type 0} (seen : S → SeatView) (v : Vec S Z) (xs ts : List S) (e : xs ≡ v.items) where
-  pub kept_back : (P : DeskView → DeskView → Type 0) (b b' : BenchView) (q : PackageView) (x y : Rest) (h g : Hands) (d : DeskView) (r : Settled) → b ≡ b' → desk_of h.pass (map seen v.items) x.sleepers x.clock h.aside h.ready.items ≡ d → FitsBench b' d → IsInHand d q → KeepsParts b.hall.terms q (map seen xs) (map seen ts) x y h.pass h.aside g r
-      → P (desk_of h.pass (map seen xs) x.sleepers x.clock h.aside h.ready.items) (desk_of g.pass (map seen ts) y.sleepers y.clock g.aside g.ready.items)
-      → Keeps b' q d (desk_of g.pass (map seen (with_items v ts).items) y.sleepers y.clock g.aside g.ready.items) r × P d (desk_of g.pass (map seen (with_items v ts).items) y.sleepers y.clock g.aside g.ready.items)
+  pub kept_back : (P : DeskView → DeskView → Type 0) (b b' : BenchView) (q : PackageView) (x y : Rest) (h g : Hands) (d : DeskView) (r : Settled) → b ≡ b' → desk_with h (map seen v.items) x ≡ d → FitsBench b' d → IsInHand d q → KeepsParts b.hall.terms q (desk_with h (map seen xs) x) (desk_with g (map seen ts) y) r
+      → P (desk_with h (map seen xs) x) (desk_with g (map seen ts) y) → Keeps b' q d (desk_with g (map seen (with_items v ts).items) y) r × P d (desk_with g (map seen (with_items v ts).items) y)
   kept_back P b b' q x y h g d r bench is fits hand keeps did =
-      let after : List S → DeskView = λ zs. desk_of g.pass (map seen zs) y.sleepers y.clock g.aside g.ready.items in
-      let before : DeskView = desk_of h.pass (map seen xs) x.sleepers x.clock h.aside h.ready.items in
-      let same : before ≡ d = ap (λ zs. desk_of h.pass (map seen zs) x.sleepers x.clock h.aside h.ready.items) e ∙ is in
-      let all : Keeps b q before (after ts) r = kept b q (map seen xs) (map seen ts) x y h.pass h.aside g h.ready.items r (subst₂ FitsBench (sym bench) (sym same) fits) (subst (λ (z : DeskView). IsInHand z q) (sym same) hand) keeps in
+      let after : List S → DeskView = λ zs. desk_with g (map seen zs) y in
+      let before : DeskView = desk_with h (map seen xs) x in
+      let same : before ≡ d = ap (λ zs. desk_with h (map seen zs) x) e ∙ is in
+      let all : Keeps b q before (after ts) r = kept b q before (after ts) r (subst₂ FitsBench (sym bench) (sym same) fits) (subst (λ (z : DeskView). IsInHand z q) (sym same) hand) keeps in
       subst (λ zs. Keeps b' q d (after zs) r × P d (after zs)) (sym (written_back seen v xs ts e keeps.seats))
       (subst₂ (λ (c : BenchView) (z : DeskView). Keeps c q z (after ts) r × P z (after ts)) bench same (all, did))
 

@@ -1,6 +1,7 @@
 -- Packages that were granted a lock, and packages that are put.
 use Rattle.std.proofs.Common.{◌∷◌, ◌||◌, ◌≡◌, ◌≢◌, inl, inr, ⊎_elim, ℕ, ◌+◌, Bool, true, false, if◌then◌else◌, List, refl, sym, ap, ◌∙◌, subst, arith, Option, Some, None, IfSome, is_some}
-use Rattle.tc_combiner.proofs.Vocabulary.{Block, Cut, DidGrant, DidTake, End, Gets, Grant, HallView, HasNoOther, HasOnlyHeld, IsAt, IsGood, IsGoodFor, IsInOrder, IsInRange, IsPlain, IsSoundPackage, IsWaiter, IsWaiting, Item, Kind, Knows, LockView, MayGive, Pack, PackageView, PassView, Place, Runs, Shown, Slept, Taken, Unlocked, Wants, Wants_lock, blocks_of, code_of, dite, ends_section, ends_thread, fits_granted, fits_in, fits_of, granted_lock, grants_adopted, has, is_cut, is_running, last_of, locks, may_begin, next_lock, run_of, thread_in, threads, unlocks, was_cut, ℕ_discrete}
+use Rattle.tc_combiner.proofs.Vocabulary.{Block, Cut, DidGrant, DidTake, End, Gets, Grant, HallView, HasNoOther, HasOnlyHeld, IsAt, IsGood, IsGoodFor, IsInOrder, IsInRange, IsPlain, IsSoundPackage, IsWaiter, IsWaiting, Item, Kind, Knows, LockView, MayGive, Pack, PackageView, PassView, Place, Runs, Shown, Slept, Taken}
+use Rattle.tc_combiner.proofs.Vocabulary.{Unlocked, Wants, Wants_lock, blocks_of, code_of, dite, ends_section, ends_thread, fits_granted, fits_in, fits_of, granted_lock, grants_adopted, has, is_cut, is_running, last_of, locks, may_begin, next_lock, run_of, thread_in, threads, unlocks, ℕ_discrete}
 use Rattle.tc_journal.specs.Batch.{allows_of}
 use Rattle.tc_journal.specs.declared.block.End.TheVariants.{Exit, Fault, Spent}
 use Rattle.tc_context.proofs.Staging.{wants_uncut}

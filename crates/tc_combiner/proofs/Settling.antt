@@ -1,6 +1,7 @@
 -- What the end of a package's last block says of the package.
 use Rattle.std.proofs.Common.{◌≡◌, ◌≢◌, ◌<◌, ◌≤◌, ◌+◌, ℕ, Bool, true, false, not, ◌&&◌, ◌||◌, ◌==◌, if◌then◌else◌, List, [], ◌∷◌, length, refl, sym, ap, ◌∙◌, subst, arith, Option, Some, None, is_some}
-use Rattle.tc_combiner.proofs.Vocabulary.{AcquiredAs, Acquires, Answers, AreSameSeats, AtSeat, Block, Call, Cut, DeskView, DidAcquire, DidEnd, DidUnlock, End, EndedAs, Ends, HallView, Hands, HasBlock, HasOnlyHeld, HasReadied, IsAfter, IsAfterBlock, IsAtHall, IsGood, IsPlain, IsSoundPackage, Item, KeepsParts, Knows, LockView, MAX_HELD, MayAct, MayAsk, MayEnd, MayGoOn, MayPark, MayRelease, MaySettle, MayUnlock, PackageView, Rest, Runs, SeatView, Settled, SettledAs, Shown, Slept, Terms, Unlocked, UnlockedAs, Unlocks, WantIsLawful, Wants, Wants_lock, desk_of, ends_section, ends_thread, has, is_cut, last_of, locked_in, locks, nat_tests, next_lock, seat_at, thread_in, threads, was_cut}
+use Rattle.tc_combiner.proofs.Vocabulary.{AcquiredAs, Acquires, Answers, AreSameSeats, AtSeat, Block, Call, Cut, DeskView, DidAcquire, DidEnd, DidUnlock, End, EndedAs, Ends, HallView, Hands, HasBlock, HasOnlyHeld, HasReadied, IsAfter, IsAfterBlock, IsAtHall, IsGood, IsPlain, IsSoundPackage, Item, KeepsParts, Knows, LockView, MAX_HELD, MayAct, MayAsk, MayEnd, MayPark, MayRelease}
+use Rattle.tc_combiner.proofs.Vocabulary.{MaySettle, MayUnlock, PackageView, Rest, Runs, SeatView, Settled, SettledAs, Shown, Slept, Terms, Unlocked, UnlockedAs, Unlocks, WantIsLawful, Wants, Wants_lock, by_hands, change, desk_of, desk_with, ends_section, ends_thread, has, is_cut, last_of, locked_in, locks, nat_tests, next_lock, seat_at, thread_in, threads, was_cut}
 use Rattle.tc_combiner.proofs.PassedOn.{left_after}
 use Rattle.tc_combiner.proofs.Ending.{known_in}
 use Rattle.tc_combiner.proofs.Packages.{no_other, ungranted_fits}
@@ -132,8 +133,9 @@ module _ (k : Terms) (worker : ℕ) (b : Block) (q : PackageView) (s : IsSoundPa
 
 -- ---- what was done with it, in the words of a desk
 
-pub keeps_of : (k : Terms) (cs : List Call) (q : PackageView) (ss ts : List SeatView) (x y : Rest) (h g : Hands) (r : Settled) → h.ready.items ≡ [] → Answers k cs q h g r → AreSameSeats ss ts → y.clock ≡ x.clock → length y.sleepers ≡ length x.sleepers → KeepsParts k q ss ts x y h.pass h.aside g r
-keeps_of k cs q ss ts x y h g r none a same clock room = record {
+pub keeps_of : (k : Terms) (cs : List Call) (q : PackageView) (ss ts : List SeatView) (x y : Rest) (h g : Hands) (hs : List ℕ) (r : Settled) → h.ready.items ≡ [] → Answers k cs q (change h g) r → AreSameSeats ss ts → y.clock ≡ x.clock → length y.sleepers ≡ length x.sleepers
+    → KeepsParts k q (desk_of h.pass ss x.sleepers x.clock h.aside hs) (desk_with g ts y) r
+keeps_of k cs q ss ts x y h g hs r none a same clock room = record {
   calls = cs;
   acts = a.acts;
   readied = subst (λ (hs : List ℕ). HasReadied (threads k) r hs g.ready.items cs) none a.readied;
@@ -144,30 +146,30 @@ keeps_of k cs q ss ts x y h g r none a same clock room = record {
 }
 
 module _ (k : Terms) (q : PackageView) (ss ts : List SeatView) (sl : List (Option ℕ)) (now : ℕ) (hs : List ℕ) (h g : Hands) (image : h.pass.knows.image ≡ k.image.value) where
-  pub did_acquire : (i : ℕ) (r : Settled) → AtSeat i ss ts (λ s t. Acquires k i q s t h g r) → DidAcquire i q (desk_of h.pass ss sl now h.aside hs) (desk_of g.pass ts sl now g.aside g.ready.items) r
+  pub did_acquire : (i : ℕ) (r : Settled) → AtSeat i ss ts (λ s t. Acquires k i q (change s t) (change h g) r) → DidAcquire i q (desk_of h.pass ss sl now h.aside hs) (desk_of g.pass ts sl now g.aside g.ready.items) r
   did_acquire i r a = record {
     same = record { others = a.others; sleepers = refl };
     calls = a.here.calls;
     adds = a.here.answers.acts.adds;
-    acquired = subst (λ (x : Shown). AcquiredAs x h.pass.knows.worker i q (seat_at ss i) (seat_at ts i) h.aside g.aside a.here.calls r) (sym image) a.here.became;
+    acquired = subst (λ (x : Shown). AcquiredAs (record (by_hands k q (change (seat_at ss i) (seat_at ts i)) (change h g)) { image = x }) i a.here.calls r) (sym image) a.here.became;
   }
 
-  pub did_unlock : (i : ℕ) (b : Block) (r : Settled) → AtSeat i ss ts (λ s t. Unlocks k i b q s t h g r) → DidUnlock i q b (desk_of h.pass ss sl now h.aside hs) (desk_of g.pass ts sl now g.aside g.ready.items) r
+  pub did_unlock : (i : ℕ) (b : Block) (r : Settled) → AtSeat i ss ts (λ s t. Unlocks k i b q (change s t) (change h g) r) → DidUnlock i q b (desk_of h.pass ss sl now h.aside hs) (desk_of g.pass ts sl now g.aside g.ready.items) r
   did_unlock i b r a = record {
     same = record { others = a.others; sleepers = refl };
     asks = a.here.became.0;
     calls = a.here.calls;
     adds = a.here.answers.acts.adds;
-    unlocked = subst (λ (x : Shown). UnlockedAs x h.pass.knows.worker i q b (seat_at ss i) (seat_at ts i) h.aside g.aside a.here.calls r) (sym image) a.here.became.1;
+    unlocked = subst (λ (x : Shown). UnlockedAs (record (by_hands k q (change (seat_at ss i) (seat_at ts i)) (change h g)) { image = x }) i b a.here.calls r) (sym image) a.here.became.1;
   }
 
-  pub did_end : (b : Block) (r : Settled) → Ends k b q ss ts h g r → DidEnd q b (desk_of h.pass ss sl now h.aside hs) (desk_of g.pass ts sl now g.aside g.ready.items) r
+  pub did_end : (b : Block) (r : Settled) → Ends k b q (change ss ts) (change h g) r → DidEnd q b (desk_of h.pass ss sl now h.aside hs) (desk_of g.pass ts sl now g.aside g.ready.items) r
   did_end b r a = record {
     sleepers = refl;
     seats = a.became.0;
     calls = a.calls;
     adds = a.answers.acts.adds;
-    ended = subst (λ (x : Shown). EndedAs x q b ss ts h.aside g.aside a.calls r) (sym image) a.became.1;
+    ended = subst (λ (x : Shown). EndedAs (record (by_hands k q (change ss ts) (change h g)) { image = x }) b a.calls r) (sym image) a.became.1;
   }
 
 pub settled_end : (x : End) (q : PackageView) (b : Block) (d e : DeskView) (r : Settled) → ends_thread x ≡ true → DidEnd q b d e r → SettledAs x q b d e r

@@ -1,6 +1,8 @@
 -- What an unlock comes to, from its parts.
 use Rattle.std.proofs.Common.{not, ◌≡◌, ◌≢◌, ◌<◌, ◌≤◌, ◌+◌, inl, inr, ℕ, true, false, ◌&&◌, ◌==◌, List, [], ◌∷◌, ◌++◌, length, refl, sym, ap, ◌∙◌, subst, subst₂, arith, Option, Some, None, is_some}
-use Rattle.tc_combiner.proofs.Vocabulary.{Acted, Acts, All-cons, All-nil, Block, Call, DidPass, DidTakeOut, Did_adopt, Did_stop, Goes, GoesOn, Gone, HallView, Hands, HasHeldAnd, HasNone, HasOnlyHeld, HoldsNone, IsAside, IsAt, IsAtHall, IsGood, IsPlain, IsSoundPackage, Item, Knows, LockView, MAX_HELD, MayAct, MayGive, MayGoOn, MayRelease, MayUnlock, Owned, Pack, PackageView, PassView, Passed, PassedAs, PutAllBack, PutsAside, Ready, Runs, SeatView, SetAside, Settled, Shown, TakesDown, Terms, UnlockedAs, Unlocks, Was_adopted, Was_stopped, WentOn, adopts, and_parts, back, dite, ends_section, handed, has, is_only, is_running, last_of, locked_in, may_adopt, nat_tests, outs, packed, put_call, threads, turn_of, unlocks, was_cut, without_lock, ℕ_discrete}
+use Rattle.tc_combiner.proofs.Vocabulary.{Acted, Acts, All-cons, All-nil, Block, Call, Change, DeskStep, DidPass, DidTakeOut, Did_adopt, Did_stop, Goes, GoesOn, Gone, HallView, Hands, HasHeldAnd, HasNone, HasOnlyHeld, HoldsNone, IsAside, IsAt, IsAtHall, IsGood, IsPlain, IsSoundPackage, Item, Knows}
+use Rattle.tc_combiner.proofs.Vocabulary.{LockView, MAX_HELD, MayAct, MayGive, MayGoOn, MayRelease, MayUnlock, Owned, Pack, PackageView, PassView, Passed, PassedAs, PutAllBack, PutsAside, Ready, Runs, SeatView, SetAside, Settled, TakesDown, Terms, UnlockedAs, Unlocks, Was_adopted, Was_stopped, WentOn}
+use Rattle.tc_combiner.proofs.Vocabulary.{adopts, and_parts, at_none, back, by_hands, change, dite, ends_section, handed, has, is_only, is_running, last_of, locked_in, may_adopt, nat_tests, outs, packed, put_call, threads, turn_of, unlocks, was_cut, with_package, without_lock, ℕ_discrete}
 use Rattle.std.proofs.lemmas.Bool.{and_left, and_right}
 use Rattle.std.proofs.lemmas.Nat.Bits.{bit_at-zero, bit_at_or, bit_at-pow_other}
 use Rattle.std.specs.Int.{bit_at}
@@ -70,41 +72,48 @@ may_aside v k i b l q p sound m image d a =
 
 -- ---- what an unlock comes to
 
-went_unlocks : (image : Shown) (worker i : ℕ) (q : PackageView) (b : Block) (s t : SeatView) (a c : Option PackageView) (ds es : List Call) (r : Settled) → PassedAs image i q b s t ds Gone → WentOn image worker (without_lock i q) a c es r → UnlockedAs image worker i q b s t a c (ds ++ es) r
-went_unlocks image worker i q b s t a c ds es (GoesOn r) k g = (ds, es, refl, k, g)
-went_unlocks image worker i q b s t a c ds es r k g = absurd g
+went_unlocks : (x : DeskStep SeatView) (i : ℕ) (b : Block) (ds es : List Call) (r : Settled) → PassedAs x i b ds Gone → WentOn (with_package (without_lock i x.given) x) es r → UnlockedAs x i b (ds ++ es) r
+went_unlocks x i b ds es (GoesOn r) k g = (ds, es, refl, k, g)
+went_unlocks x i b ds es r k g = absurd g
+
+-- the seats count for nothing where a package goes on
+went_at : {A B : Type 0} (k : Terms) (q : PackageView) (seats : Change A) (others : Change B) (hands : Change Hands) (cs : List Call) (r : Settled) → WentOn (by_hands k q seats hands) cs r → WentOn (by_hands k q others hands) cs r
+went_at k q seats others hands cs (GoesOn r) h = h
+went_at k q seats others hands cs r h = absurd h
 
 module _ (hall : HallView) (i : ℕ) (b : Block) (q p : PackageView) (s t : SeatView) (h m : Hands) (hands : MayAct hall (Pack q ∷ packed h.aside) 2 h) where
-  room_after : (r : Passed) → DidPass hall.terms i b q p s t h m r → length m.ready.items + 1 ≤ MAX_HELD
-  room_after r d = let more = few_more d (few_followed hall.terms.image.value d.state b (turn_of q i) s t d.calls r d.became) in let room = hands.room in omega arith
+  room_after : (r : Passed) → DidPass hall.terms i b (change q p) (change s t) (change h m) r → length m.ready.items + 1 ≤ MAX_HELD
+  room_after r d = let more = few_more d (few_followed (by_hands hall.terms q (change s t) (change h m)) d.state b (turn_of q i) d.calls r d.became) in let room = hands.room in omega arith
 
-  pub at_then : (r : Passed) → handed r ≡ [] → DidPass hall.terms i b q p s t h m r → IsAtHall hall (Pack p ∷ packed m.aside) m
-  at_then r e d = then_at hall d.calls q p h m hands.at (subst (λ (xs : List Item). Acted hall.terms d.calls (Pack q ∷ []) (Pack p ∷ xs) h m) e d.acted) d.aside
+  pub at_then : (r : Passed) → handed r ≡ [] → DidPass hall.terms i b (change q p) (change s t) (change h m) r → IsAtHall hall (Pack p ∷ packed m.aside) m
+  at_then r e d = then_at hall d.calls q p h m hands.at (subst (λ (xs : List Item). Acted hall.terms d.calls (Pack q ∷ []) (Pack p ∷ xs) (change h m)) e d.acted) d.aside
 
-  pub may_then : (r : Passed) → handed r ≡ [] → DidPass hall.terms i b q p s t h m r → MayAct hall (Pack p ∷ packed m.aside) 1 m
+  pub may_then : (r : Passed) → handed r ≡ [] → DidPass hall.terms i b (change q p) (change s t) (change h m) r → MayAct hall (Pack p ∷ packed m.aside) 1 m
   may_then r e d = record { at = at_then r e d; room = room_after r d }
 
   -- the waiter that is adopted comes first, before the package that is set aside
-  adopts_beside : (x : PackageView) (d : DidPass hall.terms i b q p s t h m (Was_adopted x)) → Acts d.calls (Pack q ∷ packed h.aside) (Pack x ∷ Pack p ∷ packed h.aside) h.pass m.pass
+  adopts_beside : (x : PackageView) (d : DidPass hall.terms i b (change q p) (change s t) (change h m) (Was_adopted x)) → Acts d.calls (Pack q ∷ packed h.aside) (Pack x ∷ Pack p ∷ packed h.aside) h.pass m.pass
   adopts_beside x d = record { own = d.acted.acts.own; adds = d.acted.acts.adds; moves = λ c zs o. swap c (outs m.pass.knows) (Pack p) (Pack x) (packed h.aside ++ zs) (d.acted.acts.moves c (packed h.aside ++ zs) o) }
 
-  pub may_adopted : (x : PackageView) → DidPass hall.terms i b q p s t h m (Was_adopted x) → MayAct hall (Pack p ∷ packed m.aside) 1 m
+  pub may_adopted : (x : PackageView) → DidPass hall.terms i b (change q p) (change s t) (change h m) (Was_adopted x) → MayAct hall (Pack p ∷ packed m.aside) 1 m
   may_adopted x d =
       let y = at_after hall d.calls (Pack q ∷ packed h.aside) (Pack x ∷ Pack p ∷ packed h.aside) h.pass m.pass h.aside m.aside hands.at (adopts_beside x d) d.aside in
       let out : Owned m.pass.knows (Pack p ∷ packed m.aside) = subst (λ (o : Option PackageView). Owned m.pass.knows (Pack p ∷ packed o)) (sym d.aside) (without_first m.pass.knows (Pack x) (Pack p ∷ packed h.aside) y.out) in
       record { at = record { own = y.own; image = y.image; out = out; aside = y.aside }; room = room_after (Was_adopted x) d }
 
   -- the lock went home or was granted, and the package goes on
-  pub goes : (g : Hands) (r : Settled) → DidPass hall.terms i b q p s t h m Gone → Goes hall.terms p m g r → Unlocks hall.terms i b q s t h g r
+  pub goes : (g : Hands) (r : Settled) → DidPass hall.terms i b (change q p) (change s t) (change h m) Gone → Goes hall.terms p (change m g) r → Unlocks hall.terms i b q (change s t) (change h g) r
   goes g r d f =
-      let went : WentOn hall.terms.image.value h.pass.knows.worker (without_lock i q) h.aside g.aside f.calls r = subst (λ (n : ℕ). WentOn hall.terms.image.value n (without_lock i q) h.aside g.aside f.calls r) d.acted.acts.adds.told.worker
-      (subst₂ (λ (y : PackageView) (a : Option PackageView). WentOn hall.terms.image.value m.pass.knows.worker y a g.aside f.calls r) d.taken.is d.aside f.became) in record {
+      let x : DeskStep SeatView = by_hands hall.terms q (change s t) (change h g) in
+      let worker : m.pass.knows.worker ≡ h.pass.knows.worker = d.acted.acts.adds.told.worker in
+      let same : by_hands hall.terms p (change s t) (change m g) ≡ with_package (without_lock i q) x = λ j. record { image = hall.terms.image.value; worker = worker j; given = d.taken.is j; seats = change s t; aside = change (d.aside j) g.aside } in
+      let went : WentOn (with_package (without_lock i q) x) f.calls r = subst (λ (z : DeskStep SeatView). WentOn z f.calls r) same (went_at hall.terms p at_none (change s t) (change m g) f.calls r f.became) in record {
         calls = d.calls ++ f.calls;
         answers = then_answers hall.terms d.calls f.calls q p h m g r d.acted d.aside f.answers;
-        became = (d.asks, went_unlocks hall.terms.image.value h.pass.knows.worker i q b s t h.aside g.aside d.calls f.calls r (d.state, d.taken.was, d.became) went);
+        became = (d.asks, went_unlocks x i b d.calls f.calls r (d.state, d.taken.was, d.became) went);
       }
 
-  pub goes_adopted : (g : Hands) (x : PackageView) → b.worker ≡ h.pass.knows.worker → DidPass hall.terms i b q p s t h m (Was_adopted x) → PutsAside hall.terms p m g → Unlocks hall.terms i b q s t h g (Did_adopt x)
+  pub goes_adopted : (g : Hands) (x : PackageView) → b.worker ≡ h.pass.knows.worker → DidPass hall.terms i b (change q p) (change s t) (change h m) (Was_adopted x) → PutsAside hall.terms p (change m g) → Unlocks hall.terms i b q (change s t) (change h g) (Did_adopt x)
   goes_adopted g x same d f =
       let c : Acts f.calls (Pack p ∷ packed h.aside) (packed g.aside) m.pass g.pass = subst (λ (o : Option PackageView). Acts f.calls (Pack p ∷ packed o) (packed g.aside) m.pass g.pass) d.aside f.acted.acts in
       let set : SetAside (without_lock i q) h.aside g.aside f.calls = subst₂ (λ (y : PackageView) (a : Option PackageView). SetAside y a g.aside f.calls) d.taken.is d.aside f.set in
@@ -118,7 +127,7 @@ module _ (hall : HallView) (i : ℕ) (b : Block) (q p : PackageView) (s t : Seat
         became = (d.asks, (d.calls, f.calls, refl, (d.state, d.taken.was, d.became), set, good));
       }
 
-  pub goes_stopped : (g : Hands) → DidPass hall.terms i b q p s t h m Was_stopped → PutAllBack p m g → Unlocks hall.terms i b q s t h g Did_stop
+  pub goes_stopped : (g : Hands) → DidPass hall.terms i b (change q p) (change s t) (change h m) Was_stopped → PutAllBack p (change m g) → Unlocks hall.terms i b q (change s t) (change h g) Did_stop
   goes_stopped g d a =
       let same : d.calls ++ back p m.aside ≡ d.calls ++ back (without_lock i q) h.aside = λ j. d.calls ++ back (d.taken.is j) (d.aside j) in record {
         calls = d.calls ++ back p m.aside;
@@ -135,7 +144,7 @@ pub may_ready : (hall : HallView) (q : PackageView) (xs : List Item) (p : PassVi
 may_ready hall q xs p a at m = plain_gives hall Ready q xs p a at m.plain tt (good_order q hall.terms.image.value p.knows.worker (going_good hall.terms p.knows.worker q m))
 
 module _ (hall : HallView) (q : PackageView) (h g : Hands) (hands : MayAct hall (Pack q ∷ packed h.aside) 1 h) where
-  pub goes_same : MayGoOn hall.terms q → Acts [] (Pack q ∷ packed h.aside) (Pack q ∷ packed h.aside) h.pass g.pass → g.ready.items ≡ h.ready.items → g.aside ≡ h.aside → (HoldsNone q → h.aside ≡ None) → Goes hall.terms q h g (GoesOn q)
+  pub goes_same : MayGoOn hall.terms q → Acts [] (Pack q ∷ packed h.aside) (Pack q ∷ packed h.aside) h.pass g.pass → g.ready.items ≡ h.ready.items → g.aside ≡ h.aside → (HoldsNone q → h.aside ≡ None) → Goes hall.terms q (change h g) (GoesOn q)
   goes_same m a e f none = record {
     calls = [];
     answers = keeps_answers hall [] q h g (GoesOn q) hands.at (subst (λ (o : Option PackageView). Acts [] (Pack q ∷ packed h.aside) (Pack q ∷ packed o) h.pass g.pass) (sym f) a) (takes_none (threads hall.terms) h.ready.items g.ready.items [] e refl) f;
@@ -145,7 +154,7 @@ module _ (hall : HallView) (q : PackageView) (h g : Hands) (hands : MayAct hall 
   takes_one : MayGoOn hall.terms q → g.ready.items ≡ h.ready.items ++ q.context.thread ∷ [] → TakesDown (threads hall.terms) h.ready.items g.ready.items (put_call q Ready ∷ [])
   takes_one m e = (e, All-cons (λ n. n < threads hall.terms) q.context.thread [] m.plain.thread (All-nil (λ n. n < threads hall.terms)))
 
-  pub goes_other : (o : PackageView) → MayGoOn hall.terms q → h.aside ≡ Some o → g.aside ≡ None → HoldsNone q → Acts (put_call q Ready ∷ []) (Pack q ∷ []) [] h.pass g.pass → g.ready.items ≡ h.ready.items ++ q.context.thread ∷ [] → Goes hall.terms q h g (GoesOn o)
+  pub goes_other : (o : PackageView) → MayGoOn hall.terms q → h.aside ≡ Some o → g.aside ≡ None → HoldsNone q → Acts (put_call q Ready ∷ []) (Pack q ∷ []) [] h.pass g.pass → g.ready.items ≡ h.ready.items ++ q.context.thread ∷ [] → Goes hall.terms q (change h g) (GoesOn o)
   goes_other o m is gone none a e =
       let other = hands.at.aside o is in record {
         calls = put_call q Ready ∷ [];
@@ -161,7 +170,7 @@ module _ (hall : HallView) (q : PackageView) (h g : Hands) (hands : MayAct hall 
   sets_later None c e f = let n : ⊥ = cc in absurd n
   sets_later (Some x) c e f = (f, refl)
 
-  pub sets_behind : IsAside hall.terms q → is_some h.aside ≡ true → g.aside ≡ h.aside → Acts (put_call q Ready ∷ []) (Pack q ∷ []) [] h.pass g.pass → g.ready.items ≡ h.ready.items ++ q.context.thread ∷ [] → PutsAside hall.terms q h g
+  pub sets_behind : IsAside hall.terms q → is_some h.aside ≡ true → g.aside ≡ h.aside → Acts (put_call q Ready ∷ []) (Pack q ∷ []) [] h.pass g.pass → g.ready.items ≡ h.ready.items ++ q.context.thread ∷ [] → PutsAside hall.terms q (change h g)
   sets_behind i some f a e = record {
     calls = put_call q Ready ∷ [];
     acted = record { acts = wider (put_call q Ready ∷ []) q h g f a; readied = takes_one i.goes e };
@@ -169,7 +178,7 @@ module _ (hall : HallView) (q : PackageView) (h g : Hands) (hands : MayAct hall 
     aside = λ b x. hands.at.aside b (sym f ∙ x);
   }
 
-  pub sets_alone : IsAside hall.terms q → h.aside ≡ None → g.aside ≡ Some q → Acts [] (Pack q ∷ []) (Pack q ∷ []) h.pass g.pass → g.ready.items ≡ h.ready.items → PutsAside hall.terms q h g
+  pub sets_alone : IsAside hall.terms q → h.aside ≡ None → g.aside ≡ Some q → Acts [] (Pack q ∷ []) (Pack q ∷ []) h.pass g.pass → g.ready.items ≡ h.ready.items → PutsAside hall.terms q (change h g)
   sets_alone i none f a e = record {
     calls = [];
     acted = record { acts = subst₂ (λ (x y : Option PackageView). Acts [] (Pack q ∷ packed x) (packed y) h.pass g.pass) (sym none) (sym f) a; readied = takes_none (threads hall.terms) h.ready.items g.ready.items [] e refl };

@@ -3,6 +3,8 @@ use Rattle.std.specs.Prelude.{◌⊎◌, ◌≡◌, ◌<◌, ℕ, ◌+◌, min, 
 use Rattle.tc_combiner.specs.Vocabulary.{Behind, Call, Did_adopt, Did_park, Did_stop, Done, Enter, First, GoesOn, Hands, HasBlock, IsNumber, IsWaiting, Item, Link, LockView, MAX_NUMBER, Pack, PackageView, Parked, Place, Ready, SeatView, Settled, Shipped, Shown, Slept, Stopped, Terms, Turn, Waiting, is_running, last_of, locks, put_call, threads, with_line, with_turns}
 use Rattle.tc_combiner.specs.Packages.{DidTake, HoldsNone, IsAside, IsGood, IsPlain, MayGoOn, Runs, Wants}
 use Rattle.tc_combiner.specs.Walks.{TakesDown, packed, Acted, Acts}
+use Rattle.tc_combiner.specs.Change.{Change}
+use Rattle.tc_combiner.specs.Steps.{DeskStep, at_none, by_hands, with_package}
 
 abbrev pub carried : Settled → List Item
 carried (GoesOn q) = Pack q ∷ []
@@ -15,15 +17,15 @@ HasReadied threads Did_stop old new cs = new ≡ []
 HasReadied threads r old new cs = TakesDown threads old new cs
 
 -- the hands had the package q and made these calls, with this answer
-pub record Answers (k : Terms) (cs : List Call) (q : PackageView) (h g : Hands) (r : Settled) : Type 0 where
-  pub acts : Acts cs (Pack q ∷ packed h.aside) (carried r ++ packed g.aside) h.pass g.pass
-  pub readied : HasReadied (threads k) r h.ready.items g.ready.items cs
-  pub aside : (a : PackageView) → g.aside ≡ Some a → IsAside k a
+pub record Answers (k : Terms) (cs : List Call) (q : PackageView) (hands : Change Hands) (r : Settled) : Type 0 where
+  pub acts : Acts cs (Pack q ∷ packed hands.old.aside) (carried r ++ packed hands.new.aside) hands.old.pass hands.new.pass
+  pub readied : HasReadied (threads k) r hands.old.ready.items hands.new.ready.items cs
+  pub aside : (a : PackageView) → hands.new.aside ≡ Some a → IsAside k a
 
 -- so, with calls of which How says what became of the package
-pub record Does (k : Terms) (q : PackageView) (h g : Hands) (r : Settled) (How : List Call → Type 0) : Type 0 where
+pub record Does (k : Terms) (q : PackageView) (hands : Change Hands) (r : Settled) (How : List Call → Type 0) : Type 0 where
   pub calls : List Call
-  pub answers : Answers k calls q h g r
+  pub answers : Answers k calls q hands r
   pub became : How calls
 
 -- ---- packages that are put back
@@ -40,10 +42,10 @@ abbrev pub back : PackageView → Option PackageView → List Call
 back q a = put_call q (place_back q) ∷ back_aside a
 
 -- the package q and the one set aside were put back
-pub record PutAllBack (q : PackageView) (h g : Hands) : Type 0 where
-  pub acts : Acts (back q h.aside) (Pack q ∷ packed h.aside) [] h.pass g.pass
-  pub aside : g.aside ≡ None
-  pub ready : g.ready.items ≡ []
+pub record PutAllBack (q : PackageView) (hands : Change Hands) : Type 0 where
+  pub acts : Acts (back q hands.old.aside) (Pack q ∷ packed hands.old.aside) [] hands.old.pass hands.new.pass
+  pub aside : hands.new.aside ≡ None
+  pub ready : hands.new.ready.items ≡ []
 
 -- ---- a package that wants a lock
 
@@ -61,10 +63,10 @@ pub record MayGetFirst (k : Terms) (i n : ℕ) (q : PackageView) : Type 0 where
   pub waits : IsWaiting q i
   pub number : IsNumber n
 
--- lock i was taken from its home for the package q, which is r then, or the run was stopped; a and b: what was and is set aside
-abbrev pub FirstAs : Shown → ℕ → ℕ → ℕ → PackageView → Option PackageView → Option PackageView → List Call → Option PackageView → Type 0
-FirstAs image worker i n q a b cs (Some r) = (cs ≡ []) × (b ≡ a) × ((l : LockView) × DidTake i l n q r) × IsGood r image worker
-FirstAs image worker i n q a b cs None = (cs ≡ Stopped 1 ∷ back q a) × (b ≡ None)
+-- in the step x lock i was taken from its home for the package, which is r then, under the number n; or the run was stopped
+abbrev pub FirstAs : {Seats : Type 0} → DeskStep Seats → ℕ → ℕ → List Call → Option PackageView → Type 0
+FirstAs x i n cs (Some r) = (cs ≡ []) × (x.aside.new ≡ x.aside.old) × ((l : LockView) × DidTake i l n x.given r) × IsGood r x.image x.worker
+FirstAs x i n cs None = (cs ≡ Stopped 1 ∷ back x.given x.aside.old) × (x.aside.new ≡ None)
 
 -- where the run was stopped no thread is told as ready
 abbrev pub KeepsReady : Option PackageView → List ℕ → List ℕ → Type 0
@@ -72,11 +74,11 @@ KeepsReady (Some r) old new = new ≡ old
 KeepsReady None old new = new ≡ []
 
 -- so it was done for the turn that stands first in its line
-pub record DidFirst (k : Terms) (i n : ℕ) (q : PackageView) (h g : Hands) (r : Option PackageView) : Type 0 where
+pub record DidFirst (k : Terms) (i n : ℕ) (q : PackageView) (hands : Change Hands) (r : Option PackageView) : Type 0 where
   pub calls : List Call
-  pub acts : Acts calls (Pack q ∷ packed h.aside) (packed r ++ packed g.aside) h.pass g.pass
-  pub ready : KeepsReady r h.ready.items g.ready.items
-  pub became : FirstAs k.image.value h.pass.knows.worker i n q h.aside g.aside calls r
+  pub acts : Acts calls (Pack q ∷ packed hands.old.aside) (packed r ++ packed hands.new.aside) hands.old.pass hands.new.pass
+  pub ready : KeepsReady r hands.old.ready.items hands.new.ready.items
+  pub became : FirstAs (by_hands k q at_none hands) i n calls r
 
 -- the package with its next number counted, and the turn of that number
 abbrev pub counted : PackageView → PackageView
@@ -85,17 +87,22 @@ counted q = with_turns (min (q.turns + 1) MAX_NUMBER) q
 abbrev pub next_turn : PackageView → Turn
 next_turn q = record { thread = q.context.thread; number = min (q.turns + 1) MAX_NUMBER }
 
--- the package q entered the line of lock i with its next turn, with these calls and no others: it stood first, and the lock was
--- granted as Taken under the turn's number; or it stood behind another, was put as waiting with all its locks, and linked
-abbrev pub AcquiredAs : Shown → ℕ → ℕ → PackageView → SeatView → SeatView → Option PackageView → Option PackageView → List Call → Settled → Type 0
-AcquiredAs image worker i q s t a b cs (GoesOn r) = (t ≡ with_line s (Enter (next_turn q) First)) × FirstAs image worker i (next_turn q).number (counted q) a b cs (Some r)
-AcquiredAs image worker i q s t a b cs Shipped = (mark : ℕ) × (t ≡ with_line (with_line s (Enter (next_turn q) (Behind mark))) (Link mark (next_turn q))) × (cs ≡ put_call (counted q) (Waiting i) ∷ []) × (b ≡ a)
-AcquiredAs image worker i q s t a b cs Did_stop = (t ≡ with_line s (Enter (next_turn q) First)) × FirstAs image worker i (next_turn q).number (counted q) a b cs None
-AcquiredAs image worker i q s t a b cs r = ⊥
+-- so it was taken for the package's next turn
+abbrev pub TakenAs : DeskStep SeatView → ℕ → List Call → Option PackageView → Type 0
+TakenAs x i cs r = FirstAs (with_package (counted x.given) x) i (next_turn x.given).number cs r
+
+-- in the step x the package entered the line of lock i with its next turn, with these calls and no others: it stood first, and
+-- the lock was granted as Taken under the turn's number; or it stood behind another, was put as waiting with all its locks, and
+-- linked
+abbrev pub AcquiredAs : DeskStep SeatView → ℕ → List Call → Settled → Type 0
+AcquiredAs x i cs (GoesOn r) = (x.seats.new ≡ with_line x.seats.old (Enter (next_turn x.given) First)) × TakenAs x i cs (Some r)
+AcquiredAs x i cs Shipped = (mark : ℕ) × (x.seats.new ≡ with_line (with_line x.seats.old (Enter (next_turn x.given) (Behind mark))) (Link mark (next_turn x.given))) × (cs ≡ put_call (counted x.given) (Waiting i) ∷ []) × (x.aside.new ≡ x.aside.old)
+AcquiredAs x i cs Did_stop = (x.seats.new ≡ with_line x.seats.old (Enter (next_turn x.given) First)) × TakenAs x i cs None
+AcquiredAs x i cs r = ⊥
 
 -- what was done for a package that wants lock i
-abbrev pub Acquires : Terms → ℕ → PackageView → SeatView → SeatView → Hands → Hands → Settled → Type 0
-Acquires k i q s t h g r = Does k q h g r (λ cs. AcquiredAs k.image.value h.pass.knows.worker i q s t h.aside g.aside cs r)
+abbrev pub Acquires : Terms → ℕ → PackageView → Change SeatView → Change Hands → Settled → Type 0
+Acquires k i q seat hands r = Does k q hands r (λ cs. AcquiredAs (by_hands k q seat hands) i cs r)
 
 -- ---- a package that sleeps
 
@@ -104,27 +111,35 @@ pub record MayPark (k : Terms) (q : PackageView) : Type 0 where
   pub runs : Runs q
   pub slept : HasBlock (λ b. b.end ≡ Slept) (last_of q.log)
 
-pub record Parks (k : Terms) (q : PackageView) (h g : Hands) : Type 0 where
-  pub answers : Answers k (put_call q Parked ∷ []) q h g Did_park
-  pub aside : g.aside ≡ h.aside
+pub record Parks (k : Terms) (q : PackageView) (hands : Change Hands) : Type 0 where
+  pub answers : Answers k (put_call q Parked ∷ []) q hands Did_park
+  pub aside : hands.new.aside ≡ hands.old.aside
 
 -- ---- a package that goes on, or is set aside
 
--- the package q goes on; or it was adopted, holds no lock, was handed back as ready, and the one that was set aside goes on
-abbrev pub WentOn : Shown → ℕ → PackageView → Option PackageView → Option PackageView → List Call → Settled → Type 0
-WentOn image worker q a b cs (GoesOn r) = IsGood r image worker × (((r ≡ q) × (b ≡ a) × (HoldsNone q → a ≡ None) × (cs ≡ [])) ⊎ ((a ≡ Some r) × HoldsNone q × (b ≡ None) × (cs ≡ put_call q Ready ∷ [])))
-WentOn image worker q a b cs r = ⊥
+-- in the step x the package stays in hand
+abbrev pub StaysInHand : {Seats : Type 0} → DeskStep Seats → List Call → PackageView → Type 0
+StaysInHand x cs r = (r ≡ x.given) × (x.aside.new ≡ x.aside.old) × (HoldsNone x.given → x.aside.old ≡ None) × (cs ≡ [])
 
-abbrev pub Goes : Terms → PackageView → Hands → Hands → Settled → Type 0
-Goes k q h g r = Does k q h g r (λ cs. WentOn k.image.value h.pass.knows.worker q h.aside g.aside cs r)
+-- it was adopted, holds no lock, and was handed back as ready, and the one that was set aside, r, is in hand
+abbrev pub IsHandedBack : {Seats : Type 0} → DeskStep Seats → List Call → PackageView → Type 0
+IsHandedBack x cs r = (x.aside.old ≡ Some r) × HoldsNone x.given × (x.aside.new ≡ None) × (cs ≡ put_call x.given Ready ∷ [])
+
+-- one of the two goes on
+abbrev pub WentOn : {Seats : Type 0} → DeskStep Seats → List Call → Settled → Type 0
+WentOn x cs (GoesOn r) = IsGood r x.image x.worker × (StaysInHand x cs r ⊎ IsHandedBack x cs r)
+WentOn x cs r = ⊥
+
+abbrev pub Goes : Terms → PackageView → Change Hands → Settled → Type 0
+Goes k q hands r = Does k q hands r (λ cs. WentOn (by_hands k q at_none hands) cs r)
 
 -- the package q is set aside, or it was handed back as ready where one is set aside already
 abbrev pub SetAside : PackageView → Option PackageView → Option PackageView → List Call → Type 0
 SetAside q None b cs = (b ≡ Some q) × (cs ≡ [])
 SetAside q (Some a) b cs = (b ≡ Some a) × (cs ≡ put_call q Ready ∷ [])
 
-pub record PutsAside (k : Terms) (q : PackageView) (h g : Hands) : Type 0 where
+pub record PutsAside (k : Terms) (q : PackageView) (hands : Change Hands) : Type 0 where
   pub calls : List Call
-  pub acted : Acted k calls (Pack q ∷ packed h.aside) (packed g.aside) h g
-  pub set : SetAside q h.aside g.aside calls
-  pub aside : (a : PackageView) → g.aside ≡ Some a → IsAside k a
+  pub acted : Acted k calls (Pack q ∷ packed hands.old.aside) (packed hands.new.aside) hands
+  pub set : SetAside q hands.old.aside hands.new.aside calls
+  pub aside : (a : PackageView) → hands.new.aside ≡ Some a → IsAside k a

@@ -1,8 +1,10 @@
 pub mod Vocabulary
+pub mod Change
 pub mod Packages
 pub mod Walks
+pub mod View
+pub mod Steps
 pub mod Answers
 pub mod Release
-pub mod View
 pub mod Settling
 pub mod Ties

@@ -1,10 +1,12 @@
 -- What became of a released lock, and of all locks of a thread that has ended, with each call of the pass that was made.
-use Rattle.std.specs.Prelude.{◌⊎◌, ◌≡◌, ℕ, Bool, true, false, List, [], ◌∷◌, ◌++◌, ◌<◌, Option, Some, None, is_some, ◌≢◌, ◌+◌, ◌≤◌, get_or, length}
-use Rattle.tc_combiner.specs.Vocabulary.{Adopted, Block, Call, Did_adopt, Did_stop, Done, Free, GoesOn, Granted, HallView, Hands, Gone, Has_ended, IsAtRest, IsTurn, Item, Kind, Knows, Leave, Left, LockView, MAX_HELD, Next, Pack, PackageView, Passed, Ready, Releases, SeatView, Settled, Shown, Stopped, Terms, Turn, Was_adopted, Was_stopped, bare, blocks_of, ends_thread, has, last_of, locked_in, locks, locks_of, may_adopt, number_in, put_call, run_of, threads, without_lock}
+use Rattle.std.specs.Prelude.{◌⊎◌, ◌≡◌, ℕ, Bool, true, false, List, [], ◌∷◌, ◌++◌, ◌<◌, Option, Some, None, is_some, ◌≢◌, ◌+◌, ◌≤◌, length}
+use Rattle.tc_combiner.specs.Vocabulary.{Adopted, Block, Call, Did_adopt, Did_stop, Done, Free, GoesOn, Granted, HallView, Hands, Gone, Has_ended, IsAtRest, IsTurn, Item, Kind, Knows, Leave, Left, LineCall, LockView, MAX_HELD, Next, Pack, PackageView, Passed, Ready, Releases, SeatView, Settled, Shown, Stopped, Terms, Turn, Was_adopted, Was_stopped, bare, blocks_of, ends_thread, has, last_of, locked_in, locks, locks_of, may_adopt, number_in, put_call, run_of, threads, without_lock}
 use Rattle.tc_combiner.specs.Packages.{DidGrant, DidTakeOut, HasHeldAnd, IsGood, IsWaiter, Runs, HasNone}
 use Rattle.tc_combiner.specs.Walks.{Asks, Shows, Acted, MayAct}
 use Rattle.tc_combiner.specs.Answers.{Does, WentOn, SetAside, back}
-use Rattle.tc_combiner.specs.View.{no_seat}
+use Rattle.tc_combiner.specs.Change.{Change, change}
+use Rattle.tc_combiner.specs.Steps.{DeskStep, at_lock, by_hands, with_package}
+use Rattle.tc_combiner.specs.View.{seat_at}
 
 -- the batch rule lets the worker of the block adopt a waiter for the lock
 abbrev pub adopts : LockView → Block → Bool
@@ -63,54 +65,56 @@ HandedAs image l b u cs Gone = (q : PackageView) × IsHanded Granted l u image q
 HandedAs image l b u cs (Was_adopted q) = IsHanded Adopted l u image q × (adopts l b ≡ true) × IsGood q image b.worker × (cs ≡ [])
 HandedAs image l b u cs Was_stopped = cs ≡ Stopped 1 ∷ Free l.number ∷ []
 
--- the lock l of the turn own went to the turn behind it, or home where there is none
-abbrev pub FollowedAs : Shown → LockView → Block → Turn → SeatView → SeatView → List Call → Passed → Type 0
-FollowedAs image l b own s t cs Gone = (Shows s.calls t.calls (Leave own Left) × (cs ≡ Free l.number ∷ [])) ⊎ ((u : Turn) × Shows s.calls t.calls (Next own (Some u)) × HandedAs image l b u cs Gone)
-FollowedAs image l b own s t cs (Was_adopted q) = (u : Turn) × Shows s.calls t.calls (Next own (Some u)) × HandedAs image l b u cs (Was_adopted q)
-FollowedAs image l b own s t cs Was_stopped = cs ≡ Stopped 1 ∷ Free l.number ∷ []
+-- in the step the seat got this answer
+abbrev pub SeatTells : DeskStep SeatView → LineCall → Type 0
+SeatTells x answer = Shows x.seats.old.calls x.seats.new.calls answer
+
+-- in the step x the lock l of the turn own went to the turn behind it, or home where there is none
+abbrev pub FollowedAs : DeskStep SeatView → LockView → Block → Turn → List Call → Passed → Type 0
+FollowedAs x l b own cs Gone = (SeatTells x (Leave own Left) × (cs ≡ Free l.number ∷ [])) ⊎ ((u : Turn) × SeatTells x (Next own (Some u)) × HandedAs x.image l b u cs Gone)
+FollowedAs x l b own cs (Was_adopted q) = (u : Turn) × SeatTells x (Next own (Some u)) × HandedAs x.image l b u cs (Was_adopted q)
+FollowedAs x l b own cs Was_stopped = cs ≡ Stopped 1 ∷ Free l.number ∷ []
 
 -- the turn with which the package got lock i
 abbrev pub turn_of : PackageView → ℕ → Turn
 turn_of q i = record { thread = q.context.thread; number = number_in q i }
 
 -- what was done with the lock l for the turn u
-pub record DidHand (k : Terms) (l : LockView) (b : Block) (u : Turn) (xs : List Item) (h g : Hands) (r : Passed) : Type 0 where
+pub record DidHand (k : Terms) (l : LockView) (b : Block) (u : Turn) (xs : List Item) (hands : Change Hands) (r : Passed) : Type 0 where
   pub calls : List Call
-  pub acted : Acted k calls xs (handed r) h g
-  pub aside : g.aside ≡ h.aside
+  pub acted : Acted k calls xs (handed r) hands
+  pub aside : hands.new.aside ≡ hands.old.aside
   pub became : HandedAs k.image.value l b u calls r
 
--- lock i came out of the package q, which is p then, with xs in hand besides; How: what became of it, with these calls and no others
-pub record GaveUp (k : Terms) (i : ℕ) (q p : PackageView) (xs : List Item) (s t : SeatView) (h g : Hands) (How : LockView → List Call → Type 0) : Type 0 where
+-- lock i came out of the package, with xs in hand besides; How: what became of it, with these calls and no others
+pub record GaveUp (k : Terms) (i : ℕ) (q : Change PackageView) (xs : List Item) (seat : Change SeatView) (hands : Change Hands) (How : LockView → List Call → Type 0) : Type 0 where
   pub calls : List Call
-  pub acted : Acted k calls (Pack q ∷ []) (Pack p ∷ xs) h g
-  pub aside : g.aside ≡ h.aside
+  pub acted : Acted k calls (Pack q.old ∷ []) (Pack q.new ∷ xs) hands
+  pub aside : hands.new.aside ≡ hands.old.aside
   pub state : LockView
-  pub taken : DidTakeOut i state q p
-  pub asks : Asks (turn_of q i) s t
+  pub taken : DidTakeOut i state q.old q.new
+  pub asks : Asks (turn_of q.old i) seat.old seat.new
   pub became : How state calls
 
--- so lock i, which the block b of the package q released
-abbrev pub DidPass : Terms → ℕ → Block → PackageView → PackageView → SeatView → SeatView → Hands → Hands → Passed → Type 0
-DidPass k i b q p s t h g r = GaveUp k i q p (handed r) s t h g (λ l cs. FollowedAs k.image.value l b (turn_of q i) s t cs r)
+-- so lock i, which the block b of the package released
+abbrev pub DidPass : Terms → ℕ → Block → Change PackageView → Change SeatView → Change Hands → Passed → Type 0
+DidPass k i b q seat hands r = GaveUp k i q (handed r) seat hands (λ l cs. FollowedAs (by_hands k q.old seat hands) l b (turn_of q.old i) cs r)
 
--- package q released lock i by its block b
-abbrev pub PassedAs : Shown → ℕ → PackageView → Block → SeatView → SeatView → List Call → Passed → Type 0
-PassedAs image i q b s t cs r = (l : LockView) × (locked_in q i ≡ Some l) × FollowedAs image l b (turn_of q i) s t cs r
+-- in the step x the package's lock i was passed on, which it released by its block b
+abbrev pub PassedAs : DeskStep SeatView → ℕ → Block → List Call → Passed → Type 0
+PassedAs x i b cs r = (l : LockView) × (locked_in x.given i ≡ Some l) × FollowedAs x l b (turn_of x.given i) cs r
 
--- how an unlock of lock i was settled, with these calls and no others: what became of the lock, and then of package q without it
-abbrev pub UnlockedAs : Shown → ℕ → ℕ → PackageView → Block → SeatView → SeatView → Option PackageView → Option PackageView → List Call → Settled → Type 0
-UnlockedAs image worker i q b s t a c cs (GoesOn r) = (ds es : List Call) × (cs ≡ ds ++ es) × PassedAs image i q b s t ds Gone × WentOn image worker (without_lock i q) a c es (GoesOn r)
-UnlockedAs image worker i q b s t a c cs (Did_adopt r) = (ds es : List Call) × (cs ≡ ds ++ es) × PassedAs image i q b s t ds (Was_adopted r) × SetAside (without_lock i q) a c es × IsGood r image worker
-UnlockedAs image worker i q b s t a c cs Did_stop = (ds : List Call) × (cs ≡ ds ++ back (without_lock i q) a) × PassedAs image i q b s t ds Was_stopped × (c ≡ None)
-UnlockedAs image worker i q b s t a c cs r = ⊥
+-- how the unlock of lock i by the block b was settled in the step x, with these calls and no others: what became of the lock, and
+-- then of the package without it
+abbrev pub UnlockedAs : DeskStep SeatView → ℕ → Block → List Call → Settled → Type 0
+UnlockedAs x i b cs (GoesOn r) = (ds es : List Call) × (cs ≡ ds ++ es) × PassedAs x i b ds Gone × WentOn (with_package (without_lock i x.given) x) es (GoesOn r)
+UnlockedAs x i b cs (Did_adopt r) = (ds es : List Call) × (cs ≡ ds ++ es) × PassedAs x i b ds (Was_adopted r) × SetAside (without_lock i x.given) x.aside.old x.aside.new es × IsGood r x.image x.worker
+UnlockedAs x i b cs Did_stop = (ds : List Call) × (cs ≡ ds ++ back (without_lock i x.given) x.aside.old) × PassedAs x i b ds Was_stopped × (x.aside.new ≡ None)
+UnlockedAs x i b cs r = ⊥
 
 -- what was done at the unlock
-abbrev pub Unlocks : Terms → ℕ → Block → PackageView → SeatView → SeatView → Hands → Hands → Settled → Type 0
-Unlocks k i b q s t h g r = Does k q h g r (λ cs. Asks (turn_of q i) s t × UnlockedAs k.image.value h.pass.knows.worker i q b s t h.aside g.aside cs r)
-
-abbrev pub seat_at : List SeatView → ℕ → SeatView
-seat_at ss j = get_or ss j no_seat
+abbrev pub Unlocks : Terms → ℕ → Block → PackageView → Change SeatView → Change Hands → Settled → Type 0
+Unlocks k i b q seat hands r = Does k q hands r (λ cs. Asks (turn_of q i) seat.old seat.new × UnlockedAs (by_hands k q seat hands) i b cs r)
 
 -- a seat of the same queue
 abbrev pub IsSameSeat : SeatView → SeatView → Type 0
@@ -140,16 +144,16 @@ pub record MayEnd (k : Terms) (v : Knows) (b : Block) (q : PackageView) : Type 0
 
 -- ---- one lock
 
--- the lock l of an ended thread, whose turn there is own; was, is: whether the run was stopped before, and is now
-abbrev pub LeftAs : Shown → LockView → Block → Turn → SeatView → SeatView → List Call → Bool → Bool → Type 0
-LeftAs image l b own s t cs false false = FollowedAs image l b own s t cs Gone
-LeftAs image l b own s t cs false true = FollowedAs image l b own s t cs Was_stopped
-LeftAs image l b own s t cs true false = ⊥
-LeftAs image l b own s t cs true true = (t ≡ s) × (cs ≡ Free l.number ∷ [])
+-- in the step x the lock l of an ended thread, whose turn there is own; was, is: whether the run was stopped before, and is now
+abbrev pub LeftAs : DeskStep SeatView → LockView → Block → Turn → List Call → Bool → Bool → Type 0
+LeftAs x l b own cs false false = FollowedAs x l b own cs Gone
+LeftAs x l b own cs false true = FollowedAs x l b own cs Was_stopped
+LeftAs x l b own cs true false = ⊥
+LeftAs x l b own cs true true = (x.seats.new ≡ x.seats.old) × (cs ≡ Free l.number ∷ [])
 
--- so lock i of the package q, whose thread ended with the block b
-abbrev pub DidLeave : Terms → ℕ → Block → PackageView → PackageView → SeatView → SeatView → Hands → Hands → Bool → Bool → Type 0
-DidLeave k i b q p s t h g was is = GaveUp k i q p [] s t h g (λ l cs. LeftAs k.image.value l b (turn_of q i) s t cs was is)
+-- so lock i of the package, whose thread ended with the block b; stopped: whether the run was stopped
+abbrev pub DidLeave : Terms → ℕ → Block → Change PackageView → Change SeatView → Change Hands → Change Bool → Type 0
+DidLeave k i b q seat hands stopped = GaveUp k i q [] seat hands (λ l cs. LeftAs (by_hands k q.old seat hands) l b (turn_of q.old i) cs stopped.old stopped.new)
 
 -- ---- all of its locks
 
@@ -159,18 +163,18 @@ pub record IsEmptied (q p : PackageView) : Type 0 where
   pub granted : p.granted ≡ q.granted
   pub free : HasNone p
 
--- lock i of the package q, whose thread ended with the block b; was: whether the run was stopped before
-pub record OneLeft (image : Shown) (b : Block) (q : PackageView) (i : ℕ) (s t : SeatView) (was : Bool) : Type 0 where
+-- in the step x lock i of the package, whose thread ended with the block b; was: whether the run was stopped before
+pub record OneLeft (x : DeskStep SeatView) (b : Block) (i : ℕ) (was : Bool) : Type 0 where
   pub state : LockView
-  pub here : locked_in q i ≡ Some state
+  pub here : locked_in x.given i ≡ Some state
   pub calls : List Call
   pub stopped : Bool
-  pub became : LeftAs image state b (turn_of q i) s t calls was stopped
+  pub became : LeftAs x state b (turn_of x.given i) calls was stopped
 
 -- so each of these locks, in this order, with these calls and no others
-abbrev pub LeftInOrder : Shown → Block → PackageView → List SeatView → List SeatView → List ℕ → List Call → Bool → Bool → Type 0
-LeftInOrder image b q ss ts [] cs was end = (cs ≡ []) × (end ≡ was)
-LeftInOrder image b q ss ts (i ∷ is) cs was end = (x : OneLeft image b q i (seat_at ss i) (seat_at ts i) was) × (es : List Call) × (cs ≡ x.calls ++ es) × LeftInOrder image b q ss ts is es x.stopped end
+abbrev pub LeftInOrder : DeskStep (List SeatView) → Block → List ℕ → List Call → Bool → Bool → Type 0
+LeftInOrder x b [] cs was end = (cs ≡ []) × (end ≡ was)
+LeftInOrder x b (i ∷ is) cs was end = (one : OneLeft (at_lock i x) b i was) × (es : List Call) × (cs ≡ one.calls ++ es) × LeftInOrder x b is es one.stopped end
 
 -- the seats of the locks of the block b asked for their turns of the package q alone, and each other seat is as it was
 pub record SeatsLeft (b : Block) (q : PackageView) (ss ts : List SeatView) : Type 0 where
@@ -178,42 +182,42 @@ pub record SeatsLeft (b : Block) (q : PackageView) (ss ts : List SeatView) : Typ
   pub others : (j : ℕ) → has b.held j ≡ false → seat_at ts j ≡ seat_at ss j
   pub asks : (j : ℕ) → has b.held j ≡ true → Asks (turn_of q j) (seat_at ss j) (seat_at ts j)
 
--- what was done with all locks of the package q, whose thread ended with the block b; q is p then
-pub record DidLeaveAll (k : Terms) (b : Block) (q p : PackageView) (ss ts : List SeatView) (h g : Hands) (end : Bool) : Type 0 where
+-- what was done with all locks of the package, whose thread ended with the block b
+pub record DidLeaveAll (k : Terms) (b : Block) (q : Change PackageView) (seats : Change (List SeatView)) (hands : Change Hands) (end : Bool) : Type 0 where
   pub calls : List Call
-  pub acted : Acted k calls (Pack q ∷ []) (Pack p ∷ []) h g
-  pub aside : g.aside ≡ h.aside
-  pub emptied : IsEmptied q p
-  pub seats : SeatsLeft b q ss ts
-  pub order : LeftInOrder k.image.value b q ss ts (locks_of b.held) calls false end
+  pub acted : Acted k calls (Pack q.old ∷ []) (Pack q.new ∷ []) hands
+  pub aside : hands.new.aside ≡ hands.old.aside
+  pub emptied : IsEmptied q.old q.new
+  pub seats_left : SeatsLeft b q.old seats.old seats.new
+  pub order : LeftInOrder (by_hands k q.old seats hands) b (locks_of b.held) calls false end
 
--- what became of a package q whose thread ended with the block b, with these calls and no others: each of its locks was passed
--- on, the least first, and then it was put as Done
-abbrev pub EndedAs : Shown → PackageView → Block → List SeatView → List SeatView → Option PackageView → Option PackageView → List Call → Settled → Type 0
-EndedAs image q b ss ts a c cs Has_ended = (p : PackageView) × (ds : List Call) × (cs ≡ ds ++ put_call p Done ∷ []) × IsEmptied q p × LeftInOrder image b q ss ts (locks_of b.held) ds false false × (c ≡ a)
-EndedAs image q b ss ts a c cs Did_stop = (p : PackageView) × (ds : List Call) × (cs ≡ ds ++ back p a) × IsEmptied q p × LeftInOrder image b q ss ts (locks_of b.held) ds false true × (c ≡ None)
-EndedAs image q b ss ts a c cs r = ⊥
+-- what became in the step x of the package, whose thread ended with the block b, with these calls and no others: each of its
+-- locks was passed on, the least first, and then it was put as Done
+abbrev pub EndedAs : DeskStep (List SeatView) → Block → List Call → Settled → Type 0
+EndedAs x b cs Has_ended = (p : PackageView) × (ds : List Call) × (cs ≡ ds ++ put_call p Done ∷ []) × IsEmptied x.given p × LeftInOrder x b (locks_of b.held) ds false false × (x.aside.new ≡ x.aside.old)
+EndedAs x b cs Did_stop = (p : PackageView) × (ds : List Call) × (cs ≡ ds ++ back p x.aside.old) × IsEmptied x.given p × LeftInOrder x b (locks_of b.held) ds false true × (x.aside.new ≡ None)
+EndedAs x b cs r = ⊥
 
 -- what was done at the thread's end
-abbrev pub Ends : Terms → Block → PackageView → List SeatView → List SeatView → Hands → Hands → Settled → Type 0
-Ends k b q ss ts h g r = Does k q h g r (λ cs. SeatsLeft b q ss ts × EndedAs k.image.value q b ss ts h.aside g.aside cs r)
+abbrev pub Ends : Terms → Block → PackageView → Change (List SeatView) → Change Hands → Settled → Type 0
+Ends k b q seats hands r = Does k q hands r (λ cs. SeatsLeft b q seats.old seats.new × EndedAs (by_hands k q seats hands) b cs r)
 
 -- ---- in between
 
 -- the locks in rest wait, the others were passed on, or brought home where the run was stopped
-pub record Ending (k : Terms) (b : Block) (q p : PackageView) (rest : ℕ) (ss ts : List SeatView) (h g : Hands) (now : Bool) : Type 0 where
+pub record Ending (k : Terms) (b : Block) (q : Change PackageView) (rest : ℕ) (seats : Change (List SeatView)) (hands : Change Hands) (now : Bool) : Type 0 where
   pub calls : List Call
-  pub acted : Acted k calls (Pack q ∷ []) (Pack p ∷ []) h g
-  pub aside : g.aside ≡ h.aside
-  pub room : length g.ready.items + length (locks_of rest) ≤ MAX_HELD
-  pub same : bare p ≡ bare q
-  pub granted : p.granted ≡ q.granted
-  pub numbers : p.numbers ≡ q.numbers
+  pub acted : Acted k calls (Pack q.old ∷ []) (Pack q.new ∷ []) hands
+  pub aside : hands.new.aside ≡ hands.old.aside
+  pub room : length hands.new.ready.items + length (locks_of rest) ≤ MAX_HELD
+  pub same : bare q.new ≡ bare q.old
+  pub granted : q.new.granted ≡ q.old.granted
+  pub numbers : q.new.numbers ≡ q.old.numbers
   pub within : (j : ℕ) → has rest j ≡ true → has b.held j ≡ true
-  pub left : (j : ℕ) → has rest j ≡ true → locked_in p j ≡ locked_in q j
-  pub gone : (j : ℕ) → has rest j ≡ false → locked_in p j ≡ None
-  pub count : length ts ≡ length ss
-  pub others : (j : ℕ) → has b.held j ≡ false → seat_at ts j ≡ seat_at ss j
-  pub wait : (j : ℕ) → has rest j ≡ true → seat_at ts j ≡ seat_at ss j
-  pub asks : (j : ℕ) → has b.held j ≡ true → has rest j ≡ false → Asks (turn_of q j) (seat_at ss j) (seat_at ts j)
-  pub order : (us : List SeatView) (es : List Call) (end : Bool) → ((j : ℕ) → has rest j ≡ false → seat_at us j ≡ seat_at ts j) → LeftInOrder k.image.value b q ss us (locks_of rest) es now end → LeftInOrder k.image.value b q ss us (locks_of b.held) (calls ++ es) false end
+  pub left : (j : ℕ) → has rest j ≡ true → locked_in q.new j ≡ locked_in q.old j
+  pub gone : (j : ℕ) → has rest j ≡ false → locked_in q.new j ≡ None
+  pub count : length seats.new ≡ length seats.old
+  pub others : (j : ℕ) → has b.held j ≡ false → seat_at seats.new j ≡ seat_at seats.old j
+  pub wait : (j : ℕ) → has rest j ≡ true → seat_at seats.new j ≡ seat_at seats.old j
+  pub asks : (j : ℕ) → has b.held j ≡ true → has rest j ≡ false → Asks (turn_of q.old j) (seat_at seats.old j) (seat_at seats.new j)
+  pub order : (us : List SeatView) (es : List Call) (end : Bool) → ((j : ℕ) → has rest j ≡ false → seat_at us j ≡ seat_at seats.new j) → LeftInOrder (by_hands k q.old (change seats.old us) hands) b (locks_of rest) es now end → LeftInOrder (by_hands k q.old (change seats.old us) hands) b (locks_of b.held) (calls ++ es) false end

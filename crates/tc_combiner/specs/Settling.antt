@@ -4,8 +4,9 @@ use Rattle.tc_combiner.specs.Vocabulary.{AllowsPending, AreTogether, Block, Call
 use Rattle.tc_combiner.specs.Packages.{HasOnlyHeld, IsAside, IsGoodFor}
 use Rattle.tc_combiner.specs.Walks.{Moves, Owned, packed, Asks, Acts, Adds}
 use Rattle.tc_combiner.specs.Answers.{AcquiredAs, HasReadied, carried}
-use Rattle.tc_combiner.specs.Release.{UnlockedAs, turn_of, AreSameSeats, EndedAs, SeatsLeft, seat_at}
-use Rattle.tc_combiner.specs.View.{BenchView, DeskView, FitsBench}
+use Rattle.tc_combiner.specs.Release.{UnlockedAs, turn_of, AreSameSeats, EndedAs, SeatsLeft}
+use Rattle.tc_combiner.specs.Steps.{at_lock, by_desk}
+use Rattle.tc_combiner.specs.View.{BenchView, DeskView, FitsBench, seat_at}
 
 -- the desk has the package in hand, apart from the one that is set aside
 abbrev pub IsInHand : DeskView → PackageView → Type 0
@@ -28,15 +29,15 @@ pub record Keeps (b : BenchView) (q : PackageView) (d e : DeskView) (r : Settled
   pub readied : TellsReady b.hall.terms r d e
   pub fits : FitsBench b e
 
--- so it is with the parts of a desk; x, y: its rest; p, a: its pass and what was set aside; g: its hands now
-pub record KeepsParts (k : Terms) (q : PackageView) (ss ts : List SeatView) (x y : Rest) (p : PassView) (a : Option PackageView) (g : Hands) (r : Settled) : Type 0 where
+-- so it is with the parts of a desk
+pub record KeepsParts (k : Terms) (q : PackageView) (d e : DeskView) (r : Settled) : Type 0 where
   pub calls : List Call
-  pub acts : Acts calls (Pack q ∷ packed a) (carried r ++ packed g.aside) p g.pass
-  pub readied : HasReadied (threads k) r [] g.ready.items calls
-  pub aside : (c : PackageView) → g.aside ≡ Some c → IsAside k c
-  pub seats : AreSameSeats ss ts
-  pub clock : y.clock ≡ x.clock
-  pub room : length y.sleepers ≡ length x.sleepers
+  pub acts : Acts calls (Pack q ∷ packed d.aside) (carried r ++ packed e.aside) d.pass e.pass
+  pub readied : HasReadied (threads k) r [] e.handed calls
+  pub aside : (c : PackageView) → e.aside ≡ Some c → IsAside k c
+  pub seats : AreSameSeats d.seats e.seats
+  pub clock : e.now ≡ d.now
+  pub room : length e.sleepers ≡ length d.sleepers
 
 -- a block made the package of one that the desk has in hand, the batch rule allows it the desk's worker, and it comes behind the
 -- block with which that worker handed the lock over; where the worker's last block or the thread's was cut, it goes on from there
@@ -84,7 +85,7 @@ pub record DidAcquire (i : ℕ) (q : PackageView) (d e : DeskView) (r : Settled)
   pub same : IsSameBut i d e
   pub calls : List Call
   pub adds : Adds calls d.pass.knows e.pass.knows
-  pub acquired : AcquiredAs d.pass.knows.image d.pass.knows.worker i q (seat_at d.seats i) (seat_at e.seats i) d.aside e.aside calls r
+  pub acquired : AcquiredAs (at_lock i (by_desk q d e)) i calls r
 
 -- of one whose block b unlocked lock i: the seat has asked for its turn alone
 pub record DidUnlock (i : ℕ) (q : PackageView) (b : Block) (d e : DeskView) (r : Settled) : Type 0 where
@@ -92,7 +93,7 @@ pub record DidUnlock (i : ℕ) (q : PackageView) (b : Block) (d e : DeskView) (r
   pub asks : Asks (turn_of q i) (seat_at d.seats i) (seat_at e.seats i)
   pub calls : List Call
   pub adds : Adds calls d.pass.knows e.pass.knows
-  pub unlocked : UnlockedAs d.pass.knows.image d.pass.knows.worker i q b (seat_at d.seats i) (seat_at e.seats i) d.aside e.aside calls r
+  pub unlocked : UnlockedAs (at_lock i (by_desk q d e)) i b calls r
 
 -- of one that sleeps: it was put as Parked, and its thread is due so many blocks from now
 pub record DidPark (q : PackageView) (d e : DeskView) : Type 0 where
@@ -107,7 +108,7 @@ pub record DidEnd (q : PackageView) (b : Block) (d e : DeskView) (r : Settled) :
   pub seats : SeatsLeft b q d.seats e.seats
   pub calls : List Call
   pub adds : Adds calls d.pass.knows e.pass.knows
-  pub ended : EndedAs d.pass.knows.image q b d.seats e.seats d.aside e.aside calls r
+  pub ended : EndedAs (by_desk q d e) b calls r
 
 -- it goes on, and nothing was done
 abbrev pub DidNothing : PackageView → DeskView → DeskView → Settled → Type 0

@@ -1,6 +1,6 @@
 -- What contracts see of a desk, and when it fits a bench.
 use Rattle.std.specs.Prelude.{◌≡◌, ℕ, ◌<◌, ◌≤◌, List, [], length, get_or, map, Option, Some}
-use Rattle.tc_combiner.specs.Vocabulary.{HallView, IsSeatOf, PackageView, PassView, QueueView, SeatView, Shown, Terms, locks, threads}
+use Rattle.tc_combiner.specs.Vocabulary.{HallView, Hands, IsSeatOf, PackageView, PassView, QueueView, Rest, SeatView, Shown, Terms, locks, threads}
 use Rattle.tc_combiner.specs.Packages.{IsAside}
 use Rattle.tc_combiner.specs.Walks.{Owned, packed}
 
@@ -15,6 +15,10 @@ pub record DeskView : Type 0 where
 
 abbrev pub desk_of : PassView → List SeatView → List (Option ℕ) → ℕ → Option PackageView → List ℕ → DeskView
 desk_of pass seats sleepers now aside handed = record { pass = pass; seats = seats; sleepers = sleepers; now = now; aside = aside; handed = handed }
+
+-- the desk whose parts these are
+abbrev pub desk_with : Hands → List SeatView → Rest → DeskView
+desk_with h seats rest = desk_of h.pass seats rest.sleepers rest.clock h.aside h.ready.items
 
 -- what the workers share
 pub record BenchView : Type 0 where
@@ -52,3 +56,6 @@ pub record FitsBench (bench : BenchView) (d : DeskView) : Type 0 where
 -- a seat that no desk has, where a list is read past its end
 abbrev pub no_seat : SeatView
 no_seat = record { table = record { words = 0; slots = 0; views_name = 0; atom = 0; block = 0; offset = 0; slot_names = [] }; threads = 0; calls = [] }
+
+abbrev pub seat_at : List SeatView → ℕ → SeatView
+seat_at ss j = get_or ss j no_seat

@@ -1,6 +1,7 @@
 -- What some calls of a pass and of a seat did: which calls, one by one, and how what is out changed; and what hands may do.
 use Rattle.std.specs.Prelude.{◌≡◌, ◌+◌, ℕ, List, [], ◌∷◌, ◌++◌, Option, Some, None, ◌==◌, ◌<◌, ◌≤◌, Bool, true, false, All, length, filter}
 use Rattle.tc_combiner.specs.Vocabulary.{Attempt, Call, Called, Came, Found, HallView, Hands, IsAtRest, IsInOrder, IsInRange, IsOut, IsSamePass, IsSeatOf, IsTurn, Item, Knows, Leave, Left, LineCall, LockView, Loose, MAX_HELD, Miss, Next, Next_is, Nobody, Outs, Pack, PackageView, PassView, Place, Put, QueueView, Ready, Refused, Rests, SeatView, Stop, Stopped, Terms, Try_stopped, Turn, Unknown, code_of, erase, fits_of, is_pinned, locks, outs, threads}
+use Rattle.tc_combiner.specs.Change.{Change}
 use Rattle.tc_combiner.specs.Packages.{IsAside}
 
 -- no call of these is a stop
@@ -186,6 +187,6 @@ abbrev pub TakesDown : ℕ → List ℕ → List ℕ → List Call → Type 0
 TakesDown threads old new cs = (new ≡ old ++ ready_in cs) × All (λ t. t < threads) (ready_in cs)
 
 -- the hands made these calls, and took down the threads that they put as ready
-pub record Acted (k : Terms) (ds : List Call) (xs ys : List Item) (h g : Hands) : Type 0 where
-  pub acts : Acts ds xs ys h.pass g.pass
-  pub readied : TakesDown (threads k) h.ready.items g.ready.items ds
+pub record Acted (k : Terms) (ds : List Call) (xs ys : List Item) (hands : Change Hands) : Type 0 where
+  pub acts : Acts ds xs ys hands.old.pass hands.new.pass
+  pub readied : TakesDown (threads k) hands.old.ready.items hands.new.ready.items ds

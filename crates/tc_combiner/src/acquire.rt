@@ -8,6 +8,7 @@ ghost use Rattle.tc_hall.specs.Outs.{outs, IsOut, Pack};
 ghost use Rattle.tc_combiner.specs.Packages.{IsPlain};
 ghost use Rattle.tc_combiner.specs.Walks.{packed, Acts, IsAtHall};
 ghost use Rattle.tc_combiner.specs.Answers.{Acquires, DidFirst, MayAsk, PutAllBack, place_back, MayGetFirst};
+ghost use Rattle.tc_combiner.specs.Change.{change};
 ghost use Rattle.tc_combiner.specs.View.{IsSeatFor};
 
 use crate::calls;
@@ -49,7 +50,7 @@ fn put_back(hall: &Hall, pass: &mut Pass, package: Package)
 pub(crate) fn put_all_back(hall: &Hall, hands: &mut Hands, package: Package)
     requires hands { IsAtHall hall.now (Pack «package» ∷ packed hands.old.aside) hands.old }
     requires plain { IsPlain (threads hall.now.terms) «package» }
-    ensures { PutAllBack «package» hands.old hands.new }
+    ensures { PutAllBack «package» (change hands.old hands.new) }
 {
     hands.ready.clear();
     put_back(hall, &mut hands.pass, package);
@@ -70,7 +71,7 @@ fn acquire_first<R: Wait>(
 ) -> Option<Package>
     requires hands { IsAtHall hall.now (Pack «package» ∷ packed hands.old.aside) hands.old }
     requires may { MayGetFirst hall.now.terms lock number «package» }
-    ensures { DidFirst hall.now.terms lock number «package» hands.old hands.new result }
+    ensures { DidFirst hall.now.terms lock number «package» (change hands.old hands.new) result }
 {
     match take_home(rt, hall, &mut hands.pass, lock) {
         Some(state) => {
@@ -98,8 +99,8 @@ pub(crate) fn acquire_with<R: Wait, Q: Waiters>(
     requires hands { IsAtHall hall.now (Pack «package» ∷ packed hands.old.aside) hands.old }
     requires may { MayAsk hall.now.terms lock «package» }
     requires seat { IsSeatFor (threads hall.now.terms) (Q.queue queue.now) (Q.seen seat.old) }
-    ensures { Acquires hall.now.terms lock «package» (Q.seen seat.old) (Q.seen seat.new)
-        hands.old hands.new result }
+    ensures { Acquires hall.now.terms lock «package» (change (Q.seen seat.old) (Q.seen seat.new))
+        (change hands.old hands.new) result }
 {
     package.keeps();
     let own = Turn {

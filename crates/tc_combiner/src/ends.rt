@@ -10,6 +10,7 @@ ghost use Rattle.tc_hall.specs.Outs.{Pack};
 ghost use Rattle.tc_combiner.specs.Walks.{packed, IsAtHall, MayAct};
 ghost use Rattle.tc_combiner.specs.Answers.{MayPark, Parks};
 ghost use Rattle.tc_combiner.specs.Release.{MayPassOn, DidLeave, DidLeaveAll, Ends, MayEnd};
+ghost use Rattle.tc_combiner.specs.Change.{change};
 ghost use Rattle.tc_combiner.specs.View.{HasSeats, IsSeatFor};
 
 use crate::acquire::put_all_back;
@@ -31,7 +32,7 @@ pub(crate) fn park(hall: &Hall, hands: &mut Hands, rest: &mut Rest, package: Pac
     requires hands { IsAtHall hall.now (Pack «package» ∷ packed hands.old.aside) hands.old }
     requires room { threads hall.now.terms ≤ length rest.old.sleepers }
     requires may { MayPark hall.now.terms «package» }
-    ensures calls { Parks hall.now.terms «package» hands.old hands.new }
+    ensures calls { Parks hall.now.terms «package» (change hands.old hands.new) }
     ensures sleeper { rest.new ≡ record rest.old {
       sleepers = slice_set rest.old.sleepers «package».context.thread
           (Some (min (rest.old.clock + «package».slept) (2 ^ 64 - 1)));
@@ -47,7 +48,7 @@ pub(crate) fn park(hall: &Hall, hands: &mut Hands, rest: &mut Rest, package: Pac
 fn bring_home(hall: &Hall, hands: &mut Hands, package: &mut Package, released: Released<'_>)
     requires { MayPassOn hall.now released.lock released.block.now «package».old hands.old }
     ensures { (s : SeatView) → DidLeave hall.now.terms released.entry.lock released.entry.block.now
-        «package».old «package».new s s hands.old hands.new true true }
+        (change «package».old «package».new) (change s s) (change hands.old hands.new) (change true true) }
 {
     package.keeps();
     let state = package.take_out(released.lock);
@@ -67,8 +68,9 @@ fn end_one<R: Wait, Q: Waiters>(
     requires may { MayPassOn hall.now released.lock released.block.now «package».old hands.old }
     requires ended { ends_thread released.block.now.end ≡ true }
     requires seat { IsSeatFor (threads hall.now.terms) (Q.queue queue.now) (Q.seen seat.old) }
-    ensures { DidLeave hall.now.terms released.entry.lock released.entry.block.now «package».old «package».new
-        (Q.seen seat.old) (Q.seen seat.new) hands.old hands.new false result }
+    ensures { DidLeave hall.now.terms released.entry.lock released.entry.block.now
+        (change «package».old «package».new) (change (Q.seen seat.old) (Q.seen seat.new))
+        (change hands.old hands.new) (change false result) }
 {
     match pass_on(rt, hall, hands, queue, seat, package, released) {
         Passed::Gone => false,
@@ -90,8 +92,8 @@ fn end_all<R: Wait, Q: Waiters>(
         (length (locks_of block.now.held)) hands.old }
     requires may { MayEnd shared.now.hall.now.terms hands.old.pass.knows block.now «package».old }
     requires seats { HasSeats Q.queue Q.seen shared.now.hall.now.terms shared.now.queues.now seats.old }
-    ensures { DidLeaveAll shared.now.hall.now.terms block.now «package».old «package».new
-        (map Q.seen seats.old) (map Q.seen seats.new) hands.old hands.new result }
+    ensures { DidLeaveAll shared.now.hall.now.terms block.now (change «package».old «package».new)
+        (change (map Q.seen seats.old) (map Q.seen seats.new)) (change hands.old hands.new) result }
 {
     let mut stopped = false;
     let mut rest = block.held;
@@ -122,8 +124,8 @@ pub(crate) fn ended_with<R: Wait, Q: Waiters>(
     requires hands { MayAct shared.now.hall.now (Pack «package» ∷ packed hands.old.aside) MAX_HELD hands.old }
     requires may { MayEnd shared.now.hall.now.terms hands.old.pass.knows block.now «package» }
     requires seats { HasSeats Q.queue Q.seen shared.now.hall.now.terms shared.now.queues.now seats.old }
-    ensures { Ends shared.now.hall.now.terms block.now «package» (map Q.seen seats.old) (map Q.seen seats.new)
-        hands.old hands.new result }
+    ensures { Ends shared.now.hall.now.terms block.now «package»
+        (change (map Q.seen seats.old) (map Q.seen seats.new)) (change hands.old hands.new) result }
 {
     package.keeps();
     if end_all(rt, shared, hands, seats, &mut package, block) {

@@ -12,6 +12,9 @@
 //! and that nothing else that was out changed.
 //!
 //! - `specs/View.antt`: desks and benches as contracts see them, and when a desk fits a bench.
+//!   `specs/Change.antt`: what was before and what is after. `specs/Steps.antt`: one step at a desk,
+//!   with the package in hand, and what changed at the seats and set aside; what the files below say
+//!   became of packages and locks is said of such a step.
 //!   `specs/Walks.antt`: what some calls of a pass and of a seat did, one by one, and what hands may
 //!   do. `specs/Packages.antt`: what is asked and said of packages. `specs/Answers.antt`: what became
 //!   of a package that wants a lock, and of one that is put back. `specs/Release.antt`: what became of

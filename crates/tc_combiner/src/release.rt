@@ -6,6 +6,7 @@ ghost use Rattle.tc_hall.specs.Rule.{threads};
 ghost use Rattle.tc_hall.specs.Outs.{outs, Pack, Loose};
 ghost use Rattle.tc_combiner.specs.Packages.{IsWaiter};
 ghost use Rattle.tc_combiner.specs.Release.{DidHand, DidPass, MayHandOn, MayPassOn};
+ghost use Rattle.tc_combiner.specs.Change.{change};
 ghost use Rattle.tc_combiner.specs.View.{IsSeatFor};
 
 use crate::calls;
@@ -35,7 +36,7 @@ fn grant_to(
     requires waiter { IsWaiter next.thread state.number hall.now.terms.image.value waiter }
     requires other { block.now.thread ≢ next.thread }
     ensures { DidHand hall.now.terms state block.now next
-        (Pack waiter ∷ Loose state ∷ []) hands.old hands.new result }
+        (Pack waiter ∷ Loose state ∷ []) (change hands.old hands.new) result }
 {
     let lock = state.number();
     if let Next::Adopt = plan(block, lock, state.run(), state.limit(), true) {
@@ -61,7 +62,7 @@ fn hand_on<R: Wait>(
     requires beside { (q : PackageView)
         × ((outs hands.old.pass.knows).context block.now.thread ≡ Some q) }
     ensures { DidHand hall.now.terms state block.now next
-        (Loose state ∷ []) hands.old hands.new result }
+        (Loose state ∷ []) (change hands.old hands.new) result }
 {
     let lock = state.number();
     match await_waiter(rt, hall, &mut hands.pass, next.thread, lock) {
@@ -85,8 +86,9 @@ pub(crate) fn pass_on<R: Wait, Q: Waiters>(
 ) -> Passed
     requires may { MayPassOn hall.now released.lock released.block.now «package».old hands.old }
     requires seat { IsSeatFor (threads hall.now.terms) (Q.queue queue.now) (Q.seen seat.old) }
-    ensures { DidPass hall.now.terms released.entry.lock released.entry.block.now «package».old «package».new
-        (Q.seen seat.old) (Q.seen seat.new) hands.old hands.new result }
+    ensures { DidPass hall.now.terms released.entry.lock released.entry.block.now
+        (change «package».old «package».new) (change (Q.seen seat.old) (Q.seen seat.new))
+        (change hands.old hands.new) result }
 {
     package.keeps();
     let own = Turn {

@@ -9,7 +9,8 @@ ghost use Rattle.tc_hall.specs.Rule.{threads};
 ghost use Rattle.tc_combiner.specs.Walks.{packed, IsAtHall, MayAct};
 ghost use Rattle.tc_combiner.specs.Answers.{Acquires, MayAsk};
 ghost use Rattle.tc_combiner.specs.Release.{AtSeat, Ends, MayEnd, MayUnlock, Unlocks};
-ghost use Rattle.tc_combiner.specs.View.{desk_of, HasSeats};
+ghost use Rattle.tc_combiner.specs.Change.{change};
+ghost use Rattle.tc_combiner.specs.View.{desk_with, HasSeats};
 ghost use Rattle.tc_combiner.specs.Settling.{HasSettled, KeepsParts, MaySettle};
 
 use crate::acquire::acquire_with;
@@ -37,7 +38,8 @@ pub(crate) fn acquire_at<R: Wait, Q: Waiters>(
     requires may { MayAsk shared.now.hall.now.terms lock «package» }
     requires seats { HasSeats Q.queue Q.seen shared.now.hall.now.terms shared.now.queues.now seats.old }
     ensures { AtSeat lock (map Q.seen seats.old) (map Q.seen seats.new)
-        (λ s t. Acquires shared.now.hall.now.terms lock «package» s t hands.old hands.new result) }
+        (λ s t. Acquires shared.now.hall.now.terms lock «package»
+        (change s t) (change hands.old hands.new) result) }
 {
     let queue = &shared.queues[lock as usize];
     let seat = &mut seats[lock as usize];
@@ -58,8 +60,8 @@ fn unlocked_at<R: Wait, Q: Waiters>(
         released.lock released.block.now «package» }
     requires seats { HasSeats Q.queue Q.seen shared.now.hall.now.terms shared.now.queues.now seats.old }
     ensures { AtSeat released.entry.lock (map Q.seen seats.old) (map Q.seen seats.new)
-        (λ s t. Unlocks shared.now.hall.now.terms released.entry.lock released.entry.block.now «package» s t
-        hands.old hands.new result) }
+        (λ s t. Unlocks shared.now.hall.now.terms released.entry.lock released.entry.block.now «package»
+        (change s t) (change hands.old hands.new) result) }
 {
     let lock = released.lock;
     let queue = &shared.queues[lock as usize];
@@ -83,7 +85,8 @@ fn unlocked_last<R: Wait, Q: Waiters>(
     requires seats { HasSeats Q.queue Q.seen shared.now.hall.now.terms shared.now.queues.now seats.old }
     ensures { (block : Block) → last_of «package».log ≡ Some block
         → AtSeat lock (map Q.seen seats.old) (map Q.seen seats.new)
-        (λ s t. Unlocks shared.now.hall.now.terms lock block «package» s t hands.old hands.new result) }
+        (λ s t. Unlocks shared.now.hall.now.terms lock block «package»
+        (change s t) (change hands.old hands.new) result) }
 {
     let block = &package.last();
     unlocked_at(rt, shared, hands, seats, package, Released { lock, block })
@@ -103,8 +106,8 @@ fn ended_last<R: Wait, Q: Waiters>(
         → MayEnd shared.now.hall.now.terms hands.old.pass.knows block «package» }
     requires seats { HasSeats Q.queue Q.seen shared.now.hall.now.terms shared.now.queues.now seats.old }
     ensures { (block : Block) → last_of «package».log ≡ Some block
-        → Ends shared.now.hall.now.terms block «package» (map Q.seen seats.old) (map Q.seen seats.new)
-        hands.old hands.new result }
+        → Ends shared.now.hall.now.terms block «package»
+        (change (map Q.seen seats.old) (map Q.seen seats.new)) (change hands.old hands.new) result }
 {
     let block = package.last();
     ended_with(rt, shared, hands, seats, package, &block)
@@ -124,13 +127,11 @@ pub(crate) fn settle_with<R: Wait, Q: Waiters>(
     requires seats { HasSeats Q.queue Q.seen shared.now.hall.now.terms shared.now.queues.now seats.old }
     requires room { threads shared.now.hall.now.terms ≤ length rest.old.sleepers }
     requires may { MaySettle shared.now.hall.now.terms.image.value hands.old.pass.knows.worker end «package» }
-    ensures keeps { KeepsParts shared.now.hall.now.terms «package» (map Q.seen seats.old) (map Q.seen seats.new)
-        rest.old rest.new hands.old.pass hands.old.aside hands.new result }
-    ensures settled { HasSettled end «package»
-        (desk_of hands.old.pass (map Q.seen seats.old) rest.old.sleepers rest.old.clock
-        hands.old.aside hands.old.ready.items)
-        (desk_of hands.new.pass (map Q.seen seats.new) rest.new.sleepers rest.new.clock
-        hands.new.aside hands.new.ready.items) result }
+    ensures keeps { KeepsParts shared.now.hall.now.terms «package»
+        (desk_with hands.old (map Q.seen seats.old) rest.old)
+        (desk_with hands.new (map Q.seen seats.new) rest.new) result }
+    ensures settled { HasSettled end «package» (desk_with hands.old (map Q.seen seats.old) rest.old)
+        (desk_with hands.new (map Q.seen seats.new) rest.new) result }
 {
     hands.ready.clear();
     package.keeps();

@@ -7,6 +7,7 @@ ghost use Rattle.tc_combiner.specs.Packages.{HoldsNone, IsAside, MayGoOn};
 ghost use Rattle.tc_combiner.specs.Walks.{packed, MayAct};
 ghost use Rattle.tc_combiner.specs.Answers.{Goes, PutsAside};
 ghost use Rattle.tc_combiner.specs.Release.{MayUnlock, Unlocks};
+ghost use Rattle.tc_combiner.specs.Change.{change};
 ghost use Rattle.tc_combiner.specs.View.{IsSeatFor};
 
 use crate::acquire::put_all_back;
@@ -35,7 +36,7 @@ fn holds_none(package: &Package) -> bool
 fn go_on(hall: &Hall, hands: &mut Hands, package: Package) -> Settled
     requires hands { MayAct hall.now (Pack «package» ∷ packed hands.old.aside) 1 hands.old }
     requires may { MayGoOn hall.now.terms «package» }
-    ensures { Goes hall.now.terms «package» hands.old hands.new result }
+    ensures { Goes hall.now.terms «package» (change hands.old hands.new) result }
 {
     if !holds_none(&package) {
         return Settled::GoesOn(package);
@@ -54,7 +55,7 @@ fn go_on(hall: &Hall, hands: &mut Hands, package: Package) -> Settled
 fn set_aside(hall: &Hall, hands: &mut Hands, package: Package)
     requires hands { MayAct hall.now (Pack «package» ∷ packed hands.old.aside) 1 hands.old }
     requires may { IsAside hall.now.terms «package» }
-    ensures { PutsAside hall.now.terms «package» hands.old hands.new }
+    ensures { PutsAside hall.now.terms «package» (change hands.old hands.new) }
 {
     if hands.aside.is_some() {
         hands.ready.push(package.thread());
@@ -79,7 +80,7 @@ pub(crate) fn unlocked_with<R: Wait, Q: Waiters>(
         released.block.now «package» }
     requires seat { IsSeatFor (threads hall.now.terms) (Q.queue queue.now) (Q.seen seat.old) }
     ensures { Unlocks hall.now.terms released.entry.lock released.entry.block.now «package»
-        (Q.seen seat.old) (Q.seen seat.new) hands.old hands.new result }
+        (change (Q.seen seat.old) (Q.seen seat.new)) (change hands.old hands.new) result }
 {
     package.keeps();
     match pass_on(rt, hall, hands, queue, seat, &mut package, released) {

@@ -21,7 +21,8 @@ put_all_back-requires g c = record {
 pub returns-in-Some : goal.returns-in-Some
 returns-in-Some g c =
     let e = c.in-Some.ensures {u = tt} in
-    takes_first c.args.hall.now.terms c.args.lock c.args.number c.in-Some.state c.args.«package» c.grant.new.self c.args.hands.now _ (subst (λ (x : Shown). IsAtRest x c.args.lock c.in-Some.state) ((c.in-Some.ensures {u = tt}).0.adds.told.image ∙ c.requires.hands.image ∙ sym c.requires.may.may.of) e.2.0) (record { is = c.grant.ensures.is; locks = c.grant.ensures.locks }) c.requires.may.waits c.requires.may.may e.0 refl refl
+    let rest = subst (λ (x : Shown). IsAtRest x c.args.lock c.in-Some.state) (e.0.adds.told.image ∙ c.requires.hands.image ∙ sym c.requires.may.may.of) e.2.0 in
+    takes_first c.args.hall.now.terms c.args.lock c.args.number c.in-Some.state c.args.«package» c.grant.new.self c.args.hands.now _ rest (record { is = c.grant.ensures.is; locks = c.grant.ensures.locks }) c.requires.may.waits c.requires.may.may e.0 refl refl
 
 pub returns-in-None : goal.returns-in-None
 returns-in-None g c = stops_first c.args.hall.now.terms c.args.lock c.args.number c.args.«package» c.args.hands.now _ c.put_all_back.new.hands (c.in-None.ensures {u = tt}).0 refl c.put_all_back.ensures

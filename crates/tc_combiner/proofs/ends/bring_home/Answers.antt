@@ -1,5 +1,5 @@
 use Rattle.std.proofs.Common.{List, [], refl, true}
-use Rattle.tc_combiner.proofs.Vocabulary.{Call, DidTakeOut, LeftAs, LockView, Turn, turn_of}
+use Rattle.tc_combiner.proofs.Vocabulary.{Call, DidTakeOut, LeftAs, LockView, Turn, by_hands, change, turn_of}
 use Rattle.tc_combiner.proofs.Acting.{acts_none, asked_none}
 use Rattle.tc_combiner.proofs.PassedOn.{frees, released_free, taken_free}
 use Rattle.tc_combiner.proofs.ends.bring_home.Goals as goal
@@ -15,5 +15,7 @@ free-requires c =
 pub returns : goal.returns
 returns c =
     let d : DidTakeOut c.args.released.lock c.take_out-state.result c.args.«package».now c.take_out-state.new.self = record { was = c.take_out-state.ensures.lock; is = c.take_out-state.ensures.is; locks = c.take_out-state.ensures.locks; rest = c.take_out-state.ensures.rest } in
-    λ s. frees c.args.hall.now.terms [] c.args.released.lock c.take_out-state.result (turn_of c.args.«package».now c.args.released.lock) c.args.«package».now c.take_out-state.new.self s s c.args.hands.now _ c.args.hands.now.pass
-    (λ (u : Turn) (l : LockView) (cs : List Call). LeftAs c.args.hall.now.terms.image.value l c.args.released.block.now u s s cs true true) d refl (asked_none (turn_of c.args.«package».now c.args.released.lock) s).0 (acts_none c.args.hands.now.pass []) c.free.ensures refl refl refl (refl, refl)
+    λ s.
+    let x = by_hands c.args.hall.now.terms c.args.«package».now (change s s) (change c.args.hands.now c.args.hands.now) in
+    frees c.args.hall.now.terms [] c.args.released.lock c.take_out-state.result (turn_of c.args.«package».now c.args.released.lock) c.args.«package».now c.take_out-state.new.self s s c.args.hands.now _ c.args.hands.now.pass
+    (λ (u : Turn) (l : LockView) (cs : List Call). LeftAs x l c.args.released.block.now u cs true true) d refl (asked_none (turn_of c.args.«package».now c.args.released.lock) s).0 (acts_none c.args.hands.now.pass []) c.free.ensures refl refl refl (refl, refl)

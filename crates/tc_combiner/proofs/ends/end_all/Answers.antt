@@ -1,6 +1,6 @@
-use Rattle.std.proofs.Common.{◌<◌, Bool, get_or, refl, map, length, sym, subst, arith, rules}
-use Rattle.tc_combiner.proofs.Vocabulary.{DidLeave, SeatView, length-map, locks, seat_at}
-use Rattle.tc_combiner.proofs.Ending.{leaves_first, leaves_more, left_all, less_falls, may_next, may_release, none_left, seat_in, seats_first}
+use Rattle.std.proofs.Common.{◌<◌, false, map, length, arith, rules}
+use Rattle.tc_combiner.proofs.Vocabulary.{Change, DidLeave, Hands, PackageView, SeatView, change, length-map, locks}
+use Rattle.tc_combiner.proofs.Ending.{leaves_first, leaves_home, leaves_more, left_all, less_falls, may_next, may_release, none_left, seat_in}
 use Rattle.tc_combiner.proofs.Seats.{at_seat}
 use Rattle.tc_combiner.proofs.ends.end_all.Goals as goal
 
@@ -29,14 +29,16 @@ bounds-seats-lock g c =
 
 pub end_one-stopped-requires-clause-may : goal.end_one-stopped-requires-clause-may
 end_one-stopped-requires-clause-may g c = λ κs b. record {
-  hands = may_next c.args.shared.now.hall.now c.args.block.now c.args.«package».now c.loop-lock.«package» c.loop-lock.rest c.less-rest.result c.in-Some.lock _ (map g.Q.Waiters.seen c.args.seats.now) (map g.Q.Waiters.seen c.loop-lock.seats) c.args.hands.now c.loop-lock.hands c.loop-lock.stopped c.requires.hands c.loop-lock.invariant c.in-Some.ensures.value.0 c.in-Some.ensures.bound c.less-rest.ensures.each;
-  release = may_release c.args.shared.now.hall.now.terms c.args.block.now c.args.«package».now c.loop-lock.«package» c.loop-lock.rest c.in-Some.lock (map g.Q.Waiters.seen c.args.seats.now) (map g.Q.Waiters.seen c.loop-lock.seats) c.args.hands.now c.loop-lock.hands c.loop-lock.stopped c.requires.may c.loop-lock.invariant c.in-Some.ensures.value.0;
+  hands = may_next c.less-rest.result c.in-Some.lock c.requires.hands c.loop-lock.invariant c.in-Some.ensures.value.0 c.in-Some.ensures.bound c.less-rest.ensures.each;
+  release = may_release c.requires.may c.loop-lock.invariant c.in-Some.ensures.value.0;
 }
 
 pub end_one-stopped-requires-clause-seat : goal.end_one-stopped-requires-clause-seat
 end_one-stopped-requires-clause-seat g c = λ κs b.
     let low : c.in-Some.lock < locks c.args.shared.now.hall.now.terms = c.requires.may.known c.in-Some.lock (c.loop-lock.invariant.within c.in-Some.lock c.in-Some.ensures.value.0) in
-    seat_in g.Q.Waiters.seen g.Q.Waiters.queue c.args.shared.now.hall.now.terms c.args.shared.now.queues.now c.args.seats.now c.loop-lock.seats c.in-Some.lock c.index-shared-lock.result c.index-seats-lock.result c.index-seats-lock.is c.requires.seats.of (c.loop-lock.invariant.wait c.in-Some.lock c.in-Some.ensures.value.0) low (let size = c.requires.seats.seats in let count = c.loop-lock.invariant.count in let old = length-map c.args.seats.now g.Q.Waiters.seen in let new = length-map c.loop-lock.seats g.Q.Waiters.seen in omega arith)
+    let deep : c.in-Some.lock < length c.loop-lock.seats = (let size = c.requires.seats.seats in let count = c.loop-lock.invariant.count in let old = length-map c.args.seats.now g.Q.Waiters.seen in let new = length-map c.loop-lock.seats g.Q.Waiters.seen in omega arith) in
+    let wait = c.loop-lock.invariant.wait c.in-Some.lock c.in-Some.ensures.value.0 in
+    seat_in g.Q.Waiters.seen g.Q.Waiters.queue c.args.shared.now.hall.now.terms c.args.shared.now.queues.now c.args.seats.now c.loop-lock.seats c.in-Some.lock c.index-shared-lock.result c.index-seats-lock.result c.index-seats-lock.is c.requires.seats.of wait low deep
 
 pub loop-lock-smaller : goal.loop-lock-smaller
 loop-lock-smaller g c = less_falls c.loop-lock.rest c.in-Some.lock c.less-rest.result c.less-rest.ensures.value c.in-Some.ensures.value.0
@@ -45,24 +47,23 @@ pub loop-lock-preserved : goal.loop-lock-preserved
 loop-lock-preserved g c =
     let low : c.in-Some.lock < locks c.args.shared.now.hall.now.terms = c.requires.may.known c.in-Some.lock (c.loop-lock.invariant.within c.in-Some.lock c.in-Some.ensures.value.0) in
     let deep : c.in-Some.lock < length c.loop-lock.seats = (let size = c.requires.seats.seats in let count = c.loop-lock.invariant.count in let old = length-map c.args.seats.now g.Q.Waiters.seen in let new = length-map c.loop-lock.seats g.Q.Waiters.seen in omega arith) in
-    let e = subst (λ (b : Bool). DidLeave c.args.shared.now.hall.now.terms c.in-Some.lock c.args.block.now c.loop-lock.«package» c.end_one-stopped.new.«package» (g.Q.Waiters.seen (get_or c.loop-lock.seats c.in-Some.lock c.index-seats-lock.result)) (g.Q.Waiters.seen c.end_one-stopped.new.seat) c.loop-lock.hands c.end_one-stopped.new.hands b c.end_one-stopped.result) (sym c.if-stopped.false) c.end_one-stopped.ensures in
-    leaves_more c.args.shared.now.hall.now.terms c.args.block.now c.args.«package».now c.loop-lock.«package» c.end_one-stopped.new.«package» c.loop-lock.rest c.less-rest.result c.in-Some.lock (map g.Q.Waiters.seen c.args.seats.now) (map g.Q.Waiters.seen c.loop-lock.seats) _ c.args.hands.now c.loop-lock.hands c.end_one-stopped.new.hands c.loop-lock.stopped c.end_one-stopped.result c.loop-lock.invariant c.in-Some.ensures.value.0 c.in-Some.ensures.value.1 c.in-Some.ensures.bound c.less-rest.ensures.each
-    (at_seat g.Q.Waiters.seen (λ (s t : SeatView). DidLeave c.args.shared.now.hall.now.terms c.in-Some.lock c.args.block.now c.loop-lock.«package» c.end_one-stopped.new.«package» s t c.loop-lock.hands c.end_one-stopped.new.hands c.loop-lock.stopped c.end_one-stopped.result) c.loop-lock.seats c.in-Some.lock c.index-seats-lock.result c.end_one-stopped.new.seat deep c.index-seats-lock.is (e.asks.table, e.asks.threads) e)
+    let p : Change PackageView = change c.loop-lock.«package» c.end_one-stopped.new.«package» in
+    let hands : Change Hands = change c.loop-lock.hands c.end_one-stopped.new.hands in
+    let e = c.end_one-stopped.ensures in
+    let at = at_seat g.Q.Waiters.seen (λ (s t : SeatView). DidLeave c.args.shared.now.hall.now.terms c.in-Some.lock c.args.block.now p (change s t) hands (change false c.end_one-stopped.result)) c.loop-lock.seats c.in-Some.lock c.index-seats-lock.result c.end_one-stopped.new.seat deep c.index-seats-lock.is (e.asks.table, e.asks.threads) e in
+    leaves_more c.loop-lock.invariant c.if-stopped.false c.in-Some.ensures.value.0 c.in-Some.ensures.value.1 c.in-Some.ensures.bound c.less-rest.ensures.each at
 
 pub returns : goal.returns
-returns g c = left_all c.args.shared.now.hall.now.terms c.args.block.now c.args.«package».now c.loop-lock.«package» c.loop-lock.rest (map g.Q.Waiters.seen c.args.seats.now) (map g.Q.Waiters.seen c.loop-lock.seats) c.args.hands.now c.loop-lock.hands c.loop-lock.stopped (none_left _ _ c.first_release.result c.first_release.ensures.value c.in_default.not-Some) c.loop-lock.invariant
+returns g c = left_all (none_left _ _ c.first_release.result c.first_release.ensures.value c.in_default.not-Some) c.loop-lock.invariant
 
 pub bring_home-requires : goal.bring_home-requires
 bring_home-requires g c = record {
-  hands = may_next c.args.shared.now.hall.now c.args.block.now c.args.«package».now c.loop-lock.«package» c.loop-lock.rest c.less-rest.result c.in-Some.lock _ (map g.Q.Waiters.seen c.args.seats.now) (map g.Q.Waiters.seen c.loop-lock.seats) c.args.hands.now c.loop-lock.hands c.loop-lock.stopped c.requires.hands c.loop-lock.invariant c.in-Some.ensures.value.0 c.in-Some.ensures.bound c.less-rest.ensures.each;
-  release = may_release c.args.shared.now.hall.now.terms c.args.block.now c.args.«package».now c.loop-lock.«package» c.loop-lock.rest c.in-Some.lock (map g.Q.Waiters.seen c.args.seats.now) (map g.Q.Waiters.seen c.loop-lock.seats) c.args.hands.now c.loop-lock.hands c.loop-lock.stopped c.requires.may c.loop-lock.invariant c.in-Some.ensures.value.0;
+  hands = may_next c.less-rest.result c.in-Some.lock c.requires.hands c.loop-lock.invariant c.in-Some.ensures.value.0 c.in-Some.ensures.bound c.less-rest.ensures.each;
+  release = may_release c.requires.may c.loop-lock.invariant c.in-Some.ensures.value.0;
 }
 
 pub loop-lock-preserved-then-stopped : goal.loop-lock-preserved-then-stopped
-loop-lock-preserved-then-stopped g c =
-    let e = subst (λ (b : Bool). DidLeave c.args.shared.now.hall.now.terms c.in-Some.lock c.args.block.now c.loop-lock.«package» c.bring_home.new.«package» (seat_at (map g.Q.Waiters.seen c.loop-lock.seats) c.in-Some.lock) (seat_at (map g.Q.Waiters.seen c.loop-lock.seats) c.in-Some.lock) c.loop-lock.hands c.bring_home.new.hands b b) (sym c.if-stopped.true) (c.bring_home.ensures (seat_at (map g.Q.Waiters.seen c.loop-lock.seats) c.in-Some.lock)) in
-    leaves_more c.args.shared.now.hall.now.terms c.args.block.now c.args.«package».now c.loop-lock.«package» c.bring_home.new.«package» c.loop-lock.rest c.less-rest.result c.in-Some.lock (map g.Q.Waiters.seen c.args.seats.now) (map g.Q.Waiters.seen c.loop-lock.seats) (map g.Q.Waiters.seen c.loop-lock.seats) c.args.hands.now c.loop-lock.hands c.bring_home.new.hands c.loop-lock.stopped c.loop-lock.stopped c.loop-lock.invariant c.in-Some.ensures.value.0 c.in-Some.ensures.value.1 c.in-Some.ensures.bound c.less-rest.ensures.each
-    (record { same = seats_first (map g.Q.Waiters.seen c.loop-lock.seats); others = λ j ne. refl; here = e })
+loop-lock-preserved-then-stopped g c = leaves_home c.loop-lock.invariant c.if-stopped.true c.in-Some.ensures.value.0 c.in-Some.ensures.value.1 c.in-Some.ensures.bound c.less-rest.ensures.each c.bring_home.ensures
 
 pub loop-lock-smaller-then-stopped : goal.loop-lock-smaller-then-stopped
 loop-lock-smaller-then-stopped g c = less_falls c.loop-lock.rest c.in-Some.lock c.less-rest.result c.less-rest.ensures.value c.in-Some.ensures.value.0

@@ -1,5 +1,5 @@
-use Rattle.std.proofs.Common.{map, refl, subst, arith, Bool}
-use Rattle.tc_combiner.proofs.Vocabulary.{DidLeaveAll, Pack, packed}
+use Rattle.std.proofs.Common.{refl, arith}
+use Rattle.tc_combiner.proofs.Vocabulary.{Pack, packed}
 use Rattle.tc_combiner.proofs.Ending.{at_end, emptied_plain, ends_done, ends_stopped, may_done}
 use Rattle.tc_combiner.proofs.Acting.{alone}
 use Rattle.tc_combiner.proofs.PassedOn.{left_after}
@@ -11,16 +11,16 @@ end_all-requires-clause-hands g c κs within =
     record { at = alone c.args.shared.now.hall.now (Pack c.args.«package») (packed c.args.hands.now.aside) c.args.hands.now.pass c.args.hands.now.aside c.requires.hands.at; room = (let r = c.requires.hands.room in omega arith) }
 
 pub put_all_back-requires-clause-hands : goal.put_all_back-requires-clause-hands
-put_all_back-requires-clause-hands g c = at_end c.args.shared.now.hall.now c.args.block.now c.args.«package» c.end_all.new.«package» (map g.Q.Waiters.seen c.args.seats.now) (map g.Q.Waiters.seen c.end_all.new.seats) c.args.hands.now c.end_all.new.hands c.requires.may c.requires.hands c.end_all.result c.end_all.ensures
+put_all_back-requires-clause-hands g c = at_end c.requires.may c.requires.hands c.end_all.result c.end_all.ensures
 
 pub put_all_back-requires-clause-plain : goal.put_all_back-requires-clause-plain
 put_all_back-requires-clause-plain g c = emptied_plain _ c.args.hands.now.pass.knows c.args.block.now c.args.«package» c.end_all.new.«package» c.requires.may c.end_all.ensures.emptied
 
 pub put-requires : goal.put-requires
-put-requires g c = may_done c.args.shared.now.hall.now c.args.block.now c.args.«package» c.end_all.new.«package» (map g.Q.Waiters.seen c.args.seats.now) (map g.Q.Waiters.seen c.end_all.new.seats) c.args.hands.now c.end_all.new.hands c.requires.may c.requires.hands c.end_all.result c.keeps.ensures.sound c.end_all.ensures
+put-requires g c = may_done c.requires.may c.requires.hands c.end_all.result c.keeps.ensures.sound c.end_all.ensures
 
 pub returns-then-end_all : goal.returns-then-end_all
-returns-then-end_all g c = ends_stopped c.args.shared.now.hall.now c.args.block.now c.args.«package» c.end_all.new.«package» (map g.Q.Waiters.seen c.args.seats.now) (map g.Q.Waiters.seen c.end_all.new.seats) c.args.hands.now c.end_all.new.hands c.requires.may c.requires.hands c.put_all_back.new.hands (subst (λ (b : Bool). DidLeaveAll c.args.shared.now.hall.now.terms c.args.block.now c.args.«package» c.end_all.new.«package» (map g.Q.Waiters.seen c.args.seats.now) (map g.Q.Waiters.seen c.end_all.new.seats) c.args.hands.now c.end_all.new.hands b) c.if-end_all.true c.end_all.ensures) c.put_all_back.ensures
+returns-then-end_all g c = ends_stopped c.requires.may c.requires.hands c.put_all_back.new.hands c.end_all.result c.if-end_all.true c.end_all.ensures c.put_all_back.ensures
 
 pub returns : goal.returns
-returns g c = ends_done c.args.shared.now.hall.now c.args.block.now c.args.«package» c.end_all.new.«package» (map g.Q.Waiters.seen c.args.seats.now) (map g.Q.Waiters.seen c.end_all.new.seats) c.args.hands.now c.end_all.new.hands c.requires.may c.requires.hands _ (subst (λ (b : Bool). DidLeaveAll c.args.shared.now.hall.now.terms c.args.block.now c.args.«package» c.end_all.new.«package» (map g.Q.Waiters.seen c.args.seats.now) (map g.Q.Waiters.seen c.end_all.new.seats) c.args.hands.now c.end_all.new.hands b) c.if-end_all.false c.end_all.ensures) c.put.ensures refl refl
+returns g c = ends_done c.requires.may c.requires.hands _ c.end_all.result c.if-end_all.false c.end_all.ensures c.put.ensures refl refl

@@ -1,5 +1,5 @@
 use Rattle.std.proofs.Common.{◌<◌, length, arith}
-use Rattle.tc_combiner.proofs.Vocabulary.{SeatView, Unlocks}
+use Rattle.tc_combiner.proofs.Vocabulary.{SeatView, Unlocks, change}
 use Rattle.tc_combiner.proofs.Seats.{at_one, at_seat}
 use Rattle.tc_combiner.proofs.settle.unlocked_at.Goals as goal
 
@@ -11,4 +11,6 @@ returns g c =
     let low = c.requires.may.release.lock in
     let count = c.requires.seats.seats in
     let deep : c.args.released.lock < length c.args.seats.now = omega arith in
-    at_seat g.Q.Waiters.seen (λ (s t : SeatView). Unlocks c.args.shared.now.hall.now.terms c.args.released.lock c.args.released.block.now c.args.«package» s t c.args.hands.now c.unlocked_with.new.hands c.unlocked_with.result) c.args.seats.now c.args.released.lock c.index-seats-lock.result c.unlocked_with.new.seat deep c.index-seats-lock.is (c.unlocked_with.ensures.became.0.table, c.unlocked_with.ensures.became.0.threads) c.unlocked_with.ensures
+    let hands = change c.args.hands.now c.unlocked_with.new.hands in
+    let asks = c.unlocked_with.ensures.became.0 in
+    at_seat g.Q.Waiters.seen (λ (s t : SeatView). Unlocks c.args.shared.now.hall.now.terms c.args.released.lock c.args.released.block.now c.args.«package» (change s t) hands c.unlocked_with.result) c.args.seats.now c.args.released.lock c.index-seats-lock.result c.unlocked_with.new.seat deep c.index-seats-lock.is (asks.table, asks.threads) c.unlocked_with.ensures

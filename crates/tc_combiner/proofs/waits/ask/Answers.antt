@@ -5,7 +5,10 @@ use Rattle.tc_combiner.proofs.Acting.{asked_left, asked_line, asked_none}
 use Rattle.tc_combiner.proofs.waits.ask.Goals as goal
 
 pub returns-in-Some-clause-once : goal.returns-in-Some-clause-once
-returns-in-Some-clause-once g c = (0, asked_line 0 0 c.args.own (g.Q.Waiters.seen c.args.seat.now) (g.Q.Waiters.seen c.args.seat.now) (g.Q.Waiters.seen c.next.new.seat) (Next c.args.own (Some c.in-Some.next)) (asked_none c.args.own (g.Q.Waiters.seen c.args.seat.now)) (c.next.ensures.call ∙ ap (λ (o : Option Turn). with_line (g.Q.Waiters.seen c.args.seat.now) (Next c.args.own o)) c.in-Some.is) (refl, tt) refl, omega arith, λ e. let n : ⊥ = cc in absurd n)
+returns-in-Some-clause-once g c =
+    let seat = g.Q.Waiters.seen c.args.seat.now in
+    let line = c.next.ensures.call ∙ ap (λ (o : Option Turn). with_line seat (Next c.args.own o)) c.in-Some.is in
+    (0, asked_line 0 0 c.args.own seat seat (g.Q.Waiters.seen c.next.new.seat) (Next c.args.own (Some c.in-Some.next)) (asked_none c.args.own seat) line (refl, tt) refl, omega arith, λ e. let n : ⊥ = cc in absurd n)
 
 pub returns-in-Left-clause-once : goal.returns-in-Left-clause-once
 returns-in-Left-clause-once g c = (1, asked_left (g.Q.Waiters.seen c.args.seat.now) (g.Q.Waiters.seen c.next.new.seat) (g.Q.Waiters.seen c.leave.new.seat) c.args.own c.next.result c.leave.result c.next.ensures.call (none_is c.next.result c.in_default.not-Some) c.leave.ensures.call, omega arith, λ e. let n : ⊥ = cc in absurd n)

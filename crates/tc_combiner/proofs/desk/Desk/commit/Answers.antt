@@ -20,7 +20,9 @@ returns-clause-moves g c =
 pub returns-clause-fits : goal.returns-clause-fits
 returns-clause-fits g c =
     let d : DeskView = desk_of c.self.inside.hands.pass (map g.Q.Waiters.seen c.self.inside.seats.items) c.self.inside.rest.sleepers c.self.inside.rest.clock c.self.inside.hands.aside c.self.inside.hands.ready.items in
-    let sealed : Moves d.pass.knows c.commit-stamp.new.pass.knows (Pack c.requires.may.before ∷ []) (Pack c.commit-stamp.new.«package» ∷ []) = subst (λ (z : PackageView). Moves d.pass.knows c.commit-stamp.new.pass.knows (Pack c.requires.may.before ∷ []) (Pack z ∷ [])) (sym c.commit-stamp.ensures.context) (sealed_moves c.args.self.now.pass.knows.image d.pass.knows c.commit-stamp.new.pass.knows c.requires.may.before c.args.«package».now c.commit-stamp.result c.requires.may.ran c.commit-stamp.ensures.seals) in
+    let w : Knows = c.commit-stamp.new.pass.knows in
+    let sealed : Moves d.pass.knows w (Pack c.requires.may.before ∷ []) (Pack c.commit-stamp.new.«package» ∷ []) = subst (λ (z : PackageView). Moves d.pass.knows w (Pack c.requires.may.before ∷ []) (Pack z ∷ [])) (sym c.commit-stamp.ensures.context)
+    (sealed_moves c.args.self.now.pass.knows.image d.pass.knows w c.requires.may.before c.args.«package».now c.commit-stamp.result c.requires.may.ran c.commit-stamp.ensures.seals) in
     let hand : IsInHand d c.requires.may.before = subst (λ (z : DeskView). IsInHand z c.requires.may.before) (sym c.self.view_is) c.requires.may.hand in
     fits_after c.args.bench.now d.pass c.commit-stamp.new.pass d.seats d.seats d.sleepers d.sleepers d.now c.saturating_add-self-inside.result d.aside d.aside d.handed d.handed
     (subst (λ (z : DeskView). FitsBench c.args.bench.now z) (sym c.self.view_is) c.requires.fits) c.commit-stamp.ensures.own (ap (λ (v : Knows). v.image) c.commit-stamp.ensures.seals.now) (seats_first d.seats) refl (λ a e. c.requires.fits.aside a (sym (ap (λ (z : DeskView). z.aside) c.self.view_is) ∙ e))

@@ -16,5 +16,6 @@ settle_with-requires-clause-may g c = λ κs b.
 
 pub returns : goal.returns
 returns g c =
-    let end = kept_back g.Q.Waiters.seen c.self.inside.seats c.as_mut_slice.result.now c.settle_with.new.seats c.as_mut_slice.ensures.value (λ (d e : DeskView). HasSettled c.args.end c.args.«package» d e c.settle_with.result) _ c.args.bench.now c.args.«package» c.self.inside.rest c.settle_with.new.rest c.self.inside.hands c.settle_with.new.hands c.args.self.now c.settle_with.result c.bench.view_is c.self.view_is c.requires.fits c.requires.hand c.settle_with.ensures.keeps c.settle_with.ensures.settled in
+    let end = kept_back g.Q.Waiters.seen c.self.inside.seats c.as_mut_slice.result.now c.settle_with.new.seats c.as_mut_slice.ensures.value (λ (d e : DeskView). HasSettled c.args.end c.args.«package» d e c.settle_with.result) _ c.args.bench.now c.args.«package» c.self.inside.rest c.settle_with.new.rest c.self.inside.hands c.settle_with.new.hands c.args.self.now c.settle_with.result
+    c.bench.view_is c.self.view_is c.requires.fits c.requires.hand c.settle_with.ensures.keeps c.settle_with.ensures.settled in
     record { keeps = end.0; settled = end.1 }
