@@ -24,14 +24,14 @@ use tc_journal::block::Kind;
 use tc_queue::{Arrival, Turn, Waiters};
 use tc_turn::status::Status;
 
-// Whether the package's thread has not ended.
+/// Whether the package's thread has not ended.
 fn is_running(package: &Package) -> bool
     ensures { result ≡ is_running «package».now.context.guest.status }
 {
     matches!(package.status(), Status::Running)
 }
 
-// Puts a package back, as ready or, where its thread has ended, as done.
+/// Puts a package back, as ready or, where its thread has ended, as done.
 fn put_back(hall: &Hall, pass: &mut Pass, package: Package)
     requires own { pass.old.table ≡ hall.now.table }
     requires out { IsOut (outs pass.old.knows) (Pack «package») }
@@ -59,7 +59,7 @@ pub(crate) fn put_all_back(hall: &Hall, hands: &mut Hands, package: Package)
     }
 }
 
-// Takes the lock for a turn that stands first in its line. None: the run was stopped.
+/// Takes the lock for a turn that stands first in its line. None: the run was stopped.
 #[inline(always)]
 fn acquire_first<R: Wait>(
     rt: &R,

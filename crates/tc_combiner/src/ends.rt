@@ -44,7 +44,7 @@ pub(crate) fn park(hall: &Hall, hands: &mut Hands, rest: &mut Rest, package: Pac
     rest.sleepers.add(thread, due);
 }
 
-// Brings home one lock of a thread that has ended, where the run was stopped before.
+/// Brings home one lock of a thread that has ended, where the run was stopped before.
 fn bring_home(hall: &Hall, hands: &mut Hands, package: &mut Package, released: Released<'_>)
     requires { MayPassOn hall.now released.lock released.block.now «package».old hands.old }
     ensures { (s : SeatView) → DidLeave hall.now.terms released.entry.lock released.entry.block.now
@@ -55,7 +55,7 @@ fn bring_home(hall: &Hall, hands: &mut Hands, package: &mut Package, released: R
     calls::free(hall, &mut hands.pass, state);
 }
 
-// Passes on one lock of a thread that has ended. Whether the run was stopped.
+/// Passes on one lock of a thread that has ended. Whether the run was stopped.
 fn end_one<R: Wait, Q: Waiters>(
     rt: &R,
     hall: &Hall,
@@ -79,7 +79,7 @@ fn end_one<R: Wait, Q: Waiters>(
     }
 }
 
-// Passes on the locks of a thread that has ended, the least first. Whether the run was stopped.
+/// Passes on the locks of a thread that has ended, the least first. Whether the run was stopped.
 fn end_all<R: Wait, Q: Waiters>(
     rt: &R,
     shared: &Shared<'_, Q>,

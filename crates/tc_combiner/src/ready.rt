@@ -3,7 +3,7 @@
 use arrayvec::ArrayVec;
 use tc_isa::limits::MAX_HELD;
 
-// How many threads a list has room for: as many as a thread may hold locks.
+/// How many threads a list has room for: as many as a thread may hold locks.
 const ROOM: usize = MAX_HELD as usize;
 
 /// Threads that were put as ready, in order. A call puts at most one for each lock of the block, and

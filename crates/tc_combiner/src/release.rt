@@ -23,7 +23,7 @@ use tc_nested::{Next, plan};
 use tc_queue::{Turn, Waiters};
 use tc_segment::state::LockState;
 
-// Grants the lock to the waiter, as adopted or as granted; a granted one is put as ready.
+/// Grants the lock to the waiter, as adopted or as granted; a granted one is put as ready.
 fn grant_to(
     hall: &Hall,
     hands: &mut Hands,
@@ -49,7 +49,7 @@ fn grant_to(
     Passed::Gone
 }
 
-// Grants a released lock to the turn behind, once its package waits.
+/// Grants a released lock to the turn behind, once its package waits.
 fn hand_on<R: Wait>(
     rt: &R,
     hall: &Hall,

@@ -46,7 +46,7 @@ pub(crate) fn acquire_at<R: Wait, Q: Waiters>(
     acquire_with(rt, shared.hall, hands, queue, seat, package, lock)
 }
 
-// What `settle` does at an unlock, at the lock's place in the bench.
+/// What `settle` does at an unlock, at the lock's place in the bench.
 fn unlocked_at<R: Wait, Q: Waiters>(
     rt: &R,
     shared: &Shared<'_, Q>,
@@ -69,7 +69,7 @@ fn unlocked_at<R: Wait, Q: Waiters>(
     unlocked_with(rt, shared.hall, hands, queue, seat, package, released)
 }
 
-// What `settle` does where the last block released this lock.
+/// What `settle` does where the last block released this lock.
 fn unlocked_last<R: Wait, Q: Waiters>(
     rt: &R,
     shared: &Shared<'_, Q>,
@@ -92,7 +92,7 @@ fn unlocked_last<R: Wait, Q: Waiters>(
     unlocked_at(rt, shared, hands, seats, package, Released { lock, block })
 }
 
-// What `settle` does where the last block ended the thread.
+/// What `settle` does where the last block ended the thread.
 fn ended_last<R: Wait, Q: Waiters>(
     rt: &R,
     shared: &Shared<'_, Q>,

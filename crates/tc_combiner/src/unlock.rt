@@ -23,7 +23,7 @@ use tc_hall::place::Place;
 use tc_nested::first_release;
 use tc_queue::Waiters;
 
-// Whether the package holds no lock.
+/// Whether the package holds no lock.
 fn holds_none(package: &Package) -> bool
     ensures none { result ≡ true → HoldsNone «package».now }
     ensures some { result ≡ false → HoldsNone «package».now → ⊥ }
@@ -31,8 +31,8 @@ fn holds_none(package: &Package) -> bool
     first_release(package.held()).is_none()
 }
 
-// The package goes on. An adopted one that holds no lock is handed back, and the one that was set
-// aside goes on.
+/// The package goes on. An adopted one that holds no lock is handed back, and the one that was set
+/// aside goes on.
 fn go_on(hall: &Hall, hands: &mut Hands, package: Package) -> Settled
     requires hands { MayAct hall.now (Pack «package» ∷ packed hands.old.aside) 1 hands.old }
     requires may { MayGoOn hall.now.terms «package» }
@@ -51,7 +51,7 @@ fn go_on(hall: &Hall, hands: &mut Hands, package: Package) -> Settled
     }
 }
 
-// The package is set aside, or handed back where one is set aside already.
+/// The package is set aside, or handed back where one is set aside already.
 fn set_aside(hall: &Hall, hands: &mut Hands, package: Package)
     requires hands { MayAct hall.now (Pack «package» ∷ packed hands.old.aside) 1 hands.old }
     requires may { IsAside hall.now.terms «package» }

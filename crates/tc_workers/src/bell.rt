@@ -5,12 +5,12 @@ use std::sync::atomic::{AtomicU64, Ordering};
 use std::thread::yield_now;
 use std::time::Duration;
 
-// How long the first worker to begin waits for the next one to begin, in milliseconds. It keeps the
-// time for all of them.
+/// How long the first worker to begin waits for the next one to begin, in milliseconds. It keeps the
+/// time for all of them.
 const LONGEST_WAIT: u64 = 5;
 
-// How often another worker gives its processor away until then: for longer than the first one sleeps,
-// unless that one is not given its processor back.
+/// How often another worker gives its processor away until then: for longer than the first one sleeps,
+/// unless that one is not given its processor back.
 const YIELDS: u32 = 100_000;
 
 /// The bell of a crew, with the number of its strokes. Each worker rings it when it begins, and when
@@ -40,12 +40,12 @@ impl Bell {
         self.up.load(Ordering::SeqCst)
     }
 
-    // Whether one still has to wait for others to begin.
+    /// Whether one still has to wait for others to begin.
     fn others_to_come(&self) -> bool {
         self.strokes.load(Ordering::SeqCst) < self.workers
     }
 
-    // Gives the processor away until all have begun, or so often. Whether all have.
+    /// Gives the processor away until all have begun, or so often. Whether all have.
     fn yield_for_others(&self) -> bool {
         for _ in 0..YIELDS {
             if !self.others_to_come() {
@@ -56,7 +56,7 @@ impl Bell {
         false
     }
 
-    // Sleeps until all have begun, or until none has for so long. Whether all have.
+    /// Sleeps until all have begun, or until none has for so long. Whether all have.
     fn sleep_for_others<R: Wait>(&self, rt: &R) -> bool {
         for _ in 0..self.workers {
             let begun = self.strokes.load(Ordering::SeqCst);
@@ -78,7 +78,7 @@ impl Bell {
         before
     }
 
-    // Sleeps until the bell is rung behind so many strokes, so long at most.
+    /// Sleeps until the bell is rung behind so many strokes, so long at most.
     fn sleep_behind<R: Wait>(&self, rt: &R, strokes: u64, longest: Duration) {
         let word = (strokes % (1 << 32)) as u32;
         self.strokes.park_timeout(rt, word, longest);

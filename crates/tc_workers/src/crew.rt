@@ -20,7 +20,7 @@ use tc_park::Sleepers;
 use tc_queue::Waiters;
 use tc_ready::Ready;
 
-// The worker of the pass, who has not begun.
+/// The worker of the pass, who has not begun.
 fn hire_one<Q: Waiters>(
     alloc: Global,
     bench: &Bench<'_, Q>,
@@ -66,7 +66,7 @@ pub fn hire<Q: Waiters>(
     Ok(workers)
 }
 
-// Runs the worker once all have begun, and rings the bell for those who sleep when it has ended.
+/// Runs the worker once all have begun, and rings the bell for those who sleep when it has ended.
 fn serve<R: Wait, G: Gate, Q: Waiters>(
     rt: &R,
     bench: &Bench<'_, Q>,

@@ -25,8 +25,8 @@ pub(crate) fn number<Q: Waiters>(desk: &mut Desk<Q>) -> u32
     desk.pass().worker()
 }
 
-// Goes on with a package that was claimed. One that is pinned to one worker comes from a stop, which
-// the worker sees then: it puts the package back.
+/// Goes on with a package that was claimed. One that is pinned to one worker comes from a stop, which
+/// the worker sees then: it puts the package back.
 fn take_up<Q: Waiters>(bench: &Bench<'_, Q>, desk: &mut Desk<Q>, package: Package) -> Step
     requires claimed { HasClaimed bench.now «package» desk.old }
     ensures steps { DeskSteps bench.now desk.old desk.new result }
@@ -64,8 +64,8 @@ pub fn claim<G: Gate, Q: Waiters>(
     }
 }
 
-// There is nothing to do and nobody sleeps: ends where each thread is seen to have ended, and else asks
-// for a rest before the next step.
+/// There is nothing to do and nobody sleeps: ends where each thread is seen to have ended, and else asks
+/// for a rest before the next step.
 fn rest<Q: Waiters>(bench: &Bench<'_, Q>, rests: &mut Rests<'_>, desk: &mut Desk<Q>) -> Step
     requires idle { IsIdle bench.now desk.old }
     requires sleepers { NoneSleeps desk.old.sleepers }
@@ -79,7 +79,7 @@ fn rest<Q: Waiters>(bench: &Bench<'_, Q>, rests: &mut Rests<'_>, desk: &mut Desk
     Step::On(None)
 }
 
-// There is nothing to do: moves the clock to the first sleeper.
+/// There is nothing to do: moves the clock to the first sleeper.
 fn idle<Q: Waiters>(bench: &Bench<'_, Q>, rests: &mut Rests<'_>, desk: &mut Desk<Q>) -> Step
     requires idle { IsIdle bench.now desk.old }
     ensures steps { DeskSteps bench.now desk.old desk.new result }
@@ -95,7 +95,7 @@ fn idle<Q: Waiters>(bench: &Bench<'_, Q>, rests: &mut Rests<'_>, desk: &mut Desk
     }
 }
 
-// The thread that the worker tries next, and where: a sleeper that is due, else one that is ready.
+/// The thread that the worker tries next, and where: a sleeper that is due, else one that is ready.
 fn choose<Q: Waiters>(
     bench: &Bench<'_, Q>,
     rests: &mut Rests<'_>,
@@ -114,7 +114,7 @@ fn choose<Q: Waiters>(
     Some((t, Origin::Ready))
 }
 
-// Tries the next thread, where there is one, else idles.
+/// Tries the next thread, where there is one, else idles.
 fn seek<G: Gate, Q: Waiters>(
     bench: &Bench<'_, Q>,
     gate: &G,

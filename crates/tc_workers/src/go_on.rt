@@ -47,15 +47,15 @@ pub fn next(settled: Settled) -> Step
     }
 }
 
-// Tells the gate where the thread was shipped.
+/// Tells the gate where the thread was shipped.
 fn tell<G: Gate>(gate: &G, worker: u32, t: u32, settled: &Settled) {
     if let Settled::Shipped = settled {
         gate.at(worker, Point::Shipped(t));
     }
 }
 
-// Offers each of these threads. Few blocks make one ready: those that do pay for a call, and the
-// others don't.
+/// Offers each of these threads. Few blocks make one ready: those that do pay for a call, and the
+/// others don't.
 #[inline(never)]
 fn offer_all(threads: &[u32], ready: &mut Ready)
     requires known { All (λ t. t < ready.old.threads) threads.now }
@@ -66,7 +66,7 @@ fn offer_all(threads: &[u32], ready: &mut Ready)
     }
 }
 
-// Goes on by the desk's answer: tells the gate, and offers each thread that the desk put as ready.
+/// Goes on by the desk's answer: tells the gate, and offers each thread that the desk put as ready.
 fn conclude<G: Gate>(
     gate: &G,
     worker: u32,
@@ -86,7 +86,7 @@ fn conclude<G: Gate>(
     next(settled)
 }
 
-// Takes this lock, which the package wants, or ships the package.
+/// Takes this lock, which the package wants, or ships the package.
 fn acquire<R: Wait, G: Gate, Q: Waiters>(
     rt: &R,
     bench: &Bench<'_, Q>,
@@ -109,8 +109,8 @@ fn acquire<R: Wait, G: Gate, Q: Waiters>(
     conclude(gate, number, t, handed, &mut worker.ready, settled)
 }
 
-// Makes room for a block of the package, and runs it. It knows no queue of waiters, so that there is
-// one of it in a program, however many kinds of them there are.
+/// Makes room for a block of the package, and runs it. It knows no queue of waiters, so that there is
+/// one of it in a program, however many kinds of them there are.
 fn run_one(package: &mut Package, image: &Image) -> Result<End, AllocError>
     requires may { MayRun image.now «package».old }
     ensures { MatchResult result (λ end. RanOne image.now end «package».old «package».new)
@@ -140,7 +140,7 @@ pub fn seal_block<Q: Waiters>(
     Ok(end)
 }
 
-// Memory was refused: stops the others first, and then puts all back.
+/// Memory was refused: stops the others first, and then puts all back.
 fn give_up<Q: Waiters>(bench: &Bench<'_, Q>, desk: &mut Desk<Q>, package: Package)
     requires work { IsAtDesk bench.now (Some «package») desk.old }
     ensures { GivesUp «package» desk.old desk.new }

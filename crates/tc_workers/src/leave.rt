@@ -7,7 +7,7 @@ use tc_context::package::Package;
 use tc_hall::place::Place;
 use tc_queue::Waiters;
 
-// Puts a package back as ready, where there is one.
+/// Puts a package back as ready, where there is one.
 fn put_back<Q: Waiters>(bench: &Bench<'_, Q>, desk: &mut Desk<Q>, package: Option<Package>)
     requires { MayLeave bench.now «package» desk.old }
     ensures { DidPutBack bench.now «package» desk.old desk.new }

@@ -5,19 +5,19 @@ use crossbeam_utils::Backoff;
 use std::sync::Wait;
 use std::time::Duration;
 
-// After so many blocks a worker has found enough to do, and its next rest is short. A thread that it
-// takes only to ship it at its next lock makes one or two.
+/// After so many blocks a worker has found enough to do, and its next rest is short. A thread that it
+/// takes only to ship it at its next lock makes one or two.
 const ENOUGH: u64 = 200;
 
-// How long the first sleep is at most, in microseconds, and how long each is.
+/// How long the first sleep is at most, in microseconds, and how long each is.
 const SHORTEST: u64 = 25;
 
 const LONGEST: u64 = 1_600;
 
-// Behind so many threads in a row that have slept a worker may take a recess.
+/// Behind so many threads in a row that have slept a worker may take a recess.
 const ROW: u64 = 1_024;
 
-// It takes one if more than so many workers are up.
+/// It takes one if more than so many workers are up.
 const FEW: u64 = 2;
 
 /// The rests of a worker. Where it finds nothing, it spins at first, or gives its processor away; then
@@ -72,7 +72,7 @@ impl<'a> Rests<'a> {
         }
     }
 
-    // Asks for a recess, or begins the next row. Few threads end a row: those that do pay for a call.
+    /// Asks for a recess, or begins the next row. Few threads end a row: those that do pay for a call.
     #[inline(never)]
     fn end_row(&mut self) {
         if self.bell.are_up() > FEW {
@@ -82,7 +82,7 @@ impl<'a> Rests<'a> {
         }
     }
 
-    // Takes a recess, and begins the next row.
+    /// Takes a recess, and begins the next row.
     fn recess<R: Wait>(&mut self, rt: &R) {
         self.bell.sleep(rt, Duration::from_micros(LONGEST));
         self.asked = false;
@@ -95,7 +95,7 @@ impl<'a> Rests<'a> {
         self.asked
     }
 
-    // The next rest is short where enough was done since the last one.
+    /// The next rest is short where enough was done since the last one.
     fn begin(&mut self, now: u64) {
         if now.saturating_sub(self.rested) >= ENOUGH {
             self.pause.reset();

@@ -25,13 +25,13 @@ use tc_isa::options::Options;
 use tc_queue::{Queue, Waiters};
 use tc_ready::Ready;
 
-// The most offers that there is room for. A deque uses each of its places once, and writes all of
-// them when it is made, before the run begins.
+/// The most offers that there is room for. A deque uses each of its places once, and writes all of
+/// them when it is made, before the run begins.
 const MAX_OFFERS: u32 = 256;
 
-// For how many offers a worker gets room: for one for each section that the threads can have, since
-// it makes at most one for each, but no more than MAX_OFFERS. A thread that is not offered for want
-// of room is found by the look over all threads.
+/// For how many offers a worker gets room: for one for each section that the threads can have, since
+/// it makes at most one for each, but no more than MAX_OFFERS. A thread that is not offered for want
+/// of room is found by the look over all threads.
 fn room_of(threads: u32, fuel: u32) -> u32
     requires threads { (1 ≤ threads) × (threads ≤ MAX_THREADS) }
     requires fuel { fuel ≤ MAX_FUEL }
@@ -43,7 +43,7 @@ fn room_of(threads: u32, fuel: u32) -> u32
     (threads * (fuel / 2 + 2)).min(MAX_OFFERS)
 }
 
-// Ends a hall whose workers have all ended.
+/// Ends a hall whose workers have all ended.
 fn finish(hall: Hall, finished: Finished) -> Result<Closed, AllocError>
     requires { HasRun hall hall.terms.workers finished.pass finished.all_done }
     ensures { IfOk result (λ c. IsEnd hall.terms finished.pass.knows c.packages c.locks) }
@@ -57,7 +57,7 @@ fn finish(hall: Hall, finished: Finished) -> Result<Closed, AllocError>
     }
 }
 
-// Hires the workers at the bench, and lets them run until all have ended.
+/// Hires the workers at the bench, and lets them run until all have ended.
 fn run_at<R: Threads + Wait + Sync, Q: Waiters, G: Gate>(
     rt: &R,
     alloc: Global,
