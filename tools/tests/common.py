@@ -201,11 +201,12 @@ class Folder(unittest.TestCase):
         own = "__init__.py", "limits.py", "places.py", "tool.py", "running/__init__.py", "running/program.py"
         names = ["tclocks", "tclocks-build", "CITATION.cff", "tools/__init__.py"]
         names += [f"tools/workbench/{name}" for name in own]
-        for folder, some in (ROOT, names), (ROOT / "tools/tests/made-up",
-                                            ["bin/rt", "program", "crates.txt"]):
-            for name in some:
-                (self.root / name).parent.mkdir(parents=True, exist_ok=True)
-                shutil.copy(folder / name, self.root / name)
+        made_up = {"bin/rt": "bin/rt", "program": "program", "listed-crates": "crates.txt"}
+        copies = {ROOT / name: name for name in names}
+        copies.update({ROOT / "tools/tests/made-up" / name: place for name, place in made_up.items()})
+        for path, place in copies.items():
+            (self.root / place).parent.mkdir(parents=True, exist_ok=True)
+            shutil.copy(path, self.root / place)
         (self.root / "tmp").mkdir()
         self.environment = {**os.environ, "PATH": f"{self.root / 'bin'}:{os.environ['PATH']}", "SLEEP": "0.5",
                             "COUNT": str(self.root / "count"), "TIMES": str(self.root / "times"), "FAILING": "", "MEET": "",
