@@ -2,9 +2,8 @@
 use Rattle.std.proofs.Common.{◌≡◌, ℕ, ◌==◌, ◌≤◌, ◌||◌, true, false, List, [], ◌∷◌, length, sym, refl, ap, ◌∙◌, subst, inl, inr, arith, Option, Some, None}
 use Rattle.tc_hall.proofs.Vocabulary.{AreTogether, Block, Call, Called, DidRun, Grant, IsHandedOver, Knows, PackageView, Shown, grants_adopted, is_pinned, last_by, last_of, lock_in, next_lock, of_worker, thread_in, was_cut, whole}
 use Rattle.std.proofs.lemmas.Bool.Decides.{eqb_tells}
-use Rattle.tc_journal.specs.Batch.{begins, is_adopted, is_lock, takes_of}
+use Rattle.tc_journal.specs.Batch.{is_adopted, is_lock, takes_of}
 use Rattle.tc_journal.specs.Handing.{has_unlocked}
-use Rattle.tc_journal.specs.declared.block.Kind.TheVariants.{Adopted}
 use Rattle.tc_mutex_spec.proofs.Replaying.{IsRecord, record_takes}
 use Rattle.tc_context.specs.View.{IsSoundPackage, MayTake, kind_of}
 use Rattle.tc_context.proofs.Staging.{some_of}

@@ -1,6 +1,6 @@
 -- The packages and lock states of a hall that was closed.
 use Rattle.std.proofs.Common.{◌≡◌, ◌≢◌, ℕ, suc, ◌+◌, ◌<◌, Bool, true, false, List, [], ◌∷◌, ◌++◌, length, map, get_or, set, sym, refl, ap, ◌∙◌, subst, ⊎_elim, arith, Option, Some, None, length-append, get_or-set_other, get_or-set_same}
-use Rattle.tc_hall.proofs.Vocabulary.{AreTaken, Cargo, HasAll, HasSeenAll, IsEmptied, IsEnd, IsFree, IsLockHome, IsOrdered, KeptHall, Knows, Lawful, LiesLock, Lock, LockView, Package, PackageView, Spot, Terms, bare, get_elem?, home, inside, is_running, kept, length-map, locked_in, locks, none, out, some, some-injective, some-ne-none, threads}
+use Rattle.tc_hall.proofs.Vocabulary.{AreTaken, Cargo, HasAll, HasSeenAll, IsEmptied, IsEnd, IsFree, IsLockHome, IsOrdered, KeptHall, Knows, Lawful, LiesLock, Lock, LockView, Package, PackageView, Spot, Terms, bare, get_elem?, home, inside, is_running, kept, length-map, locked_in, locks, out, some, some-injective, some-ne-none, threads}
 use mathlib.Core.Logic.{dite}
 use mathlib.Core.Option as maybe
 use native.Mathlib.Decide.{ℕ_discrete}

@@ -5,12 +5,10 @@ use Rattle.tc_hall.proofs.Vocabulary.{last_end, lay, lies_at, lock_in_package, l
 use Rattle.std.specs.Prelude.{nat_lt}
 use Rattle.std.proofs.lemmas.Bool.Decides.{nat_tests}
 use Rattle.std.proofs.lemmas.List.{get_or-replicate}
-use mathlib.Core.Option as maybe
 use Rattle.atomic_table.proofs.Lists.{at_map}
 use Rattle.tc_turn.specs.Turn.{thread_at_start, no_thread}
 use Rattle.tc_core.specs.Events.{effect, entered, left_by_all}
 use Rattle.tc_core.specs.declared.event.Event.TheVariants.{Enter, Leave}
-use Rattle.tc_hall.specs.declared.place.Origin.TheVariants as origin
 use Rattle.tc_hall.specs.Lift.{Beat, operation, enter, leave, events_of, hall_of, start_of, core_after, MayLift, OpensShown, IsLifted, Lifts}
 use Rattle.tc_hall.proofs.Ordering.{kept_after, kept_by}
 use Rattle.tc_hall.proofs.Shows.{shown_code}

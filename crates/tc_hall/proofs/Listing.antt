@@ -1,10 +1,8 @@
 -- What the passes' lists of blocks say of the history stays true.
-use Rattle.std.proofs.Common.{◌≡◌, ◌≢◌, ◌⊎◌, ℕ, zero, suc, ◌<◌, ◌≤◌, ◌+◌, ◌==◌, Bool, true, false, List, [], ◌∷◌, ◌++◌, length, set, sym, refl, ap, ◌∙◌, subst, ⊎_elim, inl, inr, arith, append-nil, append_assoc, Some, None, if◌then◌else◌}
-use Rattle.tc_hall.proofs.Vocabulary.{AreApart, Block, Knows, Shown, clean, dealt, get_elem?, gone, last_by, last_of, merged, of_worker, some, some-injective, some-ne-none}
+use Rattle.std.proofs.Common.{◌≡◌, ◌≢◌, ◌⊎◌, ℕ, zero, suc, ◌<◌, ◌≤◌, ◌==◌, true, false, List, [], ◌∷◌, ◌++◌, set, sym, refl, ap, ◌∙◌, subst, ⊎_elim, inl, inr, arith, append-nil, if◌then◌else◌}
+use Rattle.tc_hall.proofs.Vocabulary.{AreApart, Block, Knows, clean, dealt, get_elem?, gone, last_by, last_of, merged, of_worker, some, some-ne-none}
 use Rattle.std.proofs.lemmas.Bool.Decides.{eqb_tells}
 use Rattle.std.proofs.lemmas.List.Elements.{filter-append}
-use mathlib.Core.Logic.{dite}
-use native.Mathlib.Decide.{ℕ_discrete}
 use Rattle.atomic_table.proofs.Lists.{at_set, at_longer, at_snoc}
 use Rattle.tc_journal.proofs.Rows.{last_own, other_more, worker_of}
 use Rattle.tc_hall.specs.Rule.{AreListed}

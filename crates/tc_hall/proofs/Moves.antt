@@ -1,6 +1,6 @@
 -- Each step on a package keeps the rule.
 use Rattle.std.proofs.Common.{◌≡◌, ◌≢◌, ◌⊎◌, ℕ, ◌+◌, ◌<◌, Bool, true, false, List, [], ◌∷◌, length, set, sym, refl, ap, ◌∙◌, subst, ⊎_elim, inl, inr, arith, Option, Some, None, slice_index, length-set, get_or-set_other, get_or-set_same}
-use Rattle.tc_hall.proofs.Vocabulary.{CLOCK, Cargo, Gets, Has, HasLock, Homes, IsHome, IsPackageAfter, KeptHall, Knows, Lies, LockView, Package, PackageView, STOP, Terms, after_claim, after_miss, bare, get_elem?, gives, is_pinned, keeps, kept, locked_in, locks, none, slot_word, some, some-injective, some-ne-none, stepped, takes, threads}
+use Rattle.tc_hall.proofs.Vocabulary.{CLOCK, Cargo, Gets, Has, HasLock, Homes, IsHome, IsPackageAfter, KeptHall, Knows, Lies, LockView, Package, PackageView, Terms, after_claim, after_miss, bare, get_elem?, gives, is_pinned, keeps, kept, locked_in, locks, none, slot_word, some, some-injective, some-ne-none, stepped, takes, threads}
 use mathlib.Core.Logic.{dite}
 use mathlib.Core.Option as maybe
 use native.Mathlib.Decide.{ℕ_discrete}

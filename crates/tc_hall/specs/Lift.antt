@@ -1,6 +1,6 @@
 -- Whole runs: the operations of a hall in their order, with events of the lines put in between, are one list of events of the
 -- pure machine.
-use Rattle.std.specs.Prelude.{◌≡◌, ℕ, ◌+◌, true, List, [], ◌∷◌, ◌++◌}
+use Rattle.std.specs.Prelude.{◌≡◌, ℕ, true, List, [], ◌∷◌, ◌++◌}
 use Rattle.tc_core.specs.Core.{Core, first_core}
 use Rattle.tc_core.specs.Stories.{AreEnabled}
 use Rattle.tc_core.specs.declared.event.Event.{Event}
