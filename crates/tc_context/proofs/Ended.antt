@@ -11,7 +11,7 @@ use Rattle.tc_mutex_spec.proofs.BlocksAlike.{eq_self}
 use Rattle.tc_mutex_spec.proofs.OptionLaws.{map_some, option_map-id}
 use Rattle.tc_segment.proofs.Keeping.{last_at}
 use Rattle.tc_context.proofs.LockList.{when_field, with_locks}
-use Rattle.tc_context.proofs.Staging.{false_true, lock_was}
+use Rattle.tc_context.proofs.Staging.{both_ways, lock_was}
 
 abbrev finish_of : LockView → Option Registers
 finish_of l = last_finish l.journal.sealed l.journal.closed
@@ -78,7 +78,7 @@ ended_rooms p locks same ended k l found h = (let x = lock_was (lock_in p.locks 
 -- a lock that the thread doesn't hold
 pub ended_placed : (p : Context) (locks : List (Option LockView)) (n : ℕ) (o : Option LockView) → IsPlaced n o p.locks locks → has p.guest.held n ≡ false → AreEnded p → AreEnded (with_locks p locks)
 ended_placed p locks n o placed free ended k l found h = elim (eqb_tells k n) [
-  | inl e ↦ absurd (false_true _ (ap (has p.guest.held) e.1 ∙ free) h)
+  | inl e ↦ absurd (both_ways _ (ap (has p.guest.held) e.1 ∙ free) h)
   | inr e ↦ ended k l (sym (placed k ∙ ap (λ b. if b then o else lock_in p.locks k) e.0) ∙ found) h
 ]
 

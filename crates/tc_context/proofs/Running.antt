@@ -20,7 +20,7 @@ use Rattle.tc_mutex_spec.proofs.Going.{block_survives, block_gives, block_inside
 use Rattle.tc_mutex_spec.proofs.Leaving.{block_runs, block_next, block_cut, block_releases, block_covered}
 use Rattle.tc_journal.specs.History.{IsBlock}
 use Rattle.tc_context.specs.Ran.{DidRun, slept_at}
-use Rattle.tc_context.proofs.Staging.{false_true, left_few, rests_as, are_of, idle_at, closed_none, grant_of, goes_on}
+use Rattle.tc_context.proofs.Staging.{both_ways, left_few, rests_as, are_of, idle_at, closed_none, grant_of, goes_on}
 use Rattle.tc_mutex_spec.proofs.Few.{block_few}
 use Rattle.tc_context.proofs.Blocked.{record_is}
 use Rattle.std.proofs.lemmas.Bool.{not-false}
@@ -50,7 +50,7 @@ not_before held (Some lock) k out = (elim (k == lock) as (λ b. (b || held k) �
 
 begun_is : (o : Option ℕ) (k : ℕ) → is_lock o k ≡ true → o ≡ Some k
 begun_is None k h = absurd (cc)
-begun_is (Some lock) k h = elim (eqb_tells k lock) [ inl e ↦ ap Some (sym e.1) | inr e ↦ absurd (false_true _ e.0 h) ]
+begun_is (Some lock) k h = elim (eqb_tells k lock) [ inl e ↦ ap Some (sym e.1) | inr e ↦ absurd (both_ways _ e.0 h) ]
 
 module _ (image : Shown) (p : PackageView) (m : MayRun image p) where
   abbrev takes : Option ℕ
@@ -97,7 +97,7 @@ module _ (image : Shown) (p : PackageView) (m : MayRun image p) where
   no_grant : is_section (kind_of p.granted p.log) ≡ false → kind_of p.granted p.log ≡ kind_of None p.log
   no_grant out = (elim p.granted as (λ o. p.granted ≡ o → is_section (kind_of o p.log) ≡ false → kind_of o p.log ≡ kind_of None p.log) [
     | None ↦ λ is none. refl
-    | Some g ↦ λ is none. absurd (false_true _ none (granted_as (Some g) g is refl).section)
+    | Some g ↦ λ is none. absurd (both_ways _ none (granted_as (Some g) g is refl).section)
   ]) refl out
 
   module _ (new : Context) (b : Block) (log : List Block) (slept : ℕ) (places : length new.locks ≡ 32) (runs : RunsAs image p.context new b.turns b.end) (journals : Journals image p.context new b)
@@ -129,7 +129,7 @@ module _ (image : Shown) (p : PackageView) (m : MayRun image p) where
       where
         by : (v w : Bool) → has b.held k ≡ v → has new.guest.held k ≡ w → w ≡ (v && not (ends_section k b))
         by false false out free = refl
-        by false true out h = absurd (false_true _ out (held_locks k h))
+        by false true out h = absurd (both_ways _ out (held_locks k h))
         by true true mine h = (let s = block_survives image (whole p.context) last t b.turns b.end alone k (sym (held_is k) ∙ h) in λ i. not (sym s.0 i || sym s.1 i))
         by true false mine free = ap not (sym (block_gives image (whole p.context) last t b.turns b.end alone k (sym (journals.held k) ∙ mine) (sym (held_is k) ∙ free)))
 
@@ -175,7 +175,7 @@ module _ (image : Shown) (p : PackageView) (m : MayRun image p) where
       on = λ h none.
           (let held : has p.context.guest.held k ≡ true = elim (in_block (has p.context.guest.held) takes k (sym (journals.held k) ∙ h)) [
             | inl before ↦ before
-            | inr took ↦ absurd (false_true _ (ap (λ o. is_lock o k) (sym (record_takes image (whole p.context) b (record_is image p.context b can_go journals.held section) ∙ took)) ∙ none) (eq_self k))
+            | inr took ↦ absurd (both_ways _ (ap (λ o. is_lock o k) (sym (record_takes image (whole p.context) b (record_is image p.context b can_go journals.held section) ∙ took)) ∙ none) (eq_self k))
           ] in
           (λ i. may_go_on k (last_of (map block_in (sealed i))) (thread i)) ∙ goes_on p k x m.sound m.rest held e);
       passes = λ strict h. ap (λ y. passes_on k (map block_in y) b) sealed ∙ passed k x e (sym same ∙ strict) (begins k b) refl;
@@ -383,7 +383,7 @@ module _ (p : PackageView) (b : Block) (stamp worker : ℕ) (sound : IsSoundPack
       }
       by false out = record {
         rests = λ free. rests_as k x (seal x) (ap (sealed_list stamp worker x.journal.sealed) (closed_none x.journal.closed (s.closed ∙ ap (λ o. waiting_in o k) pending ∙ ap (λ v. if v then Some b else None) out))) (was.rests out);
-        last = λ y e mine none. absurd (false_true _ (ap (λ (z : Block). has z.held k) (same y e) ∙ out) mine);
+        last = λ y e mine none. absurd (both_ways _ (ap (λ (z : Block). has z.held k) (same y e) ∙ out) mine);
       }
 
   pub sealed_sound : IsSoundPackage q

@@ -6,7 +6,7 @@ use Rattle.std.specs.List.{range_with_len}
 use Rattle.tc_isa.specs.Sets.{locks_of}
 use Rattle.tc_isa.specs.declared.limits.TheConstants.{MAX_HELD}
 use Rattle.tc_turn.proofs.Few.{fewer}
-pub use Rattle.std.proofs.lemmas.Bool.{and_parts, both_ways as false_true}
+pub use Rattle.std.proofs.lemmas.Bool.{and_parts, both_ways}
 use Rattle.std.proofs.lemmas.Bool.Decides.{eqb_tells}
 use Rattle.tc_journal.specs.Handing.{is_cut, was_cut}
 use Rattle.tc_journal.specs.declared.block.End.{End}
@@ -115,10 +115,10 @@ pub goes_on : (p : PackageView) (k : ℕ) (l : LockView) → IsSoundPackage p �
 goes_on p k l sound rest h e = by (last_of p.log) refl sound.left
   where
     by : (o : Option Block) → last_of p.log ≡ o → IsLeft p.image p.context o → may_go_on k (last_of (blocks_of l)) p.context.thread ≡ true
-    by None is left = absurd (false_true _ (left.held k) h)
+    by None is left = absurd (both_ways _ (left.held k) h)
     by (Some b) is left =
         let parts = and_parts (has b.held k) (not (ends_section k b)) (sym (left.held k) ∙ h) in
-        let ungranted = λ (f : granted_lock p.granted ≡ Some k). (let g = grant_of p.image p.context p.granted k sound.grant f in false_true _ (next_free p.image (thread_in p.context) k (g.3.next ∙ ap Some g.2)) h) in
+        let ungranted = λ (f : granted_lock p.granted ≡ Some k). (let g = grant_of p.image p.context p.granted k sound.grant f in both_ways _ (next_free p.image (thread_in p.context) k (g.3.next ∙ ap Some g.2)) h) in
         ap (λ o. may_go_on k o p.context.thread) ((idle_at p k l sound rest e).last b is parts.0 ungranted)
         ∙ (λ i. parts.1 i && (left.thread i == p.context.thread)) ∙ eq_self p.context.thread
 
@@ -143,7 +143,7 @@ fresh_sound image t fuel p fresh lt few places numbers =
       few = rw fresh.image_is few;
       places = (places, numbers);
       thread = rw fresh.image_is (rw fresh.number lt);
-      held = λ k h. absurd (false_true _ (none k) h);
+      held = λ k h. absurd (both_ways _ (none k) h);
       stored = λ k l e. absurd (let f : None ≡ Some l = sym (fresh.locks k) ∙ e in cc);
       left = subst (λ x. IsLeft p.image p.context (last_of x)) (sym fresh.log) (record { runs = ap (λ (d : Thread). d.status) fresh.thread; held = none });
       grant = subst (λ x. MayTake p.image p.context x) (sym fresh.granted) tt;
@@ -303,7 +303,7 @@ granted_sound p lock kind number sound waiting rest section passes small =
       left = left_as p.image p.context q.context.locks (last_of p.log) sound.left;
       grant = record { next = next; here = ap is_some (here n (eq_self n)); section = section; passes = λ l e. (let same : Some lock ≡ Some l = sym (here n (eq_self n)) ∙ e in let is : lock ≡ l = cc in subst (λ x. MayPassTo x kind p.context.thread) is passes) };
       log = sound.log;
-      alone = λ h. absurd (false_true _ (ap is_some waiting.pending) h);
+      alone = λ h. absurd (both_ways _ (ap is_some waiting.pending) h);
     }
 
 pub taken_sound : (p : PackageView) (lock : ℕ) → IsSoundPackage p → p.pending ≡ None → p.granted ≡ None → has p.context.guest.held lock ≡ false → lock < 32 → IsSoundPackage (without_lock lock p)
@@ -315,7 +315,7 @@ taken_sound p lock sound rest ungranted free small =
       places = (length-set p.context.locks lock None ∙ sound.places.0, sound.places.1);
       thread = sound.thread;
       held = λ k h. (elim (eqb_tells k lock) [
-        | inl f ↦ absurd (false_true _ (ap (has p.context.guest.held) f.1 ∙ free) h)
+        | inl f ↦ absurd (both_ways _ (ap (has p.context.guest.held) f.1 ∙ free) h)
         | inr f ↦ ap is_some (at k ∙ ap (λ v. if v then None else lock_in p.context.locks k) f.0) ∙ sound.held k h
       ]);
       stored = λ k l e. stays_stored p q.context.locks p.granted p.numbers k l ungranted rest refl (sound.stored k l (else_some (k == lock) (lock_in p.context.locks k) l (sym (at k) ∙ e)));

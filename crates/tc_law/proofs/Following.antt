@@ -31,7 +31,7 @@ use Rattle.tc_law.specs.History.{ThreadFollows, StateFollows, Follows, Grows}
 use Rattle.tc_context.proofs.Moved.{map_some}
 use Rattle.tc_mutex_spec.proofs.Going.{in_block}
 use Rattle.tc_context.proofs.Partway.{block_inside}
-use Rattle.tc_context.proofs.Staging.{false_true, some_of, closed_none}
+use Rattle.tc_context.proofs.Staging.{both_ways, some_of, closed_none}
 use Rattle.tc_context.proofs.Running.{entered_rest, block_follows, block_passes, sealed_at}
 use Rattle.tc_mutex_spec.proofs.EntriesAlike.{entry_same}
 
@@ -110,7 +110,7 @@ module _ (image : Shown) (fuel limit : ℕ) (h : List Block) (m : State) (p v : 
     owner_there : (k : ℕ) (l : LockView) → lock_in p.context.locks k ≡ Some l → block_locks image p.context k ≡ true → (w : Bool) → has p.context.guest.held k ≡ w → (m.locks k).owner ≡ (if w then Some t else None)
     owner_there k l e mine true held = (holds_told image fuel h m told t k).0 (ap (λ (d : Thread). d.held k) (sym was.thread.thread) ∙ held)
     owner_there k l e mine false free =
-        let next : next_lock image (thread_in p.context) ≡ Some k = elim (in_block (has p.context.guest.held) (next_lock image (thread_in p.context)) k mine) [ inl before ↦ absurd (false_true _ free before) | inr took ↦ took ] in
+        let next : next_lock image (thread_in p.context) ≡ Some k = elim (in_block (has p.context.guest.held) (next_lock image (thread_in p.context)) k mine) [ inl before ↦ absurd (both_ways _ free before) | inr took ↦ took ] in
         no_owner image fuel h m k told (subst (λ bs. IfSome (last_of bs) (λ x. ends_section k x ≡ true)) (blocks_are image fuel limit h m k l (was.states k l e)) (ran.rests k l next e))
 
     lock_there : (k : ℕ) → block_locks image p.context k ≡ true → mutex_at p.context k ≡ m.locks k

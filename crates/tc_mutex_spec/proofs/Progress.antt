@@ -2,6 +2,7 @@
 use Rattle.std.proofs.Common.{◌≡◌, ◌⊎◌, ℕ, zero, suc, ◌+◌, ◌<◌, ◌≤◌, Bool, true, false, ◌&&◌, List, [], ◌∷◌, length, refl, sym, ap, subst, ◌∙◌, arith, inl, inr}
 use Rattle.std.specs.Prelude.{Option, Some, None, nat_lt, if◌then◌else◌, option_and_then}
 use Rattle.std.proofs.lemmas.Bool.Decides.{nat_tests, eqb_tells}
+use Rattle.std.proofs.lemmas.Bool.{both_ways}
 use Rattle.tc_elf.specs.Shown.{Shown}
 use Rattle.tc_elf.specs.declared.limits.TheConstants.{MAX_GUARDS}
 use Rattle.tc_turn.specs.Turn.{Thread, Mutex, thread_at_start, no_thread, is_running, next_lock, next_act, thread_after}
@@ -41,9 +42,6 @@ first_turns image fuel = sums_most (λ u. left ((start image fuel).threads u)) (
     (λ u. elim (nat_lt u (length image.entries)) as (λ b. left (if b then thread_at_start image fuel u else no_thread) ≤ fuel + 1) [ true ↦ omega arith | false ↦ omega arith ])
 
 -- ---- what holds in every state that turns come to
-
-pub false_true : (b : Bool) → b ≡ false → b ≡ true → ⊥
-false_true b e f = cc
 
 pub record IsSane (image : Shown) (m : State) : Type 0 where
   pub owners : IsHeldByOwner m
@@ -99,7 +97,7 @@ pub start_sane : (image : Shown) (fuel : ℕ) → IsSane image (start image fuel
 start_sane image fuel = record {
   owners = holds_start image fuel;
   ends = λ t k e. (elim (nat_lt t (length image.entries)) as (λ b. (if b then thread_at_start image fuel t else no_thread).held k ≡ false) [ true ↦ refl | false ↦ refl ]);
-  known = λ t k e. absurd (false_true _ (elim (nat_lt t (length image.entries)) as (λ b. (if b then thread_at_start image fuel t else no_thread).held k ≡ false) [ true ↦ refl | false ↦ refl ]) e);
+  known = λ t k e. absurd (both_ways _ (elim (nat_lt t (length image.entries)) as (λ b. (if b then thread_at_start image fuel t else no_thread).held k ≡ false) [ true ↦ refl | false ↦ refl ]) e);
   within = λ t. go t (nat_lt t (length image.entries)) refl;
 }
   where
@@ -153,7 +151,7 @@ held_runs image m u k s h = go (is_running (m.threads u).status) refl
   where
     go : (b : Bool) → is_running (m.threads u).status ≡ b → is_running (m.threads u).status ≡ true
     go true e = e
-    go false e = absurd (false_true _ (s.ends u k e) h)
+    go false e = absurd (both_ways _ (s.ends u k e) h)
 
 -- who holds a lock wants a greater one alone
 wants_above : (image : Shown) (m : State) (t j k : ℕ) → IsSane image m → length image.guards ≤ MAX_GUARDS → next_lock image (m.threads t) ≡ Some j → (m.threads t).held k ≡ true → k < j

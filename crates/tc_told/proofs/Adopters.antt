@@ -3,6 +3,7 @@ use Rattle.std.proofs.Common.{◌≡◌, ℕ, Bool, true, false, not, ◌&&◌, 
 use Rattle.std.specs.Prelude.{Option, Some, None, is_some, if◌then◌else◌}
 use Rattle.std.proofs.lemmas.Bool.Decides.{eqb_tells}
 use Rattle.std.proofs.lemmas.List.Elements.{filter-append}
+use Rattle.std.proofs.lemmas.Bool.{and_parts}
 use Rattle.tc_isa.specs.Sets.{has}
 use Rattle.tc_elf.specs.Shown.{Shown}
 use Rattle.tc_journal.specs.Batch.{last_of}
@@ -22,7 +23,7 @@ use Rattle.tc_core.specs.declared.place.Release.{Release}
 use Rattle.tc_core.specs.Core.{Core, Limits, first_core, is_number, is_loose, with_of}
 use Rattle.tc_core.specs.Events.{is_enabled, effect, may_pass, adopts, release_of, custody_on, custody_past}
 use Rattle.tc_core.specs.Stories.{AreEnabled, after_all}
-use Rattle.tc_core.proofs.Quiet.{both, is_quiet, passes_loose}
+use Rattle.tc_core.proofs.Quiet.{is_quiet, passes_loose}
 use Rattle.tc_core.proofs.Erasure.{sound_after, first_sound}
 use Rattle.tc_core.proofs.Tracked.{tracked_after, first_tracked}
 use Rattle.tc_told.specs.Written.{Beginning, Written, IsOfLast, first_written, write, write_all, history_of}
@@ -124,7 +125,7 @@ loose_is (Loose v) w e = elim (eqb_tells v w) [ inl h ↦ ap Loose h.1 | inr h �
 
 adopt_loose : (image : Shown) (limits : Limits) (c : Core) (w t k : ℕ) → is_enabled image limits c (Adopt w t k) ≡ true → (c.custody k).place ≡ Loose w
 unfolding is_enabled
-adopt_loose image limits c w t k on = loose_is (c.custody k).place w (passes_loose image limits c w t k (both (may_pass image limits c w t k) (adopts limits c k) on).0)
+adopt_loose image limits c w t k on = loose_is (c.custody k).place w (passes_loose image limits c w t k (and_parts (may_pass image limits c w t k) (adopts limits c k) on).0)
 
 pub core_after : (image : Shown) (events : List Event) (s : Written) → (write_all image s events).core ≡ after_all image s.core events
 core_after image [] s = refl

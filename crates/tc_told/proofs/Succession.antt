@@ -2,7 +2,7 @@
 use Rattle.std.proofs.Common.{◌≡◌, ◌≢◌, ℕ, ◌<◌, Bool, true, false, not, ◌&&◌, ◌||◌, ◌==◌, List, [], ◌∷◌, ◌++◌, length, refl, sym, ap, subst, ◌∙◌, inl, inr, append_assoc, append-nil, length-append}
 use Rattle.std.specs.Prelude.{Option, Some, None, All, if◌then◌else◌}
 use Rattle.std.proofs.Math.Bool.{or-true}
-use Rattle.std.proofs.lemmas.Bool.{eqb-true}
+use Rattle.std.proofs.lemmas.Bool.{eqb-true, and_parts}
 use Rattle.std.proofs.lemmas.Bool.Decides.{eqb_tells}
 use Rattle.std.proofs.lemmas.List.{map-id}
 use Rattle.std.proofs.lemmas.List.Elements.{All-head, All-tail}
@@ -24,7 +24,6 @@ use Rattle.tc_mutex_spec.proofs.BlocksAlike.{eq_self, runs_apart}
 use Rattle.tc_mutex_spec.proofs.Leaving.{block_releases}
 use Rattle.tc_mutex_spec.proofs.Progress.{can_runs}
 use Rattle.tc_core.specs.Core.{Limits}
-use Rattle.tc_core.proofs.Quiet.{both}
 use Rattle.tc_told.specs.Handover.{first_of, ShowsDelegation, BeginsAdopted, IsBehindRelease, FollowsAtOnce, HasWaited, BeginsWith, IsCutUp}
 use Rattle.tc_told.proofs.Committed.{IsNext, begins_is, keeps}
 use Rattle.tc_told.proofs.Openings.{passed, adopt_ends}
@@ -59,7 +58,7 @@ adopts_behind lock limit run None Adopted w t is may pass = absurd (cc)
 adopts_behind lock limit run (Some q) Adopted w t is may pass = (
   q,
   refl,
-  eqb-true q.worker w (both (may_adopt q lock run limit) (q.worker == w) may).1,
+  eqb-true q.worker w (and_parts (may_adopt q lock run limit) (q.worker == w) may).1,
   λ e. (let same : (q.thread == t) ≡ true = ap (λ n. n == t) e ∙ eq_self t in let no : not (q.thread == t) ≡ false = ap not same in cc),
 )
 adopts_behind lock limit run o Granted w t is may pass = absurd (cc)
@@ -81,8 +80,8 @@ begins_behind : (lock limit run : ℕ) (c : Block) (kind : Kind) (w : ℕ) → m
 begins_behind lock limit run c Start w may = absurd (cc)
 begins_behind lock limit run c On w may = absurd (cc)
 begins_behind lock limit run c Taken w may = may
-begins_behind lock limit run c Adopted w may = adopt_ends c lock run limit (both (may_adopt c lock run limit) (c.worker == w) may).0
-begins_behind lock limit run c Granted w may = (both (ends_section lock c) (not (may_adopt c lock run limit)) may).0
+begins_behind lock limit run c Adopted w may = adopt_ends c lock run limit (and_parts (may_adopt c lock run limit) (c.worker == w) may).0
+begins_behind lock limit run c Granted w may = (and_parts (ends_section lock c) (not (may_adopt c lock run limit)) may).0
 
 cut_ends_none : (lock : ℕ) (c : Block) → c.end ≡ Cut → ends_section lock c ≡ false
 cut_ends_none lock c cut = ap (λ e. unlocks lock e || ends_thread e) cut
@@ -99,7 +98,7 @@ cut_goes_on lock limit bs c d last cut may = go (begins lock d) refl
     go false e =
         let on : may_go_on lock (last_of bs) d.thread ≡ true = ap (λ v. if v then allows_of lock limit bs d.kind d.worker else may_go_on lock (last_of bs) d.thread) (sym e) ∙ may in
         let same : (not (ends_section lock c) && (c.thread == d.thread)) ≡ true = ap (λ o. may_go_on lock o d.thread) (sym last) ∙ on in
-        sym (eqb-true c.thread d.thread (both (not (ends_section lock c)) (c.thread == d.thread) same).1)
+        sym (eqb-true c.thread d.thread (and_parts (not (ends_section lock c)) (c.thread == d.thread) same).1)
 
 -- ---- places
 
