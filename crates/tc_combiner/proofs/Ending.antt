@@ -10,6 +10,7 @@ use Rattle.std.specs.Int.{bit_at}
 use Rattle.std.proofs.lemmas.Nat.{pow_pos}
 use Rattle.std.proofs.lemmas.Nat.Bits.{bit_at-zero}
 use Rattle.std.specs.Prelude.{MatchOption}
+use Rattle.tc_journal.proofs.Locks.{has_none}
 use Rattle.tc_turn.proofs.Few.{less_few}
 use Rattle.tc_combiner.proofs.Acting.{acted_by, acted_then, acts_none, at_after, takes_none}
 use Rattle.tc_combiner.proofs.Answering.{back_answers, keeps_answers, then_answers, then_at, wider}
@@ -52,9 +53,6 @@ less_falls rest i next e h =
 pub none_left : (P : Type 0) (Q : ℕ → Type 0) (o : Option ℕ) → MatchOption o P Q → ((x : ℕ) → o ≡ Some x → ⊥) → P
 none_left P Q None h n = h
 none_left P Q (Some x) h n = absurd (n x refl)
-
-nothing_left : (j : ℕ) → has 0 j ≡ false
-nothing_left j = ap (λ (n : ℕ). n == 1) (bit_at-zero j)
 
 -- ---- the least of a set comes first
 
@@ -194,8 +192,8 @@ left_all {k = k} {b = b} {q = q} {p = p} {rest = rest} {ss = ss} {ts = ts} {h = 
   calls = y.calls;
   acted = y.acted;
   aside = y.aside;
-  emptied = record { same = y.same; granted = y.granted; free = λ j. y.gone j (nothing_left j) };
-  seats_left = record { count = y.count; others = y.others; asks = λ j held. y.asks j held (nothing_left j) };
+  emptied = record { same = y.same; granted = y.granted; free = λ j. y.gone j (has_none j) };
+  seats_left = record { count = y.count; others = y.others; asks = λ j held. y.asks j held (has_none j) };
   order = subst (λ (c : List Call). LeftInOrder (by_hands k q (change ss ts) (change h g)) b (locks_of b.held) c false now) (append-nil y.calls) (y.order ts [] now (λ j f. refl) (refl, refl));
 }
 

@@ -151,9 +151,6 @@ goes_in v l p q h b zs o = joined b (outs v) (Pack p) (Loose l) (Pack q) zs (wit
 pub comes_out : (v : Knows) (l : LockView) (p q : PackageView) → IsWith l q p → Moves v v (Pack p ∷ []) (Pack q ∷ Loose l ∷ [])
 comes_out v l p q h b zs o = parted b (outs v) (Pack q) (Loose l) (Pack p) zs (with_joins l q p h) (with_apart l q p h) o
 
-pub same_number : (n : ℕ) → (n == n) ≡ true
-same_number n = grind (arith, nat_tests)
-
 pub place_here : (n : ℕ) (o : Option LockView) (p q : PackageView) → IsPlaced n o p.context.locks q.context.locks → locked_in q n ≡ o
 place_here n o p q h = h n ∙ ap (λ (b : Bool). if b then o else locked_in p n) (let e : (n == n) ≡ true = grind (arith, nat_tests) in e)
 

@@ -1,18 +1,13 @@
 -- A package whose block is sealed, and what is out then.
 use Rattle.std.proofs.Common.{◌≡◌, ℕ, zero, suc, ◌==◌, Bool, true, false, if◌then◌else◌, List, [], ◌∷◌, get_or, refl, sym, ap, ◌∙◌, subst, Option, Some, None, is_some}
+use Rattle.tc_mutex_spec.proofs.BlocksAlike.{eq_self}
 use mathlib.Core.Option.{some, some-injective, some-ne-none}
 use lib.ListN.{get_elem?}
 use Rattle.tc_combiner.proofs.Vocabulary.{DeskView, DidRun, DidSeal, Has, IsOut, Knows, LockView, MayCommit, Moves, Outs, Owns, Pack, PackageView, Seals, Shown, bare, erase, keep, kept, locked_in, outs, unless, with_seal}
 use Rattle.tc_hall.proofs.Outs.{is_there, same_outs}
-use Rattle.tc_combiner.proofs.Owning.{same_number}
 
 pub none_some : {A : Type 0} (o : Option A) (a : A) → o ≡ None → o ≡ Some a → ⊥
 none_some o a e f = cc (e, f)
-
-pub found : {A : Type 0} (xs : List A) (i : ℕ) (a d : A) → get_elem? xs i ≡ some a → get_or xs i d ≡ a
-found [] i a d e = absurd (some-ne-none a (sym e))
-found (x ∷ xs) zero a d e = some-injective x a e
-found (x ∷ xs) (suc i) a d e = found xs i a d e
 
 -- the hall may seal it
 pub may_seal : (d : DeskView) (q : PackageView) → MayCommit d q → Seals d.pass.knows q
@@ -21,7 +16,7 @@ may_seal d q m =
     let v : Knows = d.pass.knows in
     let out : IsOut (outs v) (Pack p) = m.hand.1.0 in record {
       before = p;
-      has = subst (λ (t : ℕ). Has v t (bare p)) (sym m.ran.runs.keeps.thread) (is_there v.packages p.context.thread (bare p) (out.contexts p.context.thread (bare p) (ap (λ (b : Bool). if b then Some (bare p) else None) (same_number p.context.thread))));
+      has = subst (λ (t : ℕ). Has v t (bare p)) (sym m.ran.runs.keeps.thread) (is_there v.packages p.context.thread (bare p) (out.contexts p.context.thread (bare p) (ap (λ (b : Bool). if b then Some (bare p) else None) (eq_self p.context.thread))));
       locks = λ i l e. is_there v.locks i (kept l) (out.locks i (kept l) (ap keep e));
       ran = m.ran;
       allows = m.allows;

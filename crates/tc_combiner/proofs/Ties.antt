@@ -8,16 +8,16 @@ use Rattle.tc_core.specs.declared.event.Event.TheVariants.{Enter, Leave}
 use Rattle.tc_queue.specs.Calls.{enter_effect, leave_effect}
 use Rattle.tc_queue.specs.Laws as queue
 use Rattle.tc_combiner.proofs.Vocabulary.{EnterTie, LeaveTie, line_of}
-use Rattle.tc_combiner.proofs.Owning.{same_number}
 use Rattle.std.proofs.lemmas.Bool.{and_parts}
+use Rattle.tc_mutex_spec.proofs.BlocksAlike.{eq_self}
 
 entered_line : (image : Shown) (c : Core) (w t lock : ℕ) → line_of (effect image c (Enter w t lock)) lock ≡ line_of c lock ++ t ∷ []
 unfolding effect
-entered_line image c w t lock = ap (λ (b : Bool). (if b then entered (c.custody lock) t else c.custody lock).line) (same_number lock)
+entered_line image c w t lock = ap (λ (b : Bool). (if b then entered (c.custody lock) t else c.custody lock).line) (eq_self lock)
 
 left_line : (image : Shown) (c : Core) (w lock : ℕ) → line_of (effect image c (Leave w lock)) lock ≡ []
 unfolding effect
-left_line image c w lock = ap (λ (b : Bool). (if b then left_by_all (c.custody lock) else c.custody lock).line) (same_number lock)
+left_line image c w lock = ap (λ (b : Bool). (if b then left_by_all (c.custody lock) else c.custody lock).line) (eq_self lock)
 
 single_line : (image : Shown) (limits : Limits) (c : Core) (w lock : ℕ) → is_enabled image limits c (Leave w lock) ≡ true → is_single (line_of c lock) ≡ true
 unfolding is_enabled

@@ -13,17 +13,10 @@ use Rattle.tc_turn.proofs.Turns.{held_grows, act_takes}
 use Rattle.tc_mutex_spec.specs.Machine.{State, can_turn, after}
 use Rattle.tc_mutex_spec.specs.Locality.{Agree, Apart}
 use Rattle.tc_mutex_spec.specs.Blocks.{reach, end_at}
-use Rattle.tc_mutex_spec.proofs.Local.{after_thread, act_agree, turn_apart, turn_same, turn_agree}
-use Rattle.tc_mutex_spec.proofs.BlocksAlike.{agree_within, apart_within, eq_self}
+use Rattle.tc_mutex_spec.proofs.Local.{after_thread, act_agree, turn_apart, turn_same, turn_agree, agree_trans}
+use Rattle.tc_mutex_spec.proofs.BlocksAlike.{agree_within, apart_within, eq_self, end_same}
 use Rattle.tc_core.specs.Core.{is_number}
 use Rattle.tc_core.proofs.Gathers.{is_with, Gathers}
-
--- a turn ends a block alike where it is alike
-end_same : (image : Shown) (set : ℕ → Bool) (m n : State) (t k : ℕ) → Covers image set ((reach image m t k).threads t) → Agree t set (reach image m t k) (reach image n t k) → end_at image m t k ≡ end_at image n t k
-end_same image set m n t k covers agree =
-    let acts = act_agree image (reach image m t k) (reach image n t k) t set covers agree in
-    let nexts = ap (next_lock image) (turn_agree image (reach image m t k) (reach image n t k) t set covers agree).thread in
-    (λ i. end_rule (outcome_of (acts i)) (k + 1) (nexts i))
 
 takes_next : (image : Shown) (d : Thread) (locks : ℕ → Mutex) (k : ℕ) (regs : Registers) → next_act image d locks ≡ Some (Called (Lock k) regs) → next_lock image d ≡ Some k
 unfolding next_act
@@ -51,9 +44,6 @@ covers_more image set wide d more covers = record { held = λ k h. more k (cover
 agree_sym : (t : ℕ) (set : ℕ → Bool) (a b : State) → Agree t set a b → Agree t set b a
 agree_sym t set a b p = record { thread = sym p.thread; locks = λ k h. sym (p.locks k h) }
 
-agree_trans : (t : ℕ) (set : ℕ → Bool) (a b c : State) → Agree t set a b → Agree t set b c → Agree t set a c
-agree_trans t set a b c p q = record { thread = p.thread ∙ q.thread; locks = λ k h. p.locks k h ∙ q.locks k h }
-
 agree_less : (t : ℕ) (set small : ℕ → Bool) (a b : State) → ((k : ℕ) → small k ≡ true → set k ≡ true) → Agree t set a b → Agree t small a b
 agree_less t set small a b less p = record { thread = p.thread; locks = λ k h. p.locks k (less k h) }
 
@@ -68,7 +58,7 @@ pub record Extends (image : Shown) (m : State) (t : ℕ) (owned owned' : ℕ →
   pub other : (u : ℕ) → u ≢ t → done' u ≡ done u
 
 -- whether the turn takes the lock
-takes : (o : Option ℕ) (k : ℕ) → (o ≡ Some k) ⊎ (o ≢ Some k)
+pub takes : (o : Option ℕ) (k : ℕ) → (o ≡ Some k) ⊎ (o ≢ Some k)
 takes None k = inr (λ e. cc)
 takes (Some j) k = elim (eqb_tells j k) [ inl h ↦ inl (rw h.1) | inr h ↦ inr (λ e. h.1 cc) ]
 

@@ -3,6 +3,7 @@ use Rattle.std.proofs.Common.{◌≡◌, ◌≢◌, ℕ, ◌+◌, Bool, true, fa
 use Rattle.std.specs.Prelude.{Option, Some, None, if◌then◌else◌}
 use Rattle.std.proofs.lemmas.Bool.{false_from_ne_true}
 use Rattle.std.proofs.lemmas.Bool.Decides.{eqb_tells}
+use Rattle.tc_mutex_spec.proofs.Going.{next_takes}
 use Rattle.tc_journal.proofs.Locks.{has_none}
 use Rattle.tc_isa.specs.Registers.{Registers}
 use Rattle.tc_isa.specs.Sets.{has, without_lock}
@@ -40,16 +41,6 @@ pub record Tracks (c : Core) : Type 0 where
   pub kept : (t k : ℕ) → has (held_past (c.course t).held (c.course t).ended) k ≡ (c.machine.threads t).held k
 
 -- ---- a turn
-
--- a turn whose next lock it was takes it
-next_takes : (image : Shown) (d : Thread) (locks : ℕ → Mutex) (k : ℕ) → next_lock image d ≡ Some k → (regs : Registers) × (next_act image d locks ≡ Some (Called (Lock k) regs))
-unfolding next_lock next_act
-next_takes image d locks k =
-    let answer = answer_to image (wants_of image d.held d.regs) (next_lock image d) d.own locks in
-    (elim (d.fuel == 0) as (λ b. (if b then None else taken_by (act_of image d.held d.regs 0)) ≡ Some k → (regs : Registers) × ((if b then None else Some (act_of image d.held d.regs answer)) ≡ Some (Called (Lock k) regs))) [
-      | true ↦ λ e. absurd (cc)
-      | false ↦ λ e. (let was = taken_was (act_of image d.held d.regs 0) k e in (answered d.regs answer, ap Some ((lock_is_free image d.held d.regs 0 was.0 k was.1).anyway answer)))
-    ])
 
 takes : (image : Shown) (d : Thread) (locks : ℕ → Mutex) (lock : ℕ) (regs : Registers) → next_act image d locks ≡ Some (Called (Lock lock) regs) → next_lock image d ≡ Some lock
 unfolding next_act

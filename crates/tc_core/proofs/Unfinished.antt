@@ -137,7 +137,7 @@ some_end : (o : Option End) → is_some o ≡ true → (e : End) × (o ≡ Some 
 some_end None h = absurd (cc)
 some_end (Some e) h = (e, refl)
 
-commit_may : (image : Shown) (limits : Limits) (c : Core) (w t : ℕ) → is_enabled image limits c (Commit w t) ≡ true → is_some (c.course t).ended ≡ true
+pub commit_may : (image : Shown) (limits : Limits) (c : Core) (w t : ℕ) → is_enabled image limits c (Commit w t) ≡ true → is_some (c.course t).ended ≡ true
 unfolding is_enabled
 commit_may image limits c w t e = (and_parts (has_thread image limits c w t) _ e).1
 

@@ -3,6 +3,7 @@ use Rattle.std.proofs.Common.{◌≡◌, ◌≢◌, ◌⊎◌, ℕ, zero, suc, �
 use Rattle.std.specs.Prelude.{Option, Some, nat_lt, if◌then◌else◌, option_and_then}
 use Rattle.std.proofs.lemmas.Bool.{and_parts}
 use Rattle.std.proofs.lemmas.Bool.Decides.{nat_tests, eqb_tells}
+use Rattle.tc_mutex_spec.proofs.Holds.{can_thread}
 use Rattle.tc_elf.specs.Shown.{Shown}
 use Rattle.tc_mutex_spec.specs.Machine.{State, can_turn, turns, run_from, start}
 use Rattle.tc_mutex_spec.specs.Blocks.{reach}
@@ -53,17 +54,13 @@ folded image m base owned done g (suc n) =
       later = λ u le. pick_other u n 0 (r.left u) (omega arith) ∙ r.later u (omega arith);
     }
 
-within : (image : Shown) (m : State) (t : ℕ) → can_turn image m t ≡ true → t < length image.entries
-unfolding can_turn
-within image m t e = (let h : nat_lt t (length image.entries) ≡ true = (and_parts _ _ e).0 in grind (arith, nat_tests))
-
 -- a thread past the image's has no turn
 past_zero : (image : Shown) (m base : State) (owned : ℕ → Option ℕ) (done : ℕ → ℕ) → Gathers image m base owned done → (t : ℕ) → length image.entries ≤ t → done t ≡ 0
 past_zero image m base owned done g t le = go (done t) refl
   where
     go : (n : ℕ) → done t ≡ n → done t ≡ 0
     go zero e = e
-    go (suc n) e = absurd (let lt : t < length image.entries = within image base t (g.defined t 0 (omega arith)) in omega arith)
+    go (suc n) e = absurd (let lt : t < length image.entries = can_thread image base t (g.defined t 0 (omega arith)) in omega arith)
 
 below_or : (a b : ℕ) → (a < b) ⊎ (b ≤ a)
 below_or a b = grind arith

@@ -3,6 +3,7 @@ use Rattle.std.proofs.Common.{◌≡◌, ◌≢◌, ℕ, zero, suc, ◌+◌, ◌
 use Rattle.tc_hall.proofs.Vocabulary.{AreEnabled, At, Block, CLOCK, Commit, Core, DidRun, End, Event, Hall, Has, HasLock, IsShown, Knows, LockAt, LockView, Lying, Mutex, Outline, Package, PackageAt, PackageView, Seals, Shown, Shows, ShowsLock, ShowsThread, State, Terms, Thread, after, after_events, after_seal, at_home, bare, commit, commit_effect, get_elem?, has, in_hand}
 use Rattle.tc_hall.proofs.Vocabulary.{in_slot, is_running, kept, last_end, lock_in, lock_in_package, lock_in_slot, lock_of, lock_with_pass, locked_in, locks, machine_limits, option_map, outline, packed, place_shown, sealed_as, sealed_block, slot_word, some, some-injective, thread_in, threads, turns_by, unowned, whole, with_journal, with_pass, with_seal}
 use Rattle.std.specs.Prelude.{if◌then◌else◌, is_some}
+use Rattle.tc_law.proofs.Following.{set_last}
 use mathlib.Core.Logic.{dite}
 use native.Mathlib.Decide.{ℕ_discrete}
 use Rattle.atomic_table.proofs.Lists.{at_set, set_here, set_else}
@@ -200,10 +201,6 @@ module _ (k : Terms) (m : Moment k) (q : PackageView) (b : Block) (new : ℕ) (o
 none_map : {X Y : Type 0} (f : X → Y) (o : Option X) → option_map f o ≡ None → o ≡ None
 none_map f None e = refl
 none_map f (Some x) e = absurd cc
-
-set_last : (xs : List Block) (x y : Block) → set (xs ++ x ∷ []) (length xs) y ≡ xs ++ y ∷ []
-set_last [] x y = refl
-set_last (z ∷ zs) x y = ap (λ l. z ∷ l) (set_last zs x y)
 
 -- the log ends with the block that was sealed
 sealed_end : (log old : List Block) (o : Option Block) (b : Block) (stamp worker : ℕ) → o ≡ Some b → log ≡ old ++ b ∷ [] → last_end (sealed_log stamp worker log o) ≡ Some b.end

@@ -2,6 +2,7 @@
 use Rattle.std.proofs.Common.{◌≡◌, ◌≢◌, ℕ, zero, suc, ◌+◌, ◌==◌, ◌&&◌, Bool, true, false, not, [], ◌∷◌, ◌++◌, replicate, sym, refl, ap, ◌∙◌, subst, add-one, Option, Some, None}
 use Rattle.tc_hall.proofs.Vocabulary.{AreEnabled, At, Commit, Core, Course, Custody, End, Event, Granted, IsBetween, LockPlace, Loose, Shown, State, ThreadPlace, With, end_at, end_rule, lies_at, lies_with, next_lock, outcome_of, runs}
 use Rattle.std.specs.Prelude.{if◌then◌else◌, is_some}
+use Rattle.std.proofs.lemmas.Bool.{and_parts}
 use mathlib.Core.Logic.{dite}
 use native.Mathlib.Decide.{ℕ_discrete}
 use Rattle.tc_turn.specs.Turn.{next_act}
@@ -65,16 +66,8 @@ module _ (image : Shown) (from : Core) (t w : ℕ) where
 
 -- ---- locks lie as they lay
 
-and_right : (a b : Bool) → (a && b) ≡ true → b ≡ true
-and_right true b e = e
-and_right false b e = absurd cc
-
-and_left : (a b : Bool) → (a && b) ≡ true → a ≡ true
-and_left true b e = refl
-and_left false b e = absurd cc
-
 third : (a b c d : Bool) → (a && (b && (c && d))) ≡ true → d ≡ true
-third a b c d e = and_right c d (and_right b (c && d) (and_right a (b && (c && d)) e))
+third a b c d e = (and_parts c d ((and_parts b (c && d) ((and_parts a (b && (c && d)) e).1)).1)).1
 
 granted_to : (p : LockPlace) (t : ℕ) → is_granted p t ≡ true → p ≡ Granted t
 granted_to (Granted u) t e = ap (λ (z : ℕ). Granted z) (eq_from u t e)
@@ -92,7 +85,7 @@ with_number (Loose u) t e = absurd cc
 taken_lies : (o : Option ℕ) (t : ℕ) (c : Core) → may_take o t c ≡ true → (f : ℕ → Course) (i : ℕ) → lies_at f (custody_on o t i (c.custody i)).place ≡ lies_at f (c.custody i).place
 taken_lies None t c may f i = refl
 taken_lies (Some lock) t c may f i =
-    let granted = granted_to (c.custody lock).place t (and_right (is_between c t) (is_granted (c.custody lock).place t) may) in
+    let granted = granted_to (c.custody lock).place t ((and_parts (is_between c t) (is_granted (c.custody lock).place t) may).1) in
     dite (ℕ_discrete i lock)
     (λ (is : i ≡ lock). ap (λ (x : Custody). lies_at f x.place) (if_here (record (c.custody i) { place = With t }) (c.custody i) i lock is) ∙ (sym (ap (lies_at f) granted) ∙ ap (λ (z : ℕ). lies_at f (c.custody z).place) (sym is)))
     (λ (ne : i ≢ lock). ap (λ (x : Custody). lies_at f x.place) (if_else (record (c.custody i) { place = With t }) (c.custody i) i lock ne))
@@ -102,7 +95,7 @@ past_lies : (b : Bool) (w t : ℕ) (held : Bool) (release : Option Release) (x :
     → lies_at f (if b then record x { place = Loose w; last = release } else x).place ≡ lies_at f x.place
 past_lies false w t held release x f here e = refl
 past_lies true w t held release x f here e =
-    sym (ap (lies_at f) (with_number x.place t (and_left (is_number (with_of x.place) t) (not held) e)) ∙ ap (λ (z : ThreadPlace). lies_with z t) here)
+    sym (ap (lies_at f) (with_number x.place t ((and_parts (is_number (with_of x.place) t) (not held) e).0)) ∙ ap (λ (z : ThreadPlace). lies_with z t) here)
 
 -- the turns, if they may come
 pub turns_lie : (image : Shown) (limits : Limits) (w t n : ℕ) (e : Event) (c : Core) → AreEnabled image limits c (replicate n (Turn w t) ++ e ∷ []) → (f : ℕ → Course) (i : ℕ)

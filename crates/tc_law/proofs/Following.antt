@@ -4,6 +4,7 @@ use Rattle.std.specs.Prelude.{Some, None, IfSome, is_some, if◌then◌else◌}
 use Rattle.std.specs.Option.{option_map}
 use Rattle.std.proofs.lemmas.List.{append-nil}
 use Rattle.std.proofs.lemmas.List.Elements.{filter-append}
+use Rattle.tc_journal.proofs.Batching.{obeys-more, passes-more}
 use Rattle.tc_isa.specs.Sets.{has}
 use Rattle.tc_elf.specs.Shown.{Shown}
 use Rattle.tc_journal.specs.Batch.{ends_section, last_of, may_follow, passes_on, Obeys, PassesOn}
@@ -22,7 +23,6 @@ use Rattle.tc_mutex_spec.proofs.Folding.{run_from-is-turns, tells-more, tells-ru
 use Rattle.tc_mutex_spec.proofs.Holds.{holds_turns, holds_start}
 use Rattle.tc_mutex_spec.proofs.Owners.{no_owner}
 use Rattle.tc_segment.specs.View.{LockView, IsStrict, Journal, kept, lock_of, block_in, blocks_of, with_journal, sealed_block, sealed_list, sealed_as}
-use Rattle.tc_segment.proofs.Sealing.{obeys-more, passes-more}
 use Rattle.tc_context.specs.Locks.{EachLock, lock_in, mutex_or}
 use Rattle.tc_context.specs.Whole.{thread_in, mutex_at, whole, set_of, journal_in, journal_at, block_locks, entered}
 use Rattle.tc_context.specs.View.{PackageView, kind_of, waiting_in, Allows, sealed_log, with_seal}
@@ -46,7 +46,7 @@ entries_still image fuel h m b k told out =
     ∙ ap (λ v. entries_by image fuel h k ++ with_front v (entry_of image k m b) []) out
     ∙ append-nil (entries_by image fuel h k)
 
-set_last : (xs : List Block) (x y : Block) → set (xs ++ x ∷ []) (length xs) y ≡ xs ++ y ∷ []
+pub set_last : (xs : List Block) (x y : Block) → set (xs ++ x ∷ []) (length xs) y ≡ xs ++ y ∷ []
 set_last [] x y = refl
 set_last (z ∷ xs) x y = ap (λ l. z ∷ l) (set_last xs x y)
 

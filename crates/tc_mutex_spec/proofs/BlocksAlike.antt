@@ -37,7 +37,7 @@ apart_within image set m t turns covers zero lt = record { threads = λ k ne. re
 apart_within image set m t turns covers (suc k) lt =
     apart_more t set m (reach image m t k) (reach image m t (suc k)) (apart_within image set m t turns covers k (omega arith)) (turn_apart image (reach image m t k) t set (covers k (omega arith)))
 
-end_same : (image : Shown) (set : ℕ → Bool) (m n : State) (t k : ℕ) → Covers image set ((reach image m t k).threads t) → Agree t set (reach image m t k) (reach image n t k) → end_at image m t k ≡ end_at image n t k
+pub end_same : (image : Shown) (set : ℕ → Bool) (m n : State) (t k : ℕ) → Covers image set ((reach image m t k).threads t) → Agree t set (reach image m t k) (reach image n t k) → end_at image m t k ≡ end_at image n t k
 end_same image set m n t k covers agree =
     let acts = act_agree image (reach image m t k) (reach image n t k) t set covers agree in
     let nexts = ap (next_lock image) (turn_agree image (reach image m t k) (reach image n t k) t set covers agree).thread in

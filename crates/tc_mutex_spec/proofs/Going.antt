@@ -128,7 +128,7 @@ stays d (Some (Called Exit regs)) k n next e h = absurd (cc)
 stays d (Some (Faulted f)) k n next e h = absurd (cc)
 
 -- a turn whose next lock it was takes it
-next_takes : (image : Shown) (d : Thread) (locks : ℕ → Mutex) (k : ℕ) → next_lock image d ≡ Some k → (regs : Registers) × (next_act image d locks ≡ Some (Called (Lock k) regs))
+pub next_takes : (image : Shown) (d : Thread) (locks : ℕ → Mutex) (k : ℕ) → next_lock image d ≡ Some k → (regs : Registers) × (next_act image d locks ≡ Some (Called (Lock k) regs))
 unfolding next_lock next_act
 next_takes image d locks k =
     let answer = answer_to image (wants_of image d.held d.regs) (next_lock image d) d.own locks in

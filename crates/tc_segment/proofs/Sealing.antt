@@ -5,6 +5,8 @@ use Rattle.std.proofs.lemmas.List.{map-append, length-set, take-map, take_all, t
 use Rattle.std.proofs.lemmas.Option.{slice_get_past, slice_get_within}
 use Rattle.std.specs.Prelude.{Option, Some, None, option_map, nat_lt, slice_get, if◌then◌else◌}
 use Rattle.std.proofs.lemmas.Bool.Decides.{nat_tests}
+use Rattle.std.proofs.lemmas.Bool.{and_parts}
+use Rattle.tc_journal.proofs.Batching.{obeys-more, passes-more}
 use Rattle.tc_journal.specs.declared.block.Kind.{Kind}
 use Rattle.tc_journal.specs.declared.block.Kind.TheVariants.{Start, On, Adopted, Granted}
 use Rattle.tc_turn.specs.Replay.{replay_entry}
@@ -36,37 +38,13 @@ replayed_sealed : (image : Shown) (lock stamp worker : ℕ) (old : Mutex) (es : 
 replayed_sealed image lock stamp worker old es e =
     replayed-more image lock old es (sealed_entry stamp worker e) ∙ entry_sealed image lock stamp worker e (replayed image lock old es) ∙ sym (replayed-more image lock old es e)
 
--- the batch rule over one block more
-pub obeys-more : (lock limit : ℕ) (before bs : List Block) (b : Block) → ObeysAfter lock limit before bs → may_follow lock limit (before ++ bs) b ≡ true → ObeysAfter lock limit before (bs ++ b ∷ [])
-obeys-more lock limit before [] b obeys next = (rw append-nil at next, tt)
-obeys-more lock limit before (x ∷ bs) b obeys next =
-    (obeys.0, obeys-more lock limit (before ++ x ∷ []) bs b obeys.1 (subst (λ xs. may_follow lock limit xs b ≡ true) (sym (append_assoc before (x ∷ []) bs)) next))
-
--- and passing on
-pub passes-more : (lock : ℕ) (before bs : List Block) (b : Block) → PassesOnAfter lock before bs → passes_on lock (before ++ bs) b ≡ true → PassesOnAfter lock before (bs ++ b ∷ [])
-passes-more lock before [] b passes next = (rw append-nil at next, tt)
-passes-more lock before (x ∷ bs) b passes next =
-    (passes.0, passes-more lock (before ++ x ∷ []) bs b passes.1 (subst (λ xs. passes_on lock xs b ≡ true) (sym (append_assoc before (x ∷ []) bs)) next))
-
-pub run-more : (lock n : ℕ) (bs : List Block) (b : Block) → run_from lock n (bs ++ b ∷ []) ≡ run_after lock (run_from lock n bs) b
-run-more lock n [] b = refl
-run-more lock n (x ∷ bs) b = run-more lock (run_after lock n x) bs b
-
-both_first : (a b : Bool) → (a && b) ≡ true → a ≡ true
-both_first true b e = refl
-both_first false b e = e
-
-both_last : (a b : Bool) → (a && b) ≡ true → b ≡ true
-both_last true b e = e
-both_last false b e = absurd (cc)
-
 adopted_short : (lock limit : ℕ) (last : Option Block) (run : ℕ) (kind : Kind) (worker : ℕ) → may_begin lock limit last run kind worker ≡ true → (if is_adopted kind then run + 1 else 0) ≤ limit
 adopted_short lock limit last run Start worker e = omega arith
 adopted_short lock limit last run On worker e = omega arith
 adopted_short lock limit last run Taken worker e = omega arith
 adopted_short lock limit None run Adopted worker e = absurd (cc)
 adopted_short lock limit (Some b) run Adopted worker e =
-    (let lt : nat_lt run limit ≡ true = both_last (unlocks lock b.end && is_only b.held lock) (nat_lt run limit) (both_first (may_adopt b lock run limit) (b.worker == worker) e) in grind (arith, nat_tests))
+    (let lt : nat_lt run limit ≡ true = (and_parts (unlocks lock b.end && is_only b.held lock) (nat_lt run limit) ((and_parts (may_adopt b lock run limit) (b.worker == worker) e).0)).1 in grind (arith, nat_tests))
 adopted_short lock limit last run Granted worker e = omega arith
 
 pub run_short : (lock limit : ℕ) (before : List Block) (b : Block) → run_of lock before ≤ limit → may_follow lock limit before b ≡ true → run_after lock (run_of lock before) b ≤ limit

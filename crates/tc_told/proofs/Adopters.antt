@@ -4,6 +4,7 @@ use Rattle.std.specs.Prelude.{Option, Some, None, is_some, if◌then◌else◌}
 use Rattle.std.proofs.lemmas.Bool.Decides.{eqb_tells}
 use Rattle.std.proofs.lemmas.List.Elements.{filter-append}
 use Rattle.std.proofs.lemmas.Bool.{and_parts}
+use Rattle.tc_core.proofs.Unfinished.{commit_may}
 use Rattle.tc_isa.specs.Sets.{has}
 use Rattle.tc_elf.specs.Shown.{Shown}
 use Rattle.tc_journal.specs.Batch.{last_of}
@@ -28,7 +29,7 @@ use Rattle.tc_core.proofs.Erasure.{sound_after, first_sound}
 use Rattle.tc_core.proofs.Tracked.{tracked_after, first_tracked}
 use Rattle.tc_told.specs.Written.{Beginning, Written, IsOfLast, first_written, write, write_all, history_of}
 use Rattle.tc_told.proofs.Front.{block_on}
-use Rattle.tc_told.proofs.Leads.{Kept, ends_it}
+use Rattle.tc_told.proofs.Leads.{Kept}
 
 -- each loose lock is at the worker of the last of its blocks
 abbrev AreLoose : Core → List Block → Type 0
@@ -104,7 +105,7 @@ unfolding effect
 loose_next image limits s (Turn v t) on kept loose k w e = loose k w (turn_loose (next_lock image (s.core.machine.threads t)) t k w (s.core.custody k) e)
 loose_next image limits s (Commit v t) on kept loose k w e =
     loose_commit s.history v t k w (s.next t) (s.core.course t) (s.core.course t).ended ((s.core.machine.threads t).held k) (release_of (s.core.course t)) (s.core.custody k)
-    (ends_it image limits s.core v t on) (kept.tracks.with t k) (loose k w) e
+    (commit_may image limits s.core v t on) (kept.tracks.with t k) (loose k w) e
 loose_next image limits s e on kept loose k w h = quiet_next image s e refl refl loose k w h
   where
     quiet_next : (image : Shown) (s : Written) (e : Event) → is_quiet e ≡ true → (write image s e).history ≡ s.history → AreLoose s.core s.history → (k w : ℕ) → ((effect image s.core e).custody k).place ≡ Loose w → IsOfLast k w (write image s e).history

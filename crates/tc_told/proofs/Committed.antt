@@ -8,6 +8,7 @@ use Rattle.std.proofs.Math.Bool.{or-true, or-false, or_assoc}
 use Rattle.std.proofs.lemmas.Bool.Decides.{nat_tests, eqb_tells}
 use Rattle.std.proofs.lemmas.List.Elements.{filter-append}
 use Rattle.std.proofs.lemmas.Nat.Bits.{same_from_bits, bit_at_above, bit_at-lt}
+use Rattle.tc_core.proofs.Gathering.{takes}
 use Rattle.tc_isa.specs.Sets.{has}
 use Rattle.tc_elf.specs.Shown.{Shown}
 use Rattle.tc_journal.specs.Batch.{begins, is_lock, ends_section, last_of, run_of, run_after}
@@ -81,10 +82,6 @@ held_with_has h held (Some lock) k e = with_has h lock k ∙ ap (λ v. (k == loc
 pub is_lock_other : (o : Option ℕ) (k : ℕ) → o ≢ Some k → is_lock o k ≡ false
 is_lock_other None k ne = refl
 is_lock_other (Some j) k ne = elim (eqb_tells k j) [ inl h ↦ absurd (ne (ap Some (sym h.1))) | inr h ↦ h.0 ]
-
-pub takes_or : (o : Option ℕ) (k : ℕ) → (o ≡ Some k) ⊎ (o ≢ Some k)
-takes_or None k = inr (λ e. cc)
-takes_or (Some j) k = elim (eqb_tells j k) [ inl h ↦ inl (ap Some h.1) | inr h ↦ inr (λ e. h.1 cc) ]
 
 pub taken_is : (o : Option ℕ) (t k : ℕ) (x : Custody) → o ≡ Some k → custody_on o t k x ≡ record x { place = With t }
 taken_is o t k x e = ap (λ y. custody_on y t k x) e ∙ ap (λ b. if b then record x { place = With t } else x) (eq_self k)
@@ -194,7 +191,7 @@ module _ (image : Shown) (limits : Limits) (seen : List Block) (m to : State) (b
 
     -- a lock of the block before the Commit
     in_block_with : (k : ℕ) → has b.held k ≡ true → IsWith k (of_lock seen k) b (c.custody k)
-    in_block_with k h = elim (takes_or (next_lock image d) k) [
+    in_block_with k h = elim (takes (next_lock image d) k) [
       | inl e ↦ (let g = open_block.given k e in let same = by.custody k ∙ taken_is (next_lock image d) t k (s.core.custody k) e in record {
         with = sym (with_is k) ∙ h;
         line = ap (λ (y : Custody). y.line) same ∙ g.line;

@@ -31,10 +31,9 @@ use Rattle.tc_core.specs.Events.{is_enabled, effect, has_thread, is_worker, cour
 use Rattle.tc_core.specs.Stories.{AreEnabled}
 use Rattle.tc_core.proofs.Quiet.{pick_mine, pick_other}
 use Rattle.tc_core.proofs.Tracked.{tracked_after, first_tracked}
-use Rattle.tc_core.proofs.Unfinished.{done_of, ended_of, keeps_commit, block_runs}
+use Rattle.tc_core.proofs.Unfinished.{done_of, ended_of, keeps_commit, block_runs, commit_may}
 use Rattle.tc_core.proofs.Whole.{first_keeps}
 use Rattle.tc_told.specs.Written.{Beginning, Written, first_written, write, write_all, as_of_one, IsWritten, KeepsRules}
-use Rattle.tc_told.proofs.Leads.{ends_it}
 use Rattle.tc_told.proofs.Front.{block_on}
 use Rattle.tc_told.proofs.Custodies.{past_kept}
 use Rattle.tc_told.proofs.Committed.{IsNext, begins_is, keeps, lock_in, lock_out, has_block_more}
@@ -64,7 +63,7 @@ module _ (image : Shown) (limits : Limits) (fuel : ℕ) (base : State) (s : Writ
 
   runs_to : (end : End) × Runs image base t n end to
   unfolding done_of
-  runs_to = block_runs image s.core base t is.keeps (ends_it image limits s.core w t on)
+  runs_to = block_runs image s.core base t is.keeps (commit_may image limits s.core w t on)
 
   abbrev end : End
   end = runs_to.0

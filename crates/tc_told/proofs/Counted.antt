@@ -2,6 +2,7 @@
 use Rattle.std.proofs.Common.{◌≡◌, ℕ, ◌+◌, true, ◌==◌, List, [], ◌∷◌, ◌++◌, refl, sym, ap, subst, ◌∙◌, inl, inr, append-nil, append_assoc}
 use Rattle.std.specs.Prelude.{Option, Some, None, is_some, if◌then◌else◌}
 use Rattle.std.proofs.lemmas.Bool.Decides.{eqb_tells}
+use Rattle.tc_core.proofs.Unfinished.{commit_may}
 use Rattle.tc_elf.specs.Shown.{Shown}
 use Rattle.tc_journal.specs.History.{schedule}
 use Rattle.tc_journal.specs.declared.block.Block.{Block}
@@ -14,7 +15,6 @@ use Rattle.tc_core.specs.Events.{effect}
 use Rattle.tc_core.specs.Stories.{AreEnabled, counts_on, blocks_from, blocks_of}
 use Rattle.tc_core.proofs.Quiet.{Quiet, quiet_event, pick_mine, pick_other}
 use Rattle.tc_told.specs.Written.{Beginning, Written, first_written, write, write_all, history_of}
-use Rattle.tc_told.proofs.Leads.{ends_it}
 use Rattle.tc_told.proofs.Front.{block_on}
 
 schedule_more : (h : List Block) (b : Block) → schedule (h ++ b ∷ []) ≡ schedule h ++ (b.thread, b.turns) ∷ []
@@ -57,7 +57,7 @@ counted image limits (Turn w t ∷ es) s counts same on = counted image limits e
 counted image limits (Commit w t ∷ es) s counts same on =
     counted image limits es (write image s (Commit w t)) (counts_on counts (Commit w t)) (counts_commit image s.core w t counts same) on.1
     ∙ ap (λ ps. ps ++ blocks_from (counts_on counts (Commit w t)) es)
-    (one_more s.history w t (s.next t) (s.core.course t) (s.core.course t).ended (ends_it image limits s.core w t on.0) ∙ ap (λ n. schedule s.history ++ (t, n) ∷ []) (sym (same t)))
+    (one_more s.history w t (s.next t) (s.core.course t) (s.core.course t).ended (commit_may image limits s.core w t on.0) ∙ ap (λ n. schedule s.history ++ (t, n) ∷ []) (sym (same t)))
     ∙ append_assoc (schedule s.history) ((t, counts t) ∷ []) (blocks_from (counts_on counts (Commit w t)) es)
 counted image limits (e ∷ es) s counts same on =
     counted_quiet image e es s counts (quiet_event image limits s.core e on.0 refl) refl refl same (λ k. counted image limits es (write image s e) counts k on.1)

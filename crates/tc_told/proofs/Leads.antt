@@ -55,8 +55,3 @@ and_then image limits s P Q first next =
       comes = subst Q same r.comes;
       kept = subst (λ (y : Written). Kept y.core) same r.kept;
     }
-
--- a Commit that may come is of a block that has ended
-pub ends_it : (image : Shown) (limits : Limits) (c : Core) (w t : ℕ) → is_enabled image limits c (Commit w t) ≡ true → is_some (c.course t).ended ≡ true
-unfolding is_enabled
-ends_it image limits c w t on = (and_parts (has_thread image limits c w t) _ on).1

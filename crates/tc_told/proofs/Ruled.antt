@@ -28,7 +28,7 @@ use Rattle.tc_core.specs.Lines as line
 use Rattle.tc_core.specs.Core.{Limits, is_free_lock, is_granted, is_loose}
 use Rattle.tc_core.specs.Events.{is_enabled, effect, has_thread, has_lock, is_thread, is_between, may_pass, adopts, is_adoptable, held_with, entered, taken_by, passed_to, left_by_all, freed, custody_on, after_turn, end_here, course_on}
 use Rattle.tc_core.specs.Events as events
-use Rattle.tc_core.proofs.Gathering.{from_set}
+use Rattle.tc_core.proofs.Gathering.{from_set, takes}
 use Rattle.tc_core.proofs.Quiet.{Quiet, is_quiet, quiet_event, pick_mine, pick_other, lock_is_loose}
 use Rattle.tc_core.proofs.Erasure.{MayTurn, may_turn, take_facts, taken_other, turn_is}
 use Rattle.tc_core.proofs.Parts.{no_end}
@@ -36,7 +36,7 @@ use Rattle.tc_core.proofs.Tracked.{Tracks, tracked_after}
 use Rattle.tc_core.proofs.Unfinished.{Keeps, done_of, keeps_quiet, keeps_turn}
 use Rattle.tc_core.proofs.Standing.{first_in}
 use Rattle.tc_told.specs.Written.{Beginning, Written, write, as_of_one}
-use Rattle.tc_told.proofs.Committed.{held_with_has, is_lock_other, taken_is, takes_or}
+use Rattle.tc_told.proofs.Committed.{held_with_has, is_lock_other, taken_is}
 use Rattle.tc_told.proofs.Standing.{Stand, stand_of, Rule, Waits, IsGranted, is_fresh, IsReleased, IsLockAt, PassesBy, stays_so, entered_so, free_waits, second_waits, released_is, taken_so, passed_so, locked_so, left_so, freed_so}
 
 -- a thread whose last block but this led to d, with the held set and the pc of its block
@@ -347,7 +347,7 @@ module _ (image : Shown) (limits : Limits) (fuel : ℕ) (base : State) (s : Writ
         go (Some k) e = absurd (let z = (take_facts image s.core t k may e).0 in omega (arith, z, some))
 
     lock_now : (k : ℕ) → IsLockAt limits.batch k (of_lock s.history k) later (custody_on taken t k (x_of k))
-    lock_now k = elim (takes_or taken k) [
+    lock_now k = elim (takes taken k) [
       | inl e ↦ (let z = (take_facts image s.core t k may e).0 in
           subst (λ y. IsLockAt limits.batch k (of_lock s.history k) later y) (sym (taken_is taken t k (x_of k) e))
           (locked_so limits.batch k (of_lock s.history k) at (x_of k) (is.locks k) t later others_turn (granted_it k e)
@@ -398,7 +398,7 @@ module _ (image : Shown) (limits : Limits) (fuel : ℕ) (base : State) (s : Writ
     ]
       where
         still : (u : ℕ) → u ≢ t → (k : ℕ) → (x_of k).place ≡ Granted u → (custody_on taken t k (x_of k)).place ≡ Granted u
-        still u ne k e = elim (takes_or taken k) [
+        still u ne k e = elim (takes taken k) [
           | inl f ↦ absurd (let g : is_granted (Granted u) t ≡ true = ap (λ p. is_granted p t) (sym e) ∙ granted_it k f in ne (eqb-true u t g))
           | inr f ↦ ap (λ (y : Custody). y.place) (taken_other taken t k (x_of k) f) ∙ e
         ]

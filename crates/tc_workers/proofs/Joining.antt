@@ -1,5 +1,6 @@
 -- The passes of workers that have ended, joined into one, and the whole run.
 use Rattle.std.proofs.Common.{◌≡◌, ◌⊎◌, ℕ, suc, ◌-◌, Bool, true, false, ◌||◌, List, [], ◌∷◌, ◌++◌, length, refl, sym, ap, ◌∙◌, subst, ⊎_elim, inl, inr, arith, None, get_or, map}
+use Rattle.tc_hall.proofs.Listing.{at_append}
 use mathlib.Core.Option.{some}
 use lib.ListN.{get_elem?, length-map}
 use Rattle.tc_isa.specs.declared.options.Options.{Options}
@@ -24,20 +25,19 @@ use Rattle.tc_workers.specs.Crew.{AreAtWork, AreHired, Counts, HasRun, HaveFinis
 use Rattle.tc_workers.specs.declared.worker.Worker.{Worker}
 use Rattle.tc_workers.specs.Run.{IsWholeRun}
 use Rattle.tc_workers.proofs.Hiring.{at_itself}
-use Rattle.tc_workers.proofs.Passes.{at_further}
 
 -- a worker that counts in the joined pass, counts in both
 counts_joined : (v w : Knows) (u : ℕ) → Counts w u → Counts (merged v w) u
 counts_joined v w u c = ⊎_elim
-    (λ (e : u ≡ w.worker). inr (at_further v.joined (w.worker ∷ w.joined) 0 u (ap some (sym e))))
-    (λ (h : (e : ℕ) × (get_elem? w.joined e ≡ some u)). inr (at_further v.joined (w.worker ∷ w.joined) (suc h.0) u h.1))
+    (λ (e : u ≡ w.worker). inr (at_append v.joined (w.worker ∷ w.joined) 0 u (ap some (sym e))))
+    (λ (h : (e : ℕ) × (get_elem? w.joined e ≡ some u)). inr (at_append v.joined (w.worker ∷ w.joined) (suc h.0) u h.1))
     c
 
 seen_first : (n : ℕ) (v w : Knows) → HasSeenAll n v → HasSeenAll n (merged v w)
 seen_first n v w all t lt = let h = all t lt in (h.0, at_longer v.calls w.calls h.0 (Look t 2) h.1)
 
 seen_joined : (n : ℕ) (v w : Knows) → HasSeenAll n w → HasSeenAll n (merged v w)
-seen_joined n v w all t lt = let h = all t lt in at_further v.calls w.calls h.0 (Look t 2) h.1
+seen_joined n v w all t lt = let h = all t lt in at_append v.calls w.calls h.0 (Look t 2) h.1
 
 either : (a c : Bool) → (a || c) ≡ true → (a ≡ true) ⊎ (c ≡ true)
 either true c e = inl refl

@@ -1,6 +1,7 @@
 -- What the calls of the hall say of a worker's pass.
 use Rattle.std.proofs.Common.{◌≡◌, ◌≢◌, ℕ, suc, ◌+◌, List, [], ◌∷◌, ◌++◌, length, length-append, refl, sym, ap, ◌∙◌, arith, append_assoc, append-nil}
 use Rattle.std.proofs.lemmas.List.Elements.{All-push}
+use Rattle.tc_hall.proofs.Listing.{at_append}
 use mathlib.Core.Option.{some}
 use mathlib.Core.Logic.{dite}
 use native.Mathlib.Decide.{ℕ_discrete}
@@ -61,17 +62,12 @@ claimed_out word t q v w free g = (g.came.out, g.came.before ∙ free)
 
 -- ---- a stop
 
--- what stands in the second list, stands further on in both
-pub at_further : {A : Type 0} (xs ys : List A) (i : ℕ) (a : A) → get_elem? ys i ≡ some a → (j : ℕ) × (get_elem? (xs ++ ys) j ≡ some a)
-at_further [] ys i a e = (i, e)
-at_further (x ∷ xs) ys i a e = let h = at_further xs ys i a e in (suc h.0, h.1)
-
 pub stop_told : (v w : Knows) (cs : List Call) → w.calls ≡ v.calls ++ Stop ∷ cs → HasStop w
-stop_told v w cs e = let at = at_further v.calls (Stop ∷ cs) 0 Stop refl in made at.0 (ap (λ (l : List Call). get_elem? l at.0) e ∙ at.1)
+stop_told v w cs e = let at = at_append v.calls (Stop ∷ cs) 0 Stop refl in made at.0 (ap (λ (l : List Call). get_elem? l at.0) e ∙ at.1)
 
 pub stop_shown : (v w : Knows) → HasSeenStop v w → HasStop w
 stop_shown v w s =
-    let at = at_further (v.calls ++ s.front) (Stopped 1 ∷ s.back) 0 (Stopped 1) refl in
+    let at = at_append (v.calls ++ s.front) (Stopped 1 ∷ s.back) 0 (Stopped 1) refl in
     seen at.0 (ap (λ (l : List Call). get_elem? l at.0) (s.is ∙ sym (append_assoc v.calls s.front (Stopped 1 ∷ s.back))) ∙ at.1)
 
 pub stop_later : (v w : Knows) (cs : List Call) → w.calls ≡ v.calls ++ cs → HasStop v → HasStop w

@@ -1,13 +1,14 @@
 use Rattle.std.proofs.Common.{[], ◌∷◌, ap, if◌then◌else◌, refl, Some, None}
+use Rattle.tc_mutex_spec.proofs.BlocksAlike.{eq_self}
 use Rattle.tc_combiner.proofs.Vocabulary.{Free, Loose, kept}
 use Rattle.tc_hall.proofs.Outs.{is_there}
 use Rattle.tc_combiner.proofs.Acting.{acts_told}
-use Rattle.tc_combiner.proofs.Owning.{moves_in, same_number}
+use Rattle.tc_combiner.proofs.Owning.{moves_in}
 use Rattle.tc_combiner.proofs.calls.free.Goals as goal
 
 pub free-requires-clause-ready : goal.free-requires-clause-ready
 free-requires-clause-ready c = record {
-  has = is_there c.args.pass.now.knows.locks c.args.lock.number (kept c.args.lock) (c.requires.out.locks c.args.lock.number (kept c.args.lock) (ap (λ b. if b then Some (kept c.args.lock) else None) (same_number c.args.lock.number)));
+  has = is_there c.args.pass.now.knows.locks c.args.lock.number (kept c.args.lock) (c.requires.out.locks c.args.lock.number (kept c.args.lock) (ap (λ b. if b then Some (kept c.args.lock) else None) (eq_self c.args.lock.number)));
   rests = c.requires.rests;
 }
 

@@ -1,13 +1,14 @@
 use Rattle.std.proofs.Common.{[], ◌∷◌, ap, if◌then◌else◌, refl, Some, None}
+use Rattle.tc_mutex_spec.proofs.BlocksAlike.{eq_self}
 use Rattle.tc_combiner.proofs.Vocabulary.{Pack, bare, keep, kept, put_call}
 use Rattle.tc_hall.proofs.Outs.{is_there}
 use Rattle.tc_combiner.proofs.Acting.{acts_told}
-use Rattle.tc_combiner.proofs.Owning.{moves_in, same_number}
+use Rattle.tc_combiner.proofs.Owning.{moves_in}
 use Rattle.tc_combiner.proofs.calls.put.Goals as goal
 
 pub put-requires-clause-ready : goal.put-requires-clause-ready
 put-requires-clause-ready c = record {
-  has = is_there c.args.pass.now.knows.packages c.args.«package».context.thread (bare c.args.«package») (c.requires.out.contexts c.args.«package».context.thread (bare c.args.«package») (ap (λ b. if b then Some (bare c.args.«package») else None) (same_number c.args.«package».context.thread)));
+  has = is_there c.args.pass.now.knows.packages c.args.«package».context.thread (bare c.args.«package») (c.requires.out.contexts c.args.«package».context.thread (bare c.args.«package») (ap (λ b. if b then Some (bare c.args.«package») else None) (eq_self c.args.«package».context.thread)));
   locks = λ i l e. is_there c.args.pass.now.knows.locks i (kept l) (c.requires.out.locks i (kept l) (ap keep e));
   order = c.requires.order;
   stop = λ e. let p = c.requires.free in let n : ⊥ = cc in absurd n;

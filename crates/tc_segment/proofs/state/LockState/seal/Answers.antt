@@ -3,10 +3,11 @@ use Rattle.tc_segment.proofs.Vocabulary.{Contents, Entry, Fits, IsSoundLock, IsS
 use Rattle.std.specs.Prelude.{Some, is_some, slice_get}
 use Rattle.std.proofs.lemmas.List.{length-map, length-set, map-append, map-set}
 use Rattle.std.proofs.lemmas.Option.{slice_get-map, slice_get-get_or, slice_get_cases}
+use Rattle.tc_journal.proofs.Batching.{run_from-more}
 use Rattle.tc_journal.specs.Batch.{may_follow, passes_on}
 use Rattle.tc_segment.specs.Kept.{sealed_record}
 use Rattle.tc_segment.proofs.Keeping.{fits_at, fits_set}
-use Rattle.tc_segment.proofs.Sealing.{sealed_journal, sound_sealed, run-more, run_short}
+use Rattle.tc_segment.proofs.Sealing.{sealed_journal, sound_sealed, run_short}
 use Rattle.tc_segment.proofs.state.LockState.seal.Goals as goal
 
 -- the closed entry, which is that of the record behind the sealed ones
@@ -77,7 +78,7 @@ invariant_of-self c =
       sealed = omega (arith, lt, len);
       closed = (let h = k.closed in omega (arith, len));
       opened = k.opened;
-      run = run ∙ sym (run-more a.number 0 (blocks_of (view_of a)) (sealed_block stamp worker r.block)) ∙ ap (run_of a.number) (sym blocks) ∙ ap (λ (l : LockView). run_of a.number (blocks_of l)) (sym view);
+      run = run ∙ sym (run_from-more a.number 0 (blocks_of (view_of a)) (sealed_block stamp worker r.block)) ∙ ap (run_of a.number) (sym blocks) ∙ ap (λ (l : LockView). run_of a.number (blocks_of l)) (sym view);
       short = subst (λ n. n ≤ a.limit) (sym run) (run_short a.number a.limit (blocks_of (view_of a)) (sealed_block stamp worker r.block) (subst (λ n. n ≤ a.limit) k.run k.short) follows);
       entry_room = k.entry_room;
       edge_room = k.edge_room;
