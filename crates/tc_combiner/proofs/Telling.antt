@@ -1,5 +1,5 @@
 -- What the calls of a desk tell: that a stop was seen where it answers so, and which package is good.
-use Rattle.std.proofs.Common.{◌≡◌, ℕ, Bool, true, false, cond, List, [], ◌∷◌, ◌++◌, filter, refl, sym, ap, ◌∙◌, append_assoc, subst, Option}
+use Rattle.std.proofs.Common.{◌≡◌, ℕ, Bool, true, false, cond, List, [], ◌∷◌, ◌++◌, filter, refl, sym, ap, ◌∙◌, append_assoc, subst}
 use Rattle.tc_combiner.proofs.Vocabulary.{Adds, Block, Call, DeskStep, DeskView, DidAcquire, DidEnd, DidUnlock, Did_stop, EndedAs, Free, HasSeenStop, Knows, LeftAs, LeftInOrder, LockView, PackageView, SeatView, Stopped, Turn, UnlockedAs, at_lock, back, by_desk, counted, counts, locks_of, turn_of, without_lock}
 
 -- the call c is one of these

@@ -1,6 +1,6 @@
 -- What a desk's calls answer, with each call of the pass that was made.
 use Rattle.std.specs.Prelude.{◌⊎◌, ◌≡◌, ◌<◌, ℕ, ◌+◌, min, if◌then◌else◌, List, [], ◌∷◌, ◌++◌, Option, Some, None}
-use Rattle.tc_combiner.specs.Vocabulary.{Behind, Call, Did_adopt, Did_park, Did_stop, Done, Enter, First, GoesOn, Hands, HasBlock, IsNumber, IsWaiting, Item, Link, LockView, MAX_NUMBER, Pack, PackageView, Parked, Place, Ready, SeatView, Settled, Shipped, Shown, Slept, Stopped, Terms, Turn, Waiting, is_running, last_of, locks, put_call, threads, with_line, with_turns}
+use Rattle.tc_combiner.specs.Vocabulary.{Behind, Call, Did_adopt, Did_park, Did_stop, Done, Enter, First, GoesOn, Hands, HasBlock, IsNumber, IsWaiting, Item, Link, LockView, MAX_NUMBER, Pack, PackageView, Parked, Place, Ready, SeatView, Settled, Shipped, Slept, Stopped, Terms, Turn, Waiting, is_running, last_of, locks, put_call, threads, with_line, with_turns}
 use Rattle.tc_combiner.specs.Packages.{DidTake, HoldsNone, IsAside, IsGood, IsPlain, MayGoOn, Runs, Wants}
 use Rattle.tc_combiner.specs.Walks.{TakesDown, packed, Acted, Acts}
 use Rattle.tc_combiner.specs.Change.{Change}

@@ -1,5 +1,5 @@
 -- What became of a released lock, and of all locks of a thread that has ended, with each call of the pass that was made.
-use Rattle.std.specs.Prelude.{◌⊎◌, ◌≡◌, ℕ, Bool, true, false, List, [], ◌∷◌, ◌++◌, ◌<◌, Option, Some, None, is_some, ◌≢◌, ◌+◌, ◌≤◌, length}
+use Rattle.std.specs.Prelude.{◌⊎◌, ◌≡◌, ℕ, Bool, true, false, List, [], ◌∷◌, ◌++◌, ◌<◌, Some, None, is_some, ◌≢◌, ◌+◌, ◌≤◌, length}
 use Rattle.tc_combiner.specs.Vocabulary.{Adopted, Block, Call, Did_adopt, Did_stop, Done, Free, GoesOn, Granted, HallView, Hands, Gone, Has_ended, IsAtRest, IsTurn, Item, Kind, Knows, Leave, Left, LineCall, LockView, MAX_HELD, Next, Pack, PackageView, Passed, Ready, Releases, SeatView, Settled, Shown, Stopped, Terms, Turn, Was_adopted, Was_stopped, bare, blocks_of, ends_thread, has, last_of, locked_in, locks, locks_of, may_adopt, number_in, put_call, run_of, threads, without_lock}
 use Rattle.tc_combiner.specs.Packages.{DidGrant, DidTakeOut, HasHeldAnd, IsGood, IsWaiter, Runs, HasNone}
 use Rattle.tc_combiner.specs.Walks.{Asks, Shows, Acted, MayAct}

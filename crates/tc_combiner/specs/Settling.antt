@@ -1,6 +1,6 @@
 -- What `settle` asks of a package, and what becomes of it by the end of its last block.
-use Rattle.std.specs.Prelude.{◌≡◌, ◌≢◌, ℕ, ◌+◌, ◌-◌, ◌^◌, min, true, List, [], ◌∷◌, ◌++◌, length, slice_set, Option, Some, None, is_some}
-use Rattle.tc_combiner.specs.Vocabulary.{AllowsPending, AreTogether, Block, Call, Cut, DidRun, Did_park, End, GoesOn, Hands, HandsPending, IsSamePass, Pack, PackageView, Parked, PassView, Rest, SeatView, Settled, Shown, Slept, Terms, Unlocked, Wants, has, last_by, last_of, locked_in, put_call, threads, want_of}
+use Rattle.std.specs.Prelude.{◌≡◌, ◌≢◌, ℕ, ◌+◌, ◌-◌, ◌^◌, min, true, List, [], ◌∷◌, ◌++◌, length, slice_set, Some, None, is_some}
+use Rattle.tc_combiner.specs.Vocabulary.{AllowsPending, AreTogether, Block, Call, Cut, DidRun, Did_park, End, GoesOn, HandsPending, IsSamePass, Pack, PackageView, Parked, Settled, Shown, Slept, Terms, Unlocked, Wants, has, last_by, last_of, locked_in, put_call, threads, want_of}
 use Rattle.tc_combiner.specs.Packages.{HasOnlyHeld, IsAside, IsGoodFor}
 use Rattle.tc_combiner.specs.Walks.{Moves, Owned, packed, Asks, Acts, Adds}
 use Rattle.tc_combiner.specs.Answers.{AcquiredAs, HasReadied, carried}

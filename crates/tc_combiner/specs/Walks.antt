@@ -1,6 +1,6 @@
 -- What some calls of a pass and of a seat did: which calls, one by one, and how what is out changed; and what hands may do.
 use Rattle.std.specs.Prelude.{◌≡◌, ◌+◌, ℕ, List, [], ◌∷◌, ◌++◌, Option, Some, None, ◌==◌, ◌<◌, ◌≤◌, Bool, true, false, All, length, filter}
-use Rattle.tc_combiner.specs.Vocabulary.{Attempt, Call, Called, Came, Found, HallView, Hands, IsAtRest, IsInOrder, IsInRange, IsOut, IsSamePass, IsSeatOf, IsTurn, Item, Knows, Leave, Left, LineCall, LockView, Loose, MAX_HELD, Miss, Next, Next_is, Nobody, Outs, Pack, PackageView, PassView, Place, Put, QueueView, Ready, Refused, Rests, SeatView, Stop, Stopped, Terms, Try_stopped, Turn, Unknown, code_of, erase, fits_of, is_pinned, locks, outs, threads}
+use Rattle.tc_combiner.specs.Vocabulary.{Attempt, Call, Called, Came, Found, HallView, Hands, IsAtRest, IsInOrder, IsInRange, IsOut, IsSamePass, IsTurn, Item, Knows, Leave, Left, LineCall, LockView, Loose, MAX_HELD, Miss, Next, Next_is, Nobody, Outs, Pack, PackageView, PassView, Place, Put, Ready, Refused, Rests, SeatView, Stop, Stopped, Terms, Try_stopped, Turn, Unknown, code_of, erase, fits_of, is_pinned, locks, outs, threads}
 use Rattle.tc_combiner.specs.Change.{Change}
 use Rattle.tc_combiner.specs.Packages.{IsAside}
 
