@@ -1,7 +1,7 @@
 -- The steps of a worker, one after another, and its end.
-use Rattle.core.specs.declared.ops.ControlFlow.{ControlFlow}
 use Rattle.std.specs.ControlFlow.{MatchControlFlow}
 use Rattle.std.specs.Prelude.{◌≡◌, ◌⊎◌, ◌∷◌, ◌++◌, Bool, true, false, Option, Some, None}
+use Rattle.std.specs.declared.ops.ControlFlow.{ControlFlow}
 use Rattle.tc_context.specs.View.{PackageView}
 use Rattle.tc_hall.specs.declared.board.Call.TheVariants.{Stopped as Seen}
 use Rattle.tc_hall.specs.declared.board.Terms.{Terms}
