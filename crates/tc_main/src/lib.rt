@@ -36,5 +36,6 @@ mod wrong;
 pub use crate::status::Status;
 pub use crate::top::tclocks;
 pub use tc_build::{build, generate};
+pub use tc_isa::options;
 pub use tc_report::{report, summary};
-pub use tc_workers::{gate, options};
+pub use tc_workers::gate;
