@@ -23,7 +23,8 @@ fn a_cut_file_is_refused_at_each_length(rt: HostRuntime) -> Result<(), Fail> {
             Some((_, number, line)) => (Status::Refused(*number), *line),
             None => (Status::Done, SMALLEST_REPORT),
         };
-        ran.check(&rt, status, text.as_bytes(), &[length]);
+        assert_eq!(rt; ran.status, status, "{length} bytes");
+        assert_eq!(rt; ran.text(), text, "{length} bytes");
     }
     Ok(())
 }

@@ -35,7 +35,8 @@ fn check_source<R: Threads + Wait + Sync + Abort>(
     } else {
         (Status::Done, SMALLEST_REPORT)
     };
-    ran.check(rt, status, text.as_bytes(), &[call, most]);
+    assert_eq!(rt; ran.status, status, "call {call}, pieces of {most}");
+    assert_eq!(rt; ran.text(), text, "call {call}, pieces of {most}");
     Ok(())
 }
 
@@ -125,7 +126,12 @@ fn check_sink<R: Threads + Wait + Sync + Abort>(
     } else {
         case.whole
     };
-    ran.check(rt, status, &text[..taken], &[call, most]);
+    assert_eq!(rt; ran.status, status, "call {call}, pieces of {most}");
+    assert_eq!(rt;
+        ran.written.as_slice(),
+        &text[..taken],
+        "call {call}, pieces of {most}"
+    );
     Ok(())
 }
 
@@ -165,14 +171,15 @@ fn faults_are_told_for_each_number_of_workers(rt: HostRuntime) -> Result<(), Fai
             ..CALM
         };
         let ran = run_with(&rt, rt.alloc(), &words, &SMALLEST, &failing)?;
-        ran.check(&rt, Status::ReadFault, b"", &[]);
+        assert!(rt; ran.status == Status::ReadFault && ran.written.is_empty());
         let failing = Outside {
             most: 16,
             failing_writes: &[1],
             ..CALM
         };
         let ran = run_with(&rt, rt.alloc(), &words, &SMALLEST, &failing)?;
-        ran.check(&rt, Status::WriteFault, b"tclocks 2\nguest ", &[]);
+        assert_eq!(rt; ran.status, Status::WriteFault);
+        assert_eq!(rt; ran.written.as_slice(), b"tclocks 2\nguest ".as_slice());
     }
     Ok(())
 }

@@ -114,7 +114,8 @@ fn check<R: Threads + Wait + Sync + Abort>(
             None => (Status::Done, SMALLEST_REPORT),
         };
         let (offset, _, value, _) = *field;
-        ran.check(rt, status, text.as_bytes(), &[offset, value as usize]);
+        assert_eq!(rt; ran.status, status, "{value} at {offset}");
+        assert_eq!(rt; ran.text(), text, "{value} at {offset}");
     }
     Ok(())
 }

@@ -129,7 +129,8 @@ fn two_workers_run_a_demonstration(rt: HostRuntime) -> Result<(), Fail> {
     let gate = Watch::new(&rt, rt.alloc(), Hold::Claim);
     let words = [b"demo".as_slice(), b"1", b"2"];
     let ran = run_at(&rt, rt.alloc(), &words, &[], &CALM, &gate)?;
-    ran.check(&rt, Status::Done, ONE_ROUND.as_bytes(), &[]);
+    assert_eq!(rt; ran.status, Status::Done);
+    assert_eq!(rt; ran.text(), ONE_ROUND);
     assert!(rt; gate.held_in_time());
     let reports = gate.reports.lock(&rt);
     let (first, second) = (claimer(&reports, 0), claimer(&reports, 1));
@@ -207,7 +208,7 @@ fn a_thread_that_waits_is_adopted(rt: HostRuntime) -> Result<(), Fail> {
     assert!(rt; gate.held_in_time());
     for thread in 0..2 {
         let line = format!(in alloc; "thread {thread} exit fuel 896 pc 00100038")?;
-        ran.check_lines(&rt, &[&line]);
+        assert!(rt; ran.has_line(&line), "{line}");
         assert_eq!(rt; ran.turns_of(alloc, thread)?, 1104);
     }
     let end = "lock 0 sections 200 broken 0 bytes 4\ndata 00020000 c8000000\nend\n";

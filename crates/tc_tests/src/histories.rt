@@ -93,7 +93,8 @@ fn check_text<R: Threads + Wait + Sync + Abort>(
     text: &str,
 ) -> Result<(), AllocError> {
     let ran = ask(rt, alloc, words, file, history, &CALM)?;
-    ran.check(rt, Status::Done, text.as_bytes(), &[]);
+    assert_eq!(rt; ran.status, Status::Done);
+    assert!(rt; ran.text() == text, "{}instead of\n{text}", ran.text());
     Ok(())
 }
 
@@ -192,10 +193,12 @@ fn what_is_no_file_is_refused_before_the_history_is_read(rt: HostRuntime) -> Res
     for form in ["replay", "profile"] {
         let words = [form, "93", "1", "100", "0"];
         let ran = ask(&rt, alloc, words, &SMALLEST, "", &CALM)?;
-        ran.check(&rt, Status::Refused(17), b"refused 17 ShortInput\n", &[]);
+        assert_eq!(rt; ran.status, Status::Refused(17));
+        assert_eq!(rt; ran.text(), "refused 17 ShortInput\n");
         let words = [form, "51", "1", "100", "0"];
         let ran = ask(&rt, alloc, words, &SMALLEST[..51], "end\n", &CALM)?;
-        ran.check(&rt, Status::Refused(1), b"refused 1 TooShort\n", &[]);
+        assert_eq!(rt; ran.status, Status::Refused(1));
+        assert_eq!(rt; ran.text(), "refused 1 TooShort\n");
     }
     Ok(())
 }

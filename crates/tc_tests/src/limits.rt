@@ -27,7 +27,7 @@ fn numbers_at_their_limits_are_run(rt: HostRuntime) -> Result<(), Fail> {
     ] {
         let ran = run(&rt, rt.alloc(), asked, &SMALLEST)?;
         assert_eq!(rt; ran.status, Status::Done, "{line}");
-        ran.check_lines(&rt, &[line]);
+        assert!(rt; ran.has_line(line), "{line}");
     }
     Ok(())
 }
@@ -59,13 +59,15 @@ fn thirty_two_threads_take_a_lock_each(rt: HostRuntime) -> Result<(), Fail> {
     let ran = run(&rt, alloc, ["1", "100", "0"], &file)?;
     assert_eq!(rt; ran.status, Status::Done);
     assert_eq!(rt; ran.blocks(), 96);
-    ran.check_lines(&rt, &["guest threads 32 guards 32"]);
+    assert!(rt; ran.has_line("guest threads 32 guards 32"));
     for (thread, (_, lock)) in threads.iter().enumerate() {
-        let ends = format!(in alloc; "thread {thread} exit fuel 88 pc 0010002c")?;
-        let lock_is = format!(in alloc; "lock {lock} sections 1 broken 0 bytes 4")?;
-        let guard = 0x20000 + lock % 32 * 4;
-        let data_is = format!(in alloc; "data {guard:08x} {thread:02x}000000")?;
-        ran.check_lines(&rt, &[&ends, &lock_is, &data_is]);
+        for line in [
+            format!(in alloc; "thread {thread} exit fuel 88 pc 0010002c")?,
+            format!(in alloc; "lock {lock} sections 1 broken 0 bytes 4")?,
+            format!(in alloc; "data {:08x} {thread:02x}000000", 0x20000 + lock % 32 * 4)?,
+        ] {
+            assert!(rt; ran.has_line(&line), "{line}");
+        }
     }
     Ok(())
 }

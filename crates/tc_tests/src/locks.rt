@@ -213,7 +213,7 @@ fn threads_count_under_one_lock(rt: HostRuntime) -> Result<(), Fail> {
         assert!(rt; ran.written.ends_with(end.as_bytes()), "{threads} threads");
         for thread in 0..threads {
             let line = format!(in rt.alloc(); "thread {thread} exit fuel 896 pc 00100038")?;
-            ran.check_lines(&rt, &[&line]);
+            assert!(rt; ran.has_line(&line), "{line}");
             assert_eq!(rt; ran.turns_of(rt.alloc(), thread)?, 1104);
         }
     }
@@ -238,7 +238,7 @@ fn a_worker_offers_more_than_its_deque_takes(rt: HostRuntime) -> Result<(), Fail
         .lines()
         .filter(|line| line.contains(" kind granted "));
     assert!(rt; sections.nth(4096).is_some());
-    ran.check_lines(&rt, &["lock 0 sections 4400 broken 0 bytes 4"]);
+    assert!(rt; ran.has_line("lock 0 sections 4400 broken 0 bytes 4"));
     for thread in 0..2 {
         let end = format!(in rt.alloc(); "thread {thread} exit ")?;
         assert!(rt;
@@ -259,7 +259,8 @@ fn a_note_without_room_is_refused(rt: HostRuntime) -> Result<(), Fail> {
         let mut changed = file.clone()?;
         changed[place] = byte;
         let ran = run(&rt, rt.alloc(), ["1", "2000", "8"], &changed)?;
-        ran.check(&rt, Status::Refused(12), b"refused 12 BadNote\n", &[place]);
+        assert_eq!(rt; ran.status, Status::Refused(12));
+        assert_eq!(rt; ran.written.as_slice(), b"refused 12 BadNote\n".as_slice());
     }
     Ok(())
 }

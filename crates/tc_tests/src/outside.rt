@@ -77,10 +77,11 @@ fn answers_other_words_by_the_usage_line(rt: HostRuntime) -> Result<(), Fail> {
         failing_reads: &[0],
         ..CALM
     };
-    assert_eq!(rt; Status::Usage.number(), 1);
-    for (case, words) in NO_FORM.iter().enumerate() {
+    for words in &NO_FORM {
         let ran = run_with(&rt, rt.alloc(), words, &SMALLEST, &outside)?;
-        ran.check(&rt, Status::Usage, USAGE.as_bytes(), &[case]);
+        assert_eq!(rt; ran.status, Status::Usage);
+        assert_eq!(rt; ran.status.number(), 1);
+        assert_eq!(rt; ran.written.as_slice(), USAGE.as_bytes());
     }
     Ok(())
 }

@@ -1,7 +1,6 @@
 //! Runs of the program over files in memory.
 
 use std::alloc::{AllocError, Global};
-use std::process::Abort;
 use std::str::from_utf8;
 use std::sync::Wait;
 use std::thread::Threads;
@@ -41,22 +40,9 @@ impl Ran {
         from_utf8(&self.written).unwrap_or("")
     }
 
-    /// Checks what the run of the case with these numbers ended with, and all that it wrote.
-    pub(crate) fn check<R: Abort>(&self, rt: &R, status: Status, written: &[u8], case: &[usize]) {
-        let text = from_utf8(written).unwrap_or("");
-        assert_eq!(rt; self.status, status, "{case:?}");
-        assert!(rt;
-            self.written.as_slice() == written,
-            "{case:?}: {}instead of\n{text}",
-            self.text()
-        );
-    }
-
-    /// Checks that the text has each of these lines.
-    pub(crate) fn check_lines<R: Abort>(&self, rt: &R, lines: &[&str]) {
-        for line in lines {
-            assert!(rt; self.text().lines().any(|own| own == *line), "{line}");
-        }
+    /// Whether the text has this line.
+    pub(crate) fn has_line(&self, line: &str) -> bool {
+        self.text().lines().any(|own| own == line)
     }
 
     /// The text, in which worker 0 runs each block: which worker ran it depends on how the workers

@@ -120,8 +120,9 @@ fn refused_memory_ends_a_run(rt: HostRuntime) -> Result<(), Fail> {
             pieces: Mutex::new(Vec::with_capacity(alloc, MOST_PIECES)?),
         };
         let ran = run_at(&rt, alloc, &words, &file, &CALM, &gate)?;
-        ran.check(&rt, Status::OutOfMemory, b"", &[]);
-        assert_eq!(rt; ran.status.number(), 5, "{workers} workers");
+        assert_eq!(rt; ran.status, Status::OutOfMemory, "{workers} workers");
+        assert_eq!(rt; ran.status.number(), 5);
+        assert!(rt; ran.written.is_empty());
         assert!(rt; gate.blocks.load(Ordering::SeqCst) > PLENTY);
     }
     Ok(())
