@@ -10,12 +10,12 @@
 //!   lock are served. `run`: a run by workers, from the image to the report. `nodes`: a run by workers
 //!   that belong to nodes. `demo`: a run of the generator's guest, to the summary. `answer`: what the
 //!   words and the source come to.
-//! - `build`, `generate`: files of guests, of tc_build. `options`, `gate`: with what a guest is run,
-//!   and whom its workers tell how far they are, of tc_workers. `report`, `summary`: the texts of a
-//!   report and of a summary, of tc_report.
+//! - `build`, `generate`: files of guests, of tc_build. `options`: with what a guest is run, of tc_isa.
+//!   `gate`: whom its workers tell how far they are, of tc_workers. `report`, `summary`: the texts of
+//!   a report and of a summary, of tc_report.
 //! - `status`: how the program ends. `top`: the top call.
-//! - `delegation`: what the history of a legal run is to the pure machine of tc_core, and what it shows of
-//!   each section. `existence`: that there is a legal run.
+//! - `delegation`: what the history of a legal run is to the pure machine of tc_core, and what it
+//!   shows of each section. `existence`: that there is a legal run.
 #![tactic(auto)]
 
 mod answer;
