@@ -1,7 +1,7 @@
 -- What became of a package that wants a lock, from its parts.
 use Rattle.std.proofs.Common.{◌≡◌, ◌+◌, min, ℕ, List, [], ◌∷◌, ◌++◌, refl, sym, ap, ◌∙◌, subst, arith, Option, Some, None, if◌then◌else◌}
-use Rattle.tc_combiner.proofs.Vocabulary.{AcquiredAs, Acquires, Acts, Behind, Call, Change, DeskStep, DidFirst, DidGrant, DidTake, Did_stop, Done, Enter, First, FirstAs, GoesOn, HallView, Hands, IsAtHall, IsAtRest, IsSameSeat, IsWaiting, Item, Link, LockView, Loose, MAX_NUMBER, MayAsk, MayGive, MayGoOn, Pack}
-use Rattle.tc_combiner.proofs.Vocabulary.{PackageView, PassView, PutAllBack, Ready, Runs, SeatView, Settled, Shipped, Taken, TakenAs, Terms, Turn, Waiting, Wants_lock, at_none, back, by_hands, change, counted, locked_in, next_turn, packed, place_back, put_call, ready_in, saw, threads, with_line, with_turns}
+use Rattle.tc_combiner.proofs.Vocabulary.{AcquiredAs, Acquires, Acts, Behind, PassCall, Change, DeskStep, DidFirst, DidGrant, DidTake, Did_stop, Done, Enter, First, FirstAs, GoesOn, HallView, Hands, IsAtHall, IsAtRest, IsSameSeat, IsWaiting, Item, Link, LockView, Loose, MAX_NUMBER, MayAsk, MayGive, MayGoOn, Pack}
+use Rattle.tc_combiner.proofs.Vocabulary.{PackageView, PassView, PutAllBack, Ready, Runs, SeatView, Settled, Shipped, Taken, TakenAs, HallTerms, Turn, Waiting, Wants_lock, at_none, back, by_hands, change, counted, locked_in, next_turn, packed, place_back, put_call, ready_in, saw, threads, with_line, with_turns}
 use Rattle.tc_combiner.proofs.Acting.{acts_by, acts_still, acts_then, owned_by, takes_none}
 use Rattle.tc_combiner.proofs.Owning.{counts_in, granted_with, takes_in}
 use Rattle.tc_combiner.proofs.Answering.{keeps_answers, wider}
@@ -19,7 +19,7 @@ puts_both q o h g m e runs none same a b =
 
 -- ---- the first of its line
 
-pub takes_first : (k : Terms) (i n : ℕ) (l : LockView) (q r : PackageView) (h g : Hands) → IsAtRest q.image i l → DidGrant l Taken n q r → IsWaiting q i → MayGoOn k q → Acts [] [] (Loose l ∷ []) h.pass g.pass → g.ready.items ≡ h.ready.items → g.aside ≡ h.aside → DidFirst k i n q (change h g) (Some r)
+pub takes_first : (k : HallTerms) (i n : ℕ) (l : LockView) (q r : PackageView) (h g : Hands) → IsAtRest q.image i l → DidGrant l Taken n q r → IsWaiting q i → MayGoOn k q → Acts [] [] (Loose l ∷ []) h.pass g.pass → g.ready.items ≡ h.ready.items → g.aside ≡ h.aside → DidFirst k i n q (change h g) (Some r)
 takes_first k i n l q r h g rest d waits m a same keeps =
     let free : locked_in q l.number ≡ None = subst (λ (j : ℕ). locked_in q j ≡ None) (sym rest.number) waits.absent in
     let t : DidTake i l n q r = record { rest = rest; grant = d } in
@@ -30,7 +30,7 @@ takes_first k i n l q r h g rest d waits m a same keeps =
       became = (refl, keeps, (l, t), taken_good i l n _ h.pass.knows.worker k.image.value q r t m.of m.plain m.runs);
     }
 
-pub stops_first : (k : Terms) (i n : ℕ) (q : PackageView) (h m g : Hands) → Acts saw [] [] h.pass m.pass → m.aside ≡ h.aside → PutAllBack q (change m g) → DidFirst k i n q (change h g) None
+pub stops_first : (k : HallTerms) (i n : ℕ) (q : PackageView) (h m g : Hands) → Acts saw [] [] h.pass m.pass → m.aside ≡ h.aside → PutAllBack q (change m g) → DidFirst k i n q (change h g) None
 stops_first k i n q h m g a e p = record {
   calls = saw ++ back q h.aside;
   acts = subst (λ (x : Option PackageView). Acts (saw ++ back q h.aside) (Pack q ∷ packed h.aside) (packed x) h.pass g.pass) (sym p.aside)
@@ -41,13 +41,13 @@ stops_first k i n q h m g a e p = record {
 }
 
 -- the seats count for nothing there
-first_at : {A B : Type 0} (k : Terms) (q : PackageView) (seats : Change A) (others : Change B) (hands : Change Hands) (i n : ℕ) (cs : List Call) (r : Option PackageView) → FirstAs (by_hands k q seats hands) i n cs r → FirstAs (by_hands k q others hands) i n cs r
+first_at : {A B : Type 0} (k : HallTerms) (q : PackageView) (seats : Change A) (others : Change B) (hands : Change Hands) (i n : ℕ) (cs : List PassCall) (r : Option PackageView) → FirstAs (by_hands k q seats hands) i n cs r → FirstAs (by_hands k q others hands) i n cs r
 first_at k q seats others hands i n cs (Some r) h = h
 first_at k q seats others hands i n cs None h = h
 
 -- ---- with its number counted
 
-turned : (q p : PackageView) (n : ℕ) (xs ys : List Item) (ds : List Call) (v w : PassView) → p ≡ with_turns n q → Acts ds (Pack p ∷ xs) ys v w → Acts ds (Pack q ∷ xs) ys v w
+turned : (q p : PackageView) (n : ℕ) (xs ys : List Item) (ds : List PassCall) (v w : PassView) → p ≡ with_turns n q → Acts ds (Pack p ∷ xs) ys v w → Acts ds (Pack q ∷ xs) ys v w
 turned q p n xs ys ds v w e a = acts_then [] ds (Pack q ∷ xs) (Pack p ∷ xs) ys v v w (acts_still v (Pack q ∷ xs) (Pack p ∷ xs) (counts_in v.knows q p n xs e)) a
 
 pub at_counted : (hall : HallView) (q p : PackageView) (n : ℕ) (h : Hands) → p ≡ with_turns n q → IsAtHall hall (Pack q ∷ packed h.aside) h → IsAtHall hall (Pack p ∷ packed h.aside) h
@@ -65,7 +65,7 @@ is_counted q p n t e f g = record {
 }
 
 module _ (hall : HallView) (i : ℕ) (u : Turn) (q p : PackageView) (s t : SeatView) (h g : Hands) (c : IsCounted q p u) (at : IsAtHall hall (Pack q ∷ packed h.aside) h) where
-  first_as : (cs : List Call) (r : Option PackageView) → FirstAs (by_hands hall.terms p at_none (change h g)) i u.number cs r → TakenAs (by_hands hall.terms q (change s t) (change h g)) i cs r
+  first_as : (cs : List PassCall) (r : Option PackageView) → FirstAs (by_hands hall.terms p at_none (change h g)) i u.number cs r → TakenAs (by_hands hall.terms q (change s t) (change h g)) i cs r
   first_as cs r d = subst (λ (x : PackageView). FirstAs (by_hands hall.terms x (change s t) (change h g)) i (next_turn q).number cs r) c.is
       (subst (λ (x : Turn). FirstAs (by_hands hall.terms p (change s t) (change h g)) i x.number cs r) c.turn (first_at hall.terms p at_none (change s t) (change h g) i u.number cs r d))
 
@@ -102,7 +102,7 @@ module _ (hall : HallView) (i : ℕ) (u : Turn) (q p : PackageView) (s t : SeatV
   }
 
 -- what is asked of a package that wants a lock, once its number was counted
-pub still_asks : (k : Terms) (i : ℕ) (q p : PackageView) (n : ℕ) → p ≡ with_turns n q → MayAsk k i q → MayAsk k i p
+pub still_asks : (k : HallTerms) (i : ℕ) (q p : PackageView) (n : ℕ) → p ≡ with_turns n q → MayAsk k i q → MayAsk k i p
 still_asks k i q p n e m = subst (λ (x : PackageView). MayAsk k i x) (sym e) (record { lock = m.lock; of = m.of; plain = record { thread = m.plain.thread; settled = m.plain.settled; granted = m.plain.granted; locks = m.plain.locks; ended = m.plain.ended; uncut = m.plain.uncut }; want = m.want })
 
 pub may_wait : (hall : HallView) (i : ℕ) (q : PackageView) (h : Hands) → IsAtHall hall (Pack q ∷ packed h.aside) h → MayAsk hall.terms i q → MayGive hall h.pass (Waiting i) q
@@ -114,7 +114,7 @@ may_wait hall i q h at m = plain_gives hall (Waiting i) q (packed h.aside) h.pas
   ready = λ g e. let f = m.plain.granted in let n : ⊥ = cc in absurd n;
 })
 
-pub same_seat : (x : DeskStep SeatView) (i : ℕ) (cs : List Call) (r : Settled) → AcquiredAs x i cs r → IsSameSeat x.seats.old x.seats.new
+pub same_seat : (x : DeskStep SeatView) (i : ℕ) (cs : List PassCall) (r : Settled) → AcquiredAs x i cs r → IsSameSeat x.seats.old x.seats.new
 same_seat x i cs (GoesOn r) h = subst (λ (t : SeatView). IsSameSeat x.seats.old t) (sym h.0) (refl, refl)
 same_seat x i cs Shipped h = subst (λ (t : SeatView). IsSameSeat x.seats.old t) (sym h.1) (refl, refl)
 same_seat x i cs Did_stop h = subst (λ (t : SeatView). IsSameSeat x.seats.old t) (sym h.0) (refl, refl)

@@ -1,22 +1,22 @@
 -- Calls of a pass, one after another, with each call that counts.
 use Rattle.std.proofs.Common.{◌≡◌, ◌≢◌, ◌==◌, ◌<◌, ◌≤◌, ◌+◌, ℕ, Bool, true, false, cond, arith, All, List, [], ◌∷◌, ◌++◌, length, length-append, filter, refl, sym, ap, ◌∙◌, subst, append_assoc, append-nil, Some, None, Option}
-use Rattle.tc_combiner.proofs.Vocabulary.{Acted, Acts, All-nil, AreAsked, AskedTimes, Asks, Call, Called, Came, Departure, HallView, Hands, HaveNoStop, IsAt, IsSamePass, Item, Knows, Leave, LineCall, MAX_HELD, MayAct, Miss, Moves, Next, Owned, Owns, PackageView, PassView, Put, Ready}
-use Rattle.tc_combiner.proofs.Vocabulary.{Refused, SawStopped, SeatView, Stop, Stopped, TakesDown, Terms, Tried, TriedAs, Try_stopped, Turn, WaitedAs, Waits, after_miss, after_stopped, change, counts, erase, nat_tests, outs, ready_in, saw, saw_if, threads, unanswered, with_line}
+use Rattle.tc_combiner.proofs.Vocabulary.{Acted, Acts, All-nil, AreAsked, AskedTimes, Asks, PassCall, Called, Came, Departure, HallView, Hands, HaveNoStop, IsAt, IsSamePass, Item, Knows, Leave, LineCall, MAX_HELD, MayAct, Miss, Moves, Next, Owned, Owns, PackageView, PassView, Put, Ready}
+use Rattle.tc_combiner.proofs.Vocabulary.{Refused, SawStopped, SeatView, Stop, Stopped, TakesDown, HallTerms, Tried, TriedAs, Try_stopped, Turn, WaitedAs, Waits, after_miss, after_stopped, change, counts, erase, nat_tests, outs, ready_in, saw, saw_if, threads, unanswered, with_line}
 use Rattle.std.proofs.lemmas.List.Elements.{filter-append, All-append}
 use Rattle.tc_combiner.proofs.Owning.{moves_none, rotate, unrotate}
 
-pub no_stops : (cs ds : List Call) → HaveNoStop cs → HaveNoStop ds → HaveNoStop (cs ++ ds)
+pub no_stops : (cs ds : List PassCall) → HaveNoStop cs → HaveNoStop ds → HaveNoStop (cs ++ ds)
 no_stops [] ds p q = q
 no_stops (Stop ∷ cs) ds p q = p
 no_stops (c ∷ cs) ds p q = no_stops cs ds p q
 
-pub told_then : (cs ds : List Call) (v w x : Knows) → Called cs v w → Called ds w x → Called (cs ++ ds) v x
+pub told_then : (cs ds : List PassCall) (v w x : Knows) → Called cs v w → Called ds w x → Called (cs ++ ds) v x
 told_then cs ds v w x a b = record {
   image = b.image ∙ a.image;
   worker = b.worker ∙ a.worker;
   sealed = b.sealed ∙ a.sealed;
   joined = b.joined ∙ a.joined;
-  calls = b.calls ∙ (ap (λ (l : List Call). l ++ ds) a.calls ∙ append_assoc v.calls cs ds);
+  calls = b.calls ∙ (ap (λ (l : List PassCall). l ++ ds) a.calls ∙ append_assoc v.calls cs ds);
 }
 
 asked_then : (u : Turn) (cs ds : List LineCall) → AreAsked u cs → AreAsked u ds → AreAsked u (cs ++ ds)
@@ -48,20 +48,20 @@ asked_none u s = (record { threads = refl; table = refl; lines = []; calls = sym
 pub asked_left : (s m t : SeatView) (u : Turn) (a : Option Turn) (d : Departure) → m ≡ with_line s (Next u a) → a ≡ None → t ≡ with_line m (Leave u d) → AskedTimes 1 u s t
 asked_left s m t u a d e none f = asked_line 1 0 u s m t (Leave u d) (asked_line 0 1 u s s m (Next u a) (asked_none u s) e (refl, tt) (ap (λ (o : Option Turn). unanswered (Next u o ∷ [])) none)) f (refl, tt) refl
 
-pub acts_then : (ds es : List Call) (xs ys zs : List Item) (p q r : PassView) → Acts ds xs ys p q → Acts es ys zs q r → Acts (ds ++ es) xs zs p r
+pub acts_then : (ds es : List PassCall) (xs ys zs : List Item) (p q r : PassView) → Acts ds xs ys p q → Acts es ys zs q r → Acts (ds ++ es) xs zs p r
 acts_then ds es xs ys zs p q r a b = record {
   own = (b.own.0 ∙ a.own.0, b.own.1 ∙ a.own.1);
   adds = record {
     calls = a.adds.calls ++ b.adds.calls;
     told = told_then a.adds.calls b.adds.calls p.knows q.knows r.knows a.adds.told b.adds.told;
     stops = no_stops a.adds.calls b.adds.calls a.adds.stops b.adds.stops;
-    are = filter-append counts a.adds.calls b.adds.calls ∙ (ap (λ (l : List Call). l ++ filter counts b.adds.calls) a.adds.are ∙ ap (λ (l : List Call). ds ++ l) b.adds.are);
+    are = filter-append counts a.adds.calls b.adds.calls ∙ (ap (λ (l : List PassCall). l ++ filter counts b.adds.calls) a.adds.are ∙ ap (λ (l : List PassCall). ds ++ l) b.adds.are);
   };
   moves = λ c us o. b.moves c us (a.moves c us o);
 }
 
 -- the hall made these calls, of which those count
-pub acts_told : (cs ds : List Call) (xs ys : List Item) (p q : PassView) → filter counts cs ≡ ds → HaveNoStop cs → IsSamePass p q → Called cs p.knows q.knows → Moves p.knows q.knows xs ys → Acts ds xs ys p q
+pub acts_told : (cs ds : List PassCall) (xs ys : List Item) (p q : PassView) → filter counts cs ≡ ds → HaveNoStop cs → IsSamePass p q → Called cs p.knows q.knows → Moves p.knows q.knows xs ys → Acts ds xs ys p q
 acts_told cs ds xs ys p q e n own told m = record { own = own; adds = record { calls = cs; told = told; stops = n; are = e }; moves = m }
 
 -- where nothing was called
@@ -72,11 +72,11 @@ pub acts_none : (p : PassView) (xs : List Item) → Acts [] xs xs p p
 acts_none p xs = acts_still p xs xs (λ c us o. o)
 
 -- a call that moved nothing of what is in hand
-pub acts_by : (ds : List Call) (xs : List Item) (p q : PassView) → Acts ds [] [] p q → Acts ds xs xs p q
+pub acts_by : (ds : List PassCall) (xs : List Item) (p q : PassView) → Acts ds [] [] p q → Acts ds xs xs p q
 acts_by ds xs p q a = record { own = a.own; adds = a.adds; moves = λ c us o. a.moves c (xs ++ us) o }
 
 -- with one thing in hand besides
-pub acts_beside : (ds : List Call) (x : Item) (xs ys : List Item) (p q : PassView) → Acts ds xs ys p q → Acts ds (x ∷ xs) (x ∷ ys) p q
+pub acts_beside : (ds : List PassCall) (x : Item) (xs ys : List Item) (p q : PassView) → Acts ds xs ys p q → Acts ds (x ∷ xs) (x ∷ ys) p q
 acts_beside ds x xs ys p q a = record { own = a.own; adds = a.adds; moves = λ c us o. rotate c (outs q.knows) x ys us (a.moves c (x ∷ us) (unrotate c (outs p.knows) x xs us o)) }
 
 saw_counts : (b : Bool) (word : ℕ) → (b ≡ true → word ≡ 1) → (b ≡ false → word ≢ 1) → filter counts (Stopped word ∷ []) ≡ saw_if b
@@ -106,7 +106,7 @@ tried_then a b c d v w x h k = record {
   missed = k.missed ∙ (ap (λ (l : List Miss). l ++ k.misses) h.missed ∙ append_assoc v.missed h.misses k.misses);
   each = length-append h.misses k.misses ∙ (ap (λ (n : ℕ). n + length k.misses) h.each ∙ ap (λ (n : ℕ). a + n) k.each);
   calls = h.calls ++ k.calls;
-  added = k.added ∙ (ap (λ (l : List Call). l ++ k.calls) h.added ∙ append_assoc v.calls h.calls k.calls);
+  added = k.added ∙ (ap (λ (l : List PassCall). l ++ k.calls) h.added ∙ append_assoc v.calls h.calls k.calls);
   all = length-append h.calls k.calls ∙ (ap (λ (n : ℕ). n + length k.calls) h.all ∙ ap (λ (n : ℕ). b + n) k.all);
 }
 
@@ -130,21 +130,21 @@ module _ {A : Type 0} (items : A → List Item) (is : PassView → A → Type 0)
   pub waits_came : (a : A) → TriedAs 1 items is q r (Came a) → WaitedAs items is p r (Some a)
   waits_came a t = (acts_then [] [] [] [] (items a) p q r h.0 t.0, (h.1.0 + 0, tried_then h.1.0 h.1.0 0 0 p.knows q.knows r.knows h.1.1 t.1), t.2)
 
-pub ready_append : (cs ds : List Call) → ready_in (cs ++ ds) ≡ ready_in cs ++ ready_in ds
+pub ready_append : (cs ds : List PassCall) → ready_in (cs ++ ds) ≡ ready_in cs ++ ready_in ds
 ready_append [] ds = refl
 ready_append (Put t Ready ls g ∷ cs) ds = ap (λ (l : List ℕ). t ∷ l) (ready_append cs ds)
 ready_append (c ∷ cs) ds = ready_append cs ds
 
 -- ---- the threads that were put as ready
 
-pub takes_then : (n : ℕ) (xs ys zs : List ℕ) (cs ds : List Call) → TakesDown n xs ys cs → TakesDown n ys zs ds → TakesDown n xs zs (cs ++ ds)
+pub takes_then : (n : ℕ) (xs ys zs : List ℕ) (cs ds : List PassCall) → TakesDown n xs ys cs → TakesDown n ys zs ds → TakesDown n xs zs (cs ++ ds)
 takes_then n xs ys zs cs ds a b = (
   b.0 ∙ (ap (λ (l : List ℕ). l ++ ready_in ds) a.0 ∙ (append_assoc xs (ready_in cs) (ready_in ds) ∙ ap (λ (l : List ℕ). xs ++ l) (sym (ready_append cs ds)))),
   subst (λ (l : List ℕ). All (λ t. t < n) l) (sym (ready_append cs ds)) (All-append (λ t. t < n) (ready_in cs) (ready_in ds) a.1 b.1),
 )
 
 -- calls that put no thread as ready
-pub takes_none : (n : ℕ) (xs ys : List ℕ) (cs : List Call) → ys ≡ xs → ready_in cs ≡ [] → TakesDown n xs ys cs
+pub takes_none : (n : ℕ) (xs ys : List ℕ) (cs : List PassCall) → ys ≡ xs → ready_in cs ≡ [] → TakesDown n xs ys cs
 takes_none n xs ys cs e none = (
   e ∙ (sym (append-nil xs) ∙ ap (λ (l : List ℕ). xs ++ l) (sym none)),
   subst (λ (l : List ℕ). All (λ t. t < n) l) (sym none) (All-nil (λ t. t < n)),
@@ -155,7 +155,7 @@ takes_none n xs ys cs e none = (
 pub owned_by : (v w : Knows) (xs ys : List Item) → Moves v w xs ys → Owned v xs → Owned w ys
 owned_by v w xs ys m o = (o.0, subst (λ (l : List Item). Owns o.0 (outs w) l) (append-nil ys) (m o.0 [] (subst (λ (l : List Item). Owns o.0 (outs v) l) (sym (append-nil xs)) o.1)))
 
-pub same_outs : (ds : List Call) (p q : PassView) → Acts ds [] [] p q → outs q.knows ≡ outs p.knows
+pub same_outs : (ds : List PassCall) (p q : PassView) → Acts ds [] [] p q → outs q.knows ≡ outs p.knows
 same_outs ds p q a = a.moves (outs p.knows) [] refl
 
 -- the first of these, where the rest counts as what is out besides
@@ -163,16 +163,16 @@ pub alone : (hall : HallView) (x : Item) (xs : List Item) (p : PassView) (a : Op
 alone hall x xs p a m = record { own = m.own; image = m.image; out = (erase (outs p.knows) x, (m.out.1.0, refl)); aside = m.aside }
 
 -- where the pass is afterwards
-pub at_after : (hall : HallView) (ds : List Call) (xs ys : List Item) (p q : PassView) (a b : Option PackageView) → IsAt hall xs p a → Acts ds xs ys p q → b ≡ a → IsAt hall ys q b
+pub at_after : (hall : HallView) (ds : List PassCall) (xs ys : List Item) (p q : PassView) (a b : Option PackageView) → IsAt hall xs p a → Acts ds xs ys p q → b ≡ a → IsAt hall ys q b
 at_after hall ds xs ys p q a b m c e = record { own = c.own.0 ∙ m.own; image = c.adds.told.image ∙ m.image; out = owned_by p.knows q.knows xs ys c.moves m.out; aside = λ x f. m.aside x (sym e ∙ f) }
 
 -- the hands may act on, where they put no thread as ready
-pub may_still : (hall : HallView) (ds : List Call) (xs ys : List Item) (n : ℕ) (h g : Hands) → MayAct hall xs n h → Acts ds xs ys h.pass g.pass → g.ready.items ≡ h.ready.items → g.aside ≡ h.aside → MayAct hall ys n g
+pub may_still : (hall : HallView) (ds : List PassCall) (xs ys : List Item) (n : ℕ) (h g : Hands) → MayAct hall xs n h → Acts ds xs ys h.pass g.pass → g.ready.items ≡ h.ready.items → g.aside ≡ h.aside → MayAct hall ys n g
 may_still hall ds xs ys n h g m a r s = record { at = at_after hall ds xs ys h.pass g.pass h.aside g.aside m.at a s; room = subst (λ (l : List ℕ). length l + n ≤ MAX_HELD) (sym r) m.room }
 
 -- calls that put no thread as ready
-pub acted_by : (k : Terms) (ds : List Call) (xs ys : List Item) (h g : Hands) → Acts ds xs ys h.pass g.pass → g.ready.items ≡ h.ready.items → ready_in ds ≡ [] → Acted k ds xs ys (change h g)
+pub acted_by : (k : HallTerms) (ds : List PassCall) (xs ys : List Item) (h g : Hands) → Acts ds xs ys h.pass g.pass → g.ready.items ≡ h.ready.items → ready_in ds ≡ [] → Acted k ds xs ys (change h g)
 acted_by k ds xs ys h g a r none = record { acts = a; readied = takes_none (threads k) h.ready.items g.ready.items ds r none }
 
-pub acted_then : (k : Terms) (ds es : List Call) (xs ys zs : List Item) (h m g : Hands) → Acted k ds xs ys (change h m) → Acted k es ys zs (change m g) → Acted k (ds ++ es) xs zs (change h g)
+pub acted_then : (k : HallTerms) (ds es : List PassCall) (xs ys zs : List Item) (h m g : Hands) → Acted k ds xs ys (change h m) → Acted k es ys zs (change m g) → Acted k (ds ++ es) xs zs (change h g)
 acted_then k ds es xs ys zs h m g a b = record { acts = acts_then ds es xs ys zs h.pass m.pass g.pass a.acts b.acts; readied = takes_then (threads k) h.ready.items m.ready.items g.ready.items ds es a.readied b.readied }

@@ -1,8 +1,8 @@
 -- The locks of a thread that has ended, one after another.
 use Rattle.std.proofs.Common.{◌≡◌, ◌≢◌, ◌<◌, ◌≤◌, inl, inr, ℕ, zero, suc, ◌^◌, ◌+◌, ◌-◌, ◌*◌, Bool, true, false, not, ◌&&◌, ◌==◌, cond, List, [], ◌∷◌, ◌++◌, length, map, filter, get_or, refl, sym, ap, ◌∙◌, subst, subst₂, arith, append_assoc, append-nil, Option, Some, None, is_some, slice_index_or}
 use Rattle.std.proofs.lemmas.Bool.{and_right, cond-false, cond-true, or_right}
-use Rattle.tc_combiner.proofs.Vocabulary.{Acts, AreSameSeats, AreSeats, Asks, AtSeat, Block, Call, Change, DeskStep, DidLeave, DidLeaveAll, Did_stop, Done, Ending, Ends, HallView, Hands, Has_ended, IsAtHall, IsEmptied, IsInOrder, IsPlain, IsSeatFor, IsSoundPackage, Knows, LeftAs, LeftInOrder, LockView, MAX_HELD, MayAct, MayEnd, MayGive}
-use Rattle.tc_combiner.proofs.Vocabulary.{MayRelease, OneLeft, Pack, PackageView, PutAllBack, QueueView, SeatView, SeatsLeft, Terms, Turn, at_lock, back, bare, by_hands, change, dite, ends_thread, has, is_running, last_of, locked_in, locks, nat_tests, no_seat, packed, put_call, seat_at, threads, turn_of, unlocks, was_cut, ℕ_discrete}
+use Rattle.tc_combiner.proofs.Vocabulary.{Acts, AreSameSeats, AreSeats, Asks, AtSeat, Block, PassCall, Change, DeskStep, DidLeave, DidLeaveAll, Did_stop, Done, Ending, Ends, HallView, Hands, Has_ended, IsAtHall, IsEmptied, IsInOrder, IsPlain, IsSeatFor, IsSoundPackage, Knows, LeftAs, LeftInOrder, LockView, MAX_HELD, MayAct, MayEnd, MayGive}
+use Rattle.tc_combiner.proofs.Vocabulary.{MayRelease, OneLeft, Pack, PackageView, PutAllBack, QueueView, SeatView, SeatsLeft, HallTerms, Turn, at_lock, back, bare, by_hands, change, dite, ends_thread, has, is_running, last_of, locked_in, locks, nat_tests, no_seat, packed, put_call, seat_at, threads, turn_of, unlocks, was_cut, ℕ_discrete}
 use Rattle.std.proofs.lemmas.Bool.Decides.{eqb_tells}
 use Rattle.std.specs.List.{range_with_len}
 use Rattle.tc_isa.specs.Sets.{without_lock, locks_of}
@@ -90,13 +90,13 @@ same_turn : (p q : PackageView) (i : ℕ) → bare p ≡ bare q → p.numbers �
 same_turn p q i same numbers = λ j. record { thread = (same j).context.thread; number = slice_index_or (numbers j) i 0 }
 
 -- what becomes of a lock does not depend on what else the desk has
-left_any : (x : DeskStep SeatView) (worker : ℕ) (q : PackageView) (aside : Change (Option PackageView)) (l : LockView) (b : Block) (own : Turn) (cs : List Call) (was is : Bool) → LeftAs x l b own cs was is → LeftAs (record x { worker = worker; given = q; aside = aside }) l b own cs was is
+left_any : (x : DeskStep SeatView) (worker : ℕ) (q : PackageView) (aside : Change (Option PackageView)) (l : LockView) (b : Block) (own : Turn) (cs : List PassCall) (was is : Bool) → LeftAs x l b own cs was is → LeftAs (record x { worker = worker; given = q; aside = aside }) l b own cs was is
 left_any x worker q aside l b own cs false false h = h
 left_any x worker q aside l b own cs false true h = h
 left_any x worker q aside l b own cs true false h = h
 left_any x worker q aside l b own cs true true h = h
 
-order_any : (x : DeskStep (List SeatView)) (aside : Change (Option PackageView)) (b : Block) (is : List ℕ) (cs : List Call) (was end : Bool) → LeftInOrder x b is cs was end → LeftInOrder (record x { aside = aside }) b is cs was end
+order_any : (x : DeskStep (List SeatView)) (aside : Change (Option PackageView)) (b : Block) (is : List ℕ) (cs : List PassCall) (was end : Bool) → LeftInOrder x b is cs was end → LeftInOrder (record x { aside = aside }) b is cs was end
 order_any x aside b [] cs was end h = h
 order_any x aside b (i ∷ is) cs was end h =
     let one = h.0 in (
@@ -107,7 +107,7 @@ order_any x aside b (i ∷ is) cs was end h =
     )
 
 -- the lock of a package that is q but for the locks before
-left_was : (k : Terms) (b : Block) (q p r : PackageView) (i : ℕ) (s z t y : SeatView) (hands : Change Hands) (h g : Hands) (was is : Bool) → bare p ≡ bare q → p.numbers ≡ q.numbers → z ≡ s → y ≡ t → (d : DidLeave k i b (change p r) (change z t) (change h g) (change was is))
+left_was : (k : HallTerms) (b : Block) (q p r : PackageView) (i : ℕ) (s z t y : SeatView) (hands : Change Hands) (h g : Hands) (was is : Bool) → bare p ≡ bare q → p.numbers ≡ q.numbers → z ≡ s → y ≡ t → (d : DidLeave k i b (change p r) (change z t) (change h g) (change was is))
     → LeftAs (by_hands k q (change s y) hands) d.state b (turn_of q i) d.calls was is
 left_was k b q p r i s z t y hands h g was is same numbers first last d =
     let at : LeftAs (by_hands k q (change z t) hands) d.state b (turn_of p i) d.calls was is = left_any (by_hands k p (change z t) (change h g)) hands.old.pass.knows.worker q (change hands.old.aside hands.new.aside) d.state b (turn_of p i) d.calls was is d.became in
@@ -133,7 +133,7 @@ leaves_first hall b q ss h m locks = record {
   order = λ us es end agree l. l;
 }
 
-leaves_one : (k : Terms) (b : Block) (q p r : PackageView) (rest next i : ℕ) (ss ts us : List SeatView) (h g m : Hands) (was is : Bool) → Ending k b (change q p) rest (change ss ts) (change h g) was → has rest i ≡ true → ((j : ℕ) → has rest j ≡ true → i ≤ j) → i < 32 → ((j : ℕ) → has next j ≡ (not (j == i) && has rest j))
+leaves_one : (k : HallTerms) (b : Block) (q p r : PackageView) (rest next i : ℕ) (ss ts us : List SeatView) (h g m : Hands) (was is : Bool) → Ending k b (change q p) rest (change ss ts) (change h g) was → has rest i ≡ true → ((j : ℕ) → has rest j ≡ true → i ≤ j) → i < 32 → ((j : ℕ) → has next j ≡ (not (j == i) && has rest j))
     → AtSeat i ts us (λ s t. DidLeave k i b (change p r) (change s t) (change g m) (change was is)) → Ending k b (change q r) next (change ss us) (change h m) is
 leaves_one k b q p r rest next i ss ts us h g m was is y waits least small each at =
     let d = at.here in
@@ -168,11 +168,11 @@ leaves_one k b q p r rest next i ss ts us h g m was is y waits least small each 
           let others : LeftInOrder x b (locks_of next) es is end = order_any z x.aside b (locks_of next) es is end l in
           let all : LeftInOrder x b (locks_of rest) (d.calls ++ es) was end = subst (λ (n : List ℕ). LeftInOrder x b n (d.calls ++ es) was end) (sym (locks_first rest next i each waits least small)) (one, es, refl, others) in
           order_any x z.aside b (locks_of b.held) ((y.calls ++ d.calls) ++ es) false end
-          (subst (λ (c : List Call). LeftInOrder x b (locks_of b.held) c false end) (sym (append_assoc y.calls d.calls es))
+          (subst (λ (c : List PassCall). LeftInOrder x b (locks_of b.held) c false end) (sym (append_assoc y.calls d.calls es))
           (y.order vs (d.calls ++ es) end (λ j f. agree j (each j ∙ and_right (not (j == i)) (has rest j) f) ∙ at.others j (λ e. let z : has rest i ≡ false = ap (has rest) (sym e) ∙ f in let n : ⊥ = cc in n)) all));
     }
 
-module _ {k : Terms} {b : Block} {q p : PackageView} {rest : ℕ} {ss ts : List SeatView} {h g : Hands} {was : Bool} (y : Ending k b (change q p) rest (change ss ts) (change h g) was) where
+module _ {k : HallTerms} {b : Block} {q p : PackageView} {rest : ℕ} {ss ts : List SeatView} {h g : Hands} {was : Bool} (y : Ending k b (change q p) rest (change ss ts) (change h g) was) where
   -- the run was not stopped before
   pub leaves_more : {r : PackageView} {next i : ℕ} {us : List SeatView} {m : Hands} {is : Bool} → was ≡ false → has rest i ≡ true → ((j : ℕ) → has rest j ≡ true → i ≤ j) → i < 32 → ((j : ℕ) → has next j ≡ (not (j == i) && has rest j))
       → AtSeat i ts us (λ s t. DidLeave k i b (change p r) (change s t) (change g m) (change false is)) → Ending k b (change q r) next (change ss us) (change h m) is
@@ -186,7 +186,7 @@ module _ {k : Terms} {b : Block} {q p : PackageView} {rest : ℕ} {ss ts : List 
       subst (λ (x : Bool). Ending k b (change q r) next (change ss ts) (change h m) x) (sym e)
       (leaves_one k b q p r rest next i ss ts ts h g m true true (subst (λ (x : Bool). Ending k b (change q p) rest (change ss ts) (change h g) x) e y) waits least small each at)
 
-pub left_all : {k : Terms} {b : Block} {q p : PackageView} {rest : ℕ} {ss ts : List SeatView} {h g : Hands} {now : Bool} → rest ≡ 0 → Ending k b (change q p) rest (change ss ts) (change h g) now → DidLeaveAll k b (change q p) (change ss ts) (change h g) now
+pub left_all : {k : HallTerms} {b : Block} {q p : PackageView} {rest : ℕ} {ss ts : List SeatView} {h g : Hands} {now : Bool} → rest ≡ 0 → Ending k b (change q p) rest (change ss ts) (change h g) now → DidLeaveAll k b (change q p) (change ss ts) (change h g) now
 unfolding locks_of
 left_all {k = k} {b = b} {q = q} {p = p} {rest = rest} {ss = ss} {ts = ts} {h = h} {g = g} {now = now} none y0 = let y : Ending k b (change q p) 0 (change ss ts) (change h g) now = subst (λ (n : ℕ). Ending k b (change q p) n (change ss ts) (change h g) now) none y0 in record {
   calls = y.calls;
@@ -194,7 +194,7 @@ left_all {k = k} {b = b} {q = q} {p = p} {rest = rest} {ss = ss} {ts = ts} {h = 
   aside = y.aside;
   emptied = record { same = y.same; granted = y.granted; free = λ j. y.gone j (has_none j) };
   seats_left = record { count = y.count; others = y.others; asks = λ j held. y.asks j held (has_none j) };
-  order = subst (λ (c : List Call). LeftInOrder (by_hands k q (change ss ts) (change h g)) b (locks_of b.held) c false now) (append-nil y.calls) (y.order ts [] now (λ j f. refl) (refl, refl));
+  order = subst (λ (c : List PassCall). LeftInOrder (by_hands k q (change ss ts) (change h g)) b (locks_of b.held) c false now) (append-nil y.calls) (y.order ts [] now (λ j f. refl) (refl, refl));
 }
 
 -- ---- what the next may ask
@@ -203,7 +203,7 @@ pub may_next : {hall : HallView} {b : Block} {q p : PackageView} {rest n : ℕ} 
     → MayAct hall (Pack p ∷ []) 1 g
 may_next {hall = hall} {q = q} {p = p} {rest = rest} {h = h} {g = g} next i m y waits small each = record { at = at_after hall y.calls (Pack q ∷ []) (Pack p ∷ []) h.pass g.pass h.aside g.aside m.at y.acted.acts y.aside; room = (let less = less_few rest next i each waits small in let old = y.room in omega arith) }
 
-pub may_release : {k : Terms} {b : Block} {q p : PackageView} {rest i : ℕ} {ss ts : List SeatView} {h g : Hands} {now : Bool} → MayEnd k h.pass.knows b q → Ending k b (change q p) rest (change ss ts) (change h g) now → has rest i ≡ true → MayRelease k g.pass.knows i b p
+pub may_release : {k : HallTerms} {b : Block} {q p : PackageView} {rest i : ℕ} {ss ts : List SeatView} {h g : Hands} {now : Bool} → MayEnd k h.pass.knows b q → Ending k b (change q p) rest (change ss ts) (change h g) now → has rest i ≡ true → MayRelease k g.pass.knows i b p
 may_release {k = k} {b = b} {i = i} m y waits = record {
   lock = m.known i (y.within i waits);
   of = ap (λ (c : PackageView). c.image) y.same ∙ (m.of ∙ sym y.acted.acts.adds.told.image);
@@ -217,12 +217,12 @@ may_release {k = k} {b = b} {i = i} m y waits = record {
 }
 
 module _ {S X : Type 0} where
-  pub seat_in : (seen : S → SeatView) (queue : X → QueueView) (k : Terms) (qs : List X) (ss ts : List S) (i : ℕ) (x : X) (s : S) → s ≡ get_or ts i s → AreSeats k (map queue qs) (map seen ss) → seat_at (map seen ts) i ≡ seat_at (map seen ss) i → i < locks k → i < length ts → IsSeatFor (threads k) (queue (get_or qs i x)) (seen (get_or ts i s))
+  pub seat_in : (seen : S → SeatView) (queue : X → QueueView) (k : HallTerms) (qs : List X) (ss ts : List S) (i : ℕ) (x : X) (s : S) → s ≡ get_or ts i s → AreSeats k (map queue qs) (map seen ss) → seat_at (map seen ts) i ≡ seat_at (map seen ss) i → i < locks k → i < length ts → IsSeatFor (threads k) (queue (get_or qs i x)) (seen (get_or ts i s))
   seat_in seen queue k qs ss ts i x s is of same low deep = subst₂ (λ (a : QueueView) (b : SeatView). IsSeatFor (threads k) a b) (map_at queue qs i x) (sym same ∙ (seat_before seen ts i s no_seat deep is ∙ ap seen is)) (of i (queue x) no_seat low)
 
 -- ---- once all of them were passed on
 
-pub emptied_plain : (k : Terms) (v : Knows) (b : Block) (q p : PackageView) → MayEnd k v b q → IsEmptied q p → IsPlain (threads k) p
+pub emptied_plain : (k : HallTerms) (v : Knows) (b : Block) (q p : PackageView) → MayEnd k v b q → IsEmptied q p → IsPlain (threads k) p
 emptied_plain k v b q p m h = record {
   thread = subst (λ (t : ℕ). t < threads k) (sym (ap (λ (c : PackageView). c.context.thread) h.same)) m.thread;
   settled = ap (λ (c : PackageView). c.pending) h.same ∙ m.settled;
@@ -232,7 +232,7 @@ emptied_plain k v b q p m h = record {
   uncut = ap (λ (c : PackageView). was_cut (last_of c.log)) h.same ∙ (ap was_cut m.last ∙ releases_uncut 0 b.end (or_right (unlocks 0 b.end) (ends_thread b.end) m.ended));
 }
 
-emptied_order : (k : Terms) (v : Knows) (b : Block) (q p : PackageView) → MayEnd k v b q → IsSoundPackage q → IsEmptied q p → IsInOrder 2 p
+emptied_order : (k : HallTerms) (v : Knows) (b : Block) (q p : PackageView) → MayEnd k v b q → IsSoundPackage q → IsEmptied q p → IsInOrder 2 p
 emptied_order t v b q p m s h = record {
   ended = λ e. (ap (λ (c : PackageView). is_running c.context.guest.status) h.same ∙ (left_after q.image q b s.left m.last).runs ∙ ap not m.ended, λ i. h.free i);
   runs = λ ne. absurd (ne refl);

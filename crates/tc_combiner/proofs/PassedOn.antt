@@ -1,7 +1,7 @@
 -- What became of a released lock, from its parts.
 use Rattle.std.proofs.Common.{inr, ⊎_elim, length-append, ◌&&◌, ◌≡◌, ◌<◌, ◌≤◌, ◌+◌, ℕ, true, false, List, [], ◌∷◌, ◌++◌, length, refl, sym, ap, ◌∙◌, subst, Some, ◌≢◌, Bool, not, ◌==◌, if◌then◌else◌, arith, Option, None}
-use Rattle.tc_combiner.proofs.Vocabulary.{Acts, Adopted, All-cons, All-nil, Asks, Block, Call, DeskStep, DidGrant, DidHand, DidPass, DidTakeOut, End, FollowedAs, Free, GaveUp, Gone, Granted, HallView, HandedAs, Hands, IsAt, IsAtRest, IsLeft, IsNumber, IsReleased, IsSoundPackage, IsTaken, IsTurn, IsWaiter, Item, Kind, Knows}
-use Rattle.tc_combiner.proofs.Vocabulary.{LeftAs, LockView, Loose, MayAct, MayBringHome, MayGive, MayHandOn, MayPassTo, MayRelease, Moves, Next, Outs, Owned, Owns, Pack, PackageView, PassView, Passed, Ready, Releases, Rests, SeatTells, SeatView, Shown, Shows, Takes, Terms, Turn, Unlocked, Was_adopted, Was_stopped, adopts}
+use Rattle.tc_combiner.proofs.Vocabulary.{Acts, Adopted, All-cons, All-nil, Asks, Block, PassCall, DeskStep, DidGrant, DidHand, DidPass, DidTakeOut, End, FollowedAs, Free, GaveUp, Gone, Granted, HallView, HandedAs, Hands, IsAt, IsAtRest, IsLeft, IsNumber, IsReleased, IsSoundPackage, IsTaken, IsTurn, IsWaiter, Item, Kind, Knows}
+use Rattle.tc_combiner.proofs.Vocabulary.{LeftAs, LockView, Loose, MayAct, MayBringHome, MayGive, MayHandOn, MayPassTo, MayRelease, Moves, Next, Outs, Owned, Owns, Pack, PackageView, PassView, Passed, Ready, Releases, EndsSection, SeatTells, SeatView, Shown, Shows, Takes, HallTerms, Turn, Unlocked, Was_adopted, Was_stopped, adopts}
 use Rattle.tc_combiner.proofs.Vocabulary.{and_parts, bare, blocks_of, by_hands, change, ends_section, ends_thread, granted_lock, grants_adopted, handed, has, is_only, is_passed, last_of, locked_in, locks, may_adopt, nat_tests, outs, passes_to, put_call, ready_in, run_of, saw, threads, turn_of, unless, unlocks, was_cut}
 use Rattle.tc_context.specs.View.{IsAt as IsKeptAt}
 use Rattle.std.proofs.lemmas.Bool.{and_right}
@@ -53,7 +53,7 @@ pub released_free : (q : PackageView) (b : Block) (i : ℕ) → IsSoundPackage q
 released_free q b i s e r = (left_after q.image q b s.left e).held i ∙ and_right (has b.held i) (not (ends_section i b)) (ap not r.1)
 
 -- the lock that was taken out is as the last block left it
-pub is_released : (k : Terms) (v w : Knows) (i : ℕ) (b : Block) (l : LockView) (q : PackageView) → IsSoundPackage q → MayRelease k v i b q → w.image ≡ v.image → w.worker ≡ v.worker → locked_in q i ≡ Some l → IsAtRest q.image i l → IsReleased k w b l
+pub is_released : (k : HallTerms) (v w : Knows) (i : ℕ) (b : Block) (l : LockView) (q : PackageView) → IsSoundPackage q → MayRelease k v i b q → w.image ≡ v.image → w.worker ≡ v.worker → locked_in q i ≡ Some l → IsAtRest q.image i l → IsReleased k w b l
 is_released k v w i b l q s h image worker was rest =
     let stored = s.stored i l was in
     let at = subst (λ (p : Option Block). IsKeptAt p q i l) h.settled stored.at in
@@ -66,42 +66,42 @@ is_released k v w i b l q s h image worker was rest =
       worker = h.worker ∙ sym worker;
     }
 
-pub still_rests : (image : Shown) (i : ℕ) (l : LockView) → IsAtRest image i l → Rests l.number l
-still_rests image i l h = subst (λ (k : ℕ). Rests k l) (sym h.number) h.ended
+pub still_rests : (image : Shown) (i : ℕ) (l : LockView) → IsAtRest image i l → EndsSection l.number l
+still_rests image i l h = subst (λ (k : ℕ). EndsSection k l) (sym h.number) h.ended
 
 -- the lock came out of its package, beside what was called
-pub came_out : (es : List Call) (i : ℕ) (l : LockView) (q p : PackageView) (v w : PassView) → DidTakeOut i l q p → Acts es [] [] v w → Acts es (Pack q ∷ []) (Pack p ∷ Loose l ∷ []) v w
+pub came_out : (es : List PassCall) (i : ℕ) (l : LockView) (q p : PackageView) (v w : PassView) → DidTakeOut i l q p → Acts es [] [] v w → Acts es (Pack q ∷ []) (Pack p ∷ Loose l ∷ []) v w
 came_out es i l q p v w d a = record { own = a.own; adds = a.adds; moves = λ b zs o. a.moves b (Pack p ∷ Loose l ∷ zs) (comes_out v.knows l q p (taken_with i l q p d) b zs o) }
 
 -- and then went on
-out_then : (es ds : List Call) (i : ℕ) (l : LockView) (q p : PackageView) (ys : List Item) (v w x : PassView) → DidTakeOut i l q p → Acts es [] [] v w → Acts ds (Loose l ∷ []) ys w x → Acts (es ++ ds) (Pack q ∷ []) (Pack p ∷ ys) v x
+out_then : (es ds : List PassCall) (i : ℕ) (l : LockView) (q p : PackageView) (ys : List Item) (v w x : PassView) → DidTakeOut i l q p → Acts es [] [] v w → Acts ds (Loose l ∷ []) ys w x → Acts (es ++ ds) (Pack q ∷ []) (Pack p ∷ ys) v x
 out_then es ds i l q p ys v w x d a b = acts_then es ds (Pack q ∷ []) (Pack p ∷ Loose l ∷ []) (Pack p ∷ ys) v w x (came_out es i l q p v w d a) (acts_beside ds (Pack p) (Loose l ∷ []) ys w x b)
 
 -- ---- one thread at most was put as ready
 
-few_none : (cs ds : List Call) → cs ≡ ds → ready_in ds ≡ [] → length (ready_in cs) ≤ 1
-few_none cs ds e none = let n : length (ready_in cs) ≡ 0 = ap (λ (c : List Call). length (ready_in c)) e ∙ ap length none in omega arith
+few_none : (cs ds : List PassCall) → cs ≡ ds → ready_in ds ≡ [] → length (ready_in cs) ≤ 1
+few_none cs ds e none = let n : length (ready_in cs) ≡ 0 = ap (λ (c : List PassCall). length (ready_in c)) e ∙ ap length none in omega arith
 
-pub few_followed : (x : DeskStep SeatView) (l : LockView) (b : Block) (own : Turn) (cs : List Call) (r : Passed) → FollowedAs x l b own cs r → length (ready_in cs) ≤ 1
-few_followed x l b own cs Gone h = ⊎_elim (λ y. few_none cs _ y.1 refl) (λ y. let n : length (ready_in cs) ≡ 1 = ap (λ (c : List Call). length (ready_in c)) y.2.3 in omega arith) h
+pub few_followed : (x : DeskStep SeatView) (l : LockView) (b : Block) (own : Turn) (cs : List PassCall) (r : Passed) → FollowedAs x l b own cs r → length (ready_in cs) ≤ 1
+few_followed x l b own cs Gone h = ⊎_elim (λ y. few_none cs _ y.1 refl) (λ y. let n : length (ready_in cs) ≡ 1 = ap (λ (c : List PassCall). length (ready_in c)) y.2.3 in omega arith) h
 few_followed x l b own cs (Was_adopted q) h = few_none cs _ h.2.3 refl
 few_followed x l b own cs Was_stopped h = few_none cs _ h refl
 
-pub few_left : (x : DeskStep SeatView) (l : LockView) (b : Block) (own : Turn) (cs : List Call) (was is : Bool) → LeftAs x l b own cs was is → length (ready_in cs) ≤ 1
+pub few_left : (x : DeskStep SeatView) (l : LockView) (b : Block) (own : Turn) (cs : List PassCall) (was is : Bool) → LeftAs x l b own cs was is → length (ready_in cs) ≤ 1
 few_left x l b own cs false false h = few_followed x l b own cs Gone h
 few_left x l b own cs false true h = few_followed x l b own cs Was_stopped h
 few_left x l b own cs true false h = absurd h
 few_left x l b own cs true true h = few_none cs _ h.1 refl
 
 -- so the list of ready threads has one more at most
-pub few_more : {k : Terms} {i : ℕ} {q p : PackageView} {xs : List Item} {s t : SeatView} {h g : Hands} {How : LockView → List Call → Type 0} (d : GaveUp k i (change q p) xs (change s t) (change h g) How) → length (ready_in d.calls) ≤ 1 → length g.ready.items ≤ length h.ready.items + 1
+pub few_more : {k : HallTerms} {i : ℕ} {q p : PackageView} {xs : List Item} {s t : SeatView} {h g : Hands} {How : LockView → List PassCall → Type 0} (d : GaveUp k i (change q p) xs (change s t) (change h g) How) → length (ready_in d.calls) ≤ 1 → length g.ready.items ≤ length h.ready.items + 1
 few_more {h = h} {g = g} d few =
     let all : length g.ready.items ≡ length h.ready.items + length (ready_in d.calls) = ap (λ (l : List ℕ). length l) d.acted.readied.0 ∙ length-append h.ready.items (ready_in d.calls) in
     omega arith
 
 -- ---- a lock for a waiter
 
-pub is_adopted : (k : Terms) (b : Block) (l : LockView) (u : Turn) (w q : PackageView) (h : Hands) → IsWaiter u.thread l.number k.image.value w → IsReleased k h.pass.knows b l → DidGrant l Adopted u.number w q → adopts l b ≡ true
+pub is_adopted : (k : HallTerms) (b : Block) (l : LockView) (u : Turn) (w q : PackageView) (h : Hands) → IsWaiter u.thread l.number k.image.value w → IsReleased k h.pass.knows b l → DidGrant l Adopted u.number w q → adopts l b ≡ true
     → DidHand k l b u (Pack w ∷ Loose l ∷ []) (change h h) (Was_adopted q)
 is_adopted k b l u w q h i r d a = record {
   calls = [];
@@ -110,7 +110,7 @@ is_adopted k b l u w q h i r d a = record {
   became = (record { waiter = w; was = i; grant = d }, a, waiter_good l Adopted u.thread u.number b.worker k.image.value w q i d (adopted l.number l.journal.limit (blocks_of l) b r.last a), refl);
 }
 
-known_waiter : (k : Terms) (l : LockView) (u : Turn) (w q : PackageView) → IsWaiter u.thread l.number k.image.value w → IsTurn (threads k) u → DidGrant l Granted u.number w q → q.context.thread < threads k
+known_waiter : (k : HallTerms) (l : LockView) (u : Turn) (w q : PackageView) → IsWaiter u.thread l.number k.image.value w → IsTurn (threads k) u → DidGrant l Granted u.number w q → q.context.thread < threads k
 known_waiter k l u w q i t d = subst (λ (n : ℕ). n < threads k) (sym (ap (λ (c : PackageView). c.context.thread) d.is ∙ i.thread)) t.thread
 
 pub may_put : (hall : HallView) (b : Block) (l : LockView) (u : Turn) (w q : PackageView) (h : Hands) → MayHandOn hall l b u (Pack w ∷ Loose l ∷ []) h → IsWaiter u.thread l.number hall.terms.image.value w → DidGrant l Granted u.number w q → adopts l b ≡ false → MayGive hall h.pass Ready q
@@ -126,7 +126,7 @@ may_put hall b l u w q h m i d a =
       fits = g.fits;
     }
 
-pub is_granted : (k : Terms) (b : Block) (l : LockView) (u : Turn) (w q : PackageView) (h g : Hands) → IsWaiter u.thread l.number k.image.value w → IsTurn (threads k) u → DidGrant l Granted u.number w q → adopts l b ≡ false
+pub is_granted : (k : HallTerms) (b : Block) (l : LockView) (u : Turn) (w q : PackageView) (h g : Hands) → IsWaiter u.thread l.number k.image.value w → IsTurn (threads k) u → DidGrant l Granted u.number w q → adopts l b ≡ false
     → Acts (put_call q Ready ∷ []) (Pack q ∷ []) [] h.pass g.pass → g.ready.items ≡ h.ready.items ++ q.context.thread ∷ [] → g.aside ≡ h.aside → DidHand k l b u (Pack w ∷ Loose l ∷ []) (change h g) Gone
 is_granted k b l u w q h g i t d a p e s = record {
   calls = put_call q Ready ∷ [];
@@ -143,7 +143,7 @@ is_granted k b l u w q h g i t d a p e s = record {
 pub came : (l : LockView) (w : PackageView) (p q : PassView) → Acts [] [] (Pack w ∷ []) p q → Acts [] (Loose l ∷ []) (Pack w ∷ Loose l ∷ []) p q
 came l w p q a = record { own = a.own; adds = a.adds; moves = λ b zs o. a.moves b (Loose l ∷ zs) o }
 
-pub released_still : {k : Terms} (ds : List Call) (xs ys : List Item) (p q : PassView) (b : Block) (l : LockView) → Acts ds xs ys p q → IsReleased k p.knows b l → IsReleased k q.knows b l
+pub released_still : {k : HallTerms} (ds : List PassCall) (xs ys : List Item) (p q : PassView) (b : Block) (l : LockView) → Acts ds xs ys p q → IsReleased k p.knows b l → IsReleased k q.knows b l
 released_still ds xs ys p q b l a h = record {
   lock = h.lock;
   rest = subst (λ (x : Shown). IsAtRest x l.number l) (sym a.adds.told.image) h.rest;
@@ -152,7 +152,7 @@ released_still ds xs ys p q b l a h = record {
   worker = h.worker ∙ sym a.adds.told.worker;
 }
 
-pub hand_sooner : (k : Terms) (l : LockView) (b : Block) (u : Turn) (xs ys : List Item) (h m g : Hands) (r : Passed) → Acts [] xs ys h.pass m.pass → m.ready.items ≡ h.ready.items → m.aside ≡ h.aside → DidHand k l b u ys (change m g) r → DidHand k l b u xs (change h g) r
+pub hand_sooner : (k : HallTerms) (l : LockView) (b : Block) (u : Turn) (xs ys : List Item) (h m g : Hands) (r : Passed) → Acts [] xs ys h.pass m.pass → m.ready.items ≡ h.ready.items → m.aside ≡ h.aside → DidHand k l b u ys (change m g) r → DidHand k l b u xs (change h g) r
 hand_sooner k l b u xs ys h m g r a e s d = record {
   calls = d.calls;
   acted = acted_then k [] d.calls xs ys (handed r) h m g (acted_by k [] xs ys h m a e refl) d.acted;
@@ -161,10 +161,10 @@ hand_sooner k l b u xs ys h m g r a e s d = record {
 }
 
 -- the lock goes home, where it is still out
-pub may_free : (hall : HallView) (ds : List Call) (l : LockView) (p q : PassView) (b : Option PackageView) → l.number < locks hall.terms → Rests l.number l → IsAt hall (Loose l ∷ []) p b → Acts ds [] [] p q → MayBringHome hall q l
+pub may_free : (hall : HallView) (ds : List PassCall) (l : LockView) (p q : PassView) (b : Option PackageView) → l.number < locks hall.terms → EndsSection l.number l → IsAt hall (Loose l ∷ []) p b → Acts ds [] [] p q → MayBringHome hall q l
 may_free hall ds l p q b small rests at a = record { own = a.own.0 ∙ at.own; lock = small; out = (a.moves at.out.0 (Loose l ∷ []) at.out.1).0; rests = rests }
 
-pub is_stopped : (k : Terms) (l : LockView) (b : Block) (u : Turn) (h g : Hands) (m : PassView) → Acts saw [] [] h.pass m → Acts (Free l.number ∷ []) (Loose l ∷ []) [] m g.pass → g.ready.items ≡ h.ready.items → g.aside ≡ h.aside → DidHand k l b u (Loose l ∷ []) (change h g) Was_stopped
+pub is_stopped : (k : HallTerms) (l : LockView) (b : Block) (u : Turn) (h g : Hands) (m : PassView) → Acts saw [] [] h.pass m → Acts (Free l.number ∷ []) (Loose l ∷ []) [] m g.pass → g.ready.items ≡ h.ready.items → g.aside ≡ h.aside → DidHand k l b u (Loose l ∷ []) (change h g) Was_stopped
 is_stopped k l b u h g m a f e s = record {
   calls = saw ++ Free l.number ∷ [];
   acted = acted_by k (saw ++ Free l.number ∷ []) (Loose l ∷ []) [] h g (acts_then saw (Free l.number ∷ []) (Loose l ∷ []) (Loose l ∷ []) [] h.pass m g.pass (acts_by saw (Loose l ∷ []) h.pass m a) f) e refl;
@@ -179,12 +179,12 @@ may_lock hall n i l q p h m d a e s y =
     let z = may_still hall [] (Pack q ∷ []) (Pack p ∷ Loose l ∷ []) n h m y (came_out [] i l q p h.pass m.pass d a) e s in
     record { at = record { own = z.at.own; image = z.at.image; out = without_first m.pass.knows (Pack p) (Loose l ∷ []) z.at.out; aside = z.at.aside }; room = z.room }
 
-pub followed : (x : DeskStep SeatView) (l : LockView) (b : Block) (own u : Turn) (cs : List Call) (r : Passed) → SeatTells x (Next own (Some u)) → HandedAs x.image l b u cs r → FollowedAs x l b own cs r
+pub followed : (x : DeskStep SeatView) (l : LockView) (b : Block) (own u : Turn) (cs : List PassCall) (r : Passed) → SeatTells x (Next own (Some u)) → HandedAs x.image l b u cs r → FollowedAs x l b own cs r
 followed x l b own u cs Gone k h = inr (u, k, h)
 followed x l b own u cs (Was_adopted q) k h = (u, k, h)
 followed x l b own u cs Was_stopped k h = h
 
-pub passes : (k : Terms) (i : ℕ) (b : Block) (l : LockView) (own u : Turn) (q p : PackageView) (s t : SeatView) (h m g : Hands) (r : Passed) → DidTakeOut i l q p → Acts [] [] [] h.pass m.pass → m.ready.items ≡ h.ready.items → m.aside ≡ h.aside → own ≡ turn_of q i → Asks own s t → Shows s.calls t.calls (Next own (Some u))
+pub passes : (k : HallTerms) (i : ℕ) (b : Block) (l : LockView) (own u : Turn) (q p : PackageView) (s t : SeatView) (h m g : Hands) (r : Passed) → DidTakeOut i l q p → Acts [] [] [] h.pass m.pass → m.ready.items ≡ h.ready.items → m.aside ≡ h.aside → own ≡ turn_of q i → Asks own s t → Shows s.calls t.calls (Next own (Some u))
     → DidHand k l b u (Loose l ∷ []) (change m g) r → DidPass k i b (change q p) (change s t) (change h g) r
 passes k i b l own u q p s t h m g r d a e f same asks shown y = record {
   calls = y.calls;
@@ -197,7 +197,7 @@ passes k i b l own u q p s t h m g r d a e f same asks shown y = record {
 }
 
 -- the lock came out, and went home
-pub frees : (k : Terms) (es : List Call) (i : ℕ) (l : LockView) (own : Turn) (q p : PackageView) (s t : SeatView) (h g : Hands) (m : PassView) (How : Turn → LockView → List Call → Type 0) → DidTakeOut i l q p → own ≡ turn_of q i → Asks own s t → Acts es [] [] h.pass m → Acts (Free l.number ∷ []) (Loose l ∷ []) [] m g.pass
+pub frees : (k : HallTerms) (es : List PassCall) (i : ℕ) (l : LockView) (own : Turn) (q p : PackageView) (s t : SeatView) (h g : Hands) (m : PassView) (How : Turn → LockView → List PassCall → Type 0) → DidTakeOut i l q p → own ≡ turn_of q i → Asks own s t → Acts es [] [] h.pass m → Acts (Free l.number ∷ []) (Loose l ∷ []) [] m g.pass
     → g.ready.items ≡ h.ready.items → g.aside ≡ h.aside → ready_in (es ++ Free l.number ∷ []) ≡ [] → How own l (es ++ Free l.number ∷ []) → GaveUp k i (change q p) [] (change s t) (change h g) (How (turn_of q i))
 frees k es i l own q p s t h g m How d same asks a f e n none how = record {
   calls = es ++ Free l.number ∷ [];
@@ -214,7 +214,7 @@ is_taken hall i l p q own small t =
     let rest : IsAtRest q.knows.image i l = subst (λ (x : Shown). IsAtRest x i l) (sym t.called.image) t.rest in
     (rest, record { own = own; lock = subst (λ (n : ℕ). n < locks hall.terms) (sym rest.number) small; out = t.came.out; rests = still_rests q.knows.image i l rest })
 
-pub taken_free : (hall : HallView) (ds : List Call) (i : ℕ) (l : LockView) (q p : PackageView) (v w : PassView) (a : Option PackageView) → DidTakeOut i l q p → i < locks hall.terms → IsAt hall (Pack q ∷ []) v a → Acts ds [] [] v w → MayBringHome hall w l
+pub taken_free : (hall : HallView) (ds : List PassCall) (i : ℕ) (l : LockView) (q p : PackageView) (v w : PassView) (a : Option PackageView) → DidTakeOut i l q p → i < locks hall.terms → IsAt hall (Pack q ∷ []) v a → Acts ds [] [] v w → MayBringHome hall w l
 taken_free hall ds i l q p v w a d small at b = record {
   own = b.own.0 ∙ at.own;
   lock = subst (λ (n : ℕ). n < locks hall.terms) (sym d.rest.number) small;
@@ -227,7 +227,7 @@ no_unlock i (Unlocked k) h = let n : ⊥ = cc in absurd n
 no_unlock i end h = refl
 
 -- nobody is adopted behind it
-pub none_adopted : (k : Terms) (i : ℕ) (b : Block) (q p : PackageView) (s t : SeatView) (h g : Hands) (r : PackageView) → ends_thread b.end ≡ true → DidPass k i b (change q p) (change s t) (change h g) (Was_adopted r) → ⊥
+pub none_adopted : (k : HallTerms) (i : ℕ) (b : Block) (q p : PackageView) (s t : SeatView) (h g : Hands) (r : PackageView) → ends_thread b.end ≡ true → DidPass k i b (change q p) (change s t) (change h g) (Was_adopted r) → ⊥
 none_adopted k i b q p s t h g r e d =
     let n : ℕ = d.state.number in
     let both = and_parts (unlocks n b.end && is_only b.held n) _ d.became.2.1 in

@@ -1,7 +1,7 @@
 -- A desk's seats, and the queues of a bench, by their places.
 use Rattle.std.proofs.Common.{◌≡◌, ◌≢◌, ℕ, zero, suc, ◌<◌, List, [], ◌∷◌, length, map, get_or, set, refl, sym, ap, ◌∙◌, subst, subst₂, arith, length-set, get_or-set_same, get_or-set_other, Vec}
 use Rattle.std.specs.Vec.{with_items}
-use Rattle.tc_combiner.proofs.Vocabulary.{AreSameSeats, AreSeats, AtSeat, IsSameSeat, IsSeatFor, QueueView, SeatView, Terms, dite, get_or_default, length-map, locks, no_seat, seat_at, threads, ℕ_discrete}
+use Rattle.tc_combiner.proofs.Vocabulary.{AreSameSeats, AreSeats, AtSeat, IsSameSeat, IsSeatFor, QueueView, SeatView, HallTerms, dite, get_or_default, length-map, locks, no_seat, seat_at, threads, ℕ_discrete}
 use Rattle.std.proofs.lemmas.List.{map-set, with_items_is}
 
 module _ {A B : Type 0} where
@@ -43,7 +43,7 @@ module _ {S : Type 0} where
 
 module _ {S X : Type 0} where
   -- the seat and the queue at one place
-  pub at_one : (seen : S → SeatView) (queue : X → QueueView) (k : Terms) (qs : List X) (ss : List S) (i : ℕ) (x : X) (s : S) → AreSeats k (map queue qs) (map seen ss) → i < locks k → IsSeatFor (threads k) (queue (get_or qs i x)) (seen (get_or ss i s))
+  pub at_one : (seen : S → SeatView) (queue : X → QueueView) (k : HallTerms) (qs : List X) (ss : List S) (i : ℕ) (x : X) (s : S) → AreSeats k (map queue qs) (map seen ss) → i < locks k → IsSeatFor (threads k) (queue (get_or qs i x)) (seen (get_or ss i s))
   at_one seen queue k qs ss i x s of low = subst₂ (λ (a : QueueView) (b : SeatView). IsSeatFor (threads k) a b) (map_at queue qs i x) (map_at seen ss i s) (of i (queue x) (seen s) low)
 
 module _ {S Z : Type 0} where

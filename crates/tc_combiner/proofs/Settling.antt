@@ -1,7 +1,7 @@
 -- What the end of a package's last block says of the package.
 use Rattle.std.proofs.Common.{◌≡◌, ◌≢◌, ◌<◌, ◌≤◌, ◌+◌, ℕ, Bool, true, false, not, ◌&&◌, ◌||◌, ◌==◌, if◌then◌else◌, List, [], ◌∷◌, length, refl, sym, ap, ◌∙◌, subst, arith, Option, Some, None, is_some}
-use Rattle.tc_combiner.proofs.Vocabulary.{AcquiredAs, Acquires, Answers, AreSameSeats, AtSeat, Block, Call, Cut, DeskView, DidAcquire, DidEnd, DidUnlock, End, EndedAs, Ends, HallView, Hands, HasBlock, HasOnlyHeld, HasReadied, IsAfter, IsAfterBlock, IsAtHall, IsGood, IsPlain, IsSoundPackage, Item, KeepsParts, Knows, LockView, MAX_HELD, MayAct, MayAsk, MayEnd, MayPark, MayRelease}
-use Rattle.tc_combiner.proofs.Vocabulary.{MaySettle, MayUnlock, PackageView, Rest, Runs, SeatView, Settled, SettledAs, Shown, Slept, Terms, Unlocked, UnlockedAs, Unlocks, WantIsLawful, Wants, Wants_lock, by_hands, change, desk_of, desk_with, ends_section, ends_thread, has, is_cut, last_of, locked_in, locks, nat_tests, next_lock, seat_at, thread_in, threads, was_cut}
+use Rattle.tc_combiner.proofs.Vocabulary.{AcquiredAs, Acquires, Answers, AreSameSeats, AtSeat, Block, PassCall, Cut, DeskView, DidAcquire, DidEnd, DidUnlock, End, EndedAs, Ends, HallView, Hands, HasBlock, HasOnlyHeld, HasReadied, IsAfter, IsAfterBlock, IsAtHall, IsGood, IsPlain, IsSoundPackage, Item, KeepsParts, Knows, LockView, MAX_HELD, MayAct, MayAsk, MayEnd, MayPark, MayRelease}
+use Rattle.tc_combiner.proofs.Vocabulary.{MaySettle, MayUnlock, PackageView, Rest, Runs, SeatView, Settled, SettledAs, Shown, Slept, HallTerms, Unlocked, UnlockedAs, Unlocks, WantIsLawful, Wants, Wants_lock, by_hands, change, desk_of, desk_with, ends_section, ends_thread, has, is_cut, last_of, locked_in, locks, nat_tests, next_lock, seat_at, thread_in, threads, was_cut}
 use Rattle.tc_combiner.proofs.PassedOn.{left_after}
 use Rattle.tc_combiner.proofs.Ending.{known_in}
 use Rattle.tc_combiner.proofs.Packages.{no_other, ungranted_fits}
@@ -24,7 +24,7 @@ some_block (x ∷ bs) b e = omega arith
 pub after_of : (image : Shown) (worker : ℕ) (end : End) (b : Block) (q : PackageView) → IsSoundPackage q → IsAfterBlock image worker end b q → IsAfter q.image q.context b
 after_of image worker end b q s m = left_after q.image q b s.left m.last
 
-module _ (k : Terms) (worker : ℕ) (end : End) (b : Block) (q : PackageView) (s : IsSoundPackage q) (m : IsAfterBlock k.image.value worker end b q) where
+module _ (k : HallTerms) (worker : ℕ) (end : End) (b : Block) (q : PackageView) (s : IsSoundPackage q) (m : IsAfterBlock k.image.value worker end b q) where
   thread_known : q.context.thread < threads k
   thread_known = subst (λ (x : Shown). q.context.thread < length x.entries) m.of s.thread
 
@@ -98,7 +98,7 @@ wants_lock image worker i b q s m r = ap (λ (x : Bool). if x then next_lock q.i
 
 -- ---- what may be done with the package, by the end of its last block
 
-module _ (k : Terms) (worker : ℕ) (b : Block) (q : PackageView) (s : IsSoundPackage q) where
+module _ (k : HallTerms) (worker : ℕ) (b : Block) (q : PackageView) (s : IsSoundPackage q) where
   pub may_ask : (i : ℕ) → WantIsLawful q → IsAfterBlock k.image.value worker (Wants i) b q → MayAsk k i q
   may_ask i law m = let want = wants_lock k.image.value worker i b q s m (runs_on k worker (Wants i) b q s m refl) in record {
     lock = subst (λ (x : Shown). i < length x.guards) m.of (law i want).known;
@@ -133,7 +133,7 @@ module _ (k : Terms) (worker : ℕ) (b : Block) (q : PackageView) (s : IsSoundPa
 
 -- ---- what was done with it, in the words of a desk
 
-pub keeps_of : (k : Terms) (cs : List Call) (q : PackageView) (ss ts : List SeatView) (x y : Rest) (h g : Hands) (hs : List ℕ) (r : Settled) → h.ready.items ≡ [] → Answers k cs q (change h g) r → AreSameSeats ss ts → y.clock ≡ x.clock → length y.sleepers ≡ length x.sleepers
+pub keeps_of : (k : HallTerms) (cs : List PassCall) (q : PackageView) (ss ts : List SeatView) (x y : Rest) (h g : Hands) (hs : List ℕ) (r : Settled) → h.ready.items ≡ [] → Answers k cs q (change h g) r → AreSameSeats ss ts → y.clock ≡ x.clock → length y.sleepers ≡ length x.sleepers
     → KeepsParts k q (desk_of h.pass ss x.sleepers x.clock h.aside hs) (desk_with g ts y) r
 keeps_of k cs q ss ts x y h g hs r none a same clock room = record {
   calls = cs;
@@ -145,7 +145,7 @@ keeps_of k cs q ss ts x y h g hs r none a same clock room = record {
   room = room;
 }
 
-module _ (k : Terms) (q : PackageView) (ss ts : List SeatView) (sl : List (Option ℕ)) (now : ℕ) (hs : List ℕ) (h g : Hands) (image : h.pass.knows.image ≡ k.image.value) where
+module _ (k : HallTerms) (q : PackageView) (ss ts : List SeatView) (sl : List (Option ℕ)) (now : ℕ) (hs : List ℕ) (h g : Hands) (image : h.pass.knows.image ≡ k.image.value) where
   pub did_acquire : (i : ℕ) (r : Settled) → AtSeat i ss ts (λ s t. Acquires k i q (change s t) (change h g) r) → DidAcquire i q (desk_of h.pass ss sl now h.aside hs) (desk_of g.pass ts sl now g.aside g.ready.items) r
   did_acquire i r a = record {
     same = record { others = a.others; sleepers = refl };

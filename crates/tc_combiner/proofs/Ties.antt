@@ -9,7 +9,7 @@ use Rattle.tc_queue.specs.Calls.{enter_effect, leave_effect}
 use Rattle.tc_queue.specs.Laws as queue
 use Rattle.tc_combiner.proofs.Vocabulary.{EnterTie, LeaveTie, line_of}
 use Rattle.std.proofs.lemmas.Bool.{and_parts}
-use Rattle.tc_mutex_spec.proofs.BlocksAlike.{eq_self}
+use Rattle.tc_lemmas.proofs.Tests.{eq_self}
 
 entered_line : (image : Shown) (c : Core) (w t lock : ℕ) → line_of (effect image c (Enter w t lock)) lock ≡ line_of c lock ++ t ∷ []
 unfolding effect

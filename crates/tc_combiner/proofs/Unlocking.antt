@@ -1,7 +1,7 @@
 -- What an unlock comes to, from its parts.
 use Rattle.std.proofs.Common.{not, ◌≡◌, ◌≢◌, ◌<◌, ◌≤◌, ◌+◌, inl, inr, ℕ, true, false, ◌&&◌, ◌==◌, List, [], ◌∷◌, ◌++◌, length, refl, sym, ap, ◌∙◌, subst, subst₂, arith, Option, Some, None, is_some}
-use Rattle.tc_combiner.proofs.Vocabulary.{Acted, Acts, All-cons, All-nil, Block, Call, Change, DeskStep, DidPass, DidTakeOut, Did_adopt, Did_stop, Goes, GoesOn, Gone, HallView, Hands, HasHeldAnd, HasNone, HasOnlyHeld, HoldsNone, IsAside, IsAt, IsAtHall, IsGood, IsPlain, IsSoundPackage, Item, Knows}
-use Rattle.tc_combiner.proofs.Vocabulary.{LockView, MAX_HELD, MayAct, MayGive, MayGoOn, MayRelease, MayUnlock, Owned, Pack, PackageView, PassView, Passed, PassedAs, PutAllBack, PutsAside, Ready, Runs, SeatView, SetAside, Settled, TakesDown, Terms, UnlockedAs, Unlocks, Was_adopted, Was_stopped, WentOn}
+use Rattle.tc_combiner.proofs.Vocabulary.{Acted, Acts, All-cons, All-nil, Block, PassCall, Change, DeskStep, DidPass, DidTakeOut, Did_adopt, Did_stop, Goes, GoesOn, Gone, HallView, Hands, HasHeldAnd, HasNone, HasOnlyHeld, HoldsNone, IsAside, IsAt, IsAtHall, IsGood, IsPlain, IsSoundPackage, Item, Knows}
+use Rattle.tc_combiner.proofs.Vocabulary.{LockView, MAX_HELD, MayAct, MayGive, MayGoOn, MayRelease, MayUnlock, Owned, Pack, PackageView, PassView, Passed, PassedAs, PutAllBack, PutsAside, Ready, Runs, SeatView, SetAside, Settled, TakesDown, HallTerms, UnlockedAs, Unlocks, Was_adopted, Was_stopped, WentOn}
 use Rattle.tc_combiner.proofs.Vocabulary.{adopts, and_parts, at_none, back, by_hands, change, dite, ends_section, handed, has, is_only, is_running, last_of, locked_in, may_adopt, nat_tests, outs, packed, put_call, threads, turn_of, unlocks, was_cut, with_package, without_lock, ℕ_discrete}
 use Rattle.std.proofs.lemmas.Bool.{and_left, and_right}
 use Rattle.std.proofs.lemmas.Nat.Bits.{bit_at-zero, bit_at_or, bit_at-pow_other}
@@ -23,7 +23,7 @@ still_runs : (i : ℕ) (l : LockView) (q p : PackageView) → DidTakeOut i l q p
 still_runs i l q p d r = ap (λ (c : PackageView). is_running c.context.guest.status) d.is ∙ r
 
 -- the package without the lock that it released
-pub left_plain : (v : Knows) (k : Terms) (i : ℕ) (b : Block) (l : LockView) (q p : PackageView) → DidTakeOut i l q p → MayRelease k v i b q → Runs q → HasHeldAnd i q → IsPlain (threads k) p
+pub left_plain : (v : Knows) (k : HallTerms) (i : ℕ) (b : Block) (l : LockView) (q p : PackageView) → DidTakeOut i l q p → MayRelease k v i b q → Runs q → HasHeldAnd i q → IsPlain (threads k) p
 left_plain v k i b l q p d m r h = record {
   thread = subst (λ (t : ℕ). t < threads k) (sym (ap (λ (c : PackageView). c.context.thread) d.is)) m.thread;
   settled = ap (λ (c : PackageView). c.pending) d.is ∙ m.settled;
@@ -53,14 +53,14 @@ none_in : (p : PackageView) → HasOnlyHeld p → HoldsNone p → HasNone p
 none_in p h n j = none_is (locked_in p j) (λ l e. let y = h j l e in let z = n j in let n : ⊥ = cc in n)
 
 -- the package without the lock may go on, and be set aside where a waiter was adopted behind it
-pub may_go_on : (v : Knows) (k : Terms) (i : ℕ) (b : Block) (l : LockView) (q p : PackageView) → MayUnlock k v i b q → v.image ≡ k.image.value → DidTakeOut i l q p → MayGoOn k p
+pub may_go_on : (v : Knows) (k : HallTerms) (i : ℕ) (b : Block) (l : LockView) (q p : PackageView) → MayUnlock k v i b q → v.image ≡ k.image.value → DidTakeOut i l q p → MayGoOn k p
 may_go_on v k i b l q p m image d = record {
   of = ap (λ (c : PackageView). c.image) d.is ∙ (m.release.of ∙ image);
   plain = left_plain v k i b l q p d m.release m.runs m.locks_in;
   runs = still_runs i l q p d m.runs;
 }
 
-pub may_aside : (v : Knows) (k : Terms) (i : ℕ) (b : Block) (l : LockView) (q p : PackageView) → IsSoundPackage q → MayUnlock k v i b q → v.image ≡ k.image.value → DidTakeOut i l q p → adopts l b ≡ true → IsAside k p
+pub may_aside : (v : Knows) (k : HallTerms) (i : ℕ) (b : Block) (l : LockView) (q p : PackageView) → IsSoundPackage q → MayUnlock k v i b q → v.image ≡ k.image.value → DidTakeOut i l q p → adopts l b ≡ true → IsAside k p
 may_aside v k i b l q p sound m image d a =
     let g = may_go_on v k i b l q p m image d in
     let number = (sound.stored i l d.was).number in
@@ -72,12 +72,12 @@ may_aside v k i b l q p sound m image d a =
 
 -- ---- what an unlock comes to
 
-went_unlocks : (x : DeskStep SeatView) (i : ℕ) (b : Block) (ds es : List Call) (r : Settled) → PassedAs x i b ds Gone → WentOn (with_package (without_lock i x.given) x) es r → UnlockedAs x i b (ds ++ es) r
+went_unlocks : (x : DeskStep SeatView) (i : ℕ) (b : Block) (ds es : List PassCall) (r : Settled) → PassedAs x i b ds Gone → WentOn (with_package (without_lock i x.given) x) es r → UnlockedAs x i b (ds ++ es) r
 went_unlocks x i b ds es (GoesOn r) k g = (ds, es, refl, k, g)
 went_unlocks x i b ds es r k g = absurd g
 
 -- the seats count for nothing where a package goes on
-went_at : {A B : Type 0} (k : Terms) (q : PackageView) (seats : Change A) (others : Change B) (hands : Change Hands) (cs : List Call) (r : Settled) → WentOn (by_hands k q seats hands) cs r → WentOn (by_hands k q others hands) cs r
+went_at : {A B : Type 0} (k : HallTerms) (q : PackageView) (seats : Change A) (others : Change B) (hands : Change Hands) (cs : List PassCall) (r : Settled) → WentOn (by_hands k q seats hands) cs r → WentOn (by_hands k q others hands) cs r
 went_at k q seats others hands cs (GoesOn r) h = h
 went_at k q seats others hands cs r h = absurd h
 
@@ -137,7 +137,7 @@ module _ (hall : HallView) (i : ℕ) (b : Block) (q p : PackageView) (s t : Seat
 
 -- ---- a package that goes on, or is set aside
 
-pub going_good : (k : Terms) (w : ℕ) (q : PackageView) → MayGoOn k q → IsGood q k.image.value w
+pub going_good : (k : HallTerms) (w : ℕ) (q : PackageView) → MayGoOn k q → IsGood q k.image.value w
 going_good k w q m = record { of = m.of; settled = m.plain.settled; runs = m.runs; locks = no_other q m.plain.locks; fits = ungranted_fits q w m.plain.granted }
 
 pub may_ready : (hall : HallView) (q : PackageView) (xs : List Item) (p : PassView) (a : Option PackageView) → IsAt hall (Pack q ∷ xs) p a → MayGoOn hall.terms q → MayGive hall p Ready q

@@ -1,6 +1,6 @@
 -- The words that most proofs here speak of: of the layers below, and of this crate.
-pub use Rattle.tc_combiner.specs.Vocabulary.{Adopted, AreTogether, Behind, Block, Call, Called, Came, Cut, DidRun, Did_adopt, Did_park, Did_stop, Done, End, Enter, First, Free, GoesOn, Gone, Granted, HallView, Hands, HasBlock, Has_ended, IsAtRest, IsInOrder, IsInRange, IsNumber, IsOut, IsPlaced, IsSamePass, IsTurn, IsWaiting, Item, Kind}
-pub use Rattle.tc_combiner.specs.Vocabulary.{Knows, Leave, LineCall, Link, LockView, Loose, MAX_HELD, MAX_NUMBER, Miss, Next, Outs, Pack, PackageView, Parked, PassView, Passed, Place, Put, QueueView, Ready, Refused, Releases, Rest, Rests, SeatView, Settled, Shipped, Shown, Slept, Stop, Stopped, Taken, Terms, Try_stopped, Turn, Unlocked}
+pub use Rattle.tc_combiner.specs.Vocabulary.{Adopted, AreTogether, Behind, Block, PassCall, Called, Came, Cut, DidRun, Did_adopt, Did_park, Did_stop, Done, End, Enter, First, Free, GoesOn, Gone, Granted, HallView, Hands, HasBlock, Has_ended, IsAtRest, IsInOrder, IsInRange, IsNumber, IsOut, IsPlaced, IsSamePass, IsTurn, IsWaiting, Item, Kind}
+pub use Rattle.tc_combiner.specs.Vocabulary.{Knows, Leave, LineCall, Link, LockView, Loose, MAX_HELD, MAX_NUMBER, Miss, Next, Outs, Pack, PackageView, Parked, PassView, Passed, Place, Put, QueueView, Ready, Refused, Releases, Rest, EndsSection, SeatView, Settled, Shipped, Shown, Slept, Stop, Stopped, Taken, HallTerms, Try_stopped, Turn, Unlocked}
 pub use Rattle.tc_combiner.specs.Vocabulary.{Waiting, Wants, Was_adopted, Was_stopped, bare, blocks_of, code_of, ends_thread, erase, fits_of, has, is_pinned, is_cut, is_running, last_by, last_of, locked_in, locks, locks_of, may_adopt, outs, put_call, run_of, threads, want_of, was_cut, with_line, with_turns, without_lock}
 pub use Rattle.std.proofs.lemmas.Bool.{and_parts}
 pub use Rattle.std.proofs.lemmas.Bool.Decides.{nat_tests}

@@ -1,6 +1,6 @@
 -- What a desk's calls answer, with each call of the pass that was made.
 use Rattle.std.specs.Prelude.{◌⊎◌, ◌≡◌, ◌<◌, ℕ, ◌+◌, min, if◌then◌else◌, List, [], ◌∷◌, ◌++◌, Option, Some, None}
-use Rattle.tc_combiner.specs.Vocabulary.{Behind, Call, Did_adopt, Did_park, Did_stop, Done, Enter, First, GoesOn, Hands, HasBlock, IsNumber, IsWaiting, Item, Link, LockView, MAX_NUMBER, Pack, PackageView, Parked, Place, Ready, SeatView, Settled, Shipped, Slept, Stopped, Terms, Turn, Waiting, is_running, last_of, locks, put_call, threads, with_line, with_turns}
+use Rattle.tc_combiner.specs.Vocabulary.{Behind, PassCall, Did_adopt, Did_park, Did_stop, Done, Enter, First, GoesOn, Hands, HasBlock, IsNumber, IsWaiting, Item, Link, LockView, MAX_NUMBER, Pack, PackageView, Parked, Place, Ready, SeatView, Settled, Shipped, Slept, Stopped, HallTerms, Turn, Waiting, is_running, last_of, locks, put_call, threads, with_line, with_turns}
 use Rattle.tc_combiner.specs.Packages.{DidTake, HoldsNone, IsAside, IsGood, IsPlain, MayGoOn, Runs, Wants}
 use Rattle.tc_combiner.specs.Walks.{TakesDown, packed, Acted, Acts}
 use Rattle.tc_combiner.specs.Change.{Change}
@@ -12,19 +12,19 @@ carried (Did_adopt q) = Pack q ∷ []
 carried r = []
 
 -- the list got the threads that these calls put as ready; it is empty where the run was stopped
-abbrev pub HasReadied : ℕ → Settled → List ℕ → List ℕ → List Call → Type 0
+abbrev pub HasReadied : ℕ → Settled → List ℕ → List ℕ → List PassCall → Type 0
 HasReadied threads Did_stop old new cs = new ≡ []
 HasReadied threads r old new cs = TakesDown threads old new cs
 
 -- the hands had the package q and made these calls, with this answer
-pub record Answers (k : Terms) (cs : List Call) (q : PackageView) (hands : Change Hands) (r : Settled) : Type 0 where
+pub record Answers (k : HallTerms) (cs : List PassCall) (q : PackageView) (hands : Change Hands) (r : Settled) : Type 0 where
   pub acts : Acts cs (Pack q ∷ packed hands.old.aside) (carried r ++ packed hands.new.aside) hands.old.pass hands.new.pass
   pub readied : HasReadied (threads k) r hands.old.ready.items hands.new.ready.items cs
   pub aside : (a : PackageView) → hands.new.aside ≡ Some a → IsAside k a
 
 -- so, with calls of which How says what became of the package
-pub record Does (k : Terms) (q : PackageView) (hands : Change Hands) (r : Settled) (How : List Call → Type 0) : Type 0 where
-  pub calls : List Call
+pub record Does (k : HallTerms) (q : PackageView) (hands : Change Hands) (r : Settled) (How : List PassCall → Type 0) : Type 0 where
+  pub calls : List PassCall
   pub answers : Answers k calls q hands r
   pub became : How calls
 
@@ -34,11 +34,11 @@ abbrev pub place_back : PackageView → Place
 place_back q = if is_running q.context.guest.status then Ready else Done
 
 -- the calls that put back the one set aside, and before it this package
-abbrev pub back_aside : Option PackageView → List Call
+abbrev pub back_aside : Option PackageView → List PassCall
 back_aside None = []
 back_aside (Some a) = put_call a Ready ∷ []
 
-abbrev pub back : PackageView → Option PackageView → List Call
+abbrev pub back : PackageView → Option PackageView → List PassCall
 back q a = put_call q (place_back q) ∷ back_aside a
 
 -- the package q and the one set aside were put back
@@ -50,21 +50,21 @@ pub record PutAllBack (q : PackageView) (hands : Change Hands) : Type 0 where
 -- ---- a package that wants a lock
 
 -- the package q may ask for lock i
-pub record MayAsk (k : Terms) (i : ℕ) (q : PackageView) : Type 0 where
+pub record MayAsk (k : HallTerms) (i : ℕ) (q : PackageView) : Type 0 where
   pub lock : i < locks k
   pub of : q.image ≡ k.image.value
   pub plain : IsPlain (threads k) q
   pub want : Wants q i
 
 -- the package q, which waits for lock i, may get it under the number n
-pub record MayGetFirst (k : Terms) (i n : ℕ) (q : PackageView) : Type 0 where
+pub record MayGetFirst (k : HallTerms) (i n : ℕ) (q : PackageView) : Type 0 where
   pub lock : i < locks k
   pub may : MayGoOn k q
   pub waits : IsWaiting q i
   pub number : IsNumber n
 
 -- in the step x lock i was taken from its home for the package, which is r then, under the number n; or the run was stopped
-abbrev pub FirstAs : {Seats : Type 0} → DeskStep Seats → ℕ → ℕ → List Call → Option PackageView → Type 0
+abbrev pub FirstAs : {Seats : Type 0} → DeskStep Seats → ℕ → ℕ → List PassCall → Option PackageView → Type 0
 FirstAs x i n cs (Some r) = (cs ≡ []) × (x.aside.new ≡ x.aside.old) × ((l : LockView) × DidTake i l n x.given r) × IsGood r x.image x.worker
 FirstAs x i n cs None = (cs ≡ Stopped 1 ∷ back x.given x.aside.old) × (x.aside.new ≡ None)
 
@@ -74,8 +74,8 @@ KeepsReady (Some r) old new = new ≡ old
 KeepsReady None old new = new ≡ []
 
 -- so it was done for the turn that stands first in its line
-pub record DidFirst (k : Terms) (i n : ℕ) (q : PackageView) (hands : Change Hands) (r : Option PackageView) : Type 0 where
-  pub calls : List Call
+pub record DidFirst (k : HallTerms) (i n : ℕ) (q : PackageView) (hands : Change Hands) (r : Option PackageView) : Type 0 where
+  pub calls : List PassCall
   pub acts : Acts calls (Pack q ∷ packed hands.old.aside) (packed r ++ packed hands.new.aside) hands.old.pass hands.new.pass
   pub ready : KeepsReady r hands.old.ready.items hands.new.ready.items
   pub became : FirstAs (by_hands k q at_none hands) i n calls r
@@ -88,58 +88,58 @@ abbrev pub next_turn : PackageView → Turn
 next_turn q = record { thread = q.context.thread; number = min (q.turns + 1) MAX_NUMBER }
 
 -- so it was taken for the package's next turn
-abbrev pub TakenAs : DeskStep SeatView → ℕ → List Call → Option PackageView → Type 0
+abbrev pub TakenAs : DeskStep SeatView → ℕ → List PassCall → Option PackageView → Type 0
 TakenAs x i cs r = FirstAs (with_package (counted x.given) x) i (next_turn x.given).number cs r
 
 -- in the step x the package entered the line of lock i with its next turn, with these calls and no others: it stood first, and
 -- the lock was granted as Taken under the turn's number; or it stood behind another, was put as waiting with all its locks, and
 -- linked
-abbrev pub AcquiredAs : DeskStep SeatView → ℕ → List Call → Settled → Type 0
+abbrev pub AcquiredAs : DeskStep SeatView → ℕ → List PassCall → Settled → Type 0
 AcquiredAs x i cs (GoesOn r) = (x.seats.new ≡ with_line x.seats.old (Enter (next_turn x.given) First)) × TakenAs x i cs (Some r)
 AcquiredAs x i cs Shipped = (mark : ℕ) × (x.seats.new ≡ with_line (with_line x.seats.old (Enter (next_turn x.given) (Behind mark))) (Link mark (next_turn x.given))) × (cs ≡ put_call (counted x.given) (Waiting i) ∷ []) × (x.aside.new ≡ x.aside.old)
 AcquiredAs x i cs Did_stop = (x.seats.new ≡ with_line x.seats.old (Enter (next_turn x.given) First)) × TakenAs x i cs None
 AcquiredAs x i cs r = ⊥
 
 -- what was done for a package that wants lock i
-abbrev pub Acquires : Terms → ℕ → PackageView → Change SeatView → Change Hands → Settled → Type 0
+abbrev pub Acquires : HallTerms → ℕ → PackageView → Change SeatView → Change Hands → Settled → Type 0
 Acquires k i q seat hands r = Does k q hands r (λ cs. AcquiredAs (by_hands k q seat hands) i cs r)
 
 -- ---- a package that sleeps
 
-pub record MayPark (k : Terms) (q : PackageView) : Type 0 where
+pub record MayPark (k : HallTerms) (q : PackageView) : Type 0 where
   pub plain : IsPlain (threads k) q
   pub runs : Runs q
   pub slept : HasBlock (λ b. b.end ≡ Slept) (last_of q.log)
 
-pub record Parks (k : Terms) (q : PackageView) (hands : Change Hands) : Type 0 where
+pub record Parks (k : HallTerms) (q : PackageView) (hands : Change Hands) : Type 0 where
   pub answers : Answers k (put_call q Parked ∷ []) q hands Did_park
   pub aside : hands.new.aside ≡ hands.old.aside
 
 -- ---- a package that goes on, or is set aside
 
 -- in the step x the package stays in hand
-abbrev pub StaysInHand : {Seats : Type 0} → DeskStep Seats → List Call → PackageView → Type 0
+abbrev pub StaysInHand : {Seats : Type 0} → DeskStep Seats → List PassCall → PackageView → Type 0
 StaysInHand x cs r = (r ≡ x.given) × (x.aside.new ≡ x.aside.old) × (HoldsNone x.given → x.aside.old ≡ None) × (cs ≡ [])
 
 -- it was adopted, holds no lock, and was handed back as ready, and the one that was set aside, r, is in hand
-abbrev pub IsHandedBack : {Seats : Type 0} → DeskStep Seats → List Call → PackageView → Type 0
+abbrev pub IsHandedBack : {Seats : Type 0} → DeskStep Seats → List PassCall → PackageView → Type 0
 IsHandedBack x cs r = (x.aside.old ≡ Some r) × HoldsNone x.given × (x.aside.new ≡ None) × (cs ≡ put_call x.given Ready ∷ [])
 
 -- one of the two goes on
-abbrev pub WentOn : {Seats : Type 0} → DeskStep Seats → List Call → Settled → Type 0
+abbrev pub WentOn : {Seats : Type 0} → DeskStep Seats → List PassCall → Settled → Type 0
 WentOn x cs (GoesOn r) = IsGood r x.image x.worker × (StaysInHand x cs r ⊎ IsHandedBack x cs r)
 WentOn x cs r = ⊥
 
-abbrev pub Goes : Terms → PackageView → Change Hands → Settled → Type 0
+abbrev pub Goes : HallTerms → PackageView → Change Hands → Settled → Type 0
 Goes k q hands r = Does k q hands r (λ cs. WentOn (by_hands k q at_none hands) cs r)
 
 -- the package q is set aside, or it was handed back as ready where one is set aside already
-abbrev pub SetAside : PackageView → Option PackageView → Option PackageView → List Call → Type 0
+abbrev pub SetAside : PackageView → Option PackageView → Option PackageView → List PassCall → Type 0
 SetAside q None b cs = (b ≡ Some q) × (cs ≡ [])
 SetAside q (Some a) b cs = (b ≡ Some a) × (cs ≡ put_call q Ready ∷ [])
 
-pub record PutsAside (k : Terms) (q : PackageView) (hands : Change Hands) : Type 0 where
-  pub calls : List Call
+pub record PutsAside (k : HallTerms) (q : PackageView) (hands : Change Hands) : Type 0 where
+  pub calls : List PassCall
   pub acted : Acted k calls (Pack q ∷ packed hands.old.aside) (packed hands.new.aside) hands
   pub set : SetAside q hands.old.aside hands.new.aside calls
   pub aside : (a : PackageView) → hands.new.aside ≡ Some a → IsAside k a

@@ -1,6 +1,6 @@
 -- What desks ask and say of packages.
 use Rattle.std.specs.Prelude.{◌≡◌, ◌≢◌, ℕ, ◌<◌, true, false, Some, None}
-use Rattle.tc_combiner.specs.Vocabulary.{IsAtRest, IsOwn, IsPlaced, IsWaiting, Kind, Knows, LockView, PackageView, Shown, Taken, Terms, fits_of, has, is_running, last_of, locked_in, threads, want_of, was_cut, with_grant, without_lock}
+use Rattle.tc_combiner.specs.Vocabulary.{IsAtRest, IsOwn, IsPlaced, IsWaiting, Kind, Knows, LockView, PackageView, Shown, Taken, HallTerms, fits_of, has, is_running, last_of, locked_in, threads, want_of, was_cut, with_grant, without_lock}
 
 -- no lock is in it but held ones and a granted one
 abbrev pub HasNoOther : PackageView → Type 0
@@ -48,13 +48,13 @@ pub record IsPlain (threads : ℕ) (q : PackageView) : Type 0 where
   pub uncut : was_cut (last_of q.log) ≡ false
 
 -- one that may go on, in a hall made with these terms
-pub record MayGoOn (k : Terms) (q : PackageView) : Type 0 where
+pub record MayGoOn (k : HallTerms) (q : PackageView) : Type 0 where
   pub of : q.image ≡ k.image.value
   pub plain : IsPlain (threads k) q
   pub runs : Runs q
 
 -- one that may be set aside there
-pub record IsAside (k : Terms) (a : PackageView) : Type 0 where
+pub record IsAside (k : HallTerms) (a : PackageView) : Type 0 where
   pub goes : MayGoOn k a
   pub free : HasNone a
 

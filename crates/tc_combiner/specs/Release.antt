@@ -1,6 +1,6 @@
 -- What became of a released lock, and of all locks of a thread that has ended, with each call of the pass that was made.
 use Rattle.std.specs.Prelude.{◌⊎◌, ◌≡◌, ℕ, Bool, true, false, List, [], ◌∷◌, ◌++◌, ◌<◌, Some, None, is_some, ◌≢◌, ◌+◌, ◌≤◌, length}
-use Rattle.tc_combiner.specs.Vocabulary.{Adopted, Block, Call, Did_adopt, Did_stop, Done, Free, GoesOn, Granted, HallView, Hands, Gone, Has_ended, IsAtRest, IsTurn, Item, Kind, Knows, Leave, Left, LineCall, LockView, MAX_HELD, Next, Pack, PackageView, Passed, Ready, Releases, SeatView, Settled, Shown, Stopped, Terms, Turn, Was_adopted, Was_stopped, bare, blocks_of, ends_thread, has, last_of, locked_in, locks, locks_of, may_adopt, number_in, put_call, run_of, threads, without_lock}
+use Rattle.tc_combiner.specs.Vocabulary.{Adopted, Block, PassCall, Did_adopt, Did_stop, Done, Free, GoesOn, Granted, HallView, Hands, Gone, Has_ended, IsAtRest, IsTurn, Item, Kind, Knows, Leave, Left, LineCall, LockView, MAX_HELD, Next, Pack, PackageView, Passed, Ready, Releases, SeatView, Settled, Shown, Stopped, HallTerms, Turn, Was_adopted, Was_stopped, bare, blocks_of, ends_thread, has, last_of, locked_in, locks, locks_of, may_adopt, number_in, put_call, run_of, threads, without_lock}
 use Rattle.tc_combiner.specs.Packages.{DidGrant, DidTakeOut, HasHeldAnd, IsGood, IsWaiter, Runs, HasNone}
 use Rattle.tc_combiner.specs.Walks.{Asks, Shows, Acted, MayAct}
 use Rattle.tc_combiner.specs.Answers.{Does, WentOn, SetAside, back}
@@ -13,7 +13,7 @@ abbrev pub adopts : LockView → Block → Bool
 adopts l b = may_adopt b l.number (run_of l.number (blocks_of l)) l.journal.limit
 
 -- lock state l, one of the hall, is out of its package, which released it with its block b, a block of this pass
-pub record IsReleased (k : Terms) (v : Knows) (b : Block) (l : LockView) : Type 0 where
+pub record IsReleased (k : HallTerms) (v : Knows) (b : Block) (l : LockView) : Type 0 where
   pub lock : l.number < locks k
   pub rest : IsAtRest v.image l.number l
   pub last : last_of (blocks_of l) ≡ Some b
@@ -21,7 +21,7 @@ pub record IsReleased (k : Terms) (v : Knows) (b : Block) (l : LockView) : Type 
   pub worker : b.worker ≡ v.worker
 
 -- package q, of a thread of the hall, released lock i of the hall with its last block b, a block of this pass, and has it still
-pub record MayRelease (k : Terms) (v : Knows) (i : ℕ) (b : Block) (q : PackageView) : Type 0 where
+pub record MayRelease (k : HallTerms) (v : Knows) (i : ℕ) (b : Block) (q : PackageView) : Type 0 where
   pub lock : i < locks k
   pub of : q.image ≡ v.image
   pub thread : q.context.thread < threads k
@@ -33,7 +33,7 @@ pub record MayRelease (k : Terms) (v : Knows) (i : ℕ) (b : Block) (q : Package
   pub here : is_some (locked_in q i) ≡ true
 
 -- its thread runs on, with the other locks that it holds
-pub record MayUnlock (k : Terms) (v : Knows) (i : ℕ) (b : Block) (q : PackageView) : Type 0 where
+pub record MayUnlock (k : HallTerms) (v : Knows) (i : ℕ) (b : Block) (q : PackageView) : Type 0 where
   pub release : MayRelease k v i b q
   pub runs : Runs q
   pub locks_in : HasHeldAnd i q
@@ -60,7 +60,7 @@ pub record IsHanded (k : Kind) (l : LockView) (u : Turn) (image : Shown) (q : Pa
   pub grant : DidGrant l k u.number waiter q
 
 -- the turn u is next after the block b released l: with these calls and no others
-abbrev pub HandedAs : Shown → LockView → Block → Turn → List Call → Passed → Type 0
+abbrev pub HandedAs : Shown → LockView → Block → Turn → List PassCall → Passed → Type 0
 HandedAs image l b u cs Gone = (q : PackageView) × IsHanded Granted l u image q × (adopts l b ≡ false) × (cs ≡ put_call q Ready ∷ [])
 HandedAs image l b u cs (Was_adopted q) = IsHanded Adopted l u image q × (adopts l b ≡ true) × IsGood q image b.worker × (cs ≡ [])
 HandedAs image l b u cs Was_stopped = cs ≡ Stopped 1 ∷ Free l.number ∷ []
@@ -70,7 +70,7 @@ abbrev pub SeatTells : DeskStep SeatView → LineCall → Type 0
 SeatTells x answer = Shows x.seats.old.calls x.seats.new.calls answer
 
 -- in the step x the lock l of the turn own went to the turn behind it, or home where there is none
-abbrev pub FollowedAs : DeskStep SeatView → LockView → Block → Turn → List Call → Passed → Type 0
+abbrev pub FollowedAs : DeskStep SeatView → LockView → Block → Turn → List PassCall → Passed → Type 0
 FollowedAs x l b own cs Gone = (SeatTells x (Leave own Left) × (cs ≡ Free l.number ∷ [])) ⊎ ((u : Turn) × SeatTells x (Next own (Some u)) × HandedAs x.image l b u cs Gone)
 FollowedAs x l b own cs (Was_adopted q) = (u : Turn) × SeatTells x (Next own (Some u)) × HandedAs x.image l b u cs (Was_adopted q)
 FollowedAs x l b own cs Was_stopped = cs ≡ Stopped 1 ∷ Free l.number ∷ []
@@ -80,15 +80,15 @@ abbrev pub turn_of : PackageView → ℕ → Turn
 turn_of q i = record { thread = q.context.thread; number = number_in q i }
 
 -- what was done with the lock l for the turn u
-pub record DidHand (k : Terms) (l : LockView) (b : Block) (u : Turn) (xs : List Item) (hands : Change Hands) (r : Passed) : Type 0 where
-  pub calls : List Call
+pub record DidHand (k : HallTerms) (l : LockView) (b : Block) (u : Turn) (xs : List Item) (hands : Change Hands) (r : Passed) : Type 0 where
+  pub calls : List PassCall
   pub acted : Acted k calls xs (handed r) hands
   pub aside : hands.new.aside ≡ hands.old.aside
   pub became : HandedAs k.image.value l b u calls r
 
 -- lock i came out of the package, with xs in hand besides; How: what became of it, with these calls and no others
-pub record GaveUp (k : Terms) (i : ℕ) (q : Change PackageView) (xs : List Item) (seat : Change SeatView) (hands : Change Hands) (How : LockView → List Call → Type 0) : Type 0 where
-  pub calls : List Call
+pub record GaveUp (k : HallTerms) (i : ℕ) (q : Change PackageView) (xs : List Item) (seat : Change SeatView) (hands : Change Hands) (How : LockView → List PassCall → Type 0) : Type 0 where
+  pub calls : List PassCall
   pub acted : Acted k calls (Pack q.old ∷ []) (Pack q.new ∷ xs) hands
   pub aside : hands.new.aside ≡ hands.old.aside
   pub state : LockView
@@ -97,23 +97,23 @@ pub record GaveUp (k : Terms) (i : ℕ) (q : Change PackageView) (xs : List Item
   pub became : How state calls
 
 -- so lock i, which the block b of the package released
-abbrev pub DidPass : Terms → ℕ → Block → Change PackageView → Change SeatView → Change Hands → Passed → Type 0
+abbrev pub DidPass : HallTerms → ℕ → Block → Change PackageView → Change SeatView → Change Hands → Passed → Type 0
 DidPass k i b q seat hands r = GaveUp k i q (handed r) seat hands (λ l cs. FollowedAs (by_hands k q.old seat hands) l b (turn_of q.old i) cs r)
 
 -- in the step x the package's lock i was passed on, which it released by its block b
-abbrev pub PassedAs : DeskStep SeatView → ℕ → Block → List Call → Passed → Type 0
+abbrev pub PassedAs : DeskStep SeatView → ℕ → Block → List PassCall → Passed → Type 0
 PassedAs x i b cs r = (l : LockView) × (locked_in x.given i ≡ Some l) × FollowedAs x l b (turn_of x.given i) cs r
 
 -- how the unlock of lock i by the block b was settled in the step x, with these calls and no others: what became of the lock, and
 -- then of the package without it
-abbrev pub UnlockedAs : DeskStep SeatView → ℕ → Block → List Call → Settled → Type 0
-UnlockedAs x i b cs (GoesOn r) = (ds es : List Call) × (cs ≡ ds ++ es) × PassedAs x i b ds Gone × WentOn (with_package (without_lock i x.given) x) es (GoesOn r)
-UnlockedAs x i b cs (Did_adopt r) = (ds es : List Call) × (cs ≡ ds ++ es) × PassedAs x i b ds (Was_adopted r) × SetAside (without_lock i x.given) x.aside.old x.aside.new es × IsGood r x.image x.worker
-UnlockedAs x i b cs Did_stop = (ds : List Call) × (cs ≡ ds ++ back (without_lock i x.given) x.aside.old) × PassedAs x i b ds Was_stopped × (x.aside.new ≡ None)
+abbrev pub UnlockedAs : DeskStep SeatView → ℕ → Block → List PassCall → Settled → Type 0
+UnlockedAs x i b cs (GoesOn r) = (ds es : List PassCall) × (cs ≡ ds ++ es) × PassedAs x i b ds Gone × WentOn (with_package (without_lock i x.given) x) es (GoesOn r)
+UnlockedAs x i b cs (Did_adopt r) = (ds es : List PassCall) × (cs ≡ ds ++ es) × PassedAs x i b ds (Was_adopted r) × SetAside (without_lock i x.given) x.aside.old x.aside.new es × IsGood r x.image x.worker
+UnlockedAs x i b cs Did_stop = (ds : List PassCall) × (cs ≡ ds ++ back (without_lock i x.given) x.aside.old) × PassedAs x i b ds Was_stopped × (x.aside.new ≡ None)
 UnlockedAs x i b cs r = ⊥
 
 -- what was done at the unlock
-abbrev pub Unlocks : Terms → ℕ → Block → PackageView → Change SeatView → Change Hands → Settled → Type 0
+abbrev pub Unlocks : HallTerms → ℕ → Block → PackageView → Change SeatView → Change Hands → Settled → Type 0
 Unlocks k i b q seat hands r = Does k q hands r (λ cs. Asks (turn_of q i) seat.old seat.new × UnlockedAs (by_hands k q seat hands) i b cs r)
 
 -- a seat of the same queue
@@ -131,7 +131,7 @@ pub record AtSeat (i : ℕ) (ss ts : List SeatView) (P : SeatView → SeatView �
   pub here : P (seat_at ss i) (seat_at ts i)
 
 -- the thread of package q ended with the block b, a block of this pass; the locks in it are those of b, and all are of the hall
-pub record MayEnd (k : Terms) (v : Knows) (b : Block) (q : PackageView) : Type 0 where
+pub record MayEnd (k : HallTerms) (v : Knows) (b : Block) (q : PackageView) : Type 0 where
   pub of : q.image ≡ v.image
   pub thread : q.context.thread < threads k
   pub settled : q.pending ≡ None
@@ -145,14 +145,14 @@ pub record MayEnd (k : Terms) (v : Knows) (b : Block) (q : PackageView) : Type 0
 -- ---- one lock
 
 -- in the step x the lock l of an ended thread, whose turn there is own; was, is: whether the run was stopped before, and is now
-abbrev pub LeftAs : DeskStep SeatView → LockView → Block → Turn → List Call → Bool → Bool → Type 0
+abbrev pub LeftAs : DeskStep SeatView → LockView → Block → Turn → List PassCall → Bool → Bool → Type 0
 LeftAs x l b own cs false false = FollowedAs x l b own cs Gone
 LeftAs x l b own cs false true = FollowedAs x l b own cs Was_stopped
 LeftAs x l b own cs true false = ⊥
 LeftAs x l b own cs true true = (x.seats.new ≡ x.seats.old) × (cs ≡ Free l.number ∷ [])
 
 -- so lock i of the package, whose thread ended with the block b; stopped: whether the run was stopped
-abbrev pub DidLeave : Terms → ℕ → Block → Change PackageView → Change SeatView → Change Hands → Change Bool → Type 0
+abbrev pub DidLeave : HallTerms → ℕ → Block → Change PackageView → Change SeatView → Change Hands → Change Bool → Type 0
 DidLeave k i b q seat hands stopped = GaveUp k i q [] seat hands (λ l cs. LeftAs (by_hands k q.old seat hands) l b (turn_of q.old i) cs stopped.old stopped.new)
 
 -- ---- all of its locks
@@ -167,14 +167,14 @@ pub record IsEmptied (q p : PackageView) : Type 0 where
 pub record OneLeft (x : DeskStep SeatView) (b : Block) (i : ℕ) (was : Bool) : Type 0 where
   pub state : LockView
   pub here : locked_in x.given i ≡ Some state
-  pub calls : List Call
+  pub calls : List PassCall
   pub stopped : Bool
   pub became : LeftAs x state b (turn_of x.given i) calls was stopped
 
 -- so each of these locks, in this order, with these calls and no others
-abbrev pub LeftInOrder : DeskStep (List SeatView) → Block → List ℕ → List Call → Bool → Bool → Type 0
+abbrev pub LeftInOrder : DeskStep (List SeatView) → Block → List ℕ → List PassCall → Bool → Bool → Type 0
 LeftInOrder x b [] cs was end = (cs ≡ []) × (end ≡ was)
-LeftInOrder x b (i ∷ is) cs was end = (one : OneLeft (at_lock i x) b i was) × (es : List Call) × (cs ≡ one.calls ++ es) × LeftInOrder x b is es one.stopped end
+LeftInOrder x b (i ∷ is) cs was end = (one : OneLeft (at_lock i x) b i was) × (es : List PassCall) × (cs ≡ one.calls ++ es) × LeftInOrder x b is es one.stopped end
 
 -- the seats of the locks of the block b asked for their turns of the package q alone, and each other seat is as it was
 pub record SeatsLeft (b : Block) (q : PackageView) (ss ts : List SeatView) : Type 0 where
@@ -183,8 +183,8 @@ pub record SeatsLeft (b : Block) (q : PackageView) (ss ts : List SeatView) : Typ
   pub asks : (j : ℕ) → has b.held j ≡ true → Asks (turn_of q j) (seat_at ss j) (seat_at ts j)
 
 -- what was done with all locks of the package, whose thread ended with the block b
-pub record DidLeaveAll (k : Terms) (b : Block) (q : Change PackageView) (seats : Change (List SeatView)) (hands : Change Hands) (end : Bool) : Type 0 where
-  pub calls : List Call
+pub record DidLeaveAll (k : HallTerms) (b : Block) (q : Change PackageView) (seats : Change (List SeatView)) (hands : Change Hands) (end : Bool) : Type 0 where
+  pub calls : List PassCall
   pub acted : Acted k calls (Pack q.old ∷ []) (Pack q.new ∷ []) hands
   pub aside : hands.new.aside ≡ hands.old.aside
   pub emptied : IsEmptied q.old q.new
@@ -193,20 +193,20 @@ pub record DidLeaveAll (k : Terms) (b : Block) (q : Change PackageView) (seats :
 
 -- what became in the step x of the package, whose thread ended with the block b, with these calls and no others: each of its
 -- locks was passed on, the least first, and then it was put as Done
-abbrev pub EndedAs : DeskStep (List SeatView) → Block → List Call → Settled → Type 0
-EndedAs x b cs Has_ended = (p : PackageView) × (ds : List Call) × (cs ≡ ds ++ put_call p Done ∷ []) × IsEmptied x.given p × LeftInOrder x b (locks_of b.held) ds false false × (x.aside.new ≡ x.aside.old)
-EndedAs x b cs Did_stop = (p : PackageView) × (ds : List Call) × (cs ≡ ds ++ back p x.aside.old) × IsEmptied x.given p × LeftInOrder x b (locks_of b.held) ds false true × (x.aside.new ≡ None)
+abbrev pub EndedAs : DeskStep (List SeatView) → Block → List PassCall → Settled → Type 0
+EndedAs x b cs Has_ended = (p : PackageView) × (ds : List PassCall) × (cs ≡ ds ++ put_call p Done ∷ []) × IsEmptied x.given p × LeftInOrder x b (locks_of b.held) ds false false × (x.aside.new ≡ x.aside.old)
+EndedAs x b cs Did_stop = (p : PackageView) × (ds : List PassCall) × (cs ≡ ds ++ back p x.aside.old) × IsEmptied x.given p × LeftInOrder x b (locks_of b.held) ds false true × (x.aside.new ≡ None)
 EndedAs x b cs r = ⊥
 
 -- what was done at the thread's end
-abbrev pub Ends : Terms → Block → PackageView → Change (List SeatView) → Change Hands → Settled → Type 0
+abbrev pub Ends : HallTerms → Block → PackageView → Change (List SeatView) → Change Hands → Settled → Type 0
 Ends k b q seats hands r = Does k q hands r (λ cs. SeatsLeft b q seats.old seats.new × EndedAs (by_hands k q seats hands) b cs r)
 
 -- ---- in between
 
 -- the locks in rest wait, the others were passed on, or brought home where the run was stopped
-pub record Ending (k : Terms) (b : Block) (q : Change PackageView) (rest : ℕ) (seats : Change (List SeatView)) (hands : Change Hands) (now : Bool) : Type 0 where
-  pub calls : List Call
+pub record Ending (k : HallTerms) (b : Block) (q : Change PackageView) (rest : ℕ) (seats : Change (List SeatView)) (hands : Change Hands) (now : Bool) : Type 0 where
+  pub calls : List PassCall
   pub acted : Acted k calls (Pack q.old ∷ []) (Pack q.new ∷ []) hands
   pub aside : hands.new.aside ≡ hands.old.aside
   pub room : length hands.new.ready.items + length (locks_of rest) ≤ MAX_HELD
@@ -220,4 +220,4 @@ pub record Ending (k : Terms) (b : Block) (q : Change PackageView) (rest : ℕ) 
   pub others : (j : ℕ) → has b.held j ≡ false → seat_at seats.new j ≡ seat_at seats.old j
   pub wait : (j : ℕ) → has rest j ≡ true → seat_at seats.new j ≡ seat_at seats.old j
   pub asks : (j : ℕ) → has b.held j ≡ true → has rest j ≡ false → Asks (turn_of q.old j) (seat_at seats.old j) (seat_at seats.new j)
-  pub order : (us : List SeatView) (es : List Call) (end : Bool) → ((j : ℕ) → has rest j ≡ false → seat_at us j ≡ seat_at seats.new j) → LeftInOrder (by_hands k q.old (change seats.old us) hands) b (locks_of rest) es now end → LeftInOrder (by_hands k q.old (change seats.old us) hands) b (locks_of b.held) (calls ++ es) false end
+  pub order : (us : List SeatView) (es : List PassCall) (end : Bool) → ((j : ℕ) → has rest j ≡ false → seat_at us j ≡ seat_at seats.new j) → LeftInOrder (by_hands k q.old (change seats.old us) hands) b (locks_of rest) es now end → LeftInOrder (by_hands k q.old (change seats.old us) hands) b (locks_of b.held) (calls ++ es) false end

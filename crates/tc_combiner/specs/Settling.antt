@@ -1,6 +1,6 @@
 -- What `settle` asks of a package, and what becomes of it by the end of its last block.
 use Rattle.std.specs.Prelude.{◌≡◌, ◌≢◌, ℕ, ◌+◌, ◌-◌, ◌^◌, min, true, List, [], ◌∷◌, ◌++◌, length, slice_set, Some, None, is_some}
-use Rattle.tc_combiner.specs.Vocabulary.{AllowsPending, AreTogether, Block, Call, Cut, DidRun, Did_park, End, GoesOn, HandsPending, IsSamePass, Pack, PackageView, Parked, Settled, Shown, Slept, Terms, Unlocked, Wants, has, last_by, last_of, locked_in, put_call, threads, want_of}
+use Rattle.tc_combiner.specs.Vocabulary.{AllowsPending, AreTogether, Block, PassCall, Cut, DidRun, Did_park, End, GoesOn, HandsPending, IsSamePass, Pack, PackageView, Parked, Settled, Shown, Slept, HallTerms, Unlocked, Wants, has, last_by, last_of, locked_in, put_call, threads, want_of}
 use Rattle.tc_combiner.specs.Packages.{HasOnlyHeld, IsAside, IsGoodFor}
 use Rattle.tc_combiner.specs.Walks.{Moves, Owned, packed, Asks, Acts, Adds}
 use Rattle.tc_combiner.specs.Answers.{AcquiredAs, HasReadied, carried}
@@ -19,8 +19,8 @@ pub record Works (d e : DeskView) : Type 0 where
   pub room : length e.sleepers ≡ length d.sleepers
 
 -- the desk tells the threads that it put as ready in the call, in order; none where the run was stopped
-abbrev pub TellsReady : Terms → Settled → DeskView → DeskView → Type 0
-TellsReady k r d e = (cs : List Call) × Adds cs d.pass.knows e.pass.knows × HasReadied (threads k) r [] e.handed cs
+abbrev pub TellsReady : HallTerms → Settled → DeskView → DeskView → Type 0
+TellsReady k r d e = (cs : List PassCall) × Adds cs d.pass.knows e.pass.knows × HasReadied (threads k) r [] e.handed cs
 
 -- what a call of a desk with the package q in hand keeps, moves and tells: out then are what it answers and what is set aside
 pub record Keeps (b : BenchView) (q : PackageView) (d e : DeskView) (r : Settled) : Type 0 where
@@ -30,8 +30,8 @@ pub record Keeps (b : BenchView) (q : PackageView) (d e : DeskView) (r : Settled
   pub fits : FitsBench b e
 
 -- so it is with the parts of a desk
-pub record KeepsParts (k : Terms) (q : PackageView) (d e : DeskView) (r : Settled) : Type 0 where
-  pub calls : List Call
+pub record KeepsParts (k : HallTerms) (q : PackageView) (d e : DeskView) (r : Settled) : Type 0 where
+  pub calls : List PassCall
   pub acts : Acts calls (Pack q ∷ packed d.aside) (carried r ++ packed e.aside) d.pass e.pass
   pub readied : HasReadied (threads k) r [] e.handed calls
   pub aside : (c : PackageView) → e.aside ≡ Some c → IsAside k c
@@ -83,7 +83,7 @@ pub record IsSameBut (i : ℕ) (d e : DeskView) : Type 0 where
 -- what became of the package q, which wants lock i: with these calls of the pass and no others, as in the records below
 pub record DidAcquire (i : ℕ) (q : PackageView) (d e : DeskView) (r : Settled) : Type 0 where
   pub same : IsSameBut i d e
-  pub calls : List Call
+  pub calls : List PassCall
   pub adds : Adds calls d.pass.knows e.pass.knows
   pub acquired : AcquiredAs (at_lock i (by_desk q d e)) i calls r
 
@@ -91,7 +91,7 @@ pub record DidAcquire (i : ℕ) (q : PackageView) (d e : DeskView) (r : Settled)
 pub record DidUnlock (i : ℕ) (q : PackageView) (b : Block) (d e : DeskView) (r : Settled) : Type 0 where
   pub same : IsSameBut i d e
   pub asks : Asks (turn_of q i) (seat_at d.seats i) (seat_at e.seats i)
-  pub calls : List Call
+  pub calls : List PassCall
   pub adds : Adds calls d.pass.knows e.pass.knows
   pub unlocked : UnlockedAs (at_lock i (by_desk q d e)) i b calls r
 
@@ -106,7 +106,7 @@ pub record DidPark (q : PackageView) (d e : DeskView) : Type 0 where
 pub record DidEnd (q : PackageView) (b : Block) (d e : DeskView) (r : Settled) : Type 0 where
   pub sleepers : e.sleepers ≡ d.sleepers
   pub seats : SeatsLeft b q d.seats e.seats
-  pub calls : List Call
+  pub calls : List PassCall
   pub adds : Adds calls d.pass.knows e.pass.knows
   pub ended : EndedAs (by_desk q d e) b calls r
 

@@ -1,6 +1,6 @@
 -- What contracts see of a desk, and when it fits a bench.
 use Rattle.std.specs.Prelude.{◌≡◌, ℕ, ◌<◌, ◌≤◌, List, [], length, get_or, map, Option, Some}
-use Rattle.tc_combiner.specs.Vocabulary.{HallView, Hands, IsSeatOf, PackageView, PassView, QueueView, Rest, SeatView, Shown, Terms, locks, threads}
+use Rattle.tc_combiner.specs.Vocabulary.{HallView, Hands, IsSeatOf, PackageView, PassView, QueueView, Rest, SeatView, Shown, HallTerms, locks, threads}
 use Rattle.tc_combiner.specs.Packages.{IsAside}
 use Rattle.tc_combiner.specs.Walks.{Owned, packed}
 
@@ -32,11 +32,11 @@ pub record IsSeatFor (n : ℕ) (q : QueueView) (s : SeatView) : Type 0 where
   pub made : q.threads ≡ n
 
 -- each seat is one of its queue, which was made for the threads of the hall
-abbrev pub AreSeats : Terms → List QueueView → List SeatView → Type 0
+abbrev pub AreSeats : HallTerms → List QueueView → List SeatView → Type 0
 AreSeats k queues seats = (i : ℕ) (q : QueueView) (s : SeatView) → i < locks k → IsSeatFor (threads k) (get_or queues i q) (get_or seats i s)
 
 -- each lock of the hall has its queue and its seat here
-pub record HasSeats {X S : Type 0} (queue : X → QueueView) (seen : S → SeatView) (k : Terms) (qs : List X) (ss : List S) : Type 0 where
+pub record HasSeats {X S : Type 0} (queue : X → QueueView) (seen : S → SeatView) (k : HallTerms) (qs : List X) (ss : List S) : Type 0 where
   pub queues : length qs ≡ locks k
   pub seats : length ss ≡ locks k
   pub of : AreSeats k (map queue qs) (map seen ss)

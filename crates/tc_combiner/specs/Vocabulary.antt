@@ -11,10 +11,10 @@ pub use Rattle.tc_journal.specs.declared.block.Kind.{Kind}
 pub use Rattle.tc_journal.specs.declared.block.Kind.TheVariants.{Adopted, Granted, Taken}
 pub use Rattle.tc_turn.specs.Turn.{is_running}
 pub use Rattle.tc_nested.specs.Release.{Releases}
-pub use Rattle.tc_segment.specs.View.{IsAtRest, LockView, blocks_of}
+pub use Rattle.tc_segment.specs.View.{IsAtRest, LockView, blocks_of, EndsSection}
 pub use Rattle.tc_context.specs.Locks.{IsPlaced}
 pub use Rattle.tc_context.specs.Ran.{DidRun}
-pub use Rattle.tc_context.specs.View.{AllowsPending, HasBlock, IsNumber, IsWaiting, PackageView, Rests, bare, fits_of, number_in, want_of, with_grant, with_turns, without_lock}
+pub use Rattle.tc_context.specs.View.{AllowsPending, HasBlock, IsNumber, IsWaiting, PackageView, bare, fits_of, number_in, want_of, with_grant, with_turns, without_lock}
 pub use Rattle.tc_context.specs.declared.package.TheConstants.{MAX_NUMBER}
 pub use Rattle.tc_queue.specs.Lines.{Behind, Enter, First, IsSeatOf, Leave, LineCall, Link, Next, SeatView, with_line}
 pub use Rattle.tc_queue.specs.View.{QueueView}
@@ -26,11 +26,11 @@ pub use Rattle.tc_hall.specs.PassView.{HallView, PassView}
 pub use Rattle.tc_hall.specs.Places.{IsInRange, code_of}
 pub use Rattle.tc_hall.specs.Rule.{IsInOrder, IsOwn, is_pinned, last_by, locked_in, locks, threads}
 pub use Rattle.tc_hall.specs.Steps.{HandsPending, IsSamePass, put_call}
-pub use Rattle.tc_hall.specs.declared.board.Call.{Call}
-pub use Rattle.tc_hall.specs.declared.board.Call.TheVariants.{Free, Put, Stop, Stopped}
+pub use Rattle.tc_hall.specs.declared.board.PassCall.{PassCall}
+pub use Rattle.tc_hall.specs.declared.board.PassCall.TheVariants.{Free, Put, Stop, Stopped}
 pub use Rattle.tc_hall.specs.declared.board.Knows.{Knows}
 pub use Rattle.tc_hall.specs.declared.board.Miss.{Miss}
-pub use Rattle.tc_hall.specs.declared.board.Terms.{Terms}
+pub use Rattle.tc_hall.specs.declared.board.HallTerms.{HallTerms}
 pub use Rattle.tc_hall.specs.declared.place.Place.{Place}
 pub use Rattle.tc_hall.specs.declared.place.Place.TheVariants.{Done, Parked, Ready, Waiting}
 pub use Rattle.tc_combiner.specs.declared.attempt.Attempt.{Attempt}

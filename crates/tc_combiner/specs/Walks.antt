@@ -1,11 +1,11 @@
 -- What some calls of a pass and of a seat did: which calls, one by one, and how what is out changed; and what hands may do.
 use Rattle.std.specs.Prelude.{◌≡◌, ◌+◌, ℕ, List, [], ◌∷◌, ◌++◌, Option, Some, None, ◌==◌, ◌<◌, ◌≤◌, Bool, true, false, All, length, filter}
-use Rattle.tc_combiner.specs.Vocabulary.{Attempt, Call, Called, Came, Found, HallView, Hands, IsAtRest, IsInOrder, IsInRange, IsOut, IsSamePass, IsTurn, Item, Knows, Leave, Left, LineCall, LockView, Loose, MAX_HELD, Miss, Next, Next_is, Nobody, Outs, Pack, PackageView, PassView, Place, Put, Ready, Refused, Rests, SeatView, Stop, Stopped, Terms, Try_stopped, Turn, Unknown, code_of, erase, fits_of, is_pinned, locks, outs, threads}
+use Rattle.tc_combiner.specs.Vocabulary.{Attempt, PassCall, Called, Came, Found, HallView, Hands, IsAtRest, IsInOrder, IsInRange, IsOut, IsSamePass, IsTurn, Item, Knows, Leave, Left, LineCall, LockView, Loose, MAX_HELD, Miss, Next, Next_is, Nobody, Outs, Pack, PackageView, PassView, Place, Put, Ready, Refused, EndsSection, SeatView, Stop, Stopped, HallTerms, Try_stopped, Turn, Unknown, code_of, erase, fits_of, is_pinned, locks, outs, threads}
 use Rattle.tc_combiner.specs.Change.{Change}
 use Rattle.tc_combiner.specs.Packages.{IsAside}
 
 -- no call of these is a stop
-abbrev pub HaveNoStop : List Call → Type 0
+abbrev pub HaveNoStop : List PassCall → Type 0
 HaveNoStop [] = Unit {0}
 HaveNoStop (Stop ∷ cs) = ⊥
 HaveNoStop (c ∷ cs) = HaveNoStop cs
@@ -34,7 +34,7 @@ packed None = []
 packed (Some q) = Pack q ∷ []
 
 -- the threads that these calls put as ready, in order
-abbrev pub ready_in : List Call → List ℕ
+abbrev pub ready_in : List PassCall → List ℕ
 ready_in [] = []
 ready_in (Put t Ready ls g ∷ cs) = t ∷ ready_in cs
 ready_in (c ∷ cs) = ready_in cs
@@ -75,32 +75,32 @@ abbrev pub Owned : Knows → List Item → Type 0
 Owned v xs = (b : Outs) × Owns b (outs v) xs
 
 -- any call but a look at STOP that saw no stop
-abbrev pub counts : Call → Bool
+abbrev pub counts : PassCall → Bool
 counts (Stopped x) = x == 1
 counts c = true
 
 -- these of the added calls count, in this order, and none is a stop; image, worker, sealed blocks and joined passes stay
-pub record Adds (ds : List Call) (v w : Knows) : Type 0 where
-  pub calls : List Call
+pub record Adds (ds : List PassCall) (v w : Knows) : Type 0 where
+  pub calls : List PassCall
   pub told : Called calls v w
   pub stops : HaveNoStop calls
   pub are : filter counts calls ≡ ds
 
 -- the same pass added these calls; whoever had xs out, apart from anything else, has ys out
-pub record Acts (ds : List Call) (xs ys : List Item) (p q : PassView) : Type 0 where
+pub record Acts (ds : List PassCall) (xs ys : List Item) (p q : PassView) : Type 0 where
   pub own : IsSamePass p q
   pub adds : Adds ds p.knows q.knows
   pub moves : Moves p.knows q.knows xs ys
 
 -- the call of one who saw the stop
-abbrev pub saw : List Call
+abbrev pub saw : List PassCall
 saw = Stopped 1 ∷ []
 
-abbrev pub saw_if : Bool → List Call
+abbrev pub saw_if : Bool → List PassCall
 saw_if true = saw
 saw_if false = []
 
-abbrev pub saw_at_unknown : Found → List Call
+abbrev pub saw_at_unknown : Found → List PassCall
 saw_at_unknown Unknown = saw
 saw_at_unknown found = []
 
@@ -109,7 +109,7 @@ pub record Tried (refused made : ℕ) (v w : Knows) : Type 0 where
   pub misses : List Miss
   pub missed : w.missed ≡ v.missed ++ misses
   pub each : length misses ≡ refused
-  pub calls : List Call
+  pub calls : List PassCall
   pub added : w.calls ≡ v.calls ++ calls
   pub all : length calls ≡ made
 
@@ -133,7 +133,7 @@ pub record MayBringHome (hall : HallView) (p : PassView) (l : LockView) : Type 0
   pub own : p.table ≡ hall.table
   pub lock : l.number < locks hall.terms
   pub out : IsOut (outs p.knows) (Loose l)
-  pub rests : Rests l.number l
+  pub rests : EndsSection l.number l
 
 -- a lock that was taken from its home: it is as it was left there, and may go home
 abbrev pub IsTaken : HallView → ℕ → PassView → LockView → Type 0
@@ -183,10 +183,10 @@ pub record MayAct (hall : HallView) (xs : List Item) (n : ℕ) (h : Hands) : Typ
   pub room : length h.ready.items + n ≤ MAX_HELD
 
 -- the list got the threads that these calls put as ready, in order, each of them one of so many
-abbrev pub TakesDown : ℕ → List ℕ → List ℕ → List Call → Type 0
+abbrev pub TakesDown : ℕ → List ℕ → List ℕ → List PassCall → Type 0
 TakesDown threads old new cs = (new ≡ old ++ ready_in cs) × All (λ t. t < threads) (ready_in cs)
 
 -- the hands made these calls, and took down the threads that they put as ready
-pub record Acted (k : Terms) (ds : List Call) (xs ys : List Item) (hands : Change Hands) : Type 0 where
+pub record Acted (k : HallTerms) (ds : List PassCall) (xs ys : List Item) (hands : Change Hands) : Type 0 where
   pub acts : Acts ds xs ys hands.old.pass hands.new.pass
   pub readied : TakesDown (threads k) hands.old.ready.items hands.new.ready.items ds

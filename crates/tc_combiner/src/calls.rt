@@ -3,7 +3,7 @@
 
 ghost use Rattle.std.specs.Prelude.{◌≡◌, [], ◌∷◌};
 ghost use Rattle.tc_hall.specs.Steps.{put_call};
-ghost use Rattle.tc_hall.specs.declared.board.Call.TheVariants.{Free};
+ghost use Rattle.tc_hall.specs.declared.board.PassCall.TheVariants.{Free};
 ghost use Rattle.tc_hall.specs.Outs.{Pack, Loose};
 ghost use Rattle.tc_combiner.specs.Walks.{Acts, MayBringHome, MayGive, Tried, saw_if};
 

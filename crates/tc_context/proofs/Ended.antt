@@ -7,11 +7,11 @@ use Rattle.tc_turn.specs.Replay.{Entry}
 use Rattle.tc_turn.specs.Turn.{plus_lock}
 use Rattle.tc_turn.proofs.Turns.{next_free, next_known}
 use Rattle.tc_mutex_spec.specs.Blocks.{locks_of_block}
-use Rattle.tc_mutex_spec.proofs.BlocksAlike.{eq_self}
 use Rattle.tc_mutex_spec.proofs.OptionLaws.{map_some, option_map-id}
 use Rattle.tc_segment.proofs.Keeping.{last_at}
 use Rattle.tc_context.proofs.LockList.{when_field, with_locks}
 use Rattle.tc_context.proofs.Staging.{both_ways, lock_was}
+use Rattle.tc_lemmas.proofs.Tests.{eq_self}
 
 abbrev finish_of : LockView → Option Registers
 finish_of l = last_finish l.journal.sealed l.journal.closed

@@ -12,7 +12,6 @@ use Rattle.tc_mutex_spec.specs.Machine.{State}
 use Rattle.tc_mutex_spec.specs.Blocks.{locks_of_block, reach, Runs}
 use Rattle.tc_context.specs.declared.package.Grant.{Grant}
 use Rattle.tc_journal.proofs.Batching.{last_more}
-use Rattle.tc_mutex_spec.proofs.BlocksAlike.{eq_self}
 use Rattle.tc_context.proofs.LockList.{when_field, locks_ext}
 use Rattle.tc_mutex_spec.proofs.OptionLaws.{map_some, some_map, some_of}
 use Rattle.tc_mutex_spec.proofs.Replaying.{record_takes}
@@ -27,6 +26,7 @@ use Rattle.std.proofs.lemmas.Bool.{not-false}
 use Rattle.std.proofs.lemmas.List.{map-append, length-map}
 use Rattle.std.proofs.lemmas.Option.{slice_get-map, slice_get_within}
 use Rattle.tc_journal.proofs.Lists.{get-set_same}
+use Rattle.tc_lemmas.proofs.Tests.{eq_self}
 
 -- what a package needs for a block, beside room
 pub record MayRun (image : Shown) (p : PackageView) : Type 0 where

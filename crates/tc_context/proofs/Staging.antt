@@ -1,7 +1,7 @@
 -- What a package keeps, through each of its calls.
 use Rattle.std.proofs.Common.{◌≡◌, ℕ, ◌<◌, ◌≤◌, Bool, true, false, not, ◌||◌, ◌&&◌, ◌==◌, List, map, filter, length, refl, sym, ap, subst, ◌∙◌, arith, inl, inr, Option, Some, None, IfSome, is_some, slice_index_or, set, if◌then◌else◌, length-set, get_or-set_same, get_or-set_other}
 use Rattle.tc_context.proofs.Vocabulary.{option_map, has, MAX_TURNS, Shown, is_section, last_of, may_go_on, ends_section, passes_to, passes_on, Block, Thread, is_running, next_lock, LockView, IsAtRest, kept, block_in, blocks_of, with_journal, with_room, Context, lock_in, AreOf, Changed, IsPlaced, SameLocks, roomy_in, thread_in, set_of, PackageView, granted_lock}
-use Rattle.tc_context.proofs.Vocabulary.{want_of, number_in, waiting_in, IsNumber, IsFresh, Rests, IsIdle, IsAt, IsStored, IsLeft, EndsWith, IsGranted, MayPassTo, MayTake, IsSoundPackage, IsWanted, LastIsSealed, IsWaiting, IsRoomier, with_grant, without_lock, guest_in, view_of, KeptPackage}
+use Rattle.tc_context.proofs.Vocabulary.{want_of, number_in, waiting_in, IsNumber, IsFresh, EndsSection, IsIdle, IsAt, IsStored, IsLeft, EndsWith, IsGranted, MayPassTo, MayTake, IsSoundPackage, IsWanted, LastIsSealed, IsWaiting, IsRoomier, with_grant, without_lock, guest_in, view_of, KeptPackage}
 use Rattle.std.specs.List.{range_with_len}
 use Rattle.tc_isa.specs.Sets.{locks_of}
 use Rattle.tc_isa.specs.declared.limits.TheConstants.{MAX_HELD}
@@ -15,11 +15,11 @@ use Rattle.tc_journal.specs.declared.block.Kind.{Kind}
 use Rattle.tc_turn.specs.Replay.{Entry}
 use Rattle.tc_turn.proofs.Turns.{next_free, next_known, next_by_own}
 use Rattle.tc_context.specs.declared.package.Grant.{Grant}
-use Rattle.tc_mutex_spec.proofs.BlocksAlike.{eq_self}
 use Rattle.tc_mutex_spec.proofs.Replaying.{running_is}
 pub use Rattle.tc_mutex_spec.proofs.OptionLaws.{map_some, some_map, some_of, option_map-twice, then_some, else_some}
 use Rattle.tc_context.specs.declared.package.Contents.{Contents}
 use Rattle.tc_context.proofs.LockList.{when_field, with_locks, put_place}
+use Rattle.tc_lemmas.proofs.Tests.{eq_self}
 
 -- the contents of a box are those that the package shows
 pub record Shows (a : Contents) (v : PackageView) : Type 0 where
@@ -64,7 +64,7 @@ pub ran_seen : (P : PackageView → Type 0) (a : Contents) (new : Context) (log 
 ran_seen P a new log room slept none = subst (λ first. P (record (bare_view a) { context = record { thread = new.thread; guest = guest_in first new.guest; locks = new.locks }; granted = None; pending = last_of log; log = log; log_room = room; slept = slept })) (sym none)
 
 -- a lock rests by its sealed entries alone
-pub rests_as : (k : ℕ) (x l : LockView) → l.journal.sealed ≡ x.journal.sealed → Rests k x → Rests k l
+pub rests_as : (k : ℕ) (x l : LockView) → l.journal.sealed ≡ x.journal.sealed → EndsSection k x → EndsSection k l
 rests_as k x l e rests = subst (λ s. IfSome (last_of (map block_in s)) (λ b. ends_section k b ≡ true)) (sym e) rests
 
 -- ---- what follows from what a package keeps

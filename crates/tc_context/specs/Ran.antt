@@ -13,11 +13,11 @@ use Rattle.tc_turn.specs.Turn.{next_lock, next_act}
 use Rattle.tc_turn.specs.Reads.{Covers}
 use Rattle.tc_mutex_spec.specs.Machine.{State}
 use Rattle.tc_mutex_spec.specs.Blocks.{reach}
-use Rattle.tc_segment.specs.View.{LockView, sealed_block}
+use Rattle.tc_segment.specs.View.{LockView, sealed_block, EndsSection}
 use Rattle.tc_context.specs.declared.context.Context.{Context}
 use Rattle.tc_context.specs.Locks.{lock_in}
 use Rattle.tc_context.specs.Whole.{thread_in, whole, set_of, block_locks, RunsAs, Journals}
-use Rattle.tc_context.specs.View.{PackageView, kind_of, IsSoundPackage, Rests, Allows, fits_of}
+use Rattle.tc_context.specs.View.{PackageView, kind_of, IsSoundPackage, Allows, fits_of}
 
 -- the number of a SLEEP, 0 of any other turn
 abbrev pub slept_by : Option Done → ℕ
@@ -52,7 +52,7 @@ pub record DidRun (image : Shown) (old new : PackageView) : Type 0 where
   -- its locks, which are in the package; the one that it took was at rest
   pub held : (k : ℕ) → has block.held k ≡ block_locks image old.context k
   pub covers : Covers image (set_of old.context) (thread_in old.context)
-  pub rests : (k : ℕ) (l : LockView) → next_lock image (thread_in old.context) ≡ Some k → lock_in old.context.locks k ≡ Some l → Rests k l
+  pub rests : (k : ℕ) (l : LockView) → next_lock image (thread_in old.context) ≡ Some k → lock_in old.context.locks k ≡ Some l → EndsSection k l
   pub sound : IsSoundPackage new
   -- its turns, and its entry in the journal of each of its locks
   pub runs : RunsAs image old.context new.context block.turns block.end

@@ -16,7 +16,7 @@ use Rattle.tc_turn.specs.Memory.{own_of}
 use Rattle.tc_turn.specs.Turn.{is_running, next_lock, thread_at_start}
 use Rattle.tc_turn.specs.declared.status.Status.{Status}
 use Rattle.tc_turn.specs.declared.status.Status.TheVariants.{Running}
-use Rattle.tc_segment.specs.View.{LockView, IsStrict, block_in, blocks_of, sealed_block}
+use Rattle.tc_segment.specs.View.{LockView, IsStrict, block_in, blocks_of, sealed_block, EndsSection}
 use Rattle.tc_context.specs.declared.context.Context.{Context}
 use Rattle.tc_context.specs.declared.package.Grant.{Grant}
 use Rattle.tc_context.specs.declared.package.TheConstants.{MAX_NUMBER}
@@ -125,20 +125,16 @@ abbrev pub waiting_in : Option Block → ℕ → Option Block
 waiting_in None k = None
 waiting_in (Some b) k = if has b.held k then Some b else None
 
--- the last sealed entry of the lock's journal, where there is one, ended a section of the lock
-abbrev pub Rests : ℕ → LockView → Type 0
-Rests k l = IfSome (last_of (blocks_of l)) (λ b. ends_section k b ≡ true)
-
 -- lock k of a package in which no block is pending: it rests where the thread doesn't hold it; and where the last block had
 -- it, that is its last one too, unless it was granted since
 pub record IsIdle (p : PackageView) (k : ℕ) (l : LockView) : Type 0 where
-  pub rests : has p.context.guest.held k ≡ false → Rests k l
+  pub rests : has p.context.guest.held k ≡ false → EndsSection k l
   pub last : (b : Block) → last_of p.log ≡ Some b → has b.held k ≡ true → granted_lock p.granted ≢ Some k → last_of (blocks_of l) ≡ Some b
 
 -- lock k of a package in which this block is pending: one that isn't of the block rests, one of it that the block didn't take
 -- was in the middle of the thread's section, and a strict one that was passed on to the block was another thread's before
 pub record IsPending (b : Block) (k : ℕ) (l : LockView) : Type 0 where
-  pub rests : has b.held k ≡ false → Rests k l
+  pub rests : has b.held k ≡ false → EndsSection k l
   pub on : has b.held k ≡ true → begins k b ≡ false → may_go_on k (last_of (blocks_of l)) b.thread ≡ true
   pub passes : IsStrict l → has b.held k ≡ true → passes_on k (blocks_of l) b ≡ true
 

@@ -13,8 +13,8 @@ use Rattle.tc_core.specs.Stories.{AreEnabled, Story, turn_of, turns_of}
 use Rattle.tc_core.specs.Alive.{given_back, worked_on, is_worked_on, NoneInVain, AreClaimsUsed, most_events}
 use Rattle.tc_core.proofs.Quiet.{pick_other}
 use Rattle.tc_core.proofs.Work.{number_is, thread_at}
-use Rattle.tc_core.proofs.Standing.{some_eq}
 use Rattle.tc_core.proofs.Ending.{rest_on, NoneAgain, few_events}
+use Rattle.std.proofs.lemmas.Option.{same_Some}
 
 -- ---- something is done with each thread before it is given back again
 
@@ -153,10 +153,10 @@ module _ (image : Shown) (c : Core) (rests : ℕ → Bool) (came : List Event) (
 back_at : (image : Shown) (limits : Limits) (c : Core) (e : Event) (t : ℕ) → is_enabled image limits c e ≡ true → given_back e ≡ Some t → (w : ℕ) × (is_at (c.course t).place w ≡ true)
 unfolding is_enabled
 back_at image limits c (HandBack w u) t on e =
-    (w, subst (λ n. is_at (c.course n).place w ≡ true) (some_eq u t e) (thread_at image limits c w u (and_parts (has_thread image limits c w u) _ on).0))
+    (w, subst (λ n. is_at (c.course n).place w ≡ true) (same_Some u t e) (thread_at image limits c w u (and_parts (has_thread image limits c w u) _ on).0))
 back_at image limits c (Park w u) t on e =
     (let may = (and_parts (may_go_back image limits c w u) _ on).0 in
-    (w, subst (λ n. is_at (c.course n).place w ≡ true) (some_eq u t e) (thread_at image limits c w u (and_parts (has_thread image limits c w u) _ may).0)))
+    (w, subst (λ n. is_at (c.course n).place w ≡ true) (same_Some u t e) (thread_at image limits c w u (and_parts (has_thread image limits c w u) _ may).0)))
 back_at image limits c e t on is = absurd (cc)
 
 not_yet : (image : Shown) (limits : Limits) (c : Core) (rests : ℕ → Bool) (came es all : List Event) (e : Event) → came ++ e ∷ es ≡ all → AreClaimsUsed all → is_enabled image limits c e ≡ true → RestClaimed c rests came

@@ -6,7 +6,6 @@ use Rattle.std.proofs.lemmas.Bool.Decides.{eqb_tells}
 use Rattle.tc_elf.specs.Shown.{Shown}
 use Rattle.tc_elf.specs.declared.limits.TheConstants.{MAX_GUARDS}
 use Rattle.tc_turn.specs.Turn.{next_lock}
-use Rattle.tc_mutex_spec.proofs.BlocksAlike.{eq_self}
 use Rattle.tc_mutex_spec.proofs.Sums.{sum_to, sums_le, sums_one, sums_more, sums_most, at_most}
 use Rattle.tc_core.specs.declared.event.Event.{Event}
 use Rattle.tc_core.specs.declared.event.Event.TheVariants.{Claim, Turn, Commit, Enter, Take, Ship, Adopt, Grant, Leave, Free, HandBack, Park, Finish}
@@ -19,6 +18,7 @@ use Rattle.tc_core.proofs.Known.{known}
 use Rattle.tc_core.proofs.Work.{one_if, one_most, left_of, takes, left_in}
 use Rattle.tc_core.proofs.Standing.{Stands, stands_after, story_stands}
 use Rattle.tc_core.proofs.Moves.{Goes, over_or_goes}
+use Rattle.tc_lemmas.proofs.Tests.{eq_self}
 
 -- ---- how many threads may be claimed
 

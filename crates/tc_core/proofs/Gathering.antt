@@ -14,9 +14,10 @@ use Rattle.tc_mutex_spec.specs.Machine.{State, can_turn, after}
 use Rattle.tc_mutex_spec.specs.Locality.{Agree, Apart}
 use Rattle.tc_mutex_spec.specs.Blocks.{reach, end_at}
 use Rattle.tc_mutex_spec.proofs.Local.{after_thread, act_agree, turn_apart, turn_same, turn_agree, agree_trans}
-use Rattle.tc_mutex_spec.proofs.BlocksAlike.{agree_within, apart_within, eq_self, end_same}
+use Rattle.tc_mutex_spec.proofs.BlocksAlike.{agree_within, apart_within, end_same}
 use Rattle.tc_core.specs.Core.{is_number}
 use Rattle.tc_core.proofs.Gathers.{is_with, Gathers}
+use Rattle.tc_lemmas.proofs.Tests.{eq_self}
 
 takes_next : (image : Shown) (d : Thread) (locks : ℕ → Mutex) (k : ℕ) (regs : Registers) → next_act image d locks ≡ Some (Called (Lock k) regs) → next_lock image d ≡ Some k
 unfolding next_act

@@ -10,7 +10,6 @@ use Rattle.tc_elf.specs.declared.limits.TheConstants.{MAX_GUARDS}
 use Rattle.tc_journal.specs.declared.block.End.{End}
 use Rattle.tc_turn.specs.Turn.{is_running, next_lock}
 use Rattle.tc_turn.proofs.Turns.{next_known, next_free}
-use Rattle.tc_mutex_spec.proofs.BlocksAlike.{eq_self}
 use Rattle.tc_mutex_spec.proofs.Replaying.{next_above}
 use Rattle.tc_mutex_spec.proofs.Sums.{all_or}
 use Rattle.tc_core.specs.declared.event.Event.{Event}
@@ -22,6 +21,7 @@ use Rattle.tc_core.specs.Events.{is_enabled, has_thread, has_lock, may_take, may
 use Rattle.tc_core.specs.Alive.{is_back, IsOver}
 use Rattle.tc_core.proofs.Served.{Stage}
 use Rattle.tc_core.proofs.Standing.{Stands, Wants, is_kept, is_free_to_go, none_some, out_behind, out_free, first_in, first_one, given_first, line_below, rest_behind}
+use Rattle.tc_lemmas.proofs.Tests.{eq_self}
 
 -- an event that may come at c, and gives no thread back
 pub record Goes (image : Shown) (limits : Limits) (c : Core) : Type 0 where

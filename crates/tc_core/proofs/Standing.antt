@@ -16,7 +16,7 @@ use Rattle.tc_core.specs.declared.event.Event.{Event}
 use Rattle.tc_core.specs.declared.event.Event.TheVariants.{Claim, Turn, Commit, Enter, Take, Ship, Adopt, Grant, Leave, Free, HandBack, Park, Finish}
 use Rattle.tc_core.specs.declared.place.LockPlace.TheVariants as place
 use Rattle.tc_core.specs.Lines.{is_in_line, is_first, is_single, rest_of}
-use Rattle.tc_core.specs.Core.{Core, Limits, Course, Custody, LockPlace, ThreadPlace, Release, Ready, Waiting, Parked, Done, At, With, Granted, Loose, is_at, is_claimable, is_waiting, is_free_lock, is_granted, is_loose, with_of, with_custody, with_place, first_core}
+use Rattle.tc_core.specs.Core.{Core, Limits, Course, Custody, LockPlace, ThreadPlace, Release, Ready, Waiting, Parked, Done, At, With, Granted, Loose, is_at, is_claimable, is_waiting, is_free_lock, is_granted, is_loose, is_number, with_of, with_custody, with_place, first_core}
 use Rattle.tc_core.specs.Events.{is_enabled, effect, is_worker, runs, is_between, has_entered, may_take, course_on, course_past, custody_on, custody_past, end_here, release_of, entered, taken_by, passed_to, left_by_all, freed, after_turn, after_commit}
 use Rattle.tc_core.specs.View.{IsSoundCore, AreBelow, IsLine}
 use Rattle.tc_core.specs.Stories.{AreEnabled, Story, after_all, last_core, locks_by, enters_of, grants_of}
@@ -25,6 +25,7 @@ use Rattle.tc_core.proofs.Erasure.{MayTurn, may_turn, sound_after, first_sound, 
 use Rattle.tc_core.proofs.Served.{Stage, Served, served_after}
 use Rattle.tc_core.proofs.Tracked.{Tracks, tracked_after, first_tracked}
 use Rattle.tc_core.proofs.Lines.{HasLines, lines_after, first_lines}
+use Rattle.std.proofs.lemmas.Option.{same_Some}
 
 -- ---- what is said
 
@@ -105,8 +106,11 @@ pub record Stands (image : Shown) (limits : Limits) (c : Core) : Type 0 where
 
 -- ---- tests
 
-pub some_eq : (n m : ℕ) → Some n ≡ Some m → n ≡ m
-some_eq n m e = cc
+pub with_is : (p : LockPlace) (t : ℕ) → is_number (with_of p) t ≡ true → p ≡ With t
+with_is (With u) t e = elim (eqb_tells u t) [ inl h ↦ ap With h.1 | inr h ↦ absurd (let f = h.0 in cc) ]
+with_is place.Free t e = absurd cc
+with_is (Granted u) t e = absurd cc
+with_is (Loose u) t e = absurd cc
 
 pub none_some : (o : Option ℕ) (n : ℕ) → o ≡ None → o ≡ Some n → ⊥
 none_some o n e f = cc
@@ -343,7 +347,7 @@ module _ (image : Shown) (limits : Limits) (c : Core) (s : Stands image limits c
   due_wants t k (inr given) = ((s.fits t k).given given).0
 
   due_once : (t j k : ℕ) → Due (c.custody j) t → Due (c.custody k) t → j ≡ k
-  due_once t j k a b = (let v = due_wants t j a in let w = due_wants t k b in some_eq j k (sym v.next ∙ w.next))
+  due_once t j k a b = (let v = due_wants t j a in let w = due_wants t k b in same_Some j k (sym v.next ∙ w.next))
 
   due_behind : (t k : ℕ) → Behind (c.custody k).line t → Due (c.custody k) t
   due_behind t k b =

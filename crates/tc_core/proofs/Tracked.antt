@@ -22,7 +22,7 @@ use Rattle.tc_turn.specs.Turn.{Thread, Mutex, taken_by, next_lock, next_act, ans
 use Rattle.tc_turn.proofs.Turns.{act_takes, taken_was}
 use Rattle.tc_mutex_spec.specs.Machine.{State, after}
 use Rattle.tc_mutex_spec.proofs.Local.{after_thread, turn_apart}
-use Rattle.tc_mutex_spec.proofs.BlocksAlike.{eq_self, covers_block}
+use Rattle.tc_mutex_spec.proofs.BlocksAlike.{covers_block}
 pub use Rattle.tc_mutex_spec.proofs.HeldSets.{with_has, without_has}
 use Rattle.tc_core.specs.declared.event.Event.{Event}
 use Rattle.tc_core.specs.declared.event.Event.TheVariants.{Turn, Commit}
@@ -34,6 +34,7 @@ use Rattle.tc_core.specs.Theorem.{IsTracked}
 use Rattle.tc_core.proofs.Quiet.{Quiet, pick_mine, pick_other, quiet_event}
 use Rattle.tc_core.proofs.Erasure.{MayTurn, may_turn, take_facts, turn_is, sound_after, first_sound, started_none}
 use Rattle.tc_core.proofs.Parts.{no_end}
+use Rattle.tc_lemmas.proofs.Tests.{eq_self}
 
 -- the locks of a block are those that are with its thread, and what it leaves of them is what the thread holds
 pub record Tracks (c : Core) : Type 0 where

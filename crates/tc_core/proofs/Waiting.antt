@@ -4,7 +4,6 @@ use Rattle.std.specs.Prelude.{nat_eq}
 use Rattle.std.specs.List.{IsDistinct, AllByRecursion}
 use Rattle.std.proofs.lemmas.Bool.{or_parts}
 use Rattle.std.proofs.lemmas.List.{append_cancel_left}
-use Rattle.tc_mutex_spec.proofs.BlocksAlike.{eq_self}
 use Rattle.tc_core.specs.declared.event.Event.{Event}
 use Rattle.tc_core.specs.declared.event.Event.TheVariants.{Enter}
 use Rattle.tc_core.specs.Lines.{is_in_line, rest_of, IsFrontOf}
@@ -17,6 +16,7 @@ use Rattle.tc_core.proofs.Known.{known}
 use Rattle.tc_core.proofs.Numbers.{line_rest, line_room}
 use Rattle.tc_core.proofs.Served.{Owed, owed, served_after, in_order}
 use Rattle.tc_core.proofs.Lines.{first_lines, lines_all, enabled_front, enabled_back}
+use Rattle.tc_lemmas.proofs.Tests.{eq_self}
 
 -- ---- lists
 

@@ -1,7 +1,7 @@
 -- The unfinished blocks follow in order of thread.
 use Rattle.std.proofs.Common.{◌≡◌, ◌≢◌, ◌⊎◌, ℕ, zero, suc, ◌<◌, ◌≤◌, true, ◌==◌, [], ◌∷◌, length, replicate, refl, sym, ap, ◌∙◌, arith, inl, inr}
 use Rattle.std.specs.Prelude.{Option, Some, nat_lt, if◌then◌else◌, option_and_then}
-use Rattle.std.proofs.lemmas.Bool.{and_parts}
+use Rattle.std.proofs.lemmas.Bool.{and_parts, cases_lt}
 use Rattle.std.proofs.lemmas.Bool.Decides.{nat_tests, eqb_tells}
 use Rattle.tc_mutex_spec.proofs.Holds.{can_thread}
 use Rattle.tc_elf.specs.Shown.{Shown}
@@ -62,13 +62,10 @@ past_zero image m base owned done g t le = go (done t) refl
     go zero e = e
     go (suc n) e = absurd (let lt : t < length image.entries = can_thread image base t (g.defined t 0 (omega arith)) in omega arith)
 
-below_or : (a b : ℕ) → (a < b) ⊎ (b ≤ a)
-below_or a b = grind arith
-
 finish : (image : Shown) (m base : State) (owned : ℕ → Option ℕ) (done : ℕ → ℕ) → Gathers image m base owned done → run_from image base (pairs_of done (length image.entries)) ≡ Some m
 finish image m base owned done g =
     let r = folded image m base owned done g (length image.entries) in
-    let zeros : (t : ℕ) → r.left t ≡ 0 = λ t. elim (below_or t (length image.entries)) [
+    let zeros : (t : ℕ) → r.left t ≡ 0 = λ t. elim (cases_lt t (length image.entries)) [
       | inl lt ↦ r.zeros t lt
       | inr le ↦ past_zero image m r.to owned r.left r.gathers t le
     ] in

@@ -12,7 +12,7 @@ use Rattle.tc_elf.specs.Places.{lies_in, meets, in_text, in_writable, in_guard, 
 use Rattle.tc_elf.specs.Shown.{Shown, Range}
 use Rattle.tc_elf.specs.Table.{cuts, range_cuts, guard_cuts, is_cut, IsPiece, IsWithin, PlacesTell}
 use Rattle.tc_elf.specs.declared.image.Region.TheVariants as region
-use Rattle.tc_elf.specs.declared.places.Place.{Place}
+use Rattle.tc_elf.specs.declared.places.AddressRange.{AddressRange}
 
 -- ---- accesses of addresses that nothing cuts: what has one of them has all
 
@@ -77,14 +77,14 @@ within image start n whole addr width some low high =
     (if text i then region.Text else if writable i && not (touched i) then region.Private else if stack i then region.Stack else region.Nothing)
 
 -- one more place
-pub place_more : (image : Shown) (places : List Place) (start n : ℕ) (p : Place) → PlacesTell image places → is_cut image start n ≡ false → p.start ≡ start → p.end ≡ start + n
+pub place_more : (image : Shown) (places : List AddressRange) (start n : ℕ) (p : AddressRange) → PlacesTell image places → is_cut image start n ≡ false → p.start ≡ start → p.end ≡ start + n
     → p.region ≡ region_of image start n → PlacesTell image (places ++ p ∷ [])
 place_more image places start n p tells whole from to is =
     All-push (λ p. IsWithin image p.start p.end p.region) places p tells
     (λ addr width some low high. within image start n whole addr width some (omega arith) (omega arith) ∙ sym is)
 
 -- a place of n addresses that nothing cuts
-pub piece : (image : Shown) (start n : ℕ) (p : Place) → 0 < n → start + n ≤ 2 ^ 32 → n < 2 ^ 32 → is_cut image start n ≡ false → p.start ≡ start → p.end ≡ start + n → IsPiece image p
+pub piece : (image : Shown) (start n : ℕ) (p : AddressRange) → 0 < n → start + n ≤ 2 ^ 32 → n < 2 ^ 32 → is_cut image start n ≡ false → p.start ≡ start → p.end ≡ start + n → IsPiece image p
 piece image start n p some fits short whole from to =
     let count : p.end - p.start ≡ n = omega arith in
     record { some = omega arith; short = omega arith; fits = omega arith; whole = rw (count, from) whole }

@@ -5,7 +5,7 @@ use Rattle.tc_elf.specs.Kept.{IsImage}
 use Rattle.tc_elf.specs.Places.{lies_in, meets, region_of, stack_start, stack_length}
 use Rattle.tc_elf.specs.Shown.{Shown, Range, Guard}
 use Rattle.tc_elf.specs.declared.image.Region.{Region}
-use Rattle.tc_elf.specs.declared.places.Place.{Place}
+use Rattle.tc_elf.specs.declared.places.AddressRange.{AddressRange}
 
 -- the m addresses from b on have some of the n from a on, and not all
 abbrev pub cuts : ℕ → ℕ → ℕ → ℕ → Bool
@@ -27,18 +27,18 @@ abbrev pub IsWithin : Shown → ℕ → ℕ → Region → Type 0
 IsWithin image start end region =
     (addr width : ℕ) → 0 < width → start ≤ addr → addr + width ≤ end → region_of image addr width ≡ region
 
-abbrev pub PlacesTell : Shown → List Place → Type 0
+abbrev pub PlacesTell : Shown → List AddressRange → Type 0
 PlacesTell image places = All (λ p. IsWithin image p.start p.end p.region) places
 
 -- some addresses, not all of the 2^32, that nothing cuts
-pub record IsPiece (image : Shown) (p : Place) : Type 0 where
+pub record IsPiece (image : Shown) (p : AddressRange) : Type 0 where
   pub some : p.start < p.end
   pub short : p.end < p.start + 2 ^ 32
   pub fits : p.end ≤ 2 ^ 32
   pub whole : is_cut image p.start (p.end - p.start) ≡ false
 
 -- an image with its table
-pub record IsTabled (image : Shown) (places : List Place) : Type 0 where
+pub record IsTabled (image : Shown) (places : List AddressRange) : Type 0 where
   pub is_image : IsImage image
   pub tells : PlacesTell image places
   pub pieces : All (IsPiece image) places

@@ -9,7 +9,7 @@ ghost use Rattle.tc_elf.specs.Kept.{IsRange, IsGuard};
 ghost use Rattle.tc_elf.specs.Places.{lies_in, meets, in_range, in_text, in_writable, in_code, in_guard, touches, touches_range, region_of, unguarded_region, fetched, byte_of};
 
 use crate::limits::{STACK_LENGTH, STACK_START};
-use crate::places::{Place, place_by, place_number};
+use crate::places::{AddressRange, place_by, place_number};
 use byteorder::{ByteOrder, LittleEndian};
 use std::marker::Model;
 
@@ -80,7 +80,7 @@ pub struct Image {
     pub(crate) ranges: Vec<Range>,
     pub(crate) entries: Vec<Entry>,
     pub(crate) guards: Vec<Guard>,
-    pub(crate) places: Vec<Place>,
+    pub(crate) places: Vec<AddressRange>,
 }
 
 impl Model for Image {

@@ -16,7 +16,7 @@ use std::alloc::{AllocError, Global};
 
 /// Addresses from a start on, and before an end, of which each access has this place.
 #[derive(Clone, Copy, Drop)]
-pub(crate) struct Place {
+pub(crate) struct AddressRange {
     start: u32,
     end: u64,
     region: Region,
@@ -136,7 +136,7 @@ impl Image {
 }
 
 /// The table of an image, in the order of addresses.
-pub(crate) fn places(alloc: Global, image: &Image) -> Result<Vec<Place>, AllocError>
+pub(crate) fn places(alloc: Global, image: &Image) -> Result<Vec<AddressRange>, AllocError>
     ensures tells { IfOk result (λ places. PlacesTell image.now places.items) }
     ensures pieces { IfOk result (λ places. All (IsPiece image.now) places.items) }
 {
@@ -148,7 +148,7 @@ pub(crate) fn places(alloc: Global, image: &Image) -> Result<Vec<Place>, AllocEr
         let length = image.piece(start);
         next += length as u64;
         let region = image.searched_region(start, length);
-        places.push(Place {
+        places.push(AddressRange {
             start,
             end: next,
             region,
@@ -161,14 +161,19 @@ pub(crate) fn places(alloc: Global, image: &Image) -> Result<Vec<Place>, AllocEr
 }
 
 /// The number of the place that may have an access: the last that begins no later.
-pub(crate) fn place_number(places: &[Place], addr: u32) -> usize {
+pub(crate) fn place_number(places: &[AddressRange], addr: u32) -> usize {
     let behind = places.partition_point(|place| place.start <= addr);
     behind.saturating_sub(1)
 }
 
 /// The place of an access, where the place of this number in the table has it.
 #[inline(always)]
-pub(crate) fn place_by(places: &[Place], number: usize, addr: u32, width: u32) -> Option<Region>
+pub(crate) fn place_by(
+    places: &[AddressRange],
+    number: usize,
+    addr: u32,
+    width: u32,
+) -> Option<Region>
     requires { 0 < width }
     ensures { (image : Shown) → PlacesTell image places.now
         → IfSome result (λ region. region_of image addr width ≡ region) }

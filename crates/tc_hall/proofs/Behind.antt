@@ -1,6 +1,6 @@
 -- A block that was run with a lock that was granted as Adopted comes behind the block that handed the lock over.
 use Rattle.std.proofs.Common.{◌≡◌, ℕ, ◌==◌, ◌≤◌, ◌||◌, true, false, List, [], ◌∷◌, length, sym, refl, ap, ◌∙◌, subst, inl, inr, arith, Option, Some, None}
-use Rattle.tc_hall.proofs.Vocabulary.{AreTogether, Block, Call, Called, DidRun, Grant, IsHandedOver, Knows, PackageView, Shown, grants_adopted, is_pinned, last_by, last_of, lock_in, next_lock, of_worker, thread_in, was_cut, whole}
+use Rattle.tc_hall.proofs.Vocabulary.{AreTogether, Block, PassCall, Called, DidRun, Grant, IsHandedOver, Knows, PackageView, Shown, grants_adopted, is_pinned, last_by, last_of, lock_in, next_lock, of_worker, thread_in, was_cut, whole}
 use Rattle.std.proofs.lemmas.Bool.Decides.{eqb_tells}
 use Rattle.tc_journal.specs.Batch.{is_adopted, is_lock, takes_of}
 use Rattle.tc_journal.specs.Handing.{has_unlocked}
@@ -61,5 +61,5 @@ pub together_same : (of_worker of_thread : Option Block) → of_worker ≡ of_th
 together_same w t one = record { goes_on = λ _. one; stays = λ _. one }
 
 -- calls of the pass seal no block
-pub same_last : (cs : List Call) (v w : Knows) → Called cs v w → last_by w ≡ last_by v
+pub same_last : (cs : List PassCall) (v w : Knows) → Called cs v w → last_by w ≡ last_by v
 same_last cs v w told = λ i. last_of (of_worker (told.sealed i) (told.worker i))

@@ -1,6 +1,6 @@
 -- `commit` of a block ties to its turns and their Commit.
 use Rattle.std.proofs.Common.{◌≡◌, ◌≢◌, ℕ, zero, suc, ◌+◌, ◌-◌, ◌%◌, ◌<◌, ◌&&◌, Bool, true, false, List, [], ◌∷◌, ◌++◌, length, set, sym, refl, ap, ◌∙◌, subst, ⊎_elim, arith, Option, Some, None, length-append, get_or-set_other}
-use Rattle.tc_hall.proofs.Vocabulary.{AreEnabled, At, Block, CLOCK, Commit, Core, DidRun, End, Event, Hall, Has, HasLock, IsShown, Knows, LockAt, LockView, Lying, Mutex, Outline, Package, PackageAt, PackageView, Seals, Shown, Shows, ShowsLock, ShowsThread, State, Terms, Thread, after, after_events, after_seal, at_home, bare, commit, commit_effect, get_elem?, has, in_hand}
+use Rattle.tc_hall.proofs.Vocabulary.{AreEnabled, At, Block, CLOCK, Commit, Core, DidRun, End, Event, Hall, Has, HasLock, IsShown, Knows, LockAt, LockView, Lying, Mutex, Outline, Package, PackageAt, PackageView, Seals, Shown, Shows, ShowsLock, ShowsThread, State, HallTerms, Thread, after, after_events, after_seal, at_home, bare, commit, commit_effect, get_elem?, has, in_hand}
 use Rattle.tc_hall.proofs.Vocabulary.{in_slot, is_running, kept, last_end, lock_in, lock_in_package, lock_in_slot, lock_of, lock_with_pass, locked_in, locks, machine_limits, option_map, outline, packed, place_shown, sealed_as, sealed_block, slot_word, some, some-injective, thread_in, threads, turns_by, unowned, whole, with_journal, with_pass, with_seal}
 use Rattle.std.specs.Prelude.{if◌then◌else◌, is_some}
 use Rattle.tc_law.proofs.Following.{set_last}
@@ -20,7 +20,6 @@ use Rattle.tc_context.proofs.Staging.{some_of}
 use Rattle.tc_context.proofs.Running.{sealed_at}
 use Rattle.tc_hall.specs.Ties.{RunsThrough}
 use Rattle.tc_hall.proofs.Shows.{home_hand, hand_packed}
-use Rattle.tc_hall.proofs.Outlines.{true_or_false}
 use Rattle.tc_hall.proofs.Alike.{IsUnownedSame, reach_same, end_same}
 use Rattle.tc_hall.proofs.Through.{ended_by, partway, IsCommitted, committed}
 use Rattle.tc_hall.proofs.Tying.{out_at, at_it, apart, Moment, Asking, Showing}
@@ -29,6 +28,7 @@ use Rattle.tc_hall.proofs.Moves.{is_out}
 use Rattle.tc_hall.proofs.Cases.{apart as never_both, some_or_none, same_some, same_at, not_taken, not_empty, none_of}
 use Rattle.tc_hall.proofs.Taking.{is_lock_out}
 use Rattle.tc_context.proofs.Moved.{map_some}
+use Rattle.tc_lemmas.proofs.Tests.{true_or_false}
 
 -- ---- the package's block, in a machine that has its thread and its locks
 
@@ -143,7 +143,7 @@ pub record IsAfterBlock (o o' : Outline) (t : ℕ) (q : PackageView) : Type 0 wh
   pub outside : (i : ℕ) → locked_in q i ≡ None → o'.lock i ≡ o.lock i
   pub lies : (i : ℕ) → o'.lies i ≡ o.lies i
 
-module _ (k : Terms) (m : Moment k) (q : PackageView) (b : Block) (new : ℕ) (o o' : Outline) (was : IsShown k m.state o) (now : IsAfterBlock o o' q.context.thread q)
+module _ (k : HallTerms) (m : Moment k) (q : PackageView) (b : Block) (new : ℕ) (o o' : Outline) (was : IsShown k m.state o) (now : IsAfterBlock o o' q.context.thread q)
     (below : q.context.thread < threads k) (no_slot : (p : PackageView) → get_elem? m.state.homes q.context.thread ≢ some (some (Some (Package p))))
     (mine : (i : ℕ) (l : LockView) → locked_in q i ≡ Some l → (x : LockView) × HasLock m.view i x) (apart' : (j i : ℕ) (x : Knows) (l l' : LockView) → j ≢ m.id → get_elem? m.state.views j ≡ some x → HasLock x i l → HasLock m.view i l' → ⊥)
     (others' : (j u : ℕ) (x : Knows) (p : PackageView) → j ≢ m.id → get_elem? m.state.views j ≡ some x → Has x u p → u ≢ q.context.thread) where
@@ -209,7 +209,7 @@ sealed_end log old o b stamp worker is ends =
     ∙ (ap (λ (z : ℕ). last_end (set (old ++ b ∷ []) z (sealed_block stamp worker b))) (let e : length (old ++ b ∷ []) - 1 ≡ length old = omega (arith, length-append old (b ∷ [])) in e)
     ∙ (ap last_end (set_last old b (sealed_block stamp worker b)) ∙ ap (option_map (λ (z : Block). z.end)) (last_more old (sealed_block stamp worker b))))
 
-module _ (k : Terms) (m : Moment k) (q : PackageView) (a : Seals m.view q) where
+module _ (k : HallTerms) (m : Moment k) (q : PackageView) (a : Seals m.view q) where
   abbrev im : Shown
   im = k.image.value
 
@@ -307,7 +307,7 @@ module _ (k : Terms) (m : Moment k) (q : PackageView) (a : Seals m.view q) where
         }
 
 -- `commit` of a block of n turns is n times Turn, and then Commit
-module _ (k : Terms) (m : Moment k) (q : PackageView) (a : Seals m.view q) (stamp : ℕ) (b : Block) (same : a.ran.block ≡ b) where
+module _ (k : HallTerms) (m : Moment k) (q : PackageView) (a : Seals m.view q) (stamp : ℕ) (b : Block) (same : a.ran.block ≡ b) where
   these_are : (q.context.thread ≡ a.before.context.thread) × ((ran' k m q a).block ≡ b)
   these_are = (thread_is k m q a, block_is k m q a ∙ same)
 

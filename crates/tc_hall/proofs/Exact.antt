@@ -1,6 +1,6 @@
 -- After each order of operations every word is one of those that it may be.
 use Rattle.std.proofs.Common.{◌≡◌, ◌≢◌, ℕ, ◌+◌, ◌*◌, ◌<◌, ◌≤◌, List, [], ◌∷◌, length, replicate, set, sym, refl, ap, ◌∙◌, subst, arith, slice_index, length-set, get_or-set_other, get_or-set_same}
-use Rattle.tc_hall.proofs.Vocabulary.{CLOCK, Hall, IsLegal, IsOpening, KeptHall, Knows, Made, MayDo, Operation, Ready, STOP, Terms, after_operation, bare, claim, code_of, commit, free, get_elem?, hall_after, join, lay, length-replicate, locks, look, miss, put, reach, slot_word, some, split, stop, stopped, take, threads}
+use Rattle.tc_hall.proofs.Vocabulary.{CLOCK, Hall, IsLegal, IsOpening, KeptHall, Knows, Made, MayDo, Operation, Ready, STOP, HallTerms, after_operation, bare, claim, code_of, commit, free, get_elem?, hall_after, join, lay, length-replicate, locks, look, miss, put, reach, slot_word, some, split, stop, stopped, take, threads}
 use Rattle.std.proofs.lemmas.List.{get_or-replicate}
 use mathlib.Core.Logic.{dite}
 use native.Mathlib.Decide.{ℕ_discrete}
@@ -16,7 +16,7 @@ set_word P ws i n j below was now = dite (ℕ_discrete j i)
     (λ (e : j ≡ i). subst P (sym (ap (λ (z : ℕ). slice_index (set ws i n) z) e ∙ get_or-set_same ws i n 0 (subst (λ (z : ℕ). z < length ws) e below))) (now (sym e)))
     (λ (ne : j ≢ i). subst P (sym (get_or-set_other ws i j n 0 (λ e. ne (omega arith)))) was)
 
-module _ (k : Terms) where
+module _ (k : HallTerms) where
   -- a word at the start of two pairs of cache lines is set
   word_set : (ws : List ℕ) (i n line : ℕ) → i ≡ LINE * line → AreExact k ws → ((t : ℕ) → t < threads k → i ≡ slot_word t → IsThreadWord k n) → ((l : ℕ) → l < locks k → i ≡ slot_word (threads k + l) → n ≤ 1) → (i ≡ STOP → n ≤ 1) → AreExact k (set ws i n)
   word_set ws i n line starts exact for_thread for_lock for_stop = record {

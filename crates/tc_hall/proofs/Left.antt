@@ -1,9 +1,9 @@
 -- What lies in a slot is as the history leaves it.
 use Rattle.std.proofs.Common.{◌≡◌, ℕ, ◌<◌, refl, sym, ap, ◌∙◌}
-use Rattle.tc_hall.proofs.Vocabulary.{IsAsLeft, IsHome, IsLockHome, IsStateAsLeft, KeptHall, Knows, LockView, PackageView, Terms, end_after, get_elem?, kept, lock_of, of_thread, some, thread_in, threads}
+use Rattle.tc_hall.proofs.Vocabulary.{IsAsLeft, IsHome, IsLockHome, IsStateAsLeft, KeptHall, Knows, LockView, PackageView, HallTerms, end_after, get_elem?, kept, lock_of, of_thread, some, thread_in, threads}
 use Rattle.tc_hall.proofs.Moves.{St}
 
-module _ (k : Terms) (s : St k) (r : KeptHall k s) (id : ℕ) where
+module _ (k : HallTerms) (s : St k) (r : KeptHall k s) (id : ℕ) where
   pub left_home : (t : ℕ) (v : Knows) (p : PackageView) (h : IsHome s.words s.homes t p) → get_elem? s.views id ≡ some v → t < threads k → get_elem? r.told.places t ≡ some p → h.context.context.thread ≡ t → IsAsLeft k v h.context
   left_home t v p h at below place thread =
       let f = (r.told.law.packages_after t p place).follows in record {

@@ -1,6 +1,6 @@
 -- A hall's order with the events of the lines is one list of events, by the tie of each step.
 use Rattle.std.proofs.Common.{◌≡◌, ℕ, zero, suc, ◌+◌, ◌-◌, ◌<◌, Bool, true, false, ◌==◌, List, [], ◌∷◌, ◌++◌, replicate, sym, refl, ap, ◌∙◌, subst, arith, Option, Some, None, slice_index, if◌then◌else◌}
-use Rattle.tc_hall.proofs.Vocabulary.{AreEnabled, AreStocked, Cargo, Core, Custody, Event, Hall, IsFree, IsOpening, KeptHall, Knows, Lock, LockAt, LockView, Look, Lying, MayDo, Operation, Package, PackageAt, PackageView, Ready, STOP, Shows, ShowsLock, ShowsThread, Stopped, Terms, after_events, after_miss, after_operation, claim, commit, free, get_elem?, in_slot, join}
+use Rattle.tc_hall.proofs.Vocabulary.{AreEnabled, AreStocked, Cargo, Core, Custody, Event, Hall, IsFree, IsOpening, KeptHall, Knows, Lock, LockAt, LockView, Look, Lying, MayDo, Operation, Package, PackageAt, PackageView, Ready, STOP, Shows, ShowsLock, ShowsThread, Stopped, HallTerms, after_events, after_miss, after_operation, claim, commit, free, get_elem?, in_slot, join}
 use Rattle.tc_hall.proofs.Vocabulary.{last_end, lay, lies_at, lock_in_package, lock_in_slot, lock_of, lock_with_pass, locked_in, locks, look, machine_limits, miss, none, opening, outline, place_shown, put, reach, slot_word, some, some-injective, some-ne-none, split, starting, stop, stopped, take, threads, with_call, with_custody, with_pass}
 use Rattle.std.specs.Prelude.{nat_lt}
 use Rattle.std.proofs.lemmas.Bool.Decides.{nat_tests}
@@ -18,11 +18,11 @@ use Rattle.tc_hall.proofs.Tying.{Moment, Asking, Showing, claim_asking, claim_sh
 use Rattle.tc_hall.proofs.Committing.{commit_asking, commit_showing}
 use Rattle.tc_hall.specs.Ties.{AreAsked, Ties}
 
-after_more : (k : Terms) (c : Core) (xs ys : List Event) → after_events k c (xs ++ ys) ≡ after_events k (after_events k c xs) ys
+after_more : (k : HallTerms) (c : Core) (xs ys : List Event) → after_events k c (xs ++ ys) ≡ after_events k (after_events k c xs) ys
 after_more k c [] ys = refl
 after_more k c (x ∷ xs) ys = after_more k (effect k.image.value c x) xs ys
 
-enabled_more : (k : Terms) (c : Core) (xs ys : List Event) → AreEnabled k.image.value (machine_limits k) c xs → AreEnabled k.image.value (machine_limits k) (after_events k c xs) ys → AreEnabled k.image.value (machine_limits k) c (xs ++ ys)
+enabled_more : (k : HallTerms) (c : Core) (xs ys : List Event) → AreEnabled k.image.value (machine_limits k) c xs → AreEnabled k.image.value (machine_limits k) (after_events k c xs) ys → AreEnabled k.image.value (machine_limits k) c (xs ++ ys)
 enabled_more k c [] ys a b = b
 enabled_more k c (x ∷ xs) ys a b = (a.0, enabled_more k (effect k.image.value c x) xs ys a.1 b)
 
@@ -30,7 +30,7 @@ is_same : (a b : ℕ) → (a == b) ≡ true → a ≡ b
 is_same a b e = grind (arith, nat_tests)
 
 -- a lock's line changes, and neither where it is nor anything else
-line_shown : (k : Terms) (s : Hall) (c : Core) (lock : ℕ) (x : Custody) → x.place ≡ (c.custody lock).place → Shows k s c → Shows k s (with_custody c lock x)
+line_shown : (k : HallTerms) (s : Hall) (c : Core) (lock : ℕ) (x : Custody) → x.place ≡ (c.custody lock).place → Shows k s c → Shows k s (with_custody c lock x)
 line_shown k s c lock x same seen = record {
   between = seen.between;
   shown = record {
@@ -47,17 +47,17 @@ line_shown k s c lock x same seen = record {
         by true e = ap (λ (z : Custody). lies_at c.course z.place) (ap (λ (z : Bool). if z then x else c.custody i) e) ∙ (ap (lies_at c.course) same ∙ ap (λ (z : ℕ). lies_at c.course (c.custody z).place) (sym (is_same i lock e)))
         by false e = ap (λ (z : Custody). lies_at c.course z.place) (ap (λ (z : Bool). if z then x else c.custody i) e)
 
-entered_shown : (k : Terms) (s : Hall) (c : Core) (w t lock : ℕ) → Shows k s c → Shows k s (effect k.image.value c (Enter w t lock))
+entered_shown : (k : HallTerms) (s : Hall) (c : Core) (w t lock : ℕ) → Shows k s c → Shows k s (effect k.image.value c (Enter w t lock))
 unfolding effect
 entered_shown k s c w t lock seen = line_shown k s c lock (entered (c.custody lock) t) refl seen
 
-left_shown : (k : Terms) (s : Hall) (c : Core) (w lock : ℕ) → Shows k s c → Shows k s (effect k.image.value c (Leave w lock))
+left_shown : (k : HallTerms) (s : Hall) (c : Core) (w lock : ℕ) → Shows k s c → Shows k s (effect k.image.value c (Leave w lock))
 unfolding effect
 left_shown k s c w lock seen = line_shown k s c lock (left_by_all (c.custody lock)) refl seen
 
 -- ---- the tie of each operation
 
-module _ (k : Terms) (m : Moment k) where
+module _ (k : HallTerms) (m : Moment k) where
   asking : (o : Operation) → MayDo k m.state m.id m.view o → Asking k m o
   asking (claim t q) may c es seen is = claim_asking k m t q may c es seen is
   asking (take i l) may c es seen is = take_asking k m i l may c es seen is
@@ -99,7 +99,7 @@ ties k s m rule may =
 
 -- ---- the first state
 
-module _ (k : Terms) (slots : List (Option Cargo)) (ready : AreStocked k.image.value (threads k) (locks k) k.fuel k.limit slots) where
+module _ (k : HallTerms) (slots : List (Option Cargo)) (ready : AreStocked k.image.value (threads k) (locks k) k.fuel k.limit slots) where
   abbrev ws : List ℕ
   ws = replicate (slot_word (threads k + locks k)) 0
 
@@ -148,7 +148,7 @@ module _ (k : Terms) (slots : List (Option Cargo)) (ready : AreStocked k.image.v
 pub opening_shown : OpensShown
 opening_shown k s begins = subst (λ (z : Hall). Shows k z (start_of k)) (sym begins.is) (opens_shown k begins.slots begins.stocked)
 
-module _ (k : Terms) (s : Hall) (begins : IsOpening k s) where
+module _ (k : HallTerms) (s : Hall) (begins : IsOpening k s) where
   -- the rule holds of the hall after the beats
   kept_at : (beats : List Beat) → MayLift k s beats → KeptHall k (hall_of k s beats)
   kept_at [] may = kept_by k s begins [] tt

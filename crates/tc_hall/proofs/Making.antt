@@ -1,18 +1,18 @@
 -- How passes are made and joined.
 use Rattle.std.proofs.Common.{◌≡◌, ◌≢◌, ◌⊎◌, ℕ, zero, suc, ◌+◌, ◌<◌, ◌≤◌, Bool, true, false, List, [], ◌∷◌, ◌++◌, length, set, replicate, sym, refl, ap, ◌∙◌, subst, ⊎_elim, inl, inr, arith, Some, None}
-use Rattle.tc_hall.proofs.Vocabulary.{AreApart, AreLocksPlaced, ArePlaced, Block, Call, Free, HasStopped, Homes, IsFree, IsPass, Joins, KeptHall, Knows, Lies, LiesLock, LockView, Look, PackageView, Put, Shown, Splits, Spot, Stop, Stopped, Terms, clean, dealt, fresh, get_elem?, gone, home, inside, length-replicate, locks, merged, none, out, some, some-injective, some-ne-none}
+use Rattle.tc_hall.proofs.Vocabulary.{AreApart, AreLocksPlaced, ArePlaced, Block, PassCall, Free, HasStopped, Homes, IsFree, IsPass, Joins, KeptHall, Knows, Lies, LiesLock, LockView, Look, PackageView, Put, Shown, Splits, Spot, Stop, Stopped, HallTerms, clean, dealt, fresh, get_elem?, gone, home, inside, length-replicate, locks, merged, none, out, some, some-injective, some-ne-none}
 use Rattle.tc_hall.proofs.Vocabulary.{threads}
 use mathlib.Core.Logic.{dite}
 use mathlib.Core.Option as maybe
 use native.Mathlib.Decide.{ℕ_discrete}
 use Rattle.atomic_table.proofs.Lists.{at_set, set_here, set_else, at_longer, at_snoc}
 use Rattle.tc_mutex_spec.proofs.ListLaws.{there}
-use Rattle.tc_hall.proofs.Telling.{snoc_at}
 use Rattle.tc_hall.proofs.Placing.{stays}
 use Rattle.tc_hall.proofs.Packing.{locks_stay}
 use Rattle.tc_hall.proofs.Cases.{apart}
 use Rattle.tc_hall.proofs.Listing.{at_append, either_at, listed_deals, listed_joins}
 use Rattle.tc_hall.proofs.Ranks.{pass_kept, pass_same, passes_stay, stop_stays, IsTrueCall}
+use Rattle.tc_lemmas.proofs.Lists.{at_end}
 
 none_there : {A : Type 0} (n t : ℕ) (p : A) → ¬ (get_elem? (replicate n None) t ≡ some (Some p))
 none_there zero t p e = some-ne-none (Some p) (sym e)
@@ -134,7 +134,7 @@ module _ (vs : List Knows) (id : ℕ) (v : Knows) (n m : ℕ) (at : get_elem? vs
       (λ (z : (j ≢ id) × (get_elem? vs j ≡ some x)). record { old = x; there = z.1; worker = refl; maker = refl; made = omega arith; spent = refl; joined = refl; locks = refl })
       (at_set vs id j left x o)))
       (λ (o : (j ≡ length (set vs id left)) × (right ≡ x)). inr o)
-      (snoc_at (set vs id left) right x j e)
+      (at_end (set vs id left) right x j e)
 
   -- a live pass has another number than the new one
   other_number : (j : ℕ) (x : Knows) → Old j x → x.spent ≡ false → x.worker ≢ v.made
@@ -263,7 +263,7 @@ module _ (vs : List Knows) (id other : ℕ) (v w : Knows) (at : get_elem? vs id 
       here : get_elem? after id ≡ some both
       here = set_else (set vs id both) other id gone (λ z. ne (sym z)) ∙ set_here vs id both (there vs id v v at).0
 
-module _ (k : Terms) where
+module _ (k : HallTerms) where
   pub deals : (id : ℕ) (v : Knows) → v.spent ≡ false → v.maker ≡ true → v.made < v.worker → Splits (KeptHall k) id v (dealt v) (fresh v)
   deals id v live makes room s r at =
       let left : Knows = dealt v in
@@ -337,7 +337,7 @@ module _ (k : Terms) where
       joined_below zero u p e = subst (λ (z : ℕ). z < k.workers) (some-injective w.worker u e) p.worker
       joined_below (suc f) u p e = p.joined f u e
 
-      told_true : (f : ℕ) (c : Call) → IsPass k.image.value k.workers r.told.history s.words w → get_elem? w.calls f ≡ some c → IsTrueCall s.words c
+      told_true : (f : ℕ) (c : PassCall) → IsPass k.image.value k.workers r.told.history s.words w → get_elem? w.calls f ≡ some c → IsTrueCall s.words c
       told_true f (Put t place numbers given) p e = tt
       told_true f (Free i) p e = tt
       told_true f (Look t found) p e = λ is. p.done f t (e ∙ ap (λ (z : ℕ). some (Look t z)) is)

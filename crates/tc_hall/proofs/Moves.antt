@@ -1,13 +1,13 @@
 -- Each step on a package keeps the rule.
 use Rattle.std.proofs.Common.{◌≡◌, ◌≢◌, ◌⊎◌, ℕ, ◌+◌, ◌<◌, Bool, true, false, List, [], ◌∷◌, length, set, sym, refl, ap, ◌∙◌, subst, ⊎_elim, inl, inr, arith, Option, Some, None, slice_index, length-set, get_or-set_other, get_or-set_same}
-use Rattle.tc_hall.proofs.Vocabulary.{CLOCK, Cargo, Gets, Has, HasLock, Homes, IsHome, IsPackageAfter, KeptHall, Knows, Lies, LockView, Package, PackageView, Terms, after_claim, after_miss, bare, get_elem?, gives, is_pinned, keeps, kept, locked_in, locks, none, slot_word, some, some-injective, some-ne-none, stepped, takes, threads}
+use Rattle.tc_hall.proofs.Vocabulary.{CLOCK, Cargo, Gets, Has, HasLock, Homes, IsHome, IsPackageAfter, KeptHall, Knows, Lies, LockView, Package, PackageView, HallTerms, after_claim, after_miss, bare, get_elem?, gives, is_pinned, keeps, kept, locked_in, locks, none, slot_word, some, some-injective, some-ne-none, stepped, takes, threads}
 use mathlib.Core.Logic.{dite}
 use mathlib.Core.Option as maybe
 use native.Mathlib.Decide.{ℕ_discrete}
 use lib.Seq.{set-get_or}
 use Rattle.atomic_table.specs.Table.{State}
 use Rattle.atomic_table.proofs.Lists.{at_set, set_here, set_else}
-use Rattle.tc_mutex_spec.proofs.ListLaws.{there, at_place}
+use Rattle.tc_mutex_spec.proofs.ListLaws.{there}
 use Rattle.tc_hall.specs.Rule.{IsPackageOut}
 use Rattle.tc_hall.proofs.Placing.{moves, stays}
 use Rattle.tc_hall.proofs.Cases.{clash, same_some, clash_at, same_at, same_package, out_inside}
@@ -16,6 +16,7 @@ use Rattle.tc_hall.proofs.LockLists.{add_all-has}
 use Rattle.tc_hall.proofs.Outs.{package_came, no_call_claimed}
 use Rattle.tc_hall.proofs.Listing.{listed_stays}
 use Rattle.tc_hall.proofs.Ranks.{apart_stays, stop_stays, pass_kept, pass_same, passes_stay, done_still, stops_still, stops_back}
+use Rattle.tc_lemmas.proofs.Lists.{something_at}
 
 pub some_same : (u t : ℕ) → Some t ≡ Some u → u ≡ t
 some_same u t e = cc e
@@ -28,7 +29,7 @@ pub out_of : (ws : List ℕ) (hs : Homes) (vs : List Knows) (t id : ℕ) (p : Pa
 out_of ws hs vs t id p none l e = absurd (some-ne-none id (sym e))
 out_of ws hs vs t id p (some j) l e = subst (IsPackageOut ws hs vs t p) (some-injective j id e) l
 
-module _ (k : Terms) where
+module _ (k : HallTerms) where
   abbrev pub St : Type 0
   St = State (Option Cargo) Knows
 
@@ -141,7 +142,7 @@ module _ (k : Terms) where
 
   pub at_home_of : (s : St) (r : KeptHall k s) (t : ℕ) (q : PackageView) → t < threads k → slice_index s.words (slot_word t) < 512 → get_elem? s.homes t ≡ some (some (Some (Package q))) → AtHome s r t q
   at_home_of s r t q below low slot =
-      let place = at_place r.told.places t (omega (arith, r.told.law.all_packages, below)) in
+      let place = something_at r.told.places t (omega (arith, r.told.law.all_packages, below)) in
       let lies = home_of s.words s.homes s.views t place.0 (r.placed.holder t) (r.placed.each t place.0 place.1) low in
       let law : IsPackageAfter k.image.value k.fuel r.told.history t place.0 = r.told.law.packages_after t place.0 place.1 in
       record {

@@ -1,6 +1,6 @@
 -- How a hall opens, and how its passes are dealt.
 use Rattle.std.proofs.Common.{◌≡◌, ◌≢◌, ℕ, zero, suc, ◌+◌, ◌-◌, ◌*◌, ◌<◌, ◌≤◌, ◌||◌, true, false, List, [], ◌∷◌, ◌++◌, length, map, replicate, sym, refl, ap, ◌∙◌, subst, ⊎_elim, arith, Option, Some, None, slice_index, length-append}
-use Rattle.tc_hall.proofs.Vocabulary.{AreDealt, AreStocked, Block, Cargo, IsInLimits, IsMaker, IsPackageAfter, IsPass, KeptHall, Knows, Lawful, Lock, LockView, Package, PackageView, PassView, STOP, Shown, Terms, Thread, bare, clean, dealt, fits_granted, fresh, get_elem?, grants_adopted, home, is_pinned, is_running, kept, last_by, last_of, length-map, length-replicate}
+use Rattle.tc_hall.proofs.Vocabulary.{AreDealt, AreStocked, Block, Cargo, IsInLimits, IsMaker, IsPackageAfter, IsPass, KeptHall, Knows, Lawful, Lock, LockView, Package, PackageView, PassView, STOP, Shown, HallTerms, Thread, bare, clean, dealt, fits_granted, fresh, get_elem?, grants_adopted, home, is_pinned, is_running, kept, last_by, last_of, length-map, length-replicate}
 use Rattle.tc_hall.proofs.Vocabulary.{locked_in, locks, none, opening, slot_word, some, some-injective, some-ne-none, thread_in, threads, was_cut}
 use Rattle.std.specs.List.{fold}
 use Rattle.std.proofs.lemmas.List.{get_or-replicate, map-append}
@@ -9,15 +9,15 @@ use native.Mathlib.Decide.{ℕ_discrete}
 use Rattle.atomic_table.specs.Seated.{TableId}
 use Rattle.atomic_table.specs.declared.shared.Seat.{Seat}
 use Rattle.atomic_table.proofs.Lists.{at_longer, at_last, at_map}
-use Rattle.tc_segment.specs.View.{IsStrict, fresh_state}
-use Rattle.tc_context.specs.View.{IsFresh, Rests}
+use Rattle.tc_segment.specs.View.{IsStrict, fresh_state, EndsSection}
+use Rattle.tc_context.specs.View.{IsFresh}
 use Rattle.tc_law.specs.Lawful.{blocks_left}
 use Rattle.tc_law.proofs.Lawful.{fresh_lawful}
 use Rattle.tc_hall.specs.Rule.{starting as first_view}
 use Rattle.tc_hall.specs.Steps.{IsNew}
-use Rattle.tc_hall.proofs.Telling.{snoc_at}
 use Rattle.tc_hall.proofs.Making.{clean_free, clean_pass}
 use Rattle.tc_hall.proofs.Cases.{apart, clash, same_package}
+use Rattle.tc_lemmas.proofs.Lists.{at_end, from_map}
 
 module _ {A : Type 0} where
   -- the list of a function's values below n
@@ -32,7 +32,7 @@ module _ {A : Type 0} where
   pub tabled-at : (f : ℕ → A) (n i : ℕ) (a : A) → get_elem? (tabled f n) i ≡ some a → (i < n) × (f i ≡ a)
   tabled-at f zero i a e = absurd (some-ne-none a (sym e))
   tabled-at f (suc n) i a e = ⊎_elim (λ (o : get_elem? (tabled f n) i ≡ some a). let r = tabled-at f n i a o in ((let b = r.0 in omega arith), r.1))
-      (λ (o : (i ≡ length (tabled f n)) × (f n ≡ a)). let is : i ≡ n = o.0 ∙ tabled-length f n in ((omega arith), ap f is ∙ o.1)) (snoc_at (tabled f n) (f n) a i e)
+      (λ (o : (i ≡ length (tabled f n)) × (f n ≡ a)). let is : i ≡ n = o.0 ∙ tabled-length f n in ((omega arith), ap f is ∙ o.1)) (at_end (tabled f n) (f n) a i e)
 
 pub below_more : (t n : ℕ) → t < n → t < suc n
 below_more t n h = omega (arith, h)
@@ -56,17 +56,12 @@ module _ {A : Type 0} where
       let less : (t : ℕ) → t < n → A = λ t h. f t (below_more t n h) in
       ⊎_elim (λ (o : get_elem? (gathered n less) i ≡ some a). let r = gathered-at n less i a o in (below_more i n r.0, r.1))
       (λ (o : (i ≡ length (gathered n less)) × (f n (top n) ≡ a)). let is : n ≡ i = sym (o.0 ∙ gathered-length n less) in subst (λ j. (h : j < suc n) × (f j h ≡ a)) is (top n, o.1))
-      (snoc_at (gathered n less) (f n (top n)) a i e)
+      (at_end (gathered n less) (f n (top n)) a i e)
 
 gathered-map : {A B : Type 0} (g : A → B) (n : ℕ) (f : (t : ℕ) → t < n → A) → map g (gathered n f) ≡ gathered n (λ t h. g (f t h))
 gathered-map g zero f = refl
 gathered-map g (suc n) f =
     map-append g (gathered n (λ t h. f t (below_more t n h))) (f n (top n) ∷ []) ∙ ap (λ l. l ++ g (f n (top n)) ∷ []) (gathered-map g n (λ t h. f t (below_more t n h)))
-
-from_map : {A B : Type 0} (f : A → B) (l : List A) (i : ℕ) (b : B) → get_elem? (map f l) i ≡ some b → (a : A) × (get_elem? l i ≡ some a) × (f a ≡ b)
-from_map f [] i b e = absurd (some-ne-none b (sym e))
-from_map f (x ∷ xs) zero b e = (x, refl, some-injective (f x) b e)
-from_map f (x ∷ xs) (suc i) b e = from_map f xs i b e
 
 bare_left : (ps : List PackageView) (n : ℕ) → fold (λ a p. a + blocks_left (thread_in p.context)) n (map bare ps) ≡ fold (λ a p. a + blocks_left (thread_in p.context)) n ps
 bare_left [] n = refl
@@ -88,7 +83,7 @@ bare_lawful image fuel limit h ps ls law = record {
   bound = subst (λ n. length h + n ≤ length image.entries * (fuel + 1)) (sym (bare_left ps 0)) law.bound;
 }
 
-module _ (k : Terms) where
+module _ (k : HallTerms) where
   first_is : (id : ℕ) (v : Knows) → get_elem? (first_view k ∷ []) id ≡ some v → (id ≡ 0) × (first_view k ≡ v)
   first_is zero v e = (refl, some-injective (first_view k) v e)
   first_is (suc id) v e = absurd (some-ne-none v (sym e))
@@ -153,7 +148,7 @@ module _ (k : Terms) where
                 slot = at_map some slots (n + i) (Some (Lock q.0)) q.1;
                 same = ap kept q.2 ∙ r.1;
                 word = zero_at (slot_word (n + i)) (let b = r.0 in omega arith);
-                rests = subst (Rests i) (sym q.2) tt;
+                rests = subst (EndsSection i) (sym q.2) tt;
               };
           sized = λ id v e live. ap (λ (z : Knows). length z.locks) (sym (first_is id v e).1) ∙ length-replicate m None;
           owned = λ id v i l e has. absurd ((clean_free k.image.value n m (k.workers - 1) true).locks i l (ap (λ (z : Knows). get_elem? z.locks i) (first_is id v e).1 ∙ has));
@@ -203,13 +198,13 @@ one_made : (image : Shown) (n m made : ℕ) (z : TableId) (ps qs : List PassView
 one_made image n m made z ps qs p all is table new = subst (AreDealt image n m (made + 1) z) (sym is) record {
   count = let l = length-append ps (p ∷ []) in let c = all.count in omega arith;
   each = λ i q e. ⊎_elim (λ (o : get_elem? ps i ≡ some q). all.each i q o)
-      (λ (o : (i ≡ length ps) × (p ≡ q)). subst (λ (x : ℕ × PassView). (x.1.table ≡ z) × IsNew image n m x.0 x.1.knows) (λ j. (sym (o.0 ∙ all.count) j, o.1 j)) (table, new)) (snoc_at ps p q i e);
+      (λ (o : (i ≡ length ps) × (p ≡ q)). subst (λ (x : ℕ × PassView). (x.1.table ≡ z) × IsNew image n m x.0 x.1.knows) (λ j. (sym (o.0 ∙ all.count) j, o.1 j)) (table, new)) (at_end ps p q i e);
 }
 
 abbrev Place : Type 0
 Place = Seat (Option Cargo) Knows
 
-pub maker_first : (k : Terms) (x : Shown) (z : TableId) (seat : Place) → k.image.value ≡ x → seat.table_id ≡ z → seat.me ≡ (first_view k, []) → IsMaker x (length x.entries) (length x.guards) k.workers 0 z seat
+pub maker_first : (k : HallTerms) (x : Shown) (z : TableId) (seat : Place) → k.image.value ≡ x → seat.table_id ≡ z → seat.me ≡ (first_view k, []) → IsMaker x (length x.entries) (length x.guards) k.workers 0 z seat
 maker_first k x z seat image table me = record {
   table = table;
   free = ap (λ (m : Knows × List (ℕ × Option Cargo)). m.1) me;

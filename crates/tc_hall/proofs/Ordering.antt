@@ -1,6 +1,6 @@
 -- Each operation keeps what holds between any two steps, so it holds after every order of them.
 use Rattle.std.proofs.Common.{◌≡◌, ◌≢◌, ℕ, ◌+◌, ◌<◌, ◌≤◌, false, List, [], ◌∷◌, sym, refl, ap, ◌∙◌, subst, ⊎_elim, arith, Option, Some, None, slice_index}
-use Rattle.tc_hall.proofs.Vocabulary.{AreStocked, Block, CLOCK, Cargo, Hall, IsClaimable, IsInLimits, IsLegal, IsOpening, IsOrdered, IsSlotOut, KeptHall, Knows, LockView, MAX_GUARDS, Made, MayClaim, MayDo, MayFill, Operation, Package, PackageView, Place, Seals, Terms, after, after_operation, after_put, claim, claim_effect, code_of, commit, commit_effect, free, get_elem?, gives}
+use Rattle.tc_hall.proofs.Vocabulary.{AreStocked, Block, CLOCK, Cargo, Hall, IsClaimable, IsInLimits, IsLegal, IsOpening, IsOrdered, IsSlotOut, KeptHall, Knows, LockView, MAX_GUARDS, Made, MayClaim, MayDo, MayFill, Operation, Package, PackageView, Place, Seals, HallTerms, after, after_operation, after_put, claim, claim_effect, code_of, commit, commit_effect, free, get_elem?, gives}
 use Rattle.tc_hall.proofs.Vocabulary.{hall_after, join, lay, locks, look, look_effect, miss, miss_effect, of_lock, of_package, opening, put, put_effect, reach, slot_word, some, split, starting, stepped, stop, stopped, stopped_effect, take, take_effect, threads}
 use Rattle.std.specs.Prelude.{replicate}
 use Rattle.atomic_table.proofs.Lists.{set_else}
@@ -14,14 +14,14 @@ use Rattle.tc_hall.proofs.Making.{deals, joins}
 use Rattle.tc_hall.proofs.Opening.{opens}
 
 -- a thread that may be claimed is not done, and with no pass
-pub claimable_low : (k : Terms) (word : ℕ) → locks k ≤ MAX_GUARDS → IsClaimable k word → (word < 512) × (word ≢ 2)
+pub claimable_low : (k : HallTerms) (word : ℕ) → locks k ≤ MAX_GUARDS → IsClaimable k word → (word < 512) × (word ≢ 2)
 claimable_low k word few can = ⊎_elim (λ (z : word ≡ 0). (omega arith, (λ e. omega arith)))
     (λ o. ⊎_elim (λ (z : word ≡ 1). (omega arith, (λ e. omega arith))) (λ (z : (i : ℕ) × (i < locks k) × (word ≡ 256 + i)). waits z.0 z.1 z.2) o) can
   where
     waits : (i : ℕ) → i < locks k → word ≡ 256 + i → (word < 512) × (word ≢ 2)
     waits i below is = (omega arith, (λ e. omega arith))
 
-module _ (k : Terms) (s : Hall) (r : KeptHall k s) (id : ℕ) (v : Knows) (at : get_elem? s.views id ≡ some v) (live : v.spent ≡ false) where
+module _ (k : HallTerms) (s : Hall) (r : KeptHall k s) (id : ℕ) (v : Knows) (at : get_elem? s.views id ≡ some v) (live : v.spent ≡ false) where
   pub claim_after : (t : ℕ) (q : PackageView) → MayClaim k s v t q → KeptHall k (after s id (claim_effect v t q))
   claim_after t q a =
       let can = claimable_low k (slice_index s.words (slot_word t)) r.told.limits.locks a.word in
@@ -66,7 +66,7 @@ module _ (k : Terms) (s : Hall) (r : KeptHall k s) (id : ℕ) (v : Knows) (at : 
   kept_after split may = deals k id v live may.0 may.1 s r at
   kept_after (join other w) may = joins k id v other w live may.1 may.3 s r at may.2 (set_else s.views id other _ may.2 ∙ may.0)
 
-module _ (k : Terms) where
+module _ (k : HallTerms) where
   -- what holds at the opening holds after each legal order
   pub kept_by : (first : Hall) → IsOpening k first → (order : List Made) → IsLegal k first order → KeptHall k (hall_after k first order)
   kept_by first begins [] legal = subst (KeptHall k) (sym begins.is) (opens k _ begins.slots begins.limits begins.stocked refl)

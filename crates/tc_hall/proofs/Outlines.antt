@@ -5,12 +5,12 @@ use Rattle.std.specs.Prelude.{if◌then◌else◌}
 use Rattle.std.proofs.lemmas.Bool.Decides.{eqb_tells}
 use mathlib.Core.Logic.{dite}
 use native.Mathlib.Decide.{ℕ_discrete}
-use Rattle.tc_mutex_spec.proofs.BlocksAlike.{eq_self}
 use Rattle.tc_core.specs.Core.{is_at}
 use Rattle.tc_core.specs.declared.place.ThreadPlace.TheVariants.{Ready, Waiting, Parked, Done}
 use Rattle.tc_core.specs.declared.place.LockPlace.TheVariants as place
 use Rattle.tc_hall.specs.Ties.{is_with}
 use Rattle.tc_hall.proofs.Shows.{IsMoved, home_packed, home_hand, hand_packed, same_packed}
+use Rattle.tc_lemmas.proofs.Tests.{true_or_false, eq_self}
 
 pub both : (a b : Bool) → a ≡ true → b ≡ true → (a && b) ≡ true
 both a b e f = ap (λ (x : Bool). x && b) e ∙ f
@@ -69,10 +69,6 @@ else_lies f g place.Free t same e = refl
 else_lies f g (Loose w) t same e = refl
 else_lies f g (With u) t same e = ap (λ (z : ThreadPlace). lies_with z u) (same u (λ is. not_with u t is e))
 else_lies f g (Granted u) t same e = ap (λ (z : ThreadPlace). lies_with z u) (same u (λ is. not_with u t is e))
-
-pub true_or_false : (b : Bool) → (b ≡ true) ⊎ (b ≡ false)
-true_or_false true = inl refl
-true_or_false false = inr refl
 
 not_home : (p : ThreadPlace) (t : ℕ) → lies_with p t ≡ at_home → ⊥
 not_home (At w) t e = home_hand (in_hand w) w e refl

@@ -4,9 +4,9 @@ use Rattle.tc_hall.proofs.Vocabulary.{Block, Called, Has, HasLock, Knows, LockVi
 use Rattle.std.proofs.lemmas.List.{append-nil}
 use Rattle.std.proofs.lemmas.Bool.Decides.{eqb_tells}
 use Rattle.tc_context.proofs.Running.{sealed_at}
-use Rattle.tc_mutex_spec.proofs.BlocksAlike.{eq_self}
 use Rattle.tc_hall.specs.Outs.{Outs, erase, keep, unless, Pack, Loose, IsOut, CameOut}
 use Rattle.tc_hall.proofs.Cases.{clash, none_of}
+use Rattle.tc_lemmas.proofs.Tests.{eq_self}
 
 -- two functions that agree everywhere are the same outs
 pub same_outs : (o p : Outs) → ((u : ℕ) → o.context u ≡ p.context u) → ((i : ℕ) → o.lock i ≡ p.lock i) → o ≡ p

@@ -1,12 +1,12 @@
 -- The lists of each live pass are its part of the order.
 use Rattle.std.proofs.Common.{◌≡◌, ◌≢◌, ℕ, zero, suc, ◌≤◌, ◌==◌, Bool, true, false, List, [], ◌∷◌, ◌++◌, length, set, sym, refl, ap, ◌∙◌, subst, ⊎_elim, arith, length-set, length-append, if◌then◌else◌}
-use Rattle.tc_hall.proofs.Vocabulary.{Free, Hall, IsLegal, IsOpening, Knows, Look, Made, MayDo, Operation, Stop, Stopped, Terms, after_operation, claim, commit, dealt, free, fresh, get_elem?, gone, hall_after, join, lay, look, merged, miss, put, put_call, reach, sealed_block, some, some-injective, some-ne-none, split, starting, stop, stopped, take}
+use Rattle.tc_hall.proofs.Vocabulary.{Free, Hall, IsLegal, IsOpening, Knows, Look, Made, MayDo, Operation, Stop, Stopped, HallTerms, after_operation, claim, commit, dealt, free, fresh, get_elem?, gone, hall_after, join, lay, look, merged, miss, put, put_call, reach, sealed_block, some, some-injective, some-ne-none, split, starting, stop, stopped, take}
 use Rattle.std.proofs.lemmas.Bool.Decides.{nat_tests}
 use Rattle.atomic_table.proofs.Lists.{at_set}
 use Rattle.tc_mutex_spec.proofs.ListLaws.{there}
 use Rattle.tc_hall.specs.Order.{Notes, no_notes, noted, notes_of, HasNoted, HasOwnNotes}
-use Rattle.tc_hall.proofs.Telling.{snoc_at}
 use Rattle.tc_hall.proofs.Cases.{apart}
+use Rattle.tc_lemmas.proofs.Lists.{at_end}
 
 same_by : (a b : ℕ) → a ≡ b → (a == b) ≡ true
 same_by a b e = grind (arith, nat_tests)
@@ -29,7 +29,7 @@ as_many : (vs : List Knows) (id : ℕ) (w : Knows) → length vs ≤ length (set
 as_many vs id w = let l = length-set vs id w in omega arith
 
 -- no operation takes a view away
-views_grow : (k : Terms) (s : Hall) (id : ℕ) (v : Knows) (o : Operation) → length s.views ≤ length (after_operation k s id v o).views
+views_grow : (k : HallTerms) (s : Hall) (id : ℕ) (v : Knows) (o : Operation) → length s.views ≤ length (after_operation k s id v o).views
 views_grow k s id v split = more s.views id (dealt v) (fresh v)
   where
     more : (vs : List Knows) (id : ℕ) (w x : Knows) → length vs ≤ length (set vs id w ++ x ∷ [])
@@ -51,7 +51,7 @@ views_grow k s id v (reach slot) = as_many s.views id _
 views_grow k s id v (lay slot) = as_many s.views id _
 
 -- a pass that is not made yet has no notes
-none_yet : (k : Terms) (first : Hall) (order : List Made) → IsLegal k first order → (id : ℕ) → length (hall_after k first order).views ≤ id → notes_of order id ≡ no_notes
+none_yet : (k : HallTerms) (first : Hall) (order : List Made) → IsLegal k first order → (id : ℕ) → length (hall_after k first order).views ≤ id → notes_of order id ≡ no_notes
 none_yet k first [] legal id far = refl
 none_yet k first (m ∷ before) legal id far =
     let h : Hall = hall_after k first before in
@@ -59,7 +59,7 @@ none_yet k first (m ∷ before) legal id far =
     let below = (there h.views m.pass m.knew m.knew legal.0.pass).0 in
     other_notes m before id (λ e. absurd (omega arith)) ∙ none_yet k first before legal.1 id (omega arith)
 
-module _ (k : Terms) (s : Hall) (before : List Made) (id : ℕ) (v : Knows) (at : get_elem? s.views id ≡ some v) (live : v.spent ≡ false)
+module _ (k : HallTerms) (s : Hall) (before : List Made) (id : ℕ) (v : Knows) (at : get_elem? s.views id ≡ some v) (live : v.spent ≡ false)
     (all : (j : ℕ) (x : Knows) → get_elem? s.views j ≡ some x → x.spent ≡ false → HasNoted x (notes_of before j)) (none_more : notes_of before (length s.views) ≡ no_notes) where
   abbrev made : Operation → Made
   made o = record { pass = id; knew = v; operation = o }
@@ -82,7 +82,7 @@ module _ (k : Terms) (s : Hall) (before : List Made) (id : ℕ) (v : Knows) (at 
   made_another j x e l = ⊎_elim
       (λ (z : get_elem? (set s.views id (dealt v)) j ≡ some x). replaced split (dealt v) record { calls = mine.calls; sealed = mine.sealed; missed = mine.missed; claimed = mine.claimed; taken = mine.taken } j x z l)
       (λ (z : (j ≡ length (set s.views id (dealt v))) × (fresh v ≡ x)). new_has j x (z.0 ∙ length-set s.views id (dealt v)) z.1)
-      (snoc_at (set s.views id (dealt v)) (fresh v) x j e)
+      (at_end (set s.views id (dealt v)) (fresh v) x j e)
     where
       new_has : (j : ℕ) (x : Knows) → j ≡ length s.views → fresh v ≡ x → HasNoted x (notes_of (made split ∷ before) j)
       new_has j x here is =
@@ -118,7 +118,7 @@ module _ (k : Terms) (s : Hall) (before : List Made) (id : ℕ) (v : Knows) (at 
   part_after split may = made_another
   part_after (join other w) may = joined_in other w may.0 may.1
 
-module _ (k : Terms) where
+module _ (k : HallTerms) where
   parts_by : (first : Hall) → IsOpening k first → (order : List Made) → IsLegal k first order → (id : ℕ) (v : Knows) → get_elem? (hall_after k first order).views id ≡ some v → v.spent ≡ false → HasNoted v (notes_of order id)
   parts_by first begins [] legal id v at live = first_has id v (subst (λ (z : Hall). get_elem? z.views id ≡ some v) begins.is at)
     where

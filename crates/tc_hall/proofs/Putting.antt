@@ -1,6 +1,6 @@
 -- What `put` and `free` ask and say, seen past the slot that the pass holds in between.
 use Rattle.std.proofs.Common.{◌≡◌, ℕ, [], ◌∷◌, Option, Some, None, refl, sym, ap, ◌∙◌, subst}
-use Rattle.tc_hall.proofs.Vocabulary.{Called, Free, Freed, Gave, HasStop, IsAsLeft, Knows, LockView, MayPut, PackageView, Place, Terms, after_free, after_put, code_of, get_elem?, made, outs, place_of, put_call, seen}
+use Rattle.tc_hall.proofs.Vocabulary.{Called, Free, Freed, Gave, HasStop, IsAsLeft, Knows, LockView, MayPut, PackageView, Place, HallTerms, after_free, after_put, code_of, get_elem?, made, outs, place_of, put_call, seen}
 use Rattle.tc_hall.proofs.Outs.{put_outs, free_outs}
 use Rattle.tc_hall.proofs.Telling.{place_codes}
 
@@ -11,7 +11,7 @@ with_hand v o (seen i e) = seen i e
 pub may_put_as : (place : Place) (v w : Knows) (q : PackageView) (o : Option ℕ) → w ≡ record v { hand = o } → MayPut place v q → MayPut place w q
 may_put_as place v w q o is may = subst (λ (z : Knows). MayPut place z q) (sym is) record { has = may.has; locks = may.locks; order = may.order; stop = λ a. with_hand v o (may.stop a); fits = may.fits }
 
-pub left_as : (k : Terms) (v w : Knows) (q : PackageView) (o : Option ℕ) → w ≡ record v { hand = o } → IsAsLeft k w q → IsAsLeft k v q
+pub left_as : (k : HallTerms) (v w : Knows) (q : PackageView) (o : Option ℕ) → w ≡ record v { hand = o } → IsAsLeft k w q → IsAsLeft k v q
 left_as k v w q o is left = record { history = left.history; tells = left.tells; obeys = left.obeys; follows = left.follows; sealed = λ i b e. left.sealed i b (ap (λ (z : Knows). get_elem? z.sealed i) is ∙ e) }
 
 pub gave : (place : Place) (code : ℕ) (q : PackageView) (v v2 w : Knows) (t : ℕ) → v2 ≡ record v { hand = Some t } → v.hand ≡ None → code ≡ code_of place → w ≡ record (after_put v2 q (place_of code)) { hand = None } → Gave place q v w

@@ -1,6 +1,6 @@
 -- What stays true of the passes when one of them has a new view.
 use Rattle.std.proofs.Common.{◌≡◌, ◌≢◌, ◌⊎◌, ℕ, ◌<◌, Bool, true, false, List, length, set, sym, refl, ap, ◌∙◌, subst, ⊎_elim, inl, slice_index, get_or-set_other}
-use Rattle.tc_hall.proofs.Vocabulary.{AreApart, Block, Call, Free, HasStopped, IsPass, Knows, Look, Put, STOP, Shown, Stop, Stopped, get_elem?, slot_word, some, some-injective}
+use Rattle.tc_hall.proofs.Vocabulary.{AreApart, Block, PassCall, Free, HasStopped, IsPass, Knows, Look, Put, STOP, Shown, Stop, Stopped, get_elem?, slot_word, some, some-injective}
 use mathlib.Core.Logic.{dite}
 use native.Mathlib.Decide.{ℕ_discrete}
 use Rattle.atomic_table.proofs.Lists.{at_set, set_here, set_else}
@@ -43,7 +43,7 @@ module _ (vs : List Knows) (id : ℕ) (v w : Knows) (at : get_elem? vs id ≡ so
       (λ (ne : h.id ≢ id). record { id = h.id; view = h.view; pass = set_else vs id h.id w ne ∙ h.pass; place = h.place; call = h.call })
 
 -- what a call says of the words holds
-abbrev pub IsTrueCall : List ℕ → Call → Type 0
+abbrev pub IsTrueCall : List ℕ → PassCall → Type 0
 IsTrueCall ws (Put t place numbers given) = Unit {0}
 IsTrueCall ws (Free i) = Unit {0}
 IsTrueCall ws (Look t found) = found ≡ 2 → slice_index ws (slot_word t) ≡ 2
@@ -59,7 +59,7 @@ module _ (image : Shown) (workers : ℕ) (h h' : List Block) (ws ws' : List ℕ)
   pub pass_kept : (v w : Knows) → IsPass image workers h ws v → IsSameSeat v w
       → ((i u : ℕ) → get_elem? w.joined i ≡ some u → (get_elem? v.joined i ≡ some u) ⊎ (u < workers))
       → ((i : ℕ) (b : Block) → get_elem? w.sealed i ≡ some b → (get_elem? v.sealed i ≡ some b) ⊎ (get_elem? h' b.stamp ≡ some b))
-      → ((i : ℕ) (c : Call) → get_elem? w.calls i ≡ some c → (get_elem? v.calls i ≡ some c) ⊎ IsTrueCall ws' c)
+      → ((i : ℕ) (c : PassCall) → get_elem? w.calls i ≡ some c → (get_elem? v.calls i ≡ some c) ⊎ IsTrueCall ws' c)
       → ((t : ℕ) → get_elem? w.pinned t ≡ some true → (get_elem? v.pinned t ≡ some true) ⊎ (slice_index ws' STOP ≡ 1))
       → IsPass image workers h' ws' w
   pass_kept v w old worker joined sealed calls pinned = record {
@@ -78,7 +78,7 @@ module _ (image : Shown) (workers : ℕ) (h h' : List Block) (ws ws' : List ℕ)
   pub pass_same : (v w : Knows) → IsPass image workers h ws v → IsSameSeat v w → w.joined ≡ v.joined → w.sealed ≡ v.sealed → w.calls ≡ v.calls → w.pinned ≡ v.pinned → IsPass image workers h' ws' w
   pass_same v w old worker joined sealed calls pinned = pass_kept v w old worker
       (λ i u e. inl (ap (λ (l : List ℕ). get_elem? l i) (sym joined) ∙ e)) (λ i b e. inl (ap (λ (l : List Block). get_elem? l i) (sym sealed) ∙ e))
-      (λ i c e. inl (ap (λ (l : List Call). get_elem? l i) (sym calls) ∙ e)) (λ t e. inl (ap (λ (l : List Bool). get_elem? l t) (sym pinned) ∙ e))
+      (λ i c e. inl (ap (λ (l : List PassCall). get_elem? l i) (sym calls) ∙ e)) (λ t e. inl (ap (λ (l : List Bool). get_elem? l t) (sym pinned) ∙ e))
 
   pub passes_stay : (vs : List Knows) (id : ℕ) (w : Knows)
       → ((j : ℕ) (x : Knows) → get_elem? vs j ≡ some x → IsPass image workers h ws x) → IsPass image workers h' ws' w

@@ -1,6 +1,6 @@
 -- `commit` keeps the rule.
 use Rattle.std.proofs.Common.{◌≡◌, ◌≢◌, ◌⊎◌, ℕ, zero, suc, ◌+◌, ◌*◌, ◌%◌, ◌^◌, ◌<◌, ◌≤◌, ◌==◌, Bool, true, false, List, [], ◌∷◌, ◌++◌, length, set, sym, refl, ap, ◌∙◌, subst, ⊎_elim, inl, inr, arith, Some, None, is_some, slice_index, length-set, length-append, get_or-set_other, get_or-set_same, if◌then◌else◌}
-use Rattle.tc_hall.proofs.Vocabulary.{AreTogether, Block, CLOCK, DidRun, DidSeal, IsHandedOver, IsPass, KeptHall, Knows, Lawful, LockView, MAX_THREADS, PackageView, Seals, Shown, Terms, after_seal, bare, end_after, get_elem?, has, keeps, kept, last_of, lock_in, locked_in, locks, none, of_thread, of_worker, sealed_as, sealed_block, slot_word, some, some-injective, some-ne-none}
+use Rattle.tc_hall.proofs.Vocabulary.{AreTogether, Block, CLOCK, DidRun, DidSeal, IsHandedOver, IsPass, KeptHall, Knows, Lawful, LockView, MAX_THREADS, PackageView, Seals, Shown, HallTerms, after_seal, bare, end_after, get_elem?, has, keeps, kept, last_of, lock_in, locked_in, locks, none, of_thread, of_worker, sealed_as, sealed_block, slot_word, some, some-injective, some-ne-none}
 use Rattle.tc_hall.proofs.Vocabulary.{stepped, threads, with_journal, with_seal, with_states}
 use Rattle.std.specs.Prelude.{filter, Option}
 use Rattle.std.proofs.lemmas.Nat.{mul-le}
@@ -22,9 +22,9 @@ use Rattle.tc_hall.proofs.Packing.{seals_locks}
 use Rattle.tc_hall.proofs.LockLists.{add_all-has, with_states-has}
 use Rattle.tc_hall.proofs.Listing.{listed_seals}
 use Rattle.tc_hall.proofs.Ranks.{apart_stays, stop_stays, pass_kept, passes_stay, stops_still, stops_back}
-use Rattle.tc_hall.proofs.Telling.{snoc_at}
 use Rattle.tc_hall.proofs.Moves.{St, is_out}
 use Rattle.tc_hall.proofs.Cases.{same_at}
+use Rattle.tc_lemmas.proofs.Lists.{at_end}
 
 -- a lock of the sealed package was in the package before its block
 came : (image : Shown) (p q : PackageView) (n w : ℕ) → DidRun image p q → (i : ℕ) (l : LockView) → locked_in (with_seal n w q) i ≡ Some l → (o : LockView) × (locked_in p i ≡ Some o)
@@ -50,7 +50,7 @@ filter_has {A} f (c ∷ cs) i b e = by (f c) (λ j h. filter_has f cs j b h) i e
     by true more (suc i) e = (let r = more i e in (suc r.0, r.1))
     by false more i e = (let r = more i e in (suc r.0, r.1))
 
-module _ (k : Terms) (s : St k) (r : KeptHall k s) (id : ℕ) (v : Knows) (q : PackageView) (a : Seals v q) (live : v.spent ≡ false) (at : get_elem? s.views id ≡ some v) where
+module _ (k : HallTerms) (s : St k) (r : KeptHall k s) (id : ℕ) (v : Knows) (q : PackageView) (a : Seals v q) (live : v.spent ≡ false) (at : get_elem? s.views id ≡ some v) where
   abbrev stamp : ℕ
   stamp = slice_index s.words CLOCK
 
@@ -125,7 +125,7 @@ module _ (k : Terms) (s : St k) (r : KeptHall k s) (id : ℕ) (v : Knows) (q : P
             runs_on = each_still IsRunOn worker_of h b r.told.delegates.runs_on (runs_on_from h b together);
             stays = each_still IsStillAt thread_of h b r.told.delegates.stays (stays_from h b together);
           };
-          workers = λ i c e. ⊎_elim (λ (z : get_elem? h i ≡ some c). r.told.workers i c z) (λ (z : (i ≡ length h) × (b ≡ c)). subst (λ (x : Block). x.worker < k.workers) z.1 old.worker) (snoc_at h b c i e);
+          workers = λ i c e. ⊎_elim (λ (z : get_elem? h i ≡ some c). r.told.workers i c z) (λ (z : (i ≡ length h) × (b ≡ c)). subst (λ (x : Block). x.worker < k.workers) z.1 old.worker) (at_end h b c i e);
         };
         words = length-set s.words CLOCK new ∙ r.words;
         slots = r.slots;
@@ -146,7 +146,7 @@ module _ (k : Terms) (s : St k) (r : KeptHall k s) (id : ℕ) (v : Knows) (q : P
             (λ i. get_or-set_other s.words CLOCK (slot_word (threads k + i)) new 0 (λ e. omega arith)) a.before came_here a.locks refl;
         passes = passes_stay k.image.value k.workers h (h ++ b ∷ []) s.words (set s.words CLOCK new) grows done stops s.views id w r.passes
             (pass_kept k.image.value k.workers h (h ++ b ∷ []) s.words (set s.words CLOCK new) grows done stops v w old (refl, refl, refl, refl) (λ i u e. inl e)
-            (λ i c e. ⊎_elim (λ z. inl z) (λ (z : (i ≡ length v.sealed) × (b ≡ c)). inr (subst (λ (x : Block). get_elem? (h ++ b ∷ []) x.stamp ≡ some x) z.1 (at_last h b b.stamp (sym r.clock)))) (snoc_at v.sealed b c i e))
+            (λ i c e. ⊎_elim (λ z. inl z) (λ (z : (i ≡ length v.sealed) × (b ≡ c)). inr (subst (λ (x : Block). get_elem? (h ++ b ∷ []) x.stamp ≡ some x) z.1 (at_last h b b.stamp (sym r.clock)))) (at_end v.sealed b c i e))
             (λ i c e. inl e) (λ u e. inl e));
         stop = λ e. stop_stays s.views id v w at (λ i e. (i, e)) (r.stop (stops_back s.words CLOCK new (λ e. omega arith) e));
         apart = apart_stays s.views id v w at record { worker = refl; maker = refl; made = refl; spent = refl; joined = refl } live r.apart;
@@ -157,7 +157,7 @@ module _ (k : Terms) (s : St k) (r : KeptHall k s) (id : ℕ) (v : Knows) (q : P
   lower : (j : ℕ) (c : Block) → get_elem? (h ++ b ∷ []) j ≡ some c → (c.stamp < stamp) ⊎ (c ≡ b)
   lower j c e = ⊎_elim
       (λ (z : get_elem? h j ≡ some c). inl (let x = stamp_at 0 h j c r.told.law.history z in let y = (there h j c c z).0 in let clock = r.clock in omega (arith, x, y, clock)))
-      (λ (z : (j ≡ length h) × (b ≡ c)). inr (sym z.1)) (snoc_at h b c j e)
+      (λ (z : (j ≡ length h) × (b ≡ c)). inr (sym z.1)) (at_end h b c j e)
 
   place_here : get_elem? (set r.told.places t (bare now)) t ≡ some (bare now)
   place_here = set_here r.told.places t (bare now) (let below = o.0 in omega (arith, r.told.law.all_packages, below))

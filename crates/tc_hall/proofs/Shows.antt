@@ -1,6 +1,6 @@
 -- What a hall shows after a package or a lock went from a slot to a pass, or back.
 use Rattle.std.proofs.Common.{◌≡◌, ◌≢◌, ◌⊎◌, ℕ, ◌+◌, ◌-◌, ◌<◌, Bool, true, false, List, [], ◌∷◌, ◌++◌, length, set, sym, refl, ap, ◌∙◌, subst, ⊎_elim, inl, inr, arith, Option, Some, None, slice_index, get_or-set_other, get_or-set_same}
-use Rattle.tc_hall.proofs.Vocabulary.{At, Cargo, Done, Hall, Has, HasLock, Homes, IsFree, IsShown, Knows, Lock, LockAt, LockView, Lying, Outline, Package, PackageAt, PackageView, Parked, Place, Ready, ShowsLock, ShowsThread, Terms, ThreadPlace, Waiting, after, after_claim, after_free, after_put, after_take, as_place, at_home, bare, claim_effect, code_of, get_elem?, in_hand}
+use Rattle.tc_hall.proofs.Vocabulary.{At, Cargo, Done, Hall, Has, HasLock, Homes, IsFree, IsShown, Knows, Lock, LockAt, LockView, Lying, Outline, Package, PackageAt, PackageView, Parked, Place, Ready, ShowsLock, ShowsThread, HallTerms, ThreadPlace, Waiting, after, after_claim, after_free, after_put, after_take, as_place, at_home, bare, claim_effect, code_of, get_elem?, in_hand}
 use Rattle.tc_hall.proofs.Vocabulary.{in_slot, is_claimable, kept, lies_with, lock_in_package, lock_in_slot, lock_of, lock_with_pass, locked_in, locks, none, packed, put_effect, slot_word, some, some-injective, some-ne-none, take_effect, threads, with_pass}
 use Rattle.std.specs.Prelude.{nat_lt, if◌then◌else◌}
 use Rattle.std.proofs.lemmas.Bool.Decides.{nat_tests}
@@ -97,7 +97,7 @@ emptied hs t u c h = ⊎_elim
     (λ (o : (u ≡ t) × (none ≡ some (Some c))). absurd (some-ne-none (Some c) (sym o.1)))
     (λ (o : (u ≢ t) × (get_elem? hs u ≡ some (some (Some c)))). o) (at_set hs t u none (some (Some c)) h)
 
-module _ (k : Terms) (s : Hall) (id : ℕ) (v : Knows) (at : get_elem? s.views id ≡ some v) (o o' : Outline) (was : IsShown k s o) where
+module _ (k : HallTerms) (s : Hall) (id : ℕ) (v : Knows) (at : get_elem? s.views id ≡ some v) (o o' : Outline) (was : IsShown k s o) where
   places_else : (word new t u : ℕ) → u < threads k → u ≢ t → word ≡ slot_word t → (o'.place u ≡ o.place u) → o'.place u ≡ place_shown (slice_index (set s.words word new) (slot_word u))
   places_else word new t u below ne is same = same ∙ (was.place u below ∙ ap place_shown (sym (get_or-set_other s.words word (slot_word u) new 0 (λ z. ne (omega arith)))))
 
@@ -308,7 +308,7 @@ pub record HadOut (vs vs' : List Knows) : Type 0 where
 abbrev pub Empties : Homes → Homes → Type 0
 Empties hs hs' = (u : ℕ) (x : Cargo) → get_elem? hs' u ≡ some (some (Some x)) → get_elem? hs u ≡ some (some (Some x))
 
-module _ (k : Terms) (ws ws' : List ℕ) (hs hs' : Homes) (vs vs' : List Knows) (words : (u : ℕ) → slice_index ws' (slot_word u) ≡ slice_index ws (slot_word u)) (lay : Empties hs hs') (had : HadOut vs vs') (o : Outline) (was : IsShown k record { words = ws; homes = hs; views = vs } o) where
+module _ (k : HallTerms) (ws ws' : List ℕ) (hs hs' : Homes) (vs vs' : List Knows) (words : (u : ℕ) → slice_index ws' (slot_word u) ≡ slice_index ws (slot_word u)) (lay : Empties hs hs') (had : HadOut vs vs') (o : Outline) (was : IsShown k record { words = ws; homes = hs; views = vs } o) where
   still_thread : (u : ℕ) (p : PackageView) → u < threads k → PackageAt record { words = ws'; homes = hs'; views = vs' } u p → ShowsThread o u p
   still_thread u p b (in_slot h) = was.thread u p b (in_slot (lay u (Package p) h))
   still_thread u p b (with_pass j x h has) = let z = had.packages j u x p h has in was.thread u p b (with_pass z.0 z.1 z.2 z.3)

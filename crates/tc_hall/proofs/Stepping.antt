@@ -1,11 +1,10 @@
 -- Each step of a pass on the table is an operation that may come there.
 use Rattle.std.proofs.Common.{◌≡◌, ℕ, ◌+◌, ◌%◌, ◌^◌, ◌<◌, ◌==◌, true, false, List, [], ◌∷◌, length, set, sym, refl, ap, ◌∙◌, subst, arith, Option, Some, None, slice_index}
-use Rattle.tc_hall.proofs.Vocabulary.{CLOCK, Cargo, DidSeal, Hall, HasLock, IsAsLeft, IsClaimable, IsFree, IsInRange, IsOrdered, IsPackageAfter, IsSlotOut, IsStateAfter, Joins, KeptHall, Knows, Lock, LockView, Look, MayFree, MayPut, Package, PackageView, Place, STOP, Sat, Seals, Splits, Stop, Stopped, Terms, after_claim, after_free, after_miss, after_put}
+use Rattle.tc_hall.proofs.Vocabulary.{CLOCK, Cargo, DidSeal, Hall, HasLock, IsAsLeft, IsClaimable, IsFree, IsInRange, IsOrdered, IsPackageAfter, IsSlotOut, IsStateAfter, Joins, KeptHall, Knows, Lock, LockView, Look, MayFree, MayPut, Package, PackageView, Place, STOP, Sat, Seals, Splits, Stop, Stopped, HallTerms, after_claim, after_free, after_miss, after_put}
 use Rattle.tc_hall.proofs.Vocabulary.{after_seal, after_take, claim, code_of, commit, dealt, free, fresh, get_elem?, gives, gone, has, join, keeps, kept, lay, locks, look, merged, miss, none, of_lock, of_package, place_of, put, reach, sealed_block, slot_word, some, split, stepped, stop, stopped, take, takes, threads, with_call, with_seal}
 use prog.Atomic.{either}
 use Rattle.atomic_table.specs.Table.{step, Act, Valid, carried_after, Allows}
 use Rattle.atomic_table.proofs.Lists.{set_here, set_else, exchanged}
-use Rattle.tc_mutex_spec.proofs.ListLaws.{at_place}
 use Rattle.tc_hall.specs.Steps.{Got, Took, claimed, laid, reached, took_as, put_as, did_free, looked, stopping, saw_stopped, sealed_as}
 use Rattle.tc_hall.proofs.Outs.{lock_came, no_call_taken}
 use Rattle.tc_hall.proofs.Moves.{home_of, is_out, taken, gets}
@@ -16,14 +15,15 @@ use Rattle.tc_hall.proofs.Sealing.{did_seal}
 use Rattle.tc_hall.proofs.Taking.{lock_home_of, is_lock_out}
 use Rattle.tc_hall.proofs.Ordering.{claimable_low, kept_of, next}
 use Rattle.tc_hall.proofs.Holding.{first_value}
+use Rattle.tc_lemmas.proofs.Lists.{something_at}
 
-terms_are : (a b : Terms) → Some a ≡ Some b → a ≡ b
+terms_are : (a b : HallTerms) → Some a ≡ Some b → a ≡ b
 terms_are a b e = cc e
 
-module _ (k : Terms) where
+module _ (k : HallTerms) where
   -- ---- claim, and the slot of a package
 
-  abbrev pub Claims : Option Terms → ℕ → ℕ → ℕ → ℕ → ℕ → Knows → List (ℕ × Option Cargo) → Type 0
+  abbrev pub Claims : Option HallTerms → ℕ → ℕ → ℕ → ℕ → ℕ → Knows → List (ℕ × Option Cargo) → Type 0
   Claims o slots id word code new v c = Allows (IsOrdered k) slots id (v, c) word (λ x. either (x == code) new x) (claimed o (step slots word code new none) (v, c))
 
   pub claims : (slots id t code new : ℕ) (v : Knows) (c : List (ℕ × Option Cargo)) → c ≡ [] → IsClaimable k code → new ≡ 512 + v.worker → t < threads k → v.spent ≡ false → v.hand ≡ None → Claims (Some k) slots id (slot_word t) code new v c
@@ -31,7 +31,7 @@ module _ (k : Terms) where
       let r : KeptHall k s = kept_of k s d in
       let low = (claimable_low k code r.told.limits.locks can).0 in
       let found : ℕ = slice_index s.words (slot_word t) in
-      let place = at_place r.told.places t (omega (arith, r.told.law.all_packages)) in
+      let place = something_at r.told.places t (omega (arith, r.told.law.all_packages)) in
       let F : ℕ → Type 0 = λ x. (w : Knows) × (a : Act (Option Cargo)) × Valid s.homes [] a × IsOrdered k (stepped s (slot_word t) x id [] w a) × claimed (Some k) (step slots (slot_word t) code new none) (v, []) found (w, carried_after [] a) in
       exchanged found code new F
       (λ hit. let lies = home_of s.words s.homes s.views t place.0 (r.placed.holder t) (r.placed.each t place.0 place.1) (omega arith) in
@@ -49,7 +49,7 @@ module _ (k : Terms) where
             after_claim v h.context,
             gets k s r id t v place.0 h at live below place.1 lies.0 thread,
             refl,
-            (λ j is. subst (λ (z : Terms). IsAsLeft z v h.context) (terms_are k j is) (left_home k s r id t v place.0 h at below place.1 thread)),
+            (λ j is. subst (λ (z : HallTerms). IsAsLeft z v h.context) (terms_are k j is) (left_home k s r id t v place.0 h at below place.1 thread)),
           )),
           (λ miss. absurd (miss hit)),
         ),
@@ -82,7 +82,7 @@ module _ (k : Terms) where
 
   -- ---- put
 
-  abbrev pub FillsAs : Option Terms → ℕ → ℕ → ℕ → ℕ → Knows → List (ℕ × Option Cargo) → Type 0
+  abbrev pub FillsAs : Option HallTerms → ℕ → ℕ → ℕ → ℕ → Knows → List (ℕ × Option Cargo) → Type 0
   FillsAs o slots id word code v c = Allows (IsOrdered k) slots id (v, c) word (λ _. code) (λ _. put_as o (step slots word code 0 none) (v, c) code)
 
   abbrev pub Fills : ℕ → ℕ → ℕ → ℕ → Knows → List (ℕ × Option Cargo) → Type 0
@@ -100,7 +100,7 @@ module _ (k : Terms) where
     (λ u x e. let cargo : Some (Package q) ≡ Some (Package x) = ap first_value e in
         let same : q ≡ x = cc cargo in (
           ap (filled v (place_of (code_of place))) same,
-          (λ j is. subst (λ (z : Terms × PackageView). IsAsLeft z.0 v z.1) (λ i. (terms_are k j is i, same i)) (as_left k s (kept_of k s d) id place v q at may)),
+          (λ j is. subst (λ (z : HallTerms × PackageView). IsAsLeft z.0 v z.1) (λ i. (terms_are k j is i, same i)) (as_left k s (kept_of k s d) id place v q at may)),
         )),
   ))
 
@@ -138,7 +138,7 @@ module _ (k : Terms) where
 
   -- ---- take and free, and the slot of a lock
 
-  abbrev pub TakesAll : Option Terms → ℕ → ℕ → ℕ → Knows → List (ℕ × Option Cargo) → Type 0
+  abbrev pub TakesAll : Option HallTerms → ℕ → ℕ → ℕ → Knows → List (ℕ × Option Cargo) → Type 0
   TakesAll o slots id word v c = Allows (IsOrdered k) slots id (v, c) word (λ x. either (x == 0) 1 x) (took_as o (step slots word 0 1 none) (v, c))
 
   pub takes_lock : (slots id i : ℕ) (v : Knows) (c : List (ℕ × Option Cargo)) → c ≡ [] → i < locks k → v.spent ≡ false → v.hand ≡ None → TakesAll (Some k) slots id (slot_word (threads k + i)) v c
@@ -147,7 +147,7 @@ module _ (k : Terms) where
       let n : ℕ = threads k in
       let j : ℕ = slot_word (n + i) in
       let found : ℕ = slice_index s.words j in
-      let place = at_place r.told.segments i (omega (arith, r.told.law.all_states)) in
+      let place = something_at r.told.segments i (omega (arith, r.told.law.all_states)) in
       let F : ℕ → Type 0 = λ x. (w : Knows) × (a : Act (Option Cargo)) × Valid s.homes [] a × IsOrdered k (stepped s j x id [] w a) × took_as (Some k) (step slots j 0 1 none) (v, []) found (w, carried_after [] a) in
       exchanged found 0 1 F
       (λ hit. let lies = lock_home_of n s.words s.homes s.views i place.0 (r.locks_placed.spot i) (r.locks_placed.each i place.0 place.1) hit in
@@ -165,7 +165,7 @@ module _ (k : Terms) where
         next k s d id v (take i l) at live record { free = idle; below = below; word = hit; slot = h.slot },
         (
           (λ _ k' u slot is at' e. let same : k ≡ k' = terms_are k k' is in let wide' : threads k ≡ threads k' = ap threads same in let number' : i ≡ u = omega arith in let slot' : n + i ≡ slot = omega arith in
-              subst (λ (z : Terms × ℕ × ℕ). Took z.0 z.1 z.2 (v, []) (w, (n + i, Some (Lock l)) ∷ [])) (λ y. (same y, number' y, slot' y)) (
+              subst (λ (z : HallTerms × ℕ × ℕ). Took z.0 z.1 z.2 (v, []) (w, (n + i, Some (Lock l)) ∷ [])) (λ y. (same y, number' y, slot' y)) (
                 l,
                 taken,
                 record {
@@ -215,10 +215,10 @@ module _ (k : Terms) where
 
 -- ---- commit
 
-abbrev pub SealsAll : Terms → ℕ → ℕ → Knows → Option PackageView → List (ℕ × Option Cargo) → Type 0
+abbrev pub SealsAll : HallTerms → ℕ → ℕ → Knows → Option PackageView → List (ℕ × Option Cargo) → Type 0
 SealsAll k slots id v o c = Allows (IsOrdered k) slots id (v, c) CLOCK (λ n. (n + 1) % 2 ^ 64) (sealed_as o (step slots CLOCK 1 0 none) (v, c))
 
-pub seals : (k : Terms) (slots id : ℕ) (v : Knows) (q : PackageView) (c : List (ℕ × Option Cargo)) → c ≡ [] → v.spent ≡ false → Seals v q → SealsAll k slots id v (Some q) c
+pub seals : (k : HallTerms) (slots id : ℕ) (v : Knows) (q : PackageView) (c : List (ℕ × Option Cargo)) → c ≡ [] → v.spent ≡ false → Seals v q → SealsAll k slots id v (Some q) c
 seals k slots id v q c empty live a = subst (SealsAll k slots id v (Some q)) (sym empty) (λ s d deep at small. (
   after_seal v (sealed_block (slice_index s.words CLOCK) v.worker a.ran.block) (with_seal (slice_index s.words CLOCK) v.worker q),
   keeps,

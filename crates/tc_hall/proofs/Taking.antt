@@ -1,24 +1,24 @@
 -- Each step on a lock keeps the rule.
 use Rattle.std.proofs.Common.{◌≡◌, ◌≢◌, ◌⊎◌, ℕ, ◌+◌, ◌<◌, Bool, false, List, [], ◌∷◌, length, set, sym, refl, ap, ◌∙◌, subst, ⊎_elim, inl, inr, arith, Option, Some, None, slice_index, length-set, get_or-set_other, get_or-set_same}
-use Rattle.tc_hall.proofs.Vocabulary.{Block, Call, Cargo, Free, HasLock, Homes, IsLockHome, IsLockOut, IsStateAfter, KeptHall, Knows, LiesLock, Lock, LockView, MayFree, Spot, Stop, Terms, after_free, after_take, get_elem?, gives, has, home, inside, kept, locks, none, out, slot_word, some, some-injective, stepped, takes, threads}
+use Rattle.tc_hall.proofs.Vocabulary.{Block, PassCall, Cargo, Free, HasLock, Homes, IsLockHome, IsLockOut, IsStateAfter, KeptHall, Knows, LiesLock, Lock, LockView, MayFree, Spot, Stop, HallTerms, after_free, after_take, get_elem?, gives, has, home, inside, kept, locks, none, out, slot_word, some, some-injective, stepped, takes, threads}
 use mathlib.Core.Option as maybe
 use lib.Seq.{set-get_or}
 use Rattle.atomic_table.proofs.Lists.{set_here, set_else, at_longer}
-use Rattle.tc_mutex_spec.proofs.ListLaws.{there, at_place}
+use Rattle.tc_mutex_spec.proofs.ListLaws.{there}
 use Rattle.tc_hall.proofs.Placing.{stays}
 use Rattle.tc_hall.proofs.Packing.{IsElseLock, lock_moves, out_of}
 use Rattle.tc_hall.proofs.Listing.{listed_stays}
 use Rattle.tc_hall.proofs.Ranks.{apart_stays, stop_stays, IsTrueCall, pass_kept, passes_stay, done_still, stops_still, stops_back}
-use Rattle.tc_hall.proofs.Telling.{snoc_at}
 use Rattle.tc_hall.proofs.Moves.{St, some_same}
 use Rattle.tc_hall.proofs.Cases.{clash, same_some, clash_at, same_at, same_lock}
+use Rattle.tc_lemmas.proofs.Lists.{at_end, something_at}
 
 pub lock_home_of : (n : ℕ) (ws : List ℕ) (hs : Homes) (vs : List Knows) (i : ℕ) (l : LockView) (s : Spot) → LiesLock n ws hs vs i l s → slice_index ws (slot_word (n + i)) ≡ 0 → (s ≡ home) × IsLockHome n ws hs i l
 lock_home_of n ws hs vs i l home o e = (refl, o)
 lock_home_of n ws hs vs i l (inside t) o e = let w = o.word in absurd (omega arith)
 lock_home_of n ws hs vs i l (out j) o e = let w = o.word in absurd (omega arith)
 
-module _ (k : Terms) where
+module _ (k : HallTerms) where
   -- where a lock that a pass has out lies
   pub is_lock_out : (s : St k) (r : KeptHall k s) (id i : ℕ) (v : Knows) (l : LockView) → get_elem? s.views id ≡ some v → HasLock v i l
       → (i < locks k) × (r.locks_placed.spot i ≡ out id) × (get_elem? r.told.segments i ≡ some l) × (slice_index s.words (slot_word (threads k + i)) ≡ 1)
@@ -46,7 +46,7 @@ module _ (k : Terms) where
 
   pub lock_at_home : (s : St k) (r : KeptHall k s) (i : ℕ) (l : LockView) → i < locks k → slice_index s.words (slot_word (threads k + i)) ≡ 0 → get_elem? s.homes (threads k + i) ≡ some (some (Some (Lock l))) → LockAtHome s r i l
   lock_at_home s r i l below word slot =
-      let place = at_place r.told.segments i (omega (arith, r.told.law.all_states, below)) in
+      let place = something_at r.told.segments i (omega (arith, r.told.law.all_states, below)) in
       let at_home = lock_home_of (threads k) s.words s.homes s.views i place.0 (r.locks_placed.spot i) (r.locks_placed.each i place.0 place.1) word in
       let law : IsStateAfter k.image.value k.fuel k.limit r.told.history i place.0 = r.told.law.states_after i place.0 place.1 in
       record {
@@ -62,7 +62,7 @@ module _ (k : Terms) where
   lock_step : (s : St k) (r : KeptHall k s) (id i word : ℕ) (v w : Knows) (a : maybe.Option (Option Cargo)) (to : Spot) → get_elem? s.views id ≡ some v → v.spent ≡ false → i < locks k
       → (r.locks_placed.spot i ≡ home) ⊎ (r.locks_placed.spot i ≡ out id)
       → IsElseLock (threads k) i v w → w.image ≡ v.image → w.worker ≡ v.worker → w.packages ≡ v.packages → w.maker ≡ v.maker → w.made ≡ v.made → w.joined ≡ v.joined → w.pinned ≡ v.pinned → w.sealed ≡ v.sealed
-      → ((j : ℕ) (c : Call) → get_elem? w.calls j ≡ some c → (get_elem? v.calls j ≡ some c) ⊎ IsTrueCall (set s.words (slot_word (threads k + i)) word) c)
+      → ((j : ℕ) (c : PassCall) → get_elem? w.calls j ≡ some c → (get_elem? v.calls j ≡ some c) ⊎ IsTrueCall (set s.words (slot_word (threads k + i)) word) c)
       → ((j : ℕ) → get_elem? v.calls j ≡ some Stop → (e : ℕ) × (get_elem? w.calls e ≡ some Stop))
       → ((u : ℕ) → u < threads k → v.hand ≢ Some u) → ((u : ℕ) → u < threads k → w.hand ≢ Some u)
       → slice_index s.words (slot_word (threads k + i)) ≢ 2
@@ -130,7 +130,7 @@ module _ (k : Terms) where
       lock_step s r id i 0 v w (some (Some (Lock l))) home at live o.0 (inr o.1)
       record { spent = refl; long = length-set v.locks i None; out = λ e ne. set_else v.locks i e None ne; hand = λ e ne h. absurd (ne (let z = same_some v.hand (n + i) (n + e) hand h in omega arith)); hand_back = λ e ne h. absurd (clash None (n + e) refl h) }
       refl refl refl refl refl refl refl refl
-      (λ e c h. ⊎_elim (λ z. inl z) (λ (z : (e ≡ length v.calls) × (Free i ≡ c)). inr (subst (IsTrueCall (set s.words (slot_word (n + i)) 0)) z.1 tt)) (snoc_at v.calls (Free i) c e h))
+      (λ e c h. ⊎_elim (λ z. inl z) (λ (z : (e ≡ length v.calls) × (Free i ≡ c)). inr (subst (IsTrueCall (set s.words (slot_word (n + i)) 0)) z.1 tt)) (at_end v.calls (Free i) c e h))
       (λ e h. (e, at_longer v.calls (Free i ∷ []) e Stop h))
       (λ u b h. let z = same_some v.hand (n + i) u hand h in omega arith) (λ u b h. clash None u refl h) (λ h. let z = o.3 in omega arith)
       (λ l' e. record {

@@ -1,6 +1,6 @@
 -- `put`, `look`, `stop`, `stopped` and `commit` keep the rule.
 use Rattle.std.proofs.Common.{◌≡◌, ◌≢◌, ◌⊎◌, ℕ, zero, suc, ◌+◌, ◌<◌, ◌≤◌, ◌==◌, Bool, true, false, List, [], ◌∷◌, ◌++◌, length, set, sym, refl, ap, ◌∙◌, subst, ⊎_elim, inl, inr, arith, Option, Some, None, slice_index, length-set, get_or-set_other, get_or-set_same}
-use Rattle.tc_hall.proofs.Vocabulary.{CLOCK, Call, Cargo, Done, Grant, HasStop, HasStopped, IsAsLeft, IsInOrder, IsInRange, KeptHall, Knows, LockView, Look, MAX_GUARDS, MayPut, Package, PackageView, Parked, Place, Put, Ready, STOP, Sat, Stop, Stopped, Terms, Waiting, after_put, bare, code_of, fits_granted, get_elem?, gives, grants_adopted, keeps, kept, lock_in, locks, made}
+use Rattle.tc_hall.proofs.Vocabulary.{CLOCK, PassCall, Cargo, Done, Grant, HasStop, HasStopped, IsAsLeft, IsInOrder, IsInRange, KeptHall, Knows, LockView, Look, MAX_GUARDS, MayPut, Package, PackageView, Parked, Place, Put, Ready, STOP, Sat, Stop, Stopped, HallTerms, Waiting, after_put, bare, code_of, fits_granted, get_elem?, gives, grants_adopted, keeps, kept, lock_in, locks, made}
 use Rattle.tc_hall.proofs.Vocabulary.{none, seen, slot_word, some, some-injective, some-ne-none, stepped, threads, with_call}
 use mathlib.Core.Option as maybe
 use lib.Seq.{set-get_or}
@@ -19,6 +19,7 @@ use Rattle.std.proofs.lemmas.Bool.Decides.{nat_tests}
 use Rattle.std.proofs.Common.{◌-◌, if◌then◌else◌}
 use Rattle.tc_hall.proofs.Moves.{St, is_out}
 use Rattle.tc_hall.proofs.Cases.{clash, same_some, clash_at}
+use Rattle.tc_lemmas.proofs.Lists.{at_end}
 
 pub place_codes : (p : Place) → place_of (code_of p) ≡ p
 unfolding place_of
@@ -43,13 +44,6 @@ code_low m (Waiting lock) r h = omega arith
 abbrev pub filled : Knows → Place → PackageView → Sat
 filled v place q = (record (after_put v q place) { hand = None }, [])
 
--- what is at a place of a list with one more at the end
-pub snoc_at : {A : Type 0} (l : List A) (a b : A) (i : ℕ) → get_elem? (l ++ a ∷ []) i ≡ some b → (get_elem? l i ≡ some b) ⊎ ((i ≡ length l) × (a ≡ b))
-snoc_at [] a b zero e = inr (refl, some-injective a b e)
-snoc_at [] a b (suc i) e = absurd (some-ne-none b (sym e))
-snoc_at (x ∷ xs) a b zero e = inl e
-snoc_at (x ∷ xs) a b (suc i) e = ⊎_elim (λ h. inl h) (λ (h : (i ≡ length xs) × (a ≡ b)). inr (ap suc h.0, h.1)) (snoc_at xs a b i e)
-
 -- a grant that isn't Adopted fits all workers or none
 pub fits_all : (q : PackageView) (w u : ℕ) → grants_adopted q.granted ≡ false → fits_of q w ≡ true → fits_of q u ≡ true
 fits_all q w u a e = go q.granted a e
@@ -62,7 +56,7 @@ fits_all q w u a e = go q.granted a e
         within None e = refl
         within (Some l) e = sym (any_worker g.lock l.journal.limit (blocks_of l) g.kind w u a) ∙ e
 
-module _ (k : Terms) where
+module _ (k : HallTerms) where
   shows_stop : (s : St k) (r : KeptHall k s) (id : ℕ) (v : Knows) → get_elem? s.views id ≡ some v → HasStop v → slice_index s.words STOP ≡ 1
   shows_stop s r id v at (made i e) = (r.passes id v at).stop i e
   shows_stop s r id v at (seen i e) = (r.passes id v at).stopped i e
@@ -105,7 +99,7 @@ module _ (k : Terms) where
             (λ i. get_or-set_other s.words (slot_word t) (slot_word (threads k + i)) code 0 (λ e. omega arith)) below (o.5 hand) hand refl may.locks;
         passes = passes_stay k.image.value k.workers r.told.history r.told.history s.words ws' (λ b e. e) done stops s.views id w r.passes
             (pass_kept k.image.value k.workers r.told.history r.told.history s.words ws' (λ b e. e) done stops v w old (refl, refl, refl, refl) (λ i u e. inl e) (λ i b e. inl e)
-            (λ i c e. ⊎_elim (λ z. inl z) (λ (z : (i ≡ length v.calls) × (Put t (place_of code) (numbers q.context.locks) (given_of q) ≡ c)). inr (subst (IsTrueCall ws') z.1 tt)) (snoc_at v.calls (Put t (place_of code) (numbers q.context.locks) (given_of q)) c i e))
+            (λ i c e. ⊎_elim (λ z. inl z) (λ (z : (i ≡ length v.calls) × (Put t (place_of code) (numbers q.context.locks) (given_of q) ≡ c)). inr (subst (IsTrueCall ws') z.1 tt)) (at_end v.calls (Put t (place_of code) (numbers q.context.locks) (given_of q)) c i e))
             (λ u e. inl e));
         stop = λ e. stop_stays s.views id v w at (λ i h. (i, at_longer v.calls (Put t (place_of code) (numbers q.context.locks) (given_of q) ∷ []) i Stop h)) (r.stop (stops_back s.words (slot_word t) code (λ e. omega arith) e));
         apart = apart_stays s.views id v w at record { worker = refl; maker = refl; made = refl; spent = refl; joined = refl } live r.apart;
@@ -128,7 +122,7 @@ module _ (k : Terms) where
       }
 
   -- a call is told, and at most the stop becomes 1
-  tells_kept : (s : St k) (r : KeptHall k s) (ws' : List ℕ) (id : ℕ) (v : Knows) (c : Call) → get_elem? s.views id ≡ some v → v.spent ≡ false → IsTrueCall ws' c
+  tells_kept : (s : St k) (r : KeptHall k s) (ws' : List ℕ) (id : ℕ) (v : Knows) (c : PassCall) → get_elem? s.views id ≡ some v → v.spent ≡ false → IsTrueCall ws' c
       → ((j : ℕ) → j ≢ STOP → slice_index ws' j ≡ slice_index s.words j) → (slice_index s.words STOP ≡ 1 → slice_index ws' STOP ≡ 1) → length ws' ≡ length s.words
       → (slice_index ws' STOP ≡ 1 → HasStopped (set s.views id (with_call v c)))
       → KeptHall k record { words = ws'; homes = s.homes; views = set s.views id (with_call v c) }
@@ -144,13 +138,13 @@ module _ (k : Terms) where
         locks_placed = locks_stay (threads k) (locks k) r.told.segments s.words ws' s.homes s.homes s.views id v w at (λ i. words (slot_word (threads k + i)) (λ z. omega arith)) (λ i. refl) (λ u q b e. e) (λ u q b e. e) refl refl (λ i e. e) (λ i e. e) r.locks_placed;
         passes = passes_stay k.image.value k.workers r.told.history r.told.history s.words ws' (λ b e. e) done stops s.views id w r.passes
             (pass_kept k.image.value k.workers r.told.history r.told.history s.words ws' (λ b e. e) done stops v w old (refl, refl, refl, refl) (λ i u e. inl e) (λ i b e. inl e)
-            (λ i d e. ⊎_elim (λ z. inl z) (λ (z : (i ≡ length v.calls) × (c ≡ d)). inr (subst (IsTrueCall ws') z.1 true')) (snoc_at v.calls c d i e)) (λ u e. inl e));
+            (λ i d e. ⊎_elim (λ z. inl z) (λ (z : (i ≡ length v.calls) × (c ≡ d)). inr (subst (IsTrueCall ws') z.1 true')) (at_end v.calls c d i e)) (λ u e. inl e));
         stop = stop;
         apart = apart_stays s.views id v w at record { worker = refl; maker = refl; made = refl; spent = refl; joined = refl } live r.apart;
         listed = listed_stays r.told.history s.views id v w at r.listed record { worker = refl; maker = refl; made = omega arith; spent = refl; joined = refl; sealed = refl };
       }
 
-  still_stopped : (s : St k) (r : KeptHall k s) (id : ℕ) (v : Knows) (c : Call) → get_elem? s.views id ≡ some v → slice_index s.words STOP ≡ 1 → HasStopped (set s.views id (with_call v c))
+  still_stopped : (s : St k) (r : KeptHall k s) (id : ℕ) (v : Knows) (c : PassCall) → get_elem? s.views id ≡ some v → slice_index s.words STOP ≡ 1 → HasStopped (set s.views id (with_call v c))
   still_stopped s r id v c at e = stop_stays s.views id v (with_call v c) at (λ i h. (i, at_longer v.calls (c ∷ []) i Stop h)) (r.stop e)
 
   -- a word is looked at

@@ -15,6 +15,7 @@ use Rattle.tc_core.specs.declared.event.Event.TheVariants.{Turn}
 use Rattle.tc_core.specs.declared.place.Release.{Release}
 use Rattle.tc_core.specs.declared.place.LockPlace.TheVariants as place
 use Rattle.tc_hall.proofs.Outlines.{if_here, if_else, eq_from}
+use Rattle.tc_core.proofs.Standing.{with_is}
 
 -- one event more at the end
 pub last_event : (image : Shown) (e : Event) (n : ℕ) (c : Core) → after_all image c (replicate (suc n) e) ≡ effect image (after_all image c (replicate n e)) e
@@ -75,12 +76,6 @@ granted_to place.Free t e = absurd cc
 granted_to (With u) t e = absurd cc
 granted_to (Loose u) t e = absurd cc
 
-with_number : (p : LockPlace) (t : ℕ) → is_number (with_of p) t ≡ true → p ≡ With t
-with_number (With u) t e = ap (λ (z : ℕ). With z) (eq_from u t e)
-with_number place.Free t e = absurd cc
-with_number (Granted u) t e = absurd cc
-with_number (Loose u) t e = absurd cc
-
 -- a lock that a turn takes was granted to its thread
 taken_lies : (o : Option ℕ) (t : ℕ) (c : Core) → may_take o t c ≡ true → (f : ℕ → Course) (i : ℕ) → lies_at f (custody_on o t i (c.custody i)).place ≡ lies_at f (c.custody i).place
 taken_lies None t c may f i = refl
@@ -95,7 +90,7 @@ past_lies : (b : Bool) (w t : ℕ) (held : Bool) (release : Option Release) (x :
     → lies_at f (if b then record x { place = Loose w; last = release } else x).place ≡ lies_at f x.place
 past_lies false w t held release x f here e = refl
 past_lies true w t held release x f here e =
-    sym (ap (lies_at f) (with_number x.place t ((and_parts (is_number (with_of x.place) t) (not held) e).0)) ∙ ap (λ (z : ThreadPlace). lies_with z t) here)
+    sym (ap (lies_at f) (with_is x.place t ((and_parts (is_number (with_of x.place) t) (not held) e).0)) ∙ ap (λ (z : ThreadPlace). lies_with z t) here)
 
 -- the turns, if they may come
 pub turns_lie : (image : Shown) (limits : Limits) (w t n : ℕ) (e : Event) (c : Core) → AreEnabled image limits c (replicate n (Turn w t) ++ e ∷ []) → (f : ℕ → Course) (i : ℕ)

@@ -1,13 +1,12 @@
 -- Each operation but `commit` ties to its events.
 use Rattle.std.proofs.Common.{◌≡◌, ◌≢◌, ℕ, ◌+◌, ◌<◌, ◌==◌, Bool, true, false, List, length, set, sym, refl, ap, ◌∙◌, subst, arith, Some, None, slice_index, get_or-set_other, ⊎_elim, Option, []}
-use Rattle.tc_hall.proofs.Vocabulary.{AreEnabled, At, Cargo, Core, Custody, Done, Event, Gets, Granted, Hall, Has, HasLock, Homes, IsShown, KeptHall, Knows, LockPlace, LockView, Loose, MayClaim, MayFill, MayFree, Operation, PackageView, Parked, Place, Ready, STOP, Shows, Stop, Terms, Thread, ThreadPlace, Waiting, after, after_claim, after_events, after_operation, after_take}
+use Rattle.tc_hall.proofs.Vocabulary.{AreEnabled, At, Cargo, Core, Custody, Done, Event, Gets, Granted, Hall, Has, HasLock, Homes, IsShown, KeptHall, Knows, LockPlace, LockView, Loose, MayClaim, MayFill, MayFree, Operation, PackageView, Parked, Place, Ready, STOP, Shows, Stop, HallTerms, Thread, ThreadPlace, Waiting, after, after_claim, after_events, after_operation, after_take}
 use Rattle.tc_hall.proofs.Vocabulary.{as_place, at_home, bare, claim, claim_effect, code_of, dealt, free, fresh, get_elem?, gone, in_hand, is_claimable, is_loose, is_running, join, kept, last_end, lies_at, lies_with, lock_in_slot, lock_with_pass, locked_in, locks, machine_limits, merged, outline, packed, place_shown, put, put_effect, runs, slot_word, some, split, stop, take}
 use Rattle.tc_hall.proofs.Vocabulary.{thread_in, threads, with_call, with_custody, with_pass, with_place}
 use Rattle.std.specs.Prelude.{nat_lt, is_some, not}
 use Rattle.std.proofs.lemmas.Bool.Decides.{nat_tests}
 use lib.Seq.{set-get_or}
 use Rattle.atomic_table.proofs.Lists.{set_here, at_set}
-use Rattle.tc_mutex_spec.proofs.BlocksAlike.{eq_self}
 use Rattle.tc_core.specs.Core.{is_waiting, is_slept, is_free_lock}
 use Rattle.tc_core.specs.Events.{is_enabled, effect, passed_to, taken_by, freed}
 use Rattle.tc_core.specs.declared.event.Event.TheVariants.{Finish, Claim}
@@ -27,9 +26,10 @@ use Rattle.tc_hall.specs.Places.{origin_code}
 use mathlib.Core.Option as maybe
 use Rattle.tc_hall.specs.Order.{MayTake}
 use Rattle.tc_hall.proofs.Ordering.{claimable_low}
+use Rattle.tc_lemmas.proofs.Tests.{eq_self}
 
 -- a state of the hall that meets the rule, and a live pass in it
-pub record Moment (k : Terms) : Type 0 where
+pub record Moment (k : HallTerms) : Type 0 where
   pub state : Hall
   pub rule : KeptHall k state
   pub id : ℕ
@@ -38,17 +38,17 @@ pub record Moment (k : Terms) : Type 0 where
   pub live : view.spent ≡ false
 
 -- what the events of an operation ask, and what the hall shows after them
-abbrev pub Asking : (k : Terms) → Moment k → Operation → Type 0
+abbrev pub Asking : (k : HallTerms) → Moment k → Operation → Type 0
 Asking k m o = (c : Core) (es : List Event) → Shows k m.state c → IsOf k m.state c m.view o es → AreAsked k c m.view o es
 
-abbrev pub Showing : (k : Terms) → Moment k → Operation → Type 0
+abbrev pub Showing : (k : HallTerms) → Moment k → Operation → Type 0
 Showing k m o = (c : Core) (es : List Event) → Shows k m.state c → IsOf k m.state c m.view o es → AreEnabled k.image.value (machine_limits k) c es → Shows k (after_operation k m.state m.id m.view o) (after_events k c es)
 
 -- of events that are these
-after_these : (k : Terms) (s' : Hall) (c : Core) (es these : List Event) → es ≡ these → Shows k s' (after_events k c these) → Shows k s' (after_events k c es)
+after_these : (k : HallTerms) (s' : Hall) (c : Core) (es these : List Event) → es ≡ these → Shows k s' (after_events k c these) → Shows k s' (after_events k c es)
 after_these k s' c es these same shows = subst (λ (z : List Event). Shows k s' (after_events k c z)) (sym same) shows
 
-module _ (k : Terms) (m : Moment k) where
+module _ (k : HallTerms) (m : Moment k) where
   abbrev s : Hall
   s = m.state
 
@@ -119,14 +119,14 @@ module _ (k : Terms) (m : Moment k) where
     rests c o = ap (λ (z : ThreadPlace). lies_with z t) (o.place t a.below) ∙ lies_low (slice_index m.state.words (slot_word t)) t low
 
 -- what Claim asks
-claim_asks : (k : Terms) (m : Moment k) (t : ℕ) (q : PackageView) (from : Origin) → MayClaim k m.state m.view t q → slice_index m.state.words (slot_word t) ≡ origin_code from → (c : Core) → Shows k m.state c → may_come k c (Claim m.view.worker t) ≡ true
+claim_asks : (k : HallTerms) (m : Moment k) (t : ℕ) (q : PackageView) (from : Origin) → MayClaim k m.state m.view t q → slice_index m.state.words (slot_word t) ≡ origin_code from → (c : Core) → Shows k m.state c → may_come k c (Claim m.view.worker t) ≡ true
 unfolding is_enabled
 claim_asks k m t q from a word c seen =
     both (nat_lt m.view.worker k.workers) _ (worker_is k m)
     (both (nat_lt t (threads k)) _ (let b = a.below in grind (arith, nat_tests)) (ap is_claimable (seen.shown.place t a.below ∙ ap place_shown word) ∙ shown_origin from))
 
 -- the step of `adopt`, whatever the events make of the core
-adopt_shows : (k : Terms) (m : Moment k) (t lock : ℕ) (q : PackageView) (l : LockView) → MayClaim k m.state m.view t q → HasLock m.view lock l → (c c' : Core) → Shows k m.state c → IsLooseIn lock c
+adopt_shows : (k : HallTerms) (m : Moment k) (t lock : ℕ) (q : PackageView) (l : LockView) → MayClaim k m.state m.view t q → HasLock m.view lock l → (c c' : Core) → Shows k m.state c → IsLooseIn lock c
     → Arrives c c' t (At m.view.worker) → (c'.custody lock).place ≡ Granted t → ((i : ℕ) → i ≢ lock → (c'.custody i).place ≡ (c.custody i).place) → Shows k (after m.state m.id (claim_effect m.view t q)) c'
 adopt_shows k m t lock q l a has c c' seen loose arrive given same = record {
   between = arrive.between seen.between;
@@ -134,7 +134,7 @@ adopt_shows k m t lock q l a has c c' seen loose arrive given same = record {
       (others_come c c' t m.view.worker arrive (rests k m t q a c seen.shown) lock (loose_here k m c seen.shown lock l (below_lock k m lock l has) has loose) given same);
 }
 
-adopt_asks : (k : Terms) (m : Moment k) (t lock : ℕ) (l : LockView) → t < threads k → slice_index m.state.words (slot_word t) ≡ 256 + lock → HasLock m.view lock l → (c : Core) → Shows k m.state c → IsLooseIn lock c → CanPass k m.view.worker t lock c
+adopt_asks : (k : HallTerms) (m : Moment k) (t lock : ℕ) (l : LockView) → t < threads k → slice_index m.state.words (slot_word t) ≡ 256 + lock → HasLock m.view lock l → (c : Core) → Shows k m.state c → IsLooseIn lock c → CanPass k m.view.worker t lock c
 adopt_asks k m t lock l below word has c seen loose =
     let below_it = below_lock k m lock l has in
     let fits : 256 + lock < 512 = (let b = m.rule.told.limits.locks in omega (arith, b, below_it)) in (
@@ -144,14 +144,14 @@ adopt_asks k m t lock l below word has c seen loose =
     )
 
 -- `claim` is Claim, Adopt, or Grant and Claim
-pub claim_asking : (k : Terms) (m : Moment k) (t : ℕ) (q : PackageView) → MayClaim k m.state m.view t q → Asking k m (claim t q)
+pub claim_asking : (k : HallTerms) (m : Moment k) (t : ℕ) (q : PackageView) → MayClaim k m.state m.view t q → Asking k m (claim t q)
 claim_asking k m t q a c es seen (alone o) = ⊎_elim
     (λ (z : slice_index m.state.words (slot_word t) ≡ 0). claim_asks k m t q origin.Ready a z c seen)
     (λ (z : slice_index m.state.words (slot_word t) ≡ 1). claim_asks k m t q origin.Parked a z c seen) o
 claim_asking k m t q a c es seen (adopted lock l word has loose) = adopt_asks k m t lock l a.below word has c seen loose
 claim_asking k m t q a c es seen (granted lock l word has loose) = adopt_asks k m t lock l a.below word has c seen loose
 
-pub claim_showing : (k : Terms) (m : Moment k) (t : ℕ) (q : PackageView) → MayClaim k m.state m.view t q → Showing k m (claim t q)
+pub claim_showing : (k : HallTerms) (m : Moment k) (t : ℕ) (q : PackageView) → MayClaim k m.state m.view t q → Showing k m (claim t q)
 unfolding effect
 claim_showing k m t q a c es seen (alone o) enabled =
     let c' : Core = with_place c t (At m.view.worker) in
@@ -176,7 +176,7 @@ claim_showing k m t q a c es seen (granted lock l word has loose) enabled =
 
 -- ---- put
 
-module _ (k : Terms) (m : Moment k) (place : Place) (q : PackageView) (a : MayFill k m.view q place) where
+module _ (k : HallTerms) (m : Moment k) (place : Place) (q : PackageView) (a : MayFill k m.view q place) where
   abbrev t : ℕ
   t = q.context.thread
 
@@ -215,12 +215,12 @@ module _ (k : Terms) (m : Moment k) (place : Place) (q : PackageView) (a : MayFi
   it_runs : (c : Core) (b : Bool) → Shows k m.state c → is_running q.context.guest.status ≡ b → runs c q.context.thread ≡ b
   it_runs c b seen e = ap (λ (z : Thread). is_running z.status) (its_thread c seen) ∙ e
 
-finishes : (k : Terms) (m : Moment k) (t : ℕ) (c : Core) → at_worker k c m.view.worker t ≡ true → runs c t ≡ false → (c.course t).turns ≡ 0 → may_come k c (Finish m.view.worker t) ≡ true
+finishes : (k : HallTerms) (m : Moment k) (t : ℕ) (c : Core) → at_worker k c m.view.worker t ≡ true → runs c t ≡ false → (c.course t).turns ≡ 0 → may_come k c (Finish m.view.worker t) ≡ true
 unfolding is_enabled
 finishes k m t c here ended between = both _ _ here (both (not (runs c t)) _ (ap not ended) (ap (λ (z : ℕ). z == 0) between))
 
 -- `put` is HandBack, Ship, Park or Finish, by its place
-pub put_asking : (k : Terms) (m : Moment k) (q : PackageView) (place : Place) → MayFill k m.view q place → Asking k m (put q place)
+pub put_asking : (k : HallTerms) (m : Moment k) (q : PackageView) (place : Place) → MayFill k m.view q place → Asking k m (put q place)
 put_asking k m q Ready a c es seen is = subst (AreAsked k c m.view (put q Ready)) (sym is.1) (at_its_worker k m Ready q a c seen, it_runs k m Ready q a c true seen (a.may.order.runs (λ e. omega arith)))
 put_asking k m q (Waiting lock) a c es seen is =
     subst (AreAsked k c m.view (put q (Waiting lock))) (sym is.1) (at_its_worker k m (Waiting lock) q a c seen, (let b = a.range in let e : nat_lt lock (locks k) ≡ true = grind (arith, nat_tests) in e))
@@ -231,7 +231,7 @@ put_asking k m q Done a c es seen is =
     subst (AreAsked k c m.view (put q Done)) (sym is.1)
     (finishes k m q.context.thread c (at_its_worker k m Done q a c seen) (it_runs k m Done q a c false seen (a.may.order.ended refl).0) (seen.between q.context.thread).0)
 
-pub put_showing : (k : Terms) (m : Moment k) (q : PackageView) (place : Place) → MayFill k m.view q place → Showing k m (put q place)
+pub put_showing : (k : HallTerms) (m : Moment k) (q : PackageView) (place : Place) → MayFill k m.view q place → Showing k m (put q place)
 unfolding effect
 put_showing k m q Ready a c es seen is enabled = after_these k _ c es _ is.1 (put_shows k m Ready q a c seen is.0)
 put_showing k m q (Waiting lock) a c es seen is enabled = after_these k _ c es _ is.1 (put_shows k m (Waiting lock) q a c seen is.0)
@@ -241,7 +241,7 @@ put_showing k m q Done a c es seen is enabled = after_these k _ c es _ is.1 (put
 -- ---- take and free
 
 -- `take` for a thread that is at the worker is Take
-module _ (k : Terms) (m : Moment k) (i : ℕ) (l : LockView) (a : MayTake k m.state m.view i l) where
+module _ (k : HallTerms) (m : Moment k) (i : ℕ) (l : LockView) (a : MayTake k m.state m.view i l) where
   pub take_asking : Asking k m (take i l)
   take_asking c es seen is = subst (AreAsked k c m.view (take i l)) (sym is.3) (
     at_it k m c is.0 is.1 (out_at k m c seen.shown is.0 is.1 is.2),
@@ -266,7 +266,7 @@ module _ (k : Terms) (m : Moment k) (i : ℕ) (l : LockView) (a : MayTake k m.st
       }
 
 -- `free` is Free
-module _ (k : Terms) (m : Moment k) (l : LockView) (may : MayFree m.view l) where
+module _ (k : HallTerms) (m : Moment k) (l : LockView) (may : MayFree m.view l) where
   below : l.number < locks k
   below = below_lock k m l.number (kept l) may.has
 
@@ -290,7 +290,7 @@ module _ (k : Terms) (m : Moment k) (l : LockView) (may : MayFree m.view l) wher
 
 -- ---- operations with no event
 
-module _ (k : Terms) (m : Moment k) (c : Core) (es : List Event) (seen : Shows k m.state c) (is : es ≡ []) where
+module _ (k : HallTerms) (m : Moment k) (c : Core) (es : List Event) (seen : Shows k m.state c) (is : es ≡ []) where
   -- where no word of a thread changes, no slot has more in it and no view has more out, the core is shown still
   unmoved : (ws' : List ℕ) (hs' : Homes) (vs' : List Knows) → ((u : ℕ) → slice_index ws' (slot_word u) ≡ slice_index m.state.words (slot_word u))
       → ((u : ℕ) (x : Cargo) → get_elem? hs' u ≡ some (some (Some x)) → get_elem? m.state.homes u ≡ some (some (Some x))) → HadOut m.state.views vs' → Shows k record { words = ws'; homes = hs'; views = vs' } (after_events k c es)

@@ -46,12 +46,12 @@ pub use Rattle.tc_hall.specs.Rule.{AreApart, AreLocksPlaced, ArePlaced, Has, Has
 pub use Rattle.tc_hall.specs.Shown.{IsShown, LockAt, PackageAt, ShowsLock, ShowsThread, as_place, in_slot, last_end, lock_in_package, lock_in_slot, lock_with_pass, place_shown, with_pass}
 pub use Rattle.tc_hall.specs.Steps.{DidSeal, Freed, Gave, Gets, HasAll, HasSeenAll, HasStop, IsAsLeft, IsEnd, IsFree, IsStateAsLeft, MayFree, MayPut, Sat, Seals, add_all, after_claim, after_free, after_miss, after_put, after_seal, after_take, dealt, fresh, gone, made, merged, put_call, remove_all, seen, with_call}
 pub use Rattle.tc_hall.specs.Ties.{Shows, after_events, machine_limits, turns_by}
-pub use Rattle.tc_hall.specs.declared.board.Call.{Call}
-pub use Rattle.tc_hall.specs.declared.board.Call.TheVariants.{Free, Look, Put, Stop, Stopped}
+pub use Rattle.tc_hall.specs.declared.board.PassCall.{PassCall}
+pub use Rattle.tc_hall.specs.declared.board.PassCall.TheVariants.{Free, Look, Put, Stop, Stopped}
 pub use Rattle.tc_hall.specs.declared.board.Cargo.{Cargo}
 pub use Rattle.tc_hall.specs.declared.board.Cargo.TheVariants.{Lock, Package}
 pub use Rattle.tc_hall.specs.declared.board.Knows.{Knows}
-pub use Rattle.tc_hall.specs.declared.board.Terms.{Terms}
+pub use Rattle.tc_hall.specs.declared.board.HallTerms.{HallTerms}
 pub use Rattle.tc_hall.specs.declared.board.TheConstants.{CLOCK, STOP}
 pub use Rattle.tc_hall.specs.declared.place.Place.{Place}
 pub use Rattle.tc_hall.specs.declared.place.Place.TheVariants.{Done, Parked, Ready, Waiting}

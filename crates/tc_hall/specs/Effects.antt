@@ -8,7 +8,7 @@ use Rattle.tc_hall.specs.declared.board.TheConstants.{CLOCK, STOP}
 use Rattle.tc_hall.specs.declared.place.TheConstants.{OUT}
 use Rattle.tc_hall.specs.declared.place.Place.{Place}
 use Rattle.tc_hall.specs.declared.board.Knows.{Knows}
-use Rattle.tc_hall.specs.declared.board.Call.TheVariants.{Look, Stop, Stopped}
+use Rattle.tc_hall.specs.declared.board.PassCall.TheVariants.{Look, Stop, Stopped}
 use Rattle.tc_hall.specs.declared.board.Cargo.{Cargo}
 use Rattle.tc_hall.specs.declared.board.Cargo.TheVariants.{Package, Lock}
 use Rattle.tc_hall.specs.Places.{code_of, slot_word}

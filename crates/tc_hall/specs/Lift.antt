@@ -5,7 +5,7 @@ use Rattle.tc_core.specs.Core.{Core, first_core}
 use Rattle.tc_core.specs.Stories.{AreEnabled}
 use Rattle.tc_core.specs.declared.event.Event.{Event}
 use Rattle.tc_core.specs.declared.event.Event.TheVariants.{Enter, Leave}
-use Rattle.tc_hall.specs.declared.board.Terms.{Terms}
+use Rattle.tc_hall.specs.declared.board.HallTerms.{HallTerms}
 use Rattle.tc_hall.specs.Effects.{Hall}
 use Rattle.tc_hall.specs.Order.{Made, MayCome, after_operation, IsOpening}
 use Rattle.tc_hall.specs.Ties.{machine_limits, may_come, after_events, IsOf, Shows}
@@ -24,20 +24,20 @@ events_of (operation m es ∷ before) = events_of before ++ es
 events_of (enter w t lock ∷ before) = events_of before ++ Enter w t lock ∷ []
 events_of (leave w lock ∷ before) = events_of before ++ Leave w lock ∷ []
 
-abbrev pub hall_of : Terms → Hall → List Beat → Hall
+abbrev pub hall_of : HallTerms → Hall → List Beat → Hall
 hall_of k s [] = s
 hall_of k s (operation m es ∷ before) = after_operation k (hall_of k s before) m.pass m.knew m.operation
 hall_of k s (enter w t lock ∷ before) = hall_of k s before
 hall_of k s (leave w lock ∷ before) = hall_of k s before
 
 -- the core at the start, and after the events
-abbrev pub start_of : Terms → Core
+abbrev pub start_of : HallTerms → Core
 start_of k = first_core k.image.value k.fuel
 
-abbrev pub core_after : Terms → List Beat → Core
+abbrev pub core_after : HallTerms → List Beat → Core
 core_after k beats = after_events k (start_of k) (events_of beats)
 
-abbrev pub MayLift : Terms → Hall → List Beat → Type 0
+abbrev pub MayLift : HallTerms → Hall → List Beat → Type 0
 MayLift k s [] = Unit {0}
 -- the operation may come in the hall, is these events, and they are enabled
 MayLift k s (operation m es ∷ before) =
@@ -50,12 +50,12 @@ MayLift k s (leave w lock ∷ before) = (may_come k (core_after k before) (Leave
 
 -- a new hall shows the first state of the pure machine
 abbrev pub OpensShown : Type 0
-OpensShown = (k : Terms) (s : Hall) → IsOpening k s → Shows k s (start_of k)
+OpensShown = (k : HallTerms) (s : Hall) → IsOpening k s → Shows k s (start_of k)
 
 -- all events are enabled, each when it comes, and after them the hall shows the core
-pub record IsLifted (k : Terms) (s : Hall) (beats : List Beat) : Type 0 where
+pub record IsLifted (k : HallTerms) (s : Hall) (beats : List Beat) : Type 0 where
   pub enabled : AreEnabled k.image.value (machine_limits k) (start_of k) (events_of beats)
   pub shows : Shows k (hall_of k s beats) (core_after k beats)
 
 abbrev pub Lifts : Type 0
-Lifts = (k : Terms) (s : Hall) → IsOpening k s → (beats : List Beat) → MayLift k s beats → IsLifted k s beats
+Lifts = (k : HallTerms) (s : Hall) → IsOpening k s → (beats : List Beat) → MayLift k s beats → IsLifted k s beats

@@ -11,10 +11,10 @@ use Rattle.tc_hall.specs.declared.board.TheConstants.{LINE, CLOCK, STOP}
 use Rattle.tc_hall.specs.declared.place.TheConstants.{READY, PARKED, WAITING, OUT}
 use Rattle.tc_hall.specs.declared.place.Place.{Place}
 use Rattle.tc_hall.specs.declared.board.Knows.{Knows}
-use Rattle.tc_hall.specs.declared.board.Terms.{Terms}
+use Rattle.tc_hall.specs.declared.board.HallTerms.{HallTerms}
 use Rattle.tc_hall.specs.declared.board.Miss.{Miss}
-use Rattle.tc_hall.specs.declared.board.Call.{Call}
-use Rattle.tc_hall.specs.declared.board.Call.TheVariants.{Free, Look, Stop, Stopped}
+use Rattle.tc_hall.specs.declared.board.PassCall.{PassCall}
+use Rattle.tc_hall.specs.declared.board.PassCall.TheVariants.{Free, Look, Stop, Stopped}
 use Rattle.tc_hall.specs.declared.board.Cargo.{Cargo}
 use Rattle.tc_hall.specs.declared.board.Cargo.TheVariants.{Package, Lock}
 use Rattle.tc_hall.specs.Places.{IsInRange, code_of, slot_word}
@@ -47,7 +47,7 @@ pub data Operation : Type 0 where
   join : ℕ → Knows → Operation
 
 -- the table after an operation of the pass id, which knows v
-abbrev pub after_operation : Terms → Hall → ℕ → Knows → Operation → Hall
+abbrev pub after_operation : HallTerms → Hall → ℕ → Knows → Operation → Hall
 after_operation k s id v (claim t q) = after s id (claim_effect v t q)
 after_operation k s id v (take i l) = after s id (take_effect (threads k) v i l)
 after_operation k s id v (miss word wanted found) = after s id (miss_effect v word found)
@@ -63,34 +63,34 @@ after_operation k s id v split = with_new_pass s id v
 after_operation k s id v (join other w) = with_joined s id v other w
 
 -- a thread whose word is this is ready, is parked, or waits for a lock
-abbrev pub IsClaimable : Terms → ℕ → Type 0
+abbrev pub IsClaimable : HallTerms → ℕ → Type 0
 IsClaimable k word = (word ≡ READY) ⊎ ((word ≡ PARKED) ⊎ ((i : ℕ) × (i < locks k) × (word ≡ WAITING + i)))
 
-pub record MayClaim (k : Terms) (s : Hall) (v : Knows) (t : ℕ) (q : PackageView) : Type 0 where
+pub record MayClaim (k : HallTerms) (s : Hall) (v : Knows) (t : ℕ) (q : PackageView) : Type 0 where
   pub free : v.hand ≡ None
   pub below : t < threads k
   pub word : IsClaimable k (slice_index s.words (slot_word t))
   pub slot : get_elem? s.homes t ≡ some (some (Some (Package q)))
 
-pub record MayTake (k : Terms) (s : Hall) (v : Knows) (i : ℕ) (l : LockView) : Type 0 where
+pub record MayTake (k : HallTerms) (s : Hall) (v : Knows) (i : ℕ) (l : LockView) : Type 0 where
   pub free : v.hand ≡ None
   pub below : i < locks k
   pub word : slice_index s.words (slot_word (threads k + i)) ≡ 0
   pub slot : get_elem? s.homes (threads k + i) ≡ some (some (Some (Lock l)))
 
 -- the slot is that of a package or a lock state that the pass has out
-pub data IsSlotOut (k : Terms) (v : Knows) (slot : ℕ) : Type 0 where
+pub data IsSlotOut (k : HallTerms) (v : Knows) (slot : ℕ) : Type 0 where
   of_package : (t : ℕ) (p : PackageView) → slot ≡ t → Has v t p → IsSlotOut k v slot
   of_lock : (i : ℕ) (l : LockView) → slot ≡ threads k + i → HasLock v i l → IsSlotOut k v slot
 
 -- the pass holds the slot of the package, and may put it at the place
-pub record MayFill (k : Terms) (v : Knows) (q : PackageView) (place : Place) : Type 0 where
+pub record MayFill (k : HallTerms) (v : Knows) (q : PackageView) (place : Place) : Type 0 where
   pub hand : v.hand ≡ Some q.context.thread
   pub range : IsInRange (locks k) place
   pub may : MayPut place v q
 
 -- the pass id, which knows v, may do this now
-abbrev pub MayDo : Terms → Hall → ℕ → Knows → Operation → Type 0
+abbrev pub MayDo : HallTerms → Hall → ℕ → Knows → Operation → Type 0
 MayDo k s id v (claim t q) = MayClaim k s v t q
 MayDo k s id v (take i l) = MayTake k s v i l
 MayDo k s id v (miss word wanted found) = (slice_index s.words word ≡ found) × (found ≢ wanted)
@@ -112,24 +112,24 @@ pub record Made : Type 0 where
   pub operation : Operation
 
 -- a live pass may do it now
-pub record MayCome (k : Terms) (s : Hall) (m : Made) : Type 0 where
+pub record MayCome (k : HallTerms) (s : Hall) (m : Made) : Type 0 where
   pub pass : get_elem? s.views m.pass ≡ some m.knew
   pub live : m.knew.spent ≡ false
   pub may : MayDo k s m.pass m.knew m.operation
 
 -- ---- the order of all operations, the latest first
 
-abbrev pub hall_after : Terms → Hall → List Made → Hall
+abbrev pub hall_after : HallTerms → Hall → List Made → Hall
 hall_after k s [] = s
 hall_after k s (m ∷ before) = after_operation k (hall_after k s before) m.pass m.knew m.operation
 
-abbrev pub IsLegal : Terms → Hall → List Made → Type 0
+abbrev pub IsLegal : HallTerms → Hall → List Made → Type 0
 IsLegal k s [] = Unit {0}
 IsLegal k s (m ∷ before) = MayCome k (hall_after k s before) m × IsLegal k s before
 
 -- a new hall: each thread is ready with its package at its start, each lock is home and fresh, the clock and the stop word are
 -- 0, and one pass has nothing out
-pub record IsOpening (k : Terms) (s : Hall) : Type 0 where
+pub record IsOpening (k : HallTerms) (s : Hall) : Type 0 where
   pub limits : IsInLimits k
   pub slots : List (Option Cargo)
   pub stocked : AreStocked k.image.value (threads k) (locks k) k.fuel k.limit slots
@@ -137,7 +137,7 @@ pub record IsOpening (k : Terms) (s : Hall) : Type 0 where
 
 -- ---- the rule
 
-pub record IsOrdered (k : Terms) (s : Hall) : Type 0 where
+pub record IsOrdered (k : HallTerms) (s : Hall) : Type 0 where
   pub first : Hall
   pub opens : IsOpening k first
   pub order : List Made
@@ -148,7 +148,7 @@ pub record IsOrdered (k : Terms) (s : Hall) : Type 0 where
 
 -- what a pass notes of its operations and of those of the passes that were joined into it
 pub record Notes : Type 0 where
-  pub calls : List Call
+  pub calls : List PassCall
   pub sealed : List Block
   pub missed : List Miss
   pub claimed : List PackageView
@@ -157,7 +157,7 @@ pub record Notes : Type 0 where
 abbrev pub no_notes : Notes
 no_notes = record { calls = []; sealed = []; missed = []; claimed = []; taken = [] }
 
-abbrev pub with_noted : Notes → Call → Notes
+abbrev pub with_noted : Notes → PassCall → Notes
 with_noted n c = record n { calls = n.calls ++ c ∷ [] }
 
 abbrev pub both_notes : Notes → Notes → Notes
@@ -194,11 +194,11 @@ pub record HasNoted (v : Knows) (n : Notes) : Type 0 where
 -- ---- what holds after every order
 
 -- the word of a thread: the code of the place where its package was put, or the worker that it is out with
-pub data IsThreadWord (k : Terms) (word : ℕ) : Type 0 where
+pub data IsThreadWord (k : HallTerms) (word : ℕ) : Type 0 where
   put_at : (place : Place) → IsInRange (locks k) place → word ≡ code_of place → IsThreadWord k word
   out_with : (worker : ℕ) → worker < k.workers → word ≡ OUT + worker → IsThreadWord k word
 
-pub record AreExact (k : Terms) (words : List ℕ) : Type 0 where
+pub record AreExact (k : HallTerms) (words : List ℕ) : Type 0 where
   pub count : length words ≡ slot_word (threads k + locks k)
   pub of_threads : (t : ℕ) → t < threads k → IsThreadWord k (slice_index words (slot_word t))
   pub of_locks : (i : ℕ) → i < locks k → slice_index words (slot_word (threads k + i)) ≤ 1
@@ -208,12 +208,12 @@ pub record AreExact (k : Terms) (words : List ℕ) : Type 0 where
 
 -- between any two operations the rules of places, words and history hold
 abbrev pub IsKept : Type 0
-IsKept = (k : Terms) (s : Hall) → IsOrdered k s → KeptHall k s
+IsKept = (k : HallTerms) (s : Hall) → IsOrdered k s → KeptHall k s
 
 -- each live pass has in its lists its own operations in their order, and no others
 abbrev pub HasOwnNotes : Type 0
-HasOwnNotes = (k : Terms) (s : Hall) (d : IsOrdered k s) (id : ℕ) (v : Knows) → get_elem? s.views id ≡ some v → v.spent ≡ false → HasNoted v (notes_of d.order id)
+HasOwnNotes = (k : HallTerms) (s : Hall) (d : IsOrdered k s) (id : ℕ) (v : Knows) → get_elem? s.views id ≡ some v → v.spent ≡ false → HasNoted v (notes_of d.order id)
 
 -- and each word is one of those that it may be
 abbrev pub HasExactWords : Type 0
-HasExactWords = (k : Terms) (s : Hall) → IsOrdered k s → AreExact k s.words
+HasExactWords = (k : HallTerms) (s : Hall) → IsOrdered k s → AreExact k s.words

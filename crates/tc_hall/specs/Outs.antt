@@ -2,7 +2,7 @@
 use Rattle.std.specs.Prelude.{◌≡◌, ℕ, ◌==◌, if◌then◌else◌, List, ◌++◌, slice_index_or, Option, Some, None}
 use Rattle.tc_segment.specs.View.{LockView, kept}
 use Rattle.tc_context.specs.View.{PackageView, bare}
-use Rattle.tc_hall.specs.declared.board.Call.{Call}
+use Rattle.tc_hall.specs.declared.board.PassCall.{PassCall}
 use Rattle.tc_hall.specs.declared.board.Knows.{Knows}
 use Rattle.tc_hall.specs.Rule.{locked_in}
 
@@ -59,7 +59,7 @@ pub record CameOut (x : Item) (v w : Knows) : Type 0 where
   pub before : erase (outs w) x ≡ outs v
 
 -- these calls were added, and of image, worker, sealed blocks and joined passes nothing changed
-pub record Called (cs : List Call) (v w : Knows) : Type 0 where
+pub record Called (cs : List PassCall) (v w : Knows) : Type 0 where
   pub image : w.image ≡ v.image
   pub worker : w.worker ≡ v.worker
   pub sealed : w.sealed ≡ v.sealed

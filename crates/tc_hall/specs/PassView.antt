@@ -4,7 +4,7 @@ use Rattle.atomic_table.specs.Seated.{TableId}
 use Rattle.tc_segment.specs.View.{LockView}
 use Rattle.tc_context.specs.View.{PackageView}
 use Rattle.tc_hall.specs.declared.board.Knows.{Knows}
-use Rattle.tc_hall.specs.declared.board.Terms.{Terms}
+use Rattle.tc_hall.specs.declared.board.HallTerms.{HallTerms}
 
 pub record PassView : Type 0 where
   pub table : TableId
@@ -13,7 +13,7 @@ pub record PassView : Type 0 where
 
 pub record HallView : Type 0 where
   pub table : TableId
-  pub terms : Terms
+  pub terms : HallTerms
 
 pub record ClosedView : Type 0 where
   pub packages : List PackageView

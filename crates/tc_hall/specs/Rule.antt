@@ -12,25 +12,25 @@ use Rattle.tc_journal.specs.Batch.{last_of}
 use Rattle.tc_journal.specs.Handing.{of_worker, Delegates}
 use Rattle.tc_journal.specs.declared.block.Block.{Block}
 use Rattle.tc_turn.specs.Turn.{is_running}
-use Rattle.tc_segment.specs.View.{LockView, kept}
+use Rattle.tc_segment.specs.View.{LockView, kept, EndsSection}
 use Rattle.tc_context.specs.declared.package.Grant.{Grant}
 pub use Rattle.tc_context.specs.View.{grants_adopted, is_pinned}
 use Rattle.tc_context.specs.Locks.{lock_in}
-use Rattle.tc_context.specs.View.{PackageView, Rests, bare, fits_of, granted_lock, want_of}
+use Rattle.tc_context.specs.View.{PackageView, bare, fits_of, granted_lock, want_of}
 use Rattle.tc_law.specs.Lawful.{Lawful, AreStrict}
 use Rattle.tc_hall.specs.declared.board.TheConstants.{CLOCK, STOP}
 use Rattle.tc_hall.specs.Places.{slot_word}
 use Rattle.tc_hall.specs.declared.place.TheConstants.{READY, DONE, WAITING, OUT}
 use Rattle.tc_hall.specs.declared.board.Knows.{Knows}
-use Rattle.tc_hall.specs.declared.board.Terms.{Terms}
-use Rattle.tc_hall.specs.declared.board.Call.TheVariants.{Look, Stop, Stopped}
+use Rattle.tc_hall.specs.declared.board.HallTerms.{HallTerms}
+use Rattle.tc_hall.specs.declared.board.PassCall.TheVariants.{Look, Stop, Stopped}
 use Rattle.tc_hall.specs.declared.board.Cargo.{Cargo}
 use Rattle.tc_hall.specs.declared.board.Cargo.TheVariants.{Package, Lock}
 
-abbrev pub threads : Terms → ℕ
+abbrev pub threads : HallTerms → ℕ
 threads k = length k.image.value.entries
 
-abbrev pub locks : Terms → ℕ
+abbrev pub locks : HallTerms → ℕ
 locks k = length k.image.value.guards
 
 -- the pass of a worker with nothing out
@@ -38,7 +38,7 @@ abbrev pub clean : Shown → ℕ → ℕ → ℕ → Bool → Knows
 clean image n m worker maker =
     record { image = image; worker = worker; maker = maker; made = 0; spent = false; joined = []; packages = replicate n None; pinned = replicate n false; locks = replicate m None; hand = None; sealed = []; calls = []; missed = []; claimed = []; taken = [] }
 
-abbrev pub starting : Terms → Knows
+abbrev pub starting : HallTerms → Knows
 starting k = clean k.image.value (threads k) (locks k) (k.workers - 1) true
 
 abbrev pub Homes : Type 0
@@ -112,7 +112,7 @@ pub record IsLockHome (n : ℕ) (ws : List ℕ) (hs : Homes) (i : ℕ) (l : Lock
   pub slot : get_elem? hs (n + i) ≡ some (some (Some (Lock segment)))
   pub same : kept segment ≡ l
   pub word : slice_index ws (slot_word (n + i)) ≡ 0
-  pub rests : Rests i segment
+  pub rests : EndsSection i segment
 
 pub record IsInside (n : ℕ) (ws : List ℕ) (hs : Homes) (i : ℕ) (l : LockView) (t : ℕ) : Type 0 where
   pub below : t < n
@@ -187,7 +187,7 @@ pub record AreListed (h : List Block) (vs : List Knows) : Type 0 where
   pub made : (id i : ℕ) (v : Knows) (b : Block) → get_elem? vs id ≡ some v → v.maker ≡ true → get_elem? h i ≡ some b → (b.worker ≡ v.worker) ⊎ (b.worker < v.made)
 
 -- the limits of a hall
-pub record IsInLimits (k : Terms) : Type 0 where
+pub record IsInLimits (k : HallTerms) : Type 0 where
   pub threads : threads k ≤ MAX_THREADS
   pub locks : locks k ≤ MAX_GUARDS
   pub fuel : k.fuel ≤ MAX_FUEL
@@ -196,7 +196,7 @@ pub record IsInLimits (k : Terms) : Type 0 where
 -- the history, and each package and lock as of its last commit, with strict journals. Each worker begins an Adopted section
 -- directly behind its block that unlocked the lock, and a cut parts no thread from its worker. No word, slot or pass occurs in
 -- it, and only a commit changes it
-pub record Told (k : Terms) : Type 0 where
+pub record Told (k : HallTerms) : Type 0 where
   pub history : List Block
   pub places : List PackageView
   pub segments : List LockView
@@ -206,7 +206,7 @@ pub record Told (k : Terms) : Type 0 where
   pub workers : (i : ℕ) (b : Block) → get_elem? history i ≡ some b → b.worker < k.workers
   pub delegates : Delegates history
 
-pub record KeptHall (k : Terms) (s : State (Option Cargo) Knows) : Type 0 where
+pub record KeptHall (k : HallTerms) (s : State (Option Cargo) Knows) : Type 0 where
   pub told : Told k
   pub words : length s.words ≡ slot_word (threads k + locks k)
   pub slots : length s.homes ≡ threads k + locks k

@@ -12,7 +12,7 @@ use Rattle.tc_context.specs.View.{PackageView}
 use Rattle.tc_core.specs.declared.place.ThreadPlace.{ThreadPlace}
 use Rattle.tc_core.specs.declared.place.ThreadPlace.TheVariants.{Ready, Waiting, Parked, Done, At}
 use Rattle.tc_hall.specs.declared.board.Knows.{Knows}
-use Rattle.tc_hall.specs.declared.board.Terms.{Terms}
+use Rattle.tc_hall.specs.declared.board.HallTerms.{HallTerms}
 use Rattle.tc_hall.specs.declared.board.Cargo.TheVariants.{Package, Lock}
 use Rattle.tc_hall.specs.declared.place.TheConstants.{OUT}
 use Rattle.tc_hall.specs.declared.place.Place.{Place}
@@ -43,7 +43,7 @@ pub data PackageAt (s : Hall) (t : ℕ) (p : PackageView) : Type 0 where
   with_pass : (id : ℕ) (v : Knows) → get_elem? s.views id ≡ some v → Has v t p → PackageAt s t p
 
 -- l is the state of lock i in its slot, in a package that is in its slot, or as a pass keeps it; and so the lock lies there
-pub data LockAt (k : Terms) (s : Hall) (i : ℕ) (l : LockView) (y : Lying) : Type 0 where
+pub data LockAt (k : HallTerms) (s : Hall) (i : ℕ) (l : LockView) (y : Lying) : Type 0 where
   lock_in_slot : get_elem? s.homes (threads k + i) ≡ some (some (Some (Lock l))) → y ≡ at_home → LockAt k s i l y
   lock_in_package : (t : ℕ) (q : PackageView) → t < threads k → get_elem? s.homes t ≡ some (some (Some (Package q))) → locked_in q i ≡ Some l → y ≡ packed t → LockAt k s i l y
   lock_with_pass : (id : ℕ) (v : Knows) → get_elem? s.views id ≡ some v → HasLock v i l → y ≡ in_hand v.worker → LockAt k s i l y
@@ -57,7 +57,7 @@ pub record ShowsLock (o : Outline) (i : ℕ) (l : LockView) (y : Lying) : Type 0
   pub lies : o.lies i ≡ y
 
 -- the hall shows this outline, as far as its threads and locks go
-pub record IsShown (k : Terms) (s : Hall) (o : Outline) : Type 0 where
+pub record IsShown (k : HallTerms) (s : Hall) (o : Outline) : Type 0 where
   pub place : (t : ℕ) → t < threads k → o.place t ≡ place_shown (slice_index s.words (slot_word t))
   pub thread : (t : ℕ) (p : PackageView) → t < threads k → PackageAt s t p → ShowsThread o t p
   pub lock : (i : ℕ) (l : LockView) (y : Lying) → i < locks k → LockAt k s i l y → ShowsLock o i l y

@@ -12,20 +12,20 @@ use Rattle.tc_journal.specs.History.{of_lock}
 use Rattle.tc_journal.specs.declared.block.Block.{Block}
 use Rattle.tc_turn.specs.Turn.{is_running}
 use Rattle.tc_mutex_spec.specs.Blocks.{Tells, end_after}
-use Rattle.tc_segment.specs.View.{LockView, IsAtRest, blocks_of, kept, sealed_block}
+use Rattle.tc_segment.specs.View.{LockView, IsAtRest, blocks_of, kept, sealed_block, EndsSection}
 use Rattle.tc_context.specs.declared.package.Grant.{Grant}
 use Rattle.tc_context.specs.Locks.{lock_in}
-use Rattle.tc_context.specs.View.{PackageView, AllowsPending, Rests, bare, fits_of, number_in, with_seal}
+use Rattle.tc_context.specs.View.{PackageView, AllowsPending, bare, fits_of, number_in, with_seal}
 use Rattle.tc_context.specs.Ran.{DidRun}
 use Rattle.tc_law.specs.History.{Follows, StateFollows}
 use Rattle.tc_law.specs.Lawful.{Lawful, AreStrict}
 use Rattle.tc_hall.specs.declared.place.TheConstants.{DONE}
 use Rattle.tc_hall.specs.declared.place.Place.{Place}
 use Rattle.tc_hall.specs.declared.board.Given.{Given}
-use Rattle.tc_hall.specs.declared.board.Terms.{Terms}
+use Rattle.tc_hall.specs.declared.board.HallTerms.{HallTerms}
 use Rattle.tc_hall.specs.declared.board.Knows.{Knows}
-use Rattle.tc_hall.specs.declared.board.Call.{Call}
-use Rattle.tc_hall.specs.declared.board.Call.TheVariants.{Put, Free, Look, Stop, Stopped}
+use Rattle.tc_hall.specs.declared.board.PassCall.{PassCall}
+use Rattle.tc_hall.specs.declared.board.PassCall.TheVariants.{Put, Free, Look, Stop, Stopped}
 use Rattle.tc_hall.specs.declared.board.Cargo.{Cargo}
 use Rattle.tc_hall.specs.declared.board.Cargo.TheVariants.{Package, Lock}
 use Rattle.tc_hall.specs.Places.{code_of, place_of, slot_word}
@@ -85,7 +85,7 @@ abbrev pub given_of : PackageView → Option Given
 given_of q = option_map (λ (g : Grant). record { lock = g.lock; kind = g.kind; number = number_in q g.lock }) q.granted
 
 -- the call that puts the package at the place
-abbrev pub put_call : PackageView → Place → Call
+abbrev pub put_call : PackageView → Place → PassCall
 put_call q place = Put q.context.thread place (numbers q.context.locks) (given_of q)
 
 abbrev pub after_put : Knows → PackageView → Place → Knows
@@ -108,7 +108,7 @@ abbrev pub after_miss : Knows → ℕ → ℕ → Knows
 after_miss v word found = record v { missed = v.missed ++ record { word = word; found = found } ∷ [] }
 
 -- of `look`, `stop` and `stopped`
-abbrev pub with_call : Knows → Call → Knows
+abbrev pub with_call : Knows → PassCall → Knows
 with_call v c = record v { calls = v.calls ++ c ∷ [] }
 
 abbrev pub after_look : Knows → ℕ → ℕ → Knows
@@ -174,7 +174,7 @@ pub record Gave (place : Place) (q : PackageView) (v w : Knows) : Type 0 where
 
 -- the package and the lock states in it are as a history leaves them, which tells a run, obeys the batch limit, and has each
 -- block that the pass has sealed
-pub record IsAsLeft (k : Terms) (v : Knows) (q : PackageView) : Type 0 where
+pub record IsAsLeft (k : HallTerms) (v : Knows) (q : PackageView) : Type 0 where
   pub history : List Block
   pub tells : Tells k.image.value k.fuel history (end_after k.image.value k.fuel history)
   pub obeys : (i : ℕ) → Obeys i k.limit (of_lock history i)
@@ -182,7 +182,7 @@ pub record IsAsLeft (k : Terms) (v : Knows) (q : PackageView) : Type 0 where
   pub sealed : (i : ℕ) (b : Block) → get_elem? v.sealed i ≡ some b → get_elem? history b.stamp ≡ some b
 
 -- the state of lock i is as such a history leaves it
-pub record IsStateAsLeft (k : Terms) (v : Knows) (i : ℕ) (l : LockView) : Type 0 where
+pub record IsStateAsLeft (k : HallTerms) (v : Knows) (i : ℕ) (l : LockView) : Type 0 where
   pub history : List Block
   pub tells : Tells k.image.value k.fuel history (end_after k.image.value k.fuel history)
   pub obeys : (j : ℕ) → Obeys j k.limit (of_lock history j)
@@ -198,7 +198,7 @@ pub record Takes (i : ℕ) (l : LockView) (v w : Knows) : Type 0 where
 
 pub record MayFree (v : Knows) (l : LockView) : Type 0 where
   pub has : HasLock v l.number (kept l)
-  pub rests : Rests l.number l
+  pub rests : EndsSection l.number l
 
 pub record Freed (l : LockView) (v w : Knows) : Type 0 where
   pub now : w ≡ after_free v l
@@ -243,18 +243,18 @@ pub record DidSeal (q : PackageView) (n : ℕ) (v w : Knows) : Type 0 where
 
 -- the package of thread t was taken, and the pass has its slot in hand; in a hall of these terms, where they were picked, it is
 -- as the history leaves it
-abbrev pub Got : Option Terms → ℕ → ℕ → Sat → Sat → Type 0
-Got o word t m m' = (q : PackageView) × (w : Knows) × Gets word t q m.0 w × (m' ≡ (record w { hand = Some t }, (t, Some (Package q)) ∷ m.1)) × ((k : Terms) → o ≡ Some k → IsAsLeft k m.0 q)
+abbrev pub Got : Option HallTerms → ℕ → ℕ → Sat → Sat → Type 0
+Got o word t m m' = (q : PackageView) × (w : Knows) × Gets word t q m.0 w × (m' ≡ (record w { hand = Some t }, (t, Some (Package q)) ∷ m.1)) × ((k : HallTerms) → o ≡ Some k → IsAsLeft k m.0 q)
 
-abbrev pub claimed : Option Terms → At → Sat → ℕ → Sat → Type 0
+abbrev pub claimed : Option HallTerms → At → Sat → ℕ → Sat → Type 0
 claimed o st m r m' = (r ≡ st.first → (t : ℕ) → st.word ≡ slot_word t → Got o st.first t m m') × (r ≢ st.first → m' ≡ (after_miss m.0 st.word r, m.1))
 
 -- the same of the state of lock i, in a hall of these terms
-abbrev pub Took : Terms → ℕ → ℕ → Sat → Sat → Type 0
+abbrev pub Took : HallTerms → ℕ → ℕ → Sat → Sat → Type 0
 Took k i slot m m' = (l : LockView) × (w : Knows) × Takes i l m.0 w × (m' ≡ (record w { hand = Some slot }, (slot, Some (Lock l)) ∷ m.1)) × IsStateAsLeft k m.0 i l
 
-abbrev pub took_as : Option Terms → At → Sat → ℕ → Sat → Type 0
-took_as o st m r m' = (r ≡ st.first → (k : Terms) (i slot : ℕ) → o ≡ Some k → slot ≡ threads k + i → st.word ≡ slot_word slot → Took k i slot m m') × (r ≢ st.first → m' ≡ (after_miss m.0 st.word r, m.1))
+abbrev pub took_as : Option HallTerms → At → Sat → ℕ → Sat → Type 0
+took_as o st m r m' = (r ≡ st.first → (k : HallTerms) (i slot : ℕ) → o ≡ Some k → slot ≡ threads k + i → st.word ≡ slot_word slot → Took k i slot m m') × (r ≢ st.first → m' ≡ (after_miss m.0 st.word r, m.1))
 
 abbrev pub laid : At → Sat → ℕ → Sat → Type 0
 laid st m r m' = m' ≡ (record m.0 { hand = None }, rest m.1)
@@ -263,8 +263,8 @@ abbrev pub reached : At → Sat → ℕ → Sat → Type 0
 reached st m r m' = (slot : ℕ) → st.word ≡ slot_word slot → m' ≡ (record m.0 { hand = Some slot }, (slot, None) ∷ m.1)
 
 -- the package was put, in a hall of these terms, where they were picked
-abbrev pub put_as : Option Terms → At → Sat → ℕ → Sat → Type 0
-put_as o st m r m' = (t : ℕ) (q : PackageView) → m.1 ≡ (t, Some (Package q)) ∷ [] → (m' ≡ (record (after_put m.0 q (place_of st.first)) { hand = None }, [])) × ((k : Terms) → o ≡ Some k → IsAsLeft k m.0 q)
+abbrev pub put_as : Option HallTerms → At → Sat → ℕ → Sat → Type 0
+put_as o st m r m' = (t : ℕ) (q : PackageView) → m.1 ≡ (t, Some (Package q)) ∷ [] → (m' ≡ (record (after_put m.0 q (place_of st.first)) { hand = None }, [])) × ((k : HallTerms) → o ≡ Some k → IsAsLeft k m.0 q)
 
 abbrev pub did_free : At → Sat → ℕ → Sat → Type 0
 did_free st m r m' = (slot : ℕ) (l : LockView) → m.1 ≡ (slot, Some (Lock l)) ∷ [] → m' ≡ (record (after_free m.0 l) { hand = None }, [])
@@ -304,7 +304,7 @@ abbrev pub HasAll : ℕ → Knows → Type 0
 HasAll workers v = (u : ℕ) → u < workers → (u ≡ v.worker) ⊎ ((e : ℕ) × (get_elem? v.joined e ≡ some u))
 
 -- the packages and lock states in order, at the end, where this was the last pass
-pub record IsEnd (k : Terms) (v : Knows) (qs : List PackageView) (ls : List LockView) : Type 0 where
+pub record IsEnd (k : HallTerms) (v : Knows) (qs : List PackageView) (ls : List LockView) : Type 0 where
   pub history : List Block
   pub law : Lawful k.image.value k.fuel k.limit history (map bare qs) (map kept ls)
   pub strict : AreStrict ls

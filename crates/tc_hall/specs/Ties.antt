@@ -13,7 +13,7 @@ use Rattle.tc_core.specs.Stories.{AreEnabled, after_all}
 use Rattle.tc_core.specs.declared.event.Event.{Event}
 use Rattle.tc_core.specs.declared.event.Event.TheVariants.{Claim, Turn, Commit, Take, Ship, Adopt, Grant, Free, HandBack, Park, Finish}
 use Rattle.tc_hall.specs.declared.board.Knows.{Knows}
-use Rattle.tc_hall.specs.declared.board.Terms.{Terms}
+use Rattle.tc_hall.specs.declared.board.HallTerms.{HallTerms}
 use Rattle.tc_hall.specs.declared.place.TheConstants.{READY, PARKED, WAITING, OUT}
 use Rattle.tc_hall.specs.declared.place.Place.{Place}
 use Rattle.tc_hall.specs.declared.place.Place.TheVariants.{Ready, Waiting, Parked, Done}
@@ -25,24 +25,24 @@ use Rattle.tc_hall.specs.Outline.{outline, IsBetween}
 use Rattle.tc_hall.specs.Shown.{IsShown, last_end}
 
 -- the pure machine of the hall's guest
-abbrev pub machine_limits : Terms → Limits
+abbrev pub machine_limits : HallTerms → Limits
 machine_limits k = record { workers = k.workers; batch = k.limit }
 
-abbrev pub may_come : Terms → Core → Event → Bool
+abbrev pub may_come : HallTerms → Core → Event → Bool
 may_come k c e = is_enabled k.image.value (machine_limits k) c e
 
-abbrev pub after_events : Terms → Core → List Event → Core
+abbrev pub after_events : HallTerms → Core → List Event → Core
 after_events k c events = after_all k.image.value c events
 
 -- the worker has the thread; the lock
-abbrev pub at_worker : Terms → Core → ℕ → ℕ → Bool
+abbrev pub at_worker : HallTerms → Core → ℕ → ℕ → Bool
 at_worker k c w t = has_thread k.image.value (machine_limits k) c w t
 
-abbrev pub loose_at : Terms → Core → ℕ → ℕ → Bool
+abbrev pub loose_at : HallTerms → Core → ℕ → ℕ → Bool
 loose_at k c w lock = has_lock k.image.value (machine_limits k) c w lock
 
 -- the hall shows the core, in which no thread is inside a block
-pub record Shows (k : Terms) (s : Hall) (c : Core) : Type 0 where
+pub record Shows (k : HallTerms) (s : Hall) (c : Core) : Type 0 where
   pub between : IsBetween c
   pub shown : IsShown k s (outline c)
 
@@ -60,7 +60,7 @@ is_with (Granted u) t = u == t
 is_with (Loose w) t = false
 
 -- the locks that are with the thread or granted to it are those in its package
-abbrev pub AreInside : Terms → PackageView → Core → Type 0
+abbrev pub AreInside : HallTerms → PackageView → Core → Type 0
 AreInside k q c = (i : ℕ) → i < locks k → is_with (c.custody i).place q.context.thread ≡ is_some (locked_in q i)
 
 abbrev pub turns_by : ℕ → ℕ → ℕ → List Event
@@ -68,20 +68,20 @@ turns_by w t n = replicate n (Turn w t)
 
 -- a package is claimed where it is ready or parked: Claim; or, by a pass that has the lock for which it waits, where that is
 -- loose: Adopt, or Grant and Claim
-pub data IsClaimed (k : Terms) (s : Hall) (c : Core) (v : Knows) (t : ℕ) : List Event → Type 0 where
+pub data IsClaimed (k : HallTerms) (s : Hall) (c : Core) (v : Knows) (t : ℕ) : List Event → Type 0 where
   alone : (slice_index s.words (slot_word t) ≡ READY) ⊎ (slice_index s.words (slot_word t) ≡ PARKED) → IsClaimed k s c v t (Claim v.worker t ∷ [])
   adopted : (lock : ℕ) (l : LockView) → slice_index s.words (slot_word t) ≡ WAITING + lock → HasLock v lock l → IsLooseIn lock c → IsClaimed k s c v t (Adopt v.worker t lock ∷ [])
   granted : (lock : ℕ) (l : LockView) → slice_index s.words (slot_word t) ≡ WAITING + lock → HasLock v lock l → IsLooseIn lock c → IsClaimed k s c v t (Grant v.worker t lock ∷ Claim v.worker t ∷ [])
 
 -- a package is put with the locks that are with its thread or granted to it, and as parked only after a sleep
-abbrev pub IsPut : Terms → Core → Knows → PackageView → Place → List Event → Type 0
+abbrev pub IsPut : HallTerms → Core → Knows → PackageView → Place → List Event → Type 0
 IsPut k c v q Ready es = AreInside k q c × (es ≡ HandBack v.worker q.context.thread ∷ [])
 IsPut k c v q (Waiting lock) es = AreInside k q c × (es ≡ Ship v.worker q.context.thread lock ∷ [])
 IsPut k c v q Parked es = AreInside k q c × (last_end q.log ≡ Some Slept) × (es ≡ Park v.worker q.context.thread ∷ [])
 IsPut k c v q Done es = AreInside k q c × (es ≡ Finish v.worker q.context.thread ∷ [])
 
 -- the operation of a pass that knows v is these events
-abbrev pub IsOf : Terms → Hall → Core → Knows → Operation → List Event → Type 0
+abbrev pub IsOf : HallTerms → Hall → Core → Knows → Operation → List Event → Type 0
 IsOf k s c v (claim t q) es = IsClaimed k s c v t es
 IsOf k s c v (commit stamp b q) es = es ≡ turns_by v.worker q.context.thread b.turns ++ Commit v.worker q.context.thread ∷ []
 IsOf k s c v (put q place) es = IsPut k c v q place es
@@ -100,10 +100,10 @@ IsOf k s c v (join other w) es = es ≡ []
 -- ---- what its events ask of places, of statuses and of the ends of blocks
 
 -- the worker has the lock loose, and the thread waits for it
-abbrev pub CanPass : Terms → ℕ → ℕ → ℕ → Core → Type 0
+abbrev pub CanPass : HallTerms → ℕ → ℕ → ℕ → Core → Type 0
 CanPass k w t lock c = (loose_at k c w lock ≡ true) × (is_thread k.image.value t ≡ true) × (is_waiting (c.course t).place lock ≡ true)
 
-abbrev pub Asks : Terms → Core → Event → Type 0
+abbrev pub Asks : HallTerms → Core → Event → Type 0
 Asks k c (Claim w t) = may_come k c (Claim w t) ≡ true
 Asks k c (Adopt w t lock) = CanPass k w t lock c
 Asks k c (Grant w t lock) = CanPass k w t lock c
@@ -116,14 +116,14 @@ Asks k c (Free w lock) = loose_at k c w lock ≡ true
 Asks k c e = Unit {0}
 
 -- from c on the thread runs through n turns, at the worker, until the last of them ends a block so
-pub record RunsThrough (k : Terms) (w t n : ℕ) (end : End) (c : Core) : Type 0 where
+pub record RunsThrough (k : HallTerms) (w t n : ℕ) (end : End) (c : Core) : Type 0 where
   pub here : (j : ℕ) → j < n + 1 → at_worker k (after_events k c (turns_by w t j)) w t ≡ true
   pub runs : (j : ℕ) → j < n → runs (after_events k c (turns_by w t j)) t ≡ true
   pub goes_on : (j : ℕ) → j < n → ((after_events k c (turns_by w t j)).course t).ended ≡ None
   pub ends : ((after_events k c (turns_by w t n)).course t).ended ≡ Some end
 
 -- where they are asked from c on
-abbrev pub AreAsked : Terms → Core → Knows → Operation → List Event → Type 0
+abbrev pub AreAsked : HallTerms → Core → Knows → Operation → List Event → Type 0
 AreAsked k c v (commit stamp b q) es = RunsThrough k v.worker q.context.thread b.turns b.end c
 AreAsked k c v o [] = Unit {0}
 AreAsked k c v o (e ∷ es) = Asks k c e
@@ -132,11 +132,11 @@ AreAsked k c v o (e ∷ es) = Asks k c e
 
 -- the operation keeps the rule; and for each core that the hall shows, what the events ask holds, and if they may come, the hall
 -- shows the core after them
-pub record Tied (k : Terms) (s : Hall) (m : Made) : Type 0 where
+pub record Tied (k : HallTerms) (s : Hall) (m : Made) : Type 0 where
   pub kept : KeptHall k (after_operation k s m.pass m.knew m.operation)
   pub asks : (c : Core) (es : List Event) → Shows k s c → IsOf k s c m.knew m.operation es → AreAsked k c m.knew m.operation es
   pub shows : (c : Core) (es : List Event) → Shows k s c → IsOf k s c m.knew m.operation es → AreEnabled k.image.value (machine_limits k) c es → Shows k (after_operation k s m.pass m.knew m.operation) (after_events k c es)
 
 -- in every state that meets the rule, of every operation that may come there
 abbrev pub Ties : Type 0
-Ties = (k : Terms) (s : Hall) (m : Made) → KeptHall k s → MayCome k s m → Tied k s m
+Ties = (k : HallTerms) (s : Hall) (m : Made) → KeptHall k s → MayCome k s m → Tied k s m

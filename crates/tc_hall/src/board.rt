@@ -41,7 +41,7 @@ pub(crate) fn word_of(slot: u32) -> usize
 
 /// What a hall is made with.
 #[derive(Drop)]
-pub struct Terms {
+pub struct HallTerms {
     /// The guest that it runs.
     pub image: Snapshot<Image>,
     /// The fuel of each thread at its start.
@@ -73,7 +73,7 @@ pub struct Given {
 }
 
 /// A call that a pass made. No value of it is made.
-pub enum Call {
+pub enum PassCall {
     /// The thread, its place, the numbers of the locks in its package, and what was granted.
     Put(u32, Place, LinkedList<u32>, Option<Given>),
     /// The lock.
@@ -123,7 +123,7 @@ pub struct Knows {
     pub sealed: LinkedList<Block>,
     /// The calls of `put`, `free`, `look`, `stop` and `stopped`, in their order, and then those of
     /// each pass that was joined. So are the three lists below.
-    pub calls: LinkedList<Call>,
+    pub calls: LinkedList<PassCall>,
     /// The compare-and-swaps that failed.
     pub missed: LinkedList<Miss>,
     /// The packages that it took out of their slots, as they lay there.
@@ -186,7 +186,7 @@ impl Slot {
 /// The rule of the table.
 pub struct Ruled;
 
-impl TableRule<Slot, Knows, Terms> for Ruled {
+impl TableRule<Slot, Knows, HallTerms> for Ruled {
     ghost use Rattle.tc_hall.specs.Rule.{starting};
     ghost use Rattle.tc_hall.specs.Order.{IsOrdered};
 
@@ -196,7 +196,7 @@ impl TableRule<Slot, Knows, Terms> for Ruled {
 }
 
 /// The table of a hall.
-pub type Board = Table<Slot, Knows, Terms, Ruled, Global>;
+pub type HallTable = Table<Slot, Knows, HallTerms, Ruled, Global>;
 
 /// The seat of a pass.
 pub type Sitting = Seat<Slot, Knows>;

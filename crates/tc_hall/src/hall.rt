@@ -12,12 +12,12 @@ ghost use Rattle.tc_hall.specs.Steps.{IsSamePass, IsPackage, IsLock, HoldsPackag
 ghost use Rattle.tc_hall.specs.Order.{IsClaimable};
 ghost use Rattle.tc_hall.specs.Made.{IsHallOf, AreDealt, AreStocked};
 
-use crate::board::{Board, CLOCK, Cargo, STOP, Slot, Terms, word_of};
+use crate::board::{CLOCK, Cargo, HallTable, HallTerms, STOP, Slot, word_of};
 use crate::closed::Closed;
 use crate::pass::Pass;
 use crate::place::{OUT, Origin, Place, WAITING};
 use crate::plays::{
-    Asked, Claim, Deal, Fill, Free, Lay, Look, Merge, Reach, Seal, Stop, Stopped, Take, Under,
+    Claim, Deal, Fill, Free, Lay, Look, Merge, Picked, Reach, Seal, Stop, Stopped, TakeLock, Under,
 };
 use atomic_table::{Refused, Table};
 use std::alloc::{AllocError, Global};
@@ -55,7 +55,7 @@ pub struct LockOut(
 /// each calls it with its own pass. After `new` no call takes memory, and none waits for another.
 #[derive(Drop)]
 pub struct Hall {
-    board: Board,
+    board: HallTable,
     threads: u32,
     locks: u32,
     // Room for what is taken out at the end.
@@ -157,7 +157,7 @@ impl Hall {
         let mut passes = Vec::with_capacity(alloc, workers as usize)?;
         let words = Vec::from_elem(alloc, 0u64, word_of(image.threads() + image.guards()))?;
         let slots = stock(alloc, image, fuel, limit)?;
-        let terms = Terms {
+        let terms = HallTerms {
             image: Snapshot::of(image),
             fuel,
             workers,
@@ -365,7 +365,7 @@ impl Hall {
         let place = self.threads + lock;
         let words = &self.board.shared;
         let word = word_of(place);
-        let found = words.compare_exchange::<Take<J>>(&mut pass.seat, word, 0, 1);
+        let found = words.compare_exchange::<TakeLock<J>>(&mut pass.seat, word, 0, 1);
         if found != 0 {
             return Err(LockOut(found));
         }
@@ -442,7 +442,7 @@ impl Hall {
     }
 
     /// The step that seals the block of J's package.
-    fn seal_as<J: Asked>(&self, pass: &mut Pass, package: &Package) -> u64
+    fn seal_as<J: Picked>(&self, pass: &mut Pass, package: &Package) -> u64
         requires own { pass.old.table ≡ self.now.table }
         requires picked { J.picked ≡ Some «package».now }
         requires ready { Seals pass.old.knows «package».now }

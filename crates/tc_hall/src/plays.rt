@@ -30,9 +30,9 @@ impl Play<Slot, Knows> for Reach {
 /// The terms of the hall in which a package or a lock state is taken or put. Each call picks them.
 pub trait Under {
     ghost use Rattle.std.specs.Prelude.{Option};
-    ghost use Rattle.tc_hall.specs.declared.board.Terms.{Terms};
+    ghost use Rattle.tc_hall.specs.declared.board.HallTerms.{HallTerms};
 
-    ghost terms: { Option Terms };
+    ghost terms: { Option HallTerms };
 }
 
 impl Under for Brand {
@@ -74,14 +74,14 @@ impl Play<Slot, Knows> for Stopped {
 }
 
 /// The package whose block is sealed. Each call picks it.
-pub trait Asked {
+pub trait Picked {
     ghost use Rattle.std.specs.Prelude.{Option};
     ghost use Rattle.tc_context.specs.View.{PackageView};
 
     ghost picked: { Option PackageView };
 }
 
-impl Asked for Brand {
+impl Picked for Brand {
     ghost use Rattle.std.specs.Prelude.{None};
 
     ghost picked = { None };
@@ -91,15 +91,15 @@ pub(crate) struct Seal<J> {
     marker: PhantomData<J>,
 }
 
-impl<J: Asked> Play<Slot, Knows> for Seal<J> {
+impl<J: Picked> Play<Slot, Knows> for Seal<J> {
     ghost then = { sealed_as J.picked };
 }
 
-pub(crate) struct Take<J> {
+pub(crate) struct TakeLock<J> {
     marker: PhantomData<J>,
 }
 
-impl<J: Under> Play<Slot, Knows> for Take<J> {
+impl<J: Under> Play<Slot, Knows> for TakeLock<J> {
     ghost then = { took_as J.terms };
 }
 

@@ -20,19 +20,20 @@ use Rattle.tc_mutex_spec.proofs.BlockEnds.{block_falls, left_falls}
 use Rattle.tc_mutex_spec.proofs.Entries.{tells_end}
 use Rattle.tc_mutex_spec.proofs.Owners.{no_owner}
 use Rattle.tc_mutex_spec.proofs.Replaying.{turn_runs}
-use Rattle.tc_segment.specs.View.{LockView, IsStrict, kept, with_journal, sealed_as, sealed_block}
+use Rattle.tc_segment.specs.View.{LockView, IsStrict, kept, with_journal, sealed_as, sealed_block, EndsSection}
 use Rattle.tc_context.specs.Locks.{lock_in}
 use Rattle.tc_context.specs.Whole.{thread_in, set_of}
-use Rattle.tc_context.specs.View.{PackageView, Allows, Rests, bare, with_seal}
+use Rattle.tc_context.specs.View.{PackageView, Allows, bare, with_seal}
 use Rattle.tc_context.specs.Ran.{DidRun}
 use Rattle.tc_law.specs.History.{Follows, Grows}
 use Rattle.tc_law.specs.Lawful.{IsPackageAfter, IsStateAfter, blocks_left, all_left, Lawful, IsLimited, IsAmong, with_package, with_states, AreFresh, AreStrict}
-use Rattle.tc_mutex_spec.proofs.ListLaws.{there, at_place, set_at, same_list}
+use Rattle.tc_mutex_spec.proofs.ListLaws.{there, set_at, same_list}
 use Rattle.tc_mutex_spec.proofs.Histories.{filter_has, filter_from, stamp_at, thread_at}
 use Rattle.tc_context.proofs.Moved.{map_some, some_map}
 use Rattle.tc_context.proofs.Partway.{block_inside}
 use Rattle.tc_context.proofs.Running.{sealed_at}
 use Rattle.tc_law.proofs.Following.{holds_told, blocks_are, strict_still, grown, obeyed, thread_still, state_still, state_kept}
+use Rattle.tc_lemmas.proofs.Lists.{something_at}
 
 pub with_states-length : (slots : List (Option LockView)) (states : List LockView) → length (with_states slots states) ≡ length states
 with_states-length [] states = refl
@@ -193,7 +194,7 @@ within : (image : Shown) (fuel limit : ℕ) (g h : List Block) (packages : List 
     → (i : ℕ) (b : Block) → get_elem? g i ≡ some b → get_elem? h i ≡ some b
 within image fuel limit g h packages states others one two i b e =
     let below = thread_at image [] g (start image fuel) (end_after image fuel g) one.tells i b e in
-    let p = at_place packages b.thread (omega (arith, one.all_packages, below)) in
+    let p = something_at packages b.thread (omega (arith, one.all_packages, below)) in
     let mine = filter_has b.thread g i b e refl in
     let log : of_thread g b.thread ≡ of_thread h b.thread = sym (one.packages_after b.thread p.0 p.1).follows.log ∙ (two.packages_after b.thread p.0 p.1).follows.log in
     let its = filter_from b.thread h mine.0 b (ap (λ (l : List Block). get_elem? l mine.0) (sym log) ∙ mine.1) in
@@ -212,7 +213,7 @@ short_history image fuel limit h packages states limits law =
     let a = law.bound in omega (arith, a, b)
 
 all_of : {A : Type 0} (P : A → Type 0) (xs : List A) → ((i : ℕ) (a : A) → get_elem? xs i ≡ some a → P a) → All P xs
-all_of P xs f = λ k d lt. (let x = at_place xs k lt in subst P (sym (there xs k x.0 d x.1).1) (f k x.0 x.1))
+all_of P xs f = λ k d lt. (let x = something_at xs k lt in subst P (sym (there xs k x.0 d x.1).1) (f k x.0 x.1))
 
 pub fresh_lawful : (image : Shown) (fuel limit : ℕ) (packages : List PackageView) (states : List LockView) → AreFresh image fuel limit packages states → Lawful image fuel limit [] packages states
 fresh_lawful image fuel limit packages states fresh = record {
@@ -247,7 +248,7 @@ fresh_lawful image fuel limit packages states fresh = record {
 -- ---- who owns what
 
 pub rests_free : (image : Shown) (fuel limit : ℕ) (h : List Block) (packages : List PackageView) (states : List LockView) → Lawful image fuel limit h packages states
-    → (k : ℕ) (l : LockView) → get_elem? states k ≡ some l → Rests k l → ((end_after image fuel h).locks k).owner ≡ None
+    → (k : ℕ) (l : LockView) → get_elem? states k ≡ some l → EndsSection k l → ((end_after image fuel h).locks k).owner ≡ None
 rests_free image fuel limit h packages states law k l e rests =
     let blocks = blocks_are image fuel limit h (end_after image fuel h) k l (law.states_after k l e).follows in
     no_owner image fuel h (end_after image fuel h) k law.tells (subst (λ bs. IfSome (last_of bs) (λ x. ends_section k x ≡ true)) blocks rests)

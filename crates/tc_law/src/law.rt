@@ -8,9 +8,9 @@ ghost use Rattle.tc_journal.specs.History.{of_lock};
 ghost use Rattle.tc_journal.specs.declared.block.Block.{Block};
 ghost use Rattle.tc_mutex_spec.specs.Machine.{State};
 ghost use Rattle.tc_mutex_spec.specs.Blocks.{Tells};
-ghost use Rattle.tc_segment.specs.View.{LockView, IsStrict};
+ghost use Rattle.tc_segment.specs.View.{LockView, IsStrict, EndsSection};
 ghost use Rattle.tc_context.specs.Locks.{EachLock};
-ghost use Rattle.tc_context.specs.View.{PackageView, Allows, Rests, held_in, locks_in, with_seal};
+ghost use Rattle.tc_context.specs.View.{PackageView, Allows, held_in, locks_in, with_seal};
 ghost use Rattle.tc_context.specs.Ran.{DidRun, block_sealed};
 ghost use Rattle.tc_law.specs.History.{Follows, Grows};
 ghost use Rattle.tc_law.specs.Lawful.{IsLimited, StandsAt, IsAmong, AreFresh, AreStrict, with_states};
@@ -71,7 +71,7 @@ pub fn keep()
     ensures short { (a : Account)
         → IsLimited a.image a.fuel → IsLawful a → length a.history < 2 ^ 32 }
     ensures free { (a : Account) → IsLawful a
-        → (k : ℕ) (l : LockView) → StandsAt a.states k l → Rests k l → owner_in a k ≡ None }
+        → (k : ℕ) (l : LockView) → StandsAt a.states k l → EndsSection k l → owner_in a k ≡ None }
     ensures held { (a : Account) → IsLawful a
         → (t : ℕ) (p : PackageView) → StandsAt a.packages t p
         → (k : ℕ) → has (held_in p) k ≡ true → owner_in a k ≡ Some t }

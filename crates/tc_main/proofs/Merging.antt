@@ -20,10 +20,11 @@ use Rattle.tc_mutex_spec.specs.Blocks.{end_after}
 use Rattle.tc_segment.specs.View.{LockView}
 use Rattle.tc_context.specs.View.{PackageView, bare}
 use Rattle.tc_law.specs.Lawful.{Lawful}
-use Rattle.tc_mutex_spec.proofs.ListLaws.{there, at_place, same_list}
+use Rattle.tc_mutex_spec.proofs.ListLaws.{there, same_list}
 use Rattle.tc_mutex_spec.proofs.Histories.{stamp_at, thread_at}
 use Rattle.tc_report.specs.Outcome.{log_in, logs_of}
 use Rattle.tc_report.proofs.Ranges.{by_number}
+use Rattle.tc_lemmas.proofs.Lists.{something_at}
 
 -- ---- lists in parts
 
@@ -101,7 +102,7 @@ contains_at : {A : Type 0} (l : List A) (i : ℕ) (a : A) → get_elem? l i ≡ 
 contains_at l i a e = (let x = there l i a a e in (i, x.0, x.1))
 
 at_contains : {A : Type 0} (l : List A) (a : A) → (c : Contains l a) → get_elem? l c.0 ≡ some a
-at_contains l a c = (let x = at_place l c.0 c.1 in x.1 ∙ ap some (sym (there l c.0 x.0 a x.1).1 ∙ c.2))
+at_contains l a c = (let x = something_at l c.0 c.1 in x.1 ∙ ap some (sym (there l c.0 x.0 a x.1).1 ∙ c.2))
 
 -- in a list in the order of stamps each block's stamp is its place
 place_of : (g : List Block) → IsInOrder g → (i : ℕ) (b : Block) → get_elem? g i ≡ some b → b.stamp ≡ i
@@ -146,7 +147,7 @@ module _ (image : Shown) (fuel limit : ℕ) (h : List Block) (packages : List Pa
 
   pub each_stamp : HasEachStamp (logs_of packages)
   each_stamp stamp lt =
-      let here = at_place h stamp (omega (arith, length_permutation h (logs_of packages) shared_out)) in
+      let here = something_at h stamp (omega (arith, length_permutation h (logs_of packages) shared_out)) in
       let of : Block → ℕ = λ b. b.stamp in
       let at : get_elem? (map of h) stamp ≡ some stamp = at_map of h stamp here.0 here.1 ∙ ap some (stamp_is stamp here.0 here.1) in
       Contains-permutation (map of h) (map of (logs_of packages)) stamp (IsPermutation-map of h (logs_of packages) shared_out) (contains_at (map of h) stamp stamp at)

@@ -4,14 +4,13 @@ use Rattle.std.proofs.lemmas.List.{map-append}
 use mathlib.Core.Option.{some}
 use lib.ListN.{get_elem?}
 use Rattle.tc_mutex_spec.proofs.ListLaws.{there}
-use Rattle.tc_hall.proofs.Telling.{snoc_at}
 use Rattle.tc_queue.specs.View.{QueueView}
 use Rattle.tc_nodes.specs.Lines.{queue_as}
 use Rattle.tc_nodes.specs.View.{NodeQueueView, NodeSeatView, AreNewSeats}
 use Rattle.tc_workers.specs.Rows.{AreDealtOut}
-use Rattle.tc_workers.proofs.Hiring.{at_itself}
 use Rattle.tc_workers.proofs.Rows.{row_by_row}
 use Rattle.tc_main.specs.Orders.{AreOnNodes}
+use Rattle.tc_lemmas.proofs.Lists.{at_end, at_itself}
 
 -- each queue is made for so many threads
 abbrev pub AreMadeFor : ℕ → List QueueView → Type 0
@@ -36,7 +35,7 @@ all_more P xs x all one k d lt =
     ⊎_elim
     (λ (h : get_elem? xs k ≡ some (get_or (xs ++ x ∷ []) k d)). let place = there xs k _ d h in subst P place.1 (all k d place.0))
     (λ (h : (k ≡ length xs) × (x ≡ get_or (xs ++ x ∷ []) k d)). subst P h.1 one)
-    (snoc_at xs x (get_or (xs ++ x ∷ []) k d) k e)
+    (at_end xs x (get_or (xs ++ x ∷ []) k d) k e)
 
 pub on_more : {X : Type 0} (nodes : ℕ) (items : X → List NodeSeatView) (q : NodeQueueView) (rows : List X) (seats : List NodeSeatView) (more : List X) → AreOnNodes nodes items rows → AreNewSeats q nodes seats
     → length seats ≡ length rows → AreDealtOut items rows seats more → AreOnNodes nodes items more

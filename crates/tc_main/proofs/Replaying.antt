@@ -26,8 +26,8 @@ use Rattle.tc_main.specs.declared.order.Order.{Order}
 use Rattle.tc_main.specs.declared.status.Status.{Status}
 use Rattle.tc_main.specs.declared.status.Status.TheVariants.{Refused}
 use Rattle.tc_main.specs.declared.status.Status.TheVariants as status
-use Rattle.tc_main.specs.declared.words.Asked.{Asked}
-use Rattle.tc_main.specs.declared.words.Asked.TheVariants.{Run}
+use Rattle.tc_main.specs.declared.words.Command.{Command}
+use Rattle.tc_main.specs.declared.words.Command.TheVariants.{Run}
 use Rattle.tc_main.specs.declared.wrong.Wrong.{Wrong}
 use Rattle.tc_main.specs.declared.wrong.Wrong.TheVariants.{Short, File, History, OutOfMemory}
 use Rattle.tc_main.specs.Accepted.{CanAllBeAdded}
@@ -51,7 +51,7 @@ text_wrong size o bytes (History r) image enough guest wrong = inl (record { ima
 text_wrong size o bytes OutOfMemory image enough guest wrong = tt
 
 -- the same for what is asked of a history
-pub asked_wrong : (asked : Asked) (size : ℕ) (o : Options) (bytes : List ℕ) (w : Wrong) → input_of asked ≡ Some (file_and_history size) → history_asked asked ≡ Some (size, o) → IsWrongInput size o bytes w → IsWrong asked bytes w
+pub asked_wrong : (asked : Command) (size : ℕ) (o : Options) (bytes : List ℕ) (w : Wrong) → input_of asked ≡ Some (file_and_history size) → history_asked asked ≡ Some (size, o) → IsWrongInput size o bytes w → IsWrong asked bytes w
 asked_wrong asked size o bytes Short is of wrong = (file_and_history size, is, wrong)
 asked_wrong asked size o bytes (File reason) is of wrong = (file_and_history size, is, wrong.0, wrong.1)
 asked_wrong asked size o bytes (History r) is of wrong = subst (λ (h : Option (ℕ × Options)). Rejects h bytes r) (sym of) wrong
@@ -77,19 +77,19 @@ addable_taken v image o h taken run = addable image o.fuel h (end_after image o.
 -- ---- what is read
 
 -- so many bytes are read for what is asked
-pub record IsReadFor (asked : Asked) (most : ℕ) : Type 0 where
+pub record IsReadFor (asked : Command) (most : ℕ) : Type 0 where
   pub input : Input
   pub is : input_of asked ≡ Some input
   pub most_is : most ≡ input.most
 
-pub read_for : (asked : Asked) (most : ℕ) → Some most ≡ option_map (λ (i : Input). i.most) (input_of asked) → IsReadFor asked most
+pub read_for : (asked : Command) (most : ℕ) → Some most ≡ option_map (λ (i : Input). i.most) (input_of asked) → IsReadFor asked most
 read_for asked most e = go (input_of asked) refl e
   where
     go : (o : Option Input) → input_of asked ≡ o → Some most ≡ option_map (λ (i : Input). i.most) o → IsReadFor asked most
     go None is f = absurd (cc)
     go (Some input) is f = record { input = input; is = is; most_is = same_Some most input.most f }
 
-pub none_read : (asked : Asked) → None ≡ option_map (λ (i : Input). i.most) (input_of asked) → input_of asked ≡ None
+pub none_read : (asked : Command) → None ≡ option_map (λ (i : Input). i.most) (input_of asked) → input_of asked ≡ None
 none_read asked e = go (input_of asked) e
   where
     go : (o : Option Input) → None ≡ option_map (λ (i : Input). i.most) o → o ≡ None
@@ -99,11 +99,11 @@ none_read asked e = go (input_of asked) e
 -- ---- what is answered
 
 -- the answer to what is wrong is the verdict
-pub answer_short : (asked : Asked) (bytes : List ℕ) (s : Status) → IsWrong asked bytes Short → s ≡ Refused 17 → Verdict asked bytes (refused_line 17 (codes "ShortInput")) s
+pub answer_short : (asked : Command) (bytes : List ℕ) (s : Status) → IsWrong asked bytes Short → s ≡ Refused 17 → Verdict asked bytes (refused_line 17 (codes "ShortInput")) s
 answer_short asked bytes s wrong is =
     subst (Verdict asked bytes (refused_line 17 (codes "ShortInput"))) (sym is) (wrong.0, wrong.1, (codes "ShortInput", inl (wrong.2, refl, refl), refl))
 
-pub answer_file : (asked : Asked) (bytes : List ℕ) (s : Status) (reason : Refusal) → IsWrong asked bytes (File reason) → s ≡ Refused (refusal_number reason) → Verdict asked bytes (refused_line (refusal_number reason) (refusal_name reason)) s
+pub answer_file : (asked : Command) (bytes : List ℕ) (s : Status) (reason : Refusal) → IsWrong asked bytes (File reason) → s ≡ Refused (refusal_number reason) → Verdict asked bytes (refused_line (refusal_number reason) (refusal_name reason)) s
 answer_file asked bytes s reason wrong is =
     subst (Verdict asked bytes (refused_line (refusal_number reason) (refusal_name reason))) (sym is) (
       wrong.0,
@@ -111,7 +111,7 @@ answer_file asked bytes s reason wrong is =
       (refusal_name reason, inr (wrong.2, record { reason = reason; first = wrong.3.0; known = wrong.3.1; number = refl; called = refl }), refl),
     )
 
-pub answer_history : (asked : Asked) (bytes : List ℕ) (s : Status) (r : Rejected) → IsWrong asked bytes (History r) → s ≡ status.Rejected r → Verdict asked bytes (rejected_line r) s
+pub answer_history : (asked : Command) (bytes : List ℕ) (s : Status) (r : Rejected) → IsWrong asked bytes (History r) → s ≡ status.Rejected r → Verdict asked bytes (rejected_line r) s
 answer_history asked bytes s r wrong is = subst (Verdict asked bytes (rejected_line r)) (sym is) (wrong, refl)
 
 -- what is wrong with a guest's file alone
@@ -122,7 +122,7 @@ run_wrong order o bytes (History r) wrong = absurd wrong
 run_wrong order o bytes OutOfMemory wrong = tt
 
 -- where the words ask for nothing that is read, nothing is read for it
-pub unread_input : (words : List (List ℕ)) (asked : Asked) → AskFor words asked → ¬ Reads words → input_of asked ≡ None
+pub unread_input : (words : List (List ℕ)) (asked : Command) → AskFor words asked → ¬ Reads words → input_of asked ≡ None
 unread_input words asked asks other = go (input_of asked) refl
   where
     go : (o : Option Input) → input_of asked ≡ o → o ≡ None
@@ -130,7 +130,7 @@ unread_input words asked asks other = go (input_of asked) refl
     go (Some input) is = absurd (other (input, record { asked = asked; asks = asks; input_is = is }))
 
 -- so many bytes fit what is asked
-pub fits : (asked : Asked) (most : ℕ) (bytes : List ℕ) → IsReadFor asked most → length bytes ≤ most → FitsInput asked bytes
+pub fits : (asked : Command) (most : ℕ) (bytes : List ℕ) → IsReadFor asked most → length bytes ≤ most → FitsInput asked bytes
 fits asked most bytes for few input is =
     let same : for.input ≡ input = same_Some for.input input (sym for.is ∙ is) in
     let most_is : most ≡ input.most = for.most_is ∙ ap (λ (i : Input). i.most) same in

@@ -11,8 +11,8 @@ use Rattle.tc_isa.specs.declared.limits.TheConstants.{MAX_BATCH, MAX_FUEL, MAX_W
 use Rattle.tc_isa.specs.declared.options.Options.{Options}
 use Rattle.tc_main.specs.Words.{AskFor, Input, IsWithinLimits, file_and_history, history_asked, input_of, option_words, spelling, whole_file}
 use Rattle.tc_main.specs.declared.order.Order.TheVariants.{Entry, Nodes}
-use Rattle.tc_main.specs.declared.words.Asked.{Asked}
-use Rattle.tc_main.specs.declared.words.Asked.TheVariants.{Run, Generate, Demo, Replay, Profile}
+use Rattle.tc_main.specs.declared.words.Command.{Command}
+use Rattle.tc_main.specs.declared.words.Command.TheVariants.{Run, Generate, Demo, Replay, Profile}
 
 -- the word at a place
 abbrev word_at : ℕ → List (List ℕ) → List ℕ
@@ -57,7 +57,7 @@ read_by words =
 value_is : (n : ℕ) → n ≤ MAX_FILE → n ≡ digits_value 10 (decimal n)
 value_is n small = sym (decimal_is_IsNumeral n (omega (arith, small))).1
 
-read_by_spelling : (asked : Asked) → IsWithinLimits asked → input_of asked ≡ read_by (spelling asked)
+read_by_spelling : (asked : Command) → IsWithinLimits asked → input_of asked ≡ read_by (spelling asked)
 unfolding read_by key
 read_by_spelling (Run Entry o) within = refl
 read_by_spelling (Run (Nodes nodes bound) o) within = refl
@@ -67,7 +67,7 @@ read_by_spelling (Replay size o) within = ap (λ n. Some (file_and_history n)) (
 read_by_spelling (Profile size o) within = ap (λ n. Some (file_and_history n)) (value_is size within.1)
 
 -- the same words never ask for two inputs
-pub one_input : (words : List (List ℕ)) (a b : Asked) → AskFor words a → AskFor words b → input_of a ≡ input_of b
+pub one_input : (words : List (List ℕ)) (a b : Command) → AskFor words a → AskFor words b → input_of a ≡ input_of b
 one_input words a b x y = read_by_spelling a x.0 ∙ ap read_by (sym x.1 ∙ y.1) ∙ sym (read_by_spelling b y.0)
 
 -- ---- of which history
@@ -80,7 +80,7 @@ abbrev history_words : Option (ℕ × Options) → Option (List (List ℕ))
 history_words None = None
 history_words (Some h) = Some (decimal h.0 ∷ option_words h.1)
 
-told_by_spelling : (asked : Asked) → history_words (history_asked asked) ≡ told_by (spelling asked)
+told_by_spelling : (asked : Command) → history_words (history_asked asked) ≡ told_by (spelling asked)
 unfolding told_by key
 told_by_spelling (Run Entry o) = refl
 told_by_spelling (Run (Nodes nodes bound) o) = refl
@@ -93,7 +93,7 @@ abbrev HasSize : Option (ℕ × Options) → Type 0
 HasSize None = Unit {0}
 HasSize (Some h) = h.0 ≤ MAX_FILE
 
-has_size : (asked : Asked) → IsWithinLimits asked → HasSize (history_asked asked)
+has_size : (asked : Command) → IsWithinLimits asked → HasSize (history_asked asked)
 has_size (Run Entry o) within = tt
 has_size (Run (Nodes nodes bound) o) within = tt
 has_size (Generate rounds) within = tt
@@ -112,6 +112,6 @@ same_history (Some g) (Some h) small small_too e =
     λ i. Some (size i, options i)
 
 -- the same words never ask for two histories
-pub one_history_asked : (words : List (List ℕ)) (a b : Asked) → AskFor words a → AskFor words b → history_asked a ≡ history_asked b
+pub one_history_asked : (words : List (List ℕ)) (a b : Command) → AskFor words a → AskFor words b → history_asked a ≡ history_asked b
 one_history_asked words a b x y =
     same_history (history_asked a) (history_asked b) (has_size a x.0) (has_size b y.0) (told_by_spelling a ∙ ap told_by (sym x.1 ∙ y.1) ∙ sym (told_by_spelling b))

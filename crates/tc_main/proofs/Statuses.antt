@@ -18,8 +18,8 @@ use Rattle.tc_main.specs.Replayed.{HasHistory, HasRun, IsRejection}
 use Rattle.tc_main.specs.Top.{Accepts, CanBeDone, Ends, HasInput, HasRead, IsRefused, IsRejectedFor, IsTextOf, IsWanted, MustRefuse, ReadsAll, RefusesBytes, Rejects}
 use Rattle.tc_main.specs.declared.status.Status.{Status}
 use Rattle.tc_main.specs.declared.status.Status.TheVariants.{Done, Usage, ReadFault, Refused, WriteFault, OutOfMemory, Rejected}
-use Rattle.tc_main.specs.declared.words.Asked.{Asked}
-use Rattle.tc_main.specs.declared.words.Asked.TheVariants.{Run, Generate, Demo, Replay, Profile}
+use Rattle.tc_main.specs.declared.words.Command.{Command}
+use Rattle.tc_main.specs.declared.words.Command.TheVariants.{Run, Generate, Demo, Replay, Profile}
 use Rattle.tc_main.proofs.OneReading.{never_wrong, one_history, one_line}
 use Rattle.tc_main.proofs.SameAsked.{one_history_asked, one_input}
 
@@ -66,7 +66,7 @@ one_asked (Some h) bytes r s a b = one h.0 h.1 bytes r s a b
 -- ---- texts are made of what can be read
 
 -- of a history a text is made only where it is accepted
-text_accepts : (asked : Asked) (bytes text : List ℕ) → IsTextOf asked bytes text → Accepts (history_asked asked) bytes
+text_accepts : (asked : Command) (bytes text : List ℕ) → IsTextOf asked bytes text → Accepts (history_asked asked) bytes
 text_accepts (Run order o) bytes text made = tt
 text_accepts (Generate rounds) bytes text made = tt
 text_accepts (Demo rounds o) bytes text made = tt
@@ -79,7 +79,7 @@ has_guest size o bytes input is ran =
     subst (λ (i : Input). (i.least ≤ length bytes) × (refusal (i.file bytes) ≡ None)) (same_Some (file_and_history size) input is) (ran.is.enough, ran.is.guest.0)
 
 -- of bytes whose file is refused no text is made
-text_needs : (asked : Asked) (input : Input) (bytes text : List ℕ) → input_of asked ≡ Some input → IsTextOf asked bytes text → (input.least ≤ length bytes) × (refusal (input.file bytes) ≡ None)
+text_needs : (asked : Command) (input : Input) (bytes text : List ℕ) → input_of asked ≡ Some input → IsTextOf asked bytes text → (input.least ≤ length bytes) × (refusal (input.file bytes) ≡ None)
 text_needs (Run order o) input bytes text is made =
     let same : whole_file ≡ input = same_Some whole_file input is in
     subst (λ (i : Input). (i.least ≤ length bytes) × (refusal (i.file bytes) ≡ None)) same (omega arith, made.1.0)
@@ -95,7 +95,7 @@ has_guest_too size o bytes input r is (inl text) =
 has_guest_too size o bytes input r is (inr wrong) =
     subst (λ (i : Input). (i.least ≤ length bytes) × (refusal (i.file bytes) ≡ None)) (same_Some (file_and_history size) input is) (wrong.is.enough, wrong.is.guest.0)
 
-rejection_needs : (asked : Asked) (input : Input) (bytes : List ℕ) (r : Rejection) → input_of asked ≡ Some input → Rejects (history_asked asked) bytes r → (input.least ≤ length bytes) × (refusal (input.file bytes) ≡ None)
+rejection_needs : (asked : Command) (input : Input) (bytes : List ℕ) (r : Rejection) → input_of asked ≡ Some input → Rejects (history_asked asked) bytes r → (input.least ≤ length bytes) × (refusal (input.file bytes) ≡ None)
 rejection_needs (Run order o) input bytes r is rejected = absurd rejected
 rejection_needs (Generate rounds) input bytes r is rejected = absurd rejected
 rejection_needs (Demo rounds o) input bytes r is rejected = absurd rejected
@@ -103,7 +103,7 @@ rejection_needs (Replay size o) input bytes r is rejected = has_guest_too size o
 rejection_needs (Profile size o) input bytes r is rejected = has_guest_too size o bytes input r is rejected
 
 -- nothing is rejected where nothing is read
-never_unread : (asked : Asked) (bytes : List ℕ) (r : Rejection) → input_of asked ≡ None → Rejects (history_asked asked) bytes r → ⊥
+never_unread : (asked : Command) (bytes : List ℕ) (r : Rejection) → input_of asked ≡ None → Rejects (history_asked asked) bytes r → ⊥
 never_unread (Run order o) bytes r none rejected = rejected
 never_unread (Generate rounds) bytes r none rejected = rejected
 never_unread (Demo rounds o) bytes r none rejected = rejected
@@ -129,7 +129,7 @@ module _ (words : List (List ℕ)) (before now had has : Stream) (input : Input)
   all_read : (read : List ℕ) → ReadsAll input before now read → bytes ≡ read
   all_read read all = all_of before.bytes now.bytes bytes read told all.read.takes.taken all.read.end
 
-  input_is : (other : Asked) → AskFor words other → input_of other ≡ Some input
+  input_is : (other : Command) → AskFor words other → input_of other ≡ Some input
   input_is other asked = one_input words other asks.asked asked asks.asks ∙ asks.input_is
 
   same_input : (other : Input) → AskToRead words other → other ≡ input

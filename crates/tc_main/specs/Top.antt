@@ -21,8 +21,8 @@ use Rattle.tc_report.specs.Summary.{summary_text}
 use Rattle.tc_main.specs.Words.{Input, AskFor, AskForNothing, AskToRead, Reads, history_asked, input_of}
 use Rattle.tc_main.specs.declared.status.Status.{Status}
 use Rattle.tc_main.specs.declared.status.Status.TheVariants.{Done, Usage, ReadFault, Refused, WriteFault, OutOfMemory, Rejected}
-use Rattle.tc_main.specs.declared.words.Asked.{Asked}
-use Rattle.tc_main.specs.declared.words.Asked.TheVariants.{Run, Generate, Demo, Replay, Profile}
+use Rattle.tc_main.specs.declared.words.Command.{Command}
+use Rattle.tc_main.specs.declared.words.Command.TheVariants.{Run, Generate, Demo, Replay, Profile}
 
 abbrev pub usage_line : List ℕ
 usage_line = codes "usage: tclocks run W F B | tclocks gen N | tclocks demo N W | tclocks replay N W F B | tclocks nodes G K W F B | tclocks profile N W F B\n"
@@ -82,7 +82,7 @@ Rejects (Some h) bytes r = IsRejection h.0 h.1 bytes r
 
 -- the words ask for a history, no read failed, and it is rejected so
 pub record IsRejectedFor (words : List (List ℕ)) (before now : Stream) (r : Rejection) : Type 0 where
-  pub asked : Asked
+  pub asked : Command
   pub bytes : List ℕ
   pub asks : AskFor words asked
   pub read : HasRead (input_of asked) before now bytes
@@ -107,7 +107,7 @@ pub record IsSummaryOf (rounds : ℕ) (o : Options) (text : List ℕ) : Type 0 w
   pub printed : text ≡ summary_text rounds results
 
 -- the text is what is asked for, of the bytes that were read for it. The report is the same in each order of waiters
-abbrev pub IsTextOf : Asked → List ℕ → List ℕ → Type 0
+abbrev pub IsTextOf : Command → List ℕ → List ℕ → Type 0
 IsTextOf (Run order o) bytes text = IsReport o bytes text
 IsTextOf (Generate rounds) bytes text = text ≡ generated_file rounds
 IsTextOf (Demo rounds o) bytes text = IsSummaryOf rounds o text
@@ -115,7 +115,7 @@ IsTextOf (Replay size o) bytes text = (run : HasRun size o bytes) × (text ≡ r
 IsTextOf (Profile size o) bytes text = (run : HasRun size o bytes) × (text ≡ profile_text run.image run.history)
 
 -- what the bytes that were read for what is asked come to: a text, a refusal or a rejection with its line
-abbrev pub Verdict : Asked → List ℕ → List ℕ → Status → Type 0
+abbrev pub Verdict : Command → List ℕ → List ℕ → Status → Type 0
 Verdict asked bytes text Done = IsTextOf asked bytes text
 Verdict asked bytes text (Refused k) = (input : Input) × (input_of asked ≡ Some input) × ((name : List ℕ) × AreRefused input bytes k name × (text ≡ refused_line k name))
 Verdict asked bytes text Usage = ⊥
@@ -126,7 +126,7 @@ Verdict asked bytes text (Rejected r) = Rejects (history_asked asked) bytes r ×
 
 -- the text is what the words ask for, of what was read of the source
 pub record IsWanted (words : List (List ℕ)) (before now : Stream) (text : List ℕ) : Type 0 where
-  pub asked : Asked
+  pub asked : Command
   pub bytes : List ℕ
   pub asks : AskFor words asked
   pub read : HasRead (input_of asked) before now bytes
@@ -141,7 +141,7 @@ Accepts (Some h) bytes = HasRun h.0 h.1 bytes
 
 -- the source tells its bytes and gives them without a fault, and they have a file that is not refused, and a history with which
 -- nothing is wrong, if one is asked for
-pub record HasFile (asked : Asked) (input : Input) (before now : Stream) : Type 0 where
+pub record HasFile (asked : Command) (input : Input) (before now : Stream) : Type 0 where
   pub bytes : List ℕ
   pub told : before.bytes ≡ Some bytes
   pub few : length bytes ≤ input.most
@@ -151,13 +151,13 @@ pub record HasFile (asked : Asked) (input : Input) (before now : Stream) : Type 
   pub quiet : ¬ Rose before now
 
 -- where something is to be read, it has a file
-abbrev pub HasInput : Asked → Option Input → Stream → Stream → Type 0
+abbrev pub HasInput : Command → Option Input → Stream → Stream → Type 0
 HasInput asked None before now = Unit {0}
 HasInput asked (Some input) before now = HasFile asked input before now
 
 -- the words ask for what can be done
 pub record CanBeDone (words : List (List ℕ)) (before now : Stream) : Type 0 where
-  pub asked : Asked
+  pub asked : Command
   pub asks : AskFor words asked
   pub input : HasInput asked (input_of asked) before now
 

@@ -6,8 +6,8 @@ use Rattle.tc_build.specs.declared.generate.TheConstants.{MAX_ROUNDS}
 use Rattle.tc_elf.specs.declared.limits.TheConstants.{MAX_FILE}
 use Rattle.tc_main.specs.Orders.{IsOrderFor}
 use Rattle.tc_main.specs.declared.order.Order.TheVariants.{Entry, Nodes}
-use Rattle.tc_main.specs.declared.words.Asked.{Asked}
-use Rattle.tc_main.specs.declared.words.Asked.TheVariants.{Run, Generate, Demo, Replay, Profile}
+use Rattle.tc_main.specs.declared.words.Command.{Command}
+use Rattle.tc_main.specs.declared.words.Command.TheVariants.{Run, Generate, Demo, Replay, Profile}
 use Rattle.tc_main.specs.declared.words.TheConstants.{MAX_HISTORY}
 
 -- ---- the forms
@@ -17,7 +17,7 @@ abbrev pub option_words : Options → List (List ℕ)
 option_words o = decimal o.workers ∷ decimal o.fuel ∷ decimal o.limit ∷ []
 
 -- the words by which something is asked for
-abbrev pub spelling : Asked → List (List ℕ)
+abbrev pub spelling : Command → List (List ℕ)
 spelling (Run Entry o) = codes "run" ∷ option_words o
 spelling (Run (Nodes nodes bound) o) = codes "nodes" ∷ decimal nodes ∷ decimal bound ∷ option_words o
 spelling (Generate rounds) = codes "gen" ∷ decimal rounds ∷ []
@@ -26,7 +26,7 @@ spelling (Replay size o) = codes "replay" ∷ decimal size ∷ option_words o
 spelling (Profile size o) = codes "profile" ∷ decimal size ∷ option_words o
 
 -- its numbers are within their limits, as those of options always are; a demonstration has one fuel and one batch limit
-abbrev pub IsWithinLimits : Asked → Type 0
+abbrev pub IsWithinLimits : Command → Type 0
 IsWithinLimits (Run order o) = IsOrderFor o.workers order
 IsWithinLimits (Generate rounds) = (1 ≤ rounds) × (rounds ≤ MAX_ROUNDS)
 IsWithinLimits (Demo rounds o) = (1 ≤ rounds) × (rounds ≤ MAX_ROUNDS) × (o.fuel ≡ 65536) × (o.limit ≡ 8)
@@ -34,12 +34,12 @@ IsWithinLimits (Replay size o) = (1 ≤ size) × (size ≤ MAX_FILE)
 IsWithinLimits (Profile size o) = (1 ≤ size) × (size ≤ MAX_FILE)
 
 -- the words ask for this
-abbrev pub AskFor : List (List ℕ) → Asked → Type 0
+abbrev pub AskFor : List (List ℕ) → Command → Type 0
 AskFor words asked = IsWithinLimits asked × (words ≡ spelling asked)
 
 -- the words have no form
 abbrev pub AskForNothing : List (List ℕ) → Type 0
-AskForNothing words = (asked : Asked) → ¬ AskFor words asked
+AskForNothing words = (asked : Command) → ¬ AskFor words asked
 
 -- ---- what is read
 
@@ -58,7 +58,7 @@ abbrev pub file_and_history : ℕ → Input
 file_and_history size = record { most = size + MAX_HISTORY; least = size; file = take size }
 
 -- what is read for what is asked; nothing is read for a guest that the program makes
-abbrev pub input_of : Asked → Option Input
+abbrev pub input_of : Command → Option Input
 input_of (Run order o) = Some whole_file
 input_of (Generate rounds) = None
 input_of (Demo rounds o) = None
@@ -66,7 +66,7 @@ input_of (Replay size o) = Some (file_and_history size)
 input_of (Profile size o) = Some (file_and_history size)
 
 -- the history for which is asked: how many bytes the guest's file before it has, and with what the guest was run
-abbrev pub history_asked : Asked → Option (ℕ × Options)
+abbrev pub history_asked : Command → Option (ℕ × Options)
 history_asked (Run order o) = None
 history_asked (Generate rounds) = None
 history_asked (Demo rounds o) = None
@@ -74,12 +74,12 @@ history_asked (Replay size o) = Some (size, o)
 history_asked (Profile size o) = Some (size, o)
 
 -- the bytes are no more than are read for what is asked
-abbrev pub FitsInput : Asked → List ℕ → Type 0
+abbrev pub FitsInput : Command → List ℕ → Type 0
 FitsInput asked bytes = (input : Input) → input_of asked ≡ Some input → length bytes ≤ input.most
 
 -- the words ask for something for which this is read
 pub record AskToRead (words : List (List ℕ)) (input : Input) : Type 0 where
-  pub asked : Asked
+  pub asked : Command
   pub asks : AskFor words asked
   pub input_is : input_of asked ≡ Some input
 

@@ -9,7 +9,7 @@ use Rattle.tc_replay.specs.declared.reason.Reason.TheVariants as reason
 use Rattle.tc_main.specs.Words.{Input, history_asked, input_of}
 use Rattle.tc_main.specs.Replayed.{IsRejection}
 use Rattle.tc_main.specs.Top.{Rejects}
-use Rattle.tc_main.specs.declared.words.Asked.{Asked}
+use Rattle.tc_main.specs.declared.words.Command.{Command}
 use Rattle.tc_main.specs.declared.wrong.Wrong.{Wrong}
 use Rattle.tc_main.specs.declared.wrong.Wrong.TheVariants.{Short, File, History, OutOfMemory}
 
@@ -35,7 +35,7 @@ IsWrongInput size o bytes (History r) = IsRejection size o bytes r
 IsWrongInput size o bytes OutOfMemory = Unit {0}
 
 -- there is no text for what is asked
-abbrev pub IsWrong : Asked → List ℕ → Wrong → Type 0
+abbrev pub IsWrong : Command → List ℕ → Wrong → Type 0
 IsWrong asked bytes Short = (input : Input) × (input_of asked ≡ Some input) × (length bytes < input.least)
 IsWrong asked bytes (File reason) = (input : Input) × (input_of asked ≡ Some input) × (input.least ≤ length bytes) × IsWrongFile (input.file bytes) (File reason)
 IsWrong asked bytes (History r) = Rejects (history_asked asked) bytes r

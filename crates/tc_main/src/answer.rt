@@ -6,13 +6,13 @@ ghost use Rattle.tc_main.specs.Top.{Comes, IsTextOf, Verdict, refused_line, reje
 ghost use Rattle.tc_report.specs.Written.{Wrote};
 ghost use Rattle.tc_main.specs.Words.{AskFor, FitsInput, Input, IsWithinLimits, Reads, input_of};
 ghost use Rattle.tc_main.specs.declared.status.Status.TheVariants.{Refused, Rejected as IsRejected};
-ghost use Rattle.tc_main.specs.declared.words.Asked.{Asked as AnyAsked};
+ghost use Rattle.tc_main.specs.declared.words.Command.{Command as AnyCommand};
 
 use crate::demo::run_summary;
 use crate::replay::{guest_of, replay_profile, replay_report, replayed};
 use crate::run::run_report;
 use crate::status::Status;
-use crate::words::{Asked, MAX_HISTORY, asked_of};
+use crate::words::{Command, MAX_HISTORY, asked_of};
 use crate::wrong::Wrong;
 use std::alloc::{AllocError, Global};
 use std::fmt::Write;
@@ -77,7 +77,7 @@ fn rejected<K: Sink>(alloc: Global, rejected: Rejected, sink: &mut K) -> Result<
 
 /// The answer where there is no text for what is asked.
 fn answer_wrong<K: Sink>(alloc: Global, wrong: Wrong, sink: &mut K) -> Result<Answer, AllocError>
-    ensures answer { (asked : AnyAsked) (bytes : List ℕ) → IsWrong asked bytes wrong
+    ensures answer { (asked : AnyCommand) (bytes : List ℕ) → IsWrong asked bytes wrong
         → IfOk result (λ a. (text : List ℕ) × Verdict asked bytes text a.status
         × Wrote (K.stream sink.old) (K.stream sink.new) text a.written) }
     ensures memory { OnErr result (K.stream sink.new ≡ K.stream sink.old) }
@@ -95,7 +95,7 @@ fn answer_wrong<K: Sink>(alloc: Global, wrong: Wrong, sink: &mut K) -> Result<An
 fn write_asked<R: Threads + Wait + Sync, G: Gate, K: Sink>(
     rt: &R,
     alloc: Global,
-    asked: Asked,
+    asked: Command,
     bytes: Vec<u8>,
     gate: &G,
     sink: &mut K,
@@ -108,24 +108,24 @@ fn write_asked<R: Threads + Wait + Sync, G: Gate, K: Sink>(
     ensures unwritten { OnErr result (K.stream sink.new ≡ K.stream sink.old) }
 {
     match asked {
-        Asked::Run { order, options } => {
+        Command::Run { order, options } => {
             let image = guest_of(alloc, &bytes)?;
             Ok(run_report(rt, alloc, &image, order, options, gate, sink)?)
         }
-        Asked::Generate(rounds) => {
+        Command::Generate(rounds) => {
             let file = generate(alloc, rounds)?;
             Ok(write_text(sink, &file))
         }
-        Asked::Demo { rounds, options } => {
+        Command::Demo { rounds, options } => {
             let summary = run_summary(rt, alloc, rounds, options, gate)?;
             Ok(write_text(sink, &summary))
         }
-        Asked::Replay { size, options } => {
+        Command::Replay { size, options } => {
             let replay = replayed(alloc, size, options, bytes)?;
             let report = replay_report(alloc, options, replay)?;
             Ok(write_text(sink, &report))
         }
-        Asked::Profile { size, options } => {
+        Command::Profile { size, options } => {
             let replay = replayed(alloc, size, options, bytes)?;
             let profile = replay_profile(alloc, replay)?;
             Ok(write_text(sink, &profile))
@@ -137,7 +137,7 @@ fn write_asked<R: Threads + Wait + Sync, G: Gate, K: Sink>(
 fn answer_bytes<R: Threads + Wait + Sync, G: Gate, K: Sink>(
     rt: &R,
     alloc: Global,
-    asked: Asked,
+    asked: Command,
     bytes: Vec<u8>,
     gate: &G,
     sink: &mut K,
@@ -158,15 +158,15 @@ fn answer_bytes<R: Threads + Wait + Sync, G: Gate, K: Sink>(
 }
 
 /// The most bytes that are read for what is asked; None where nothing is.
-fn most_of(asked: Asked) -> Option<usize>
+fn most_of(asked: Command) -> Option<usize>
     ensures { result ≡ option_map (λ (i : Input). i.most) (input_of asked) }
 {
     match asked {
-        Asked::Run { .. } => Some(MAX_BYTES),
-        Asked::Replay { size, .. } | Asked::Profile { size, .. } => {
+        Command::Run { .. } => Some(MAX_BYTES),
+        Command::Replay { size, .. } | Command::Profile { size, .. } => {
             Some(size as usize + MAX_HISTORY)
         }
-        Asked::Generate(_) | Asked::Demo { .. } => None,
+        Command::Generate(_) | Command::Demo { .. } => None,
     }
 }
 
@@ -174,7 +174,7 @@ fn most_of(asked: Asked) -> Option<usize>
 fn answer_asked<R: Threads + Wait + Sync, S: Source, G: Gate, K: Sink>(
     rt: &R,
     alloc: Global,
-    asked: Asked,
+    asked: Command,
     source: &mut S,
     gate: &G,
     sink: &mut K,

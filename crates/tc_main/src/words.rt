@@ -4,7 +4,7 @@ ghost use Rattle.std.specs.Prelude.{◌≡◌, ℕ, ◌≤◌, ◌∷◌, MatchB
 ghost use Rattle.tc_isa.specs.declared.options.Options.{Options as Chosen};
 ghost use Rattle.tc_main.specs.Words.{AskFor, AskForNothing, option_words};
 ghost use Rattle.tc_elf.specs.declared.limits.TheConstants.{MAX_FILE};
-ghost use Rattle.tc_main.specs.declared.words.Asked.TheVariants.{Run, Generate, Demo as Demonstrate, Replay, Profile};
+ghost use Rattle.tc_main.specs.declared.words.Command.TheVariants.{Run, Generate, Demo as Demonstrate, Replay, Profile};
 ghost use Rattle.tc_main.specs.declared.order.Order.TheVariants.{Entry, Nodes};
 
 use crate::order::{MAX_PASSES, Order};
@@ -25,7 +25,7 @@ pub const MAX_HISTORY: usize = 268_435_456;
 
 /// What the words ask for.
 #[derive(Clone, Copy, Debug, PartialEq, Eq)]
-pub enum Asked {
+pub enum Command {
     /// A run of the source's guest.
     Run {
         /// In which order the waiters of a lock are served.
@@ -202,26 +202,26 @@ fn history_of(words: &[Word], name: &str) -> Option<(u32, Options)>
 }
 
 /// What the words ask for, where they have one of the forms.
-pub fn asked_of(words: &[Word]) -> Option<Asked>
+pub fn asked_of(words: &[Word]) -> Option<Command>
     ensures some { IfSome result (λ asked. AskFor words.now asked) }
     ensures none { IfNone result (AskForNothing words.now) }
 {
     if let Some(options) = run_of(words) {
         let order = Order::Entry;
-        return Some(Asked::Run { order, options });
+        return Some(Command::Run { order, options });
     }
     if let Some(rounds) = file_of(words) {
-        return Some(Asked::Generate(rounds));
+        return Some(Command::Generate(rounds));
     }
     if let Some((rounds, options)) = demo_of(words) {
-        return Some(Asked::Demo { rounds, options });
+        return Some(Command::Demo { rounds, options });
     }
     if let Some((size, options)) = history_of(words, "replay") {
-        return Some(Asked::Replay { size, options });
+        return Some(Command::Replay { size, options });
     }
     if let Some((size, options)) = history_of(words, "profile") {
-        return Some(Asked::Profile { size, options });
+        return Some(Command::Profile { size, options });
     }
     let (order, options) = nodes_of(words)?;
-    Some(Asked::Run { order, options })
+    Some(Command::Run { order, options })
 }

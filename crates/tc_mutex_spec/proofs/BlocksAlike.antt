@@ -12,6 +12,7 @@ use Rattle.tc_mutex_spec.specs.Machine.{State, after}
 use Rattle.tc_mutex_spec.specs.Locality.{Agree, Apart}
 use Rattle.tc_mutex_spec.specs.Blocks.{reach, end_at, locks_of_block, Runs}
 use Rattle.tc_mutex_spec.proofs.Local.{after_thread, act_agree, turn_apart, turn_same, turn_agree}
+use Rattle.tc_lemmas.proofs.Tests.{eq_self}
 
 covers_step : (image : Shown) (set : ℕ → Bool) (m : State) (t : ℕ) → Covers image set (m.threads t) → next_lock image ((after image m t).threads t) ≡ None → Covers image set ((after image m t).threads t)
 covers_step image set m t covers none =
@@ -61,9 +62,6 @@ runs_same image m n last t turns end set runs covers agree =
       subst (λ x. Agree t set x (reach image n t turns)) (sym runs.last) (alike turns (omega arith)),
       apart_within image set n t turns each' turns (omega arith),
     )
-
-pub eq_self : (k : ℕ) → (k == k) ≡ true
-eq_self k = elim (eqb_tells k k) [ inl h ↦ h.0 | inr h ↦ absurd (h.1 refl) ]
 
 -- a block's locks are all that its first turn can touch
 pub covers_block : (image : Shown) (d : Thread) → Covers image (locks_of_block d.held (next_lock image d)) d

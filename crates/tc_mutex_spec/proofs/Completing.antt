@@ -26,7 +26,6 @@ use Rattle.tc_turn.proofs.Turns.{next_known, goes_on}
 use Rattle.tc_mutex_spec.specs.Machine.{State, start, is_open, can_turn, after}
 use Rattle.tc_mutex_spec.specs.Blocks.{reach, end_at, Runs, locks_of_block, is_first, has_block, Stands, TellsAfter, owner_by, IsComplete}
 use Rattle.tc_mutex_spec.specs.Progress.{CompleteHistory}
-use Rattle.tc_mutex_spec.proofs.BlocksAlike.{eq_self}
 use Rattle.tc_mutex_spec.proofs.Holds.{can_thread, can_open, open_none}
 use Rattle.tc_mutex_spec.proofs.Local.{after_thread}
 use Rattle.tc_mutex_spec.proofs.Replaying.{record_takes}
@@ -38,6 +37,7 @@ use Rattle.tc_mutex_spec.proofs.HeldSets.{set_below, set_is, set_small}
 use Rattle.tc_mutex_spec.proofs.Placed.{ArePlaced, placed_reach, placed_start}
 use Rattle.tc_mutex_spec.proofs.Sums.{below_last}
 use Rattle.tc_mutex_spec.proofs.Progress.{IsSane, Reached, Goes, can_runs, reached, may_turn, start_sane, turns_sum, turn_left, turns_turn, first_turns, next_turn}
+use Rattle.tc_lemmas.proofs.Tests.{eq_self}
 
 -- ---- a thread that may take a turn has a block
 

@@ -27,7 +27,7 @@ use Rattle.tc_turn.proofs.Turns.{next_known, taken_was}
 use Rattle.tc_mutex_spec.specs.Machine.{State, after}
 use Rattle.tc_mutex_spec.specs.Blocks.{locks_of_block, reach, Runs}
 use Rattle.tc_mutex_spec.proofs.Local.{after_thread, after_mutex}
-use Rattle.tc_mutex_spec.proofs.BlocksAlike.{eq_self}
+use Rattle.tc_lemmas.proofs.Tests.{eq_self}
 
 -- ---- the last turn
 

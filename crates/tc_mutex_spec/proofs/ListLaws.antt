@@ -9,6 +9,7 @@ use lib.ListN.{get_elem?}
 use Rattle.std.proofs.lemmas.List.FromFn.{length-map-range_with_len, get_or-map-range_with_len}
 use Rattle.std.proofs.lemmas.Option.{slice_get-get_or, slice_get_past}
 use Rattle.tc_journal.proofs.Lists.{get-set_same, get-set_other}
+use Rattle.tc_lemmas.proofs.Lists.{something_at}
 
 -- the item at each place
 pub get-set : {A : Type 0} (xs : List A) (i k : ℕ) (x : A) → i < length xs → slice_get (set xs i x) k ≡ (if k == i then Some x else slice_get xs k)
@@ -39,11 +40,6 @@ module _ {A : Type 0} where
   there [] i a d e = absurd (some-ne-none a (sym e))
   there (x ∷ xs) zero a d e = (omega arith, some-injective x a e)
   there (x ∷ xs) (suc i) a d e = (let r = there xs i a d e in (omega arith, r.1))
-
-  pub at_place : (l : List A) (i : ℕ) → i < length l → (a : A) × (get_elem? l i ≡ some a)
-  at_place [] i h = absurd (omega arith)
-  at_place (x ∷ xs) zero h = (x, refl)
-  at_place (x ∷ xs) (suc i) h = at_place xs i (omega arith)
 
   pub set_at : (l : List A) (i j : ℕ) (a b : A) → get_elem? (set l i a) j ≡ some b → ((j ≡ i) × (a ≡ b)) ⊎ ((j ≢ i) × (get_elem? l j ≡ some b))
   set_at [] i j a b e = absurd (some-ne-none b (sym e))

@@ -27,8 +27,8 @@ use Rattle.tc_turn.proofs.Words.{words_more}
 use Rattle.tc_mutex_spec.specs.Machine.{State, can_turn, after}
 use Rattle.tc_mutex_spec.specs.Blocks.{locks_of_block, reach, end_at, Runs}
 use Rattle.tc_mutex_spec.proofs.Local.{after_thread, after_mutex}
-use Rattle.tc_mutex_spec.proofs.BlocksAlike.{eq_self}
 use Rattle.tc_mutex_spec.specs.Entries.{entry_of}
+use Rattle.tc_lemmas.proofs.Tests.{eq_self}
 
 abbrev pub word_at : Shown → ℕ → State → ℕ → List ℕ
 word_at image lock m t = word_of image lock (m.threads t) m.locks

@@ -41,12 +41,12 @@ impl Model for Slow {
 
 /// A thread, and all locks beside it.
 #[derive(Clone, Copy)]
-struct Beside<'a> {
+struct SlowSurroundings<'a> {
     thread: &'a GuestThread,
     locks: &'a SlowLocks,
 }
 
-impl Surroundings for Beside<'_> {
+impl Surroundings for SlowSurroundings<'_> {
     ghost use Rattle.tc_turn.specs.Turn.{thread_of};
     ghost use Rattle.tc_mutex_spec.specs.Slow.{mutex_at};
 
@@ -112,7 +112,7 @@ impl Slow {
         ensures { IsNextAct image.now self.now t result }
     {
         let thread = &self.threads[t as usize];
-        let beside = Beside {
+        let beside = SlowSurroundings {
             thread,
             locks: &self.locks,
         };

@@ -8,11 +8,11 @@ use Rattle.tc_queue.specs.declared.turn.Turn.{Turn}
 use Rattle.tc_queue.specs.declared.turn.Departure.{Departure}
 use Rattle.tc_queue.specs.Words.{IsTurn}
 use Rattle.tc_nodes.specs.declared.line.Waiter.{Waiter}
-use Rattle.tc_nodes.specs.declared.board.Terms.{Terms}
+use Rattle.tc_nodes.specs.declared.board.NodeTerms.{NodeTerms}
 use Rattle.tc_nodes.specs.Line.{first_of, or_else, picked}
 use Rattle.tc_nodes.specs.declared.cells.Placed.{Placed}
-use Rattle.tc_nodes.specs.declared.call.Call.{Call}
-use Rattle.tc_nodes.specs.declared.call.Call.TheVariants.{Take, Read, Next, Leave, Back}
+use Rattle.tc_nodes.specs.declared.step.LineStep.{LineStep}
+use Rattle.tc_nodes.specs.declared.step.LineStep.TheVariants.{Take, Read, Next, Leave, Back}
 use Rattle.tc_nodes.specs.declared.board.Stand.{Stand}
 use Rattle.tc_nodes.specs.declared.board.Known.{Known}
 use Rattle.tc_nodes.specs.Order.{next_to, takes_in, stand_after, pick_of, without_pick, answer_to_leave, stand_left, IsOrdered}
@@ -34,18 +34,18 @@ of_seat Did s p q number is same told =
     (subst (λ (z : TableId × ℕ). Did (seat_view p.table_id p.id number p.me.0) (seat_view z.0 z.1 number q.me.0)) (λ i. (sym same.0 i, sym same.1 i)) told)
 
 -- a turn of the queue is one of its table
-pub turn_picked : (inside now : NodeQueueView) (k : Terms) (u own : Turn) → inside ≡ now → inside.threads ≡ k.threads → u ≡ own → IsTurn now.threads u → IsTurn k.threads own
+pub turn_picked : (inside now : NodeQueueView) (k : NodeTerms) (u own : Turn) → inside ≡ now → inside.threads ≡ k.threads → u ≡ own → IsTurn now.threads u → IsTurn k.threads own
 turn_picked inside now k u own is same picks turn = subst (IsTurn k.threads) picks (subst (λ (n : ℕ). IsTurn n u) (sym (ap (λ (q : NodeQueueView). q.threads) is) ∙ same) turn)
 
 -- ---- taking the line
 
-one_miss : (cs : List Call) → AreMisses cs → AreMisses (cs ++ Take false ∷ [])
+one_miss : (cs : List LineStep) → AreMisses cs → AreMisses (cs ++ Take false ∷ [])
 one_miss [] are = (refl, tt)
 one_miss (c ∷ cs) are = (are.0, one_miss cs are.1)
 
 -- the line was found out so often
 pub record HasMissed (m m' : Sitting) : Type 0 where
-  pub misses : List Call
+  pub misses : List LineStep
   pub missed : AreMisses misses
   pub now : m' ≡ (with_all misses m.0, [])
 
@@ -78,22 +78,22 @@ pub one_hand : (g h : Stand) (m : Sitting) → Holds g m → Holds h m → g ≡
 one_hand g h m a b = same_hand g h (sym a.hand ∙ b.hand)
 
 -- cells were read, each of which had something
-abbrev pub ArePut : Stand → List Call → Stand → Type 0
+abbrev pub ArePut : Stand → List LineStep → Stand → Type 0
 ArePut h [] g = g ≡ h
 ArePut h (c ∷ cs) g = (p : Placed) × (c ≡ Read (next_to h.read) (Some p) (takes_in (Some p) h)) × ArePut (stand_after (Some p) h) cs g
 
-put_more : (h g : Stand) (cs : List Call) (p : Placed) → ArePut h cs g → ArePut h (cs ++ Read (next_to g.read) (Some p) (takes_in (Some p) g) ∷ []) (stand_after (Some p) g)
+put_more : (h g : Stand) (cs : List LineStep) (p : Placed) → ArePut h cs g → ArePut h (cs ++ Read (next_to g.read) (Some p) (takes_in (Some p) g) ∷ []) (stand_after (Some p) g)
 put_more h g [] p are = (p, ap (λ (z : Stand). Read (next_to z.read) (Some p) (takes_in (Some p) z)) are, ap (stand_after (Some p)) are)
 put_more h g (c ∷ cs) p are = (are.0, are.1, put_more (stand_after (Some are.0) h) g cs p are.2)
 
-put_last : (h g : Stand) (cs : List Call) → ArePut h cs g → AreReads h (cs ++ Read (next_to g.read) None false ∷ []) g
+put_last : (h g : Stand) (cs : List LineStep) → ArePut h cs g → AreReads h (cs ++ Read (next_to g.read) None false ∷ []) g
 put_last h g [] are = inl (ap (λ (z : Stand). Read (next_to z.read) None false) are, refl, are)
 put_last h g (c ∷ cs) are = inr (are.0, are.1, put_last (stand_after (Some are.0) h) g cs are.2)
 
 pub record HasPut (m m' : Sitting) : Type 0 where
   pub found : Stand
   pub was : Holds found m
-  pub reads : List Call
+  pub reads : List LineStep
   pub stand : Stand
   pub put : ArePut found reads stand
   pub line : IsLineFor m.0.threads m.0.bound stand.line
@@ -156,7 +156,7 @@ put_all m m1 m2 h d =
 
 -- ---- putting the line back
 
-pub returns_from : (k : Terms) (slots id : ℕ) (m m1 : Sitting) (h : Stand) (u : Turn) (node : ℕ) → Holds h m → m1.0 ≡ m.0 → m1.1 ≡ (0, without_pick node h) ∷ [] → IsTurn k.threads u
+pub returns_from : (k : NodeTerms) (slots id : ℕ) (m m1 : Sitting) (h : Stand) (u : Turn) (node : ℕ) → Holds h m → m1.0 ≡ m.0 → m1.1 ≡ (0, without_pick node h) ∷ [] → IsTurn k.threads u
     → Allows (IsOrdered k) slots id m1 1 (λ _. 0) (λ _. Returns u node (step slots 1 0 0 none) m1 0)
 returns_from k slots id m m1 h u node is view slot turn =
     let e : m1 ≡ (m.0, (0, without_pick node h) ∷ []) = λ i. (view i, slot i) in
@@ -170,7 +170,7 @@ holds_filled m m1 f = record { slot = ap (λ (z : Sitting). z.1) f.now; hand = a
 pub next_told : (table : TableId) (id number : ℕ) (m m1 m2 m3 : Sitting) (u : Turn) (node : ℕ) (a : Option Turn) (t : IsTaken m m1) (f : IsFilled m1 m2) → a ≡ pick_of node f.stand → m3 ≡ (did_next u node f.stand m2.0, [])
     → DidNext u node a (seat_view table id number m.0) (seat_view table id number m3.0)
 next_told table id number m m1 m2 m3 u node a t f answer now =
-    let call : List Call = Next u node a ∷ [] in
+    let call : List LineStep = Next u node a ∷ [] in
     let v2 : m2.0 ≡ with_hand (Some f.stand) (with_all f.reads (with_hand (Some t.stand) (with_all t.tries m.0))) =
     ap (λ (z : Sitting). z.0) f.now ∙ ap (λ (z : Sitting). with_hand (Some f.stand) (with_all f.reads z.0)) t.now in
     let v3 : m3.0 ≡ with_hand None (with_all call (with_all f.reads (with_all t.tries m.0))) =
@@ -207,12 +207,12 @@ picked_turn n bound node (o ∷ ws) u are e = by_test (o.passes == bound) (first
 
 -- ---- the other ways to put it back
 
-pub stays_from : (k : Terms) (slots id : ℕ) (m : Sitting) (h : Stand) (u : Turn) → Holds h m → h.line.waiting ≢ [] → IsTurn k.threads u
+pub stays_from : (k : NodeTerms) (slots id : ℕ) (m : Sitting) (h : Stand) (u : Turn) → Holds h m → h.line.waiting ≢ [] → IsTurn k.threads u
     → Allows (IsOrdered k) slots id m 1 (λ _. 0) (λ _. Stays u (step slots 1 0 0 none) m 0)
 stays_from k slots id m h u is some_one turn =
     subst (λ (l : List (ℕ × Stand)). Allows (IsOrdered k) slots id (m.0, l) 1 (λ _. 0) (λ _. Stays u (step slots 1 0 0 none) (m.0, l) 0)) (sym is.slot) (stays_line k slots id m.0 h is.hand u h turn refl some_one)
 
-pub puts_back_from : (k : Terms) (slots id : ℕ) (m : Sitting) (h : Stand) → Holds h m → Allows (IsOrdered k) slots id m 1 (λ _. 0) (λ _. PutsBack (step slots 1 0 0 none) m 0)
+pub puts_back_from : (k : NodeTerms) (slots id : ℕ) (m : Sitting) (h : Stand) → Holds h m → Allows (IsOrdered k) slots id m 1 (λ _. 0) (λ _. PutsBack (step slots 1 0 0 none) m 0)
 puts_back_from k slots id m h is =
     subst (λ (l : List (ℕ × Stand)). Allows (IsOrdered k) slots id (m.0, l) 1 (λ _. 0) (λ _. PutsBack (step slots 1 0 0 none) (m.0, l) 0)) (sym is.slot) (puts_back k slots id m.0 h is.hand h refl)
 

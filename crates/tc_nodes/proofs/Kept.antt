@@ -11,18 +11,18 @@ use Rattle.tc_queue.specs.declared.turn.Turn.{Turn}
 use Rattle.tc_queue.specs.declared.turn.Departure.TheVariants.{Left, Followed}
 use Rattle.tc_nodes.specs.declared.line.Waiter.{Waiter}
 use Rattle.tc_nodes.specs.declared.cells.Placed.{Placed}
-use Rattle.tc_nodes.specs.declared.call.Call.{Call}
-use Rattle.tc_nodes.specs.declared.call.Call.TheVariants.{Enter, Link, Take, Read, Next, Stay, Leave, Back}
+use Rattle.tc_nodes.specs.declared.step.LineStep.{LineStep}
+use Rattle.tc_nodes.specs.declared.step.LineStep.TheVariants.{Enter, Link, Take, Read, Next, Stay, Leave, Back}
 use Rattle.tc_nodes.specs.declared.board.Stand.{Stand}
-use Rattle.tc_nodes.specs.declared.board.Terms.{Terms}
+use Rattle.tc_nodes.specs.declared.board.NodeTerms.{NodeTerms}
 use Rattle.tc_nodes.specs.declared.board.Known.{Known}
 use Rattle.tc_nodes.specs.Line.{IsSteady, is_turn, has_turn, is_refused, newcomer, line_without, line_after, passed_over, with_waiting}
 use Rattle.tc_nodes.specs.Order.{Plain, Made, plain_after, queue_after, calls_of, MayCome, IsLegal, takes_in, stand_after, pick_of, slot_of, IsOrdered}
 use Rattle.tc_nodes.specs.Laws.{IsAnswered, KeepsTurns, KeepsBound}
 use Rattle.tc_nodes.proofs.Sound.{sound_after}
-use Rattle.tc_nodes.proofs.Lists.{something_there}
 use Rattle.tc_nodes.proofs.Stepping.{no_calls}
 use Rattle.tc_nodes.proofs.Turns.{falsely, turn_self, turn_same}
+use Rattle.tc_lemmas.proofs.Lists.{something_at}
 
 -- some `next` answered u
 abbrev pub WasAnswered : List Made → Turn → Type 0
@@ -90,10 +90,10 @@ left_or_picked u x (w ∷ ws) e = by_own (is_turn u w.turn) refl (is_turn x w.tu
 -- ---- all steps
 
 -- u waits, or was answered
-abbrev pub IsKept : Terms → List Made → Turn → Type 0
+abbrev pub IsKept : NodeTerms → List Made → Turn → Type 0
 IsKept k order u = (has_turn u (queue_after k order).stand.line.waiting ≡ true) ⊎ WasAnswered order u
 
-waits_on : (k : Terms) (m : Made) (before : List Made) (u : Turn) → MayCome k (queue_after k before) m.seat (calls_of m.seat before) m.call → has_turn u (queue_after k before).stand.line.waiting ≡ true → IsKept k (m ∷ before) u
+waits_on : (k : NodeTerms) (m : Made) (before : List Made) (u : Turn) → MayCome k (queue_after k before) m.seat (calls_of m.seat before) m.call → has_turn u (queue_after k before).stand.line.waiting ≡ true → IsKept k (m ∷ before) u
 waits_on k m before u may e = by_call m.call refl may
   where
     q : Plain
@@ -103,7 +103,7 @@ waits_on k m before u may e = by_call m.call refl may
     by_pick own node None is = inl e
     by_pick own node (Some x) is = ⊎_elim (λ (h : has_turn u (line_without x q.stand.line.waiting) ≡ true). inl h) (λ (h : u ≡ x). inr (now_answered m before own node u (is ∙ ap (λ (z : Turn). Next own node (Some z)) (sym h)))) (left_or_picked u x q.stand.line.waiting e)
 
-    by_call : (c : Call) → m.call ≡ c → MayCome k q m.seat (calls_of m.seat before) c → (has_turn u (plain_after q m.seat c).stand.line.waiting ≡ true) ⊎ WasAnswered (m ∷ before) u
+    by_call : (c : LineStep) → m.call ≡ c → MayCome k q m.seat (calls_of m.seat before) c → (has_turn u (plain_after q m.seat c).stand.line.waiting ≡ true) ⊎ WasAnswered (m ∷ before) u
     by_call (Enter x a) is may' = inl e
     by_call (Link place x node) is may' = inl e
     by_call (Take true) is may' = inl e
@@ -115,12 +115,12 @@ waits_on k m before u may e = by_call m.call refl may
     by_call (Leave x Followed) is may' = inl e
     by_call Back is may' = inl e
 
-read_now : (k : Terms) (m : Made) (before : List Made) (number : ℕ) (p : Placed) → IsLegal k (m ∷ before) → m.call ≡ Read number (Some p) true → IsKept k (m ∷ before) p.turn
+read_now : (k : NodeTerms) (m : Made) (before : List Made) (number : ℕ) (p : Placed) → IsLegal k (m ∷ before) → m.call ≡ Read number (Some p) true → IsKept k (m ∷ before) p.turn
 read_now k m before number p legal is =
     let may = subst (MayCome k (queue_after k before) m.seat (calls_of m.seat before)) is legal.0 in
-    inl (ap (λ (c : Call). has_turn p.turn (plain_after (queue_after k before) m.seat c).stand.line.waiting) is ∙ taken_in p (queue_after k before).stand (sym may.3))
+    inl (ap (λ (c : LineStep). has_turn p.turn (plain_after (queue_after k before) m.seat c).stand.line.waiting) is ∙ taken_in p (queue_after k before).stand (sym may.3))
 
-pub kept : (k : Terms) (order : List Made) (id i number : ℕ) (p : Placed) → IsLegal k order → get_elem? (calls_of id order) i ≡ some (Read number (Some p) true) → IsKept k order p.turn
+pub kept : (k : NodeTerms) (order : List Made) (id i number : ℕ) (p : Placed) → IsLegal k order → get_elem? (calls_of id order) i ≡ some (Read number (Some p) true) → IsKept k order p.turn
 kept k [] id i number p legal e = absurd (some-ne-none (Read number (Some p) true) (sym e))
 kept k (m ∷ before) id i number p legal e = by_seat (m.seat == id) (kept k before id i number p legal.1) e
   where
@@ -134,13 +134,13 @@ kept k (m ∷ before) id i number p legal e = by_seat (m.seat == id) (kept k bef
 -- ---- the lists of the seats
 
 -- who was answered has a seat whose list shows it
-shown : (k : Terms) (s : State Stand Known) (r : IsOrdered k s) (u : Turn) → WasAnswered r.order u → IsAnswered s.views u
+shown : (k : NodeTerms) (s : State Stand Known) (r : IsOrdered k s) (u : Turn) → WasAnswered r.order u → IsAnswered s.views u
 shown k s r u was = dite (dec_le (length s.views) was.0)
     (λ (high : length s.views ≤ was.0).
     let none_made : calls_of was.0 r.order ≡ [] = no_calls was.0 r.order (λ j d h. let low = r.made j d h in omega arith) in
-    absurd (some-ne-none (Next was.2 was.3 (Some u)) (sym (sym (ap (λ (l : List Call). get_elem? l was.1) none_made) ∙ was.4))))
+    absurd (some-ne-none (Next was.2 was.3 (Some u)) (sym (sym (ap (λ (l : List LineStep). get_elem? l was.1) none_made) ∙ was.4))))
     (λ low.
-    let there = something_there s.views was.0 (lt_of_not-le low) in
+    let there = something_at s.views was.0 (lt_of_not-le low) in
     (was.0, there.0, was.1, was.2, was.3, there.1, ap (λ (v : Known). get_elem? v.calls was.1) (r.seats was.0 there.0 there.1) ∙ was.4))
 
 home_stand : (o : Option ℕ) (g h : Stand) → slot_of o g ∷ [] ≡ some h ∷ [] → g ≡ h

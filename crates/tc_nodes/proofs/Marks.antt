@@ -8,17 +8,17 @@ use Rattle.tc_queue.specs.declared.turn.Departure.{Departure}
 use Rattle.tc_queue.specs.declared.turn.Departure.TheVariants.{Followed}
 use Rattle.tc_queue.specs.Lines as line
 use Rattle.tc_queue.specs.Lines.{MayLinkTo, with_line}
-use Rattle.tc_nodes.specs.declared.call.Entered.{Entered}
-use Rattle.tc_nodes.specs.declared.call.Entered.TheVariants.{First, Behind}
-use Rattle.tc_nodes.specs.declared.call.Call.{Call}
-use Rattle.tc_nodes.specs.declared.call.Call.TheVariants.{Enter, Link, Take, Read, Next, Stay, Leave, Back}
+use Rattle.tc_nodes.specs.declared.step.Entered.{Entered}
+use Rattle.tc_nodes.specs.declared.step.Entered.TheVariants.{First, Behind}
+use Rattle.tc_nodes.specs.declared.step.LineStep.{LineStep}
+use Rattle.tc_nodes.specs.declared.step.LineStep.TheVariants.{Enter, Link, Take, Read, Next, Stay, Leave, Back}
 use Rattle.tc_nodes.specs.declared.board.Stand.{Stand}
 use Rattle.tc_nodes.specs.Order.{MayLink, stand_after}
 use Rattle.tc_nodes.specs.View.{NodeSeatView, AreMisses, AreTries, AreReads, with_calls, DidNext, DidLeave, DidLeaveBy, Stayed, Exchanged}
 use Rattle.tc_nodes.specs.Lines.{entered_as, calls_as, seat_as}
-use Rattle.tc_nodes.proofs.Lists.{in_range}
+use Rattle.tc_lemmas.proofs.Lists.{in_range}
 
-pub calls_as-append : (xs ys : List Call) → calls_as (xs ++ ys) ≡ calls_as xs ++ calls_as ys
+pub calls_as-append : (xs ys : List LineStep) → calls_as (xs ++ ys) ≡ calls_as xs ++ calls_as ys
 calls_as-append [] ys = refl
 calls_as-append (Enter u a ∷ xs) ys = ap (λ (l : List line.LineCall). line.Enter u (entered_as a) ∷ l) (calls_as-append xs ys)
 calls_as-append (Link place u node ∷ xs) ys = ap (λ (l : List line.LineCall). line.Link place u ∷ l) (calls_as-append xs ys)
@@ -31,20 +31,20 @@ calls_as-append (Back ∷ xs) ys = calls_as-append xs ys
 
 -- ---- what is no call of its own
 
-misses_as : (cs : List Call) → AreMisses cs → calls_as cs ≡ []
+misses_as : (cs : List LineStep) → AreMisses cs → calls_as cs ≡ []
 misses_as [] are = refl
-misses_as (c ∷ cs) are = ap (λ (z : Call). calls_as (z ∷ cs)) are.0 ∙ misses_as cs are.1
+misses_as (c ∷ cs) are = ap (λ (z : LineStep). calls_as (z ∷ cs)) are.0 ∙ misses_as cs are.1
 
-tries_as : (cs : List Call) → AreTries cs → calls_as cs ≡ []
+tries_as : (cs : List LineStep) → AreTries cs → calls_as cs ≡ []
 tries_as cs are = ap calls_as are.list ∙ (calls_as-append are.misses (Take true ∷ []) ∙ ap (λ (l : List line.LineCall). l ++ []) (misses_as are.misses are.missed))
 
-reads_as : (h : Stand) (cs : List Call) (g : Stand) → AreReads h cs g → calls_as cs ≡ []
+reads_as : (h : Stand) (cs : List LineStep) (g : Stand) → AreReads h cs g → calls_as cs ≡ []
 reads_as h [] g are = refl
-reads_as h (c ∷ cs) g (inl z) = ap (λ (x : Call). calls_as (x ∷ cs)) z.0 ∙ ap calls_as z.1
-reads_as h (c ∷ cs) g (inr z) = ap (λ (x : Call). calls_as (x ∷ cs)) z.1 ∙ reads_as (stand_after (Some z.0) h) cs g z.2
+reads_as h (c ∷ cs) g (inl z) = ap (λ (x : LineStep). calls_as (x ∷ cs)) z.0 ∙ ap calls_as z.1
+reads_as h (c ∷ cs) g (inr z) = ap (λ (x : LineStep). calls_as (x ∷ cs)) z.1 ∙ reads_as (stand_after (Some z.0) h) cs g z.2
 
 -- steps were added that show this one call
-pub adds_line : (s t : NodeSeatView) (cs : List Call) (c : line.LineCall) → t ≡ with_calls cs s → calls_as cs ≡ c ∷ [] → seat_as t ≡ with_line (seat_as s) c
+pub adds_line : (s t : NodeSeatView) (cs : List LineStep) (c : line.LineCall) → t ≡ with_calls cs s → calls_as cs ≡ c ∷ [] → seat_as t ≡ with_line (seat_as s) c
 adds_line s t cs c e is = ap seat_as e ∙ (λ i. record { table = s.table; threads = s.threads; calls = (calls_as-append s.calls cs ∙ ap (λ (l : List line.LineCall). calls_as s.calls ++ l) is) i })
 
 pub next_as : (u : Turn) (node : ℕ) (a : Option Turn) (s t : NodeSeatView) → DidNext u node a s t → seat_as t ≡ with_line (seat_as s) (line.Next u a)
@@ -52,7 +52,7 @@ next_as u node a s t d = adds_line s t (d.tries ++ (d.reads ++ Next u node a ∷
     (calls_as-append d.tries (d.reads ++ Next u node a ∷ [])
     ∙ (λ i. tries_as d.tries d.tried i ++ (calls_as-append d.reads (Next u node a ∷ []) ∙ ap (λ (l : List line.LineCall). l ++ line.Next u a ∷ []) (reads_as d.found d.reads d.stand d.did_read)) i))
 
-leave_by : (u : Turn) (a : Departure) (tries : List Call) (s t : NodeSeatView) → AreTries tries → DidLeaveBy u a tries s t → seat_as t ≡ with_line (seat_as s) (line.Leave u a)
+leave_by : (u : Turn) (a : Departure) (tries : List LineStep) (s t : NodeSeatView) → AreTries tries → DidLeaveBy u a tries s t → seat_as t ≡ with_line (seat_as s) (line.Leave u a)
 leave_by u a tries s t tried (Stayed answer list) =
     adds_line s t (tries ++ Stay u ∷ []) (line.Leave u a) list
     (calls_as-append tries (Stay u ∷ []) ∙ (λ i. tries_as tries tried i ++ line.Leave u (sym answer i) ∷ []))
@@ -66,15 +66,15 @@ leave_as u a s t d = leave_by u a d.tries s t d.tried d.did
 -- ---- a place that may be linked
 
 -- a `link` in the seat's own list stands in its list of calls
-link_there : (cs : List Call) (j other node : ℕ) (u : Turn) → get_elem? cs j ≡ some (Link other u node) → (i : ℕ) × (get_elem? (calls_as cs) i ≡ some (line.Link other u))
+link_there : (cs : List LineStep) (j other node : ℕ) (u : Turn) → get_elem? cs j ≡ some (Link other u node) → (i : ℕ) × (get_elem? (calls_as cs) i ≡ some (line.Link other u))
 link_there [] j other node u e = absurd (some-ne-none (Link other u node) (sym e))
 link_there (c ∷ cs) zero other node u e = by_call c (some-injective c (Link other u node) e)
   where
-    by_call : (x : Call) → x ≡ Link other u node → (i : ℕ) × (get_elem? (calls_as (x ∷ cs)) i ≡ some (line.Link other u))
-    by_call x is = subst (λ (z : Call). (i : ℕ) × (get_elem? (calls_as (z ∷ cs)) i ≡ some (line.Link other u))) (sym is) (0, refl)
+    by_call : (x : LineStep) → x ≡ Link other u node → (i : ℕ) × (get_elem? (calls_as (x ∷ cs)) i ≡ some (line.Link other u))
+    by_call x is = subst (λ (z : LineStep). (i : ℕ) × (get_elem? (calls_as (z ∷ cs)) i ≡ some (line.Link other u))) (sym is) (0, refl)
 link_there (c ∷ cs) (suc j) other node u e = by_call c (link_there cs j other node u e)
   where
-    by_call : (x : Call) → (i : ℕ) × (get_elem? (calls_as cs) i ≡ some (line.Link other u)) → (i : ℕ) × (get_elem? (calls_as (x ∷ cs)) i ≡ some (line.Link other u))
+    by_call : (x : LineStep) → (i : ℕ) × (get_elem? (calls_as cs) i ≡ some (line.Link other u)) → (i : ℕ) × (get_elem? (calls_as (x ∷ cs)) i ≡ some (line.Link other u))
     by_call (Enter w a) at = (suc at.0, at.1)
     by_call (Link place w n) at = (suc at.0, at.1)
     by_call (Take home) at = at
@@ -85,7 +85,7 @@ link_there (c ∷ cs) (suc j) other node u e = by_call c (link_there cs j other 
     by_call Back at = at
 
 -- one step before
-later : (c : Call) (cs : List Call) (u : Turn) (place : ℕ) → MayLink cs u place → MayLink (c ∷ cs) u place
+later : (c : LineStep) (cs : List LineStep) (u : Turn) (place : ℕ) → MayLink cs u place → MayLink (c ∷ cs) u place
 later c cs u place may = (suc may.0, may.1, by_index)
   where
     by_index : (j other node : ℕ) → suc may.0 < j → get_elem? (c ∷ cs) j ≢ some (Link other u node)
@@ -101,11 +101,11 @@ same_enter First place u w e = absurd (cc e)
 same_enter (Behind b) place u w e = cc e
 
 -- a step whose call is no such `enter` stands first
-past_other : (c : Call) (x : line.LineCall) (cs : List Call) (u : Turn) (place : ℕ) → (x ≡ line.Enter u (line.Behind place) → ⊥) → MayLinkTo (x ∷ calls_as cs) u place → (MayLinkTo (calls_as cs) u place → MayLink cs u place) → MayLink (c ∷ cs) u place
+past_other : (c : LineStep) (x : line.LineCall) (cs : List LineStep) (u : Turn) (place : ℕ) → (x ≡ line.Enter u (line.Behind place) → ⊥) → MayLinkTo (x ∷ calls_as cs) u place → (MayLinkTo (calls_as cs) u place → MayLink cs u place) → MayLink (c ∷ cs) u place
 past_other c x cs u place other (zero, at, none) rest = absurd (other (some-injective x (line.Enter u (line.Behind place)) at))
 past_other c x cs u place other (suc i, at, none) rest = later c cs u place (rest (shorter x (calls_as cs) u place i at none))
 
-past_enter : (w : Turn) (a : Entered) (cs : List Call) (u : Turn) (place : ℕ) → MayLinkTo (line.Enter w (entered_as a) ∷ calls_as cs) u place → (MayLinkTo (calls_as cs) u place → MayLink cs u place) → MayLink (Enter w a ∷ cs) u place
+past_enter : (w : Turn) (a : Entered) (cs : List LineStep) (u : Turn) (place : ℕ) → MayLinkTo (line.Enter w (entered_as a) ∷ calls_as cs) u place → (MayLinkTo (calls_as cs) u place → MayLink cs u place) → MayLink (Enter w a ∷ cs) u place
 past_enter w a cs u place (zero, at, none) rest = (0, ap some (same_enter a place u w (some-injective (line.Enter w (entered_as a)) (line.Enter u (line.Behind place)) at)), after)
   where
     after : (j other node : ℕ) → 0 < j → get_elem? (Enter w a ∷ cs) j ≢ some (Link other u node)
@@ -122,7 +122,7 @@ no_next w a u place e = absurd (cc e)
 no_leave : (w : Turn) (d : Departure) (u : Turn) (place : ℕ) → line.Leave w d ≡ line.Enter u (line.Behind place) → ⊥
 no_leave w d u place e = absurd (cc e)
 
-pub may_link : (cs : List Call) (u : Turn) (place : ℕ) → MayLinkTo (calls_as cs) u place → MayLink cs u place
+pub may_link : (cs : List LineStep) (u : Turn) (place : ℕ) → MayLinkTo (calls_as cs) u place → MayLink cs u place
 may_link [] u place may = absurd (some-ne-none (line.Enter u (line.Behind place)) (sym may.1))
 may_link (Enter w a ∷ cs) u place may = past_enter w a cs u place may (may_link cs u place)
 may_link (Link other w node ∷ cs) u place may = past_other (Link other w node) (line.Link other w) cs u place (no_link other w u place) may (may_link cs u place)
@@ -150,5 +150,5 @@ pub just_entered : (before after : List line.LineCall) (u : Turn) (place : ℕ) 
 just_entered before after u place e = let at = at_its_end before after (line.Enter u (line.Behind place)) e in (at.0, at.1, λ j other low. at.2 j (line.Link other u) low)
 
 -- the same in the seat's own list
-pub just_placed : (before after : List Call) (u : Turn) (place : ℕ) → after ≡ before ++ Enter u (Behind place) ∷ [] → MayLink after u place
+pub just_placed : (before after : List LineStep) (u : Turn) (place : ℕ) → after ≡ before ++ Enter u (Behind place) ∷ [] → MayLink after u place
 just_placed before after u place e = let at = at_its_end before after (Enter u (Behind place)) e in (at.0, at.1, λ j other node low. at.2 j (Link other u node) low)

@@ -7,18 +7,18 @@ use lib.ListN.{get_elem?}
 use Rattle.atomic_table.specs.Seated.{TableId}
 use Rattle.atomic_table.specs.Table.{opening}
 use Rattle.tc_nodes.specs.declared.board.Stand.{Stand}
-use Rattle.tc_nodes.specs.declared.board.Terms.{Terms}
+use Rattle.tc_nodes.specs.declared.board.NodeTerms.{NodeTerms}
 use Rattle.tc_nodes.specs.declared.board.Known.{Known}
 use Rattle.tc_nodes.specs.Steps.{Sitting}
 use Rattle.tc_nodes.specs.View.{NodeQueueView, NodeSeatView, IsSeatOf, IsNewSeat, AreNewSeats}
 use Rattle.tc_nodes.specs.Order.{first_known, empty_stand, IsOrdered}
-use Rattle.tc_nodes.proofs.Lists.{at_end}
+use Rattle.tc_lemmas.proofs.Lists.{at_end, at_itself}
 
 only : (v w : Known) (id : ℕ) → get_elem? (v ∷ []) id ≡ some w → v ≡ w
 only v w zero e = some-injective v w e
 only v w (suc id) e = absurd (some-ne-none w (sym e))
 
-pub opens : (k : Terms) (words : List ℕ) (slots : List Stand) → k.threads ≤ 64 → words ≡ replicate 66 0 → slots ≡ empty_stand k ∷ [] → IsOrdered k (opening words slots (first_known k))
+pub opens : (k : NodeTerms) (words : List ℕ) (slots : List Stand) → k.threads ≤ 64 → words ≡ replicate 66 0 → slots ≡ empty_stand k ∷ [] → IsOrdered k (opening words slots (first_known k))
 opens k words slots few are stand = record {
   few = few;
   order = [];
@@ -45,11 +45,6 @@ seat_more q nodes n xs ys s all count is e w t at = ⊎_elim
 -- the seat of a place that has made no step
 pub new_seat : (q : NodeQueueView) (table : TableId) (id node : ℕ) (m : Sitting) → table ≡ q.table → m.0 ≡ first_known (record { threads = q.threads; bound = q.bound }) → IsNewSeat q node (record { table = table; id = id; threads = m.0.threads; bound = m.0.bound; node = node; calls = m.0.calls })
 new_seat q table id node m same is = record { table = same; threads = ap (λ (v : Known). v.threads) is; bound = ap (λ (v : Known). v.bound) is; node = refl; calls = ap (λ (v : Known). v.calls) is }
-
-at_itself : {A : Type 0} (xs : List A) (k : ℕ) (d : A) → k < length xs → get_elem? xs k ≡ some (get_or xs k d)
-at_itself [] k d low = absurd (omega arith)
-at_itself (x ∷ xs) zero d low = refl
-at_itself (x ∷ xs) (suc k) d low = at_itself xs k d (omega arith)
 
 pub all_own : (q : NodeQueueView) (nodes : ℕ) (seats : List NodeSeatView) → AreNewSeats q nodes seats → All (IsSeatOf q) seats
 all_own q nodes seats new k d low = let is = new k (get_or seats k d) (at_itself seats k d low) in (is.table, is.threads)

@@ -11,9 +11,9 @@ use Rattle.tc_nodes.specs.declared.picks.Op.TheVariants.{Arrive, Pick}
 use Rattle.tc_nodes.specs.declared.cells.Placed.{Placed}
 use Rattle.tc_nodes.specs.Line.{LineView, has_turn, is_refused, arrived, picked, newcomer, line_after, with_waiting}
 use Rattle.tc_nodes.specs.Picks.{Did, Arrived, Answered, arrivals, has_come, is_it, is_answered, waits, passes, answer, after_op, history, answers, picks, arriving, HaveComeOnce, IsOnce, IsBounded}
-use Rattle.tc_nodes.proofs.Lists.{at_end}
 use Rattle.tc_nodes.proofs.Turns.{falsely, turn_self, once_front, new_one}
 use Rattle.tc_nodes.proofs.Past.{IsPast, line_of, picked_is, answer_awaits, line_arrived, line_answered, new_in_line, few_rows, steady_past, row_bound}
+use Rattle.tc_lemmas.proofs.Lists.{at_end}
 
 pub arriving-append : (xs ys : List Op) → arriving (xs ++ ys) ≡ arriving xs ++ arriving ys
 arriving-append [] ys = refl

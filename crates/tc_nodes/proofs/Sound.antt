@@ -7,10 +7,10 @@ use Rattle.tc_queue.specs.Words.{IsTurn, turn_word, turn_at}
 use Rattle.tc_queue.proofs.Packed.{turns_packed, in_wider}
 use Rattle.tc_nodes.specs.declared.line.Waiter.{Waiter}
 use Rattle.tc_nodes.specs.declared.cells.Placed.{Placed}
-use Rattle.tc_nodes.specs.declared.call.Call.{Call}
-use Rattle.tc_nodes.specs.declared.call.Call.TheVariants.{Enter, Link, Take, Read, Next, Stay, Leave, Back}
+use Rattle.tc_nodes.specs.declared.step.LineStep.{LineStep}
+use Rattle.tc_nodes.specs.declared.step.LineStep.TheVariants.{Enter, Link, Take, Read, Next, Stay, Leave, Back}
 use Rattle.tc_nodes.specs.declared.board.Stand.{Stand}
-use Rattle.tc_nodes.specs.declared.board.Terms.{Terms}
+use Rattle.tc_nodes.specs.declared.board.NodeTerms.{NodeTerms}
 use Rattle.tc_nodes.specs.Line.{is_turn, is_refused, newcomer, line_without, line_after, with_waiting, IsSteady, picked}
 use Rattle.tc_nodes.specs.Cells.{IsPlaced, cell_word, cell_at, word_of_cell, with_node}
 use Rattle.tc_nodes.specs.Order.{Plain, Made, plain_after, queue_after, calls_of, MayCome, IsLegal, stand_after, without_pick, pick_of, with_cell}
@@ -84,7 +84,7 @@ cell_set n q i c all is j = by_test (j == i)
     by_test true = is
     by_test false = all j
 
-pub sound_after : (k : Terms) (order : List Made) → IsLegal k order → IsSound k.threads k.bound (queue_after k order)
+pub sound_after : (k : NodeTerms) (order : List Made) → IsLegal k order → IsSound k.threads k.bound (queue_after k order)
 sound_after k [] legal = record { cells = λ j p e. absurd (none-some p e); line = record { of_threads = refl; of_bound = refl; turns = tt; steady = tt } }
 sound_after k (m ∷ before) legal = by_call m.call legal.0 (sound_after k before legal.1)
   where
@@ -94,7 +94,7 @@ sound_after k (m ∷ before) legal = by_call m.call legal.0 (sound_after k befor
     q : Plain
     q = queue_after k before
 
-    by_call : (c : Call) → MayCome k q m.seat (calls_of m.seat before) c → IsSound n k.bound q → IsSound n k.bound (plain_after q m.seat c)
+    by_call : (c : LineStep) → MayCome k q m.seat (calls_of m.seat before) c → IsSound n k.bound q → IsSound n k.bound (plain_after q m.seat c)
     by_call (Enter u a) may is = record { cells = is.cells; line = is.line }
     by_call (Link place u node) may is = record {
       cells = cell_set n q (place % 64) _ is.cells (λ p e. subst (IsPlaced n) (same_Some _ p e) (record { turn = may.0; node = may.1 }));

@@ -14,16 +14,17 @@ use Rattle.tc_queue.specs.declared.turn.Departure.TheVariants.{Left, Followed}
 use Rattle.tc_queue.specs.Words.{IsTurn}
 use Rattle.tc_queue.proofs.Orders.{all_more}
 use Rattle.tc_nodes.specs.declared.cells.Placed.{Placed}
-use Rattle.tc_nodes.specs.declared.call.Call.{Call}
-use Rattle.tc_nodes.specs.declared.call.Call.TheVariants.{Enter, Link, Take, Read, Next, Stay, Leave, Back}
+use Rattle.tc_nodes.specs.declared.step.LineStep.{LineStep}
+use Rattle.tc_nodes.specs.declared.step.LineStep.TheVariants.{Enter, Link, Take, Read, Next, Stay, Leave, Back}
 use Rattle.tc_nodes.specs.declared.board.Stand.{Stand}
-use Rattle.tc_nodes.specs.declared.board.Terms.{Terms}
+use Rattle.tc_nodes.specs.declared.board.NodeTerms.{NodeTerms}
 use Rattle.tc_nodes.specs.declared.board.Known.{Known}
 use Rattle.tc_nodes.specs.Cells.{cell_word, cell_at, word_of_cell}
 use Rattle.tc_nodes.specs.Order.{next_to, answer_to_enter, answer_to_leave, takes_in, stand_after, pick_of, without_pick, stand_left, entered_left, home_with, Plain, plain_after, with_cell, MayLink, is_home, MayCome, Made, calls_of, queue_after, line_word, AreWords, slot_of, hand_of, known_of, known_beside, IsOrdered}
 use Rattle.tc_nodes.specs.Steps.{with_call, with_hand, IsFound, took, missed, did_read, did_next, did_stay, did_leave, did_put_back, Enters, Links, Takes, Reads, Returns, Stays, Leaves, PutsBack}
-use Rattle.tc_nodes.proofs.Lists.{in_range, at_end, all_rest}
+use Rattle.tc_nodes.proofs.Lists.{all_rest}
 use Rattle.tc_nodes.proofs.Sound.{IsSound, sound_after, cell_back}
+use Rattle.tc_lemmas.proofs.Lists.{in_range, at_end}
 
 -- ---- hands
 
@@ -48,7 +49,7 @@ holding id (Some x) h g e = by_test (x == id) refl e
     by_test false is said = absurd (cc said)
 
 -- a step changes no other hand
-others : (k : Terms) (q : Plain) (id : ℕ) (calls : List Call) (c : Call) (j : ℕ) → j ≢ id → MayCome k q id calls c → hand_of j (plain_after q id c).holder (plain_after q id c).stand ≡ hand_of j q.holder q.stand
+others : (k : NodeTerms) (q : Plain) (id : ℕ) (calls : List LineStep) (c : LineStep) (j : ℕ) → j ≢ id → MayCome k q id calls c → hand_of j (plain_after q id c).holder (plain_after q id c).stand ≡ hand_of j q.holder q.stand
 others k q id calls (Enter u a) j ne may = refl
 others k q id calls (Link place u node) j ne may = refl
 others k q id calls (Take true) j ne may = away j id (Some id) q.stand ne refl ∙ sym (nobody j q.holder q.stand may)
@@ -92,7 +93,7 @@ with_cell_word words q i c h word low is are = record {
 
 -- ---- one step more
 
-module _ (k : Terms) (s : State Stand Known) (r : IsOrdered k s) (id : ℕ) (v : Known) (at : get_elem? s.views id ≡ some v) where
+module _ (k : NodeTerms) (s : State Stand Known) (r : IsOrdered k s) (id : ℕ) (v : Known) (at : get_elem? s.views id ≡ some v) where
   abbrev pub plain : Plain
   plain = queue_after k r.order
 
@@ -106,16 +107,16 @@ module _ (k : Terms) (s : State Stand Known) (r : IsOrdered k s) (id : ℕ) (v :
   sound = subst (λ (z : Known). IsSound z.threads z.bound plain) (sym log_is) (sound_after k r.order r.legal)
 
   -- the seat after a step, by what it has in hand then
-  is_known : (c : Call) (q : Plain) (hand : Option Stand) → hand ≡ hand_of id q.holder q.stand → with_hand hand (with_call v c) ≡ known_of k q (v.calls ++ c ∷ []) id
+  is_known : (c : LineStep) (q : Plain) (hand : Option Stand) → hand ≡ hand_of id q.holder q.stand → with_hand hand (with_call v c) ≡ known_of k q (v.calls ++ c ∷ []) id
   is_known c q hand e = λ i. record { threads = (log_is i).threads; bound = (log_is i).bound; calls = v.calls ++ c ∷ []; hand = e i }
 
-  adds : (c : Call) (words : List ℕ) (homes : List (maybe.Option Stand)) (w : Known) → MayCome k plain id v.calls c → AreWords words (plain_after plain id c)
+  adds : (c : LineStep) (words : List ℕ) (homes : List (maybe.Option Stand)) (w : Known) → MayCome k plain id v.calls c → AreWords words (plain_after plain id c)
       → homes ≡ slot_of (plain_after plain id c).holder (plain_after plain id c).stand ∷ [] → w ≡ known_of k (plain_after plain id c) (v.calls ++ c ∷ []) id
       → IsOrdered k record { words = words; homes = homes; views = set s.views id w }
   adds c words homes w may are slot known = record {
     few = r.few;
     order = made ∷ r.order;
-    legal = (subst (λ (l : List Call). MayCome k plain id l c) (ap (λ (z : Known). z.calls) log_is) may, r.legal);
+    legal = (subst (λ (l : List LineStep). MayCome k plain id l c) (ap (λ (z : Known). z.calls) log_is) may, r.legal);
     words = are;
     slot = slot;
     seats = seats;
@@ -146,7 +147,7 @@ module _ (k : Terms) (s : State Stand Known) (r : IsOrdered k s) (id : ℕ) (v :
 
 -- ---- taking the line
 
-module _ (k : Terms) (slots id : ℕ) (v : Known) (c : List (ℕ × Stand)) where
+module _ (k : NodeTerms) (slots id : ℕ) (v : Known) (c : List (ℕ × Stand)) where
   abbrev pub TakesAt : Type 0
   TakesAt = Allows (IsOrdered k) slots id (v, c) 1 (λ n. either (n == 0) 1 n) (Takes (step slots 1 0 1 none) (v, c))
 
@@ -197,7 +198,7 @@ module _ (k : Terms) (slots id : ℕ) (v : Known) (c : List (ℕ × Stand)) wher
 
 -- ---- steps of a seat that has the line out
 
-module _ (k : Terms) (slots id : ℕ) (v : Known) (h : Stand) (hand : v.hand ≡ Some h) where
+module _ (k : NodeTerms) (slots id : ℕ) (v : Known) (h : Stand) (hand : v.hand ≡ Some h) where
   -- the line is out with this seat, and is what it has in hand
   has : (s : State Stand Known) (r : IsOrdered k s) (at : get_elem? s.views id ≡ some v) → ((plain k s r id v at).holder ≡ Some id) × ((plain k s r id v at).stand ≡ h)
   has s r at = holding id (plain k s r id v at).holder (plain k s r id v at).stand h (sym (hand_is k s r id v at) ∙ hand)
@@ -215,7 +216,7 @@ module _ (k : Terms) (slots id : ℕ) (v : Known) (h : Stand) (hand : v.hand ≡
       let n = ap (λ (z : Known). z.threads) (log_is k s r id v at) in
       let few : v.threads ≤ 64 = subst (λ (m : ℕ). m ≤ 64) (sym n) r.few in
       let found : cell_at word ≡ q.cells j = ap cell_at (r.words.cells j low) ∙ cell_back v.threads (q.cells j) few ((sound k s r id v at).cells j) in
-      let call : Call = Read (next_to h.read) (cell_at word) (takes_in (cell_at word) h) in
+      let call : LineStep = Read (next_to h.read) (cell_at word) (takes_in (cell_at word) h) in
       let after : stand_after (cell_at word) q.stand ≡ stand_after (cell_at word) h = ap (stand_after (cell_at word)) mine.1 in (
         did_read (cell_at word) h v,
         keeps,
@@ -238,7 +239,7 @@ module _ (k : Terms) (slots id : ℕ) (v : Known) (h : Stand) (hand : v.hand ≡
   -- ---- putting it back
 
   -- with g in the slot, after a step that puts it back so
-  puts : (s : State Stand Known) (r : IsOrdered k s) (at : get_elem? s.views id ≡ some v) (call : Call) (g : Stand) → MayCome k (plain k s r id v at) id v.calls call → plain_after (plain k s r id v at) id call ≡ home_with g (plain k s r id v at)
+  puts : (s : State Stand Known) (r : IsOrdered k s) (at : get_elem? s.views id ≡ some v) (call : LineStep) (g : Stand) → MayCome k (plain k s r id v at) id v.calls call → plain_after (plain k s r id v at) id call ≡ home_with g (plain k s r id v at)
       → IsOrdered k (stepped s 1 0 id ((0, g) ∷ []) (with_hand None (with_call v call)) gives)
   puts s r at call g may is =
       let q = plain k s r id v at in
@@ -256,7 +257,7 @@ module _ (k : Terms) (slots id : ℕ) (v : Known) (h : Stand) (hand : v.hand ≡
   returns_line u node g turn is s r deep at small =
       let q = plain k s r id v at in
       let mine = has s r at in
-      let call : Call = Next u node (pick_of node h) in (
+      let call : LineStep = Next u node (pick_of node h) in (
         did_next u node h v,
         gives,
         tt,
@@ -307,7 +308,7 @@ module _ (k : Terms) (slots id : ℕ) (v : Known) (h : Stand) (hand : v.hand ≡
       let mine = has s r at in
       let found : ℕ = slice_index s.words 0 in
       let d : Departure = answer_to_leave found h in
-      let call : Call = Leave u d in
+      let call : LineStep = Leave u d in
       let after : stand_left d q.stand ≡ stand_left d h = ap (stand_left d) mine.1 in
       let same : d ≡ answer_to_leave q.entered q.stand = (λ i. answer_to_leave (r.words.entered i) (sym mine.1 i)) in
       let word : either (found == next_to h.read) 0 found ≡ entered_left d q.entered = either_left (found == next_to h.read) found ∙ ap (entered_left d) r.words.entered in (
@@ -324,7 +325,7 @@ module _ (k : Terms) (slots id : ℕ) (v : Known) (h : Stand) (hand : v.hand ≡
 
 -- ---- `enter` and `link`
 
-module _ (k : Terms) (slots id : ℕ) (v : Known) (c : List (ℕ × Stand)) where
+module _ (k : NodeTerms) (slots id : ℕ) (v : Known) (c : List (ℕ × Stand)) where
   abbrev pub EntersAt : Turn → Type 0
   EntersAt u = Allows (IsOrdered k) slots id (v, c) 0 (λ n. (n + 1) % 2 ^ 64) (Enters u (step slots 0 1 0 none) (v, c))
 
@@ -332,7 +333,7 @@ module _ (k : Terms) (slots id : ℕ) (v : Known) (c : List (ℕ × Stand)) wher
   enters_queue u turn s r deep at small =
       let q = plain k s r id v at in
       let found : ℕ = slice_index s.words 0 in
-      let call : Call = Enter u (answer_to_enter found) in (
+      let call : LineStep = Enter u (answer_to_enter found) in (
         with_call v call,
         keeps,
         tt,
@@ -347,7 +348,7 @@ module _ (k : Terms) (slots id : ℕ) (v : Known) (c : List (ℕ × Stand)) wher
   pub links_turn : (place : ℕ) (u : Turn) (node cell word : ℕ) → IsTurn k.threads u → node < 8 → MayLink v.calls u place → cell ≡ place % 64 + 2 → word ≡ cell_word (record { turn = u; node = node }) → LinksAt place u node cell word
   links_turn place u node cell word turn low may is left = subst (λ (z : ℕ). LinksAt place u node z word) (sym is) (λ s r deep at small.
       let q = plain k s r id v at in
-      let call : Call = Link place u node in (
+      let call : LineStep = Link place u node in (
         with_call v call,
         keeps,
         tt,
@@ -366,14 +367,14 @@ no_calls id (m ∷ before) all =
     ap (λ (b : Bool). cond b (calls_of id before ++ m.call ∷ []) (calls_of id before)) (ne_eqb m.seat id (λ e. omega arith)) ∙ no_calls id before (all_rest (λ (m : Made). m.seat < id) m before all)
 
 -- who has the line out has made a step
-holder_made : (k : Terms) (order : List Made) (n id : ℕ) → All (λ (m : Made). m.seat < n) order → (queue_after k order).holder ≡ Some id → id < n
+holder_made : (k : NodeTerms) (order : List Made) (n id : ℕ) → All (λ (m : Made). m.seat < n) order → (queue_after k order).holder ≡ Some id → id < n
 holder_made k [] n id all e = absurd (cc e)
 holder_made k (m ∷ before) n id all e = by_call m.call (holder_made k before n id (all_rest (λ (m : Made). m.seat < n) m before all)) e
   where
     low : m.seat < n
     low = all 0 m (omega arith)
 
-    by_call : (c : Call) → ((queue_after k before).holder ≡ Some id → id < n) → (plain_after (queue_after k before) m.seat c).holder ≡ Some id → id < n
+    by_call : (c : LineStep) → ((queue_after k before).holder ≡ Some id → id < n) → (plain_after (queue_after k before) m.seat c).holder ≡ Some id → id < n
     by_call (Enter u a) earlier is = earlier is
     by_call (Link place u node) earlier is = earlier is
     by_call (Take true) earlier is = let same : m.seat ≡ id = cc is in let l : m.seat < n = low in omega arith
@@ -388,7 +389,7 @@ none_new : (n : ℕ) (o : Option ℕ) (h : Stand) → ((id : ℕ) → o ≡ Some
 none_new n None h low = refl
 none_new n (Some id) h low = ap (λ (b : Bool). cond b (Some h) None) (ne_eqb id n (λ e. let l = low id refl in omega arith))
 
-pub deals : (k : Terms) (id : ℕ) (v : Known) → Splits (IsOrdered k) id v v (known_beside v)
+pub deals : (k : NodeTerms) (id : ℕ) (v : Known) → Splits (IsOrdered k) id v v (known_beside v)
 deals k id v s r at =
     let w : Known = known_beside v in
     let q = queue_after k r.order in

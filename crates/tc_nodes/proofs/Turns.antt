@@ -5,6 +5,7 @@ use Rattle.tc_queue.specs.declared.turn.Turn.{Turn}
 use Rattle.tc_nodes.specs.declared.cells.Placed.{Placed}
 use Rattle.tc_nodes.specs.Line.{is_turn}
 use Rattle.tc_nodes.specs.Picks.{has_come, is_after, HaveComeOnce}
+use Rattle.tc_lemmas.proofs.Tests.{true_or_false}
 
 pub falsely : true ≡ false → ⊥
 falsely e = absurd (cc e)
@@ -18,11 +19,6 @@ turn_same u v e =
     let thread = eqb-true u.thread v.thread two.0 in
     let number = eqb-true u.number v.number two.1 in
     λ i. record { thread = thread i; number = number i }
-
--- by whether a test holds
-pub tested : (b : Bool) → (b ≡ true) ⊎ (b ≡ false)
-tested true = inl refl
-tested false = inr refl
 
 pub other_turn : (u v : Turn) → is_turn u v ≡ false → is_turn v u ≡ false
 other_turn u v e = by_test (is_turn v u) refl

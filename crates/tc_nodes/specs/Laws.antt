@@ -5,9 +5,9 @@ use lib.ListN.{get_elem?}
 use Rattle.atomic_table.specs.Table.{State}
 use Rattle.tc_queue.specs.declared.turn.Turn.{Turn}
 use Rattle.tc_nodes.specs.declared.cells.Placed.{Placed}
-use Rattle.tc_nodes.specs.declared.call.Call.TheVariants.{Read, Next}
+use Rattle.tc_nodes.specs.declared.step.LineStep.TheVariants.{Read, Next}
 use Rattle.tc_nodes.specs.declared.board.Stand.{Stand}
-use Rattle.tc_nodes.specs.declared.board.Terms.{Terms}
+use Rattle.tc_nodes.specs.declared.board.NodeTerms.{NodeTerms}
 use Rattle.tc_nodes.specs.declared.board.Known.{Known}
 use Rattle.tc_nodes.specs.Line.{has_turn, IsSteady}
 use Rattle.tc_nodes.specs.Order.{IsOrdered}
@@ -22,8 +22,8 @@ WasTakenIn logs p = (id : ℕ) × (v : Known) × (i : ℕ) × (number : ℕ) × 
 
 -- where the line is at home, each turn that was read and taken in is in it, or was answered by a `next`
 abbrev pub KeepsTurns : Type 0
-KeepsTurns = (k : Terms) (s : State Stand Known) (h : Stand) → IsOrdered k s → s.homes ≡ some h ∷ [] → (p : Placed) → WasTakenIn s.views p → (has_turn p.turn h.line.waiting ≡ true) ⊎ IsAnswered s.views p.turn
+KeepsTurns = (k : NodeTerms) (s : State Stand Known) (h : Stand) → IsOrdered k s → s.homes ≡ some h ∷ [] → (p : Placed) → WasTakenIn s.views p → (has_turn p.turn h.line.waiting ≡ true) ⊎ IsAnswered s.views p.turn
 
 -- where the line is at home, no waiter in it was passed over more often than the bound says
 abbrev pub KeepsBound : Type 0
-KeepsBound = (k : Terms) (s : State Stand Known) (h : Stand) → IsOrdered k s → s.homes ≡ some h ∷ [] → IsSteady k.bound h.line.waiting
+KeepsBound = (k : NodeTerms) (s : State Stand Known) (h : Stand) → IsOrdered k s → s.homes ≡ some h ∷ [] → IsSteady k.bound h.line.waiting

@@ -3,17 +3,17 @@ use Rattle.std.specs.Prelude.{List, [], ◌∷◌}
 use Rattle.tc_queue.specs.declared.turn.Departure.TheVariants.{Followed}
 use Rattle.tc_queue.specs.View.{QueueView}
 use Rattle.tc_queue.specs.Lines as line
-use Rattle.tc_nodes.specs.declared.call.Entered.{Entered}
-use Rattle.tc_nodes.specs.declared.call.Entered.TheVariants.{First, Behind}
-use Rattle.tc_nodes.specs.declared.call.Call.{Call}
-use Rattle.tc_nodes.specs.declared.call.Call.TheVariants.{Enter, Link, Take, Read, Next, Stay, Leave, Back}
+use Rattle.tc_nodes.specs.declared.step.Entered.{Entered}
+use Rattle.tc_nodes.specs.declared.step.Entered.TheVariants.{First, Behind}
+use Rattle.tc_nodes.specs.declared.step.LineStep.{LineStep}
+use Rattle.tc_nodes.specs.declared.step.LineStep.TheVariants.{Enter, Link, Take, Read, Next, Stay, Leave, Back}
 use Rattle.tc_nodes.specs.View.{NodeQueueView, NodeSeatView}
 
 abbrev pub entered_as : Entered → line.Entered
 entered_as First = line.First
 entered_as (Behind place) = line.Behind place
 
-abbrev pub calls_as : List Call → List line.LineCall
+abbrev pub calls_as : List LineStep → List line.LineCall
 calls_as [] = []
 calls_as (Enter u a ∷ cs) = line.Enter u (entered_as a) ∷ calls_as cs
 calls_as (Link place u node ∷ cs) = line.Link place u ∷ calls_as cs

@@ -11,12 +11,12 @@ use Rattle.tc_queue.specs.declared.turn.Departure.{Departure}
 use Rattle.tc_queue.specs.declared.turn.Departure.TheVariants.{Left, Followed}
 use Rattle.tc_queue.specs.Words.{IsTurn}
 use Rattle.tc_nodes.specs.declared.cells.Placed.{Placed}
-use Rattle.tc_nodes.specs.declared.call.Entered.{Entered}
-use Rattle.tc_nodes.specs.declared.call.Entered.TheVariants.{First, Behind}
-use Rattle.tc_nodes.specs.declared.call.Call.{Call}
-use Rattle.tc_nodes.specs.declared.call.Call.TheVariants.{Enter, Link, Take, Read, Next, Stay, Leave, Back}
+use Rattle.tc_nodes.specs.declared.step.Entered.{Entered}
+use Rattle.tc_nodes.specs.declared.step.Entered.TheVariants.{First, Behind}
+use Rattle.tc_nodes.specs.declared.step.LineStep.{LineStep}
+use Rattle.tc_nodes.specs.declared.step.LineStep.TheVariants.{Enter, Link, Take, Read, Next, Stay, Leave, Back}
 use Rattle.tc_nodes.specs.declared.board.Stand.{Stand}
-use Rattle.tc_nodes.specs.declared.board.Terms.{Terms}
+use Rattle.tc_nodes.specs.declared.board.NodeTerms.{NodeTerms}
 use Rattle.tc_nodes.specs.declared.board.Known.{Known}
 use Rattle.tc_nodes.specs.Line.{is_refused, arrived, picked, line_after, with_waiting}
 use Rattle.tc_nodes.specs.Cells.{word_of_cell}
@@ -34,7 +34,7 @@ answer_to_enter found = if found == 0 then First else Behind found
 abbrev pub answer_to_leave : ℕ → Stand → Departure
 answer_to_leave found h = if found == next_to h.read then Left else Followed
 
-abbrev pub enter_call : Turn → ℕ → Call
+abbrev pub enter_call : Turn → ℕ → LineStep
 enter_call u found = Enter u (answer_to_enter found)
 
 -- whether the line takes in what was found in a cell
@@ -66,10 +66,10 @@ pub record Plain : Type 0 where
   pub holder : Option ℕ
   pub stand : Stand
 
-abbrev pub empty_stand : Terms → Stand
+abbrev pub empty_stand : NodeTerms → Stand
 empty_stand k = record { line = record { threads = k.threads; bound = k.bound; waiting = [] }; read = 0 }
 
-abbrev pub empty_queue : Terms → Plain
+abbrev pub empty_queue : NodeTerms → Plain
 empty_queue k = record { entered = 0; cells = λ _. None; holder = None; stand = empty_stand k }
 
 -- with this in a cell
@@ -84,7 +84,7 @@ entered_left Left n = 0
 entered_left Followed n = n
 
 -- a cell that was found empty stays so, as does one in which something was found
-abbrev pub plain_after : Plain → ℕ → Call → Plain
+abbrev pub plain_after : Plain → ℕ → LineStep → Plain
 plain_after q id (Enter u a) = record q { entered = next_to q.entered }
 plain_after q id (Link place u node) = with_cell (place % 64) (Some (record { turn = u; node = node })) q
 plain_after q id (Take true) = record q { holder = Some id }
@@ -96,7 +96,7 @@ plain_after q id (Leave u d) = record q { entered = entered_left d q.entered; st
 plain_after q id Back = home_with q.stand q
 
 -- u entered behind so many, and was not linked since
-abbrev pub MayLink : List Call → Turn → ℕ → Type 0
+abbrev pub MayLink : List LineStep → Turn → ℕ → Type 0
 MayLink calls u place = (i : ℕ) × (get_elem? calls i ≡ some (Enter u (Behind place))) × ((j other node : ℕ) → i < j → get_elem? calls j ≢ some (Link other u node))
 
 abbrev pub is_home : Option ℕ → Bool
@@ -104,7 +104,7 @@ is_home None = true
 is_home (Some id) = false
 
 -- a seat with this list may make the step, and this is the queue's answer
-abbrev pub MayCome : Terms → Plain → ℕ → List Call → Call → Type 0
+abbrev pub MayCome : NodeTerms → Plain → ℕ → List LineStep → LineStep → Type 0
 MayCome k q id calls (Enter u a) = IsTurn k.threads u × (a ≡ answer_to_enter q.entered)
 MayCome k q id calls (Link place u node) = IsTurn k.threads u × (node < 8) × MayLink calls u place
 MayCome k q id calls (Take home) = home ≡ is_home q.holder
@@ -119,18 +119,18 @@ MayCome k q id calls Back = q.holder ≡ Some id
 -- a step, and the number of the seat that made it
 pub record Made : Type 0 where
   pub seat : ℕ
-  pub call : Call
+  pub call : LineStep
 
 -- the steps of one seat, the first one first
-abbrev pub calls_of : ℕ → List Made → List Call
+abbrev pub calls_of : ℕ → List Made → List LineStep
 calls_of id [] = []
 calls_of id (m ∷ before) = if m.seat == id then calls_of id before ++ m.call ∷ [] else calls_of id before
 
-abbrev pub queue_after : Terms → List Made → Plain
+abbrev pub queue_after : NodeTerms → List Made → Plain
 queue_after k [] = empty_queue k
 queue_after k (m ∷ before) = plain_after (queue_after k before) m.seat m.call
 
-abbrev pub IsLegal : Terms → List Made → Type 0
+abbrev pub IsLegal : NodeTerms → List Made → Type 0
 IsLegal k [] = Unit {0}
 IsLegal k (m ∷ before) = MayCome k (queue_after k before) m.seat (calls_of m.seat before) m.call × IsLegal k before
 
@@ -156,10 +156,10 @@ abbrev pub hand_of : ℕ → Option ℕ → Stand → Option Stand
 hand_of id None h = None
 hand_of id (Some holder) h = if holder == id then Some h else None
 
-abbrev pub known_of : Terms → Plain → List Call → ℕ → Known
+abbrev pub known_of : NodeTerms → Plain → List LineStep → ℕ → Known
 known_of k q calls id = record { threads = k.threads; bound = k.bound; calls = calls; hand = hand_of id q.holder q.stand }
 
-abbrev pub first_known : Terms → Known
+abbrev pub first_known : NodeTerms → Known
 first_known k = record { threads = k.threads; bound = k.bound; calls = []; hand = None }
 
 -- a new seat beside one
@@ -168,7 +168,7 @@ known_beside v = record { threads = v.threads; bound = v.bound; calls = []; hand
 
 -- ---- the rule
 
-pub record IsOrdered (k : Terms) (s : State Stand Known) : Type 0 where
+pub record IsOrdered (k : NodeTerms) (s : State Stand Known) : Type 0 where
   pub few : k.threads ≤ 64
   pub order : List Made
   pub legal : IsLegal k order

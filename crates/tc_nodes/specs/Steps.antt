@@ -6,8 +6,8 @@ use Rattle.tc_queue.specs.declared.turn.Departure.{Departure}
 use Rattle.tc_queue.specs.Words.{IsTurn}
 use Rattle.tc_nodes.specs.declared.line.Waiter.{Waiter}
 use Rattle.tc_nodes.specs.declared.cells.Placed.{Placed}
-use Rattle.tc_nodes.specs.declared.call.Call.{Call}
-use Rattle.tc_nodes.specs.declared.call.Call.TheVariants.{Enter, Link, Take, Read, Next, Stay, Leave, Back}
+use Rattle.tc_nodes.specs.declared.step.LineStep.{LineStep}
+use Rattle.tc_nodes.specs.declared.step.LineStep.TheVariants.{Enter, Link, Take, Read, Next, Stay, Leave, Back}
 use Rattle.tc_nodes.specs.declared.board.Stand.{Stand}
 use Rattle.tc_nodes.specs.declared.board.Known.{Known}
 use Rattle.tc_nodes.specs.Line.{LineView, IsSteady}
@@ -18,7 +18,7 @@ use Rattle.tc_nodes.specs.Order.{next_to, answer_to_enter, answer_to_leave, take
 abbrev pub Sitting : Type 0
 Sitting = Me Stand Known
 
-abbrev pub with_call : Known → Call → Known
+abbrev pub with_call : Known → LineStep → Known
 with_call v c = record v { calls = v.calls ++ c ∷ [] }
 
 -- with the line in hand, or without it

@@ -9,10 +9,10 @@ use Rattle.tc_queue.specs.declared.turn.Departure.{Departure}
 use Rattle.tc_queue.specs.declared.turn.Departure.TheVariants.{Followed}
 use Rattle.tc_queue.specs.Words.{IsTurn}
 use Rattle.tc_nodes.specs.declared.cells.Placed.{Placed}
-use Rattle.tc_nodes.specs.declared.call.Call.{Call}
-use Rattle.tc_nodes.specs.declared.call.Call.TheVariants.{Take, Read, Next, Stay, Leave, Back}
+use Rattle.tc_nodes.specs.declared.step.LineStep.{LineStep}
+use Rattle.tc_nodes.specs.declared.step.LineStep.TheVariants.{Take, Read, Next, Stay, Leave, Back}
 use Rattle.tc_nodes.specs.declared.board.Stand.{Stand}
-use Rattle.tc_nodes.specs.declared.board.Terms.{Terms}
+use Rattle.tc_nodes.specs.declared.board.NodeTerms.{NodeTerms}
 use Rattle.tc_nodes.specs.declared.board.Known.{Known}
 use Rattle.tc_nodes.specs.Steps.{Sitting, IsLineFor, IsFound, Holds, Took, missed, with_hand, did_read, did_next, did_leave}
 use Rattle.tc_nodes.specs.Order.{MayLink, next_to, takes_in, stand_after, pick_of, without_pick, answer_to_leave, stand_left}
@@ -28,7 +28,7 @@ pub record NodeSeatView : Type 0 where
   pub threads : ℕ
   pub bound : ℕ
   pub node : ℕ
-  pub calls : List Call
+  pub calls : List LineStep
 
 abbrev pub queue_view : TableId → ℕ → ℕ → NodeQueueView
 queue_view table threads bound = record { table = table; threads = threads; bound = bound }
@@ -45,7 +45,7 @@ pub record MayLinkAt (q : NodeQueueView) (s : NodeSeatView) (u : Turn) (place : 
   pub turn : IsTurn q.threads u
   pub entered : MayLink s.calls u place
 
-abbrev pub with_calls : List Call → NodeSeatView → NodeSeatView
+abbrev pub with_calls : List LineStep → NodeSeatView → NodeSeatView
 with_calls cs s = record s { calls = s.calls ++ cs }
 
 -- a seat of this queue and node that has made no step
@@ -72,26 +72,26 @@ abbrev pub MaySeat : ℕ → ℕ → Type 0
 MaySeat many nodes = (1 ≤ nodes) × (nodes ≤ many) × (many ≤ 8)
 
 -- the line was found out
-abbrev pub AreMisses : List Call → Type 0
+abbrev pub AreMisses : List LineStep → Type 0
 AreMisses [] = Unit {0}
 AreMisses (c ∷ cs) = (c ≡ Take false) × AreMisses cs
 
 -- the line was found out so often, and then taken
-pub record AreTries (calls : List Call) : Type 0 where
-  pub misses : List Call
+pub record AreTries (calls : List LineStep) : Type 0 where
+  pub misses : List LineStep
   pub missed : AreMisses misses
   pub list : calls ≡ misses ++ Take true ∷ []
 
 -- cells were read in order, with this line in hand at first and that one afterwards; the last one was empty
-abbrev pub AreReads : Stand → List Call → Stand → Type 0
+abbrev pub AreReads : Stand → List LineStep → Stand → Type 0
 AreReads h [] g = ⊥
 AreReads h (c ∷ cs) g = ((c ≡ Read (next_to h.read) None false) × (cs ≡ []) × (g ≡ h)) ⊎ ((p : Placed) × (c ≡ Read (next_to h.read) (Some p) (takes_in (Some p) h)) × AreReads (stand_after (Some p) h) cs g)
 
 -- what `next` of u for this node did: it took the line, read cells up to an empty one, and put the line back with this answer
 pub record DidNext (u : Turn) (node : ℕ) (answer : Option Turn) (s t : NodeSeatView) : Type 0 where
-  pub tries : List Call
+  pub tries : List LineStep
   pub found : Stand
-  pub reads : List Call
+  pub reads : List LineStep
   pub stand : Stand
   pub tried : AreTries tries
   pub did_read : AreReads found reads stand
@@ -101,17 +101,17 @@ pub record DidNext (u : Turn) (node : ℕ) (answer : Option Turn) (s t : NodeSea
 
 -- what `leave` of u did: it took the line; where somebody waited it put it back; else it tried the exchange, which found this
 -- count, and then put the line back
-pub data DidLeaveBy (u : Turn) (answer : Departure) (tries : List Call) (s t : NodeSeatView) : Type 0 where
+pub data DidLeaveBy (u : Turn) (answer : Departure) (tries : List LineStep) (s t : NodeSeatView) : Type 0 where
   Stayed : answer ≡ Followed → t ≡ with_calls (tries ++ Stay u ∷ []) s → DidLeaveBy u answer tries s t
   Exchanged : (found : ℕ) (stand : Stand) → stand.line.waiting ≡ [] → answer ≡ answer_to_leave found stand → t ≡ with_calls (tries ++ Leave u answer ∷ Back ∷ []) s → DidLeaveBy u answer tries s t
 
 pub record DidLeave (u : Turn) (answer : Departure) (s t : NodeSeatView) : Type 0 where
-  pub tries : List Call
+  pub tries : List LineStep
   pub tried : AreTries tries
   pub did : DidLeaveBy u answer tries s t
 
 -- a table of these terms is one of a queue
-pub record IsTableFor (threads bound : ℕ) (k : Terms) (table : TableId) : Type 0 where
+pub record IsTableFor (threads bound : ℕ) (k : NodeTerms) (table : TableId) : Type 0 where
   pub of_threads : threads ≡ k.threads
   pub of_bound : bound ≡ k.bound
   pub words : table.words ≡ 66
@@ -166,12 +166,12 @@ TellsWaiting some_one m m' = (m' ≡ m) × ((h : Stand) → Holds h m → MatchB
 abbrev pub DidReturn : Turn → ℕ → Option Turn → Sitting → Sitting → Type 0
 DidReturn u node answer m m' = (h : Stand) → Holds h m → (answer ≡ pick_of node h) × (m' ≡ (did_next u node h m.0, []))
 
-abbrev pub with_all : List Call → Known → Known
+abbrev pub with_all : List LineStep → Known → Known
 with_all cs v = record v { calls = v.calls ++ cs }
 
 -- the line was taken
 pub record IsTaken (m m' : Sitting) : Type 0 where
-  pub tries : List Call
+  pub tries : List LineStep
   pub tried : AreTries tries
   pub stand : Stand
   pub line : IsLineFor m.0.threads m.0.bound stand.line
@@ -190,7 +190,7 @@ pub record DidRead (some_one : Bool) (m m' : Sitting) : Type 0 where
 pub record IsFilled (m m' : Sitting) : Type 0 where
   pub found : Stand
   pub was : Holds found m
-  pub reads : List Call
+  pub reads : List LineStep
   pub stand : Stand
   pub did_read : AreReads found reads stand
   pub line : IsLineFor m.0.threads m.0.bound stand.line

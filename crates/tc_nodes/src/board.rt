@@ -4,8 +4,8 @@
 
 ghost use Rattle.tc_nodes.specs.Steps.{Enters, Leaves, Links, PutsBack, Reads, Returns, Stays, Takes};
 
-use crate::call::Call;
 use crate::line::Line;
+use crate::step::LineStep;
 use atomic_table::{Play, Seat, Split, Table, TableRule};
 use std::alloc::Global;
 use std::collections::LinkedList;
@@ -20,7 +20,7 @@ pub struct Stand {
 
 /// For what a queue is made.
 #[derive(Drop)]
-pub struct Terms {
+pub struct NodeTerms {
     pub threads: u32,
     pub bound: u32,
 }
@@ -30,14 +30,14 @@ pub struct Terms {
 pub struct Known {
     pub threads: u32,
     pub bound: u32,
-    pub calls: LinkedList<Call>,
+    pub calls: LinkedList<LineStep>,
     pub hand: Option<Stand>,
 }
 
 /// The rule of the words and the line.
 pub struct Ordered;
 
-impl TableRule<Stand, Known, Terms> for Ordered {
+impl TableRule<Stand, Known, NodeTerms> for Ordered {
     ghost use Rattle.tc_nodes.specs.Order.{IsOrdered, first_known};
 
     ghost holds = { IsOrdered };
@@ -45,9 +45,9 @@ impl TableRule<Stand, Known, Terms> for Ordered {
     ghost first = { first_known };
 }
 
-pub(crate) type Board = Table<Stand, Known, Terms, Ordered, Global>;
+pub(crate) type NodeTable = Table<Stand, Known, NodeTerms, Ordered, Global>;
 
-pub(crate) type Place = Seat<Stand, Known>;
+pub(crate) type NodeTableSeat = Seat<Stand, Known>;
 
 /// What a call names. Each call picks it.
 pub trait Named {
@@ -87,9 +87,9 @@ impl<J: Named> Play<Stand, Known> for Link<J> {
     ghost then = { Links J.place J.own J.node };
 }
 
-pub(crate) struct Take;
+pub(crate) struct TakeLine;
 
-impl Play<Stand, Known> for Take {
+impl Play<Stand, Known> for TakeLine {
     ghost then = { Takes };
 }
 
@@ -133,9 +133,9 @@ impl Play<Stand, Known> for PutBack {
 }
 
 /// Makes one seat more.
-pub(crate) struct Beside;
+pub(crate) struct AddNodeSeat;
 
-impl Split<Known> for Beside {
+impl Split<Known> for AddNodeSeat {
     ghost use Rattle.tc_nodes.specs.Order.{known_beside};
 
     ghost left = { λ v. v };

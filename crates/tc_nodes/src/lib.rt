@@ -17,27 +17,27 @@
 //! - `line`: a line of waiting turns, and who is picked from it.
 //! - `picks`: a line over a whole list of arrivals and picks.
 //! - `cells`: how a turn and its node are kept in a word.
-//! - `call`: the steps that a seat makes.
+//! - `step`: the steps that a seat makes.
 //! - `board`: the table, its rule, and what each kind of step tells.
 //! - `queue`: the queue and its seats. `waiters`: the queue as an order of waiters.
 //! - `laws`: what holds of all seats together.
 #![tactic(auto)]
 
 mod board;
-mod call;
 mod cells;
 mod laws;
 mod line;
 mod picks;
 mod queue;
+mod step;
 mod waiters;
 
-pub use call::{Call, Entered};
 pub use cells::Placed;
 pub use laws::keeping;
 pub use line::{Line, Waiter};
 pub use picks::{Op, run_line};
 pub use queue::{NodeQueue, NodeSeat};
+pub use step::{Entered, LineStep};
 
 #[cfg(test)]
 mod tests;

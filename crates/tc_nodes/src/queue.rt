@@ -6,7 +6,7 @@ ghost use Rattle.tc_queue.specs.declared.turn.Turn.{Turn};
 ghost use Rattle.tc_queue.specs.declared.turn.Departure.TheVariants.{Left};
 ghost use Rattle.tc_queue.specs.Words.{IsTurn};
 ghost use Rattle.tc_queue.specs.Lines.{MayCall, MayStep};
-ghost use Rattle.tc_nodes.specs.declared.call.Call.TheVariants.{Enter, Link};
+ghost use Rattle.tc_nodes.specs.declared.step.LineStep.TheVariants.{Enter, Link};
 ghost use Rattle.tc_nodes.specs.Line.{MayLineUp};
 ghost use Rattle.tc_nodes.specs.Lines.{queue_as, seat_as};
 ghost use Rattle.tc_nodes.specs.Order.{answer_to_enter, enter_call, stand_after, stand_left};
@@ -14,10 +14,12 @@ ghost use Rattle.tc_nodes.specs.Steps.{HasLine, HasNoSlot, HasNoWaiter, HasOwnLi
 ghost use Rattle.tc_nodes.specs.View.{Becomes, DidAt, DidExchange, DidLeave, DidNext, DidRead, DidReturn, IsAt, IsFilled, IsNextCell, IsOpened, IsTaken, MayLinkAt, MaySeat, MayStepAt, Picks, TellsWaiting, Tries, with_calls};
 
 use crate::board;
-use crate::board::{Beside, Board, Named, Place, PutBack, Stand, Take, Terms};
-use crate::call::Entered;
+use crate::board::{
+    AddNodeSeat, Named, NodeTable, NodeTableSeat, NodeTerms, PutBack, Stand, TakeLine,
+};
 use crate::cells::Placed;
 use crate::line::Line;
+use crate::step::Entered;
 use atomic_table::{Refused, Table};
 use crossbeam_utils::Backoff;
 use std::alloc::{AllocError, Global};
@@ -31,7 +33,7 @@ const WORDS: usize = 66;
 /// The waiters of one lock, each on a node.
 #[derive(Drop)]
 pub struct NodeQueue {
-    board: Board,
+    board: NodeTable,
     threads: u32,
     bound: u32,
 }
@@ -50,7 +52,7 @@ impl Model for NodeQueue {
 /// of the steps that were made with it.
 #[derive(Drop)]
 pub struct NodeSeat {
-    place: Place,
+    place: NodeTableSeat,
     node: u32,
 }
 
@@ -85,13 +87,13 @@ impl NodeQueue {
         let mut slots = Vec::with_capacity(alloc, 1)?;
         let line = Line::new(alloc, threads, bound)?;
         slots.push_reserved(Stand { line, read: 0 });
-        let terms = Terms { threads, bound };
+        let terms = NodeTerms { threads, bound };
         let (board, mut first) = match Table::new(alloc, words.as_slice(), slots, &terms) {
             Ok(made) => made,
             Err(Refused { slots: _ }) => return Err(AllocError),
         };
         for seated in 0..seats - 1 {
-            let place = board.shared.split_seat::<Beside>(&mut first);
+            let place = board.shared.split_seat::<AddNodeSeat>(&mut first);
             made.push_reserved(NodeSeat {
                 place,
                 node: seated % nodes,
@@ -185,15 +187,18 @@ impl NodeQueue {
     }
 
     /// Takes the line, where it is home.
-    fn try_take(&self, place: &mut Place) -> bool
+    fn try_take(&self, place: &mut NodeTableSeat) -> bool
         requires { IsAt self.now HasNoSlot place.old }
         ensures { DidAt (Tries result) place.old place.new }
     {
-        self.board.shared.compare_exchange::<Take>(place, 1, 0, 1) == 0
+        self.board
+            .shared
+            .compare_exchange::<TakeLine>(place, 1, 0, 1)
+            == 0
     }
 
     /// Takes the line, with as many tries as it takes.
-    fn take<R: Wait>(&self, rt: &R, place: &mut Place)
+    fn take<R: Wait>(&self, rt: &R, place: &mut NodeTableSeat)
         requires { IsAt self.now HasNoSlot place.old }
         ensures { DidAt IsTaken place.old place.new }
     {
@@ -207,7 +212,7 @@ impl NodeQueue {
     }
 
     /// The number of the cell that is to be read next.
-    fn next_cell(&self, place: &mut Place) -> u64
+    fn next_cell(&self, place: &mut NodeTableSeat) -> u64
         requires { IsAt self.now HasLine place.old }
         ensures { DidAt (IsNextCell result) place.old place.new }
     {
@@ -216,7 +221,7 @@ impl NodeQueue {
     }
 
     /// Puts what was found in a cell into the line.
-    fn put_in(&self, place: &mut Place, found: Placed)
+    fn put_in(&self, place: &mut NodeTableSeat, found: Placed)
         requires { IsAt self.now HasSlot place.old }
         ensures { DidAt (Becomes (stand_after (Some found))) place.old place.new }
     {
@@ -226,7 +231,7 @@ impl NodeQueue {
     }
 
     /// Reads the next cell, and says whether something was there.
-    fn read_cell(&self, place: &mut Place) -> bool
+    fn read_cell(&self, place: &mut NodeTableSeat) -> bool
         requires { IsAt self.now HasLine place.old }
         ensures { DidAt (DidRead result) place.old place.new }
     {
@@ -245,7 +250,7 @@ impl NodeQueue {
     }
 
     /// Reads cells up to an empty one.
-    fn fill<R: Wait>(&self, rt: &R, place: &mut Place)
+    fn fill<R: Wait>(&self, rt: &R, place: &mut NodeTableSeat)
         requires { IsAt self.now HasOwnLine place.old }
         ensures { DidAt IsFilled place.old place.new }
     {
@@ -257,7 +262,7 @@ impl NodeQueue {
     }
 
     /// Picks from the line in hand.
-    fn pick(&self, place: &mut Place, node: u32) -> Option<Turn>
+    fn pick(&self, place: &mut NodeTableSeat, node: u32) -> Option<Turn>
         requires { IsAt self.now HasLine place.old }
         ensures { DidAt (Picks node result) place.old place.new }
     {
@@ -266,7 +271,7 @@ impl NodeQueue {
     }
 
     /// Picks from the line, and puts it back.
-    fn give<J: Named>(&self, place: &mut Place, own: &Turn, node: u32) -> Option<Turn>
+    fn give<J: Named>(&self, place: &mut NodeTableSeat, own: &Turn, node: u32) -> Option<Turn>
         requires may { MayStepAt self.now HasLine own.now J.own place.old }
         requires node { node ≡ J.node }
         ensures { DidAt (DidReturn own.now node result) place.old place.new }
@@ -278,7 +283,7 @@ impl NodeQueue {
     }
 
     /// Whether somebody waits in the line in hand.
-    fn has_waiter(&self, place: &mut Place) -> bool
+    fn has_waiter(&self, place: &mut NodeTableSeat) -> bool
         requires { IsAt self.now HasLine place.old }
         ensures { DidAt (TellsWaiting result) place.old place.new }
     {
@@ -287,7 +292,7 @@ impl NodeQueue {
     }
 
     /// Puts the line back, in which somebody waits.
-    fn stay<J: Named>(&self, place: &mut Place, own: &Turn)
+    fn stay<J: Named>(&self, place: &mut NodeTableSeat, own: &Turn)
         requires { MayStepAt self.now HasWaiter own.now J.own place.old }
         ensures { DidAt (λ m n. n ≡ (did_stay own.now m.0, [])) place.old place.new }
     {
@@ -296,7 +301,7 @@ impl NodeQueue {
     }
 
     /// No cell was read since nobody was there.
-    fn forget_cells(&self, place: &mut Place)
+    fn forget_cells(&self, place: &mut NodeTableSeat)
         requires { IsAt self.now HasSlot place.old }
         ensures { DidAt (Becomes (stand_left Left)) place.old place.new }
     {
@@ -305,7 +310,7 @@ impl NodeQueue {
     }
 
     /// Sets the count to 0, where everyone who entered was read but the first.
-    fn exchange<J: Named>(&self, place: &mut Place, own: &Turn) -> Departure
+    fn exchange<J: Named>(&self, place: &mut NodeTableSeat, own: &Turn) -> Departure
         requires { MayStepAt self.now HasNoWaiter own.now J.own place.old }
         ensures { DidAt (DidExchange own.now result) place.old place.new }
     {
@@ -323,7 +328,7 @@ impl NodeQueue {
     }
 
     /// Puts the line back as it is.
-    fn put_back(&self, place: &mut Place)
+    fn put_back(&self, place: &mut NodeTableSeat)
         requires { IsAt self.now HasLine place.old }
         ensures { DidAt (λ m n. n ≡ (did_put_back m.0, [])) place.old place.new }
     {

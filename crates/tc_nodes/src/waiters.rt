@@ -2,8 +2,8 @@
 
 ghost use Rattle.tc_nodes.specs.Lines.{queue_as, seat_as};
 
-use crate::call::Entered;
 use crate::queue::{NodeQueue, NodeSeat};
+use crate::step::Entered;
 use std::sync::Wait;
 use tc_queue::{Arrival, Departure, Turn, Waiters};
 

@@ -3,8 +3,8 @@ use Rattle.std.proofs.Common.{◌≡◌, ℕ, [], sym, ap, subst, ⊎_elim, Opti
 use mathlib.Core.Option.{some-ne-none}
 use Rattle.atomic_table.proofs.Lists.{at_snoc}
 use Rattle.tc_queue.specs.declared.turn.Turn.{Turn}
-use Rattle.tc_queue.specs.declared.turn.Call.{Call}
-use Rattle.tc_queue.specs.declared.turn.Call.TheVariants.{Enter, Link, Next, Leave}
+use Rattle.tc_queue.specs.declared.turn.QueueCall.{QueueCall}
+use Rattle.tc_queue.specs.declared.turn.QueueCall.TheVariants.{Enter, Link, Next, Leave}
 use Rattle.tc_queue.specs.declared.turn.Entered.{Entered}
 use Rattle.tc_queue.specs.declared.turn.Entered.TheVariants.{Behind}
 use Rattle.tc_queue.specs.declared.turn.Leave.{Leave as LeaveAnswer}
@@ -12,7 +12,7 @@ use Rattle.tc_queue.specs.declared.board.SeatLog.{SeatLog}
 use Rattle.tc_queue.specs.Words.{IsTurn}
 use Rattle.tc_queue.specs.Calls.{answer_to_enter, with_call, IsTail, AreBehind}
 
-more : (v w : SeatLog) (c : Call) → w ≡ with_call v c → ((u b : Turn) → c ≡ Enter u (Behind b) → IsTurn v.threads b) → AreBehind v.threads v.calls → AreBehind w.threads w.calls
+more : (v w : SeatLog) (c : QueueCall) → w ≡ with_call v c → ((u b : Turn) → c ≡ Enter u (Behind b) → IsTurn v.threads b) → AreBehind v.threads v.calls → AreBehind w.threads w.calls
 more v w c is new all = subst (λ (z : SeatLog). AreBehind z.threads z.calls) (sym is) (λ u b has. ⊎_elim (λ g. all u b (has.0, g)) (new u b) (at_snoc v.calls c (Enter u (Behind b)) has.0 has.1))
 
 same_answer : (u w : Turn) (a b : Entered) → Enter u a ≡ Enter w b → a ≡ b

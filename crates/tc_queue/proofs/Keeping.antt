@@ -9,8 +9,8 @@ use lib.Seq.{set-get_or}
 use Rattle.atomic_table.specs.Table.{State, step, keeps, Allows, Splits}
 use Rattle.atomic_table.proofs.Lists.{at_set, set_again}
 use Rattle.tc_queue.specs.declared.turn.Turn.{Turn}
-use Rattle.tc_queue.specs.declared.turn.Call.{Call}
-use Rattle.tc_queue.specs.declared.turn.Call.TheVariants.{Enter, Link, Next, Leave}
+use Rattle.tc_queue.specs.declared.turn.QueueCall.{QueueCall}
+use Rattle.tc_queue.specs.declared.turn.QueueCall.TheVariants.{Enter, Link, Next, Leave}
 use Rattle.tc_queue.specs.declared.board.SeatLog.{SeatLog}
 use Rattle.tc_queue.specs.Words.{IsTurn, turn_word, link_word}
 use Rattle.tc_queue.specs.Calls.{answer_to_enter, answer_to_next, answer_to_leave, tail_without, with_call, IsTail, IsLink, MayLink}
@@ -18,11 +18,7 @@ use Rattle.tc_queue.specs.Order.{Plain, Made, plain_after, queue_after, calls_of
 use Rattle.tc_queue.specs.Steps.{Enters, Links, Looks, Leaves}
 use Rattle.tc_queue.proofs.Packed.{word_without}
 use Rattle.tc_queue.proofs.Orders.{IsSound, sound_after, no_calls, all_more}
-
-in_range : {A : Type 0} (l : List A) (i : ℕ) (a : A) → get_elem? l i ≡ some a → i < length l
-in_range [] i a e = absurd (some-ne-none a (sym e))
-in_range (x ∷ xs) zero a e = omega arith
-in_range (x ∷ xs) (suc i) a e = let r = in_range xs i a e in omega arith
+use Rattle.tc_lemmas.proofs.Lists.{in_range, at_end}
 
 -- ---- one call more
 
@@ -34,11 +30,11 @@ module _ (n : ℕ) (s : State ℕ SeatLog) (r : IsOrdered n s) (id : ℕ) (v : S
   pub sound : IsSound n (queue_after r.order)
   sound = sound_after n r.order r.legal
 
-  pub adds : (c : Call) (words : List ℕ) → MayCome n (queue_after r.order) v.calls c → AreWords n words (plain_after (queue_after r.order) c) → IsOrdered n record { words = words; homes = s.homes; views = set s.views id (with_call v c) }
+  pub adds : (c : QueueCall) (words : List ℕ) → MayCome n (queue_after r.order) v.calls c → AreWords n words (plain_after (queue_after r.order) c) → IsOrdered n record { words = words; homes = s.homes; views = set s.views id (with_call v c) }
   adds c words may are = record {
     few = r.few;
     order = made ∷ r.order;
-    legal = (subst (λ (l : List Call). MayCome n (queue_after r.order) l c) (ap (λ (z : SeatLog). z.calls) log_is) may, r.legal);
+    legal = (subst (λ (l : List QueueCall). MayCome n (queue_after r.order) l c) (ap (λ (z : SeatLog). z.calls) log_is) may, r.legal);
     words = are;
     seats = seats;
     made = all_more (λ (m : Made). m.seat < length (set s.views id (with_call v c))) made r.order (subst (λ (k : ℕ). id < k) (sym (length-set s.views id (with_call v c))) (in_range s.views id v at)) (subst (λ (k : ℕ). All (λ (m : Made). m.seat < k) r.order) (sym (length-set s.views id (with_call v c))) r.made);
@@ -87,7 +83,7 @@ module _ (n slots id : ℕ) (v : SeatLog) (c : List (ℕ × ℕ)) (u : Turn) whe
   pub enters : (word : ℕ) → IsTurn n u → word ≡ turn_word u → EntersAt word
   enters word turn is s r deep at small =
       let tail = (queue_after r.order).tail in
-      let call : Call = Enter u (answer_to_enter tail) in
+      let call : QueueCall = Enter u (answer_to_enter tail) in
       let same = ap (λ (z : SeatLog). z.threads) (log_is n s r id v at) in (
         with_call v call,
         keeps,
@@ -110,7 +106,7 @@ module _ (n slots id : ℕ) (v : SeatLog) (c : List (ℕ × ℕ)) (u : Turn) whe
   pub leaves : (word : ℕ) → IsTurn n u → word ≡ turn_word u → LeavesAt word
   leaves word turn is s r deep at small =
       let tail = (queue_after r.order).tail in
-      let call : Call = Leave u (answer_to_leave u tail) in
+      let call : QueueCall = Leave u (answer_to_leave u tail) in
       let found : ℕ = slice_index s.words 0 in
       let same = ap (λ (z : SeatLog). z.threads) (log_is n s r id v at) in
       let left : either (found == word) 0 found ≡ tail_word (tail_without u tail) = ap (λ (z : ℕ × ℕ). either (z.0 == z.1) 0 z.0) (λ i. (r.words.tail i, is i)) ∙ word_without n tail u r.few (sound n s r id v at).tail turn in (
@@ -135,7 +131,7 @@ module _ (n slots id : ℕ) (v : SeatLog) (c : List (ℕ × ℕ)) (u : Turn) whe
   pub looks : (place : ℕ) → IsTurn n u → place ≡ u.thread + 1 → LooksAt place
   looks place turn is = subst LooksAt (sym is) (λ s r deep at small.
       let link = (queue_after r.order).links u.thread in
-      let call : Call = Next u (answer_to_next u link) in
+      let call : QueueCall = Next u (answer_to_next u link) in
       let same = ap (λ (z : SeatLog). z.threads) (log_is n s r id v at) in (
         with_call v call,
         keeps,
@@ -164,12 +160,6 @@ module _ (n slots id : ℕ) (v : SeatLog) (c : List (ℕ × ℕ)) (u : Turn) whe
   ))
 
 -- ---- a seat more
-
-at_end : {A : Type 0} (l : List A) (a b : A) (j : ℕ) → get_elem? (l ++ a ∷ []) j ≡ some b → (get_elem? l j ≡ some b) ⊎ ((j ≡ length l) × (a ≡ b))
-at_end [] a b zero e = inr (refl, some-injective a b e)
-at_end [] a b (suc j) e = absurd (some-ne-none b (sym e))
-at_end (x ∷ xs) a b zero e = inl e
-at_end (x ∷ xs) a b (suc j) e = ⊎_elim inl (λ o. inr (ap suc o.0, o.1)) (at_end xs a b j e)
 
 pub deals : (n id : ℕ) (v : SeatLog) → Splits (IsOrdered n) id v v (log_beside v)
 deals n id v s r at =

@@ -4,8 +4,8 @@ use mathlib.Core.Option.{some, some-injective, some-ne-none}
 use lib.ListN.{get_elem?}
 use Rattle.atomic_table.proofs.Lists.{at_last, at_map}
 use Rattle.tc_queue.specs.declared.turn.Turn.{Turn}
-use Rattle.tc_queue.specs.declared.turn.Call.{Call}
-use Rattle.tc_queue.specs.declared.turn.Call.TheVariants.{Enter, Link, Next, Leave}
+use Rattle.tc_queue.specs.declared.turn.QueueCall.{QueueCall}
+use Rattle.tc_queue.specs.declared.turn.QueueCall.TheVariants.{Enter, Link, Next, Leave}
 use Rattle.tc_queue.specs.declared.turn.Entered.{Entered}
 use Rattle.tc_queue.specs.declared.turn.Entered.TheVariants.{First, Behind}
 use Rattle.tc_queue.specs.declared.board.SeatLog.{SeatLog}
@@ -13,11 +13,7 @@ use Rattle.tc_queue.specs.Words.{IsTurn}
 use Rattle.tc_queue.specs.Calls.{MayLink, AreBehind, with_call}
 use Rattle.tc_queue.specs.Lines as line
 use Rattle.tc_queue.specs.Lines.{MayLinkTo, call_as, entered_as, mark_of}
-
-at_map_back : {A B : Type 0} (f : A → B) (xs : List A) (i : ℕ) (y : B) → get_elem? (map f xs) i ≡ some y → (x : A) × (get_elem? xs i ≡ some x) × (f x ≡ y)
-at_map_back f [] i y e = absurd (some-ne-none y (sym e))
-at_map_back f (x ∷ xs) zero y e = (x, refl, some-injective (f x) y e)
-at_map_back f (x ∷ xs) (suc i) y e = at_map_back f xs i y e
+use Rattle.tc_lemmas.proofs.Lists.{in_range, from_map}
 
 same_mark : (a b : Turn) → a.thread < 2 ^ 32 → b.thread < 2 ^ 32 → mark_of a ≡ mark_of b → a ≡ b
 same_mark a b low low' e =
@@ -35,7 +31,7 @@ was_behind : (a : Entered) (mark : ℕ) → entered_as a ≡ line.Behind mark �
 was_behind First mark e = absurd (cc e)
 was_behind (Behind b) mark e = (b, refl, same_number (mark_of b) mark e)
 
-did_enter : (c : Call) (u : Turn) (mark : ℕ) → call_as c ≡ line.Enter u (line.Behind mark) → (b : Turn) × (c ≡ Enter u (Behind b)) × (mark_of b ≡ mark)
+did_enter : (c : QueueCall) (u : Turn) (mark : ℕ) → call_as c ≡ line.Enter u (line.Behind mark) → (b : Turn) × (c ≡ Enter u (Behind b)) × (mark_of b ≡ mark)
 did_enter (Enter w a) u mark e =
     let same = same_call w u (entered_as a) (line.Behind mark) e in
     let b = was_behind a mark same.1 in
@@ -45,9 +41,9 @@ did_enter (Next w a) u mark e = absurd (cc e)
 did_enter (Leave w a) u mark e = absurd (cc e)
 
 -- a place that may be linked in the one list may be linked in the other, and is a turn of the queue
-pub may_link : (n : ℕ) (calls : List Call) (u place : Turn) → n ≤ 64 → place.thread < 2 ^ 32 → AreBehind n calls → MayLinkTo (map call_as calls) u (mark_of place) → IsTurn n place × MayLink calls u place
+pub may_link : (n : ℕ) (calls : List QueueCall) (u place : Turn) → n ≤ 64 → place.thread < 2 ^ 32 → AreBehind n calls → MayLinkTo (map call_as calls) u (mark_of place) → IsTurn n place × MayLink calls u place
 may_link n calls u place few low all may =
-    let at = at_map_back call_as calls may.0 _ may.1 in
+    let at = from_map call_as calls may.0 _ may.1 in
     let did = did_enter at.0 u (mark_of place) at.2 in
     let there : get_elem? calls may.0 ≡ some (Enter u (Behind did.0)) = at.1 ∙ ap some did.1 in
     let turn : IsTurn n did.0 = all u did.0 (may.0, there) in
@@ -56,11 +52,6 @@ may_link n calls u place few low all may =
       subst (IsTurn n) same turn,
       (may.0, there ∙ ap (λ (b : Turn). some (Enter u (Behind b))) same, λ j x later e. may.2 j (mark_of x) later (at_map call_as calls j (Link x u) e)),
     )
-
-in_range : {A : Type 0} (l : List A) (i : ℕ) (a : A) → get_elem? l i ≡ some a → i < length l
-in_range [] i a e = absurd (some-ne-none a (sym e))
-in_range (x ∷ xs) zero a e = omega arith
-in_range (x ∷ xs) (suc i) a e = let r = in_range xs i a e in omega arith
 
 -- a list that was made longer by one call has it at its end
 at_its_end : {C : Type 0} (calls before : List C) (c : C) → calls ≡ before ++ c ∷ [] → (i : ℕ) × (get_elem? calls i ≡ some c) × ((j : ℕ) (d : C) → i < j → get_elem? calls j ≢ some d)
@@ -75,7 +66,7 @@ at_its_end {C} calls before c is = subst (λ (l : List C). (i : ℕ) × (get_ele
 )
 
 -- what was just answered may be linked
-pub just_entered : (calls before : List Call) (u b : Turn) → calls ≡ before ++ Enter u (Behind b) ∷ [] → MayLink calls u b
+pub just_entered : (calls before : List QueueCall) (u b : Turn) → calls ≡ before ++ Enter u (Behind b) ∷ [] → MayLink calls u b
 just_entered calls before u b is = let at = at_its_end calls before (Enter u (Behind b)) is in (at.0, at.1, λ j x later. at.2 j (Link x u) later)
 
 just_entered_line : (calls before : List line.LineCall) (u : Turn) (mark : ℕ) → calls ≡ before ++ line.Enter u (line.Behind mark) ∷ [] → MayLinkTo calls u mark

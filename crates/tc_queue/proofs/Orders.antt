@@ -7,8 +7,8 @@ use native.Mathlib.Decide.{ℕ_discrete}
 use lib.ListN.{get_elem?}
 use Rattle.atomic_table.proofs.Lists.{at_longer, at_snoc}
 use Rattle.tc_queue.specs.declared.turn.Turn.{Turn}
-use Rattle.tc_queue.specs.declared.turn.Call.{Call}
-use Rattle.tc_queue.specs.declared.turn.Call.TheVariants.{Enter, Link, Next, Leave}
+use Rattle.tc_queue.specs.declared.turn.QueueCall.{QueueCall}
+use Rattle.tc_queue.specs.declared.turn.QueueCall.TheVariants.{Enter, Link, Next, Leave}
 use Rattle.tc_queue.specs.declared.turn.Entered.TheVariants.{Behind}
 use Rattle.tc_queue.specs.declared.words.Linked.{Linked}
 use Rattle.tc_queue.specs.Words.{IsTurn, IsLinked}
@@ -37,7 +37,7 @@ sound_after n (m ∷ before) legal = by_call m.call legal.0 (sound_after n befor
     q : Plain
     q = queue_after before
 
-    by_call : (c : Call) → MayCome n q (calls_of m.seat before) c → IsSound n q → IsSound n (plain_after q c)
+    by_call : (c : QueueCall) → MayCome n q (calls_of m.seat before) c → IsSound n q → IsSound n (plain_after q c)
     by_call (Enter u a) may is = record { tail = λ x e. subst (IsTurn n) (same_Some u x e) may.0; links = is.links }
     by_call (Link b u) may is = record { tail = is.tail; links = λ t. by_thread (t == b.thread) t }
       where
@@ -80,7 +80,7 @@ still_entered m before u b was = (was.0, (was.1.0, by_seat (m.seat == was.0)))
 abbrev pub turn_with : ℕ → ℕ → Turn
 turn_with thread number = record { thread = thread; number = number }
 
-linked_now : (n : ℕ) (m : Made) (before : List Made) (t : ℕ) (l : Linked) → ((queue_after before).links t ≡ Some l → WasEntered before l.behind (turn_with t l.before)) → (c : Call) → MayCome n (queue_after before) (calls_of m.seat before) c → (plain_after (queue_after before) c).links t ≡ Some l → WasEntered before l.behind (turn_with t l.before)
+linked_now : (n : ℕ) (m : Made) (before : List Made) (t : ℕ) (l : Linked) → ((queue_after before).links t ≡ Some l → WasEntered before l.behind (turn_with t l.before)) → (c : QueueCall) → MayCome n (queue_after before) (calls_of m.seat before) c → (plain_after (queue_after before) c).links t ≡ Some l → WasEntered before l.behind (turn_with t l.before)
 linked_now n m before t l earlier (Enter u a) may e = earlier e
 linked_now n m before t l earlier (Link b u) may e = dite (ℕ_discrete t b.thread)
     (λ (same : t ≡ b.thread).

@@ -6,8 +6,8 @@ use native.Mathlib.Decide.{dec_le}
 use lib.ListN.{get_elem?}
 use Rattle.atomic_table.specs.Table.{State}
 use Rattle.tc_queue.specs.declared.turn.Turn.{Turn}
-use Rattle.tc_queue.specs.declared.turn.Call.{Call}
-use Rattle.tc_queue.specs.declared.turn.Call.TheVariants.{Enter}
+use Rattle.tc_queue.specs.declared.turn.QueueCall.{QueueCall}
+use Rattle.tc_queue.specs.declared.turn.QueueCall.TheVariants.{Enter}
 use Rattle.tc_queue.specs.declared.turn.Entered.TheVariants.{Behind}
 use Rattle.tc_queue.specs.declared.board.SeatLog.{SeatLog}
 use Rattle.tc_queue.specs.Order.{calls_of, IsOrdered}
@@ -24,7 +24,7 @@ shown : (n : ℕ) (s : State ℕ SeatLog) (r : IsOrdered n s) (u b : Turn) → W
 shown n s r u b was = dite (dec_le (length s.views) was.0)
     (λ (high : length s.views ≤ was.0).
     let none_made : calls_of was.0 r.order ≡ [] = no_calls was.0 r.order (λ k d h. let low = r.made k d h in omega arith) in
-    absurd (some-ne-none (Enter u (Behind b)) (sym (sym (ap (λ (l : List Call). get_elem? l was.1.0) none_made) ∙ was.1.1))))
+    absurd (some-ne-none (Enter u (Behind b)) (sym (sym (ap (λ (l : List QueueCall). get_elem? l was.1.0) none_made) ∙ was.1.1))))
     (λ low.
     let there = seat_there s.views was.0 (lt_of_not-le low) in
     (was.0, there.0, there.1, (was.1.0, ap (λ (v : SeatLog). get_elem? v.calls was.1.0) (r.seats was.0 there.0 there.1) ∙ was.1.1)))

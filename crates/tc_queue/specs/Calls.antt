@@ -7,8 +7,8 @@ use Rattle.tc_queue.specs.declared.turn.Entered.{Entered}
 use Rattle.tc_queue.specs.declared.turn.Entered.TheVariants.{First, Behind}
 use Rattle.tc_queue.specs.declared.turn.Leave.{Leave as LeaveAnswer}
 use Rattle.tc_queue.specs.declared.turn.Leave.TheVariants.{Left, Followed}
-use Rattle.tc_queue.specs.declared.turn.Call.{Call}
-use Rattle.tc_queue.specs.declared.turn.Call.TheVariants.{Enter, Link, Next, Leave}
+use Rattle.tc_queue.specs.declared.turn.QueueCall.{QueueCall}
+use Rattle.tc_queue.specs.declared.turn.QueueCall.TheVariants.{Enter, Link, Next, Leave}
 use Rattle.tc_queue.specs.declared.words.Linked.{Linked}
 use Rattle.tc_queue.specs.declared.board.SeatLog.{SeatLog}
 use Rattle.tc_queue.specs.Words.{IsTurn, IsLinked}
@@ -35,16 +35,16 @@ answer_to_leave u tail = if is_last u tail then Left else Followed tail
 
 -- ---- calls with their answers, and effects: the tail that a call leaves, and the list of the seat that made it
 
-abbrev pub with_call : SeatLog → Call → SeatLog
+abbrev pub with_call : SeatLog → QueueCall → SeatLog
 with_call v c = record v { calls = v.calls ++ c ∷ [] }
 
-abbrev pub enter_call : Turn → Option Turn → Call
+abbrev pub enter_call : Turn → Option Turn → QueueCall
 enter_call u tail = Enter u (answer_to_enter tail)
 
-abbrev pub next_call : Turn → Option Linked → Call
+abbrev pub next_call : Turn → Option Linked → QueueCall
 next_call u link = Next u (answer_to_next u link)
 
-abbrev pub leave_call : Turn → Option Turn → Call
+abbrev pub leave_call : Turn → Option Turn → QueueCall
 leave_call u tail = Leave u (answer_to_leave u tail)
 
 abbrev pub tail_without : Turn → Option Turn → Option Turn
@@ -83,15 +83,15 @@ pub record DidLeave (n : ℕ) (u : Turn) (answer : LeaveAnswer) (v w : SeatLog) 
 -- ---- what a seat's list says
 
 -- u entered behind b
-abbrev pub HasEntered : List Call → Turn → Turn → Type 0
+abbrev pub HasEntered : List QueueCall → Turn → Turn → Type 0
 HasEntered calls u b = (i : ℕ) × (get_elem? calls i ≡ some (Enter u (Behind b)))
 
 -- u entered behind b, and was not linked since
-abbrev pub MayLink : List Call → Turn → Turn → Type 0
+abbrev pub MayLink : List QueueCall → Turn → Turn → Type 0
 MayLink calls u b = (i : ℕ) × (get_elem? calls i ≡ some (Enter u (Behind b))) × ((j : ℕ) (x : Turn) → i < j → get_elem? calls j ≢ some (Link x u))
 
 -- each turn that `enter` answered is one of the queue's
-abbrev pub AreBehind : ℕ → List Call → Type 0
+abbrev pub AreBehind : ℕ → List QueueCall → Type 0
 AreBehind n calls = (u b : Turn) → HasEntered calls u b → IsTurn n b
 
 abbrev pub KnowsTurns : SeatLog → Type 0

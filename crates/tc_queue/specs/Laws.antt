@@ -6,7 +6,7 @@ use Rattle.atomic_table.specs.Table.{State}
 use Rattle.tc_queue.specs.declared.turn.Turn.{Turn}
 use Rattle.tc_queue.specs.declared.turn.Entered.TheVariants.{Behind}
 use Rattle.tc_queue.specs.declared.turn.Leave.TheVariants.{Left}
-use Rattle.tc_queue.specs.declared.turn.Call.TheVariants.{Next}
+use Rattle.tc_queue.specs.declared.turn.QueueCall.TheVariants.{Next}
 use Rattle.tc_queue.specs.declared.board.SeatLog.{SeatLog}
 use Rattle.tc_queue.specs.Calls.{HasEntered, answer_to_enter, answer_to_leave, enter_effect, leave_effect}
 use Rattle.tc_queue.specs.Order.{IsOrdered}

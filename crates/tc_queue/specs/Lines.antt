@@ -8,8 +8,8 @@ use Rattle.tc_queue.specs.declared.turn.Arrival.{Arrival}
 use Rattle.tc_queue.specs.declared.turn.Arrival.TheVariants.{First as Came_first, Behind as Came_behind}
 use Rattle.tc_queue.specs.declared.turn.Departure.{Departure}
 use Rattle.tc_queue.specs.declared.turn.Departure.TheVariants.{Left as Has_left, Followed as Was_followed}
-use Rattle.tc_queue.specs.declared.turn.Call.{Call}
-use Rattle.tc_queue.specs.declared.turn.Call.TheVariants.{Enter as Own_enter, Link as Own_link, Next as Own_next, Leave as Own_leave}
+use Rattle.tc_queue.specs.declared.turn.QueueCall.{QueueCall}
+use Rattle.tc_queue.specs.declared.turn.QueueCall.TheVariants.{Enter as Own_enter, Link as Own_link, Next as Own_next, Leave as Own_leave}
 use Rattle.tc_queue.specs.declared.turn.Entered.{Entered as OwnEntered}
 use Rattle.tc_queue.specs.declared.turn.Entered.TheVariants.{First as Own_first, Behind as Own_behind}
 use Rattle.tc_queue.specs.declared.turn.Leave.{Leave as OwnLeave}
@@ -85,7 +85,7 @@ abbrev pub departed_as : OwnLeave → Departure
 departed_as Own_left = Has_left
 departed_as (Own_followed tail) = Was_followed
 
-abbrev pub call_as : Call → LineCall
+abbrev pub call_as : QueueCall → LineCall
 call_as (Own_enter u a) = Enter u (entered_as a)
 call_as (Own_link b u) = Link (mark_of b) u
 call_as (Own_next u a) = Next u a

@@ -5,8 +5,8 @@ use mathlib.Core.Option.{some}
 use lib.ListN.{get_elem?}
 use Rattle.atomic_table.specs.Table.{State}
 use Rattle.tc_queue.specs.declared.turn.Turn.{Turn}
-use Rattle.tc_queue.specs.declared.turn.Call.{Call}
-use Rattle.tc_queue.specs.declared.turn.Call.TheVariants.{Enter, Link, Next, Leave}
+use Rattle.tc_queue.specs.declared.turn.QueueCall.{QueueCall}
+use Rattle.tc_queue.specs.declared.turn.QueueCall.TheVariants.{Enter, Link, Next, Leave}
 use Rattle.tc_queue.specs.declared.words.Linked.{Linked}
 use Rattle.tc_queue.specs.declared.board.SeatLog.{SeatLog}
 use Rattle.tc_queue.specs.Words.{IsTurn, turn_word, link_word}
@@ -23,14 +23,14 @@ abbrev pub empty_queue : Plain
 empty_queue = record { tail = None; links = λ _. None }
 
 -- what a call makes of it
-abbrev pub plain_after : Plain → Call → Plain
+abbrev pub plain_after : Plain → QueueCall → Plain
 plain_after q (Enter u a) = record q { tail = Some u }
 plain_after q (Link b u) = record q { links = λ t. if t == b.thread then Some (record { before = b.number; behind = u }) else q.links t }
 plain_after q (Next u a) = q
 plain_after q (Leave u a) = record q { tail = tail_without u q.tail }
 
 -- a seat with this list may make the call, and this is the queue's answer
-abbrev pub MayCome : ℕ → Plain → List Call → Call → Type 0
+abbrev pub MayCome : ℕ → Plain → List QueueCall → QueueCall → Type 0
 MayCome n q calls (Enter u a) = IsTurn n u × (a ≡ answer_to_enter q.tail)
 MayCome n q calls (Link b u) = IsTurn n b × IsTurn n u × MayLink calls u b
 MayCome n q calls (Next u a) = IsTurn n u × (a ≡ answer_to_next u (q.links u.thread))
@@ -41,10 +41,10 @@ MayCome n q calls (Leave u a) = IsTurn n u × (a ≡ answer_to_leave u q.tail)
 -- a call, and the number of the seat that made it
 pub record Made : Type 0 where
   pub seat : ℕ
-  pub call : Call
+  pub call : QueueCall
 
 -- the calls of one seat, the first one first
-abbrev pub calls_of : ℕ → List Made → List Call
+abbrev pub calls_of : ℕ → List Made → List QueueCall
 calls_of id [] = []
 calls_of id (m ∷ before) = if m.seat == id then calls_of id before ++ m.call ∷ [] else calls_of id before
 

@@ -2,7 +2,7 @@
 use Rattle.std.specs.Prelude.{◌≡◌, ℕ, ◌+◌, Option}
 use Rattle.atomic_table.specs.Table.{Me, Step}
 use Rattle.tc_queue.specs.declared.turn.Turn.{Turn}
-use Rattle.tc_queue.specs.declared.turn.Call.TheVariants.{Link}
+use Rattle.tc_queue.specs.declared.turn.QueueCall.TheVariants.{Link}
 use Rattle.tc_queue.specs.declared.words.Linked.{Linked}
 use Rattle.tc_queue.specs.declared.board.SeatLog.{SeatLog}
 use Rattle.tc_queue.specs.Words.{turn_word, link_word}

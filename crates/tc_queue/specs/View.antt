@@ -2,7 +2,7 @@
 use Rattle.std.specs.Prelude.{◌≡◌, ℕ, ◌+◌, ◌≤◌, List, All, length}
 use Rattle.atomic_table.specs.Seated.{TableId}
 use Rattle.tc_queue.specs.declared.board.SeatLog.{SeatLog}
-use Rattle.tc_queue.specs.declared.turn.Call.{Call}
+use Rattle.tc_queue.specs.declared.turn.QueueCall.{QueueCall}
 use Rattle.tc_queue.specs.declared.turn.Turn.{Turn}
 use Rattle.tc_queue.specs.Words.{IsTurn}
 use Rattle.tc_queue.specs.Calls.{with_call, MayLink}
@@ -29,7 +29,7 @@ pub record MayLinkBehind (q : QueueView) (s : OwnView) (before u : Turn) : Type 
   pub entered : MayLink s.log.calls u before
 
 -- the seat after one call more
-abbrev pub seat_with : OwnView → Call → OwnView
+abbrev pub seat_with : OwnView → QueueCall → OwnView
 seat_with s c = record s { log = with_call s.log c }
 
 -- a seat of this queue that has made no call

@@ -3,7 +3,7 @@
 
 ghost use Rattle.tc_queue.specs.Steps.{Enters, Links, Looks, Leaves};
 
-use crate::turn::Call;
+use crate::turn::QueueCall;
 use atomic_table::{Play, Seat, Split, Table, TableRule};
 use std::alloc::Global;
 use std::collections::LinkedList;
@@ -13,7 +13,7 @@ use std::marker::{Brand, PhantomData};
 /// No value of it is made.
 pub struct SeatLog {
     pub threads: u32,
-    pub calls: LinkedList<Call>,
+    pub calls: LinkedList<QueueCall>,
 }
 
 /// The rule of the words.
@@ -27,9 +27,9 @@ impl TableRule<u8, SeatLog, u32> for Ordered {
     ghost first = { first_log };
 }
 
-pub(crate) type Board = Table<u8, SeatLog, u32, Ordered, Global>;
+pub(crate) type QueueTable = Table<u8, SeatLog, u32, Ordered, Global>;
 
-pub(crate) type Place = Seat<u8, SeatLog>;
+pub(crate) type QueueTableSeat = Seat<u8, SeatLog>;
 
 /// The turns that a call names, its own and the one before that. Each call picks them.
 pub trait Named {
@@ -81,9 +81,9 @@ impl<J: Named> Play<u8, SeatLog> for Leave<J> {
 }
 
 /// Makes one seat more.
-pub(crate) struct Beside;
+pub(crate) struct AddSeat;
 
-impl Split<SeatLog> for Beside {
+impl Split<SeatLog> for AddSeat {
     ghost use Rattle.tc_queue.specs.Order.{log_beside};
 
     ghost left = { λ v. v };

@@ -28,7 +28,7 @@ mod words;
 
 pub use laws::{line, packing, serving};
 pub use queue::{Queue, QueueSeat};
-pub use turn::{Arrival, Call, Departure, Entered, Leave, Turn};
+pub use turn::{Arrival, Departure, Entered, Leave, QueueCall, Turn};
 pub use waiters::Waiters;
 
 #[cfg(test)]

@@ -4,14 +4,14 @@ ghost use Rattle.std.specs.Prelude.{◌≡◌, ◌<◌, ◌≤◌, Some, IfOk};
 ghost use Rattle.tc_queue.specs.declared.turn.Turn.{Turn};
 ghost use Rattle.tc_queue.specs.declared.turn.Entered.TheVariants.{Behind};
 ghost use Rattle.tc_queue.specs.declared.turn.Leave.TheVariants.{Followed};
-ghost use Rattle.tc_queue.specs.declared.turn.Call.TheVariants.{Enter, Link, Next, Leave as Leave_call};
+ghost use Rattle.tc_queue.specs.declared.turn.QueueCall.TheVariants.{Enter, Link, Next, Leave as Leave_call};
 ghost use Rattle.tc_queue.specs.Words.{IsTurn};
 ghost use Rattle.tc_queue.specs.Calls.{IsTail, IsLink, KnowsTurns, DidEnter, DidLeave, enter_call, next_call, leave_call};
 ghost use Rattle.tc_queue.specs.View.{IsOpened, MayLinkBehind, seat_with};
 ghost use Rattle.tc_queue.specs.Lines.{MayCall, MayStep, seat_as};
 
 use crate::board;
-use crate::board::{Beside, Board, Named, Place};
+use crate::board::{AddSeat, Named, QueueTable, QueueTableSeat};
 use crate::turn::{Entered, Leave, Turn};
 use crate::words::Linked;
 use std::alloc::{AllocError, Global};
@@ -20,7 +20,7 @@ use std::marker::{Brand, Model};
 /// The waiters of one lock, in the order in which they entered.
 #[derive(Drop)]
 pub struct Queue {
-    board: Board,
+    board: QueueTable,
     threads: u32,
 }
 
@@ -38,7 +38,7 @@ impl Model for Queue {
 /// that were made with it.
 #[derive(Drop)]
 pub struct QueueSeat {
-    place: Place,
+    place: QueueTableSeat,
 }
 
 impl Model for QueueSeat {
@@ -75,9 +75,9 @@ impl Queue {
     {
         let mut made = Vec::with_capacity(alloc, seats as usize)?;
         let words = Vec::from_elem(alloc, 0u64, threads as usize + 1)?;
-        let (board, mut first) = Board::of_words(alloc, words.as_slice(), &threads)?;
+        let (board, mut first) = QueueTable::of_words(alloc, words.as_slice(), &threads)?;
         for seated in 1..seats {
-            let place = board.shared.split_seat::<Beside>(&mut first);
+            let place = board.shared.split_seat::<AddSeat>(&mut first);
             made.push_reserved(QueueSeat { place });
         }
         made.push_reserved(QueueSeat { place: first });

@@ -34,7 +34,7 @@ pub enum Leave {
 
 /// A call that a seat made, with its answer.
 #[derive(Clone, Copy)]
-pub enum Call {
+pub enum QueueCall {
     Enter(Turn, Entered),
     /// The turn before, and the turn that was linked behind it.
     Link(Turn, Turn),

@@ -10,11 +10,7 @@ use Rattle.crossbeam_deque.proofs.Lists.{at_set, set_here, set_again, at_snoc}
 use Rattle.tc_ready.specs.declared.ends.Offer.{Offer}
 use Rattle.tc_ready.specs.declared.ends.Log.{Log}
 use Rattle.tc_ready.specs.Rule.{fresh, opened, offer, thread_of, AreOffers, KeptDeque, given, took, popped, found_empty}
-
-in_range : {A : Type 0} (l : List A) (i : ℕ) (a : A) → get_elem? l i ≡ some a → i < length l
-in_range [] i a e = absurd (some-ne-none a (sym e))
-in_range (x ∷ xs) zero a e = omega arith
-in_range (x ∷ xs) (suc i) a e = let h = in_range xs i a e in omega arith
+use Rattle.tc_lemmas.proofs.Lists.{in_range, at_end}
 
 -- the total after a change of one view
 total_set : (f : Log → ℕ) (views : List Log) (id : ℕ) (v w : Log) → get_elem? views id ≡ some v → sum_by f (set views id w) + f v ≡ sum_by f views + f w
@@ -25,14 +21,8 @@ total_set f (x ∷ xs) (suc id) v w e = let h = total_set f xs id v w e in let a
 pub total_more : (f : Log → ℕ) (views : List Log) (v : Log) → sum_by f (views ++ v ∷ []) ≡ sum_by f views + f v
 total_more f views v = let a = sum_by-append f views (v ∷ []) in let b = sum_by-cons f v [] in let c : sum_by f [] ≡ 0 = refl in omega arith
 
-at_snoc_last : {A : Type 0} (l : List A) (a b : A) (i : ℕ) → get_elem? (l ++ a ∷ []) i ≡ some b → (get_elem? l i ≡ some b) ⊎ ((i ≡ length l) × (a ≡ b))
-at_snoc_last [] a b zero e = inr (refl, some-injective a b e)
-at_snoc_last [] a b (suc i) e = absurd (some-ne-none b (sym e))
-at_snoc_last (x ∷ xs) a b zero e = inl e
-at_snoc_last (x ∷ xs) a b (suc i) e = ⊎_elim (λ h. inl h) (λ h. inr (ap suc h.0, h.1)) (at_snoc_last xs a b i e)
-
 offers_more : (n : ℕ) (xs : List Offer) (x : Offer) → AreOffers n xs → x.serial ≡ length xs → x.thread < n → AreOffers n (xs ++ x ∷ [])
-offers_more n xs x all is low i y e = ⊎_elim (λ h. all i y h) (λ h. (ap (λ (z : Offer). z.serial) (sym h.1) ∙ (is ∙ sym h.0), subst (λ (z : Offer). z.thread < n) h.1 low)) (at_snoc_last xs x y i e)
+offers_more n xs x all is low i y e = ⊎_elim (λ h. all i y h) (λ h. (ap (λ (z : Offer). z.serial) (sym h.1) ∙ (is ∙ sym h.0), subst (λ (z : Offer). z.thread < n) h.1 low)) (at_end xs x y i e)
 
 at_middle : {A : Type 0} (xs : List A) (y : A) (ys : List A) → get_elem? (xs ++ y ∷ ys) (length xs) ≡ some y
 at_middle [] y ys = refl

@@ -2,24 +2,24 @@
 use Rattle.std.proofs.Common.{◌≡◌, ◌≢◌, ℕ, ◌+◌, List, [], ◌∷◌, ◌++◌, length, refl, sym, ap, ◌∙◌, append_assoc, append-nil, length-append, arith}
 use Rattle.std.proofs.lemmas.List.Elements.{All-push}
 use Rattle.tc_hall.specs.declared.board.Knows.{Knows}
-use Rattle.tc_hall.specs.declared.board.Call.{Call}
-use Rattle.tc_hall.specs.declared.board.Call.TheVariants.{Look}
+use Rattle.tc_hall.specs.declared.board.PassCall.{PassCall}
+use Rattle.tc_hall.specs.declared.board.PassCall.TheVariants.{Look}
 use Rattle.tc_hall.specs.Steps.{after_look}
 use Rattle.tc_ready.specs.Scan.{looks_from, Looked, OnlyLooks, SawNone, SawReady}
 
 looks_more : (t : ℕ) (words : List ℕ) (word : ℕ) → looks_from t (words ++ word ∷ []) ≡ looks_from t words ++ Look (t + length words) word ∷ []
 looks_more t [] word = ap (λ (n : ℕ). Look n word ∷ []) (omega arith)
-looks_more t (x ∷ words) word = ap (λ (l : List Call). Look t x ∷ l) (looks_more (t + 1) words word ∙ ap (λ (n : ℕ). looks_from (t + 1) words ++ Look n word ∷ []) (omega arith))
+looks_more t (x ∷ words) word = ap (λ (l : List PassCall). Look t x ∷ l) (looks_more (t + 1) words word ∙ ap (λ (n : ℕ). looks_from (t + 1) words ++ Look n word ∷ []) (omega arith))
 
 pub looked_more : (n : ℕ) (words : List ℕ) (word : ℕ) (v w x : Knows) → length words ≡ n → Looked words v w → x ≡ after_look w n word → Looked (words ++ word ∷ []) v x
 looked_more n words word v w x count looked look =
     let calls : w.calls ++ Look n word ∷ [] ≡ v.calls ++ looks_from 0 (words ++ word ∷ []) =
     ap (λ (u : Knows). u.calls ++ Look n word ∷ []) looked ∙ (append_assoc v.calls (looks_from 0 words) (Look n word ∷ [])
-    ∙ ap (λ (l : List Call). v.calls ++ l) (sym (looks_more 0 words word ∙ ap (λ (m : ℕ). looks_from 0 words ++ Look m word ∷ []) (omega arith)))) in
-    look ∙ (ap (λ (u : Knows). record u { calls = w.calls ++ Look n word ∷ [] }) looked ∙ ap (λ (l : List Call). record v { calls = l }) calls)
+    ∙ ap (λ (l : List PassCall). v.calls ++ l) (sym (looks_more 0 words word ∙ ap (λ (m : ℕ). looks_from 0 words ++ Look m word ∷ []) (omega arith)))) in
+    look ∙ (ap (λ (u : Knows). record u { calls = w.calls ++ Look n word ∷ [] }) looked ∙ ap (λ (l : List PassCall). record v { calls = l }) calls)
 
 pub nothing_looked : (v : Knows) → Looked [] v v
-nothing_looked v = ap (λ (l : List Call). record v { calls = l }) (sym (append-nil v.calls))
+nothing_looked v = ap (λ (l : List PassCall). record v { calls = l }) (sym (append-nil v.calls))
 
 pub scan_starts : (v : Knows) → SawNone 0 v v
 scan_starts v = record { words = []; count = refl; busy = λ i d deep. absurd (omega arith); looked = nothing_looked v }

@@ -1,11 +1,11 @@
 -- What a scan of the hall adds to the list of a pass.
 use Rattle.std.specs.Prelude.{◌≡◌, ◌≢◌, ℕ, ◌+◌, List, [], ◌∷◌, ◌++◌, All, length}
 use Rattle.tc_hall.specs.declared.board.Knows.{Knows}
-use Rattle.tc_hall.specs.declared.board.Call.{Call}
-use Rattle.tc_hall.specs.declared.board.Call.TheVariants.{Look}
+use Rattle.tc_hall.specs.declared.board.PassCall.{PassCall}
+use Rattle.tc_hall.specs.declared.board.PassCall.TheVariants.{Look}
 
 -- the looks at the threads from t on that saw these words
-abbrev pub looks_from : ℕ → List ℕ → List Call
+abbrev pub looks_from : ℕ → List ℕ → List PassCall
 looks_from t [] = []
 looks_from t (word ∷ words) = Look t word ∷ looks_from (t + 1) words
 

@@ -76,13 +76,13 @@ impl Outcome<u32, Log> for Pops {
 }
 
 /// How many threads there are. Each call picks it.
-pub trait Asked {
+pub trait Counted {
     ghost use Rattle.std.specs.Prelude.{ℕ};
 
     ghost threads: { ℕ };
 }
 
-impl Asked for Brand {
+impl Counted for Brand {
     ghost threads = { 0 };
 }
 
@@ -91,7 +91,7 @@ struct Opens<J> {
     marker: PhantomData<J>,
 }
 
-impl<J: Asked> Split<Log> for Opens<J> {
+impl<J: Counted> Split<Log> for Opens<J> {
     ghost use Rattle.tc_ready.specs.Rule.{opened};
 
     ghost left = { λ v. opened J.threads };
@@ -148,7 +148,7 @@ impl Model for OwnEnd {
 }
 
 /// A new deque is told how many threads there are, which J picks.
-fn open_as<J: Asked>(mut worker: Owner, threads: u32) -> Owner
+fn open_as<J: Counted>(mut worker: Owner, threads: u32) -> Owner
     requires picked { threads ≡ J.threads }
     requires fresh { (worker_view worker ≡ fresh) × (worker_port worker ≡ 0) × (0 < threads) }
     ensures same { SameWorker worker result × (worker_index result ≡ worker_index worker) }

@@ -14,7 +14,7 @@ use Rattle.tc_mutex_spec.specs.Blocks.{Stands, TellsAfter, Tells, IsComplete, en
 use Rattle.tc_mutex_spec.proofs.BlockEnds.{block_ends}
 use Rattle.tc_mutex_spec.proofs.BlocksAlike.{runs_apart}
 use Rattle.tc_mutex_spec.proofs.Holds.{can_thread}
-use Rattle.tc_mutex_spec.proofs.ListLaws.{there, at_place, same_list}
+use Rattle.tc_mutex_spec.proofs.ListLaws.{there, same_list}
 use Rattle.tc_segment.specs.View.{LockView, kept}
 use Rattle.tc_context.specs.Locks.{lock_in, IsPlaced}
 use Rattle.tc_context.specs.View.{PackageView, bare, status_in}
@@ -24,6 +24,8 @@ use Rattle.tc_replay.specs.Rejected.{IsFirstOn}
 use Rattle.tc_replay.specs.Taken.{AreTaken, CheckerView, HasTaken}
 use Rattle.tc_replay.proofs.Keeping.{at_map}
 use Rattle.tc_replay.proofs.Starting.{was_at, pushed_at, count_more}
+use Rattle.tc_lemmas.proofs.Lists.{something_at}
+use Rattle.std.proofs.lemmas.Bool.{cases_lt}
 
 -- ---- a thread that has ended holds nothing
 
@@ -126,7 +128,7 @@ module _ (image : Shown) (terms : Terms) (h : List Block) (packages : List Packa
 
   pub all_ended : ((t : ℕ) (p : PackageView) → StandsAt packages t p → is_running (status_in p) ≡ false) → IsComplete image last
   all_ended over t lt =
-      let x = at_place packages t (omega (arith, lt, count)) in
+      let x = something_at packages t (omega (arith, lt, count)) in
       sym (status_is t x.0 x.1) ∙ over t x.0 x.1
 
   pub first_on : (t : ℕ) (p : PackageView) → StandsAt packages t p → is_running (status_in p) ≡ true → ((u : ℕ) (x : PackageView) → u < t → StandsAt packages u x → is_running (status_in x) ≡ false) → IsFirstOn image last t
@@ -135,7 +137,7 @@ module _ (image : Shown) (terms : Terms) (h : List Block) (packages : List Packa
       record {
         known = omega (arith, here, count);
         runs = sym (status_is t p e) ∙ runs;
-        first = λ u lt. (let x = at_place packages u (omega (arith, lt, here)) in sym (status_is u x.0 x.1) ∙ over u x.0 lt x.1);
+        first = λ u lt. (let x = something_at packages u (omega (arith, lt, here)) in sym (status_is u x.0 x.1) ∙ over u x.0 lt x.1);
       }
 
   pub home_known : (k : ℕ) (l : LockView) → lock_in home k ≡ Some l → k < length image.guards
@@ -161,7 +163,7 @@ module _ (image : Shown) (terms : Terms) (h : List Block) (packages : List Packa
           (λ i a e. let x = was_at kept states i a e in subst (StandsAt taken.0 i) x.2 (taken.1.home_is i x.0 (each i x.0 x.1)).place)
           (λ i a e.
           let lt : i < length states = (let place = (there taken.0 i a a e).0 in let all = taken.1.law.all_states in omega (arith, place, all, many)) in
-          let x = at_place states i lt in
+          let x = something_at states i lt in
           let is : kept x.0 ≡ a = some-injective (kept x.0) a (sym (taken.1.home_is i x.0 (each i x.0 x.1)).place ∙ e) in
           at_map kept states i x.0 x.1 ∙ ap (λ y. some y) is)
 
@@ -185,7 +187,7 @@ module _ (image : Shown) (terms : Terms) (h : List Block) (packages : List Packa
   -- there is none of that number
   pub given_none : IsComplete image last → (n : ℕ) (now left : List (Option LockView)) (states more : List LockView) → IsGiven image home n now states → IsPlaced n None now left → lock_in now n ≡ None → more ≡ states → IsGiven image home (n + 1) left more
   given_none complete n now left states more so_far gone none is =
-      let past : length image.guards ≤ n = by_bound (cases n (length image.guards)) in
+      let past : length image.guards ≤ n = by_bound (cases_lt n (length image.guards)) in
       let was : length states ≡ length image.guards = so_far.all past in
       let same = ap (λ (y : List LockView). length y) is in
       record {
@@ -195,20 +197,14 @@ module _ (image : Shown) (terms : Terms) (h : List Block) (packages : List Packa
         each = λ k x e. so_far.each k x (subst (λ y. StandsAt y k x) is e);
       }
     where
-      cases : (a b : ℕ) → (a < b) ⊎ (b ≤ a)
-      cases a b = grind arith
-
       by_bound : (n < length image.guards) ⊎ (length image.guards ≤ n) → length image.guards ≤ n
       by_bound (inl lt) = absurd (let x = all_home complete n lt in let f : None ≡ Some x.0 = sym none ∙ so_far.to_come n (omega arith) ∙ x.1 in cc)
       by_bound (inr le) = le
 
   -- there are no more locks than places
   pub few_guards : IsComplete image last → ((k : ℕ) → 32 ≤ k → lock_in home k ≡ None) → length image.guards ≤ 32
-  few_guards complete past = by_bound (cases 32 (length image.guards))
+  few_guards complete past = by_bound (cases_lt 32 (length image.guards))
     where
-      cases : (a b : ℕ) → (a < b) ⊎ (b ≤ a)
-      cases a b = grind arith
-
       by_bound : (32 < length image.guards) ⊎ (length image.guards ≤ 32) → length image.guards ≤ 32
       by_bound (inl lt) = absurd (let x = all_home complete 32 lt in let f : None ≡ Some x.0 = sym (past 32 (omega arith)) ∙ x.1 in cc)
       by_bound (inr le) = le

@@ -16,7 +16,6 @@ use Rattle.tc_journal.specs.declared.block.Kind.TheVariants.{Start, On, Taken, A
 use Rattle.tc_turn.specs.Turn.{Thread, next_lock}
 use Rattle.tc_mutex_spec.specs.Machine.{State, start}
 use Rattle.tc_mutex_spec.specs.Blocks.{reach, locks_of_block, Runs, Stands, is_first, has_block, TellsAfter, Tells, led_to, end_after}
-use Rattle.tc_mutex_spec.proofs.BlocksAlike.{eq_self}
 use Rattle.tc_mutex_spec.proofs.Replaying.{record_takes}
 use Rattle.tc_segment.specs.View.{LockView, blocks_of, sealed_block}
 use Rattle.tc_context.specs.declared.package.Grant.{Grant}
@@ -30,6 +29,8 @@ use Rattle.tc_law.proofs.Following.{grown, obeyed, blocks_are}
 use Rattle.tc_replay.specs.Rejected.{IsBlockOf, IsOfKind}
 use Rattle.tc_replay.specs.Run.{HaveSameTurns, IsGrantedFor}
 use Rattle.tc_replay.proofs.Telling.{runs_one, obeys_last}
+use Rattle.tc_lemmas.proofs.Tests.{eq_self, same_bit}
+use Rattle.std.proofs.lemmas.Bool.{cases_lt}
 
 -- the last block of a history stands behind the others
 pub tells_last : (image : Shown) (seen h : List Block) (from last : State) (b : Block) → TellsAfter image seen from (h ++ b ∷ []) last → Stands image (seen ++ h) (led_to image from h) b last
@@ -41,13 +42,7 @@ tells_last image seen (x ∷ h) from last b told =
 
 -- sets of the same locks are the same number
 same_set : (a b : ℕ) → a < 2 ^ 32 → b < 2 ^ 32 → ((k : ℕ) → has a k ≡ has b k) → a ≡ b
-same_set a b small less same = same_from_bits_below 32 a b small less (λ i lt. bit (bit_at a i) (bit_at b i) (bit_at-lt a i) (bit_at-lt b i) (same i))
-  where
-    bit : (x y : ℕ) → x < 2 → y < 2 → (x == 1) ≡ (y == 1) → x ≡ y
-    bit x y sx sy e = elim (eqb_tells x 1) [
-      | inl p ↦ elim (eqb_tells y 1) [ inl q ↦ p.1 ∙ sym q.1 | inr q ↦ absurd (let f : true ≡ false = sym p.0 ∙ e ∙ q.0 in cc) ]
-      | inr p ↦ elim (eqb_tells y 1) [ inl q ↦ absurd (let f : true ≡ false = sym q.0 ∙ sym e ∙ p.0 in cc) | inr q ↦ (let np = p.1 in let nq = q.1 in grind (arith, np, nq)) ]
-    ]
+same_set a b small less same = same_from_bits_below 32 a b small less (λ i lt. same_bit (bit_at a i) (bit_at b i) (bit_at-lt a i) (bit_at-lt b i) (same i))
 
 -- two kinds that begin no section, and are alike in whether they are the first
 plain_kind : (a b : Kind) → is_section a ≡ false → is_section b ≡ false → is_first a ≡ is_first b → a ≡ b
@@ -142,11 +137,8 @@ module _ (image : Shown) (fuel limit : ℕ) (h : List Block) (p v : PackageView)
   few = subst (λ (x : Shown). length x.guards ≤ 32) was.thread.of sound.few
 
   held_small : (k : ℕ) → d.held k ≡ true → k < 32
-  held_small k e = by_bound (cases k)
+  held_small k e = by_bound (cases_lt k 32)
     where
-      cases : (n : ℕ) → (n < 32) ⊎ (32 ≤ n)
-      cases n = grind arith
-
       here : has p.context.guest.held k ≡ true
       here = ap (λ (x : Thread). x.held k) (was.thread.thread ∙ ap m.threads (sym mine)) ∙ e
 

@@ -11,7 +11,6 @@ use Rattle.tc_elf.specs.Shown.{Shown}
 use Rattle.tc_journal.specs.declared.block.Block.{Block}
 use Rattle.tc_turn.specs.Turn.{Thread, is_running, next_lock}
 use Rattle.tc_mutex_spec.specs.Blocks.{locks_of_block, end_after}
-use Rattle.tc_mutex_spec.proofs.BlocksAlike.{eq_self}
 use Rattle.tc_segment.specs.View.{LockView, IsAtRest, kept}
 use Rattle.tc_segment.proofs.Resting.{rests_kept}
 use Rattle.tc_context.specs.declared.package.Grant.{Grant}
@@ -27,6 +26,7 @@ use Rattle.tc_replay.specs.Run.{grant_kind, IsGrantedFor, IsPrepared}
 use Rattle.tc_replay.specs.Taken.{Before, IsHome, IsCalm, IsWith, HasRoom, MayGrant, DidGrant, IsReadyFor}
 use Rattle.tc_replay.proofs.Telling.{right_obeys}
 use Rattle.tc_replay.proofs.Keeping.{follows_among}
+use Rattle.tc_lemmas.proofs.Tests.{eq_self}
 
 -- ---- rooms
 

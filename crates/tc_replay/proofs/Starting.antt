@@ -9,7 +9,7 @@ use Rattle.std.proofs.lemmas.List.FromFn.{length-map-range_with_len, get_or-map-
 use mathlib.Core.Option.{some, some-injective, some-ne-none}
 use Rattle.tc_isa.specs.declared.options.Options.{Options as Terms}
 use Rattle.tc_elf.specs.Shown.{Shown}
-use Rattle.tc_mutex_spec.proofs.ListLaws.{there, at_place}
+use Rattle.tc_mutex_spec.proofs.ListLaws.{there}
 use Rattle.tc_segment.specs.View.{LockView, fresh_state}
 use Rattle.tc_context.specs.Locks.{lock_in, IsPlaced}
 use Rattle.tc_context.specs.Whole.{thread_in}
@@ -18,6 +18,7 @@ use Rattle.tc_law.specs.Lawful.{Lawful, StandsAt, IsStateAfter, IsLimited, IsPac
 use Rattle.tc_law.proofs.Lawful.{fresh_lawful}
 use Rattle.tc_replay.specs.Taken.{AreFreshPackages, AreTaken, IsHome, lenient_state}
 use Rattle.tc_replay.proofs.Keeping.{at_map}
+use Rattle.tc_lemmas.proofs.Lists.{something_at}
 
 -- a list that is made by number
 made_at : {A : Type 0} (f : ℕ → A) (n k : ℕ) (a : A) → StandsAt (map f (range_with_len 0 n)) k a → (k < n) × (a ≡ f k)
@@ -28,14 +29,14 @@ made_at f n k a e =
 
 made_there : {A : Type 0} (f : ℕ → A) (n k : ℕ) → k < n → StandsAt (map f (range_with_len 0 n)) k (f k)
 made_there f n k lt =
-    let x = at_place (map f (range_with_len 0 n)) k (let count = length-map-range_with_len f 0 n in omega (arith, lt, count)) in
+    let x = something_at (map f (range_with_len 0 n)) k (let count = length-map-range_with_len f 0 n in omega (arith, lt, count)) in
     x.1 ∙ ap (λ y. some y) (made_at f n k x.0 x.1).1
 
 -- what stands in a list at whose places something was done
 pub was_at : {A B : Type 0} (f : A → B) (l : List A) (i : ℕ) (b : B) → StandsAt (map f l) i b → (a : A) × StandsAt l i a × (f a ≡ b)
 was_at f l i b e =
     let lt : i < length l = (let known = (there (map f l) i b b e).0 in let count = length-map l f in omega (arith, known, count)) in
-    let x = at_place l i lt in
+    let x = something_at l i lt in
     (x.0, x.1, some-injective (f x.0) b (sym (at_map f l i x.0 x.1) ∙ e))
 
 -- what stands in a list to which one thing was added

@@ -9,7 +9,7 @@ use Rattle.tc_elf.specs.Shown.{Shown}
 use Rattle.tc_journal.specs.declared.block.Block.{Block}
 use Rattle.tc_turn.specs.Turn.{Thread, is_running}
 use Rattle.tc_mutex_spec.specs.Blocks.{end_after}
-use Rattle.tc_mutex_spec.proofs.ListLaws.{set_at, there, at_place}
+use Rattle.tc_mutex_spec.proofs.ListLaws.{set_at, there}
 use Rattle.tc_segment.specs.View.{LockView}
 use Rattle.tc_context.specs.Locks.{SameLocks}
 use Rattle.tc_context.specs.View.{PackageView, IsRoomier, bare, status_in}
@@ -20,6 +20,7 @@ use Rattle.tc_replay.specs.Taken.{AreAsLeft, AreTaken, Before, IsCalm, IsNext, I
 use Rattle.tc_replay.specs.declared.reason.Reason.TheVariants as reason
 use Rattle.tc_replay.proofs.Keeping.{at_map}
 use Rattle.tc_replay.proofs.Handing.{roomier_with, roomier_calm}
+use Rattle.tc_lemmas.proofs.Lists.{something_at}
 
 set_as_was : {A : Type 0} (l : List A) (i : ℕ) (a : A) → get_elem? l i ≡ some a → set l i a ≡ l
 set_as_was [] i a e = refl
@@ -29,7 +30,7 @@ set_as_was (x ∷ xs) (suc i) a e = ap (λ l. x ∷ l) (set_as_was xs i a e)
 -- what is read at a place stands there
 pub stands_read : {A : Type 0} (l : List A) (t : ℕ) (p : A) → t < length l → p ≡ get_or l t p → StandsAt l t p
 stands_read l t p lt is =
-    let x = at_place l t lt in
+    let x = something_at l t lt in
     let same : x.0 ≡ p = sym (there l t x.0 p x.1).1 ∙ sym is in
     x.1 ∙ ap (λ y. some y) same
 

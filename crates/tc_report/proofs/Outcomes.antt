@@ -23,12 +23,13 @@ use Rattle.tc_segment.specs.View.{LockView, IsSoundLock, IsStrict, block_in, blo
 use Rattle.tc_context.specs.Whole.{thread_in}
 use Rattle.tc_context.specs.View.{PackageView, bare}
 use Rattle.tc_law.specs.Lawful.{IsStateAfter, Lawful, AreStrict}
-use Rattle.tc_mutex_spec.proofs.ListLaws.{there, at_place}
+use Rattle.tc_mutex_spec.proofs.ListLaws.{there}
 use Rattle.tc_report.specs.Legal.{finished_in, guarded_in, results_after, IsLegalRun}
 use Rattle.tc_report.specs.Outcome.{IsOutcome}
 use Rattle.tc_report.specs.Report.{finished_of, guarded_of, package_text, state_text, packages_text, states_text, thread_text, lock_text, threads_text, locks_text, last_line, head_text, tail_text, report_text}
 use Rattle.tc_report.specs.Summary.{demo_line, blocks_line, end_line, ends_text, packages_ends, summary_text}
 use Rattle.tc_report.proofs.Ranges.{text_by_number}
+use Rattle.tc_lemmas.proofs.Lists.{something_at}
 
 -- where the law holds and each thread has ended, the packages and lock states are the outcome
 pub outcome : (image : Shown) (o : Options) (h : List Block) (packages : List PackageView) (states : List LockView) → Lawful image o.fuel o.limit h (map bare packages) (map kept states)
@@ -128,7 +129,7 @@ module _ (image : Shown) (o : Options) (h : List Block) (packages : List Package
   state_of : (k : ℕ) → k < length image.guards → IsSoundState k
   state_of k lt =
       let count : length states ≡ length image.guards = sym (length-map states kept) ∙ law.all_states in
-      let here = at_place states k (omega (arith, count)) in
+      let here = something_at states k (omega (arith, count)) in
       let place = there states k here.0 here.0 here.1 in
       record { state = here.0; after = law.states_after k (kept here.0) (at_map kept states k here.0 here.1); sound = subst IsSoundLock place.1 (all_sound k here.0 place.0); strict = all_strict k here.0 here.1 }
 

@@ -12,7 +12,7 @@ use tc_journal::block::Block;
 
 /// A place of the ring.
 #[derive(Drop)]
-enum Place<H: History> {
+enum RingSlot<H: History> {
     /// Room for a piece.
     Free(Room<H>),
     /// A piece that can be written.
@@ -25,7 +25,7 @@ enum Place<H: History> {
 /// made.
 #[derive(Drop)]
 struct Places<H: History> {
-    places: Vec<Place<H>>,
+    places: Vec<RingSlot<H>>,
     // The first piece that nobody has begun to make.
     next: usize,
     // The number of all pieces.
@@ -35,13 +35,13 @@ struct Places<H: History> {
 
 impl<H: History> Places<H> {
     /// Takes what stands at the place of this piece.
-    fn take(&mut self, number: usize) -> Place<H> {
+    fn take(&mut self, number: usize) -> RingSlot<H> {
         let at = number % self.places.len();
-        replace(&mut self.places[at], Place::Taken)
+        replace(&mut self.places[at], RingSlot::Taken)
     }
 
     /// Puts something at the place of this piece.
-    fn put(&mut self, number: usize, place: Place<H>) {
+    fn put(&mut self, number: usize, place: RingSlot<H>) {
         let at = number % self.places.len();
         self.places[at] = place;
     }
@@ -55,7 +55,7 @@ impl<H: History> Places<H> {
     fn begin(&mut self) -> Option<(usize, Room<H>)> {
         let number = self.next;
         match self.take(number) {
-            Place::Free(room) => {
+            RingSlot::Free(room) => {
                 self.next = number.saturating_add(1);
                 Some((number, room))
             }
@@ -68,9 +68,9 @@ impl<H: History> Places<H> {
 
     /// The piece of this number, or the room for it where nobody has begun to make it. None where one is
     /// making it.
-    fn find(&mut self, number: usize) -> Option<Place<H>> {
+    fn find(&mut self, number: usize) -> Option<RingSlot<H>> {
         match self.take(number) {
-            Place::Taken => None,
+            RingSlot::Taken => None,
             found => {
                 self.next = self.next.max(number.saturating_add(1));
                 Some(found)
@@ -94,7 +94,7 @@ impl<H: History> Ring<H> {
     {
         let mut places = Vec::with_capacity(alloc, size)?;
         while places.len() < size {
-            places.push(Place::Free(Room::new(alloc, BLOCKS.min(blocks))?))?;
+            places.push(RingSlot::Free(Room::new(alloc, BLOCKS.min(blocks))?))?;
         }
         let places = Places {
             places,
@@ -108,7 +108,7 @@ impl<H: History> Ring<H> {
     }
 
     /// Puts something at the place of this piece. Whoever waits looks again.
-    fn put<R: Wait>(&self, rt: &R, number: usize, place: Place<H>) {
+    fn put<R: Wait>(&self, rt: &R, number: usize, place: RingSlot<H>) {
         self.places.lock(rt).put(number, place);
         self.changed.notify_all();
     }
@@ -138,12 +138,12 @@ impl<H: History> Ring<H> {
             let Some((number, room)) = self.begin(rt) else {
                 break;
             };
-            self.put(rt, number, Place::Full(room.fill(blocks, number)));
+            self.put(rt, number, RingSlot::Full(room.fill(blocks, number)));
         }
     }
 
     /// The piece of this number, or the room for it. It waits while one is making it.
-    fn find<R: Wait>(&self, rt: &R, number: usize) -> Place<H> {
+    fn find<R: Wait>(&self, rt: &R, number: usize) -> RingSlot<H> {
         let mut places = self.places.lock(rt);
         for _ in rt.forever() {
             if let Some(found) = places.find(number) {
@@ -162,8 +162,8 @@ impl<H: History> Ring<H> {
     {
         for _ in rt.forever() {
             match self.find(rt, number) {
-                Place::Free(room) => return room.fill(blocks, number),
-                Place::Full(piece) if piece.number == number => return piece,
+                RingSlot::Free(room) => return room.fill(blocks, number),
+                RingSlot::Full(piece) if piece.number == number => return piece,
                 other => self.put(rt, number, other),
             }
         }
@@ -173,7 +173,7 @@ impl<H: History> Ring<H> {
     /// Gives the room of a piece back, which is written.
     pub(crate) fn give_back<R: Wait>(&self, rt: &R, piece: Piece<H>) {
         let number = piece.number;
-        self.put(rt, number, Place::Free(piece.into_room()));
+        self.put(rt, number, RingSlot::Free(piece.into_room()));
     }
 
     /// No more pieces are to be made.

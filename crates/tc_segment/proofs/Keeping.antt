@@ -1,6 +1,6 @@
 -- What a lock state keeps through its calls.
 use Rattle.std.proofs.Common.{◌≡◌, ℕ, zero, suc, ◌+◌, ◌-◌, Bool, true, false, List, [], ◌∷◌, ◌++◌, map, set, length, take, drop, refl, sym, ap, subst, ◌∙◌, ◌<◌, ◌≤◌, arith, length-drop, length-append, inl, inr}
-use Rattle.tc_segment.proofs.Vocabulary.{AllFit, AreReplayed, Block, Closes, Entry, Extends, Fits, IsSoundLock, LockView, Mutex, OpenFits, Opened, Opening, Record, Registers, Replays, Shown, closed_with, entries, fresh_state, guard_at, lock_of, more_words, mutex_at_start, noted, opened_at, regs_at, replay_entry, replayed, shown, shown_journal, shown_open, with_closed, with_end}
+use Rattle.tc_segment.proofs.Vocabulary.{AllFit, AreReplayed, Block, Closes, Entry, Extends, Fits, IsSoundLock, LockView, Mutex, OpenFits, Opened, Opening, Record, Registers, Replays, Shown, closed_with, entries, fresh_state, guard_at, lock_of, more_words, mutex_at_start, noted, opened_at, regs_at, replay_entry, replayed, shown, shown_journal, shown_open, with_closed, with_end, grounds}
 use Rattle.tc_segment.proofs.Vocabulary.{with_journal}
 use Rattle.std.specs.Prelude.{Option, Some, None, option_map, is_some, slice_get, if◌then◌else◌}
 use Rattle.std.proofs.Math.Seq.{get_or-append_seam}
@@ -91,8 +91,8 @@ room_is false n e = absurd (cc)
 
 -- a word more
 pub noted_journal : (image : Shown) (number limit : ℕ) (strict : Bool) (old new : List Entry) (sealed : ℕ) (edges : List ℕ) (words : List ℕ) (opened : Option Opening) (er wr value : ℕ)
-    → new ≡ old → OpenFits edges words opened → is_some (shown_journal image number limit strict old sealed edges words opened er wr).opened ≡ true
-    → shown_journal image number limit strict new sealed edges (words ++ value ∷ []) opened er (wr - 1) ≡ noted (value ∷ []) (shown_journal image number limit strict old sealed edges words opened er wr)
+    → new ≡ old → OpenFits edges words opened → is_some (shown_journal (grounds image number limit strict edges words) old sealed opened er wr).opened ≡ true
+    → shown_journal (grounds image number limit strict edges (words ++ value ∷ [])) new sealed opened er (wr - 1) ≡ noted (value ∷ []) (shown_journal (grounds image number limit strict edges words) old sealed opened er wr)
 noted_journal image number limit strict old new sealed edges words opened er wr value same fits was =
     let os = ap (λ es. option_map (shown_open (replayed image number (mutex_at_start image number) es) edges (words ++ value ∷ [])) opened) same ∙ open_more _ edges words (value ∷ []) opened fits in
     let room = room_is _ wr was in
@@ -138,7 +138,7 @@ none_closed n es le none = elim (slice_get_cases es n).1 [
 -- an entry is opened
 pub opened_journal : (image : Shown) (number limit : ℕ) (strict : Bool) (old new : List Entry) (sealed : ℕ) (edges more : List ℕ) (words : List ℕ) (er wr place from : ℕ) (start : Registers) (fuel : ℕ) (at : Mutex)
     → new ≡ old → regs_at more place ≡ start → from ≡ length words → replayed image number (mutex_at_start image number) old ≡ at
-    → shown_journal image number limit strict new sealed more words (Some (record { fuel = fuel; start = place; from = from })) (er - 1) wr ≡ opened_at at start fuel (shown_journal image number limit strict old sealed edges words None er wr)
+    → shown_journal (grounds image number limit strict more words) new sealed (Some (record { fuel = fuel; start = place; from = from })) (er - 1) wr ≡ opened_at at start fuel (shown_journal (grounds image number limit strict edges words) old sealed None er wr)
 opened_journal image number limit strict old new sealed edges more words er wr place from start fuel at same is len lock =
     let none = drop_all from words (omega (arith, len)) in
     let at_new = ap (replayed image number (mutex_at_start image number)) same ∙ lock in
@@ -166,7 +166,7 @@ sound_opened start fuel l sound none closed = record {
 pub closed_journal : (image : Shown) (number limit : ℕ) (strict : Bool) (old new : List Entry) (sealed : ℕ) (edges more : List ℕ) (words : List ℕ) (opened : Option Opening) (er wr : ℕ) (o : Opening) (block : Block) (finish : Registers) (place to : ℕ)
     → opened ≡ Some o → Extends edges more → OpenFits edges words (Some o) → regs_at more place ≡ finish → to ≡ length words → sealed ≡ length old
     → new ≡ old ++ shown more words (record { block = block; fuel = o.fuel; start = o.start; finish = place; from = o.from; to = to }) ∷ []
-    → shown_journal image number limit strict new sealed more words None er wr ≡ closed_with block finish (shown_journal image number limit strict old sealed edges words opened er wr)
+    → shown_journal (grounds image number limit strict more words) new sealed None er wr ≡ closed_with block finish (shown_journal (grounds image number limit strict edges words) old sealed opened er wr)
 closed_journal image number limit strict old new sealed edges more words opened er wr o block finish place to is extends fits there len count made =
     let all : take (to - o.from) (drop o.from words) ≡ drop o.from words = take_all (to - o.from) (drop o.from words) (omega (arith, length-drop o.from words, len)) in
     let from = replayed image number (mutex_at_start image number) old in
@@ -206,8 +206,8 @@ sound_closed block finish l o sound is closes =
 -- ---- a new lock state
 
 pub fresh_view : (of image : Shown) (number limit : ℕ) (strict : Bool) (bytes words : List ℕ) (edges : List ℕ) (records : List Record) → of ≡ image → bytes ≡ (mutex_at_start image number).bytes → records ≡ []
-    → record { number = number; bytes = bytes; broken = false; sections = 0; journal = shown_journal of number limit strict (map (shown edges words) records) 0 edges words None 0 0 } ≡ with_journal (strict_as strict) (fresh_state image number limit)
-fresh_view of image number limit strict bytes words edges records o b r = λ i. record { number = number; bytes = b i; broken = false; sections = 0; journal = shown_journal (o i) number limit strict (map (shown edges words) (r i)) 0 edges words None 0 0 }
+    → record { number = number; bytes = bytes; broken = false; sections = 0; journal = shown_journal (grounds of number limit strict edges words) (map (shown edges words) records) 0 None 0 0 } ≡ with_journal (strict_as strict) (fresh_state image number limit)
+fresh_view of image number limit strict bytes words edges records o b r = λ i. record { number = number; bytes = b i; broken = false; sections = 0; journal = shown_journal (grounds (o i) number limit strict edges words) (map (shown edges words) (r i)) 0 None 0 0 }
 
 pub sound_fresh : (image : Shown) (number limit : ℕ) (strict : Bool) → number < length image.guards → number < 32 → IsGuard image (guard_at image number) → limit ≤ MAX_BATCH → IsSoundLock (with_journal (strict_as strict) (fresh_state image number limit))
 sound_fresh image number limit strict known small guard most = record {

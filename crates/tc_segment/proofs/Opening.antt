@@ -1,6 +1,6 @@
 -- An entry that is opened.
 use Rattle.std.proofs.Common.{◌≡◌, ℕ, ◌-◌, ◌<◌, List, [], ◌∷◌, map, length, take, sym, ap, subst, ◌∙◌, arith}
-use Rattle.tc_segment.proofs.Vocabulary.{Contents, Edges, EndedAt, Entry, IsPlace, IsSoundLock, KeptLock, LockView, Record, Registers, StandsAt, StandsBeside, blocks_of, lock_of, mutex_at_start, opened_at, regs_at, replayed, run_of, shown, shown_journal, view_of, with_closed, with_journal}
+use Rattle.tc_segment.proofs.Vocabulary.{Contents, Edges, EndedAt, Entry, IsPlace, IsSoundLock, KeptLock, LockView, Record, Registers, StandsAt, StandsBeside, blocks_of, lock_of, mutex_at_start, opened_at, regs_at, replayed, run_of, shown, shown_journal, view_of, with_closed, with_journal, grounds}
 use Rattle.std.specs.Prelude.{Some, None, option_map, slice_get}
 use Rattle.std.proofs.lemmas.List.{length-map}
 use Rattle.std.proofs.lemmas.Option.{slice_get-map}
@@ -20,7 +20,7 @@ opened_view a edges place from fuel start k none stands len =
     let lock = ap (replayed a.of.value a.number (mutex_at_start a.of.value a.number)) (sym all) ∙ sym (k.sound.rest none) in
     let j = opened_journal a.of.value a.number a.limit a.strict old _ a.sealed a.edges.words edges.words a.words.items a.entry_room a.word_room place from start fuel (lock_of (view_of a))
     (shown_grown (edges_more a.edges.words edges.words a.words.items stands.more) a.records.items k.records) (stands_is stands.place) len lock
-    ∙ ap (λ o. opened_at (lock_of (view_of a)) start fuel (shown_journal a.of.value a.number a.limit a.strict old a.sealed a.edges.words a.words.items o a.entry_room a.word_room)) (sym (not_open _ a.opened none)) in
+    ∙ ap (λ o. opened_at (lock_of (view_of a)) start fuel (shown_journal (grounds a.of.value a.number a.limit a.strict a.edges.words a.words.items) old a.sealed o a.entry_room a.word_room)) (sym (not_open _ a.opened none)) in
     λ i. record { number = a.number; bytes = a.bytes.items; broken = a.broken; sections = a.sections; journal = j i }
 
 pub opened_kept : (a : Contents) (edges : Edges) (place from fuel : ℕ) (start : Registers) → KeptLock a → (view_of a).journal.opened ≡ None → (view_of a).journal.closed ≡ None → 0 < a.entry_room → StandsBeside start a.edges edges place

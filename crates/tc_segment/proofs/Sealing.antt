@@ -1,6 +1,6 @@
 -- An entry that is sealed.
 use Rattle.std.proofs.Common.{◌≡◌, ℕ, ◌+◌, ◌≤◌, Bool, true, false, ◌&&◌, ◌<◌, List, [], ◌∷◌, ◌++◌, map, set, take, length, refl, sym, ap, subst, ◌∙◌, arith, append_assoc, append-nil, ◌==◌}
-use Rattle.tc_segment.proofs.Vocabulary.{AreReplayed, Block, Entry, IsSoundLock, IsStrict, LockView, Mutex, Opening, Record, Replays, Shown, Taken, block_in, block_of, blocks_of, entries, last_of, may_begin, mutex_at_start, replayed, run_after, run_of, sealed_as, sealed_block, sealed_entry, sealed_list, shown, shown_journal, shown_open, with_closed, with_journal}
+use Rattle.tc_segment.proofs.Vocabulary.{AreReplayed, Block, Entry, IsSoundLock, IsStrict, LockView, Mutex, Opening, Record, Replays, Shown, Taken, block_in, block_of, blocks_of, entries, last_of, may_begin, mutex_at_start, replayed, run_after, run_of, sealed_as, sealed_block, sealed_entry, sealed_list, shown, shown_journal, shown_open, with_closed, with_journal, grounds}
 use Rattle.std.proofs.lemmas.List.{map-append, length-set, take-map, take_all, take_more_set}
 use Rattle.std.proofs.lemmas.Option.{slice_get_past, slice_get_within}
 use Rattle.std.specs.Prelude.{Option, Some, None, option_map, nat_lt, slice_get, if◌then◌else◌}
@@ -57,7 +57,7 @@ run_short lock limit before b short follows =
 
 pub sealed_journal : (image : Shown) (number limit : ℕ) (strict : Bool) (old new : List Entry) (sealed : ℕ) (edges : List ℕ) (words : List ℕ) (opened : Option Opening) (er wr stamp worker : ℕ) (e : Entry)
     → slice_get old sealed ≡ Some e → length old ≤ sealed + 1 → new ≡ set old sealed (sealed_entry stamp worker e)
-    → shown_journal image number limit strict new (sealed + 1) edges words opened er wr ≡ sealed_as stamp worker (shown_journal image number limit strict old sealed edges words opened er wr)
+    → shown_journal (grounds image number limit strict edges words) new (sealed + 1) opened er wr ≡ sealed_as stamp worker (shown_journal (grounds image number limit strict edges words) old sealed opened er wr)
 sealed_journal image number limit strict old new sealed edges words opened er wr stamp worker e is short made =
     let there : sealed < length old = slice_get_within old sealed e is in
     let s = sealed_entry stamp worker e in

@@ -26,15 +26,27 @@ sealed_record stamp worker r = record r { block = sealed_block stamp worker r.bl
 abbrev pub shown_open : Mutex → List ℕ → List ℕ → Opening → Opened
 shown_open from edges words o = record { start = regs_at edges o.start; fuel = o.fuel; from = from; foreign = drop o.from words }
 
+-- what an open entry and those behind it are shown with: whose journal it is, and the registers and words that it keeps
+pub record Grounds : Type 0 where
+  pub image : Shown
+  pub number : ℕ
+  pub limit : ℕ
+  pub strict : Bool
+  pub edges : List ℕ
+  pub words : List ℕ
+
+abbrev pub grounds : Shown → ℕ → ℕ → Bool → List ℕ → List ℕ → Grounds
+grounds image number limit strict edges words = record { image = image; number = number; limit = limit; strict = strict; edges = edges; words = words }
+
 -- of these entries the first so many are sealed, and one behind them is closed
-abbrev pub shown_journal : Shown → ℕ → ℕ → Bool → List Entry → ℕ → List ℕ → List ℕ → Option Opening → ℕ → ℕ → Journal
-shown_journal image number limit strict es sealed edges words opened entry_room word_room = record {
-  image = image;
-  limit = limit;
-  strict = strict;
+abbrev pub shown_journal : Grounds → List Entry → ℕ → Option Opening → ℕ → ℕ → Journal
+shown_journal g es sealed opened entry_room word_room = record {
+  image = g.image;
+  limit = g.limit;
+  strict = g.strict;
   sealed = take sealed es;
   closed = slice_get es sealed;
-  opened = option_map (shown_open (replayed image number (mutex_at_start image number) es) edges words) opened;
+  opened = option_map (shown_open (replayed g.image g.number (mutex_at_start g.image g.number) es) g.edges g.words) opened;
   entry_room = entry_room;
   word_room = word_room;
 }
@@ -45,7 +57,7 @@ view_of a = record {
   bytes = a.bytes.items;
   broken = a.broken;
   sections = a.sections;
-  journal = shown_journal a.of.value a.number a.limit a.strict (map (shown a.edges.words a.words.items) a.records.items) a.sealed a.edges.words a.words.items a.opened a.entry_room a.word_room;
+  journal = shown_journal (grounds a.of.value a.number a.limit a.strict a.edges.words a.words.items) (map (shown a.edges.words a.words.items) a.records.items) a.sealed a.opened a.entry_room a.word_room;
 }
 
 -- ---- what is kept

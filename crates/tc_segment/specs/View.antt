@@ -106,13 +106,17 @@ pub record IsSoundLock (l : LockView) : Type 0 where
   pub obeys : Obeys l.number l.journal.limit (blocks_of l)
   pub passes : IsStrict l → PassesOn l.number (blocks_of l)
 
+-- the last sealed entry of the lock's journal, where there is one, ended a section of the lock
+abbrev pub EndsSection : ℕ → LockView → Type 0
+EndsSection k l = IfSome (last_of (blocks_of l)) (λ b. ends_section k b ≡ true)
+
 -- lock k of the image at rest: no entry is open or unsealed, and the last one, where there is one, ended a section
 pub record IsAtRest (image : Shown) (k : ℕ) (l : LockView) : Type 0 where
   pub number : l.number ≡ k
   pub of : l.journal.image ≡ image
   pub opened : l.journal.opened ≡ None
   pub closed : l.journal.closed ≡ None
-  pub ended : IfSome (last_of (blocks_of l)) (λ b. ends_section k b ≡ true)
+  pub ended : EndsSection k l
 
 -- ---- at the start
 

@@ -10,7 +10,6 @@ use Rattle.tc_journal.specs.History.{of_lock, of_thread}
 use Rattle.tc_journal.specs.declared.block.Block.{Block}
 use Rattle.tc_turn.specs.Turn.{is_running, next_lock}
 use Rattle.tc_mutex_spec.specs.Machine.{State}
-use Rattle.tc_mutex_spec.proofs.BlocksAlike.{eq_self}
 use Rattle.tc_core.specs.declared.event.Event.TheVariants.{HandBack, Park, Finish}
 use Rattle.tc_core.specs.declared.place.ThreadPlace.{ThreadPlace}
 use Rattle.tc_core.specs.declared.place.ThreadPlace.TheVariants.{Ready, Parked, Done}
@@ -26,6 +25,7 @@ use Rattle.tc_told.proofs.Leads.{Kept, Leads, comes, and_then}
 use Rattle.tc_told.proofs.Front.{place_by, line_by, IsCustody, Front, between_quiet}
 use Rattle.tc_told.proofs.Turns.{can_parts, Starts, Turned, all_turns}
 use Rattle.tc_told.proofs.Committed.{Opened, IsNext, Closed, worker_is, commits}
+use Rattle.tc_lemmas.proofs.Tests.{eq_self}
 
 entered_in : LockPlace → List ℕ → Bool → ℕ → Bool
 entered_in p line left t = is_in_line line t && (is_free_lock p || left || not (is_first line t))

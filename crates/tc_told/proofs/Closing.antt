@@ -11,7 +11,7 @@ use Rattle.tc_journal.specs.declared.block.Block.{Block}
 use Rattle.tc_turn.specs.Turn.{Thread, is_running, thread_at_start, no_thread}
 use Rattle.tc_mutex_spec.specs.Machine.{State, start, IsHeldByOwner}
 use Rattle.tc_mutex_spec.specs.Blocks.{TellsAfter, IsComplete, owner_by, end_after}
-use Rattle.tc_mutex_spec.proofs.BlocksAlike.{eq_self, runs_apart}
+use Rattle.tc_mutex_spec.proofs.BlocksAlike.{runs_apart}
 use Rattle.tc_mutex_spec.proofs.BlockEnds.{block_ends}
 use Rattle.tc_mutex_spec.proofs.Entries.{tells_end}
 use Rattle.tc_mutex_spec.proofs.Holds.{can_thread}
@@ -32,6 +32,8 @@ use Rattle.tc_told.proofs.Front.{place_by, line_by, IsCustody, Front}
 use Rattle.tc_told.proofs.Small.{IsSmall}
 use Rattle.tc_told.proofs.Adopters.{core_after}
 use Rattle.tc_told.proofs.Realized.{leads_to}
+use Rattle.tc_lemmas.proofs.Tests.{eq_self}
+use Rattle.std.proofs.lemmas.Bool.{cases_lt}
 
 -- a lock with its owner, or free
 pub record IsHome (k : ℕ) (bs : List Block) (x : Custody) : Type 0 where
@@ -209,7 +211,7 @@ written_whole image limits fuel h small keeps complete =
     let end : keeps.last ≡ end_after image fuel h = tells_end image [] h (start image fuel) keeps.last keeps.tells in
     let none = holds_none image [] h (start image fuel) keeps.last keeps.tells (starts_none image fuel) in
     let inv : IsHeldByOwner keeps.last = subst IsHeldByOwner r.comes.machine r.kept.sound.owners in
-    let stop : (t : ℕ) → is_running (keeps.last.threads t).status ≡ false = λ t. elim (below_or t (length image.entries)) [
+    let stop : (t : ℕ) → is_running (keeps.last.threads t).status ≡ false = λ t. elim (cases_lt t (length image.entries)) [
       | inl lt ↦ ap (λ (x : State). is_running (x.threads t).status) end ∙ complete t lt
       | inr le ↦ none.past t le
     ] in
@@ -223,9 +225,6 @@ written_whole image limits fuel h small keeps complete =
       lines = λ k lt. ap (λ (x : Core). (x.custody k).line) (sym c) ∙ (r.comes.home k lt).line ∙ ap line_with (owner k);
     }
   where
-    below_or : (a b : ℕ) → (a < b) ⊎ (b ≤ a)
-    below_or a b = grind arith
-
     free : (m : State) → HoldsNone image m → IsHeldByOwner m → ((t : ℕ) → is_running (m.threads t).status ≡ false) → (k : ℕ) (o : Option ℕ) → (m.locks k).owner ≡ o → (m.locks k).owner ≡ None
     free m none inv stop k None e = e
     free m none inv stop k (Some t) e = absurd (let f : true ≡ false = sym ((inv t k).1 e) ∙ none.ended t k (stop t) in cc)

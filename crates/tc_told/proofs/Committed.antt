@@ -22,7 +22,7 @@ use Rattle.tc_exec.proofs.Cases.{act_told}
 use Rattle.tc_turn.proofs.Turns.{next_some}
 use Rattle.tc_mutex_spec.specs.Machine.{State}
 use Rattle.tc_mutex_spec.specs.Blocks.{locks_of_block, reach, Stands, has_block}
-use Rattle.tc_mutex_spec.proofs.BlocksAlike.{eq_self, runs_apart}
+use Rattle.tc_mutex_spec.proofs.BlocksAlike.{runs_apart}
 use Rattle.tc_journal.proofs.Rows.{own_more, other_more, thread_of}
 use Rattle.tc_mutex_spec.proofs.Going.{block_survives, block_gives}
 use Rattle.tc_mutex_spec.proofs.Replaying.{takes_is}
@@ -41,6 +41,8 @@ use Rattle.tc_told.proofs.Leads.{Kept, Leads, comes}
 use Rattle.tc_told.proofs.Front.{block_on, IsCustody, beginning_by, kind_by, Between}
 use Rattle.tc_told.proofs.Custodies.{IsWith, after_block, held_before, past_kept}
 use Rattle.tc_told.proofs.Turns.{can_parts, Turned}
+use Rattle.tc_lemmas.proofs.Tests.{eq_self, same_bit}
+use Rattle.std.proofs.lemmas.Bool.{cases_lt}
 
 -- a lock that was granted to the block's thread, which stands alone in its line
 pub record IsGiven (k : ℕ) (bs : List Block) (b : Block) (x : Custody) : Type 0 where
@@ -67,13 +69,7 @@ pub record IsNext (image : Shown) (limits : Limits) (seen : List Block) (m : Sta
   pub worker : b.worker < limits.workers
 
 same_sets : (a b : ℕ) → ((k : ℕ) → has a k ≡ has b k) → a ≡ b
-same_sets a b same = same_from_bits a b (λ k. one (bit_at a k) (bit_at b k) (bit_at-lt a k) (bit_at-lt b k) (same k))
-  where
-    one : (x y : ℕ) → x < 2 → y < 2 → (x == 1) ≡ (y == 1) → x ≡ y
-    one x y p q e = elim (eqb_tells x 1) [
-      | inl h ↦ elim (eqb_tells y 1) [ inl g ↦ (let a = h.1 in let b = g.1 in omega arith) | inr g ↦ absurd (let f : true ≡ false = sym h.0 ∙ e ∙ g.0 in cc) ]
-      | inr h ↦ elim (eqb_tells y 1) [ inl g ↦ absurd (let f : false ≡ true = sym h.0 ∙ e ∙ g.0 in cc) | inr g ↦ (let a : x ≢ 1 = h.1 in let b : y ≢ 1 = g.1 in omega arith) ]
-    ]
+same_sets a b same = same_from_bits a b (λ k. same_bit (bit_at a k) (bit_at b k) (bit_at-lt a k) (bit_at-lt b k) (same k))
 
 pub held_with_has : (h : ℕ) (held : ℕ → Bool) (next : Option ℕ) (k : ℕ) → has h k ≡ held k → has (held_with h next) k ≡ locks_of_block held next k
 held_with_has h held None k e = e
@@ -114,11 +110,8 @@ module _ (image : Shown) (limits : Limits) (seen : List Block) (m to : State) (b
 
   -- a lock of the block is below 32
   in_range : (k : ℕ) → locks_of_block d.held (next_lock image d) k ≡ true → k < 32
-  in_range k h = go (below k)
+  in_range k h = go (cases_lt k 32)
     where
-      below : (k : ℕ) → (k < 32) ⊎ (32 ≤ k)
-      below k = grind arith
-
       go : (k < 32) ⊎ (32 ≤ k) → k < 32
       go (inl lt) = lt
       go (inr le) = absurd (let zero : has b.held k ≡ false = ap (λ x. x == 1) (bit_at_above b.held 32 k is.held le) in let e : has b.held k ≡ true = is.stands.held k ∙ h in cc)

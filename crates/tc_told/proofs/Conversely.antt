@@ -20,7 +20,7 @@ use Rattle.tc_turn.specs.Turn.{Thread, next_lock}
 use Rattle.tc_mutex_spec.specs.Machine.{State, start}
 use Rattle.tc_mutex_spec.specs.Blocks.{reach, is_first, has_block, Runs, Stands}
 use Rattle.tc_mutex_spec.proofs.Folding.{tells-more}
-use Rattle.tc_mutex_spec.proofs.BlocksAlike.{eq_self, runs_apart}
+use Rattle.tc_mutex_spec.proofs.BlocksAlike.{runs_apart}
 use Rattle.tc_core.specs.declared.event.Event.{Event}
 use Rattle.tc_core.specs.declared.event.Event.TheVariants.{Claim, Turn, Commit, Enter, Take, Ship, Adopt, Grant, Leave, Free, HandBack, Park, Finish}
 use Rattle.tc_core.specs.declared.place.LockPlace.TheVariants.{With, Granted}
@@ -40,6 +40,7 @@ use Rattle.tc_told.proofs.Committed.{IsNext, begins_is, keeps, lock_in, lock_out
 use Rattle.tc_told.proofs.Standing.{Stand, stand_of, is_fresh, of_one, IsLockAt, stays_so, closed_so, may_so}
 use Rattle.tc_told.proofs.Small.{known_start, known_tells, block_small}
 use Rattle.tc_told.proofs.Ruled.{IsThreadAt, Ruled, thread_still, moved, on_turn, on_enter, on_take, on_adopt, on_grant, on_leave, on_free}
+use Rattle.tc_lemmas.proofs.Tests.{eq_self}
 
 -- one stamp more
 ordered-more : (a : ℕ) (h : List Block) (b : Block) → map (λ (c : Block). c.stamp) h ≡ range_with_len a (length h) → b.stamp ≡ a + length h

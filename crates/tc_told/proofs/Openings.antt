@@ -15,7 +15,6 @@ use Rattle.tc_turn.specs.Turn.{is_running, next_lock}
 use Rattle.tc_turn.proofs.Turns.{next_known}
 use Rattle.tc_mutex_spec.specs.Machine.{State}
 use Rattle.tc_mutex_spec.specs.Blocks.{is_first, has_block}
-use Rattle.tc_mutex_spec.proofs.BlocksAlike.{eq_self}
 use Rattle.tc_core.specs.declared.event.Event.TheVariants.{Claim}
 use Rattle.tc_core.specs.declared.place.ThreadPlace.TheVariants.{Ready, Waiting, Parked, Done, At}
 use Rattle.tc_core.specs.declared.place.LockPlace.TheVariants.{With, Granted, Loose}
@@ -35,6 +34,7 @@ use Rattle.tc_told.proofs.Turns.{can_parts}
 use Rattle.tc_told.proofs.Committed.{IsGiven, Opened, IsNext, worker_is, begins_is}
 use Rattle.tc_told.proofs.Sections.{Around, claims, enters, leaves, frees, takes, ships, adopts, grants, hands_back}
 use Rattle.tc_told.proofs.Standing.{of_one, last_one, run_one}
+use Rattle.tc_lemmas.proofs.Tests.{eq_self}
 
 -- the rule for the lock that the block takes, whoever runs it
 allowed : (k limit : ℕ) (bs : List Block) (b : Block) → begins k b ≡ true → may_follow k limit (map of_one bs) (of_one b) ≡ true → may_begin k limit (option_map of_one (last_of bs)) (run_of k bs) b.kind 0 ≡ true

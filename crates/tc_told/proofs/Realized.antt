@@ -10,7 +10,6 @@ use Rattle.tc_turn.specs.Turn.{is_running, thread_at_start, no_thread, next_lock
 use Rattle.tc_turn.proofs.Turns.{next_known}
 use Rattle.tc_mutex_spec.specs.Machine.{State, start}
 use Rattle.tc_mutex_spec.specs.Blocks.{TellsAfter, locks_of_block}
-use Rattle.tc_mutex_spec.proofs.BlocksAlike.{eq_self}
 use Rattle.tc_core.specs.declared.place.ThreadPlace.TheVariants.{Ready, Done}
 use Rattle.tc_core.specs.Core.{Limits}
 use Rattle.tc_core.proofs.Erasure.{first_sound}
@@ -24,6 +23,7 @@ use Rattle.tc_told.proofs.Ruling.{Rules, rule_now, rules_on}
 use Rattle.tc_told.proofs.Committed.{Opened, IsNext}
 use Rattle.tc_told.proofs.Back.{block_done}
 use Rattle.tc_told.proofs.Openings.{opens}
+use Rattle.tc_lemmas.proofs.Tests.{eq_self}
 
 -- the lock that a block takes is one of its locks
 pub takes_it : (held : ℕ → Bool) (k : ℕ) (o : Option ℕ) → o ≡ Some k → locks_of_block held o k ≡ true

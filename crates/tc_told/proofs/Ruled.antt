@@ -15,7 +15,7 @@ use Rattle.tc_turn.specs.Turn.{Thread, next_lock}
 use Rattle.tc_mutex_spec.specs.Machine.{State}
 use Rattle.tc_mutex_spec.specs.Blocks.{locks_of_block, reach, is_first, has_block, Tells}
 use Rattle.tc_mutex_spec.proofs.Local.{turn_apart}
-use Rattle.tc_mutex_spec.proofs.BlocksAlike.{eq_self, covers_block}
+use Rattle.tc_mutex_spec.proofs.BlocksAlike.{covers_block}
 use Rattle.tc_core.specs.declared.event.Event.{Event}
 use Rattle.tc_core.specs.declared.event.Event.TheVariants.{Turn, Enter, Take, Adopt, Grant, Leave, Free}
 use Rattle.tc_core.specs.declared.place.LockPlace.{LockPlace}
@@ -38,6 +38,7 @@ use Rattle.tc_core.proofs.Standing.{first_in}
 use Rattle.tc_told.specs.Written.{Beginning, Written, write, as_of_one}
 use Rattle.tc_told.proofs.Committed.{held_with_has, is_lock_other, taken_is}
 use Rattle.tc_told.proofs.Standing.{Stand, stand_of, Rule, Waits, IsGranted, is_fresh, IsReleased, IsLockAt, PassesBy, stays_so, entered_so, free_waits, second_waits, released_is, taken_so, passed_so, locked_so, left_so, freed_so}
+use Rattle.tc_lemmas.proofs.Tests.{eq_self}
 
 -- a thread whose last block but this led to d, with the held set and the pc of its block
 pub record IsThreadAt (image : Shown) (seen : List Block) (custody : ℕ → Custody) (t held pc : ℕ) (d : Thread) (a : Stand) : Type 0 where

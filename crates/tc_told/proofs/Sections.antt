@@ -10,7 +10,6 @@ use Rattle.tc_journal.specs.declared.block.Kind.{Kind}
 use Rattle.tc_journal.specs.declared.block.Kind.TheVariants as kind
 use Rattle.tc_turn.specs.Turn.{is_running, next_lock}
 use Rattle.tc_mutex_spec.specs.Machine.{State}
-use Rattle.tc_mutex_spec.proofs.BlocksAlike.{eq_self}
 use Rattle.tc_core.specs.declared.event.Event.TheVariants.{Claim, Enter, Take, Ship, Adopt, Grant, Leave, Free, HandBack}
 use Rattle.tc_core.specs.declared.place.ThreadPlace.{ThreadPlace}
 use Rattle.tc_core.specs.declared.place.ThreadPlace.TheVariants.{Ready, Waiting, At}
@@ -28,6 +27,7 @@ use Rattle.tc_core.proofs.Gathering.{in_set}
 use Rattle.tc_told.specs.Written.{Beginning, Written, write, place_after}
 use Rattle.tc_told.proofs.Leads.{Kept, Leads, comes}
 use Rattle.tc_told.proofs.Front.{IsCustody, beginning_by, Between, between_quiet}
+use Rattle.tc_lemmas.proofs.Tests.{eq_self}
 
 -- before a section of lock k: its thread is here, the lock is so, and the next block begins so; all else is as after the blocks
 pub record Around (image : Shown) (limits : Limits) (seen : List Block) (m : State) (t k : ℕ) (where_it_is : ThreadPlace) (x : Custody) (begin : Kind) (s : Written) : Type 0 where

@@ -15,7 +15,6 @@ use Rattle.tc_journal.specs.declared.block.Kind.TheVariants as kind
 use Rattle.tc_journal.proofs.Batching.{last_more, run_from-more}
 use Rattle.tc_turn.specs.Turn.{next_lock}
 use Rattle.tc_mutex_spec.specs.Machine.{State}
-use Rattle.tc_mutex_spec.proofs.BlocksAlike.{eq_self}
 use Rattle.tc_core.specs.declared.place.LockPlace.{LockPlace}
 use Rattle.tc_core.specs.declared.place.LockPlace.TheVariants.{With, Granted, Loose}
 use Rattle.tc_core.specs.declared.place.LockPlace.TheVariants as place
@@ -29,6 +28,7 @@ use Rattle.tc_core.proofs.Waiting.{in_rest}
 use Rattle.tc_core.proofs.Standing.{first_in}
 use Rattle.tc_told.specs.Written.{Written}
 use Rattle.tc_told.proofs.Custodies.{past_held, past_loose}
+use Rattle.tc_lemmas.proofs.Tests.{eq_self}
 
 -- what matters of a thread: the turns of its block, the lock that its next turn takes, the one that the first turn of its block
 -- takes, and how the block begins

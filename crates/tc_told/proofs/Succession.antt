@@ -20,7 +20,7 @@ use Rattle.tc_turn.specs.Turn.{Thread, next_lock}
 use Rattle.tc_turn.proofs.Turns.{next_known}
 use Rattle.tc_mutex_spec.specs.Machine.{State, start}
 use Rattle.tc_mutex_spec.specs.Blocks.{TellsAfter, Tells, locks_of_block}
-use Rattle.tc_mutex_spec.proofs.BlocksAlike.{eq_self, runs_apart}
+use Rattle.tc_mutex_spec.proofs.BlocksAlike.{runs_apart}
 use Rattle.tc_mutex_spec.proofs.Leaving.{block_releases}
 use Rattle.tc_mutex_spec.proofs.Progress.{can_runs}
 use Rattle.tc_core.specs.Core.{Limits}
@@ -32,6 +32,7 @@ use Rattle.tc_told.proofs.Realized.{takes_it}
 use Rattle.tc_told.proofs.InParts.{tells_split}
 use Rattle.tc_told.proofs.Waiting.{waits}
 use Rattle.tc_told.proofs.Thinned.{first_some, with_it, behind_none, none_of, not_in_none, first_is, last_is, last_there, same_last, stands_behind}
+use Rattle.tc_lemmas.proofs.Tests.{eq_self}
 
 -- ---- the rules, at a block
 

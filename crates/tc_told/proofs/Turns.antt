@@ -11,7 +11,6 @@ use Rattle.tc_journal.specs.declared.rule.Outcome.TheVariants as outcome
 use Rattle.tc_turn.specs.Turn.{is_running, next_lock, next_act, outcome_of}
 use Rattle.tc_mutex_spec.specs.Machine.{State, after, can_turn}
 use Rattle.tc_mutex_spec.specs.Blocks.{reach, end_at, Runs}
-use Rattle.tc_mutex_spec.proofs.BlocksAlike.{eq_self}
 use Rattle.tc_core.specs.declared.event.Event.TheVariants.{Turn}
 use Rattle.tc_core.specs.declared.place.ThreadPlace.TheVariants.{At}
 use Rattle.tc_core.specs.declared.place.LockPlace.TheVariants.{Granted}
@@ -21,6 +20,7 @@ use Rattle.tc_core.specs.Events.{is_enabled, effect, is_worker, is_thread, may_t
 use Rattle.tc_core.proofs.Quiet.{pick_mine, pick_other}
 use Rattle.tc_told.specs.Written.{Written}
 use Rattle.tc_told.proofs.Leads.{Kept, Leads, comes, and_then}
+use Rattle.tc_lemmas.proofs.Tests.{eq_self}
 
 -- where a turn leaves its block open, the next turn takes no lock
 open_next : (o : Outcome) (n : ℕ) (next : Option ℕ) → end_rule o n next ≡ None → next ≡ None

@@ -12,12 +12,13 @@ use Rattle.tc_journal.proofs.Batching.{last_more}
 use Rattle.tc_turn.specs.Turn.{is_running}
 use Rattle.tc_mutex_spec.specs.Machine.{State, start}
 use Rattle.tc_mutex_spec.specs.Blocks.{reach, Runs, Stands, TellsAfter, Tells}
-use Rattle.tc_mutex_spec.proofs.BlocksAlike.{eq_self, runs_apart}
+use Rattle.tc_mutex_spec.proofs.BlocksAlike.{runs_apart}
 use Rattle.tc_mutex_spec.proofs.Entries.{tells_end}
 use Rattle.tc_mutex_spec.proofs.Leaving.{block_runs, block_next, block_cut}
 use Rattle.tc_told.specs.Handover.{IsAtLock, may_end_at, HasWaited}
 use Rattle.tc_told.proofs.InParts.{tells_split}
 use Rattle.tc_told.proofs.Thinned.{none_of, no_last, last_is}
+use Rattle.tc_lemmas.proofs.Tests.{eq_self}
 
 -- blocks of others leave a thread as it is
 unmoved : (image : Shown) (seen bs : List Block) (m to : State) (t : ℕ) → TellsAfter image seen m bs to → of_thread bs t ≡ [] → to.threads t ≡ m.threads t

@@ -16,6 +16,7 @@ use Rattle.tc_exec.specs.declared.outcome.Call.TheVariants.{Lock}
 use Rattle.tc_exec.proofs.NoLock.{never, taken_some}
 use Rattle.tc_turn.specs.Turn.{Thread, next_lock, plus_lock}
 use Rattle.tc_turn.proofs.Turns.{next_some}
+use Rattle.tc_lemmas.proofs.Tests.{eq_self}
 
 -- ---- how many pass a test
 
@@ -76,14 +77,11 @@ one_less p q i a (suc n) into out in_it low high = elim (eqb_tells a i) [
 -- a set without one of its locks has one lock less
 pub less_few : (held rest i : ℕ) → ((k : ℕ) → has rest k ≡ (not (k == i) && has held k)) → has held i ≡ true → i < 32 → length (locks_of rest) + 1 ≤ length (locks_of held)
 unfolding locks_of
-less_few held rest i each mine small = one_less (has rest) (has held) i 0 32 (λ k h. right _ _ (sym (each k) ∙ h)) (each i ∙ ap (λ b. not b && has held i) (itself i)) mine (omega arith) (omega arith)
+less_few held rest i each mine small = one_less (has rest) (has held) i 0 32 (λ k h. right _ _ (sym (each k) ∙ h)) (each i ∙ ap (λ b. not b && has held i) (eq_self i)) mine (omega arith) (omega arith)
   where
     right : (a b : Bool) → (a && b) ≡ true → b ≡ true
     right true b e = e
     right false b e = absurd (cc)
-
-    itself : (k : ℕ) → (k == k) ≡ true
-    itself k = elim (eqb_tells k k) [ inl e ↦ e.0 | inr e ↦ absurd (e.1 refl) ]
 
 -- ---- a thread that holds as many locks as it may takes none
 

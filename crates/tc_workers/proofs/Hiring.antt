@@ -14,7 +14,6 @@ use Rattle.tc_hall.specs.PassView.{PassView}
 use Rattle.tc_hall.specs.Rule.{last_by, threads, locks}
 use Rattle.tc_hall.specs.Steps.{IsNew}
 use Rattle.tc_hall.proofs.Outs.{same_outs}
-use Rattle.tc_hall.proofs.Telling.{snoc_at}
 use Rattle.std.proofs.lemmas.List.Elements.{All-pop}
 use Rattle.std.proofs.lemmas.Option.{slice_get-get_or}
 use Rattle.tc_ready.proofs.Crews.{last_all}
@@ -23,6 +22,7 @@ use Rattle.tc_combiner.specs.View.{BenchView, AreSeats, FitsBench, desk_of}
 use Rattle.tc_workers.specs.Worker.{IsSeated, worker_of}
 use Rattle.tc_workers.specs.Crew.{AreForHire, AreHired, AreSeatsOf, IsBench, IsForHire, IsHired, AreAtWork}
 use Rattle.tc_workers.specs.declared.worker.Worker.{Worker}
+use Rattle.tc_lemmas.proofs.Lists.{at_end, at_itself}
 
 none_at : {A : Type 0} (n u : ℕ) → get_or {A = Option A} (replicate n None) u None ≡ None
 none_at zero u = refl
@@ -34,12 +34,6 @@ new_out : (image : Shown) (n m i : ℕ) (v : Knows) → IsNew image n m i v → 
 new_out image n m i v new = same_outs (outs v) nothing
     (λ u. ap (λ (w : Knows). get_or w.packages u None) new.now ∙ none_at n u)
     (λ j. ap (λ (w : Knows). get_or w.locks j None) new.now ∙ none_at m j)
-
--- what a list is read to have at a place
-pub at_itself : {A : Type 0} (xs : List A) (i : ℕ) (d : A) → i < length xs → get_elem? xs i ≡ some (get_or xs i d)
-at_itself [] i d h = absurd (omega arith)
-at_itself (x ∷ xs) zero d h = refl
-at_itself (x ∷ xs) (suc i) d h = at_itself xs i d (omega arith)
 
 -- a list is one longer than without its last
 pub one_longer : {A : Type 0} (xs ys : List A) (x : A) → xs ≡ ys ++ x ∷ [] → length xs ≡ length ys + 1
@@ -112,7 +106,7 @@ module _ {Q S P : Type 0} where
     each = λ i other v e same. ⊎_elim
         (λ (h : get_elem? ws i ≡ some v). old.each i other v h same)
         (λ (h : (i ≡ length ws) × (w ≡ v)). let a = old.all in let at = h.0 in let n : number ≡ other = omega arith in subst (λ (z : ℕ × Worker Q S P). IsHired b z.0 z.1) (λ j. (n j, h.1 j)) new)
-        (snoc_at ws w v i e);
+        (at_end ws w v i e);
   }
 
   pub none_hired : (b : BenchView) (count : ℕ) (ws : List (Worker Q S P)) → ws ≡ [] → AreHired b count 0 ws

@@ -7,24 +7,23 @@ use Rattle.tc_isa.specs.declared.options.Options.{Options}
 use Rattle.atomic_table.proofs.Lists.{at_longer, at_last, at_map}
 use Rattle.tc_elf.specs.Shown.{Shown}
 use Rattle.tc_turn.specs.Turn.{Thread, is_running}
-use Rattle.tc_mutex_spec.proofs.ListLaws.{at_place, there}
+use Rattle.tc_mutex_spec.proofs.ListLaws.{there}
 use Rattle.tc_segment.specs.View.{kept}
 use Rattle.tc_context.specs.View.{bare}
 use Rattle.tc_law.specs.Lawful.{Lawful}
-use Rattle.tc_hall.specs.declared.board.Call.TheVariants.{Look}
+use Rattle.tc_hall.specs.declared.board.PassCall.TheVariants.{Look}
 use Rattle.tc_hall.specs.declared.board.Knows.{Knows}
 use Rattle.tc_hall.specs.Made.{IsHallOf}
 use Rattle.tc_hall.specs.PassView.{ClosedView, HallView, PassView}
 use Rattle.tc_hall.specs.Rule.{threads}
 use Rattle.tc_hall.specs.Steps.{HasSeenAll, IsEnd, IsFree, IsSamePass, merged}
-use Rattle.tc_hall.proofs.Telling.{snoc_at}
 use Rattle.tc_combiner.specs.View.{BenchView}
 use Rattle.tc_workers.specs.Worker.{IsAtWork}
 use Rattle.tc_workers.specs.Turns.{IsFinished}
 use Rattle.tc_workers.specs.Crew.{AreAtWork, AreHired, Counts, HasRun, HaveFinished}
 use Rattle.tc_workers.specs.declared.worker.Worker.{Worker}
 use Rattle.tc_workers.specs.Run.{IsWholeRun}
-use Rattle.tc_workers.proofs.Hiring.{at_itself}
+use Rattle.tc_lemmas.proofs.Lists.{at_end, at_itself, something_at}
 
 -- a worker that counts in the joined pass, counts in both
 counts_joined : (v w : Knows) (u : ℕ) → Counts w u → Counts (merged v w) u
@@ -57,7 +56,7 @@ module _ {Q S P : Type 0} where
     all = λ i v e. ⊎_elim
         (λ (h : get_elem? ws i ≡ some v). let low = (there ws i v v h).0 in absurd (omega arith))
         (λ (h : (i ≡ length ws) × (w ≡ v)). inl (sym (ap (λ (x : Worker Q S P). x.desk.pass.knows.worker) h.1) ∙ sym end.still.worker))
-        (snoc_at ws w v i (sym (ap (λ (l : List (Worker Q S P)). get_elem? l i) is) ∙ e));
+        (at_end ws w v i (sym (ap (λ (l : List (Worker Q S P)). get_elem? l i) is) ∙ e));
     end = record { own = end.still.own.0 ∙ work.desk.seat.fits.own; free = end.free; done = end.done };
   }
 
@@ -67,7 +66,7 @@ module _ {Q S P : Type 0} where
     all = λ i v e. subst (λ (k : Knows). Counts k v.desk.pass.knows.worker) (sym now) (⊎_elim
         (λ (h : get_elem? ws i ≡ some v). counts_joined p.knows q.knows v.desk.pass.knows.worker (others.all i v h))
         (λ (h : (i ≡ length ws) × (w ≡ v)). inl (sym (ap (λ (x : Worker Q S P). x.desk.pass.knows.worker) h.1) ∙ sym end.still.worker))
-        (snoc_at ws w v i (sym (ap (λ (l : List (Worker Q S P)). get_elem? l i) is) ∙ e)));
+        (at_end ws w v i (sym (ap (λ (l : List (Worker Q S P)). get_elem? l i) is) ∙ e)));
     end = record {
       own = same.0 ∙ (end.still.own.0 ∙ work.desk.seat.fits.own);
       free = subst IsFree (sym now) record { packages = end.free.packages; locks = end.free.locks };
@@ -81,7 +80,7 @@ module _ {Q S P : Type 0} where
   -- so all workers of the run have ended
   pub has_run : (b : BenchView) (n : ℕ) (ws : List (Worker Q S P)) (p : PassView) (a : Bool) → AreHired b n n ws → HaveFinished b ws p a → HasRun b.hall n p a
   has_run b n ws p a hired end = record {
-    all = λ u lt. let l = hired.all in let at = at_place ws (n - 1 - u) (omega arith) in
+    all = λ u lt. let l = hired.all in let at = something_at ws (n - 1 - u) (omega arith) in
         subst (Counts p.knows) (hired.each (n - 1 - u) u at.0 at.1 (omega arith)).worker (end.all (n - 1 - u) at.0 at.1);
     end = end.end;
   }
@@ -93,7 +92,7 @@ whole x o h v c of end =
       history = end.history;
       law = law;
       strict = end.strict;
-      complete = λ t lt. let l = law.all_packages in let m = length-map c.packages bare in let at = at_place c.packages t (omega arith) in
+      complete = λ t lt. let l = law.all_packages in let m = length-map c.packages bare in let at = something_at c.packages t (omega arith) in
           sym (ap (λ (d : Thread). is_running d.status) (law.packages_after t (bare at.0) (at_map bare c.packages t at.0 at.1)).follows.thread) ∙ (end.ended t at.0 at.1).0;
       workers = λ i d lt. let b = end.workers i (get_or end.history i d) (at_itself end.history i d lt) in let w = of.workers in omega arith;
       delegates = end.delegates;

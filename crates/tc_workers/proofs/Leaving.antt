@@ -3,7 +3,7 @@ use Rattle.std.proofs.Common.{◌≡◌, Bool, true, [], ◌∷◌, ◌++◌, Op
 use Rattle.tc_elf.specs.Shown.{Shown}
 use Rattle.std.specs.Prelude.{ℕ}
 use Rattle.tc_context.specs.View.{PackageView}
-use Rattle.tc_hall.specs.declared.board.Call.TheVariants.{Stop, Stopped as Seen}
+use Rattle.tc_hall.specs.declared.board.PassCall.TheVariants.{Stop, Stopped as Seen}
 use Rattle.tc_hall.specs.declared.place.Place.TheVariants.{Ready}
 use Rattle.tc_hall.specs.Outs.{Called, Outs, Pack, nothing}
 use Rattle.tc_hall.specs.PassView.{PassView}

@@ -9,8 +9,8 @@ use lib.ListN.{get_elem?}
 use Rattle.atomic_table.proofs.Lists.{at_longer, at_last}
 use Rattle.tc_context.specs.View.{PackageView}
 use Rattle.tc_hall.specs.declared.board.Knows.{Knows}
-use Rattle.tc_hall.specs.declared.board.Call.{Call}
-use Rattle.tc_hall.specs.declared.board.Call.TheVariants.{Look, Stop, Stopped}
+use Rattle.tc_hall.specs.declared.board.PassCall.{PassCall}
+use Rattle.tc_hall.specs.declared.board.PassCall.TheVariants.{Look, Stop, Stopped}
 use Rattle.tc_hall.specs.declared.place.Origin.{Origin}
 use Rattle.tc_hall.specs.declared.place.Origin.TheVariants as origin
 use Rattle.tc_hall.specs.Places.{origin_code}
@@ -30,16 +30,16 @@ still_same p = record { own = (refl, refl); image = refl; worker = refl; joined 
 pub still_then : (p q r : PassView) → IsStill p q → IsStill q r → IsStill p r
 still_then p q r a b = record { own = (b.own.0 ∙ a.own.0, b.own.1 ∙ a.own.1); image = b.image ∙ a.image; worker = b.worker ∙ a.worker; joined = b.joined ∙ a.joined }
 
-pub still_called : (cs : List Call) (p q : PassView) → IsSamePass p q → Called cs p.knows q.knows → IsStill p q
+pub still_called : (cs : List PassCall) (p q : PassView) → IsSamePass p q → Called cs p.knows q.knows → IsStill p q
 still_called cs p q own told = record { own = own; image = told.image; worker = told.worker; joined = told.joined }
 
 pub no_call : (v : Knows) → Called [] v v
 no_call v = record { image = refl; worker = refl; sealed = refl; joined = refl; calls = sym (append-nil v.calls) }
 
-pub one_call : (v w : Knows) (c : Call) → w ≡ with_call v c → Called (c ∷ []) v w
+pub one_call : (v w : Knows) (c : PassCall) → w ≡ with_call v c → Called (c ∷ []) v w
 one_call v w c e = record { image = ap (λ (x : Knows). x.image) e; worker = ap (λ (x : Knows). x.worker) e; sealed = ap (λ (x : Knows). x.sealed) e; joined = ap (λ (x : Knows). x.joined) e; calls = ap (λ (x : Knows). x.calls) e }
 
-pub unmoved_call : (p q : PassView) (c : Call) → IsSamePass p q → q.knows ≡ with_call p.knows c → IsUnmoved p q
+pub unmoved_call : (p q : PassView) (c : PassCall) → IsSamePass p q → q.knows ≡ with_call p.knows c → IsUnmoved p q
 unmoved_call p q c own e = record { still = still_called (c ∷ []) p q own (one_call p.knows q.knows c e); out = ap outs e; sealed = ap (λ (v : Knows). v.sealed) e }
 
 pub unmoved_missed : (p q : PassView) (word found : ℕ) → IsSamePass p q → q.knows ≡ after_miss p.knows word found → IsUnmoved p q
@@ -62,17 +62,17 @@ claimed_out word t q v w free g = (g.came.out, g.came.before ∙ free)
 
 -- ---- a stop
 
-pub stop_told : (v w : Knows) (cs : List Call) → w.calls ≡ v.calls ++ Stop ∷ cs → HasStop w
-stop_told v w cs e = let at = at_append v.calls (Stop ∷ cs) 0 Stop refl in made at.0 (ap (λ (l : List Call). get_elem? l at.0) e ∙ at.1)
+pub stop_told : (v w : Knows) (cs : List PassCall) → w.calls ≡ v.calls ++ Stop ∷ cs → HasStop w
+stop_told v w cs e = let at = at_append v.calls (Stop ∷ cs) 0 Stop refl in made at.0 (ap (λ (l : List PassCall). get_elem? l at.0) e ∙ at.1)
 
 pub stop_shown : (v w : Knows) → HasSeenStop v w → HasStop w
 stop_shown v w s =
     let at = at_append (v.calls ++ s.front) (Stopped 1 ∷ s.back) 0 (Stopped 1) refl in
-    seen at.0 (ap (λ (l : List Call). get_elem? l at.0) (s.is ∙ sym (append_assoc v.calls s.front (Stopped 1 ∷ s.back))) ∙ at.1)
+    seen at.0 (ap (λ (l : List PassCall). get_elem? l at.0) (s.is ∙ sym (append_assoc v.calls s.front (Stopped 1 ∷ s.back))) ∙ at.1)
 
-pub stop_later : (v w : Knows) (cs : List Call) → w.calls ≡ v.calls ++ cs → HasStop v → HasStop w
-stop_later v w cs e (made i h) = made i (ap (λ (l : List Call). get_elem? l i) e ∙ at_longer v.calls cs i Stop h)
-stop_later v w cs e (seen i h) = seen i (ap (λ (l : List Call). get_elem? l i) e ∙ at_longer v.calls cs i (Stopped 1) h)
+pub stop_later : (v w : Knows) (cs : List PassCall) → w.calls ≡ v.calls ++ cs → HasStop v → HasStop w
+stop_later v w cs e (made i h) = made i (ap (λ (l : List PassCall). get_elem? l i) e ∙ at_longer v.calls cs i Stop h)
+stop_later v w cs e (seen i h) = seen i (ap (λ (l : List PassCall). get_elem? l i) e ∙ at_longer v.calls cs i (Stopped 1) h)
 
 -- ---- threads that have ended
 

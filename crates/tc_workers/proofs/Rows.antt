@@ -4,13 +4,12 @@ use Rattle.std.proofs.lemmas.List.{map-append, length-set}
 use mathlib.Core.Option.{some, some-injective}
 use lib.ListN.{get_elem?}
 use Rattle.atomic_table.proofs.Lists.{at_longer, at_last}
-use Rattle.tc_mutex_spec.proofs.ListLaws.{there, set_at, at_place}
+use Rattle.tc_mutex_spec.proofs.ListLaws.{there, set_at}
 use Rattle.tc_queue.specs.Lines.{SeatView, IsSeatOf}
 use Rattle.tc_queue.specs.View.{QueueView}
-use Rattle.tc_hall.proofs.Telling.{snoc_at}
 use Rattle.tc_workers.specs.Crew.{AreSeatsOf}
 use Rattle.tc_workers.specs.Rows.{AreDealtOut}
-use Rattle.tc_workers.proofs.Hiring.{at_itself}
+use Rattle.tc_lemmas.proofs.Lists.{at_end, at_itself, something_at}
 
 -- a row with a seat of one queue more
 row_more : (qs : List QueueView) (q : QueueView) (row : List SeatView) (s : SeatView) → AreSeatsOf qs row → IsSeatOf q s → AreSeatsOf (qs ++ q ∷ []) (row ++ s ∷ [])
@@ -20,12 +19,12 @@ row_more qs q row s of own = record {
       (λ (h : get_elem? qs i ≡ some r). ⊎_elim
       (λ (g : get_elem? row i ≡ some t). of.each i r t h g)
       (λ (g : (i ≡ length row) × (s ≡ t)). let b = (there qs i r r h).0 in let c = of.count in let a = g.0 in absurd (omega arith))
-      (snoc_at row s t i f))
+      (at_end row s t i f))
       (λ (h : (i ≡ length qs) × (q ≡ r)). ⊎_elim
       (λ (g : get_elem? row i ≡ some t). let b = (there row i t t g).0 in let c = of.count in let a = h.0 in absurd (omega arith))
       (λ (g : (i ≡ length row) × (s ≡ t)). subst (λ (z : QueueView × SeatView). IsSeatOf z.0 z.1) (λ j. (h.1 j, g.1 j)) own)
-      (snoc_at row s t i f))
-      (snoc_at qs q r i e);
+      (at_end row s t i f))
+      (at_end qs q r i e);
 }
 
 -- each row has a seat of each of these queues
@@ -92,8 +91,8 @@ pub row_by_row : {X S : Type 0} (items : X → List S) (rows : List X) (seats : 
 row_by_row items rows seats more P dealt same so w new e =
     let low = (there more w new new e).0 in
     let count = dealt.count in
-    let row = at_place rows w (omega arith) in
-    let seat = at_place seats w (omega arith) in
+    let row = something_at rows w (omega arith) in
+    let seat = something_at seats w (omega arith) in
     subst (P w) (sym (dealt.each w row.0 new seat.0 row.1 seat.1 e)) (so w row.0 seat.0 row.1 seat.1)
 
 pub rows_more : {X S : Type 0} (items : X → List S) (seen : S → SeatView) (qs : List QueueView) (q : QueueView) (rows : List X) (seats : List S) (more : List X) → AreRows items seen qs rows → All (λ s. IsSeatOf q (seen s)) seats
@@ -109,4 +108,4 @@ pub queues_more : (n : ℕ) (qs more : List QueueView) (q : QueueView) → ((i :
 queues_more n qs more q all new is i r e = ⊎_elim
     (λ (h : get_elem? qs i ≡ some r). all i r h)
     (λ (h : (i ≡ length qs) × (q ≡ r)). subst (λ (x : QueueView). x.threads ≡ n) h.1 new)
-    (snoc_at qs q r i (sym (ap (λ (l : List QueueView). get_elem? l i) is) ∙ e))
+    (at_end qs q r i (sym (ap (λ (l : List QueueView). get_elem? l i) is) ∙ e))

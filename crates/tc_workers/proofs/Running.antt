@@ -2,7 +2,6 @@
 use Rattle.std.proofs.Common.{◌≡◌, ◌≢◌, ◌⊎◌, ⊎_elim, inl, inr, ℕ, ◌==◌, ◌||◌, Bool, true, false, if◌then◌else◌, List, [], ◌∷◌, get_or, refl, sym, ap, ◌∙◌, subst, arith, Option, Some, None}
 use Rattle.std.specs.Option.{option_map}
 use Rattle.std.proofs.lemmas.Bool.Decides.{eqb_tells}
-use Rattle.tc_mutex_spec.proofs.BlocksAlike.{eq_self}
 use Rattle.tc_mutex_spec.proofs.Going.{in_block}
 use Rattle.tc_isa.specs.Sets.{has}
 use Rattle.tc_elf.specs.Shown.{Shown}
@@ -34,6 +33,8 @@ use Rattle.tc_combiner.specs.View.{DeskView}
 use Rattle.tc_combiner.specs.Walks.{Owns, packed}
 use Rattle.tc_combiner.proofs.Sealing.{none_some}
 use Rattle.tc_workers.specs.Worker.{HasOut, MayGoBack}
+use Rattle.tc_lemmas.proofs.Tests.{eq_self}
+use Rattle.std.proofs.lemmas.Option.{same_Some}
 
 -- ---- what is out
 
@@ -101,11 +102,8 @@ same_bools false false to from = refl
 
 into_block : (held : ℕ → Bool) (next : Option ℕ) (i : ℕ) → (held i ≡ true) ⊎ (next ≡ Some i) → locks_of_block held next i ≡ true
 into_block held None i h = ⊎_elim (λ (e : held i ≡ true). e) (λ (e : None ≡ Some i). absurd (none_some None i refl e)) h
-into_block held (Some k) i h = either (i == k) (held i) (⊎_elim (λ (e : held i ≡ true). inr e) (λ (e : Some k ≡ Some i). inl (ap (λ (z : ℕ). i == z) (same k i e) ∙ eq_self i)) h)
+into_block held (Some k) i h = either (i == k) (held i) (⊎_elim (λ (e : held i ≡ true). inr e) (λ (e : Some k ≡ Some i). inl (ap (λ (z : ℕ). i == z) (same_Some k i e) ∙ eq_self i)) h)
   where
-    same : (k i : ℕ) → Some k ≡ Some i → k ≡ i
-    same k i e = cc e
-
     either : (a b : Bool) → (a ≡ true) ⊎ (b ≡ true) → (a || b) ≡ true
     either true b h = refl
     either false b h = ⊎_elim (λ (e : false ≡ true). absurd (cc e)) (λ (e : b ≡ true). e) h

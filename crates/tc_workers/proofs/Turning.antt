@@ -4,9 +4,9 @@ use Rattle.std.proofs.lemmas.List.{map-append}
 use Rattle.std.proofs.Math.Nat.{le-min, min-le_left, min-le_right, mul-le-mul_left}
 use Rattle.std.specs.Prelude.{MatchBool, ◌≤◌, ◌+◌, ◌*◌, ◌/◌, min}
 use Rattle.tc_context.specs.View.{PackageView}
-use Rattle.tc_hall.specs.declared.board.Call.{Call}
+use Rattle.tc_hall.specs.declared.board.PassCall.{PassCall}
 use Rattle.tc_hall.specs.declared.board.Knows.{Knows}
-use Rattle.tc_hall.specs.declared.board.Terms.{Terms}
+use Rattle.tc_hall.specs.declared.board.HallTerms.{HallTerms}
 use Rattle.tc_hall.specs.declared.place.Origin.{Origin}
 use Rattle.tc_hall.specs.PassView.{PassView}
 use Rattle.tc_hall.specs.Places.{origin_code}
@@ -86,7 +86,7 @@ came_to b w x z hand r still ready steps made = record {
   did = (made.steps, made.takes);
 }
 
-finished : (k : Terms) (p q : PassView) (e : DeskView) (a : Bool) → IsStill p e.pass → HasLeft e → (a ≡ true → HasSeenAll (threads k) e.pass.knows) → (a ≡ false → HasStop e.pass.knows) → q ≡ e.pass → IsFinished k p q a
+finished : (k : HallTerms) (p q : PassView) (e : DeskView) (a : Bool) → IsStill p e.pass → HasLeft e → (a ≡ true → HasSeenAll (threads k) e.pass.knows) → (a ≡ false → HasStop e.pass.knows) → q ≡ e.pass → IsFinished k p q a
 finished k p q e a still left done stopped is = subst (λ (x : PassView). IsFinished k p x a) (sym is) record { still = still; free = is_free e.pass.knows left.out; done = done; stopped = stopped }
 
 -- after a last step
@@ -126,10 +126,10 @@ offers_more ts t false r s u h m = record {
   full = λ ne. ap (λ (x : ReadyView). length x.given) m.1 ∙ (m.0 ∙ h.room);
 }
 
-took_down : (n : ℕ) (ts : List ℕ) (cs : List Call) → TakesDown n [] ts cs → All (λ t. t < n) ts
+took_down : (n : ℕ) (ts : List ℕ) (cs : List PassCall) → TakesDown n [] ts cs → All (λ t. t < n) ts
 took_down n ts cs h = subst (λ (l : List ℕ). All (λ t. t < n) l) (sym h.0) h.1
 
-pub handed_known : (k : Terms) (r : Settled) (d e : DeskView) → TellsReady k r d e → All (λ t. t < threads k) e.handed
+pub handed_known : (k : HallTerms) (r : Settled) (d e : DeskView) → TellsReady k r d e → All (λ t. t < threads k) e.handed
 handed_known k Was_stopped d e h = subst (λ (l : List ℕ). All (λ t. t < threads k) l) (sym h.2) (λ i x deep. absurd (omega arith))
 handed_known k r d e h = took_down (threads k) e.handed h.0 h.2
 

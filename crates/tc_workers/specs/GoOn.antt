@@ -6,7 +6,7 @@ use Rattle.tc_journal.specs.declared.block.Block.{Block}
 use Rattle.tc_journal.specs.declared.block.End.{End}
 use Rattle.tc_context.specs.Ran.{DidRun}
 use Rattle.tc_context.specs.View.{PackageView, HasBlock, IsRoomier, IsSoundPackage, WantIsGranted, with_seal}
-use Rattle.tc_hall.specs.declared.board.Call.TheVariants.{Stop}
+use Rattle.tc_hall.specs.declared.board.PassCall.TheVariants.{Stop}
 use Rattle.tc_hall.specs.Outs.{Called}
 use Rattle.tc_hall.specs.Steps.{DidSeal}
 use Rattle.tc_ready.specs.Rule.{thread_of}

@@ -1,7 +1,7 @@
 -- What a worker that looks for a package comes to, and why.
 use Rattle.std.specs.Prelude.{◌≡◌, ◌⊎◌, ℕ, ◌<◌, ◌∷◌, max, IfSome, MatchOption, Option, Some, None}
 use Rattle.tc_context.specs.View.{PackageView}
-use Rattle.tc_hall.specs.declared.board.Call.TheVariants.{Stopped as Seen}
+use Rattle.tc_hall.specs.declared.board.PassCall.TheVariants.{Stopped as Seen}
 use Rattle.tc_hall.specs.declared.board.Knows.{Knows}
 use Rattle.tc_hall.specs.declared.place.Origin.{Origin}
 use Rattle.tc_hall.specs.declared.place.Origin.TheVariants.{Ready, Parked}

@@ -3,8 +3,8 @@ use Rattle.std.specs.ControlFlow.{MatchControlFlow}
 use Rattle.std.specs.Prelude.{◌≡◌, ◌⊎◌, ◌∷◌, ◌++◌, Bool, true, false, Option, Some, None}
 use Rattle.std.specs.declared.ops.ControlFlow.{ControlFlow}
 use Rattle.tc_context.specs.View.{PackageView}
-use Rattle.tc_hall.specs.declared.board.Call.TheVariants.{Stopped as Seen}
-use Rattle.tc_hall.specs.declared.board.Terms.{Terms}
+use Rattle.tc_hall.specs.declared.board.PassCall.TheVariants.{Stopped as Seen}
+use Rattle.tc_hall.specs.declared.board.HallTerms.{HallTerms}
 use Rattle.tc_hall.specs.Outs.{Called}
 use Rattle.tc_hall.specs.PassView.{PassView}
 use Rattle.tc_hall.specs.Rule.{threads}
@@ -80,7 +80,7 @@ pub record HasWorked {Q S P : Type 0} (b : BenchView) (x : Worker Q S P) (p : Pa
 
 -- a worker with the pass p has ended, in a hall of these terms: nothing is out, and it has seen every thread Done, or a stop was
 -- made
-pub record IsFinished (k : Terms) (p q : PassView) (all_done : Bool) : Type 0 where
+pub record IsFinished (k : HallTerms) (p q : PassView) (all_done : Bool) : Type 0 where
   pub still : IsStill p q
   pub free : IsFree q.knows
   pub done : all_done ≡ true → HasSeenAll (threads k) q.knows

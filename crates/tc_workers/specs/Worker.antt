@@ -8,7 +8,7 @@ use Rattle.tc_journal.specs.Handing.{AreTogether, was_cut}
 use Rattle.tc_journal.specs.declared.block.Block.{Block}
 use Rattle.tc_journal.specs.declared.block.End.{End}
 use Rattle.tc_context.specs.View.{PackageView, fits_of}
-use Rattle.tc_hall.specs.declared.board.Call.{Call}
+use Rattle.tc_hall.specs.declared.board.PassCall.{PassCall}
 use Rattle.tc_hall.specs.declared.board.Knows.{Knows}
 use Rattle.tc_hall.specs.declared.place.Place.TheVariants.{Ready}
 use Rattle.tc_hall.specs.Outs.{Called, outs, nothing, Item, Pack}
@@ -142,7 +142,7 @@ pub record LookedAtStop (yes : Bool) (d e : DeskView) : Type 0 where
 
 -- ---- packages that are put back, since the run was stopped
 
-abbrev pub put_back : Option PackageView → List Call
+abbrev pub put_back : Option PackageView → List PassCall
 put_back None = []
 put_back (Some q) = put_call q Ready ∷ []
 

@@ -7,7 +7,7 @@ use Rattle.tc_journal.specs.declared.block.Block.{Block}
 use Rattle.tc_journal.specs.declared.block.End.{End}
 use Rattle.tc_journal.specs.declared.block.End.TheVariants.{Wants}
 use Rattle.tc_context.specs.View.{PackageView, IsAfter, IsSoundPackage}
-use Rattle.tc_hall.specs.declared.board.Call.{Call}
+use Rattle.tc_hall.specs.declared.board.PassCall.{PassCall}
 use Rattle.tc_hall.specs.PassView.{PassView}
 use Rattle.tc_hall.specs.Steps.{IsSamePass, with_call}
 use Rattle.tc_queue.specs.Lines.{SeatView}
@@ -55,7 +55,7 @@ woken b d m hand end sleepers now p e f is same =
     playing b (record m { sleepers = sleepers }) hand None end (subst (λ (z : DeskView). IsAtDesk b None (record z { sleepers = sleepers })) (sym is) (other_sleepers b d sleepers now (at_desk b d hand None end p e f) same)) e f
 
 -- the pass made calls, and has out what it had
-pub looked_on : (b : BenchView) (d : DeskView) (o q : PassView) (hand : Option PackageView) (end : Option End) (c : Call) → IsPlaying b d hand end → end ≡ None → o ≡ d.pass → IsSamePass o q → q.knows ≡ with_call o.knows c → IsPlaying b (with_pass d q) hand end
+pub looked_on : (b : BenchView) (d : DeskView) (o q : PassView) (hand : Option PackageView) (end : Option End) (c : PassCall) → IsPlaying b d hand end → end ≡ None → o ≡ d.pass → IsSamePass o q → q.knows ≡ with_call o.knows c → IsPlaying b (with_pass d q) hand end
 looked_on b d o q hand end c p e is own now =
     let r : hand ≡ hand = refl in
     let u = subst (λ (z : PassView). IsUnmoved z q) is (unmoved_call o q c own now) in

@@ -1,9 +1,9 @@
 use Rattle.std.proofs.Common.{[], ◌∷◌, ap, if◌then◌else◌, refl, Some, None}
-use Rattle.tc_mutex_spec.proofs.BlocksAlike.{eq_self}
 use Rattle.tc_combiner.proofs.Vocabulary.{Pack, bare, keep, kept, put_call}
 use Rattle.tc_hall.proofs.Outs.{is_there}
 use Rattle.tc_combiner.proofs.Acting.{acts_told}
 use Rattle.tc_combiner.proofs.Owning.{moves_in}
+use Rattle.tc_lemmas.proofs.Tests.{eq_self}
 use Rattle.tc_combiner.proofs.calls.put.Goals as goal
 
 pub put-requires-clause-ready : goal.put-requires-clause-ready

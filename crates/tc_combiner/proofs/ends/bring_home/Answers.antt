@@ -1,5 +1,5 @@
 use Rattle.std.proofs.Common.{List, [], refl, true}
-use Rattle.tc_combiner.proofs.Vocabulary.{Call, DidTakeOut, LeftAs, LockView, Turn, by_hands, change, turn_of}
+use Rattle.tc_combiner.proofs.Vocabulary.{PassCall, DidTakeOut, LeftAs, LockView, Turn, by_hands, change, turn_of}
 use Rattle.tc_combiner.proofs.Acting.{acts_none, asked_none}
 use Rattle.tc_combiner.proofs.PassedOn.{frees, released_free, taken_free}
 use Rattle.tc_combiner.proofs.ends.bring_home.Goals as goal
@@ -18,4 +18,4 @@ returns c =
     λ s.
     let x = by_hands c.args.hall.now.terms c.args.«package».now (change s s) (change c.args.hands.now c.args.hands.now) in
     frees c.args.hall.now.terms [] c.args.released.lock c.take_out-state.result (turn_of c.args.«package».now c.args.released.lock) c.args.«package».now c.take_out-state.new.self s s c.args.hands.now _ c.args.hands.now.pass
-    (λ (u : Turn) (l : LockView) (cs : List Call). LeftAs x l c.args.released.block.now u cs true true) d refl (asked_none (turn_of c.args.«package».now c.args.released.lock) s).0 (acts_none c.args.hands.now.pass []) c.free.ensures refl refl refl (refl, refl)
+    (λ (u : Turn) (l : LockView) (cs : List PassCall). LeftAs x l c.args.released.block.now u cs true true) d refl (asked_none (turn_of c.args.«package».now c.args.released.lock) s).0 (acts_none c.args.hands.now.pass []) c.free.ensures refl refl refl (refl, refl)

@@ -1,5 +1,5 @@
 use Rattle.std.proofs.Common.{inl, List, [], ◌<◌, ℕ, refl, sym, ◌∙◌, subst}
-use Rattle.tc_combiner.proofs.Vocabulary.{Call, DidTakeOut, FollowedAs, Gone, IsTurn, LockView, Turn, Was_stopped, bare, by_hands, change, saw, threads}
+use Rattle.tc_combiner.proofs.Vocabulary.{PassCall, DidTakeOut, FollowedAs, Gone, IsTurn, LockView, Turn, Was_stopped, bare, by_hands, change, saw, threads}
 use Rattle.tc_combiner.proofs.Acting.{same_outs}
 use Rattle.tc_combiner.proofs.PassedOn.{block_thread, frees, is_beside, is_released, may_lock, passes, released_free, taken_free, turn_is}
 use Rattle.tc_combiner.proofs.release.pass_on.Goals as goal
@@ -50,7 +50,7 @@ returns-in-Nobody g c =
     let e = c.in-Nobody.ensures {u = tt} in
     let x = by_hands c.args.hall.now.terms c.args.«package».now (change (g.Q.Waiters.seen c.args.seat.now) (g.Q.Waiters.seen c.find_next.new.seat)) (change c.args.hands.now c.args.hands.now) in
     frees c.args.hall.now.terms [] c.args.released.lock c.take_out-state.result _ c.args.«package».now c.take_out-state.new.self (g.Q.Waiters.seen c.args.seat.now) (g.Q.Waiters.seen c.find_next.new.seat) c.args.hands.now _ c.find_next.new.pass
-    (λ (u : Turn) (l : LockView) (cs : List Call). FollowedAs x l c.args.released.block.now u cs Gone) d (let f = c.thread.ensures in let h = c.number_of.ensures.is in cc) e.looks.2.0 e.acts c.free.ensures refl refl refl (inl (e.found, refl))
+    (λ (u : Turn) (l : LockView) (cs : List PassCall). FollowedAs x l c.args.released.block.now u cs Gone) d (let f = c.thread.ensures in let h = c.number_of.ensures.is in cc) e.looks.2.0 e.acts c.free.ensures refl refl refl (inl (e.found, refl))
 
 pub returns-in-Unknown : goal.returns-in-Unknown
 returns-in-Unknown g c =
@@ -58,4 +58,4 @@ returns-in-Unknown g c =
     let e = c.in-Unknown.ensures {u = tt} in
     let x = by_hands c.args.hall.now.terms c.args.«package».now (change (g.Q.Waiters.seen c.args.seat.now) (g.Q.Waiters.seen c.find_next.new.seat)) (change c.args.hands.now c.args.hands.now) in
     frees c.args.hall.now.terms saw c.args.released.lock c.take_out-state.result _ c.args.«package».now c.take_out-state.new.self (g.Q.Waiters.seen c.args.seat.now) (g.Q.Waiters.seen c.find_next.new.seat) c.args.hands.now _ c.find_next.new.pass
-    (λ (u : Turn) (l : LockView) (cs : List Call). FollowedAs x l c.args.released.block.now u cs Was_stopped) d (let f = c.thread.ensures in let h = c.number_of.ensures.is in cc) e.looks.2.0 e.acts c.free-in-Unknown.ensures refl refl refl refl
+    (λ (u : Turn) (l : LockView) (cs : List PassCall). FollowedAs x l c.args.released.block.now u cs Was_stopped) d (let f = c.thread.ensures in let h = c.number_of.ensures.is in cc) e.looks.2.0 e.acts c.free-in-Unknown.ensures refl refl refl refl

@@ -9,12 +9,12 @@ use Rattle.tc_main.specs.Top.{Comes, HasRead, ReadsAll, ReadsTooMany, Verdict}
 use Rattle.tc_report.specs.Written.{Wrote}
 use Rattle.tc_main.specs.declared.status.Status.{Status}
 use Rattle.tc_main.specs.declared.status.Status.TheVariants.{Done, Usage, ReadFault, Refused, WriteFault, OutOfMemory, Rejected}
-use Rattle.tc_main.specs.declared.words.Asked.{Asked}
+use Rattle.tc_main.specs.declared.words.Command.{Command}
 use Rattle.tc_main.proofs.Replaying.{fits, none_read, read_for}
 use Rattle.tc_main.proofs.answer.answer_asked.Goals as goal
 
 -- what the bytes that were read for what is asked come to
-of_verdict : (words : List (List ℕ)) (before now : Stream) (asked : Asked) (bytes : List ℕ) → AskFor words asked → HasRead (input_of asked) before now bytes
+of_verdict : (words : List (List ℕ)) (before now : Stream) (asked : Command) (bytes : List ℕ) → AskFor words asked → HasRead (input_of asked) before now bytes
     → (P : List ℕ → Type 0) (text : List ℕ) (s : Status) → Verdict asked bytes text s → P text → Comes words before now P s
 of_verdict words before now asked bytes asks read P text Done v p = (text, record { asked = asked; bytes = bytes; asks = asks; read = read; made = v }, p)
 of_verdict words before now asked bytes asks read P text Usage v p = absurd v

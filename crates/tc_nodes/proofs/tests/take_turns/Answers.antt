@@ -1,6 +1,6 @@
 use Rattle.std.proofs.Common.{rules, ◌++◌, ◌∷◌, [], ap, ◌∙◌}
-use Rattle.tc_nodes.specs.declared.call.Entered.{Entered}
-use Rattle.tc_nodes.specs.declared.call.Call.TheVariants.{Enter}
+use Rattle.tc_nodes.specs.declared.step.Entered.{Entered}
+use Rattle.tc_nodes.specs.declared.step.LineStep.TheVariants.{Enter}
 use Rattle.tc_nodes.specs.View.{NodeSeatView}
 use Rattle.tc_nodes.proofs.Marks.{just_placed}
 use Rattle.tc_nodes.proofs.tests.take_turns.Goals as goal

@@ -1,5 +1,5 @@
 use Rattle.std.proofs.Common.{rules, ◌++◌, ◌∷◌, [], ap, ◌∙◌}
-use Rattle.tc_queue.specs.declared.turn.Call.TheVariants.{Enter}
+use Rattle.tc_queue.specs.declared.turn.QueueCall.TheVariants.{Enter}
 use Rattle.tc_queue.specs.declared.turn.Entered.{Entered}
 use Rattle.tc_queue.specs.View.{OwnView}
 use Rattle.tc_queue.proofs.Marks.{just_entered}

@@ -8,6 +8,6 @@ use Rattle.tc_ready.proofs.ends.open_as.Goals as goal
 
 pub another-requires : goal.another-requires
 another-requires g c =
-    let n = g.J.Asked.threads in
+    let n = g.J.Counted.threads in
     subst (λ (p : ℕ). Forks KeptDeque p (worker_view c.args.worker) (opened n) (opened n)) (sym c.requires.fresh.1)
     (subst (λ (v : Log). Forks KeptDeque 0 v (opened n) (opened n)) (sym c.requires.fresh.0) (opens n (subst (λ (k : ℕ). 0 < k) c.requires.picked c.requires.fresh.2)))

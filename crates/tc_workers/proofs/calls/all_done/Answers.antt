@@ -1,5 +1,5 @@
 use Rattle.std.proofs.Common.{◌≡◌, ℕ, subst}
-use Rattle.tc_hall.specs.declared.board.Call.TheVariants.{Look}
+use Rattle.tc_hall.specs.declared.board.PassCall.TheVariants.{Look}
 use Rattle.tc_hall.specs.Steps.{after_look}
 use Rattle.tc_workers.proofs.Passes.{ended_more, unmoved_call, unmoved_then}
 use Rattle.tc_workers.proofs.calls.all_done.Goals as goal

@@ -1,5 +1,5 @@
 use Rattle.std.proofs.Common.{◌≡◌, None, rules}
-use Rattle.tc_hall.specs.declared.board.Call.TheVariants.{Look}
+use Rattle.tc_hall.specs.declared.board.PassCall.TheVariants.{Look}
 use Rattle.tc_workers_tests.proofs.Playing.{looked_on}
 use Rattle.tc_workers_tests.proofs.scripts.look_at.Goals as goal
 

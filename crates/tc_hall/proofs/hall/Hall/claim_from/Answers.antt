@@ -1,5 +1,5 @@
 use Rattle.std.proofs.Common.{◌≡◌, ◌+◌, ◌<◌, ℕ, ◌∷◌, Option, Some, None, refl, sym, ap, ◌∙◌, subst, arith}
-use Rattle.tc_hall.proofs.Vocabulary.{Gets, HallView, Has, IsAsLeft, IsClaimable, Knows, Package, PackageView, PassView, Terms, bare, of_package, rest, threads}
+use Rattle.tc_hall.proofs.Vocabulary.{Gets, HallView, Has, IsAsLeft, IsClaimable, Knows, Package, PackageView, PassView, HallTerms, bare, of_package, rest, threads}
 use Rattle.tc_hall.proofs.Stepping.{Claims, claims, Lays, lays}
 use Rattle.tc_hall.proofs.Outs.{has_out}
 use Rattle.tc_hall.proofs.Holding.{got_slot, got_found, got_carried, got_view, got_last, got_empty}
@@ -13,7 +13,7 @@ compare_exchange-found-requires g c =
     let can : IsClaimable c.self.inside.board.shared.key c.args.code = subst (λ (h : HallView). IsClaimable h.terms c.args.code) (sym c.self.view_is) c.requires.code in (
       own,
       omega (arith, c.self.invariant.0, c.self.invariant.1, c.word_of-word.ensures),
-      subst (λ (z : Option Terms × ℕ). Claims c.self.inside.board.shared.key z.0 c.self.inside.board.shared.table_id.slots seat.id z.1 c.args.code (512 + c.from-at.result) seat.me.0 seat.me.1) (λ i. (sym (c.requires.picked ∙ ap (λ (h : HallView). Some h.terms) (sym c.self.view_is)) i, sym c.word_of-word.ensures i))
+      subst (λ (z : Option HallTerms × ℕ). Claims c.self.inside.board.shared.key z.0 c.self.inside.board.shared.table_id.slots seat.id z.1 c.args.code (512 + c.from-at.result) seat.me.0 seat.me.1) (λ i. (sym (c.requires.picked ∙ ap (λ (h : HallView). Some h.terms) (sym c.self.view_is)) i, sym c.word_of-word.ensures i))
           (claims c.self.inside.board.shared.key _ seat.id c.args.t c.args.code _ seat.me.0 seat.me.1 c.pass.invariant.0 can (ap (λ (k : ℕ). 512 + k) (c.from-at.ensures ∙ c.pass.invariant.2)) below c.pass.invariant.3 c.pass.invariant.1),
     )
 
@@ -71,7 +71,7 @@ pub returns-clause-left : goal.returns-clause-left
 returns-clause-left g c =
     let got = c.compare_exchange-found.ensures.2.0 c.if-found-code.false c.args.t c.word_of-word.ensures in
     let m = c.pass.inside.seat.me in
-    let key : Terms = c.self.inside.board.shared.key in
+    let key : HallTerms = c.self.inside.board.shared.key in
     let found = c.take-cargo.ensures.found ∙ got_found c.args.t (Package got.0) got.1 m c.compare_exchange-found.new.seat.me got.3 c.slot_mut.result.now c.slot_mut.ensures.value in
     let same : got.0 ≡ c.package_of-package.result = cc (found, c.package_of-package.ensures) in
     subst (λ (z : HallView × PassView). IsAsLeft z.0.terms z.1.knows c.package_of-package.result) (λ i. (c.self.view_is i, c.pass.view_is i))

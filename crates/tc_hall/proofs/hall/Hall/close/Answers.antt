@@ -1,10 +1,10 @@
 use Rattle.std.proofs.Common.{◌≡◌, ◌+◌, ℕ, Option, Some, List, refl, sym, ap, ◌∙◌, subst, arith}
-use Rattle.tc_hall.proofs.Vocabulary.{AreTaken, Cargo, HallView, HasAll, HasSeenAll, IsEmptied, IsEnd, IsFree, Knows, Lock, LockView, Package, PackageView, PassView, Terms, get_elem?, locks, slots_filled, slots_items, slots_len, some, threads}
+use Rattle.tc_hall.proofs.Vocabulary.{AreTaken, Cargo, HallView, HasAll, HasSeenAll, IsEmptied, IsEnd, IsFree, Knows, Lock, LockView, Package, PackageView, PassView, HallTerms, get_elem?, locks, slots_filled, slots_items, slots_len, some, threads}
 use Rattle.tc_hall.proofs.Ended.{taken_none, taken_more, emptied_more, full_emptied, some_package, some_lock, ends}
 use Rattle.tc_hall.proofs.hall.Hall.close.Goals as goal
 
 -- what the call asks of the last pass
-abbrev Asked : Terms → Knows → Type 0
+abbrev Asked : HallTerms → Knows → Type 0
 Asked k v = HasSeenAll (threads k) v × HasAll k.workers v × IsFree v
 
 pub loop-t-init : goal.loop-t-init

@@ -1,5 +1,5 @@
 use Rattle.std.proofs.Common.{◌≡◌, ◌≤◌, ◌+◌, ◌-◌, ℕ, length, replicate, sym, ap, ◌∙◌, subst, arith}
-use Rattle.tc_hall.proofs.Vocabulary.{AreStocked, IsInLimits, Knows, MAX_GUARDS, MAX_THREADS, Shown, Terms, slot_word}
+use Rattle.tc_hall.proofs.Vocabulary.{AreStocked, IsInLimits, Knows, MAX_GUARDS, MAX_THREADS, Shown, HallTerms, slot_word}
 use Rattle.tc_hall.proofs.Stepping.{splits}
 use Rattle.tc_hall.proofs.Ordering.{opens_order}
 use Rattle.tc_hall.proofs.Opening.{maker_first, maker_next, new_pass, new_made, last_pass, last_made, none_made}
@@ -7,7 +7,7 @@ use Rattle.tc_hall.proofs.hall.Hall.new.Goals as goal
 
 pub new-requires : goal.new-requires
 new-requires c =
-    let k : Terms = record { image = c.of.result; fuel = c.args.fuel; workers = c.args.workers; limit = c.args.limit } in
+    let k : HallTerms = record { image = c.of.result; fuel = c.args.fuel; workers = c.args.workers; limit = c.args.limit } in
     let image = c.of.ensures in
     let limits : IsInLimits k = record {
       threads = subst (λ (x : Shown). length x.entries ≤ MAX_THREADS) (sym image) (omega (arith, c.threads-threads.ensures.bound));
@@ -31,7 +31,7 @@ pub split_seat-seat-requires : goal.split_seat-seat-requires
 split_seat-seat-requires c =
     let e = c.in-Ok.ensures.ok in
     let m = c.loop-worker.invariant.maker in
-    let workers : c.in-Ok.made.0.shared.key.workers ≡ c.args.workers = ap (λ (k : Terms). k.workers) e.5 in
+    let workers : c.in-Ok.made.0.shared.key.workers ≡ c.args.workers = ap (λ (k : HallTerms). k.workers) e.5 in
     let made : c.loop-worker.first.me.0.made ≡ c.loop-worker.worker = ap (λ (v : Knows). v.made) m.view in
     (m.table, (let a = e.0 in let b = c.as_slice.ensures.len in let d = c.in_ok-words.ensures.len in omega arith), (let worker : c.loop-worker.first.me.0.worker ≡ c.args.workers - 1 = ap (λ (v : Knows). v.worker) m.view in splits c.in-Ok.made.0.shared.key c.loop-worker.first.id c.loop-worker.first.me.0 (ap (λ (v : Knows). v.spent) m.view) (ap (λ (v : Knows). v.maker) m.view) (omega arith)))
 

@@ -1,5 +1,5 @@
 use Rattle.std.proofs.Common.{◌≡◌, ◌<◌, ℕ, [], ◌∷◌, Option, Some, sym, ap, ◌∙◌, subst, arith}
-use Rattle.tc_hall.proofs.Vocabulary.{Gave, HallView, IsAsLeft, IsInRange, Knows, MayPut, Package, PassView, Sat, Terms, bare, locks, of_package, rest, slot_word, threads}
+use Rattle.tc_hall.proofs.Vocabulary.{Gave, HallView, IsAsLeft, IsInRange, Knows, MayPut, Package, PassView, Sat, HallTerms, bare, locks, of_package, rest, slot_word, threads}
 use Rattle.tc_hall.proofs.Cases.{clash}
 use Rattle.tc_hall.proofs.Stepping.{Reaches, reaches, FillsAs, Fills, fills}
 use Rattle.tc_hall.proofs.Putting.{may_put_as, left_as, gave}
@@ -46,7 +46,7 @@ store-requires g c =
     let view = put_view c.thread-t.result (Package q) m c.load.new.seat.me c.pass.invariant.0 got in (
       did.0 ∙ own,
       omega (arith, c.self.invariant.0, c.self.invariant.1, c.word_of-2.ensures),
-      subst (λ (z : Option Terms × ℕ). FillsAs key z.0 c.self.inside.board.shared.table_id.slots c.load.new.seat.id z.1 c.code-code.result m1.0 ((c.thread-t.result, c.replace.new.self) ∷ rest m1.1)) (λ i. (sym (c.requires.picked ∙ ap (λ (h : HallView). Some h.terms) (sym c.self.view_is)) i, sym c.word_of-2.ensures i))
+      subst (λ (z : Option HallTerms × ℕ). FillsAs key z.0 c.self.inside.board.shared.table_id.slots c.load.new.seat.id z.1 c.code-code.result m1.0 ((c.thread-t.result, c.replace.new.self) ∷ rest m1.1)) (λ i. (sym (c.requires.picked ∙ ap (λ (h : HallView). Some h.terms) (sym c.self.view_is)) i, sym c.word_of-2.ensures i))
           (subst (λ (z : ℕ × ℕ). Fills key c.self.inside.board.shared.table_id.slots c.load.new.seat.id (slot_word z.0) z.1 m1.0 ((c.thread-t.result, c.replace.new.self) ∷ rest m1.1)) (λ i. (sym t i, sym c.code-code.ensures i))
           (fills key _ _ c.args.place m1.0 q _
           (put_carried c.thread-t.result (Package q) m c.load.new.seat.me c.pass.invariant.0 got c.replace.new.self c.replace.ensures.left ∙ ap (λ (z : ℕ). (z, Some (Package q)) ∷ []) t)
@@ -80,6 +80,6 @@ returns-clause-left g c =
     let got = c.load.ensures.2 c.thread-t.result c.word_of.ensures in
     let carried = put_carried c.thread-t.result (Package q) m c.load.new.seat.me c.pass.invariant.0 got c.replace.new.self c.replace.ensures.left in
     let view = put_view c.thread-t.result (Package q) m c.load.new.seat.me c.pass.invariant.0 got in
-    let terms : Terms = c.self.inside.board.shared.key in
+    let terms : HallTerms = c.self.inside.board.shared.key in
     let left = (c.store.ensures.2 c.thread-t.result q carried).1 terms (c.requires.picked ∙ ap (λ (h : HallView). Some h.terms) (sym c.self.view_is)) in
     subst (λ (z : HallView × PassView). IsAsLeft z.0.terms z.1.knows q) (λ i. (c.self.view_is i, c.pass.view_is i)) (left_as terms m.0 m1.0 q (Some c.thread-t.result) view left)

@@ -1,5 +1,5 @@
 use Rattle.std.proofs.Common.{◌≡◌, ◌+◌, ◌<◌, ℕ, ◌∷◌, Option, Some, None, sym, ap, ◌∙◌, subst, arith}
-use Rattle.tc_hall.proofs.Vocabulary.{HallView, HasLock, IsStateAsLeft, Knows, Lock, LockView, PassView, Terms, kept, locks, of_lock, rest, slot_word, threads}
+use Rattle.tc_hall.proofs.Vocabulary.{HallView, HasLock, IsStateAsLeft, Knows, Lock, LockView, PassView, HallTerms, kept, locks, of_lock, rest, slot_word, threads}
 use Rattle.tc_hall.specs.Steps.{Takes}
 use Rattle.tc_hall.proofs.Stepping.{TakesAll, takes_lock, Lays, lays}
 use Rattle.tc_hall.proofs.Outs.{loose_out}
@@ -17,7 +17,7 @@ compare_exchange-found-requires g c =
     let m = c.self.invariant.3 in (
       own,
       omega (arith, c.self.invariant.1, c.word_of-word.ensures),
-      subst (λ (z : Option Terms × ℕ). TakesAll key z.0 c.self.inside.board.shared.table_id.slots seat.id z.1 seat.me.0 seat.me.1) (λ i. (sym (c.requires.picked ∙ ap (λ (h : HallView). Some h.terms) (sym c.self.view_is)) i, sym word i))
+      subst (λ (z : Option HallTerms × ℕ). TakesAll key z.0 c.self.inside.board.shared.table_id.slots seat.id z.1 seat.me.0 seat.me.1) (λ i. (sym (c.requires.picked ∙ ap (λ (h : HallView). Some h.terms) (sym c.self.view_is)) i, sym word i))
           (takes_lock key _ seat.id c.args.lock seat.me.0 seat.me.1 c.pass.invariant.0 below c.pass.invariant.3 c.pass.invariant.1),
     )
 
@@ -84,7 +84,7 @@ returns-clause-left g c =
     let slot : ℕ = c.self.inside.threads + c.args.lock in
     let got = c.compare_exchange-found.ensures.2.0 c.if-found-ne0.false c.self.inside.board.shared.key c.args.lock slot (c.requires.picked ∙ ap (λ (h : HallView). Some h.terms) (sym c.self.view_is)) (let n = c.self.invariant.0 in omega arith) c.word_of-word.ensures in
     let m = c.pass.inside.seat.me in
-    let key : Terms = c.self.inside.board.shared.key in
+    let key : HallTerms = c.self.inside.board.shared.key in
     let found = c.take-cargo.ensures.found ∙ got_found slot (Lock got.0) got.1 m c.compare_exchange-found.new.seat.me got.3 c.slot_mut.result.now c.slot_mut.ensures.value in
     let same : got.0 ≡ c.lock_of.result = cc (found, c.lock_of.ensures) in
     subst (λ (z : HallView × PassView). IsStateAsLeft z.0.terms z.1.knows c.args.lock c.lock_of.result) (λ i. (c.self.view_is i, c.pass.view_is i))

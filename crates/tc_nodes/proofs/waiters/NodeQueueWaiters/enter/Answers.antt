@@ -1,7 +1,7 @@
 use Rattle.std.proofs.Common.{ap, [], ◌∷◌}
 use Rattle.tc_queue.specs.Lines as line
-use Rattle.tc_nodes.specs.declared.call.Entered.{Entered}
-use Rattle.tc_nodes.specs.declared.call.Call.TheVariants.{Enter}
+use Rattle.tc_nodes.specs.declared.step.Entered.{Entered}
+use Rattle.tc_nodes.specs.declared.step.LineStep.TheVariants.{Enter}
 use Rattle.tc_nodes.specs.Lines.{entered_as, seat_as}
 use Rattle.tc_nodes.proofs.Marks.{adds_line, just_entered}
 use Rattle.tc_nodes.proofs.waiters.NodeQueueWaiters.enter.Goals as goal

@@ -2,7 +2,7 @@ use Rattle.std.proofs.Common.{◌≡◌, ◌+◌, ◌≤◌, sym, ap, ◌∙◌,
 use Rattle.tc_queue.specs.declared.turn.Turn.{Turn}
 use Rattle.tc_queue.specs.View.{QueueView, OwnView}
 use Rattle.tc_queue.specs.Words.{IsTurn}
-use Rattle.tc_queue.specs.declared.turn.Call.TheVariants.{Next}
+use Rattle.tc_queue.specs.declared.turn.QueueCall.TheVariants.{Next}
 use Rattle.tc_queue.specs.Calls.{with_call, answer_to_next}
 use Rattle.tc_queue.proofs.Packed.{found_link}
 use Rattle.tc_queue.proofs.Keeping.{looks}

@@ -1,7 +1,7 @@
 use Rattle.std.proofs.Common.{◌≡◌, ◌≤◌, sym, ap, ◌∙◌, subst, ℕ, arith}
 use Rattle.tc_queue.specs.View.{QueueView, OwnView}
 use Rattle.tc_queue.specs.Words.{IsTurn, turn_word}
-use Rattle.tc_queue.specs.declared.turn.Call.TheVariants.{Enter}
+use Rattle.tc_queue.specs.declared.turn.QueueCall.TheVariants.{Enter}
 use Rattle.tc_queue.specs.Calls.{with_call, answer_to_enter}
 use Rattle.tc_queue.proofs.Packed.{found_tail}
 use Rattle.tc_queue.proofs.Keeping.{enters}

@@ -1,5 +1,5 @@
 use Rattle.std.proofs.Common.{◌≡◌, ℕ, true, List, [], ◌∷◌, ◌++◌, ◌+◌, ◌||◌, map, length, sym, ap, subst, ◌∙◌, arith, length-append}
-use Rattle.tc_segment.proofs.Vocabulary.{AllFit, Block, Closes, ClosesWith, Contents, Extends, IsSoundLock, Journal, KeptLock, LockView, OpenFits, Opening, Record, Registers, StandsAt, block_in, closed_with, mutex_at_start, replayed, run_of, shown, shown_journal, shown_open, view_of, with_end, with_journal}
+use Rattle.tc_segment.proofs.Vocabulary.{AllFit, Block, Closes, ClosesWith, Contents, Extends, IsSoundLock, Journal, KeptLock, LockView, OpenFits, Opening, Record, Registers, StandsAt, block_in, closed_with, mutex_at_start, replayed, run_of, shown, shown_journal, shown_open, view_of, with_end, with_journal, grounds}
 use Rattle.std.specs.Prelude.{Option, Some, None, option_map, is_some}
 use Rattle.std.proofs.lemmas.List.{length-map, map-append}
 use Rattle.tc_journal.specs.Batch.{ends_thread}
@@ -17,7 +17,7 @@ was_open a o is = ap (λ x. is_some (option_map (shown_open (replayed a.of.value
 
 closed_view : (a : Contents) (more : List ℕ) (records : List Record) (o : Opening) (block : Block) (finish : Registers) (place to : ℕ) → KeptLock a → a.opened ≡ Some o → Extends a.edges.words more → StandsAt more place finish
     → to ≡ length a.words.items → records ≡ a.records.items ++ record_of block o place to ∷ []
-    → shown_journal a.of.value a.number a.limit a.strict (map (shown more a.words.items) records) a.sealed more a.words.items None a.entry_room a.word_room ≡ closed_with block finish (view_of a).journal
+    → shown_journal (grounds a.of.value a.number a.limit a.strict more a.words.items) (map (shown more a.words.items) records) a.sealed None a.entry_room a.word_room ≡ closed_with block finish (view_of a).journal
 closed_view a more records o block finish place to k is extends there len made =
     let old = map (shown a.edges.words a.words.items) a.records.items in
     let r = record_of block o place to in

@@ -1,14 +1,14 @@
 use Rattle.std.proofs.Common.{◌≡◌, ℕ, [], List, ◌∷◌, ◌++◌, ◌-◌, ◌<◌, true, map, sym, ap, subst, ◌∙◌, arith}
-use Rattle.tc_segment.proofs.Vocabulary.{AllFit, Contents, IsSoundLock, KeptLock, LockView, OpenFits, blocks_of, noted, run_of, shown, shown_journal, view_of, with_journal}
+use Rattle.tc_segment.proofs.Vocabulary.{AllFit, Contents, IsSoundLock, KeptLock, LockView, OpenFits, blocks_of, noted, run_of, shown, shown_journal, view_of, with_journal, grounds}
 use Rattle.std.specs.Prelude.{is_some}
 use Rattle.tc_segment.proofs.Keeping.{word_more, shown_grown, fits_grown, noted_journal, sound_noted, open_fits-more}
 use Rattle.tc_segment.proofs.state.LockState.note_foreign.Goals as goal
 
 noted_view : (a : Contents) (words : List ℕ) (value : ℕ) → KeptLock a → is_some (view_of a).journal.opened ≡ true → words ≡ a.words.items ++ value ∷ []
-    → record { number = a.number; bytes = a.bytes.items; broken = a.broken; sections = a.sections; journal = shown_journal a.of.value a.number a.limit a.strict (map (shown a.edges.words words) a.records.items) a.sealed a.edges.words words a.opened a.entry_room (a.word_room - 1) } ≡ with_journal (noted (value ∷ [])) (view_of a)
+    → record { number = a.number; bytes = a.bytes.items; broken = a.broken; sections = a.sections; journal = shown_journal (grounds a.of.value a.number a.limit a.strict a.edges.words words) (map (shown a.edges.words words) a.records.items) a.sealed a.opened a.entry_room (a.word_room - 1) } ≡ with_journal (noted (value ∷ [])) (view_of a)
 noted_view a words value k was e =
     let old = map (shown a.edges.words a.words.items) a.records.items in
-    let j = ap (λ ws. shown_journal a.of.value a.number a.limit a.strict (map (shown a.edges.words ws) a.records.items) a.sealed a.edges.words ws a.opened a.entry_room (a.word_room - 1)) e
+    let j = ap (λ ws. shown_journal (grounds a.of.value a.number a.limit a.strict a.edges.words ws) (map (shown a.edges.words ws) a.records.items) a.sealed a.opened a.entry_room (a.word_room - 1)) e
     ∙ noted_journal a.of.value a.number a.limit a.strict old _ a.sealed a.edges.words a.words.items a.opened a.entry_room a.word_room value
     (shown_grown (word_more a.edges.words a.words.items (value ∷ [])) a.records.items k.records) k.opened was in
     λ i. record { number = a.number; bytes = a.bytes.items; broken = a.broken; sections = a.sections; journal = j i }

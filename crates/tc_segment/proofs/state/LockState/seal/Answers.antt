@@ -1,5 +1,5 @@
 use Rattle.std.proofs.Common.{◌≡◌, ℕ, ◌+◌, ◌<◌, ◌≤◌, [], ◌∷◌, ◌++◌, true, map, set, get_or, length, inl, inr, sym, ap, subst, ◌∙◌, arith}
-use Rattle.tc_segment.proofs.Vocabulary.{Contents, Entry, Fits, IsSoundLock, IsStrict, KeptLock, LockView, Record, block_in, blocks_of, option_map, run_after, run_of, sealed_as, sealed_block, sealed_entry, sealed_list, shown, shown_journal, view_of, with_journal}
+use Rattle.tc_segment.proofs.Vocabulary.{Contents, Entry, Fits, IsSoundLock, IsStrict, KeptLock, LockView, Record, block_in, blocks_of, option_map, run_after, run_of, sealed_as, sealed_block, sealed_entry, sealed_list, shown, shown_journal, view_of, with_journal, grounds}
 use Rattle.std.specs.Prelude.{Some, is_some, slice_get}
 use Rattle.std.proofs.lemmas.List.{length-map, length-set, map-append, map-set}
 use Rattle.std.proofs.lemmas.Option.{slice_get-map, slice_get-get_or, slice_get_cases}
@@ -15,7 +15,7 @@ closed_at : (a : Contents) (r : Record) → slice_get a.records.items a.sealed �
 closed_at a r is = slice_get-map (shown a.edges.words a.words.items) a.records.items a.sealed ∙ ap (option_map (shown a.edges.words a.words.items)) is
 
 sealed_view : (a : Contents) (stamp worker : ℕ) (r s : Record) → KeptLock a → slice_get a.records.items a.sealed ≡ Some r → s ≡ sealed_record stamp worker r
-    → record { number = a.number; bytes = a.bytes.items; broken = a.broken; sections = a.sections; journal = shown_journal a.of.value a.number a.limit a.strict (map (shown a.edges.words a.words.items) (set a.records.items a.sealed s)) (a.sealed + 1) a.edges.words a.words.items a.opened a.entry_room a.word_room } ≡ with_journal (sealed_as stamp worker) (view_of a)
+    → record { number = a.number; bytes = a.bytes.items; broken = a.broken; sections = a.sections; journal = shown_journal (grounds a.of.value a.number a.limit a.strict a.edges.words a.words.items) (map (shown a.edges.words a.words.items) (set a.records.items a.sealed s)) (a.sealed + 1) a.opened a.entry_room a.word_room } ≡ with_journal (sealed_as stamp worker) (view_of a)
 sealed_view a stamp worker r s k is made =
     let f = shown a.edges.words a.words.items in
     let old = map f a.records.items in

@@ -13,7 +13,7 @@ pub enum Entered {
 /// A step that a seat made. What `next` and `leave` answer stands at the step that gives the
 /// answer: at the one that puts the line back, or at the compare-and-swap of `leave`.
 #[derive(Clone, Copy)]
-pub enum Call {
+pub enum LineStep {
     /// A turn entered, with the answer.
     Enter(Turn, Entered),
     /// The place, the turn that was put there, and its node.
