@@ -228,7 +228,7 @@ module _ (k : HallTerms) (m : Moment k) (q : PackageView) (a : Seals m.view q) w
   no_slot : (p : PackageView) → get_elem? m.state.homes q.context.thread ≢ some (some (Some (Package p)))
   no_slot p e =
       let o = is_out k m.state m.rule m.id q.context.thread m.view (bare a.before) m.pass a.has in
-      let free : m.view.hand ≢ Some q.context.thread = λ is. not_taken (get_elem? m.state.homes q.context.thread) (Package p) (o.5 is) e in
+      let free : m.view.open_slot ≢ Some q.context.thread = λ is. not_taken (get_elem? m.state.homes q.context.thread) (Package p) (o.5 is) e in
       not_empty (get_elem? m.state.homes q.context.thread) (Package p) (o.4 free) e
 
   -- a lock of the sealed package was in the package before

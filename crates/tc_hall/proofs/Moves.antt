@@ -35,7 +35,7 @@ module _ (k : HallTerms) where
 
   -- where a package or a lock that a pass has out lies
   pub is_out : (s : St) (r : KeptHall k s) (id t : ℕ) (v : Knows) (p : PackageView) → get_elem? s.views id ≡ some v → Has v t p
-      → (t < threads k) × (r.placed.holder t ≡ some id) × (get_elem? r.told.places t ≡ some p) × (slice_index s.words (slot_word t) ≡ 512 + v.worker) × (v.hand ≢ Some t → get_elem? s.homes t ≡ some (some None)) × (v.hand ≡ Some t → get_elem? s.homes t ≡ some none)
+      → (t < threads k) × (r.placed.holder t ≡ some id) × (get_elem? r.told.places t ≡ some p) × (slice_index s.words (slot_word t) ≡ 512 + v.worker) × (v.open_slot ≢ Some t → get_elem? s.homes t ≡ some (some None)) × (v.open_slot ≡ Some t → get_elem? s.homes t ≡ some none)
   is_out s r id t v p at has =
       let o = r.placed.owned id v t p at has in
       let l : IsPackageOut s.words s.homes s.views t p id = out_of s.words s.homes s.views t id p (r.placed.holder t) (r.placed.each t p o.1) o.0 in
@@ -44,8 +44,8 @@ module _ (k : HallTerms) where
         o.0,
         o.1,
         l.word ∙ ap (λ (z : Knows). 512 + z.worker) (sym same),
-        (λ free. l.slot (λ e. free (ap (λ (z : Knows). z.hand) same ∙ e))),
-        (λ e. l.held (ap (λ (z : Knows). z.hand) (sym same) ∙ e)),
+        (λ free. l.slot (λ e. free (ap (λ (z : Knows). z.open_slot) same ∙ e))),
+        (λ e. l.held (ap (λ (z : Knows). z.open_slot) (sym same) ∙ e)),
       )
 
   -- a compare-and-swap fails
@@ -67,9 +67,9 @@ module _ (k : HallTerms) where
       }
 
   abbrev pub taken : Knows → ℕ → PackageView → Knows
-  taken v t q = record (after_claim v q) { hand = Some t }
+  taken v t q = record (after_claim v q) { open_slot = Some t }
 
-  pub takes_home : (s : St) (r : KeptHall k s) (id t new : ℕ) (v : Knows) (p : PackageView) (h : IsHome s.words s.homes t p) → get_elem? s.views id ≡ some v → v.spent ≡ false → v.hand ≡ None → t < threads k → new ≡ 512 + v.worker
+  pub takes_home : (s : St) (r : KeptHall k s) (id t new : ℕ) (v : Knows) (p : PackageView) (h : IsHome s.words s.homes t p) → get_elem? s.views id ≡ some v → v.spent ≡ false → v.open_slot ≡ None → t < threads k → new ≡ 512 + v.worker
       → slice_index s.words (slot_word t) ≢ 2 → get_elem? r.told.places t ≡ some p → r.placed.holder t ≡ none → h.context.context.thread ≡ t → KeptHall k (stepped s (slot_word t) new id [] (taken v t h.context) (takes t (Some (Package h.context))))
   takes_home s r id t new v p h at live free below new_is not_two place is_home thread =
       let q : PackageView = h.context in
@@ -86,7 +86,7 @@ module _ (k : HallTerms) where
         clock = get_or-set_other s.words (slot_word t) CLOCK new 0 (λ e. omega arith) ∙ r.clock;
         placed = moves s.words ws' s.homes (set s.homes t none) s.views id v w at stops (threads k) r.told.places r.told.places t (some id) r.placed (inl is_home)
             (λ u ne. get_or-set_other s.words (slot_word t) (slot_word u) new 0 (λ e. ne (omega arith))) (λ u ne. set_else s.homes t u none ne) (λ u ne. refl) r.told.law.all_packages
-            record { worker = refl; spent = refl; long = length-set v.packages q.context.thread (Some (bare q)); out = λ u ne. set_else v.packages q.context.thread u (Some (bare q)) (λ e. ne (e ∙ thread)); hand = λ u _ ne e. absurd (clash v.hand u free e); hand_back = λ u _ ne e. absurd (ne (some_same u t e)) }
+            record { worker = refl; spent = refl; long = length-set v.packages q.context.thread (Some (bare q)); out = λ u ne. set_else v.packages q.context.thread u (Some (bare q)) (λ e. ne (e ∙ thread)); open_slot = λ u _ ne e. absurd (clash v.open_slot u free e); hand_back = λ u _ ne e. absurd (ne (some_same u t e)) }
             (λ p' e. record {
               view = w;
               pass = set_here s.views id w (there s.views id v v at).0;
@@ -171,7 +171,7 @@ module _ (k : HallTerms) where
   -- the pass takes the empty slot of a package that it has out, or gives it back
   slot_moves : (s : St) (r : KeptHall k s) (id t : ℕ) (v w : Knows) (p : PackageView) (a b : maybe.Option (Option Cargo)) → get_elem? s.views id ≡ some v → v.spent ≡ false → Has v t p
       → get_elem? s.homes t ≡ some a → ((q : PackageView) → a ≢ some (Some (Package q))) → ((q : PackageView) → b ≢ some (Some (Package q)))
-      → ((w.hand ≡ Some t) × (v.hand ≡ None) × (b ≡ none)) ⊎ ((w.hand ≡ None) × (v.hand ≡ Some t) × (b ≡ some None)) → w ≡ record v { hand = w.hand }
+      → ((w.open_slot ≡ Some t) × (v.open_slot ≡ None) × (b ≡ none)) ⊎ ((w.open_slot ≡ None) × (v.open_slot ≡ Some t) × (b ≡ some None)) → w ≡ record v { open_slot = w.open_slot }
       → KeptHall k record { words = s.words; homes = set s.homes t b; views = set s.views id w }
   slot_moves s r id t v w p a b at live has slot full full' hands same =
       let o = is_out s r id t v p at has in
@@ -183,14 +183,14 @@ module _ (k : HallTerms) where
         clock = r.clock;
         placed = moves s.words s.words s.homes (set s.homes t b) s.views id v w at (λ e. e) (threads k) r.told.places r.told.places t (some id) r.placed (inr o.1)
             (λ u ne. refl) (λ u ne. set_else s.homes t u b ne) (λ u ne. refl) r.told.law.all_packages
-            record { worker = ap (λ (z : Knows). z.worker) same; spent = ap (λ (z : Knows). z.spent) same; long = ap (λ (z : Knows). length z.packages) same; out = λ u ne. ap (λ (z : Knows). get_elem? z.packages u) same; hand = λ u _ ne e. absurd (to u ne e); hand_back = λ u _ ne e. absurd (back u ne e) }
+            record { worker = ap (λ (z : Knows). z.worker) same; spent = ap (λ (z : Knows). z.spent) same; long = ap (λ (z : Knows). length z.packages) same; out = λ u ne. ap (λ (z : Knows). get_elem? z.packages u) same; open_slot = λ u _ ne e. absurd (to u ne e); hand_back = λ u _ ne e. absurd (back u ne e) }
             (λ p' e. record {
               view = w;
               pass = set_here s.views id w (there s.views id v v at).0;
               has = ap (λ (z : Knows). get_elem? z.packages t) same ∙ (has ∙ ap (λ (z : PackageView). some (Some z)) (some-injective p p' (sym o.2 ∙ e)));
               word = o.3 ∙ ap (λ (z : Knows). 512 + z.worker) (sym same);
-              slot = λ free. ⊎_elim (λ (z : (w.hand ≡ Some t) × (v.hand ≡ None) × (b ≡ none)). absurd (free z.0)) (λ (z : (w.hand ≡ None) × (v.hand ≡ Some t) × (b ≡ some None)). here z.2) hands;
-              held = λ e. ⊎_elim (λ (z : (w.hand ≡ Some t) × (v.hand ≡ None) × (b ≡ none)). here z.2) (λ (z : (w.hand ≡ None) × (v.hand ≡ Some t) × (b ≡ some None)). absurd (clash w.hand t z.0 e)) hands;
+              slot = λ free. ⊎_elim (λ (z : (w.open_slot ≡ Some t) × (v.open_slot ≡ None) × (b ≡ none)). absurd (free z.0)) (λ (z : (w.open_slot ≡ None) × (v.open_slot ≡ Some t) × (b ≡ some None)). here z.2) hands;
+              held = λ e. ⊎_elim (λ (z : (w.open_slot ≡ Some t) × (v.open_slot ≡ None) × (b ≡ none)). here z.2) (λ (z : (w.open_slot ≡ None) × (v.open_slot ≡ Some t) × (b ≡ some None)). absurd (clash w.open_slot t z.0 e)) hands;
             })
             (λ p' has'. (refl, o.2 ∙ ap (λ (z : PackageView). some z) (same_at (get_elem? v.packages t) p p' has (sym (ap (λ (z : Knows). get_elem? z.packages t) same) ∙ has'))));
         locks_placed = locks_stay (threads k) (locks k) r.told.segments s.words s.words s.homes (set s.homes t b) s.views id v w at (λ i. refl) (λ i. set_else s.homes t (threads k + i) b (λ e. omega arith))
@@ -204,29 +204,29 @@ module _ (k : HallTerms) where
         listed = listed_stays r.told.history s.views id v w at r.listed record { worker = ap (λ (z : Knows). z.worker) same; maker = ap (λ (z : Knows). z.maker) same; made = let e = ap (λ (z : Knows). z.made) same in omega arith; spent = ap (λ (z : Knows). z.spent) same; joined = ap (λ (z : Knows). z.joined) same; sealed = ap (λ (z : Knows). z.sealed) same };
       }
     where
-      to : (u : ℕ) → u ≢ t → v.hand ≡ Some u → ⊥
-      to u ne e = ⊎_elim (λ (z : (w.hand ≡ Some t) × (v.hand ≡ None) × (b ≡ none)). clash v.hand u z.1 e) (λ (z : (w.hand ≡ None) × (v.hand ≡ Some t) × (b ≡ some None)). ne (same_some v.hand t u z.1 e)) hands
+      to : (u : ℕ) → u ≢ t → v.open_slot ≡ Some u → ⊥
+      to u ne e = ⊎_elim (λ (z : (w.open_slot ≡ Some t) × (v.open_slot ≡ None) × (b ≡ none)). clash v.open_slot u z.1 e) (λ (z : (w.open_slot ≡ None) × (v.open_slot ≡ Some t) × (b ≡ some None)). ne (same_some v.open_slot t u z.1 e)) hands
 
-      back : (u : ℕ) → u ≢ t → w.hand ≡ Some u → ⊥
-      back u ne e = ⊎_elim (λ (z : (w.hand ≡ Some t) × (v.hand ≡ None) × (b ≡ none)). ne (same_some w.hand t u z.0 e)) (λ (z : (w.hand ≡ None) × (v.hand ≡ Some t) × (b ≡ some None)). clash w.hand u z.0 e) hands
+      back : (u : ℕ) → u ≢ t → w.open_slot ≡ Some u → ⊥
+      back u ne e = ⊎_elim (λ (z : (w.open_slot ≡ Some t) × (v.open_slot ≡ None) × (b ≡ none)). ne (same_some w.open_slot t u z.0 e)) (λ (z : (w.open_slot ≡ None) × (v.open_slot ≡ Some t) × (b ≡ some None)). clash w.open_slot u z.0 e) hands
 
       here : {c : maybe.Option (Option Cargo)} → b ≡ c → get_elem? (set s.homes t b) t ≡ some c
       here e = set_here s.homes t b (there s.homes t a a slot).0 ∙ ap (λ (z : maybe.Option (Option Cargo)). some z) e
 
   -- the empty slot of a package goes back
-  pub lay_kept : (s : St) (r : KeptHall k s) (id t : ℕ) (v : Knows) (p : PackageView) → get_elem? s.views id ≡ some v → v.spent ≡ false → v.hand ≡ Some t → Has v t p
-      → KeptHall k (stepped s (slot_word t) (slice_index s.words (slot_word t)) id ((t, None) ∷ []) (record v { hand = None }) gives)
-  lay_kept s r id t v p at live hand has =
-      let w : Knows = record v { hand = None } in
+  pub lay_kept : (s : St) (r : KeptHall k s) (id t : ℕ) (v : Knows) (p : PackageView) → get_elem? s.views id ≡ some v → v.spent ≡ false → v.open_slot ≡ Some t → Has v t p
+      → KeptHall k (stepped s (slot_word t) (slice_index s.words (slot_word t)) id ((t, None) ∷ []) (record v { open_slot = None }) gives)
+  lay_kept s r id t v p at live open_slot has =
+      let w : Knows = record v { open_slot = None } in
       let o = is_out s r id t v p at has in
       subst (λ (z : List ℕ). KeptHall k record { words = z; homes = set s.homes t (some None); views = set s.views id w }) (sym (set-get_or s.words (slot_word t) 0))
-      (slot_moves s r id t v w p none (some None) at live has (o.5 hand) no_home no_package (inr (refl, hand, refl)) refl)
+      (slot_moves s r id t v w p none (some None) at live has (o.5 open_slot) no_home no_package (inr (refl, open_slot, refl)) refl)
 
   -- the pass takes the empty slot of a package that it has out
-  pub reach_kept : (s : St) (r : KeptHall k s) (id t : ℕ) (v : Knows) (p : PackageView) → get_elem? s.views id ≡ some v → v.spent ≡ false → v.hand ≡ None → Has v t p
-      → KeptHall k (stepped s (slot_word t) (slice_index s.words (slot_word t)) id [] (record v { hand = Some t }) (takes t None))
+  pub reach_kept : (s : St) (r : KeptHall k s) (id t : ℕ) (v : Knows) (p : PackageView) → get_elem? s.views id ≡ some v → v.spent ≡ false → v.open_slot ≡ None → Has v t p
+      → KeptHall k (stepped s (slot_word t) (slice_index s.words (slot_word t)) id [] (record v { open_slot = Some t }) (takes t None))
   reach_kept s r id t v p at live free has =
-      let w : Knows = record v { hand = Some t } in
+      let w : Knows = record v { open_slot = Some t } in
       let o = is_out s r id t v p at has in
       subst (λ (z : List ℕ). KeptHall k record { words = z; homes = set s.homes t none; views = set s.views id w }) (sym (set-get_or s.words (slot_word t) 0))
-      (slot_moves s r id t v w p (some None) none at live has (o.4 (λ e. clash v.hand t free e)) no_package no_home (inl (refl, free, refl)) refl)
+      (slot_moves s r id t v w p (some None) none at live has (o.4 (λ e. clash v.open_slot t free e)) no_package no_home (inl (refl, free, refl)) refl)

@@ -227,16 +227,16 @@ module _ (image : Shown) (n m workers made : ℕ) (z : TableId) (seat : Place) (
     new_view : new.me.0 ≡ clean image n m made false
     new_view = ap (λ (p : Knows × List (ℕ × Option Cargo)). p.0) me ∙ fresh_is
 
-    pub new_pass : (new.me.1 ≡ []) × (new.me.0.hand ≡ None) × (made ≡ new.me.0.worker) × (new.me.0.spent ≡ false)
-    new_pass = (ap (λ (p : Knows × List (ℕ × Option Cargo)). p.1) me, ap (λ (v : Knows). v.hand) new_view, sym (ap (λ (v : Knows). v.worker) new_view), ap (λ (v : Knows). v.spent) new_view)
+    pub new_pass : (new.me.1 ≡ []) × (new.me.0.open_slot ≡ None) × (made ≡ new.me.0.worker) × (new.me.0.spent ≡ false)
+    new_pass = (ap (λ (p : Knows × List (ℕ × Option Cargo)). p.1) me, ap (λ (v : Knows). v.open_slot) new_view, sym (ap (λ (v : Knows). v.worker) new_view), ap (λ (v : Knows). v.spent) new_view)
 
     pub new_made : (ps qs : List PassView) → AreDealt image n m made z ps → qs ≡ ps ++ record { table = new.table_id; seat = new.id; knows = new.me.0 } ∷ [] → AreDealt image n m (made + 1) z qs
     new_made ps qs all is = one_made image n m made z ps qs record { table = new.table_id; seat = new.id; knows = new.me.0 } all is (table ∙ mk.table)
         record { of = ap (λ (v : Knows). v.image) new_view; now = new_view ∙ ap (λ (v : Knows). record (clean v.image n m made v.maker) { made = v.made }) (sym new_view) }
 
   -- the seat that makes the others is the last
-  pub last_pass : (seat.me.1 ≡ []) × (seat.me.0.hand ≡ None) × (workers - 1 ≡ seat.me.0.worker) × (seat.me.0.spent ≡ false)
-  last_pass = (mk.free, ap (λ (v : Knows). v.hand) mk.view, sym (ap (λ (v : Knows). v.worker) mk.view), ap (λ (v : Knows). v.spent) mk.view)
+  pub last_pass : (seat.me.1 ≡ []) × (seat.me.0.open_slot ≡ None) × (workers - 1 ≡ seat.me.0.worker) × (seat.me.0.spent ≡ false)
+  last_pass = (mk.free, ap (λ (v : Knows). v.open_slot) mk.view, sym (ap (λ (v : Knows). v.worker) mk.view), ap (λ (v : Knows). v.spent) mk.view)
 
   pub last_made : (ps qs : List PassView) → made + 1 ≡ workers → AreDealt image n m made z ps → qs ≡ ps ++ record { table = seat.table_id; seat = seat.id; knows = seat.me.0 } ∷ [] → AreDealt image n m workers z qs
   last_made ps qs last all is =

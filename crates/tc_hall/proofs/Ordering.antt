@@ -37,17 +37,17 @@ module _ (k : HallTerms) (s : Hall) (r : KeptHall k s) (id : ℕ) (v : Knows) (a
 
   pub put_after : (q : PackageView) (place : Place) → MayFill k v q place → KeptHall k (after s id (put_effect v q place))
   put_after q place a =
-      subst (λ (z : Place). KeptHall k (stepped s (slot_word q.context.thread) (code_of place) id ((q.context.thread, Some (Package q)) ∷ []) (record (after_put v q z) { hand = None }) gives)) (place_codes place)
-      (fills_kept k s r id place v q at a.hand live a.range a.may)
+      subst (λ (z : Place). KeptHall k (stepped s (slot_word q.context.thread) (code_of place) id ((q.context.thread, Some (Package q)) ∷ []) (record (after_put v q z) { open_slot = None }) gives)) (place_codes place)
+      (fills_kept k s r id place v q at a.open_slot live a.range a.may)
 
   commit_after : (b : Block) (q : PackageView) (a : Seals v q) → a.ran.block ≡ b → KeptHall k (after s id (commit_effect v (slice_index s.words CLOCK) b q))
   commit_after b q a is = subst (λ (z : Block). KeptHall k (after s id (commit_effect v (slice_index s.words CLOCK) z q))) is (seals_kept k s r id v q a live at)
 
-  reach_after : (slot : ℕ) → v.hand ≡ None → IsSlotOut k v slot → KeptHall k (after s id (reach_effect v slot (slice_index s.words (slot_word slot))))
+  reach_after : (slot : ℕ) → v.open_slot ≡ None → IsSlotOut k v slot → KeptHall k (after s id (reach_effect v slot (slice_index s.words (slot_word slot))))
   reach_after slot idle (of_package t p is has) = subst (λ (z : ℕ). KeptHall k (after s id (reach_effect v z (slice_index s.words (slot_word z))))) (sym is) (reach_kept k s r id t v p at live idle has)
   reach_after slot idle (of_lock i l is has) = subst (λ (z : ℕ). KeptHall k (after s id (reach_effect v z (slice_index s.words (slot_word z))))) (sym is) (reach_lock_kept k s r id i v l at live idle has)
 
-  lay_after : (slot : ℕ) → v.hand ≡ Some slot → IsSlotOut k v slot → KeptHall k (after s id (lay_effect v slot (slice_index s.words (slot_word slot))))
+  lay_after : (slot : ℕ) → v.open_slot ≡ Some slot → IsSlotOut k v slot → KeptHall k (after s id (lay_effect v slot (slice_index s.words (slot_word slot))))
   lay_after slot held (of_package t p is has) = subst (λ (z : ℕ). KeptHall k (after s id (lay_effect v z (slice_index s.words (slot_word z))))) (sym is) (lay_kept k s r id t v p at live (held ∙ ap (λ (z : ℕ). Some z) is) has)
   lay_after slot held (of_lock i l is has) = subst (λ (z : ℕ). KeptHall k (after s id (lay_effect v z (slice_index s.words (slot_word z))))) (sym is) (lay_lock_kept k s r id i v l at live (held ∙ ap (λ (z : ℕ). Some z) is) has)
 

@@ -35,15 +35,15 @@ module _ (n m : ℕ) (segments : List LockView) (ws ws' : List ℕ) (hs : Homes)
   has_old i e = ap (λ (l : List (Option LockView)). get_elem? l i) now ∙ add_all-else v.locks q.context.locks i e
 
   -- a lock that stays out with the pass or with another
-  still_out : (hs' : Homes) (i : ℕ) (l : LockView) (j : ℕ) → locked_in q i ≡ None → get_elem? hs' (n + i) ≡ get_elem? hs (n + i) → (v.hand ≡ Some (n + i) → w.hand ≡ Some (n + i)) → (w.hand ≡ Some (n + i) → v.hand ≡ Some (n + i)) → IsLockOut n ws hs vs i l j → IsLockOut n ws' hs' (set vs id w) i l j
-  still_out hs' i l j gone place hand back o = dite (ℕ_discrete j id)
+  still_out : (hs' : Homes) (i : ℕ) (l : LockView) (j : ℕ) → locked_in q i ≡ None → get_elem? hs' (n + i) ≡ get_elem? hs (n + i) → (v.open_slot ≡ Some (n + i) → w.open_slot ≡ Some (n + i)) → (w.open_slot ≡ Some (n + i) → v.open_slot ≡ Some (n + i)) → IsLockOut n ws hs vs i l j → IsLockOut n ws' hs' (set vs id w) i l j
+  still_out hs' i l j gone place open_slot back o = dite (ℕ_discrete j id)
       (λ (is : j ≡ id). let same : v ≡ o.view = some-injective v o.view (sym at ∙ (ap (get_elem? vs) (sym is) ∙ o.pass)) in record {
         view = w;
         pass = ap (get_elem? (set vs id w)) is ∙ set_here vs id w in_range;
         has = has_old i gone ∙ (ap (λ (z : Knows). get_elem? z.locks i) same ∙ o.has);
         word = words i ∙ o.word;
-        empty = λ free. place ∙ o.empty (λ h. free (hand (ap (λ (z : Knows). z.hand) same ∙ h)));
-        held = λ h. place ∙ o.held (ap (λ (z : Knows). z.hand) (sym same) ∙ back h);
+        empty = λ free. place ∙ o.empty (λ h. free (open_slot (ap (λ (z : Knows). z.open_slot) same ∙ h)));
+        held = λ h. place ∙ o.held (ap (λ (z : Knows). z.open_slot) (sym same) ∙ back h);
       })
       (λ (ne : j ≢ id). record { view = o.view; pass = set_else vs id j w ne ∙ o.pass; has = o.has; word = words i ∙ o.word; empty = λ free. place ∙ o.empty free; held = λ h. place ∙ o.held h })
 
@@ -53,7 +53,7 @@ module _ (n m : ℕ) (segments : List LockView) (ws ws' : List ℕ) (hs : Homes)
       (λ (o : (j ≢ id) × (get_elem? vs j ≡ some x)). lp.sized j x o.1 li) (at_set vs id j w x e)
 
   -- the package q comes out of slot t, with its locks
-  module _ (t : ℕ) (below : t < n) (slot : get_elem? hs t ≡ some (some (Some (Package q)))) (free : v.hand ≡ None) (hand_is : w.hand ≡ Some t) where
+  module _ (t : ℕ) (below : t < n) (slot : get_elem? hs t ≡ some (some (Some (Package q)))) (free : v.open_slot ≡ None) (hand_is : w.open_slot ≡ Some t) where
     hs' : Homes
     hs' = set hs t none
 
@@ -66,13 +66,13 @@ module _ (n m : ℕ) (segments : List LockView) (ws ws' : List ℕ) (hs : Homes)
           has = has_new i k (let b = (there segments i l l e).0 in omega arith) is ∙ ap (λ (z : LockView). some (Some z)) (some-injective (kept k) l (sym p.1 ∙ e));
           word = words i ∙ o.word;
           empty = λ _. set_else hs t (n + i) none (λ z. omega arith) ∙ o.empty;
-          held = λ h. absurd (far w.hand t (n + i) hand_is h (omega arith));
+          held = λ h. absurd (far w.open_slot t (n + i) hand_is h (omega arith));
         }
     lies_claimed i l e None is home spot o = record { segment = o.segment; slot = set_else hs t (n + i) none (λ z. omega arith) ∙ o.slot; same = o.same; word = words i ∙ o.word; rests = o.rests }
     lies_claimed i l e None is (inside u) spot o = dite (ℕ_discrete u t)
         (λ (z : u ≡ t). absurd (clash (locked_in q i) o.segment is (ap (λ (x : PackageView). locked_in x i) (same_package (get_elem? hs t) q o.context slot (ap (get_elem? hs) (sym z) ∙ o.slot)) ∙ o.has)))
         (λ (ne : u ≢ t). record { below = o.below; context = o.context; slot = set_else hs t u none ne ∙ o.slot; segment = o.segment; has = o.has; same = o.same; word = words i ∙ o.word; empty = set_else hs t (n + i) none (λ z. omega arith) ∙ o.empty })
-    lies_claimed i l e None is (out j) spot o = still_out (set hs t none) i l j is (set_else hs t (n + i) none (λ z. omega arith)) (λ h. absurd (clash v.hand (n + i) free h)) (λ h. absurd (far w.hand t (n + i) hand_is h (omega arith))) o
+    lies_claimed i l e None is (out j) spot o = still_out (set hs t none) i l j is (set_else hs t (n + i) none (λ z. omega arith)) (λ h. absurd (clash v.open_slot (n + i) free h)) (λ h. absurd (far w.open_slot t (n + i) hand_is h (omega arith))) o
 
     spot_kept : (i : ℕ) → (o : Option LockView) → locked_in q i ≡ o → lp.spot i ≢ inside t → spot_or id (lp.spot i) o ≡ lp.spot i
     spot_kept i None is ne = refl
@@ -104,7 +104,7 @@ module _ (n m : ℕ) (segments : List LockView) (ws ws' : List ℕ) (hs : Homes)
         in_in u t s a b = cc (a, b)
 
   -- a block of the package is sealed, with its entries in the locks
-  module _ (p : PackageView) (came : (i : ℕ) (l : LockView) → locked_in q i ≡ Some l → (o : LockView) × (locked_in p i ≡ Some o)) (had : (i : ℕ) (l : LockView) → locked_in p i ≡ Some l → HasLock v i (kept l)) (hand : w.hand ≡ v.hand) where
+  module _ (p : PackageView) (came : (i : ℕ) (l : LockView) → locked_in q i ≡ Some l → (o : LockView) × (locked_in p i ≡ Some o)) (had : (i : ℕ) (l : LockView) → locked_in p i ≡ Some l → HasLock v i (kept l)) (open_slot : w.open_slot ≡ v.open_slot) where
     -- a lock of the package is out with the pass
     mine : (i : ℕ) (k : LockView) → locked_in q i ≡ Some k → (o : LockView) × (lp.spot i ≡ out id) × (get_elem? segments i ≡ some (kept o))
     mine i k is = let was = came i k is in let r = lp.owned id v i (kept was.0) at (had i was.0 was.1) in (was.0, r.0, r.1)
@@ -112,7 +112,7 @@ module _ (n m : ℕ) (segments : List LockView) (ws ws' : List ℕ) (hs : Homes)
     lies_stays : (i : ℕ) (l : LockView) → locked_in q i ≡ None → (s : Spot) → LiesLock n ws hs vs i l s → LiesLock n ws' hs (set vs id w) i l s
     lies_stays i l is home o = record { segment = o.segment; slot = o.slot; same = o.same; word = words i ∙ o.word; rests = o.rests }
     lies_stays i l is (inside u) o = record { below = o.below; context = o.context; slot = o.slot; segment = o.segment; has = o.has; same = o.same; word = words i ∙ o.word; empty = o.empty }
-    lies_stays i l is (out j) o = still_out hs i l j is refl (λ h. hand ∙ h) (λ h. sym hand ∙ h) o
+    lies_stays i l is (out j) o = still_out hs i l j is refl (λ h. open_slot ∙ h) (λ h. sym open_slot ∙ h) o
 
     lies_sealed : (i : ℕ) (l : LockView) → get_elem? (with_states q.context.locks segments) i ≡ some l → LiesLock n ws' hs (set vs id w) i l (lp.spot i)
     lies_sealed i l e = ⊎_elim
@@ -125,8 +125,8 @@ module _ (n m : ℕ) (segments : List LockView) (ws ws' : List ℕ) (hs : Homes)
           pass = set_here vs id w in_range;
           has = has_new i z.0 (let b = (there segments i (kept r.0) (kept r.0) r.2).0 in omega arith) z.1 ∙ ap (λ (x : LockView). some (Some x)) z.2;
           word = words i ∙ o.word;
-          empty = λ free. o.empty (λ h. free (hand ∙ (ap (λ (x : Knows). x.hand) same ∙ h)));
-          held = λ h. o.held (ap (λ (x : Knows). x.hand) (sym same) ∙ (sym hand ∙ h));
+          empty = λ free. o.empty (λ h. free (open_slot ∙ (ap (λ (x : Knows). x.open_slot) same ∙ h)));
+          held = λ h. o.held (ap (λ (x : Knows). x.open_slot) (sym same) ∙ (sym open_slot ∙ h));
         } in
         subst (LiesLock n ws' hs (set vs id w) i l) (sym r.1) new)
         (λ (z : (locked_in q i ≡ None) × (get_elem? segments i ≡ some l)). lies_stays i l z.0 (lp.spot i) (lp.each i l z.1))
@@ -163,7 +163,7 @@ spot_in t s (Some l) = inside t
 -- the package q goes home to the slot t, which the pass has in hand, with its locks
 module _ (n m : ℕ) (segments : List LockView) (ws ws' : List ℕ) (hs : Homes) (vs : List Knows) (id : ℕ) (v w : Knows) (q : PackageView) (t : ℕ)
     (lp : AreLocksPlaced n m segments ws hs vs) (count : length segments ≡ m) (at : get_elem? vs id ≡ some v) (live : v.spent ≡ false) (now : w.locks ≡ remove_all v.locks q.context.locks) (spent : w.spent ≡ v.spent)
-    (words : (i : ℕ) → slice_index ws' (slot_word (n + i)) ≡ slice_index ws (slot_word (n + i))) (below : t < n) (held : get_elem? hs t ≡ some none) (hand_was : v.hand ≡ Some t) (hand_is : w.hand ≡ None)
+    (words : (i : ℕ) → slice_index ws' (slot_word (n + i)) ≡ slice_index ws (slot_word (n + i))) (below : t < n) (held : get_elem? hs t ≡ some none) (hand_was : v.open_slot ≡ Some t) (hand_is : w.open_slot ≡ None)
     (had : (i : ℕ) (l : LockView) → locked_in q i ≡ Some l → HasLock v i (kept l)) where
   at_home : get_elem? (set hs t (some (Some (Package q)))) t ≡ some (some (Some (Package q)))
   at_home = set_here hs t (some (Some (Package q))) (there hs t none none held).0
@@ -186,7 +186,7 @@ module _ (n m : ℕ) (segments : List LockView) (ws ws' : List ℕ) (hs : Homes)
         has = is;
         same = some-injective (kept k) l (sym r.1 ∙ e);
         word = words i ∙ o.word;
-        empty = far_home (n + i) (λ z. omega arith) ∙ o.empty (λ h. far v.hand t (n + i) hand_was (ap (λ (x : Knows). x.hand) same ∙ h) (omega arith));
+        empty = far_home (n + i) (λ z. omega arith) ∙ o.empty (λ h. far v.open_slot t (n + i) hand_was (ap (λ (x : Knows). x.open_slot) same ∙ h) (omega arith));
       }
   lies_put i l e None is home spot o = record { segment = o.segment; slot = far_home (n + i) (λ z. omega arith) ∙ o.slot; same = o.same; word = words i ∙ o.word; rests = o.rests }
   lies_put i l e None is (inside u) spot o = record {
@@ -205,8 +205,8 @@ module _ (n m : ℕ) (segments : List LockView) (ws ws' : List ℕ) (hs : Homes)
         pass = ap (get_elem? (set vs id w)) z ∙ set_here vs id w (there vs id v v at).0;
         has = left_old i is ∙ (ap (λ (x : Knows). get_elem? x.locks i) same ∙ o.has);
         word = words i ∙ o.word;
-        empty = λ _. far_home (n + i) (λ z. omega arith) ∙ o.empty (λ h. far v.hand t (n + i) hand_was (ap (λ (x : Knows). x.hand) same ∙ h) (omega arith));
-        held = λ h. absurd (clash w.hand (n + i) hand_is h);
+        empty = λ _. far_home (n + i) (λ z. omega arith) ∙ o.empty (λ h. far v.open_slot t (n + i) hand_was (ap (λ (x : Knows). x.open_slot) same ∙ h) (omega arith));
+        held = λ h. absurd (clash w.open_slot (n + i) hand_is h);
       })
       (λ (ne : j ≢ id). record { view = o.view; pass = set_else vs id j w ne ∙ o.pass; has = o.has; word = words i ∙ o.word; empty = λ h. far_home (n + i) (λ z. omega arith) ∙ o.empty h; held = λ h. far_home (n + i) (λ z. omega arith) ∙ o.held h })
 
@@ -242,8 +242,8 @@ pub record IsElseLock (n i : ℕ) (v w : Knows) : Type 0 where
   pub spent : w.spent ≡ v.spent
   pub long : length w.locks ≡ length v.locks
   pub out : (j : ℕ) → j ≢ i → get_elem? w.locks j ≡ get_elem? v.locks j
-  pub hand : (j : ℕ) → j ≢ i → v.hand ≡ Some (n + j) → w.hand ≡ Some (n + j)
-  pub hand_back : (j : ℕ) → j ≢ i → w.hand ≡ Some (n + j) → v.hand ≡ Some (n + j)
+  pub open_slot : (j : ℕ) → j ≢ i → v.open_slot ≡ Some (n + j) → w.open_slot ≡ Some (n + j)
+  pub hand_back : (j : ℕ) → j ≢ i → w.open_slot ≡ Some (n + j) → v.open_slot ≡ Some (n + j)
 
 -- one lock goes from its slot to the pass, or back, or stays out with it while the pass takes or gives its slot
 module _ (n m : ℕ) (segments : List LockView) (ws ws' : List ℕ) (hs hs' : Homes) (vs : List Knows) (id : ℕ) (v w : Knows) (at : get_elem? vs id ≡ some v) where
@@ -266,8 +266,8 @@ module _ (n m : ℕ) (segments : List LockView) (ws ws' : List ℕ) (hs hs' : Ho
         pass = ap (get_elem? (set vs id w)) is ∙ set_here vs id w (there vs id v v at).0;
         has = e.out j ne ∙ (ap (λ (z : Knows). get_elem? z.locks j) same ∙ o.has);
         word = word ∙ o.word;
-        empty = λ free. homes (n + j) (λ z. ne (omega arith)) ∙ o.empty (λ h. free (e.hand j ne (ap (λ (z : Knows). z.hand) same ∙ h)));
-        held = λ h. homes (n + j) (λ z. ne (omega arith)) ∙ o.held (ap (λ (z : Knows). z.hand) (sym same) ∙ e.hand_back j ne h);
+        empty = λ free. homes (n + j) (λ z. ne (omega arith)) ∙ o.empty (λ h. free (e.open_slot j ne (ap (λ (z : Knows). z.open_slot) same ∙ h)));
+        held = λ h. homes (n + j) (λ z. ne (omega arith)) ∙ o.held (ap (λ (z : Knows). z.open_slot) (sym same) ∙ e.hand_back j ne h);
       })
       (λ (isn't : k ≢ id). record {
         view = o.view;
@@ -315,7 +315,7 @@ module _ (n m : ℕ) (segments : List LockView) (ws ws' : List ℕ) (hs hs' : Ho
     (words : (i : ℕ) → slice_index ws' (slot_word (n + i)) ≡ slice_index ws (slot_word (n + i))) (homes : (i : ℕ) → get_elem? hs' (n + i) ≡ get_elem? hs (n + i))
     (full : (t : ℕ) (q : PackageView) → t < n → get_elem? hs t ≡ some (some (Some (Package q))) → get_elem? hs' t ≡ some (some (Some (Package q))))
     (full_back : (t : ℕ) (q : PackageView) → t < n → get_elem? hs' t ≡ some (some (Some (Package q))) → get_elem? hs t ≡ some (some (Some (Package q))))
-    (now : w.locks ≡ v.locks) (spent : w.spent ≡ v.spent) (hand : (i : ℕ) → v.hand ≡ Some (n + i) → w.hand ≡ Some (n + i)) (back : (i : ℕ) → w.hand ≡ Some (n + i) → v.hand ≡ Some (n + i)) where
+    (now : w.locks ≡ v.locks) (spent : w.spent ≡ v.spent) (open_slot : (i : ℕ) → v.open_slot ≡ Some (n + i) → w.open_slot ≡ Some (n + i)) (back : (i : ℕ) → w.open_slot ≡ Some (n + i) → v.open_slot ≡ Some (n + i)) where
   lies_still : (i : ℕ) (l : LockView) (s : Spot) → LiesLock n ws hs vs i l s → LiesLock n ws' hs' (set vs id w) i l s
   lies_still i l home o = record { segment = o.segment; slot = homes i ∙ o.slot; same = o.same; word = words i ∙ o.word; rests = o.rests }
   lies_still i l (inside t) o = record { below = o.below; context = o.context; slot = full t o.context o.below o.slot; segment = o.segment; has = o.has; same = o.same; word = words i ∙ o.word; empty = homes i ∙ o.empty }
@@ -325,8 +325,8 @@ module _ (n m : ℕ) (segments : List LockView) (ws ws' : List ℕ) (hs hs' : Ho
         pass = ap (get_elem? (set vs id w)) is ∙ set_here vs id w (there vs id v v at).0;
         has = ap (λ (l : List (Option LockView)). get_elem? l i) now ∙ (ap (λ (z : Knows). get_elem? z.locks i) same ∙ o.has);
         word = words i ∙ o.word;
-        empty = λ free. homes i ∙ o.empty (λ h. free (hand i (ap (λ (z : Knows). z.hand) same ∙ h)));
-        held = λ h. homes i ∙ o.held (ap (λ (z : Knows). z.hand) (sym same) ∙ back i h);
+        empty = λ free. homes i ∙ o.empty (λ h. free (open_slot i (ap (λ (z : Knows). z.open_slot) same ∙ h)));
+        held = λ h. homes i ∙ o.held (ap (λ (z : Knows). z.open_slot) (sym same) ∙ back i h);
       })
       (λ (ne : j ≢ id). record { view = o.view; pass = set_else vs id j w ne ∙ o.pass; has = o.has; word = words i ∙ o.word; empty = λ free. homes i ∙ o.empty free; held = λ h. homes i ∙ o.held h })
 

@@ -24,8 +24,8 @@ pub record IsElse (n t : ℕ) (v w : Knows) : Type 0 where
   pub spent : w.spent ≡ v.spent
   pub long : length w.packages ≡ length v.packages
   pub out : (u : ℕ) → u ≢ t → get_elem? w.packages u ≡ get_elem? v.packages u
-  pub hand : (u : ℕ) → u < n → u ≢ t → v.hand ≡ Some u → w.hand ≡ Some u
-  pub hand_back : (u : ℕ) → u < n → u ≢ t → w.hand ≡ Some u → v.hand ≡ Some u
+  pub open_slot : (u : ℕ) → u < n → u ≢ t → v.open_slot ≡ Some u → w.open_slot ≡ Some u
+  pub hand_back : (u : ℕ) → u < n → u ≢ t → w.open_slot ≡ Some u → v.open_slot ≡ Some u
 
 module _ (ws ws' : List ℕ) (hs hs' : Homes) (vs : List Knows) (id : ℕ) (v w : Knows) (at : get_elem? vs id ≡ some v) (stops : slice_index ws STOP ≡ 1 → slice_index ws' STOP ≡ 1) where
   in_range : id < length vs
@@ -48,10 +48,10 @@ module _ (ws ws' : List ℕ) (hs hs' : Homes) (vs : List Knows) (id : ℕ) (v w 
         pass = ap (get_elem? (set vs id w)) is ∙ set_here vs id w in_range;
         has = e.out u ne ∙ (ap (λ (z : Knows). get_elem? z.packages u) same ∙ l.has);
         word = word ∙ (l.word ∙ ap (λ (k : ℕ). 512 + k) (ap (λ (z : Knows). z.worker) (sym same) ∙ sym e.worker));
-        slot = λ out. home ∙ l.slot (λ hand. out (e.hand u below ne (ap (λ (z : Knows). z.hand) same ∙ hand)));
-        held = λ hand. home ∙ l.held (ap (λ (z : Knows). z.hand) (sym same) ∙ e.hand_back u below ne hand);
+        slot = λ out. home ∙ l.slot (λ open_slot. out (e.open_slot u below ne (ap (λ (z : Knows). z.open_slot) same ∙ open_slot)));
+        held = λ open_slot. home ∙ l.held (ap (λ (z : Knows). z.open_slot) (sym same) ∙ e.hand_back u below ne open_slot);
       })
-      (λ (isn't : j ≢ id). record { view = l.view; pass = set_else vs id j w isn't ∙ l.pass; has = l.has; word = word ∙ l.word; slot = λ out. home ∙ l.slot out; held = λ hand. home ∙ l.held hand })
+      (λ (isn't : j ≢ id). record { view = l.view; pass = set_else vs id j w isn't ∙ l.pass; has = l.has; word = word ∙ l.word; slot = λ out. home ∙ l.slot out; held = λ open_slot. home ∙ l.held open_slot })
 
   pub moves : (n : ℕ) (places places' : List PackageView) (t : ℕ) (to : maybe.Option ℕ) (pl : ArePlaced n places ws hs vs)
       → (pl.holder t ≡ none) ⊎ (pl.holder t ≡ some id)
@@ -83,10 +83,10 @@ module _ (ws ws' : List ℕ) (hs hs' : Homes) (vs : List Knows) (id : ℕ) (v w 
 
   -- a step that moves no package
   pub stays : (n : ℕ) (places : List PackageView) (pl : ArePlaced n places ws hs vs) → length places ≡ n → ((u : ℕ) → u < n → slice_index ws' (slot_word u) ≡ slice_index ws (slot_word u)) → ((u : ℕ) → u < n → get_elem? hs' u ≡ get_elem? hs u)
-      → w.worker ≡ v.worker → w.spent ≡ v.spent → w.packages ≡ v.packages → ((u : ℕ) → u < n → v.hand ≡ Some u → w.hand ≡ Some u) → ((u : ℕ) → u < n → w.hand ≡ Some u → v.hand ≡ Some u) → ArePlaced n places ws' hs' (set vs id w)
-  stays n places pl count words homes worker spent out hand back = record {
+      → w.worker ≡ v.worker → w.spent ≡ v.spent → w.packages ≡ v.packages → ((u : ℕ) → u < n → v.open_slot ≡ Some u → w.open_slot ≡ Some u) → ((u : ℕ) → u < n → w.open_slot ≡ Some u → v.open_slot ≡ Some u) → ArePlaced n places ws' hs' (set vs id w)
+  stays n places pl count words homes worker spent out open_slot back = record {
     holder = pl.holder;
-    each = λ u p is. lies_else n (u + 1) u p record { worker = worker; spent = spent; long = ap (λ (l : List (Option PackageView)). length l) out; out = λ x ne. ap (λ (l : List (Option PackageView)). get_elem? l x) out; hand = λ x b ne e. hand x b e; hand_back = λ x b ne e. back x b e }
+    each = λ u p is. lies_else n (u + 1) u p record { worker = worker; spent = spent; long = ap (λ (l : List (Option PackageView)). length l) out; out = λ x ne. ap (λ (l : List (Option PackageView)). get_elem? l x) out; open_slot = λ x b ne e. open_slot x b e; hand_back = λ x b ne e. back x b e }
         (let b = (there places u p p is).0 in omega arith) (λ e. omega arith) (words u (let b = (there places u p p is).0 in omega arith)) (homes u (let b = (there places u p p is).0 in omega arith)) (pl.holder u) (pl.each u p is);
     sized = λ j x is live. ⊎_elim (λ (o : (j ≡ id) × (w ≡ x)). ap (λ (z : Knows). length z.packages) (sym o.1) ∙ (ap (λ (l : List (Option PackageView)). length l) out ∙ pl.sized id v at (sym spent ∙ (ap (λ (z : Knows). z.spent) o.1 ∙ live)))) (λ (o : (j ≢ id) × (get_elem? vs j ≡ some x)). pl.sized j x o.1 live) (at_set vs id j w x is);
     owned = λ j x u p is has. ⊎_elim

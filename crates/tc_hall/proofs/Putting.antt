@@ -4,28 +4,28 @@ use Rattle.tc_hall.proofs.Vocabulary.{Called, Free, Freed, Gave, HasStop, IsAsLe
 use Rattle.tc_hall.proofs.Outs.{put_outs, free_outs}
 use Rattle.tc_hall.proofs.Telling.{place_codes}
 
-with_hand : (v : Knows) (o : Option ℕ) → HasStop v → HasStop (record v { hand = o })
+with_hand : (v : Knows) (o : Option ℕ) → HasStop v → HasStop (record v { open_slot = o })
 with_hand v o (made i e) = made i e
 with_hand v o (seen i e) = seen i e
 
-pub may_put_as : (place : Place) (v w : Knows) (q : PackageView) (o : Option ℕ) → w ≡ record v { hand = o } → MayPut place v q → MayPut place w q
+pub may_put_as : (place : Place) (v w : Knows) (q : PackageView) (o : Option ℕ) → w ≡ record v { open_slot = o } → MayPut place v q → MayPut place w q
 may_put_as place v w q o is may = subst (λ (z : Knows). MayPut place z q) (sym is) record { has = may.has; locks = may.locks; order = may.order; stop = λ a. with_hand v o (may.stop a); fits = may.fits }
 
-pub left_as : (k : HallTerms) (v w : Knows) (q : PackageView) (o : Option ℕ) → w ≡ record v { hand = o } → IsAsLeft k w q → IsAsLeft k v q
+pub left_as : (k : HallTerms) (v w : Knows) (q : PackageView) (o : Option ℕ) → w ≡ record v { open_slot = o } → IsAsLeft k w q → IsAsLeft k v q
 left_as k v w q o is left = record { history = left.history; tells = left.tells; obeys = left.obeys; follows = left.follows; sealed = λ i b e. left.sealed i b (ap (λ (z : Knows). get_elem? z.sealed i) is ∙ e) }
 
-pub gave : (place : Place) (code : ℕ) (q : PackageView) (v v2 w : Knows) (t : ℕ) → v2 ≡ record v { hand = Some t } → v.hand ≡ None → code ≡ code_of place → w ≡ record (after_put v2 q (place_of code)) { hand = None } → Gave place q v w
+pub gave : (place : Place) (code : ℕ) (q : PackageView) (v v2 w : Knows) (t : ℕ) → v2 ≡ record v { open_slot = Some t } → v.open_slot ≡ None → code ≡ code_of place → w ≡ record (after_put v2 q (place_of code)) { open_slot = None } → Gave place q v w
 gave place code q v v2 w t held free is did =
-    let now : w ≡ after_put v q place = did ∙ (ap (λ (z : Knows × Place). record (after_put z.0 q z.1) { hand = None }) (λ i. (held i, (ap place_of is ∙ place_codes place) i)) ∙ ap (λ (z : Option ℕ). record (after_put v q place) { hand = z }) (sym free)) in
+    let now : w ≡ after_put v q place = did ∙ (ap (λ (z : Knows × Place). record (after_put z.0 q z.1) { open_slot = None }) (λ i. (held i, (ap place_of is ∙ place_codes place) i)) ∙ ap (λ (z : Option ℕ). record (after_put v q place) { open_slot = z }) (sym free)) in
     record {
       now = now;
       rest = ap outs now ∙ put_outs v q place;
       called = subst (Called (put_call q place ∷ []) v) (sym now) record { image = refl; worker = refl; sealed = refl; joined = refl; calls = refl };
     }
 
-pub freed : (l : LockView) (v v2 w : Knows) (slot : ℕ) → v2 ≡ record v { hand = Some slot } → v.hand ≡ None → w ≡ record (after_free v2 l) { hand = None } → Freed l v w
+pub freed : (l : LockView) (v v2 w : Knows) (slot : ℕ) → v2 ≡ record v { open_slot = Some slot } → v.open_slot ≡ None → w ≡ record (after_free v2 l) { open_slot = None } → Freed l v w
 freed l v v2 w slot held free did =
-    let now : w ≡ after_free v l = did ∙ (ap (λ (z : Knows). record (after_free z l) { hand = None }) held ∙ ap (λ (z : Option ℕ). record (after_free v l) { hand = z }) (sym free)) in
+    let now : w ≡ after_free v l = did ∙ (ap (λ (z : Knows). record (after_free z l) { open_slot = None }) held ∙ ap (λ (z : Option ℕ). record (after_free v l) { open_slot = z }) (sym free)) in
     record {
       now = now;
       rest = ap outs now ∙ free_outs v l;

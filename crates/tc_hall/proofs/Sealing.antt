@@ -66,7 +66,7 @@ module _ (k : HallTerms) (s : St k) (r : KeptHall k s) (id : ℕ) (v : Knows) (q
   abbrev h : List Block
   h = r.told.history
 
-  o : (t < threads k) × (r.placed.holder t ≡ some id) × (get_elem? r.told.places t ≡ some (bare a.before)) × (slice_index s.words (slot_word t) ≡ 512 + v.worker) × (v.hand ≢ Some t → get_elem? s.homes t ≡ some (some None)) × (v.hand ≡ Some t → get_elem? s.homes t ≡ some none)
+  o : (t < threads k) × (r.placed.holder t ≡ some id) × (get_elem? r.told.places t ≡ some (bare a.before)) × (slice_index s.words (slot_word t) ≡ 512 + v.worker) × (v.open_slot ≢ Some t → get_elem? s.homes t ≡ some (some None)) × (v.open_slot ≡ Some t → get_elem? s.homes t ≡ some none)
   o = is_out k s r id t v (bare a.before) at a.has
 
   abbrev w : Knows
@@ -132,7 +132,7 @@ module _ (k : HallTerms) (s : St k) (r : KeptHall k s) (id : ℕ) (v : Knows) (q
         clock = get_or-set_same s.words CLOCK new 0 (omega (arith, r.words)) ∙ (let m : new ≡ length (h ++ b ∷ []) = omega (arith, bound, clock, most, count) in m);
         placed = moves s.words (set s.words CLOCK new) s.homes s.homes s.views id v w at stops (threads k) r.told.places (set r.told.places t (bare now)) t (some id) r.placed (inr o.1)
             (λ u ne. words' u) (λ u ne. refl) (λ u ne. set_else r.told.places t u (bare now) ne) r.told.law.all_packages
-            record { worker = refl; spent = refl; long = length-set v.packages t (Some (bare now)); out = λ u ne. set_else v.packages t u (Some (bare now)) ne; hand = λ u _ ne e. e; hand_back = λ u _ ne e. e }
+            record { worker = refl; spent = refl; long = length-set v.packages t (Some (bare now)); out = λ u ne. set_else v.packages t u (Some (bare now)) ne; open_slot = λ u _ ne e. e; hand_back = λ u _ ne e. e }
             (λ p' e. record {
               view = w;
               pass = set_here s.views id w (there s.views id v v at).0;

@@ -106,7 +106,7 @@ module _ (k : HallTerms) (s : Hall) (id : ℕ) (v : Knows) (at : get_elem? s.vie
       (has : Has (after_claim v q) t (bare q)) (has_locks : (i : ℕ) (l : LockView) → locked_in q i ≡ Some l → HasLock (after_claim v q) i (kept l))
       (moved : IsMoved o o' t (At v.worker)) (comes : (i : ℕ) → o.lies i ≡ packed t → o'.lies i ≡ in_hand v.worker) (stays : (i : ℕ) → o.lies i ≢ packed t → o'.lies i ≡ o.lies i) where
     abbrev w : Knows
-    w = record (after_claim v q) { hand = Some t }
+    w = record (after_claim v q) { open_slot = Some t }
 
     abbrev s' : Hall
     s' = after s id (claim_effect v t q)
@@ -154,7 +154,7 @@ module _ (k : HallTerms) (s : Hall) (id : ℕ) (v : Knows) (at : get_elem? s.vie
       (has_locks : (i : ℕ) (l : LockView) → locked_in q i ≡ Some l → HasLock v i (kept l)) (apart : (j i : ℕ) (x : Knows) (l : LockView) → j ≢ id → get_elem? s.views j ≡ some x → HasLock x i l → locked_in q i ≡ None)
       (moved : IsMoved o o' q.context.thread (as_place place)) (goes : (i : ℕ) (l : LockView) → i < locks k → locked_in q i ≡ Some l → o'.lies i ≡ packed q.context.thread) (stays : (i : ℕ) → i < locks k → locked_in q i ≡ None → o'.lies i ≡ o.lies i) where
     abbrev put_view : Knows
-    put_view = record (after_put v q place) { hand = None }
+    put_view = record (after_put v q place) { open_slot = None }
 
     abbrev put_hall : Hall
     put_hall = after s id (put_effect v q place)
@@ -205,7 +205,7 @@ module _ (k : HallTerms) (s : Hall) (id : ℕ) (v : Knows) (at : get_elem? s.vie
   module _ (i : ℕ) (l : LockView) (below_lock : i < locks k) (number : l.number ≡ i) (slot : get_elem? s.homes (threads k + i) ≡ some (some (Some (Lock l)))) (has : HasLock (after_take v l) i (kept l))
       (alike : IsAlike o o') (place : (u : ℕ) → o'.place u ≡ o.place u) (here : o'.lies i ≡ in_hand v.worker) (else' : (j : ℕ) → j ≢ i → o'.lies j ≡ o.lies j) where
     abbrev take_view : Knows
-    take_view = record (after_take v l) { hand = Some (threads k + i) }
+    take_view = record (after_take v l) { open_slot = Some (threads k + i) }
 
     abbrev take_hall : Hall
     take_hall = after s id (take_effect (threads k) v i l)
@@ -250,7 +250,7 @@ module _ (k : HallTerms) (s : Hall) (id : ℕ) (v : Knows) (at : get_elem? s.vie
   module _ (l : LockView) (below_lock : l.number < locks k) (has : HasLock v l.number (kept l)) (apart : (j : ℕ) (x : Knows) (m : LockView) → j ≢ id → get_elem? s.views j ≡ some x → HasLock x l.number m → ⊥)
       (alike : IsAlike o o') (place : (u : ℕ) → o'.place u ≡ o.place u) (here : o'.lies l.number ≡ at_home) (else' : (j : ℕ) → j ≢ l.number → o'.lies j ≡ o.lies j) where
     abbrev free_view : Knows
-    free_view = record (after_free v l) { hand = None }
+    free_view = record (after_free v l) { open_slot = None }
 
     abbrev free_hall : Hall
     free_hall = after s id (free_effect (threads k) v l)

@@ -26,7 +26,7 @@ module _ (k : HallTerms) where
   abbrev pub Claims : Option HallTerms → ℕ → ℕ → ℕ → ℕ → ℕ → Knows → List (ℕ × Option Cargo) → Type 0
   Claims o slots id word code new v c = Allows (IsOrdered k) slots id (v, c) word (λ x. either (x == code) new x) (claimed o (step slots word code new none) (v, c))
 
-  pub claims : (slots id t code new : ℕ) (v : Knows) (c : List (ℕ × Option Cargo)) → c ≡ [] → IsClaimable k code → new ≡ 512 + v.worker → t < threads k → v.spent ≡ false → v.hand ≡ None → Claims (Some k) slots id (slot_word t) code new v c
+  pub claims : (slots id t code new : ℕ) (v : Knows) (c : List (ℕ × Option Cargo)) → c ≡ [] → IsClaimable k code → new ≡ 512 + v.worker → t < threads k → v.spent ≡ false → v.open_slot ≡ None → Claims (Some k) slots id (slot_word t) code new v c
   claims slots id t code new v c empty can new_is below live idle = subst (Claims (Some k) slots id (slot_word t) code new v) (sym empty) (λ s d deep at small.
       let r : KeptHall k s = kept_of k s d in
       let low = (claimable_low k code r.told.limits.locks can).0 in
@@ -60,24 +60,24 @@ module _ (k : HallTerms) where
   Lays slots id word v c = Allows (IsOrdered k) slots id (v, c) word (λ n. n) (laid (step slots word 0 0 none) (v, c))
 
   -- an empty slot of what the pass has out goes back
-  pub lays : (slots id slot : ℕ) (v : Knows) (c : List (ℕ × Option Cargo)) → c ≡ (slot, None) ∷ [] → v.hand ≡ Some slot → v.spent ≡ false → IsSlotOut k v slot → Lays slots id (slot_word slot) v c
-  lays slots id slot v c one hand live out' = subst (Lays slots id (slot_word slot) v) (sym one) (λ s d deep at small. (record v { hand = None }, gives, tt, next k s d id v (lay slot) at live (hand, out'), refl))
+  pub lays : (slots id slot : ℕ) (v : Knows) (c : List (ℕ × Option Cargo)) → c ≡ (slot, None) ∷ [] → v.open_slot ≡ Some slot → v.spent ≡ false → IsSlotOut k v slot → Lays slots id (slot_word slot) v c
+  lays slots id slot v c one open_slot live out' = subst (Lays slots id (slot_word slot) v) (sym one) (λ s d deep at small. (record v { open_slot = None }, gives, tt, next k s d id v (lay slot) at live (open_slot, out'), refl))
 
   abbrev pub Reaches : ℕ → ℕ → ℕ → Knows → List (ℕ × Option Cargo) → Type 0
   Reaches slots id word v c = Allows (IsOrdered k) slots id (v, c) word (λ n. n) (reached (step slots word 0 0 none) (v, c))
 
-  slot_empty : (s : Hall) (r : KeptHall k s) (id : ℕ) (v : Knows) (slot : ℕ) → get_elem? s.views id ≡ some v → v.hand ≡ None → IsSlotOut k v slot → get_elem? s.homes slot ≡ some (some None)
-  slot_empty s r id v slot at idle (of_package t p is has) = ap (get_elem? s.homes) is ∙ (is_out k s r id t v p at has).4 (λ e. clash v.hand t idle e)
-  slot_empty s r id v slot at idle (of_lock i l is has) = ap (get_elem? s.homes) is ∙ (is_lock_out k s r id i v l at has).4 (λ e. clash v.hand (threads k + i) idle e)
+  slot_empty : (s : Hall) (r : KeptHall k s) (id : ℕ) (v : Knows) (slot : ℕ) → get_elem? s.views id ≡ some v → v.open_slot ≡ None → IsSlotOut k v slot → get_elem? s.homes slot ≡ some (some None)
+  slot_empty s r id v slot at idle (of_package t p is has) = ap (get_elem? s.homes) is ∙ (is_out k s r id t v p at has).4 (λ e. clash v.open_slot t idle e)
+  slot_empty s r id v slot at idle (of_lock i l is has) = ap (get_elem? s.homes) is ∙ (is_lock_out k s r id i v l at has).4 (λ e. clash v.open_slot (threads k + i) idle e)
 
   -- the pass takes an empty slot of what it has out
-  pub reaches : (slots id slot : ℕ) (v : Knows) (c : List (ℕ × Option Cargo)) → c ≡ [] → v.hand ≡ None → v.spent ≡ false → IsSlotOut k v slot → Reaches slots id (slot_word slot) v c
+  pub reaches : (slots id slot : ℕ) (v : Knows) (c : List (ℕ × Option Cargo)) → c ≡ [] → v.open_slot ≡ None → v.spent ≡ false → IsSlotOut k v slot → Reaches slots id (slot_word slot) v c
   reaches slots id slot v c empty idle live out' = subst (Reaches slots id (slot_word slot) v) (sym empty) (λ s d deep at small. (
-    record v { hand = Some slot },
+    record v { open_slot = Some slot },
     takes slot None,
     slot_empty s (kept_of k s d) id v slot at idle out',
     next k s d id v (reach slot) at live (idle, out'),
-    (λ u e. ap (λ (z : ℕ). (record v { hand = Some z }, (z, None) ∷ [])) (let x : slot ≡ u = omega arith in x)),
+    (λ u e. ap (λ (z : ℕ). (record v { open_slot = Some z }, (z, None) ∷ [])) (let x : slot ≡ u = omega arith in x)),
   ))
 
   -- ---- put
@@ -89,14 +89,14 @@ module _ (k : HallTerms) where
   Fills = FillsAs (Some k)
 
   -- so the step that fills it is allowed
-  pub fills : (slots id : ℕ) (place : Place) (v : Knows) (q : PackageView) (c : List (ℕ × Option Cargo)) → c ≡ (q.context.thread, Some (Package q)) ∷ [] → v.hand ≡ Some q.context.thread → v.spent ≡ false → IsInRange (locks k) place → MayPut place v q
+  pub fills : (slots id : ℕ) (place : Place) (v : Knows) (q : PackageView) (c : List (ℕ × Option Cargo)) → c ≡ (q.context.thread, Some (Package q)) ∷ [] → v.open_slot ≡ Some q.context.thread → v.spent ≡ false → IsInRange (locks k) place → MayPut place v q
       → Fills slots id (slot_word q.context.thread) (code_of place) v c
-  fills slots id place v q c one hand live range may = subst (Fills slots id (slot_word q.context.thread) (code_of place) v) (sym one) (λ s d deep at small. (
-    record (after_put v q (place_of (code_of place))) { hand = None },
+  fills slots id place v q c one open_slot live range may = subst (Fills slots id (slot_word q.context.thread) (code_of place) v) (sym one) (λ s d deep at small. (
+    record (after_put v q (place_of (code_of place))) { open_slot = None },
     gives,
     tt,
-    subst (λ (z : Place). IsOrdered k (stepped s (slot_word q.context.thread) (code_of place) id ((q.context.thread, Some (Package q)) ∷ []) (record (after_put v q z) { hand = None }) gives)) (sym (place_codes place))
-        (next k s d id v (put q place) at live record { hand = hand; range = range; may = may }),
+    subst (λ (z : Place). IsOrdered k (stepped s (slot_word q.context.thread) (code_of place) id ((q.context.thread, Some (Package q)) ∷ []) (record (after_put v q z) { open_slot = None }) gives)) (sym (place_codes place))
+        (next k s d id v (put q place) at live record { open_slot = open_slot; range = range; may = may }),
     (λ u x e. let cargo : Some (Package q) ≡ Some (Package x) = ap first_value e in
         let same : q ≡ x = cc cargo in (
           ap (filled v (place_of (code_of place))) same,
@@ -141,7 +141,7 @@ module _ (k : HallTerms) where
   abbrev pub TakesAll : Option HallTerms → ℕ → ℕ → ℕ → Knows → List (ℕ × Option Cargo) → Type 0
   TakesAll o slots id word v c = Allows (IsOrdered k) slots id (v, c) word (λ x. either (x == 0) 1 x) (took_as o (step slots word 0 1 none) (v, c))
 
-  pub takes_lock : (slots id i : ℕ) (v : Knows) (c : List (ℕ × Option Cargo)) → c ≡ [] → i < locks k → v.spent ≡ false → v.hand ≡ None → TakesAll (Some k) slots id (slot_word (threads k + i)) v c
+  pub takes_lock : (slots id i : ℕ) (v : Knows) (c : List (ℕ × Option Cargo)) → c ≡ [] → i < locks k → v.spent ≡ false → v.open_slot ≡ None → TakesAll (Some k) slots id (slot_word (threads k + i)) v c
   takes_lock slots id i v c empty below live idle = subst (TakesAll (Some k) slots id (slot_word (threads k + i)) v) (sym empty) (λ s d deep at small.
       let r : KeptHall k s = kept_of k s d in
       let n : ℕ = threads k in
@@ -156,7 +156,7 @@ module _ (k : HallTerms) where
       let after : IsStateAfter k.image.value k.fuel k.limit r.told.history i place.0 = r.told.law.states_after i place.0 place.1 in
       let number : l.number ≡ i = ap (λ (z : LockView). z.number) h.same ∙ after.follows.number in
       let taken : Knows = after_take v l in
-      let w : Knows = record taken { hand = Some (n + i) } in
+      let w : Knows = record taken { open_slot = Some (n + i) } in
       let wide : length v.locks ≡ locks k = r.locks_placed.sized id v at live in
       let here : HasLock taken i (kept l) = subst (λ (z : ℕ). get_elem? (set v.locks z (Some (kept l))) i ≡ some (Some (kept l))) (sym number) (set_here v.locks i (Some (kept l)) (omega arith)) in (
         w,
@@ -192,18 +192,18 @@ module _ (k : HallTerms) where
   FreesAll slots id word v c = Allows (IsOrdered k) slots id (v, c) word (λ _. 0) (λ _. did_free (step slots word 0 0 none) (v, c) 0)
 
   -- so the step that fills it is allowed
-  pub frees : (slots id : ℕ) (v : Knows) (l : LockView) (c : List (ℕ × Option Cargo)) → c ≡ (threads k + l.number, Some (Lock l)) ∷ [] → v.hand ≡ Some (threads k + l.number) → v.spent ≡ false → MayFree v l
+  pub frees : (slots id : ℕ) (v : Knows) (l : LockView) (c : List (ℕ × Option Cargo)) → c ≡ (threads k + l.number, Some (Lock l)) ∷ [] → v.open_slot ≡ Some (threads k + l.number) → v.spent ≡ false → MayFree v l
       → FreesAll slots id (slot_word (threads k + l.number)) v c
-  frees slots id v l c one hand live may = subst (FreesAll slots id (slot_word (threads k + l.number)) v) (sym one) (λ s d deep at small. (
-    record (after_free v l) { hand = None },
+  frees slots id v l c one open_slot live may = subst (FreesAll slots id (slot_word (threads k + l.number)) v) (sym one) (λ s d deep at small. (
+    record (after_free v l) { open_slot = None },
     gives,
     tt,
-    next k s d id v (free l) at live (hand, may),
+    next k s d id v (free l) at live (open_slot, may),
     (λ slot x e. let cargo : Some (Lock l) ≡ Some (Lock x) = ap first_value e in let same : l ≡ x = cc cargo in ap (freed v) same),
   ))
     where
       freed : Knows → LockView → Sat
-      freed v l = (record (after_free v l) { hand = None }, [])
+      freed v l = (record (after_free v l) { open_slot = None }, [])
 
   -- ---- passes that are made and joined
 

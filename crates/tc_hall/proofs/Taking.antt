@@ -22,7 +22,7 @@ module _ (k : HallTerms) where
   -- where a lock that a pass has out lies
   pub is_lock_out : (s : St k) (r : KeptHall k s) (id i : ℕ) (v : Knows) (l : LockView) → get_elem? s.views id ≡ some v → HasLock v i l
       → (i < locks k) × (r.locks_placed.spot i ≡ out id) × (get_elem? r.told.segments i ≡ some l) × (slice_index s.words (slot_word (threads k + i)) ≡ 1)
-      × (v.hand ≢ Some (threads k + i) → get_elem? s.homes (threads k + i) ≡ some (some None)) × (v.hand ≡ Some (threads k + i) → get_elem? s.homes (threads k + i) ≡ some none)
+      × (v.open_slot ≢ Some (threads k + i) → get_elem? s.homes (threads k + i) ≡ some (some None)) × (v.open_slot ≡ Some (threads k + i) → get_elem? s.homes (threads k + i) ≡ some none)
   is_lock_out s r id i v l at has =
       let o = r.locks_placed.owned id v i l at has in
       let lies : IsLockOut (threads k) s.words s.homes s.views i l id = out_of (threads k) s.words s.homes s.views i l id (r.locks_placed.spot i) o.0 (r.locks_placed.each i l o.1) in
@@ -31,8 +31,8 @@ module _ (k : HallTerms) where
         o.0,
         o.1,
         lies.word,
-        (λ free. lies.empty (λ e. free (ap (λ (z : Knows). z.hand) same ∙ e))),
-        (λ e. lies.held (ap (λ (z : Knows). z.hand) (sym same) ∙ e)),
+        (λ free. lies.empty (λ e. free (ap (λ (z : Knows). z.open_slot) same ∙ e))),
+        (λ e. lies.held (ap (λ (z : Knows). z.open_slot) (sym same) ∙ e)),
       )
 
   -- the state in the slot of a lock that is home, as the rule has it there
@@ -64,12 +64,12 @@ module _ (k : HallTerms) where
       → IsElseLock (threads k) i v w → w.image ≡ v.image → w.worker ≡ v.worker → w.packages ≡ v.packages → w.maker ≡ v.maker → w.made ≡ v.made → w.joined ≡ v.joined → w.pinned ≡ v.pinned → w.sealed ≡ v.sealed
       → ((j : ℕ) (c : PassCall) → get_elem? w.calls j ≡ some c → (get_elem? v.calls j ≡ some c) ⊎ IsTrueCall (set s.words (slot_word (threads k + i)) word) c)
       → ((j : ℕ) → get_elem? v.calls j ≡ some Stop → (e : ℕ) × (get_elem? w.calls e ≡ some Stop))
-      → ((u : ℕ) → u < threads k → v.hand ≢ Some u) → ((u : ℕ) → u < threads k → w.hand ≢ Some u)
+      → ((u : ℕ) → u < threads k → v.open_slot ≢ Some u) → ((u : ℕ) → u < threads k → w.open_slot ≢ Some u)
       → slice_index s.words (slot_word (threads k + i)) ≢ 2
       → ((l : LockView) → get_elem? r.told.segments i ≡ some l → LiesLock (threads k) (set s.words (slot_word (threads k + i)) word) (set s.homes (threads k + i) a) (set s.views id w) i l to)
       → ((l : LockView) → HasLock w i l → (to ≡ out id) × (get_elem? r.told.segments i ≡ some l))
       → KeptHall k record { words = set s.words (slot_word (threads k + i)) word; homes = set s.homes (threads k + i) a; views = set s.views id w }
-  lock_step s r id i word v w a to at live below mine e image worker packages maker made' joined pinned sealed' calls shows hand hand' not_two now own =
+  lock_step s r id i word v w a to at live below mine e image worker packages maker made' joined pinned sealed' calls shows open_slot open_slot' not_two now own =
       let n : ℕ = threads k in
       let j : ℕ = slot_word (n + i) in
       let ws' : List ℕ = set s.words j word in
@@ -82,7 +82,7 @@ module _ (k : HallTerms) where
         clock = get_or-set_other s.words j 0 word 0 (λ e. omega arith) ∙ r.clock;
         placed = stays s.words ws' s.homes (set s.homes (n + i) a) s.views id v w at stops n r.told.places r.placed r.told.law.all_packages
             (λ u b. get_or-set_other s.words j (slot_word u) word 0 (λ e. omega arith)) (λ u b. set_else s.homes (n + i) u a (λ e. omega arith)) worker e.spent packages
-            (λ u b h. absurd (hand u b h)) (λ u b h. absurd (hand' u b h));
+            (λ u b h. absurd (open_slot u b h)) (λ u b h. absurd (open_slot' u b h));
         locks_placed = lock_moves n (locks k) r.told.segments s.words ws' s.homes (set s.homes (n + i) a) s.views id v w at i to r.locks_placed mine
             (λ j' ne. get_or-set_other s.words j (slot_word (n + j')) word 0 (λ e. ne (omega arith))) (λ u ne. set_else s.homes (n + i) u a ne) e now own;
         passes = passes_stay k.image.value k.workers r.told.history r.told.history s.words ws' (λ b e. e) done stops s.views id w r.passes
@@ -94,19 +94,19 @@ module _ (k : HallTerms) where
       }
 
   -- the state of a lock that is home is taken
-  pub take_kept : (s : St k) (r : KeptHall k s) (id i : ℕ) (v : Knows) (p : LockView) (h : IsLockHome (threads k) s.words s.homes i p) → get_elem? s.views id ≡ some v → v.spent ≡ false → v.hand ≡ None → i < locks k → slice_index s.words (slot_word (threads k + i)) ≡ 0
+  pub take_kept : (s : St k) (r : KeptHall k s) (id i : ℕ) (v : Knows) (p : LockView) (h : IsLockHome (threads k) s.words s.homes i p) → get_elem? s.views id ≡ some v → v.spent ≡ false → v.open_slot ≡ None → i < locks k → slice_index s.words (slot_word (threads k + i)) ≡ 0
       → r.locks_placed.spot i ≡ home → get_elem? r.told.segments i ≡ some p → h.segment.number ≡ i
-      → KeptHall k (stepped s (slot_word (threads k + i)) 1 id [] (record (after_take v h.segment) { hand = Some (threads k + i) }) (takes (threads k + i) (Some (Lock h.segment))))
+      → KeptHall k (stepped s (slot_word (threads k + i)) 1 id [] (record (after_take v h.segment) { open_slot = Some (threads k + i) }) (takes (threads k + i) (Some (Lock h.segment))))
   take_kept s r id i v p h at live free below hit is_home segment number =
       let n : ℕ = threads k in
       let j : ℕ = slot_word (n + i) in
       let l : LockView = h.segment in
-      let w : Knows = record (after_take v l) { hand = Some (n + i) } in
+      let w : Knows = record (after_take v l) { open_slot = Some (n + i) } in
       let wide : length v.locks ≡ locks k = r.locks_placed.sized id v at live in
       let here : HasLock w i (kept l) = subst (λ (z : ℕ). get_elem? (set v.locks z (Some (kept l))) i ≡ some (Some (kept l))) (sym number) (set_here v.locks i (Some (kept l)) (omega arith)) in
       lock_step s r id i 1 v w none (out id) at live below (inl is_home)
-      record { spent = refl; long = length-set v.locks l.number (Some (kept l)); out = λ e ne. set_else v.locks l.number e (Some (kept l)) (λ z. ne (z ∙ number)); hand = λ e ne h. absurd (clash v.hand (n + e) free h); hand_back = λ e ne h. let z = some_same (n + e) (n + i) h in absurd (ne (omega arith)) }
-      refl refl refl refl refl refl refl refl (λ e c h. inl h) (λ e h. (e, h)) (λ u b h. clash v.hand u free h) (λ u b h. let z = some_same u (n + i) h in omega arith) (λ h. let z = hit in omega arith)
+      record { spent = refl; long = length-set v.locks l.number (Some (kept l)); out = λ e ne. set_else v.locks l.number e (Some (kept l)) (λ z. ne (z ∙ number)); open_slot = λ e ne h. absurd (clash v.open_slot (n + e) free h); hand_back = λ e ne h. let z = some_same (n + e) (n + i) h in absurd (ne (omega arith)) }
+      refl refl refl refl refl refl refl refl (λ e c h. inl h) (λ e h. (e, h)) (λ u b h. clash v.open_slot u free h) (λ u b h. let z = some_same u (n + i) h in omega arith) (λ h. let z = hit in omega arith)
       (λ l' e. record {
         view = w;
         pass = set_here s.views id w (there s.views id v v at).0;
@@ -118,21 +118,21 @@ module _ (k : HallTerms) where
       (λ l' has. (refl, segment ∙ ap (λ (z : LockView). some z) (sym h.same ∙ same_at (get_elem? w.locks i) (kept l) l' here has)))
 
   -- the filled slot of a lock goes home
-  pub free_kept : (s : St k) (r : KeptHall k s) (id : ℕ) (v : Knows) (l : LockView) → get_elem? s.views id ≡ some v → v.hand ≡ Some (threads k + l.number) → v.spent ≡ false → MayFree v l
-      → KeptHall k (stepped s (slot_word (threads k + l.number)) 0 id ((threads k + l.number, Some (Lock l)) ∷ []) (record (after_free v l) { hand = None }) gives)
-  free_kept s r id v l at hand live may =
+  pub free_kept : (s : St k) (r : KeptHall k s) (id : ℕ) (v : Knows) (l : LockView) → get_elem? s.views id ≡ some v → v.open_slot ≡ Some (threads k + l.number) → v.spent ≡ false → MayFree v l
+      → KeptHall k (stepped s (slot_word (threads k + l.number)) 0 id ((threads k + l.number, Some (Lock l)) ∷ []) (record (after_free v l) { open_slot = None }) gives)
+  free_kept s r id v l at open_slot live may =
       let n : ℕ = threads k in
       let i : ℕ = l.number in
-      let w : Knows = record (after_free v l) { hand = None } in
+      let w : Knows = record (after_free v l) { open_slot = None } in
       let o = is_lock_out s r id i v (kept l) at may.has in
       let wide : length v.locks ≡ locks k = r.locks_placed.sized id v at live in
       let here : get_elem? w.locks i ≡ some None = set_here v.locks i None (let z = o.0 in omega arith) in
       lock_step s r id i 0 v w (some (Some (Lock l))) home at live o.0 (inr o.1)
-      record { spent = refl; long = length-set v.locks i None; out = λ e ne. set_else v.locks i e None ne; hand = λ e ne h. absurd (ne (let z = same_some v.hand (n + i) (n + e) hand h in omega arith)); hand_back = λ e ne h. absurd (clash None (n + e) refl h) }
+      record { spent = refl; long = length-set v.locks i None; out = λ e ne. set_else v.locks i e None ne; open_slot = λ e ne h. absurd (ne (let z = same_some v.open_slot (n + i) (n + e) open_slot h in omega arith)); hand_back = λ e ne h. absurd (clash None (n + e) refl h) }
       refl refl refl refl refl refl refl refl
       (λ e c h. ⊎_elim (λ z. inl z) (λ (z : (e ≡ length v.calls) × (Free i ≡ c)). inr (subst (IsTrueCall (set s.words (slot_word (n + i)) 0)) z.1 tt)) (at_end v.calls (Free i) c e h))
       (λ e h. (e, at_longer v.calls (Free i ∷ []) e Stop h))
-      (λ u b h. let z = same_some v.hand (n + i) u hand h in omega arith) (λ u b h. clash None u refl h) (λ h. let z = o.3 in omega arith)
+      (λ u b h. let z = same_some v.open_slot (n + i) u open_slot h in omega arith) (λ u b h. clash None u refl h) (λ h. let z = o.3 in omega arith)
       (λ l' e. record {
         segment = l;
         slot = set_here s.homes (n + i) (some (Some (Lock l))) (let z = o.0 in omega (arith, r.slots));
@@ -144,7 +144,7 @@ module _ (k : HallTerms) where
 
   -- the pass takes the empty slot of a lock that it has out, or gives it back
   lock_slot_moves : (s : St k) (r : KeptHall k s) (id i : ℕ) (v w : Knows) (l : LockView) (b : maybe.Option (Option Cargo)) → get_elem? s.views id ≡ some v → v.spent ≡ false → HasLock v i l
-      → ((w.hand ≡ Some (threads k + i)) × (v.hand ≡ None) × (b ≡ none)) ⊎ ((w.hand ≡ None) × (v.hand ≡ Some (threads k + i)) × (b ≡ some None)) → w ≡ record v { hand = w.hand }
+      → ((w.open_slot ≡ Some (threads k + i)) × (v.open_slot ≡ None) × (b ≡ none)) ⊎ ((w.open_slot ≡ None) × (v.open_slot ≡ Some (threads k + i)) × (b ≡ some None)) → w ≡ record v { open_slot = w.open_slot }
       → KeptHall k record { words = s.words; homes = set s.homes (threads k + i) b; views = set s.views id w }
   lock_slot_moves s r id i v w l b at live has hands same =
       let n : ℕ = threads k in
@@ -153,7 +153,7 @@ module _ (k : HallTerms) where
       let again : set s.words (slot_word (n + i)) word ≡ s.words = set-get_or s.words (slot_word (n + i)) 0 in
       subst (λ (z : List ℕ). KeptHall k record { words = z; homes = set s.homes (n + i) b; views = set s.views id w }) again
       (lock_step s r id i word v w b (out id) at live o.0 (inr o.1)
-      record { spent = ap (λ (z : Knows). z.spent) same; long = ap (λ (z : Knows). length z.locks) same; out = λ e ne. ap (λ (z : Knows). get_elem? z.locks e) same; hand = λ e ne h. absurd (to (n + e) (λ z. ne (omega arith)) h); hand_back = λ e ne h. absurd (back (n + e) (λ z. ne (omega arith)) h) }
+      record { spent = ap (λ (z : Knows). z.spent) same; long = ap (λ (z : Knows). length z.locks) same; out = λ e ne. ap (λ (z : Knows). get_elem? z.locks e) same; open_slot = λ e ne h. absurd (to (n + e) (λ z. ne (omega arith)) h); hand_back = λ e ne h. absurd (back (n + e) (λ z. ne (omega arith)) h) }
       (ap (λ (z : Knows). z.image) same) (ap (λ (z : Knows). z.worker) same) (ap (λ (z : Knows). z.packages) same) (ap (λ (z : Knows). z.maker) same) (ap (λ (z : Knows). z.made) same) (ap (λ (z : Knows). z.joined) same) (ap (λ (z : Knows). z.pinned) same) (ap (λ (z : Knows). z.sealed) same)
       (λ e c h. inl (ap (λ (z : Knows). get_elem? z.calls e) (sym same) ∙ h)) (λ e h. (e, ap (λ (z : Knows). get_elem? z.calls e) same ∙ h))
       (λ u b h. to u (λ z. omega arith) h) (λ u b h. back u (λ z. omega arith) h) (λ h. let z = o.3 in omega arith)
@@ -162,33 +162,33 @@ module _ (k : HallTerms) where
         pass = set_here s.views id w (there s.views id v v at).0;
         has = ap (λ (z : Knows). get_elem? z.locks i) same ∙ (has ∙ ap (λ (z : LockView). some (Some z)) (some-injective l l' (sym o.2 ∙ e)));
         word = ap (λ (z : List ℕ). slice_index z (slot_word (n + i))) again ∙ o.3;
-        empty = λ free. ⊎_elim (λ (z : (w.hand ≡ Some (n + i)) × (v.hand ≡ None) × (b ≡ none)). absurd (free z.0)) (λ (z : (w.hand ≡ None) × (v.hand ≡ Some (n + i)) × (b ≡ some None)). here z.2 o.0) hands;
-        held = λ e. ⊎_elim (λ (z : (w.hand ≡ Some (n + i)) × (v.hand ≡ None) × (b ≡ none)). here z.2 o.0) (λ (z : (w.hand ≡ None) × (v.hand ≡ Some (n + i)) × (b ≡ some None)). absurd (clash w.hand (n + i) z.0 e)) hands;
+        empty = λ free. ⊎_elim (λ (z : (w.open_slot ≡ Some (n + i)) × (v.open_slot ≡ None) × (b ≡ none)). absurd (free z.0)) (λ (z : (w.open_slot ≡ None) × (v.open_slot ≡ Some (n + i)) × (b ≡ some None)). here z.2 o.0) hands;
+        held = λ e. ⊎_elim (λ (z : (w.open_slot ≡ Some (n + i)) × (v.open_slot ≡ None) × (b ≡ none)). here z.2 o.0) (λ (z : (w.open_slot ≡ None) × (v.open_slot ≡ Some (n + i)) × (b ≡ some None)). absurd (clash w.open_slot (n + i) z.0 e)) hands;
       })
       (λ l' has'. (refl, o.2 ∙ ap (λ (z : LockView). some z) (same_at (get_elem? v.locks i) l l' has (sym (ap (λ (z : Knows). get_elem? z.locks i) same) ∙ has')))))
     where
-      to : (u : ℕ) → u ≢ threads k + i → v.hand ≡ Some u → ⊥
-      to u ne e = ⊎_elim (λ (z : (w.hand ≡ Some (threads k + i)) × (v.hand ≡ None) × (b ≡ none)). clash v.hand u z.1 e) (λ (z : (w.hand ≡ None) × (v.hand ≡ Some (threads k + i)) × (b ≡ some None)). ne (same_some v.hand (threads k + i) u z.1 e)) hands
+      to : (u : ℕ) → u ≢ threads k + i → v.open_slot ≡ Some u → ⊥
+      to u ne e = ⊎_elim (λ (z : (w.open_slot ≡ Some (threads k + i)) × (v.open_slot ≡ None) × (b ≡ none)). clash v.open_slot u z.1 e) (λ (z : (w.open_slot ≡ None) × (v.open_slot ≡ Some (threads k + i)) × (b ≡ some None)). ne (same_some v.open_slot (threads k + i) u z.1 e)) hands
 
-      back : (u : ℕ) → u ≢ threads k + i → w.hand ≡ Some u → ⊥
-      back u ne e = ⊎_elim (λ (z : (w.hand ≡ Some (threads k + i)) × (v.hand ≡ None) × (b ≡ none)). ne (same_some w.hand (threads k + i) u z.0 e)) (λ (z : (w.hand ≡ None) × (v.hand ≡ Some (threads k + i)) × (b ≡ some None)). clash w.hand u z.0 e) hands
+      back : (u : ℕ) → u ≢ threads k + i → w.open_slot ≡ Some u → ⊥
+      back u ne e = ⊎_elim (λ (z : (w.open_slot ≡ Some (threads k + i)) × (v.open_slot ≡ None) × (b ≡ none)). ne (same_some w.open_slot (threads k + i) u z.0 e)) (λ (z : (w.open_slot ≡ None) × (v.open_slot ≡ Some (threads k + i)) × (b ≡ some None)). clash w.open_slot u z.0 e) hands
 
       here : {c : maybe.Option (Option Cargo)} → b ≡ c → i < locks k → get_elem? (set s.homes (threads k + i) b) (threads k + i) ≡ some c
       here e h = set_here s.homes (threads k + i) b (omega (arith, r.slots)) ∙ ap (λ (z : maybe.Option (Option Cargo)). some z) e
 
   -- the empty slot of a lock goes back
-  pub lay_lock_kept : (s : St k) (r : KeptHall k s) (id i : ℕ) (v : Knows) (l : LockView) → get_elem? s.views id ≡ some v → v.spent ≡ false → v.hand ≡ Some (threads k + i) → HasLock v i l
-      → KeptHall k (stepped s (slot_word (threads k + i)) (slice_index s.words (slot_word (threads k + i))) id ((threads k + i, None) ∷ []) (record v { hand = None }) gives)
-  lay_lock_kept s r id i v l at live hand has =
-      let w : Knows = record v { hand = None } in
+  pub lay_lock_kept : (s : St k) (r : KeptHall k s) (id i : ℕ) (v : Knows) (l : LockView) → get_elem? s.views id ≡ some v → v.spent ≡ false → v.open_slot ≡ Some (threads k + i) → HasLock v i l
+      → KeptHall k (stepped s (slot_word (threads k + i)) (slice_index s.words (slot_word (threads k + i))) id ((threads k + i, None) ∷ []) (record v { open_slot = None }) gives)
+  lay_lock_kept s r id i v l at live open_slot has =
+      let w : Knows = record v { open_slot = None } in
       subst (λ (z : List ℕ). KeptHall k record { words = z; homes = set s.homes (threads k + i) (some None); views = set s.views id w }) (sym (set-get_or s.words (slot_word (threads k + i)) 0))
-      (lock_slot_moves s r id i v w l (some None) at live has (inr (refl, hand, refl)) refl)
+      (lock_slot_moves s r id i v w l (some None) at live has (inr (refl, open_slot, refl)) refl)
 
   -- the pass takes the empty slot of a lock that it has out
-  pub reach_lock_kept : (s : St k) (r : KeptHall k s) (id i : ℕ) (v : Knows) (l : LockView) → get_elem? s.views id ≡ some v → v.spent ≡ false → v.hand ≡ None → HasLock v i l
-      → KeptHall k (stepped s (slot_word (threads k + i)) (slice_index s.words (slot_word (threads k + i))) id [] (record v { hand = Some (threads k + i) }) (takes (threads k + i) None))
+  pub reach_lock_kept : (s : St k) (r : KeptHall k s) (id i : ℕ) (v : Knows) (l : LockView) → get_elem? s.views id ≡ some v → v.spent ≡ false → v.open_slot ≡ None → HasLock v i l
+      → KeptHall k (stepped s (slot_word (threads k + i)) (slice_index s.words (slot_word (threads k + i))) id [] (record v { open_slot = Some (threads k + i) }) (takes (threads k + i) None))
   reach_lock_kept s r id i v l at live free has =
       let slot : ℕ = threads k + i in
-      let w : Knows = record v { hand = Some slot } in
+      let w : Knows = record v { open_slot = Some slot } in
       subst (λ (z : List ℕ). KeptHall k record { words = z; homes = set s.homes slot none; views = set s.views id w }) (sym (set-get_or s.words (slot_word slot) 0))
       (lock_slot_moves s r id i v w l none at live has (inl (refl, free, refl)) refl)

@@ -42,7 +42,7 @@ code_low m Done r h = omega arith
 code_low m (Waiting lock) r h = omega arith
 
 abbrev pub filled : Knows → Place → PackageView → Sat
-filled v place q = (record (after_put v q place) { hand = None }, [])
+filled v place q = (record (after_put v q place) { open_slot = None }, [])
 
 -- a grant that isn't Adopted fits all workers or none
 pub fits_all : (q : PackageView) (w u : ℕ) → grants_adopted q.granted ≡ false → fits_of q w ≡ true → fits_of q u ≡ true
@@ -62,12 +62,12 @@ module _ (k : HallTerms) where
   shows_stop s r id v at (seen i e) = (r.passes id v at).stopped i e
 
   -- the filled slot goes home
-  pub fills_kept : (s : St k) (r : KeptHall k s) (id : ℕ) (place : Place) (v : Knows) (q : PackageView) → get_elem? s.views id ≡ some v → v.hand ≡ Some q.context.thread → v.spent ≡ false → IsInRange (locks k) place → MayPut place v q
-      → KeptHall k (stepped s (slot_word q.context.thread) (code_of place) id ((q.context.thread, Some (Package q)) ∷ []) (record (after_put v q (place_of (code_of place))) { hand = None }) gives)
-  fills_kept s r id place v q at hand live range may =
+  pub fills_kept : (s : St k) (r : KeptHall k s) (id : ℕ) (place : Place) (v : Knows) (q : PackageView) → get_elem? s.views id ≡ some v → v.open_slot ≡ Some q.context.thread → v.spent ≡ false → IsInRange (locks k) place → MayPut place v q
+      → KeptHall k (stepped s (slot_word q.context.thread) (code_of place) id ((q.context.thread, Some (Package q)) ∷ []) (record (after_put v q (place_of (code_of place))) { open_slot = None }) gives)
+  fills_kept s r id place v q at open_slot live range may =
       let t : ℕ = q.context.thread in
       let code : ℕ = code_of place in
-      let w : Knows = record (after_put v q (place_of code)) { hand = None } in
+      let w : Knows = record (after_put v q (place_of code)) { open_slot = None } in
       let o = is_out k s r id t v (bare q) at may.has in
       let below : t < threads k = o.0 in
       let wide : length v.packages ≡ threads k = r.placed.sized id v at live in
@@ -85,7 +85,7 @@ module _ (k : HallTerms) where
         clock = get_or-set_other s.words (slot_word t) CLOCK code 0 (λ e. omega arith) ∙ r.clock;
         placed = moves s.words ws' s.homes (set s.homes t full) s.views id v w at stops (threads k) r.told.places r.told.places t none r.placed (inr o.1)
             (λ u ne. get_or-set_other s.words (slot_word t) (slot_word u) code 0 (λ e. ne (omega arith))) (λ u ne. set_else s.homes t u full ne) (λ u ne. refl) r.told.law.all_packages
-            record { worker = refl; spent = refl; long = length-set v.packages t None; out = λ u ne. set_else v.packages t u None ne; hand = λ u _ ne e. absurd (ne (same_some v.hand t u hand e)); hand_back = λ u _ ne e. absurd (clash None u refl e) }
+            record { worker = refl; spent = refl; long = length-set v.packages t None; out = λ u ne. set_else v.packages t u None ne; open_slot = λ u _ ne e. absurd (ne (same_some v.open_slot t u open_slot e)); hand_back = λ u _ ne e. absurd (clash None u refl e) }
             (λ p' e. let word : slice_index ws' (slot_word t) ≡ code = get_or-set_same s.words (slot_word t) code 0 (omega (arith, r.words)) in record {
               context = q;
               slot = set_here s.homes t full (omega (arith, r.slots));
@@ -96,7 +96,7 @@ module _ (k : HallTerms) where
             })
             (λ p' has'. absurd (clash_at (get_elem? w.packages t) p' here has'));
         locks_placed = puts_locks (threads k) (locks k) r.told.segments s.words ws' s.homes s.views id v w q t r.locks_placed r.told.law.all_states at live refl refl
-            (λ i. get_or-set_other s.words (slot_word t) (slot_word (threads k + i)) code 0 (λ e. omega arith)) below (o.5 hand) hand refl may.locks;
+            (λ i. get_or-set_other s.words (slot_word t) (slot_word (threads k + i)) code 0 (λ e. omega arith)) below (o.5 open_slot) open_slot refl may.locks;
         passes = passes_stay k.image.value k.workers r.told.history r.told.history s.words ws' (λ b e. e) done stops s.views id w r.passes
             (pass_kept k.image.value k.workers r.told.history r.told.history s.words ws' (λ b e. e) done stops v w old (refl, refl, refl, refl) (λ i u e. inl e) (λ i b e. inl e)
             (λ i c e. ⊎_elim (λ z. inl z) (λ (z : (i ≡ length v.calls) × (Put t (place_of code) (numbers q.context.locks) (given_of q) ≡ c)). inr (subst (IsTrueCall ws') z.1 tt)) (at_end v.calls (Put t (place_of code) (numbers q.context.locks) (given_of q)) c i e))

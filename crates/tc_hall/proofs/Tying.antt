@@ -310,11 +310,11 @@ module _ (k : HallTerms) (m : Moment k) (c : Core) (es : List Event) (seen : Sho
 
   -- an empty slot goes into the pass's hand, or back, and the word stays
   pub slot_moved : (slot : ℕ) (b : maybe.Option (Option Cargo)) (o : Option ℕ) → ((x : Cargo) → b ≢ some (Some x))
-      → Shows k record { words = set m.state.words (slot_word slot) (slice_index m.state.words (slot_word slot)); homes = set m.state.homes slot b; views = set m.state.views m.id (record m.view { hand = o }) } (after_events k c es)
+      → Shows k record { words = set m.state.words (slot_word slot) (slice_index m.state.words (slot_word slot)); homes = set m.state.homes slot b; views = set m.state.views m.id (record m.view { open_slot = o }) } (after_events k c es)
   slot_moved slot b o empty =
       unmoved _ _ _ (λ u. ap (λ (z : List ℕ). slice_index z (slot_word u)) (set-get_or m.state.words (slot_word slot) 0))
       (λ u x e. ⊎_elim (λ (z : (u ≡ slot) × (b ≡ some (Some x))). absurd (empty x z.1)) (λ (z : (u ≢ slot) × (get_elem? m.state.homes u ≡ some (some (Some x)))). z.1) (at_set m.state.homes slot u b (some (Some x)) e))
-      (had_same m.state.views m.id m.view (record m.view { hand = o }) m.pass refl refl refl)
+      (had_same m.state.views m.id m.view (record m.view { open_slot = o }) m.pass refl refl refl)
 
   pub split_shown : Shows k (after_operation k m.state m.id m.view split) (after_events k c es)
   split_shown = unmoved _ _ _ (λ u. refl) (λ u x f. f)

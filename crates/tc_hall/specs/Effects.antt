@@ -31,7 +31,7 @@ after s id e = stepped s e.word e.left id e.holds e.knows e.act
 
 -- `claim` and `adopt` of the thread t, whose package is q
 abbrev pub claim_effect : Knows → ℕ → PackageView → Effect
-claim_effect v t q = record { word = slot_word t; left = OUT + v.worker; holds = []; knows = record (after_claim v q) { hand = Some t }; act = takes t (Some (Package q)) }
+claim_effect v t q = record { word = slot_word t; left = OUT + v.worker; holds = []; knows = record (after_claim v q) { open_slot = Some t }; act = takes t (Some (Package q)) }
 
 -- `commit` of the package q with this pending block, at the stamp that was found
 abbrev pub commit_effect : Knows → ℕ → Block → PackageView → Effect
@@ -39,14 +39,14 @@ commit_effect v stamp b q =
     record { word = CLOCK; left = (stamp + 1) % 18446744073709551616; holds = []; knows = after_seal v (sealed_block stamp v.worker b) (with_seal stamp v.worker q); act = keeps }
 
 abbrev pub put_effect : Knows → PackageView → Place → Effect
-put_effect v q place = record { word = slot_word q.context.thread; left = code_of place; holds = (q.context.thread, Some (Package q)) ∷ []; knows = record (after_put v q place) { hand = None }; act = gives }
+put_effect v q place = record { word = slot_word q.context.thread; left = code_of place; holds = (q.context.thread, Some (Package q)) ∷ []; knows = record (after_put v q place) { open_slot = None }; act = gives }
 
 -- `take` of the lock i of a hall of n threads, whose state is l
 abbrev pub take_effect : ℕ → Knows → ℕ → LockView → Effect
-take_effect n v i l = record { word = slot_word (n + i); left = 1; holds = []; knows = record (after_take v l) { hand = Some (n + i) }; act = takes (n + i) (Some (Lock l)) }
+take_effect n v i l = record { word = slot_word (n + i); left = 1; holds = []; knows = record (after_take v l) { open_slot = Some (n + i) }; act = takes (n + i) (Some (Lock l)) }
 
 abbrev pub free_effect : ℕ → Knows → LockView → Effect
-free_effect n v l = record { word = slot_word (n + l.number); left = 0; holds = (n + l.number, Some (Lock l)) ∷ []; knows = record (after_free v l) { hand = None }; act = gives }
+free_effect n v l = record { word = slot_word (n + l.number); left = 0; holds = (n + l.number, Some (Lock l)) ∷ []; knows = record (after_free v l) { open_slot = None }; act = gives }
 
 -- `look` and `stopped` leave the word that they find
 abbrev pub look_effect : Knows → ℕ → ℕ → Effect
@@ -64,10 +64,10 @@ miss_effect v word found = record { word = word; left = found; holds = []; knows
 
 -- an empty slot goes into the pass's hand, and back; the word stays
 abbrev pub reach_effect : Knows → ℕ → ℕ → Effect
-reach_effect v slot found = record { word = slot_word slot; left = found; holds = []; knows = record v { hand = Some slot }; act = takes slot None }
+reach_effect v slot found = record { word = slot_word slot; left = found; holds = []; knows = record v { open_slot = Some slot }; act = takes slot None }
 
 abbrev pub lay_effect : Knows → ℕ → ℕ → Effect
-lay_effect v slot found = record { word = slot_word slot; left = found; holds = (slot, None) ∷ []; knows = record v { hand = None }; act = gives }
+lay_effect v slot found = record { word = slot_word slot; left = found; holds = (slot, None) ∷ []; knows = record v { open_slot = None }; act = gives }
 
 -- the pass id makes another, which is the last
 abbrev pub with_new_pass : Hall → ℕ → Knows → Hall

@@ -67,13 +67,13 @@ abbrev pub IsClaimable : HallTerms → ℕ → Type 0
 IsClaimable k word = (word ≡ READY) ⊎ ((word ≡ PARKED) ⊎ ((i : ℕ) × (i < locks k) × (word ≡ WAITING + i)))
 
 pub record MayClaim (k : HallTerms) (s : Hall) (v : Knows) (t : ℕ) (q : PackageView) : Type 0 where
-  pub free : v.hand ≡ None
+  pub free : v.open_slot ≡ None
   pub below : t < threads k
   pub word : IsClaimable k (slice_index s.words (slot_word t))
   pub slot : get_elem? s.homes t ≡ some (some (Some (Package q)))
 
 pub record MayTake (k : HallTerms) (s : Hall) (v : Knows) (i : ℕ) (l : LockView) : Type 0 where
-  pub free : v.hand ≡ None
+  pub free : v.open_slot ≡ None
   pub below : i < locks k
   pub word : slice_index s.words (slot_word (threads k + i)) ≡ 0
   pub slot : get_elem? s.homes (threads k + i) ≡ some (some (Some (Lock l)))
@@ -85,7 +85,7 @@ pub data IsSlotOut (k : HallTerms) (v : Knows) (slot : ℕ) : Type 0 where
 
 -- the pass holds the slot of the package, and may put it at the place
 pub record MayFill (k : HallTerms) (v : Knows) (q : PackageView) (place : Place) : Type 0 where
-  pub hand : v.hand ≡ Some q.context.thread
+  pub open_slot : v.open_slot ≡ Some q.context.thread
   pub range : IsInRange (locks k) place
   pub may : MayPut place v q
 
@@ -96,12 +96,12 @@ MayDo k s id v (take i l) = MayTake k s v i l
 MayDo k s id v (miss word wanted found) = (slice_index s.words word ≡ found) × (found ≢ wanted)
 MayDo k s id v (commit stamp b q) = (slice_index s.words CLOCK ≡ stamp) × (a : Seals v q) × (a.ran.block ≡ b)
 MayDo k s id v (put q place) = MayFill k v q place
-MayDo k s id v (free l) = (v.hand ≡ Some (threads k + l.number)) × MayFree v l
+MayDo k s id v (free l) = (v.open_slot ≡ Some (threads k + l.number)) × MayFree v l
 MayDo k s id v (look t found) = (t < threads k) × (slice_index s.words (slot_word t) ≡ found)
 MayDo k s id v stop = Unit {0}
 MayDo k s id v (stopped found) = slice_index s.words STOP ≡ found
-MayDo k s id v (reach slot) = (v.hand ≡ None) × IsSlotOut k v slot
-MayDo k s id v (lay slot) = (v.hand ≡ Some slot) × IsSlotOut k v slot
+MayDo k s id v (reach slot) = (v.open_slot ≡ None) × IsSlotOut k v slot
+MayDo k s id v (lay slot) = (v.open_slot ≡ Some slot) × IsSlotOut k v slot
 MayDo k s id v split = (v.maker ≡ true) × (v.made < v.worker)
 MayDo k s id v (join other w) = (get_elem? s.views other ≡ some w) × (w.spent ≡ false) × (other ≢ id) × IsFree w
 

@@ -36,7 +36,7 @@ locks k = length k.image.value.guards
 -- the pass of a worker with nothing out
 abbrev pub clean : Shown → ℕ → ℕ → ℕ → Bool → Knows
 clean image n m worker maker =
-    record { image = image; worker = worker; maker = maker; made = 0; spent = false; joined = []; packages = replicate n None; pinned = replicate n false; locks = replicate m None; hand = None; sealed = []; calls = []; missed = []; claimed = []; taken = [] }
+    record { image = image; worker = worker; maker = maker; made = 0; spent = false; joined = []; packages = replicate n None; pinned = replicate n false; locks = replicate m None; open_slot = None; sealed = []; calls = []; missed = []; claimed = []; taken = [] }
 
 abbrev pub starting : HallTerms → Knows
 starting k = clean k.image.value (threads k) (locks k) (k.workers - 1) true
@@ -87,8 +87,8 @@ pub record IsPackageOut (ws : List ℕ) (hs : Homes) (vs : List Knows) (t : ℕ)
   pub pass : get_elem? vs id ≡ some view
   pub has : Has view t p
   pub word : slice_index ws (slot_word t) ≡ OUT + view.worker
-  pub slot : view.hand ≢ Some t → get_elem? hs t ≡ some (some None)
-  pub held : view.hand ≡ Some t → get_elem? hs t ≡ some none
+  pub slot : view.open_slot ≢ Some t → get_elem? hs t ≡ some (some None)
+  pub held : view.open_slot ≡ Some t → get_elem? hs t ≡ some none
 
 abbrev pub Lies : List ℕ → Homes → List Knows → ℕ → PackageView → maybe.Option ℕ → Type 0
 Lies ws hs vs t p none = IsHome ws hs t p
@@ -129,8 +129,8 @@ pub record IsLockOut (n : ℕ) (ws : List ℕ) (hs : Homes) (vs : List Knows) (i
   pub pass : get_elem? vs id ≡ some view
   pub has : HasLock view i l
   pub word : slice_index ws (slot_word (n + i)) ≡ 1
-  pub empty : view.hand ≢ Some (n + i) → get_elem? hs (n + i) ≡ some (some None)
-  pub held : view.hand ≡ Some (n + i) → get_elem? hs (n + i) ≡ some none
+  pub empty : view.open_slot ≢ Some (n + i) → get_elem? hs (n + i) ≡ some (some None)
+  pub held : view.open_slot ≡ Some (n + i) → get_elem? hs (n + i) ≡ some none
 
 abbrev pub LiesLock : ℕ → List ℕ → Homes → List Knows → ℕ → LockView → Spot → Type 0
 LiesLock n ws hs vs i l home = IsLockHome n ws hs i l

@@ -132,7 +132,7 @@ merged v w = record v { joined = v.joined ++ w.worker ∷ w.joined; sealed = v.s
 
 -- a pass that was joined into another
 abbrev pub gone : Knows
-gone = record { image = record { ranges = []; entries = []; guards = [] }; worker = 0; maker = false; made = 0; spent = true; joined = []; packages = []; pinned = []; locks = []; hand = None; sealed = []; calls = []; missed = []; claimed = []; taken = [] }
+gone = record { image = record { ranges = []; entries = []; guards = [] }; worker = 0; maker = false; made = 0; spent = true; joined = []; packages = []; pinned = []; locks = []; open_slot = None; sealed = []; calls = []; missed = []; claimed = []; taken = [] }
 
 -- the clauses of the calls
 
@@ -244,30 +244,30 @@ pub record DidSeal (q : PackageView) (n : ℕ) (v w : Knows) : Type 0 where
 -- the package of thread t was taken, and the pass has its slot in hand; in a hall of these terms, where they were picked, it is
 -- as the history leaves it
 abbrev pub Got : Option HallTerms → ℕ → ℕ → Sat → Sat → Type 0
-Got o word t m m' = (q : PackageView) × (w : Knows) × Gets word t q m.0 w × (m' ≡ (record w { hand = Some t }, (t, Some (Package q)) ∷ m.1)) × ((k : HallTerms) → o ≡ Some k → IsAsLeft k m.0 q)
+Got o word t m m' = (q : PackageView) × (w : Knows) × Gets word t q m.0 w × (m' ≡ (record w { open_slot = Some t }, (t, Some (Package q)) ∷ m.1)) × ((k : HallTerms) → o ≡ Some k → IsAsLeft k m.0 q)
 
 abbrev pub claimed : Option HallTerms → At → Sat → ℕ → Sat → Type 0
 claimed o st m r m' = (r ≡ st.first → (t : ℕ) → st.word ≡ slot_word t → Got o st.first t m m') × (r ≢ st.first → m' ≡ (after_miss m.0 st.word r, m.1))
 
 -- the same of the state of lock i, in a hall of these terms
 abbrev pub Took : HallTerms → ℕ → ℕ → Sat → Sat → Type 0
-Took k i slot m m' = (l : LockView) × (w : Knows) × Takes i l m.0 w × (m' ≡ (record w { hand = Some slot }, (slot, Some (Lock l)) ∷ m.1)) × IsStateAsLeft k m.0 i l
+Took k i slot m m' = (l : LockView) × (w : Knows) × Takes i l m.0 w × (m' ≡ (record w { open_slot = Some slot }, (slot, Some (Lock l)) ∷ m.1)) × IsStateAsLeft k m.0 i l
 
 abbrev pub took_as : Option HallTerms → At → Sat → ℕ → Sat → Type 0
 took_as o st m r m' = (r ≡ st.first → (k : HallTerms) (i slot : ℕ) → o ≡ Some k → slot ≡ threads k + i → st.word ≡ slot_word slot → Took k i slot m m') × (r ≢ st.first → m' ≡ (after_miss m.0 st.word r, m.1))
 
 abbrev pub laid : At → Sat → ℕ → Sat → Type 0
-laid st m r m' = m' ≡ (record m.0 { hand = None }, rest m.1)
+laid st m r m' = m' ≡ (record m.0 { open_slot = None }, rest m.1)
 
 abbrev pub reached : At → Sat → ℕ → Sat → Type 0
-reached st m r m' = (slot : ℕ) → st.word ≡ slot_word slot → m' ≡ (record m.0 { hand = Some slot }, (slot, None) ∷ m.1)
+reached st m r m' = (slot : ℕ) → st.word ≡ slot_word slot → m' ≡ (record m.0 { open_slot = Some slot }, (slot, None) ∷ m.1)
 
 -- the package was put, in a hall of these terms, where they were picked
 abbrev pub put_as : Option HallTerms → At → Sat → ℕ → Sat → Type 0
-put_as o st m r m' = (t : ℕ) (q : PackageView) → m.1 ≡ (t, Some (Package q)) ∷ [] → (m' ≡ (record (after_put m.0 q (place_of st.first)) { hand = None }, [])) × ((k : HallTerms) → o ≡ Some k → IsAsLeft k m.0 q)
+put_as o st m r m' = (t : ℕ) (q : PackageView) → m.1 ≡ (t, Some (Package q)) ∷ [] → (m' ≡ (record (after_put m.0 q (place_of st.first)) { open_slot = None }, [])) × ((k : HallTerms) → o ≡ Some k → IsAsLeft k m.0 q)
 
 abbrev pub did_free : At → Sat → ℕ → Sat → Type 0
-did_free st m r m' = (slot : ℕ) (l : LockView) → m.1 ≡ (slot, Some (Lock l)) ∷ [] → m' ≡ (record (after_free m.0 l) { hand = None }, [])
+did_free st m r m' = (slot : ℕ) (l : LockView) → m.1 ≡ (slot, Some (Lock l)) ∷ [] → m' ≡ (record (after_free m.0 l) { open_slot = None }, [])
 
 abbrev pub looked : At → Sat → ℕ → Sat → Type 0
 looked st m r m' = (t : ℕ) → st.word ≡ slot_word t → m' ≡ (with_call m.0 (Look t r), m.1)

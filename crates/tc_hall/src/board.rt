@@ -118,7 +118,7 @@ pub struct Knows {
     /// For each lock its state, as of its last commit, where the pass has it out.
     pub locks: LinkedList<Option<LockState>>,
     /// The slot that the pass holds, inside a call.
-    pub hand: Option<u32>,
+    pub open_slot: Option<u32>,
     /// The blocks that it sealed and those of the passes that were joined into it.
     pub sealed: LinkedList<Block>,
     /// The calls of `put`, `free`, `look`, `stop` and `stopped`, in their order, and then those of

@@ -22,7 +22,7 @@ impl Model for Pass {
     ghost view = { λ p. record { table = p.seat.table_id; seat = p.seat.id; knows = p.seat.me.0 } };
 
     ghost invariant = { λ p. (p.seat.me.1 ≡ [])
-        × (p.seat.me.0.hand ≡ None)
+        × (p.seat.me.0.open_slot ≡ None)
         × (p.number ≡ p.seat.me.0.worker)
         × (p.seat.me.0.spent ≡ false) };
 }

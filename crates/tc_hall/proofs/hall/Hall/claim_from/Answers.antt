@@ -36,7 +36,7 @@ load-requires g c =
       omega (arith, c.self.invariant.0, c.self.invariant.1, c.word_of-word.ensures),
       subst (λ (z : ℕ). Lays c.self.inside.board.shared.key c.self.inside.board.shared.table_id.slots c.compare_exchange-found.new.seat.id z m1.0 ((c.args.t, c.take-cargo.new.self) ∷ rest m1.1)) (sym c.word_of-word.ensures)
           (lays c.self.inside.board.shared.key _ _ c.args.t m1.0 _ (got_carried c.args.t (Package got.0) got.1 c.pass.inside.seat.me c.compare_exchange-found.new.seat.me got.3 c.pass.invariant.0 c.take-cargo.new.self c.take-cargo.ensures.left)
-          (ap (λ (z : Knows). z.hand) view) (ap (λ (z : Knows). z.spent) view ∙ (ap (λ (z : Knows). z.spent) got.2.now ∙ c.pass.invariant.3)) (of_package c.args.t (bare got.0) refl (subst (λ (z : Knows × ℕ). Has z.0 z.1 (bare got.0)) (λ i. (sym view i, got.2.thread i)) (has_out got.1 got.0 got.2.came.out)))),
+          (ap (λ (z : Knows). z.open_slot) view) (ap (λ (z : Knows). z.spent) view ∙ (ap (λ (z : Knows). z.spent) got.2.now ∙ c.pass.invariant.3)) (of_package c.args.t (bare got.0) refl (subst (λ (z : Knows × ℕ). Has z.0 z.1 (bare got.0)) (λ i. (sym view i, got.2.thread i)) (has_out got.1 got.0 got.2.came.out)))),
     )
 
 pub package_of-package-requires : goal.package_of-package-requires
@@ -47,11 +47,11 @@ package_of-package-requires g c =
 pub invariant_of-pass-2 : goal.invariant_of-pass-2
 invariant_of-pass-2 g c =
     let got = c.compare_exchange-found.ensures.2.0 c.if-found-code.false c.args.t c.word_of-word.ensures in
-    let free : got.1.hand ≡ None = ap (λ (z : Knows). z.hand) got.2.now ∙ c.pass.invariant.1 in
+    let free : got.1.open_slot ≡ None = ap (λ (z : Knows). z.open_slot) got.2.now ∙ c.pass.invariant.1 in
     let m = c.pass.inside.seat.me in
     let last = got_last c.args.t (Package got.0) got.1 m c.compare_exchange-found.new.seat.me got.3 c.pass.invariant.0 free c.load.new.seat.me c.load.ensures.2 in (
       got_empty c.args.t (Package got.0) got.1 m c.compare_exchange-found.new.seat.me got.3 c.pass.invariant.0 free c.load.new.seat.me c.load.ensures.2,
-      ap (λ (z : Knows). z.hand) last ∙ free,
+      ap (λ (z : Knows). z.open_slot) last ∙ free,
       c.pass.invariant.2 ∙ sym (ap (λ (z : Knows). z.worker) (last ∙ got.2.now)),
       ap (λ (z : Knows). z.spent) (last ∙ got.2.now) ∙ c.pass.invariant.3,
     )
@@ -60,7 +60,7 @@ pub returns-clause-result : goal.returns-clause-result
 returns-clause-result g c =
     let got = c.compare_exchange-found.ensures.2.0 c.if-found-code.false c.args.t c.word_of-word.ensures in
     let m = c.pass.inside.seat.me in
-    let free : got.1.hand ≡ None = ap (λ (z : Knows). z.hand) got.2.now ∙ c.pass.invariant.1 in
+    let free : got.1.open_slot ≡ None = ap (λ (z : Knows). z.open_slot) got.2.now ∙ c.pass.invariant.1 in
     let last = got_last c.args.t (Package got.0) got.1 m c.compare_exchange-found.new.seat.me got.3 c.pass.invariant.0 free c.load.new.seat.me c.load.ensures.2 in
     let found = c.take-cargo.ensures.found ∙ got_found c.args.t (Package got.0) got.1 m c.compare_exchange-found.new.seat.me got.3 c.slot_mut.result.now c.slot_mut.ensures.value in
     let same : got.0 ≡ c.package_of-package.result = cc (found, c.package_of-package.ensures) in

@@ -53,7 +53,7 @@ store-requires c =
       subst (λ (z : ℕ). FreesAll key c.self.inside.board.shared.table_id.slots c.load.new.seat.id z m1.0 ((slot, c.replace.new.self) ∷ rest m1.1)) (ap slot_word at ∙ sym c.word_of-2.ensures)
           (frees key _ _ m1.0 l _
           (put_carried slot (Lock l) m c.load.new.seat.me c.pass.invariant.0 got c.replace.new.self c.replace.ensures.left ∙ ap (λ (z : ℕ). (z, Some (Lock l)) ∷ []) (sym at))
-          (ap (λ (z : Knows). z.hand) view ∙ ap (λ (z : ℕ). Some z) (sym at)) (ap (λ (z : Knows). z.spent) view ∙ c.pass.invariant.3) (subst (λ (z : Knows). MayFree z l) (sym view) record { has = may.has; rests = may.rests })),
+          (ap (λ (z : Knows). z.open_slot) view ∙ ap (λ (z : ℕ). Some z) (sym at)) (ap (λ (z : Knows). z.spent) view ∙ c.pass.invariant.3) (subst (λ (z : Knows). MayFree z l) (sym view) record { has = may.has; rests = may.rests })),
     )
 
 pub invariant_of-pass : goal.invariant_of-pass
@@ -64,7 +64,7 @@ invariant_of-pass c =
     let carried = put_carried slot (Lock c.args.lock) m c.load.new.seat.me c.pass.invariant.0 got c.replace.new.self c.replace.ensures.left in
     let view = put_view slot (Lock c.args.lock) m c.load.new.seat.me c.pass.invariant.0 got in
     let did = c.store.ensures.2 slot c.args.lock carried in
-    (ap (λ (z : Sat). z.1) did, ap (λ (z : Sat). z.0.hand) did, c.pass.invariant.2 ∙ sym (ap (λ (z : Sat). z.0.worker) did ∙ ap (λ (v : Knows). v.worker) view), ap (λ (z : Sat). z.0.spent) did ∙ (ap (λ (v : Knows). v.spent) view ∙ c.pass.invariant.3))
+    (ap (λ (z : Sat). z.1) did, ap (λ (z : Sat). z.0.open_slot) did, c.pass.invariant.2 ∙ sym (ap (λ (z : Sat). z.0.worker) did ∙ ap (λ (v : Knows). v.worker) view), ap (λ (z : Sat). z.0.spent) did ∙ (ap (λ (v : Knows). v.spent) view ∙ c.pass.invariant.3))
 
 pub returns-clause-freed : goal.returns-clause-freed
 returns-clause-freed c =

@@ -17,4 +17,4 @@ load-requires c =
 pub invariant_of-pass : goal.invariant_of-pass
 invariant_of-pass c =
     let saw = c.load.ensures.2 c.args.t c.word_of.ensures in
-    (ap (λ (m : Sat). m.1) saw ∙ c.pass.invariant.0, ap (λ (m : Sat). m.0.hand) saw ∙ c.pass.invariant.1, c.pass.invariant.2 ∙ sym (ap (λ (m : Sat). m.0.worker) saw), ap (λ (m : Sat). m.0.spent) saw ∙ c.pass.invariant.3)
+    (ap (λ (m : Sat). m.1) saw ∙ c.pass.invariant.0, ap (λ (m : Sat). m.0.open_slot) saw ∙ c.pass.invariant.1, c.pass.invariant.2 ∙ sym (ap (λ (m : Sat). m.0.worker) saw), ap (λ (m : Sat). m.0.spent) saw ∙ c.pass.invariant.3)

@@ -50,7 +50,7 @@ store-requires g c =
           (subst (λ (z : ℕ × ℕ). Fills key c.self.inside.board.shared.table_id.slots c.load.new.seat.id (slot_word z.0) z.1 m1.0 ((c.thread-t.result, c.replace.new.self) ∷ rest m1.1)) (λ i. (sym t i, sym c.code-code.ensures i))
           (fills key _ _ c.args.place m1.0 q _
           (put_carried c.thread-t.result (Package q) m c.load.new.seat.me c.pass.invariant.0 got c.replace.new.self c.replace.ensures.left ∙ ap (λ (z : ℕ). (z, Some (Package q)) ∷ []) t)
-          (ap (λ (z : Knows). z.hand) view ∙ ap (λ (z : ℕ). Some z) t) (ap (λ (z : Knows). z.spent) view ∙ c.pass.invariant.3) range (may_put_as c.args.place m.0 m1.0 q (Some c.thread-t.result) view may))),
+          (ap (λ (z : Knows). z.open_slot) view ∙ ap (λ (z : ℕ). Some z) t) (ap (λ (z : Knows). z.spent) view ∙ c.pass.invariant.3) range (may_put_as c.args.place m.0 m1.0 q (Some c.thread-t.result) view may))),
     )
 
 pub invariant_of-pass : goal.invariant_of-pass
@@ -60,7 +60,7 @@ invariant_of-pass g c =
     let carried = put_carried c.thread-t.result (Package c.args.«package») m c.load.new.seat.me c.pass.invariant.0 got c.replace.new.self c.replace.ensures.left in
     let view = put_view c.thread-t.result (Package c.args.«package») m c.load.new.seat.me c.pass.invariant.0 got in
     let did = (c.store.ensures.2 c.thread-t.result c.args.«package» carried).0 in
-    (ap (λ (z : Sat). z.1) did, ap (λ (z : Sat). z.0.hand) did, c.pass.invariant.2 ∙ sym (ap (λ (z : Sat). z.0.worker) did ∙ ap (λ (v : Knows). v.worker) view), ap (λ (z : Sat). z.0.spent) did ∙ (ap (λ (v : Knows). v.spent) view ∙ c.pass.invariant.3))
+    (ap (λ (z : Sat). z.1) did, ap (λ (z : Sat). z.0.open_slot) did, c.pass.invariant.2 ∙ sym (ap (λ (z : Sat). z.0.worker) did ∙ ap (λ (v : Knows). v.worker) view), ap (λ (z : Sat). z.0.spent) did ∙ (ap (λ (v : Knows). v.spent) view ∙ c.pass.invariant.3))
 
 pub returns-clause-put : goal.returns-clause-put
 returns-clause-put g c =

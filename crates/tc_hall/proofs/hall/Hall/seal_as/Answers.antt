@@ -17,7 +17,7 @@ invariant_of-pass g c =
     let did = c.fetch_add.ensures.2 c.args.«package».now c.requires.picked in
     let now = did.0.now in (
       did.1 ∙ c.pass.invariant.0,
-      ap (λ (z : Knows). z.hand) now ∙ c.pass.invariant.1,
+      ap (λ (z : Knows). z.open_slot) now ∙ c.pass.invariant.1,
       c.pass.invariant.2 ∙ sym (ap (λ (z : Knows). z.worker) now),
       ap (λ (z : Knows). z.spent) now ∙ c.pass.invariant.3,
     )

@@ -44,7 +44,7 @@ load-requires g c =
       did.0 ∙ own,
       omega (arith, c.self.invariant.1, c.word_of-word.ensures),
       subst (λ (z : ℕ). Lays key c.self.inside.board.shared.table_id.slots c.compare_exchange-found.new.seat.id z m1.0 ((slot, c.take-cargo.new.self) ∷ rest m1.1)) (sym c.word_of-word.ensures) (lays key _ _ slot m1.0 _ (got_carried slot (Lock got.0) got.1 c.pass.inside.seat.me c.compare_exchange-found.new.seat.me got.3 c.pass.invariant.0 c.take-cargo.new.self c.take-cargo.ensures.left)
-          (ap (λ (z : Knows). z.hand) view) (ap (λ (z : Knows). z.spent) view ∙ (ap (λ (z : Knows). z.spent) got.2.now ∙ c.pass.invariant.3))
+          (ap (λ (z : Knows). z.open_slot) view) (ap (λ (z : Knows). z.spent) view ∙ (ap (λ (z : Knows). z.spent) got.2.now ∙ c.pass.invariant.3))
           (of_lock c.args.lock (kept got.0) at (subst (λ (z : Knows × ℕ). HasLock z.0 z.1 (kept got.0)) (λ i. (sym view i, got.2.rest.number i)) (loose_out got.1 got.0 got.2.came.out)))),
     )
 
@@ -58,11 +58,11 @@ pub invariant_of-pass-2 : goal.invariant_of-pass-2
 invariant_of-pass-2 g c =
     let slot : ℕ = c.self.inside.threads + c.args.lock in
     let got = c.compare_exchange-found.ensures.2.0 c.if-found-ne0.false c.self.inside.board.shared.key c.args.lock slot (c.requires.picked ∙ ap (λ (h : HallView). Some h.terms) (sym c.self.view_is)) (let n = c.self.invariant.0 in omega arith) c.word_of-word.ensures in
-    let free : got.1.hand ≡ None = ap (λ (z : Knows). z.hand) got.2.now ∙ c.pass.invariant.1 in
+    let free : got.1.open_slot ≡ None = ap (λ (z : Knows). z.open_slot) got.2.now ∙ c.pass.invariant.1 in
     let m = c.pass.inside.seat.me in
     let last = got_last slot (Lock got.0) got.1 m c.compare_exchange-found.new.seat.me got.3 c.pass.invariant.0 free c.load.new.seat.me c.load.ensures.2 in (
       got_empty slot (Lock got.0) got.1 m c.compare_exchange-found.new.seat.me got.3 c.pass.invariant.0 free c.load.new.seat.me c.load.ensures.2,
-      ap (λ (z : Knows). z.hand) last ∙ free,
+      ap (λ (z : Knows). z.open_slot) last ∙ free,
       c.pass.invariant.2 ∙ sym (ap (λ (z : Knows). z.worker) (last ∙ got.2.now)),
       ap (λ (z : Knows). z.spent) (last ∙ got.2.now) ∙ c.pass.invariant.3,
     )
@@ -72,7 +72,7 @@ returns-clause-result g c =
     let slot : ℕ = c.self.inside.threads + c.args.lock in
     let got = c.compare_exchange-found.ensures.2.0 c.if-found-ne0.false c.self.inside.board.shared.key c.args.lock slot (c.requires.picked ∙ ap (λ (h : HallView). Some h.terms) (sym c.self.view_is)) (let n = c.self.invariant.0 in omega arith) c.word_of-word.ensures in
     let m = c.pass.inside.seat.me in
-    let free : got.1.hand ≡ None = ap (λ (z : Knows). z.hand) got.2.now ∙ c.pass.invariant.1 in
+    let free : got.1.open_slot ≡ None = ap (λ (z : Knows). z.open_slot) got.2.now ∙ c.pass.invariant.1 in
     let last = got_last slot (Lock got.0) got.1 m c.compare_exchange-found.new.seat.me got.3 c.pass.invariant.0 free c.load.new.seat.me c.load.ensures.2 in
     let found = c.take-cargo.ensures.found ∙ got_found slot (Lock got.0) got.1 m c.compare_exchange-found.new.seat.me got.3 c.slot_mut.result.now c.slot_mut.ensures.value in
     let same : got.0 ≡ c.lock_of.result = cc (found, c.lock_of.ensures) in
