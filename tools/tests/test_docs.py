@@ -11,6 +11,7 @@ import subprocess
 from pathlib import Path
 
 from tools.workbench import command
+from tools.workbench.checking import definitions
 from tools.workbench.guest import guestfile
 from tools.workbench.running import delegation
 from .common import COURSE, GUESTS, MADE_UP, ROOT, TEMPORARY, Case, elf, run, saved, script
@@ -87,6 +88,23 @@ class Pages(Case):
         text = (DOCS.parent / "README.md").read_text()
         rows = text[text.index("## What is proved"):text.index("## What is neither")].count("\n| ") - 1
         self.assertTrue(6 <= rows <= 12, rows)
+
+
+class Definitions(Case):
+    """The page of what must be believed has what the contract of the top call rests on, and nothing else."""
+
+    def test_the_tables_have_the_words(self) -> None:
+        specs, code, kit = re.split(r"\n\| Of the (?:code|toolchain) \|", (DOCS / "DEFINITIONS.md").read_text().split("\nSigns are")[0])
+        believed = definitions.believed()
+        for crate, files, words in re.findall(r"(?m)^\|[^|]*\| (tc_\w+) ((?:`\w+`,? )+)\|([^|]*)\|", specs):
+            rows = [f"{crate} {file}" for file in re.findall(r"\w+", files)]
+            there = set().union(*(believed.pop(row) for row in rows))
+            self.assertEqual(there, set(re.findall(r"`([\w-]+)`", words)), rows)
+        for crate, words in re.findall(r"(?m)^\| (tc_\w+) \| (.*) \|$", code):
+            there = set().union(*(believed.pop(place) for place in list(believed) if place.startswith(f"{crate} ")))
+            named = set(re.findall(r"`([A-Z]\w+)`", words))
+            self.assertEqual(there, named, crate)
+        self.assertEqual(set().union(*believed.values()), set(re.findall(r"`(\w+)`", kit)))
 
 
 def fewer(text: str) -> str:

@@ -35,7 +35,8 @@ GROUPS: Tuple[Tuple[str, Tuple[Subcommand, ...]], ...] = (
         Subcommand("fuzz", "checking.fuzz", "the same over guests that are drawn at random, and damaged ones"),
         Subcommand("refuse", "checking.refuse", "refuse each allocation of the program in turn"),
         Subcommand("endure", "checking.endure", "run it many times and in bad surroundings"),
-        Subcommand("facts", "checking.facts", "write guests/facts.json: what holds of each guest"))),
+        Subcommand("facts", "checking.facts", "write guests/facts.json: what holds of each guest"),
+        Subcommand("definitions", "checking.definitions", "print the definitions on which the top call's contract rests"))),
     ("measure", (
         Subcommand("bench run", "benches.run", "what the largest guests take, by one worker or some"),
         Subcommand("bench several", "benches.several", "what more workers give"),
