@@ -96,7 +96,7 @@ class Place:
         return process.returncode, written
 
     def peak(self, file: bytes, words: tuple[str, ...]) -> int:
-        """Its peak memory in kB. The report is made whole before the first byte is written."""
+        """Its peak memory in kB, when its first byte was written: all memory of the report is taken by then."""
         read, write = os.pipe()
         fcntl.fcntl(write, F_SETPIPE_SZ, SOME_PIPE)
         process = self.start(file, words, stdout=write, stderr=subprocess.DEVNULL)
