@@ -9,15 +9,17 @@
 //!   carried from block to block. `specs/Stands.antt`: when a profile stands for a history.
 //!   `specs/Text.antt`: the text of a profile.
 //! - `tally`: the numbers of one lock and of one thread. `profile`: those of all. `text`: their
-//!   text.
+//!   text. `law`: what the numbers are to one another, and to the history.
 #![tactic(auto)]
 
+pub mod law;
 pub mod profile;
 pub mod tally;
 #[cfg(test)]
 mod tests;
 pub mod text;
 
+pub use crate::law::profiling;
 pub use crate::profile::Profile;
 pub use crate::tally::{LockProfile, ThreadProfile};
 pub use crate::text::profile_text;
