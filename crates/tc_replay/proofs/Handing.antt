@@ -17,7 +17,7 @@ use Rattle.tc_context.specs.declared.package.Grant.{Grant}
 use Rattle.tc_context.specs.Locks.{lock_in, IsPlaced, SameLocks}
 use Rattle.tc_context.specs.Whole.{thread_in, set_of}
 use Rattle.tc_context.specs.View.{PackageView, IsWanted, WantIsLawful, IsReserved, IsRoomier, want_of, granted_lock, bare, without_lock}
-use Rattle.tc_context.proofs.Moved.{map_some, some_map}
+use Rattle.tc_context.proofs.Moved.{map_some}
 use Rattle.tc_law.specs.History.{Follows}
 use Rattle.tc_law.specs.Lawful.{StandsAt, owner_after}
 use Rattle.tc_law.proofs.Lawful.{rests_free}

@@ -13,6 +13,7 @@ use Rattle.tc_replay.specs.Rejected.{IsBlockOf, IsOfKind, IsRight, IsWrong}
 use Rattle.tc_replay.specs.Run.{HaveSameTurns, IsPrepared, IsRecorded}
 use Rattle.tc_replay.specs.declared.reason.Reason.TheVariants as reason
 use Rattle.tc_replay.proofs.Exact.{same_turns, is_block, exact_kind, same_block, kind_right}
+use Rattle.tc_replay.proofs.Wrong.{before_block, before_kind, before_worker}
 
 module _ (image : Shown) (terms : Terms) (h : List Block) (p v : PackageView) (b x : Block) (prepared : IsPrepared image terms h p b) (sound : IsSoundPackage p) (small : b.held < 2 ^ 32)
     (ran : DidRun image p v) (last : last_of v.log ≡ Some x) where
@@ -29,7 +30,7 @@ module _ (image : Shown) (terms : Terms) (h : List Block) (p v : PackageView) (b
   -- it isn't the recorded one
   pub wrong_block : (HaveSameTurns x b → ⊥) → IsWrong image terms h (end_after image terms.fuel h) b reason.Block
   wrong_block other = record {
-    before = (prepared.thread, prepared.free);
+    before = before_block image terms h (end_after image terms.fuel h) b prepared.thread prepared.free;
     fails = λ of. other (subst (λ y. HaveSameTurns y b) (sym is) (same_turns image terms.fuel terms.limit h p v prepared.tells prepared.follows ran sound b prepared.mine small of));
   }
 
@@ -42,7 +43,7 @@ module _ (image : Shown) (terms : Terms) (h : List Block) (p v : PackageView) (b
   -- its kind is another one, or doesn't fit the worker
   pub wrong_kind : HaveSameTurns x b → (x.kind ≡ b.kind → fits_of p b.worker ≡ true → ⊥) → IsWrong image terms h (end_after image terms.fuel h) b reason.Kind
   wrong_kind same other = record {
-    before = (prepared.thread, prepared.free, block_of same);
+    before = before_kind image terms h (end_after image terms.fuel h) b prepared.thread prepared.free (block_of same);
     fails = λ kind. (let told = kind_told same kind in other (ap (λ (y : Block). y.kind) is ∙ told.0) told.1);
   }
 
@@ -51,7 +52,10 @@ module _ (image : Shown) (terms : Terms) (h : List Block) (p v : PackageView) (b
 
   -- there is no such worker
   pub wrong_worker : HaveSameTurns x b → x.kind ≡ b.kind → fits_of p b.worker ≡ true → (b.worker < terms.workers → ⊥) → IsWrong image terms h (end_after image terms.fuel h) b reason.Worker
-  wrong_worker same kind fits none = record { before = (prepared.thread, prepared.free, block_of same, kind_of same kind fits); fails = none }
+  wrong_worker same kind fits none = record {
+    before = before_worker image terms h (end_after image terms.fuel h) b prepared.thread prepared.free (block_of same) (kind_of same kind fits);
+    fails = none;
+  }
 
   pub may_seal : fits_of p b.worker ≡ true → AllowsPending v b.worker
   may_seal fits c pending = (let e : Some ran.block ≡ Some c = sym ran.pending ∙ pending in let same : ran.block ≡ c = cc in subst (λ y. Allows v.context y b.worker) same (ran.fits b.worker fits))

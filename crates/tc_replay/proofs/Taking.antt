@@ -18,6 +18,7 @@ use Rattle.tc_replay.specs.Run.{IsPrepared, IsRecorded, IsJudged}
 use Rattle.tc_replay.specs.Taken.{Before, IsCalm, IsNext, IsWith, HasRoom, MayGrant, DidGrant, IsReadyFor, StaysWith, TookOne, after_taking}
 use Rattle.tc_replay.specs.declared.reason.Reason.{Reason}
 use Rattle.tc_replay.specs.declared.reason.Reason.TheVariants as reason
+use Rattle.tc_replay.proofs.Wrong.{before_owner}
 use Rattle.tc_replay.proofs.Keeping.{thread, taken_after, took_granted, block_set, follows_among}
 use Rattle.tc_replay.proofs.Handing.{roomier_with, roomier_calm, image_is, may, may_grant, absent, granted_with, granted_ready, granted_away, granted_prepared, plain_ready, plain_away, plain_prepared}
 
@@ -59,7 +60,7 @@ module _ (image : Shown) (terms : Terms) (before : Before) (home : List (Option 
 
   -- the lock that is wanted isn't at home, so it has an owner
   pub owner_wrong : (k : ℕ) → want_of image p.context ≡ Some k → lock_in home k ≡ None → IsWrong image terms before.history (end_after image terms.fuel before.history) b reason.Owner
-  owner_wrong k want none = record { before = next.thread; fails = λ free. owns (free k takes) }
+  owner_wrong k want none = record { before = before_owner image terms before.history (end_after image terms.fuel before.history) b next.thread; fails = λ free. owns (free k takes) }
     where
       is : IsWanted p k
       is = may image terms before home p next.at next.calm wanted k want

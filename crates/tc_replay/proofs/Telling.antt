@@ -1,6 +1,6 @@
 -- Histories whose blocks are right are those that tell a run, obey the batch limit and have workers below the number.
 use Rattle.std.proofs.Common.{◌≡◌, ℕ, ◌-◌, ◌<◌, Bool, true, false, ◌⊎◌, List, [], ◌∷◌, ◌++◌, refl, sym, ap, subst, ◌∙◌, arith, append_assoc, append-nil, inl, inr}
-use Rattle.std.specs.Prelude.{Option, Some, None, All, if◌then◌else◌}
+use Rattle.std.specs.Prelude.{Option, Some, None, All}
 use Rattle.std.proofs.lemmas.List.Elements.{filter-append, All-nil, All-cons, All-head, All-tail}
 use Rattle.tc_journal.proofs.Batching.{of_lock-more}
 use Rattle.tc_isa.specs.Sets.{has}

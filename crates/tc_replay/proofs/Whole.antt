@@ -18,6 +18,7 @@ use Rattle.tc_law.proofs.Lawful.{held_owned}
 use Rattle.tc_replay.specs.Rejected.{IsOfThread, IsWrong}
 use Rattle.tc_replay.specs.Taken.{AreAsLeft, AreTaken, Before, IsCalm, IsNext, IsWith, TookOne, after_taking}
 use Rattle.tc_replay.specs.declared.reason.Reason.TheVariants as reason
+use Rattle.tc_replay.proofs.Wrong.{before_thread}
 use Rattle.tc_replay.proofs.Keeping.{at_map}
 use Rattle.tc_replay.proofs.Handing.{roomier_with, roomier_calm}
 use Rattle.tc_lemmas.proofs.Lists.{something_at}
@@ -99,14 +100,14 @@ put_back_more image terms before b home p took =
 pub past_wrong : (image : Shown) (terms : Terms) (before : Before) (home : List (Option LockView)) (b : Block) → AreAsLeft image terms before home → length before.packages ≤ b.thread
     → IsWrong image terms before.history (end_after image terms.fuel before.history) b reason.Thread
 past_wrong image terms before home b left past = record {
-  before = tt;
+  before = before_thread image terms before.history (end_after image terms.fuel before.history) b;
   fails = λ of. (let count = left.law.all_packages in let same = length-map before.packages bare in let known = of.known in omega arith);
 }
 
 pub ended_wrong : (image : Shown) (terms : Terms) (before : Before) (home : List (Option LockView)) (b : Block) (p : PackageView) → IsInHand image terms before home b.thread p → is_running p.context.guest.status ≡ false
     → IsWrong image terms before.history (end_after image terms.fuel before.history) b reason.Thread
 ended_wrong image terms before home b p hand over = record {
-  before = tt;
+  before = before_thread image terms before.history (end_after image terms.fuel before.history) b;
   fails = λ of. (let thread = (hand.at.law.packages_after p.context.thread (bare p) hand.at.mine.place).follows.thread in
       let f : true ≡ false = sym of.runs ∙ ap (λ (d : Thread). is_running d.status) (sym (thread ∙ ap (end_after image terms.fuel before.history).threads hand.number)) ∙ over in cc);
 }

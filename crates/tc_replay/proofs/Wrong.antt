@@ -1,13 +1,83 @@
 -- A history is rejected at one place for one reason, and not where it is accepted.
-use Rattle.std.proofs.Common.{◌≡◌, ℕ, suc, List, [], ◌∷◌, ◌++◌, length, refl, sym, ap, subst, ◌∙◌, arith, append_assoc, append-nil}
+use Rattle.std.proofs.Common.{◌≡◌, ◌⊎◌, ◌<◌, ◌==◌, ℕ, suc, List, [], ◌∷◌, ◌++◌, length, refl, sym, ap, subst, ◌∙◌, arith, append_assoc, append-nil, inl, inr}
+use Rattle.std.specs.Prelude.{if◌then◌else◌}
 use Rattle.tc_isa.specs.declared.options.Options.{Options as Terms}
 use Rattle.tc_elf.specs.Shown.{Shown}
 use Rattle.tc_journal.specs.declared.block.Block.{Block}
 use Rattle.tc_mutex_spec.specs.Machine.{State}
 use Rattle.tc_mutex_spec.specs.Blocks.{end_after, IsComplete}
-use Rattle.tc_replay.specs.Rejected.{IsWrong, IsRight, AreRightAfter, AreRight, IsWrongNext, IsRejected, IsAccepted}
+use Rattle.tc_replay.specs.Reasons.{reason_number}
+use Rattle.tc_replay.specs.Rejected.{IsOfThread, IsFree, IsBlockOf, IsOfKind, Meets, IsWrong, IsRight, AreRightAfter, AreRight, IsWrongNext, IsRejected, IsAccepted}
 use Rattle.tc_replay.specs.declared.reason.Reason.{Reason}
 use Rattle.tc_replay.specs.declared.reason.Reason.TheVariants as reason
+
+-- ---- reasons by number
+
+number_cases : (n k : ℕ) → (n < k) ⊎ ((k < n) ⊎ (n ≡ k))
+number_cases n k = grind arith
+
+by_number : ℕ → Reason
+by_number n =
+    if n == 1 then reason.Text else if n == 2 then reason.Thread else if n == 3 then reason.Owner else if n == 4 then reason.Block else if n == 5 then reason.Kind else if n == 6 then reason.Worker else reason.Incomplete
+
+number_is : (r : Reason) → by_number (reason_number r) ≡ r
+unfolding by_number reason_number
+number_is reason.Text = refl
+number_is reason.Thread = refl
+number_is reason.Owner = refl
+number_is reason.Block = refl
+number_is reason.Kind = refl
+number_is reason.Worker = refl
+number_is reason.Incomplete = refl
+
+same_number : (r s : Reason) → reason_number r ≡ reason_number s → r ≡ s
+same_number r s e = sym (number_is r) ∙ ap by_number e ∙ number_is s
+
+-- ---- what comes before a reason
+
+module _ (image : Shown) (terms : Terms) (h : List Block) (m : State) (b : Block) where
+  abbrev Before : Reason → Type 0
+  Before r = (s : Reason) → reason_number s < reason_number r → Meets image terms h m b s
+
+  pub before_thread : Before reason.Thread
+  unfolding reason_number
+  before_thread reason.Text less = tt
+  before_thread reason.Incomplete less = tt
+  before_thread _ less = absurd (omega (arith, less))
+
+  pub before_owner : IsOfThread image m b → Before reason.Owner
+  unfolding reason_number
+  before_owner thread reason.Thread less = thread
+  before_owner thread reason.Text less = tt
+  before_owner thread reason.Incomplete less = tt
+  before_owner thread _ less = absurd (omega (arith, less))
+
+  pub before_block : IsOfThread image m b → IsFree image m b → Before reason.Block
+  unfolding reason_number
+  before_block thread free reason.Text less = tt
+  before_block thread free reason.Thread less = thread
+  before_block thread free reason.Owner less = free
+  before_block thread free reason.Incomplete less = tt
+  before_block thread free _ less = absurd (omega (arith, less))
+
+  pub before_kind : IsOfThread image m b → IsFree image m b → IsBlockOf image m b → Before reason.Kind
+  unfolding reason_number
+  before_kind thread free block reason.Text less = tt
+  before_kind thread free block reason.Thread less = thread
+  before_kind thread free block reason.Owner less = free
+  before_kind thread free block reason.Block less = block
+  before_kind thread free block reason.Incomplete less = tt
+  before_kind thread free block _ less = absurd (omega (arith, less))
+
+  pub before_worker : IsOfThread image m b → IsFree image m b → IsBlockOf image m b → IsOfKind image terms.limit h m b → Before reason.Worker
+  unfolding reason_number
+  before_worker thread free block kind reason.Text less = tt
+  before_worker thread free block kind reason.Thread less = thread
+  before_worker thread free block kind reason.Owner less = free
+  before_worker thread free block kind reason.Block less = block
+  before_worker thread free block kind reason.Kind less = kind
+  before_worker thread free block kind reason.Incomplete less = tt
+  before_worker thread free block kind reason.Worker less = absurd (omega (arith, less))
 
 module _ (image : Shown) (terms : Terms) where
   -- what is right is wrong for no reason
@@ -22,43 +92,12 @@ module _ (image : Shown) (terms : Terms) where
 
   -- a block is wrong for one reason
   pub one_reason : (h : List Block) (m : State) (b : Block) (r s : Reason) → IsWrong image terms h m b r → IsWrong image terms h m b s → r ≡ s
-  one_reason h m b reason.Text s one two = absurd (one.fails tt)
-  one_reason h m b reason.Thread reason.Text one two = absurd (two.fails tt)
-  one_reason h m b reason.Thread reason.Thread one two = refl
-  one_reason h m b reason.Thread reason.Owner one two = absurd (one.fails two.before)
-  one_reason h m b reason.Thread reason.Block one two = absurd (one.fails two.before.0)
-  one_reason h m b reason.Thread reason.Kind one two = absurd (one.fails two.before.0)
-  one_reason h m b reason.Thread reason.Worker one two = absurd (one.fails two.before.0)
-  one_reason h m b reason.Thread reason.Incomplete one two = absurd (two.fails tt)
-  one_reason h m b reason.Owner reason.Text one two = absurd (two.fails tt)
-  one_reason h m b reason.Owner reason.Thread one two = absurd (two.fails one.before)
-  one_reason h m b reason.Owner reason.Owner one two = refl
-  one_reason h m b reason.Owner reason.Block one two = absurd (one.fails two.before.1)
-  one_reason h m b reason.Owner reason.Kind one two = absurd (one.fails two.before.1)
-  one_reason h m b reason.Owner reason.Worker one two = absurd (one.fails two.before.1)
-  one_reason h m b reason.Owner reason.Incomplete one two = absurd (two.fails tt)
-  one_reason h m b reason.Block reason.Text one two = absurd (two.fails tt)
-  one_reason h m b reason.Block reason.Thread one two = absurd (two.fails one.before.0)
-  one_reason h m b reason.Block reason.Owner one two = absurd (two.fails one.before.1)
-  one_reason h m b reason.Block reason.Block one two = refl
-  one_reason h m b reason.Block reason.Kind one two = absurd (one.fails two.before.2)
-  one_reason h m b reason.Block reason.Worker one two = absurd (one.fails two.before.2)
-  one_reason h m b reason.Block reason.Incomplete one two = absurd (two.fails tt)
-  one_reason h m b reason.Kind reason.Text one two = absurd (two.fails tt)
-  one_reason h m b reason.Kind reason.Thread one two = absurd (two.fails one.before.0)
-  one_reason h m b reason.Kind reason.Owner one two = absurd (two.fails one.before.1)
-  one_reason h m b reason.Kind reason.Block one two = absurd (two.fails one.before.2)
-  one_reason h m b reason.Kind reason.Kind one two = refl
-  one_reason h m b reason.Kind reason.Worker one two = absurd (one.fails two.before.3)
-  one_reason h m b reason.Kind reason.Incomplete one two = absurd (two.fails tt)
-  one_reason h m b reason.Worker reason.Text one two = absurd (two.fails tt)
-  one_reason h m b reason.Worker reason.Thread one two = absurd (two.fails one.before.0)
-  one_reason h m b reason.Worker reason.Owner one two = absurd (two.fails one.before.1)
-  one_reason h m b reason.Worker reason.Block one two = absurd (two.fails one.before.2)
-  one_reason h m b reason.Worker reason.Kind one two = absurd (two.fails one.before.3)
-  one_reason h m b reason.Worker reason.Worker one two = refl
-  one_reason h m b reason.Worker reason.Incomplete one two = absurd (two.fails tt)
-  one_reason h m b reason.Incomplete s one two = absurd (one.fails tt)
+  one_reason h m b r s one two = go (number_cases (reason_number r) (reason_number s))
+    where
+      go : (reason_number r < reason_number s) ⊎ ((reason_number s < reason_number r) ⊎ (reason_number r ≡ reason_number s)) → r ≡ s
+      go (inl less) = absurd (one.fails (two.before r less))
+      go (inr (inl more)) = absurd (two.fails (one.before s more))
+      go (inr (inr same)) = same_number r s same
 
   same_next : (before rest : List Block) (r s : Reason) → IsWrongNext image terms before rest r → IsWrongNext image terms before rest s → r ≡ s
   same_next before [] r s one two = one.0 ∙ sym two.0

@@ -9,6 +9,7 @@ use Rattle.tc_journal.specs.declared.block.Block.{Block}
 use Rattle.tc_turn.specs.Turn.{is_running, next_lock}
 use Rattle.tc_mutex_spec.specs.Machine.{State}
 use Rattle.tc_mutex_spec.specs.Blocks.{locks_of_block, Runs, is_first, has_block, Tells, end_after, IsComplete}
+use Rattle.tc_replay.specs.Reasons.{reason_number}
 use Rattle.tc_replay.specs.declared.reason.Reason.{Reason}
 use Rattle.tc_replay.specs.declared.reason.Reason.TheVariants as reason
 
@@ -46,19 +47,9 @@ Meets image terms h m b reason.Kind = IsOfKind image terms.limit h m b
 Meets image terms h m b reason.Worker = b.worker < terms.workers
 Meets image terms h m b reason.Incomplete = Unit {0}
 
--- it meets what comes before this reason
-abbrev pub MeetsBefore : Shown → Terms → List Block → State → Block → Reason → Type 0
-MeetsBefore image terms h m b reason.Text = Unit {0}
-MeetsBefore image terms h m b reason.Thread = Unit {0}
-MeetsBefore image terms h m b reason.Owner = Meets image terms h m b reason.Thread
-MeetsBefore image terms h m b reason.Block = Meets image terms h m b reason.Thread × Meets image terms h m b reason.Owner
-MeetsBefore image terms h m b reason.Kind = Meets image terms h m b reason.Thread × Meets image terms h m b reason.Owner × Meets image terms h m b reason.Block
-MeetsBefore image terms h m b reason.Worker = Meets image terms h m b reason.Thread × Meets image terms h m b reason.Owner × Meets image terms h m b reason.Block × Meets image terms h m b reason.Kind
-MeetsBefore image terms h m b reason.Incomplete = Unit {0}
-
--- the block is wrong for this reason, and for none before it
+-- the block is wrong for this reason, and meets each reason with a smaller number
 pub record IsWrong (image : Shown) (terms : Terms) (h : List Block) (m : State) (b : Block) (r : Reason) : Type 0 where
-  pub before : MeetsBefore image terms h m b r
+  pub before : (s : Reason) → reason_number s < reason_number r → Meets image terms h m b s
   pub fails : Meets image terms h m b r → ⊥
 
 -- the block is wrong for no reason
