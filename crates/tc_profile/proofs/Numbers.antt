@@ -15,10 +15,10 @@ use Rattle.tc_journal.specs.declared.block.Kind.TheVariants.{Start, On, Taken, A
 use Rattle.tc_journal.proofs.Batching.{run_from-more}
 use Rattle.tc_profile.specs.Profile.{placed_after, at_place, greatest, worker_of, is_other, is_taken, is_granted, is_change, streak_behind, lock_profile, thread_profile}
 
-abbrev one_if : Bool → ℕ
+abbrev pub one_if : Bool → ℕ
 one_if v = if v then 1 else 0
 
-kept-front : {A : Type 0} (test : A → Bool) (x : A) (xs : List A) → length (filter test (x ∷ xs)) ≡ one_if (test x) + length (filter test xs)
+pub kept-front : {A : Type 0} (test : A → Bool) (x : A) (xs : List A) → length (filter test (x ∷ xs)) ≡ one_if (test x) + length (filter test xs)
 kept-front test x xs = by (test x)
   where
     by : (v : Bool) → length (if v then x ∷ filter test xs else filter test xs) ≡ one_if v + length (filter test xs)
