@@ -16,6 +16,10 @@ module _ {S : Type 0} (gives : S → ℕ → Result ℕ Failed → S → Type 0)
   abbrev pub ReadsWithin : ℕ → S → S → Type 0
   ReadsWithin most s t = (n : ℕ) × (n ≤ most) × ReadTimes n s t
 
+  -- at most so many reads, and one behind them that fails
+  abbrev pub ReadsTillFault : ℕ → S → S → Type 0
+  ReadsTillFault most s t = (m : S) × (room : ℕ) × (e : Failed) × ReadsWithin most s m × gives m room (Err e) t
+
 -- `gives k piece result l`: a write of the piece to k may answer this and leave l
 module _ {K : Type 0} (gives : K → List ℕ → Result ℕ Failed → K → Type 0) where
   -- the writes of these bytes: each is given all that are left, and none is made once none is left

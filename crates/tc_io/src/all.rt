@@ -1,7 +1,7 @@
 //! Reading all bytes and writing all bytes.
 
 ghost use Rattle.std.specs.Prelude.{◌≡◌, ◌+◌, ◌≤◌, OnOk, OnErr, IfOk, IsErrOf, MatchResult, vec_len};
-ghost use Rattle.tc_io.specs.Calls.{ReadsWithin, Writes};
+ghost use Rattle.tc_io.specs.Calls.{ReadsTillFault, ReadsWithin, Writes};
 ghost use Rattle.tc_io.specs.Taken.{FailsAmid, FailsWithin, Gives, TakesAll, TakesAtMost, TakesCount};
 ghost use Rattle.tc_io.specs.declared.all.ReadAll.TheVariants.{Fault, OutOfMemory};
 
@@ -60,6 +60,10 @@ pub fn read_all<S: Source>(alloc: Global, source: &mut S, limit: usize) -> Resul
     ensures reads { MatchResult result
         (λ bytes. ReadsWithin S.read_gives (vec_len bytes + 1) source.old source.new)
         (λ _. ReadsWithin S.read_gives (limit + 1) source.old source.new) }
+
+    // No read is made behind one that failed.
+    ensures stops { IsErrOf result ReadAll.Fault
+        → ReadsTillFault S.read_gives limit source.old source.new }
 {
     let mut bytes = Vec::new(alloc);
     let mut chunk = [0; 4096];

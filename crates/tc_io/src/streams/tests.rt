@@ -14,6 +14,26 @@ impl Read for Broken {
     }
 }
 
+/// A reader that fills what it is given, as long as it has bytes, and keeps how much room its last read
+/// had.
+#[derive(Drop)]
+struct Filling {
+    left: usize,
+    room: usize,
+}
+
+impl Read for Filling {
+    fn read(&mut self, buf: &mut [u8]) -> io::Result<usize> {
+        self.room = buf.len();
+        let count = self.left.min(buf.len());
+        for place in &mut buf[..count] {
+            *place = b'x';
+        }
+        self.left -= count;
+        Ok(count)
+    }
+}
+
 /// A reader of bytes that gives one in each read. It fails in the reads that are told so, by
 /// number from 0, and has then given nothing.
 #[derive(Drop)]
@@ -92,6 +112,19 @@ fn streams_of_std_are_passed_on(rt: HostRuntime) -> Result<(), Fail> {
         Err(Failed),
         "a write took nothing"
     );
+    Ok(())
+}
+
+/// A read hands its whole buffer on, so it gives as much as the reader does.
+#[test]
+fn a_reader_of_std_has_all_the_room(rt: HostRuntime) -> Result<(), Fail> {
+    let mut source = StdSource::new(Filling { left: 12, room: 0 });
+    for (size, count) in [(5, 5), (1, 1), (0, 0), (5, 5), (5, 1), (5, 0)] {
+        let mut buf = [0; 5];
+        assert_eq!(rt; source.read(&mut buf[..size]), Ok(count), "{size}");
+        assert_eq!(rt; source.reader.room, size);
+        assert!(rt; buf[..count].iter().all(|byte| *byte == b'x'), "{size}");
+    }
     Ok(())
 }
 

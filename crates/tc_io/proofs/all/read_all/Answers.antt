@@ -29,6 +29,15 @@ returns-in_err-count-clause-reads g c =
     let p = err_from_is_err_and c.from_residual.result c.from_residual.ensures.1 in
     rw p.1 (read_more _ _ _ _ _ _ _ _ c.loop-bytes.invariant.reads c.read.ensures.call (omega (arith, c.loop-bytes.invariant.within)))
 
+pub returns-in_err-count-clause-stops : goal.returns-in_err-count-clause-stops
+returns-in_err-count-clause-stops g c = λ _. (
+  c.loop-bytes.source,
+  _,
+  _,
+  (c.loop-bytes.invariant.reads.0, omega (arith, c.loop-bytes.invariant.within, c.loop-bytes.invariant.reads.1), c.loop-bytes.invariant.reads.2),
+  c.in_err-count.ensures.call,
+)
+
 pub returns-then-count-eq0-clause-reads : goal.returns-then-count-eq0-clause-reads
 returns-then-count-eq0-clause-reads g c = read_more _ _ _ _ _ _ _ _ c.loop-bytes.invariant.reads c.read.ensures.call (omega arith)
 
