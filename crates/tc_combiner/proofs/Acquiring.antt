@@ -1,7 +1,7 @@
 -- What became of a package that wants a lock, from its parts.
 use Rattle.std.proofs.Common.{◌≡◌, ◌+◌, min, ℕ, List, [], ◌∷◌, ◌++◌, refl, sym, ap, ◌∙◌, subst, arith, Option, Some, None, if◌then◌else◌}
-use Rattle.tc_combiner.proofs.Vocabulary.{AcquiredAs, Acquires, Acts, Behind, PassCall, Change, DeskStep, DidFirst, DidGrant, DidTake, Did_stop, Done, Enter, First, FirstAs, GoesOn, HallView, Hands, IsAtHall, IsAtRest, IsSameSeat, IsWaiting, Item, Link, LockView, Loose, MAX_NUMBER, MayAsk, MayGive, MayGoOn, Pack}
-use Rattle.tc_combiner.proofs.Vocabulary.{PackageView, PassView, PutAllBack, Ready, Runs, SeatView, Settled, Shipped, Taken, TakenAs, HallTerms, Turn, Waiting, Wants_lock, at_none, back, by_hands, change, counted, locked_in, next_turn, packed, place_back, put_call, ready_in, saw, threads, with_line, with_turns}
+use Rattle.tc_combiner.proofs.Vocabulary.{AcquiredAs, Acquires, Acts, Behind, PassCall, Change, DeskStep, DidFirst, DidGrant, DidTake, Did_stop, Done, Enter, First, FirstAs, GoesOn, HallView, DeskParts, IsAtHall, IsAtRest, IsSameSeat, IsWaiting, Item, Link, LockView, Loose, MAX_NUMBER, MayAsk, MayGive, MayGoOn, Pack}
+use Rattle.tc_combiner.proofs.Vocabulary.{PackageView, PassView, PutAllBack, Ready, Runs, SeatView, Settled, Shipped, Taken, TakenAs, HallTerms, Turn, Waiting, Wants_lock, at_none, back, by_parts, change, counted, locked_in, next_turn, packed, place_back, put_call, ready_in, saw, threads, with_line, with_turns}
 use Rattle.tc_combiner.proofs.Acting.{acts_by, acts_still, acts_then, owned_by, takes_none}
 use Rattle.tc_combiner.proofs.Owning.{counts_in, granted_with, takes_in}
 use Rattle.tc_combiner.proofs.Answering.{keeps_answers, wider}
@@ -9,7 +9,7 @@ use Rattle.tc_combiner.proofs.Packages.{no_other, plain_gives, taken_good, wants
 
 -- ---- packages that are put back
 
-pub puts_both : (q o : PackageView) (h g : Hands) (m : PassView) → h.aside ≡ Some o → Runs o → g.aside ≡ None → g.ready.items ≡ [] → Acts (put_call q (place_back q) ∷ []) (Pack q ∷ []) [] h.pass m → Acts (put_call o (place_back o) ∷ []) (Pack o ∷ []) [] m g.pass → PutAllBack q (change h g)
+pub puts_both : (q o : PackageView) (h g : DeskParts) (m : PassView) → h.aside ≡ Some o → Runs o → g.aside ≡ None → g.ready.items ≡ [] → Acts (put_call q (place_back q) ∷ []) (Pack q ∷ []) [] h.pass m → Acts (put_call o (place_back o) ∷ []) (Pack o ∷ []) [] m g.pass → PutAllBack q (change h g)
 puts_both q o h g m e runs none same a b =
     let ready : place_back o ≡ Ready = ap (λ x. if x then Ready else Done) runs in
     let first : Acts (put_call q (place_back q) ∷ []) (Pack q ∷ Pack o ∷ []) (Pack o ∷ []) h.pass m = record { own = a.own; adds = a.adds; moves = λ d us w. a.moves d (Pack o ∷ us) w } in
@@ -19,7 +19,7 @@ puts_both q o h g m e runs none same a b =
 
 -- ---- the first of its line
 
-pub takes_first : (k : HallTerms) (i n : ℕ) (l : LockView) (q r : PackageView) (h g : Hands) → IsAtRest q.image i l → DidGrant l Taken n q r → IsWaiting q i → MayGoOn k q → Acts [] [] (Loose l ∷ []) h.pass g.pass → g.ready.items ≡ h.ready.items → g.aside ≡ h.aside → DidFirst k i n q (change h g) (Some r)
+pub takes_first : (k : HallTerms) (i n : ℕ) (l : LockView) (q r : PackageView) (h g : DeskParts) → IsAtRest q.image i l → DidGrant l Taken n q r → IsWaiting q i → MayGoOn k q → Acts [] [] (Loose l ∷ []) h.pass g.pass → g.ready.items ≡ h.ready.items → g.aside ≡ h.aside → DidFirst k i n q (change h g) (Some r)
 takes_first k i n l q r h g rest d waits m a same keeps =
     let free : locked_in q l.number ≡ None = subst (λ (j : ℕ). locked_in q j ≡ None) (sym rest.number) waits.absent in
     let t : DidTake i l n q r = record { rest = rest; grant = d } in
@@ -30,7 +30,7 @@ takes_first k i n l q r h g rest d waits m a same keeps =
       became = (refl, keeps, (l, t), taken_good i l n _ h.pass.knows.worker k.image.value q r t m.of m.plain m.runs);
     }
 
-pub stops_first : (k : HallTerms) (i n : ℕ) (q : PackageView) (h m g : Hands) → Acts saw [] [] h.pass m.pass → m.aside ≡ h.aside → PutAllBack q (change m g) → DidFirst k i n q (change h g) None
+pub stops_first : (k : HallTerms) (i n : ℕ) (q : PackageView) (h m g : DeskParts) → Acts saw [] [] h.pass m.pass → m.aside ≡ h.aside → PutAllBack q (change m g) → DidFirst k i n q (change h g) None
 stops_first k i n q h m g a e p = record {
   calls = saw ++ back q h.aside;
   acts = subst (λ (x : Option PackageView). Acts (saw ++ back q h.aside) (Pack q ∷ packed h.aside) (packed x) h.pass g.pass) (sym p.aside)
@@ -41,16 +41,16 @@ stops_first k i n q h m g a e p = record {
 }
 
 -- the seats count for nothing there
-first_at : {A B : Type 0} (k : HallTerms) (q : PackageView) (seats : Change A) (others : Change B) (hands : Change Hands) (i n : ℕ) (cs : List PassCall) (r : Option PackageView) → FirstAs (by_hands k q seats hands) i n cs r → FirstAs (by_hands k q others hands) i n cs r
-first_at k q seats others hands i n cs (Some r) h = h
-first_at k q seats others hands i n cs None h = h
+first_at : {A B : Type 0} (k : HallTerms) (q : PackageView) (seats : Change A) (others : Change B) (parts : Change DeskParts) (i n : ℕ) (cs : List PassCall) (r : Option PackageView) → FirstAs (by_parts k q seats parts) i n cs r → FirstAs (by_parts k q others parts) i n cs r
+first_at k q seats others parts i n cs (Some r) h = h
+first_at k q seats others parts i n cs None h = h
 
 -- ---- with its number counted
 
 turned : (q p : PackageView) (n : ℕ) (xs ys : List Item) (ds : List PassCall) (v w : PassView) → p ≡ with_turns n q → Acts ds (Pack p ∷ xs) ys v w → Acts ds (Pack q ∷ xs) ys v w
 turned q p n xs ys ds v w e a = acts_then [] ds (Pack q ∷ xs) (Pack p ∷ xs) ys v v w (acts_still v (Pack q ∷ xs) (Pack p ∷ xs) (counts_in v.knows q p n xs e)) a
 
-pub at_counted : (hall : HallView) (q p : PackageView) (n : ℕ) (h : Hands) → p ≡ with_turns n q → IsAtHall hall (Pack q ∷ packed h.aside) h → IsAtHall hall (Pack p ∷ packed h.aside) h
+pub at_counted : (hall : HallView) (q p : PackageView) (n : ℕ) (h : DeskParts) → p ≡ with_turns n q → IsAtHall hall (Pack q ∷ packed h.aside) h → IsAtHall hall (Pack p ∷ packed h.aside) h
 at_counted hall q p n h e y = record { own = y.own; image = y.image; out = owned_by h.pass.knows h.pass.knows (Pack q ∷ packed h.aside) (Pack p ∷ packed h.aside) (counts_in h.pass.knows q p n (packed h.aside) e) y.out; aside = y.aside }
 
 -- the package p is q with its number counted, and u is the turn of that number
@@ -64,10 +64,10 @@ is_counted q p n t e f g = record {
   turn = let h : t ≡ q.context.thread = g ∙ ap (λ (c : PackageView). c.context.thread) f in λ j. record { thread = h j; number = e j };
 }
 
-module _ (hall : HallView) (i : ℕ) (u : Turn) (q p : PackageView) (s t : SeatView) (h g : Hands) (c : IsCounted q p u) (at : IsAtHall hall (Pack q ∷ packed h.aside) h) where
-  first_as : (cs : List PassCall) (r : Option PackageView) → FirstAs (by_hands hall.terms p at_none (change h g)) i u.number cs r → TakenAs (by_hands hall.terms q (change s t) (change h g)) i cs r
-  first_as cs r d = subst (λ (x : PackageView). FirstAs (by_hands hall.terms x (change s t) (change h g)) i (next_turn q).number cs r) c.is
-      (subst (λ (x : Turn). FirstAs (by_hands hall.terms p (change s t) (change h g)) i x.number cs r) c.turn (first_at hall.terms p at_none (change s t) (change h g) i u.number cs r d))
+module _ (hall : HallView) (i : ℕ) (u : Turn) (q p : PackageView) (s t : SeatView) (h g : DeskParts) (c : IsCounted q p u) (at : IsAtHall hall (Pack q ∷ packed h.aside) h) where
+  first_as : (cs : List PassCall) (r : Option PackageView) → FirstAs (by_parts hall.terms p at_none (change h g)) i u.number cs r → TakenAs (by_parts hall.terms q (change s t) (change h g)) i cs r
+  first_as cs r d = subst (λ (x : PackageView). FirstAs (by_parts hall.terms x (change s t) (change h g)) i (next_turn q).number cs r) c.is
+      (subst (λ (x : Turn). FirstAs (by_parts hall.terms p (change s t) (change h g)) i x.number cs r) c.turn (first_at hall.terms p at_none (change s t) (change h g) i u.number cs r d))
 
   pub goes_on : (r : PackageView) → t ≡ with_line s (Enter u First) → DidFirst hall.terms i u.number p (change h g) (Some r) → Acquires hall.terms i q (change s t) (change h g) (GoesOn r)
   goes_on r line d = record {
@@ -105,7 +105,7 @@ module _ (hall : HallView) (i : ℕ) (u : Turn) (q p : PackageView) (s t : SeatV
 pub still_asks : (k : HallTerms) (i : ℕ) (q p : PackageView) (n : ℕ) → p ≡ with_turns n q → MayAsk k i q → MayAsk k i p
 still_asks k i q p n e m = subst (λ (x : PackageView). MayAsk k i x) (sym e) (record { lock = m.lock; of = m.of; plain = record { thread = m.plain.thread; settled = m.plain.settled; granted = m.plain.granted; locks = m.plain.locks; ended = m.plain.ended; uncut = m.plain.uncut }; want = m.want })
 
-pub may_wait : (hall : HallView) (i : ℕ) (q : PackageView) (h : Hands) → IsAtHall hall (Pack q ∷ packed h.aside) h → MayAsk hall.terms i q → MayGive hall h.pass (Waiting i) q
+pub may_wait : (hall : HallView) (i : ℕ) (q : PackageView) (h : DeskParts) → IsAtHall hall (Pack q ∷ packed h.aside) h → MayAsk hall.terms i q → MayGive hall h.pass (Waiting i) q
 may_wait hall i q h at m = plain_gives hall (Waiting i) q (packed h.aside) h.pass h.aside at m.plain m.lock (record {
   ended = λ e. let n : ⊥ = omega arith in absurd n;
   runs = λ ne. wants_runs q i m.want;

@@ -1,6 +1,6 @@
 -- Calls of a pass, one after another, with each call that counts.
 use Rattle.std.proofs.Common.{◌≡◌, ◌≢◌, ◌==◌, ◌<◌, ◌≤◌, ◌+◌, ℕ, Bool, true, false, cond, arith, All, List, [], ◌∷◌, ◌++◌, length, length-append, filter, refl, sym, ap, ◌∙◌, subst, append_assoc, append-nil, Some, None, Option}
-use Rattle.tc_combiner.proofs.Vocabulary.{Acted, Acts, All-nil, AreAsked, AskedTimes, Asks, PassCall, Called, Came, Departure, HallView, Hands, HaveNoStop, IsAt, IsSamePass, Item, Knows, Leave, LineCall, MAX_HELD, MayAct, Miss, Moves, Next, Owned, Owns, PackageView, PassView, Put, Ready}
+use Rattle.tc_combiner.proofs.Vocabulary.{Acted, Acts, All-nil, AreAsked, AskedTimes, Asks, PassCall, Called, Came, Departure, HallView, DeskParts, HaveNoStop, IsAt, IsSamePass, Item, Knows, Leave, LineCall, MAX_HELD, MayAct, Miss, Moves, Next, Owned, Owns, PackageView, PassView, Put, Ready}
 use Rattle.tc_combiner.proofs.Vocabulary.{Refused, SawStopped, SeatView, Stop, Stopped, TakesDown, HallTerms, Tried, TriedAs, Try_stopped, Turn, WaitedAs, Waits, after_miss, after_stopped, change, counts, erase, nat_tests, outs, ready_in, saw, saw_if, threads, unanswered, with_line}
 use Rattle.std.proofs.lemmas.List.Elements.{filter-append, All-append}
 use Rattle.tc_combiner.proofs.Owning.{moves_none, rotate, unrotate}
@@ -150,7 +150,7 @@ takes_none n xs ys cs e none = (
   subst (λ (l : List ℕ). All (λ t. t < n) l) (sym none) (All-nil (λ t. t < n)),
 )
 
--- ---- hands
+-- ---- the parts of a desk
 
 pub owned_by : (v w : Knows) (xs ys : List Item) → Moves v w xs ys → Owned v xs → Owned w ys
 owned_by v w xs ys m o = (o.0, subst (λ (l : List Item). Owns o.0 (outs w) l) (append-nil ys) (m o.0 [] (subst (λ (l : List Item). Owns o.0 (outs v) l) (sym (append-nil xs)) o.1)))
@@ -166,13 +166,13 @@ alone hall x xs p a m = record { own = m.own; image = m.image; out = (erase (out
 pub at_after : (hall : HallView) (ds : List PassCall) (xs ys : List Item) (p q : PassView) (a b : Option PackageView) → IsAt hall xs p a → Acts ds xs ys p q → b ≡ a → IsAt hall ys q b
 at_after hall ds xs ys p q a b m c e = record { own = c.own.0 ∙ m.own; image = c.adds.told.image ∙ m.image; out = owned_by p.knows q.knows xs ys c.moves m.out; aside = λ x f. m.aside x (sym e ∙ f) }
 
--- the hands may act on, where they put no thread as ready
-pub may_still : (hall : HallView) (ds : List PassCall) (xs ys : List Item) (n : ℕ) (h g : Hands) → MayAct hall xs n h → Acts ds xs ys h.pass g.pass → g.ready.items ≡ h.ready.items → g.aside ≡ h.aside → MayAct hall ys n g
+-- the desk may act on, where they put no thread as ready
+pub may_still : (hall : HallView) (ds : List PassCall) (xs ys : List Item) (n : ℕ) (h g : DeskParts) → MayAct hall xs n h → Acts ds xs ys h.pass g.pass → g.ready.items ≡ h.ready.items → g.aside ≡ h.aside → MayAct hall ys n g
 may_still hall ds xs ys n h g m a r s = record { at = at_after hall ds xs ys h.pass g.pass h.aside g.aside m.at a s; room = subst (λ (l : List ℕ). length l + n ≤ MAX_HELD) (sym r) m.room }
 
 -- calls that put no thread as ready
-pub acted_by : (k : HallTerms) (ds : List PassCall) (xs ys : List Item) (h g : Hands) → Acts ds xs ys h.pass g.pass → g.ready.items ≡ h.ready.items → ready_in ds ≡ [] → Acted k ds xs ys (change h g)
+pub acted_by : (k : HallTerms) (ds : List PassCall) (xs ys : List Item) (h g : DeskParts) → Acts ds xs ys h.pass g.pass → g.ready.items ≡ h.ready.items → ready_in ds ≡ [] → Acted k ds xs ys (change h g)
 acted_by k ds xs ys h g a r none = record { acts = a; readied = takes_none (threads k) h.ready.items g.ready.items ds r none }
 
-pub acted_then : (k : HallTerms) (ds es : List PassCall) (xs ys zs : List Item) (h m g : Hands) → Acted k ds xs ys (change h m) → Acted k es ys zs (change m g) → Acted k (ds ++ es) xs zs (change h g)
+pub acted_then : (k : HallTerms) (ds es : List PassCall) (xs ys zs : List Item) (h m g : DeskParts) → Acted k ds xs ys (change h m) → Acted k es ys zs (change m g) → Acted k (ds ++ es) xs zs (change h g)
 acted_then k ds es xs ys zs h m g a b = record { acts = acts_then ds es xs ys zs h.pass m.pass g.pass a.acts b.acts; readied = takes_then (threads k) h.ready.items m.ready.items g.ready.items ds es a.readied b.readied }

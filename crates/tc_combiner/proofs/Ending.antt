@@ -1,8 +1,8 @@
 -- The locks of a thread that has ended, one after another.
 use Rattle.std.proofs.Common.{◌≡◌, ◌≢◌, ◌<◌, ◌≤◌, inl, inr, ℕ, zero, suc, ◌^◌, ◌+◌, ◌-◌, ◌*◌, Bool, true, false, not, ◌&&◌, ◌==◌, cond, List, [], ◌∷◌, ◌++◌, length, map, filter, get_or, refl, sym, ap, ◌∙◌, subst, subst₂, arith, append_assoc, append-nil, Option, Some, None, is_some, slice_index_or}
 use Rattle.std.proofs.lemmas.Bool.{and_right, cond-false, cond-true, or_right}
-use Rattle.tc_combiner.proofs.Vocabulary.{Acts, AreSameSeats, AreSeats, Asks, AtSeat, Block, PassCall, Change, DeskStep, DidLeave, DidLeaveAll, Did_stop, Done, Ending, Ends, HallView, Hands, Has_ended, IsAtHall, IsEmptied, IsInOrder, IsPlain, IsSeatFor, IsSoundPackage, Knows, LeftAs, LeftInOrder, LockView, MAX_HELD, MayAct, MayEnd, MayGive}
-use Rattle.tc_combiner.proofs.Vocabulary.{MayRelease, OneLeft, Pack, PackageView, PutAllBack, QueueView, SeatView, SeatsLeft, HallTerms, Turn, at_lock, back, bare, by_hands, change, dite, ends_thread, has, is_running, last_of, locked_in, locks, nat_tests, no_seat, packed, put_call, seat_at, threads, turn_of, unlocks, was_cut, ℕ_discrete}
+use Rattle.tc_combiner.proofs.Vocabulary.{Acts, AreSameSeats, AreSeats, Asks, AtSeat, Block, PassCall, Change, DeskStep, DidLeave, DidLeaveAll, Did_stop, Done, Ending, Ends, HallView, DeskParts, Has_ended, IsAtHall, IsEmptied, IsInOrder, IsPlain, IsSeatFor, IsSoundPackage, Knows, LeftAs, LeftInOrder, LockView, MAX_HELD, MayAct, MayEnd, MayGive}
+use Rattle.tc_combiner.proofs.Vocabulary.{MayRelease, OneLeft, Pack, PackageView, PutAllBack, QueueView, SeatView, SeatsLeft, HallTerms, Turn, at_lock, back, bare, by_parts, change, dite, ends_thread, has, is_running, last_of, locked_in, locks, nat_tests, no_seat, packed, put_call, seat_at, threads, turn_of, unlocks, was_cut, ℕ_discrete}
 use Rattle.std.proofs.lemmas.Bool.Decides.{eqb_tells}
 use Rattle.std.specs.List.{range_with_len}
 use Rattle.tc_isa.specs.Sets.{without_lock, locks_of}
@@ -107,14 +107,14 @@ order_any x aside b (i ∷ is) cs was end h =
     )
 
 -- the lock of a package that is q but for the locks before
-left_was : (k : HallTerms) (b : Block) (q p r : PackageView) (i : ℕ) (s z t y : SeatView) (hands : Change Hands) (h g : Hands) (was is : Bool) → bare p ≡ bare q → p.numbers ≡ q.numbers → z ≡ s → y ≡ t → (d : DidLeave k i b (change p r) (change z t) (change h g) (change was is))
-    → LeftAs (by_hands k q (change s y) hands) d.state b (turn_of q i) d.calls was is
-left_was k b q p r i s z t y hands h g was is same numbers first last d =
-    let at : LeftAs (by_hands k q (change z t) hands) d.state b (turn_of p i) d.calls was is = left_any (by_hands k p (change z t) (change h g)) hands.old.pass.knows.worker q (change hands.old.aside hands.new.aside) d.state b (turn_of p i) d.calls was is d.became in
-    subst (λ (u : Turn). LeftAs (by_hands k q (change s y) hands) d.state b u d.calls was is) (same_turn p q i same numbers)
-    (subst₂ (λ (c e : SeatView). LeftAs (by_hands k q (change c e) hands) d.state b (turn_of p i) d.calls was is) first (sym last) at)
+left_was : (k : HallTerms) (b : Block) (q p r : PackageView) (i : ℕ) (s z t y : SeatView) (parts : Change DeskParts) (h g : DeskParts) (was is : Bool) → bare p ≡ bare q → p.numbers ≡ q.numbers → z ≡ s → y ≡ t → (d : DidLeave k i b (change p r) (change z t) (change h g) (change was is))
+    → LeftAs (by_parts k q (change s y) parts) d.state b (turn_of q i) d.calls was is
+left_was k b q p r i s z t y parts h g was is same numbers first last d =
+    let at : LeftAs (by_parts k q (change z t) parts) d.state b (turn_of p i) d.calls was is = left_any (by_parts k p (change z t) (change h g)) parts.old.pass.knows.worker q (change parts.old.aside parts.new.aside) d.state b (turn_of p i) d.calls was is d.became in
+    subst (λ (u : Turn). LeftAs (by_parts k q (change s y) parts) d.state b u d.calls was is) (same_turn p q i same numbers)
+    (subst₂ (λ (c e : SeatView). LeftAs (by_parts k q (change c e) parts) d.state b (turn_of p i) d.calls was is) first (sym last) at)
 
-pub leaves_first : (hall : HallView) (b : Block) (q : PackageView) (ss : List SeatView) (h : Hands) → MayAct hall (Pack q ∷ []) (length (locks_of b.held)) h → ((j : ℕ) → is_some (locked_in q j) ≡ has b.held j) → Ending hall.terms b (change q q) b.held (change ss ss) (change h h) false
+pub leaves_first : (hall : HallView) (b : Block) (q : PackageView) (ss : List SeatView) (h : DeskParts) → MayAct hall (Pack q ∷ []) (length (locks_of b.held)) h → ((j : ℕ) → is_some (locked_in q j) ≡ has b.held j) → Ending hall.terms b (change q q) b.held (change ss ss) (change h h) false
 leaves_first hall b q ss h m locks = record {
   calls = [];
   acted = acted_by hall.terms [] (Pack q ∷ []) (Pack q ∷ []) h h (acts_none h.pass (Pack q ∷ [])) refl refl;
@@ -133,11 +133,11 @@ leaves_first hall b q ss h m locks = record {
   order = λ us es end agree l. l;
 }
 
-leaves_one : (k : HallTerms) (b : Block) (q p r : PackageView) (rest next i : ℕ) (ss ts us : List SeatView) (h g m : Hands) (was is : Bool) → Ending k b (change q p) rest (change ss ts) (change h g) was → has rest i ≡ true → ((j : ℕ) → has rest j ≡ true → i ≤ j) → i < 32 → ((j : ℕ) → has next j ≡ (not (j == i) && has rest j))
+leaves_one : (k : HallTerms) (b : Block) (q p r : PackageView) (rest next i : ℕ) (ss ts us : List SeatView) (h g m : DeskParts) (was is : Bool) → Ending k b (change q p) rest (change ss ts) (change h g) was → has rest i ≡ true → ((j : ℕ) → has rest j ≡ true → i ≤ j) → i < 32 → ((j : ℕ) → has next j ≡ (not (j == i) && has rest j))
     → AtSeat i ts us (λ s t. DidLeave k i b (change p r) (change s t) (change g m) (change was is)) → Ending k b (change q r) next (change ss us) (change h m) is
 leaves_one k b q p r rest next i ss ts us h g m was is y waits least small each at =
     let d = at.here in
-    let few = few_more d (few_left (by_hands k p (change (seat_at ts i) (seat_at us i)) (change g m)) d.state b (turn_of p i) d.calls was is d.became) in record {
+    let few = few_more d (few_left (by_parts k p (change (seat_at ts i) (seat_at us i)) (change g m)) d.state b (turn_of p i) d.calls was is d.became) in record {
       calls = y.calls ++ d.calls;
       acted = acted_then k y.calls d.calls (Pack q ∷ []) (Pack p ∷ []) (Pack r ∷ []) h g m y.acted d.acted;
       aside = d.aside ∙ y.aside;
@@ -156,8 +156,8 @@ leaves_one k b q p r rest next i ss ts us h g m was is y waits least small each 
           (λ (ne : j ≢ i). subst (λ (a : SeatView). Asks (turn_of q j) (seat_at ss j) a) (sym (at.others j ne)) (y.asks j held (gone_in rest next i j each f ne)));
       order = λ vs es end agree l.
           let here : seat_at vs i ≡ seat_at us i = agree i (each i ∙ but_lock (i == i) (has rest i) true (grind (arith, nat_tests))) in
-          let x : DeskStep (List SeatView) = by_hands k q (change ss vs) (change h g) in
-          let z : DeskStep (List SeatView) = by_hands k q (change ss vs) (change h m) in
+          let x : DeskStep (List SeatView) = by_parts k q (change ss vs) (change h g) in
+          let z : DeskStep (List SeatView) = by_parts k q (change ss vs) (change h m) in
           let one : OneLeft (at_lock i x) b i was = record {
             state = d.state;
             here = sym (y.left i waits) ∙ d.taken.was;
@@ -172,21 +172,21 @@ leaves_one k b q p r rest next i ss ts us h g m was is y waits least small each 
           (y.order vs (d.calls ++ es) end (λ j f. agree j (each j ∙ and_right (not (j == i)) (has rest j) f) ∙ at.others j (λ e. let z : has rest i ≡ false = ap (has rest) (sym e) ∙ f in let n : ⊥ = cc in n)) all));
     }
 
-module _ {k : HallTerms} {b : Block} {q p : PackageView} {rest : ℕ} {ss ts : List SeatView} {h g : Hands} {was : Bool} (y : Ending k b (change q p) rest (change ss ts) (change h g) was) where
+module _ {k : HallTerms} {b : Block} {q p : PackageView} {rest : ℕ} {ss ts : List SeatView} {h g : DeskParts} {was : Bool} (y : Ending k b (change q p) rest (change ss ts) (change h g) was) where
   -- the run was not stopped before
-  pub leaves_more : {r : PackageView} {next i : ℕ} {us : List SeatView} {m : Hands} {is : Bool} → was ≡ false → has rest i ≡ true → ((j : ℕ) → has rest j ≡ true → i ≤ j) → i < 32 → ((j : ℕ) → has next j ≡ (not (j == i) && has rest j))
+  pub leaves_more : {r : PackageView} {next i : ℕ} {us : List SeatView} {m : DeskParts} {is : Bool} → was ≡ false → has rest i ≡ true → ((j : ℕ) → has rest j ≡ true → i ≤ j) → i < 32 → ((j : ℕ) → has next j ≡ (not (j == i) && has rest j))
       → AtSeat i ts us (λ s t. DidLeave k i b (change p r) (change s t) (change g m) (change false is)) → Ending k b (change q r) next (change ss us) (change h m) is
   leaves_more {r = r} {next = next} {i = i} {us = us} {m = m} {is = is} e waits least small each at = leaves_one k b q p r rest next i ss ts us h g m false is (subst (λ (x : Bool). Ending k b (change q p) rest (change ss ts) (change h g) x) e y) waits least small each at
 
   -- it was
-  pub leaves_home : {r : PackageView} {next i : ℕ} {m : Hands} → was ≡ true → has rest i ≡ true → ((j : ℕ) → has rest j ≡ true → i ≤ j) → i < 32 → ((j : ℕ) → has next j ≡ (not (j == i) && has rest j))
+  pub leaves_home : {r : PackageView} {next i : ℕ} {m : DeskParts} → was ≡ true → has rest i ≡ true → ((j : ℕ) → has rest j ≡ true → i ≤ j) → i < 32 → ((j : ℕ) → has next j ≡ (not (j == i) && has rest j))
       → ((s : SeatView) → DidLeave k i b (change p r) (change s s) (change g m) (change true true)) → Ending k b (change q r) next (change ss ts) (change h m) was
   leaves_home {r = r} {next = next} {i = i} {m = m} e waits least small each home =
       let at : AtSeat i ts ts (λ s t. DidLeave k i b (change p r) (change s t) (change g m) (change true true)) = record { same = seats_first ts; others = λ j ne. refl; here = home (seat_at ts i) } in
       subst (λ (x : Bool). Ending k b (change q r) next (change ss ts) (change h m) x) (sym e)
       (leaves_one k b q p r rest next i ss ts ts h g m true true (subst (λ (x : Bool). Ending k b (change q p) rest (change ss ts) (change h g) x) e y) waits least small each at)
 
-pub left_all : {k : HallTerms} {b : Block} {q p : PackageView} {rest : ℕ} {ss ts : List SeatView} {h g : Hands} {now : Bool} → rest ≡ 0 → Ending k b (change q p) rest (change ss ts) (change h g) now → DidLeaveAll k b (change q p) (change ss ts) (change h g) now
+pub left_all : {k : HallTerms} {b : Block} {q p : PackageView} {rest : ℕ} {ss ts : List SeatView} {h g : DeskParts} {now : Bool} → rest ≡ 0 → Ending k b (change q p) rest (change ss ts) (change h g) now → DidLeaveAll k b (change q p) (change ss ts) (change h g) now
 unfolding locks_of
 left_all {k = k} {b = b} {q = q} {p = p} {rest = rest} {ss = ss} {ts = ts} {h = h} {g = g} {now = now} none y0 = let y : Ending k b (change q p) 0 (change ss ts) (change h g) now = subst (λ (n : ℕ). Ending k b (change q p) n (change ss ts) (change h g) now) none y0 in record {
   calls = y.calls;
@@ -194,16 +194,16 @@ left_all {k = k} {b = b} {q = q} {p = p} {rest = rest} {ss = ss} {ts = ts} {h = 
   aside = y.aside;
   emptied = record { same = y.same; granted = y.granted; free = λ j. y.gone j (has_none j) };
   seats_left = record { count = y.count; others = y.others; asks = λ j held. y.asks j held (has_none j) };
-  order = subst (λ (c : List PassCall). LeftInOrder (by_hands k q (change ss ts) (change h g)) b (locks_of b.held) c false now) (append-nil y.calls) (y.order ts [] now (λ j f. refl) (refl, refl));
+  order = subst (λ (c : List PassCall). LeftInOrder (by_parts k q (change ss ts) (change h g)) b (locks_of b.held) c false now) (append-nil y.calls) (y.order ts [] now (λ j f. refl) (refl, refl));
 }
 
 -- ---- what the next may ask
 
-pub may_next : {hall : HallView} {b : Block} {q p : PackageView} {rest n : ℕ} {ss ts : List SeatView} {h g : Hands} {now : Bool} (next i : ℕ) → MayAct hall (Pack q ∷ []) n h → Ending hall.terms b (change q p) rest (change ss ts) (change h g) now → has rest i ≡ true → i < 32 → ((j : ℕ) → has next j ≡ (not (j == i) && has rest j))
+pub may_next : {hall : HallView} {b : Block} {q p : PackageView} {rest n : ℕ} {ss ts : List SeatView} {h g : DeskParts} {now : Bool} (next i : ℕ) → MayAct hall (Pack q ∷ []) n h → Ending hall.terms b (change q p) rest (change ss ts) (change h g) now → has rest i ≡ true → i < 32 → ((j : ℕ) → has next j ≡ (not (j == i) && has rest j))
     → MayAct hall (Pack p ∷ []) 1 g
 may_next {hall = hall} {q = q} {p = p} {rest = rest} {h = h} {g = g} next i m y waits small each = record { at = at_after hall y.calls (Pack q ∷ []) (Pack p ∷ []) h.pass g.pass h.aside g.aside m.at y.acted.acts y.aside; room = (let less = less_few rest next i each waits small in let old = y.room in omega arith) }
 
-pub may_release : {k : HallTerms} {b : Block} {q p : PackageView} {rest i : ℕ} {ss ts : List SeatView} {h g : Hands} {now : Bool} → MayEnd k h.pass.knows b q → Ending k b (change q p) rest (change ss ts) (change h g) now → has rest i ≡ true → MayRelease k g.pass.knows i b p
+pub may_release : {k : HallTerms} {b : Block} {q p : PackageView} {rest i : ℕ} {ss ts : List SeatView} {h g : DeskParts} {now : Bool} → MayEnd k h.pass.knows b q → Ending k b (change q p) rest (change ss ts) (change h g) now → has rest i ≡ true → MayRelease k g.pass.knows i b p
 may_release {k = k} {b = b} {i = i} m y waits = record {
   lock = m.known i (y.within i waits);
   of = ap (λ (c : PackageView). c.image) y.same ∙ (m.of ∙ sym y.acted.acts.adds.told.image);
@@ -241,20 +241,20 @@ emptied_order t v b q p m s h = record {
   ready = λ g e. let f : p.granted ≡ None = h.granted ∙ m.granted in let k : ⊥ = cc in absurd k;
 }
 
-module _ {hall : HallView} {b : Block} {q p : PackageView} {ss ts : List SeatView} {h m : Hands} (may : MayEnd hall.terms h.pass.knows b q) (hands : MayAct hall (Pack q ∷ packed h.aside) MAX_HELD h) where
+module _ {hall : HallView} {b : Block} {q p : PackageView} {ss ts : List SeatView} {h m : DeskParts} (may : MayEnd hall.terms h.pass.knows b q) (parts : MayAct hall (Pack q ∷ packed h.aside) MAX_HELD h) where
   pub at_end : (end : Bool) → DidLeaveAll hall.terms b (change q p) (change ss ts) (change h m) end → IsAtHall hall (Pack p ∷ packed m.aside) m
-  at_end end d = then_at hall d.calls q p h m hands.at d.acted d.aside
+  at_end end d = then_at hall d.calls q p h m parts.at d.acted d.aside
 
   pub may_done : (end : Bool) → IsSoundPackage q → DidLeaveAll hall.terms b (change q p) (change ss ts) (change h m) end → MayGive hall m.pass Done p
   may_done end s d = plain_gives hall Done p (packed m.aside) m.pass m.aside (at_end end d) (emptied_plain hall.terms h.pass.knows b q p may d.emptied) tt (emptied_order hall.terms h.pass.knows b q p may s d.emptied)
 
-  then_order : (g : Hands) (end : Bool) (d : DidLeaveAll hall.terms b (change q p) (change ss ts) (change h m) end) → LeftInOrder (by_hands hall.terms q (change ss ts) (change h g)) b (locks_of b.held) d.calls false end
-  then_order g end d = order_any (by_hands hall.terms q (change ss ts) (change h m)) (change h.aside g.aside) b (locks_of b.held) d.calls false end d.order
+  then_order : (g : DeskParts) (end : Bool) (d : DidLeaveAll hall.terms b (change q p) (change ss ts) (change h m) end) → LeftInOrder (by_parts hall.terms q (change ss ts) (change h g)) b (locks_of b.held) d.calls false end
+  then_order g end d = order_any (by_parts hall.terms q (change ss ts) (change h m)) (change h.aside g.aside) b (locks_of b.held) d.calls false end d.order
 
   done_by : (end is : Bool) → is ≡ end → DidLeaveAll hall.terms b (change q p) (change ss ts) (change h m) is → DidLeaveAll hall.terms b (change q p) (change ss ts) (change h m) end
   done_by end is e d = subst (λ (x : Bool). DidLeaveAll hall.terms b (change q p) (change ss ts) (change h m) x) e d
 
-  ends_as : (g : Hands) → DidLeaveAll hall.terms b (change q p) (change ss ts) (change h m) false → Acts (put_call p Done ∷ []) (Pack p ∷ []) [] m.pass g.pass → g.ready.items ≡ m.ready.items → g.aside ≡ m.aside → Ends hall.terms b q (change ss ts) (change h g) Has_ended
+  ends_as : (g : DeskParts) → DidLeaveAll hall.terms b (change q p) (change ss ts) (change h m) false → Acts (put_call p Done ∷ []) (Pack p ∷ []) [] m.pass g.pass → g.ready.items ≡ m.ready.items → g.aside ≡ m.aside → Ends hall.terms b q (change ss ts) (change h g) Has_ended
   ends_as g d a e f = record {
     calls = d.calls ++ put_call p Done ∷ [];
     answers = then_answers hall.terms d.calls (put_call p Done ∷ []) q p h m g Has_ended d.acted d.aside
@@ -262,17 +262,17 @@ module _ {hall : HallView} {b : Block} {q p : PackageView} {ss ts : List SeatVie
     became = (d.seats_left, (p, d.calls, refl, d.emptied, then_order g false d, f ∙ d.aside));
   }
 
-  stops_as : (g : Hands) → DidLeaveAll hall.terms b (change q p) (change ss ts) (change h m) true → PutAllBack p (change m g) → Ends hall.terms b q (change ss ts) (change h g) Did_stop
+  stops_as : (g : DeskParts) → DidLeaveAll hall.terms b (change q p) (change ss ts) (change h m) true → PutAllBack p (change m g) → Ends hall.terms b q (change ss ts) (change h g) Did_stop
   stops_as g d a = record {
     calls = d.calls ++ back p m.aside;
     answers = then_answers hall.terms d.calls (back p m.aside) q p h m g Did_stop d.acted d.aside (back_answers hall.terms p m g a);
     became = (d.seats_left, (p, d.calls, ap (λ (o : Option PackageView). d.calls ++ back p o) d.aside, d.emptied, then_order g true d, a.aside));
   }
 
-  pub ends_done : (g : Hands) (is : Bool) → is ≡ false → DidLeaveAll hall.terms b (change q p) (change ss ts) (change h m) is → Acts (put_call p Done ∷ []) (Pack p ∷ []) [] m.pass g.pass → g.ready.items ≡ m.ready.items → g.aside ≡ m.aside → Ends hall.terms b q (change ss ts) (change h g) Has_ended
+  pub ends_done : (g : DeskParts) (is : Bool) → is ≡ false → DidLeaveAll hall.terms b (change q p) (change ss ts) (change h m) is → Acts (put_call p Done ∷ []) (Pack p ∷ []) [] m.pass g.pass → g.ready.items ≡ m.ready.items → g.aside ≡ m.aside → Ends hall.terms b q (change ss ts) (change h g) Has_ended
   ends_done g is e d a f n = ends_as g (done_by false is e d) a f n
 
-  pub ends_stopped : (g : Hands) (is : Bool) → is ≡ true → DidLeaveAll hall.terms b (change q p) (change ss ts) (change h m) is → PutAllBack p (change m g) → Ends hall.terms b q (change ss ts) (change h g) Did_stop
+  pub ends_stopped : (g : DeskParts) (is : Bool) → is ≡ true → DidLeaveAll hall.terms b (change q p) (change ss ts) (change h m) is → PutAllBack p (change m g) → Ends hall.terms b q (change ss ts) (change h g) Did_stop
   ends_stopped g is e d a = stops_as g (done_by true is e d) a
 
 pub same_seats : (b : Block) (q : PackageView) (ss ts : List SeatView) → SeatsLeft b q ss ts → AreSameSeats ss ts

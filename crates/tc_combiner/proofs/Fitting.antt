@@ -1,7 +1,7 @@
 -- A desk that fits a bench still fits it after its calls.
 use Rattle.std.proofs.Common.{◌≡◌, ◌<◌, ◌≤◌, ℕ, List, length, get_or, map, Vec, sym, ap, ◌∙◌, subst, subst₂, ◌∷◌, ◌++◌, arith, Option, Some}
-use Rattle.tc_combiner.proofs.Vocabulary.{AreSameSeats, AreSeats, BenchView, DeskView, Did_adopt, FitsBench, GoesOn, Hands, HasSeats, IsAside, IsAt, IsInHand, IsSamePass, IsSeatFor, IsSoundPackage, Item, Keeps, KeepsParts, Knows, MayAcquire, MayAsk, Owned}
-use Rattle.tc_combiner.proofs.Vocabulary.{Pack, PackageView, PassView, QueueView, Rest, SeatView, Settled, Shown, WantIsLawful, Wants_lock, carried, desk_of, desk_with, get_or_default, length-map, locks, no_seat, packed, seat_at, threads}
+use Rattle.tc_combiner.proofs.Vocabulary.{AreSameSeats, AreSeats, BenchView, DeskView, Did_adopt, FitsBench, GoesOn, DeskParts, HasSeats, IsAside, IsAt, IsInHand, IsSamePass, IsSeatFor, IsSoundPackage, Item, Keeps, KeepsParts, Knows, MayAcquire, MayAsk, Owned}
+use Rattle.tc_combiner.proofs.Vocabulary.{Pack, PackageView, PassView, QueueView, Sleeping, SeatView, Settled, Shown, WantIsLawful, Wants_lock, carried, desk_of, desk_with, get_or_default, length-map, locks, no_seat, packed, seat_at, threads}
 use Rattle.tc_combiner.proofs.Acting.{owned_by}
 use Rattle.tc_combiner.proofs.Packages.{wants_runs}
 use Rattle.tc_context.proofs.Staging.{wants_uncut}
@@ -49,7 +49,7 @@ kept b q d e r fits hand k =
 
 -- so it is of the desk whose parts these are, and what else was done with these parts was done with the desk
 module _ {S Z : Type 0} (seen : S → SeatView) (v : Vec S Z) (xs ts : List S) (e : xs ≡ v.items) where
-  pub kept_back : (P : DeskView → DeskView → Type 0) (b b' : BenchView) (q : PackageView) (x y : Rest) (h g : Hands) (d : DeskView) (r : Settled) → b ≡ b' → desk_with h (map seen v.items) x ≡ d → FitsBench b' d → IsInHand d q → KeepsParts b.hall.terms q (desk_with h (map seen xs) x) (desk_with g (map seen ts) y) r
+  pub kept_back : (P : DeskView → DeskView → Type 0) (b b' : BenchView) (q : PackageView) (x y : Sleeping) (h g : DeskParts) (d : DeskView) (r : Settled) → b ≡ b' → desk_with h (map seen v.items) x ≡ d → FitsBench b' d → IsInHand d q → KeepsParts b.hall.terms q (desk_with h (map seen xs) x) (desk_with g (map seen ts) y) r
       → P (desk_with h (map seen xs) x) (desk_with g (map seen ts) y) → Keeps b' q d (desk_with g (map seen (with_items v ts).items) y) r × P d (desk_with g (map seen (with_items v ts).items) y)
   kept_back P b b' q x y h g d r bench is fits hand keeps did =
       let after : List S → DeskView = λ zs. desk_with g (map seen zs) y in
@@ -77,7 +77,7 @@ may_want b b' d q i bench fits m sound law want =
       want = want;
     }
 
--- the desk's hands at the bench
+-- the parts of the desk at the bench
 pub at_bench : (b b' : BenchView) (d : DeskView) (q : PackageView) (p : PassView) (a : Option PackageView) → b ≡ b' → FitsBench b' d → p ≡ d.pass → a ≡ d.aside → IsInHand d q → IsAt b.hall (Pack q ∷ packed a) p a
 at_bench b b' d q p a bench fits e n hand = let f : FitsBench b d = subst (λ (x : BenchView). FitsBench x d) (sym bench) fits in record {
   own = ap (λ (x : PassView). x.table) e ∙ f.own;

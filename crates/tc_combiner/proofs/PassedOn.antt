@@ -1,8 +1,8 @@
 -- What became of a released lock, from its parts.
-use Rattle.std.proofs.Common.{inr, ⊎_elim, length-append, ◌&&◌, ◌≡◌, ◌<◌, ◌≤◌, ◌+◌, ℕ, true, false, List, [], ◌∷◌, ◌++◌, length, refl, sym, ap, ◌∙◌, subst, Some, ◌≢◌, Bool, not, ◌==◌, if◌then◌else◌, arith, Option, None}
-use Rattle.tc_combiner.proofs.Vocabulary.{Acts, Adopted, All-cons, All-nil, Asks, Block, PassCall, DeskStep, DidGrant, DidHand, DidPass, DidTakeOut, End, FollowedAs, Free, GaveUp, Gone, Granted, HallView, HandedAs, Hands, IsAt, IsAtRest, IsLeft, IsNumber, IsReleased, IsSoundPackage, IsTaken, IsTurn, IsWaiter, Item, Kind, Knows}
-use Rattle.tc_combiner.proofs.Vocabulary.{LeftAs, LockView, Loose, MayAct, MayBringHome, MayGive, MayHandOn, MayPassTo, MayRelease, Moves, Next, Outs, Owned, Owns, Pack, PackageView, PassView, Passed, Ready, Releases, EndsSection, SeatTells, SeatView, Shown, Shows, Takes, HallTerms, Turn, Unlocked, Was_adopted, Was_stopped, adopts}
-use Rattle.tc_combiner.proofs.Vocabulary.{and_parts, bare, blocks_of, by_hands, change, ends_section, ends_thread, granted_lock, grants_adopted, handed, has, is_only, is_passed, last_of, locked_in, locks, may_adopt, nat_tests, outs, passes_to, put_call, ready_in, run_of, saw, threads, turn_of, unless, unlocks, was_cut}
+use Rattle.std.proofs.Common.{⊎_elim, length-append, ◌&&◌, ◌≡◌, ◌<◌, ◌≤◌, ◌+◌, ℕ, true, false, List, [], ◌∷◌, ◌++◌, length, refl, sym, ap, ◌∙◌, subst, Some, ◌≢◌, Bool, not, ◌==◌, if◌then◌else◌, arith, Option, None}
+use Rattle.tc_combiner.proofs.Vocabulary.{Acts, Adopted, All-cons, All-nil, Asks, Block, PassCall, Change, DeskStep, DidGrant, DidGrantNext, DidPass, DidTakeOut, End, FollowedAs, Free, GaveUp, Granted, HallView, GrantedAs, DeskParts, IsAt, IsAtRest, IsLeft, IsNumber, IsReleased, IsSoundPackage, IsTaken, IsTurn, IsWaiter, Item, Kind, Knows}
+use Rattle.tc_combiner.proofs.Vocabulary.{LeftAs, LockView, Loose, MayAct, MayBringHome, MayGive, MayGrantNext, MayPassTo, MayRelease, Moves, Next, Outs, Owned, Owns, Pack, PackageView, PassView, Passed, Ready, Releases, EndsSection, SeatTells, SeatView, Shown, Shows, Takes, HallTerms, Turn, Unlocked, Was_adopted, Was_granted, Was_stopped, Went_home, adopts}
+use Rattle.tc_combiner.proofs.Vocabulary.{and_parts, bare, blocks_of, by_parts, change, ends_section, ends_thread, granted_lock, grants_adopted, adopted_in, has, is_only, is_passed, last_of, locked_in, locks, may_adopt, nat_tests, outs, passes_to, put_call, ready_in, run_of, saw, threads, turn_of, unless, unlocks, was_cut}
 use Rattle.tc_context.specs.View.{IsAt as IsKeptAt}
 use Rattle.std.proofs.lemmas.Bool.{and_right}
 use Rattle.tc_nested.proofs.Allowing.{adopted, granted}
@@ -83,26 +83,31 @@ few_none : (cs ds : List PassCall) → cs ≡ ds → ready_in ds ≡ [] → leng
 few_none cs ds e none = let n : length (ready_in cs) ≡ 0 = ap (λ (c : List PassCall). length (ready_in c)) e ∙ ap length none in omega arith
 
 pub few_followed : (x : DeskStep SeatView) (l : LockView) (b : Block) (own : Turn) (cs : List PassCall) (r : Passed) → FollowedAs x l b own cs r → length (ready_in cs) ≤ 1
-few_followed x l b own cs Gone h = ⊎_elim (λ y. few_none cs _ y.1 refl) (λ y. let n : length (ready_in cs) ≡ 1 = ap (λ (c : List PassCall). length (ready_in c)) y.2.3 in omega arith) h
+few_followed x l b own cs Went_home h = few_none cs _ h.1 refl
+few_followed x l b own cs Was_granted h = let n : length (ready_in cs) ≡ 1 = ap (λ (c : List PassCall). length (ready_in c)) h.2.3 in omega arith
 few_followed x l b own cs (Was_adopted q) h = few_none cs _ h.2.3 refl
 few_followed x l b own cs Was_stopped h = few_none cs _ h refl
 
 pub few_left : (x : DeskStep SeatView) (l : LockView) (b : Block) (own : Turn) (cs : List PassCall) (was is : Bool) → LeftAs x l b own cs was is → length (ready_in cs) ≤ 1
-few_left x l b own cs false false h = few_followed x l b own cs Gone h
+few_left x l b own cs false false h = ⊎_elim (few_followed x l b own cs Went_home) (few_followed x l b own cs Was_granted) h
 few_left x l b own cs false true h = few_followed x l b own cs Was_stopped h
 few_left x l b own cs true false h = absurd h
 few_left x l b own cs true true h = few_none cs _ h.1 refl
 
+-- what became of a lock, in other words
+pub gave_as : {k : HallTerms} {i : ℕ} {q : Change PackageView} {xs : List Item} {seat : Change SeatView} {parts : Change DeskParts} {How Other : LockView → List PassCall → Type 0} (d : GaveUp k i q xs seat parts How) → Other d.state d.calls → GaveUp k i q xs seat parts Other
+gave_as d how = record { calls = d.calls; acted = d.acted; aside = d.aside; state = d.state; taken = d.taken; asks = d.asks; became = how }
+
 -- so the list of ready threads has one more at most
-pub few_more : {k : HallTerms} {i : ℕ} {q p : PackageView} {xs : List Item} {s t : SeatView} {h g : Hands} {How : LockView → List PassCall → Type 0} (d : GaveUp k i (change q p) xs (change s t) (change h g) How) → length (ready_in d.calls) ≤ 1 → length g.ready.items ≤ length h.ready.items + 1
+pub few_more : {k : HallTerms} {i : ℕ} {q p : PackageView} {xs : List Item} {s t : SeatView} {h g : DeskParts} {How : LockView → List PassCall → Type 0} (d : GaveUp k i (change q p) xs (change s t) (change h g) How) → length (ready_in d.calls) ≤ 1 → length g.ready.items ≤ length h.ready.items + 1
 few_more {h = h} {g = g} d few =
     let all : length g.ready.items ≡ length h.ready.items + length (ready_in d.calls) = ap (λ (l : List ℕ). length l) d.acted.readied.0 ∙ length-append h.ready.items (ready_in d.calls) in
     omega arith
 
 -- ---- a lock for a waiter
 
-pub is_adopted : (k : HallTerms) (b : Block) (l : LockView) (u : Turn) (w q : PackageView) (h : Hands) → IsWaiter u.thread l.number k.image.value w → IsReleased k h.pass.knows b l → DidGrant l Adopted u.number w q → adopts l b ≡ true
-    → DidHand k l b u (Pack w ∷ Loose l ∷ []) (change h h) (Was_adopted q)
+pub is_adopted : (k : HallTerms) (b : Block) (l : LockView) (u : Turn) (w q : PackageView) (h : DeskParts) → IsWaiter u.thread l.number k.image.value w → IsReleased k h.pass.knows b l → DidGrant l Adopted u.number w q → adopts l b ≡ true
+    → DidGrantNext k l b u (Pack w ∷ Loose l ∷ []) (change h h) (Was_adopted q)
 is_adopted k b l u w q h i r d a = record {
   calls = [];
   acted = acted_by k [] (Pack w ∷ Loose l ∷ []) (Pack q ∷ []) h h (acts_still h.pass (Pack w ∷ Loose l ∷ []) (Pack q ∷ []) (granted_moves h.pass.knows l Adopted u.number w q d i.waits.absent)) refl refl;
@@ -113,21 +118,21 @@ is_adopted k b l u w q h i r d a = record {
 known_waiter : (k : HallTerms) (l : LockView) (u : Turn) (w q : PackageView) → IsWaiter u.thread l.number k.image.value w → IsTurn (threads k) u → DidGrant l Granted u.number w q → q.context.thread < threads k
 known_waiter k l u w q i t d = subst (λ (n : ℕ). n < threads k) (sym (ap (λ (c : PackageView). c.context.thread) d.is ∙ i.thread)) t.thread
 
-pub may_put : (hall : HallView) (b : Block) (l : LockView) (u : Turn) (w q : PackageView) (h : Hands) → MayHandOn hall l b u (Pack w ∷ Loose l ∷ []) h → IsWaiter u.thread l.number hall.terms.image.value w → DidGrant l Granted u.number w q → adopts l b ≡ false → MayGive hall h.pass Ready q
+pub may_put : (hall : HallView) (b : Block) (l : LockView) (u : Turn) (w q : PackageView) (h : DeskParts) → MayGrantNext hall l b u (Pack w ∷ Loose l ∷ []) h → IsWaiter u.thread l.number hall.terms.image.value w → DidGrant l Granted u.number w q → adopts l b ≡ false → MayGive hall h.pass Ready q
 may_put hall b l u w q h m i d a =
     let r = m.released in
     let g = waiter_good l Granted u.thread u.number h.pass.knows.worker hall.terms.image.value w q i d (granted l.number l.journal.limit (blocks_of l) b h.pass.knows.worker r.last r.released a) in record {
-      own = m.hands.at.own;
+      own = m.parts.at.own;
       thread = known_waiter hall.terms l u w q i m.turn d;
       place = tt;
-      out = (owned_by h.pass.knows h.pass.knows (Pack w ∷ Loose l ∷ []) (Pack q ∷ []) (granted_moves h.pass.knows l Granted u.number w q d i.waits.absent) m.hands.at.out).1.0;
+      out = (owned_by h.pass.knows h.pass.knows (Pack w ∷ Loose l ∷ []) (Pack q ∷ []) (granted_moves h.pass.knows l Granted u.number w q d i.waits.absent) m.parts.at.out).1.0;
       order = good_order q hall.terms.image.value h.pass.knows.worker g;
       free = unpinned q (ap (λ (c : PackageView). grants_adopted c.granted) d.is) (ap (λ (c : PackageView). was_cut (last_of c.log)) d.is ∙ i.uncut);
       fits = g.fits;
     }
 
-pub is_granted : (k : HallTerms) (b : Block) (l : LockView) (u : Turn) (w q : PackageView) (h g : Hands) → IsWaiter u.thread l.number k.image.value w → IsTurn (threads k) u → DidGrant l Granted u.number w q → adopts l b ≡ false
-    → Acts (put_call q Ready ∷ []) (Pack q ∷ []) [] h.pass g.pass → g.ready.items ≡ h.ready.items ++ q.context.thread ∷ [] → g.aside ≡ h.aside → DidHand k l b u (Pack w ∷ Loose l ∷ []) (change h g) Gone
+pub is_granted : (k : HallTerms) (b : Block) (l : LockView) (u : Turn) (w q : PackageView) (h g : DeskParts) → IsWaiter u.thread l.number k.image.value w → IsTurn (threads k) u → DidGrant l Granted u.number w q → adopts l b ≡ false
+    → Acts (put_call q Ready ∷ []) (Pack q ∷ []) [] h.pass g.pass → g.ready.items ≡ h.ready.items ++ q.context.thread ∷ [] → g.aside ≡ h.aside → DidGrantNext k l b u (Pack w ∷ Loose l ∷ []) (change h g) Was_granted
 is_granted k b l u w q h g i t d a p e s = record {
   calls = put_call q Ready ∷ [];
   acted = record {
@@ -152,10 +157,10 @@ released_still ds xs ys p q b l a h = record {
   worker = h.worker ∙ sym a.adds.told.worker;
 }
 
-pub hand_sooner : (k : HallTerms) (l : LockView) (b : Block) (u : Turn) (xs ys : List Item) (h m g : Hands) (r : Passed) → Acts [] xs ys h.pass m.pass → m.ready.items ≡ h.ready.items → m.aside ≡ h.aside → DidHand k l b u ys (change m g) r → DidHand k l b u xs (change h g) r
-hand_sooner k l b u xs ys h m g r a e s d = record {
+pub grants_sooner : (k : HallTerms) (l : LockView) (b : Block) (u : Turn) (xs ys : List Item) (h m g : DeskParts) (r : Passed) → Acts [] xs ys h.pass m.pass → m.ready.items ≡ h.ready.items → m.aside ≡ h.aside → DidGrantNext k l b u ys (change m g) r → DidGrantNext k l b u xs (change h g) r
+grants_sooner k l b u xs ys h m g r a e s d = record {
   calls = d.calls;
-  acted = acted_then k [] d.calls xs ys (handed r) h m g (acted_by k [] xs ys h m a e refl) d.acted;
+  acted = acted_then k [] d.calls xs ys (adopted_in r) h m g (acted_by k [] xs ys h m a e refl) d.acted;
   aside = d.aside ∙ s;
   became = d.became;
 }
@@ -164,7 +169,7 @@ hand_sooner k l b u xs ys h m g r a e s d = record {
 pub may_free : (hall : HallView) (ds : List PassCall) (l : LockView) (p q : PassView) (b : Option PackageView) → l.number < locks hall.terms → EndsSection l.number l → IsAt hall (Loose l ∷ []) p b → Acts ds [] [] p q → MayBringHome hall q l
 may_free hall ds l p q b small rests at a = record { own = a.own.0 ∙ at.own; lock = small; out = (a.moves at.out.0 (Loose l ∷ []) at.out.1).0; rests = rests }
 
-pub is_stopped : (k : HallTerms) (l : LockView) (b : Block) (u : Turn) (h g : Hands) (m : PassView) → Acts saw [] [] h.pass m → Acts (Free l.number ∷ []) (Loose l ∷ []) [] m g.pass → g.ready.items ≡ h.ready.items → g.aside ≡ h.aside → DidHand k l b u (Loose l ∷ []) (change h g) Was_stopped
+pub is_stopped : (k : HallTerms) (l : LockView) (b : Block) (u : Turn) (h g : DeskParts) (m : PassView) → Acts saw [] [] h.pass m → Acts (Free l.number ∷ []) (Loose l ∷ []) [] m g.pass → g.ready.items ≡ h.ready.items → g.aside ≡ h.aside → DidGrantNext k l b u (Loose l ∷ []) (change h g) Was_stopped
 is_stopped k l b u h g m a f e s = record {
   calls = saw ++ Free l.number ∷ [];
   acted = acted_by k (saw ++ Free l.number ∷ []) (Loose l ∷ []) [] h g (acts_then saw (Free l.number ∷ []) (Loose l ∷ []) (Loose l ∷ []) [] h.pass m g.pass (acts_by saw (Loose l ∷ []) h.pass m a) f) e refl;
@@ -174,30 +179,31 @@ is_stopped k l b u h g m a f e s = record {
 
 -- ---- once the lock was taken out of its package
 
-pub may_lock : (hall : HallView) (n i : ℕ) (l : LockView) (q p : PackageView) (h m : Hands) → DidTakeOut i l q p → Acts [] [] [] h.pass m.pass → m.ready.items ≡ h.ready.items → m.aside ≡ h.aside → MayAct hall (Pack q ∷ []) n h → MayAct hall (Loose l ∷ []) n m
+pub may_lock : (hall : HallView) (n i : ℕ) (l : LockView) (q p : PackageView) (h m : DeskParts) → DidTakeOut i l q p → Acts [] [] [] h.pass m.pass → m.ready.items ≡ h.ready.items → m.aside ≡ h.aside → MayAct hall (Pack q ∷ []) n h → MayAct hall (Loose l ∷ []) n m
 may_lock hall n i l q p h m d a e s y =
     let z = may_still hall [] (Pack q ∷ []) (Pack p ∷ Loose l ∷ []) n h m y (came_out [] i l q p h.pass m.pass d a) e s in
     record { at = record { own = z.at.own; image = z.at.image; out = without_first m.pass.knows (Pack p) (Loose l ∷ []) z.at.out; aside = z.at.aside }; room = z.room }
 
-pub followed : (x : DeskStep SeatView) (l : LockView) (b : Block) (own u : Turn) (cs : List PassCall) (r : Passed) → SeatTells x (Next own (Some u)) → HandedAs x.image l b u cs r → FollowedAs x l b own cs r
-followed x l b own u cs Gone k h = inr (u, k, h)
+pub followed : (x : DeskStep SeatView) (l : LockView) (b : Block) (own u : Turn) (cs : List PassCall) (r : Passed) → SeatTells x (Next own (Some u)) → GrantedAs x.image l b u cs r → FollowedAs x l b own cs r
+followed x l b own u cs Went_home k h = absurd h
+followed x l b own u cs Was_granted k h = (u, k, h)
 followed x l b own u cs (Was_adopted q) k h = (u, k, h)
 followed x l b own u cs Was_stopped k h = h
 
-pub passes : (k : HallTerms) (i : ℕ) (b : Block) (l : LockView) (own u : Turn) (q p : PackageView) (s t : SeatView) (h m g : Hands) (r : Passed) → DidTakeOut i l q p → Acts [] [] [] h.pass m.pass → m.ready.items ≡ h.ready.items → m.aside ≡ h.aside → own ≡ turn_of q i → Asks own s t → Shows s.calls t.calls (Next own (Some u))
-    → DidHand k l b u (Loose l ∷ []) (change m g) r → DidPass k i b (change q p) (change s t) (change h g) r
+pub passes : (k : HallTerms) (i : ℕ) (b : Block) (l : LockView) (own u : Turn) (q p : PackageView) (s t : SeatView) (h m g : DeskParts) (r : Passed) → DidTakeOut i l q p → Acts [] [] [] h.pass m.pass → m.ready.items ≡ h.ready.items → m.aside ≡ h.aside → own ≡ turn_of q i → Asks own s t → Shows s.calls t.calls (Next own (Some u))
+    → DidGrantNext k l b u (Loose l ∷ []) (change m g) r → DidPass k i b (change q p) (change s t) (change h g) r
 passes k i b l own u q p s t h m g r d a e f same asks shown y = record {
   calls = y.calls;
-  acted = record { acts = out_then [] y.calls i l q p (handed r) h.pass m.pass g.pass d a y.acted.acts; readied = (y.acted.readied.0 ∙ ap (λ (n : List ℕ). n ++ ready_in y.calls) e, y.acted.readied.1) };
+  acted = record { acts = out_then [] y.calls i l q p (adopted_in r) h.pass m.pass g.pass d a y.acted.acts; readied = (y.acted.readied.0 ∙ ap (λ (n : List ℕ). n ++ ready_in y.calls) e, y.acted.readied.1) };
   aside = y.aside ∙ f;
   state = l;
   taken = d;
   asks = subst (λ (z : Turn). Asks z s t) same asks;
-  became = followed (by_hands k q (change s t) (change h g)) l b (turn_of q i) u y.calls r (subst (λ (z : Turn). Shows s.calls t.calls (Next z (Some u))) same shown) y.became;
+  became = followed (by_parts k q (change s t) (change h g)) l b (turn_of q i) u y.calls r (subst (λ (z : Turn). Shows s.calls t.calls (Next z (Some u))) same shown) y.became;
 }
 
 -- the lock came out, and went home
-pub frees : (k : HallTerms) (es : List PassCall) (i : ℕ) (l : LockView) (own : Turn) (q p : PackageView) (s t : SeatView) (h g : Hands) (m : PassView) (How : Turn → LockView → List PassCall → Type 0) → DidTakeOut i l q p → own ≡ turn_of q i → Asks own s t → Acts es [] [] h.pass m → Acts (Free l.number ∷ []) (Loose l ∷ []) [] m g.pass
+pub frees : (k : HallTerms) (es : List PassCall) (i : ℕ) (l : LockView) (own : Turn) (q p : PackageView) (s t : SeatView) (h g : DeskParts) (m : PassView) (How : Turn → LockView → List PassCall → Type 0) → DidTakeOut i l q p → own ≡ turn_of q i → Asks own s t → Acts es [] [] h.pass m → Acts (Free l.number ∷ []) (Loose l ∷ []) [] m g.pass
     → g.ready.items ≡ h.ready.items → g.aside ≡ h.aside → ready_in (es ++ Free l.number ∷ []) ≡ [] → How own l (es ++ Free l.number ∷ []) → GaveUp k i (change q p) [] (change s t) (change h g) (How (turn_of q i))
 frees k es i l own q p s t h g m How d same asks a f e n none how = record {
   calls = es ++ Free l.number ∷ [];
@@ -227,7 +233,7 @@ no_unlock i (Unlocked k) h = let n : ⊥ = cc in absurd n
 no_unlock i end h = refl
 
 -- nobody is adopted behind it
-pub none_adopted : (k : HallTerms) (i : ℕ) (b : Block) (q p : PackageView) (s t : SeatView) (h g : Hands) (r : PackageView) → ends_thread b.end ≡ true → DidPass k i b (change q p) (change s t) (change h g) (Was_adopted r) → ⊥
+pub none_adopted : (k : HallTerms) (i : ℕ) (b : Block) (q p : PackageView) (s t : SeatView) (h g : DeskParts) (r : PackageView) → ends_thread b.end ≡ true → DidPass k i b (change q p) (change s t) (change h g) (Was_adopted r) → ⊥
 none_adopted k i b q p s t h g r e d =
     let n : ℕ = d.state.number in
     let both = and_parts (unlocks n b.end && is_only b.held n) _ d.became.2.1 in

@@ -1,7 +1,7 @@
 -- What the end of a package's last block says of the package.
 use Rattle.std.proofs.Common.{◌≡◌, ◌≢◌, ◌<◌, ◌≤◌, ◌+◌, ℕ, Bool, true, false, not, ◌&&◌, ◌||◌, ◌==◌, if◌then◌else◌, List, [], ◌∷◌, length, refl, sym, ap, ◌∙◌, subst, arith, Option, Some, None, is_some}
-use Rattle.tc_combiner.proofs.Vocabulary.{AcquiredAs, Acquires, Answers, AreSameSeats, AtSeat, Block, PassCall, Cut, DeskView, DidAcquire, DidEnd, DidUnlock, End, EndedAs, Ends, HallView, Hands, HasBlock, HasOnlyHeld, HasReadied, IsAfter, IsAfterBlock, IsAtHall, IsGood, IsPlain, IsSoundPackage, Item, KeepsParts, Knows, LockView, MAX_HELD, MayAct, MayAsk, MayEnd, MayPark, MayRelease}
-use Rattle.tc_combiner.proofs.Vocabulary.{MaySettle, MayUnlock, PackageView, Rest, Runs, SeatView, Settled, SettledAs, Shown, Slept, HallTerms, Unlocked, UnlockedAs, Unlocks, WantIsLawful, Wants, Wants_lock, by_hands, change, desk_of, desk_with, ends_section, ends_thread, has, is_cut, last_of, locked_in, locks, nat_tests, next_lock, seat_at, thread_in, threads, was_cut}
+use Rattle.tc_combiner.proofs.Vocabulary.{AcquiredAs, Acquires, Answers, AreSameSeats, AtSeat, Block, PassCall, Cut, DeskView, DidAcquire, DidEnd, DidUnlock, End, EndedAs, Ends, HallView, DeskParts, HasBlock, HasOnlyHeld, HasReadied, IsAfter, IsAfterBlock, IsAtHall, IsGood, IsPlain, IsSoundPackage, Item, KeepsParts, Knows, LockView, MAX_HELD, MayAct, MayAsk, MayEnd, MayPark, MayRelease}
+use Rattle.tc_combiner.proofs.Vocabulary.{MaySettle, MayUnlock, PackageView, Sleeping, Runs, SeatView, Settled, SettledAs, Shown, Slept, HallTerms, Unlocked, UnlockedAs, Unlocks, WantIsLawful, Wants, Wants_lock, by_parts, change, desk_of, desk_with, ends_section, ends_thread, has, is_cut, last_of, locked_in, locks, nat_tests, next_lock, seat_at, thread_in, threads, was_cut}
 use Rattle.tc_combiner.proofs.PassedOn.{left_after}
 use Rattle.tc_combiner.proofs.Ending.{known_in}
 use Rattle.tc_combiner.proofs.Packages.{no_other, ungranted_fits}
@@ -133,7 +133,7 @@ module _ (k : HallTerms) (worker : ℕ) (b : Block) (q : PackageView) (s : IsSou
 
 -- ---- what was done with it, in the words of a desk
 
-pub keeps_of : (k : HallTerms) (cs : List PassCall) (q : PackageView) (ss ts : List SeatView) (x y : Rest) (h g : Hands) (hs : List ℕ) (r : Settled) → h.ready.items ≡ [] → Answers k cs q (change h g) r → AreSameSeats ss ts → y.clock ≡ x.clock → length y.sleepers ≡ length x.sleepers
+pub keeps_of : (k : HallTerms) (cs : List PassCall) (q : PackageView) (ss ts : List SeatView) (x y : Sleeping) (h g : DeskParts) (hs : List ℕ) (r : Settled) → h.ready.items ≡ [] → Answers k cs q (change h g) r → AreSameSeats ss ts → y.clock ≡ x.clock → length y.sleepers ≡ length x.sleepers
     → KeepsParts k q (desk_of h.pass ss x.sleepers x.clock h.aside hs) (desk_with g ts y) r
 keeps_of k cs q ss ts x y h g hs r none a same clock room = record {
   calls = cs;
@@ -145,13 +145,13 @@ keeps_of k cs q ss ts x y h g hs r none a same clock room = record {
   room = room;
 }
 
-module _ (k : HallTerms) (q : PackageView) (ss ts : List SeatView) (sl : List (Option ℕ)) (now : ℕ) (hs : List ℕ) (h g : Hands) (image : h.pass.knows.image ≡ k.image.value) where
+module _ (k : HallTerms) (q : PackageView) (ss ts : List SeatView) (sl : List (Option ℕ)) (now : ℕ) (hs : List ℕ) (h g : DeskParts) (image : h.pass.knows.image ≡ k.image.value) where
   pub did_acquire : (i : ℕ) (r : Settled) → AtSeat i ss ts (λ s t. Acquires k i q (change s t) (change h g) r) → DidAcquire i q (desk_of h.pass ss sl now h.aside hs) (desk_of g.pass ts sl now g.aside g.ready.items) r
   did_acquire i r a = record {
     same = record { others = a.others; sleepers = refl };
     calls = a.here.calls;
     adds = a.here.answers.acts.adds;
-    acquired = subst (λ (x : Shown). AcquiredAs (record (by_hands k q (change (seat_at ss i) (seat_at ts i)) (change h g)) { image = x }) i a.here.calls r) (sym image) a.here.became;
+    acquired = subst (λ (x : Shown). AcquiredAs (record (by_parts k q (change (seat_at ss i) (seat_at ts i)) (change h g)) { image = x }) i a.here.calls r) (sym image) a.here.became;
   }
 
   pub did_unlock : (i : ℕ) (b : Block) (r : Settled) → AtSeat i ss ts (λ s t. Unlocks k i b q (change s t) (change h g) r) → DidUnlock i q b (desk_of h.pass ss sl now h.aside hs) (desk_of g.pass ts sl now g.aside g.ready.items) r
@@ -160,7 +160,7 @@ module _ (k : HallTerms) (q : PackageView) (ss ts : List SeatView) (sl : List (O
     asks = a.here.became.0;
     calls = a.here.calls;
     adds = a.here.answers.acts.adds;
-    unlocked = subst (λ (x : Shown). UnlockedAs (record (by_hands k q (change (seat_at ss i) (seat_at ts i)) (change h g)) { image = x }) i b a.here.calls r) (sym image) a.here.became.1;
+    unlocked = subst (λ (x : Shown). UnlockedAs (record (by_parts k q (change (seat_at ss i) (seat_at ts i)) (change h g)) { image = x }) i b a.here.calls r) (sym image) a.here.became.1;
   }
 
   pub did_end : (b : Block) (r : Settled) → Ends k b q (change ss ts) (change h g) r → DidEnd q b (desk_of h.pass ss sl now h.aside hs) (desk_of g.pass ts sl now g.aside g.ready.items) r
@@ -169,7 +169,7 @@ module _ (k : HallTerms) (q : PackageView) (ss ts : List SeatView) (sl : List (O
     seats = a.became.0;
     calls = a.calls;
     adds = a.answers.acts.adds;
-    ended = subst (λ (x : Shown). EndedAs (record (by_hands k q (change ss ts) (change h g)) { image = x }) b a.calls r) (sym image) a.became.1;
+    ended = subst (λ (x : Shown). EndedAs (record (by_parts k q (change ss ts) (change h g)) { image = x }) b a.calls r) (sym image) a.became.1;
   }
 
 pub settled_end : (x : End) (q : PackageView) (b : Block) (d e : DeskView) (r : Settled) → ends_thread x ≡ true → DidEnd q b d e r → SettledAs x q b d e r
@@ -186,6 +186,6 @@ ended Slept a b c d = absurd (c refl)
 ended Cut a b c d = absurd (d refl)
 ended x a b c d = refl
 
--- hands whose list is empty may begin
-pub may_begin : (hall : HallView) (xs : List Item) (n : ℕ) (h : Hands) → IsAtHall hall xs h → h.ready.items ≡ [] → n ≤ MAX_HELD → MayAct hall xs n h
+-- a desk whose list is empty may begin
+pub may_begin : (hall : HallView) (xs : List Item) (n : ℕ) (h : DeskParts) → IsAtHall hall xs h → h.ready.items ≡ [] → n ≤ MAX_HELD → MayAct hall xs n h
 may_begin hall xs n h m none few = record { at = m; room = subst (λ (l : List ℕ). length l + n ≤ MAX_HELD) (sym none) (let room : 0 + n ≤ MAX_HELD = omega arith in room) }

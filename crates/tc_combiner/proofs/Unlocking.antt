@@ -1,8 +1,8 @@
 -- What an unlock comes to, from its parts.
-use Rattle.std.proofs.Common.{not, ◌≡◌, ◌≢◌, ◌<◌, ◌≤◌, ◌+◌, inl, inr, ℕ, true, false, ◌&&◌, ◌==◌, List, [], ◌∷◌, ◌++◌, length, refl, sym, ap, ◌∙◌, subst, subst₂, arith, Option, Some, None, is_some}
-use Rattle.tc_combiner.proofs.Vocabulary.{Acted, Acts, All-cons, All-nil, Block, PassCall, Change, DeskStep, DidPass, DidTakeOut, Did_adopt, Did_stop, Goes, GoesOn, Gone, HallView, Hands, HasHeldAnd, HasNone, HasOnlyHeld, HoldsNone, IsAside, IsAt, IsAtHall, IsGood, IsPlain, IsSoundPackage, Item, Knows}
-use Rattle.tc_combiner.proofs.Vocabulary.{LockView, MAX_HELD, MayAct, MayGive, MayGoOn, MayRelease, MayUnlock, Owned, Pack, PackageView, PassView, Passed, PassedAs, PutAllBack, PutsAside, Ready, Runs, SeatView, SetAside, Settled, TakesDown, HallTerms, UnlockedAs, Unlocks, Was_adopted, Was_stopped, WentOn}
-use Rattle.tc_combiner.proofs.Vocabulary.{adopts, and_parts, at_none, back, by_hands, change, dite, ends_section, handed, has, is_only, is_running, last_of, locked_in, may_adopt, nat_tests, outs, packed, put_call, threads, turn_of, unlocks, was_cut, with_package, without_lock, ℕ_discrete}
+use Rattle.std.proofs.Common.{not, ◌⊎◌, ◌≡◌, ◌≢◌, ◌<◌, ◌≤◌, ◌+◌, inl, inr, ℕ, true, false, ◌&&◌, ◌==◌, List, [], ◌∷◌, ◌++◌, length, refl, sym, ap, ◌∙◌, subst, subst₂, arith, Option, Some, None, is_some}
+use Rattle.tc_combiner.proofs.Vocabulary.{Acted, Acts, All-cons, All-nil, Block, PassCall, Change, DeskStep, DidPass, DidTakeOut, Did_adopt, Did_stop, GaveUp, Goes, GoesOn, HallView, DeskParts, HasHeldAnd, HasNone, HasOnlyHeld, HoldsNone, IsAside, IsAt, IsAtHall, IsGood, IsPlain, IsSoundPackage, Item, Knows}
+use Rattle.tc_combiner.proofs.Vocabulary.{LockView, MAX_HELD, MayAct, MayGive, MayGoOn, MayRelease, MayUnlock, Owned, Pack, PackageView, PassView, Passed, PassedAs, PutAllBack, PutsAside, Ready, Runs, SeatView, SetAside, Settled, TakesDown, HallTerms, UnlockedAs, Unlocks, Was_adopted, Was_granted, Was_stopped, WentOn, Went_home}
+use Rattle.tc_combiner.proofs.Vocabulary.{adopts, and_parts, at_none, back, by_parts, change, dite, ends_section, adopted_in, has, is_only, is_running, last_of, locked_in, may_adopt, nat_tests, outs, packed, put_call, threads, turn_of, unlocks, was_cut, with_package, without_lock, ℕ_discrete}
 use Rattle.std.proofs.lemmas.Bool.{and_left, and_right}
 use Rattle.std.proofs.lemmas.Nat.Bits.{bit_at-zero, bit_at_or, bit_at-pow_other}
 use Rattle.std.specs.Int.{bit_at}
@@ -72,23 +72,23 @@ may_aside v k i b l q p sound m image d a =
 
 -- ---- what an unlock comes to
 
-went_unlocks : (x : DeskStep SeatView) (i : ℕ) (b : Block) (ds es : List PassCall) (r : Settled) → PassedAs x i b ds Gone → WentOn (with_package (without_lock i x.given) x) es r → UnlockedAs x i b (ds ++ es) r
+went_unlocks : (x : DeskStep SeatView) (i : ℕ) (b : Block) (ds es : List PassCall) (r : Settled) → PassedAs x i b ds Went_home ⊎ PassedAs x i b ds Was_granted → WentOn (with_package (without_lock i x.given) x) es r → UnlockedAs x i b (ds ++ es) r
 went_unlocks x i b ds es (GoesOn r) k g = (ds, es, refl, k, g)
 went_unlocks x i b ds es r k g = absurd g
 
 -- the seats count for nothing where a package goes on
-went_at : {A B : Type 0} (k : HallTerms) (q : PackageView) (seats : Change A) (others : Change B) (hands : Change Hands) (cs : List PassCall) (r : Settled) → WentOn (by_hands k q seats hands) cs r → WentOn (by_hands k q others hands) cs r
-went_at k q seats others hands cs (GoesOn r) h = h
-went_at k q seats others hands cs r h = absurd h
+went_at : {A B : Type 0} (k : HallTerms) (q : PackageView) (seats : Change A) (others : Change B) (parts : Change DeskParts) (cs : List PassCall) (r : Settled) → WentOn (by_parts k q seats parts) cs r → WentOn (by_parts k q others parts) cs r
+went_at k q seats others parts cs (GoesOn r) h = h
+went_at k q seats others parts cs r h = absurd h
 
-module _ (hall : HallView) (i : ℕ) (b : Block) (q p : PackageView) (s t : SeatView) (h m : Hands) (hands : MayAct hall (Pack q ∷ packed h.aside) 2 h) where
+module _ (hall : HallView) (i : ℕ) (b : Block) (q p : PackageView) (s t : SeatView) (h m : DeskParts) (parts : MayAct hall (Pack q ∷ packed h.aside) 2 h) where
   room_after : (r : Passed) → DidPass hall.terms i b (change q p) (change s t) (change h m) r → length m.ready.items + 1 ≤ MAX_HELD
-  room_after r d = let more = few_more d (few_followed (by_hands hall.terms q (change s t) (change h m)) d.state b (turn_of q i) d.calls r d.became) in let room = hands.room in omega arith
+  room_after r d = let more = few_more d (few_followed (by_parts hall.terms q (change s t) (change h m)) d.state b (turn_of q i) d.calls r d.became) in let room = parts.room in omega arith
 
-  pub at_then : (r : Passed) → handed r ≡ [] → DidPass hall.terms i b (change q p) (change s t) (change h m) r → IsAtHall hall (Pack p ∷ packed m.aside) m
-  at_then r e d = then_at hall d.calls q p h m hands.at (subst (λ (xs : List Item). Acted hall.terms d.calls (Pack q ∷ []) (Pack p ∷ xs) (change h m)) e d.acted) d.aside
+  pub at_then : (r : Passed) → adopted_in r ≡ [] → DidPass hall.terms i b (change q p) (change s t) (change h m) r → IsAtHall hall (Pack p ∷ packed m.aside) m
+  at_then r e d = then_at hall d.calls q p h m parts.at (subst (λ (xs : List Item). Acted hall.terms d.calls (Pack q ∷ []) (Pack p ∷ xs) (change h m)) e d.acted) d.aside
 
-  pub may_then : (r : Passed) → handed r ≡ [] → DidPass hall.terms i b (change q p) (change s t) (change h m) r → MayAct hall (Pack p ∷ packed m.aside) 1 m
+  pub may_then : (r : Passed) → adopted_in r ≡ [] → DidPass hall.terms i b (change q p) (change s t) (change h m) r → MayAct hall (Pack p ∷ packed m.aside) 1 m
   may_then r e d = record { at = at_then r e d; room = room_after r d }
 
   -- the waiter that is adopted comes first, before the package that is set aside
@@ -97,23 +97,30 @@ module _ (hall : HallView) (i : ℕ) (b : Block) (q p : PackageView) (s t : Seat
 
   pub may_adopted : (x : PackageView) → DidPass hall.terms i b (change q p) (change s t) (change h m) (Was_adopted x) → MayAct hall (Pack p ∷ packed m.aside) 1 m
   may_adopted x d =
-      let y = at_after hall d.calls (Pack q ∷ packed h.aside) (Pack x ∷ Pack p ∷ packed h.aside) h.pass m.pass h.aside m.aside hands.at (adopts_beside x d) d.aside in
+      let y = at_after hall d.calls (Pack q ∷ packed h.aside) (Pack x ∷ Pack p ∷ packed h.aside) h.pass m.pass h.aside m.aside parts.at (adopts_beside x d) d.aside in
       let out : Owned m.pass.knows (Pack p ∷ packed m.aside) = subst (λ (o : Option PackageView). Owned m.pass.knows (Pack p ∷ packed o)) (sym d.aside) (without_first m.pass.knows (Pack x) (Pack p ∷ packed h.aside) y.out) in
       record { at = record { own = y.own; image = y.image; out = out; aside = y.aside }; room = room_after (Was_adopted x) d }
 
   -- the lock went home or was granted, and the package goes on
-  pub goes : (g : Hands) (r : Settled) → DidPass hall.terms i b (change q p) (change s t) (change h m) Gone → Goes hall.terms p (change m g) r → Unlocks hall.terms i b q (change s t) (change h g) r
-  goes g r d f =
-      let x : DeskStep SeatView = by_hands hall.terms q (change s t) (change h g) in
+  goes : {How : LockView → List PassCall → Type 0} (g : DeskParts) (r : Settled) (d : GaveUp hall.terms i (change q p) [] (change s t) (change h m) How) → PassedAs (by_parts hall.terms q (change s t) (change h g)) i b d.calls Went_home ⊎ PassedAs (by_parts hall.terms q (change s t) (change h g)) i b d.calls Was_granted → Goes hall.terms p (change m g) r
+      → Unlocks hall.terms i b q (change s t) (change h g) r
+  goes g r d gone f =
+      let x : DeskStep SeatView = by_parts hall.terms q (change s t) (change h g) in
       let worker : m.pass.knows.worker ≡ h.pass.knows.worker = d.acted.acts.adds.told.worker in
-      let same : by_hands hall.terms p (change s t) (change m g) ≡ with_package (without_lock i q) x = λ j. record { image = hall.terms.image.value; worker = worker j; given = d.taken.is j; seats = change s t; aside = change (d.aside j) g.aside } in
+      let same : by_parts hall.terms p (change s t) (change m g) ≡ with_package (without_lock i q) x = λ j. record { image = hall.terms.image.value; worker = worker j; given = d.taken.is j; seats = change s t; aside = change (d.aside j) g.aside } in
       let went : WentOn (with_package (without_lock i q) x) f.calls r = subst (λ (z : DeskStep SeatView). WentOn z f.calls r) same (went_at hall.terms p at_none (change s t) (change m g) f.calls r f.became) in record {
         calls = d.calls ++ f.calls;
         answers = then_answers hall.terms d.calls f.calls q p h m g r d.acted d.aside f.answers;
-        became = (d.asks, went_unlocks x i b d.calls f.calls r (d.state, d.taken.was, d.became) went);
+        became = (d.asks, went_unlocks x i b d.calls f.calls r gone went);
       }
 
-  pub goes_adopted : (g : Hands) (x : PackageView) → b.worker ≡ h.pass.knows.worker → DidPass hall.terms i b (change q p) (change s t) (change h m) (Was_adopted x) → PutsAside hall.terms p (change m g) → Unlocks hall.terms i b q (change s t) (change h g) (Did_adopt x)
+  pub goes_home : (g : DeskParts) (r : Settled) → DidPass hall.terms i b (change q p) (change s t) (change h m) Went_home → Goes hall.terms p (change m g) r → Unlocks hall.terms i b q (change s t) (change h g) r
+  goes_home g r d f = goes g r d (inl (d.state, d.taken.was, d.became)) f
+
+  pub goes_granted : (g : DeskParts) (r : Settled) → DidPass hall.terms i b (change q p) (change s t) (change h m) Was_granted → Goes hall.terms p (change m g) r → Unlocks hall.terms i b q (change s t) (change h g) r
+  goes_granted g r d f = goes g r d (inr (d.state, d.taken.was, d.became)) f
+
+  pub goes_adopted : (g : DeskParts) (x : PackageView) → b.worker ≡ h.pass.knows.worker → DidPass hall.terms i b (change q p) (change s t) (change h m) (Was_adopted x) → PutsAside hall.terms p (change m g) → Unlocks hall.terms i b q (change s t) (change h g) (Did_adopt x)
   goes_adopted g x same d f =
       let c : Acts f.calls (Pack p ∷ packed h.aside) (packed g.aside) m.pass g.pass = subst (λ (o : Option PackageView). Acts f.calls (Pack p ∷ packed o) (packed g.aside) m.pass g.pass) d.aside f.acted.acts in
       let set : SetAside (without_lock i q) h.aside g.aside f.calls = subst₂ (λ (y : PackageView) (a : Option PackageView). SetAside y a g.aside f.calls) d.taken.is d.aside f.set in
@@ -127,7 +134,7 @@ module _ (hall : HallView) (i : ℕ) (b : Block) (q p : PackageView) (s t : Seat
         became = (d.asks, (d.calls, f.calls, refl, (d.state, d.taken.was, d.became), set, good));
       }
 
-  pub goes_stopped : (g : Hands) → DidPass hall.terms i b (change q p) (change s t) (change h m) Was_stopped → PutAllBack p (change m g) → Unlocks hall.terms i b q (change s t) (change h g) Did_stop
+  pub goes_stopped : (g : DeskParts) → DidPass hall.terms i b (change q p) (change s t) (change h m) Was_stopped → PutAllBack p (change m g) → Unlocks hall.terms i b q (change s t) (change h g) Did_stop
   goes_stopped g d a =
       let same : d.calls ++ back p m.aside ≡ d.calls ++ back (without_lock i q) h.aside = λ j. d.calls ++ back (d.taken.is j) (d.aside j) in record {
         calls = d.calls ++ back p m.aside;
@@ -143,11 +150,11 @@ going_good k w q m = record { of = m.of; settled = m.plain.settled; runs = m.run
 pub may_ready : (hall : HallView) (q : PackageView) (xs : List Item) (p : PassView) (a : Option PackageView) → IsAt hall (Pack q ∷ xs) p a → MayGoOn hall.terms q → MayGive hall p Ready q
 may_ready hall q xs p a at m = plain_gives hall Ready q xs p a at m.plain tt (good_order q hall.terms.image.value p.knows.worker (going_good hall.terms p.knows.worker q m))
 
-module _ (hall : HallView) (q : PackageView) (h g : Hands) (hands : MayAct hall (Pack q ∷ packed h.aside) 1 h) where
+module _ (hall : HallView) (q : PackageView) (h g : DeskParts) (parts : MayAct hall (Pack q ∷ packed h.aside) 1 h) where
   pub goes_same : MayGoOn hall.terms q → Acts [] (Pack q ∷ packed h.aside) (Pack q ∷ packed h.aside) h.pass g.pass → g.ready.items ≡ h.ready.items → g.aside ≡ h.aside → (HoldsNone q → h.aside ≡ None) → Goes hall.terms q (change h g) (GoesOn q)
   goes_same m a e f none = record {
     calls = [];
-    answers = keeps_answers hall [] q h g (GoesOn q) hands.at (subst (λ (o : Option PackageView). Acts [] (Pack q ∷ packed h.aside) (Pack q ∷ packed o) h.pass g.pass) (sym f) a) (takes_none (threads hall.terms) h.ready.items g.ready.items [] e refl) f;
+    answers = keeps_answers hall [] q h g (GoesOn q) parts.at (subst (λ (o : Option PackageView). Acts [] (Pack q ∷ packed h.aside) (Pack q ∷ packed o) h.pass g.pass) (sym f) a) (takes_none (threads hall.terms) h.ready.items g.ready.items [] e refl) f;
     became = (going_good hall.terms h.pass.knows.worker q m, inl (refl, f, none, refl));
   }
 
@@ -156,7 +163,7 @@ module _ (hall : HallView) (q : PackageView) (h g : Hands) (hands : MayAct hall 
 
   pub goes_other : (o : PackageView) → MayGoOn hall.terms q → h.aside ≡ Some o → g.aside ≡ None → HoldsNone q → Acts (put_call q Ready ∷ []) (Pack q ∷ []) [] h.pass g.pass → g.ready.items ≡ h.ready.items ++ q.context.thread ∷ [] → Goes hall.terms q (change h g) (GoesOn o)
   goes_other o m is gone none a e =
-      let other = hands.at.aside o is in record {
+      let other = parts.at.aside o is in record {
         calls = put_call q Ready ∷ [];
         answers = record {
           acts = subst₂ (λ (x y : Option PackageView). Acts (put_call q Ready ∷ []) (Pack q ∷ packed x) (Pack o ∷ packed y) h.pass g.pass) (sym is) (sym gone) (record { own = a.own; adds = a.adds; moves = λ b zs w. a.moves b (Pack o ∷ zs) w });
@@ -175,7 +182,7 @@ module _ (hall : HallView) (q : PackageView) (h g : Hands) (hands : MayAct hall 
     calls = put_call q Ready ∷ [];
     acted = record { acts = wider (put_call q Ready ∷ []) q h g f a; readied = takes_one i.goes e };
     set = sets_later h.aside g.aside some f;
-    aside = λ b x. hands.at.aside b (sym f ∙ x);
+    aside = λ b x. parts.at.aside b (sym f ∙ x);
   }
 
   pub sets_alone : IsAside hall.terms q → h.aside ≡ None → g.aside ≡ Some q → Acts [] (Pack q ∷ []) (Pack q ∷ []) h.pass g.pass → g.ready.items ≡ h.ready.items → PutsAside hall.terms q (change h g)

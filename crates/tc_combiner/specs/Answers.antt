@@ -1,10 +1,10 @@
 -- What a desk's calls answer, with each call of the pass that was made.
 use Rattle.std.specs.Prelude.{◌⊎◌, ◌≡◌, ◌<◌, ℕ, ◌+◌, min, if◌then◌else◌, List, [], ◌∷◌, ◌++◌, Option, Some, None}
-use Rattle.tc_combiner.specs.Vocabulary.{Behind, PassCall, Did_adopt, Did_park, Did_stop, Done, Enter, First, GoesOn, Hands, HasBlock, IsNumber, IsWaiting, Item, Link, LockView, MAX_NUMBER, Pack, PackageView, Parked, Place, Ready, SeatView, Settled, Shipped, Slept, Stopped, HallTerms, Turn, Waiting, is_running, last_of, locks, put_call, threads, with_line, with_turns}
+use Rattle.tc_combiner.specs.Vocabulary.{Behind, PassCall, Did_adopt, Did_park, Did_stop, Done, Enter, First, GoesOn, HallView, DeskParts, HasBlock, IsNumber, IsOut, IsWaiting, Item, Link, LockView, MAX_NUMBER, Pack, PackageView, Parked, PassView, Place, Ready, SeatView, Settled, Shipped, Slept, Stopped, HallTerms, Turn, Waiting, is_running, last_of, locks, outs, put_call, threads, with_line, with_turns}
 use Rattle.tc_combiner.specs.Packages.{DidTake, HoldsNone, IsAside, IsGood, IsPlain, MayGoOn, Runs, Wants}
 use Rattle.tc_combiner.specs.Walks.{TakesDown, packed, Acted, Acts}
 use Rattle.tc_combiner.specs.Change.{Change}
-use Rattle.tc_combiner.specs.Steps.{DeskStep, at_none, by_hands, with_package}
+use Rattle.tc_combiner.specs.Steps.{DeskStep, at_none, by_parts, with_package}
 
 abbrev pub carried : Settled → List Item
 carried (GoesOn q) = Pack q ∷ []
@@ -16,22 +16,28 @@ abbrev pub HasReadied : ℕ → Settled → List ℕ → List ℕ → List PassC
 HasReadied threads Did_stop old new cs = new ≡ []
 HasReadied threads r old new cs = TakesDown threads old new cs
 
--- the hands had the package q and made these calls, with this answer
-pub record Answers (k : HallTerms) (cs : List PassCall) (q : PackageView) (hands : Change Hands) (r : Settled) : Type 0 where
-  pub acts : Acts cs (Pack q ∷ packed hands.old.aside) (carried r ++ packed hands.new.aside) hands.old.pass hands.new.pass
-  pub readied : HasReadied (threads k) r hands.old.ready.items hands.new.ready.items cs
-  pub aside : (a : PackageView) → hands.new.aside ≡ Some a → IsAside k a
+-- the desk had the package q and made these calls, with this answer
+pub record Answers (k : HallTerms) (cs : List PassCall) (q : PackageView) (parts : Change DeskParts) (r : Settled) : Type 0 where
+  pub acts : Acts cs (Pack q ∷ packed parts.old.aside) (carried r ++ packed parts.new.aside) parts.old.pass parts.new.pass
+  pub readied : HasReadied (threads k) r parts.old.ready.items parts.new.ready.items cs
+  pub aside : (a : PackageView) → parts.new.aside ≡ Some a → IsAside k a
 
 -- so, with calls of which How says what became of the package
-pub record Does (k : HallTerms) (q : PackageView) (hands : Change Hands) (r : Settled) (How : List PassCall → Type 0) : Type 0 where
+pub record Does (k : HallTerms) (q : PackageView) (parts : Change DeskParts) (r : Settled) (How : List PassCall → Type 0) : Type 0 where
   pub calls : List PassCall
-  pub answers : Answers k calls q hands r
+  pub answers : Answers k calls q parts r
   pub became : How calls
 
 -- ---- packages that are put back
 
 abbrev pub place_back : PackageView → Place
 place_back q = if is_running q.context.guest.status then Ready else Done
+
+-- a pass of this hall has the package q out, and may put it back
+pub record MayPutBack (hall : HallView) (p : PassView) (q : PackageView) : Type 0 where
+  pub own : p.table ≡ hall.table
+  pub out : IsOut (outs p.knows) (Pack q)
+  pub plain : IsPlain (threads hall.terms) q
 
 -- the calls that put back the one set aside, and before it this package
 abbrev pub back_aside : Option PackageView → List PassCall
@@ -42,10 +48,10 @@ abbrev pub back : PackageView → Option PackageView → List PassCall
 back q a = put_call q (place_back q) ∷ back_aside a
 
 -- the package q and the one set aside were put back
-pub record PutAllBack (q : PackageView) (hands : Change Hands) : Type 0 where
-  pub acts : Acts (back q hands.old.aside) (Pack q ∷ packed hands.old.aside) [] hands.old.pass hands.new.pass
-  pub aside : hands.new.aside ≡ None
-  pub ready : hands.new.ready.items ≡ []
+pub record PutAllBack (q : PackageView) (parts : Change DeskParts) : Type 0 where
+  pub acts : Acts (back q parts.old.aside) (Pack q ∷ packed parts.old.aside) [] parts.old.pass parts.new.pass
+  pub aside : parts.new.aside ≡ None
+  pub ready : parts.new.ready.items ≡ []
 
 -- ---- a package that wants a lock
 
@@ -74,11 +80,11 @@ KeepsReady (Some r) old new = new ≡ old
 KeepsReady None old new = new ≡ []
 
 -- so it was done for the turn that stands first in its line
-pub record DidFirst (k : HallTerms) (i n : ℕ) (q : PackageView) (hands : Change Hands) (r : Option PackageView) : Type 0 where
+pub record DidFirst (k : HallTerms) (i n : ℕ) (q : PackageView) (parts : Change DeskParts) (r : Option PackageView) : Type 0 where
   pub calls : List PassCall
-  pub acts : Acts calls (Pack q ∷ packed hands.old.aside) (packed r ++ packed hands.new.aside) hands.old.pass hands.new.pass
-  pub ready : KeepsReady r hands.old.ready.items hands.new.ready.items
-  pub became : FirstAs (by_hands k q at_none hands) i n calls r
+  pub acts : Acts calls (Pack q ∷ packed parts.old.aside) (packed r ++ packed parts.new.aside) parts.old.pass parts.new.pass
+  pub ready : KeepsReady r parts.old.ready.items parts.new.ready.items
+  pub became : FirstAs (by_parts k q at_none parts) i n calls r
 
 -- the package with its next number counted, and the turn of that number
 abbrev pub counted : PackageView → PackageView
@@ -101,8 +107,8 @@ AcquiredAs x i cs Did_stop = (x.seats.new ≡ with_line x.seats.old (Enter (next
 AcquiredAs x i cs r = ⊥
 
 -- what was done for a package that wants lock i
-abbrev pub Acquires : HallTerms → ℕ → PackageView → Change SeatView → Change Hands → Settled → Type 0
-Acquires k i q seat hands r = Does k q hands r (λ cs. AcquiredAs (by_hands k q seat hands) i cs r)
+abbrev pub Acquires : HallTerms → ℕ → PackageView → Change SeatView → Change DeskParts → Settled → Type 0
+Acquires k i q seat parts r = Does k q parts r (λ cs. AcquiredAs (by_parts k q seat parts) i cs r)
 
 -- ---- a package that sleeps
 
@@ -111,9 +117,9 @@ pub record MayPark (k : HallTerms) (q : PackageView) : Type 0 where
   pub runs : Runs q
   pub slept : HasBlock (λ b. b.end ≡ Slept) (last_of q.log)
 
-pub record Parks (k : HallTerms) (q : PackageView) (hands : Change Hands) : Type 0 where
-  pub answers : Answers k (put_call q Parked ∷ []) q hands Did_park
-  pub aside : hands.new.aside ≡ hands.old.aside
+pub record Parks (k : HallTerms) (q : PackageView) (parts : Change DeskParts) : Type 0 where
+  pub answers : Answers k (put_call q Parked ∷ []) q parts Did_park
+  pub aside : parts.new.aside ≡ parts.old.aside
 
 -- ---- a package that goes on, or is set aside
 
@@ -130,16 +136,16 @@ abbrev pub WentOn : {Seats : Type 0} → DeskStep Seats → List PassCall → Se
 WentOn x cs (GoesOn r) = IsGood r x.image x.worker × (StaysInHand x cs r ⊎ IsHandedBack x cs r)
 WentOn x cs r = ⊥
 
-abbrev pub Goes : HallTerms → PackageView → Change Hands → Settled → Type 0
-Goes k q hands r = Does k q hands r (λ cs. WentOn (by_hands k q at_none hands) cs r)
+abbrev pub Goes : HallTerms → PackageView → Change DeskParts → Settled → Type 0
+Goes k q parts r = Does k q parts r (λ cs. WentOn (by_parts k q at_none parts) cs r)
 
 -- the package q is set aside, or it was handed back as ready where one is set aside already
 abbrev pub SetAside : PackageView → Option PackageView → Option PackageView → List PassCall → Type 0
 SetAside q None b cs = (b ≡ Some q) × (cs ≡ [])
 SetAside q (Some a) b cs = (b ≡ Some a) × (cs ≡ put_call q Ready ∷ [])
 
-pub record PutsAside (k : HallTerms) (q : PackageView) (hands : Change Hands) : Type 0 where
+pub record PutsAside (k : HallTerms) (q : PackageView) (parts : Change DeskParts) : Type 0 where
   pub calls : List PassCall
-  pub acted : Acted k calls (Pack q ∷ packed hands.old.aside) (packed hands.new.aside) hands
-  pub set : SetAside q hands.old.aside hands.new.aside calls
-  pub aside : (a : PackageView) → hands.new.aside ≡ Some a → IsAside k a
+  pub acted : Acted k calls (Pack q ∷ packed parts.old.aside) (packed parts.new.aside) parts
+  pub set : SetAside q parts.old.aside parts.new.aside calls
+  pub aside : (a : PackageView) → parts.new.aside ≡ Some a → IsAside k a

@@ -1,11 +1,11 @@
 -- What became of a released lock, and of all locks of a thread that has ended, with each call of the pass that was made.
 use Rattle.std.specs.Prelude.{◌⊎◌, ◌≡◌, ℕ, Bool, true, false, List, [], ◌∷◌, ◌++◌, ◌<◌, Some, None, is_some, ◌≢◌, ◌+◌, ◌≤◌, length}
-use Rattle.tc_combiner.specs.Vocabulary.{Adopted, Block, PassCall, Did_adopt, Did_stop, Done, Free, GoesOn, Granted, HallView, Hands, Gone, Has_ended, IsAtRest, IsTurn, Item, Kind, Knows, Leave, Left, LineCall, LockView, MAX_HELD, Next, Pack, PackageView, Passed, Ready, Releases, SeatView, Settled, Shown, Stopped, HallTerms, Turn, Was_adopted, Was_stopped, bare, blocks_of, ends_thread, has, last_of, locked_in, locks, locks_of, may_adopt, number_in, put_call, run_of, threads, without_lock}
+use Rattle.tc_combiner.specs.Vocabulary.{Adopted, Block, PassCall, Did_adopt, Did_stop, Done, Free, GoesOn, Granted, HallView, DeskParts, Has_ended, IsAtRest, IsTurn, Item, Kind, Knows, Leave, Left, LineCall, LockView, MAX_HELD, Next, Pack, PackageView, Passed, Ready, Releases, SeatView, Settled, Shown, Stopped, HallTerms, Turn, Was_adopted, Was_granted, Was_stopped, Went_home, bare, blocks_of, ends_thread, has, last_of, locked_in, locks, locks_of, may_adopt, number_in, put_call, run_of, threads, without_lock}
 use Rattle.tc_combiner.specs.Packages.{DidGrant, DidTakeOut, HasHeldAnd, IsGood, IsWaiter, Runs, HasNone}
 use Rattle.tc_combiner.specs.Walks.{Asks, Shows, Acted, MayAct}
 use Rattle.tc_combiner.specs.Answers.{Does, WentOn, SetAside, back}
 use Rattle.tc_combiner.specs.Change.{Change, change}
-use Rattle.tc_combiner.specs.Steps.{DeskStep, at_lock, by_hands, with_package}
+use Rattle.tc_combiner.specs.Steps.{DeskStep, at_lock, by_parts, with_package}
 use Rattle.tc_combiner.specs.View.{seat_at}
 
 -- the batch rule lets the worker of the block adopt a waiter for the lock
@@ -38,32 +38,33 @@ pub record MayUnlock (k : HallTerms) (v : Knows) (i : ℕ) (b : Block) (q : Pack
   pub runs : Runs q
   pub locks_in : HasHeldAnd i q
 
--- the hands have the package q out, and may pass on its lock i, which its block b released
-pub record MayPassOn (hall : HallView) (i : ℕ) (b : Block) (q : PackageView) (h : Hands) : Type 0 where
-  pub hands : MayAct hall (Pack q ∷ []) 1 h
+-- the desk has the package q out, and may pass on its lock i, which its block b released
+pub record MayPassOn (hall : HallView) (i : ℕ) (b : Block) (q : PackageView) (h : DeskParts) : Type 0 where
+  pub parts : MayAct hall (Pack q ∷ []) 1 h
   pub release : MayRelease hall.terms h.pass.knows i b q
 
--- the hands have xs out, and may hand on the lock l, which the block b released, to the turn u
-pub record MayHandOn (hall : HallView) (l : LockView) (b : Block) (u : Turn) (xs : List Item) (h : Hands) : Type 0 where
-  pub hands : MayAct hall xs 1 h
+-- the desk has xs out, and may grant the lock l, which the block b released, to the turn u
+pub record MayGrantNext (hall : HallView) (l : LockView) (b : Block) (u : Turn) (xs : List Item) (h : DeskParts) : Type 0 where
+  pub parts : MayAct hall xs 1 h
   pub released : IsReleased hall.terms h.pass.knows b l
   pub turn : IsTurn (threads hall.terms) u
 
-abbrev pub handed : Passed → List Item
-handed (Was_adopted q) = Pack q ∷ []
-handed r = []
+abbrev pub adopted_in : Passed → List Item
+adopted_in (Was_adopted q) = Pack q ∷ []
+adopted_in r = []
 
 -- q is the package of the turn's thread, with lock l granted under the turn's number
-pub record IsHanded (k : Kind) (l : LockView) (u : Turn) (image : Shown) (q : PackageView) : Type 0 where
+pub record IsGrantedTo (k : Kind) (l : LockView) (u : Turn) (image : Shown) (q : PackageView) : Type 0 where
   pub waiter : PackageView
   pub was : IsWaiter u.thread l.number image waiter
   pub grant : DidGrant l k u.number waiter q
 
 -- the turn u is next after the block b released l: with these calls and no others
-abbrev pub HandedAs : Shown → LockView → Block → Turn → List PassCall → Passed → Type 0
-HandedAs image l b u cs Gone = (q : PackageView) × IsHanded Granted l u image q × (adopts l b ≡ false) × (cs ≡ put_call q Ready ∷ [])
-HandedAs image l b u cs (Was_adopted q) = IsHanded Adopted l u image q × (adopts l b ≡ true) × IsGood q image b.worker × (cs ≡ [])
-HandedAs image l b u cs Was_stopped = cs ≡ Stopped 1 ∷ Free l.number ∷ []
+abbrev pub GrantedAs : Shown → LockView → Block → Turn → List PassCall → Passed → Type 0
+GrantedAs image l b u cs Went_home = ⊥
+GrantedAs image l b u cs Was_granted = (q : PackageView) × IsGrantedTo Granted l u image q × (adopts l b ≡ false) × (cs ≡ put_call q Ready ∷ [])
+GrantedAs image l b u cs (Was_adopted q) = IsGrantedTo Adopted l u image q × (adopts l b ≡ true) × IsGood q image b.worker × (cs ≡ [])
+GrantedAs image l b u cs Was_stopped = cs ≡ Stopped 1 ∷ Free l.number ∷ []
 
 -- in the step the seat got this answer
 abbrev pub SeatTells : DeskStep SeatView → LineCall → Type 0
@@ -71,8 +72,9 @@ SeatTells x answer = Shows x.seats.old.calls x.seats.new.calls answer
 
 -- in the step x the lock l of the turn own went to the turn behind it, or home where there is none
 abbrev pub FollowedAs : DeskStep SeatView → LockView → Block → Turn → List PassCall → Passed → Type 0
-FollowedAs x l b own cs Gone = (SeatTells x (Leave own Left) × (cs ≡ Free l.number ∷ [])) ⊎ ((u : Turn) × SeatTells x (Next own (Some u)) × HandedAs x.image l b u cs Gone)
-FollowedAs x l b own cs (Was_adopted q) = (u : Turn) × SeatTells x (Next own (Some u)) × HandedAs x.image l b u cs (Was_adopted q)
+FollowedAs x l b own cs Went_home = SeatTells x (Leave own Left) × (cs ≡ Free l.number ∷ [])
+FollowedAs x l b own cs Was_granted = (u : Turn) × SeatTells x (Next own (Some u)) × GrantedAs x.image l b u cs Was_granted
+FollowedAs x l b own cs (Was_adopted q) = (u : Turn) × SeatTells x (Next own (Some u)) × GrantedAs x.image l b u cs (Was_adopted q)
 FollowedAs x l b own cs Was_stopped = cs ≡ Stopped 1 ∷ Free l.number ∷ []
 
 -- the turn with which the package got lock i
@@ -80,25 +82,25 @@ abbrev pub turn_of : PackageView → ℕ → Turn
 turn_of q i = record { thread = q.context.thread; number = number_in q i }
 
 -- what was done with the lock l for the turn u
-pub record DidHand (k : HallTerms) (l : LockView) (b : Block) (u : Turn) (xs : List Item) (hands : Change Hands) (r : Passed) : Type 0 where
+pub record DidGrantNext (k : HallTerms) (l : LockView) (b : Block) (u : Turn) (xs : List Item) (parts : Change DeskParts) (r : Passed) : Type 0 where
   pub calls : List PassCall
-  pub acted : Acted k calls xs (handed r) hands
-  pub aside : hands.new.aside ≡ hands.old.aside
-  pub became : HandedAs k.image.value l b u calls r
+  pub acted : Acted k calls xs (adopted_in r) parts
+  pub aside : parts.new.aside ≡ parts.old.aside
+  pub became : GrantedAs k.image.value l b u calls r
 
 -- lock i came out of the package, with xs in hand besides; How: what became of it, with these calls and no others
-pub record GaveUp (k : HallTerms) (i : ℕ) (q : Change PackageView) (xs : List Item) (seat : Change SeatView) (hands : Change Hands) (How : LockView → List PassCall → Type 0) : Type 0 where
+pub record GaveUp (k : HallTerms) (i : ℕ) (q : Change PackageView) (xs : List Item) (seat : Change SeatView) (parts : Change DeskParts) (How : LockView → List PassCall → Type 0) : Type 0 where
   pub calls : List PassCall
-  pub acted : Acted k calls (Pack q.old ∷ []) (Pack q.new ∷ xs) hands
-  pub aside : hands.new.aside ≡ hands.old.aside
+  pub acted : Acted k calls (Pack q.old ∷ []) (Pack q.new ∷ xs) parts
+  pub aside : parts.new.aside ≡ parts.old.aside
   pub state : LockView
   pub taken : DidTakeOut i state q.old q.new
   pub asks : Asks (turn_of q.old i) seat.old seat.new
   pub became : How state calls
 
 -- so lock i, which the block b of the package released
-abbrev pub DidPass : HallTerms → ℕ → Block → Change PackageView → Change SeatView → Change Hands → Passed → Type 0
-DidPass k i b q seat hands r = GaveUp k i q (handed r) seat hands (λ l cs. FollowedAs (by_hands k q.old seat hands) l b (turn_of q.old i) cs r)
+abbrev pub DidPass : HallTerms → ℕ → Block → Change PackageView → Change SeatView → Change DeskParts → Passed → Type 0
+DidPass k i b q seat parts r = GaveUp k i q (adopted_in r) seat parts (λ l cs. FollowedAs (by_parts k q.old seat parts) l b (turn_of q.old i) cs r)
 
 -- in the step x the package's lock i was passed on, which it released by its block b
 abbrev pub PassedAs : DeskStep SeatView → ℕ → Block → List PassCall → Passed → Type 0
@@ -107,14 +109,14 @@ PassedAs x i b cs r = (l : LockView) × (locked_in x.given i ≡ Some l) × Foll
 -- how the unlock of lock i by the block b was settled in the step x, with these calls and no others: what became of the lock, and
 -- then of the package without it
 abbrev pub UnlockedAs : DeskStep SeatView → ℕ → Block → List PassCall → Settled → Type 0
-UnlockedAs x i b cs (GoesOn r) = (ds es : List PassCall) × (cs ≡ ds ++ es) × PassedAs x i b ds Gone × WentOn (with_package (without_lock i x.given) x) es (GoesOn r)
+UnlockedAs x i b cs (GoesOn r) = (ds es : List PassCall) × (cs ≡ ds ++ es) × (PassedAs x i b ds Went_home ⊎ PassedAs x i b ds Was_granted) × WentOn (with_package (without_lock i x.given) x) es (GoesOn r)
 UnlockedAs x i b cs (Did_adopt r) = (ds es : List PassCall) × (cs ≡ ds ++ es) × PassedAs x i b ds (Was_adopted r) × SetAside (without_lock i x.given) x.aside.old x.aside.new es × IsGood r x.image x.worker
 UnlockedAs x i b cs Did_stop = (ds : List PassCall) × (cs ≡ ds ++ back (without_lock i x.given) x.aside.old) × PassedAs x i b ds Was_stopped × (x.aside.new ≡ None)
 UnlockedAs x i b cs r = ⊥
 
 -- what was done at the unlock
-abbrev pub Unlocks : HallTerms → ℕ → Block → PackageView → Change SeatView → Change Hands → Settled → Type 0
-Unlocks k i b q seat hands r = Does k q hands r (λ cs. Asks (turn_of q i) seat.old seat.new × UnlockedAs (by_hands k q seat hands) i b cs r)
+abbrev pub Unlocks : HallTerms → ℕ → Block → PackageView → Change SeatView → Change DeskParts → Settled → Type 0
+Unlocks k i b q seat parts r = Does k q parts r (λ cs. Asks (turn_of q i) seat.old seat.new × UnlockedAs (by_parts k q seat parts) i b cs r)
 
 -- a seat of the same queue
 abbrev pub IsSameSeat : SeatView → SeatView → Type 0
@@ -146,14 +148,14 @@ pub record MayEnd (k : HallTerms) (v : Knows) (b : Block) (q : PackageView) : Ty
 
 -- in the step x the lock l of an ended thread, whose turn there is own; was, is: whether the run was stopped before, and is now
 abbrev pub LeftAs : DeskStep SeatView → LockView → Block → Turn → List PassCall → Bool → Bool → Type 0
-LeftAs x l b own cs false false = FollowedAs x l b own cs Gone
+LeftAs x l b own cs false false = FollowedAs x l b own cs Went_home ⊎ FollowedAs x l b own cs Was_granted
 LeftAs x l b own cs false true = FollowedAs x l b own cs Was_stopped
 LeftAs x l b own cs true false = ⊥
 LeftAs x l b own cs true true = (x.seats.new ≡ x.seats.old) × (cs ≡ Free l.number ∷ [])
 
 -- so lock i of the package, whose thread ended with the block b; stopped: whether the run was stopped
-abbrev pub DidLeave : HallTerms → ℕ → Block → Change PackageView → Change SeatView → Change Hands → Change Bool → Type 0
-DidLeave k i b q seat hands stopped = GaveUp k i q [] seat hands (λ l cs. LeftAs (by_hands k q.old seat hands) l b (turn_of q.old i) cs stopped.old stopped.new)
+abbrev pub DidLeave : HallTerms → ℕ → Block → Change PackageView → Change SeatView → Change DeskParts → Change Bool → Type 0
+DidLeave k i b q seat parts stopped = GaveUp k i q [] seat parts (λ l cs. LeftAs (by_parts k q.old seat parts) l b (turn_of q.old i) cs stopped.old stopped.new)
 
 -- ---- all of its locks
 
@@ -183,13 +185,13 @@ pub record SeatsLeft (b : Block) (q : PackageView) (ss ts : List SeatView) : Typ
   pub asks : (j : ℕ) → has b.held j ≡ true → Asks (turn_of q j) (seat_at ss j) (seat_at ts j)
 
 -- what was done with all locks of the package, whose thread ended with the block b
-pub record DidLeaveAll (k : HallTerms) (b : Block) (q : Change PackageView) (seats : Change (List SeatView)) (hands : Change Hands) (end : Bool) : Type 0 where
+pub record DidLeaveAll (k : HallTerms) (b : Block) (q : Change PackageView) (seats : Change (List SeatView)) (parts : Change DeskParts) (end : Bool) : Type 0 where
   pub calls : List PassCall
-  pub acted : Acted k calls (Pack q.old ∷ []) (Pack q.new ∷ []) hands
-  pub aside : hands.new.aside ≡ hands.old.aside
+  pub acted : Acted k calls (Pack q.old ∷ []) (Pack q.new ∷ []) parts
+  pub aside : parts.new.aside ≡ parts.old.aside
   pub emptied : IsEmptied q.old q.new
   pub seats_left : SeatsLeft b q.old seats.old seats.new
-  pub order : LeftInOrder (by_hands k q.old seats hands) b (locks_of b.held) calls false end
+  pub order : LeftInOrder (by_parts k q.old seats parts) b (locks_of b.held) calls false end
 
 -- what became in the step x of the package, whose thread ended with the block b, with these calls and no others: each of its
 -- locks was passed on, the least first, and then it was put as Done
@@ -199,17 +201,17 @@ EndedAs x b cs Did_stop = (p : PackageView) × (ds : List PassCall) × (cs ≡ d
 EndedAs x b cs r = ⊥
 
 -- what was done at the thread's end
-abbrev pub Ends : HallTerms → Block → PackageView → Change (List SeatView) → Change Hands → Settled → Type 0
-Ends k b q seats hands r = Does k q hands r (λ cs. SeatsLeft b q seats.old seats.new × EndedAs (by_hands k q seats hands) b cs r)
+abbrev pub Ends : HallTerms → Block → PackageView → Change (List SeatView) → Change DeskParts → Settled → Type 0
+Ends k b q seats parts r = Does k q parts r (λ cs. SeatsLeft b q seats.old seats.new × EndedAs (by_parts k q seats parts) b cs r)
 
 -- ---- in between
 
 -- the locks in rest wait, the others were passed on, or brought home where the run was stopped
-pub record Ending (k : HallTerms) (b : Block) (q : Change PackageView) (rest : ℕ) (seats : Change (List SeatView)) (hands : Change Hands) (now : Bool) : Type 0 where
+pub record Ending (k : HallTerms) (b : Block) (q : Change PackageView) (rest : ℕ) (seats : Change (List SeatView)) (parts : Change DeskParts) (now : Bool) : Type 0 where
   pub calls : List PassCall
-  pub acted : Acted k calls (Pack q.old ∷ []) (Pack q.new ∷ []) hands
-  pub aside : hands.new.aside ≡ hands.old.aside
-  pub room : length hands.new.ready.items + length (locks_of rest) ≤ MAX_HELD
+  pub acted : Acted k calls (Pack q.old ∷ []) (Pack q.new ∷ []) parts
+  pub aside : parts.new.aside ≡ parts.old.aside
+  pub room : length parts.new.ready.items + length (locks_of rest) ≤ MAX_HELD
   pub same : bare q.new ≡ bare q.old
   pub granted : q.new.granted ≡ q.old.granted
   pub numbers : q.new.numbers ≡ q.old.numbers
@@ -220,4 +222,4 @@ pub record Ending (k : HallTerms) (b : Block) (q : Change PackageView) (rest : �
   pub others : (j : ℕ) → has b.held j ≡ false → seat_at seats.new j ≡ seat_at seats.old j
   pub wait : (j : ℕ) → has rest j ≡ true → seat_at seats.new j ≡ seat_at seats.old j
   pub asks : (j : ℕ) → has b.held j ≡ true → has rest j ≡ false → Asks (turn_of q.old j) (seat_at seats.old j) (seat_at seats.new j)
-  pub order : (us : List SeatView) (es : List PassCall) (end : Bool) → ((j : ℕ) → has rest j ≡ false → seat_at us j ≡ seat_at seats.new j) → LeftInOrder (by_hands k q.old (change seats.old us) hands) b (locks_of rest) es now end → LeftInOrder (by_hands k q.old (change seats.old us) hands) b (locks_of b.held) (calls ++ es) false end
+  pub order : (us : List SeatView) (es : List PassCall) (end : Bool) → ((j : ℕ) → has rest j ≡ false → seat_at us j ≡ seat_at seats.new j) → LeftInOrder (by_parts k q.old (change seats.old us) parts) b (locks_of rest) es now end → LeftInOrder (by_parts k q.old (change seats.old us) parts) b (locks_of b.held) (calls ++ es) false end

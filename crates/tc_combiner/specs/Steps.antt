@@ -2,7 +2,7 @@
 -- hall, x is a step, q a package, i a lock's number and l its state, b the block that released it, u and own are turns, cs are calls of
 -- the pass, and r is the answer.
 use Rattle.std.specs.Prelude.{ℕ, List, Option}
-use Rattle.tc_combiner.specs.Vocabulary.{Hands, PackageView, SeatView, Shown, HallTerms}
+use Rattle.tc_combiner.specs.Vocabulary.{DeskParts, PackageView, SeatView, Shown, HallTerms}
 use Rattle.tc_combiner.specs.Change.{Change, change}
 use Rattle.tc_combiner.specs.View.{DeskView, seat_at}
 
@@ -15,9 +15,9 @@ pub record DeskStep (Seats : Type 0) : Type 0 where
   pub seats : Change Seats
   pub aside : Change (Option PackageView)
 
--- the step that these hands made, in a hall made with these terms
-abbrev pub by_hands : {Seats : Type 0} → HallTerms → PackageView → Change Seats → Change Hands → DeskStep Seats
-by_hands k q seats hands = record { image = k.image.value; worker = hands.old.pass.knows.worker; given = q; seats = seats; aside = change hands.old.aside hands.new.aside }
+-- the step that these parts of a desk made, in a hall made with these terms
+abbrev pub by_parts : {Seats : Type 0} → HallTerms → PackageView → Change Seats → Change DeskParts → DeskStep Seats
+by_parts k q seats parts = record { image = k.image.value; worker = parts.old.pass.knows.worker; given = q; seats = seats; aside = change parts.old.aside parts.new.aside }
 
 -- the step that a desk made, which was d and is e
 abbrev pub by_desk : PackageView → DeskView → DeskView → DeskStep (List SeatView)

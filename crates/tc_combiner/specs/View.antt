@@ -1,6 +1,6 @@
 -- What contracts see of a desk, and when it fits a bench.
 use Rattle.std.specs.Prelude.{◌≡◌, ℕ, ◌<◌, ◌≤◌, List, [], length, get_or, map, Option, Some}
-use Rattle.tc_combiner.specs.Vocabulary.{HallView, Hands, IsSeatOf, PackageView, PassView, QueueView, Rest, SeatView, Shown, HallTerms, locks, threads}
+use Rattle.tc_combiner.specs.Vocabulary.{HallView, DeskParts, IsSeatOf, PackageView, PassView, QueueView, Sleeping, SeatView, Shown, HallTerms, locks, threads}
 use Rattle.tc_combiner.specs.Packages.{IsAside}
 use Rattle.tc_combiner.specs.Walks.{Owned, packed}
 
@@ -17,8 +17,8 @@ abbrev pub desk_of : PassView → List SeatView → List (Option ℕ) → ℕ �
 desk_of pass seats sleepers now aside handed = record { pass = pass; seats = seats; sleepers = sleepers; now = now; aside = aside; handed = handed }
 
 -- the desk whose parts these are
-abbrev pub desk_with : Hands → List SeatView → Rest → DeskView
-desk_with h seats rest = desk_of h.pass seats rest.sleepers rest.clock h.aside h.ready.items
+abbrev pub desk_with : DeskParts → List SeatView → Sleeping → DeskView
+desk_with h seats sleeping = desk_of h.pass seats sleeping.sleepers sleeping.clock h.aside h.ready.items
 
 -- what the workers share
 pub record BenchView : Type 0 where

@@ -35,11 +35,13 @@ pub use Rattle.tc_hall.specs.declared.place.Place.{Place}
 pub use Rattle.tc_hall.specs.declared.place.Place.TheVariants.{Done, Parked, Ready, Waiting}
 pub use Rattle.tc_combiner.specs.declared.attempt.Attempt.{Attempt}
 pub use Rattle.tc_combiner.specs.declared.attempt.Attempt.TheVariants.{Came, Refused, Stopped as Try_stopped}
+pub use Rattle.tc_combiner.specs.declared.found.Asked.{Asked}
+pub use Rattle.tc_combiner.specs.declared.found.Asked.TheVariants.{Next as Next_asked, Nobody as Nobody_asked, Unlinked}
 pub use Rattle.tc_combiner.specs.declared.found.Found.{Found}
-pub use Rattle.tc_combiner.specs.declared.found.Found.TheVariants.{Next as Next_is, Nobody, Unknown}
-pub use Rattle.tc_combiner.specs.declared.hands.Hands.{Hands}
-pub use Rattle.tc_combiner.specs.declared.hands.Rest.{Rest}
+pub use Rattle.tc_combiner.specs.declared.found.Found.TheVariants.{Next as Next_is, Nobody, Stopped as Find_stopped}
+pub use Rattle.tc_combiner.specs.declared.parts.DeskParts.{DeskParts}
+pub use Rattle.tc_combiner.specs.declared.parts.Sleeping.{Sleeping}
 pub use Rattle.tc_combiner.specs.declared.passed.Passed.{Passed}
-pub use Rattle.tc_combiner.specs.declared.passed.Passed.TheVariants.{Adopted as Was_adopted, Gone, Stopped as Was_stopped}
+pub use Rattle.tc_combiner.specs.declared.passed.Passed.TheVariants.{Adopted as Was_adopted, Granted as Was_granted, Home as Went_home, Stopped as Was_stopped}
 pub use Rattle.tc_combiner.specs.declared.settled.Settled.{Settled}
 pub use Rattle.tc_combiner.specs.declared.settled.Settled.TheVariants.{Adopted as Did_adopt, Ended as Has_ended, GoesOn, Parked as Did_park, Shipped, Stopped as Did_stop}

@@ -1,6 +1,6 @@
--- What some calls of a pass and of a seat did: which calls, one by one, and how what is out changed; and what hands may do.
+-- What some calls of a pass and of a seat did: which calls, one by one, and how what is out changed; and what a desk may do.
 use Rattle.std.specs.Prelude.{◌≡◌, ◌+◌, ℕ, List, [], ◌∷◌, ◌++◌, Option, Some, None, ◌==◌, ◌<◌, ◌≤◌, Bool, true, false, All, length, filter}
-use Rattle.tc_combiner.specs.Vocabulary.{Attempt, PassCall, Called, Came, Found, HallView, Hands, IsAtRest, IsInOrder, IsInRange, IsOut, IsSamePass, IsTurn, Item, Knows, Leave, Left, LineCall, LockView, Loose, MAX_HELD, Miss, Next, Next_is, Nobody, Outs, Pack, PackageView, PassView, Place, Put, Ready, Refused, EndsSection, SeatView, Stop, Stopped, HallTerms, Try_stopped, Turn, Unknown, code_of, erase, fits_of, is_pinned, locks, outs, threads}
+use Rattle.tc_combiner.specs.Vocabulary.{Asked, Attempt, PassCall, Called, Came, Found, HallView, DeskParts, IsAtRest, IsInOrder, IsInRange, IsOut, IsSamePass, IsTurn, Item, Knows, Leave, Left, LineCall, LockView, Loose, MAX_HELD, Miss, Next, Find_stopped, Next_asked, Next_is, Nobody, Nobody_asked, Outs, Pack, PackageView, PassView, Place, Put, Ready, Refused, EndsSection, SeatView, Stop, Stopped, HallTerms, Try_stopped, Turn, Unlinked, code_of, erase, fits_of, is_pinned, locks, outs, threads}
 use Rattle.tc_combiner.specs.Change.{Change}
 use Rattle.tc_combiner.specs.Packages.{IsAside}
 
@@ -65,10 +65,16 @@ abbrev pub AskedTimes : ℕ → Turn → SeatView → SeatView → Type 0
 AskedTimes n u s t = (a : Asks u s t) × (unanswered a.lines ≡ n)
 
 -- who stands behind the turn, as the seat shows it
-abbrev pub AskedAs : Turn → SeatView → SeatView → Found → Type 0
-AskedAs u s t Nobody = Shows s.calls t.calls (Leave u Left)
-AskedAs u s t (Next_is x) = Shows s.calls t.calls (Next u (Some x)) × IsTurn s.threads x
-AskedAs u s t Unknown = Unit {0}
+abbrev pub AskedAs : Turn → SeatView → SeatView → Asked → Type 0
+AskedAs u s t Nobody_asked = Shows s.calls t.calls (Leave u Left)
+AskedAs u s t (Next_asked x) = Shows s.calls t.calls (Next u (Some x)) × IsTurn s.threads x
+AskedAs u s t Unlinked = Unit {0}
+
+-- so it was found
+abbrev pub FoundAs : Turn → SeatView → SeatView → Found → Type 0
+FoundAs u s t Nobody = AskedAs u s t Nobody_asked
+FoundAs u s t (Next_is x) = AskedAs u s t (Next_asked x)
+FoundAs u s t Find_stopped = Unit {0}
 
 -- these are out, apart from one another
 abbrev pub Owned : Knows → List Item → Type 0
@@ -100,9 +106,9 @@ abbrev pub saw_if : Bool → List PassCall
 saw_if true = saw
 saw_if false = []
 
-abbrev pub saw_at_unknown : Found → List PassCall
-saw_at_unknown Unknown = saw
-saw_at_unknown found = []
+abbrev pub saw_at_stop : Found → List PassCall
+saw_at_stop Find_stopped = saw
+saw_at_stop found = []
 
 -- so many steps of the pass were refused, and it made so many calls
 pub record Tried (refused made : ℕ) (v w : Knows) : Type 0 where
@@ -173,12 +179,12 @@ pub record IsAt (hall : HallView) (xs : List Item) (p : PassView) (a : Option Pa
   pub out : Owned p.knows xs
   pub aside : (c : PackageView) → a ≡ Some c → IsAside hall.terms c
 
--- so it is with these hands
-abbrev pub IsAtHall : HallView → List Item → Hands → Type 0
+-- so it is with these parts of a desk
+abbrev pub IsAtHall : HallView → List Item → DeskParts → Type 0
 IsAtHall hall xs h = IsAt hall xs h.pass h.aside
 
 -- and they may put so many threads as ready
-pub record MayAct (hall : HallView) (xs : List Item) (n : ℕ) (h : Hands) : Type 0 where
+pub record MayAct (hall : HallView) (xs : List Item) (n : ℕ) (h : DeskParts) : Type 0 where
   pub at : IsAtHall hall xs h
   pub room : length h.ready.items + n ≤ MAX_HELD
 
@@ -186,7 +192,7 @@ pub record MayAct (hall : HallView) (xs : List Item) (n : ℕ) (h : Hands) : Typ
 abbrev pub TakesDown : ℕ → List ℕ → List ℕ → List PassCall → Type 0
 TakesDown threads old new cs = (new ≡ old ++ ready_in cs) × All (λ t. t < threads) (ready_in cs)
 
--- the hands made these calls, and took down the threads that they put as ready
-pub record Acted (k : HallTerms) (ds : List PassCall) (xs ys : List Item) (hands : Change Hands) : Type 0 where
-  pub acts : Acts ds xs ys hands.old.pass hands.new.pass
-  pub readied : TakesDown (threads k) hands.old.ready.items hands.new.ready.items ds
+-- the desk made these calls, and took down the threads that they put as ready
+pub record Acted (k : HallTerms) (ds : List PassCall) (xs ys : List Item) (parts : Change DeskParts) : Type 0 where
+  pub acts : Acts ds xs ys parts.old.pass parts.new.pass
+  pub readied : TakesDown (threads k) parts.old.ready.items parts.new.ready.items ds

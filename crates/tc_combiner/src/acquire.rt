@@ -4,17 +4,17 @@ ghost use Rattle.std.specs.Prelude.{◌≡◌, ◌<◌, [], ◌∷◌};
 ghost use Rattle.tc_turn.specs.Turn.{is_running};
 ghost use Rattle.tc_hall.specs.Rule.{threads};
 ghost use Rattle.tc_hall.specs.Steps.{put_call};
-ghost use Rattle.tc_hall.specs.Outs.{outs, IsOut, Pack};
+ghost use Rattle.tc_hall.specs.Outs.{Pack};
 ghost use Rattle.tc_combiner.specs.Packages.{IsPlain};
 ghost use Rattle.tc_combiner.specs.Walks.{packed, Acts, IsAtHall};
-ghost use Rattle.tc_combiner.specs.Answers.{Acquires, DidFirst, MayAsk, PutAllBack, place_back, MayGetFirst};
+ghost use Rattle.tc_combiner.specs.Answers.{Acquires, DidFirst, MayAsk, MayPutBack, PutAllBack, place_back, MayGetFirst};
 ghost use Rattle.tc_combiner.specs.Change.{change};
 ghost use Rattle.tc_combiner.specs.View.{IsSeatFor};
 
 use crate::calls;
-use crate::hands::Hands;
+use crate::parts::DeskParts;
 use crate::settled::Settled;
-use crate::waits::take_home;
+use crate::waits::await_lock;
 use std::sync::Wait;
 use tc_context::package::Package;
 use tc_hall::hall::Hall;
@@ -33,9 +33,7 @@ fn is_running(package: &Package) -> bool
 
 /// Puts a package back, as ready or, where its thread has ended, as done.
 fn put_back(hall: &Hall, pass: &mut Pass, package: Package)
-    requires own { pass.old.table ≡ hall.now.table }
-    requires out { IsOut (outs pass.old.knows) (Pack «package») }
-    requires plain { IsPlain (threads hall.now.terms) «package» }
+    requires { MayPutBack hall.now pass.old «package» }
     ensures { Acts (put_call «package» (place_back «package») ∷ []) (Pack «package» ∷ []) []
         pass.old pass.new }
 {
@@ -47,15 +45,15 @@ fn put_back(hall: &Hall, pass: &mut Pass, package: Package)
 }
 
 /// Puts back the package in hand and the one set aside, and tells no thread as ready.
-pub(crate) fn put_all_back(hall: &Hall, hands: &mut Hands, package: Package)
-    requires hands { IsAtHall hall.now (Pack «package» ∷ packed hands.old.aside) hands.old }
+pub(crate) fn put_all_back(hall: &Hall, parts: &mut DeskParts, package: Package)
+    requires parts { IsAtHall hall.now (Pack «package» ∷ packed parts.old.aside) parts.old }
     requires plain { IsPlain (threads hall.now.terms) «package» }
-    ensures { PutAllBack «package» (change hands.old hands.new) }
+    ensures { PutAllBack «package» (change parts.old parts.new) }
 {
-    hands.ready.clear();
-    put_back(hall, &mut hands.pass, package);
-    if let Some(other) = hands.aside.take() {
-        put_back(hall, &mut hands.pass, other);
+    parts.ready.clear();
+    put_back(hall, &mut parts.pass, package);
+    if let Some(other) = parts.aside.take() {
+        put_back(hall, &mut parts.pass, other);
     }
 }
 
@@ -64,22 +62,22 @@ pub(crate) fn put_all_back(hall: &Hall, hands: &mut Hands, package: Package)
 fn acquire_first<R: Wait>(
     rt: &R,
     hall: &Hall,
-    hands: &mut Hands,
+    parts: &mut DeskParts,
     mut package: Package,
     lock: u32,
     number: u64,
 ) -> Option<Package>
-    requires hands { IsAtHall hall.now (Pack «package» ∷ packed hands.old.aside) hands.old }
+    requires parts { IsAtHall hall.now (Pack «package» ∷ packed parts.old.aside) parts.old }
     requires may { MayGetFirst hall.now.terms lock number «package» }
-    ensures { DidFirst hall.now.terms lock number «package» (change hands.old hands.new) result }
+    ensures { DidFirst hall.now.terms lock number «package» (change parts.old parts.new) result }
 {
-    match take_home(rt, hall, &mut hands.pass, lock) {
+    match await_lock(rt, hall, &mut parts.pass, lock) {
         Some(state) => {
             package.grant(state, Kind::Taken, number);
             Some(package)
         }
         None => {
-            put_all_back(hall, hands, package);
+            put_all_back(hall, parts, package);
             None
         }
     }
@@ -90,17 +88,17 @@ fn acquire_first<R: Wait>(
 pub(crate) fn acquire_with<R: Wait, Q: Waiters>(
     rt: &R,
     hall: &Hall,
-    hands: &mut Hands,
+    parts: &mut DeskParts,
     queue: &Q,
     seat: &mut Q::Seat,
     mut package: Package,
     lock: u32,
 ) -> Settled
-    requires hands { IsAtHall hall.now (Pack «package» ∷ packed hands.old.aside) hands.old }
+    requires parts { IsAtHall hall.now (Pack «package» ∷ packed parts.old.aside) parts.old }
     requires may { MayAsk hall.now.terms lock «package» }
     requires seat { IsSeatFor (threads hall.now.terms) (Q.queue queue.now) (Q.seen seat.old) }
     ensures { Acquires hall.now.terms lock «package» (change (Q.seen seat.old) (Q.seen seat.new))
-        (change hands.old hands.new) result }
+        (change parts.old parts.new) result }
 {
     package.keeps();
     let own = Turn {
@@ -108,12 +106,12 @@ pub(crate) fn acquire_with<R: Wait, Q: Waiters>(
         thread: package.thread(),
     };
     match queue.enter(seat, own) {
-        Arrival::First => match acquire_first(rt, hall, hands, package, lock, own.number) {
+        Arrival::First => match acquire_first(rt, hall, parts, package, lock, own.number) {
             Some(package) => Settled::GoesOn(package),
             None => Settled::Stopped,
         },
         Arrival::Behind(place) => {
-            calls::put(hall, &mut hands.pass, package, Place::Waiting(lock));
+            calls::put(hall, &mut parts.pass, package, Place::Waiting(lock));
             queue.link(seat, place, own);
             Settled::Shipped
         }

@@ -12,7 +12,7 @@ ghost use Rattle.tc_combiner.specs.Packages.{Wants};
 ghost use Rattle.tc_combiner.specs.View.{FitsBench, desk_of};
 ghost use Rattle.tc_combiner.specs.Settling.{HasAcquired, HasSettled, IsInHand, Keeps, MayAcquire, MayCommit, MaySettle, MovesSealed};
 
-use crate::hands::{Hands, Rest, Shared};
+use crate::parts::{DeskParts, Shared, Sleeping};
 use crate::ready::ReadyList;
 use crate::settle::{acquire_at, settle_with};
 use crate::settled::Settled;
@@ -49,9 +49,9 @@ impl<'a, Q: Waiters> Model for Bench<'a, Q> {
 /// A worker's place.
 #[derive(Drop)]
 pub struct Desk<Q: Waiters> {
-    hands: Hands,
+    parts: DeskParts,
     seats: Vec<Q::Seat>,
-    rest: Rest,
+    sleeping: Sleeping,
 }
 
 impl<Q: Waiters> Model for Desk<Q> {
@@ -60,7 +60,7 @@ impl<Q: Waiters> Model for Desk<Q> {
 
     ghost Value = { DeskView };
 
-    ghost view = { λ d. record { pass = d.hands.pass; seats = map Q.seen d.seats.items; sleepers = d.rest.sleepers; now = d.rest.clock; aside = d.hands.aside; handed = d.hands.ready.items } };
+    ghost view = { λ d. record { pass = d.parts.pass; seats = map Q.seen d.seats.items; sleepers = d.sleeping.sleepers; now = d.sleeping.clock; aside = d.parts.aside; handed = d.parts.ready.items } };
 }
 
 impl<Q: Waiters> Desk<Q> {
@@ -70,13 +70,13 @@ impl<Q: Waiters> Desk<Q> {
         ensures { result ≡ desk_of pass (map Q.seen seats.items) sleepers 0 None [] }
     {
         Desk {
-            hands: Hands {
+            parts: DeskParts {
                 pass,
                 aside: None,
                 ready: ReadyList::new(),
             },
             seats,
-            rest: Rest { sleepers, clock: 0 },
+            sleeping: Sleeping { sleepers, clock: 0 },
         }
     }
 
@@ -85,7 +85,7 @@ impl<Q: Waiters> Desk<Q> {
         ensures* writes_back { sem 𝓛 (Lends (the_row Q.row Q.Seat.row Q.Place.row Q.Waiters) pass_row self.entry result (λ pass. record self.old { pass = pass })) }
         ensures value { result.now ≡ self.old.pass }
     {
-        &mut self.hands.pass
+        &mut self.parts.pass
     }
 
     /// The sleepers.
@@ -93,14 +93,14 @@ impl<Q: Waiters> Desk<Q> {
         ensures* writes_back { sem 𝓛 (Lends (the_row Q.row Q.Seat.row Q.Place.row Q.Waiters) sleepers_row self.entry result (λ sleepers. record self.old { sleepers = sleepers })) }
         ensures value { result.now ≡ self.old.sleepers }
     {
-        &mut self.rest.sleepers
+        &mut self.sleeping.sleepers
     }
 
     /// The clock: how many blocks it committed, unless it was advanced.
     pub fn now(&self) -> u64
         ensures { result ≡ self.now.now }
     {
-        self.rest.clock
+        self.sleeping.clock
     }
 
     /// Moves the clock on, to a turn that is not before.
@@ -108,7 +108,7 @@ impl<Q: Waiters> Desk<Q> {
         requires { self.old.now ≤ to }
         ensures { self.new ≡ record self.old { now = to } }
     {
-        self.rest.clock = to;
+        self.sleeping.clock = to;
     }
 
     /// Seals the package's pending block, with a stamp that is the answer. The clock rises by 1; one
@@ -125,8 +125,8 @@ impl<Q: Waiters> Desk<Q> {
             { pass = self.new.pass; now = min (self.old.now + 1) (2 ^ 64 - 1) } }
         ensures fits { FitsBench bench.now self.new }
     {
-        let stamp = bench.hall.commit(&mut self.hands.pass, package);
-        self.rest.clock = self.rest.clock.saturating_add(1);
+        let stamp = bench.hall.commit(&mut self.parts.pass, package);
+        self.sleeping.clock = self.sleeping.clock.saturating_add(1);
         stamp
     }
 
@@ -162,7 +162,7 @@ impl<Q: Waiters> Desk<Q> {
         ensures keeps { Keeps bench.now «package» self.old self.new result }
         ensures acquired { HasAcquired «package» self.old self.new result }
     {
-        self.hands.ready.clear();
+        self.parts.ready.clear();
         package.keeps();
         let shared = Shared {
             hall: bench.hall,
@@ -171,7 +171,7 @@ impl<Q: Waiters> Desk<Q> {
         acquire_at(
             rt,
             &shared,
-            &mut self.hands,
+            &mut self.parts,
             self.seats.as_mut_slice(),
             package,
             lock,
@@ -200,9 +200,9 @@ impl<Q: Waiters> Desk<Q> {
         settle_with(
             rt,
             &shared,
-            &mut self.hands,
+            &mut self.parts,
             self.seats.as_mut_slice(),
-            &mut self.rest,
+            &mut self.sleeping,
             package,
             end,
         )
@@ -214,10 +214,10 @@ impl<Q: Waiters> Desk<Q> {
         ensures rest { self.new ≡ record self.old { aside = None } }
     {
         // Most calls find none, and write nothing.
-        if self.hands.aside.is_none() {
+        if self.parts.aside.is_none() {
             return None;
         }
-        self.hands.aside.take()
+        self.parts.aside.take()
     }
 
     /// The threads that the last `acquire` or `settle` put as ready, in that order: a waiter that was
@@ -226,7 +226,7 @@ impl<Q: Waiters> Desk<Q> {
         ensures threads { result.now ≡ self.now.handed }
         ensures few { length result.now ≤ MAX_HELD }
     {
-        self.hands.ready.as_slice()
+        self.parts.ready.as_slice()
     }
 
     /// Ends the place.
@@ -236,15 +236,15 @@ impl<Q: Waiters> Desk<Q> {
         ensures seats { map Q.seen result.1.items ≡ self.seats }
     {
         let Desk {
-            hands,
+            parts,
             seats,
-            rest: _,
+            sleeping: _,
         } = self;
-        let Hands {
+        let DeskParts {
             pass,
             aside: _,
             ready: _,
-        } = hands;
+        } = parts;
         (pass, seats)
     }
 }

@@ -15,7 +15,7 @@ ghost use Rattle.tc_combiner.specs.View.{HasSeats, IsSeatFor};
 
 use crate::acquire::put_all_back;
 use crate::calls;
-use crate::hands::{Hands, Rest, Shared};
+use crate::parts::{DeskParts, Shared, Sleeping};
 use crate::passed::{Passed, Released};
 use crate::release::pass_on;
 use crate::settled::Settled;
@@ -28,52 +28,52 @@ use tc_nested::first_release;
 use tc_queue::Waiters;
 
 /// Puts the package as parked, and enters its thread among the sleepers.
-pub(crate) fn park(hall: &Hall, hands: &mut Hands, rest: &mut Rest, package: Package)
-    requires hands { IsAtHall hall.now (Pack «package» ∷ packed hands.old.aside) hands.old }
-    requires room { threads hall.now.terms ≤ length rest.old.sleepers }
+pub(crate) fn park(hall: &Hall, parts: &mut DeskParts, sleeping: &mut Sleeping, package: Package)
+    requires parts { IsAtHall hall.now (Pack «package» ∷ packed parts.old.aside) parts.old }
+    requires room { threads hall.now.terms ≤ length sleeping.old.sleepers }
     requires may { MayPark hall.now.terms «package» }
-    ensures calls { Parks hall.now.terms «package» (change hands.old hands.new) }
-    ensures sleeper { rest.new ≡ record rest.old {
-      sleepers = slice_set rest.old.sleepers «package».context.thread
-          (Some (min (rest.old.clock + «package».slept) (2 ^ 64 - 1)));
+    ensures calls { Parks hall.now.terms «package» (change parts.old parts.new) }
+    ensures sleeper { sleeping.new ≡ record sleeping.old {
+      sleepers = slice_set sleeping.old.sleepers «package».context.thread
+          (Some (min (sleeping.old.clock + «package».slept) (2 ^ 64 - 1)));
     } }
 {
-    let due = rest.clock.saturating_add(u64::from(package.slept()));
+    let due = sleeping.clock.saturating_add(u64::from(package.slept()));
     let thread = package.thread();
-    calls::put(hall, &mut hands.pass, package, Place::Parked);
-    rest.sleepers.add(thread, due);
+    calls::put(hall, &mut parts.pass, package, Place::Parked);
+    sleeping.sleepers.add(thread, due);
 }
 
-/// Brings home one lock of a thread that has ended, where the run was stopped before.
-fn bring_home(hall: &Hall, hands: &mut Hands, package: &mut Package, released: Released<'_>)
-    requires { MayPassOn hall.now released.lock released.block.now «package».old hands.old }
+/// Frees one lock of a thread that has ended, where the run was stopped before: nobody is asked for.
+fn free_one(hall: &Hall, parts: &mut DeskParts, package: &mut Package, released: Released<'_>)
+    requires { MayPassOn hall.now released.lock released.block.now «package».old parts.old }
     ensures { (s : SeatView) → DidLeave hall.now.terms released.entry.lock released.entry.block.now
-        (change «package».old «package».new) (change s s) (change hands.old hands.new) (change true true) }
+        (change «package».old «package».new) (change s s) (change parts.old parts.new) (change true true) }
 {
     package.keeps();
     let state = package.take_out(released.lock);
-    calls::free(hall, &mut hands.pass, state);
+    calls::free(hall, &mut parts.pass, state);
 }
 
 /// Passes on one lock of a thread that has ended. Whether the run was stopped.
 fn end_one<R: Wait, Q: Waiters>(
     rt: &R,
     hall: &Hall,
-    hands: &mut Hands,
+    parts: &mut DeskParts,
     queue: &Q,
     seat: &mut Q::Seat,
     package: &mut Package,
     released: Released<'_>,
 ) -> bool
-    requires may { MayPassOn hall.now released.lock released.block.now «package».old hands.old }
+    requires may { MayPassOn hall.now released.lock released.block.now «package».old parts.old }
     requires ended { ends_thread released.block.now.end ≡ true }
     requires seat { IsSeatFor (threads hall.now.terms) (Q.queue queue.now) (Q.seen seat.old) }
     ensures { DidLeave hall.now.terms released.entry.lock released.entry.block.now
         (change «package».old «package».new) (change (Q.seen seat.old) (Q.seen seat.new))
-        (change hands.old hands.new) (change false result) }
+        (change parts.old parts.new) (change false result) }
 {
-    match pass_on(rt, hall, hands, queue, seat, package, released) {
-        Passed::Gone => false,
+    match pass_on(rt, hall, parts, queue, seat, package, released) {
+        Passed::Home | Passed::Granted => false,
         Passed::Adopted(_) => unreachable!(),
         Passed::Stopped => true,
     }
@@ -83,17 +83,17 @@ fn end_one<R: Wait, Q: Waiters>(
 fn end_all<R: Wait, Q: Waiters>(
     rt: &R,
     shared: &Shared<'_, Q>,
-    hands: &mut Hands,
+    parts: &mut DeskParts,
     seats: &mut [Q::Seat],
     package: &mut Package,
     block: &Block,
 ) -> bool
-    requires hands { MayAct shared.now.hall.now (Pack «package».old ∷ [])
-        (length (locks_of block.now.held)) hands.old }
-    requires may { MayEnd shared.now.hall.now.terms hands.old.pass.knows block.now «package».old }
+    requires parts { MayAct shared.now.hall.now (Pack «package».old ∷ [])
+        (length (locks_of block.now.held)) parts.old }
+    requires may { MayEnd shared.now.hall.now.terms parts.old.pass.knows block.now «package».old }
     requires seats { HasSeats Q.queue Q.seen shared.now.hall.now.terms shared.now.queues.now seats.old }
     ensures { DidLeaveAll shared.now.hall.now.terms block.now (change «package».old «package».new)
-        (change (map Q.seen seats.old) (map Q.seen seats.new)) (change hands.old hands.new) result }
+        (change (map Q.seen seats.old) (map Q.seen seats.new)) (change parts.old parts.new) result }
 {
     let mut stopped = false;
     let mut rest = block.held;
@@ -102,12 +102,12 @@ fn end_all<R: Wait, Q: Waiters>(
         rest = rest.less(lock);
         let released = Released { lock, block };
         if stopped {
-            bring_home(shared.hall, hands, package, released);
+            free_one(shared.hall, parts, package, released);
             continue;
         }
         let queue = &shared.queues[lock as usize];
         let seat = &mut seats[lock as usize];
-        stopped = end_one(rt, shared.hall, hands, queue, seat, package, released);
+        stopped = end_one(rt, shared.hall, parts, queue, seat, package, released);
     }
     stopped
 }
@@ -116,22 +116,22 @@ fn end_all<R: Wait, Q: Waiters>(
 pub(crate) fn ended_with<R: Wait, Q: Waiters>(
     rt: &R,
     shared: &Shared<'_, Q>,
-    hands: &mut Hands,
+    parts: &mut DeskParts,
     seats: &mut [Q::Seat],
     mut package: Package,
     block: &Block,
 ) -> Settled
-    requires hands { MayAct shared.now.hall.now (Pack «package» ∷ packed hands.old.aside) MAX_HELD hands.old }
-    requires may { MayEnd shared.now.hall.now.terms hands.old.pass.knows block.now «package» }
+    requires parts { MayAct shared.now.hall.now (Pack «package» ∷ packed parts.old.aside) MAX_HELD parts.old }
+    requires may { MayEnd shared.now.hall.now.terms parts.old.pass.knows block.now «package» }
     requires seats { HasSeats Q.queue Q.seen shared.now.hall.now.terms shared.now.queues.now seats.old }
     ensures { Ends shared.now.hall.now.terms block.now «package»
-        (change (map Q.seen seats.old) (map Q.seen seats.new)) (change hands.old hands.new) result }
+        (change (map Q.seen seats.old) (map Q.seen seats.new)) (change parts.old parts.new) result }
 {
     package.keeps();
-    if end_all(rt, shared, hands, seats, &mut package, block) {
-        put_all_back(shared.hall, hands, package);
+    if end_all(rt, shared, parts, seats, &mut package, block) {
+        put_all_back(shared.hall, parts, package);
         return Settled::Stopped;
     }
-    calls::put(shared.hall, &mut hands.pass, package, Place::Done);
+    calls::put(shared.hall, &mut parts.pass, package, Place::Done);
     Settled::Ended
 }

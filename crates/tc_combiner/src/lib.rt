@@ -15,13 +15,13 @@
 //!   `specs/Change.antt`: what was before and what is after. `specs/Steps.antt`: one step at a desk,
 //!   with the package in hand, and what changed at the seats and set aside; what the files below say
 //!   became of packages and locks is said of such a step.
-//!   `specs/Walks.antt`: what some calls of a pass and of a seat did, one by one, and what hands may
+//!   `specs/Walks.antt`: what some calls of a pass and of a seat did, one by one, and what a desk may
 //!   do. `specs/Packages.antt`: what is asked and said of packages. `specs/Answers.antt`: what became
 //!   of a package that wants a lock, and of one that is put back. `specs/Release.antt`: what became of
 //!   a released lock, and of all locks of a thread that ended. `specs/Settling.antt`: all of it by the
 //!   end of the block. `specs/Ties.antt`: the tail of a queue beside the line of the pure machine.
 //!   `specs/Vocabulary.antt`: the words of the layers below that these speak of.
-//! - `desk`: desks and benches. `hands`: what a desk acts with, and what it shares. `settle`: what
+//! - `desk`: desks and benches. `parts`: what a desk acts with, and what it shares. `settle`: what
 //!   `settle` does, over the parts of a desk. `acquire`, `unlock`, `ends`: what is done for a package
 //!   that wants a lock, at an unlock, and at a sleep or a thread's end. `release`: what becomes of a
 //!   released lock. `waits`: the three waits, and one try of each. `calls`: the calls of the hall that
@@ -36,7 +36,7 @@ mod calls;
 mod desk;
 mod ends;
 mod found;
-mod hands;
+mod parts;
 mod passed;
 mod ready;
 mod release;

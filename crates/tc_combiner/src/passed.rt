@@ -13,8 +13,10 @@ pub(crate) struct Released<'a> {
 /// What became of a released lock.
 #[derive(Drop)]
 pub(crate) enum Passed {
-    /// It is home, or was granted to a waiter, which is ready.
-    Gone,
+    /// It is home: nobody stood behind.
+    Home,
+    /// It was granted to a waiter, which is ready.
+    Granted,
     /// It was granted to a waiter, which the worker has in hand.
     Adopted(Package),
     /// The run was stopped, and the lock is home.

@@ -7,5 +7,5 @@ use tc_isa::limits::MAX_HELD;
 const ROOM: usize = MAX_HELD as usize;
 
 /// Threads that were put as ready, in order. A call puts at most one for each lock of the block, and
-/// a block has at most `MAX_HELD`; an unlock puts the adopted package that it hands back besides.
+/// a block has at most `MAX_HELD`; an unlock puts the adopted package that it parts back besides.
 pub(crate) type ReadyList = ArrayVec<u32, ROOM>;

@@ -5,15 +5,15 @@ ghost use Rattle.tc_context.specs.View.{PackageView};
 ghost use Rattle.tc_hall.specs.Rule.{threads};
 ghost use Rattle.tc_hall.specs.Outs.{outs, Pack, Loose};
 ghost use Rattle.tc_combiner.specs.Packages.{IsWaiter};
-ghost use Rattle.tc_combiner.specs.Release.{DidHand, DidPass, MayHandOn, MayPassOn};
+ghost use Rattle.tc_combiner.specs.Release.{DidGrantNext, DidPass, MayGrantNext, MayPassOn};
 ghost use Rattle.tc_combiner.specs.Change.{change};
 ghost use Rattle.tc_combiner.specs.View.{IsSeatFor};
 
 use crate::calls;
 use crate::found::Found;
-use crate::hands::Hands;
+use crate::parts::DeskParts;
 use crate::passed::{Passed, Released};
-use crate::waits::{await_waiter, find_next};
+use crate::waits::{await_package, find_next};
 use std::sync::Wait;
 use tc_context::package::Package;
 use tc_hall::hall::Hall;
@@ -26,17 +26,17 @@ use tc_segment::state::LockState;
 /// Grants the lock to the waiter, as adopted or as granted; a granted one is put as ready.
 fn grant_to(
     hall: &Hall,
-    hands: &mut Hands,
+    parts: &mut DeskParts,
     mut waiter: Package,
     state: LockState,
     block: &Block,
     next: Turn,
 ) -> Passed
-    requires may { MayHandOn hall.now state block.now next (Pack waiter ∷ Loose state ∷ []) hands.old }
+    requires may { MayGrantNext hall.now state block.now next (Pack waiter ∷ Loose state ∷ []) parts.old }
     requires waiter { IsWaiter next.thread state.number hall.now.terms.image.value waiter }
     requires other { block.now.thread ≢ next.thread }
-    ensures { DidHand hall.now.terms state block.now next
-        (Pack waiter ∷ Loose state ∷ []) (change hands.old hands.new) result }
+    ensures { DidGrantNext hall.now.terms state block.now next
+        (Pack waiter ∷ Loose state ∷ []) (change parts.old parts.new) result }
 {
     let lock = state.number();
     if let Next::Adopt = plan(block, lock, state.run(), state.limit(), true) {
@@ -44,31 +44,31 @@ fn grant_to(
         return Passed::Adopted(waiter);
     }
     waiter.grant(state, Kind::Granted, next.number);
-    hands.ready.push(waiter.thread());
-    calls::put(hall, &mut hands.pass, waiter, Place::Ready);
-    Passed::Gone
+    parts.ready.push(waiter.thread());
+    calls::put(hall, &mut parts.pass, waiter, Place::Ready);
+    Passed::Granted
 }
 
 /// Grants a released lock to the turn behind, once its package waits.
-fn hand_on<R: Wait>(
+fn grant_next<R: Wait>(
     rt: &R,
     hall: &Hall,
-    hands: &mut Hands,
+    parts: &mut DeskParts,
     state: LockState,
     block: &Block,
     next: Turn,
 ) -> Passed
-    requires may { MayHandOn hall.now state block.now next (Loose state ∷ []) hands.old }
+    requires may { MayGrantNext hall.now state block.now next (Loose state ∷ []) parts.old }
     requires beside { (q : PackageView)
-        × ((outs hands.old.pass.knows).context block.now.thread ≡ Some q) }
-    ensures { DidHand hall.now.terms state block.now next
-        (Loose state ∷ []) (change hands.old hands.new) result }
+        × ((outs parts.old.pass.knows).context block.now.thread ≡ Some q) }
+    ensures { DidGrantNext hall.now.terms state block.now next
+        (Loose state ∷ []) (change parts.old parts.new) result }
 {
     let lock = state.number();
-    match await_waiter(rt, hall, &mut hands.pass, next.thread, lock) {
-        Some(waiter) => grant_to(hall, hands, waiter, state, block, next),
+    match await_package(rt, hall, &mut parts.pass, next.thread, lock) {
+        Some(waiter) => grant_to(hall, parts, waiter, state, block, next),
         None => {
-            calls::free(hall, &mut hands.pass, state);
+            calls::free(hall, &mut parts.pass, state);
             Passed::Stopped
         }
     }
@@ -78,17 +78,17 @@ fn hand_on<R: Wait>(
 pub(crate) fn pass_on<R: Wait, Q: Waiters>(
     rt: &R,
     hall: &Hall,
-    hands: &mut Hands,
+    parts: &mut DeskParts,
     queue: &Q,
     seat: &mut Q::Seat,
     package: &mut Package,
     released: Released<'_>,
 ) -> Passed
-    requires may { MayPassOn hall.now released.lock released.block.now «package».old hands.old }
+    requires may { MayPassOn hall.now released.lock released.block.now «package».old parts.old }
     requires seat { IsSeatFor (threads hall.now.terms) (Q.queue queue.now) (Q.seen seat.old) }
     ensures { DidPass hall.now.terms released.entry.lock released.entry.block.now
         (change «package».old «package».new) (change (Q.seen seat.old) (Q.seen seat.new))
-        (change hands.old hands.new) result }
+        (change parts.old parts.new) result }
 {
     package.keeps();
     let own = Turn {
@@ -96,14 +96,14 @@ pub(crate) fn pass_on<R: Wait, Q: Waiters>(
         number: package.number_of(released.lock),
     };
     let state = package.take_out(released.lock);
-    match find_next(rt, hall, &mut hands.pass, queue, seat, own) {
-        Found::Next(next) => hand_on(rt, hall, hands, state, released.block, next),
+    match find_next(rt, hall, &mut parts.pass, queue, seat, own) {
+        Found::Next(next) => grant_next(rt, hall, parts, state, released.block, next),
         Found::Nobody => {
-            calls::free(hall, &mut hands.pass, state);
-            Passed::Gone
+            calls::free(hall, &mut parts.pass, state);
+            Passed::Home
         }
-        Found::Unknown => {
-            calls::free(hall, &mut hands.pass, state);
+        Found::Stopped => {
+            calls::free(hall, &mut parts.pass, state);
             Passed::Stopped
         }
     }

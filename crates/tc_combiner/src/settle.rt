@@ -15,7 +15,7 @@ ghost use Rattle.tc_combiner.specs.Settling.{HasSettled, KeepsParts, MaySettle};
 
 use crate::acquire::acquire_with;
 use crate::ends::{ended_with, park};
-use crate::hands::{Hands, Rest, Shared};
+use crate::parts::{DeskParts, Shared, Sleeping};
 use crate::passed::Released;
 use crate::settled::Settled;
 use crate::unlock::unlocked_with;
@@ -29,121 +29,122 @@ use tc_queue::Waiters;
 pub(crate) fn acquire_at<R: Wait, Q: Waiters>(
     rt: &R,
     shared: &Shared<'_, Q>,
-    hands: &mut Hands,
+    parts: &mut DeskParts,
     seats: &mut [Q::Seat],
     package: Package,
     lock: u32,
 ) -> Settled
-    requires hands { IsAtHall shared.now.hall.now (Pack «package» ∷ packed hands.old.aside) hands.old }
+    requires parts { IsAtHall shared.now.hall.now (Pack «package» ∷ packed parts.old.aside) parts.old }
     requires may { MayAsk shared.now.hall.now.terms lock «package» }
     requires seats { HasSeats Q.queue Q.seen shared.now.hall.now.terms shared.now.queues.now seats.old }
     ensures { AtSeat lock (map Q.seen seats.old) (map Q.seen seats.new)
         (λ s t. Acquires shared.now.hall.now.terms lock «package»
-        (change s t) (change hands.old hands.new) result) }
+        (change s t) (change parts.old parts.new) result) }
 {
     let queue = &shared.queues[lock as usize];
     let seat = &mut seats[lock as usize];
-    acquire_with(rt, shared.hall, hands, queue, seat, package, lock)
+    acquire_with(rt, shared.hall, parts, queue, seat, package, lock)
 }
 
 /// What `settle` does at an unlock, at the lock's place in the bench.
 fn unlocked_at<R: Wait, Q: Waiters>(
     rt: &R,
     shared: &Shared<'_, Q>,
-    hands: &mut Hands,
+    parts: &mut DeskParts,
     seats: &mut [Q::Seat],
     package: Package,
     released: Released<'_>,
 ) -> Settled
-    requires hands { MayAct shared.now.hall.now (Pack «package» ∷ packed hands.old.aside) 2 hands.old }
-    requires may { MayUnlock shared.now.hall.now.terms hands.old.pass.knows
+    requires parts { MayAct shared.now.hall.now (Pack «package» ∷ packed parts.old.aside) 2 parts.old }
+    requires may { MayUnlock shared.now.hall.now.terms parts.old.pass.knows
         released.lock released.block.now «package» }
     requires seats { HasSeats Q.queue Q.seen shared.now.hall.now.terms shared.now.queues.now seats.old }
     ensures { AtSeat released.entry.lock (map Q.seen seats.old) (map Q.seen seats.new)
         (λ s t. Unlocks shared.now.hall.now.terms released.entry.lock released.entry.block.now «package»
-        (change s t) (change hands.old hands.new) result) }
+        (change s t) (change parts.old parts.new) result) }
 {
     let lock = released.lock;
     let queue = &shared.queues[lock as usize];
     let seat = &mut seats[lock as usize];
-    unlocked_with(rt, shared.hall, hands, queue, seat, package, released)
+    unlocked_with(rt, shared.hall, parts, queue, seat, package, released)
 }
 
 /// What `settle` does where the last block released this lock.
 fn unlocked_last<R: Wait, Q: Waiters>(
     rt: &R,
     shared: &Shared<'_, Q>,
-    hands: &mut Hands,
+    parts: &mut DeskParts,
     seats: &mut [Q::Seat],
     package: Package,
     lock: u32,
 ) -> Settled
-    requires hands { MayAct shared.now.hall.now (Pack «package» ∷ packed hands.old.aside) 2 hands.old }
+    requires parts { MayAct shared.now.hall.now (Pack «package» ∷ packed parts.old.aside) 2 parts.old }
     requires some { 0 < length «package».log }
     requires may { (block : Block) → last_of «package».log ≡ Some block
-        → MayUnlock shared.now.hall.now.terms hands.old.pass.knows lock block «package» }
+        → MayUnlock shared.now.hall.now.terms parts.old.pass.knows lock block «package» }
     requires seats { HasSeats Q.queue Q.seen shared.now.hall.now.terms shared.now.queues.now seats.old }
     ensures { (block : Block) → last_of «package».log ≡ Some block
         → AtSeat lock (map Q.seen seats.old) (map Q.seen seats.new)
         (λ s t. Unlocks shared.now.hall.now.terms lock block «package»
-        (change s t) (change hands.old hands.new) result) }
+        (change s t) (change parts.old parts.new) result) }
 {
     let block = &package.last();
-    unlocked_at(rt, shared, hands, seats, package, Released { lock, block })
+    unlocked_at(rt, shared, parts, seats, package, Released { lock, block })
 }
 
 /// What `settle` does where the last block ended the thread.
 fn ended_last<R: Wait, Q: Waiters>(
     rt: &R,
     shared: &Shared<'_, Q>,
-    hands: &mut Hands,
+    parts: &mut DeskParts,
     seats: &mut [Q::Seat],
     package: Package,
 ) -> Settled
-    requires hands { MayAct shared.now.hall.now (Pack «package» ∷ packed hands.old.aside) MAX_HELD hands.old }
+    requires parts { MayAct shared.now.hall.now (Pack «package» ∷ packed parts.old.aside) MAX_HELD parts.old }
     requires some { 0 < length «package».log }
     requires may { (block : Block) → last_of «package».log ≡ Some block
-        → MayEnd shared.now.hall.now.terms hands.old.pass.knows block «package» }
+        → MayEnd shared.now.hall.now.terms parts.old.pass.knows block «package» }
     requires seats { HasSeats Q.queue Q.seen shared.now.hall.now.terms shared.now.queues.now seats.old }
     ensures { (block : Block) → last_of «package».log ≡ Some block
         → Ends shared.now.hall.now.terms block «package»
-        (change (map Q.seen seats.old) (map Q.seen seats.new)) (change hands.old hands.new) result }
+        (change (map Q.seen seats.old) (map Q.seen seats.new)) (change parts.old parts.new) result }
 {
     let block = package.last();
-    ended_with(rt, shared, hands, seats, package, &block)
+    ended_with(rt, shared, parts, seats, package, &block)
 }
 
 /// What `settle` does, over the parts of a desk.
 pub(crate) fn settle_with<R: Wait, Q: Waiters>(
     rt: &R,
     shared: &Shared<'_, Q>,
-    hands: &mut Hands,
+    parts: &mut DeskParts,
     seats: &mut [Q::Seat],
-    rest: &mut Rest,
+    sleeping: &mut Sleeping,
     package: Package,
     end: End,
 ) -> Settled
-    requires hands { IsAtHall shared.now.hall.now (Pack «package» ∷ packed hands.old.aside) hands.old }
+    requires parts { IsAtHall shared.now.hall.now (Pack «package» ∷ packed parts.old.aside) parts.old }
     requires seats { HasSeats Q.queue Q.seen shared.now.hall.now.terms shared.now.queues.now seats.old }
-    requires room { threads shared.now.hall.now.terms ≤ length rest.old.sleepers }
-    requires may { MaySettle shared.now.hall.now.terms.image.value hands.old.pass.knows.worker end «package» }
+    requires room { threads shared.now.hall.now.terms ≤ length sleeping.old.sleepers }
+    requires may { MaySettle shared.now.hall.now.terms.image.value parts.old.pass.knows.worker end «package» }
     ensures keeps { KeepsParts shared.now.hall.now.terms «package»
-        (desk_with hands.old (map Q.seen seats.old) rest.old)
-        (desk_with hands.new (map Q.seen seats.new) rest.new) result }
-    ensures settled { HasSettled end «package» (desk_with hands.old (map Q.seen seats.old) rest.old)
-        (desk_with hands.new (map Q.seen seats.new) rest.new) result }
+        (desk_with parts.old (map Q.seen seats.old) sleeping.old)
+        (desk_with parts.new (map Q.seen seats.new) sleeping.new) result }
+    ensures settled { HasSettled end «package» (desk_with parts.old (map Q.seen seats.old) sleeping.old)
+        (desk_with parts.new (map Q.seen seats.new) sleeping.new) result }
 {
-    hands.ready.clear();
+    parts.ready.clear();
+    // For the proofs alone: what each package keeps holds of this one. So at each `keeps`; no code runs.
     package.keeps();
     match end {
-        End::Wants(lock) => acquire_at(rt, shared, hands, seats, package, lock),
-        End::Unlocked(lock) => unlocked_last(rt, shared, hands, seats, package, lock),
+        End::Wants(lock) => acquire_at(rt, shared, parts, seats, package, lock),
+        End::Unlocked(lock) => unlocked_last(rt, shared, parts, seats, package, lock),
         End::Slept => {
-            park(shared.hall, hands, rest, package);
+            park(shared.hall, parts, sleeping, package);
             Settled::Parked
         }
         End::Cut => Settled::GoesOn(package),
         // An exit, a fault, or spent fuel.
-        _ => ended_last(rt, shared, hands, seats, package),
+        _ => ended_last(rt, shared, parts, seats, package),
     }
 }

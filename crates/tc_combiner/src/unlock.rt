@@ -12,7 +12,7 @@ ghost use Rattle.tc_combiner.specs.View.{IsSeatFor};
 
 use crate::acquire::put_all_back;
 use crate::calls;
-use crate::hands::Hands;
+use crate::parts::DeskParts;
 use crate::passed::{Passed, Released};
 use crate::release::pass_on;
 use crate::settled::Settled;
@@ -33,64 +33,65 @@ fn holds_none(package: &Package) -> bool
 
 /// The package goes on. An adopted one that holds no lock is handed back, and the one that was set
 /// aside goes on.
-fn go_on(hall: &Hall, hands: &mut Hands, package: Package) -> Settled
-    requires hands { MayAct hall.now (Pack «package» ∷ packed hands.old.aside) 1 hands.old }
+fn resume(hall: &Hall, parts: &mut DeskParts, package: Package) -> Settled
+    requires parts { MayAct hall.now (Pack «package» ∷ packed parts.old.aside) 1 parts.old }
     requires may { MayGoOn hall.now.terms «package» }
-    ensures { Goes hall.now.terms «package» (change hands.old hands.new) result }
+    ensures { Goes hall.now.terms «package» (change parts.old parts.new) result }
 {
     if !holds_none(&package) {
         return Settled::GoesOn(package);
     }
-    match hands.aside.take() {
+    match parts.aside.take() {
         None => Settled::GoesOn(package),
         Some(other) => {
-            hands.ready.push(package.thread());
-            calls::put(hall, &mut hands.pass, package, Place::Ready);
+            parts.ready.push(package.thread());
+            calls::put(hall, &mut parts.pass, package, Place::Ready);
             Settled::GoesOn(other)
         }
     }
 }
 
 /// The package is set aside, or handed back where one is set aside already.
-fn set_aside(hall: &Hall, hands: &mut Hands, package: Package)
-    requires hands { MayAct hall.now (Pack «package» ∷ packed hands.old.aside) 1 hands.old }
+fn set_aside(hall: &Hall, parts: &mut DeskParts, package: Package)
+    requires parts { MayAct hall.now (Pack «package» ∷ packed parts.old.aside) 1 parts.old }
     requires may { IsAside hall.now.terms «package» }
-    ensures { PutsAside hall.now.terms «package» (change hands.old hands.new) }
+    ensures { PutsAside hall.now.terms «package» (change parts.old parts.new) }
 {
-    if hands.aside.is_some() {
-        hands.ready.push(package.thread());
-        calls::put(hall, &mut hands.pass, package, Place::Ready);
+    if parts.aside.is_some() {
+        parts.ready.push(package.thread());
+        calls::put(hall, &mut parts.pass, package, Place::Ready);
         return;
     }
-    hands.aside = Some(package);
+    parts.aside = Some(package);
 }
 
 /// What `settle` does at an unlock.
 pub(crate) fn unlocked_with<R: Wait, Q: Waiters>(
     rt: &R,
     hall: &Hall,
-    hands: &mut Hands,
+    parts: &mut DeskParts,
     queue: &Q,
     seat: &mut Q::Seat,
     mut package: Package,
     released: Released<'_>,
 ) -> Settled
-    requires hands { MayAct hall.now (Pack «package» ∷ packed hands.old.aside) 2 hands.old }
-    requires may { MayUnlock hall.now.terms hands.old.pass.knows released.lock
+    requires parts { MayAct hall.now (Pack «package» ∷ packed parts.old.aside) 2 parts.old }
+    requires may { MayUnlock hall.now.terms parts.old.pass.knows released.lock
         released.block.now «package» }
     requires seat { IsSeatFor (threads hall.now.terms) (Q.queue queue.now) (Q.seen seat.old) }
     ensures { Unlocks hall.now.terms released.entry.lock released.entry.block.now «package»
-        (change (Q.seen seat.old) (Q.seen seat.new)) (change hands.old hands.new) result }
+        (change (Q.seen seat.old) (Q.seen seat.new)) (change parts.old parts.new) result }
 {
     package.keeps();
-    match pass_on(rt, hall, hands, queue, seat, &mut package, released) {
-        Passed::Gone => go_on(hall, hands, package),
+    match pass_on(rt, hall, parts, queue, seat, &mut package, released) {
+        Passed::Home => resume(hall, parts, package),
+        Passed::Granted => resume(hall, parts, package),
         Passed::Adopted(waiter) => {
-            set_aside(hall, hands, package);
+            set_aside(hall, parts, package);
             Settled::Adopted(waiter)
         }
         Passed::Stopped => {
-            put_all_back(hall, hands, package);
+            put_all_back(hall, parts, package);
             Settled::Stopped
         }
     }

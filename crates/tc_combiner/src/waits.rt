@@ -6,12 +6,12 @@ ghost use Rattle.tc_hall.specs.Outs.{Pack, Loose};
 ghost use Rattle.tc_queue.specs.Lines.{MayCall, Next, with_line};
 ghost use Rattle.tc_queue.specs.Words.{IsTurn};
 ghost use Rattle.tc_combiner.specs.Packages.{IsWaiter};
-ghost use Rattle.tc_combiner.specs.Walks.{AskedAs, AskedTimes, Acts, LooksAfterFirst, IsTaken, TriedAs, WaitedAs, came_of, saw_at_unknown};
-ghost use Rattle.tc_combiner.specs.declared.found.Found.TheVariants.{Unknown};
+ghost use Rattle.tc_combiner.specs.Walks.{AskedAs, AskedTimes, Acts, FoundAs, LooksAfterFirst, IsTaken, TriedAs, WaitedAs, came_of, saw_at_stop};
+ghost use Rattle.tc_combiner.specs.declared.found.Asked.TheVariants.{Unlinked};
 
 use crate::attempt::Attempt;
 use crate::calls;
-use crate::found::Found;
+use crate::found::{Asked, Found};
 use crossbeam_utils::Backoff;
 use std::sync::Wait;
 use tc_context::package::Package;
@@ -83,7 +83,7 @@ fn try_next<R: Wait, Q: Waiters>(
 }
 
 /// Takes the lock once it is home. None: the run was stopped.
-pub(crate) fn take_home<R: Wait>(
+pub(crate) fn await_lock<R: Wait>(
     rt: &R,
     hall: &Hall,
     pass: &mut Pass,
@@ -105,7 +105,7 @@ pub(crate) fn take_home<R: Wait>(
 }
 
 /// Takes the waiter's package once it waits. None: the run was stopped.
-pub(crate) fn await_waiter<R: Wait>(
+pub(crate) fn await_package<R: Wait>(
     rt: &R,
     hall: &Hall,
     pass: &mut Pass,
@@ -128,22 +128,22 @@ pub(crate) fn await_waiter<R: Wait>(
 }
 
 /// Asks once for the turn behind, and leaves where there is none.
-fn ask<R: Wait, Q: Waiters>(rt: &R, queue: &Q, seat: &mut Q::Seat, own: Turn) -> Found
+fn ask<R: Wait, Q: Waiters>(rt: &R, queue: &Q, seat: &mut Q::Seat, own: Turn) -> Asked
     requires asks { MayCall (Q.queue queue.now) (Q.seen seat.old) own }
-    ensures found { AskedAs own (Q.seen seat.old) (Q.seen seat.new) result }
+    ensures asked { AskedAs own (Q.seen seat.old) (Q.seen seat.new) result }
     ensures once { (n : ℕ) × AskedTimes n own (Q.seen seat.old) (Q.seen seat.new) × (n ≤ 1)
-        × (result ≡ Unknown → n ≡ 1) }
+        × (result ≡ Unlinked → n ≡ 1) }
 {
     if let Some(next) = queue.next(rt, seat, own) {
-        return Found::Next(next);
+        return Asked::Next(next);
     }
     match queue.leave(rt, seat, own) {
-        Departure::Left => Found::Nobody,
-        Departure::Followed => Found::Unknown,
+        Departure::Left => Asked::Nobody,
+        Departure::Followed => Asked::Unlinked,
     }
 }
 
-/// Finds the turn behind this one, or leaves the line. Unknown: the run was stopped.
+/// Finds the turn behind this one, once it is linked, or leaves the line where nobody is behind.
 pub(crate) fn find_next<R: Wait, Q: Waiters>(
     rt: &R,
     hall: &Hall,
@@ -154,20 +154,21 @@ pub(crate) fn find_next<R: Wait, Q: Waiters>(
 ) -> Found
     requires own { pass.old.table ≡ hall.now.table }
     requires asks { MayCall (Q.queue queue.now) (Q.seen seat.old) own }
-    ensures acts { Acts (saw_at_unknown result) [] [] pass.old pass.new }
-    ensures found { AskedAs own (Q.seen seat.old) (Q.seen seat.new) result }
+    ensures acts { Acts (saw_at_stop result) [] [] pass.old pass.new }
+    ensures found { FoundAs own (Q.seen seat.old) (Q.seen seat.new) result }
     ensures looks { LooksAfterFirst own (Q.seen seat.old) (Q.seen seat.new)
         pass.old.knows pass.new.knows }
 {
     match ask(rt, queue, seat, own) {
-        Found::Unknown => {}
-        found => return found,
+        Asked::Nobody => return Found::Nobody,
+        Asked::Next(next) => return Found::Next(next),
+        Asked::Unlinked => {}
     }
     let pause = Backoff::new();
     for _ in rt.forever() {
         match try_next(rt, hall, pass, queue, seat, own) {
             Attempt::Came(next) => return Found::Next(next),
-            Attempt::Stopped => return Found::Unknown,
+            Attempt::Stopped => return Found::Stopped,
             Attempt::Refused => pause.snooze(),
         }
     }

@@ -10,19 +10,19 @@ grant-requires-clause-waiting g c = subst (λ (i : ℕ). IsWaiting c.args.«pack
 pub grant-requires-clause-rest : goal.grant-requires-clause-rest
 grant-requires-clause-rest g c =
     let r = (c.in-Some.ensures {u = tt}).2.0 in
-    subst (λ (x : Shown). IsAtRest x c.in-Some.state.number c.in-Some.state) ((c.in-Some.ensures {u = tt}).0.adds.told.image ∙ c.requires.hands.image ∙ sym c.requires.may.may.of) (subst (λ (i : ℕ). IsAtRest c.take_home.new.pass.knows.image i c.in-Some.state) (sym r.number) r)
+    subst (λ (x : Shown). IsAtRest x c.in-Some.state.number c.in-Some.state) ((c.in-Some.ensures {u = tt}).0.adds.told.image ∙ c.requires.parts.image ∙ sym c.requires.may.may.of) (subst (λ (i : ℕ). IsAtRest c.await_lock.new.pass.knows.image i c.in-Some.state) (sym r.number) r)
 
 pub put_all_back-requires : goal.put_all_back-requires
 put_all_back-requires g c = record {
-  hands = at_after c.args.hall.now _ _ _ c.args.hands.now.pass _ c.args.hands.now.aside _ c.requires.hands (acts_by _ (Pack c.args.«package» ∷ packed c.args.hands.now.aside) c.args.hands.now.pass _ (c.in-None.ensures {u = tt}).0) refl;
+  parts = at_after c.args.hall.now _ _ _ c.args.parts.now.pass _ c.args.parts.now.aside _ c.requires.parts (acts_by _ (Pack c.args.«package» ∷ packed c.args.parts.now.aside) c.args.parts.now.pass _ (c.in-None.ensures {u = tt}).0) refl;
   plain = c.requires.may.may.plain;
 }
 
 pub returns-in-Some : goal.returns-in-Some
 returns-in-Some g c =
     let e = c.in-Some.ensures {u = tt} in
-    let rest = subst (λ (x : Shown). IsAtRest x c.args.lock c.in-Some.state) (e.0.adds.told.image ∙ c.requires.hands.image ∙ sym c.requires.may.may.of) e.2.0 in
-    takes_first c.args.hall.now.terms c.args.lock c.args.number c.in-Some.state c.args.«package» c.grant.new.self c.args.hands.now _ rest (record { is = c.grant.ensures.is; locks = c.grant.ensures.locks }) c.requires.may.waits c.requires.may.may e.0 refl refl
+    let rest = subst (λ (x : Shown). IsAtRest x c.args.lock c.in-Some.state) (e.0.adds.told.image ∙ c.requires.parts.image ∙ sym c.requires.may.may.of) e.2.0 in
+    takes_first c.args.hall.now.terms c.args.lock c.args.number c.in-Some.state c.args.«package» c.grant.new.self c.args.parts.now _ rest (record { is = c.grant.ensures.is; locks = c.grant.ensures.locks }) c.requires.may.waits c.requires.may.may e.0 refl refl
 
 pub returns-in-None : goal.returns-in-None
-returns-in-None g c = stops_first c.args.hall.now.terms c.args.lock c.args.number c.args.«package» c.args.hands.now _ c.put_all_back.new.hands (c.in-None.ensures {u = tt}).0 refl c.put_all_back.ensures
+returns-in-None g c = stops_first c.args.hall.now.terms c.args.lock c.args.number c.args.«package» c.args.parts.now _ c.put_all_back.new.parts (c.in-None.ensures {u = tt}).0 refl c.put_all_back.ensures

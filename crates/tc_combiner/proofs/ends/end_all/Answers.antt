@@ -1,11 +1,11 @@
 use Rattle.std.proofs.Common.{◌<◌, false, map, length, arith, rules}
-use Rattle.tc_combiner.proofs.Vocabulary.{Change, DidLeave, Hands, PackageView, SeatView, change, length-map, locks}
+use Rattle.tc_combiner.proofs.Vocabulary.{Change, DidLeave, DeskParts, PackageView, SeatView, change, length-map, locks}
 use Rattle.tc_combiner.proofs.Ending.{leaves_first, leaves_home, leaves_more, left_all, less_falls, may_next, may_release, none_left, seat_in}
 use Rattle.tc_combiner.proofs.Seats.{at_seat}
 use Rattle.tc_combiner.proofs.ends.end_all.Goals as goal
 
 pub loop-lock-init : goal.loop-lock-init
-loop-lock-init g c = leaves_first c.args.shared.now.hall.now c.args.block.now c.args.«package».now (map g.Q.Waiters.seen c.args.seats.now) c.args.hands.now c.requires.hands c.requires.may.locks
+loop-lock-init g c = leaves_first c.args.shared.now.hall.now c.args.block.now c.args.«package».now (map g.Q.Waiters.seen c.args.seats.now) c.args.parts.now c.requires.parts c.requires.may.locks
 
 pub offset_bounds-shared-lock : goal.offset_bounds-shared-lock
 offset_bounds-shared-lock g c =
@@ -29,7 +29,7 @@ bounds-seats-lock g c =
 
 pub end_one-stopped-requires-clause-may : goal.end_one-stopped-requires-clause-may
 end_one-stopped-requires-clause-may g c = λ κs b. record {
-  hands = may_next c.less-rest.result c.in-Some.lock c.requires.hands c.loop-lock.invariant c.in-Some.ensures.value.0 c.in-Some.ensures.bound c.less-rest.ensures.each;
+  parts = may_next c.less-rest.result c.in-Some.lock c.requires.parts c.loop-lock.invariant c.in-Some.ensures.value.0 c.in-Some.ensures.bound c.less-rest.ensures.each;
   release = may_release c.requires.may c.loop-lock.invariant c.in-Some.ensures.value.0;
 }
 
@@ -48,22 +48,22 @@ loop-lock-preserved g c =
     let low : c.in-Some.lock < locks c.args.shared.now.hall.now.terms = c.requires.may.known c.in-Some.lock (c.loop-lock.invariant.within c.in-Some.lock c.in-Some.ensures.value.0) in
     let deep : c.in-Some.lock < length c.loop-lock.seats = (let size = c.requires.seats.seats in let count = c.loop-lock.invariant.count in let old = length-map c.args.seats.now g.Q.Waiters.seen in let new = length-map c.loop-lock.seats g.Q.Waiters.seen in omega arith) in
     let p : Change PackageView = change c.loop-lock.«package» c.end_one-stopped.new.«package» in
-    let hands : Change Hands = change c.loop-lock.hands c.end_one-stopped.new.hands in
+    let parts : Change DeskParts = change c.loop-lock.parts c.end_one-stopped.new.parts in
     let e = c.end_one-stopped.ensures in
-    let at = at_seat g.Q.Waiters.seen (λ (s t : SeatView). DidLeave c.args.shared.now.hall.now.terms c.in-Some.lock c.args.block.now p (change s t) hands (change false c.end_one-stopped.result)) c.loop-lock.seats c.in-Some.lock c.index-seats-lock.result c.end_one-stopped.new.seat deep c.index-seats-lock.is (e.asks.table, e.asks.threads) e in
+    let at = at_seat g.Q.Waiters.seen (λ (s t : SeatView). DidLeave c.args.shared.now.hall.now.terms c.in-Some.lock c.args.block.now p (change s t) parts (change false c.end_one-stopped.result)) c.loop-lock.seats c.in-Some.lock c.index-seats-lock.result c.end_one-stopped.new.seat deep c.index-seats-lock.is (e.asks.table, e.asks.threads) e in
     leaves_more c.loop-lock.invariant c.if-stopped.false c.in-Some.ensures.value.0 c.in-Some.ensures.value.1 c.in-Some.ensures.bound c.less-rest.ensures.each at
 
 pub returns : goal.returns
 returns g c = left_all (none_left _ _ c.first_release.result c.first_release.ensures.value c.in_default.not-Some) c.loop-lock.invariant
 
-pub bring_home-requires : goal.bring_home-requires
-bring_home-requires g c = record {
-  hands = may_next c.less-rest.result c.in-Some.lock c.requires.hands c.loop-lock.invariant c.in-Some.ensures.value.0 c.in-Some.ensures.bound c.less-rest.ensures.each;
+pub free_one-requires : goal.free_one-requires
+free_one-requires g c = record {
+  parts = may_next c.less-rest.result c.in-Some.lock c.requires.parts c.loop-lock.invariant c.in-Some.ensures.value.0 c.in-Some.ensures.bound c.less-rest.ensures.each;
   release = may_release c.requires.may c.loop-lock.invariant c.in-Some.ensures.value.0;
 }
 
 pub loop-lock-preserved-then-stopped : goal.loop-lock-preserved-then-stopped
-loop-lock-preserved-then-stopped g c = leaves_home c.loop-lock.invariant c.if-stopped.true c.in-Some.ensures.value.0 c.in-Some.ensures.value.1 c.in-Some.ensures.bound c.less-rest.ensures.each c.bring_home.ensures
+loop-lock-preserved-then-stopped g c = leaves_home c.loop-lock.invariant c.if-stopped.true c.in-Some.ensures.value.0 c.in-Some.ensures.value.1 c.in-Some.ensures.bound c.less-rest.ensures.each c.free_one.ensures
 
 pub loop-lock-smaller-then-stopped : goal.loop-lock-smaller-then-stopped
 loop-lock-smaller-then-stopped g c = less_falls c.loop-lock.rest c.in-Some.lock c.less-rest.result c.less-rest.ensures.value c.in-Some.ensures.value.0

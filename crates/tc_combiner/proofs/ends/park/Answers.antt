@@ -1,5 +1,5 @@
 use Rattle.std.proofs.Common.{[], ◌∷◌, refl}
-use Rattle.tc_combiner.proofs.Vocabulary.{Did_park, Hands, Parked, put_call, threads}
+use Rattle.tc_combiner.proofs.Vocabulary.{Did_park, DeskParts, Parked, put_call, threads}
 use Rattle.tc_combiner.proofs.Answering.{keeps_answers, wider}
 use Rattle.tc_combiner.proofs.Acting.{takes_none}
 use Rattle.tc_combiner.proofs.ends.park.Goals as goal
@@ -7,7 +7,7 @@ use Rattle.tc_combiner.proofs.ends.park.Goals as goal
 pub returns-clause-calls : goal.returns-clause-calls
 returns-clause-calls c =
     let put = put_call c.args.«package» Parked ∷ [] in
-    let h : Hands = record c.args.hands.now { pass = c.put.new.pass } in record {
-      answers = keeps_answers c.args.hall.now put c.args.«package» c.args.hands.now h Did_park c.requires.hands (wider put c.args.«package» c.args.hands.now h refl c.put.ensures) (takes_none (threads c.args.hall.now.terms) c.args.hands.now.ready.items c.args.hands.now.ready.items put refl refl) refl;
+    let h : DeskParts = record c.args.parts.now { pass = c.put.new.pass } in record {
+      answers = keeps_answers c.args.hall.now put c.args.«package» c.args.parts.now h Did_park c.requires.parts (wider put c.args.«package» c.args.parts.now h refl c.put.ensures) (takes_none (threads c.args.hall.now.terms) c.args.parts.now.ready.items c.args.parts.now.ready.items put refl refl) refl;
       aside = refl;
     }

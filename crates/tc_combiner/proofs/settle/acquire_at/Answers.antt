@@ -1,5 +1,5 @@
 use Rattle.std.proofs.Common.{◌<◌, length, arith}
-use Rattle.tc_combiner.proofs.Vocabulary.{Acquires, SeatView, by_hands, change}
+use Rattle.tc_combiner.proofs.Vocabulary.{Acquires, SeatView, by_parts, change}
 use Rattle.tc_combiner.proofs.Acquiring.{same_seat}
 use Rattle.tc_combiner.proofs.Seats.{at_one, at_seat}
 use Rattle.tc_combiner.proofs.settle.acquire_at.Goals as goal
@@ -12,6 +12,6 @@ returns g c =
     let low = c.requires.may.lock in
     let count = c.requires.seats.seats in
     let deep : c.args.lock < length c.args.seats.now = omega arith in
-    let hands = change c.args.hands.now c.acquire_with.new.hands in
-    let same = same_seat (by_hands c.args.shared.now.hall.now.terms c.args.«package» (change _ _) hands) c.args.lock c.acquire_with.ensures.calls c.acquire_with.result c.acquire_with.ensures.became in
-    at_seat g.Q.Waiters.seen (λ (s t : SeatView). Acquires c.args.shared.now.hall.now.terms c.args.lock c.args.«package» (change s t) hands c.acquire_with.result) c.args.seats.now c.args.lock c.index-seats-lock.result c.acquire_with.new.seat deep c.index-seats-lock.is same c.acquire_with.ensures
+    let parts = change c.args.parts.now c.acquire_with.new.parts in
+    let same = same_seat (by_parts c.args.shared.now.hall.now.terms c.args.«package» (change _ _) parts) c.args.lock c.acquire_with.ensures.calls c.acquire_with.result c.acquire_with.ensures.became in
+    at_seat g.Q.Waiters.seen (λ (s t : SeatView). Acquires c.args.shared.now.hall.now.terms c.args.lock c.args.«package» (change s t) parts c.acquire_with.result) c.args.seats.now c.args.lock c.index-seats-lock.result c.acquire_with.new.seat deep c.index-seats-lock.is same c.acquire_with.ensures

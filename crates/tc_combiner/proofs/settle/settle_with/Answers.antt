@@ -1,5 +1,5 @@
 use Rattle.std.proofs.Common.{ℕ, List, [], ◌∷◌, refl, sym, ap, ◌∙◌, subst, map, arith, length, length-set}
-use Rattle.tc_combiner.proofs.Vocabulary.{DeskView, DidNothing, DidPark, Did_park, End, GoesOn, Hands, IsGood, Pack, Rest, SettledAs, Shown, desk_of, desk_with, packed, threads}
+use Rattle.tc_combiner.proofs.Vocabulary.{DeskView, DidNothing, DidPark, Did_park, End, GoesOn, DeskParts, IsGood, Pack, Sleeping, SettledAs, Shown, desk_of, desk_with, packed, threads}
 use Rattle.tc_combiner.proofs.Acting.{acts_none, takes_none}
 use Rattle.tc_combiner.proofs.Ending.{same_seats, seats_first}
 use Rattle.tc_combiner.proofs.Settling.{after_last, did_acquire, did_end, did_unlock, ended, keeps_of, may_ask, may_begin, may_continue, may_end, may_park, may_unlock, settled_end, some_block}
@@ -15,94 +15,94 @@ ended_last-requires-clause-some g c = λ κs b. some_block c.args.«package».lo
 pub acquire_at-requires-clause-may : goal.acquire_at-requires-clause-may
 acquire_at-requires-clause-may g c = λ κs b.
     let block = c.requires.may.0 in
-    let after = after_last c.args.shared.now.hall.now.terms.image.value c.args.hands.now.pass.knows.worker c.args.end _ block c.args.«package» c.in-Wants.is c.requires.may c.requires.may.1.last in
-    may_ask c.args.shared.now.hall.now.terms c.args.hands.now.pass.knows.worker block c.args.«package» c.keeps.ensures.sound c.in-Wants.lock c.keeps.ensures.want after
+    let after = after_last c.args.shared.now.hall.now.terms.image.value c.args.parts.now.pass.knows.worker c.args.end _ block c.args.«package» c.in-Wants.is c.requires.may c.requires.may.1.last in
+    may_ask c.args.shared.now.hall.now.terms c.args.parts.now.pass.knows.worker block c.args.«package» c.keeps.ensures.sound c.in-Wants.lock c.keeps.ensures.want after
 
 pub returns-in-Wants-clause-settled : goal.returns-in-Wants-clause-settled
 returns-in-Wants-clause-settled g c =
-    let before = desk_with c.args.hands.now (map g.Q.Waiters.seen c.args.seats.now) c.args.rest.now in
-    let after = desk_with c.acquire_at.new.hands (map g.Q.Waiters.seen c.acquire_at.new.seats) c.args.rest.now in
-    let did = did_acquire c.args.shared.now.hall.now.terms c.args.«package» _ _ c.args.rest.now.sleepers c.args.rest.now.clock c.args.hands.now.ready.items _ c.acquire_at.new.hands c.requires.hands.image c.in-Wants.lock c.acquire_at.result c.acquire_at.ensures in
+    let before = desk_with c.args.parts.now (map g.Q.Waiters.seen c.args.seats.now) c.args.sleeping.now in
+    let after = desk_with c.acquire_at.new.parts (map g.Q.Waiters.seen c.acquire_at.new.seats) c.args.sleeping.now in
+    let did = did_acquire c.args.shared.now.hall.now.terms c.args.«package» _ _ c.args.sleeping.now.sleepers c.args.sleeping.now.clock c.args.parts.now.ready.items _ c.acquire_at.new.parts c.requires.parts.image c.in-Wants.lock c.acquire_at.result c.acquire_at.ensures in
     (c.requires.may.0, c.requires.may.1.last, subst (λ (x : End). SettledAs x c.args.«package» c.requires.may.0 before after c.acquire_at.result) (sym c.in-Wants.is) did)
 
 pub returns-in-Wants-clause-keeps : goal.returns-in-Wants-clause-keeps
-returns-in-Wants-clause-keeps g c = keeps_of c.args.shared.now.hall.now.terms _ c.args.«package» _ _ c.args.rest.now c.args.rest.now _ c.acquire_at.new.hands _ c.acquire_at.result c.clear.ensures c.acquire_at.ensures.here.answers c.acquire_at.ensures.same refl refl
+returns-in-Wants-clause-keeps g c = keeps_of c.args.shared.now.hall.now.terms _ c.args.«package» _ _ c.args.sleeping.now c.args.sleeping.now _ c.acquire_at.new.parts _ c.acquire_at.result c.clear.ensures c.acquire_at.ensures.here.answers c.acquire_at.ensures.same refl refl
 
-pub unlocked_last-requires-clause-hands : goal.unlocked_last-requires-clause-hands
-unlocked_last-requires-clause-hands g c = λ κs b. may_begin c.args.shared.now.hall.now _ 2 _ c.requires.hands c.clear.ensures (omega arith)
+pub unlocked_last-requires-clause-parts : goal.unlocked_last-requires-clause-parts
+unlocked_last-requires-clause-parts g c = λ κs b. may_begin c.args.shared.now.hall.now _ 2 _ c.requires.parts c.clear.ensures (omega arith)
 
 pub unlocked_last-requires-clause-may : goal.unlocked_last-requires-clause-may
 unlocked_last-requires-clause-may g c = λ κs b block is.
-    let after = after_last c.args.shared.now.hall.now.terms.image.value c.args.hands.now.pass.knows.worker c.args.end _ block c.args.«package» c.in-Unlocked.is c.requires.may is in
-    may_unlock c.args.shared.now.hall.now.terms c.args.hands.now.pass.knows.worker block c.args.«package» c.keeps.ensures.sound c.args.hands.now.pass.knows c.in-Unlocked.lock c.requires.hands.image refl after
+    let after = after_last c.args.shared.now.hall.now.terms.image.value c.args.parts.now.pass.knows.worker c.args.end _ block c.args.«package» c.in-Unlocked.is c.requires.may is in
+    may_unlock c.args.shared.now.hall.now.terms c.args.parts.now.pass.knows.worker block c.args.«package» c.keeps.ensures.sound c.args.parts.now.pass.knows c.in-Unlocked.lock c.requires.parts.image refl after
 
 pub returns-in-Unlocked-clause-settled : goal.returns-in-Unlocked-clause-settled
 returns-in-Unlocked-clause-settled g c =
-    let before = desk_with c.args.hands.now (map g.Q.Waiters.seen c.args.seats.now) c.args.rest.now in
-    let after = desk_with c.unlocked_last.new.hands (map g.Q.Waiters.seen c.unlocked_last.new.seats) c.args.rest.now in
+    let before = desk_with c.args.parts.now (map g.Q.Waiters.seen c.args.seats.now) c.args.sleeping.now in
+    let after = desk_with c.unlocked_last.new.parts (map g.Q.Waiters.seen c.unlocked_last.new.seats) c.args.sleeping.now in
     let unlocks = c.unlocked_last.ensures c.requires.may.0 c.requires.may.1.last in
-    let did = did_unlock c.args.shared.now.hall.now.terms c.args.«package» _ _ c.args.rest.now.sleepers c.args.rest.now.clock c.args.hands.now.ready.items _ c.unlocked_last.new.hands c.requires.hands.image c.in-Unlocked.lock c.requires.may.0 c.unlocked_last.result unlocks in
+    let did = did_unlock c.args.shared.now.hall.now.terms c.args.«package» _ _ c.args.sleeping.now.sleepers c.args.sleeping.now.clock c.args.parts.now.ready.items _ c.unlocked_last.new.parts c.requires.parts.image c.in-Unlocked.lock c.requires.may.0 c.unlocked_last.result unlocks in
     (c.requires.may.0, c.requires.may.1.last, subst (λ (x : End). SettledAs x c.args.«package» c.requires.may.0 before after c.unlocked_last.result) (sym c.in-Unlocked.is) did)
 
 pub returns-in-Unlocked-clause-keeps : goal.returns-in-Unlocked-clause-keeps
 returns-in-Unlocked-clause-keeps g c =
     let unlocks = c.unlocked_last.ensures c.requires.may.0 c.requires.may.1.last in
-    keeps_of c.args.shared.now.hall.now.terms _ c.args.«package» _ _ c.args.rest.now c.args.rest.now _ c.unlocked_last.new.hands _ c.unlocked_last.result c.clear.ensures unlocks.here.answers unlocks.same refl refl
+    keeps_of c.args.shared.now.hall.now.terms _ c.args.«package» _ _ c.args.sleeping.now c.args.sleeping.now _ c.unlocked_last.new.parts _ c.unlocked_last.result c.clear.ensures unlocks.here.answers unlocks.same refl refl
 
 pub park-requires-clause-may : goal.park-requires-clause-may
 park-requires-clause-may g c =
-    let after = after_last c.args.shared.now.hall.now.terms.image.value c.args.hands.now.pass.knows.worker c.args.end _ c.requires.may.0 c.args.«package» c.in-Slept.is c.requires.may c.requires.may.1.last in
-    may_park c.args.shared.now.hall.now.terms c.args.hands.now.pass.knows.worker c.requires.may.0 c.args.«package» c.keeps.ensures.sound after
+    let after = after_last c.args.shared.now.hall.now.terms.image.value c.args.parts.now.pass.knows.worker c.args.end _ c.requires.may.0 c.args.«package» c.in-Slept.is c.requires.may c.requires.may.1.last in
+    may_park c.args.shared.now.hall.now.terms c.args.parts.now.pass.knows.worker c.requires.may.0 c.args.«package» c.keeps.ensures.sound after
 
 pub returns-in-Slept-clause-settled : goal.returns-in-Slept-clause-settled
 returns-in-Slept-clause-settled g c =
-    let before = desk_with c.args.hands.now (map g.Q.Waiters.seen c.args.seats.now) c.args.rest.now in
-    let after = desk_with c.park.new.hands (map g.Q.Waiters.seen c.args.seats.now) c.park.new.rest in
-    let did : DidPark c.args.«package» before after = record { seats = refl; aside = c.park.ensures.calls.aside; adds = c.park.ensures.calls.answers.acts.adds; sleeper = ap (λ (x : Rest). x.sleepers) c.park.ensures.sleeper } in
+    let before = desk_with c.args.parts.now (map g.Q.Waiters.seen c.args.seats.now) c.args.sleeping.now in
+    let after = desk_with c.park.new.parts (map g.Q.Waiters.seen c.args.seats.now) c.park.new.sleeping in
+    let did : DidPark c.args.«package» before after = record { seats = refl; aside = c.park.ensures.calls.aside; adds = c.park.ensures.calls.answers.acts.adds; sleeper = ap (λ (x : Sleeping). x.sleepers) c.park.ensures.sleeper } in
     (c.requires.may.0, c.requires.may.1.last, subst (λ (x : End). SettledAs x c.args.«package» c.requires.may.0 before after Did_park) (sym c.in-Slept.is) did)
 
 pub returns-in-Slept-clause-keeps : goal.returns-in-Slept-clause-keeps
 returns-in-Slept-clause-keeps g c =
-    let room = ap (λ (x : Rest). length x.sleepers) c.park.ensures.sleeper ∙ length-set _ _ _ in
-    keeps_of c.args.shared.now.hall.now.terms _ c.args.«package» _ _ c.args.rest.now c.park.new.rest _ c.park.new.hands _ Did_park c.clear.ensures c.park.ensures.calls.answers
-    (seats_first (map g.Q.Waiters.seen c.args.seats.now)) (ap (λ (x : Rest). x.clock) c.park.ensures.sleeper) room
+    let room = ap (λ (x : Sleeping). length x.sleepers) c.park.ensures.sleeper ∙ length-set _ _ _ in
+    keeps_of c.args.shared.now.hall.now.terms _ c.args.«package» _ _ c.args.sleeping.now c.park.new.sleeping _ c.park.new.parts _ Did_park c.clear.ensures c.park.ensures.calls.answers
+    (seats_first (map g.Q.Waiters.seen c.args.seats.now)) (ap (λ (x : Sleeping). x.clock) c.park.ensures.sleeper) room
 
 pub returns-in-Cut-clause-settled : goal.returns-in-Cut-clause-settled
 returns-in-Cut-clause-settled g c =
     let block = c.requires.may.0 in
-    let kept = after_last c.args.shared.now.hall.now.terms.image.value c.args.hands.now.pass.knows.worker c.args.end _ block c.args.«package» c.in-Cut.is c.requires.may c.requires.may.1.last in
-    let good = may_continue c.args.shared.now.hall.now.terms c.args.hands.now.pass.knows.worker block c.args.«package» c.keeps.ensures.sound kept in
-    let desk : List ℕ → DeskView = λ hs. desk_of c.args.hands.now.pass (map g.Q.Waiters.seen c.args.seats.now) c.args.rest.now.sleepers c.args.rest.now.clock c.args.hands.now.aside hs in
-    let here = subst (λ (x : Shown). IsGood c.args.«package» x c.args.hands.now.pass.knows.worker) (sym c.requires.hands.image) good in
-    let goes : DidNothing c.args.«package» (desk c.args.hands.now.ready.items) (desk c.clear.new.self.items) (GoesOn c.args.«package») = (refl, ap desk c.clear.ensures, here) in
-    (block, c.requires.may.1.last, subst (λ (x : End). SettledAs x c.args.«package» block (desk c.args.hands.now.ready.items) (desk c.clear.new.self.items) (GoesOn c.args.«package»)) (sym c.in-Cut.is) goes)
+    let kept = after_last c.args.shared.now.hall.now.terms.image.value c.args.parts.now.pass.knows.worker c.args.end _ block c.args.«package» c.in-Cut.is c.requires.may c.requires.may.1.last in
+    let good = may_continue c.args.shared.now.hall.now.terms c.args.parts.now.pass.knows.worker block c.args.«package» c.keeps.ensures.sound kept in
+    let desk : List ℕ → DeskView = λ hs. desk_of c.args.parts.now.pass (map g.Q.Waiters.seen c.args.seats.now) c.args.sleeping.now.sleepers c.args.sleeping.now.clock c.args.parts.now.aside hs in
+    let here = subst (λ (x : Shown). IsGood c.args.«package» x c.args.parts.now.pass.knows.worker) (sym c.requires.parts.image) good in
+    let goes : DidNothing c.args.«package» (desk c.args.parts.now.ready.items) (desk c.clear.new.self.items) (GoesOn c.args.«package») = (refl, ap desk c.clear.ensures, here) in
+    (block, c.requires.may.1.last, subst (λ (x : End). SettledAs x c.args.«package» block (desk c.args.parts.now.ready.items) (desk c.clear.new.self.items) (GoesOn c.args.«package»)) (sym c.in-Cut.is) goes)
 
 pub returns-in-Cut-clause-keeps : goal.returns-in-Cut-clause-keeps
 returns-in-Cut-clause-keeps g c =
-    let h : Hands = record c.args.hands.now { ready = c.clear.new.self } in
+    let h : DeskParts = record c.args.parts.now { ready = c.clear.new.self } in
     let none = takes_none (threads c.args.shared.now.hall.now.terms) c.clear.new.self.items c.clear.new.self.items [] refl refl in
-    let still = acts_none c.args.hands.now.pass (Pack c.args.«package» ∷ packed c.args.hands.now.aside) in
-    let answers = keeps_answers c.args.shared.now.hall.now [] c.args.«package» h h (GoesOn c.args.«package») c.requires.hands still none refl in
-    keeps_of c.args.shared.now.hall.now.terms [] c.args.«package» _ _ c.args.rest.now c.args.rest.now h h _ (GoesOn c.args.«package») c.clear.ensures answers (seats_first (map g.Q.Waiters.seen c.args.seats.now)) refl refl
+    let still = acts_none c.args.parts.now.pass (Pack c.args.«package» ∷ packed c.args.parts.now.aside) in
+    let answers = keeps_answers c.args.shared.now.hall.now [] c.args.«package» h h (GoesOn c.args.«package») c.requires.parts still none refl in
+    keeps_of c.args.shared.now.hall.now.terms [] c.args.«package» _ _ c.args.sleeping.now c.args.sleeping.now h h _ (GoesOn c.args.«package») c.clear.ensures answers (seats_first (map g.Q.Waiters.seen c.args.seats.now)) refl refl
 
-pub ended_last-requires-clause-hands : goal.ended_last-requires-clause-hands
-ended_last-requires-clause-hands g c = λ κs b. may_begin c.args.shared.now.hall.now _ _ _ c.requires.hands c.clear.ensures (omega arith)
+pub ended_last-requires-clause-parts : goal.ended_last-requires-clause-parts
+ended_last-requires-clause-parts g c = λ κs b. may_begin c.args.shared.now.hall.now _ _ _ c.requires.parts c.clear.ensures (omega arith)
 
 pub ended_last-requires-clause-may : goal.ended_last-requires-clause-may
 ended_last-requires-clause-may g c = λ κs b block is.
-    let after = after_last c.args.shared.now.hall.now.terms.image.value c.args.hands.now.pass.knows.worker c.args.end _ block c.args.«package» refl c.requires.may is in
-    may_end c.args.shared.now.hall.now.terms c.args.hands.now.pass.knows.worker _ block c.args.«package» c.keeps.ensures.sound after c.args.hands.now.pass.knows c.requires.hands.image refl
+    let after = after_last c.args.shared.now.hall.now.terms.image.value c.args.parts.now.pass.knows.worker c.args.end _ block c.args.«package» refl c.requires.may is in
+    may_end c.args.shared.now.hall.now.terms c.args.parts.now.pass.knows.worker _ block c.args.«package» c.keeps.ensures.sound after c.args.parts.now.pass.knows c.requires.parts.image refl
     (ended c.args.end c.in_default.not-Wants c.in_default.not-Unlocked c.in_default.not-Slept c.in_default.not-Cut)
 
 pub returns-in_default-clause-settled : goal.returns-in_default-clause-settled
 returns-in_default-clause-settled g c =
     let block = c.requires.may.0 in
     let ends = ended c.args.end c.in_default.not-Wants c.in_default.not-Unlocked c.in_default.not-Slept c.in_default.not-Cut in
-    let did = did_end c.args.shared.now.hall.now.terms c.args.«package» _ _ c.args.rest.now.sleepers c.args.rest.now.clock c.args.hands.now.ready.items _ c.ended_last.new.hands c.requires.hands.image block c.ended_last.result (c.ended_last.ensures block c.requires.may.1.last) in
+    let did = did_end c.args.shared.now.hall.now.terms c.args.«package» _ _ c.args.sleeping.now.sleepers c.args.sleeping.now.clock c.args.parts.now.ready.items _ c.ended_last.new.parts c.requires.parts.image block c.ended_last.result (c.ended_last.ensures block c.requires.may.1.last) in
     (block, c.requires.may.1.last, settled_end c.args.end c.args.«package» block _ _ c.ended_last.result ends did)
 
 pub returns-in_default-clause-keeps : goal.returns-in_default-clause-keeps
 returns-in_default-clause-keeps g c =
     let ends = c.ended_last.ensures c.requires.may.0 c.requires.may.1.last in
     let same = same_seats c.requires.may.0 c.args.«package» (map g.Q.Waiters.seen c.args.seats.now) (map g.Q.Waiters.seen c.ended_last.new.seats) ends.became.0 in
-    keeps_of c.args.shared.now.hall.now.terms _ c.args.«package» _ _ c.args.rest.now c.args.rest.now _ c.ended_last.new.hands _ c.ended_last.result c.clear.ensures ends.answers same refl refl
+    keeps_of c.args.shared.now.hall.now.terms _ c.args.«package» _ _ c.args.sleeping.now c.args.sleeping.now _ c.ended_last.new.parts _ c.ended_last.result c.clear.ensures ends.answers same refl refl

@@ -11,6 +11,6 @@ returns g c =
     let low = c.requires.may.release.lock in
     let count = c.requires.seats.seats in
     let deep : c.args.released.lock < length c.args.seats.now = omega arith in
-    let hands = change c.args.hands.now c.unlocked_with.new.hands in
+    let parts = change c.args.parts.now c.unlocked_with.new.parts in
     let asks = c.unlocked_with.ensures.became.0 in
-    at_seat g.Q.Waiters.seen (λ (s t : SeatView). Unlocks c.args.shared.now.hall.now.terms c.args.released.lock c.args.released.block.now c.args.«package» (change s t) hands c.unlocked_with.result) c.args.seats.now c.args.released.lock c.index-seats-lock.result c.unlocked_with.new.seat deep c.index-seats-lock.is (asks.table, asks.threads) c.unlocked_with.ensures
+    at_seat g.Q.Waiters.seen (λ (s t : SeatView). Unlocks c.args.shared.now.hall.now.terms c.args.released.lock c.args.released.block.now c.args.«package» (change s t) parts c.unlocked_with.result) c.args.seats.now c.args.released.lock c.index-seats-lock.result c.unlocked_with.new.seat deep c.index-seats-lock.is (asks.table, asks.threads) c.unlocked_with.ensures

@@ -3,15 +3,16 @@ use Rattle.tc_combiner.proofs.Vocabulary.{AskedTimes, Next, saw}
 use Rattle.tc_combiner.proofs.Acting.{asked_line, acts_none, acts_then, tried_still, tried_then}
 use Rattle.tc_combiner.proofs.waits.find_next.Goals as goal
 
-pub returns-in_default-clause-looks : goal.returns-in_default-clause-looks
-returns-in_default-clause-looks g c =
-    let once = c.ask.ensures.once.2 in
-    (c.ask.ensures.once.0, 0, c.ask.ensures.once.1, tried_still c.args.pass.now.knows, omega arith, omega arith)
+pub returns-in-Nobody-clause-looks : goal.returns-in-Nobody-clause-looks
+returns-in-Nobody-clause-looks g c = let few = c.ask.ensures.once.2 in (c.ask.ensures.once.0, 0, c.ask.ensures.once.1, tried_still c.args.pass.now.knows, omega arith, omega arith)
+
+pub returns-in-Next-clause-looks : goal.returns-in-Next-clause-looks
+returns-in-Next-clause-looks g c = let few = c.ask.ensures.once.2 in (c.ask.ensures.once.0, 0, c.ask.ensures.once.1, tried_still c.args.pass.now.knows, omega arith, omega arith)
 
 pub loop-init : goal.loop-init
 loop-init g c =
     let once = c.ask.ensures.once in
-    let asked = subst (λ (n : ℕ). AskedTimes n c.args.own (g.Q.Waiters.seen c.args.seat.now) (g.Q.Waiters.seen c.ask.new.seat)) (once.3 c.in-Unknown.is) once.1 in
+    let asked = subst (λ (n : ℕ). AskedTimes n c.args.own (g.Q.Waiters.seen c.args.seat.now) (g.Q.Waiters.seen c.ask.new.seat)) (once.3 c.in-Unlinked.is) once.1 in
     (tt, tt, acts_none c.args.pass.now [], (0, asked, tried_still c.args.pass.now.knows))
 
 pub loop-preserved : goal.loop-preserved

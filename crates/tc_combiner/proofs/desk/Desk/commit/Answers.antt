@@ -12,14 +12,14 @@ commit-stamp-requires-clause-ready g c = may_seal _ c.args.«package».now (subs
 pub returns-clause-moves : goal.returns-clause-moves
 returns-clause-moves g c =
     let q : PackageView = c.args.«package».now in
-    let v : Knows = c.self.inside.hands.pass.knows in
+    let v : Knows = c.self.inside.parts.pass.knows in
     let w : Knows = c.commit-stamp.new.pass.knows in
     subst (λ (d : DeskView). MovesSealed q c.commit-stamp.new.«package» d (record d { pass = c.commit-stamp.new.pass })) c.self.view_is
     (λ p ran. subst (λ (z : PackageView). Moves v w (Pack p ∷ []) (Pack z ∷ [])) (sym c.commit-stamp.ensures.context) (sealed_moves v.image v w p q c.commit-stamp.result ran c.commit-stamp.ensures.seals))
 
 pub returns-clause-fits : goal.returns-clause-fits
 returns-clause-fits g c =
-    let d : DeskView = desk_of c.self.inside.hands.pass (map g.Q.Waiters.seen c.self.inside.seats.items) c.self.inside.rest.sleepers c.self.inside.rest.clock c.self.inside.hands.aside c.self.inside.hands.ready.items in
+    let d : DeskView = desk_of c.self.inside.parts.pass (map g.Q.Waiters.seen c.self.inside.seats.items) c.self.inside.sleeping.sleepers c.self.inside.sleeping.clock c.self.inside.parts.aside c.self.inside.parts.ready.items in
     let w : Knows = c.commit-stamp.new.pass.knows in
     let sealed : Moves d.pass.knows w (Pack c.requires.may.before ∷ []) (Pack c.commit-stamp.new.«package» ∷ []) = subst (λ (z : PackageView). Moves d.pass.knows w (Pack c.requires.may.before ∷ []) (Pack z ∷ [])) (sym c.commit-stamp.ensures.context)
     (sealed_moves c.args.self.now.pass.knows.image d.pass.knows w c.requires.may.before c.args.«package».now c.commit-stamp.result c.requires.may.ran c.commit-stamp.ensures.seals) in

@@ -3,8 +3,8 @@ use Rattle.tc_combiner.proofs.Vocabulary.{BenchView, DeskView, HasSettled, MaySe
 use Rattle.tc_combiner.proofs.Fitting.{at_bench, has_seats, kept_back}
 use Rattle.tc_combiner.proofs.desk.Desk.settle.Goals as goal
 
-pub settle_with-requires-clause-hands : goal.settle_with-requires-clause-hands
-settle_with-requires-clause-hands g c = λ κs b. at_bench _ c.args.bench.now c.args.self.now c.args.«package» _ _ c.bench.view_is c.requires.fits (ap (λ (d : DeskView). d.pass) c.self.view_is) (ap (λ (d : DeskView). d.aside) c.self.view_is) c.requires.hand
+pub settle_with-requires-clause-parts : goal.settle_with-requires-clause-parts
+settle_with-requires-clause-parts g c = λ κs b. at_bench _ c.args.bench.now c.args.self.now c.args.«package» _ _ c.bench.view_is c.requires.fits (ap (λ (d : DeskView). d.pass) c.self.view_is) (ap (λ (d : DeskView). d.aside) c.self.view_is) c.requires.hand
 
 pub settle_with-requires-clause-seats : goal.settle_with-requires-clause-seats
 settle_with-requires-clause-seats g c = λ κs b. has_seats g.Q.Waiters.queue g.Q.Waiters.seen _ c.args.bench.now c.args.self.now c.bench.inside.queues.now c.as_mut_slice.result.now c.bench.view_is c.requires.fits refl (ap (λ xs. map g.Q.Waiters.seen xs) c.as_mut_slice.ensures.value ∙ ap (λ (d : DeskView). d.seats) c.self.view_is)
@@ -16,6 +16,6 @@ settle_with-requires-clause-may g c = λ κs b.
 
 pub returns : goal.returns
 returns g c =
-    let end = kept_back g.Q.Waiters.seen c.self.inside.seats c.as_mut_slice.result.now c.settle_with.new.seats c.as_mut_slice.ensures.value (λ (d e : DeskView). HasSettled c.args.end c.args.«package» d e c.settle_with.result) _ c.args.bench.now c.args.«package» c.self.inside.rest c.settle_with.new.rest c.self.inside.hands c.settle_with.new.hands c.args.self.now c.settle_with.result
+    let end = kept_back g.Q.Waiters.seen c.self.inside.seats c.as_mut_slice.result.now c.settle_with.new.seats c.as_mut_slice.ensures.value (λ (d e : DeskView). HasSettled c.args.end c.args.«package» d e c.settle_with.result) _ c.args.bench.now c.args.«package» c.self.inside.sleeping c.settle_with.new.sleeping c.self.inside.parts c.settle_with.new.parts c.args.self.now c.settle_with.result
     c.bench.view_is c.self.view_is c.requires.fits c.requires.hand c.settle_with.ensures.keeps c.settle_with.ensures.settled in
     record { keeps = end.0; settled = end.1 }

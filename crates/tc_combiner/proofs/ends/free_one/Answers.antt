@@ -1,8 +1,8 @@
 use Rattle.std.proofs.Common.{List, [], refl, true}
-use Rattle.tc_combiner.proofs.Vocabulary.{PassCall, DidTakeOut, LeftAs, LockView, Turn, by_hands, change, turn_of}
+use Rattle.tc_combiner.proofs.Vocabulary.{PassCall, DidTakeOut, LeftAs, LockView, Turn, by_parts, change, turn_of}
 use Rattle.tc_combiner.proofs.Acting.{acts_none, asked_none}
 use Rattle.tc_combiner.proofs.PassedOn.{frees, released_free, taken_free}
-use Rattle.tc_combiner.proofs.ends.bring_home.Goals as goal
+use Rattle.tc_combiner.proofs.ends.free_one.Goals as goal
 
 pub take_out-state-requires-clause-released : goal.take_out-state-requires-clause-released
 take_out-state-requires-clause-released c = released_free c.args.«package».now c.args.released.block.now c.args.released.lock c.keeps.ensures.sound c.requires.release.last c.requires.release.released
@@ -10,12 +10,12 @@ take_out-state-requires-clause-released c = released_free c.args.«package».now
 pub free-requires : goal.free-requires
 free-requires c =
     let d : DidTakeOut c.args.released.lock c.take_out-state.result c.args.«package».now c.take_out-state.new.self = record { was = c.take_out-state.ensures.lock; is = c.take_out-state.ensures.is; locks = c.take_out-state.ensures.locks; rest = c.take_out-state.ensures.rest } in
-    taken_free c.args.hall.now _ c.args.released.lock c.take_out-state.result c.args.«package».now c.take_out-state.new.self c.args.hands.now.pass c.args.hands.now.pass c.args.hands.now.aside d c.requires.release.lock c.requires.hands.at (acts_none c.args.hands.now.pass [])
+    taken_free c.args.hall.now _ c.args.released.lock c.take_out-state.result c.args.«package».now c.take_out-state.new.self c.args.parts.now.pass c.args.parts.now.pass c.args.parts.now.aside d c.requires.release.lock c.requires.parts.at (acts_none c.args.parts.now.pass [])
 
 pub returns : goal.returns
 returns c =
     let d : DidTakeOut c.args.released.lock c.take_out-state.result c.args.«package».now c.take_out-state.new.self = record { was = c.take_out-state.ensures.lock; is = c.take_out-state.ensures.is; locks = c.take_out-state.ensures.locks; rest = c.take_out-state.ensures.rest } in
     λ s.
-    let x = by_hands c.args.hall.now.terms c.args.«package».now (change s s) (change c.args.hands.now c.args.hands.now) in
-    frees c.args.hall.now.terms [] c.args.released.lock c.take_out-state.result (turn_of c.args.«package».now c.args.released.lock) c.args.«package».now c.take_out-state.new.self s s c.args.hands.now _ c.args.hands.now.pass
-    (λ (u : Turn) (l : LockView) (cs : List PassCall). LeftAs x l c.args.released.block.now u cs true true) d refl (asked_none (turn_of c.args.«package».now c.args.released.lock) s).0 (acts_none c.args.hands.now.pass []) c.free.ensures refl refl refl (refl, refl)
+    let x = by_parts c.args.hall.now.terms c.args.«package».now (change s s) (change c.args.parts.now c.args.parts.now) in
+    frees c.args.hall.now.terms [] c.args.released.lock c.take_out-state.result (turn_of c.args.«package».now c.args.released.lock) c.args.«package».now c.take_out-state.new.self s s c.args.parts.now _ c.args.parts.now.pass
+    (λ (u : Turn) (l : LockView) (cs : List PassCall). LeftAs x l c.args.released.block.now u cs true true) d refl (asked_none (turn_of c.args.«package».now c.args.released.lock) s).0 (acts_none c.args.parts.now.pass []) c.free.ensures refl refl refl (refl, refl)

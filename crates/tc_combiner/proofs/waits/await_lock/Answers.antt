@@ -1,7 +1,7 @@
 use Rattle.std.proofs.Common.{[], ◌∷◌}
 use Rattle.tc_combiner.proofs.Vocabulary.{IsTaken, Loose}
 use Rattle.tc_combiner.proofs.Acting.{waits_came, waits_more, waits_none, waits_stopped}
-use Rattle.tc_combiner.proofs.waits.take_home.Goals as goal
+use Rattle.tc_combiner.proofs.waits.await_lock.Goals as goal
 
 pub loop-init : goal.loop-init
 loop-init g c = (tt, tt, waits_none c.args.pass.now)

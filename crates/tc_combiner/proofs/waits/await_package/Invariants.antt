@@ -1,5 +1,5 @@
 use Rattle.tc_combiner.proofs.Vocabulary.{Waits}
-use Rattle.tc_combiner.proofs.waits.await_waiter.Given as goal
+use Rattle.tc_combiner.proofs.waits.await_package.Given as goal
 
 abbrev pub invariant-loop : goal.invariant-loop
 invariant-loop g l = (goal.iterator-loop g).can_next l.iterator' × (goal.iterator-loop g).is_finite l.iterator' × Waits l.fn.pass l.pass
