@@ -1,5 +1,5 @@
 -- The packages and lock states of a hall that was closed.
-use Rattle.std.proofs.Common.{◌≡◌, ◌≢◌, ℕ, suc, ◌+◌, ◌<◌, Bool, true, false, List, [], ◌∷◌, ◌++◌, length, map, get_or, set, sym, refl, ap, ◌∙◌, subst, ⊎_elim, arith, Option, Some, None, length-append, get_or-set_other, get_or-set_same}
+use Rattle.std.proofs.Common.{◌≡◌, ◌≢◌, ℕ, suc, ◌+◌, ◌<◌, Bool, false, List, [], ◌∷◌, ◌++◌, length, map, get_or, set, sym, refl, ap, ◌∙◌, subst, ⊎_elim, arith, Option, Some, None, length-append, get_or-set_other, get_or-set_same}
 use Rattle.tc_hall.proofs.Vocabulary.{AreTaken, Cargo, HasAll, HasSeenAll, IsEmptied, IsEnd, IsFree, IsLockHome, IsOrdered, KeptHall, Knows, Lawful, LiesLock, Lock, LockView, Package, PackageView, Spot, HallTerms, bare, get_elem?, home, inside, is_running, kept, length-map, locked_in, locks, out, some, some-injective, some-ne-none, threads}
 use mathlib.Core.Logic.{dite}
 use mathlib.Core.Option as maybe
@@ -12,6 +12,7 @@ use Rattle.tc_hall.proofs.Ordering.{kept_of}
 use Rattle.tc_hall.specs.Steps.{IsPackage, IsLock}
 use Rattle.tc_hall.proofs.Moves.{home_of}
 use Rattle.tc_hall.proofs.Cases.{clash, same_package}
+use Rattle.tc_hall.proofs.Taking.{has_live}
 use Rattle.tc_lemmas.proofs.Lists.{at_end, something_at}
 
 -- two lists of one length, each of whose places agree
@@ -71,19 +72,14 @@ module _ (k : HallTerms) (id : ℕ) (v : Knows) (ws : List ℕ) (xs : List (Opti
       let h = in_slot t p.0 p.1 in
       let same : h.context ≡ o.context = same_package (get_elem? s.homes t) h.context o.context h.home o.slot in
       absurd (clash (locked_in o.context i) o.segment (ap (λ (z : PackageView). locked_in z i) (sym same) ∙ h.ended.1 i) o.has)
-  lock_home i l e (out j) o = absurd (by o.view.spent refl)
-    where
-      nothing : (xs : List (Option LockView)) → xs ≡ [] → get_elem? xs i ≡ some (Some l) → ⊥
-      nothing xs e h = some-ne-none (Some l) (sym (ap (λ (z : List (Option LockView)). get_elem? z i) (sym e) ∙ h))
-
-      by : (b : Bool) → o.view.spent ≡ b → ⊥
-      by true is = nothing o.view.locks (rule.apart.spent j o.view o.pass is) o.has
-      by false is = ⊎_elim
-          (λ (z : o.view.worker ≡ v.worker). let same_id : j ≡ id = rule.apart.apart j id o.view v o.pass final.1.1 is live z in
-          let same : v ≡ o.view = some-injective v o.view (sym final.1.1 ∙ (ap (get_elem? s.views) (sym same_id) ∙ o.pass)) in
-          free.locks i l (ap (λ (x : Knows). get_elem? x.locks i) same ∙ o.has))
-          (λ (z : (e : ℕ) × (get_elem? v.joined e ≡ some o.view.worker)). rule.apart.joined id j z.0 v o.view final.1.1 o.pass is z.1)
-          (all o.view.worker (rule.passes j o.view o.pass).worker)
+  lock_home i l e (out j) o =
+      let is = has_live k s rule j i o.view l o.pass o.has in
+      ⊎_elim
+      (λ (z : o.view.worker ≡ v.worker). let same_id : j ≡ id = rule.apart.apart j id o.view v o.pass final.1.1 is live z in
+      let same : v ≡ o.view = some-injective v o.view (sym final.1.1 ∙ (ap (get_elem? s.views) (sym same_id) ∙ o.pass)) in
+      absurd (free.locks i l (ap (λ (x : Knows). get_elem? x.locks i) same ∙ o.has)))
+      (λ (z : (e : ℕ) × (get_elem? v.joined e ≡ some o.view.worker)). absurd (rule.apart.joined id j z.0 v o.view final.1.1 o.pass is z.1))
+      (all o.view.worker (rule.passes j o.view o.pass).worker)
 
   lock_in_slot : (i : ℕ) (l : LockView) → get_elem? rule.told.segments i ≡ some l → (q : LockView) × (get_elem? xs (threads k + i) ≡ some (Some (Lock q))) × (kept q ≡ l)
   lock_in_slot i l e = let h = lock_home i l e (rule.locks_placed.spot i) (rule.locks_placed.each i l e) in (h.segment, final.4 (threads k + i) (Some (Lock h.segment)) h.slot, h.same)

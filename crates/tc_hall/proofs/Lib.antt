@@ -30,4 +30,5 @@ pub mod Tying
 pub mod Alike
 pub mod Through
 pub mod Committing
+pub mod Allowing
 pub mod Lifting

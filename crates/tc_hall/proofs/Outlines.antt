@@ -1,5 +1,5 @@
 -- What the events make of the outline of a core.
-use Rattle.std.proofs.Common.{◌≡◌, ◌≢◌, ◌⊎◌, ℕ, ◌==◌, ◌&&◌, Bool, true, false, sym, refl, ap, ◌∙◌, subst, ⊎_elim, inl, inr, None}
+use Rattle.std.proofs.Common.{◌≡◌, ◌≢◌, ℕ, ◌==◌, Bool, true, false, sym, refl, ap, ◌∙◌, subst, ⊎_elim, inl, inr, None}
 use Rattle.tc_hall.proofs.Vocabulary.{At, Core, Course, Custody, Granted, IsBetween, LockPlace, Loose, State, ThreadPlace, With, at_home, in_hand, is_loose, lies_at, lies_with, outline, packed, unowned, with_custody, with_place}
 use Rattle.std.specs.Prelude.{if◌then◌else◌}
 use Rattle.std.proofs.lemmas.Bool.Decides.{eqb_tells}
@@ -11,9 +11,6 @@ use Rattle.tc_core.specs.declared.place.LockPlace.TheVariants as place
 use Rattle.tc_hall.specs.Ties.{is_with}
 use Rattle.tc_hall.proofs.Shows.{IsMoved, home_packed, home_hand, hand_packed, same_packed}
 use Rattle.tc_lemmas.proofs.Tests.{true_or_false, eq_self}
-
-pub both : (a b : Bool) → a ≡ true → b ≡ true → (a && b) ≡ true
-both a b e f = ap (λ (x : Bool). x && b) e ∙ f
 
 pub eq_false : (u t : ℕ) → u ≢ t → (u == t) ≡ false
 eq_false u t ne = elim (eqb_tells u t) [ inl h ↦ absurd (ne h.1) | inr h ↦ h.0 ]

@@ -1,6 +1,6 @@
 -- Each step on a lock keeps the rule.
-use Rattle.std.proofs.Common.{◌≡◌, ◌≢◌, ◌⊎◌, ℕ, ◌+◌, ◌<◌, Bool, false, List, [], ◌∷◌, length, set, sym, refl, ap, ◌∙◌, subst, ⊎_elim, inl, inr, arith, Option, Some, None, slice_index, length-set, get_or-set_other, get_or-set_same}
-use Rattle.tc_hall.proofs.Vocabulary.{Block, PassCall, Cargo, Free, HasLock, Homes, IsLockHome, IsLockOut, IsStateAfter, KeptHall, Knows, LiesLock, Lock, LockView, MayFree, Spot, Stop, HallTerms, after_free, after_take, get_elem?, gives, has, home, inside, kept, locks, none, out, slot_word, some, some-injective, stepped, takes, threads}
+use Rattle.std.proofs.Common.{◌≡◌, ◌≢◌, ◌⊎◌, ℕ, ◌+◌, ◌<◌, Bool, true, false, List, [], ◌∷◌, length, set, sym, refl, ap, ◌∙◌, subst, ⊎_elim, inl, inr, arith, Option, Some, None, slice_index, length-set, get_or-set_other, get_or-set_same}
+use Rattle.tc_hall.proofs.Vocabulary.{Block, PassCall, Cargo, Free, HasLock, Homes, IsLockHome, IsLockOut, IsStateAfter, KeptHall, Knows, LiesLock, Lock, LockView, MayFree, Spot, Stop, HallTerms, after_free, after_take, get_elem?, gives, has, home, inside, kept, locks, none, out, slot_word, some, some-injective, some-ne-none, stepped, takes, threads}
 use mathlib.Core.Option as maybe
 use lib.Seq.{set-get_or}
 use Rattle.atomic_table.proofs.Lists.{set_here, set_else, at_longer}
@@ -12,6 +12,7 @@ use Rattle.tc_hall.proofs.Ranks.{apart_stays, stop_stays, IsTrueCall, pass_kept,
 use Rattle.tc_hall.proofs.Moves.{St, some_same}
 use Rattle.tc_hall.proofs.Cases.{clash, same_some, clash_at, same_at, same_lock}
 use Rattle.tc_lemmas.proofs.Lists.{at_end, something_at}
+use Rattle.tc_lemmas.proofs.Tests.{true_or_false}
 
 pub lock_home_of : (n : ℕ) (ws : List ℕ) (hs : Homes) (vs : List Knows) (i : ℕ) (l : LockView) (s : Spot) → LiesLock n ws hs vs i l s → slice_index ws (slot_word (n + i)) ≡ 0 → (s ≡ home) × IsLockHome n ws hs i l
 lock_home_of n ws hs vs i l home o e = (refl, o)
@@ -34,6 +35,11 @@ module _ (k : HallTerms) where
         (λ free. lies.empty (λ e. free (ap (λ (z : Knows). z.open_slot) same ∙ e))),
         (λ e. lies.held (ap (λ (z : Knows). z.open_slot) (sym same) ∙ e)),
       )
+
+  -- so the pass is live
+  pub has_live : (s : St k) (r : KeptHall k s) (id i : ℕ) (v : Knows) (l : LockView) → get_elem? s.views id ≡ some v → HasLock v i l → v.spent ≡ false
+  has_live s r id i v l at has =
+      ⊎_elim (λ (e : v.spent ≡ true). absurd (some-ne-none (Some l) (sym (ap (λ (z : List (Option LockView)). get_elem? z i) (sym (r.apart.spent id v at e)) ∙ has)))) (λ (e : v.spent ≡ false). e) (true_or_false v.spent)
 
   -- the state in the slot of a lock that is home, as the rule has it there
   pub record LockAtHome (s : St k) (r : KeptHall k s) (i : ℕ) (l : LockView) : Type 0 where

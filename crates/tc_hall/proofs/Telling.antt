@@ -1,7 +1,7 @@
 -- `put`, `look`, `stop`, `stopped` and `commit` keep the rule.
-use Rattle.std.proofs.Common.{◌≡◌, ◌≢◌, ◌⊎◌, ℕ, zero, suc, ◌+◌, ◌<◌, ◌≤◌, ◌==◌, Bool, true, false, List, [], ◌∷◌, ◌++◌, length, set, sym, refl, ap, ◌∙◌, subst, ⊎_elim, inl, inr, arith, Option, Some, None, slice_index, length-set, get_or-set_other, get_or-set_same}
+use Rattle.std.proofs.Common.{◌≡◌, ◌≢◌, ℕ, ◌+◌, ◌<◌, ◌≤◌, ◌==◌, Bool, true, false, List, [], ◌∷◌, length, set, sym, refl, ap, ◌∙◌, subst, ⊎_elim, inl, inr, arith, Option, Some, None, slice_index, length-set, get_or-set_other, get_or-set_same}
 use Rattle.tc_hall.proofs.Vocabulary.{CLOCK, PassCall, Cargo, Done, Grant, HasStop, HasStopped, IsAsLeft, IsInOrder, IsInRange, KeptHall, Knows, LockView, Look, MAX_GUARDS, MayPut, Package, PackageView, Parked, Place, Put, Ready, STOP, Sat, Stop, Stopped, HallTerms, Waiting, after_put, bare, code_of, fits_granted, get_elem?, gives, grants_adopted, keeps, kept, lock_in, locks, made}
-use Rattle.tc_hall.proofs.Vocabulary.{none, seen, slot_word, some, some-injective, some-ne-none, stepped, threads, with_call}
+use Rattle.tc_hall.proofs.Vocabulary.{none, seen, slot_word, some, some-injective, stepped, threads, with_call}
 use mathlib.Core.Option as maybe
 use lib.Seq.{set-get_or}
 use Rattle.atomic_table.proofs.Lists.{set_here, set_else, at_longer, at_last}

@@ -3,8 +3,9 @@ use Rattle.std.proofs.Common.{◌≡◌, ◌≢◌, ℕ, ◌+◌, ◌<◌, ◌==
 use Rattle.tc_hall.proofs.Vocabulary.{AreEnabled, At, Cargo, Core, Custody, Done, Event, Gets, Granted, Hall, Has, HasLock, Homes, IsShown, KeptHall, Knows, LockPlace, LockView, Loose, MayClaim, MayFill, MayFree, Operation, PackageView, Parked, Place, Ready, STOP, Shows, Stop, HallTerms, Thread, ThreadPlace, Waiting, after, after_claim, after_events, after_operation, after_take}
 use Rattle.tc_hall.proofs.Vocabulary.{as_place, at_home, bare, claim, claim_effect, code_of, dealt, free, fresh, get_elem?, gone, in_hand, is_claimable, is_loose, is_running, join, kept, last_end, lies_at, lies_with, lock_in_slot, lock_with_pass, locked_in, locks, machine_limits, merged, outline, packed, place_shown, put, put_effect, runs, slot_word, some, split, stop, take}
 use Rattle.tc_hall.proofs.Vocabulary.{thread_in, threads, with_call, with_custody, with_pass, with_place}
+use Rattle.std.specs.Cmp.Derive.{both_true}
 use Rattle.std.specs.Prelude.{nat_lt, is_some, not}
-use Rattle.std.proofs.lemmas.Bool.Decides.{nat_tests}
+use Rattle.std.proofs.lemmas.Bool.{lt-ltb}
 use lib.Seq.{set-get_or}
 use Rattle.atomic_table.proofs.Lists.{set_here, at_set}
 use Rattle.tc_core.specs.Core.{is_waiting, is_slept, is_free_lock}
@@ -13,7 +14,7 @@ use Rattle.tc_core.specs.declared.event.Event.TheVariants.{Finish, Claim}
 use Rattle.tc_core.specs.declared.place.ThreadPlace.TheVariants as at
 use Rattle.tc_hall.specs.Ties.{may_come, at_worker, loose_at, IsLooseIn, CanPass, AreInside, IsOf, AreAsked, alone, adopted, granted}
 use Rattle.tc_hall.proofs.Shows.{shown_at, shown_code, shown_origin, lies_put, lies_low, same_hand, claim_shown, put_shown, take_shown, free_shown, HadOut, had_same, had_more, had_less, still_shown}
-use Rattle.tc_hall.proofs.Outlines.{both, at_self, loose_self, with_lies, else_lies, home_free, Arrives, arrives, arrives_then, arrives_with, is_moved, custody_here, custody_else, all_come, others_come}
+use Rattle.tc_hall.proofs.Outlines.{at_self, loose_self, with_lies, else_lies, home_free, Arrives, arrives, arrives_then, arrives_with, is_moved, custody_here, custody_else, all_come, others_come}
 use Rattle.tc_hall.proofs.Moves.{AtHome, at_home_of, gets, is_out}
 use Rattle.tc_hall.proofs.Outs.{has_out, lock_out}
 use Rattle.tc_hall.proofs.Cases.{same_out, none_of}
@@ -62,26 +63,29 @@ module _ (k : HallTerms) (m : Moment k) where
   w = m.view.worker
 
   worker_is : nat_lt m.view.worker k.workers ≡ true
-  worker_is = let b = (m.rule.passes m.id m.view m.pass).worker in grind (arith, nat_tests)
+  worker_is = lt-ltb m.view.worker k.workers (m.rule.passes m.id m.view m.pass).worker
 
   -- a thread that is out with the pass is at its worker
   pub out_at : (c : Core) → IsShown k m.state (outline c) → (t : ℕ) → t < threads k → slice_index m.state.words (slot_word t) ≡ 512 + m.view.worker → (c.course t).place ≡ At m.view.worker
   out_at c o t below word = o.place t below ∙ (ap place_shown word ∙ shown_at m.view.worker)
 
   pub at_it : (c : Core) (t : ℕ) → t < threads k → (c.course t).place ≡ At m.view.worker → at_worker k c m.view.worker t ≡ true
-  at_it c t below e =
-      both (nat_lt m.view.worker k.workers) _ worker_is
-      (both (nat_lt t (threads k)) _ (grind (arith, nat_tests)) (at_self (c.course t).place m.view.worker e))
+  at_it c t below e = both_true worker_is (both_true (lt-ltb t (threads k) below) (at_self (c.course t).place m.view.worker e))
 
-  loose_it : (c : Core) (i : ℕ) → i < locks k → is_loose (c.custody i).place m.view.worker ≡ true → loose_at k c m.view.worker i ≡ true
-  loose_it c i below e = both (nat_lt m.view.worker k.workers) _ worker_is (both (nat_lt i (locks k)) _ (grind (arith, nat_tests)) e)
+  -- a lock that the pass has out is one of the hall's
+  below_lock : (lock : ℕ) (l : LockView) → HasLock m.view lock l → lock < locks k
+  below_lock lock l has = (is_lock_out k m.state m.rule m.id lock m.view l m.pass has).0
 
-  -- a lock that the pass has out and that is loose is loose at the pass's worker
-  loose_here : (c : Core) → IsShown k m.state (outline c) → (i : ℕ) (l : LockView) → i < locks k → HasLock m.view i l → IsLooseIn i c → (c.custody i).place ≡ Loose m.view.worker
-  loose_here c o i l below has loose =
-      let lies = (o.lock i l (in_hand m.view.worker) below (lock_with_pass m.id m.view m.pass has refl)).lies in
+  -- where it is loose, it is loose at the pass's worker
+  loose_here : (c : Core) → IsShown k m.state (outline c) → (i : ℕ) (l : LockView) → HasLock m.view i l → IsLooseIn i c → (c.custody i).place ≡ Loose m.view.worker
+  loose_here c o i l has loose =
+      let lies = (o.lock i l (in_hand m.view.worker) (below_lock i l has) (lock_with_pass m.id m.view m.pass has refl)).lies in
       let is = loose_self (c.custody i).place loose.0 m.view.worker loose.1 in
       is ∙ ap (λ (z : ℕ). Loose z) (same_hand ((outline c).lies i) loose.0 m.view.worker (ap (lies_at c.course) is) lies)
+
+  pub loose_it : (c : Core) → IsShown k m.state (outline c) → (i : ℕ) (l : LockView) → HasLock m.view i l → IsLooseIn i c → loose_at k c m.view.worker i ≡ true
+  loose_it c o i l has loose =
+      both_true worker_is (both_true (lt-ltb i (locks k) (below_lock i l has)) (ap (λ (z : LockPlace). is_loose z m.view.worker) (loose_here c o i l has loose) ∙ eq_self m.view.worker))
 
   -- a lock that the pass has out is out with no other
   pub apart : (j i : ℕ) (x : Knows) (l l' : LockView) → j ≢ m.id → get_elem? m.state.views j ≡ some x → HasLock x i l → HasLock m.view i l' → ⊥
@@ -89,10 +93,6 @@ module _ (k : HallTerms) (m : Moment k) where
       ne (same_out (m.rule.locks_placed.spot i) j m.id (m.rule.locks_placed.owned j x i l at has).0 (m.rule.locks_placed.owned m.id m.view i l' m.pass mine).0)
 
   -- ---- claim and adopt
-
-  -- a lock that the pass has out is one of the hall's
-  below_lock : (lock : ℕ) (l : LockView) → HasLock m.view lock l → lock < locks k
-  below_lock lock l has = (is_lock_out k m.state m.rule m.id lock m.view l m.pass has).0
 
   module _ (t : ℕ) (q : PackageView) (a : MayClaim k m.state m.view t q) where
     low : slice_index m.state.words (slot_word t) < 512
@@ -122,8 +122,7 @@ module _ (k : HallTerms) (m : Moment k) where
 claim_asks : (k : HallTerms) (m : Moment k) (t : ℕ) (q : PackageView) (from : Origin) → MayClaim k m.state m.view t q → slice_index m.state.words (slot_word t) ≡ origin_code from → (c : Core) → Shows k m.state c → may_come k c (Claim m.view.worker t) ≡ true
 unfolding is_enabled
 claim_asks k m t q from a word c seen =
-    both (nat_lt m.view.worker k.workers) _ (worker_is k m)
-    (both (nat_lt t (threads k)) _ (let b = a.below in grind (arith, nat_tests)) (ap is_claimable (seen.shown.place t a.below ∙ ap place_shown word) ∙ shown_origin from))
+    both_true (worker_is k m) (both_true (lt-ltb t (threads k) a.below) (ap is_claimable (seen.shown.place t a.below ∙ ap place_shown word) ∙ shown_origin from))
 
 -- the step of `adopt`, whatever the events make of the core
 adopt_shows : (k : HallTerms) (m : Moment k) (t lock : ℕ) (q : PackageView) (l : LockView) → MayClaim k m.state m.view t q → HasLock m.view lock l → (c c' : Core) → Shows k m.state c → IsLooseIn lock c
@@ -131,15 +130,15 @@ adopt_shows : (k : HallTerms) (m : Moment k) (t lock : ℕ) (q : PackageView) (l
 adopt_shows k m t lock q l a has c c' seen loose arrive given same = record {
   between = arrive.between seen.between;
   shown = claim_shows k m t q a c c' seen.shown arrive
-      (others_come c c' t m.view.worker arrive (rests k m t q a c seen.shown) lock (loose_here k m c seen.shown lock l (below_lock k m lock l has) has loose) given same);
+      (others_come c c' t m.view.worker arrive (rests k m t q a c seen.shown) lock (loose_here k m c seen.shown lock l has loose) given same);
 }
 
 adopt_asks : (k : HallTerms) (m : Moment k) (t lock : ℕ) (l : LockView) → t < threads k → slice_index m.state.words (slot_word t) ≡ 256 + lock → HasLock m.view lock l → (c : Core) → Shows k m.state c → IsLooseIn lock c → CanPass k m.view.worker t lock c
 adopt_asks k m t lock l below word has c seen loose =
     let below_it = below_lock k m lock l has in
     let fits : 256 + lock < 512 = (let b = m.rule.told.limits.locks in omega (arith, b, below_it)) in (
-      loose_it k m c lock below_it (ap (λ (z : LockPlace). is_loose z m.view.worker) (loose_here k m c seen.shown lock l below_it has loose) ∙ eq_self m.view.worker),
-      (let b : nat_lt t (threads k) ≡ true = grind (arith, nat_tests) in b),
+      loose_it k m c seen.shown lock l has loose,
+      lt-ltb t (threads k) below,
       ap (λ (z : ThreadPlace). is_waiting z lock) (seen.shown.place t below ∙ (ap place_shown word ∙ shown_code (Waiting lock) fits)) ∙ eq_self lock,
     )
 
@@ -217,13 +216,13 @@ module _ (k : HallTerms) (m : Moment k) (place : Place) (q : PackageView) (a : M
 
 finishes : (k : HallTerms) (m : Moment k) (t : ℕ) (c : Core) → at_worker k c m.view.worker t ≡ true → runs c t ≡ false → (c.course t).turns ≡ 0 → may_come k c (Finish m.view.worker t) ≡ true
 unfolding is_enabled
-finishes k m t c here ended between = both _ _ here (both (not (runs c t)) _ (ap not ended) (ap (λ (z : ℕ). z == 0) between))
+finishes k m t c here ended between = both_true here (both_true (ap not ended) (ap (λ (z : ℕ). z == 0) between))
 
 -- `put` is HandBack, Ship, Park or Finish, by its place
 pub put_asking : (k : HallTerms) (m : Moment k) (q : PackageView) (place : Place) → MayFill k m.view q place → Asking k m (put q place)
 put_asking k m q Ready a c es seen is = subst (AreAsked k c m.view (put q Ready)) (sym is.1) (at_its_worker k m Ready q a c seen, it_runs k m Ready q a c true seen (a.may.order.runs (λ e. omega arith)))
 put_asking k m q (Waiting lock) a c es seen is =
-    subst (AreAsked k c m.view (put q (Waiting lock))) (sym is.1) (at_its_worker k m (Waiting lock) q a c seen, (let b = a.range in let e : nat_lt lock (locks k) ≡ true = grind (arith, nat_tests) in e))
+    subst (AreAsked k c m.view (put q (Waiting lock))) (sym is.1) (at_its_worker k m (Waiting lock) q a c seen, lt-ltb lock (locks k) a.range)
 put_asking k m q Parked a c es seen is =
     subst (AreAsked k c m.view (put q Parked)) (sym is.2)
     (at_its_worker k m Parked q a c seen, it_runs k m Parked q a c true seen (a.may.order.runs (λ e. omega arith)), ap is_slept (its_last k m Parked q a c seen ∙ is.1))
@@ -245,7 +244,7 @@ module _ (k : HallTerms) (m : Moment k) (i : ℕ) (l : LockView) (a : MayTake k 
   pub take_asking : Asking k m (take i l)
   take_asking c es seen is = subst (AreAsked k c m.view (take i l)) (sym is.3) (
     at_it k m c is.0 is.1 (out_at k m c seen.shown is.0 is.1 is.2),
-    (let b = a.below in let e : nat_lt i (locks k) ≡ true = grind (arith, nat_tests) in e),
+    lt-ltb i (locks k) a.below,
     ap is_free_lock (home_free c.course (c.custody i).place (seen.shown.lock i l at_home a.below (lock_in_slot a.slot refl)).lies),
   )
 
@@ -272,8 +271,7 @@ module _ (k : HallTerms) (m : Moment k) (l : LockView) (may : MayFree m.view l) 
 
   pub free_asking : Asking k m (free l)
   free_asking c es seen is =
-      subst (AreAsked k c m.view (free l)) (sym is.1)
-      (loose_it k m c l.number below (ap (λ (z : LockPlace). is_loose z m.view.worker) (loose_here k m c seen.shown l.number (kept l) below may.has is.0) ∙ eq_self m.view.worker))
+      subst (AreAsked k c m.view (free l)) (sym is.1) (loose_it k m c seen.shown l.number (kept l) may.has is.0)
 
   pub free_showing : Showing k m (free l)
   unfolding effect

@@ -29,8 +29,9 @@
 //!   (words), `Sealing` (`commit`) and `Making` (passes); `Parts`, the lists of passes; `Exact`, the
 //!   words. Below these `Placing` (where packages are), `Packing` (where locks are), `Listing` (lists
 //!   of blocks) and `Ranks` (passes).
-//! - `tie` and `lift`: `Lifting`, from `Tying` and, for `commit`, `Committing`, `Through` and `Alike`.
-//!   Below these `Shows` (what a hall shows) and `Outlines` (what events make of it).
+//! - `tie` and `lift`: `Lifting`, from `Tying` and, for `commit`, `Committing`, `Through` and `Alike`;
+//!   and `Allowing`, for `lift` (when events are enabled). Below these `Shows` (what a hall shows) and
+//!   `Outlines` (what events make of it).
 //! - The calls of a hall: `Stepping`, each step is an operation; `Holding` and `Putting`, what is done
 //!   with a slot in hand; `Outs`, what is out; `Left`, what lies in a slot; `Waiting` for `adopt` and
 //!   `Ended` for `close`.
