@@ -24,9 +24,9 @@ pub fn order()
 /// Whole runs. A new hall shows the first state of the pure machine; and the operations of a hall
 /// in their order, with events by which threads enter and leave the lines put in between, are one
 /// list of events of the machine, each enabled when it comes, after which the hall shows the machine.
-/// Of what enables an event the places of threads and locks, statuses, turns and the ends of blocks
-/// are concluded. What lines, grants and the batch rule have to say is asked, since it is no part
-/// of what a hall shows.
+/// Of what enables the events of an operation, the places of threads and locks, statuses, turns and
+/// the ends of blocks are concluded. What lines, grants and the batch rule have to say is asked,
+/// since it is no part of what a hall shows.
 pub fn lift()
     ensures opens { OpensShown }
     ensures lifts { Lifts }
